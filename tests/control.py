@@ -3,11 +3,14 @@
 and that nothing else acts; then requests that are no requests, slow ones, and many at a time, while a peer stores.
 
     tests/control.py
+    tests/control.py --more    20,000 malformed requests while two peers store, and by how much their rate falls, which ./test leaves out
 """
+import base64
 import http.client
 import json
 import os
 import random
+import re
 import socket
 import sys
 import threading
@@ -20,6 +23,7 @@ from lib.requestor import Requestor
 
 TOKEN = 'a token of more than sixteen bytes'
 GOOD = 'GET /health HTTP/1.1\r\nHost: {}\r\n\r\n'
+DONE, NOT_HELD = (200, '{"done":true}\n'), (409, '{"fault":"G5 NotHeld"}\n')
 
 
 class Asked:
@@ -34,15 +38,32 @@ class Asked:
             words += ['--control-token', 'token']
         self.process = room.serve(node, links, *words, **settings)
 
-    def ask(self, method, path, form=None, **fields):
-        """The status and the text of an answer."""
+    def whole(self, method, path, form=None, **fields):
+        """An answer with its fields, and its text."""
         link = http.client.HTTPConnection('127.0.0.1', self.port, timeout=LIMIT)
         head = {'Host': self.at, **{name.replace('_', '-'): value for name, value in fields.items()}}
         link.request(method, path, body=None if form is None else urllib.parse.urlencode(form), headers=head)
         came = link.getresponse()
         text = came.read().decode('ascii')
         link.close()
+        return came, text
+
+    def ask(self, method, path, form=None, **fields):
+        """The status and the text of an answer."""
+        came, text = self.whole(method, path, form, **fields)
         return came.status, text
+
+    def key(self):
+        """The key of the forms of the page."""
+        return re.search('name="key" value="([0-9a-f]{32})"', self.ask('GET', '/')[1])[1]
+
+    def wait(self, path, enough):
+        """What a path answers as soon as that is enough."""
+        end = time.monotonic() + LIMIT
+        while not enough(came := self.read(path)):
+            assert time.monotonic() < end, came
+            time.sleep(0.05)
+        return came
 
     def read(self, path):
         status, text = self.ask('GET', path)
@@ -71,14 +92,21 @@ def put_token(room, name, text=TOKEN + '\n', mode=0o600):
     os.chmod(f'{room.folder}/{name}', mode)
 
 
-def hold(room, uid=b'1.2.3.4'):
-    """CT1 gets a row to GATE that is held: GATE has other bytes under that UID."""
-    room.put('image.dcm', part10(uid))
-    room.put('other.dcm', part10(uid, element(0x10, 0x10, b'PN', b'Other')))
-    gate = room.serve('GATE', 2)
-    same(room.at('send', 'CT1', 'image.dcm', ledger='first.db').returncode, 0)
-    same(lines(room.at('send', 'CT1', 'other.dcm').stdout)[3:4], [f'row\t{uid.decode()}\tGATE\theld\tC0F1'])
+def hold(room, *uids):
+    """CT1 gets rows to GATE that are held: GATE has other bytes under those UIDs."""
+    uids = uids or (b'1.2.3.4',)
+    gate = room.serve('GATE', 2 * len(uids))
+    for uid in uids:
+        room.put('image.dcm', part10(uid))
+        room.put('other.dcm', part10(uid, element(0x10, 0x10, b'PN', b'Other')))
+        same(room.at('send', 'CT1', 'image.dcm', ledger='first.db').returncode, 0)
+        assert f'row\t{uid.decode()}\tGATE\theld\tC0F1' in lines(room.at('send', 'CT1', 'other.dcm').stdout)
     ended(gate)
+
+
+def basic(name=b'operator', token=TOKEN):
+    """What a browser gives that was told a name and the token (RFC 7617 2)."""
+    return 'Basic ' + base64.b64encode(name + b':' + token.encode()).decode()
 
 
 def reads():
@@ -115,7 +143,7 @@ def page():
         same(status, 200)
         assert text.startswith('<!DOCTYPE html>\n') and text.endswith('</table>\n</body>\n</html>\n'), text
         assert '<h1 class="green">Nothing is held, and nothing waits</h1>' in text, text
-        assert '<tr><td>GATE</td><td>0</td><td>0</td><td>0</td><td>-</td></tr>' in text, text
+        assert '<tr><td>GATE</td><td>0</td><td>0</td><td>0</td><td>-</td><td>-</td></tr>' in text, text
         stop(node.process)
         hold(room)
         node = Asked(room, 'CT1', 0, token=False)
@@ -126,9 +154,10 @@ def page():
         link.close()
         same([came.getheader(name) for name in ('content-type', 'x-content-type-options')], ['text/html; charset=utf-8', 'nosniff'])
         assert '<h1 class="red">Rows are held</h1>' in text, text
-        assert '<tr><td>GATE</td><td>0</td><td>1</td><td>0</td><td>-</td></tr>' in text, text
-        assert '<tr><td>1.2.3.4</td><td>GATE</td><td>status C0F1</td></tr>' in text, text
-        for none in '<script', 'http://', 'https://', 'src=', 'href=':
+        assert '<tr><td>GATE</td><td>0</td><td>1</td><td>0</td><td>-</td><td>-</td></tr>' in text, text
+        assert '<tr><td>1.2.3.4</td><td>GATE</td><td>status C0F1</td><td></td></tr>' in text, text
+        # without a token nothing can be acted, so there are no buttons
+        for none in '<script', '<form', 'http://', 'https://', 'src=', 'href=':
             assert none not in text, none
         same(node.ask('POST', '/')[0], 405)
         same(node.ask('GET', '/', Host='evil.example')[0], 421)
@@ -169,6 +198,112 @@ def acts():
                     'drop dest="GATE" uid=1.2.3.4 fault="G5 NotHeld"', 'drop dest="GATE" uid=1.2.3.4', 'stop'])
 
 
+def orders():
+    """All held rows of a node are queued again; an instance is looked at, dropped with a reason, and forgotten."""
+    with Room() as room:
+        uids = [b'1.2.3.%d' % number for number in range(5)]
+        hold(room, *uids)
+        node = Asked(room, 'CT1', 0)
+        row = {'uid': '1.2.3.0', 'dest': 'GATE', 'state': 'held', 'cause': 'C0F1'}
+        whole = [{'instance': '1.2.3.0', 'body': True, 'over': False}, row]
+        same(node.read('/instance/1.2.3.0'), whole)
+        same(node.read('/instance/1%2E2.3.0'), whole)
+        for unknown in '1.2.3', '', '1.2.3.0/', '%00%ff%22%0a':
+            same(node.ask('GET', f'/instance/{unknown}'), (404, '{"fault":"Instance"}\n'))
+        same(node.ask('GET', '/instance'), (404, '{"fault":"Path"}\n'))
+        same(node.ask('POST', '/instance/1.2.3.0')[0], 405)
+        same(node.act('/forget', uid='1.2.3.0'), (409, '{"fault":"G7 NotOver"}\n'))
+        same(node.act('/forget'), (400, '{"fault":"Field"}\n'))
+        same(node.act('/visit', dest='ARCH'), (404, '{"fault":"Hop"}\n'))
+        same(node.act('/visit'), (400, '{"fault":"Field"}\n'))
+        same(node.act('/requeue', dest='ARCH'), DONE)
+        same(len(node.read('/rows?dest=GATE&state=held')), 5)
+        # GATE isn't there, so that the rows wait
+        same(node.act('/requeue', dest='GATE'), DONE)
+        same([row['uid'] for row in node.read('/rows?dest=GATE&state=waiting')], [uid.decode() for uid in uids])
+        hop = node.wait('/status', lambda lines: 'came' in lines[1])[1]
+        same((hop['dest'], hop['waiting'], hop['held'], hop['came']), ('GATE', 5, 0, 'unreached'))
+        assert abs(time.time() * 1000 - hop['visited']) < 60_000, hop
+        text = node.ask('GET', '/')[1]
+        assert re.search('<td>unreached, [0-9]+ s ago</td></tr>', text), text
+        # GATE is there again, and refuses them again
+        gate = room.serve('GATE', 0)
+        same(node.act('/visit', dest='GATE'), DONE)
+        node.wait('/rows?dest=GATE&state=held', lambda rows: len(rows) == 5)
+        node.wait('/status', lambda lines: lines[1].get('came') == 'released')
+        same(node.act('/drop', uid='1.2.3.0', dest='GATE', reason='twice\n"by hand"' + 200 * 'x'), DONE)
+        same(node.read('/instance/1.2.3.0')[0], {'instance': '1.2.3.0', 'body': False, 'over': True})
+        same(node.act('/forget', uid='1.2.3.0'), DONE)
+        same(node.ask('GET', '/instance/1.2.3.0'), (404, '{"fault":"Instance"}\n'))
+        same(node.act('/stop'), DONE)
+        ended(node.process)
+        stop(gate)
+        said = [event[3] for event in room.events('CT1') if event[2] == 'control']
+        shown = r'twice\n\"by hand\"' + 113 * 'x' + r'\..'
+        same(said, ['forget uid=1.2.3.0 fault="G7 NotOver"', 'requeue dest="ARCH"', 'requeue dest="GATE"', 'visit dest="GATE"',
+                    f'drop dest="GATE" uid=1.2.3.0 reason="{shown}"', 'forget uid=1.2.3.0', 'stop'])
+
+
+def hurried():
+    """A node that is left alone for long is visited at once where somebody wants that."""
+    with Room() as room:
+        node = Asked(room, 'GATE', 0)
+        with Requestor(room.ports['GATE'], 'CT1', 'GATE') as link:
+            for number in range(12):
+                uid = f'1.2.3.{number}'.encode()
+                same(link.store(uid, data_set(uid)), 0)
+        def visits():
+            return [event for event in room.events('GATE') if event[2] == 'visit']
+        end = time.monotonic() + LIMIT
+        while len(visits()) < 4:
+            assert time.monotonic() < end
+            time.sleep(0.05)
+        # it rests for 4 s at least now, and for 5 s at most where rows were made meanwhile
+        begun, count = time.monotonic(), len(visits())
+        same(node.act('/visit', dest='ARCH'), DONE)
+        while len(visits()) == count:
+            assert time.monotonic() - begun < 3.5, visits()
+            time.sleep(0.05)
+        same(node.read('/health'), [{'well': True}])
+        stop(node.process)
+
+
+def forms():
+    """A browser acts by the forms of the page, with the token: not without it, not by another page, and not by the page of another run."""
+    with Room() as room:
+        hold(room, b'1.2.3.4', b'1.2.3.5')
+        node = Asked(room, 'CT1', 0, '--control-host', 'node.example')
+        text = node.ask('GET', '/')[1]
+        key = node.key()
+        row = {'key': key, 'uid': '1.2.3.4', 'dest': 'GATE'}
+        hidden = ''.join(f'<input type="hidden" name="{name}" value="{value}">' for name, value in row.items())
+        for act, label in ('/requeue', 'Queue again'), ('/drop', 'Drop for good'):
+            assert f'<form method="post" action="{act}">{hidden}<button>{label}</button></form>' in text, text
+        own = f'http://{node.at}'
+        came, told_so = node.whole('POST', '/drop', row, Origin=own)
+        same((came.status, came.getheader('www-authenticate'), told_so), (401, 'Basic realm="dr_router"', '{"fault":"Token"}\n'))
+        for given in basic(b'root'), basic(b''), basic(token=TOKEN[:-1]), basic(token=TOKEN + 'x'), basic()[:-1], basic().lower(), basic()[6:]:
+            same(node.ask('POST', '/drop', row, Origin=own, Authorization=given)[0], 401)
+        # a form of another page, which the browser sends with the token
+        for other in 'http://evil.example', 'null', f'http://{node.at}.evil.example', f'http://127.0.0.1:{node.port + 1}', f'ftp://{node.at}', node.at, '':
+            same(node.ask('POST', '/drop', row, Origin=other, Authorization=basic()), (403, '{"fault":"Origin"}\n'))
+            same(node.ask('POST', '/drop', row, Origin=other, Authorization=f'Bearer {TOKEN}'), (403, '{"fault":"Origin"}\n'))
+        for wrong in None, '', key[:-1], key + '0', key[::-1]:
+            form = {name: value for name, value in {**row, 'key': wrong}.items() if value is not None}
+            same(node.ask('POST', '/drop', form, Origin=own, Authorization=basic()), (403, '{"fault":"Key"}\n'))
+            same(node.ask('POST', '/stop', form, Origin=own, Authorization=basic()), (403, '{"fault":"Key"}\n'))
+        same(len(node.read('/rows?dest=GATE&state=held')), 2)
+        came, told_so = node.whole('POST', '/drop', row, Origin=own, Authorization=basic())
+        same((came.status, told_so), DONE)
+        same([came.getheader(name) for name in ('content-type', 'refresh')], ['text/plain; charset=utf-8', '2; url=/'])
+        same(node.ask('POST', '/drop', row, Origin='https://node.example', Authorization=basic()), NOT_HELD)
+        same(node.ask('POST', '/drop', {**row, 'uid': '1.2.3.5'}, Authorization=basic()), DONE)
+        stop(node.process)
+        again = Asked(room, 'CT1', 0)
+        same(again.ask('POST', '/requeue', row, Authorization=basic()), (403, '{"fault":"Key"}\n'))
+        stop(again.process)
+
+
 def refusals():
     """Who may act: a POST with the token, to a host that is allowed. Whatever else is asked changes nothing."""
     with Room() as room:
@@ -177,7 +312,7 @@ def refusals():
         form = urllib.parse.urlencode(row)
         node = Asked(room, 'CT1', 0, '--control-host', 'node.example')
         bearer = f'Bearer {TOKEN}'
-        for path in '/requeue', '/drop', '/stop':
+        for path in '/requeue', '/drop', '/forget', '/visit', '/stop':
             same(node.ask('POST', path, row), (401, '{"fault":"Token"}\n'))
             for given in TOKEN, f'Basic {TOKEN}', f'bearer {TOKEN}', f'Bearer {TOKEN[:-1]}', f'Bearer {TOKEN}x', f'Bearer {TOKEN[:-1]}X', 'Bearer ', 'Bearer':
                 same(node.ask('POST', path, row, Authorization=given)[0], 401)
@@ -185,7 +320,7 @@ def refusals():
                 same(node.ask(method, f'{path}?{form}', row, Authorization=bearer)[0], 405)
             for host in 'evil.example', f'evil.example:{node.port}', '127.0.0.1:1', f'127.0.0.1.evil.example:{node.port}':
                 same(node.ask('POST', path, row, Host=host, Authorization=bearer)[0], 421)
-        for path in '/requeue/', '/Requeue', '//requeue', '/requeue%20', '/drop.html', '/forget':
+        for path in '/requeue/', '/Requeue', '//requeue', '/requeue%20', '/drop.html', '/forgets', '/visit/GATE':
             same(node.ask('POST', path, row, Authorization=bearer), (404, '{"fault":"Path"}\n'))
         for host in f'localhost:{node.port}', 'node.example', f'node.example:{node.port}', node.at:
             same(node.ask('GET', '/health', Host=host)[0], 200)
@@ -204,7 +339,7 @@ def refusals():
     with Room() as room:
         hold(room)
         node = Asked(room, 'CT1', 0, token=False)
-        for path in '/requeue', '/drop', '/stop':
+        for path in '/requeue', '/drop', '/forget', '/visit', '/stop':
             same(node.ask('POST', path, row, Authorization=bearer), (403, '{"fault":"Closed"}\n'))
         same(node.read('/rows?dest=GATE&state=held')[0]['uid'], '1.2.3.4')
         stop(node.process)
@@ -290,10 +425,103 @@ def hostile():
         ended(node.process)
 
 
+def storing(room, callers, seconds, meanwhile=None):
+    """How many images peers store in that time, one association each, while something else is done; each is acknowledged."""
+    counts, end = [0] * callers, [time.monotonic() + seconds]
+
+    def store(peer):
+        with Requestor(room.ports['GATE'], 'CT1', 'GATE') as link:
+            while time.monotonic() < end[0]:
+                uid = f'1.2.{os.getpid()}.{peer}.{time.monotonic_ns()}'.encode()
+                same(link.store(uid, data_set(uid)), 0)
+                counts[peer] += 1
+    peers = [threading.Thread(target=store, args=(peer,)) for peer in range(callers)]
+    for peer in peers:
+        peer.start()
+    begun = time.monotonic()
+    if meanwhile:
+        meanwhile()
+        end[0] = time.monotonic()
+    for peer in peers:
+        peer.join()
+    return sum(counts), sum(counts) / (time.monotonic() - begun)
+
+
+def malformed(node, chance):
+    """A request that is none, in one of several ways."""
+    whole = f'POST /drop HTTP/1.1\r\nHost: {node.at}\r\nAuthorization: Bearer {TOKEN[:-1]}\r\nContent-Length: 26\r\n\r\nuid=1.2.3.4&dest=ARCHIVE_1'.encode()
+    kind = chance.randrange(6)
+    if kind == 0:
+        return whole[:chance.randrange(len(whole))]
+    if kind == 1:
+        return b'GET / HTTP/1.1\r\nX: ' + chance.randrange(8_000, 60_000) * b'x'
+    if kind == 2:
+        length = chance.choice((b'-1', b'fffffffffffffffff', b'8000000000000000', b'1;' + 9000 * b'x', b'zz', b''))
+        return f'POST /drop HTTP/1.1\r\nHost: {node.at}\r\nTransfer-Encoding: chunked\r\n\r\n'.encode() + length + b'\r\nabc\r\n0\r\n\r\n'
+    if kind == 3:
+        return chance.randrange(2, 40) * whole
+    if kind == 4:
+        return chance.randbytes(chance.randrange(1, 3_000))
+    data = bytearray(whole)
+    for _ in range(chance.randrange(1, 6)):
+        data[chance.randrange(len(data))] = chance.randrange(256)
+    return bytes(data)
+
+
+def memory(process):
+    """The most memory that a process has had so far, in MB."""
+    with open(f'/proc/{process.pid}/status', encoding='ascii') as file:
+        return int(re.search(r'VmHWM:\s+(\d+) kB', file.read())[1]) // 1024
+
+
+def flood(count=1_000):
+    """Malformed requests, from eight at a time, while two peers store: nothing is lost, nothing is done, and memory stays bounded."""
+    with Room() as room:
+        node = Asked(room, 'GATE', 0)
+        alone, rate = storing(room, 2, 2)
+        before = memory(node.process)
+        answers, lock = {}, threading.Lock()
+
+        def send(sender):
+            chance = random.Random(sender)
+            for _ in range(count // 8):
+                try:
+                    status = node.raw(malformed(node, chance))[9:12]
+                except OSError:
+                    status = b'cut'
+                with lock:
+                    answers[status] = answers.get(status, 0) + 1
+
+        def attack():
+            senders = [threading.Thread(target=send, args=(sender,)) for sender in range(8)]
+            for sender in senders:
+                sender.start()
+            for sender in senders:
+                sender.join()
+        meanwhile, slower = storing(room, 2, 10 * LIMIT, attack)
+        same(answers.get(b'200', 0), 0)
+        same(sum(answers.values()), count // 8 * 8)
+        grown = memory(node.process) - before
+        assert grown < 200, grown
+        same(node.read('/status')[0]['arrivals'], alone + meanwhile)
+        same(node.read('/rows?dest=ARCH&state=dropped'), [])
+        same(node.process.poll(), None)
+        print(f'control: {count} malformed requests while two peers store: {rate:.0f} images a second alone, {slower:.0f} meanwhile; '
+              f'{grown} MB more memory; answers {sorted(answers.items())}', flush=True)
+        same(node.act('/stop')[0], 200)
+        ended(node.process)
+
+
+def flood_of_20_000():
+    flood(20_000)
+
+
 def main():
     if not os.path.exists(PROGRAM):
         sys.exit(f'{PROGRAM} is not built')
-    run_cases('control', reads, page, acts, refusals, places, hostile)
+    if sys.argv[1:] == ['--more']:
+        return run_cases('control --more', flood_of_20_000)
+    return run_cases('control', reads, page, acts, orders, hurried, forms, refusals, places, hostile, flood)
 
 
 if __name__ == '__main__':

@@ -1,6 +1,6 @@
 -- What a running node answers, as lines: JSON's objects, and figures for Prometheus.
-use Rattle.std.specs.Prelude.{ℕ, ◌/◌, ◌%◌, ◌∷◌, ◌++◌, List, [], Option}
-use Rattle.std.specs.Prelude.{None, Some}
+use Rattle.std.specs.Prelude.{ℕ, ◌/◌, ◌%◌, ◌∷◌, ◌++◌, List, [], Bool, Option}
+use Rattle.std.specs.Prelude.{None, Some, if◌then◌else◌}
 use Rattle.std.specs.Prelude.{codes, decimal, flat_map}
 use Rattle.dr_base.specs.Texts.{Text}
 use Rattle.dr_ledger.specs.Pairs.{Pair}
@@ -11,6 +11,7 @@ use Rattle.dr_ledger.specs.declared.item.Progress.{Progress}
 use Rattle.dr_ledger.specs.declared.item.Progress.TheVariants as progress
 use Rattle.dr_run_answer.specs.declared.json.Counts.{Counts}
 use Rattle.dr_run_answer.specs.declared.json.Queue.{Queue}
+use Rattle.dr_run_answer.specs.declared.json.Visited.{Visited}
 use Rattle.dr_run_answer.specs.Quoting.{quoted}
 
 -- a member behind another: its name, then a number or a text
@@ -22,6 +23,9 @@ number name value = member name (decimal value)
 
 abbrev pub word : Text → Text → Text
 word name value = member name (quoted value)
+
+abbrev pub flag : Text → Bool → Text
+flag name value = member name (if value then codes "true" else codes "false")
 
 -- an object's first member, which is a text; and its end, with which its line ends
 abbrev pub begun : Text → Text → Text
@@ -59,6 +63,11 @@ abbrev pub row_line : Pair × Progress → Text
 row_line row =
     begun (codes "uid") row.0.0 ++ word (codes "dest") row.0.1 ++ progress_part row.1 ++ ended
 
+-- the line of an instance: its data set is there; all its rows are over
+abbrev pub instance_line : Text → Bool → Bool → Text
+instance_line uid body over =
+    begun (codes "instance") uid ++ flag (codes "body") body ++ flag (codes "over") over ++ ended
+
 -- the line of a node that serves since that moment
 abbrev pub node_line : Text → ℕ → Counts → Text
 node_line name since counts =
@@ -71,16 +80,21 @@ abbrev pub due_part : Option ℕ → Text
 due_part None = []
 due_part (Some due) = number (codes "due") due
 
+-- when the last visit to a node ended, and what it came to, if there was one
+abbrev pub visit_part : Option Visited → Text
+visit_part None = []
+visit_part (Some visit) = number (codes "visited") visit.at ++ word (codes "came") visit.came.now
+
 -- the line of the rows to a node: how many wait, are held and are done
-abbrev pub queue_line : Text → ℕ → ℕ → ℕ → Option ℕ → Text
-queue_line dest waiting held done due =
+abbrev pub queue_line : Text → ℕ → ℕ → ℕ → Option ℕ → Option Visited → Text
+queue_line dest waiting held done due visit =
     begun (codes "dest") dest ++ number (codes "waiting") waiting ++ number (codes "held") held
-    ++ number (codes "done") done ++ due_part due ++ ended
+    ++ number (codes "done") done ++ due_part due ++ visit_part visit ++ ended
 
 -- the same of a queue
 abbrev pub line_of_queue : Queue → Text
 line_of_queue queue =
-    queue_line queue.dest.now queue.waiting queue.held queue.done queue.due
+    queue_line queue.dest.now queue.waiting queue.held queue.done queue.due queue.visit
 
 -- an act was done; a node is well; a fault
 abbrev pub done_line : Text
@@ -91,6 +105,10 @@ well_line = codes "{\"well\":true}\n"
 
 abbrev pub fault_line : Text → Text
 fault_line fault = begun (codes "fault") fault ++ ended
+
+-- a node to which a row is due wasn't visited for long
+abbrev pub late_line : Text → Text
+late_line dest = begun (codes "fault") (codes "Late") ++ word (codes "dest") dest ++ ended
 
 -- ---- the text format of Prometheus
 

@@ -1,10 +1,12 @@
 -- Figures of answers.
-use Rattle.std.specs.Prelude.{◌≡◌, [], ◌∷◌, codes, None, Some}
+use Rattle.std.specs.Prelude.{◌≡◌, [], ◌∷◌, codes, false, true, None, Some}
 use Rattle.dr_ledger.specs.declared.item.Cause.TheVariants as cause
 use Rattle.dr_ledger.specs.declared.item.Progress.TheVariants.{Waiting, Held, Done}
-use Rattle.dr_run_answer.specs.Answers.{fault_line, node_line, queue_line, row_line, rows_figure}
+use Rattle.dr_run_answer.specs.Answers.{fault_line, instance_line, late_line, node_line}
+use Rattle.dr_run_answer.specs.Answers.{queue_line, row_line, rows_figure}
 
--- the lines of rows, of a node, of a queue and of a figure; a UID with a quote and a line feed
+-- the lines of rows, of an instance, of a node, of a queue, of faults and of a figure; a UID with a
+-- quote and a line feed
 abbrev pub LinesAreWrittenSo : Type 0
 LinesAreWrittenSo =
     (row_line ((codes "1.2", codes "ARCH"), Held (cause.Status 0xC0F1))
@@ -16,10 +18,13 @@ LinesAreWrittenSo =
     × (node_line (codes "GATE") 5 (record { arrivals = 1; kept = 2; lines = 3; failures = 0 })
     ≡ codes
     "{\"node\":\"GATE\",\"since\":5,\"arrivals\":1,\"kept\":2,\"lines\":3,\"failures\":0}\n")
-    × (queue_line (codes "ARCH") 1 2 3 None
+    × (queue_line (codes "ARCH") 1 2 3 None None
     ≡ codes "{\"dest\":\"ARCH\",\"waiting\":1,\"held\":2,\"done\":3}\n")
-    × (queue_line (codes "ARCH") 1 2 3 (Some 7)
+    × (queue_line (codes "ARCH") 1 2 3 (Some 7) None
     ≡ codes "{\"dest\":\"ARCH\",\"waiting\":1,\"held\":2,\"done\":3,\"due\":7}\n")
     × (fault_line (codes "G5 NotHeld") ≡ codes "{\"fault\":\"G5 NotHeld\"}\n")
     × (rows_figure (codes "ARCH") (codes "held") 2
     ≡ codes "dr_router_rows{dest=\"ARCH\",state=\"held\"} 2\n")
+    × (instance_line (codes "1.2") true false
+    ≡ codes "{\"instance\":\"1.2\",\"body\":true,\"over\":false}\n")
+    × (late_line (codes "ARCH") ≡ codes "{\"fault\":\"Late\",\"dest\":\"ARCH\"}\n")

@@ -1,9 +1,9 @@
 //! Lines of JSON.
 ghost use Rattle.std.specs.Prelude.{◌≡◌, ◌++◌, OnOk, decimal};
 ghost use Rattle.dr_run_answer.specs.Answers.{cause_part, done_line, due_part, fault_line};
-ghost use Rattle.dr_run_answer.specs.Answers.{held_part};
+ghost use Rattle.dr_run_answer.specs.Answers.{flag, held_part, instance_line, late_line};
 ghost use Rattle.dr_run_answer.specs.Answers.{line_of_queue, node_line, number, progress_part};
-ghost use Rattle.dr_run_answer.specs.Answers.{row_line, waiting_part, well_line, word};
+ghost use Rattle.dr_run_answer.specs.Answers.{row_line, visit_part, waiting_part, well_line, word};
 
 use crate::quoted::{put_quoted, put_text};
 use dr_base::Text;
@@ -20,8 +20,15 @@ pub struct Counts {
     pub failures: u64,
 }
 
-/// How many rows to a node wait, are held and are done, and from which moment on the first one that
-/// waits is due (milliseconds).
+/// A visit to a node: when it ended (milliseconds), and what it came to, in a word.
+#[derive(Clone, Copy, Debug)]
+pub struct Visited {
+    pub at: u64,
+    pub came: &'static str,
+}
+
+/// How many rows to a node wait, are held and are done, from which moment on the first one that
+/// waits is due (milliseconds), and the last visit to it, if it is known.
 #[derive(Debug, Drop)]
 pub struct Queue<'a> {
     pub dest: &'a Text,
@@ -29,6 +36,7 @@ pub struct Queue<'a> {
     pub held: u64,
     pub done: u64,
     pub due: Option<u64>,
+    pub visit: Option<Visited>,
 }
 
 /// Adds a number.
@@ -57,6 +65,19 @@ fn put_word(out: &mut Vec<u8>, name: &str, value: &[u8]) -> Result<(), AllocErro
     out.extend_from_slice(name.as_bytes())?;
     out.extend_from_slice(b"\":")?;
     put_quoted(out, value)
+}
+
+/// Adds whether something is so, behind its name.
+fn put_flag(out: &mut Vec<u8>, name: &str, value: bool) -> Result<(), AllocError>
+    ensures { OnOk result (out.new.items ≡ out.old.items ++ flag name.now value) }
+{
+    out.extend_from_slice(b",\"")?;
+    out.extend_from_slice(name.as_bytes())?;
+    out.extend_from_slice(b"\":")?;
+    if value {
+        return out.extend_from_slice(b"true");
+    }
+    out.extend_from_slice(b"false")
 }
 
 /// Adds why a row is held.
@@ -123,6 +144,18 @@ pub fn put_row(
     Ok(())
 }
 
+/// Adds the line of an instance: whether its data set is there, and all its rows are over.
+pub fn put_instance(out: &mut Vec<u8>, uid: &Text, body: bool, over: bool) -> Result<(), AllocError>
+    ensures { OnOk result (out.new.items ≡ out.old.items ++ instance_line uid.now body over) }
+{
+    out.extend_from_slice(b"{\"instance\":")?;
+    put_text(out, uid)?;
+    put_flag(out, "body", body)?;
+    put_flag(out, "over", over)?;
+    out.extend_from_slice(b"}\n")?;
+    Ok(())
+}
+
 /// Adds the line of a node, which serves since that moment (milliseconds).
 pub fn put_node(
     out: &mut Vec<u8>,
@@ -153,6 +186,18 @@ fn put_due(out: &mut Vec<u8>, due: Option<u64>) -> Result<(), AllocError>
     }
 }
 
+/// Adds when the last visit to a node ended, and what it came to.
+fn put_visit(out: &mut Vec<u8>, visit: Option<Visited>) -> Result<(), AllocError>
+    ensures { OnOk result (out.new.items ≡ out.old.items ++ visit_part visit) }
+{
+    let Some(visit) = visit else {
+        return Ok(());
+    };
+    put_number(out, "visited", visit.at)?;
+    put_word(out, "came", visit.came.as_bytes())?;
+    Ok(())
+}
+
 /// Adds the line of the rows to a node.
 pub fn put_queue(out: &mut Vec<u8>, queue: &Queue<'_>) -> Result<(), AllocError>
     ensures { OnOk result (out.new.items ≡ out.old.items ++ line_of_queue queue.now) }
@@ -163,6 +208,7 @@ pub fn put_queue(out: &mut Vec<u8>, queue: &Queue<'_>) -> Result<(), AllocError>
     put_number(out, "held", queue.held)?;
     put_number(out, "done", queue.done)?;
     put_due(out, queue.due)?;
+    put_visit(out, queue.visit)?;
     out.extend_from_slice(b"}\n")?;
     Ok(())
 }
@@ -187,6 +233,16 @@ pub fn put_fault(out: &mut Vec<u8>, fault: &str) -> Result<(), AllocError>
 {
     out.extend_from_slice(b"{\"fault\":")?;
     put_quoted(out, fault.as_bytes())?;
+    out.extend_from_slice(b"}\n")?;
+    Ok(())
+}
+
+/// Adds the line of a node to which a row is due, and which wasn't visited for long.
+pub fn put_late(out: &mut Vec<u8>, dest: &Text) -> Result<(), AllocError>
+    ensures { OnOk result (out.new.items ≡ out.old.items ++ late_line dest.now) }
+{
+    out.extend_from_slice(b"{\"fault\":\"Late\",\"dest\":")?;
+    put_text(out, dest)?;
     out.extend_from_slice(b"}\n")?;
     Ok(())
 }

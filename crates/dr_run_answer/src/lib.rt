@@ -1,7 +1,7 @@
 //! What a running node answers over its control connection, as text.
 //!
 //! - Lines of JSON, one object each: what a node has (`put_node`), how many rows are on their way
-//!   to a node (`put_queue`), and rows (`put_rows`).
+//!   to a node (`put_queue`), an instance (`put_instance`), and rows (`put_rows`).
 //! - Figures in the text format of Prometheus: `put_figures`, `put_queues`.
 //!
 //! Whatever a peer sent, as a UID, stands in it escaped, so that it begins no line, no object and
@@ -15,6 +15,9 @@ mod page;
 mod quoted;
 
 pub use figures::{put_figures, put_queues};
-pub use json::{Counts, Queue, put_done, put_fault, put_node, put_queue, put_row, put_well};
+pub use json::{
+    Counts, Queue, Visited, put_done, put_fault, put_instance, put_late, put_node, put_queue,
+    put_row, put_well,
+};
 pub use page::put_rows;
 pub use quoted::put_quoted;

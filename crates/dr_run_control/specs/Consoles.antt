@@ -1,137 +1,220 @@
 -- What a request does at the shared desk, and how it is answered.
-use Rattle.std.specs.Prelude.{◌≡◌, ◌⊎◌, ℕ, List, Ok, Err, Result}
+use Rattle.std.specs.List.{list_any}
+use Rattle.std.specs.Prelude.{◌≡◌, ◌⊎◌, ℕ, Bool, true, false, List, [], ◌∷◌, bytes_eq}
+use Rattle.std.specs.Prelude.{Option, Ok, Err, Result, MatchResult, codes}
 use Rattle.http.specs.declared.request.Request.{Request}
 use Rattle.http.specs.Request.{head_of, body_of}
 use Rattle.dr_base.specs.Texts.{Text}
 use Rattle.dr_desk.specs.Answering.{Answers as DeskAnswers}
 use Rattle.dr_desk.specs.Receipts.{Leaves, Notes}
 use Rattle.dr_desk.specs.declared.receipt.Call.{Call}
-use Rattle.dr_desk.specs.declared.receipt.Call.TheVariants.{Requeuing, Dropping}
+use Rattle.dr_desk.specs.declared.receipt.Call.TheVariants.{Requeuing, Dropping, Forgetting}
 use Rattle.dr_desk.specs.declared.receipt.Receipt.{Receipt}
 use Rattle.dr_desk.specs.declared.receipt.Reply.TheVariants.{Done}
 use Rattle.dr_ledger_views.specs.declared.stage.Stage.{Stage}
 use Rattle.dr_ledger_views.specs.declared.stage.Stage.TheVariants as stage
 use Rattle.dr_ledger_views.specs.declared.stage.Tally.{Tally}
+use Rattle.dr_ledger_views.specs.Views.{Row}
 use Rattle.dr_ledger.specs.Books.{Book, Line}
-use Rattle.dr_ledger.specs.Replies.{Drops, Requeues}
+use Rattle.dr_ledger.specs.Replies.{Drops, Forgets, Requeues}
 use Rattle.dr_ledger.specs.declared.fault.LedgerFault.{LedgerFault}
+use Rattle.dr_ledger.specs.declared.fault.LedgerFault.TheVariants as ledger
 use Rattle.dr_run_answer.specs.Answers.{done_line, fault_line}
 use Rattle.dr_run_answer.specs.declared.json.Queue.{Queue}
+use Rattle.dr_run_answer.specs.declared.json.Visited.{Visited}
 use Rattle.dr_run_control.specs.Replies.{IsToldIn, line_of_answer, name_of_form, name_of_refusal}
 use Rattle.dr_run_control.specs.Replies.{status_of_answer, status_of_form, status_of_refusal}
-use Rattle.dr_run_control.specs.declared.acts.RowAct.{RowAct}
-use Rattle.dr_run_control.specs.declared.acts.RowAct.TheVariants as act
+use Rattle.dr_run_open.specs.declared.hops.NextHop.{NextHop}
 use Rattle.dr_run_request.specs.Asking.{Admits}
-use Rattle.dr_run_request.specs.Forms.{NamesRow}
+use Rattle.dr_run_request.specs.Orders.{IsAsked}
 use Rattle.dr_run_request.specs.declared.admission.Access.{Access}
 use Rattle.dr_run_request.specs.declared.admission.Refused.{Refused}
+use Rattle.dr_run_request.specs.declared.browser.Browser.{Browser}
+use Rattle.dr_run_request.specs.declared.order.Order.{Order}
+use Rattle.dr_run_request.specs.declared.order.Order.TheVariants as order
 use Rattle.dr_run_request.specs.declared.route.Route.{Route}
 use Rattle.dr_run_request.specs.declared.route.Route.TheVariants as route
 use Rattle.dr_run_request.specs.declared.wanted.FormFault.{FormFault}
 use Rattle.dr_run_request.specs.declared.wanted.FormFault.TheVariants as fault
-use Rattle.dr_run_request.specs.declared.wanted.RowName.{RowName}
 use Rattle.dr_run_request.specs.declared.wanted.Stage.{Stage as Word}
 use Rattle.dr_run_request.specs.declared.wanted.Stage.TheVariants as word
 use Rattle.dr_site.specs.Parts.{Part}
 
--- the call on the desk that an act on a row is
-abbrev pub call_of : RowAct → RowName → ℕ → Call
-call_of act.Requeue row now = Requeuing row.uid row.dest
-call_of act.GiveUp row now = Dropping row.uid row.dest now
+-- by this route the node is told what to do by a form
+abbrev pub gives_order : Route → Bool
+gives_order route.Page = false
+gives_order route.Status = false
+gives_order route.Rows = false
+gives_order route.Instance = false
+gives_order route.Metrics = false
+gives_order route.Health = false
+gives_order route.Requeue = true
+gives_order route.GiveUp = true
+gives_order route.Forget = true
+gives_order route.Visit = true
+gives_order route.Stop = false
 
--- what it does to the ledger: what is answered to it, and the book that it leaves
-abbrev pub does_to : RowAct → RowName → ℕ
-    → Book → Result (Unit {0}) LedgerFault → Book → Type 0
-does_to act.Requeue row now = Requeues row.uid row.dest
-does_to act.GiveUp row now = Drops row.uid row.dest now
+-- why a form isn't understood: it orders nothing, or there was no memory
+abbrev pub Misreads : Route → Text → FormFault → Type 0
+Misreads asked form fault.Field = (one : Order) → IsAsked one asked form → ⊥
+Misreads asked form fault.Memory = Unit {0}
 
--- the route by which it is asked for
-abbrev pub route_of : RowAct → Route
-route_of act.Requeue = route.Requeue
-route_of act.GiveUp = route.GiveUp
+-- the node sends there
+abbrev pub goes_to : Text → NextHop → Bool
+goes_to dest hop = bytes_eq hop.dest dest
 
--- the route is of no act on a row
-abbrev pub IsNoRowAct : Route → Type 0
-IsNoRowAct asked = (act : RowAct) → asked ≡ route_of act → ⊥
-
--- why a form isn't understood: it names no row, or there was no memory
-abbrev pub Misreads : Text → FormFault → Type 0
-Misreads form fault.Field = (row : RowName) → NamesRow form row → ⊥
-Misreads form fault.Memory = Unit {0}
+-- who is to be visited is a node to which this one sends
+abbrev pub Goes : List NextHop → Order → Type 0
+Goes hops (order.Requeue row) = Unit {0}
+Goes hops (order.RequeueAll dest) = Unit {0}
+Goes hops (order.GiveUp row) = Unit {0}
+Goes hops (order.Forget uid) = Unit {0}
+Goes hops (order.Visit dest) = list_any (goes_to dest) hops ≡ true
 
 -- a pass after an act: it has one receipt more, of just that call, or it is left
 abbrev pub NotesIf : Call → Result (Unit {0}) LedgerFault
     → ℕ → List Receipt → ℕ → List Receipt → Type 0
-NotesIf call (Ok done) count receipts now kept = Notes call Done count receipts now kept
-NotesIf call (Err why) count receipts now kept = Leaves count receipts now kept
+NotesIf call answer count receipts now kept =
+    MatchResult answer
+    (λ done. Notes call Done count receipts now kept)
+    (λ why. Leaves count receipts now kept)
+
+-- of all rows that are queued again, one that isn't held any more is no fault
+abbrev pub passed : Result (Unit {0}) LedgerFault → Result (Unit {0}) LedgerFault
+passed (Ok done) = Ok done
+passed (Err ledger.NotHeld) = Ok tt
+passed (Err ledger.NoLine) = Err ledger.NoLine
+passed (Err ledger.Conflict) = Err ledger.Conflict
+passed (Err ledger.NotWaiting) = Err ledger.NotWaiting
+passed (Err ledger.NotOver) = Err ledger.NotOver
+passed (Err ledger.Store) = Err ledger.Store
+passed (Err ledger.Memory) = Err ledger.Memory
 
 -- The form of an act isn't understood: nothing is done, and the answer names its fault.
-pub record IsMisread (form : Text) (status : ℕ) (text : Text)
+pub record IsMisread (asked : Route) (form : Text) (status : ℕ) (text : Text)
     (count : ℕ) (receipts : List Receipt) (now : ℕ) (kept : List Receipt) : Type 0 where
   pub why : FormFault
-  pub misreads : Misreads form why
+  pub misreads : Misreads asked form why
   pub status_is : status ≡ status_of_form why
   pub told : IsToldIn (fault_line (name_of_form why)) text
   pub leaves : Leaves count receipts now kept
 
 -- The request mayn't be asked: nothing is done, and the answer names the refusal.
-pub record IsRefused (access : Access) (request : Request (List ℕ)) (status : ℕ) (text : Text)
+pub record IsRefused (access : Access) (browser : Option Browser) (request : Request (List ℕ))
+    (status : ℕ) (text : Text)
     (count : ℕ) (receipts : List Receipt) (now : ℕ) (kept : List Receipt) : Type 0 where
   pub why : Refused
-  pub admits : Admits access (head_of request) (Err why)
+  pub admits : Admits access browser (head_of request) (body_of request) (Err why)
   pub status_is : status ≡ status_of_refusal why
   pub told : IsToldIn (fault_line (name_of_refusal why)) text
   pub leaves : Leaves count receipts now kept
 
--- What is asked is no act on a row: to none anything is done. Where the node is told to end, the
--- answer says that this is done.
-pub record IsLooked (access : Access) (request : Request (List ℕ)) (status : ℕ) (text : Text)
+-- No order is given: to no row anything is done. Where the node is told to end, the answer says
+-- that this is done.
+pub record IsLooked (access : Access) (browser : Option Browser) (request : Request (List ℕ))
+    (status : ℕ) (text : Text)
     (count : ℕ) (receipts : List Receipt) (now : ℕ) (kept : List Receipt) : Type 0 where
   pub asked : Route
-  pub admits : Admits access (head_of request) (Ok asked)
-  pub other : IsNoRowAct asked
+  pub admits : Admits access browser (head_of request) (body_of request) (Ok asked)
+  pub other : gives_order asked ≡ false
   pub stops : asked ≡ route.Stop → (status ≡ 200) × IsToldIn done_line text
   pub leaves : Leaves count receipts now kept
 
+-- Who is to be visited is none to whom this node sends: nothing is done.
+pub record IsNowhere (hops : List NextHop) (one : Order) (status : ℕ) (text : Text)
+    (count : ℕ) (receipts : List Receipt) (now : ℕ) (kept : List Receipt) : Type 0 where
+  pub unknown : Goes hops one → ⊥
+  pub status_is : status ≡ 404
+  pub told : IsToldIn (fault_line (codes "Hop")) text
+  pub leaves : Leaves count receipts now kept
+
+-- a pass's count with its receipts
+abbrev pub State : Type 0
+State = ℕ × List Receipt
+
 module _ {L : Type 0} (site_of : L → Part) (book : L → Book) (stands : L → Type 0)
     (failed : L → ℕ) (own : Part) (first : List Line) where
-  -- The act is done on the row that the form names, or its ledger refuses it: the status and the
-  -- text are those of what was answered to that call, and the pass has its receipt.
-  pub record IsDone (act : RowAct) (form : Text) (status : ℕ) (text : Text)
+  -- one call of the desk, that the ledger answered so, and the receipt that the pass has
+  abbrev pub Calls : (Book → Result (Unit {0}) LedgerFault → Book → Type 0) → Call
+      → Result (Unit {0}) LedgerFault → ℕ → List Receipt → ℕ → List Receipt → Type 0
+  Calls effect call answer count receipts now kept =
+      DeskAnswers site_of book stands failed own first effect call (λ _. Done) answer receipts kept
+      × NotesIf call answer count receipts now kept
+
+  -- a row is queued again, as one of many
+  abbrev pub Again : Text → Row → State → Result (Unit {0}) LedgerFault → State → Type 0
+  Again dest row s result t =
+      (answer : Result (Unit {0}) LedgerFault)
+      × Calls (Requeues row.0.0 dest) (Requeuing row.0.0 dest) answer s.0 s.1 t.0 t.1
+      × (result ≡ passed answer)
+
+  -- Rows are queued again, each by one call, one behind the other; what the ledger refuses else
+  -- than that a row isn't held any more is the end of it.
+  abbrev pub AgainEach : Text → List Row → State → Result (Unit {0}) LedgerFault → State → Type 0
+  AgainEach dest [] s result t = (result ≡ Ok tt) × (t ≡ s)
+  AgainEach dest (row ∷ rows) s result t =
+      ((why : LedgerFault) × (result ≡ Err why) × Again dest row s (Err why) t)
+      ⊎ ((mid : State) × Again dest row s (Ok tt) mid × AgainEach dest rows mid result t)
+
+  -- What an order does at the desk, and what comes of that. To visit a node is no call of the desk.
+  abbrev pub Acts : Order → Result (Unit {0}) LedgerFault
+      → ℕ → List Receipt → ℕ → List Receipt → Type 0
+  Acts (order.Requeue row) answer count receipts now kept =
+      Calls (Requeues row.uid row.dest) (Requeuing row.uid row.dest) answer count receipts now kept
+  Acts (order.RequeueAll dest) answer count receipts now kept =
+      ((why : LedgerFault) × (answer ≡ Err why) × Leaves count receipts now kept)
+      ⊎ ((rows : List Row) × AgainEach dest rows (count, receipts) answer (now, kept))
+  Acts (order.GiveUp row) answer count receipts now kept =
+      (moment : ℕ)
+      × Calls (Drops row.uid row.dest moment) (Dropping row.uid row.dest moment) answer
+      count receipts now kept
+  Acts (order.Forget uid) answer count receipts now kept =
+      Calls (Forgets uid) (Forgetting uid) answer count receipts now kept
+  Acts (order.Visit dest) answer count receipts now kept =
+      (answer ≡ Ok tt) × Leaves count receipts now kept
+
+  -- The order is done, or the ledger refuses it: the status and the text are those of what came of
+  -- it at the desk.
+  pub record IsDone (hops : List NextHop) (one : Order) (status : ℕ) (text : Text)
       (count : ℕ) (receipts : List Receipt) (now : ℕ) (kept : List Receipt) : Type 0 where
-    pub row : RowName
-    pub moment : ℕ
     pub answer : Result (Unit {0}) LedgerFault
-    pub names : NamesRow form row
-    pub came : DeskAnswers site_of book stands failed own first (does_to act row moment)
-        (call_of act row moment) (λ _. Done) answer receipts kept
-    pub notes : NotesIf (call_of act row moment) answer count receipts now kept
+    pub goes : Goes hops one
+    pub acts : Acts one answer count receipts now kept
     pub status_is : status ≡ status_of_answer answer
     pub told : IsToldIn (line_of_answer answer) text
 
-  -- What comes of an act that may be asked for.
-  abbrev pub Acts : RowAct → Text → ℕ → Text → ℕ → List Receipt → ℕ → List Receipt → Type 0
-  Acts act form status text count receipts now kept =
-      IsDone act form status text count receipts now kept
-      ⊎ IsMisread form status text count receipts now kept
+  abbrev pub Comes : List NextHop → Order → ℕ → Text → ℕ → List Receipt → ℕ → List Receipt → Type 0
+  Comes hops one status text count receipts now kept =
+      IsDone hops one status text count receipts now kept
+      ⊎ IsNowhere hops one status text count receipts now kept
 
-  -- What comes of a request at a pass of the desk: it mayn't be asked; it asks for an act, and
-  -- that is done, or it is said why not; or it asks for no act on a row.
-  abbrev pub Answers : Access → Request (List ℕ) → ℕ → Text
+  -- What comes of an order that may be given, by the form of a route.
+  abbrev pub Tells : List NextHop → Route → Text
+      → ℕ → Text → ℕ → List Receipt → ℕ → List Receipt → Type 0
+  Tells hops asked form status text count receipts now kept =
+      ((one : Order) × IsAsked one asked form × Comes hops one status text count receipts now kept)
+      ⊎ IsMisread asked form status text count receipts now kept
+
+  -- What comes of a request at a pass of the desk: it mayn't be asked; it gives an order, and that
+  -- is done, or it is said why not; or it gives none.
+  abbrev pub Answers : Access → Option Browser → List NextHop → Request (List ℕ) → ℕ → Text
       → ℕ → List Receipt → ℕ → List Receipt → Type 0
-  Answers access request status text count receipts now kept =
-      IsRefused access request status text count receipts now kept
-      ⊎ (((act : RowAct)
-      × Admits access (head_of request) (Ok (route_of act))
-      × Acts act (body_of request) status text count receipts now kept)
-      ⊎ IsLooked access request status text count receipts now kept)
+  Answers access browser hops request status text count receipts now kept =
+      IsRefused access browser request status text count receipts now kept
+      ⊎ (((asked : Route)
+      × (gives_order asked ≡ true)
+      × Admits access browser (head_of request) (body_of request) (Ok asked)
+      × Tells hops asked (body_of request) status text count receipts now kept)
+      ⊎ IsLooked access browser request status text count receipts now kept)
 
--- the figures of a queue are those that were counted of the rows to its node
-abbrev pub IsCounted : Text → Tally → Queue → Type 0
-IsCounted dest tally queue =
+-- the figures of a queue are those that were counted of the rows to its node, and its visit is the
+-- one that is known
+abbrev pub IsCounted : Text → Tally → Option Visited → Queue → Type 0
+IsCounted dest tally visit queue =
     (queue.dest.now ≡ dest) × (queue.waiting ≡ tally.waiting) × (queue.held ≡ tally.held)
     × (queue.done ≡ tally.done)
     × (queue.due ≡ tally.due)
+    × (queue.visit ≡ visit)
 
 -- the stage of a word that a form may have
 abbrev pub stage_named : Word → Stage

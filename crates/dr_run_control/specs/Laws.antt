@@ -1,37 +1,53 @@
--- Laws of acts that are asked for over the control connection.
-use Rattle.std.specs.Prelude.{◌≡◌, ℕ, List}
+-- Laws of orders that are given over the control connection.
+use Rattle.std.specs.Prelude.{◌≡◌, ℕ, List, Ok}
 use Rattle.dr_base.specs.Texts.{Text}
 use Rattle.dr_desk.specs.Receipts.{Leaves, Notes}
+use Rattle.dr_desk.specs.declared.receipt.Call.TheVariants.{Requeuing, Dropping, Forgetting}
 use Rattle.dr_desk.specs.declared.receipt.Receipt.{Receipt}
 use Rattle.dr_desk.specs.declared.receipt.Reply.TheVariants.{Done}
+use Rattle.dr_ledger_views.specs.Views.{Row}
 use Rattle.dr_ledger.specs.Books.{Book, Line}
-use Rattle.dr_run_control.specs.Consoles.{Acts, call_of}
-use Rattle.dr_run_control.specs.declared.acts.RowAct.{RowAct}
-use Rattle.dr_run_request.specs.Forms.{NamesRow}
-use Rattle.dr_run_request.specs.declared.wanted.RowName.{RowName}
+use Rattle.dr_run_control.specs.Consoles.{AgainEach, Goes, Tells}
+use Rattle.dr_run_open.specs.declared.hops.NextHop.{NextHop}
+use Rattle.dr_run_request.specs.Orders.{IsAsked}
+use Rattle.dr_run_request.specs.declared.order.Order.{Order}
+use Rattle.dr_run_request.specs.declared.order.Order.TheVariants as order
+use Rattle.dr_run_request.specs.declared.route.Route.{Route}
 use Rattle.dr_site.specs.Parts.{Part}
-
--- the act was done on the row that the form names, and the pass has its receipt
-abbrev pub Does : RowAct → Text → ℕ → List Receipt → ℕ → List Receipt → Type 0
-Does act form count receipts now kept =
-    (row : RowName) × (moment : ℕ)
-    × NamesRow form row
-    × Notes (call_of act row moment) Done count receipts now kept
 
 module _ {L : Type 0} (site_of : L → Part) (book : L → Book) (stands : L → Type 0)
     (failed : L → ℕ) (own : Part) (first : List Line) where
-  -- where the answer says that an act was done, it was
+  -- the order was done, and the pass has its receipt
+  abbrev pub Does : Order → ℕ → List Receipt → ℕ → List Receipt → Type 0
+  Does (order.Requeue row) count receipts now kept =
+      Notes (Requeuing row.uid row.dest) Done count receipts now kept
+  Does (order.RequeueAll dest) count receipts now kept =
+      (rows : List Row)
+      × AgainEach site_of book stands failed own first dest rows (count, receipts) (Ok tt)
+      (now, kept)
+  Does (order.GiveUp row) count receipts now kept =
+      (moment : ℕ) × Notes (Dropping row.uid row.dest moment) Done count receipts now kept
+  Does (order.Forget uid) count receipts now kept =
+      Notes (Forgetting uid) Done count receipts now kept
+  Does (order.Visit dest) count receipts now kept = Leaves count receipts now kept
+
+  -- where the answer says that an order was done, it was, and it is the one that the form gives
   abbrev pub DoneWasDone : Type 0
   DoneWasDone =
-      (act : RowAct) (form text : Text) (status count now : ℕ) (receipts kept : List Receipt)
-      → Acts site_of book stands failed own first act form status text count receipts now kept
+      (hops : List NextHop) (asked : Route) (form text : Text)
+      (status count now : ℕ) (receipts kept : List Receipt)
+      → Tells site_of book stands failed own first hops asked form status text
+      count receipts now kept
       → status ≡ 200
-      → Does act form count receipts now kept
+      → (one : Order) × IsAsked one asked form × Goes hops one × Does one count receipts now kept
 
-  -- where it says another thing, none was
+  -- where it says another thing, none was, but where many rows were meant
   abbrev pub ElseNothing : Type 0
   ElseNothing =
-      (act : RowAct) (form text : Text) (status count now : ℕ) (receipts kept : List Receipt)
-      → Acts site_of book stands failed own first act form status text count receipts now kept
+      (hops : List NextHop) (asked : Route) (form text : Text)
+      (status count now : ℕ) (receipts kept : List Receipt)
+      → ((dest : Text) → IsAsked (order.RequeueAll dest) asked form → ⊥)
+      → Tells site_of book stands failed own first hops asked form status text
+      count receipts now kept
       → (status ≡ 200 → ⊥)
       → Leaves count receipts now kept

@@ -12,10 +12,12 @@ use Rattle.dr_run_request.specs.declared.wanted.FormFault.TheVariants as form
 
 abbrev pub status_of_refusal : Refused → ℕ
 status_of_refusal refused.Host = 421
+status_of_refusal refused.Origin = 403
 status_of_refusal refused.Path = 404
 status_of_refusal refused.Method = 405
 status_of_refusal refused.Closed = 403
 status_of_refusal refused.Token = 401
+status_of_refusal refused.Key = 403
 
 abbrev pub status_of_form : FormFault → ℕ
 status_of_form form.Field = 400
@@ -35,10 +37,12 @@ status_of_fault ledger.Memory = 503
 -- the name of a refusal
 abbrev pub name_of_refusal : Refused → Text
 name_of_refusal refused.Host = codes "Host"
+name_of_refusal refused.Origin = codes "Origin"
 name_of_refusal refused.Path = codes "Path"
 name_of_refusal refused.Method = codes "Method"
 name_of_refusal refused.Closed = codes "Closed"
 name_of_refusal refused.Token = codes "Token"
+name_of_refusal refused.Key = codes "Key"
 
 -- the name of what is wrong with a form
 abbrev pub name_of_form : FormFault → Text

@@ -1,39 +1,52 @@
 //! A service that answers requests of a node's control connection.
-ghost use Rattle.std.specs.Prelude.{◌≡◌, IfNone, IfSome};
-ghost use Rattle.dr_run_answer.specs.Answers.{done_line};
-ghost use Rattle.dr_run_control.specs.Consoles.{Acts, Answers, route_of};
-ghost use Rattle.dr_run_control.specs.Replies.{IsToldIn};
-ghost use Rattle.dr_run_control.specs.declared.acts.RowAct.{RowAct as RowActValue};
+ghost use Rattle.std.specs.List.{list_any};
+ghost use Rattle.std.specs.Prelude.{◌≡◌, ◌↔◌, IsTrue, codes};
+ghost use Rattle.dr_run_answer.specs.Answers.{done_line, fault_line};
+ghost use Rattle.dr_run_control.specs.Consoles.{Answers, Comes, Goes, Tells, gives_order};
+ghost use Rattle.dr_run_control.specs.Consoles.{goes_to};
+ghost use Rattle.dr_run_control.specs.Replies.{IsToldIn, line_of_answer, status_of_answer};
 ghost use Rattle.dr_run_request.specs.declared.route.Route.TheVariants as RouteValue;
 
-use crate::acts::{RowAct, act_on_row};
+use crate::acts::act;
 use crate::page::read_page;
-use crate::reads::{read_counts, read_health, read_rows};
+use crate::reads::{read_counts, read_health, read_instance, read_rows};
 use crate::reply::{Media, Reply, misread, refusal, refused_by_ledger, respond};
 use bytes::Bytes;
 use dr_base::Text;
 use dr_desk::{Pass, SharedDesk, Sharing};
 use dr_ledger::LedgerFault;
 use dr_ledger_views::Views;
-use dr_run_answer::put_done;
+use dr_run_answer::{Visited, put_done};
 use dr_run_open::NextHop;
-use dr_run_request::{Access, Refused, Route, RowName, admit, row_of};
+use dr_run_request::{
+    Access, Browser, Order, Refused, Route, admit, is_of_page, order_of, reason_of,
+};
 use dr_session::Clock;
 use http::{Request, StatusCode};
 use http_server::{Response, Service};
 use std::alloc::{AllocError, Global};
 use std::sync::Wait;
 
-/// The node around the desk: it is told of what is done there.
+/// The node around the desk: it is told of what is done there, and tells what the desk doesn't
+/// know.
 pub trait House {
-    /// An act on a row was done, or refused by the ledger.
-    fn acted(&self, act: RowAct, row: &RowName, fault: Option<LedgerFault>);
+    /// An order was done, or refused by the ledger; with the reason that was given for it.
+    fn acted(&self, order: &Order, reason: Option<&Text>, fault: Option<LedgerFault>);
 
     /// The node is to end in order.
     fn stop(&self);
 
     /// A request was refused.
     fn refused(&self, why: Refused);
+
+    /// The last visit to a node that ended.
+    fn visited(&self, dest: &Text) -> Option<Visited>;
+
+    /// Whether no visit to a node is under way, and none has ended for ten minutes, at that moment.
+    fn is_quiet(&self, dest: &Text, now: u64) -> bool;
+
+    /// Whether the store failed when it was written to last.
+    fn is_failing(&self) -> bool;
 }
 
 /// Answers requests: by the access it is given, over a desk that is shared, with a pass of its own.
@@ -44,6 +57,8 @@ pub struct Console<'a, R: Wait, L: Views, B: Sharing, C: Clock, H: House> {
     pub desk: &'a SharedDesk<L, B>,
     pub pass: &'a mut Pass<B>,
     pub access: &'a Access,
+    /// What a browser gives that may act; None where none may.
+    pub browser: &'a Option<Browser>,
     pub hops: &'a [NextHop],
     /// Since when the node serves, in milliseconds.
     pub since: u64,
@@ -74,47 +89,111 @@ fn done(alloc: Global) -> Reply
     }
 }
 
-/// Does an act on the row that a form names.
-fn do_act<R: Wait, L: Views, B: Sharing, C: Clock, H: House>(
+/// The reply to what came of an order.
+fn answered(alloc: Global, answer: Result<(), LedgerFault>) -> Reply
+    ensures status { result.status ≡ status_of_answer answer }
+    ensures text { IsToldIn (line_of_answer answer) result.text.items }
+{
+    match answer {
+        Ok(()) => done(alloc),
+        Err(fault) => refused_by_ledger(alloc, fault),
+    }
+}
+
+/// The reply where who is to be visited is none to whom this node sends.
+fn nowhere(alloc: Global) -> Reply
+    ensures status { result.status ≡ 404 }
+    ensures text { IsToldIn (fault_line (codes "Hop")) result.text.items }
+{
+    Reply::of_fault(alloc, StatusCode::NOT_FOUND, "Hop")
+}
+
+/// Whether the node sends to that one.
+fn is_hop(hops: &[NextHop], dest: &Text) -> bool
+    ensures { result ≡ list_any (goes_to dest.now) hops.now }
+{
+    hops.iter().any(|hop| hop.dest == *dest)
+}
+
+/// Whether who is to be visited is a node to which this one sends.
+fn goes(hops: &[NextHop], order: &Order) -> bool
+    ensures { IsTrue result ↔ Goes hops.now order.now }
+{
+    match order {
+        Order::Visit(dest) => is_hop(hops, dest),
+        Order::Requeue(_) => true,
+        Order::RequeueAll(_) => true,
+        Order::GiveUp(_) => true,
+        Order::Forget(_) => true,
+    }
+}
+
+/// Does what is ordered.
+fn do_order<R: Wait, L: Views, B: Sharing, C: Clock, H: House>(
     rt: &R,
     alloc: Global,
     desk: &SharedDesk<L, B>,
     pass: &mut Pass<B>,
+    hops: &[NextHop],
     clock: &C,
     house: &H,
-    act: RowAct,
-    form: &[u8],
+    order: &Order,
+    reason: Option<&Text>,
 ) -> Reply
-    ensures { Acts L.site L.book L.stands L.failed B.site B.first
-        act form.now result.status result.text.items pass.old.made.count pass.old.receipts.items
-        pass.new.made.count pass.new.receipts.items }
+    ensures { Comes L.site L.book L.stands L.failed B.site B.first
+        hops.now order.now result.status result.text.items pass.old.made.count
+        pass.old.receipts.items pass.new.made.count pass.new.receipts.items }
 {
-    let row = match row_of(alloc, form) {
-        Ok(row) => row,
-        Err(fault) => return misread(alloc, fault),
-    };
-    match act_on_row(rt, desk, pass, act, &row, clock.now()) {
-        Ok(()) => {
-            house.acted(act, &row, None);
-            done(alloc)
-        }
-        Err(fault) => {
-            house.acted(act, &row, Some(fault));
-            refused_by_ledger(alloc, fault)
-        }
+    if goes(hops, order) {
+        let answer = act(rt, alloc, desk, pass, order, clock.now());
+        house.acted(order, reason, answer.err());
+        return answered(alloc, answer);
     }
+    nowhere(alloc)
 }
 
-/// The act of a route, where it is one on a row.
-fn row_act(route: Route) -> Option<RowAct>
-    ensures some { IfSome result (λ act. route ≡ route_of act) }
-    ensures none { IfNone result ((act : RowActValue) → route ≡ route_of act → ⊥) }
+/// Does what the form of a route orders.
+fn obey<R: Wait, L: Views, B: Sharing, C: Clock, H: House>(
+    rt: &R,
+    alloc: Global,
+    desk: &SharedDesk<L, B>,
+    pass: &mut Pass<B>,
+    hops: &[NextHop],
+    clock: &C,
+    house: &H,
+    route: Route,
+    form: &[u8],
+) -> Reply
+    ensures { Tells L.site L.book L.stands L.failed B.site B.first
+        hops.now route form.now result.status result.text.items pass.old.made.count
+        pass.old.receipts.items pass.new.made.count pass.new.receipts.items }
+{
+    let order = match order_of(alloc, route, form) {
+        Ok(order) => order,
+        Err(fault) => return misread(alloc, fault),
+    };
+    let reason = reason_of(alloc, form).unwrap_or(None);
+    do_order(
+        rt,
+        alloc,
+        desk,
+        pass,
+        hops,
+        clock,
+        house,
+        &order,
+        reason.as_ref(),
+    )
+}
+
+/// Whether the node is told what to do by a form.
+fn gives_order(route: Route) -> bool
+    ensures { result ≡ gives_order route }
 {
     match route {
-        Route::Requeue => Some(RowAct::Requeue),
-        Route::GiveUp => Some(RowAct::GiveUp),
-        Route::Page | Route::Status | Route::Rows | Route::Metrics | Route::Health | Route::Stop =>
-            None,
+        Route::Requeue | Route::GiveUp | Route::Forget | Route::Visit => true,
+        Route::Page | Route::Status | Route::Rows | Route::Instance | Route::Metrics => false,
+        Route::Health | Route::Stop => false,
     }
 }
 
@@ -133,49 +212,58 @@ impl<'a, R: Wait, L: Views, B: Sharing, C: Clock, H: House> Console<'a, R, L, B,
             → (result.status ≡ 200) × IsToldIn done_line result.text.items }
     {
         let (rt, alloc, desk) = (self.rt, self.alloc, self.desk);
+        let (hops, house, now) = (self.hops, self.house, self.clock.now());
         match route {
-            Route::Page => { read_page(rt, alloc, desk, self.hops, self.since, self.clock.now()) }
+            Route::Page => read_page(rt, alloc, desk, hops, house, self.since, now, self.browser),
             Route::Rows => read_rows(rt, alloc, desk, query_of(request)),
-            Route::Status => read_counts(rt, alloc, desk, self.hops, self.since, Media::Lines),
-            Route::Metrics => read_counts(rt, alloc, desk, self.hops, self.since, Media::Figures),
+            Route::Instance => read_instance(rt, alloc, desk, request.uri().path()),
+            Route::Status => read_counts(rt, alloc, desk, hops, house, self.since, Media::Lines),
+            Route::Metrics => read_counts(rt, alloc, desk, hops, house, self.since, Media::Figures),
             Route::Stop => {
-                self.house.stop();
+                house.stop();
                 done(alloc)
             }
-            Route::Health | Route::Requeue | Route::GiveUp => read_health(rt, alloc, desk),
+            Route::Health => read_health(rt, alloc, desk, hops, house, now),
+            Route::Requeue | Route::GiveUp | Route::Forget | Route::Visit => read_health(
+                rt, alloc, desk, hops, house, now,
+            ),
         }
     }
 }
 
 impl<'a, R: Wait, L: Views, B: Sharing, C: Clock, H: House> Console<'a, R, L, B, C, H> {
-    /// The reply to a request: an act is done where it may, and what mayn't is refused.
+    /// The reply to a request: an order is done where it may, and what mayn't is refused.
     fn answer(&mut self, request: &Request<Bytes>) -> Reply
         ensures answers { Answers L.site L.book L.stands L.failed B.site B.first
-            self.old.access.now request.now result.status result.text.items
+            self.old.access.now self.old.browser.now self.old.hops.now request.now
+            result.status result.text.items
             self.old.pass.now.made.count self.old.pass.now.receipts.items
             self.new.pass.now.made.count self.new.pass.now.receipts.items }
-        ensures access { self.new.access.now ≡ self.old.access.now }
+        ensures access { (self.new.access.now ≡ self.old.access.now)
+            × (self.new.browser.now ≡ self.old.browser.now)
+            × (self.new.hops.now ≡ self.old.hops.now) }
     {
-        let route = match admit(self.access, request) {
+        let route = match admit(self.access, self.browser, request) {
             Ok(route) => route,
             Err(why) => {
                 self.house.refused(why);
                 return refusal(self.alloc, why);
             }
         };
-        let Some(act) = row_act(route) else {
-            return self.look(route, request);
-        };
-        do_act(
-            self.rt,
-            self.alloc,
-            self.desk,
-            self.pass,
-            self.clock,
-            self.house,
-            act,
-            request.body().as_slice(),
-        )
+        if gives_order(route) {
+            return obey(
+                self.rt,
+                self.alloc,
+                self.desk,
+                self.pass,
+                self.hops,
+                self.clock,
+                self.house,
+                route,
+                request.body().as_slice(),
+            );
+        }
+        self.look(route, request)
     }
 }
 
@@ -185,10 +273,11 @@ impl<'a, R: Wait, L: Views, B: Sharing, C: Clock, H: House> Service for Console<
 
     ghost answers = { λ s request response t.
         Answers L.site L.book L.stands L.failed B.site B.first
-        s.access.now request response.status response.body.items
+        s.access.now s.browser.now s.hops.now request response.status response.body.items
         s.pass.now.made.count s.pass.now.receipts.items
         t.pass.now.made.count t.pass.now.receipts.items
-        × (t.access.now ≡ s.access.now) };
+        × (t.access.now ≡ s.access.now) × (t.browser.now ≡ s.browser.now)
+        × (t.hops.now ≡ s.hops.now) };
 
     fn call(
         &mut self,
@@ -196,7 +285,7 @@ impl<'a, R: Wait, L: Views, B: Sharing, C: Clock, H: House> Service for Console<
         response: &mut Response,
     ) -> Result<(), AllocError> {
         let reply = self.answer(request);
-        respond(response, reply);
+        respond(response, reply, is_of_page(request.body().as_slice()));
         Ok(())
     }
 }

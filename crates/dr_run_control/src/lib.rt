@@ -1,7 +1,7 @@
 //! What a running node does when it is asked over its control connection, over the shared desk.
 //!
 //! - `Console`: a service of HTTP that answers requests: whom it admits says `dr_run_request`, what
-//!   is written `dr_run_answer`. An act is a call of the shared desk, with its receipt.
+//!   is written `dr_run_answer`. What is ordered are calls of the shared desk, with their receipts.
 //! - `talk`: one request of a connection, over any reader and writer.
 //!
 //! What is shown is copied under the desk's lock, and written when it was given back.
@@ -17,7 +17,6 @@ mod reply;
 mod talking;
 
 pub use access::names_of;
-pub use acts::RowAct;
 pub use console::{Console, House};
 pub use reply::name_of_refusal;
 pub use talking::talk;

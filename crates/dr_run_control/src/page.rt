@@ -1,7 +1,8 @@
 //! The page on which a running node shows what it has.
-ghost use Rattle.std.specs.Prelude.{◌≡◌, IfOk};
+ghost use Rattle.std.specs.Prelude.{◌≡◌, IfOk, option_copied};
 ghost use Rattle.dr_run_page.specs.Documents.{document};
 
+use crate::console::House;
 use crate::reads::{counts_of, queues_of, reply_with};
 use crate::reply::{Media, Reply, refused_by_ledger};
 use dr_base::Text;
@@ -11,6 +12,7 @@ use dr_ledger_views::{Stage, Views};
 use dr_run_answer::Queue;
 use dr_run_open::NextHop;
 use dr_run_page::{SHOWN, Shown, put_document};
+use dr_run_request::Browser;
 use std::alloc::{AllocError, Global};
 use std::sync::Wait;
 
@@ -65,30 +67,40 @@ fn page_text(
     rows: &[Row],
 ) -> Result<Vec<u8>, AllocError>
     ensures { IfOk result (λ text. text.items
-        ≡ document shown.now.name.now shown.now.since shown.now.moment shown.now.counts queues.now
-        rows.now) }
+        ≡ document shown.now.name.now shown.now.since shown.now.moment shown.now.counts
+        (option_copied shown.now.key) queues.now rows.now) }
 {
     let mut out = Vec::new(alloc);
     put_document(&mut out, shown, queues, rows)?;
     Ok(out)
 }
 
+/// The key of the forms of this run's page.
+fn key_of(browser: &Option<Browser>) -> Option<&Text> {
+    match browser {
+        Some(browser) => Some(&browser.key),
+        None => None,
+    }
+}
+
 /// The page of a node that has served since that moment, as it is now: how much it has, each next
 /// node with its queue, and rows that are held. The lock is given back between one look and the
 /// next, so each figure is of a moment of its own.
-pub(crate) fn read_page<R: Wait, L: Views, B: Sharing>(
+pub(crate) fn read_page<R: Wait, L: Views, B: Sharing, H: House>(
     rt: &R,
     alloc: Global,
     desk: &SharedDesk<L, B>,
     hops: &[NextHop],
+    house: &H,
     since: u64,
     moment: u64,
+    browser: &Option<Browser>,
 ) -> Reply {
     let counts = match desk.totals(rt) {
         Ok(totals) => counts_of(totals),
         Err(fault) => return refused_by_ledger(alloc, fault),
     };
-    let queues = match queues_of(rt, alloc, desk, hops) {
+    let queues = match queues_of(rt, alloc, desk, hops, house) {
         Ok(queues) => queues,
         Err(fault) => return refused_by_ledger(alloc, fault),
     };
@@ -101,6 +113,7 @@ pub(crate) fn read_page<R: Wait, L: Views, B: Sharing>(
         since,
         moment,
         counts,
+        key: key_of(browser),
     };
     let text = page_text(alloc, &shown, queues.as_slice(), rows.as_slice());
     reply_with(alloc, text, Media::Page)

@@ -1,19 +1,21 @@
 //! What a running node shows of itself.
 ghost use Rattle.std.specs.Prelude.{◌≡◌, ◌++◌, IfOk, OnOk, flat_map, map as mapped};
-ghost use Rattle.dr_run_answer.specs.Answers.{figures, line_of_queue, node_line};
+ghost use Rattle.dr_run_answer.specs.Answers.{figures, instance_line, line_of_queue, node_line};
 ghost use Rattle.dr_run_answer.specs.Answers.{queues_figures, row_line};
 ghost use Rattle.dr_run_control.specs.Consoles.{IsCounted, stage_named};
 
+use crate::console::House;
 use crate::reply::{Media, Reply, misread, refused_by_ledger};
 use dr_base::{Seq, Text};
 use dr_desk::{SharedDesk, Sharing, Totals};
 use dr_ledger::{LedgerFault, Progress};
 use dr_ledger_views::{Stage, Tally, Views};
 use dr_run_answer::{
-    Counts, Queue, put_figures, put_node, put_queue, put_queues, put_rows, put_well,
+    Counts, Queue, Visited, put_figures, put_instance, put_late, put_node, put_queue, put_queues,
+    put_rows, put_well,
 };
 use dr_run_open::NextHop;
-use dr_run_request::{Stage as Word, Wanted, wanted_of};
+use dr_run_request::{Stage as Word, Wanted, instance_of, wanted_of};
 use http::StatusCode;
 use std::alloc::{AllocError, Global};
 use std::sync::Wait;
@@ -22,8 +24,8 @@ use std::sync::Wait;
 const PAGE: u32 = 1_000;
 
 /// How many rows are on their way to a node, as they were counted.
-fn queue_of(dest: &Text, tally: Tally) -> Queue<'_>
-    ensures { IsCounted dest.now tally result }
+fn queue_of(dest: &Text, tally: Tally, visit: Option<Visited>) -> Queue<'_>
+    ensures { IsCounted dest.now tally visit result }
 {
     Queue {
         dest,
@@ -31,17 +33,19 @@ fn queue_of(dest: &Text, tally: Tally) -> Queue<'_>
         held: tally.held,
         done: tally.done,
         due: tally.due,
+        visit,
     }
 }
 
 /// The same for each hop. The lock is taken once for each.
 ///
 /// Errors: Store, Memory.
-pub(crate) fn queues_of<'a, R: Wait, L: Views, B: Sharing>(
+pub(crate) fn queues_of<'a, R: Wait, L: Views, B: Sharing, H: House>(
     rt: &R,
     alloc: Global,
     desk: &SharedDesk<L, B>,
     hops: &'a [NextHop],
+    house: &H,
 ) -> Result<Vec<Queue<'a>>, LedgerFault>
     ensures { IfOk result (λ queues.
         mapped (λ q. q.dest.now) queues.items ≡ mapped (λ hop. hop.dest) hops.now) }
@@ -49,7 +53,8 @@ pub(crate) fn queues_of<'a, R: Wait, L: Views, B: Sharing>(
     let mut queues = Vec::with_capacity(alloc, hops.len())?;
     for hop in hops {
         let tally = desk.tally(rt, &hop.dest)?;
-        queues.push(queue_of(&hop.dest, tally))?;
+        let visit = house.visited(&hop.dest);
+        queues.push(queue_of(&hop.dest, tally, visit))?;
     }
     Ok(queues)
 }
@@ -152,11 +157,12 @@ pub(crate) fn reply_with(alloc: Global, text: Result<Vec<u8>, AllocError>, media
 
 /// What a node has, as lines or as figures. The lock is held while it is counted, and given back
 /// between one hop and the next.
-pub(crate) fn read_counts<R: Wait, L: Views, B: Sharing>(
+pub(crate) fn read_counts<R: Wait, L: Views, B: Sharing, H: House>(
     rt: &R,
     alloc: Global,
     desk: &SharedDesk<L, B>,
     hops: &[NextHop],
+    house: &H,
     since: u64,
     media: Media,
 ) -> Reply {
@@ -164,7 +170,7 @@ pub(crate) fn read_counts<R: Wait, L: Views, B: Sharing>(
         Ok(totals) => counts_of(totals),
         Err(fault) => return refused_by_ledger(alloc, fault),
     };
-    let queues = match queues_of(rt, alloc, desk, hops) {
+    let queues = match queues_of(rt, alloc, desk, hops, house) {
         Ok(queues) => queues,
         Err(fault) => return refused_by_ledger(alloc, fault),
     };
@@ -209,14 +215,118 @@ pub(crate) fn read_rows<R: Wait, L: Views, B: Sharing>(
     }
 }
 
-/// Whether the node's ledger can be read.
-pub(crate) fn read_health<R: Wait, L: Views, B: Sharing>(
+/// The lines of an instance: one of it, and one for each of its rows.
+fn instance_lines(
+    alloc: Global,
+    uid: &Text,
+    body: bool,
+    over: bool,
+    rows: &[((Text, Text), Progress)],
+) -> Result<Vec<u8>, AllocError>
+    ensures { IfOk result (λ text.
+        text.items ≡ instance_line uid.now body over ++ flat_map row_line rows.now) }
+{
+    let mut out = Vec::new(alloc);
+    put_instance(&mut out, uid, body, over)?;
+    put_rows(&mut out, rows)?;
+    Ok(out)
+}
+
+/// What the node has of an instance; None where it has none of that UID.
+///
+/// Errors: Store, Memory.
+fn instance_text<R: Wait, L: Views, B: Sharing>(
     rt: &R,
     alloc: Global,
     desk: &SharedDesk<L, B>,
+    uid: &Text,
+) -> Result<Option<Vec<u8>>, LedgerFault> {
+    if !desk.has(rt, uid)? {
+        return Ok(None);
+    }
+    let body = desk.has_body(rt, uid)?;
+    let over = desk.is_over(rt, uid)?;
+    let rows = desk.rows_of(rt, uid)?;
+    Ok(Some(instance_lines(alloc, uid, body, over, rows.as_slice())?))
+}
+
+/// What the node has of the instance that a path names.
+pub(crate) fn read_instance<R: Wait, L: Views, B: Sharing>(
+    rt: &R,
+    alloc: Global,
+    desk: &SharedDesk<L, B>,
+    path: &str,
 ) -> Reply {
-    match desk.has(rt, desk.site().name()) {
-        Ok(_) => reply_with(alloc, well_line(alloc), Media::Lines),
+    let uid = match instance_of(alloc, path) {
+        Ok(uid) => uid,
+        Err(fault) => return misread(alloc, fault),
+    };
+    match instance_text(rt, alloc, desk, &uid) {
+        Ok(Some(text)) => reply_with(alloc, Ok(text), Media::Lines),
+        Ok(None) => Reply::of_fault(alloc, StatusCode::NOT_FOUND, "Instance"),
+        Err(fault) => refused_by_ledger(alloc, fault),
+    }
+}
+
+/// Whether a row is due at that moment.
+fn is_due(first: Option<u64>, now: u64) -> bool {
+    match first {
+        Some(due) => due <= now,
+        None => false,
+    }
+}
+
+/// The first node to which a row is due, and which wasn't visited for long.
+///
+/// Errors: Store, Memory.
+fn late_hop<'a, R: Wait, L: Views, B: Sharing, H: House>(
+    rt: &R,
+    desk: &SharedDesk<L, B>,
+    hops: &'a [NextHop],
+    house: &H,
+    now: u64,
+) -> Result<Option<&'a Text>, LedgerFault> {
+    for hop in hops {
+        if house.is_quiet(&hop.dest, now) && is_due(desk.first_due(rt, &hop.dest)?, now) {
+            return Ok(Some(&hop.dest));
+        }
+    }
+    Ok(None)
+}
+
+/// That a node isn't well, since one wasn't visited for long.
+fn late(alloc: Global, dest: &Text) -> Reply {
+    let mut text = Vec::new(alloc);
+    let status = StatusCode::SERVICE_UNAVAILABLE;
+    match put_late(&mut text, dest) {
+        Ok(()) => Reply {
+            status,
+            text,
+            media: Media::Lines,
+        },
+        Err(_) => Reply::bare(alloc, status),
+    }
+}
+
+/// Whether the node is well: its ledger can be read, it could be written to last, and no node to
+/// which a row is due is left alone.
+pub(crate) fn read_health<R: Wait, L: Views, B: Sharing, H: House>(
+    rt: &R,
+    alloc: Global,
+    desk: &SharedDesk<L, B>,
+    hops: &[NextHop],
+    house: &H,
+    now: u64,
+) -> Reply {
+    if house.is_failing() {
+        return refused_by_ledger(alloc, LedgerFault::Store);
+    }
+    if let Err(fault) = desk.has(rt, desk.site().name()) {
+        return refused_by_ledger(alloc, fault);
+    }
+    match late_hop(rt, desk, hops, house, now) {
+        Ok(None) => reply_with(alloc, well_line(alloc), Media::Lines),
+        Ok(Some(dest)) => late(alloc, dest),
         Err(fault) => refused_by_ledger(alloc, fault),
     }
 }

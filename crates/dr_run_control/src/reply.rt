@@ -25,6 +25,8 @@ pub(crate) enum Media {
     Figures,
     /// A document for people.
     Page,
+    /// A line for whoever has used a form of the page, which comes back then.
+    Told,
 }
 
 /// A reply: its status, and its text, of which it is said what it is.
@@ -78,10 +80,12 @@ pub(crate) fn status_of_refusal(refused: Refused) -> StatusCode
 {
     match refused {
         Refused::Host => StatusCode::MISDIRECTED_REQUEST,
+        Refused::Origin => StatusCode::FORBIDDEN,
         Refused::Path => StatusCode::NOT_FOUND,
         Refused::Method => StatusCode::METHOD_NOT_ALLOWED,
         Refused::Closed => StatusCode::FORBIDDEN,
         Refused::Token => StatusCode::UNAUTHORIZED,
+        Refused::Key => StatusCode::FORBIDDEN,
     }
 }
 
@@ -91,10 +95,12 @@ pub fn name_of_refusal(refused: Refused) -> &'static str
 {
     match refused {
         Refused::Host => "Host",
+        Refused::Origin => "Origin",
         Refused::Path => "Path",
         Refused::Method => "Method",
         Refused::Closed => "Closed",
         Refused::Token => "Token",
+        Refused::Key => "Key",
     }
 }
 
@@ -179,9 +185,29 @@ fn add_page(response: &mut Response) -> Result<(), AllocError>
     add(
         response,
         "content-security-policy",
-        "default-src 'none'; style-src 'unsafe-inline'; frame-ancestors 'none'",
+        "default-src 'none'; style-src 'unsafe-inline'; form-action 'self'; frame-ancestors 'none'",
     )?;
     add(response, "x-content-type-options", "nosniff")
+}
+
+/// Adds that a text is one for a person, who sees the page again 2 s later.
+fn add_told(response: &mut Response) -> Result<(), AllocError>
+    ensures status { response.new.status ≡ response.old.status }
+    ensures body { response.new.body ≡ response.old.body }
+{
+    add(response, "content-type", "text/plain; charset=utf-8")?;
+    add(response, "refresh", "2; url=/")
+}
+
+/// Adds, where the token is lacking, how a browser is to give it (RFC 7617 2).
+fn add_challenge(response: &mut Response) -> Result<(), AllocError>
+    ensures status { response.new.status ≡ response.old.status }
+    ensures body { response.new.body ≡ response.old.body }
+{
+    if response.status != StatusCode::UNAUTHORIZED {
+        return Ok(());
+    }
+    add(response, "www-authenticate", "Basic realm=\"dr_router\"")
 }
 
 /// Adds what a text is (RFC 9110 8.3).
@@ -193,6 +219,7 @@ fn add_media(response: &mut Response, media: Media) -> Result<(), AllocError>
         Media::Lines => add(response, "content-type", "application/x-ndjson"),
         Media::Figures => add(response, "content-type", "text/plain; version=0.0.4"),
         Media::Page => add_page(response),
+        Media::Told => add_told(response),
     }
 }
 
@@ -204,12 +231,14 @@ fn fill(response: &mut Response, text: Vec<u8>, media: Media) -> Result<(), Allo
 {
     add(response, "connection", "close")?;
     add(response, "cache-control", "no-store")?;
+    add_challenge(response)?;
     add_media(response, media)?;
     response.body.push(Bytes::from_vec(text)?)
 }
 
-/// Makes it the response; where there is no memory for its text, the status alone.
-pub(crate) fn respond(response: &mut Response, reply: Reply)
+/// Makes it the response, to a form of the page or to another request; where there is no memory for
+/// its text, the status alone.
+pub(crate) fn respond(response: &mut Response, reply: Reply, is_of_page: bool)
     requires { response.old.body.items ≡ [] }
     ensures status { response.new.status ≡ reply.status }
     ensures body { IsToldIn reply.text.items response.new.body.items }
@@ -220,6 +249,7 @@ pub(crate) fn respond(response: &mut Response, reply: Reply)
         media,
     } = reply;
     response.status = status;
+    let media = if is_of_page { Media::Told } else { media };
     match fill(response, text, media) {
         Ok(()) => {}
         Err(AllocError) => response.body.clear(),

@@ -1,7 +1,7 @@
 -- The document, piece by piece. A moment is a number of milliseconds.
 use Rattle.std.specs.Prelude.{ℕ, ◌-◌, ◌/◌, ◌%◌, ◌∷◌, ◌++◌, ◌||◌, Bool, true, false, List, []}
-use Rattle.std.specs.Prelude.{Option, None, Some, codes, decimal, filter, flat_map, nat_lt, take}
-use Rattle.std.specs.Prelude.{if◌then◌else◌}
+use Rattle.std.specs.Prelude.{Option, None, Some, bytes_eq, codes, decimal, filter, flat_map}
+use Rattle.std.specs.Prelude.{if◌then◌else◌, nat_lt, take}
 use Rattle.dr_base.specs.Texts.{Text}
 use Rattle.hex.specs.Hex.{encode_upper}
 use Rattle.dr_ledger.specs.Pairs.{Pair}
@@ -11,6 +11,7 @@ use Rattle.dr_ledger.specs.declared.item.Progress.{Progress}
 use Rattle.dr_ledger.specs.declared.item.Progress.TheVariants as progress
 use Rattle.dr_run_answer.specs.declared.json.Counts.{Counts}
 use Rattle.dr_run_answer.specs.declared.json.Queue.{Queue}
+use Rattle.dr_run_answer.specs.declared.json.Visited.{Visited}
 use Rattle.dr_run_page.specs.Markup.{shown}
 
 -- texts one behind another
@@ -42,6 +43,16 @@ tried_words now due = if nat_lt 0 due then moment_words now due else codes "not 
 abbrev pub due_words : ℕ → Option ℕ → Text
 due_words now None = codes "-"
 due_words now (Some due) = tried_words now due
+
+-- how long ago that moment was
+abbrev pub ago_words : ℕ → ℕ → Text
+ago_words now at =
+    if nat_lt now at then codes "now" else decimal (seconds at now) ++ codes " s ago"
+
+-- what the last visit came to, and how long ago, if there was one
+abbrev pub visit_words : ℕ → Option Visited → Text
+visit_words now None = codes "-"
+visit_words now (Some visit) = shown visit.came.now ++ codes ", " ++ ago_words now visit.at
 
 -- ---- the light
 
@@ -80,18 +91,52 @@ queue_row now queue = joined
     ∷ codes "</td><td>" ∷ decimal queue.held
     ∷ codes "</td><td>" ∷ decimal queue.done
     ∷ codes "</td><td>" ∷ due_words now queue.due
+    ∷ codes "</td><td>" ∷ visit_words now queue.visit
     ∷ codes "</td></tr>\n" ∷ [])
 
--- a row that is held, and nothing of another
-abbrev pub held_row : Pair × Progress → Text
-held_row ((uid, dest), progress.Held why) = joined
+-- a form with one button, by which a browser asks for an act on a row; it has the key of this run's
+-- page
+abbrev pub button : Text → Text → Text → Text → Text → Text
+button act label key uid dest = joined
+    (codes "<form method=\"post\" action=\"" ∷ act
+    ∷ codes "\"><input type=\"hidden\" name=\"key\" value=\"" ∷ shown key
+    ∷ codes "\"><input type=\"hidden\" name=\"uid\" value=\"" ∷ shown uid
+    ∷ codes "\"><input type=\"hidden\" name=\"dest\" value=\"" ∷ shown dest
+    ∷ codes "\"><button>" ∷ label
+    ∷ codes "</button></form>" ∷ [])
+
+-- a row is queued again by one click, and dropped by two
+abbrev pub both_buttons : Text → Text → Text → Text
+both_buttons key uid dest =
+    button (codes "/requeue") (codes "Queue again") key uid dest
+    ++ codes "<details><summary>Drop</summary>"
+    ++ button (codes "/drop") (codes "Drop for good") key uid dest
+    ++ codes "</details>"
+
+-- what stands for the text is the text, so that a form that has it names just that
+abbrev pub names_itself : Text → Bool
+names_itself text = bytes_eq (shown text) text
+
+-- The buttons of a row. Without a key there are none, nor where a form wouldn't name the row.
+abbrev pub buttons : Option Text → Text → Text → Text
+buttons None uid dest = []
+buttons (Some key) uid dest =
+    if names_itself uid then (if names_itself dest then both_buttons key uid dest else []) else []
+
+abbrev pub held_cells : Text → Text → Cause → Text
+held_cells uid dest why = joined
     (codes "<tr><td>" ∷ shown uid
     ∷ codes "</td><td>" ∷ shown dest
     ∷ codes "</td><td>" ∷ cause_words why
-    ∷ codes "</td></tr>\n" ∷ [])
-held_row ((uid, dest), progress.Waiting tries due) = []
-held_row ((uid, dest), progress.Done) = []
-held_row ((uid, dest), progress.Dropped) = []
+    ∷ codes "</td><td>" ∷ [])
+
+-- a row that is held, and nothing of another
+abbrev pub held_row : Option Text → Pair × Progress → Text
+held_row key ((uid, dest), progress.Held why) =
+    held_cells uid dest why ++ buttons key uid dest ++ codes "</td></tr>\n"
+held_row key ((uid, dest), progress.Waiting tries due) = []
+held_row key ((uid, dest), progress.Done) = []
+held_row key ((uid, dest), progress.Dropped) = []
 
 abbrev pub is_held : Pair × Progress → Bool
 is_held (pair, progress.Held why) = true
@@ -103,7 +148,7 @@ is_held (pair, progress.Dropped) = false
 
 abbrev pub style : Text
 style = codes
-    "body{background:#111;color:#eee;font:1.4em sans-serif;margin:1em}h1{padding:.3em}.red{background:#b00}.amber{background:#a60}.green{background:#060}td,th{padding:.2em 1em;text-align:left}table{margin:1em 0}caption{text-align:left;font-weight:bold}"
+    "body{background:#111;color:#eee;font:1.4em sans-serif;margin:1em}h1{padding:.3em}.red{background:#b00}.amber{background:#a60}.green{background:#060}td,th{padding:.2em 1em;text-align:left}table{margin:1em 0}caption{text-align:left;font-weight:bold}button,summary{font:inherit;cursor:pointer}form,details{display:inline-block;margin-right:1em}"
 
 abbrev pub head : Text → Text
 head name = joined
@@ -130,19 +175,20 @@ figures name since now counts queues =
 
 abbrev pub queues_head : Text
 queues_head = codes
-    "<table><caption>Next nodes</caption>\n<tr><th>Node</th><th>Waiting</th><th>Held</th><th>Done</th><th>First due</th></tr>\n"
+    "<table><caption>Next nodes</caption>\n<tr><th>Node</th><th>Waiting</th><th>Held</th><th>Done</th><th>First due</th><th>Last visit</th></tr>\n"
 
 abbrev pub held_head : Text
 held_head = codes
-    "</table>\n<table><caption>Held, the first 100</caption>\n<tr><th>Instance</th><th>To</th><th>Why</th></tr>\n"
+    "</table>\n<table><caption>Held, the first 100</caption>\n<tr><th>Instance</th><th>To</th><th>Why</th><th></th></tr>\n"
 
 abbrev pub tail : Text
 tail = codes "</table>\n</body>\n</html>\n"
 
--- what a node shows that has served since that moment
-abbrev pub document : Text → ℕ → ℕ → Counts → List Queue → List (Pair × Progress) → Text
-document name since now counts queues rows =
+-- what a node shows that has served since that moment, in a run whose forms have that key
+abbrev pub document : Text → ℕ → ℕ → Counts → Option Text
+    → List Queue → List (Pair × Progress) → Text
+document name since now counts key queues rows =
     head name ++ figures name since now counts queues
     ++ queues_head ++ flat_map (queue_row now) queues
-    ++ held_head ++ flat_map held_row (take 100 (filter is_held rows))
+    ++ held_head ++ flat_map (held_row key) (take 100 (filter is_held rows))
     ++ tail

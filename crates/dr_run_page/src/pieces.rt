@@ -1,11 +1,12 @@
 //! Pieces of a document.
 ghost use Rattle.std.specs.Prelude.{◌≡◌, ◌≤◌, ◌++◌, OnOk, codes, decimal, flat_map};
-ghost use Rattle.dr_run_page.specs.Documents.{cause_words, due_words, moment_words, seconds};
-ghost use Rattle.dr_run_page.specs.Documents.{tried_words};
+ghost use Rattle.dr_run_page.specs.Documents.{ago_words, cause_words, due_words, moment_words};
+ghost use Rattle.dr_run_page.specs.Documents.{seconds, tried_words, visit_words};
 ghost use Rattle.dr_run_page.specs.Pieces.{text_of};
 
 use crate::shown::put_shown;
 use dr_ledger::Cause;
+use dr_run_answer::Visited;
 use std::alloc::AllocError;
 
 /// A piece of a document.
@@ -20,6 +21,8 @@ pub(crate) enum Piece<'a> {
     Cause(Cause),
     /// Now, and from when on a row is due, if one is.
     Due(u64, Option<u64>),
+    /// Now, and the last visit, if there was one.
+    Visit(u64, Option<Visited>),
 }
 
 /// Adds a number.
@@ -87,6 +90,29 @@ fn put_due(out: &mut Vec<u8>, now: u64, due: Option<u64>) -> Result<(), AllocErr
     }
 }
 
+/// Adds how long ago that moment was.
+fn put_ago(out: &mut Vec<u8>, now: u64, at: u64) -> Result<(), AllocError>
+    ensures { OnOk result (out.new.items ≡ out.old.items ++ ago_words now at) }
+{
+    if now < at {
+        return out.extend_from_slice(b"now");
+    }
+    put_decimal(out, (now - at) / 1_000)?;
+    out.extend_from_slice(b" s ago")
+}
+
+/// Adds what the last visit came to, and how long ago.
+fn put_visit(out: &mut Vec<u8>, now: u64, visit: Option<Visited>) -> Result<(), AllocError>
+    ensures { OnOk result (out.new.items ≡ out.old.items ++ visit_words now visit) }
+{
+    let Some(visit) = visit else {
+        return out.extend_from_slice(b"-");
+    };
+    put_shown(out, visit.came.as_bytes())?;
+    out.extend_from_slice(b", ")?;
+    put_ago(out, now, visit.at)
+}
+
 /// Adds a piece.
 fn put_piece(out: &mut Vec<u8>, piece: Piece<'_>) -> Result<(), AllocError>
     ensures { OnOk result (out.new.items ≡ out.old.items ++ text_of piece.entry) }
@@ -97,6 +123,7 @@ fn put_piece(out: &mut Vec<u8>, piece: Piece<'_>) -> Result<(), AllocError>
         Piece::Number(value) => put_decimal(out, value),
         Piece::Cause(cause) => put_cause(out, cause),
         Piece::Due(now, due) => put_due(out, now, due),
+        Piece::Visit(now, visit) => put_visit(out, now, visit),
     }
 }
 

@@ -1,10 +1,11 @@
 //! The document.
-ghost use Rattle.std.specs.Prelude.{◌≡◌, ◌++◌, OnOk, filter, flat_map, take};
+ghost use Rattle.std.specs.Prelude.{◌≡◌, ◌++◌, OnOk, filter, flat_map, option_copied, take};
 ghost use Rattle.dr_run_page.specs.Documents.{document, figures, figures_under, head};
-ghost use Rattle.dr_run_page.specs.Documents.{held_head, held_row};
+ghost use Rattle.dr_run_page.specs.Documents.{held_cells, held_head, held_row};
 ghost use Rattle.dr_run_page.specs.Documents.{is_held, queue_row, queues_head, tail};
 ghost use Rattle.dr_ledger.specs.declared.item.Progress.TheVariants.{Held};
 
+use crate::buttons::put_buttons;
 use crate::light::light;
 use crate::pieces::{Piece, put_pieces};
 use dr_base::Text;
@@ -16,16 +17,17 @@ use std::alloc::AllocError;
 pub const SHOWN: usize = 100;
 
 const STYLE: &str =
-    "body{background:#111;color:#eee;font:1.4em sans-serif;margin:1em}h1{padding:.3em}.red{background:#b00}.amber{background:#a60}.green{background:#060}td,th{padding:.2em 1em;text-align:left}table{margin:1em 0}caption{text-align:left;font-weight:bold}";
+    "body{background:#111;color:#eee;font:1.4em sans-serif;margin:1em}h1{padding:.3em}.red{background:#b00}.amber{background:#a60}.green{background:#060}td,th{padding:.2em 1em;text-align:left}table{margin:1em 0}caption{text-align:left;font-weight:bold}button,summary{font:inherit;cursor:pointer}form,details{display:inline-block;margin-right:1em}";
 
 /// What is shown of a node beside its rows: since when it has served, and the moment now
-/// (milliseconds), and how much it has.
+/// (milliseconds), how much it has, and the key that the forms of this run have, if there are any.
 #[derive(Debug, Drop)]
 pub struct Shown<'a> {
     pub name: &'a Text,
     pub since: u64,
     pub moment: u64,
     pub counts: Counts,
+    pub key: Option<&'a Text>,
 }
 
 /// Adds the head.
@@ -109,6 +111,8 @@ fn put_queue(out: &mut Vec<u8>, now: u64, queue: &Queue<'_>) -> Result<(), Alloc
             Piece::Number(queue.done),
             Piece::Markup("</td><td>"),
             Piece::Due(now, queue.due),
+            Piece::Markup("</td><td>"),
+            Piece::Visit(now, queue.visit),
             Piece::Markup("</td></tr>\n"),
         ],
     )
@@ -124,15 +128,15 @@ fn put_queues(out: &mut Vec<u8>, now: u64, queues: &[Queue<'_>]) -> Result<(), A
     Ok(())
 }
 
-/// Adds the row of an instance that is held.
-fn put_held<'x>(
+/// Adds what is shown of an instance that is held.
+fn put_cells<'x>(
     out: &mut Vec<u8>,
     uid: &'x Text,
     dest: &'x Text,
     cause: Cause,
 ) -> Result<(), AllocError>
-    ensures { OnOk result (out.new.items ≡ out.old.items
-        ++ held_row ((uid.now, dest.now), Held cause)) }
+    ensures { OnOk result (out.new.items
+        ≡ out.old.items ++ held_cells uid.now dest.now cause) }
 {
     put_pieces(
         out,
@@ -143,15 +147,36 @@ fn put_held<'x>(
             Piece::Words(dest.as_bytes()),
             Piece::Markup("</td><td>"),
             Piece::Cause(cause),
-            Piece::Markup("</td></tr>\n"),
+            Piece::Markup("</td><td>"),
         ],
     )
 }
 
-/// Adds a row for each of the first rows that are held.
-fn put_all_held(out: &mut Vec<u8>, rows: &[((Text, Text), Progress)]) -> Result<(), AllocError>
+/// Adds the row of an instance that is held.
+fn put_held(
+    out: &mut Vec<u8>,
+    key: Option<&Text>,
+    uid: &Text,
+    dest: &Text,
+    cause: Cause,
+) -> Result<(), AllocError>
     ensures { OnOk result (out.new.items ≡ out.old.items
-        ++ flat_map held_row (take 100 (filter is_held rows.now))) }
+        ++ held_row (option_copied key.entry) ((uid.now, dest.now), Held cause)) }
+{
+    put_cells(out, uid, dest, cause)?;
+    put_buttons(out, key, uid, dest)?;
+    out.extend_from_slice(b"</td></tr>\n")?;
+    Ok(())
+}
+
+/// Adds a row for each of the first rows that are held.
+fn put_all_held(
+    out: &mut Vec<u8>,
+    key: Option<&Text>,
+    rows: &[((Text, Text), Progress)],
+) -> Result<(), AllocError>
+    ensures { OnOk result (out.new.items ≡ out.old.items
+        ++ flat_map (held_row (option_copied key.entry)) (take 100 (filter is_held rows.now))) }
 {
     let mut left = SHOWN;
     for row in rows {
@@ -159,7 +184,7 @@ fn put_all_held(out: &mut Vec<u8>, rows: &[((Text, Text), Progress)]) -> Result<
             return Ok(());
         }
         if let Progress::Held(cause) = row.1 {
-            put_held(out, &row.0.0, &row.0.1, cause)?;
+            put_held(out, key, &row.0.0, &row.0.1, cause)?;
             left -= 1;
         }
     }
@@ -177,19 +202,19 @@ pub fn put_document(
     rows: &[((Text, Text), Progress)],
 ) -> Result<(), AllocError>
     ensures { OnOk result (out.new.items ≡ out.old.items
-        ++ document shown.now.name.now shown.now.since shown.now.moment shown.now.counts queues.now
-        rows.now) }
+        ++ document shown.now.name.now shown.now.since shown.now.moment shown.now.counts
+        (option_copied shown.now.key) queues.now rows.now) }
 {
     put_head(out, shown.name)?;
     put_node(out, shown, queues)?;
     out.extend_from_slice(
-        b"<table><caption>Next nodes</caption>\n<tr><th>Node</th><th>Waiting</th><th>Held</th><th>Done</th><th>First due</th></tr>\n",
+        b"<table><caption>Next nodes</caption>\n<tr><th>Node</th><th>Waiting</th><th>Held</th><th>Done</th><th>First due</th><th>Last visit</th></tr>\n",
     )?;
     put_queues(out, shown.moment, queues)?;
     out.extend_from_slice(
-        b"</table>\n<table><caption>Held, the first 100</caption>\n<tr><th>Instance</th><th>To</th><th>Why</th></tr>\n",
+        b"</table>\n<table><caption>Held, the first 100</caption>\n<tr><th>Instance</th><th>To</th><th>Why</th><th></th></tr>\n",
     )?;
-    put_all_held(out, rows)?;
+    put_all_held(out, shown.key, rows)?;
     out.extend_from_slice(b"</table>\n</body>\n</html>\n")?;
     Ok(())
 }

@@ -1,7 +1,8 @@
 -- The fields of a form (application/x-www-form-urlencoded), in a body or behind a `?`.
-use Rattle.std.specs.Prelude.{◌≡◌, List, [], ◌∷◌, bytes_eq, codes}
+use Rattle.std.specs.Prelude.{◌≡◌, ◌++◌, List, [], ◌∷◌, bytes_eq, codes}
 use Rattle.std.specs.Prelude.{Option, None, Some, option_map, if◌then◌else◌}
 use Rattle.form_urlencoded.specs.Form.{decode, raw_pairs}
+use Rattle.percent_encoding.specs.Percent.{percent_decode}
 use Rattle.dr_base.specs.Texts.{Text}
 use Rattle.dr_run_request.specs.declared.wanted.RowName.{RowName}
 use Rattle.dr_run_request.specs.declared.wanted.Stage.{Stage}
@@ -42,3 +43,8 @@ Wants form wanted =
     (value_in form (codes "dest") ≡ Some wanted.dest)
     × StageOf (value_in form (codes "state")) wanted.stage
     × (value_in form (codes "after") ≡ wanted.after)
+
+-- the instance that a path names, behind what stands before its UID
+abbrev pub NamesInstance : Text → Text → Type 0
+NamesInstance path uid =
+    (written : Text) × (path ≡ codes "/instance/" ++ written) × (uid ≡ percent_decode written)

@@ -1,3 +1,4 @@
 pub mod Asking
 pub mod Forms
 pub mod Laws
+pub mod Orders

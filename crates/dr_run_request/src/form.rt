@@ -9,7 +9,7 @@ use percent_encoding::percent_decode;
 use std::alloc::{AllocError, Global};
 
 /// The value of the first field of that name, as it is written.
-fn raw_value<'a>(form: &'a [u8], name: &str) -> Option<&'a [u8]>
+pub(crate) fn raw_value<'a>(form: &'a [u8], name: &str) -> Option<&'a [u8]>
     ensures { option_map (λ value. value.now) result ≡ first_value (pairs_of form.now) name.now }
 {
     for (key, value) in raw_pairs(form) {

@@ -1,17 +1,27 @@
 //! What holds of all requests. Nothing here runs: each function's contract is a law.
-ghost use Rattle.dr_run_request.specs.Laws.{IsAnsweredOnce, OnlyPostsAct, PathsDiffer};
+ghost use Rattle.dr_run_request.specs.Laws.{ElseProgramsAct, IsAnsweredOnce, OnlyPostsAct};
+ghost use Rattle.dr_run_request.specs.Laws.{OrdersDiffer, PathsDiffer};
 
 /// A request is answered in one way.
 pub fn a_request_has_one_answer()
     ensures { IsAnsweredOnce }
-{}
+{
+    paths_differ();
+}
 
-/// Nothing acts but a POST with the token, to a host that is allowed.
+/// Nothing acts but a POST with the token, to a host that is allowed; one of a browser has the key
+/// of the page, too.
 pub fn only_a_post_with_the_token_acts()
-    ensures { OnlyPostsAct }
+    ensures posts { OnlyPostsAct }
+    ensures programs { ElseProgramsAct }
 {}
 
 /// Each path is of one route.
 pub fn paths_differ()
     ensures { PathsDiffer }
+{}
+
+/// What a form orders is one thing.
+pub fn orders_differ()
+    ensures { OrdersDiffer }
 {}

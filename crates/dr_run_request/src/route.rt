@@ -1,9 +1,10 @@
 //! What may be asked of a running node.
 ghost use Rattle.std.specs.Prelude.{◌≡◌, ◌↔◌, IfNone, IfSome, IsTrue, false, true};
-ghost use Rattle.dr_run_request.specs.Asking.{is_act, method_of, path_of};
+ghost use Rattle.dr_run_request.specs.Asking.{IsAt, goes_on, is_act, method_of, path_of};
 ghost use Rattle.dr_run_request.specs.declared.route.Route.{Route as RouteValue};
+ghost use Rattle.dr_run_request.specs.declared.route.Route.TheVariants as RouteValues;
 
-/// What may be asked of a running node: five things to read, and three acts.
+/// What may be asked of a running node: six things to read, and five acts.
 #[derive(Clone, Copy, PartialEq, Eq, Debug)]
 pub enum Route {
     /// The page for people.
@@ -12,14 +13,20 @@ pub enum Route {
     Status,
     /// Rows for a destination.
     Rows,
+    /// The rows of an instance.
+    Instance,
     /// Its figures, for Prometheus.
     Metrics,
     /// Whether it is well.
     Health,
-    /// To queue a held row again.
+    /// To queue a held row again, or all of a destination.
     Requeue,
     /// To give a held row up.
     GiveUp,
+    /// To forget an instance that is over.
+    Forget,
+    /// To visit a destination now.
+    Visit,
     /// To end in order.
     Stop,
 }
@@ -30,12 +37,13 @@ impl Route {
         ensures { result ≡ is_act self }
     {
         match self {
-            Route::Page | Route::Status | Route::Rows | Route::Metrics | Route::Health => false,
-            Route::Requeue | Route::GiveUp | Route::Stop => true,
+            Route::Page | Route::Status | Route::Rows | Route::Instance => false,
+            Route::Metrics | Route::Health => false,
+            Route::Requeue | Route::GiveUp | Route::Forget | Route::Visit | Route::Stop => true,
         }
     }
 
-    /// Its path.
+    /// Its path; of an instance, what stands before its UID.
     pub fn path(self) -> &'static str
         ensures { result.now ≡ path_of self }
     {
@@ -43,10 +51,13 @@ impl Route {
             Route::Page => "/",
             Route::Status => "/status",
             Route::Rows => "/rows",
+            Route::Instance => "/instance/",
             Route::Metrics => "/metrics",
             Route::Health => "/health",
             Route::Requeue => "/requeue",
             Route::GiveUp => "/drop",
+            Route::Forget => "/forget",
+            Route::Visit => "/visit",
             Route::Stop => "/stop",
         }
     }
@@ -62,18 +73,37 @@ impl Route {
     }
 }
 
+/// Whether the path of a route goes on with a UID.
+fn goes_on(route: Route) -> bool
+    ensures { result ≡ goes_on route }
+{
+    matches!(route, Route::Instance)
+}
+
+/// Whether a path goes on with a UID behind that of an instance.
+fn is_instance(path: &str) -> bool
+    ensures { IsTrue result ↔ IsAt RouteValues.Instance path.now }
+{
+    path.as_bytes()
+        .strip_prefix(b"/instance/".as_slice())
+        .is_some()
+}
+
 /// Whether a path is that of the route.
 fn is_at(route: Route, path: &str) -> bool
-    ensures { IsTrue result ↔ (path.now ≡ path_of route) }
+    ensures { IsTrue result ↔ IsAt route path.now }
 {
+    if goes_on(route) {
+        return is_instance(path);
+    }
     path == route.path()
 }
 
 /// The route that reads, of a path.
 fn reading_at(path: &str) -> Option<Route>
-    ensures found { IfSome result (λ route. path.now ≡ path_of route) }
+    ensures found { IfSome result (λ route. IsAt route path.now) }
     ensures none { IfNone result
-        ((route : RouteValue) → is_act route ≡ false → path.now ≡ path_of route → ⊥) }
+        ((route : RouteValue) → is_act route ≡ false → IsAt route path.now → ⊥) }
 {
     if is_at(Route::Page, path) {
         return Some(Route::Page);
@@ -83,6 +113,9 @@ fn reading_at(path: &str) -> Option<Route>
     }
     if is_at(Route::Rows, path) {
         return Some(Route::Rows);
+    }
+    if is_at(Route::Instance, path) {
+        return Some(Route::Instance);
     }
     if is_at(Route::Metrics, path) {
         return Some(Route::Metrics);
@@ -95,15 +128,21 @@ fn reading_at(path: &str) -> Option<Route>
 
 /// The act of a path.
 fn act_at(path: &str) -> Option<Route>
-    ensures found { IfSome result (λ route. path.now ≡ path_of route) }
+    ensures found { IfSome result (λ route. IsAt route path.now) }
     ensures none { IfNone result
-        ((route : RouteValue) → is_act route ≡ true → path.now ≡ path_of route → ⊥) }
+        ((route : RouteValue) → is_act route ≡ true → IsAt route path.now → ⊥) }
 {
     if is_at(Route::Requeue, path) {
         return Some(Route::Requeue);
     }
     if is_at(Route::GiveUp, path) {
         return Some(Route::GiveUp);
+    }
+    if is_at(Route::Forget, path) {
+        return Some(Route::Forget);
+    }
+    if is_at(Route::Visit, path) {
+        return Some(Route::Visit);
     }
     if is_at(Route::Stop, path) {
         return Some(Route::Stop);
@@ -113,8 +152,8 @@ fn act_at(path: &str) -> Option<Route>
 
 /// The route of a path.
 pub(crate) fn route_at(path: &str) -> Option<Route>
-    ensures found { IfSome result (λ route. path.now ≡ path_of route) }
-    ensures none { IfNone result ((route : RouteValue) → path.now ≡ path_of route → ⊥) }
+    ensures found { IfSome result (λ route. IsAt route path.now) }
+    ensures none { IfNone result ((route : RouteValue) → IsAt route path.now → ⊥) }
 {
     match reading_at(path) {
         Some(route) => Some(route),

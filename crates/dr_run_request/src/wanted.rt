@@ -1,13 +1,16 @@
 //! What a request names: a row, or those rows that it wants to see.
-ghost use Rattle.std.specs.Prelude.{◌≡◌, IfNone, IfSome, MatchResult, Option};
-ghost use Rattle.dr_run_request.specs.Forms.{NamesRow, Wants, StageOf, word_of};
+ghost use Rattle.std.specs.Prelude.{◌≡◌, IfNone, IfOk, IfSome, MatchResult, Option, Some, codes};
+ghost use Rattle.dr_run_request.specs.Forms.{NamesInstance, NamesRow, StageOf, Wants, value_in};
+ghost use Rattle.dr_run_request.specs.Forms.{word_of};
+ghost use Rattle.dr_base.specs.Texts.{Text as TextValue};
 ghost use Rattle.dr_run_request.specs.declared.wanted.FormFault.TheVariants as fault;
 ghost use Rattle.dr_run_request.specs.declared.wanted.RowName.{RowName as RowNameValue};
 ghost use Rattle.dr_run_request.specs.declared.wanted.Stage.{Stage as StageValue};
 ghost use Rattle.dr_run_request.specs.declared.wanted.Wanted.{Wanted as WantedValue};
 
-use crate::form::value_in;
+use crate::form::{raw_value, value_in};
 use dr_base::Text;
+use percent_encoding::percent_decode;
 use std::alloc::{AllocError, Global};
 
 /// A row: of which instance, and where to.
@@ -67,6 +70,75 @@ pub fn row_of(alloc: Global, form: &[u8]) -> Result<RowName, FormFault>
         (Some(uid), Some(dest)) => Ok(RowName { uid, dest }),
         _ => Err(FormFault::Field),
     }
+}
+
+/// What the field of that name says.
+///
+/// Errors: Field where there is none; Memory.
+fn named_in(alloc: Global, form: &[u8], name: &str) -> Result<Text, FormFault>
+    ensures { MatchResult result
+        (λ value. value_in form.now name.now ≡ Some value)
+        (λ why. why ≡ fault.Field
+        → (value : TextValue) → value_in form.now name.now ≡ Some value → ⊥) }
+{
+    match value_in(alloc, form, name)? {
+        Some(value) => Ok(value),
+        None => Err(FormFault::Field),
+    }
+}
+
+/// The instance that a form names.
+///
+/// Errors: Field where it names none; Memory.
+pub(crate) fn uid_of(alloc: Global, form: &[u8]) -> Result<Text, FormFault>
+    ensures { MatchResult result
+        (λ uid. value_in form.now (codes "uid") ≡ Some uid)
+        (λ why. why ≡ fault.Field
+        → (uid : TextValue) → value_in form.now (codes "uid") ≡ Some uid → ⊥) }
+{
+    named_in(alloc, form, "uid")
+}
+
+/// The destination that a form names.
+///
+/// Errors: Field where it names none; Memory.
+pub(crate) fn dest_of(alloc: Global, form: &[u8]) -> Result<Text, FormFault>
+    ensures { MatchResult result
+        (λ dest. value_in form.now (codes "dest") ≡ Some dest)
+        (λ why. why ≡ fault.Field
+        → (dest : TextValue) → value_in form.now (codes "dest") ≡ Some dest → ⊥) }
+{
+    named_in(alloc, form, "dest")
+}
+
+/// Why something is to be done, where a form says so.
+///
+/// Errors: want of memory.
+pub fn reason_of(alloc: Global, form: &[u8]) -> Result<Option<Text>, AllocError>
+    ensures { IfOk result (λ reason. reason ≡ value_in form.now (codes "reason")) }
+{
+    value_in(alloc, form, "reason")
+}
+
+/// Whether a form says that it is one of a page.
+pub fn is_of_page(form: &[u8]) -> bool {
+    raw_value(form, "key").is_some()
+}
+
+/// The instance that a path names.
+///
+/// Errors: Field where it names none; Memory.
+pub fn instance_of(alloc: Global, path: &str) -> Result<Text, FormFault>
+    ensures { MatchResult result
+        (NamesInstance path.now)
+        (λ why. why ≡ fault.Field → (uid : TextValue) → NamesInstance path.now uid → ⊥) }
+{
+    let Some(written) = path.as_bytes().strip_prefix(b"/instance/".as_slice()) else {
+        return Err(FormFault::Field);
+    };
+    let mut uid = Vec::new(alloc);
+    percent_decode(written).append_to(&mut uid)?;
+    Ok(Text::from_vec(uid))
 }
 
 /// The stage of that word.

@@ -4,17 +4,19 @@ use crate::caller::{ANSWERED, ASKED, Incoming, Outgoing, drain};
 use crate::events::{tell_act, tell_refused, tell_told_to_stop};
 use crate::signal::Signal;
 use crate::stop::Stop;
+use dr_base::Text;
 use dr_desk::{Pass, SharedDesk, Sharing};
 use dr_desk_workers::WorkersFault;
 use dr_ledger::LedgerFault;
 use dr_ledger_views::Views;
-use dr_run_control::{Console, House, RowAct, talk};
+use dr_run_answer::Visited;
+use dr_run_control::{Console, House, talk};
 use dr_run_open::NextHop;
-use dr_run_request::{Access, Refused, RowName};
+use dr_run_request::{Access, Browser, Order, Refused};
 use dr_session::Clock;
 use log::Log;
-use std::alloc::Global;
-use std::hash::RandomState;
+use std::alloc::{AllocError, Global};
+use std::hash::{BuildHasher, RandomState};
 use std::net::{Shutdown, TcpListener, TcpStream};
 use std::os::fd::OwnedFd;
 use std::sync::Wait;
@@ -63,23 +65,36 @@ impl ControlPort {
     }
 }
 
-/// The node around the desk: it wakes who sends, and is told to end.
+/// The node around the desk: it wakes who sends, knows of their visits, and is told to end.
 #[derive(Drop)]
 struct Home<'a, R: Wait, G: Log> {
     rt: &'a R,
     signal: &'a Signal,
     stop: &'a Stop,
     log: &'a G,
+    since: u64,
+}
+
+impl<'a, R: Wait, G: Log> Home<'a, R, G> {
+    /// Wakes who sends, where something was ordered that is theirs.
+    fn wake(&self, order: &Order) {
+        match order {
+            Order::Requeue(row) => self.signal.ring(self.rt, Some(slice::from_ref(&row.dest))),
+            Order::RequeueAll(dest) => self.signal.ring(self.rt, Some(slice::from_ref(dest))),
+            Order::Visit(dest) => self.signal.hurry(self.rt, dest),
+            Order::GiveUp(_) | Order::Forget(_) => {}
+        }
+    }
 }
 
 impl<'a, R: Wait, G: Log> House for Home<'a, R, G> {
-    fn acted(&self, act: RowAct, row: &RowName, fault: Option<LedgerFault>) {
+    fn acted(&self, order: &Order, reason: Option<&Text>, fault: Option<LedgerFault>) {
         match fault {
-            None => self.signal.ring(self.rt, Some(slice::from_ref(&row.dest))),
+            None => self.wake(order),
             Some(LedgerFault::Store) => self.signal.doubt(self.rt),
             Some(_) => {}
         }
-        tell_act(self.log, act, row, fault);
+        tell_act(self.log, order, reason, fault);
     }
 
     fn stop(&self) {
@@ -89,6 +104,41 @@ impl<'a, R: Wait, G: Log> House for Home<'a, R, G> {
 
     fn refused(&self, why: Refused) {
         tell_refused(self.log, why);
+    }
+
+    fn visited(&self, dest: &Text) -> Option<Visited> {
+        self.signal.visited(self.rt, dest)
+    }
+
+    fn is_quiet(&self, dest: &Text, now: u64) -> bool {
+        self.signal.is_quiet(self.rt, dest, self.since, now)
+    }
+
+    fn is_failing(&self) -> bool {
+        self.signal.is_failing()
+    }
+}
+
+/// A key that nobody else knows, new for each run: 32 digits.
+///
+/// Errors: want of memory.
+fn page_key(alloc: Global, keys: RandomState) -> Result<Text, AllocError> {
+    let (first, second) = (keys.hash_one(&0u8), keys.hash_one(&1u8));
+    let digits = format!(in alloc; "{first:016x}{second:016x}")?;
+    Ok(Text::from_vec(digits.into_bytes()))
+}
+
+/// What a browser gives that may act; None where there is no token, or no memory: then none may.
+fn browser_of(alloc: Global, port: &ControlPort) -> Option<Browser> {
+    let Some(token) = &port.access.token else {
+        return None;
+    };
+    let Ok(key) = page_key(alloc, port.keys) else {
+        return None;
+    };
+    match Browser::of(alloc, token, key) {
+        Ok(browser) => Some(browser),
+        Err(_) => None,
     }
 }
 
@@ -108,6 +158,7 @@ fn answer_caller<R: Wait, L: Views, B: Sharing, C: Clock, G: Log>(
     pass: &mut Pass<B>,
     view: View<'_>,
     port: &ControlPort,
+    browser: &Option<Browser>,
     house: &Home<'_, R, G>,
     clock: &C,
     stream: &TcpStream,
@@ -129,6 +180,7 @@ fn answer_caller<R: Wait, L: Views, B: Sharing, C: Clock, G: Log>(
         desk,
         pass,
         access: &port.access,
+        browser,
         hops: view.hops,
         since: view.since,
         clock,
@@ -148,6 +200,7 @@ fn answer_callers<R: Wait + time::Clock, L: Views, B: Sharing, C: Clock, G: Log>
     pass: &mut Pass<B>,
     view: View<'_>,
     port: &ControlPort,
+    browser: &Option<Browser>,
     house: &Home<'_, R, G>,
     clock: &C,
 ) {
@@ -158,7 +211,9 @@ fn answer_callers<R: Wait + time::Clock, L: Views, B: Sharing, C: Clock, G: Log>
         }
         match came {
             Ok((stream, _)) => {
-                answer_caller(rt, alloc, desk, pass, view, port, house, clock, &stream);
+                answer_caller(
+                    rt, alloc, desk, pass, view, port, browser, house, clock, &stream,
+                );
             }
             Err(_) => thread::sleep(rt, Duration::from_millis(AGAIN)),
         }
@@ -198,12 +253,14 @@ pub fn answer_all<
         signal,
         stop,
         log,
+        since: view.since,
     };
+    let browser = browser_of(alloc, port);
     thread::for_each_mut(
         rt,
         passes.as_mut_slice(),
         count,
-        &|_, pass| answer_callers(rt, alloc, desk, pass, view, port, &house, clock),
+        &|_, pass| { answer_callers(rt, alloc, desk, pass, view, port, &browser, &house, clock) },
     );
     passes
 }

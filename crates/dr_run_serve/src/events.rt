@@ -8,9 +8,9 @@ use crate::visit::Visit;
 use dr_base::Text;
 use dr_desk_workers::Tally;
 use dr_ledger::{Arrived, LedgerFault, Outcome, Progress};
-use dr_run_control::{RowAct, name_of_refusal};
+use dr_run_control::name_of_refusal;
 use dr_run_open::code_of;
-use dr_run_request::{Refused, RowName};
+use dr_run_request::{Order, Refused, RowName};
 use dr_run_shown::Escaped;
 use dr_session::{Ended, SessionFault};
 use log::{Log, debug, error, info, warn};
@@ -172,6 +172,16 @@ pub fn tell_row<G: Log>(
     }
 }
 
+/// What came of a visit, in a word; None where nothing was due.
+pub fn word_of_visit(visit: &Visit) -> Option<&'static str> {
+    match visit {
+        Visit::Idle => None,
+        Visit::Unreached(_) => Some("unreached"),
+        Visit::Ended(ended) => Some(word_of(*ended)),
+        Visit::Failed(_) => Some("failed"),
+    }
+}
+
 /// Tells what came of a visit to a node at which rows were due, and how many outcomes were noted.
 pub fn tell_visit<G: Log>(
     log: &G,
@@ -290,21 +300,60 @@ pub fn tell_cut<G: Log>(log: &G) {
     warn!(log; target: "node", "cuts what is under way");
 }
 
-/// Tells of an act that somebody asked for over the control connection, and what the ledger
-/// answered.
-pub fn tell_act<G: Log>(log: &G, act: RowAct, row: &RowName, fault: Option<LedgerFault>) {
-    let word = match act {
-        RowAct::Requeue => "requeue",
-        RowAct::GiveUp => "drop",
-    };
-    let (uid, dest) = (Escaped(row.uid.as_bytes()), Escaped(row.dest.as_bytes()));
+/// A row, as an event shows it.
+#[derive(Drop)]
+struct RowShown<'a>(&'a RowName);
+
+impl<'a> Display for RowShown<'a> {
+    fn fmt<W: fmt::Write>(&self, f: &mut Formatter<W>) -> fmt::Result {
+        let (uid, dest) = (
+            Escaped(self.0.uid.as_bytes()),
+            Escaped(self.0.dest.as_bytes()),
+        );
+        write!(f, "dest=\"{dest}\" uid={uid}")
+    }
+}
+
+/// An order, as an event shows it.
+#[derive(Drop)]
+struct OrderShown<'a>(&'a Order);
+
+impl<'a> Display for OrderShown<'a> {
+    fn fmt<W: fmt::Write>(&self, f: &mut Formatter<W>) -> fmt::Result {
+        match self.0 {
+            Order::Requeue(row) => write!(f, "requeue {}", RowShown(row)),
+            Order::RequeueAll(dest) => write!(f, "requeue dest=\"{}\"", Escaped(dest.as_bytes())),
+            Order::GiveUp(row) => write!(f, "drop {}", RowShown(row)),
+            Order::Forget(uid) => write!(f, "forget uid={}", Escaped(uid.as_bytes())),
+            Order::Visit(dest) => write!(f, "visit dest=\"{}\"", Escaped(dest.as_bytes())),
+        }
+    }
+}
+
+/// The reason that was given for an order, if one was.
+#[derive(Drop)]
+struct ReasonShown<'a>(Option<&'a Text>);
+
+impl<'a> Display for ReasonShown<'a> {
+    fn fmt<W: fmt::Write>(&self, f: &mut Formatter<W>) -> fmt::Result {
+        match self.0 {
+            Some(reason) => write!(f, " reason=\"{}\"", Escaped(reason.as_bytes())),
+            None => Ok(()),
+        }
+    }
+}
+
+/// Tells of an order that somebody gave over the control connection, for that reason, and what the
+/// ledger answered.
+pub fn tell_act<G: Log>(log: &G, order: &Order, reason: Option<&Text>, fault: Option<LedgerFault>) {
+    let (order, reason) = (OrderShown(order), ReasonShown(reason));
     match fault {
         None => {
-            info!(log; target: "control", "{word} dest=\"{dest}\" uid={uid}");
+            info!(log; target: "control", "{order}{reason}");
         }
         Some(fault) => {
             let fault = code_of(fault);
-            warn!(log; target: "control", "{word} dest=\"{dest}\" uid={uid} fault=\"{fault}\"");
+            warn!(log; target: "control", "{order}{reason} fault=\"{fault}\"");
         }
     }
 }

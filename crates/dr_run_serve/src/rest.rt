@@ -61,6 +61,18 @@ impl Rest {
         }
     }
 
+    /// Somebody wants a visit now: the rest is over, and the next one is as long as it would have
+    /// been.
+    pub fn ended(self) -> Rest
+        ensures { (result.since ≡ 0) × (result.wait ≡ self.wait) × (result.short ≡ self.short) }
+    {
+        Rest {
+            since: 0,
+            wait: self.wait,
+            short: self.short,
+        }
+    }
+
     /// The moment at which it ends.
     pub fn until(self) -> u64
         ensures { MatchBool self.short

@@ -1,7 +1,7 @@
 //! The one who sends to a hop.
 ghost use Rattle.std.specs.Prelude.{◌≡◌, ◌≤◌, ◌+◌, MatchBool, min};
 
-use crate::events::tell_visit;
+use crate::events::{tell_visit, word_of_visit};
 use crate::rest::{Rest, rest_after};
 use crate::shutting::is_shut;
 use crate::signal::{BEGIN, Signal};
@@ -107,7 +107,7 @@ fn visit<R: Wait, L: Ledger, B: Sharing, N: Network, C: Clock, G: Log>(
     Ok((visited?, settled))
 }
 
-/// Visits the hop, and notes when it is to be visited again.
+/// Visits the hop, and notes when it is to be visited again. What came of the visit, in a word.
 ///
 /// Errors: those of a visit.
 fn send<R: Wait, L: Views, B: Sharing, N: Network, C: Clock, G: Log>(
@@ -119,12 +119,12 @@ fn send<R: Wait, L: Views, B: Sharing, N: Network, C: Clock, G: Log>(
     network: &N,
     clock: &C,
     log: &G,
-) -> Result<(), LedgerFault> {
+) -> Result<Option<&'static str>, LedgerFault> {
     let HopSender { pass, hop, rest } = sender;
     let (visit, settled) = visit(rt, alloc, desk, pass, hop, signal, network, clock, log)?;
     *rest = rest_after(*rest, &visit, settled, clock.now());
     hop.due = next_due(rt, desk, &hop.dest)?;
-    Ok(())
+    Ok(word_of_visit(&visit))
 }
 
 /// The same, and where that failed the hop is looked at again 1 s later, since it isn't known what
@@ -138,11 +138,20 @@ fn send_or_rest<R: Wait, L: Views, B: Sharing, N: Network, C: Clock, G: Log>(
     network: &N,
     clock: &C,
     log: &G,
-) {
-    if send(rt, alloc, desk, sender, signal, network, clock, log).is_err() {
-        sender.hop.due = 0;
-        sender.rest = Rest::none().lengthened(clock.now());
-        signal.doubt(rt);
+) -> Option<&'static str> {
+    match send(rt, alloc, desk, sender, signal, network, clock, log) {
+        Ok(came) => {
+            if came.is_some() {
+                signal.recover();
+            }
+            came
+        }
+        Err(_) => {
+            sender.hop.due = 0;
+            sender.rest = Rest::none().lengthened(clock.now());
+            signal.doubt(rt);
+            Some("ledger")
+        }
     }
 }
 
@@ -160,6 +169,12 @@ fn next_visit<B: Sharing>(sender: &HopSender<B>) -> u64
 fn wake<B: Sharing>(sender: &mut HopSender<B>) {
     sender.hop.due = 0;
     sender.rest = sender.rest.shortened();
+}
+
+/// Somebody wants a visit now: what is due is looked up, and its rest is over.
+fn hurry<B: Sharing>(sender: &mut HopSender<B>) {
+    sender.hop.due = 0;
+    sender.rest = sender.rest.ended();
 }
 
 /// Visits the hop as often as there is something to send, until no worker is left; then there is
@@ -189,11 +204,17 @@ pub fn send_rows<R: Wait + time::Clock, L: Views, B: Sharing, N: Network, C: Clo
         if signal.is_ending() {
             return;
         }
+        bell.look(rt, clock.now());
         if call.rows {
             wake(sender);
         }
+        if call.visit {
+            hurry(sender);
+        }
         if call.over || next_visit(sender) <= clock.now() {
-            send_or_rest(rt, alloc, desk, sender, signal, network, clock, log);
+            bell.begin_visit(rt);
+            let came = send_or_rest(rt, alloc, desk, sender, signal, network, clock, log);
+            bell.end_visit(rt, came, clock.now());
         }
         if call.over {
             return;

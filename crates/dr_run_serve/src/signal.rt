@@ -1,6 +1,7 @@
 //! What wakes those who send, and who tells of the node.
 use crate::sweep::Over;
 use dr_base::Text;
+use dr_run_answer::Visited;
 use dr_run_open::NextHop;
 use std::alloc::{AllocError, Global};
 use std::collections::VecDeque;
@@ -28,21 +29,39 @@ pub struct News {
     pub doubts: bool,
 }
 
+/// For so many milliseconds nobody looks after a hop that is said to be left alone: longer than any
+/// rest.
+const QUIET: u64 = 600_000;
+
 /// What the one who sends to a hop is woken by.
 #[derive(Clone, Copy, PartialEq, Eq, Debug)]
 pub struct Call {
     /// A row may have been made.
     pub rows: bool,
+    /// Somebody wants a visit now.
+    pub visit: bool,
     /// No worker is left: what is due now is sent, and that is all.
     pub over: bool,
 }
 
-/// Wakes the one who sends to a hop.
+/// What is known of the visits to a hop.
+#[derive(Clone, Copy, Debug)]
+struct Visits {
+    /// When its sender looked last whether it is to be visited (milliseconds); 0 for never.
+    looked: u64,
+    /// Whether a visit is under way.
+    is_under_way: bool,
+    /// The last one at which something was due, and that has ended.
+    last: Option<Visited>,
+}
+
+/// Wakes the one who sends to a hop, and is told of its visits.
 #[derive(Drop)]
 pub struct Bell {
     dest: Text,
     call: Mutex<Call>,
     changed: Condvar,
+    visits: Mutex<Visits>,
 }
 
 impl Bell {
@@ -52,9 +71,15 @@ impl Bell {
             dest: hop.dest.clone()?,
             call: Mutex::new(Call {
                 rows: true,
+                visit: false,
                 over: false,
             }),
             changed: Condvar::new(),
+            visits: Mutex::new(Visits {
+                looked: 0,
+                is_under_way: false,
+                last: None,
+            }),
         })
     }
 
@@ -64,10 +89,42 @@ impl Bell {
         self.changed.notify_all();
     }
 
+    /// Somebody wants a visit now.
+    fn hurry<R: Wait>(&self, rt: &R) {
+        self.call.lock(rt).visit = true;
+        self.changed.notify_all();
+    }
+
     /// No worker is left.
     fn end<R: Wait>(&self, rt: &R) {
         self.call.lock(rt).over = true;
         self.changed.notify_all();
+    }
+
+    /// Its sender looks, at that moment, whether it is to be visited.
+    pub fn look<R: Wait>(&self, rt: &R, now: u64) {
+        self.visits.lock(rt).looked = now;
+    }
+
+    /// A visit begins.
+    pub fn begin_visit<R: Wait>(&self, rt: &R) {
+        self.visits.lock(rt).is_under_way = true;
+    }
+
+    /// It has ended, and come to that; to nothing where nothing was due.
+    pub fn end_visit<R: Wait>(&self, rt: &R, came: Option<&'static str>, at: u64) {
+        let mut held = self.visits.lock(rt);
+        held.is_under_way = false;
+        if let Some(came) = came {
+            held.last = Some(Visited { at, came });
+        }
+    }
+
+    /// Whether nobody has looked after the hop for long, in a node that serves since then.
+    fn is_quiet<R: Wait>(&self, rt: &R, since: u64, now: u64) -> bool {
+        let visits = *self.visits.lock(rt);
+        let looked = visits.looked.max(since);
+        !visits.is_under_way && now.saturating_sub(looked) > QUIET
     }
 
     /// What has happened since it was asked last; where nothing has, it waits for so many
@@ -78,10 +135,11 @@ impl Bell {
             rt,
             held,
             Duration::from_millis(milliseconds),
-            |call| !call.rows && !call.over,
+            |call| !call.rows && !call.visit && !call.over,
         );
         let call = *held;
         held.rows = false;
+        held.visit = false;
         call
     }
 }
@@ -100,6 +158,7 @@ pub struct Signal {
     news: Mutex<News>,
     changed: Condvar,
     shut: AtomicBool,
+    failing: AtomicBool,
     stopping: AtomicBool,
     bells: Vec<Bell>,
     sweeps: bool,
@@ -124,6 +183,7 @@ impl Signal {
             }),
             changed: Condvar::new(),
             shut: AtomicBool::new(false),
+            failing: AtomicBool::new(false),
             stopping: AtomicBool::new(false),
             bells,
             sweeps,
@@ -193,8 +253,52 @@ impl Signal {
         }
     }
 
+    /// The bell of the hop to that node.
+    fn bell_of(&self, dest: &Text) -> Option<&Bell> {
+        for bell in self.bells.as_slice() {
+            if bell.dest == *dest {
+                return Some(bell);
+            }
+        }
+        None
+    }
+
+    /// Somebody wants that node to be visited now.
+    pub fn hurry<R: Wait>(&self, rt: &R, dest: &Text) {
+        if let Some(bell) = self.bell_of(dest) {
+            bell.hurry(rt);
+        }
+    }
+
+    /// The last visit to that node at which something was due, and that has ended.
+    pub fn visited<R: Wait>(&self, rt: &R, dest: &Text) -> Option<Visited> {
+        match self.bell_of(dest) {
+            Some(bell) => bell.visits.lock(rt).last,
+            None => None,
+        }
+    }
+
+    /// Whether nobody has looked after that node for ten minutes, in a node that serves since then.
+    pub fn is_quiet<R: Wait>(&self, rt: &R, dest: &Text, since: u64, now: u64) -> bool {
+        match self.bell_of(dest) {
+            Some(bell) => bell.is_quiet(rt, since, now),
+            None => false,
+        }
+    }
+
+    /// Whether the store failed when something was written to it last.
+    pub fn is_failing(&self) -> bool {
+        self.failing.load(Ordering::SeqCst)
+    }
+
+    /// Something was written to the store.
+    pub fn recover(&self) {
+        self.failing.store(false, Ordering::SeqCst);
+    }
+
     /// The ledger answered that its store failed.
     pub fn doubt<R: Wait>(&self, rt: &R) {
+        self.failing.store(true, Ordering::SeqCst);
         self.news.lock(rt).doubts = true;
         self.changed.notify_all();
     }

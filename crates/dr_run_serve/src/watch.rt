@@ -45,8 +45,10 @@ impl<'a, R: Wait, G: Log> Gate for Watch<'a, R, G> {
         uid: &Text,
         answer: Result<Arrived, LedgerFault>,
     ) {
-        if let Err(LedgerFault::Store) = answer {
-            self.signal.doubt(self.rt);
+        match answer {
+            Ok(_) => self.signal.recover(),
+            Err(LedgerFault::Store) => self.signal.doubt(self.rt),
+            Err(_) => {}
         }
         tell_arrival(self.log, session, caller, uid, answer);
     }

@@ -1,7 +1,7 @@
 use Rattle.std.proofs.Common.{[], ◌∷◌, ◌++◌}
 use Rattle.std.specs.Prelude.{codes, decimal}
 use Rattle.dr_run_answer.specs.Quoting.{quoted}
-use Rattle.dr_run_answer.specs.Answers.{due_part, ended, number}
+use Rattle.dr_run_answer.specs.Answers.{due_part, ended, number, visit_part}
 use Rattle.dr_run_answer.proofs.Chained.{chained}
 use Rattle.dr_run_answer.proofs.json.put_queue.Goals as goal
 
@@ -9,10 +9,16 @@ pub returns : goal.returns
 returns c =
     let old = c.args.out.now.items in
     let queue = c.args.queue.now in
-    chained old (codes "{\"dest\":" ++ quoted queue.dest.now ++ number (codes "waiting") queue.waiting ++ number (codes "held") queue.held ++ number (codes "done") queue.done ++ due_part queue.due) (ended) c.put_due.new.out.items c.extend_from_slice-2.new.self.items
-    (chained old (codes "{\"dest\":" ++ quoted queue.dest.now ++ number (codes "waiting") queue.waiting ++ number (codes "held") queue.held ++ number (codes "done") queue.done) (due_part queue.due) c.put_number-3.new.out.items c.put_due.new.out.items
-    (chained old (codes "{\"dest\":" ++ quoted queue.dest.now ++ number (codes "waiting") queue.waiting ++ number (codes "held") queue.held) (number (codes "done") queue.done) c.put_number-2.new.out.items c.put_number-3.new.out.items
-    (chained old (codes "{\"dest\":" ++ quoted queue.dest.now ++ number (codes "waiting") queue.waiting) (number (codes "held") queue.held) c.put_number.new.out.items c.put_number-2.new.out.items
-    (chained old (codes "{\"dest\":" ++ quoted queue.dest.now) (number (codes "waiting") queue.waiting) c.put_text.new.out.items c.put_number.new.out.items
-    (chained old (codes "{\"dest\":") (quoted queue.dest.now) c.extend_from_slice.new.self.items c.put_text.new.out.items
-    (c.in_ok-extend_from_slice.ensures.items) c.in_ok-put_text.ensures) c.in_ok-put_number.ensures) c.in_ok-put_number-2.ensures) c.in_ok-put_number-3.ensures) c.in_ok-put_due.ensures) c.in_ok-extend_from_slice-2.ensures.items
+    let whose = codes "{\"dest\":" ++ quoted queue.dest.now in
+    let waiting = number (codes "waiting") queue.waiting in
+    let held = number (codes "held") queue.held in
+    let done = number (codes "done") queue.done in
+    let due = due_part queue.due in
+    let visit = visit_part queue.visit in
+    let one = chained old (codes "{\"dest\":") (quoted queue.dest.now) c.extend_from_slice.new.self.items c.put_text.new.out.items (c.in_ok-extend_from_slice.ensures.items) c.in_ok-put_text.ensures in
+    let two = chained old whose waiting c.put_text.new.out.items c.put_number.new.out.items one c.in_ok-put_number.ensures in
+    let three = chained old (whose ++ waiting) held c.put_number.new.out.items c.put_number-2.new.out.items two c.in_ok-put_number-2.ensures in
+    let four = chained old (whose ++ waiting ++ held) done c.put_number-2.new.out.items c.put_number-3.new.out.items three c.in_ok-put_number-3.ensures in
+    let five = chained old (whose ++ waiting ++ held ++ done) due c.put_number-3.new.out.items c.put_due.new.out.items four c.in_ok-put_due.ensures in
+    let six = chained old (whose ++ waiting ++ held ++ done ++ due) visit c.put_due.new.out.items c.put_visit.new.out.items five c.in_ok-put_visit.ensures in
+    chained old (whose ++ waiting ++ held ++ done ++ due ++ visit) ended c.put_visit.new.out.items c.extend_from_slice-2.new.self.items six c.in_ok-extend_from_slice-2.ensures.items

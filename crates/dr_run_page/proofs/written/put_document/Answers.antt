@@ -1,4 +1,5 @@
 use Rattle.std.proofs.Common.{◌++◌, filter, flat_map, take}
+use Rattle.std.specs.Prelude.{option_copied}
 use Rattle.dr_run_page.specs.Documents.{figures, head, held_head, held_row, is_held, queue_row}
 use Rattle.dr_run_page.specs.Documents.{queues_head, tail}
 use Rattle.dr_run_page.proofs.Chained.{chained}
@@ -12,7 +13,7 @@ returns c =
     let top = head shown.name.now in
     let node = figures shown.name.now shown.since shown.moment shown.counts queues in
     let rows = flat_map (queue_row shown.moment) queues in
-    let held = flat_map held_row (take 100 (filter is_held c.args.rows.now)) in
+    let held = flat_map (held_row (option_copied shown.key)) (take 100 (filter is_held c.args.rows.now)) in
     let one = chained old top node c.put_head.new.out.items c.put_node.new.out.items
     c.in_ok-put_head.ensures c.in_ok-put_node.ensures in
     let two = chained old (top ++ node) queues_head c.put_node.new.out.items

@@ -1,0 +1,18 @@
+use Rattle.std.proofs.Common.{◌≡◌, ◌++◌, OnOk, List, ℕ, subst}
+use Rattle.dr_run_page.specs.Documents.{button}
+use Rattle.dr_run_page.proofs.buttons.put_button.Goals as goal
+
+pub returns : goal.returns
+returns c =
+    let old = c.args.out.now.items in
+    let new = c.put_pieces.new.out.items in
+    let made = button c.args.act.now c.args.label.now in
+    subst
+    (λ (key : List ℕ). OnOk c.put_pieces.result (new ≡ old ++ made key c.args.uid.now c.args.dest.now))
+    c.as_bytes.ensures
+    (subst
+    (λ (uid : List ℕ). OnOk c.put_pieces.result (new ≡ old ++ made c.as_bytes.result.now uid c.args.dest.now))
+    c.as_bytes-2.ensures
+    (subst
+    (λ (dest : List ℕ). OnOk c.put_pieces.result (new ≡ old ++ made c.as_bytes.result.now c.as_bytes-2.result.now dest))
+    c.as_bytes-3.ensures c.put_pieces.ensures))
