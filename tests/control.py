@@ -238,7 +238,7 @@ def orders():
         same(node.act('/stop'), DONE)
         ended(node.process)
         stop(gate)
-        said = [event[3] for event in room.events('CT1') if event[2] == 'control']
+        said = [event[3] for event in room.events('CT1') if event[2] == 'control' and not event[3].startswith('refused ')]
         shown = r'twice\n\"by hand\"' + 113 * 'x' + r'\..'
         same(said, ['forget uid=1.2.3.0 fault="G7 NotOver"', 'requeue dest="ARCH"', 'requeue dest="GATE"', 'visit dest="GATE"',
                     f'drop dest="GATE" uid=1.2.3.0 reason="{shown}"', 'forget uid=1.2.3.0', 'stop'])
