@@ -13,7 +13,7 @@ from archives import ar, packed, tar
 TOP = os.path.dirname(os.path.dirname(os.path.realpath(__file__)))
 NAME = "bitrusset"
 PAGES = ["README.md", "CHANGELOG.md"]
-GUIDE = ["PLANS.md", "USAGE.md", "RUNNING.md", "NIGHT.md", "HEADLINE.md", "PROVED.md", "three-nodes.svg", "hospital.svg"]
+GUIDE = ["PLANS.md", "USAGE.md", "RUNNING.md", "NIGHT.md", "HEADLINE.md", "PROVED.md", "three-nodes.svg", "hospital.svg", "page.png"]
 CLOSING = re.compile(r"[1-9][0-9]* passed, 0 failed")
 # The keys of a statement, in the order of its lines.
 KEYS = ("name", "version", "sources", "kit", "gate", "program")
