@@ -131,7 +131,8 @@ def reads():
         same(code, 200)
         same([line for line in figures.splitlines() if not line.startswith('#')],
              ['dr_router_arrivals 1', 'dr_router_kept 0', 'dr_router_journal_lines 2', 'dr_router_store_failures 0',
-              'dr_router_rows{dest="GATE",state="waiting"} 0', 'dr_router_rows{dest="GATE",state="held"} 1', 'dr_router_rows{dest="GATE",state="done"} 0'])
+              'dr_router_rows{dest="GATE",state="waiting"} 0', 'dr_router_rows{dest="GATE",state="held"} 1', 'dr_router_rows{dest="GATE",state="done"} 0',
+              'dr_router_associations 0'])
         stop(node.process)
 
 
@@ -143,7 +144,7 @@ def page():
         same(status, 200)
         assert text.startswith('<!DOCTYPE html>\n') and text.endswith('</table>\n</body>\n</html>\n'), text
         assert '<h1 class="green">Nothing is held, and nothing waits</h1>' in text, text
-        assert '<tr><td>GATE</td><td>0</td><td>0</td><td>0</td><td>-</td><td>-</td></tr>' in text, text
+        assert '<tr><td>GATE</td><td>0</td><td>0</td><td>0</td><td>-</td><td>-</td><td></td></tr>' in text, text
         stop(node.process)
         hold(room)
         node = Asked(room, 'CT1', 0, token=False)
@@ -154,7 +155,7 @@ def page():
         link.close()
         same([came.getheader(name) for name in ('content-type', 'x-content-type-options')], ['text/html; charset=utf-8', 'nosniff'])
         assert '<h1 class="red">Rows are held</h1>' in text, text
-        assert '<tr><td>GATE</td><td>0</td><td>1</td><td>0</td><td>-</td><td>-</td></tr>' in text, text
+        assert '<tr><td>GATE</td><td>0</td><td>1</td><td>0</td><td>-</td><td>-</td><td></td></tr>' in text, text
         assert '<tr><td>1.2.3.4</td><td>GATE</td><td>status C0F1</td><td></td></tr>' in text, text
         # without a token nothing can be acted, so there are no buttons
         for none in '<script', '<form', 'http://', 'https://', 'src=', 'href=':
@@ -225,7 +226,7 @@ def orders():
         same((hop['dest'], hop['waiting'], hop['held'], hop['came']), ('GATE', 5, 0, 'unreached'))
         assert abs(time.time() * 1000 - hop['visited']) < 60_000, hop
         text = node.ask('GET', '/')[1]
-        assert re.search('<td>unreached, [0-9]+ s ago</td></tr>', text), text
+        assert re.search('<td>unreached, [0-9]+ s ago</td><td><form', text), text
         # GATE is there again, and refuses them again
         gate = room.serve('GATE', 0)
         same(node.act('/visit', dest='GATE'), DONE)
@@ -279,6 +280,10 @@ def forms():
         hidden = ''.join(f'<input type="hidden" name="{name}" value="{value}">' for name, value in row.items())
         for act, label in ('/requeue', 'Queue again'), ('/drop', 'Drop for good'):
             assert f'<form method="post" action="{act}">{hidden}<button>{label}</button></form>' in text, text
+        hop = {'key': key, 'dest': 'GATE'}
+        hidden = ''.join(f'<input type="hidden" name="{name}" value="{value}">' for name, value in hop.items())
+        for act, label in ('/visit', 'Visit now'), ('/requeue', 'Queue all held again'):
+            assert f'<form method="post" action="{act}">{hidden}<button>{label}</button></form>' in text, text
         own = f'http://{node.at}'
         came, told_so = node.whole('POST', '/drop', row, Origin=own)
         same((came.status, came.getheader('www-authenticate'), told_so), (401, 'Basic realm="dr_router"', '{"fault":"Token"}\n'))
@@ -297,11 +302,39 @@ def forms():
         same((came.status, told_so), DONE)
         same([came.getheader(name) for name in ('content-type', 'refresh')], ['text/plain; charset=utf-8', '2; url=/'])
         same(node.ask('POST', '/drop', row, Origin='https://node.example', Authorization=basic()), NOT_HELD)
-        same(node.ask('POST', '/drop', {**row, 'uid': '1.2.3.5'}, Authorization=basic()), DONE)
+        same(node.ask('POST', '/visit', hop, Authorization=basic()), DONE)
+        same(node.ask('POST', '/requeue', {**hop, 'key': '0'}, Authorization=basic()), (403, '{"fault":"Key"}\n'))
+        same(len(node.read('/rows?dest=GATE&state=held')), 1)
+        same(node.ask('POST', '/requeue', hop, Authorization=basic()), DONE)
+        same(node.read('/rows?dest=GATE&state=held'), [])
         stop(node.process)
         again = Asked(room, 'CT1', 0)
         same(again.ask('POST', '/requeue', row, Authorization=basic()), (403, '{"fault":"Key"}\n'))
         stop(again.process)
+
+
+def associations():
+    """The associations that are open, with what came over each: in lines, in figures and on the page."""
+    with Room() as room:
+        node = Asked(room, 'GATE', 0, token=False)
+        same(len(node.read('/status')), 2)
+        with Requestor(room.ports['GATE'], 'CT1', 'GATE') as first:
+            same(first.store(b'1.2.3.4', data_set(b'1.2.3.4')), 0)
+            same(first.store(b'1.2.3.4', data_set(b'1.2.3.4')), 0)
+            same(first.store(b'1.2.3.4', data_set(b'1.2.3.4', element(0x10, 0x10, b'PN', b'Other'))), 0xC0F1)
+            same(first.store(b'1.2.3.5', data_set(b'1.2.3.5')), 0)
+            one = node.read('/status')[2]
+            assert abs(time.time() * 1000 - one.pop('since')) < 60_000, one
+            same(one, {'caller': 'CT1', 'session': 1, 'stored': 2, 'again': 1, 'refused': 1})
+            with Requestor(room.ports['GATE'], 'CT1', 'GATE'):
+                same([line['session'] for line in node.read('/status')[2:]], [1, 2])
+                assert 'dr_router_associations 2\n' in node.ask('GET', '/metrics')[1]
+            node.wait('/status', lambda lines: len(lines) == 3)
+            text = node.ask('GET', '/')[1]
+            assert re.search('<tr><td>CT1</td><td>[0-9]+ s ago</td><td>2</td><td>1</td><td>1</td></tr>', text), text
+        node.wait('/status', lambda lines: len(lines) == 2)
+        assert '<caption>Open associations</caption>\n<tr><th>Caller</th><th>Since</th><th>Stored</th><th>Again</th><th>Refused</th></tr>\n</table>' in node.ask('GET', '/')[1]
+        stop(node.process)
 
 
 def refusals():
@@ -521,7 +554,7 @@ def main():
         sys.exit(f'{PROGRAM} is not built')
     if sys.argv[1:] == ['--more']:
         return run_cases('control --more', flood_of_20_000)
-    return run_cases('control', reads, page, acts, orders, hurried, forms, refusals, places, hostile, flood)
+    return run_cases('control', reads, page, acts, orders, hurried, forms, associations, refusals, places, hostile, flood)
 
 
 if __name__ == '__main__':

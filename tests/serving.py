@@ -297,6 +297,37 @@ def few_workers():
         stop(arch)
 
 
+def unasked():
+    """Who connects and doesn't ask in time is let go, as --request says; a longer time is one too, and who asks in time is served."""
+    with Room() as room:
+        arch = room.serve('ARCH', 0, '--request', '2')
+        begun = time.monotonic()
+        silent = socket.create_connection(('127.0.0.1', room.ports['ARCH']), timeout=LIMIT)
+        slow = socket.create_connection(('127.0.0.1', room.ports['ARCH']), timeout=LIMIT)
+        slow.sendall(b'\1\0\0\0\1\0')
+        with asked_at(room) as caller:
+            for link in silent, slow:
+                same(link.recv(1), b'')
+                link.close()
+            assert 1.5 < time.monotonic() - begun < 12, time.monotonic() - begun
+            # an association that was asked for in time has no such end
+            time.sleep(2)
+            same(caller.echo(), 0)
+            same(caller.release(), RELEASED)
+        stop(arch)
+        said = [event[3] for event in room.events('ARCH') if event[3].startswith('limits ')]
+        same(len(said), 1)
+        assert ' request=2 ' in said[0], said
+    with Room() as room:
+        arch = room.serve('ARCH', 0, '--request', '36')
+        begun = time.monotonic()
+        silent = socket.create_connection(('127.0.0.1', room.ports['ARCH']), timeout=LIMIT + 36)
+        same(silent.recv(1), b'')
+        assert 35 < time.monotonic() - begun < 46, time.monotonic() - begun
+        silent.close()
+        stop(arch)
+
+
 def silent_associations():
     """64 associations that say nothing, and as many connections on which none is asked for, hold up nobody who stores."""
     with Room() as room:
@@ -774,7 +805,7 @@ def main():
         sys.exit(f'{PROGRAM} is not built')
     if sys.argv[1:] == ['--more']:
         return run_cases('serving --more', rates_alone, many_transfers)
-    run_cases('serving', three_nodes, refusals, dead_hop, held_rows, events, reports, report_paths, forged, refused_contexts, few_workers, silent_associations,
+    run_cases('serving', three_nodes, refusals, dead_hop, held_rows, events, reports, report_paths, forged, refused_contexts, few_workers, unasked, silent_associations,
               rejected_callers, hops_alone, slow_peers, deaf_peer, crowded, stopped, cut_short, forgotten, killed)
 
 

@@ -2,8 +2,8 @@
 """Looks at the form of what is committed, which needs no proof: `tools/formats.py`.
 
 Each source is in the kit's layout; no line of src/ or specs/ is over 100 columns, but for a text that is alone on it; each wrong body
-and wrong definition can be applied to the sources as they are; and each that wrong/gate names is there. What isn't so is printed, and
-the exit status is 1.
+and wrong definition can be applied to the sources as they are; each that wrong/gate names is there; and each file whose first line names
+what runs it may be run. What isn't so is printed, and the exit status is 1.
 """
 import os
 import subprocess
@@ -47,8 +47,21 @@ def unapplied():
     return said + [f"{it.removeprefix(f'{TOP}/')}: wrong/gate names it, and it isn't there" for it in missing]
 
 
+def not_to_be_run():
+    """The files that say what runs them, and that the system would not run: a test of the gate that can't be started fails at its end."""
+    said = []
+    for folder, names, files in os.walk(TOP):
+        names[:] = [it for it in names if it not in (".git", "out", "made", "dist", "__pycache__")]
+        for path in (f"{folder}/{it}" for it in files):
+            with open(path, "rb") as file:
+                begins = file.read(2)
+            if begins == b"#!" and not os.access(path, os.X_OK):
+                said.append(f"{os.path.relpath(path, TOP)}: it names what runs it, and may not be run")
+    return said
+
+
 def main():
-    said = out_of_layout() + over_long() + unapplied()
+    said = out_of_layout() + over_long() + unapplied() + not_to_be_run()
     print("\n".join(said), end="\n" * bool(said))
     print(f"formats: {len(said)} faults")
     return 1 if said else 0

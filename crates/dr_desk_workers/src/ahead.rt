@@ -9,9 +9,6 @@ use dr_session::{Clock, Heard, Link};
 use std::alloc::{AllocError, Global};
 use std::mem;
 
-/// A connection on which no association is asked for has so many milliseconds (PS3.8 9.1.5).
-const REQUEST: u64 = 30_000;
-
 /// No request is longer, in bytes; the session refuses one that says it is by its head alone.
 const LONGEST: usize = 1 << 20;
 
@@ -104,13 +101,12 @@ fn whole_length(text: &[u8]) -> Option<usize> {
     Some(length + 6)
 }
 
-/// Whether it ends the waiting: a late mark does so long behind the moment at which a worker took
-/// the connection.
-fn is_over<C: Clock>(heard: &Heard, taken: u64, clock: &C) -> bool
+/// Whether it ends the waiting: a late mark does from that moment on.
+fn is_over<C: Clock>(heard: &Heard, until: u64, clock: &C) -> bool
     ensures { result ≡ false → heard.now ≡ Late }
 {
     match heard {
-        Heard::Late => clock.now().saturating_sub(taken) >= REQUEST,
+        Heard::Late => clock.now() >= until,
         Heard::Bytes(_) | Heard::End | Heard::Fault | Heard::Memory => true,
         Heard::Idle | Heard::Crowded => true,
     }
@@ -140,14 +136,14 @@ fn take_in<C: Clock>(
     heard: Heard,
     text: &mut Vec<u8>,
     clock: &C,
-    taken: u64,
+    until: u64,
 ) -> Result<Option<Ahead>, AllocError>
     ensures { IfOk result (λ ahead. TakesIn heard text.old.items ahead text.new.items) }
 {
     if let Heard::Bytes(piece) = &heard {
         return take_bytes(alloc, piece.as_bytes(), text);
     }
-    if !is_over(&heard, taken, clock) {
+    if !is_over(&heard, until, clock) {
         return Ok(None);
     }
     let ahead = Ahead::of(alloc, text.as_slice(), text.len(), Some(heard))?;
@@ -166,13 +162,14 @@ fn hear_first<K: Link + Drop, C: Clock, G: Gate>(
 ) -> Result<Ahead, AllocError>
     ensures { IfOk result (λ ahead. IsAhead K.hears link.old ahead link.new) }
 {
+    let until = taken.saturating_add(gate.awaits());
     let mut text = Vec::new(alloc);
     for _piece in 0..MOST_PIECES {
         if gate.is_over() || gate.is_closing() {
             return Ok(Ahead::of_one(Heard::Fault));
         }
         let heard = link.recv();
-        if let Some(ahead) = take_in(alloc, heard, &mut text, clock, taken)? {
+        if let Some(ahead) = take_in(alloc, heard, &mut text, clock, until)? {
             return Ok(ahead);
         }
     }

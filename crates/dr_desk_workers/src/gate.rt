@@ -4,6 +4,10 @@ use dr_ledger::{Arrived, LedgerFault};
 use dr_pdu::{AssociateAc, AssociateRq};
 use dr_session::{Ended, SessionFault};
 
+/// A connection on which no association is asked for has so many milliseconds, where nothing else
+/// is said: those of a session's own timer.
+pub const REQUEST: u64 = 30_000;
+
 /// How far a session is.
 #[derive(Clone, Copy, PartialEq, Eq, Debug)]
 pub enum Point {
@@ -26,8 +30,9 @@ pub struct Tally {
 
 /// Where a session may be held, and is seen. It is called without the desk's lock, and may wait.
 pub trait Gate {
-    /// A worker has begun; it may have a thread of its own only later, or never.
-    fn began(&self) {}
+    /// So many workers have begun, and the system gives no thread for one more that is needed. The
+    /// thread that starts them serves in its place, and no other is started.
+    fn lacks(&self, _begun: usize) {}
 
     fn at(&self, session: u64, point: Point);
 
@@ -52,6 +57,12 @@ pub trait Gate {
 
     /// The session is over.
     fn ended(&self, session: u64, ended: Result<Ended, SessionFault>, tally: Tally);
+
+    /// How many milliseconds a caller has, from when a worker takes its connection, to its whole
+    /// request (PS3.8 9.1.5).
+    fn awaits(&self) -> u64 {
+        REQUEST
+    }
 
     /// Whether all sessions are to end: each ends, as by a fault of its link, at what it hears
     /// next.

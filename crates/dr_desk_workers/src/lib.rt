@@ -1,9 +1,9 @@
 //! Workers that serve connections on a shared desk.
 //!
-//! `workers` starts threads that take connections from a channel until it is closed and empty,
-//! serve each with a session (`dr_session::receive`) over the shared desk, and give back their
-//! passes. A `Door` counts the associations that are open, and lets 256 in. A `Room` counts what
-//! all of them hold in memory of data sets.
+//! `workers` starts threads, as they are needed, that take connections from a channel until it is
+//! closed and empty, serve each with a session (`dr_session::receive`) over the shared desk, and
+//! give back their passes. A `Door` counts the associations that are open, and lets 256 in. A
+//! `Room` counts what all of them hold in memory of data sets.
 #![tactic(auto)]
 
 pub mod ahead;
@@ -18,6 +18,7 @@ mod port;
 pub mod room;
 pub mod serving;
 mod share;
+mod staff;
 
 pub use connection::Connection;
 pub use gate::{Gate, Point, Tally};

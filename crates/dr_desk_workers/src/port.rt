@@ -68,6 +68,10 @@ impl<'a, R: Wait, L: Ledger, B: Sharing, G: Gate> DeskPort for SessionPort<'a, R
         self.desk.next(self.rt, dest, now)
     }
 
+    fn due(&mut self, dest: &Text, now: u64) -> Result<Option<Text>, LedgerFault> {
+        self.desk.due(self.rt, dest, now)
+    }
+
     fn settle(
         &mut self,
         uid: &Text,

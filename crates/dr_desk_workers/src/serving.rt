@@ -1,12 +1,13 @@
 //! Threads that serve connections, each with a pass of its own.
-ghost use Rattle.std.specs.Prelude.{◌≤◌, ◌≡◌, IfOk, vec_len};
+ghost use denote.Param.Send.{IsSend, IsSync};
+ghost use Rattle.std.specs.Prelude.{◌≤◌, ◌<◌, ◌≡◌, ◌+◌, ◌-◌, ◌^◌, IfOk, vec_len};
 
 use crate::ahead::ahead_of;
 use crate::asked::request_in;
 use crate::bounds::Bounds;
 use crate::connection::Connection;
 use crate::counts::SessionCounts;
-use crate::gate::{Gate, Point};
+use crate::gate::{Gate, Point, REQUEST};
 use crate::gated::GatedLink;
 use crate::port::SessionPort;
 use crate::share::Share;
@@ -41,10 +42,11 @@ impl From<TooManyPasses> for WorkersFault {
     }
 }
 
-/// Runs n workers, 1 to 264, on the connections of a channel until it is closed and empty, and
-/// gives back their passes. All passes are made before any connection is taken. Each connection is
-/// served with one session, of which no fault ends another; where a thread can't be started, its
-/// part is served in a running one.
+/// Runs up to n workers, 1 to 264, on the connections of a channel until it is closed and empty,
+/// and gives back n passes, one for each. All passes are made before any connection is taken. A
+/// worker's thread is started where none of those that have begun waits for a connection. Where the
+/// system gives no thread, the gate is told, the thread of the caller serves, and no more are
+/// started. Each connection is served with one session, of which no fault ends another.
 ///
 /// At most 256 associations are open at a time. A request is answered once it is there whole. The
 /// others that are open are counted, the request is answered, and its association is counted in, in
@@ -80,13 +82,66 @@ pub fn workers<
         passes.push_reserved(pass);
     }
     let bounds = Bounds::new(memory);
-    thread::for_each_mut(
+    start_as_needed(
         rt,
+        alloc,
+        desk,
+        gate,
+        connections,
+        &bounds,
         passes.as_mut_slice(),
-        n,
-        &|_, pass| { work(rt, alloc, desk, gate, connections, &bounds, pass) },
     );
     Ok(passes)
+}
+
+/// Starts a worker, in a thread of its own, whenever no other waits for a connection, one for each
+/// pass at most, until the channel is closed and empty and all of them are back.
+fn start_as_needed<
+    R: Threads + Wait + Sync + time::Clock,
+    L: Ledger + Send,
+    B: Sharing + Send + Sync,
+    K: Link + Drop + Send,
+    C: Clock + Drop + Send,
+    G: Gate + Sync,
+>(
+    rt: &R,
+    alloc: Global,
+    desk: &SharedDesk<L, B>,
+    gate: &G,
+    connections: &Receiver<Connection<K, C>>,
+    bounds: &Bounds,
+    passes: &mut [Pass<B>],
+) {
+    thread::scope(
+        thread::scope_env(),
+        rt,
+        move |scope|
+            requires { IsSync R.row × IsSend L.row × IsSend B.row × IsSync B.row × IsSend K.row
+                × IsSend C.row × IsSync G.row }
+        {
+            let mut begun = 0usize;
+            for pass in passes {
+                if !bounds.staff.admit(rt) {
+                    return;
+                }
+                let started = scope.spawn(move || work(
+                    rt,
+                    alloc,
+                    desk,
+                    gate,
+                    connections,
+                    bounds,
+                    pass,
+                ));
+                if let Err(refused) = started {
+                    gate.lacks(begun);
+                    (refused.value)();
+                    return;
+                }
+                begun = begun.saturating_add(1);
+            }
+        },
+    );
 }
 
 /// Serves until the channel is closed and empty.
@@ -99,10 +154,12 @@ fn work<R: Wait + time::Clock, L: Ledger, B: Sharing, K: Link + Drop, C: Clock +
     bounds: &Bounds,
     pass: &mut Pass<B>,
 ) {
-    gate.began();
     for connection in connections.iter(rt) {
+        bounds.staff.take(rt);
         serve(rt, alloc, desk, gate, connection, bounds, pass);
+        bounds.staff.give_back(rt);
     }
+    bounds.staff.end(rt);
 }
 
 /// Serves one connection to its end, however the session ends. The session counts from this moment,
@@ -134,6 +191,21 @@ fn serve<R: Wait + time::Clock, L: Ledger, B: Sharing, K: Link + Drop, C: Clock 
     );
 }
 
+/// The last moment that a clock tells, in milliseconds.
+const LAST: u64 = 1 << 62;
+
+/// From when on the session's own timer counts, so that it is over when the caller's time is, which
+/// begins when a worker takes its connection.
+fn counted_from(taken: u64, awaits: u64) -> u64
+    ensures early { result ≤ 2 ^ 62 }
+    ensures counted { taken + awaits < 2 ^ 62 → result ≡ taken + awaits - 30000 }
+{
+    taken
+        .saturating_add(awaits)
+        .saturating_sub(REQUEST)
+        .min(LAST)
+}
+
 /// A session behind a gate. What came first is answered in its turn at the door; who was let in is
 /// counted out when the session has ended.
 fn receive_gated<R: Wait + time::Clock, L: Ledger, B: Sharing, K: Link + Drop, C: Clock, G: Gate>(
@@ -151,6 +223,7 @@ fn receive_gated<R: Wait + time::Clock, L: Ledger, B: Sharing, K: Link + Drop, C
     let (mut link, taken) = (link, clock.now());
     let ahead = ahead_of(alloc, &mut link, gate, clock, taken);
     let request = request_in(alloc, &ahead);
+    let taken = counted_from(taken, gate.awaits());
     let turn = bounds.door.lock(rt);
     let others = turn.count();
     let mut link = GatedLink {

@@ -11,7 +11,7 @@ pub const FREE: u64 = 2 * PIECE;
 
 /// No association needs more: the bytes of a data set that is larger than 64 MiB are let go, and a
 /// vector that grows holds less than twice what it has.
-const MOST: u64 = (64 << 20) + FREE;
+pub const MOST: u64 = (64 << 20) + FREE;
 
 /// So long an association waits for room, in milliseconds.
 const PATIENCE: u64 = 1_000;

@@ -1,9 +1,11 @@
 //! The system's files as databases, and ledgers in databases.
 ghost use Rattle.std.specs.Prelude.{◌≡◌, IfOk, false};
 
+use dr_base::Text;
 use dr_run_files::Files;
 use dr_run_open::{Ledgers, Making, OpenFault};
 use dr_run_report::{FileId, Paths, ReportPlace, SystemPaths};
+use dr_run_token::{SystemTokens, Tokens};
 use dr_site::Site;
 use dr_store::SqlLedger;
 use dr_store_open::{OpeningFault, ledger_on};
@@ -49,6 +51,7 @@ impl<'a> Databases for SystemFiles<'a> {
 pub struct SystemDisk<'a> {
     disk: Disk<'a>,
     paths: SystemPaths<'a>,
+    tokens: SystemTokens<'a>,
 }
 
 impl<'a> SystemDisk<'a> {
@@ -57,6 +60,7 @@ impl<'a> SystemDisk<'a> {
         SystemDisk {
             disk: Disk::new(rt),
             paths: SystemPaths::new(rt),
+            tokens: SystemTokens(rt),
         }
     }
 }
@@ -85,6 +89,12 @@ impl<'a> Paths for SystemDisk<'a> {
 
     fn file_id(&self, path: &str) -> io::Result<Option<FileId>> {
         self.paths.file_id(path)
+    }
+}
+
+impl<'a> Tokens for SystemDisk<'a> {
+    fn token(&self, alloc: Global, path: &str) -> io::Result<Text> {
+        self.tokens.token(alloc, path)
     }
 }
 

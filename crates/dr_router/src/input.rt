@@ -3,20 +3,14 @@ use dr_base::Text;
 use dr_run_control::names_of;
 use dr_run_request::Access;
 use dr_run_serve::{ControlPlace, ControlPort, Ending, Stop};
+use dr_run_token::{SystemTokens, Tokens};
 use std::alloc::Global;
 use std::hash::RandomState;
+use std::io;
 use std::io::{ErrorKind, Read, Stdin};
 use std::net::{TcpListener, ToSocketAddrs};
-use std::os::unix::fs::PermissionsExt;
 use std::sync::Arc;
 use std::thread::{Builder, Threads};
-use std::{fs, io};
-
-/// A token has so many bytes at least.
-const LEAST: usize = 16;
-
-/// The rights of others than its owner to a file.
-const OTHERS: u32 = 0o077;
 
 /// The input, which a thread of its own reads to its end, and the system, which listens.
 #[derive(Drop)]
@@ -90,28 +84,6 @@ fn test_loopback(system: &HostRuntime, address: &str) -> io::Result<()> {
     Ok(())
 }
 
-/// The bytes without the line's end behind them.
-fn trimmed(bytes: &[u8]) -> &[u8] {
-    bytes.trim_ascii_end()
-}
-
-/// The token in a file, which nobody but its owner may read or write.
-///
-/// Errors: PermissionDenied, where others may; InvalidData, where it is shorter than 16 bytes;
-/// those of the system.
-fn token_in(system: &HostRuntime, alloc: Global, path: &str) -> io::Result<Text> {
-    let rights = fs::metadata(system, path)?.permissions().mode();
-    if rights & OTHERS != 0 {
-        return Err(io::Error::from(ErrorKind::PermissionDenied));
-    }
-    let bytes = fs::read(system, path)?;
-    let token = trimmed(bytes.as_slice());
-    if token.len() < LEAST {
-        return Err(io::Error::from(ErrorKind::InvalidData));
-    }
-    Ok(Text::copy_of(alloc, token)?)
-}
-
 /// The token that an act needs, if there is one. Where others than this machine may ask, there has
 /// to be one.
 ///
@@ -122,7 +94,7 @@ fn token_of(
     place: ControlPlace<'_>,
 ) -> io::Result<Option<Text>> {
     match place.token {
-        Some(path) => Ok(Some(token_in(system, alloc, path)?)),
+        Some(path) => Ok(Some(SystemTokens(system).token(alloc, path)?)),
         None if place.is_for_anyone => Err(io::Error::from(ErrorKind::InvalidInput)),
         None => Ok(None),
     }

@@ -6,6 +6,7 @@ use dr_run_net::Network;
 use dr_run_open::{Ledgers, Status};
 use dr_run_report::Paths;
 use dr_run_serve::Ending;
+use dr_run_token::Tokens;
 use dr_session::Clock;
 use dr_word_all::run_words;
 use log::Log;
@@ -22,7 +23,7 @@ pub fn run_over<
     R: Read,
     W: Write,
     E: Write,
-    F: Files + Paths + Sync,
+    F: Files + Paths + Tokens + Sync,
     O: Ledgers,
     N: Network + Sync,
     C: Clock + Sync,
@@ -58,7 +59,7 @@ pub fn run_stored<
     R: Read,
     W: Write,
     E: Write,
-    F: Files + Paths + Sync,
+    F: Files + Paths + Tokens + Sync,
     D: Databases,
     N: Network + Sync,
     C: Clock + Sync,

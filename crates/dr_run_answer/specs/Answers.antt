@@ -9,6 +9,7 @@ use Rattle.dr_ledger.specs.declared.item.Cause.{Cause}
 use Rattle.dr_ledger.specs.declared.item.Cause.TheVariants as cause
 use Rattle.dr_ledger.specs.declared.item.Progress.{Progress}
 use Rattle.dr_ledger.specs.declared.item.Progress.TheVariants as progress
+use Rattle.dr_run_answer.specs.declared.association.Association.{Association}
 use Rattle.dr_run_answer.specs.declared.json.Counts.{Counts}
 use Rattle.dr_run_answer.specs.declared.json.Queue.{Queue}
 use Rattle.dr_run_answer.specs.declared.json.Visited.{Visited}
@@ -96,6 +97,14 @@ abbrev pub line_of_queue : Queue → Text
 line_of_queue queue =
     queue_line queue.dest.now queue.waiting queue.held queue.done queue.due queue.visit
 
+-- the line of an association that is open
+abbrev pub association_line : Association → Text
+association_line association =
+    begun (codes "caller") association.caller ++ number (codes "session") association.session
+    ++ number (codes "since") association.since ++ number (codes "stored") association.stored
+    ++ number (codes "again") association.again ++ number (codes "refused") association.refused
+    ++ ended
+
 -- an act was done; a node is well; a fault
 abbrev pub done_line : Text
 done_line = codes "{\"done\":true}\n"
@@ -125,6 +134,10 @@ figures counts =
     ++ figure (codes "dr_router_kept") (codes "gauge") counts.kept
     ++ figure (codes "dr_router_journal_lines") (codes "counter") counts.lines
     ++ figure (codes "dr_router_store_failures") (codes "counter") counts.failures
+
+-- how many associations are open
+abbrev pub open_figure : ℕ → Text
+open_figure count = figure (codes "dr_router_associations") (codes "gauge") count
 
 -- how many rows to a node are at a stage
 abbrev pub rows_figure : Text → Text → ℕ → Text

@@ -1,7 +1,7 @@
 //! Figures in the text format of Prometheus.
 ghost use Rattle.std.specs.Prelude.{◌≡◌, ◌++◌, OnOk, decimal, flat_map};
 ghost use Rattle.dr_run_answer.specs.Answers.{figure, figures, queues_figures, rows_figure};
-ghost use Rattle.dr_run_answer.specs.Answers.{stages_of};
+ghost use Rattle.dr_run_answer.specs.Answers.{open_figure, stages_of};
 
 use crate::json::{Counts, Queue, put_decimal};
 use crate::quoted::{put_text, put_words};
@@ -31,6 +31,13 @@ pub fn put_figures(out: &mut Vec<u8>, counts: Counts) -> Result<(), AllocError>
     put_figure(out, "dr_router_kept", "gauge", counts.kept)?;
     put_figure(out, "dr_router_journal_lines", "counter", counts.lines)?;
     put_figure(out, "dr_router_store_failures", "counter", counts.failures)
+}
+
+/// Adds how many associations are open.
+pub fn put_open(out: &mut Vec<u8>, count: u64) -> Result<(), AllocError>
+    ensures { OnOk result (out.new.items ≡ out.old.items ++ open_figure count) }
+{
+    put_figure(out, "dr_router_associations", "gauge", count)
 }
 
 /// Adds how many rows to a node are at a stage.

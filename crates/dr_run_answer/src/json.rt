@@ -48,7 +48,7 @@ pub(crate) fn put_decimal(out: &mut Vec<u8>, value: u64) -> Result<(), AllocErro
 }
 
 /// Adds a number behind its name.
-fn put_number(out: &mut Vec<u8>, name: &str, value: u64) -> Result<(), AllocError>
+pub(crate) fn put_number(out: &mut Vec<u8>, name: &str, value: u64) -> Result<(), AllocError>
     ensures { OnOk result (out.new.items ≡ out.old.items ++ number name.now value) }
 {
     out.extend_from_slice(b",\"")?;

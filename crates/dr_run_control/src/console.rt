@@ -16,7 +16,7 @@ use dr_base::Text;
 use dr_desk::{Pass, SharedDesk, Sharing};
 use dr_ledger::LedgerFault;
 use dr_ledger_views::Views;
-use dr_run_answer::{Visited, put_done};
+use dr_run_answer::{Association, Visited, put_done};
 use dr_run_open::NextHop;
 use dr_run_request::{
     Access, Browser, Order, Refused, Route, admit, is_of_page, order_of, reason_of,
@@ -41,6 +41,11 @@ pub trait House {
 
     /// The last visit to a node that ended.
     fn visited(&self, dest: &Text) -> Option<Visited>;
+
+    /// The associations that are open.
+    ///
+    /// Errors: want of memory.
+    fn associations(&self) -> Result<Vec<Association>, AllocError>;
 
     /// Whether no visit to a node is under way, and none has ended for ten minutes, at that moment.
     fn is_quiet(&self, dest: &Text, now: u64) -> bool;

@@ -9,7 +9,7 @@ use dr_base::Text;
 use dr_desk::{SharedDesk, Sharing};
 use dr_ledger::{LedgerFault, Progress};
 use dr_ledger_views::{Stage, Views};
-use dr_run_answer::Queue;
+use dr_run_answer::{Association, Queue};
 use dr_run_open::NextHop;
 use dr_run_page::{SHOWN, Shown, put_document};
 use dr_run_request::Browser;
@@ -64,14 +64,15 @@ fn page_text(
     alloc: Global,
     shown: &Shown<'_>,
     queues: &[Queue<'_>],
+    associations: &[Association],
     rows: &[Row],
 ) -> Result<Vec<u8>, AllocError>
     ensures { IfOk result (λ text. text.items
         ≡ document shown.now.name.now shown.now.since shown.now.moment shown.now.counts
-        (option_copied shown.now.key) queues.now rows.now) }
+        (option_copied shown.now.key) queues.now associations.now rows.now) }
 {
     let mut out = Vec::new(alloc);
-    put_document(&mut out, shown, queues, rows)?;
+    put_document(&mut out, shown, queues, associations, rows)?;
     Ok(out)
 }
 
@@ -84,8 +85,8 @@ fn key_of(browser: &Option<Browser>) -> Option<&Text> {
 }
 
 /// The page of a node that has served since that moment, as it is now: how much it has, each next
-/// node with its queue, and rows that are held. The lock is given back between one look and the
-/// next, so each figure is of a moment of its own.
+/// node with its queue, associations that are open, and rows that are held. The lock is given back
+/// between one look and the next, so each figure is of a moment of its own.
 pub(crate) fn read_page<R: Wait, L: Views, B: Sharing, H: House>(
     rt: &R,
     alloc: Global,
@@ -104,6 +105,10 @@ pub(crate) fn read_page<R: Wait, L: Views, B: Sharing, H: House>(
         Ok(queues) => queues,
         Err(fault) => return refused_by_ledger(alloc, fault),
     };
+    let associations = match house.associations() {
+        Ok(associations) => associations,
+        Err(AllocError) => return refused_by_ledger(alloc, LedgerFault::Memory),
+    };
     let rows = match held_rows(rt, alloc, desk, hops) {
         Ok(rows) => rows,
         Err(fault) => return refused_by_ledger(alloc, fault),
@@ -115,6 +120,12 @@ pub(crate) fn read_page<R: Wait, L: Views, B: Sharing, H: House>(
         counts,
         key: key_of(browser),
     };
-    let text = page_text(alloc, &shown, queues.as_slice(), rows.as_slice());
+    let text = page_text(
+        alloc,
+        &shown,
+        queues.as_slice(),
+        associations.as_slice(),
+        rows.as_slice(),
+    );
     reply_with(alloc, text, Media::Page)
 }

@@ -1,6 +1,7 @@
 //! What a running node shows of itself.
-ghost use Rattle.std.specs.Prelude.{◌≡◌, ◌++◌, IfOk, OnOk, flat_map, map as mapped};
-ghost use Rattle.dr_run_answer.specs.Answers.{figures, instance_line, line_of_queue, node_line};
+ghost use Rattle.std.specs.Prelude.{◌≡◌, ◌++◌, IfOk, OnOk, flat_map, length, map as mapped};
+ghost use Rattle.dr_run_answer.specs.Answers.{association_line, figures, instance_line};
+ghost use Rattle.dr_run_answer.specs.Answers.{line_of_queue, node_line, open_figure};
 ghost use Rattle.dr_run_answer.specs.Answers.{queues_figures, row_line};
 ghost use Rattle.dr_run_control.specs.Consoles.{IsCounted, stage_named};
 
@@ -11,8 +12,8 @@ use dr_desk::{SharedDesk, Sharing, Totals};
 use dr_ledger::{LedgerFault, Progress};
 use dr_ledger_views::{Stage, Tally, Views};
 use dr_run_answer::{
-    Counts, Queue, Visited, put_figures, put_instance, put_late, put_node, put_queue, put_queues,
-    put_rows, put_well,
+    Association, Counts, Queue, Visited, put_associations, put_figures, put_instance, put_late,
+    put_node, put_open, put_queue, put_queues, put_rows, put_well,
 };
 use dr_run_open::NextHop;
 use dr_run_request::{Stage as Word, Wanted, instance_of, wanted_of};
@@ -88,30 +89,43 @@ pub(crate) fn counts_of(totals: Totals) -> Counts
     }
 }
 
-/// The lines of a node: one of it, and one for each hop.
+/// The lines of a node: one of it, one for each hop, and one for each association that is open.
 fn status_lines(
     alloc: Global,
     name: &Text,
     since: u64,
     counts: Counts,
     queues: &[Queue<'_>],
+    associations: &[Association],
 ) -> Result<Vec<u8>, AllocError>
     ensures { IfOk result (λ text.
-        text.items ≡ node_line name.now since counts ++ flat_map line_of_queue queues.now) }
+        text.items
+        ≡ node_line name.now since counts
+        ++ flat_map line_of_queue queues.now
+        ++ flat_map association_line associations.now) }
 {
     let mut out = Vec::new(alloc);
     put_node(&mut out, name, since, counts)?;
     put_each(&mut out, queues)?;
+    put_associations(&mut out, associations)?;
     Ok(out)
 }
 
 /// Its figures.
-fn figure_lines(alloc: Global, counts: Counts, queues: &[Queue<'_>]) -> Result<Vec<u8>, AllocError>
-    ensures { IfOk result (λ text. text.items ≡ figures counts ++ queues_figures queues.now) }
+fn figure_lines(
+    alloc: Global,
+    counts: Counts,
+    queues: &[Queue<'_>],
+    associations: &[Association],
+) -> Result<Vec<u8>, AllocError>
+    ensures { IfOk result (λ text.
+        text.items
+        ≡ figures counts ++ queues_figures queues.now ++ open_figure (length associations.now)) }
 {
     let mut out = Vec::new(alloc);
     put_figures(&mut out, counts)?;
     put_queues(&mut out, queues)?;
+    put_open(&mut out, associations.len() as u64)?;
     Ok(out)
 }
 
@@ -174,10 +188,22 @@ pub(crate) fn read_counts<R: Wait, L: Views, B: Sharing, H: House>(
         Ok(queues) => queues,
         Err(fault) => return refused_by_ledger(alloc, fault),
     };
+    let associations = match house.associations() {
+        Ok(associations) => associations,
+        Err(AllocError) => return refused_by_ledger(alloc, LedgerFault::Memory),
+    };
+    let (queues, associations) = (queues.as_slice(), associations.as_slice());
     let text = if media == Media::Figures {
-        figure_lines(alloc, counts, queues.as_slice())
+        figure_lines(alloc, counts, queues, associations)
     } else {
-        status_lines(alloc, desk.site().name(), since, counts, queues.as_slice())
+        status_lines(
+            alloc,
+            desk.site().name(),
+            since,
+            counts,
+            queues,
+            associations,
+        )
     };
     reply_with(alloc, text, media)
 }

@@ -9,6 +9,7 @@ use Rattle.dr_ledger.specs.declared.item.Cause.{Cause}
 use Rattle.dr_ledger.specs.declared.item.Cause.TheVariants as cause
 use Rattle.dr_ledger.specs.declared.item.Progress.{Progress}
 use Rattle.dr_ledger.specs.declared.item.Progress.TheVariants as progress
+use Rattle.dr_run_answer.specs.declared.association.Association.{Association}
 use Rattle.dr_run_answer.specs.declared.json.Counts.{Counts}
 use Rattle.dr_run_answer.specs.declared.json.Queue.{Queue}
 use Rattle.dr_run_answer.specs.declared.json.Visited.{Visited}
@@ -84,14 +85,52 @@ light failures queues =
 
 -- ---- rows of tables
 
-abbrev pub queue_row : ℕ → Queue → Text
-queue_row now queue = joined
+-- what stands for the text is the text, so that a form that has it names just that
+abbrev pub names_itself : Text → Bool
+names_itself text = bytes_eq (shown text) text
+
+-- a form with one button, by which a browser asks for an act on a next node
+abbrev pub hop_button : Text → Text → Text → Text → Text
+hop_button act label key dest = joined
+    (codes "<form method=\"post\" action=\"" ∷ act
+    ∷ codes "\"><input type=\"hidden\" name=\"key\" value=\"" ∷ shown key
+    ∷ codes "\"><input type=\"hidden\" name=\"dest\" value=\"" ∷ shown dest
+    ∷ codes "\"><button>" ∷ label
+    ∷ codes "</button></form>" ∷ [])
+
+-- a next node is visited now, and all that is held for it is queued again
+abbrev pub both_hop_buttons : Text → Text → Text
+both_hop_buttons key dest =
+    hop_button (codes "/visit") (codes "Visit now") key dest
+    ++ hop_button (codes "/requeue") (codes "Queue all held again") key dest
+
+-- the buttons of a next node; none without a key, nor where a form wouldn't name the node
+abbrev pub hop_buttons : Option Text → Text → Text
+hop_buttons None dest = []
+hop_buttons (Some key) dest = if names_itself dest then both_hop_buttons key dest else []
+
+abbrev pub queue_cells : ℕ → Queue → Text
+queue_cells now queue = joined
     (codes "<tr><td>" ∷ shown queue.dest.now
     ∷ codes "</td><td>" ∷ decimal queue.waiting
     ∷ codes "</td><td>" ∷ decimal queue.held
     ∷ codes "</td><td>" ∷ decimal queue.done
     ∷ codes "</td><td>" ∷ due_words now queue.due
     ∷ codes "</td><td>" ∷ visit_words now queue.visit
+    ∷ codes "</td><td>" ∷ [])
+
+abbrev pub queue_row : ℕ → Option Text → Queue → Text
+queue_row now key queue =
+    queue_cells now queue ++ hop_buttons key queue.dest.now ++ codes "</td></tr>\n"
+
+-- an association that is open, and since when
+abbrev pub association_row : ℕ → Association → Text
+association_row now association = joined
+    (codes "<tr><td>" ∷ shown association.caller
+    ∷ codes "</td><td>" ∷ ago_words now association.since
+    ∷ codes "</td><td>" ∷ decimal association.stored
+    ∷ codes "</td><td>" ∷ decimal association.again
+    ∷ codes "</td><td>" ∷ decimal association.refused
     ∷ codes "</td></tr>\n" ∷ [])
 
 -- a form with one button, by which a browser asks for an act on a row; it has the key of this run's
@@ -112,10 +151,6 @@ both_buttons key uid dest =
     ++ codes "<details><summary>Drop</summary>"
     ++ button (codes "/drop") (codes "Drop for good") key uid dest
     ++ codes "</details>"
-
--- what stands for the text is the text, so that a form that has it names just that
-abbrev pub names_itself : Text → Bool
-names_itself text = bytes_eq (shown text) text
 
 -- The buttons of a row. Without a key there are none, nor where a form wouldn't name the row.
 abbrev pub buttons : Option Text → Text → Text → Text
@@ -175,7 +210,11 @@ figures name since now counts queues =
 
 abbrev pub queues_head : Text
 queues_head = codes
-    "<table><caption>Next nodes</caption>\n<tr><th>Node</th><th>Waiting</th><th>Held</th><th>Done</th><th>First due</th><th>Last visit</th></tr>\n"
+    "<table><caption>Next nodes</caption>\n<tr><th>Node</th><th>Waiting</th><th>Held</th><th>Done</th><th>First due</th><th>Last visit</th><th></th></tr>\n"
+
+abbrev pub associations_head : Text
+associations_head = codes
+    "</table>\n<table><caption>Open associations</caption>\n<tr><th>Caller</th><th>Since</th><th>Stored</th><th>Again</th><th>Refused</th></tr>\n"
 
 abbrev pub held_head : Text
 held_head = codes
@@ -186,9 +225,10 @@ tail = codes "</table>\n</body>\n</html>\n"
 
 -- what a node shows that has served since that moment, in a run whose forms have that key
 abbrev pub document : Text → ℕ → ℕ → Counts → Option Text
-    → List Queue → List (Pair × Progress) → Text
-document name since now counts key queues rows =
+    → List Queue → List Association → List (Pair × Progress) → Text
+document name since now counts key queues associations rows =
     head name ++ figures name since now counts queues
-    ++ queues_head ++ flat_map (queue_row now) queues
+    ++ queues_head ++ flat_map (queue_row now key) queues
+    ++ associations_head ++ flat_map (association_row now) associations
     ++ held_head ++ flat_map (held_row key) (take 100 (filter is_held rows))
     ++ tail

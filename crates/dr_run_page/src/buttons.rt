@@ -1,6 +1,7 @@
-//! Buttons of a row, each a form.
+//! Buttons of a row and of a next node, each a form.
 ghost use Rattle.std.specs.Prelude.{◌≡◌, ◌++◌, IfOk, OnOk, option_copied};
-ghost use Rattle.dr_run_page.specs.Documents.{both_buttons, button, buttons, names_itself};
+ghost use Rattle.dr_run_page.specs.Documents.{both_buttons, both_hop_buttons, button, buttons};
+ghost use Rattle.dr_run_page.specs.Documents.{hop_button, hop_buttons, names_itself};
 
 use crate::pieces::{Piece, put_pieces};
 use crate::shown::put_shown;
@@ -56,6 +57,61 @@ fn names_itself(alloc: Global, text: &Text) -> Result<bool, AllocError>
     let mut out = Vec::new(alloc);
     put_shown(&mut out, text.as_bytes())?;
     Ok(out.as_slice() == text.as_bytes())
+}
+
+/// Adds a form with one button, for an act on a next node.
+fn put_hop_button<'x>(
+    out: &mut Vec<u8>,
+    act: &'x str,
+    label: &'x str,
+    key: &'x Text,
+    dest: &'x Text,
+) -> Result<(), AllocError>
+    ensures { OnOk result (out.new.items
+        ≡ out.old.items ++ hop_button act.now label.now key.now dest.now) }
+{
+    put_pieces(
+        out,
+        &[
+            Piece::Markup("<form method=\"post\" action=\""),
+            Piece::Markup(act),
+            Piece::Markup("\"><input type=\"hidden\" name=\"key\" value=\""),
+            Piece::Words(key.as_bytes()),
+            Piece::Markup("\"><input type=\"hidden\" name=\"dest\" value=\""),
+            Piece::Words(dest.as_bytes()),
+            Piece::Markup("\"><button>"),
+            Piece::Markup(label),
+            Piece::Markup("</button></form>"),
+        ],
+    )
+}
+
+/// Adds both of its buttons.
+fn put_both_hop(out: &mut Vec<u8>, key: &Text, dest: &Text) -> Result<(), AllocError>
+    ensures { OnOk result (out.new.items ≡ out.old.items ++ both_hop_buttons key.now dest.now) }
+{
+    put_hop_button(out, "/visit", "Visit now", key, dest)?;
+    put_hop_button(out, "/requeue", "Queue all held again", key, dest)?;
+    Ok(())
+}
+
+/// Adds the buttons of a next node, where a form would name it.
+pub(crate) fn put_hop_buttons(
+    out: &mut Vec<u8>,
+    key: Option<&Text>,
+    dest: &Text,
+) -> Result<(), AllocError>
+    ensures { OnOk result (out.new.items
+        ≡ out.old.items ++ hop_buttons (option_copied key.entry) dest.now) }
+{
+    let Some(key) = key else {
+        return Ok(());
+    };
+    let alloc = *out.allocator();
+    if !names_itself(alloc, dest)? {
+        return Ok(());
+    }
+    put_both_hop(out, key, dest)
 }
 
 /// Adds the buttons of a row, where a form would name it.

@@ -23,6 +23,8 @@ pub(crate) enum Piece<'a> {
     Due(u64, Option<u64>),
     /// Now, and the last visit, if there was one.
     Visit(u64, Option<Visited>),
+    /// Now, and a moment.
+    Ago(u64, u64),
 }
 
 /// Adds a number.
@@ -124,6 +126,7 @@ fn put_piece(out: &mut Vec<u8>, piece: Piece<'_>) -> Result<(), AllocError>
         Piece::Cause(cause) => put_cause(out, cause),
         Piece::Due(now, due) => put_due(out, now, due),
         Piece::Visit(now, visit) => put_visit(out, now, visit),
+        Piece::Ago(now, at) => put_ago(out, now, at),
     }
 }
 

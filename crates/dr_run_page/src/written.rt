@@ -2,15 +2,16 @@
 ghost use Rattle.std.specs.Prelude.{◌≡◌, ◌++◌, OnOk, filter, flat_map, option_copied, take};
 ghost use Rattle.dr_run_page.specs.Documents.{document, figures, figures_under, head};
 ghost use Rattle.dr_run_page.specs.Documents.{held_cells, held_head, held_row};
-ghost use Rattle.dr_run_page.specs.Documents.{is_held, queue_row, queues_head, tail};
+ghost use Rattle.dr_run_page.specs.Documents.{association_row, associations_head, is_held};
+ghost use Rattle.dr_run_page.specs.Documents.{queue_cells, queue_row, queues_head, tail};
 ghost use Rattle.dr_ledger.specs.declared.item.Progress.TheVariants.{Held};
 
-use crate::buttons::put_buttons;
+use crate::buttons::{put_buttons, put_hop_buttons};
 use crate::light::light;
 use crate::pieces::{Piece, put_pieces};
 use dr_base::Text;
 use dr_ledger::{Cause, Progress};
-use dr_run_answer::{Counts, Queue};
+use dr_run_answer::{Association, Counts, Queue};
 use std::alloc::AllocError;
 
 /// So many held rows are shown at most.
@@ -94,9 +95,9 @@ fn put_node(out: &mut Vec<u8>, shown: &Shown<'_>, queues: &[Queue<'_>]) -> Resul
     put_figures(out, shown.name, served, shown.counts, lit)
 }
 
-/// Adds the row of a next node.
-fn put_queue(out: &mut Vec<u8>, now: u64, queue: &Queue<'_>) -> Result<(), AllocError>
-    ensures { OnOk result (out.new.items ≡ out.old.items ++ queue_row now queue.now) }
+/// Adds what is shown of a next node.
+fn put_queue_cells(out: &mut Vec<u8>, now: u64, queue: &Queue<'_>) -> Result<(), AllocError>
+    ensures { OnOk result (out.new.items ≡ out.old.items ++ queue_cells now queue.now) }
 {
     put_pieces(
         out,
@@ -113,17 +114,76 @@ fn put_queue(out: &mut Vec<u8>, now: u64, queue: &Queue<'_>) -> Result<(), Alloc
             Piece::Due(now, queue.due),
             Piece::Markup("</td><td>"),
             Piece::Visit(now, queue.visit),
+            Piece::Markup("</td><td>"),
+        ],
+    )
+}
+
+/// Adds the row of a next node.
+fn put_queue(
+    out: &mut Vec<u8>,
+    now: u64,
+    key: Option<&Text>,
+    queue: &Queue<'_>,
+) -> Result<(), AllocError>
+    ensures { OnOk result (out.new.items
+        ≡ out.old.items ++ queue_row now (option_copied key.entry) queue.now) }
+{
+    put_queue_cells(out, now, queue)?;
+    put_hop_buttons(out, key, queue.dest)?;
+    out.extend_from_slice(b"</td></tr>\n")?;
+    Ok(())
+}
+
+/// Adds a row for each next node.
+fn put_queues(
+    out: &mut Vec<u8>,
+    now: u64,
+    key: Option<&Text>,
+    queues: &[Queue<'_>],
+) -> Result<(), AllocError>
+    ensures { OnOk result (out.new.items
+        ≡ out.old.items ++ flat_map (queue_row now (option_copied key.entry)) queues.now) }
+{
+    for queue in queues {
+        put_queue(out, now, key, queue)?;
+    }
+    Ok(())
+}
+
+/// Adds the row of an association.
+fn put_association(out: &mut Vec<u8>, now: u64, association: &Association) -> Result<(), AllocError>
+    ensures { OnOk result (out.new.items ≡ out.old.items ++ association_row now association.now) }
+{
+    put_pieces(
+        out,
+        &[
+            Piece::Markup("<tr><td>"),
+            Piece::Words(association.caller.as_bytes()),
+            Piece::Markup("</td><td>"),
+            Piece::Ago(now, association.since),
+            Piece::Markup("</td><td>"),
+            Piece::Number(association.stored),
+            Piece::Markup("</td><td>"),
+            Piece::Number(association.again),
+            Piece::Markup("</td><td>"),
+            Piece::Number(association.refused),
             Piece::Markup("</td></tr>\n"),
         ],
     )
 }
 
-/// Adds a row for each next node.
-fn put_queues(out: &mut Vec<u8>, now: u64, queues: &[Queue<'_>]) -> Result<(), AllocError>
-    ensures { OnOk result (out.new.items ≡ out.old.items ++ flat_map (queue_row now) queues.now) }
+/// Adds a row for each association.
+fn put_associations(
+    out: &mut Vec<u8>,
+    now: u64,
+    associations: &[Association],
+) -> Result<(), AllocError>
+    ensures { OnOk result (out.new.items
+        ≡ out.old.items ++ flat_map (association_row now) associations.now) }
 {
-    for queue in queues {
-        put_queue(out, now, queue)?;
+    for association in associations {
+        put_association(out, now, association)?;
     }
     Ok(())
 }
@@ -191,26 +251,31 @@ fn put_all_held(
     Ok(())
 }
 
-/// Adds the document: what a node has, each next node with its queue, and the first rows that are
-/// held, in the order in which they are handed in.
+/// Adds the document: what a node has, each next node with its queue, associations that are open,
+/// and the first rows that are held, in the order in which they are handed in.
 ///
 /// Errors: want of memory; then a part of it may stand there.
 pub fn put_document(
     out: &mut Vec<u8>,
     shown: &Shown<'_>,
     queues: &[Queue<'_>],
+    associations: &[Association],
     rows: &[((Text, Text), Progress)],
 ) -> Result<(), AllocError>
     ensures { OnOk result (out.new.items ≡ out.old.items
         ++ document shown.now.name.now shown.now.since shown.now.moment shown.now.counts
-        (option_copied shown.now.key) queues.now rows.now) }
+        (option_copied shown.now.key) queues.now associations.now rows.now) }
 {
     put_head(out, shown.name)?;
     put_node(out, shown, queues)?;
     out.extend_from_slice(
-        b"<table><caption>Next nodes</caption>\n<tr><th>Node</th><th>Waiting</th><th>Held</th><th>Done</th><th>First due</th><th>Last visit</th></tr>\n",
+        b"<table><caption>Next nodes</caption>\n<tr><th>Node</th><th>Waiting</th><th>Held</th><th>Done</th><th>First due</th><th>Last visit</th><th></th></tr>\n",
     )?;
-    put_queues(out, shown.moment, queues)?;
+    put_queues(out, shown.moment, shown.key, queues)?;
+    out.extend_from_slice(
+        b"</table>\n<table><caption>Open associations</caption>\n<tr><th>Caller</th><th>Since</th><th>Stored</th><th>Again</th><th>Refused</th></tr>\n",
+    )?;
+    put_associations(out, shown.moment, associations)?;
     out.extend_from_slice(
         b"</table>\n<table><caption>Held, the first 100</caption>\n<tr><th>Instance</th><th>To</th><th>Why</th><th></th></tr>\n",
     )?;

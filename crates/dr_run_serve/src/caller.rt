@@ -39,18 +39,27 @@ impl<'a, C: Clock> Read for Incoming<'a, C> {
     }
 }
 
-/// What a caller is sent, until that moment.
+/// What a caller is sent, until that moment, and whether its first bytes were written that say that
+/// it was answered well.
 #[derive(Drop)]
 pub struct Outgoing<'a, C: Clock> {
     pub stream: &'a TcpStream,
     pub clock: &'a C,
     pub until: u64,
+    pub well: bool,
+}
+
+/// Whether the bytes begin an answer that is no refusal: one of the statuses 200 to 399 (RFC 9112
+/// 4).
+fn begins_well(piece: &[u8]) -> bool {
+    piece.starts_with(b"HTTP/1.1 2") || piece.starts_with(b"HTTP/1.1 3")
 }
 
 impl<'a, C: Clock> Write for Outgoing<'a, C> {
     fn write(&mut self, piece: &[u8]) -> io::Result<usize> {
         let left = left(self.clock, self.until)?;
         self.stream.set_write_timeout(Some(left))?;
+        self.well = self.well || begins_well(piece);
         let mut stream = self.stream;
         stream.write(piece)
     }

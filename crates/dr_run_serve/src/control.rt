@@ -9,7 +9,7 @@ use dr_desk::{Pass, SharedDesk, Sharing};
 use dr_desk_workers::WorkersFault;
 use dr_ledger::LedgerFault;
 use dr_ledger_views::Views;
-use dr_run_answer::Visited;
+use dr_run_answer::{Association, Visited};
 use dr_run_control::{Console, House, talk};
 use dr_run_open::NextHop;
 use dr_run_request::{Access, Browser, Order, Refused};
@@ -30,6 +30,10 @@ pub const CALLERS: usize = 16;
 
 /// After an accept that failed it is tried again so many milliseconds later.
 const AGAIN: u64 = 100;
+
+/// After a caller that was refused, or sent no request, the next one waits for so many
+/// milliseconds, so that who sends such requests without end takes little of the node's time.
+const REST: u64 = 100;
 
 /// What listens for those who ask, and what they may.
 #[derive(Drop)]
@@ -69,6 +73,7 @@ impl ControlPort {
 #[derive(Drop)]
 struct Home<'a, R: Wait, G: Log> {
     rt: &'a R,
+    alloc: Global,
     signal: &'a Signal,
     stop: &'a Stop,
     log: &'a G,
@@ -108,6 +113,10 @@ impl<'a, R: Wait, G: Log> House for Home<'a, R, G> {
 
     fn visited(&self, dest: &Text) -> Option<Visited> {
         self.signal.visited(self.rt, dest)
+    }
+
+    fn associations(&self) -> Result<Vec<Association>, AllocError> {
+        self.signal.open.shown(self.rt, self.alloc)
     }
 
     fn is_quiet(&self, dest: &Text, now: u64) -> bool {
@@ -150,7 +159,7 @@ pub struct View<'a> {
     pub since: u64,
 }
 
-/// Answers one who asks, and lets go of the connection.
+/// Answers one who asks, and lets go of the connection. Whether it was answered well.
 fn answer_caller<R: Wait, L: Views, B: Sharing, C: Clock, G: Log>(
     rt: &R,
     alloc: Global,
@@ -162,7 +171,7 @@ fn answer_caller<R: Wait, L: Views, B: Sharing, C: Clock, G: Log>(
     house: &Home<'_, R, G>,
     clock: &C,
     stream: &TcpStream,
-) {
+) -> bool {
     let now = clock.now();
     let mut incoming = Incoming {
         stream,
@@ -173,6 +182,7 @@ fn answer_caller<R: Wait, L: Views, B: Sharing, C: Clock, G: Log>(
         stream,
         clock,
         until: now + ANSWERED,
+        well: false,
     };
     let mut console = Console {
         rt,
@@ -190,6 +200,7 @@ fn answer_caller<R: Wait, L: Views, B: Sharing, C: Clock, G: Log>(
     drop(console);
     let _ended = stream.shutdown(Shutdown::Write);
     drain(&mut incoming);
+    outgoing.well
 }
 
 /// Answers those who ask, one after the other, until nobody is accepted any more.
@@ -211,9 +222,13 @@ fn answer_callers<R: Wait + time::Clock, L: Views, B: Sharing, C: Clock, G: Log>
         }
         match came {
             Ok((stream, _)) => {
-                answer_caller(
+                let well = answer_caller(
                     rt, alloc, desk, pass, view, port, browser, house, clock, &stream,
                 );
+                drop(stream);
+                if !well {
+                    thread::sleep(rt, Duration::from_millis(REST));
+                }
             }
             Err(_) => thread::sleep(rt, Duration::from_millis(AGAIN)),
         }
@@ -250,6 +265,7 @@ pub fn answer_all<
     }
     let house = Home {
         rt,
+        alloc,
         signal,
         stop,
         log,

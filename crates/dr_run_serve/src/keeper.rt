@@ -18,23 +18,13 @@ use std::time;
 /// It looks every so many milliseconds.
 const TURN: u64 = 1_000;
 
-/// After so many looks all threads should have begun.
+/// After so many looks all threads that send should have begun.
 const PATIENCE: u32 = 10;
 
-/// How many threads serve and send.
-#[derive(Clone, Copy, PartialEq, Eq, Debug)]
-pub struct Crew {
-    pub workers: usize,
-    pub senders: usize,
-}
-
-/// Tells, once, where the system gave fewer threads than there should be.
-fn tell_lacking<G: Log>(log: &G, crew: Crew, news: News) {
-    if news.workers < crew.workers {
-        tell_threads(log, "serve", crew.workers, news.workers);
-    }
-    if news.senders < crew.senders {
-        tell_threads(log, "send", crew.senders, news.senders);
+/// Tells, once, where the system gave fewer threads that send than there are hops.
+fn tell_lacking<G: Log>(log: &G, senders: usize, news: News) {
+    if news.senders < senders {
+        tell_threads(log, "send", senders, news.senders);
     }
 }
 
@@ -54,7 +44,7 @@ pub fn keep<
     alloc: Global,
     desk: &SharedDesk<L, B>,
     hops: &[NextHop],
-    crew: Crew,
+    senders: usize,
     sweeper: Sweeper<B>,
     wake: &Wake<'_, D, N>,
     clock: &C,
@@ -82,7 +72,7 @@ pub fn keep<
         }
         looks = looks.saturating_add(1);
         if looks == PATIENCE {
-            tell_lacking(log, crew, news);
+            tell_lacking(log, senders, news);
         }
     }
     sweeper

@@ -1,8 +1,5 @@
-//! How long a hop is left alone after visits that failed.
+//! How long a hop is left alone.
 ghost use Rattle.std.specs.Prelude.{◌≡◌, ◌≤◌, ◌+◌, ◌*◌, ◌^◌, MatchBool, false, max, min, true};
-
-use crate::visit::Visit;
-use dr_session::Ended;
 
 /// The first rest, in milliseconds.
 const FIRST: u64 = 1_000;
@@ -26,7 +23,7 @@ pub struct Rest {
 impl Rest {
     /// No visit failed.
     pub fn none() -> Rest
-        ensures { (result.wait ≡ 0) × (result.since ≡ 0) }
+        ensures { (result.since ≡ 0) × (result.wait ≡ 0) × (result.short ≡ false) }
     {
         Rest {
             since: 0,
@@ -83,22 +80,6 @@ impl Rest {
             self.since + self.wait.min(SHORT)
         } else {
             self.since + self.wait
-        }
-    }
-}
-
-/// The rest after a visit that ended at that moment, at which so many outcomes were noted: none
-/// after one that ended well; the first one where some rows went over before it failed; else a
-/// longer one. A visit at which nothing was due says nothing.
-pub fn rest_after(rest: Rest, visit: &Visit, settled: u64, now: u64) -> Rest
-    requires { now ≤ 2 ^ 62 }
-{
-    match visit {
-        Visit::Idle => rest,
-        Visit::Ended(Ended::Released) => Rest::none(),
-        Visit::Unreached(_) | Visit::Ended(_) | Visit::Failed(_) => {
-            let before = if settled > 1 { Rest::none() } else { rest };
-            before.lengthened(now)
         }
     }
 }

@@ -1,8 +1,10 @@
 //! The one who sends to a hop.
-ghost use Rattle.std.specs.Prelude.{◌≡◌, ◌≤◌, ◌+◌, MatchBool, min};
+ghost use Rattle.std.specs.Prelude.{◌≡◌, ◌↔◌, IsTrue, max, true};
+ghost use Rattle.dr_run_serve.specs.Rests.{IsVisited, rest_end};
 
 use crate::events::{tell_visit, word_of_visit};
-use crate::rest::{Rest, rest_after};
+use crate::rest::Rest;
+use crate::resting::rest_after;
 use crate::shutting::is_shut;
 use crate::signal::{BEGIN, Signal};
 use crate::tallied::{SharedPort, Tallied};
@@ -155,24 +157,38 @@ fn send_or_rest<R: Wait, L: Views, B: Sharing, N: Network, C: Clock, G: Log>(
     }
 }
 
-/// When the hop is to be visited again: not before a row is due, and not before its rest is over.
+/// When the hop is to be visited again: as soon as a row is due and its rest is over.
 fn next_visit<B: Sharing>(sender: &HopSender<B>) -> u64
-    ensures due { sender.now.hop.due ≤ result }
-    ensures rest { MatchBool sender.now.rest.short
-        (sender.now.rest.since + min 5000 sender.now.rest.wait ≤ result)
-        (sender.now.rest.since + sender.now.rest.wait ≤ result) }
+    ensures { result ≡ max sender.now.hop.due (rest_end sender.now.rest) }
 {
     sender.hop.due.max(sender.rest.until())
 }
 
+/// Whether the hop is visited at that moment, or it is the last visit of all.
+fn is_visited<B: Sharing>(sender: &HopSender<B>, last: bool, now: u64) -> bool
+    ensures { IsTrue result ↔ IsVisited sender.now.hop.due sender.now.rest last now }
+{
+    last || next_visit(sender) <= now
+}
+
 /// A row may have been made for the hop: that is looked up, and its rest is short.
-fn wake<B: Sharing>(sender: &mut HopSender<B>) {
+fn wake<B: Sharing>(sender: &mut HopSender<B>)
+    ensures { (sender.new.hop.due ≡ 0)
+        × (sender.new.rest.since ≡ sender.old.rest.since)
+        × (sender.new.rest.wait ≡ sender.old.rest.wait)
+        × (sender.new.rest.short ≡ true) }
+{
     sender.hop.due = 0;
     sender.rest = sender.rest.shortened();
 }
 
 /// Somebody wants a visit now: what is due is looked up, and its rest is over.
-fn hurry<B: Sharing>(sender: &mut HopSender<B>) {
+fn hurry<B: Sharing>(sender: &mut HopSender<B>)
+    ensures { (sender.new.hop.due ≡ 0)
+        × (sender.new.rest.since ≡ 0)
+        × (sender.new.rest.wait ≡ sender.old.rest.wait)
+        × (sender.new.rest.short ≡ sender.old.rest.short) }
+{
     sender.hop.due = 0;
     sender.rest = sender.rest.ended();
 }
@@ -211,7 +227,7 @@ pub fn send_rows<R: Wait + time::Clock, L: Views, B: Sharing, N: Network, C: Clo
         if call.visit {
             hurry(sender);
         }
-        if call.over || next_visit(sender) <= clock.now() {
+        if is_visited(sender, call.over, clock.now()) {
             bell.begin_visit(rt);
             let came = send_or_rest(rt, alloc, desk, sender, signal, network, clock, log);
             bell.end_visit(rt, came, clock.now());

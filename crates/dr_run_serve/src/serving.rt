@@ -7,7 +7,7 @@ ghost use Rattle.dr_ledger.specs.SiteRoutes.{site_routing};
 
 use crate::control::{View, answer_all, passes_of};
 use crate::events::tell_unaccepted;
-use crate::keeper::{Crew, keep};
+use crate::keeper::keep;
 use crate::monitor::Monitor;
 use crate::sender::{HopSender, send_rows};
 use crate::shutting::Wake;
@@ -137,34 +137,25 @@ fn accept_links<
 /// Works until the channel is closed and empty. Where the workers can't begin, nobody receives any
 /// more.
 fn work<
+    'a,
     R: Threads + Wait + Sync + time::Clock,
     L: Views + Drop + Send,
     B: Sharing + Send + Sync,
     K: Link + Drop + Send,
-    C: Clock + Drop + Send,
+    C: Clock + Sync,
     G: Log + Sync,
 >(
     rt: &R,
     alloc: Global,
-    from: Receiver<Connection<K, C>>,
+    from: Receiver<Connection<K, ClockOf<'a, C>>>,
     desk: &SharedDesk<L, B>,
     terms: Terms<'_>,
-    signal: &Signal,
-    log: &G,
+    watch: &Watch<'_, R, C, G>,
 ) -> Result<Vec<Pass<B>>, WorkersFault> {
-    signal.begin(rt);
-    let watch = Watch { rt, signal, log };
-    let passes = workers(
-        rt,
-        alloc,
-        terms.workers(),
-        terms.memory,
-        &from,
-        desk,
-        &watch,
-    );
+    watch.signal.begin(rt);
+    let passes = workers(rt, alloc, terms.workers(), terms.memory, &from, desk, watch);
     drop(from);
-    signal.end(rt);
+    watch.signal.end(rt);
     passes
 }
 
@@ -191,9 +182,17 @@ fn serve_links<
         signal.end(rt);
         return Err(WorkersFault::Memory);
     };
+    let watch = Watch {
+        rt,
+        alloc,
+        signal,
+        clock,
+        log,
+        request: terms.request(),
+    };
     let (passes, has_served) = thread::join(
         rt,
-        || work(rt, alloc, from, desk, terms, signal, log),
+        || work(rt, alloc, from, desk, terms, &watch),
         || accept_links(rt, listener, to, terms.links, signal, clock, log),
     );
     if has_served {
@@ -256,7 +255,6 @@ fn send_and_keep<
     desk: &SharedDesk<L, B>,
     hops: &[NextHop],
     senders: Vec<HopSender<B>>,
-    crew: Crew,
     sweeper: Sweeper<B>,
     wake: &Wake<'_, D, N>,
     clock: &C,
@@ -266,14 +264,14 @@ where
     N::Socket: Send,
     N::Listener: Sync,
 {
-    let (signal, network) = (wake.signal, wake.network);
+    let (signal, network, count) = (wake.signal, wake.network, senders.len());
     thread::join(
         rt,
         ||
             requires { IsSync R.row × IsSend L.row × IsSend B.row × IsSync B.row × IsSync N.row
                 × IsSend N.Socket.row × IsSync N.Listener.row × IsSync C.row × IsSync G.row }
         { send_all(rt, alloc, desk, senders, signal, network, clock, log) },
-        || keep(rt, alloc, desk, hops, crew, sweeper, wake, clock, log),
+        || keep(rt, alloc, desk, hops, count, sweeper, wake, clock, log),
     )
 }
 
@@ -318,10 +316,6 @@ where
         network,
         stop: terms.stop,
     };
-    let crew = Crew {
-        workers: terms.workers(),
-        senders: senders.len(),
-    };
     let came = thread::join(
         rt,
         ||
@@ -332,11 +326,7 @@ where
             requires { IsSync R.row × IsSend L.row × IsSend B.row × IsSync B.row × IsSync D.row
                 × IsSync N.row × IsSend N.Socket.row × IsSync N.Listener.row × IsSync C.row
                 × IsSync G.row }
-        {
-            send_and_keep(
-                rt, alloc, desk, hops, senders, crew, sweeper, &wake, clock, log,
-            )
-        },
+        { send_and_keep(rt, alloc, desk, hops, senders, sweeper, &wake, clock, log) },
     );
     if let Some(port) = terms.control {
         port.close();

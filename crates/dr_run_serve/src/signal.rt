@@ -1,4 +1,5 @@
 //! What wakes those who send, and who tells of the node.
+use crate::open::Open;
 use crate::sweep::Over;
 use dr_base::Text;
 use dr_run_answer::Visited;
@@ -15,9 +16,7 @@ pub const BEGIN: u64 = 60_000;
 /// How far the node is.
 #[derive(Clone, Copy, PartialEq, Eq, Debug)]
 pub struct News {
-    /// How many of the threads that serve have begun.
-    pub workers: usize,
-    /// How many of those that send have begun.
+    /// How many of the threads that send have begun.
     pub senders: usize,
     /// The threads' own thread runs: connections may be accepted.
     pub begun: bool,
@@ -152,7 +151,7 @@ fn is_meant(dest: &Text, dests: Option<&[Text]>) -> bool {
     }
 }
 
-/// How far a node is, and a bell for each hop.
+/// How far a node is, a bell for each hop, and the associations that are open.
 #[derive(Drop)]
 pub struct Signal {
     news: Mutex<News>,
@@ -161,6 +160,7 @@ pub struct Signal {
     failing: AtomicBool,
     stopping: AtomicBool,
     bells: Vec<Bell>,
+    pub open: Open,
     sweeps: bool,
     over: Mutex<VecDeque<Over>>,
 }
@@ -174,7 +174,6 @@ impl Signal {
         }
         Ok(Signal {
             news: Mutex::new(News {
-                workers: 0,
                 senders: 0,
                 begun: false,
                 over: false,
@@ -186,6 +185,7 @@ impl Signal {
             failing: AtomicBool::new(false),
             stopping: AtomicBool::new(false),
             bells,
+            open: Open::new(alloc),
             sweeps,
             over: Mutex::new(VecDeque::new(alloc)),
         })
@@ -217,12 +217,6 @@ impl Signal {
     pub fn begin<R: Wait>(&self, rt: &R) {
         self.news.lock(rt).begun = true;
         self.changed.notify_all();
-    }
-
-    /// One who serves has begun.
-    pub fn count_worker<R: Wait>(&self, rt: &R) {
-        let mut held = self.news.lock(rt);
-        held.workers = held.workers.saturating_add(1);
     }
 
     /// One who sends has begun.

@@ -1,5 +1,5 @@
 //! The orderly end of a node, and on what terms it serves.
-ghost use Rattle.std.specs.Prelude.{◌≡◌, ◌≤◌, None, max};
+ghost use Rattle.std.specs.Prelude.{◌≡◌, ◌≤◌, None, max, min};
 
 use crate::control::ControlPort;
 use std::alloc::Global;
@@ -12,6 +12,12 @@ const MOST_WORKERS: usize = 264;
 
 /// The least memory for data sets, in bytes: one of 64 MiB, and what each thread holds unasked.
 const LEAST_MEMORY: u64 = 128_000_000;
+
+/// How many milliseconds a caller has for its request where nothing else is asked for (PS3.8
+/// 9.1.5), and the most.
+const REQUEST: u64 = 30_000;
+
+const LONGEST_REQUEST: u64 = 600_000;
 
 /// Whether a node is asked to end in order.
 #[derive(Drop)]
@@ -66,14 +72,17 @@ pub trait Ending {
 }
 
 /// On what terms a node serves: after how many connections it ends (for 0 never), by how many
-/// threads, with how much memory, when it forgets, what may ask for its end before, and where it
-/// may be asked.
+/// threads, with how much memory, how long a caller has for its request, when it forgets, what may
+/// ask for its end before, and where it may be asked.
 #[derive(Clone, Copy)]
 pub struct Terms<'a> {
     pub links: u64,
     workers: usize,
     /// What all associations together may hold in memory of data sets, in bytes.
     pub memory: u64,
+    /// How many milliseconds a caller has, from when a thread takes its connection, to its whole
+    /// request.
+    request: u64,
     /// After how many milliseconds it forgets what is over; None for never.
     pub forget_after: Option<u64>,
     pub stop: &'a Stop,
@@ -83,7 +92,8 @@ pub struct Terms<'a> {
 
 impl<'a> Terms<'a> {
     /// So many threads, from 1 to 264; for another number the nearest. So many bytes, at least 128
-    /// MB, so that there is always room for one data set. It forgets nothing.
+    /// MB, so that there is always room for one data set. It forgets nothing, and a caller has 30 s
+    /// for its request.
     pub fn new(
         links: u64,
         workers: usize,
@@ -93,12 +103,14 @@ impl<'a> Terms<'a> {
     ) -> Terms<'a>
         ensures links { result.links ≡ links }
         ensures memory { result.memory ≡ max 128000000 memory }
+        ensures request { result.request ≡ 30000 }
         ensures forget_after { result.forget_after ≡ None }
     {
         Terms {
             links,
             workers: workers.max(1).min(MOST_WORKERS),
             memory: memory.max(LEAST_MEMORY),
+            request: REQUEST,
             forget_after: None,
             stop,
             control,
@@ -111,15 +123,42 @@ impl<'a> Terms<'a> {
         ensures links { result.links ≡ self.entry.links }
         ensures memory { result.memory ≡ self.entry.memory }
         ensures forget_after { result.forget_after ≡ after }
+        ensures request { result.request ≡ self.entry.request }
     {
         Terms {
             links: self.links,
             workers: self.workers,
             memory: self.memory,
+            request: self.request,
             forget_after: after,
             stop: self.stop,
             control: self.control,
         }
+    }
+
+    /// The same, but that a caller has so many milliseconds for its request, at most 600 s.
+    pub fn awaiting(self, request: u64) -> Terms<'a>
+        ensures links { result.links ≡ self.entry.links }
+        ensures memory { result.memory ≡ self.entry.memory }
+        ensures forget_after { result.forget_after ≡ self.entry.forget_after }
+        ensures request { result.request ≡ min request 600000 }
+    {
+        Terms {
+            links: self.links,
+            workers: self.workers,
+            memory: self.memory,
+            request: request.min(LONGEST_REQUEST),
+            forget_after: self.forget_after,
+            stop: self.stop,
+            control: self.control,
+        }
+    }
+
+    /// How many milliseconds a caller has for its request.
+    pub fn request(self) -> u64
+        ensures { result ≡ self.entry.request }
+    {
+        self.request
     }
 
     /// By how many threads.

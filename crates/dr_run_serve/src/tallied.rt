@@ -26,7 +26,7 @@ pub trait Tallied: DeskPort {
     fn tally(&self) -> u64;
 
     /// The uid of the row that `next` is about. No data set is read.
-    fn due(&mut self, dest: &Text, now: u64) -> Result<Option<Text>, LedgerFault>
+    fn due_row(&mut self, dest: &Text, now: u64) -> Result<Option<Text>, LedgerFault>
         ensures { finds self.old dest.now now result self.new };
 }
 
@@ -78,6 +78,10 @@ impl<L: Ledger> DeskPort for OwnPort<L> {
         self.desk.next(dest, now)
     }
 
+    fn due(&mut self, dest: &Text, now: u64) -> Result<Option<Text>, LedgerFault> {
+        self.desk.due(dest, now)
+    }
+
     fn settle(
         &mut self,
         uid: &Text,
@@ -99,7 +103,7 @@ impl<L: Ledger> Tallied for OwnPort<L> {
         self.taken
     }
 
-    fn due(&mut self, dest: &Text, now: u64) -> Result<Option<Text>, LedgerFault> {
+    fn due_row(&mut self, dest: &Text, now: u64) -> Result<Option<Text>, LedgerFault> {
         self.desk.ledger.due(dest, now)
     }
 }
@@ -132,6 +136,13 @@ impl<'a, R: Wait, L: Ledger, B: Sharing, G: Log> DeskPort for SharedPort<'a, R, 
         self.desk.next(self.rt, dest, now)
     }
 
+    fn due(&mut self, dest: &Text, now: u64) -> Result<Option<Text>, LedgerFault> {
+        if self.signal.is_ending() {
+            return Ok(None);
+        }
+        self.desk.due(self.rt, dest, now)
+    }
+
     fn settle(
         &mut self,
         uid: &Text,
@@ -162,7 +173,7 @@ impl<'a, R: Wait, L: Ledger, B: Sharing, G: Log> Tallied for SharedPort<'a, R, L
         self.pass.count()
     }
 
-    fn due(&mut self, dest: &Text, now: u64) -> Result<Option<Text>, LedgerFault> {
+    fn due_row(&mut self, dest: &Text, now: u64) -> Result<Option<Text>, LedgerFault> {
         if self.signal.is_ending() {
             return Ok(None);
         }

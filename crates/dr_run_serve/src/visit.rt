@@ -31,7 +31,7 @@ fn first_due<P: Tallied, C: Clock>(
 ) -> Result<Option<Text>, LedgerFault>
     ensures { Finds P.finds (C.tells clock.now) dest.now port.old result port.new }
 {
-    port.due(dest, clock.now())
+    port.due_row(dest, clock.now())
 }
 
 /// The row is due later. That it isn't waiting any more is no fault.

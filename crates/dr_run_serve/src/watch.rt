@@ -1,28 +1,33 @@
-//! How a node's sessions are seen: they wake those who send, and are logged. Where the store is
-//! shut, they end.
+//! How a node's sessions are seen: they wake those who send, are shown while they are open, and are
+//! logged. Where the store is shut, they end.
 use crate::asked::tell_asked;
-use crate::events::{tell_arrival, tell_association, tell_crowded};
+use crate::events::{tell_arrival, tell_association, tell_crowded, tell_threads};
 use crate::signal::Signal;
 use dr_base::Text;
 use dr_desk_workers::{Gate, Point, Tally};
 use dr_ledger::{Arrived, LedgerFault};
 use dr_pdu::{AssociateAc, AssociateRq};
-use dr_session::{Ended, SessionFault};
+use dr_session::{Clock, Ended, SessionFault};
 use log::{Log, debug};
+use std::alloc::Global;
 use std::sync::Wait;
 
-/// Rings for the hops for which an arrival may have made rows, and logs what happens; doubts the
-/// store where it failed. No session is held.
+/// Rings for the hops for which an arrival may have made rows, notes what is open, and logs what
+/// happens; doubts the store where it failed. No session is held.
 #[derive(Drop)]
-pub struct Watch<'a, R: Wait, G: Log> {
+pub struct Watch<'a, R: Wait, C: Clock, G: Log> {
     pub rt: &'a R,
+    pub alloc: Global,
     pub signal: &'a Signal,
+    pub clock: &'a C,
     pub log: &'a G,
+    /// How many milliseconds a caller has for its request.
+    pub request: u64,
 }
 
-impl<'a, R: Wait, G: Log> Gate for Watch<'a, R, G> {
-    fn began(&self) {
-        self.signal.count_worker(self.rt);
+impl<'a, R: Wait, C: Clock, G: Log> Gate for Watch<'a, R, C, G> {
+    fn lacks(&self, begun: usize) {
+        tell_threads(self.log, "serve", begun.saturating_add(1), begun);
     }
 
     fn at(&self, session: u64, point: Point) {
@@ -50,15 +55,27 @@ impl<'a, R: Wait, G: Log> Gate for Watch<'a, R, G> {
             Err(LedgerFault::Store) => self.signal.doubt(self.rt),
             Err(_) => {}
         }
+        self.signal.open.note(self.rt, session, answer);
         tell_arrival(self.log, session, caller, uid, answer);
     }
 
     fn asked(&self, session: u64, request: &AssociateRq, answer: Option<&AssociateAc>) {
+        if answer.is_some() {
+            let caller = request.front.calling.as_bytes();
+            let now = self.clock.now();
+            self.signal
+                .open
+                .begin(self.rt, self.alloc, session, caller, now);
+        }
         tell_asked(self.log, session, request, answer);
     }
 
     fn crowded(&self, session: u64) {
         tell_crowded(self.log, session);
+    }
+
+    fn awaits(&self) -> u64 {
+        self.request
     }
 
     fn is_over(&self) -> bool {
@@ -70,6 +87,7 @@ impl<'a, R: Wait, G: Log> Gate for Watch<'a, R, G> {
     }
 
     fn ended(&self, session: u64, ended: Result<Ended, SessionFault>, tally: Tally) {
+        self.signal.open.end(self.rt, session);
         tell_association(self.log, session, ended, tally);
     }
 }

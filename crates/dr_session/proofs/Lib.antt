@@ -16,3 +16,6 @@ pub mod Saying
 pub mod Serving
 pub mod Spelt
 pub mod Storing
+pub mod Wording
+pub mod Aborting
+pub mod OneWay

@@ -36,8 +36,8 @@ use Rattle.dr_session.specs.declared.ends.Moment.{Moment}
 use Rattle.dr_session.specs.declared.ends.Pending.{Pending}
 use Rattle.dr_session.specs.declared.ends.Told.{Told}
 use Rattle.dr_session.specs.declared.ends.Told.TheVariants.{Plain, Quiet, Fault, Strange, Store, Whole, Agreement}
-use Rattle.dr_session.specs.Desks.{DeskAnswer, Arrive, Arrival, Upcoming, Settling}
-use Rattle.dr_session.specs.Reactions.{Reaction, turn, occurs, moves, acts, hears, stores, stored, status_of, arrives, brings, is_named, requested, requested_other, replied, settles_by, status_for, decides, decides_at, rj, agrees, can_be_named, due, gives, gives_in, refused, leaves, leaves_by, aborts, aborts_desk, abort_pdu, aborted, released, desk_failed, settled_with, left, stepped_by, noted, reason_of, settling, arrival, job, write, effect, quiet, is_requestor, is_taken, event_of, rejected as marked}
+use Rattle.dr_session.specs.Desks.{DeskAnswer, Arrive, Arrival, Upcoming, First, Settling}
+use Rattle.dr_session.specs.Reactions.{Reaction, turn, occurs, moves, acts, hears, stores, stored, status_of, arrives, brings, is_named, requested, requested_other, replied, settles_by, status_for, decides, decides_at, rj, agrees, can_be_named, due, gives, gives_in, refused, leaves, leaves_by, aborts, aborts_desk, abort_pdu, aborted, released, desk_failed, settled_with, left, stepped_by, noted, reason_of, settling, arrival, job, row, write, effect, quiet, is_requestor, is_taken, event_of, rejected as marked}
 use Rattle.dr_session.specs.declared.ends.LinkAction.TheVariants.{Close}
 use Rattle.dr_session.specs.Turns.{Ends, Asks}
 use Rattle.dr_session.specs.Laws.{Given, Pends, SettlesOwn, SettlesOwnAlone}
@@ -58,10 +58,12 @@ module _ (peer : Text) (now : ℕ) where
   settled done lost Own h k (Settling (Err fault.NotOver)) = k
   settled done lost Own h k (Arrival r) = tt
   settled done lost Own h k (Upcoming d) = tt
+  settled done lost Own h k (First d) = tt
 
   came : (follow : Result Arrived LedgerFault → Effect) (Own : Text → Type 0) (reply : DeskAnswer) → SettlesOwn (arrival (λ r. Ends (follow r)) reply) peer now Own
   came follow Own (Arrival r) = tt
   came follow Own (Upcoming d) = tt
+  came follow Own (First d) = tt
   came follow Own (Settling r) = tt
 
   handed : (follow : Result (Option Job) LedgerFault → Reaction) (Own : Text → Type 0)
@@ -69,7 +71,16 @@ module _ (peer : Text) (now : ℕ) where
       → (reply : DeskAnswer) → SettlesOwn (job follow reply) peer now (λ uid. Own uid ⊎ Given reply uid)
   handed follow Own h (Upcoming d) = h d
   handed follow Own h (Arrival r) = tt
+  handed follow Own h (First d) = tt
   handed follow Own h (Settling r) = tt
+
+  told_first : (follow : Result (Option Text) LedgerFault → Reaction) (Own : Text → Type 0)
+      → ((d : Result (Option Text) LedgerFault) → SettlesOwn (follow d) peer now (λ uid. Own uid ⊎ Given (First d) uid))
+      → (reply : DeskAnswer) → SettlesOwn (row follow reply) peer now (λ uid. Own uid ⊎ Given reply uid)
+  told_first follow Own h (First d) = h d
+  told_first follow Own h (Arrival r) = tt
+  told_first follow Own h (Upcoming d) = tt
+  told_first follow Own h (Settling r) = tt
 
   -- ---- what settles nothing
 
@@ -161,9 +172,9 @@ pushing at c Own (Err fault.NotWaiting) = tt
 pushing at c Own (Err fault.NotHeld) = tt
 pushing at c Own (Err fault.NotOver) = tt
 
-refusing : (at : Moment) (c : Core) (Own : Text → Type 0) (d : Result (Option Job) LedgerFault) → SettlesOwn (refused at c d) c.peer at.now (λ uid. Own uid ⊎ Given (Upcoming d) uid)
-refusing at c Own (Ok (Some item)) =
-    (inr refl, refl, refl, λ reply. settled c.peer at.now (Ends (effect (Close ∷ []) c)) (Ends (effect (Close ∷ []) (desk_failed c))) (λ uid. Own uid ⊎ (uid ≡ item.uid)) tt tt reply)
+refusing : (at : Moment) (c : Core) (Own : Text → Type 0) (d : Result (Option Text) LedgerFault) → SettlesOwn (refused at c d) c.peer at.now (λ uid. Own uid ⊎ Given (First d) uid)
+refusing at c Own (Ok (Some first)) =
+    (inr refl, refl, refl, λ reply. settled c.peer at.now (Ends (effect (Close ∷ []) c)) (Ends (effect (Close ∷ []) (desk_failed c))) (λ uid. Own uid ⊎ (uid ≡ first)) tt tt reply)
 refusing at c Own (Ok None) = tt
 refusing at c Own (Err fault.Memory) = tt
 refusing at c Own (Err fault.NoLine) = tt
@@ -193,7 +204,7 @@ accepted (Store context of id class instance found) at c = tt
 accepted (Whole context of command) at c = tt
 
 rejected_by : (i : Input) (at : Moment) (c : Core) → SettlesOwn (acts Ae4 at (Plain i) c) c.peer at.now (λ uid. Pends c.pending uid)
-rejected_by (input.Rejection rj) at c = λ reply. handed c.peer at.now (refused at (marked rj (left c))) (λ uid. Pends c.pending uid) (λ d. refusing at (marked rj (left c)) (λ uid. Pends c.pending uid) d) reply
+rejected_by (input.Rejection rj) at c = λ reply. told_first c.peer at.now (refused at (marked rj (left c))) (λ uid. Pends c.pending uid) (λ d. refusing at (marked rj (left c)) (λ uid. Pends c.pending uid) d) reply
 rejected_by (input.Request rq) at c = tt
 rejected_by (input.Acceptance ac) at c = tt
 rejected_by (input.Value p) at c = tt

@@ -34,7 +34,7 @@ use Rattle.dr_session.specs.declared.ends.Moment.{Moment}
 use Rattle.dr_session.specs.declared.ends.Pending.{Pending}
 use Rattle.dr_session.specs.declared.ends.Told.{Told}
 use Rattle.dr_session.specs.declared.ends.Told.TheVariants as told
-use Rattle.dr_session.specs.Desks.{DeskCall, Next, Settle}
+use Rattle.dr_session.specs.Desks.{DeskCall, Next, Due, Settle}
 use Rattle.dr_session.specs.Ends.{unmarked, ended_by, idle_in}
 use Rattle.dr_session.specs.Reactions.{Reaction, turn, rj, write}
 use Rattle.dr_session.specs.Turns.{Ends, Asks, Fails}
@@ -144,7 +144,7 @@ pub record Rejections (c : Core) (at : Moment) (rj : AssociateRj) : Type 0 where
   pub before :
       Does c at (acceptor Sta2 ∷ []) (told.Plain (input.Rejection rj)) 13 (abort 0 0) Aborted
   pub taken : calls (turn at (placed (requestor Sta5) c) (told.Plain (input.Rejection rj)))
-      ≡ Some (Next c.peer at.now)
+      ≡ Some (Due c.peer at.now)
   pub again : Does c at associated (told.Plain (input.Rejection rj)) 13 (abort 2 2) Aborted
   pub late : Does c at closing (told.Plain (input.Rejection rj)) 13 [] Closed
 

@@ -1,9 +1,19 @@
 -- The laws of an end.
 use Rattle.std.specs.Prelude.{◌≡◌, ℕ, false, List, [], ◌∷◌, ◌++◌, map, ◌↔◌, Some, Result, Ok, ◌⊎◌}
-use Rattle.std.specs.Prelude.{Option, None}
+use Rattle.std.specs.Prelude.{◌<◌, ◌^◌, Option, None}
+use Rattle.std.specs.Option.{option_map_or}
 use Rattle.dr_base.specs.Texts.{Text}
 use Rattle.dr_pdu.specs.Feeding.{Feeding}
+use Rattle.dr_ulstate.specs.declared.table.AbortReason.{AbortReason}
+use Rattle.dr_ulstate.specs.declared.table.AbortReason.TheVariants.{UnrecognizedPdu}
+use Rattle.dr_ulstate.specs.declared.table.AbortReason.TheVariants.{InvalidParameter}
+use Rattle.dr_ulstate.specs.declared.table.Action.{Action}
+use Rattle.dr_ulstate.specs.declared.table.Action.TheVariants.{Aa1, Aa7, Aa8}
+use Rattle.dr_ulstate.specs.declared.table.Event.{Event}
+use Rattle.dr_ulstate.specs.Table.{abort_source, abort_reason, source_number, reason_number}
+use Rattle.dr_dimse.specs.declared.command.Command.{Command}
 use Rattle.dr_dimse.specs.declared.command.Command.TheVariants.{StoreRsp}
+use Rattle.dr_nego.specs.declared.agreed.Agreed.{Agreed}
 use Rattle.dr_ledger.specs.declared.content.Job.{Job}
 use Rattle.dr_ledger.specs.declared.item.Arrived.{Arrived}
 use Rattle.dr_session.specs.declared.ends.Found.{Found}
@@ -12,18 +22,26 @@ use Rattle.dr_session.specs.declared.ends.Core.{Core}
 use Rattle.dr_session.specs.declared.ends.Effect.{Effect}
 use Rattle.dr_session.specs.declared.ends.Pending.{Pending}
 use Rattle.dr_session.specs.Desks.{DeskCall, DeskAnswer, Arrive, Next, Settle, Arrival, Upcoming}
+use Rattle.dr_session.specs.Desks.{Due, First}
 use Rattle.dr_session.specs.declared.ends.Moment.{Moment}
 use Rattle.std.specs.List.{AllByRecursion, flat_map}
 use Rattle.dr_pdu.specs.declared.pdu.Pdu.{Pdu}
+use Rattle.dr_pdu.specs.declared.pdu.Pdu.TheVariants as pdu
 use Rattle.dr_nego.specs.Fragments.{spellings}
 use Rattle.dr_session.specs.declared.ends.LinkAction.{LinkAction}
 use Rattle.dr_session.specs.declared.ends.LinkAction.TheVariants.{Write, Close}
 use Rattle.dr_session.specs.declared.ends.Heard.{Heard}
 use Rattle.dr_session.specs.declared.ends.Input.{Input}
+use Rattle.dr_session.specs.declared.ends.Input.TheVariants.{Unknown}
 use Rattle.dr_session.specs.declared.ends.Told.{Told}
+use Rattle.dr_session.specs.declared.ends.Told.TheVariants.{Plain, Store}
 use Rattle.std.specs.declared.alloc.AllocError.{AllocError}
 use Rattle.dr_session.specs.Ends.{Terminal, IsOver, Meets, HearsOf}
-use Rattle.dr_session.specs.Reactions.{Reaction, turn, quiet, effect, says, stores}
+use Rattle.dr_session.specs.Messages.{command_pdus}
+use Rattle.dr_session.specs.Reactions.{Reaction, turn, quiet, effect, says, stores, leaves}
+use Rattle.dr_session.specs.Reactions.{aborted, abort_pdu, event_of, store_pdus, write}
+use Rattle.dr_session.specs.Reactions.{acts as acted}
+use Rattle.dr_session.specs.Telling.{TakesData, state_at}
 use Rattle.dr_session.specs.Turns.{Ends, Asks, Fails, Turns, Run, Makes}
 use Rattle.dr_session.specs.Plays.{PlaysBytes}
 
@@ -73,12 +91,14 @@ IsByReplies =
     → answers made ≡ answers made'
     → (made ≡ made') × (x ≡ x')
 
--- What is written for a C-STORE-RQ: one response, and it is a success (0000H) only where its
--- instance was brought to the port, which answered New or Again.
+-- What is written for a C-STORE-RQ: one response, and it is a success only where its instance was
+-- brought to the port, which answered New or Again. The status is a number of two bytes, so that
+-- none but 0 is spelled 0000H.
 pub record AnswersStore {S : Type 0} (step : S → DeskCall → DeskAnswer → S → Type 0) (c : Core)
     (context id : ℕ) (class instance : Text) (found : Found) (s : S) (x : Effect)
     (t : S) : Type 0 where
   pub status : ℕ
+  pub small : status < 2 ^ 16
   pub written : x.acts ≡ says c context (StoreRsp id status class instance false) ∷ []
   pub brought : status ≡ 0
       → (item : Job) × (value : Arrived) × (found ≡ Read item)
@@ -91,6 +111,62 @@ SuccessIsOfArrivals {S} step =
     (s t : S) (x : Effect)
     → Turns step (stores c context class_of id class instance found) s x t
     → AnswersStore step c context id class instance found s x t
+
+abbrev pub HasNoData : Pdu → Type 0
+HasNoData (pdu.Transfer values) = ⊥
+HasNoData p = Unit {0}
+
+-- the bytes are one PDU, which carries no data
+abbrev pub IsAlone : List ℕ → Type 0
+IsAlone bytes = (p : Pdu) × HasNoData p × (bytes ≡ spellings (p ∷ []))
+
+-- nothing of a message is written
+abbrev pub IsNoMessage : LinkAction → Type 0
+IsNoMessage (Write bytes) = IsAlone bytes
+IsNoMessage Close = Unit {0}
+
+-- In its turn a C-STORE-RQ is answered so where the table takes data (Sta6, Sta7); elsewhere
+-- nothing of a message is written.
+abbrev pub StoresAreAnswered : {S : Type 0} → (S → DeskCall → DeskAnswer → S → Type 0) → Type 0
+StoresAreAnswered {S} step =
+    (at : Moment) (c : Core) (context : ℕ) (class_of : Text) (id : ℕ) (class instance : Text)
+    (found : Found) (s t : S) (x : Effect)
+    → Turns step (turn at c (Store context class_of id class instance found)) s x t
+    → (TakesData (state_at c) → AnswersStore step c context id class instance found s x t)
+    × ((TakesData (state_at c) → ⊥) → AllByRecursion IsNoMessage x.acts)
+
+abbrev pub IsStore : Told → Type 0
+IsStore (Store context of id class instance found) = Unit {0}
+IsStore told = ⊥
+
+-- the command answers no C-STORE-RQ
+abbrev pub IsOther : Command → Type 0
+IsOther (StoreRsp to status class instance has_data) = ⊥
+IsOther command = Unit {0}
+
+-- the bytes are a C-STORE-RQ with its data set
+abbrev pub AsksToStore : List ℕ → Type 0
+AsksToStore bytes =
+    (agreed : Agreed) × (context id : ℕ) × (item : Job)
+    × (bytes ≡ spellings (store_pdus agreed context id item))
+
+-- the bytes are another command than the answer to a C-STORE-RQ
+abbrev pub SaysOther : List ℕ → Type 0
+SaysOther bytes =
+    (limit context : ℕ) × (command : Command) × IsOther command
+    × (bytes ≡ spellings (command_pdus limit context command))
+
+abbrev pub AnswersNoStore : LinkAction → Type 0
+AnswersNoStore (Write bytes) = IsAlone bytes ⊎ (AsksToStore bytes ⊎ SaysOther bytes)
+AnswersNoStore Close = Unit {0}
+
+-- a turn of anything else answers no C-STORE-RQ
+abbrev pub OthersAnswerNoStore : {S : Type 0} → (S → DeskCall → DeskAnswer → S → Type 0) → Type 0
+OthersAnswerNoStore {S} step =
+    (at : Moment) (c : Core) (told : Told) (s t : S) (x : Effect)
+    → (IsStore told → ⊥)
+    → Turns step (turn at c told) s x t
+    → AllByRecursion AnswersNoStore x.acts
 
 -- what is written is the spellings of PDUs, joined
 abbrev pub IsSpelled : LinkAction → Type 0
@@ -145,9 +221,10 @@ HearsNothing {S} step =
 
 -- ---- what is settled
 
--- the answer hands out that instance
+-- the answer hands out that instance, or tells its uid
 abbrev pub Given : DeskAnswer → Text → Type 0
 Given (Upcoming (Ok (Some item))) uid = uid ≡ item.uid
+Given (First (Ok (Some found))) uid = uid ≡ found
 Given reply uid = ⊥
 
 abbrev pub Pends : Option Pending → Text → Type 0
@@ -155,7 +232,7 @@ Pends None uid = ⊥
 Pends (Some p) uid = uid ≡ p.uid
 
 -- Whatever the desk answers, each settling is of such an instance or of one that the desk has just
--- handed out, for that peer and at that moment.
+-- handed out or told, for that peer and at that moment.
 abbrev pub SettlesOwn : Reaction → Text → ℕ → (Text → Type 0) → Type 0
 SettlesOwn (Ends x) peer now Own = Unit {0}
 SettlesOwn (Asks (Settle uid dest outcome moment) follow) peer now Own =
@@ -163,12 +240,35 @@ SettlesOwn (Asks (Settle uid dest outcome moment) follow) peer now Own =
     × ((reply : DeskAnswer) → SettlesOwn (follow reply) peer now Own)
 SettlesOwn (Asks (Next dest moment) follow) peer now Own =
     (reply : DeskAnswer) → SettlesOwn (follow reply) peer now (λ uid. Own uid ⊎ Given reply uid)
+SettlesOwn (Asks (Due dest moment) follow) peer now Own =
+    (reply : DeskAnswer) → SettlesOwn (follow reply) peer now (λ uid. Own uid ⊎ Given reply uid)
 SettlesOwn (Asks (Arrive caller item) follow) peer now Own =
     (reply : DeskAnswer) → SettlesOwn (follow reply) peer now (λ uid. Own uid ⊎ Given reply uid)
 SettlesOwn Fails peer now Own = Unit {0}
 
--- a turn settles what pends, or what it was handed out
+-- a turn settles what pends, or what it was handed out or told
 abbrev pub SettlesOwnAlone : Type 0
 SettlesOwnAlone =
     (at : Moment) (c : Core) (told : Told)
     → SettlesOwn (turn at c told) c.peer at.now (λ uid. Pends c.pending uid)
+
+-- ---- aborts
+
+-- what an invalid PDU shows of why it is none: its type isn't known, or a value of it isn't valid
+abbrev pub shown_of : Told → AbortReason
+shown_of (Plain Unknown) = UnrecognizedPdu
+shown_of told = InvalidParameter
+
+-- the A-ABORT that the table gives an action at an event (PS3.8 section 9.3.8)
+abbrev pub abort_by : Action → Event → Told → Pdu
+abort_by a e told = abort_pdu (option_map_or source_number (abort_source a) 0)
+    (reason_number (abort_reason a e (shown_of told)))
+
+-- each action that aborts writes the table's A-ABORT for the event of what was told
+abbrev pub AbortsAreTheTables : Type 0
+AbortsAreTheTables =
+    (at : Moment) (c : Core) (told : Told) (e : Event)
+    → event_of told at c ≡ Some e
+    → (acted Aa1 at told c ≡ leaves at (write (abort_by Aa1 e told ∷ []) ∷ []) (aborted c))
+    × (acted Aa7 at told c ≡ Ends (effect (write (abort_by Aa7 e told ∷ []) ∷ []) (aborted c)))
+    × (acted Aa8 at told c ≡ leaves at (write (abort_by Aa8 e told ∷ []) ∷ []) (aborted c))

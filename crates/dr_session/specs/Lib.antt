@@ -14,3 +14,5 @@ pub mod Telling
 pub mod Turns
 pub mod Waits
 pub mod Links
+pub mod Spellings
+pub mod Ways

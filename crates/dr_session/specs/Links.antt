@@ -26,7 +26,7 @@ use Rattle.dr_session.specs.declared.wishes.Wish.TheVariants.{Listen, Push, Rele
 use Rattle.dr_session.specs.declared.sessions.SessionFault.{SessionFault}
 use Rattle.dr_session.specs.declared.sessions.SessionFault.TheVariants as fault
 use Rattle.dr_session.specs.Desks.{DeskCall, DeskAnswer, Arrive, Next, Settle, Arrival, Upcoming}
-use Rattle.dr_session.specs.Desks.{Settling}
+use Rattle.dr_session.specs.Desks.{Settling, Due, First}
 use Rattle.dr_nego.specs.declared.fault.NegoFault.{NegoFault}
 use Rattle.dr_nego.specs.declared.fault.NegoFault.TheVariants as negofault
 use Rattle.dr_ledger.specs.declared.item.Outcome.TheVariants.{Status}
@@ -328,6 +328,7 @@ refusal_of why = fault.Memory
 abbrev pub EchoStep : EchoDesk → DeskCall → DeskAnswer → EchoDesk → Type 0
 EchoStep old (Arrive caller item) (Arrival reply) new = (reply ≡ Err ledger.NoLine) × (new ≡ old)
 EchoStep old (Next dest now) (Upcoming due) new = (due ≡ Ok None) × (new ≡ old)
+EchoStep old (Due dest now) (First found) new = (found ≡ Ok None) × (new ≡ old)
 EchoStep old (Settle uid dest (Status status) now) (Settling answer) new =
     (answer ≡ Ok tt) × (new ≡ record { status = Some status })
 EchoStep old (Settle uid dest outcome now) (Settling answer) new = (answer ≡ Ok tt) × (new ≡ old)

@@ -66,7 +66,7 @@ use Rattle.dr_session.specs.declared.ends.Core.{Core}
 use Rattle.dr_session.specs.declared.ends.Moment.{Moment}
 use Rattle.dr_session.specs.declared.ends.Effect.{Effect}
 use Rattle.dr_session.specs.Desks.{DeskCall, DeskAnswer, Arrive, Next as NextFor, Settle, Arrival}
-use Rattle.dr_session.specs.Desks.{Upcoming, Settling}
+use Rattle.dr_session.specs.Desks.{Upcoming, Settling, Due as DueFor, First}
 use Rattle.dr_nego.specs.Fragments.{spellings}
 use Rattle.dr_session.specs.Messages.{command_pdus, data_pdus}
 use Rattle.dr_session.specs.Turns.{Turn, Ends, Asks, Fails}
@@ -169,12 +169,20 @@ rejected rj c = with_marks
 abbrev pub arrival : (Result Arrived LedgerFault → Reaction) → DeskAnswer → Reaction
 arrival follow (Arrival r) = follow r
 arrival follow (Upcoming d) = Fails
+arrival follow (First d) = Fails
 arrival follow (Settling r) = Fails
 
 abbrev pub job : (Result (Option Job) LedgerFault → Reaction) → DeskAnswer → Reaction
 job follow (Upcoming d) = follow d
 job follow (Arrival r) = Fails
+job follow (First d) = Fails
 job follow (Settling r) = Fails
+
+abbrev pub row : (Result (Option Text) LedgerFault → Reaction) → DeskAnswer → Reaction
+row follow (First d) = follow d
+row follow (Arrival r) = Fails
+row follow (Upcoming d) = Fails
+row follow (Settling r) = Fails
 
 -- after a settling: done (or the row no longer waits), the store failed, or memory ended
 abbrev pub settling : Reaction → Reaction → DeskAnswer → Reaction
@@ -184,6 +192,7 @@ settling done lost (Settling (Err fault.Memory)) = Fails
 settling done lost (Settling (Err why)) = lost
 settling done lost (Arrival r) = Fails
 settling done lost (Upcoming d) = Fails
+settling done lost (First d) = Fails
 
 -- ---- leaving
 
@@ -376,20 +385,20 @@ due at c (Err why) = aborts_desk at c
 abbrev pub pushes : Moment → Core → Reaction
 pushes at c = Asks (NextFor c.peer at.now) (job (due at c))
 
--- ---- a rejection, at a requestor: the first due row is settled as broken
+-- ---- a rejection, at a requestor: the first due row is settled as broken, by its uid alone
 
 abbrev pub settles_refused : Moment → Text → Core → Reaction
 settles_refused at uid c = Asks (Settle uid c.peer Broken at.now)
     (settling (Ends (effect (Close ∷ []) c)) (Ends (effect (Close ∷ []) (desk_failed c))))
 
-abbrev pub refused : Moment → Core → Result (Option Job) LedgerFault → Reaction
-refused at c (Ok (Some item)) = settles_refused at item.uid c
+abbrev pub refused : Moment → Core → Result (Option Text) LedgerFault → Reaction
+refused at c (Ok (Some uid)) = settles_refused at uid c
 refused at c (Ok None) = Ends (effect (Close ∷ []) c)
 refused at c (Err fault.Memory) = Fails
 refused at c (Err why) = Ends (effect (Close ∷ []) (desk_failed c))
 
 abbrev pub refuses : Moment → Core → Reaction
-refuses at c = Asks (NextFor c.peer at.now) (job (refused at c))
+refuses at c = Asks (DueFor c.peer at.now) (row (refused at c))
 
 -- ---- an acceptance, at a requestor
 

@@ -34,6 +34,10 @@ impl DeskPort for EchoDesk {
         Ok(None)
     }
 
+    fn due(&mut self, _dest: &Text, _now: u64) -> Result<Option<Text>, LedgerFault> {
+        Ok(None)
+    }
+
     fn settle(
         &mut self,
         _uid: &Text,

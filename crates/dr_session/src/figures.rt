@@ -1,3 +1,4 @@
 //! Worked figures, by computation.
+pub mod spelled;
 pub mod statuses;
 pub mod table;

@@ -30,8 +30,10 @@ use dr_run_net::Network;
 use dr_run_open::{Ledgers, Status};
 use dr_run_report::Paths;
 use dr_run_serve::{Ending, OwnPort, Tallied};
+use dr_run_token::Tokens;
 use dr_session::{Clock, DeskPort};
 use dr_word_adopt::adopt_files;
+use dr_word_at::ask_files;
 use dr_word_audit::audit_files;
 use dr_word_check::tell_failure;
 use dr_word_echo::echo_files;
@@ -54,7 +56,7 @@ fn run_any<
     R: Read,
     W: Write,
     E: Write,
-    F: Files + Paths + Sync,
+    F: Files + Paths + Tokens + Sync,
     O: Ledgers,
     N: Network + Sync,
     C: Clock + Sync,
@@ -145,6 +147,9 @@ where
         Task::AtNode(given, duty) => work_files(
             rt, alloc, files, ledgers, given, duty, network, clock, log, ending, output, faults,
         ),
+        Task::AtRunning(given, errand) => {
+            ask_files(alloc, files, given, errand, network, clock, output, faults)
+        }
         Task::Adopt(change) => adopt_files(alloc, files, ledgers, change, output, faults),
         Task::Audit(given) => audit_files(alloc, files, ledgers, given, &[], output, faults),
         Task::AuditAmong(given, others) => {
@@ -169,7 +174,7 @@ pub fn run_words<
     R: Read,
     W: Write,
     E: Write,
-    F: Files + Paths + Sync,
+    F: Files + Paths + Tokens + Sync,
     O: Ledgers,
     N: Network + Sync,
     C: Clock + Sync,

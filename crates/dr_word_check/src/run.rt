@@ -234,6 +234,7 @@ pub fn run_asked<'a, R: Read, W: Write, E: Write, F: Files>(
         | Task::Echo(_, _, _)
         | Task::Question(_, _, _)
         | Task::AtNode(_, _)
+        | Task::AtRunning(_, _)
         | Task::Adopt(_)
         | Task::Audit(_)
         | Task::AuditAmong(_, _) => { Ok(tell_other_word(faults)?) }

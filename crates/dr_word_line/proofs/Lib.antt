@@ -1,3 +1,4 @@
+mod Fronts
 mod Nothing
 mod OneAsked
 mod Places

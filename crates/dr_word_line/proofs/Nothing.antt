@@ -5,13 +5,16 @@ use Rattle.dr_word_line.specs.declared.words.Task.{Task}
 use Rattle.dr_word_line.specs.declared.words.Task.TheVariants as asks
 use Rattle.dr_word_line.specs.declared.words.Duty.{Duty}
 use Rattle.dr_word_line.specs.declared.words.Duty.TheVariants as duties
+use Rattle.dr_word_line.specs.declared.words.Errand.{Errand}
+use Rattle.dr_word_line.specs.declared.words.Errand.TheVariants as errands
+use Rattle.dr_word_line.specs.declared.words.RunningNode.{RunningNode}
 use Rattle.dr_word_line.specs.declared.words.KeyWords.{KeyWords}
 use Rattle.dr_run_files.specs.declared.node.NodeFiles.{NodeFiles}
 use Rattle.dr_word_line.specs.declared.words.PlanChange.{PlanChange}
 use Rattle.dr_word_line.specs.declared.words.SiteFiles.{SiteFiles}
 use Rattle.dr_word_line.specs.declared.words.NextPlan.{NextPlan}
 use Rattle.dr_word_line.specs.declared.words.Question.TheVariants as questions
-use Rattle.dr_word_line.specs.Words.{Asks, IsAdoptOf, IsAuditOf, IsCheckOf, IsDiffOf, IsDutyOf, IsEchoOf, IsExpandOf, IsExpectOf, IsFileRouteOf, IsForgetOf, IsGiveUpOf, IsGraphOf, IsKeyRouteOf, IsLintOf, IsListOf, IsMakeOf, IsPlainCheck, IsRequeueAllOf, IsRequeueOf, IsSendOf, IsServeOf, IsSimulateOf, IsSummaryOf, IsVerifyOf}
+use Rattle.dr_word_line.specs.Words.{Asks, IsAdoptOf, IsAuditOf, IsCheckOf, IsDiffOf, IsDutyOf, IsEchoOf, IsErrandOf, IsExpandOf, IsExpectOf, IsFileRouteOf, IsForgetOf, IsGiveUpOf, IsGraphOf, IsKeyRouteOf, IsLintOf, IsListOf, IsMakeOf, IsPlainCheck, IsRequeueAllOf, IsRequeueOf, IsSendOf, IsServeOf, IsSimulateOf, IsSummaryOf, IsVerifyOf}
 
 -- no duty is asked for, where none of each kind is
 module _ (words : List (Bor (List ℕ)))
@@ -35,6 +38,25 @@ module _ (words : List (Bor (List ℕ)))
   no_duty given (duties.Send file) h = send given file h
   no_duty given (duties.Serve serving) h = serve given h.0
 
+-- no errand is asked for, where none of each kind is
+module _ (words : List (Bor (List ℕ)))
+    (list : (given : RunningNode) → IsErrandOf words given errands.List → ⊥)
+    (summary : (given : RunningNode) → IsErrandOf words given errands.Summary → ⊥)
+    (requeue : (given : RunningNode) (uid dest : Bor (List ℕ)) → IsErrandOf words given (errands.Requeue uid dest) → ⊥)
+    (requeue_all : (given : RunningNode) (dest : Bor (List ℕ)) → IsErrandOf words given (errands.RequeueAll dest) → ⊥)
+    (give_up : (given : RunningNode) (uid dest : Bor (List ℕ)) → IsErrandOf words given (errands.GiveUp uid dest) → ⊥)
+    (forget : (given : RunningNode) (uid : Bor (List ℕ)) → IsErrandOf words given (errands.Forget uid) → ⊥)
+    (stop : (given : RunningNode) → IsErrandOf words given errands.Stop → ⊥) where
+  pub no_errand : (given : RunningNode) (errand : Errand) → IsErrandOf words given errand → ⊥
+  no_errand given errands.List h = list given h
+  no_errand given errands.Summary h = summary given h
+  no_errand given errands.StrictSummary h = absurd h
+  no_errand given (errands.Requeue uid dest) h = requeue given uid dest h
+  no_errand given (errands.RequeueAll dest) h = requeue_all given dest h
+  no_errand given (errands.GiveUp uid dest) h = give_up given uid dest h
+  no_errand given (errands.Forget uid) h = forget given uid h
+  no_errand given errands.Stop h = stop given h
+
 -- nothing is asked for, where nothing of each form is
 module _ (words : List (Bor (List ℕ)))
     (input : IsPlainCheck words → ⊥)
@@ -51,7 +73,8 @@ module _ (words : List (Bor (List ℕ)))
     (route_of_key : (plan certificate at : Bor (List ℕ)) (key : KeyWords) → IsKeyRouteOf words plan certificate at key → ⊥)
     (duty : (given : NodeFiles) (duty : Duty) → IsDutyOf words given duty → ⊥)
     (adopt : (change : PlanChange) → IsAdoptOf words change → ⊥)
-    (audit : (given : SiteFiles) → IsAuditOf words given → ⊥) where
+    (audit : (given : SiteFiles) → IsAuditOf words given → ⊥)
+    (errand : (given : RunningNode) (errand : Errand) → IsErrandOf words given errand → ⊥) where
   pub nothing_asked : (asked : Task) → Asks words asked → ⊥
   nothing_asked asks.CheckInput h = input h
   nothing_asked (asks.CheckFile plan) h = file plan h
@@ -67,6 +90,7 @@ module _ (words : List (Bor (List ℕ)))
   nothing_asked (asks.Question plan certificate (questions.RouteOfFile at path)) h = route_of_file plan certificate at path h
   nothing_asked (asks.Question plan certificate (questions.RouteOfKey at key)) h = route_of_key plan certificate at key h
   nothing_asked (asks.AtNode given work) h = duty given work h
+  nothing_asked (asks.AtRunning given what) h = errand given what h
   nothing_asked (asks.Adopt change) h = adopt change h
   nothing_asked (asks.Audit given) h = audit given h
   nothing_asked (asks.AuditAmong given others) h = absurd h

@@ -7,11 +7,15 @@ use Rattle.dr_word_line.specs.declared.words.Task.TheVariants.{CheckInput, Check
 use Rattle.dr_word_line.specs.declared.words.Task.TheVariants.{Verify}
 use Rattle.dr_word_line.specs.declared.words.Task.TheVariants.{Simulate, Echo}
 use Rattle.dr_word_line.specs.declared.words.Task.TheVariants.{Question as AsksQuestion, AtNode}
-use Rattle.dr_word_line.specs.declared.words.Task.TheVariants.{Adopt, Audit, AuditAmong, Told}
+use Rattle.dr_word_line.specs.declared.words.Task.TheVariants.{Adopt, Audit, AtRunning, AuditAmong}
+use Rattle.dr_word_line.specs.declared.words.Task.TheVariants.{Told}
 use Rattle.dr_word_line.specs.declared.words.Duty.{Duty}
 use Rattle.dr_word_line.specs.declared.words.Duty.TheVariants.{List as ToList, Summary, Requeue}
 use Rattle.dr_word_line.specs.declared.words.Duty.TheVariants.{RequeueAll, GiveUp, Forget, Make}
 use Rattle.dr_word_line.specs.declared.words.Duty.TheVariants.{Send, Serve}
+use Rattle.dr_word_line.specs.declared.words.Errand.{Errand}
+use Rattle.dr_word_line.specs.declared.words.Errand.TheVariants as errands
+use Rattle.dr_word_line.specs.declared.words.RunningNode.{RunningNode}
 use Rattle.dr_word_line.specs.declared.words.KeyWords.{KeyWords}
 use Rattle.dr_run_files.specs.declared.node.NodeFiles.{NodeFiles}
 use Rattle.dr_word_line.specs.declared.words.PlanChange.{PlanChange}
@@ -221,8 +225,8 @@ IsRequeueAllOf words given dest =
 
 -- without options a node serves for ever, by 264 threads, holds at most 1,024 MB of data sets,
 -- forgets what has been over for 30 days, logs its events, and writes no file of what it has; it
--- waits 10 s for a connect, 60 s for a PDU to be taken, 30 s for 64 kB of a message, and 600 s for
--- the next message; it can't be asked or told to act
+-- waits 10 s for a connect, 30 s for a caller's request, 60 s for a PDU to be taken, 30 s for 64 kB
+-- of a message, and 600 s for the next message; it can't be asked or told to act
 abbrev pub plain_serving : Serving
 plain_serving = record {
   links = 0;
@@ -231,7 +235,7 @@ plain_serving = record {
   workers = 264;
   memory = 1024;
   forget_after = Some 30;
-  waits = record { connect = 10; write = 60; message = 30; idle = 600 };
+  waits = record { connect = 10; request = 30; write = 60; message = 30; idle = 600 };
   until_input_ends = false;
   must_exist = false;
   control = None;
@@ -249,6 +253,49 @@ IsDutyOf words given (GiveUp uid dest) = IsGiveUpOf words given uid dest
 IsDutyOf words given (Forget uid) = IsForgetOf words given uid
 IsDutyOf words given (Send file) = IsSendOf words given file
 IsDutyOf words given (Serve serving) = IsServeOf words given × (serving ≡ plain_serving)
+
+-- a word, what names a running node and where it may be asked, and further words; no token is given
+abbrev pub IsAtRunning : List ℕ → List (Bor (List ℕ)) → RunningNode → List (Bor (List ℕ)) → Type 0
+IsAtRunning name words given more =
+    (word : Bor (List ℕ)) × (option : Bor (List ℕ))
+    × (words ≡ word ∷ given.plan ∷ given.certificate ∷ given.node ∷ option ∷ given.at ∷ more)
+    × (word.now ≡ name)
+    × IsNoOption given.plan.now
+    × IsNoOption given.certificate.now
+    × (option.now ≡ codes "--at")
+    × IsNoOption given.at.now
+    × (given.token ≡ None)
+
+-- the same with the option --token and a file's path before the further words
+abbrev pub IsToRunning : List ℕ → List (Bor (List ℕ)) → RunningNode → List (Bor (List ℕ)) → Type 0
+IsToRunning name words given more =
+    (option : Bor (List ℕ)) × (file : Bor (List ℕ))
+    × IsAtRunning name words (record given { token = None }) (option ∷ file ∷ more)
+    × (option.now ≡ codes "--token")
+    × IsNoOption file.now
+    × (given.token ≡ Some file)
+
+-- the words ask this of a node that runs, or tell it: to read, no token is needed, and to act, one
+-- is; a strict summary, and reading with a token, are asked for by options, of which nothing is
+-- said here
+abbrev pub IsErrandOf : List (Bor (List ℕ)) → RunningNode → Errand → Type 0
+IsErrandOf words given errands.List = IsAtRunning (codes "list") words given []
+IsErrandOf words given errands.Summary =
+    (option : Bor (List ℕ))
+    × IsAtRunning (codes "list") words given (option ∷ [])
+    × (option.now ≡ codes "--summary")
+IsErrandOf words given errands.StrictSummary = ⊥
+IsErrandOf words given (errands.Requeue uid dest) =
+    IsToRunning (codes "requeue") words given (uid ∷ dest ∷ []) × IsNoOption uid.now
+IsErrandOf words given (errands.RequeueAll dest) =
+    (option : Bor (List ℕ))
+    × IsToRunning (codes "requeue") words given (option ∷ dest ∷ [])
+    × (option.now ≡ codes "--all-held")
+IsErrandOf words given (errands.GiveUp uid dest) =
+    IsToRunning (codes "drop") words given (uid ∷ dest ∷ []) × IsNoOption uid.now
+IsErrandOf words given (errands.Forget uid) =
+    IsToRunning (codes "forget") words given (uid ∷ []) × IsNoOption uid.now
+IsErrandOf words given errands.Stop = IsToRunning (codes "stop") words given []
 
 -- the word adopt, the paths of a plan and its certificate, those of the next plan and its
 -- certificate, and a folder's path: they ask to bring the ledgers in that folder over from the one
@@ -288,6 +335,7 @@ Asks words (Simulate plan certificate script) = IsSimulateOf words plan certific
 Asks words (Echo plan caller called) = IsEchoOf words plan caller called
 Asks words (AsksQuestion plan certificate question) = IsQuestionOf words plan certificate question
 Asks words (AtNode given duty) = IsDutyOf words given duty
+Asks words (AtRunning given errand) = IsErrandOf words given errand
 Asks words (Adopt change) = IsAdoptOf words change
 Asks words (Audit given) = IsAuditOf words given
 Asks words (AuditAmong given others) = ⊥

@@ -23,6 +23,9 @@ const LEDGER: &[Value<'static>] = &[
     ),
 ];
 
+/// What names a node that runs.
+const RUNNING: &[Value<'static>] = &[PLAN, CERTIFICATE, ("NODE", "the node")];
+
 /// The levels of a log.
 const LEVELS: &[&str] = &["error", "info", "debug"];
 
@@ -116,6 +119,10 @@ enum Choice {
     Strict,
     Fails,
     Summary,
+    IfHeld,
+    At,
+    AtNeeded,
+    AtToken,
     Row,
     Dest,
     Uid,
@@ -149,6 +156,10 @@ impl<'a> Makes<Arg<'a>> for Choice {
             Choice::Strict => Ok(strict(alloc)),
             Choice::Fails => Ok(fails(alloc)),
             Choice::Summary => Ok(summary(alloc)),
+            Choice::IfHeld => if_held(alloc),
+            Choice::At => Ok(at(alloc)),
+            Choice::AtNeeded => Ok(at(alloc).required(true)),
+            Choice::AtToken => at_token(alloc),
             Choice::Row => row(alloc),
             Choice::Dest => Ok(dest(alloc)),
             Choice::Uid => Ok(needed(alloc, "UID", "the SOP instance UID")),
@@ -349,10 +360,44 @@ fn summary<'a>(alloc: Global) -> Arg<'a> {
         .help("prints how many there are instead")
 }
 
+/// The option of `list` for a no where a row is held.
+fn if_held<'a>(alloc: Global) -> Result<Arg<'a>, AllocError> {
+    Arg::new(alloc, "IFHELD")
+        .long("fail-if-held")
+        .action(ArgAction::SetTrue)
+        .help("with --summary and --at: ends with the status 1 where a row is held")
+        .requires_arg("AT")
+}
+
+/// Where a node that runs is asked.
+fn at<'a>(alloc: Global) -> Arg<'a> {
+    Arg::new(alloc, "AT")
+        .long("at")
+        .action(ArgAction::Set)
+        .value_name("HOST:PORT")
+        .help("in the place of DB: asks the node that runs, by its control connection there")
+}
+
+/// The token that a node that runs asks for.
+fn at_token<'a>(alloc: Global) -> Result<Arg<'a>, AllocError> {
+    Arg::new(alloc, "TOKEN")
+        .long("token")
+        .action(ArgAction::Set)
+        .value_name("FILE")
+        .help("with --at: the file with the token, which nobody but its owner may read")
+        .requires_arg("AT")
+}
+
 /// The word `list`.
-fn list<'a>(alloc: Global) -> Result<Command<'a>, AllocError> {
+fn list<'a>(alloc: Global, values: &[Value<'a>]) -> Result<Command<'a>, AllocError> {
     let about = "Prints what a node has: its arrivals, what it keeps, and what is queued";
-    word(alloc, "list", about, LEDGER, &[Choice::Summary])
+    word(
+        alloc,
+        "list",
+        about,
+        values,
+        &[Choice::Summary, Choice::IfHeld, Choice::At, Choice::AtToken],
+    )
 }
 
 /// The option of `requeue` for all held rows.
@@ -379,14 +424,20 @@ fn dest<'a>(alloc: Global) -> Arg<'a> {
 }
 
 /// The word `requeue`.
-fn requeue<'a>(alloc: Global) -> Result<Command<'a>, AllocError> {
+fn requeue<'a>(alloc: Global, values: &[Value<'a>]) -> Result<Command<'a>, AllocError> {
     let about = "Queues held rows of a node again";
     word(
         alloc,
         "requeue",
         about,
-        LEDGER,
-        &[Choice::Row, Choice::Dest, Choice::AllHeld],
+        values,
+        &[
+            Choice::Row,
+            Choice::Dest,
+            Choice::AllHeld,
+            Choice::At,
+            Choice::AtToken,
+        ],
     )
 }
 
@@ -397,15 +448,39 @@ fn make_ledger<'a>(alloc: Global) -> Result<Command<'a>, AllocError> {
 }
 
 /// The word `drop`.
-fn give_up<'a>(alloc: Global) -> Result<Command<'a>, AllocError> {
+fn give_up<'a>(alloc: Global, values: &[Value<'a>]) -> Result<Command<'a>, AllocError> {
     let about = "Gives up a held row of a node: it is never sent, and the journal says so";
-    word(alloc, "drop", about, LEDGER, &[Choice::Uid, Choice::Next])
+    word(
+        alloc,
+        "drop",
+        about,
+        values,
+        &[Choice::Uid, Choice::Next, Choice::At, Choice::AtToken],
+    )
 }
 
 /// The word `forget`.
-fn forget<'a>(alloc: Global) -> Result<Command<'a>, AllocError> {
+fn forget<'a>(alloc: Global, values: &[Value<'a>]) -> Result<Command<'a>, AllocError> {
     let about = "Forgets an instance that a node doesn't keep and has still to send nowhere";
-    word(alloc, "forget", about, LEDGER, &[Choice::Uid])
+    word(
+        alloc,
+        "forget",
+        about,
+        values,
+        &[Choice::Uid, Choice::At, Choice::AtToken],
+    )
+}
+
+/// The word `stop`.
+fn stop<'a>(alloc: Global) -> Result<Command<'a>, AllocError> {
+    let about = "Ends a node that runs, in order";
+    word(
+        alloc,
+        "stop",
+        about,
+        RUNNING,
+        &[Choice::AtNeeded, Choice::AtToken],
+    )
 }
 
 /// The word `send`.
@@ -597,6 +672,14 @@ fn with_control<'a>(option: Arg<'a>) -> Result<Arg<'a>, AllocError> {
 /// The times for which `serve` waits.
 const CONNECT: Choice = Choice::Seconds(("CONNECT", "gives a connect up then (10)"), "connect");
 
+const REQUEST: Choice = Choice::Seconds(
+    (
+        "REQUEST",
+        "who connects has to have asked for an association by then, 1 to 600 (30)",
+    ),
+    "request",
+);
+
 const WRITE: Choice = Choice::Seconds(
     (
         "WRITE",
@@ -637,6 +720,7 @@ fn serve<'a>(alloc: Global) -> Result<Command<'a>, AllocError> {
             Choice::Workers,
             Choice::Memory,
             CONNECT,
+            REQUEST,
             WRITE,
             MESSAGE,
             IDLE,
@@ -682,6 +766,7 @@ enum Verb {
     Requeue,
     Drop,
     Forget,
+    Stop,
     Adopt,
     Audit,
 }
@@ -704,6 +789,7 @@ const VERBS: &[Verb] = &[
     Verb::Requeue,
     Verb::Drop,
     Verb::Forget,
+    Verb::Stop,
     Verb::Adopt,
     Verb::Audit,
 ];
@@ -724,10 +810,11 @@ impl<'a> Makes<Command<'a>> for Verb {
             Verb::New => make_ledger(alloc),
             Verb::Serve => serve(alloc),
             Verb::Send => send(alloc),
-            Verb::List => list(alloc),
-            Verb::Requeue => requeue(alloc),
-            Verb::Drop => give_up(alloc),
-            Verb::Forget => forget(alloc),
+            Verb::List => list(alloc, LEDGER),
+            Verb::Requeue => requeue(alloc, LEDGER),
+            Verb::Drop => give_up(alloc, LEDGER),
+            Verb::Forget => forget(alloc, LEDGER),
+            Verb::Stop => stop(alloc),
             Verb::Adopt => adopt(alloc),
             Verb::Audit => audit(alloc),
         }
@@ -737,4 +824,34 @@ impl<'a> Makes<Command<'a>> for Verb {
 /// The command line of the program.
 pub fn command_line<'a>(alloc: Global) -> Result<Command<'a>, AllocError> {
     add_all(alloc, program(alloc), VERBS)
+}
+
+/// The same word of a node that runs, which has no value for a ledger.
+#[derive(Clone, Copy)]
+struct Running(Verb);
+
+/// The words for a node that runs.
+const RUNNING_VERBS: &[Running] = &[
+    Running(Verb::List),
+    Running(Verb::Requeue),
+    Running(Verb::Drop),
+    Running(Verb::Forget),
+    Running(Verb::Stop),
+];
+
+impl<'a> Makes<Command<'a>> for Running {
+    fn make(self, alloc: Global) -> Result<Command<'a>, AllocError> {
+        match self.0 {
+            Verb::List => list(alloc, RUNNING),
+            Verb::Requeue => requeue(alloc, RUNNING),
+            Verb::Drop => give_up(alloc, RUNNING),
+            Verb::Forget => forget(alloc, RUNNING),
+            other => other.make(alloc),
+        }
+    }
+}
+
+/// The command line of words with `--at`.
+pub fn running_line<'a>(alloc: Global) -> Result<Command<'a>, AllocError> {
+    add_all(alloc, program(alloc), RUNNING_VERBS)
 }

@@ -5,9 +5,16 @@
 #![tactic(auto)]
 
 mod command_line;
+mod ledgers;
+mod matched;
+mod option;
+mod plans;
+mod reading;
+mod running;
 mod words;
 
+pub use reading::read_words;
 pub use words::{
-    Controlled, Duty, KeyWords, NextPlan, PlanChange, Question, Serving, SiteFiles, Task,
-    Verbosity, Waits, read_words,
+    Controlled, Duty, Errand, KeyWords, NextPlan, PlanChange, Question, RunningNode, Serving,
+    SiteFiles, Task, Verbosity, Waits,
 };

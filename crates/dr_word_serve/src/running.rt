@@ -177,6 +177,7 @@ fn tell_serving<G: Monitor>(log: &G, given: NodeFiles<'_>, serving: Serving<'_>,
     info!(log; target: "node", "serves node=\"{node}\" ledger=\"{ledger}\" associations={links}");
     let Waits {
         connect,
+        request,
         write,
         message,
         idle,
@@ -184,7 +185,7 @@ fn tell_serving<G: Monitor>(log: &G, given: NodeFiles<'_>, serving: Serving<'_>,
     let memory = serving.memory;
     info!(
         log; target: "node",
-        "limits workers={workers} memory={memory} connect={connect} write={write} message={message} idle={idle}"
+        "limits workers={workers} memory={memory} connect={connect} request={request} write={write} message={message} idle={idle}"
     );
     match serving.forget_after {
         Some(days) => info!(log; target: "node", "forgets after={days} unit=days"),
@@ -285,7 +286,8 @@ where
         stop,
         control,
     )
-    .forgetting(span_of(serving.forget_after));
+    .forgetting(span_of(serving.forget_after))
+    .awaiting(milliseconds(serving.waits.request));
     tell_serving(log, given, serving, terms.workers());
     serve_opened::<R, O::Ledger, N::Socket, N::Listener, N, C, G>(
         rt, alloc, opened, &listener, terms, &network, clock, log,

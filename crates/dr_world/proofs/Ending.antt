@@ -19,7 +19,7 @@ use Rattle.dr_session.specs.declared.ends.Moment.{Moment}
 use Rattle.dr_session.specs.declared.ends.Pending.{Pending}
 use Rattle.dr_session.specs.declared.ends.Told.{Told}
 use Rattle.dr_session.specs.declared.ends.Told.TheVariants.{Plain}
-use Rattle.dr_session.specs.Desks.{DeskCall, DeskAnswer, Arrival, Upcoming, Settling}
+use Rattle.dr_session.specs.Desks.{DeskCall, DeskAnswer, Arrival, Upcoming, First, Settling}
 use Rattle.dr_session.specs.Reactions.{effect, moves, leaves_by, settling, left, desk_failed}
 use Rattle.dr_session.specs.Turns.{Turns, Ends}
 use Rattle.dr_world_tie.proofs.Leaving.{plain_turn}
@@ -76,6 +76,7 @@ module _ {S : Type 0} (step : S → DeskCall → DeskAnswer → S → Type 0) (m
   settled acts d m (Settling (Err fault.Memory)) h = absurd h
   settled acts d m (Arrival reply) h = absurd h
   settled acts d m (Upcoming due) h = absurd h
+  settled acts d m (First found) h = absurd h
 
   leaves_phase : (p : Option Pending) (acts : List LinkAction) (d : Core) (s : S) → Turns step (leaves_by p moment.now acts d) s x t → x.core.phase ≡ d.phase
   leaves_phase None acts d s h = ap (λ (y : Effect). y.core.phase) h.0

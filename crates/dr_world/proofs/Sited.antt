@@ -35,7 +35,7 @@ use Rattle.dr_session.specs.declared.ends.Moment.{Moment}
 use Rattle.dr_session.specs.declared.ends.Pending.{Pending}
 use Rattle.dr_session.specs.declared.ends.Told.{Told}
 use Rattle.dr_session.specs.declared.ends.Told.TheVariants.{Plain, Quiet, Fault, Strange, Store, Whole, Agreement}
-use Rattle.dr_session.specs.Desks.{DeskCall, DeskAnswer, Arrival, Upcoming, Settling}
+use Rattle.dr_session.specs.Desks.{DeskCall, DeskAnswer, Arrival, Upcoming, First, Settling}
 use Rattle.dr_session.specs.Plays.{At, Reacts, Plays, PlaysBytes, with_stage}
 use Rattle.dr_session.specs.Reactions as r
 use Rattle.dr_session.specs.Reactions.{Reaction, left, rejected, noted, is_requestor, is_named}
@@ -69,6 +69,7 @@ settling_keeps site done lost h k (Settling (Err fault.NotOver)) = k
 settling_keeps site done lost h k (Settling (Err fault.Memory)) = tt
 settling_keeps site done lost h k (Arrival reply) = tt
 settling_keeps site done lost h k (Upcoming due) = tt
+settling_keeps site done lost h k (First found) = tt
 
 leaves_keep : (p : Option Pending) (now : ℕ) (acts : List LinkAction) (c : Core) → KeepsSite c.site (r.leaves_by p now acts c)
 leaves_keep None now acts c = refl
@@ -88,12 +89,20 @@ decides_at_keep None at rq c = refl
 arrival_keeps : (site : Option Part) (follow : Result Arrived LedgerFault → Reaction) → ((reply : Result Arrived LedgerFault) → KeepsSite site (follow reply)) → (a : DeskAnswer) → KeepsSite site (r.arrival follow a)
 arrival_keeps site follow h (Arrival reply) = h reply
 arrival_keeps site follow h (Upcoming due) = tt
+arrival_keeps site follow h (First found) = tt
 arrival_keeps site follow h (Settling answer) = tt
 
 job_keeps : (site : Option Part) (follow : Result (Option Job) LedgerFault → Reaction) → ((due : Result (Option Job) LedgerFault) → KeepsSite site (follow due)) → (a : DeskAnswer) → KeepsSite site (r.job follow a)
 job_keeps site follow h (Upcoming due) = h due
 job_keeps site follow h (Arrival reply) = tt
+job_keeps site follow h (First found) = tt
 job_keeps site follow h (Settling answer) = tt
+
+row_keeps : (site : Option Part) (follow : Result (Option Text) LedgerFault → Reaction) → ((found : Result (Option Text) LedgerFault) → KeepsSite site (follow found)) → (a : DeskAnswer) → KeepsSite site (r.row follow a)
+row_keeps site follow h (First found) = h found
+row_keeps site follow h (Arrival reply) = tt
+row_keeps site follow h (Upcoming due) = tt
+row_keeps site follow h (Settling answer) = tt
 
 arrives_keep : (c : Core) (context id : ℕ) (class instance : Text) (found : Found) → KeepsSite c.site (r.arrives c context id class instance found)
 arrives_keep c context id class instance TooLarge = refl
@@ -151,7 +160,7 @@ due_keep at c (Err fault.NotWaiting) = refl
 due_keep at c (Err fault.NotHeld) = refl
 due_keep at c (Err fault.NotOver) = refl
 
-refused_keep : (at : Moment) (c : Core) (d : Result (Option Job) LedgerFault) → KeepsSite c.site (r.refused at c d)
+refused_keep : (at : Moment) (c : Core) (d : Result (Option Text) LedgerFault) → KeepsSite c.site (r.refused at c d)
 refused_keep at c (Ok (Some item)) = settling_keeps c.site _ _ refl refl
 refused_keep at c (Ok None) = refl
 refused_keep at c (Err fault.Memory) = tt
@@ -163,7 +172,7 @@ refused_keep at c (Err fault.NotHeld) = refl
 refused_keep at c (Err fault.NotOver) = refl
 
 refuses_keep : (at : Moment) (c : Core) → KeepsSite c.site (r.refuses at c)
-refuses_keep at c = job_keeps c.site (r.refused at c) (refused_keep at c)
+refuses_keep at c = row_keeps c.site (r.refused at c) (refused_keep at c)
 
 agrees_keep : (a : Result Agreed NegoFault) (at : Moment) (c : Core) → KeepsSite c.site (r.agrees a at c)
 agrees_keep (Ok agreed) at c = refl

@@ -44,7 +44,7 @@ use Rattle.dr_session.specs.declared.ends.Input.TheVariants.{Ended, Late, AbortA
 use Rattle.dr_session.specs.declared.ends.Pending.{Pending}
 use Rattle.dr_session.specs.declared.ends.Told.TheVariants.{Plain}
 use Rattle.dr_session.specs.declared.ends.LinkAction.{LinkAction}
-use Rattle.dr_session.specs.Desks.{DeskCall, DeskAnswer, Settle, Arrival, Upcoming, Settling}
+use Rattle.dr_session.specs.Desks.{DeskCall, DeskAnswer, Settle, Arrival, Upcoming, First, Settling}
 use Rattle.dr_nego.specs.Fragments.{spellings}
 use Rattle.dr_session.specs.declared.ends.Moment.{Moment}
 use Rattle.dr_session.specs.Reactions.{turn, occurs, event_of, has_waited, is_requestor, is_idle, leaves_by, left, aborted, desk_failed, settling, effect, write, abort_pdu, storing}
@@ -96,6 +96,7 @@ by_answer plan name p now acts c s m t x (Settling (Err fault.NotHeld)) h k = ab
 by_answer plan name p now acts c s m t x (Settling (Err fault.NotOver)) h k = absurd h.0
 by_answer plan name p now acts c s m t x (Arrival r) h k = absurd h
 by_answer plan name p now acts c s m t x (Upcoming d) h k = absurd h
+by_answer plan name p now acts c s m t x (First d) h k = absurd h
 
 -- what a leaving end does with its desk: nothing, or it settles the item that it had pending
 abbrev pub Does : Network → Text → Core → ℕ → Option Instance → Option Answer → Desk → Desk → Type 0

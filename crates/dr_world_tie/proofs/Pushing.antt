@@ -55,7 +55,7 @@ use Rattle.dr_world_model.specs.Calls.{Answer}
 use Rattle.dr_session.specs.declared.ends.Input.TheVariants.{PushAsked}
 use Rattle.dr_session.specs.declared.ends.Pending.{Pending}
 use Rattle.dr_session.specs.declared.ends.Told.TheVariants.{Plain}
-use Rattle.dr_session.specs.Desks.{DeskCall, DeskAnswer, Next, Settle, Arrival, Upcoming, Settling}
+use Rattle.dr_session.specs.Desks.{DeskCall, DeskAnswer, Next, Settle, Arrival, Upcoming, First, Settling}
 use Rattle.dr_session.specs.Plays.{Reacts, at_moment}
 use Rattle.dr_session.proofs.Named.{items_are_named}
 use Rattle.std.proofs.Math.Logic.{∥∥₁_elim}
@@ -164,6 +164,7 @@ module _ (plan : Network) (certificate : Certificate) (w : World) (number : ℕ)
   by_answer uid m (Settling (Err fault.NotOver)) h q = absurd h.0
   by_answer uid m (Arrival r) h q = absurd h
   by_answer uid m (Upcoming d) h q = absurd h
+  by_answer uid m (First d) h q = absurd h
 
   module _ (item : Instance) (first : IsNext (w.books link.caller) link.receiver w.time item) (lacks : set.contains accepted (item.key.class, item.key.syntax) ≡ false) (answer : Answer)
       (h : cstep s (Settle item.uid k.caller.core.peer NoContext moment.now) (Settling answer) t) where
@@ -251,6 +252,7 @@ module _ (plan : Network) (certificate : Certificate) (w : World) (number : ℕ)
 
   by_next : (d : DeskAnswer) (m : Desk) → cstep s (Next core.peer moment.now) d m → Turns cstep (job (due moment core) d) m x t → Result_is
   by_next (Arrival r) m one h = absurd one
+  by_next (First d) m one h = absurd one
   by_next (Settling r) m one h = absurd one
   by_next (Upcoming (Ok None)) m one h = inr (inr (h.1 ∙ one.1, subst (λ (y : Effect). ShowsLink plan certificate (caller_did k y) link) (sym h.0) (goes_on_as true link is_link), λ item next. (let n = next_was item next in one.0 item.uid n.due n.row)))
   by_next (Upcoming (Ok (Some one_job))) m one h =

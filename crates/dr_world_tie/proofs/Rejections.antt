@@ -8,7 +8,6 @@ use Rattle.dr_ulstate.specs.Standing.{moved}
 use Rattle.dr_ulstate.specs.Phases.{in_its_phase}
 use Rattle.dr_pdu.specs.declared.pdu.Pdu.{Pdu}
 use Rattle.dr_ledger.specs.Books.{Book}
-use Rattle.dr_ledger.specs.Items.{instance_of}
 use Rattle.dr_ledger.specs.Replies.{IsNext}
 use Rattle.dr_ledger.proofs.Maps.{get_new}
 use Rattle.dr_world_model.proofs.Lookups.{numbers}
@@ -19,7 +18,7 @@ use Rattle.dr_session.specs.declared.ends.Core.{Core}
 use Rattle.dr_session.specs.declared.ends.Effect.{Effect}
 use Rattle.dr_nego.specs.Fragments.{spellings}
 use Rattle.dr_session.specs.declared.ends.Moment.{Moment}
-use Rattle.dr_session.specs.Reactions.{desk_failed, refused, rejected, job, left, settling, effect}
+use Rattle.dr_session.specs.Reactions.{desk_failed, refused, rejected, row, left, settling, effect}
 use Rattle.dr_session.specs.Turns.{Turns, Ends}
 use Rattle.dr_world_tie.specs.Desks.{Desk, LedgerStep}
 use Rattle.dr_world_tie.specs.Channels.{IsOff, bytes_of, Channel, Carries, ShowsLink, ToCaller, IsAt, IsCaller, IsReceiver, site_of, site_in}
@@ -35,7 +34,7 @@ use Rattle.dr_ledger.specs.declared.fault.LedgerFault.TheVariants as fault
 use Rattle.dr_world_model.specs.Calls.{Answer}
 use Rattle.dr_session.specs.declared.ends.Input.TheVariants.{Rejection}
 use Rattle.dr_session.specs.declared.ends.Told.TheVariants.{Plain}
-use Rattle.dr_session.specs.Desks.{DeskCall, DeskAnswer, Next, Settle, Arrival, Upcoming, Settling}
+use Rattle.dr_session.specs.Desks.{DeskCall, DeskAnswer, Due, Settle, Arrival, Upcoming, First, Settling}
 use Rattle.dr_session.specs.Plays.{PlaysBytes}
 use Rattle.dr_world_tie.proofs.CallerLeaving.{Does, caller_gone}
 use Rattle.dr_world_tie.proofs.Agreeing.{front_is, plays_alone}
@@ -104,6 +103,7 @@ module _ (plan : Network) (certificate : Certificate) (w : World) (number : ℕ)
     by_answer uid m (Settling (Err fault.NotOver)) h q = absurd h.0
     by_answer uid m (Arrival r) h q = absurd h
     by_answer uid m (Upcoming d) h q = absurd h
+    by_answer uid m (First d) h q = absurd h
 
     next_is : (i : Instance) → IsNext s.book k.caller.core.peer moment.now i → IsNext (w.books link.caller) link.receiver w.time i
     next_is i q = subst (λ (p : Text). IsNext (w.books link.caller) p w.time i) shows.peer (subst (λ (m : ℕ). IsNext (w.books link.caller) k.caller.core.peer m i) time (subst (λ (b : Book). IsNext b k.caller.core.peer moment.now i) desk.0 q))
@@ -143,24 +143,25 @@ module _ (plan : Network) (certificate : Certificate) (w : World) (number : ℕ)
       shows = out_shown x out;
     }
 
-    by_next : (d : DeskAnswer) (m : Desk) → cstep s (Next core.peer moment.now) d m → Turns cstep (job (refused moment core) d) m x t → Result_is
-    by_next (Arrival r) m one h = absurd one
-    by_next (Settling r) m one h = absurd one
-    by_next (Upcoming (Ok None)) m one h = inl (None, nothing_due (h.1 ∙ one.1) (λ item next. (let q = next_was item next in one.0 item.uid q.due q.row)) (inl h.0))
-    by_next (Upcoming (Ok (Some one_job))) m one h =
-        let a = by_answer one_job.uid h.1 h.0 (subst (λ (d : Desk). cstep d (Settle one_job.uid core.peer Broken moment.now) h.0 h.1) one.1 h.2) h.3 in
-        inl (Some a.0, settles (instance_of one_job) (next_is (instance_of one_job) one.0.0) a.0 a.1 a.2)
-    by_next (Upcoming (Err fault.Store)) m one h =
+    by_first : (d : DeskAnswer) (m : Desk) → cstep s (Due core.peer moment.now) d m → Turns cstep (row (refused moment core) d) m x t → Result_is
+    by_first (Arrival r) m one h = absurd one
+    by_first (Upcoming d) m one h = absurd one
+    by_first (Settling r) m one h = absurd one
+    by_first (First (Ok None)) m one h = inl (None, nothing_due (h.1 ∙ one.1) (λ item next. (let q = next_was item next in one.0 item.uid q.due q.row)) (inl h.0))
+    by_first (First (Ok (Some uid))) m one h =
+        let a = by_answer uid h.1 h.0 (subst (λ (d : Desk). cstep d (Settle uid core.peer Broken moment.now) h.0 h.1) one.1 h.2) h.3 in
+        inl (Some a.0, settles one.0.0 (next_is one.0.0 one.0.1) a.0 (subst (λ (u : Text). cstep s (Settle u core.peer Broken moment.now) (Settling a.0) t) one.0.2 a.1) a.2)
+    by_first (First (Err fault.Store)) m one h =
         inr (caller_gone plan certificate w number link k s here desk shows on new (drop n k.to_caller) limit x t None []
         (subst (λ (st : Stage). Does plan link.caller k.caller.core w.time (pending_of st) None s t) (sym rejecting) (h.1 ∙ one.1))
         (ap (λ (y : Effect). y.core.site) h.0) (ap (λ (y : Effect). y.core.peer) h.0) (ap (λ (y : Effect). y.core.proposed) h.0)
         (subst (λ (y : Effect). IsOff y.core true) (sym h.0) (refl, inl refl)) (ap (λ (y : Effect). bytes_of y.acts) h.0) tt tt)
-    by_next (Upcoming (Err fault.Memory)) m one h = absurd h
-    by_next (Upcoming (Err fault.NoLine)) m one h = absurd one.0
-    by_next (Upcoming (Err fault.Conflict)) m one h = absurd one.0
-    by_next (Upcoming (Err fault.NotWaiting)) m one h = absurd one.0
-    by_next (Upcoming (Err fault.NotHeld)) m one h = absurd one.0
-    by_next (Upcoming (Err fault.NotOver)) m one h = absurd one.0
+    by_first (First (Err fault.Memory)) m one h = absurd h
+    by_first (First (Err fault.NoLine)) m one h = absurd one.0
+    by_first (First (Err fault.Conflict)) m one h = absurd one.0
+    by_first (First (Err fault.NotWaiting)) m one h = absurd one.0
+    by_first (First (Err fault.NotHeld)) m one h = absurd one.0
+    by_first (First (Err fault.NotOver)) m one h = absurd one.0
 
   pub rejected_here : Result_is
   rejected_here =
@@ -171,7 +172,7 @@ module _ (plan : Network) (certificate : Certificate) (w : World) (number : ℕ)
       let h = hears_one k.caller.ear new (take n k.to_caller) plays.0 (pdu.AssociateRj rj) carries.works fits.0.0 fits.0.1 (whole ∙ ap written f.0) plays.1 in
       let r = plays_alone cstep moment k.caller.core (Rejection rj) plays.0 s t x h.0 plays.2 in
       let a = acts_by cstep moment k.caller.core (Plain (Rejection rj)) AssociateRjPdu true Sta5 Ae4 Sta1 s t x at refl refl refl (plain_turn cstep moment k.caller.core (Rejection rj) s t x refl r) in
-      by_next rj (ap (λ (y : Feeding). y.limit) h.1) a.0 a.1 a.2 a.3
+      by_first rj (ap (λ (y : Feeding). y.limit) h.1) a.0 a.1 a.2 a.3
 
 pub hears_rejection : HearsRejection
 hears_rejection plan certificate w number link k s here desk shows on rejecting moment time n front new x t first whole plays =

@@ -36,7 +36,7 @@ use Rattle.dr_session.specs.declared.ends.Core.{Core}
 use Rattle.dr_session.specs.declared.ends.Effect.{Effect}
 use Rattle.dr_session.specs.declared.ends.Input.TheVariants.{Value}
 use Rattle.dr_session.specs.declared.ends.Pending.{Pending}
-use Rattle.dr_session.specs.Desks.{DeskCall, DeskAnswer, Settle, Arrival, Upcoming, Settling}
+use Rattle.dr_session.specs.Desks.{DeskCall, DeskAnswer, Settle, Arrival, Upcoming, First, Settling}
 use Rattle.dr_nego.specs.Fragments.{spellings}
 use Rattle.dr_session.specs.declared.ends.Moment.{Moment}
 use Rattle.dr_session.specs.Reactions.{Reaction, turn, occurs, event_of, has_waited, is_requestor, replied, settled_with, aborts_desk, stepped_by, leaves_by, left, aborted, desk_failed, settling, effect, write, abort_pdu, settles_by, storing}
@@ -115,6 +115,7 @@ by_answer plan name p outcome moment core s m t x (Settling (Err fault.NotHeld))
 by_answer plan name p outcome moment core s m t x (Settling (Err fault.NotOver)) h k = absurd h.0
 by_answer plan name p outcome moment core s m t x (Arrival r) h k = absurd h
 by_answer plan name p outcome moment core s m t x (Upcoming d) h k = absurd h
+by_answer plan name p outcome moment core s m t x (First d) h k = absurd h
 
 module _ (plan : Network) (certificate : Certificate) (w : World) (number : ℕ) (link : Link) (k : Channel) (s : Desk) (here : IsLink w number link) (desk : IsDeskOf w link.caller s) (shows : ShowsLink plan certificate k link)
     (on : link.caller_connected ≡ true) (accepted : Contexts) (item : Instance) (status : ℕ) (replying : link.stage ≡ Replying accepted item status) (moment : Moment) (time : moment.now ≡ w.time) (n : ℕ) (front : Pdu) (new : Feeding) (x : Effect) (t : Desk)

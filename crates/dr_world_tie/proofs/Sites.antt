@@ -15,7 +15,7 @@ use Rattle.dr_ledger.specs.SiteRoutes.{site_routing}
 use Rattle.dr_ledger.proofs.Agreeing.{agree_in_arrivals}
 use Rattle.dr_ledger.proofs.SiteAgreeing.{sites_agree}
 use Rattle.dr_world_model.specs.Calls.{store_outcome_of}
-use Rattle.dr_session.specs.Desks.{DeskCall, DeskAnswer, Arrive, Next, Settle, Arrival, Upcoming, Settling}
+use Rattle.dr_session.specs.Desks.{DeskCall, DeskAnswer, Arrive, Next, Due, Settle, Arrival, Upcoming, First, Settling}
 use Rattle.dr_session.specs.Ledgers.{Desk, RoutedStep}
 use Rattle.dr_world_tie.specs.Desks.{ArmedBy, LedgerStep, SiteStepsArePlanSteps}
 
@@ -39,14 +39,21 @@ steps plan name site agree old new (Arrive caller item) (Arrival reply) h = (
   armed_by (IsAdmitted site caller (instance_of item) old.book) (IsAdmitted (plan_routing plan name) caller (instance_of item) old.book) old.armed new.armed reply (admitted site (plan_routing plan name) agree caller (instance_of item) old.book) h.1,
 )
 steps plan name site agree old new (Next dest now) (Upcoming due) h = (h.0, ap (λ (b : Book). let d : Desk = record { book = b; armed = new.armed } in d) h.1 ∙ ap (λ (a : Bool). let d : Desk = record { book = old.book; armed = a } in d) h.2)
+steps plan name site agree old new (Due dest now) (First found) h = (h.0, ap (λ (b : Book). let d : Desk = record { book = b; armed = new.armed } in d) h.1 ∙ ap (λ (a : Bool). let d : Desk = record { book = old.book; armed = a } in d) h.2)
 steps plan name site agree old new (Settle uid dest outcome now) (Settling answer) h =
     (h.0, armed_by (IsWaiting old.book uid dest) (IsWaiting old.book uid dest) old.armed new.armed answer (λ y. y) h.1)
 steps plan name site agree old new (Arrive caller item) (Upcoming due) h = absurd h
+steps plan name site agree old new (Arrive caller item) (First found) h = absurd h
 steps plan name site agree old new (Arrive caller item) (Settling answer) h = absurd h
 steps plan name site agree old new (Next dest now) (Arrival reply) h = absurd h
+steps plan name site agree old new (Next dest now) (First found) h = absurd h
 steps plan name site agree old new (Next dest now) (Settling answer) h = absurd h
+steps plan name site agree old new (Due dest now) (Arrival reply) h = absurd h
+steps plan name site agree old new (Due dest now) (Upcoming due) h = absurd h
+steps plan name site agree old new (Due dest now) (Settling answer) h = absurd h
 steps plan name site agree old new (Settle uid dest outcome now) (Arrival reply) h = absurd h
 steps plan name site agree old new (Settle uid dest outcome now) (Upcoming due) h = absurd h
+steps plan name site agree old new (Settle uid dest outcome now) (First found) h = absurd h
 
 pub site_steps : SiteStepsArePlanSteps
 site_steps plan certificate part certified is old new call answer h = steps plan part.name (site_routing part) (sites_agree plan certificate part certified is) old new call answer h

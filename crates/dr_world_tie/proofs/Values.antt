@@ -41,7 +41,7 @@ use Rattle.dr_session.specs.declared.ends.Found.TheVariants.{Read}
 use Rattle.dr_session.specs.declared.ends.Input.TheVariants.{Value}
 use Rattle.dr_session.specs.declared.ends.Told.{Told}
 use Rattle.dr_session.specs.declared.ends.Told.TheVariants.{Quiet, Store}
-use Rattle.dr_session.specs.Desks.{DeskCall, DeskAnswer, Arrive, Arrival, Upcoming, Settling}
+use Rattle.dr_session.specs.Desks.{DeskCall, DeskAnswer, Arrive, Arrival, Upcoming, First, Settling}
 use Rattle.dr_session.specs.declared.ends.Moment.{Moment}
 use Rattle.dr_session.specs.Reactions.{turn, stores, arrives, is_named, arrival, stored, status_of, effect}
 use Rattle.dr_session.specs.Telling.{Looks, TellsValue, TellsIn, Says, Finds, FindsIn}
@@ -110,6 +110,7 @@ module _ (plan : Network) (name : Text) (moment : Moment) (c : Core) (v : Pdv) (
       → (reply : Reply) × pstep s (Arrive core.peer item) (Arrival reply) u × (x ≡ stored core n id item.key.class item.uid (status_of reply))
   by_answer core n (Arrival reply) m one (e, same) = (reply, subst (λ (d : Desk). pstep s (Arrive core.peer item) (Arrival reply) d) (sym same) one, e)
   by_answer core n (Upcoming d) m one h = absurd h
+  by_answer core n (First d) m one h = absurd h
   by_answer core n (Settling a) m one h = absurd h
 
   -- the instance is brought, and its response written

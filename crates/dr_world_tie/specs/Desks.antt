@@ -6,14 +6,14 @@ use Rattle.dr_ledger.specs.PlanRoutes.{plan_routing}
 use Rattle.dr_ledger.specs.Replies.{Arrives, Settles, Reads, IsAdmitted, IsWaiting}
 use Rattle.dr_world_model.specs.Calls.{StoreOutcome, Written, Untried, Failed, store_outcome_of}
 pub use Rattle.dr_session.specs.Ledgers.{Desk}
-use Rattle.dr_session.specs.Ledgers.{Hands, RoutedStep}
+use Rattle.dr_session.specs.Ledgers.{Hands, Firsts, RoutedStep}
 use Rattle.dr_ledger.specs.Items.{instance_of}
 use Rattle.dr_ledger.specs.SiteRoutes.{site_routing}
 use Rattle.dr_site.specs.Parts.{Part, IsPartOf}
 use Rattle.dr_site.specs.Sites.{IsCertified}
 use Rattle.dr_plan_sound.specs.declared.certificate.Certificate.{Certificate}
 use Rattle.dr_session.specs.Desks.{DeskCall, DeskAnswer, Arrive, Next, Settle, Arrival, Upcoming}
-use Rattle.dr_session.specs.Desks.{Settling}
+use Rattle.dr_session.specs.Desks.{Settling, Due, First}
 
 -- Whether it is to refuse after a call: the message world's rule at one node.
 abbrev pub ArmedBy : Type 0 → Bool → StoreOutcome → Bool → Type 0
@@ -29,6 +29,8 @@ LedgerStep plan name old (Arrive caller item) (Arrival reply) new =
     (store_outcome_of reply) new.armed
 LedgerStep plan name old (Next dest now) (Upcoming due) new =
     Reads due (Hands old.book dest now) × (new ≡ old)
+LedgerStep plan name old (Due dest now) (First found) new =
+    Reads found (Firsts old.book dest now) × (new ≡ old)
 LedgerStep plan name old (Settle uid dest outcome now) (Settling answer) new =
     Settles uid dest outcome now old.book answer new.book
     × ArmedBy (IsWaiting old.book uid dest) old.armed (store_outcome_of answer) new.armed

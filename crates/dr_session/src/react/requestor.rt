@@ -48,7 +48,8 @@ pub fn agree<P: DeskPort>(
     }
 }
 
-/// The association was rejected: the first row that is due is settled as broken.
+/// The association was rejected: the first row that is due is settled as broken. Its data set isn't
+/// read.
 pub fn refuse<P: DeskPort>(
     alloc: Global,
     core: BoxedCore,
@@ -59,8 +60,8 @@ pub fn refuse<P: DeskPort>(
     ensures done { IfOk result (λ e. Turns P.step (refuses at core) port.old e port.new) }
     ensures broke { OnErr result (Broke P.step (refuses at core) port.old port.new) }
 {
-    match port.next(core.peer(), at.now) {
-        Ok(Some(job)) => settle_refused(alloc, job.uid, core, port, at),
+    match port.due(core.peer(), at.now) {
+        Ok(Some(uid)) => settle_refused(alloc, uid, core, port, at),
         Ok(None) => close(alloc, core),
         Err(LedgerFault::Memory) => Err(AllocError),
         Err(_) => close(alloc, core.fail_desk()),

@@ -1,0 +1,4 @@
+pub mod Chains
+mod Fronts
+pub mod Seen
+mod Written

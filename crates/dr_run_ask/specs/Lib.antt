@@ -1,0 +1,4 @@
+pub mod Calls
+pub mod Conversations
+pub mod Laws
+pub mod Lines

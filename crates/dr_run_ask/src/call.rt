@@ -1,0 +1,109 @@
+//! What a node that runs is asked and told.
+ghost use Rattle.std.specs.Prelude.{◌≡◌, IfOk, string_bytes};
+ghost use Rattle.dr_run_ask.specs.Calls.{dest_form, form_of, is_act, method_of, path_of, row_form};
+ghost use Rattle.dr_run_ask.specs.Calls.{rows_form, uid_form};
+
+use form_urlencoded::Serializer;
+use std::alloc::{AllocError, Global};
+
+/// What a node that runs is asked, and what it is told, each with its form
+/// (application/x-www-form-urlencoded).
+#[derive(Clone, Copy, Debug, Drop)]
+pub enum Call<'a> {
+    /// What it is, and how much it has.
+    Status,
+    /// The rows to a node, behind a UID.
+    Rows(&'a str),
+    /// To queue held rows again.
+    Requeue(&'a str),
+    /// To give a held row up.
+    GiveUp(&'a str),
+    /// To forget an instance.
+    Forget(&'a str),
+    /// To end in order.
+    Stop,
+}
+
+impl<'a> Call<'a> {
+    /// Its path.
+    pub fn path(self) -> &'static str
+        ensures { result.now ≡ path_of self.entry }
+    {
+        match self {
+            Call::Status => "/status",
+            Call::Rows(_) => "/rows",
+            Call::Requeue(_) => "/requeue",
+            Call::GiveUp(_) => "/drop",
+            Call::Forget(_) => "/forget",
+            Call::Stop => "/stop",
+        }
+    }
+
+    /// Whether it changes anything.
+    pub fn is_act(self) -> bool
+        ensures { result ≡ is_act self.entry }
+    {
+        match self {
+            Call::Status | Call::Rows(_) => false,
+            Call::Requeue(_) | Call::GiveUp(_) | Call::Forget(_) | Call::Stop => true,
+        }
+    }
+
+    /// What it is about.
+    pub fn form(self) -> &'a str
+        ensures { result.now ≡ form_of self.entry }
+    {
+        match self {
+            Call::Status | Call::Stop => "",
+            Call::Rows(form) | Call::Requeue(form) | Call::GiveUp(form) | Call::Forget(form) => {
+                form
+            }
+        }
+    }
+
+    /// The method by which it is asked or told.
+    pub fn method(self) -> &'static str
+        ensures { result.now ≡ method_of self.entry }
+    {
+        if self.is_act() {
+            return "POST";
+        }
+        "GET"
+    }
+}
+
+/// The form of a row.
+pub fn row_form(alloc: Global, uid: &str, dest: &str) -> Result<String, AllocError>
+    ensures { IfOk result (λ form. string_bytes form ≡ row_form uid.now dest.now) }
+{
+    let mut form = Serializer::new(String::new(alloc));
+    form.extend_pairs(&[("uid", uid), ("dest", dest)])?;
+    Ok(form.finish())
+}
+
+/// The form of all held rows to a node.
+pub fn dest_form(alloc: Global, dest: &str) -> Result<String, AllocError>
+    ensures { IfOk result (λ form. string_bytes form ≡ dest_form dest.now) }
+{
+    let mut form = Serializer::new(String::new(alloc));
+    form.extend_pairs(&[("dest", dest)])?;
+    Ok(form.finish())
+}
+
+/// The form of an instance.
+pub fn uid_form(alloc: Global, uid: &str) -> Result<String, AllocError>
+    ensures { IfOk result (λ form. string_bytes form ≡ uid_form uid.now) }
+{
+    let mut form = Serializer::new(String::new(alloc));
+    form.extend_pairs(&[("uid", uid)])?;
+    Ok(form.finish())
+}
+
+/// The form of the rows to a node behind a UID.
+pub fn rows_form(alloc: Global, dest: &str, after: &str) -> Result<String, AllocError>
+    ensures { IfOk result (λ form. string_bytes form ≡ rows_form dest.now after.now) }
+{
+    let mut form = Serializer::new(String::new(alloc));
+    form.extend_pairs(&[("dest", dest), ("after", after)])?;
+    Ok(form.finish())
+}

@@ -1,0 +1,2 @@
+mod Doings
+mod Pieces

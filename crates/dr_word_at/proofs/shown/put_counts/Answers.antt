@@ -1,0 +1,31 @@
+use Rattle.std.proofs.Common.{◌∙◌, ◌++◌, ◌∷◌, [], ℕ, List, ap}
+use Rattle.std.specs.Prelude.{codes, decimal}
+use Rattle.dr_base.specs.Texts.{Text}
+use Rattle.dr_ledger_report.specs.Reports.{next_field}
+use Rattle.dr_word_at.specs.Printing.{moment_of}
+use Rattle.dr_word_at.proofs.Pieces.{as_fields, chained}
+use Rattle.dr_word_at.proofs.shown.put_counts.Goals as goal
+
+pub returns : goal.returns
+returns c =
+    let old = c.args.out.now.items in
+    let word : Text = codes "queue" in
+    let name : Text = next_field c.args.dest.now in
+    let a : Text = next_field (codes "waiting") in
+    let b : Text = next_field (decimal c.args.counted.waiting) in
+    let e : Text = next_field (codes "held") in
+    let f : Text = next_field (decimal c.args.counted.held) in
+    let g : Text = next_field (codes "done") in
+    let h : Text = next_field (decimal c.args.counted.done) in
+    let o : Text = next_field (codes "oldest") in
+    let m : Text = next_field (moment_of c.args.counted.due) in
+    let l : Text = 10 ∷ [] in
+    let added = chained old (word ++ name ++ (a ++ b) ++ (e ++ f) ++ (g ++ h) ++ o ++ m) l c.put_moment.new.out.items c.put_end.new.out.items
+    (chained old (word ++ name ++ (a ++ b) ++ (e ++ f) ++ (g ++ h) ++ o) m c.put_field.new.out.items c.put_moment.new.out.items
+    (chained old (word ++ name ++ (a ++ b) ++ (e ++ f) ++ (g ++ h)) o c.put_counted-3.new.out.items c.put_field.new.out.items
+    (chained old (word ++ name ++ (a ++ b) ++ (e ++ f)) (g ++ h) c.put_counted-2.new.out.items c.put_counted-3.new.out.items
+    (chained old (word ++ name ++ (a ++ b)) (e ++ f) c.put_counted.new.out.items c.put_counted-2.new.out.items
+    (chained old (word ++ name) (a ++ b) c.put_text.new.out.items c.put_counted.new.out.items
+    (chained old word name c.extend_from_slice.new.self.items c.put_text.new.out.items
+    c.in_ok-extend_from_slice.ensures.items c.in_ok-put_text.ensures) c.in_ok-put_counted.ensures) c.in_ok-put_counted-2.ensures) c.in_ok-put_counted-3.ensures) c.in_ok-put_field.ensures) c.in_ok-put_moment.ensures) c.in_ok-put_end.ensures in
+    added ∙ ap (λ (x : List ℕ). old ++ x) (as_fields word name a b e f g h o m l)

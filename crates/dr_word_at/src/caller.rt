@@ -1,0 +1,114 @@
+//! Requests over a network, each in a connection of its own.
+ghost use Rattle.std.specs.Prelude.{◌≡◌, IfOk, true, option_map};
+ghost use Rattle.dr_run_ask.specs.Calls.{request_of};
+
+use dr_base::Text;
+use dr_run_ask::{Answer, AskFault, Asks, Call, MOST, answer_in, request_bytes};
+use dr_run_net::Network;
+use dr_session::{Clock, Heard, Link};
+use std::alloc::Global;
+use std::io::ErrorKind;
+
+/// From the connect on an answer has so many milliseconds to come whole.
+const WAIT: u64 = 10_000;
+
+/// Asks at an address, with a token where there is one.
+#[derive(Drop)]
+pub struct Caller<'a, N: Network, C: Clock> {
+    pub alloc: Global,
+    pub network: &'a N,
+    pub clock: &'a C,
+    pub at: &'a Text,
+    pub token: Option<&'a Text>,
+}
+
+/// A connection to the address.
+///
+/// Errors: NoConnection, Memory.
+fn connect<N: Network>(alloc: Global, network: &N, at: &Text) -> Result<N::Socket, AskFault>
+    ensures { IfOk result (N.reaches network.now at.now) }
+{
+    match network.connect(alloc, at) {
+        Ok(link) => Ok(link),
+        Err(error) => {
+            if error.kind() == ErrorKind::OutOfMemory {
+                return Err(AskFault::Memory);
+            }
+            Err(AskFault::NoConnection)
+        }
+    }
+}
+
+/// All bytes that come until the other side closes, or until that moment.
+///
+/// Errors: NoAnswer where it doesn't close until then, or the link fails; NoNodesAnswer where more
+/// come than an answer has; Memory.
+fn hear_all<L: Link, C: Clock>(
+    alloc: Global,
+    link: &mut L,
+    clock: &C,
+    until: u64,
+) -> Result<Vec<u8>, AskFault> {
+    let mut bytes = Vec::new(alloc);
+    for _ in 0..u64::MAX {
+        if clock.now() >= until {
+            return Err(AskFault::NoAnswer);
+        }
+        match link.recv() {
+            Heard::Bytes(piece) => {
+                let piece = piece.as_bytes();
+                if bytes.len().saturating_add(piece.len()) > MOST {
+                    return Err(AskFault::NoNodesAnswer);
+                }
+                bytes.extend_from_slice(piece)?;
+            }
+            Heard::End => return Ok(bytes),
+            Heard::Late | Heard::Crowded => {}
+            Heard::Idle | Heard::Fault => return Err(AskFault::NoAnswer),
+            Heard::Memory => return Err(AskFault::Memory),
+        }
+    }
+    Err(AskFault::NoAnswer)
+}
+
+/// Sends a request over a link, and hears the answer.
+///
+/// Errors: NoAnswer, NoNodesAnswer, Memory.
+fn exchange<L: Link, C: Clock>(
+    alloc: Global,
+    link: &mut L,
+    clock: &C,
+    bytes: &[u8],
+    until: u64,
+) -> Result<Answer, AskFault>
+    ensures { IfOk result (λ _. (mid : L) × L.sends link.old bytes.now true mid) }
+{
+    if link.send(bytes) {
+        let heard = hear_all(alloc, link, clock, until)?;
+        link.close();
+        let answer = answer_in(alloc, heard.as_slice())?;
+        return Ok(answer);
+    }
+    Err(AskFault::NoAnswer)
+}
+
+/// An answer comes only to the request that is meant, which was sent over a link that leads to the
+/// address.
+impl<'a, N: Network, C: Clock> Asks for Caller<'a, N, C> {
+    ghost use Rattle.std.specs.Prelude.{◌≡◌, IfOk, true, option_map};
+    ghost use Rattle.dr_run_ask.specs.Calls.{request_of};
+
+    ghost answers = { λ s call result t. IfOk result (λ _.
+        (link mid : N.Socket)
+        × N.reaches s.network.now s.at.now link
+        × N.Socket.sends link (request_of s.at.now (option_map (λ token. token.now) s.token) call)
+        true mid) };
+
+    fn ask(&mut self, call: Call<'_>) -> Result<Answer, AskFault> {
+        let bytes = request_bytes(self.alloc, self.at, self.token, call)?;
+        let until = self.clock.now().saturating_add(WAIT);
+        let mut link = connect(self.alloc, self.network, self.at)?;
+        let answer = exchange(self.alloc, &mut link, self.clock, bytes.as_slice(), until)?;
+        Ok(answer)
+    }
+}

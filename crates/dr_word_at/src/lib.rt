@@ -1,0 +1,17 @@
+//! The words `list`, `requeue`, `drop`, `forget` and `stop` at a node that runs: clients of its
+//! control connection (`serve --control`).
+//!
+//! - `run_errand`: what a node is asked and told by a word, over anything that asks (`dr_run_ask`).
+//! - `Caller` asks over a network.
+//! - `ask_files`: the words, over files, tokens and a network.
+#![tactic(auto)]
+
+mod caller;
+mod doing;
+mod listing;
+mod running;
+mod shown;
+
+pub use caller::Caller;
+pub use doing::{Outcome, run_errand};
+pub use running::ask_files;

@@ -1,0 +1,17 @@
+use Rattle.std.proofs.Common.{refl}
+use Rattle.dr_word_line.proofs.Fronts.{first_6}
+use Rattle.dr_word_line.proofs.Places.{same_word}
+use Rattle.dr_word_line.proofs.running.at_running.Goals as goal
+
+pub returns-in-len6-up-clause-found : goal.returns-in-len6-up-clause-found
+returns-in-len6-up-clause-found c = (
+  _,
+  _,
+  first_6 _ c.args.words.now c.in-len6-up.len_at_least,
+  same_word _ _ _ c.eq.ensures c.if-eq.true,
+  c.is_no_option.ensures.0 c.if-is_no_option.true,
+  c.is_no_option-then-is_no_option.ensures.0 c.if-is_no_option-2.true,
+  same_word _ _ _ c.eq-then-is_no_option-2.ensures c.if-eq-2.true,
+  c.is_no_option-then-eq-2.ensures.0 c.if-is_no_option-3.true,
+  refl,
+)

@@ -1,0 +1,19 @@
+use Rattle.std.proofs.Common.{subst}
+use Rattle.std.specs.Prelude.{ℕ, List, codes}
+use Rattle.std.specs.Borrow.{Bor}
+use Rattle.dr_word_line.specs.Words.{IsAtRunning}
+use Rattle.dr_word_line.proofs.Places.{places_1, same_word}
+use Rattle.dr_word_line.proofs.running.read_question.Goals as goal
+
+pub returns-in_default-clause-list : goal.returns-in_default-clause-list
+returns-in_default-clause-list c = λ given h. c.in_default.ensures.none given _ h
+
+pub returns-in_default-clause-summary : goal.returns-in_default-clause-summary
+returns-in_default-clause-summary c = λ given h. c.in_default.ensures.none given _ h.1
+
+pub returns-in-len1-clause-asked : goal.returns-in-len1-clause-asked
+returns-in-len1-clause-asked c = (
+  _,
+  subst (λ (more : List (Bor (List ℕ))). IsAtRunning (codes "list") c.args.words.now c.in-Some.given more) (places_1 _ c.in-Some.more.now c.in-len1.len_at_least c.in-len1.len_below) c.in-Some.ensures.found,
+  same_word _ _ _ c.eq.ensures c.if-eq.true,
+)

@@ -1,0 +1,273 @@
+//! What clap makes of words: options, help, and what the program doesn't know.
+
+use crate::command_line::{command_line, running_line};
+use crate::words::{
+    Controlled, Duty, Errand, KeyWords, NextPlan, PlanChange, Question, RunningNode, Serving,
+    SiteFiles, Task, USUAL_DAYS, USUAL_MEMORY, USUAL_WAITS, USUAL_WORKERS, Verbosity, Waits,
+};
+use clap::ArgMatches;
+use dr_run_files::NodeFiles;
+use std::alloc::{AllocError, Global};
+
+/// Where what is to go, as clap has read it: an instance with four values, or the one in a file.
+fn route_of<'a>(given: &ArgMatches<'a>) -> Question<'a> {
+    let at = given.get_str("AT").unwrap_or("");
+    let first = given.get_str("FILE|CLASS").unwrap_or("");
+    let Some(syntax) = given.get_str("SYNTAX") else {
+        return Question::RouteOfFile(at, first);
+    };
+    let key = KeyWords {
+        class: first,
+        syntax,
+        modality: given.get_str("MODALITY").unwrap_or(""),
+        station: given.get_str("STATION").unwrap_or(""),
+    };
+    Question::RouteOfKey(at, key)
+}
+
+/// The next plan, as clap has read it.
+fn next_of<'a>(given: &ArgMatches<'a>) -> NextPlan<'a> {
+    NextPlan {
+        plan: given.get_str("NEXTPLAN").unwrap_or(""),
+        certificate: given.get_str("NEXTCERT").unwrap_or(""),
+        fails_on_lost: given.get_flag("FAILS"),
+    }
+}
+
+/// The question that a word asks about a plan and its certificate, if it asks one.
+fn question_of<'a>(name: &str, given: &ArgMatches<'a>) -> Option<Question<'a>> {
+    match name {
+        "route" => Some(route_of(given)),
+        "graph" => Some(Question::Graph),
+        "lint" if given.get_flag("STRICT") => Some(Question::StrictLint),
+        "lint" => Some(Question::Lint),
+        "diff" => Some(Question::Diff(next_of(given))),
+        "expect" => Some(Question::Expect(given.get_str("FILE").unwrap_or(""))),
+        _ => None,
+    }
+}
+
+/// How long a node is to wait for its peers, as clap has read it.
+fn waits_of(given: &ArgMatches<'_>) -> Waits {
+    Waits {
+        connect: given.get_one("CONNECT").unwrap_or(USUAL_WAITS.connect),
+        request: given.get_one("REQUEST").unwrap_or(USUAL_WAITS.request),
+        write: given.get_one("WRITE").unwrap_or(USUAL_WAITS.write),
+        message: given.get_one("MESSAGE").unwrap_or(USUAL_WAITS.message),
+        idle: given.get_one("IDLE").unwrap_or(USUAL_WAITS.idle),
+    }
+}
+
+/// After how many days a node is to forget what is over, as clap has read it.
+fn days_of(given: &ArgMatches<'_>) -> Option<u32> {
+    if given.get_flag("NEVER") {
+        return None;
+    }
+    Some(given.get_one("DAYS").unwrap_or(USUAL_DAYS))
+}
+
+/// Where a node may be asked and told to act, as clap has read it, if it may.
+fn control_of<'a>(given: &ArgMatches<'a>) -> Option<Controlled<'a>> {
+    let at = given.get_str("CONTROL")?;
+    Some(Controlled {
+        at,
+        token: given.get_str("TOKEN"),
+        host: given.get_str("HOST"),
+        is_for_anyone: given.get_flag("ANYONE"),
+    })
+}
+
+/// How a node is to serve, as clap has read it.
+fn serving_of<'a>(given: &ArgMatches<'a>) -> Serving<'a> {
+    let verbosity = match given.get_str("LOG") {
+        Some("error") => Verbosity::Errors,
+        Some("debug") => Verbosity::Everything,
+        _ => Verbosity::Events,
+    };
+    Serving {
+        links: given.get_one("LINKS").unwrap_or(0),
+        verbosity,
+        report: given.get_str("REPORT"),
+        workers: given.get_one("WORKERS").unwrap_or(USUAL_WORKERS),
+        memory: given.get_one("MEMORY").unwrap_or(USUAL_MEMORY),
+        forget_after: days_of(given),
+        waits: waits_of(given),
+        until_input_ends: given.get_flag("UNTIL"),
+        must_exist: given.get_flag("EXIST"),
+        control: control_of(given),
+    }
+}
+
+/// The UID of an instance, as clap has read it.
+fn uid_of<'a>(given: &ArgMatches<'a>) -> &'a str {
+    given.get_str("UID").unwrap_or("")
+}
+
+/// The node to which a row is to be sent, as clap has read it.
+fn dest_of<'a>(given: &ArgMatches<'a>) -> &'a str {
+    given.get_str("DEST").unwrap_or("")
+}
+
+/// Which held rows are to be queued again, as clap has read it.
+fn requeue_of<'a>(given: &ArgMatches<'a>) -> Duty<'a> {
+    match given.get_str("ALL") {
+        Some(all) => Duty::RequeueAll(all),
+        None => Duty::Requeue(uid_of(given), dest_of(given)),
+    }
+}
+
+/// What a word asks a node to do, as clap has read it, if it asks that.
+fn duty_of<'a>(name: &str, given: &ArgMatches<'a>) -> Option<Duty<'a>> {
+    match name {
+        "new" => Some(Duty::Make),
+        "list" if given.get_flag("SUMMARY") => Some(Duty::Summary),
+        "list" => Some(Duty::List),
+        "requeue" => Some(requeue_of(given)),
+        "drop" => Some(Duty::GiveUp(uid_of(given), dest_of(given))),
+        "forget" => Some(Duty::Forget(uid_of(given))),
+        "send" => Some(Duty::Send(given.get_str("FILE").unwrap_or(""))),
+        "serve" => Some(Duty::Serve(serving_of(given))),
+        _ => None,
+    }
+}
+
+/// What clap makes of words that name a plan and its certificate.
+fn read_certified<'a>(
+    name: &str,
+    given: &ArgMatches<'a>,
+    plan: &'a str,
+    certificate: &'a str,
+) -> Task<'a> {
+    if let Some(question) = question_of(name, given) {
+        return Task::Question(plan, certificate, question);
+    }
+    if let Some(duty) = duty_of(name, given) {
+        let node = given.get_str("NODE").unwrap_or("");
+        let ledger = given.get_str("DB").unwrap_or("");
+        let files = NodeFiles {
+            plan,
+            certificate,
+            node,
+            ledger,
+        };
+        return Task::AtNode(files, duty);
+    }
+    if name == "verify" {
+        return Task::Verify(plan, certificate);
+    }
+    Task::Simulate(plan, certificate, given.get_str("SCRIPT").unwrap_or(""))
+}
+
+/// Which plans and which folder are named, as clap has read it.
+fn change_of<'a>(given: &ArgMatches<'a>) -> PlanChange<'a> {
+    PlanChange {
+        plan: given.get_str("OLDPLAN").unwrap_or(""),
+        certificate: given.get_str("OLDCERT").unwrap_or(""),
+        next_plan: given.get_str("PLAN").unwrap_or(""),
+        next_certificate: given.get_str("CERT").unwrap_or(""),
+        folder: given.get_str("DIR").unwrap_or(""),
+    }
+}
+
+/// Which nodes are of other makers, as clap has read it.
+fn others_of<'a>(alloc: Global, given: &ArgMatches<'a>) -> Result<Vec<&'a str>, AllocError> {
+    let mut others = Vec::new(alloc);
+    if let Some(names) = given.get_strs("OTHER") {
+        others.extend_from_slice(names)?;
+    }
+    Ok(others)
+}
+
+/// Which ledgers are to be audited, as clap has read it.
+fn audit_of<'a>(alloc: Global, given: &ArgMatches<'a>) -> Result<Task<'a>, AllocError> {
+    let files = SiteFiles {
+        plan: given.get_str("PLAN").unwrap_or(""),
+        certificate: given.get_str("CERT").unwrap_or(""),
+        folder: given.get_str("DIR").unwrap_or(""),
+    };
+    let others = others_of(alloc, given)?;
+    Ok(Task::AuditAmong(files, others))
+}
+
+/// What a word asks of a node that runs, as clap has read it.
+fn errand_of<'a>(name: &str, given: &ArgMatches<'a>) -> Errand<'a> {
+    match name {
+        "list" if given.get_flag("IFHELD") => Errand::StrictSummary,
+        "list" if given.get_flag("SUMMARY") => Errand::Summary,
+        "list" => Errand::List,
+        "requeue" => match given.get_str("ALL") {
+            Some(all) => Errand::RequeueAll(all),
+            None => Errand::Requeue(uid_of(given), dest_of(given)),
+        },
+        "drop" => Errand::GiveUp(uid_of(given), dest_of(given)),
+        "forget" => Errand::Forget(uid_of(given)),
+        _ => Errand::Stop,
+    }
+}
+
+/// Whether the words are about a node that runs.
+fn names_running(words: &[&str]) -> bool {
+    for word in words {
+        if *word == "--at" || word.as_bytes().starts_with(b"--at=") {
+            return true;
+        }
+    }
+    false
+}
+
+/// What clap makes of words about a node that runs.
+fn read_at<'a>(alloc: Global, words: &'a [&'a str]) -> Result<Task<'a>, AllocError> {
+    let line = running_line(alloc)?;
+    let matches = match line.try_get_matches_from(words) {
+        Ok(matches) => matches,
+        Err(error) => return Ok(Task::Told(error)),
+    };
+    let Some((name, given)) = matches.subcommand() else {
+        return Ok(Task::CheckInput);
+    };
+    let running = RunningNode {
+        plan: given.get_str("PLAN").unwrap_or(""),
+        certificate: given.get_str("CERT").unwrap_or(""),
+        node: given.get_str("NODE").unwrap_or(""),
+        at: given.get_str("AT").unwrap_or(""),
+        token: given.get_str("TOKEN"),
+    };
+    Ok(Task::AtRunning(running, errand_of(name, given)))
+}
+
+/// What clap makes of the words: options, help, and what the program doesn't know.
+pub(crate) fn read_others<'a>(alloc: Global, words: &'a [&'a str]) -> Result<Task<'a>, AllocError> {
+    if names_running(words) {
+        return read_at(alloc, words);
+    }
+    let line = command_line(alloc)?;
+    let matches = match line.try_get_matches_from(words) {
+        Ok(matches) => matches,
+        Err(error) => return Ok(Task::Told(error)),
+    };
+    let Some((name, given)) = matches.subcommand() else {
+        return Ok(Task::CheckInput);
+    };
+    let Some(plan) = given.get_str("PLAN") else {
+        return Ok(Task::CheckInput);
+    };
+    if name == "check" {
+        return Ok(Task::CheckFile(plan));
+    }
+    if name == "expand" {
+        return Ok(Task::Expand(plan));
+    }
+    if name == "echo" {
+        let caller = given.get_str("FROM").unwrap_or("");
+        let called = given.get_str("TO").unwrap_or("");
+        return Ok(Task::Echo(plan, caller, called));
+    }
+    if name == "adopt" {
+        return Ok(Task::Adopt(change_of(given)));
+    }
+    if name == "audit" {
+        return audit_of(alloc, given);
+    }
+    let certificate = given.get_str("CERT").unwrap_or("");
+    Ok(read_certified(name, given, plan, certificate))
+}

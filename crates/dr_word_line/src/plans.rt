@@ -1,0 +1,174 @@
+//! What plain words ask about plans.
+ghost use Rattle.std.specs.Prelude.{ℕ, List, IfNone, IfSome};
+ghost use Rattle.std.specs.Borrow.{Bor};
+ghost use Rattle.dr_word_line.specs.Words.{Asks, IsCheckOf, IsDiffOf, IsEchoOf, IsExpandOf};
+ghost use Rattle.dr_word_line.specs.Words.{IsExpectOf, IsFileRouteOf, IsGraphOf, IsKeyRouteOf};
+ghost use Rattle.dr_word_line.specs.Words.{IsLintOf, IsPlainCheck, IsSimulateOf, IsVerifyOf};
+ghost use Rattle.dr_word_line.specs.declared.words.KeyWords.{KeyWords as KeyWordsValue};
+ghost use Rattle.dr_word_line.specs.declared.words.NextPlan.{NextPlan as NextPlanValue};
+
+use crate::option::is_no_option;
+use crate::words::{KeyWords, NextPlan, Question, Task};
+
+/// What words ask of a plan's text alone, if they are of such a form.
+pub(crate) fn read_check<'a>(words: &'a [&'a str]) -> Option<Task<'a>>
+    ensures asked { IfSome result (λ asked. Asks words.now asked) }
+    ensures input { IfNone result (IsPlainCheck words.now → ⊥) }
+    ensures file { IfNone result ((plan : Bor (List ℕ)) → IsCheckOf words.now plan → ⊥) }
+{
+    match words {
+        [] => Some(Task::CheckInput),
+        [word] if *word == "check" => Some(Task::CheckInput),
+        [word, plan] if *word == "check" && is_no_option(plan) => Some(Task::CheckFile(plan)),
+        _ => None,
+    }
+}
+
+/// What words ask for that is to be expanded, if they are of that form.
+pub(crate) fn read_expand<'a>(words: &'a [&'a str]) -> Option<Task<'a>>
+    ensures asked { IfSome result (λ asked. Asks words.now asked) }
+    ensures expand { IfNone result ((plan : Bor (List ℕ)) → IsExpandOf words.now plan → ⊥) }
+{
+    match words {
+        [word, plan] if *word == "expand" && is_no_option(plan) => Some(Task::Expand(plan)),
+        _ => None,
+    }
+}
+
+/// What words ask of a plan and something else, if they are of such a form.
+pub(crate) fn read_pair<'a>(words: &'a [&'a str]) -> Option<Task<'a>>
+    ensures asked { IfSome result (λ asked. Asks words.now asked) }
+    ensures verify { IfNone result
+        ((plan certificate : Bor (List ℕ)) → IsVerifyOf words.now plan certificate → ⊥) }
+    ensures simulate { IfNone result
+        ((plan certificate script : Bor (List ℕ))
+        → IsSimulateOf words.now plan certificate script
+        → ⊥) }
+    ensures echo { IfNone result
+        ((plan caller called : Bor (List ℕ)) → IsEchoOf words.now plan caller called → ⊥) }
+{
+    match words {
+        [word, plan, certificate]
+            if *word == "verify" && is_no_option(plan) && is_no_option(certificate) => {
+            Some(Task::Verify(plan, certificate))
+        }
+        [word, plan, certificate, script]
+            if *word == "simulate"
+                && is_no_option(plan)
+                && is_no_option(certificate)
+                && is_no_option(script) => { Some(Task::Simulate(plan, certificate, script)) }
+        [word, plan, caller, called] if *word == "echo" && is_no_option(plan) => {
+            Some(Task::Echo(plan, caller, called))
+        }
+        _ => None,
+    }
+}
+
+/// What words ask about a plan and its certificate, if they have no more than what names them.
+pub(crate) fn read_question<'a>(words: &'a [&'a str]) -> Option<Task<'a>>
+    ensures asked { IfSome result (λ asked. Asks words.now asked) }
+    ensures graph { IfNone result
+        ((plan certificate : Bor (List ℕ)) → IsGraphOf words.now plan certificate → ⊥) }
+    ensures lint { IfNone result
+        ((plan certificate : Bor (List ℕ)) → IsLintOf words.now plan certificate → ⊥) }
+{
+    match words {
+        [word, plan, certificate]
+            if *word == "graph" && is_no_option(plan) && is_no_option(certificate) => {
+            Some(Task::Question(plan, certificate, Question::Graph))
+        }
+        [word, plan, certificate]
+            if *word == "lint" && is_no_option(plan) && is_no_option(certificate) => {
+            Some(Task::Question(plan, certificate, Question::Lint))
+        }
+        _ => None,
+    }
+}
+
+/// What words ask of a plan, its certificate and what is expected of it, if they are of that form.
+pub(crate) fn read_expect<'a>(words: &'a [&'a str]) -> Option<Task<'a>>
+    ensures asked { IfSome result (λ asked. Asks words.now asked) }
+    ensures expect { IfNone result
+        ((plan certificate path : Bor (List ℕ))
+        → IsExpectOf words.now plan certificate path
+        → ⊥) }
+{
+    match words {
+        [word, plan, certificate, path]
+            if *word == "expect"
+                && is_no_option(plan)
+                && is_no_option(certificate)
+                && is_no_option(path) => {
+            Some(Task::Question(plan, certificate, Question::Expect(path)))
+        }
+        _ => None,
+    }
+}
+
+/// What words ask of two plans with their certificates, if they are of that form.
+pub(crate) fn read_diff<'a>(words: &'a [&'a str]) -> Option<Task<'a>>
+    ensures asked { IfSome result (λ asked. Asks words.now asked) }
+    ensures diff { IfNone result
+        ((plan certificate : Bor (List ℕ)) (next : NextPlanValue)
+        → IsDiffOf words.now plan certificate next
+        → ⊥) }
+{
+    match words {
+        [word, plan, certificate, next_plan, next_certificate]
+            if *word == "diff"
+                && is_no_option(plan)
+                && is_no_option(certificate)
+                && is_no_option(next_plan)
+                && is_no_option(next_certificate) => {
+            let next = NextPlan {
+                plan: next_plan,
+                certificate: next_certificate,
+                fails_on_lost: false,
+            };
+            Some(Task::Question(plan, certificate, Question::Diff(next)))
+        }
+        _ => None,
+    }
+}
+
+/// What words ask about where an instance goes, if they are of such a form.
+pub(crate) fn read_route<'a>(words: &'a [&'a str]) -> Option<Task<'a>>
+    ensures asked { IfSome result (λ asked. Asks words.now asked) }
+    ensures route_of_file { IfNone result
+        ((plan certificate at path : Bor (List ℕ))
+        → IsFileRouteOf words.now plan certificate at path
+        → ⊥) }
+    ensures route_of_key { IfNone result
+        ((plan certificate at : Bor (List ℕ)) (key : KeyWordsValue)
+        → IsKeyRouteOf words.now plan certificate at key
+        → ⊥) }
+{
+    match words {
+        [word, plan, certificate, at, path]
+            if *word == "route"
+                && is_no_option(plan)
+                && is_no_option(certificate)
+                && is_no_option(path) => {
+            Some(Task::Question(plan, certificate, Question::RouteOfFile(at, path)))
+        }
+        [
+            word,
+            plan,
+            certificate,
+            at,
+            class,
+            syntax,
+            modality,
+            station,
+        ] if *word == "route" && is_no_option(plan) && is_no_option(certificate) => {
+            let key = KeyWords {
+                class,
+                syntax,
+                modality,
+                station,
+            };
+            Some(Task::Question(plan, certificate, Question::RouteOfKey(at, key)))
+        }
+        _ => None,
+    }
+}

@@ -1,0 +1,182 @@
+//! What plain words ask of a node that runs, or tell it to do.
+ghost use Rattle.std.specs.Prelude.{ℕ, List, IfNone, IfSome};
+ghost use Rattle.std.specs.Borrow.{Bor};
+ghost use Rattle.dr_word_line.specs.Words.{Asks, IsAtRunning, IsErrandOf, IsToRunning};
+ghost use Rattle.dr_word_line.specs.declared.words.Errand.{Errand as ErrandValue};
+ghost use Rattle.dr_word_line.specs.declared.words.Errand.TheVariants as errands;
+ghost use Rattle.dr_word_line.specs.declared.words.RunningNode.{RunningNode as RunningNodeValue};
+
+use crate::option::is_no_option;
+use crate::words::{Errand, RunningNode, Task};
+
+/// What names a running node behind a word, and the words behind that.
+fn at_running<'a>(name: &str, words: &'a [&'a str]) -> Option<(RunningNode<'a>, &'a [&'a str])>
+    ensures found { IfSome result (λ found. IsAtRunning name.now words.now found.0 found.1.now) }
+    ensures none { IfNone result
+        ((given : RunningNodeValue) (more : List (Bor (List ℕ)))
+        → IsAtRunning name.now words.now given more
+        → ⊥) }
+{
+    match words {
+        [word, plan, certificate, node, option, at, more @ ..]
+            if *word == name
+                && is_no_option(plan)
+                && is_no_option(certificate)
+                && *option == "--at"
+                && is_no_option(at) => {
+            let given = RunningNode {
+                plan,
+                certificate,
+                node,
+                at,
+                token: None,
+            };
+            Some((given, more))
+        }
+        _ => None,
+    }
+}
+
+/// The same with the token that an act needs.
+fn to_running<'a>(name: &str, words: &'a [&'a str]) -> Option<(RunningNode<'a>, &'a [&'a str])>
+    ensures found { IfSome result (λ found. IsToRunning name.now words.now found.0 found.1.now) }
+    ensures none { IfNone result
+        ((given : RunningNodeValue) (more : List (Bor (List ℕ)))
+        → IsToRunning name.now words.now given more
+        → ⊥) }
+{
+    let Some((given, more)) = at_running(name, words) else {
+        return None;
+    };
+    match more {
+        [option, file, more @ ..] if *option == "--token" && is_no_option(file) => {
+            let given = RunningNode {
+                token: Some(file),
+                ..given
+            };
+            Some((given, more))
+        }
+        _ => None,
+    }
+}
+
+/// What words ask a running node for, if they are of such a form.
+fn read_question<'a>(words: &'a [&'a str]) -> Option<Task<'a>>
+    ensures asked { IfSome result (λ asked. Asks words.now asked) }
+    ensures list { IfNone result
+        ((given : RunningNodeValue) → IsErrandOf words.now given errands.List → ⊥) }
+    ensures summary { IfNone result
+        ((given : RunningNodeValue) → IsErrandOf words.now given errands.Summary → ⊥) }
+{
+    let Some((given, more)) = at_running("list", words) else {
+        return None;
+    };
+    match more {
+        [] => Some(Task::AtRunning(given, Errand::List)),
+        [option] if *option == "--summary" => Some(Task::AtRunning(given, Errand::Summary)),
+        _ => None,
+    }
+}
+
+/// Which held rows words tell a running node to queue again, if they are of such a form.
+fn read_requeue<'a>(words: &'a [&'a str]) -> Option<Task<'a>>
+    ensures asked { IfSome result (λ asked. Asks words.now asked) }
+    ensures requeue { IfNone result
+        ((given : RunningNodeValue) (uid dest : Bor (List ℕ))
+        → IsErrandOf words.now given (errands.Requeue uid dest)
+        → ⊥) }
+    ensures requeue_all { IfNone result
+        ((given : RunningNodeValue) (dest : Bor (List ℕ))
+        → IsErrandOf words.now given (errands.RequeueAll dest)
+        → ⊥) }
+{
+    let Some((given, more)) = to_running("requeue", words) else {
+        return None;
+    };
+    match more {
+        [option, dest] if *option == "--all-held" => Some(Task::AtRunning(
+            given,
+            Errand::RequeueAll(dest),
+        )),
+        [uid, dest] if is_no_option(uid) => Some(Task::AtRunning(
+            given,
+            Errand::Requeue(uid, dest),
+        )),
+        _ => None,
+    }
+}
+
+/// Which held row words tell a running node to give up, if they are of that form.
+fn read_giving_up<'a>(words: &'a [&'a str]) -> Option<Task<'a>>
+    ensures asked { IfSome result (λ asked. Asks words.now asked) }
+    ensures give_up { IfNone result
+        ((given : RunningNodeValue) (uid dest : Bor (List ℕ))
+        → IsErrandOf words.now given (errands.GiveUp uid dest)
+        → ⊥) }
+{
+    let Some((given, more)) = to_running("drop", words) else {
+        return None;
+    };
+    match more {
+        [uid, dest] if is_no_option(uid) => Some(Task::AtRunning(given, Errand::GiveUp(uid, dest))),
+        _ => None,
+    }
+}
+
+/// Which instance words tell a running node to forget, if they are of that form.
+fn read_forgetting<'a>(words: &'a [&'a str]) -> Option<Task<'a>>
+    ensures asked { IfSome result (λ asked. Asks words.now asked) }
+    ensures forget { IfNone result
+        ((given : RunningNodeValue) (uid : Bor (List ℕ))
+        → IsErrandOf words.now given (errands.Forget uid)
+        → ⊥) }
+{
+    let Some((given, more)) = to_running("forget", words) else {
+        return None;
+    };
+    match more {
+        [uid] if is_no_option(uid) => Some(Task::AtRunning(given, Errand::Forget(uid))),
+        _ => None,
+    }
+}
+
+/// Whether words tell a running node to end.
+fn read_stopping<'a>(words: &'a [&'a str]) -> Option<Task<'a>>
+    ensures asked { IfSome result (λ asked. Asks words.now asked) }
+    ensures stop { IfNone result
+        ((given : RunningNodeValue) → IsErrandOf words.now given errands.Stop → ⊥) }
+{
+    let Some((given, more)) = to_running("stop", words) else {
+        return None;
+    };
+    match more {
+        [] => Some(Task::AtRunning(given, Errand::Stop)),
+        _ => None,
+    }
+}
+
+/// What words ask of a running node, or tell it to do, if they are of such a form.
+pub(crate) fn read_running<'a>(words: &'a [&'a str]) -> Option<Task<'a>>
+    ensures asked { IfSome result (λ asked. Asks words.now asked) }
+    ensures errand { IfNone result
+        ((given : RunningNodeValue) (errand : ErrandValue)
+        → IsErrandOf words.now given errand
+        → ⊥) }
+{
+    if let Some(asked) = read_question(words) {
+        return Some(asked);
+    }
+    if let Some(asked) = read_requeue(words) {
+        return Some(asked);
+    }
+    if let Some(asked) = read_giving_up(words) {
+        return Some(asked);
+    }
+    if let Some(asked) = read_forgetting(words) {
+        return Some(asked);
+    }
+    match read_stopping(words) {
+        Some(asked) => Some(asked),
+        None => None,
+    }
+}
