@@ -6,6 +6,7 @@ and that nothing else acts; then requests that are no requests, slow ones, and m
     tests/control.py --more    20,000 malformed requests while two peers store, and by how much their rate falls, which ./test leaves out
 """
 import base64
+import hashlib
 import http.client
 import json
 import os
@@ -18,7 +19,7 @@ import time
 import urllib.parse
 
 sys.dont_write_bytecode = True
-from lib.nodes import LIMIT, PROGRAM, Room, data_set, element, ended, free_port, lines, part10, run_cases, same, stop, told
+from lib.nodes import LIMIT, PLAN, PROGRAM, TOP, Room, data_set, element, ended, free_port, lines, part10, run_cases, same, stop, told
 from lib.requestor import Requestor
 
 TOKEN = 'a token of more than sixteen bytes'
@@ -117,6 +118,10 @@ def reads():
         status = node.read('/status')
         since = status[0].pop('since')
         assert abs(time.time() * 1000 - since) < 60_000, since
+        with open(f'{room.folder}/{PLAN[0]}', 'rb') as file:
+            same(status[0].pop('plan'), hashlib.sha256(file.read()).hexdigest())
+        with open(f'{TOP}/VERSION', encoding='ascii') as file:
+            same(status[0].pop('version'), file.read().strip())
         same(status, [{'node': 'CT1', 'arrivals': 1, 'kept': 0, 'lines': 2, 'failures': 0}, {'dest': 'GATE', 'waiting': 0, 'held': 1, 'done': 0}])
         row = {'uid': '1.2.3.4', 'dest': 'GATE', 'state': 'held', 'cause': 'C0F1'}
         same(node.read('/rows?dest=GATE'), [row])
@@ -132,7 +137,11 @@ def reads():
         same([line for line in figures.splitlines() if not line.startswith('#')],
              ['dr_router_arrivals 1', 'dr_router_kept 0', 'dr_router_journal_lines 2', 'dr_router_store_failures 0',
               'dr_router_rows{dest="GATE",state="waiting"} 0', 'dr_router_rows{dest="GATE",state="held"} 1', 'dr_router_rows{dest="GATE",state="done"} 0',
+              *(f'dr_router_visits_total{{dest="GATE",came="{came}"}} 0' for came in ('released', 'rejected', 'aborted', 'closed', 'unreached', 'failed')),
               'dr_router_associations 0'])
+        names = re.findall('^# TYPE ([a-z_]+) (?:gauge|counter)$', figures, re.M)
+        same(sorted(set(names)), sorted(names))
+        same({re.match('[a-z_]+', line)[0] for line in figures.splitlines() if line[0] != '#'} - set(names), set())
         stop(node.process)
 
 
@@ -232,6 +241,9 @@ def orders():
         same(node.act('/visit', dest='GATE'), DONE)
         node.wait('/rows?dest=GATE&state=held', lambda rows: len(rows) == 5)
         node.wait('/status', lambda lines: lines[1].get('came') == 'released')
+        figures = node.ask('GET', '/metrics')[1]
+        assert re.search('^dr_router_visits_total{dest="GATE",came="released"} [1-9]', figures, re.M), figures
+        assert re.search('^dr_router_visits_total{dest="GATE",came="unreached"} [1-9]', figures, re.M), figures
         same(node.act('/drop', uid='1.2.3.0', dest='GATE', reason='twice\n"by hand"' + 200 * 'x'), DONE)
         same(node.read('/instance/1.2.3.0')[0], {'instance': '1.2.3.0', 'body': False, 'over': True})
         same(node.act('/forget', uid='1.2.3.0'), DONE)
@@ -317,22 +329,37 @@ def associations():
     """The associations that are open, with what came over each: in lines, in figures and on the page."""
     with Room() as room:
         node = Asked(room, 'GATE', 0, token=False)
+
+        def opened():
+            return [line for line in node.read('/status') if 'session' in line]
         same(len(node.read('/status')), 2)
         with Requestor(room.ports['GATE'], 'CT1', 'GATE') as first:
             same(first.store(b'1.2.3.4', data_set(b'1.2.3.4')), 0)
             same(first.store(b'1.2.3.4', data_set(b'1.2.3.4')), 0)
             same(first.store(b'1.2.3.4', data_set(b'1.2.3.4', element(0x10, 0x10, b'PN', b'Other'))), 0xC0F1)
             same(first.store(b'1.2.3.5', data_set(b'1.2.3.5')), 0)
-            one = node.read('/status')[2]
+            one = opened()[0]
             assert abs(time.time() * 1000 - one.pop('since')) < 60_000, one
             same(one, {'caller': 'CT1', 'session': 1, 'stored': 2, 'again': 1, 'refused': 1})
             with Requestor(room.ports['GATE'], 'CT1', 'GATE'):
-                same([line['session'] for line in node.read('/status')[2:]], [1, 2])
+                same([line['session'] for line in opened()], [1, 2])
                 assert 'dr_router_associations 2\n' in node.ask('GET', '/metrics')[1]
-            node.wait('/status', lambda lines: len(lines) == 3)
+            node.wait('/status', lambda lines: len(lines) == 4)
             text = node.ask('GET', '/')[1]
             assert re.search('<tr><td>CT1</td><td>[0-9]+ s ago</td><td>2</td><td>1</td><td>1</td></tr>', text), text
-        node.wait('/status', lambda lines: len(lines) == 2)
+        node.wait('/status', lambda lines: len(lines) == 3)
+        # what came within the last hour stays shown, and what each caller has brought is counted
+        same(node.read('/status')[2], {'from': 'CT1', 'modality': 'CT', 'stored': 3, 'refused': 1})
+        assert '<tr><td>CT1</td><td>CT</td><td>3</td><td>1</td></tr>' in node.ask('GET', '/')[1]
+        figures = node.ask('GET', '/metrics')[1].splitlines()
+        for answer, count in ('stored', 2), ('again', 1), ('refused', 1):
+            assert f'dr_router_instances_total{{caller="CT1",answer="{answer}"}} {count}' in figures, figures
+        size = len(data_set(b'1.2.3.4'))
+        assert f'dr_router_stored_bytes_total{{caller="CT1"}} {2 * size}' in figures, (size, figures)
+        # the log says from where a connection came, and of what is refused what rules read of it
+        said = [event[3] for event in room.events('GATE')]
+        assert any(re.fullmatch('comes session=1 address="127.0.0.1:[0-9]+"', line) for line in said), said
+        assert any(line.startswith('refused session=1 caller="CT1" uid=1.2.3.4 fault="G2 Conflict" class=') and ' modality="CT" station="' in line for line in said), said
         assert '<caption>Open associations</caption>\n<tr><th>Caller</th><th>Since</th><th>Stored</th><th>Again</th><th>Refused</th></tr>\n</table>' in node.ask('GET', '/')[1]
         stop(node.process)
 

@@ -123,7 +123,7 @@ def titles():
                 assert run.returncode != 0 and why in run.stderr, run
             went_well(site.sends('echoscu', []))
         stop(gate)
-        told = [re.sub(r' milliseconds=\d+$', '', event[3]) for event in site.events('GATE') if event[2] == 'association']
+        told = [re.sub(r' milliseconds=\d+$', '', event[3]) for event in site.events('GATE') if event[2] == 'association' and not event[3].startswith('comes ')]
         want = []
         for tool in range(2):
             for number, how in enumerate(('rejected session={} why="1 1 3"', 'rejected session={} why="1 1 7"', 'released session={}'), 3 * tool + 1):

@@ -56,7 +56,7 @@ def contents(folder):
 def versions():
     """The version is the same wherever it is told."""
     number = release.version()
-    for path, told in (('crates/dr_word_line/src/command_line.rt', rf'\.version\("{re.escape(number)}"\)'), ('packaging/dr_router.1', f'"dr_router {number}"'),
+    for path, told in (('crates/dr_word_line/src/words.rt', rf'VERSION: &str = "{re.escape(number)}";'), ('packaging/dr_router.1', f'"dr_router {number}"'),
                        ('docs/USAGE.md', f'^dr_router {number}$'), ('CHANGELOG.md', rf'\A# [^\n]*\n\n(?:[^#\n][^\n]*\n|\n)*## {number}\b')):
         assert re.search(told, release.content(f'{TOP}/{path}').decode(), re.M), f'{path} has another version than VERSION'
 

@@ -132,7 +132,9 @@ def events():
         stop(arch)
         told_at_gate, told_at_arch = room.events('GATE'), room.events('ARCH')
         said = [(*event[1:3], re.sub(r' milliseconds=\d+$', ' milliseconds=N', event[3])) for event in told_at_gate]
-        for event in [('INFO', 'node', 'serves node="GATE" ledger="GATE.db" associations=5'), ('DEBUG', 'association', 'taken session=1'),
+        said = [(*event[:2], re.sub(r'127\.0\.0\.1:\d+', '127.0.0.1:N', event[2])) for event in said]
+        for event in [('INFO', 'node', 'serves node="GATE" ledger="GATE.db" associations=5'),
+                      ('INFO', 'association', 'comes session=1 address="127.0.0.1:N"'), ('DEBUG', 'association', 'taken session=1'),
                       ('DEBUG', 'instance', 'new session=1 caller="CT1" uid=1.2.3.0'), ('INFO', 'association', 'released session=5 instances=1 refused=0 milliseconds=N'),
                       ('INFO', 'contexts', f'asked session=1 caller="CT1" called="GATE" accepted="{CT.decode()}={EXPLICIT.decode()}" refused=""'),
                       ('INFO', 'visit', 'released dest="ARCH" settled=1'), ('INFO', 'node', 'has arrivals=0 kept=0 lines=0'),
@@ -247,7 +249,8 @@ def forged():
             same(caller.release(), RELEASED)
         ended(arch)
         told_at_arch = [event[3] for event in room.events('ARCH') if event[2] == 'instance']
-        same(told_at_arch, ['refused session=1 caller="A\\nB\\x1b[1m\\" \\\\C" uid=1.2.3.4 fault="G1 NoLine"'])
+        same(told_at_arch, ['refused session=1 caller="A\\nB\\x1b[1m\\" \\\\C" uid=1.2.3.4 fault="G1 NoLine" '
+                            f'class={CT.decode()} syntax={EXPLICIT.decode()} modality="CT" station="S1"'])
 
 
 def refused_contexts():

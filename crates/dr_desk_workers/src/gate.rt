@@ -1,6 +1,6 @@
 //! What a session's worker tells of it, and points at which the session may be held.
 use dr_base::Text;
-use dr_ledger::{Arrived, LedgerFault};
+use dr_ledger::{Arrived, Instance, LedgerFault};
 use dr_pdu::{AssociateAc, AssociateRq};
 use dr_session::{Ended, SessionFault};
 
@@ -36,12 +36,12 @@ pub trait Gate {
 
     fn at(&self, session: u64, point: Point);
 
-    /// The desk answered the arrival of the instance of this UID from a caller.
+    /// The desk answered the arrival of this instance from a caller.
     fn arrived(
         &self,
         session: u64,
         caller: &Text,
-        uid: &Text,
+        instance: &Instance,
         answer: Result<Arrived, LedgerFault>,
     );
 

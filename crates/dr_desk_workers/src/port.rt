@@ -5,7 +5,7 @@ use crate::counts::SessionCounts;
 use crate::gate::{Gate, Point};
 use dr_base::Text;
 use dr_desk::{Pass, SharedDesk, Sharing};
-use dr_ledger::{Arrived, Item, Job, Ledger, LedgerFault, Outcome};
+use dr_ledger::{Arrived, Instance, Item, Job, Ledger, LedgerFault, Outcome};
 use dr_route::Targets;
 use dr_session::DeskPort;
 use std::alloc::{AllocError, Global};
@@ -25,15 +25,16 @@ pub struct SessionPort<'a, R: Wait, L: Ledger, B: Sharing, G: Gate> {
 }
 
 impl<'a, R: Wait, L: Ledger, B: Sharing, G: Gate> SessionPort<'a, R, L, B, G> {
-    /// Tells what the desk answered. Where there was no memory for the UID, nothing is told.
+    /// Tells what the desk answered. Where there was no memory to tell of which instance, nothing
+    /// is told.
     fn tell(
         &self,
         caller: &Text,
-        uid: Result<Text, AllocError>,
+        instance: Result<Instance, AllocError>,
         answer: Result<Arrived, LedgerFault>,
     ) {
-        if let Ok(uid) = uid {
-            self.gate.arrived(self.session, caller, &uid, answer);
+        if let Ok(instance) = instance {
+            self.gate.arrived(self.session, caller, &instance, answer);
         }
     }
 
@@ -54,13 +55,13 @@ impl<'a, R: Wait, L: Ledger, B: Sharing, G: Gate> DeskPort for SessionPort<'a, R
         s.pass.now.receipts.items t.pass.now.made.count t.pass.now.receipts.items };
 
     fn arrive(&mut self, caller: &Text, item: Item) -> Result<Arrived, LedgerFault> {
-        let uid: Result<Text, AllocError> = item.uid().clone();
+        let instance = item.instance();
         let targets = self.desk.site().targets(self.alloc, caller, item.key());
         let answer = self.desk.arrive(self.rt, self.pass, caller, item);
         self.counts.note(answer.is_ok());
         self.gate.at(self.session, Point::Stored);
         self.tell_rows(targets);
-        self.tell(caller, uid, answer);
+        self.tell(caller, instance, answer);
         answer
     }
 

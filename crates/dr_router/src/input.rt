@@ -4,6 +4,7 @@ use dr_run_control::names_of;
 use dr_run_request::Access;
 use dr_run_serve::{ControlPlace, ControlPort, Ending, Stop};
 use dr_run_token::{SystemTokens, Tokens};
+use dr_word_line::VERSION;
 use std::alloc::Global;
 use std::hash::RandomState;
 use std::io;
@@ -60,7 +61,7 @@ impl<'a, T: Threads> Ending for InputEnd<'a, T> {
             token,
             is_guarded: place.is_for_anyone,
         };
-        Ok(ControlPort::new(listener, keys, access))
+        Ok(ControlPort::new(listener, keys, access, VERSION))
     }
 }
 

@@ -10,7 +10,10 @@ use Rattle.dr_ledger.specs.declared.item.Cause.TheVariants as cause
 use Rattle.dr_ledger.specs.declared.item.Progress.{Progress}
 use Rattle.dr_ledger.specs.declared.item.Progress.TheVariants as progress
 use Rattle.dr_run_answer.specs.declared.association.Association.{Association}
+use Rattle.dr_run_answer.specs.declared.intake.Brought.{Brought}
+use Rattle.dr_run_answer.specs.declared.intake.Recent.{Recent}
 use Rattle.dr_run_answer.specs.declared.json.Counts.{Counts}
+use Rattle.dr_run_answer.specs.declared.json.Identity.{Identity}
 use Rattle.dr_run_answer.specs.declared.json.Queue.{Queue}
 use Rattle.dr_run_answer.specs.declared.json.Visited.{Visited}
 use Rattle.dr_run_answer.specs.Quoting.{quoted}
@@ -69,12 +72,19 @@ abbrev pub instance_line : Text → Bool → Bool → Text
 instance_line uid body over =
     begun (codes "instance") uid ++ flag (codes "body") body ++ flag (codes "over") over ++ ended
 
--- the line of a node that serves since that moment
-abbrev pub node_line : Text → ℕ → Counts → Text
-node_line name since counts =
-    begun (codes "node") name ++ number (codes "since") since
+-- the line of a node of that plan, whose program has that version, and that serves since that
+-- moment
+abbrev pub node_line : Text → Text → Text → ℕ → Counts → Text
+node_line name plan version since counts =
+    begun (codes "node") name ++ word (codes "plan") plan ++ word (codes "version") version
+    ++ number (codes "since") since
     ++ number (codes "arrivals") counts.arrivals ++ number (codes "kept") counts.kept
     ++ number (codes "lines") counts.lines ++ number (codes "failures") counts.failures ++ ended
+
+-- the same of an identity
+abbrev pub line_of_node : Identity → Counts → Text
+line_of_node node counts =
+    node_line node.name.now node.plan.now node.version.now node.since counts
 
 -- from when on the first row is due that waits, if one does
 abbrev pub due_part : Option ℕ → Text
@@ -104,6 +114,12 @@ association_line association =
     ++ number (codes "since") association.since ++ number (codes "stored") association.stored
     ++ number (codes "again") association.again ++ number (codes "refused") association.refused
     ++ ended
+
+-- the line of what came within the last hour from a caller, of a modality
+abbrev pub recent_line : Recent → Text
+recent_line recent =
+    begun (codes "from") recent.caller ++ word (codes "modality") recent.modality
+    ++ number (codes "stored") recent.stored ++ number (codes "refused") recent.refused ++ ended
 
 -- an act was done; a node is well; a fault
 abbrev pub done_line : Text
@@ -139,11 +155,28 @@ figures counts =
 abbrev pub open_figure : ℕ → Text
 open_figure count = figure (codes "dr_router_associations") (codes "gauge") count
 
+-- a figure's name with its first label, a second label, and what the figure is
+abbrev pub label_part : Text → Text → Text → Text
+label_part name label of = name ++ codes "{" ++ label ++ codes "=" ++ quoted of
+
+abbrev pub other_part : Text → Text → Text
+other_part other to = codes "," ++ other ++ codes "=" ++ quoted to
+
+abbrev pub value_part : ℕ → Text
+value_part value = codes "} " ++ decimal value ++ codes "\n"
+
+-- a figure of one of several, which its label names, or its two labels
+abbrev pub labelled : Text → Text → Text → ℕ → Text
+labelled name label of value = label_part name label of ++ value_part value
+
+abbrev pub twice_labelled : Text → Text → Text → Text → Text → ℕ → Text
+twice_labelled name label of other to value =
+    label_part name label of ++ other_part other to ++ value_part value
+
 -- how many rows to a node are at a stage
 abbrev pub rows_figure : Text → Text → ℕ → Text
 rows_figure dest state value =
-    codes "dr_router_rows{dest=" ++ quoted dest ++ codes ",state=" ++ quoted state ++ codes "} "
-    ++ decimal value ++ codes "\n"
+    twice_labelled (codes "dr_router_rows") (codes "dest") dest (codes "state") state value
 
 -- how many rows of a queue wait, are held and are done
 abbrev pub stages_of : Queue → Text
@@ -155,3 +188,51 @@ stages_of queue =
 -- the same for each node
 abbrev pub queues_figures : List Queue → Text
 queues_figures queues = codes "# TYPE dr_router_rows gauge\n" ++ flat_map stages_of queues
+
+-- how many visits to a node ended so
+abbrev pub visits_figure : Text → Text → ℕ → Text
+visits_figure dest came value =
+    twice_labelled (codes "dr_router_visits_total") (codes "dest") dest (codes "came") came value
+
+-- in which ways the visits to a node ended
+abbrev pub visits_of : Queue → Text
+visits_of queue =
+    visits_figure queue.dest.now (codes "released") queue.visits.released
+    ++ visits_figure queue.dest.now (codes "rejected") queue.visits.rejected
+    ++ visits_figure queue.dest.now (codes "aborted") queue.visits.aborted
+    ++ visits_figure queue.dest.now (codes "closed") queue.visits.closed
+    ++ visits_figure queue.dest.now (codes "unreached") queue.visits.unreached
+    ++ visits_figure queue.dest.now (codes "failed") queue.visits.failed
+
+-- the same for each node
+abbrev pub visits_figures : List Queue → Text
+visits_figures queues =
+    codes "# TYPE dr_router_visits_total counter\n" ++ flat_map visits_of queues
+
+-- how many instances of a caller were answered so
+abbrev pub brought_figure : Text → Text → ℕ → Text
+brought_figure caller answer value =
+    twice_labelled (codes "dr_router_instances_total") (codes "caller") caller (codes "answer")
+    answer value
+
+-- what a caller has brought
+abbrev pub brought_of : Brought → Text
+brought_of brought =
+    brought_figure brought.caller (codes "stored") brought.stored
+    ++ brought_figure brought.caller (codes "again") brought.again
+    ++ brought_figure brought.caller (codes "refused") brought.refused
+
+-- the same of each caller
+abbrev pub brought_figures : List Brought → Text
+brought_figures callers =
+    codes "# TYPE dr_router_instances_total counter\n" ++ flat_map brought_of callers
+
+-- how many bytes those have that were stored of a caller
+abbrev pub bytes_of : Brought → Text
+bytes_of brought =
+    labelled (codes "dr_router_stored_bytes_total") (codes "caller") brought.caller brought.bytes
+
+-- the same of each caller
+abbrev pub bytes_figures : List Brought → Text
+bytes_figures callers =
+    codes "# TYPE dr_router_stored_bytes_total counter\n" ++ flat_map bytes_of callers

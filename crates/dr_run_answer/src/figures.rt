@@ -1,7 +1,9 @@
 //! Figures in the text format of Prometheus.
 ghost use Rattle.std.specs.Prelude.{◌≡◌, ◌++◌, OnOk, decimal, flat_map};
 ghost use Rattle.dr_run_answer.specs.Answers.{figure, figures, queues_figures, rows_figure};
-ghost use Rattle.dr_run_answer.specs.Answers.{open_figure, stages_of};
+ghost use Rattle.dr_run_answer.specs.Answers.{labelled, open_figure, stages_of, twice_labelled};
+ghost use Rattle.dr_run_answer.specs.Answers.{label_part, other_part, value_part};
+ghost use Rattle.dr_run_answer.specs.Answers.{visits_figure, visits_figures, visits_of};
 
 use crate::json::{Counts, Queue, put_decimal};
 use crate::quoted::{put_text, put_words};
@@ -40,18 +42,75 @@ pub fn put_open(out: &mut Vec<u8>, count: u64) -> Result<(), AllocError>
     put_figure(out, "dr_router_associations", "gauge", count)
 }
 
+/// Adds a figure's name and its first label.
+fn put_label(out: &mut Vec<u8>, name: &str, label: &str, of: &Text) -> Result<(), AllocError>
+    ensures { OnOk result
+        (out.new.items ≡ out.old.items ++ label_part name.now label.now of.now) }
+{
+    out.extend_from_slice(name.as_bytes())?;
+    out.extend_from_slice(b"{")?;
+    out.extend_from_slice(label.as_bytes())?;
+    out.extend_from_slice(b"=")?;
+    put_text(out, of)
+}
+
+/// Adds the end of a figure with labels.
+fn put_value(out: &mut Vec<u8>, value: u64) -> Result<(), AllocError>
+    ensures { OnOk result (out.new.items ≡ out.old.items ++ value_part value) }
+{
+    out.extend_from_slice(b"} ")?;
+    put_decimal(out, value)?;
+    out.extend_from_slice(b"\n")
+}
+
+/// Adds a figure with a label.
+pub(crate) fn put_labelled(
+    out: &mut Vec<u8>,
+    name: &str,
+    label: &str,
+    of: &Text,
+    value: u64,
+) -> Result<(), AllocError>
+    ensures { OnOk result
+        (out.new.items ≡ out.old.items ++ labelled name.now label.now of.now value) }
+{
+    put_label(out, name, label, of)?;
+    put_value(out, value)
+}
+
+/// Adds a second label.
+fn put_other(out: &mut Vec<u8>, other: &str, to: &str) -> Result<(), AllocError>
+    ensures { OnOk result (out.new.items ≡ out.old.items ++ other_part other.now to.now) }
+{
+    out.extend_from_slice(b",")?;
+    out.extend_from_slice(other.as_bytes())?;
+    out.extend_from_slice(b"=")?;
+    put_words(out, to)
+}
+
+/// Adds a figure with two labels.
+pub(crate) fn put_twice_labelled(
+    out: &mut Vec<u8>,
+    name: &str,
+    label: &str,
+    of: &Text,
+    other: &str,
+    to: &str,
+    value: u64,
+) -> Result<(), AllocError>
+    ensures { OnOk result (out.new.items ≡ out.old.items
+        ++ twice_labelled name.now label.now of.now other.now to.now value) }
+{
+    put_label(out, name, label, of)?;
+    put_other(out, other, to)?;
+    put_value(out, value)
+}
+
 /// Adds how many rows to a node are at a stage.
 fn put_rows(out: &mut Vec<u8>, dest: &Text, state: &str, value: u64) -> Result<(), AllocError>
     ensures { OnOk result (out.new.items ≡ out.old.items ++ rows_figure dest.now state.now value) }
 {
-    out.extend_from_slice(b"dr_router_rows{dest=")?;
-    put_text(out, dest)?;
-    out.extend_from_slice(b",state=")?;
-    put_words(out, state)?;
-    out.extend_from_slice(b"} ")?;
-    put_decimal(out, value)?;
-    out.extend_from_slice(b"\n")?;
-    Ok(())
+    put_twice_labelled(out, "dr_router_rows", "dest", dest, "state", state, value)
 }
 
 /// Adds how many rows to a node wait, are held and are done.
@@ -79,5 +138,51 @@ pub fn put_queues(out: &mut Vec<u8>, queues: &[Queue<'_>]) -> Result<(), AllocEr
 {
     out.extend_from_slice(b"# TYPE dr_router_rows gauge\n")?;
     put_each(out, queues)?;
+    Ok(())
+}
+
+/// Adds how many visits to a node ended so.
+fn put_came(out: &mut Vec<u8>, dest: &Text, came: &str, value: u64) -> Result<(), AllocError>
+    ensures { OnOk result (out.new.items ≡ out.old.items ++ visits_figure dest.now came.now value) }
+{
+    put_twice_labelled(
+        out,
+        "dr_router_visits_total",
+        "dest",
+        dest,
+        "came",
+        came,
+        value,
+    )
+}
+
+/// Adds in which ways the visits to a node ended.
+fn put_visits_of(out: &mut Vec<u8>, queue: &Queue<'_>) -> Result<(), AllocError>
+    ensures { OnOk result (out.new.items ≡ out.old.items ++ visits_of queue.now) }
+{
+    put_came(out, queue.dest, "released", queue.visits.released)?;
+    put_came(out, queue.dest, "rejected", queue.visits.rejected)?;
+    put_came(out, queue.dest, "aborted", queue.visits.aborted)?;
+    put_came(out, queue.dest, "closed", queue.visits.closed)?;
+    put_came(out, queue.dest, "unreached", queue.visits.unreached)?;
+    put_came(out, queue.dest, "failed", queue.visits.failed)
+}
+
+/// The same for each node.
+fn put_each_visits(out: &mut Vec<u8>, queues: &[Queue<'_>]) -> Result<(), AllocError>
+    ensures { OnOk result (out.new.items ≡ out.old.items ++ flat_map visits_of queues.now) }
+{
+    for queue in queues {
+        put_visits_of(out, queue)?;
+    }
+    Ok(())
+}
+
+/// Adds in which ways the visits to each node ended.
+pub fn put_visits(out: &mut Vec<u8>, queues: &[Queue<'_>]) -> Result<(), AllocError>
+    ensures { OnOk result (out.new.items ≡ out.old.items ++ visits_figures queues.now) }
+{
+    out.extend_from_slice(b"# TYPE dr_router_visits_total counter\n")?;
+    put_each_visits(out, queues)?;
     Ok(())
 }

@@ -2,13 +2,23 @@
 ghost use Rattle.std.specs.Prelude.{◌≡◌, ◌++◌, OnOk, decimal};
 ghost use Rattle.dr_run_answer.specs.Answers.{cause_part, done_line, due_part, fault_line};
 ghost use Rattle.dr_run_answer.specs.Answers.{flag, held_part, instance_line, late_line};
-ghost use Rattle.dr_run_answer.specs.Answers.{line_of_queue, node_line, number, progress_part};
+ghost use Rattle.dr_run_answer.specs.Answers.{line_of_node, line_of_queue, number, progress_part};
 ghost use Rattle.dr_run_answer.specs.Answers.{row_line, visit_part, waiting_part, well_line, word};
 
 use crate::quoted::{put_quoted, put_text};
 use dr_base::Text;
 use dr_ledger::{Cause, Progress};
 use std::alloc::AllocError;
+
+/// Which node it is: its name, the digest of its plan in lower-case hexadecimal digits, the version
+/// of its program, and since when it serves (milliseconds).
+#[derive(Clone, Copy, Debug, Drop)]
+pub struct Identity<'a> {
+    pub name: &'a Text,
+    pub plan: &'a str,
+    pub version: &'a str,
+    pub since: u64,
+}
 
 /// How much a node has: accepted arrivals, kept instances, lines of the journal, and how often the
 /// store has failed.
@@ -27,8 +37,19 @@ pub struct Visited {
     pub came: &'static str,
 }
 
+/// How many visits to a node ended in each way, since this one serves.
+#[derive(Clone, Copy, PartialEq, Eq, Debug)]
+pub struct Visits {
+    pub released: u64,
+    pub rejected: u64,
+    pub aborted: u64,
+    pub closed: u64,
+    pub unreached: u64,
+    pub failed: u64,
+}
+
 /// How many rows to a node wait, are held and are done, from which moment on the first one that
-/// waits is due (milliseconds), and the last visit to it, if it is known.
+/// waits is due (milliseconds), the last visit to it, if it is known, and how its visits ended.
 #[derive(Debug, Drop)]
 pub struct Queue<'a> {
     pub dest: &'a Text,
@@ -37,6 +58,7 @@ pub struct Queue<'a> {
     pub done: u64,
     pub due: Option<u64>,
     pub visit: Option<Visited>,
+    pub visits: Visits,
 }
 
 /// Adds a number.
@@ -58,7 +80,7 @@ pub(crate) fn put_number(out: &mut Vec<u8>, name: &str, value: u64) -> Result<()
 }
 
 /// Adds a text behind its name.
-fn put_word(out: &mut Vec<u8>, name: &str, value: &[u8]) -> Result<(), AllocError>
+pub(crate) fn put_word(out: &mut Vec<u8>, name: &str, value: &[u8]) -> Result<(), AllocError>
     ensures { OnOk result (out.new.items ≡ out.old.items ++ word name.now value.now) }
 {
     out.extend_from_slice(b",\"")?;
@@ -156,18 +178,15 @@ pub fn put_instance(out: &mut Vec<u8>, uid: &Text, body: bool, over: bool) -> Re
     Ok(())
 }
 
-/// Adds the line of a node, which serves since that moment (milliseconds).
-pub fn put_node(
-    out: &mut Vec<u8>,
-    name: &Text,
-    since: u64,
-    counts: Counts,
-) -> Result<(), AllocError>
-    ensures { OnOk result (out.new.items ≡ out.old.items ++ node_line name.now since counts) }
+/// Adds the line of a node.
+pub fn put_node(out: &mut Vec<u8>, node: &Identity<'_>, counts: Counts) -> Result<(), AllocError>
+    ensures { OnOk result (out.new.items ≡ out.old.items ++ line_of_node node.now counts) }
 {
     out.extend_from_slice(b"{\"node\":")?;
-    put_text(out, name)?;
-    put_number(out, "since", since)?;
+    put_text(out, node.name)?;
+    put_word(out, "plan", node.plan.as_bytes())?;
+    put_word(out, "version", node.version.as_bytes())?;
+    put_number(out, "since", node.since)?;
     put_number(out, "arrivals", counts.arrivals)?;
     put_number(out, "kept", counts.kept)?;
     put_number(out, "lines", counts.lines)?;

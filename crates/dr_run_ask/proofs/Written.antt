@@ -9,7 +9,7 @@ use Rattle.form_urlencoded.proofs.FormLemmas.{All-byte_serialize, IsSerializedBy
 use Rattle.form_urlencoded.proofs.OnLiterals.{form_urlencoded_on_literals}
 use Rattle.dr_base.specs.Texts.{Text}
 use Rattle.dr_run_request.specs.Forms.{first_value, value_in}
-use Rattle.dr_run_ask.specs.Calls.{dest_form, row_form, rows_form, uid_form}
+use Rattle.dr_run_ask.specs.Calls.{dest_form, reason_form, row_form, rows_form, uid_form}
 use Rattle.dr_run_ask.specs.Laws.{AreBytes, ReadsTwo}
 
 abbrev Pair : Type 0
@@ -58,12 +58,37 @@ two_are one two =
     first_is one (serialize_pair one ++ 38 ∷ rest) rest (split_once_before_at 38 _ rest none) (split_once_after_at 38 _ rest none)
     ∙ ap (λ (l : List Pair). (byte_serialize one.0, byte_serialize one.1) ∷ l) (one_is two)
 
+three_are : (one two three : Pair)
+    → raw_pairs (serialize_pair one ++ 38 ∷ (serialize_pair two ++ 38 ∷ serialize_pair three))
+    ≡ (byte_serialize one.0, byte_serialize one.1) ∷ (byte_serialize two.0, byte_serialize two.1)
+    ∷ (byte_serialize three.0, byte_serialize three.1) ∷ []
+three_are one two three =
+    let none = no_ampersand one in
+    let rest = serialize_pair two ++ 38 ∷ serialize_pair three in
+    first_is one (serialize_pair one ++ 38 ∷ rest) rest (split_once_before_at 38 _ rest none)
+    (split_once_after_at 38 _ rest none)
+    ∙ ap (λ (l : List Pair). (byte_serialize one.0, byte_serialize one.1) ∷ l) (two_are two three)
+
 -- two pairs are joined by an ampersand
 joined : (one two : Pair) → extend_pairs [] (one ∷ two ∷ []) ≡ serialize_pair one ++ 38 ∷ serialize_pair two
 joined one two =
     let front = serialize_pair one in
     let sep : separator front ≡ 38 ∷ [] = cond-true _ _ _ (lt-ltb 0 _ (is_some one)) in
     ap (λ (s : List ℕ). front ++ s ++ serialize_pair two) sep ∙ append_assoc front (38 ∷ []) (serialize_pair two)
+
+-- and three
+joined_3 : (one two three : Pair)
+    → extend_pairs [] (one ∷ two ∷ three ∷ [])
+    ≡ serialize_pair one ++ 38 ∷ (serialize_pair two ++ 38 ∷ serialize_pair three)
+joined_3 one two three =
+    let front = serialize_pair one ++ 38 ∷ serialize_pair two in
+    let last = serialize_pair three in
+    let some : 0 < length front = simp length-append (omega arith) in
+    let sep : separator front ≡ 38 ∷ [] = cond-true _ _ _ (lt-ltb 0 _ some) in
+    ap (λ (s : List ℕ). s ++ separator s ++ last) (joined one two)
+    ∙ ap (λ (s : List ℕ). front ++ s ++ last) sep
+    ∙ append_assoc front (38 ∷ []) last
+    ∙ append_assoc (serialize_pair one) (38 ∷ serialize_pair two) (38 ∷ last)
 
 -- the names of fields are written as they are
 uid_name : byte_serialize (codes "uid") ≡ codes "uid"
@@ -73,6 +98,10 @@ uid_name = refl
 dest_name : byte_serialize (codes "dest") ≡ codes "dest"
 unfolding form_urlencoded_on_literals
 dest_name = refl
+
+reason_name : byte_serialize (codes "reason") ≡ codes "reason"
+unfolding form_urlencoded_on_literals
+reason_name = refl
 
 after_name : byte_serialize (codes "after") ≡ codes "after"
 unfolding form_urlencoded_on_literals
@@ -89,6 +118,21 @@ row_pairs uid dest =
     ∙ ap (λ (n : List ℕ). (n, byte_serialize uid) ∷ (byte_serialize (codes "dest"), byte_serialize dest) ∷ []) uid_name
     ∙ ap (λ (n : List ℕ). (codes "uid", byte_serialize uid) ∷ (n, byte_serialize dest) ∷ []) dest_name
 
+reason_pairs : (uid dest reason : Text)
+    → raw_pairs (reason_form uid dest reason)
+    ≡ (codes "uid", byte_serialize uid) ∷ (codes "dest", byte_serialize dest)
+    ∷ (codes "reason", byte_serialize reason) ∷ []
+reason_pairs uid dest reason =
+    let last = byte_serialize reason in
+    ap raw_pairs (joined_3 (codes "uid", uid) (codes "dest", dest) (codes "reason", reason))
+    ∙ three_are (codes "uid", uid) (codes "dest", dest) (codes "reason", reason)
+    ∙ ap (λ (n : List ℕ). (n, byte_serialize uid) ∷ (byte_serialize (codes "dest"), byte_serialize dest)
+    ∷ (byte_serialize (codes "reason"), last) ∷ []) uid_name
+    ∙ ap (λ (n : List ℕ). (codes "uid", byte_serialize uid) ∷ (n, byte_serialize dest)
+    ∷ (byte_serialize (codes "reason"), last) ∷ []) dest_name
+    ∙ ap (λ (n : List ℕ). (codes "uid", byte_serialize uid) ∷ (codes "dest", byte_serialize dest)
+    ∷ (n, last) ∷ []) reason_name
+
 rows_pairs : (dest after : Text) → raw_pairs (rows_form dest after) ≡ (codes "dest", byte_serialize dest) ∷ (codes "after", byte_serialize after) ∷ []
 rows_pairs dest after =
     ap raw_pairs (joined (codes "dest", dest) (codes "after", after)) ∙ two_are (codes "dest", dest) (codes "after", after)
@@ -101,8 +145,25 @@ dest_pairs dest = one_is (codes "dest", dest) ∙ ap (λ (n : List ℕ). (n, byt
 uid_pairs : (uid : Text) → raw_pairs (uid_form uid) ≡ (codes "uid", byte_serialize uid) ∷ []
 uid_pairs uid = one_is (codes "uid", uid) ∙ ap (λ (n : List ℕ). (n, byte_serialize uid) ∷ []) uid_name
 
-pub row_read : (uid dest : Text) → AreBytes uid → AreBytes dest → ReadsTwo (row_form uid dest) (codes "uid") uid (codes "dest") dest
-row_read uid dest a b = (says _ (codes "uid") uid _ (row_pairs uid dest) refl a, says _ (codes "dest") dest _ (row_pairs uid dest) refl b)
+pub row_read : (uid dest : Text) → AreBytes uid → AreBytes dest
+    → ReadsTwo (row_form uid dest) (codes "uid") uid (codes "dest") dest
+    × (value_in (row_form uid dest) (codes "reason") ≡ None)
+row_read uid dest a b = (
+  (
+    says _ (codes "uid") uid _ (row_pairs uid dest) refl a,
+    says _ (codes "dest") dest _ (row_pairs uid dest) refl b,
+  ),
+  ap (λ (l : List Pair). option_map decode (first_value l (codes "reason"))) (row_pairs uid dest),
+)
+
+pub reason_read : (uid dest reason : Text) → AreBytes uid → AreBytes dest → AreBytes reason
+    → ReadsTwo (reason_form uid dest reason) (codes "uid") uid (codes "dest") dest
+    × (value_in (reason_form uid dest reason) (codes "reason") ≡ Some reason)
+reason_read uid dest reason a b d =
+    let pairs = reason_pairs uid dest reason in (
+      (says _ (codes "uid") uid _ pairs refl a, says _ (codes "dest") dest _ pairs refl b),
+      says _ (codes "reason") reason _ pairs refl d,
+    )
 
 pub rows_read : (dest after : Text) → AreBytes dest → AreBytes after
     → ReadsTwo (rows_form dest after) (codes "dest") dest (codes "after") after × (value_in (rows_form dest after) (codes "state") ≡ None)

@@ -8,7 +8,7 @@ use Rattle.http1.specs.Head.{request_text}
 use Rattle.dr_base.specs.Texts.{Text}
 use Rattle.dr_run_ask.specs.declared.call.Call.{Call}
 use Rattle.dr_run_ask.specs.declared.call.Call.TheVariants.{Status, Rows, Requeue, GiveUp, Forget}
-use Rattle.dr_run_ask.specs.declared.call.Call.TheVariants.{Stop}
+use Rattle.dr_run_ask.specs.declared.call.Call.TheVariants.{Visit, Stop}
 
 abbrev pub path_of : Call → Text
 path_of Status = codes "/status"
@@ -16,6 +16,7 @@ path_of (Rows form) = codes "/rows"
 path_of (Requeue form) = codes "/requeue"
 path_of (GiveUp form) = codes "/drop"
 path_of (Forget form) = codes "/forget"
+path_of (Visit form) = codes "/visit"
 path_of Stop = codes "/stop"
 
 -- it changes something
@@ -25,6 +26,7 @@ is_act (Rows form) = false
 is_act (Requeue form) = true
 is_act (GiveUp form) = true
 is_act (Forget form) = true
+is_act (Visit form) = true
 is_act Stop = true
 
 -- what it is about
@@ -34,16 +36,22 @@ form_of (Rows form) = form.now
 form_of (Requeue form) = form.now
 form_of (GiveUp form) = form.now
 form_of (Forget form) = form.now
+form_of (Visit form) = form.now
 form_of Stop = []
 
 -- an act is told by POST, and all else is asked by GET
 abbrev pub method_of : Call → Text
 method_of call = if is_act call then codes "POST" else codes "GET"
 
--- the forms of a row, of all held rows to a node, of an instance, and of the rows to a node behind
--- a UID
+-- the forms of a row, of a row with a reason, of a node, of an instance, and of the rows to a node
+-- behind a UID
 abbrev pub row_form : Text → Text → Text
 row_form uid dest = extend_pairs [] ((codes "uid", uid) ∷ (codes "dest", dest) ∷ [])
+
+abbrev pub reason_form : Text → Text → Text → Text
+reason_form uid dest reason =
+    extend_pairs []
+    ((codes "uid", uid) ∷ (codes "dest", dest) ∷ (codes "reason", reason) ∷ [])
 
 abbrev pub dest_form : Text → Text
 dest_form dest = extend_pairs [] ((codes "dest", dest) ∷ [])

@@ -6,8 +6,8 @@ use Rattle.dr_run_request.specs.Asking as asked
 use Rattle.dr_run_request.specs.declared.route.Route.{Route}
 use Rattle.dr_run_request.specs.declared.route.Route.TheVariants as routes
 use Rattle.dr_run_request.specs.Forms.{value_in}
-use Rattle.dr_run_ask.specs.Calls.{dest_form, is_act, method_of, path_of, row_form, rows_form}
-use Rattle.dr_run_ask.specs.Calls.{uid_form}
+use Rattle.dr_run_ask.specs.Calls.{dest_form, is_act, method_of, path_of, reason_form, row_form}
+use Rattle.dr_run_ask.specs.Calls.{rows_form, uid_form}
 use Rattle.dr_run_ask.specs.declared.call.Call.{Call}
 use Rattle.dr_run_ask.specs.declared.call.Call.TheVariants as calls
 
@@ -27,6 +27,7 @@ CallsAreRoutes =
     × ((form : Bor (List ℕ)) → IsOfRoute (calls.Requeue form) routes.Requeue)
     × ((form : Bor (List ℕ)) → IsOfRoute (calls.GiveUp form) routes.GiveUp)
     × ((form : Bor (List ℕ)) → IsOfRoute (calls.Forget form) routes.Forget)
+    × ((form : Bor (List ℕ)) → IsOfRoute (calls.Visit form) routes.Visit)
 
 -- a text is of bytes
 abbrev pub AreBytes : Text → Type 0
@@ -38,11 +39,15 @@ ReadsTwo form one first two second =
     (value_in form one ≡ Some first) × (value_in form two ≡ Some second)
 
 -- the node's reader of forms reads in each what was written into it; where all rows to a node are
--- meant, no stage, and where all held ones are, no UID
+-- meant, no stage, and where all held ones are, no UID; and no reason where none was given
 abbrev pub FormsAreRead : Type 0
 FormsAreRead =
     ((uid dest : Text) → AreBytes uid → AreBytes dest
-    → ReadsTwo (row_form uid dest) (codes "uid") uid (codes "dest") dest)
+    → ReadsTwo (row_form uid dest) (codes "uid") uid (codes "dest") dest
+    × (value_in (row_form uid dest) (codes "reason") ≡ None))
+    × ((uid dest reason : Text) → AreBytes uid → AreBytes dest → AreBytes reason
+    → ReadsTwo (reason_form uid dest reason) (codes "uid") uid (codes "dest") dest
+    × (value_in (reason_form uid dest reason) (codes "reason") ≡ Some reason))
     × ((dest after : Text) → AreBytes dest → AreBytes after
     → ReadsTwo (rows_form dest after) (codes "dest") dest (codes "after") after
     × (value_in (rows_form dest after) (codes "state") ≡ None))

@@ -116,6 +116,9 @@ fn request_fault(name: &[u8]) -> Option<AskFault>
     if is_same(name, b"Token") {
         return Some(AskFault::Token);
     }
+    if is_same(name, b"Hop") {
+        return Some(AskFault::NoHop);
+    }
     None
 }
 

@@ -1,7 +1,7 @@
 //! What a node that runs is asked and told.
 ghost use Rattle.std.specs.Prelude.{◌≡◌, IfOk, string_bytes};
-ghost use Rattle.dr_run_ask.specs.Calls.{dest_form, form_of, is_act, method_of, path_of, row_form};
-ghost use Rattle.dr_run_ask.specs.Calls.{rows_form, uid_form};
+ghost use Rattle.dr_run_ask.specs.Calls.{dest_form, form_of, is_act, method_of, path_of};
+ghost use Rattle.dr_run_ask.specs.Calls.{reason_form, row_form, rows_form, uid_form};
 
 use form_urlencoded::Serializer;
 use std::alloc::{AllocError, Global};
@@ -20,6 +20,8 @@ pub enum Call<'a> {
     GiveUp(&'a str),
     /// To forget an instance.
     Forget(&'a str),
+    /// To visit a node now.
+    Visit(&'a str),
     /// To end in order.
     Stop,
 }
@@ -35,6 +37,7 @@ impl<'a> Call<'a> {
             Call::Requeue(_) => "/requeue",
             Call::GiveUp(_) => "/drop",
             Call::Forget(_) => "/forget",
+            Call::Visit(_) => "/visit",
             Call::Stop => "/stop",
         }
     }
@@ -45,7 +48,8 @@ impl<'a> Call<'a> {
     {
         match self {
             Call::Status | Call::Rows(_) => false,
-            Call::Requeue(_) | Call::GiveUp(_) | Call::Forget(_) | Call::Stop => true,
+            Call::Requeue(_) | Call::GiveUp(_) | Call::Forget(_) => true,
+            Call::Visit(_) | Call::Stop => true,
         }
     }
 
@@ -55,9 +59,8 @@ impl<'a> Call<'a> {
     {
         match self {
             Call::Status | Call::Stop => "",
-            Call::Rows(form) | Call::Requeue(form) | Call::GiveUp(form) | Call::Forget(form) => {
-                form
-            }
+            Call::Rows(form) | Call::Requeue(form) | Call::GiveUp(form) => form,
+            Call::Forget(form) | Call::Visit(form) => form,
         }
     }
 
@@ -81,7 +84,16 @@ pub fn row_form(alloc: Global, uid: &str, dest: &str) -> Result<String, AllocErr
     Ok(form.finish())
 }
 
-/// The form of all held rows to a node.
+/// The form of a row, with a reason.
+pub fn reason_form(alloc: Global, uid: &str, dest: &str, reason: &str) -> Result<String, AllocError>
+    ensures { IfOk result (λ form. string_bytes form ≡ reason_form uid.now dest.now reason.now) }
+{
+    let mut form = Serializer::new(String::new(alloc));
+    form.extend_pairs(&[("uid", uid), ("dest", dest), ("reason", reason)])?;
+    Ok(form.finish())
+}
+
+/// The form of a node: of all held rows to it, or of a visit.
 pub fn dest_form(alloc: Global, dest: &str) -> Result<String, AllocError>
     ensures { IfOk result (λ form. string_bytes form ≡ dest_form dest.now) }
 {

@@ -26,6 +26,8 @@ pub enum AskFault {
     Closed,
     /// The token is lacking, or it is another one.
     Token,
+    /// The node sends nothing to the one that it is to visit.
+    NoHop,
     /// The row isn't held.
     NotHeld,
     /// The instance isn't over.
@@ -61,6 +63,7 @@ impl AskFault {
             AskFault::Unknown => "H8 Unknown",
             AskFault::Closed => "H9 Closed",
             AskFault::Token => "H10 Token",
+            AskFault::NoHop => "H11 NoHop",
             AskFault::NotHeld => "G5 NotHeld",
             AskFault::NotOver => "G7 NotOver",
             AskFault::Store => "G3 Store",

@@ -22,6 +22,7 @@ use Rattle.dr_ledger.specs.declared.fault.LedgerFault.TheVariants as ledger
 use Rattle.dr_run_answer.specs.Answers.{done_line, fault_line}
 use Rattle.dr_run_answer.specs.declared.json.Queue.{Queue}
 use Rattle.dr_run_answer.specs.declared.json.Visited.{Visited}
+use Rattle.dr_run_answer.specs.declared.json.Visits.{Visits}
 use Rattle.dr_run_control.specs.Replies.{IsToldIn, line_of_answer, name_of_form, name_of_refusal}
 use Rattle.dr_run_control.specs.Replies.{status_of_answer, status_of_form, status_of_refusal}
 use Rattle.dr_run_open.specs.declared.hops.NextHop.{NextHop}
@@ -207,14 +208,15 @@ module _ {L : Type 0} (site_of : L → Part) (book : L → Book) (stands : L →
       × Tells hops asked (body_of request) status text count receipts now kept)
       ⊎ IsLooked access browser request status text count receipts now kept)
 
--- the figures of a queue are those that were counted of the rows to its node, and its visit is the
--- one that is known
-abbrev pub IsCounted : Text → Tally → Option Visited → Queue → Type 0
-IsCounted dest tally visit queue =
+-- the figures of a queue are those that were counted of the rows to its node, and its visits are
+-- those that are known
+abbrev pub IsCounted : Text → Tally → Option Visited → Visits → Queue → Type 0
+IsCounted dest tally visit visits queue =
     (queue.dest.now ≡ dest) × (queue.waiting ≡ tally.waiting) × (queue.held ≡ tally.held)
     × (queue.done ≡ tally.done)
     × (queue.due ≡ tally.due)
     × (queue.visit ≡ visit)
+    × (queue.visits ≡ visits)
 
 -- the stage of a word that a form may have
 abbrev pub stage_named : Word → Stage

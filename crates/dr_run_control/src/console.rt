@@ -8,15 +8,15 @@ ghost use Rattle.dr_run_control.specs.Replies.{IsToldIn, line_of_answer, status_
 ghost use Rattle.dr_run_request.specs.declared.route.Route.TheVariants as RouteValue;
 
 use crate::acts::act;
-use crate::page::read_page;
-use crate::reads::{read_counts, read_health, read_instance, read_rows};
+use crate::page::{Times, read_page};
+use crate::reads::{Serving, read_figures, read_health, read_instance, read_rows, read_status};
 use crate::reply::{Media, Reply, misread, refusal, refused_by_ledger, respond};
 use bytes::Bytes;
 use dr_base::Text;
 use dr_desk::{Pass, SharedDesk, Sharing};
 use dr_ledger::LedgerFault;
 use dr_ledger_views::Views;
-use dr_run_answer::{Association, Visited, put_done};
+use dr_run_answer::{Association, Brought, Recent, Visited, Visits, put_done};
 use dr_run_open::NextHop;
 use dr_run_request::{
     Access, Browser, Order, Refused, Route, admit, is_of_page, order_of, reason_of,
@@ -26,6 +26,15 @@ use http::{Request, StatusCode};
 use http_server::{Response, Service};
 use std::alloc::{AllocError, Global};
 use std::sync::Wait;
+
+/// What goes on around the desk: associations that are open, what each caller has brought since the
+/// node serves, and what came within the last hour.
+#[derive(Debug, Drop)]
+pub struct Around {
+    pub associations: Vec<Association>,
+    pub brought: Vec<Brought>,
+    pub recents: Vec<Recent>,
+}
 
 /// The node around the desk: it is told of what is done there, and tells what the desk doesn't
 /// know.
@@ -42,10 +51,13 @@ pub trait House {
     /// The last visit to a node that ended.
     fn visited(&self, dest: &Text) -> Option<Visited>;
 
-    /// The associations that are open.
+    /// In which ways the visits to a node ended.
+    fn visits(&self, dest: &Text) -> Visits;
+
+    /// What goes on around the desk, at that moment.
     ///
     /// Errors: want of memory.
-    fn associations(&self) -> Result<Vec<Association>, AllocError>;
+    fn around(&self, now: u64) -> Result<Around, AllocError>;
 
     /// Whether no visit to a node is under way, and none has ended for ten minutes, at that moment.
     fn is_quiet(&self, dest: &Text, now: u64) -> bool;
@@ -65,6 +77,8 @@ pub struct Console<'a, R: Wait, L: Views, B: Sharing, C: Clock, H: House> {
     /// What a browser gives that may act; None where none may.
     pub browser: &'a Option<Browser>,
     pub hops: &'a [NextHop],
+    /// The version of the node's program.
+    pub version: &'a str,
     /// Since when the node serves, in milliseconds.
     pub since: u64,
     pub clock: &'a C,
@@ -218,12 +232,14 @@ impl<'a, R: Wait, L: Views, B: Sharing, C: Clock, H: House> Console<'a, R, L, B,
     {
         let (rt, alloc, desk) = (self.rt, self.alloc, self.desk);
         let (hops, house, now) = (self.hops, self.house, self.clock.now());
+        let (version, since) = (self.version, self.since);
+        let (serving, times) = (Serving { version, since }, Times { since, now });
         match route {
-            Route::Page => read_page(rt, alloc, desk, hops, house, self.since, now, self.browser),
+            Route::Page => read_page(rt, alloc, desk, hops, house, times, self.browser),
             Route::Rows => read_rows(rt, alloc, desk, query_of(request)),
             Route::Instance => read_instance(rt, alloc, desk, request.uri().path()),
-            Route::Status => read_counts(rt, alloc, desk, hops, house, self.since, Media::Lines),
-            Route::Metrics => read_counts(rt, alloc, desk, hops, house, self.since, Media::Figures),
+            Route::Status => read_status(rt, alloc, desk, hops, house, serving, now),
+            Route::Metrics => read_figures(rt, alloc, desk, hops, house, now),
             Route::Stop => {
                 house.stop();
                 done(alloc)

@@ -17,6 +17,6 @@ mod reply;
 mod talking;
 
 pub use access::names_of;
-pub use console::{Console, House};
+pub use console::{Around, Console, House};
 pub use reply::name_of_refusal;
 pub use talking::talk;

@@ -3,13 +3,13 @@ ghost use Rattle.std.specs.Prelude.{◌≡◌, IfOk, option_copied};
 ghost use Rattle.dr_run_page.specs.Documents.{document};
 
 use crate::console::House;
-use crate::reads::{counts_of, queues_of, reply_with};
+use crate::reads::{count_all, reply_with};
 use crate::reply::{Media, Reply, refused_by_ledger};
 use dr_base::Text;
 use dr_desk::{SharedDesk, Sharing};
 use dr_ledger::{LedgerFault, Progress};
 use dr_ledger_views::{Stage, Views};
-use dr_run_answer::{Association, Queue};
+use dr_run_answer::{Association, Queue, Recent};
 use dr_run_open::NextHop;
 use dr_run_page::{SHOWN, Shown, put_document};
 use dr_run_request::Browser;
@@ -65,14 +65,15 @@ fn page_text(
     shown: &Shown<'_>,
     queues: &[Queue<'_>],
     associations: &[Association],
+    recents: &[Recent],
     rows: &[Row],
 ) -> Result<Vec<u8>, AllocError>
     ensures { IfOk result (λ text. text.items
         ≡ document shown.now.name.now shown.now.since shown.now.moment shown.now.counts
-        (option_copied shown.now.key) queues.now associations.now rows.now) }
+        (option_copied shown.now.key) queues.now associations.now recents.now rows.now) }
 {
     let mut out = Vec::new(alloc);
-    put_document(&mut out, shown, queues, associations, rows)?;
+    put_document(&mut out, shown, queues, associations, recents, rows)?;
     Ok(out)
 }
 
@@ -84,30 +85,29 @@ fn key_of(browser: &Option<Browser>) -> Option<&Text> {
     }
 }
 
+/// Since when a node has served, and the moment now (milliseconds).
+#[derive(Clone, Copy, Debug)]
+pub(crate) struct Times {
+    pub since: u64,
+    pub now: u64,
+}
+
 /// The page of a node that has served since that moment, as it is now: how much it has, each next
-/// node with its queue, associations that are open, and rows that are held. The lock is given back
-/// between one look and the next, so each figure is of a moment of its own.
+/// node with its queue, associations that are open, what came within the last hour, and rows that
+/// are held. The lock is given back between one look and the next, so each figure is of a moment of
+/// its own.
 pub(crate) fn read_page<R: Wait, L: Views, B: Sharing, H: House>(
     rt: &R,
     alloc: Global,
     desk: &SharedDesk<L, B>,
     hops: &[NextHop],
     house: &H,
-    since: u64,
-    moment: u64,
+    times: Times,
     browser: &Option<Browser>,
 ) -> Reply {
-    let counts = match desk.totals(rt) {
-        Ok(totals) => counts_of(totals),
+    let (counts, queues, around) = match count_all(rt, alloc, desk, hops, house, times.now) {
+        Ok(all) => all,
         Err(fault) => return refused_by_ledger(alloc, fault),
-    };
-    let queues = match queues_of(rt, alloc, desk, hops, house) {
-        Ok(queues) => queues,
-        Err(fault) => return refused_by_ledger(alloc, fault),
-    };
-    let associations = match house.associations() {
-        Ok(associations) => associations,
-        Err(AllocError) => return refused_by_ledger(alloc, LedgerFault::Memory),
     };
     let rows = match held_rows(rt, alloc, desk, hops) {
         Ok(rows) => rows,
@@ -115,8 +115,8 @@ pub(crate) fn read_page<R: Wait, L: Views, B: Sharing, H: House>(
     };
     let shown = Shown {
         name: desk.site().name(),
-        since,
-        moment,
+        since: times.since,
+        moment: times.now,
         counts,
         key: key_of(browser),
     };
@@ -124,7 +124,8 @@ pub(crate) fn read_page<R: Wait, L: Views, B: Sharing, H: House>(
         alloc,
         &shown,
         queues.as_slice(),
-        associations.as_slice(),
+        around.associations.as_slice(),
+        around.recents.as_slice(),
         rows.as_slice(),
     );
     reply_with(alloc, text, Media::Page)

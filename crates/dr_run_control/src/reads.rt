@@ -1,22 +1,27 @@
 //! What a running node shows of itself.
+ghost use Rattle.hex.specs.Hex.{encode_lower};
 ghost use Rattle.std.specs.Prelude.{◌≡◌, ◌++◌, IfOk, OnOk, flat_map, length, map as mapped};
-ghost use Rattle.dr_run_answer.specs.Answers.{association_line, figures, instance_line};
-ghost use Rattle.dr_run_answer.specs.Answers.{line_of_queue, node_line, open_figure};
-ghost use Rattle.dr_run_answer.specs.Answers.{queues_figures, row_line};
+ghost use Rattle.std.specs.Prelude.{string_bytes};
+ghost use Rattle.dr_run_answer.specs.Answers.{association_line, brought_figures, bytes_figures};
+ghost use Rattle.dr_run_answer.specs.Answers.{figures, instance_line, line_of_node, line_of_queue};
+ghost use Rattle.dr_run_answer.specs.Answers.{open_figure, queues_figures, recent_line, row_line};
+ghost use Rattle.dr_run_answer.specs.Answers.{visits_figures};
 ghost use Rattle.dr_run_control.specs.Consoles.{IsCounted, stage_named};
 
-use crate::console::House;
+use crate::console::{Around, House};
 use crate::reply::{Media, Reply, misread, refused_by_ledger};
 use dr_base::{Seq, Text};
 use dr_desk::{SharedDesk, Sharing, Totals};
 use dr_ledger::{LedgerFault, Progress};
 use dr_ledger_views::{Stage, Tally, Views};
 use dr_run_answer::{
-    Association, Counts, Queue, Visited, put_associations, put_figures, put_instance, put_late,
-    put_node, put_open, put_queue, put_queues, put_rows, put_well,
+    Counts, Identity, Queue, Visited, Visits, put_associations, put_callers, put_figures,
+    put_instance, put_late, put_node, put_open, put_queue, put_queues, put_recents, put_rows,
+    put_stored_bytes, put_visits, put_well,
 };
 use dr_run_open::NextHop;
 use dr_run_request::{Stage as Word, Wanted, instance_of, wanted_of};
+use dr_site::Site;
 use http::StatusCode;
 use std::alloc::{AllocError, Global};
 use std::sync::Wait;
@@ -25,8 +30,8 @@ use std::sync::Wait;
 const PAGE: u32 = 1_000;
 
 /// How many rows are on their way to a node, as they were counted.
-fn queue_of(dest: &Text, tally: Tally, visit: Option<Visited>) -> Queue<'_>
-    ensures { IsCounted dest.now tally visit result }
+fn queue_of(dest: &Text, tally: Tally, visit: Option<Visited>, visits: Visits) -> Queue<'_>
+    ensures { IsCounted dest.now tally visit visits result }
 {
     Queue {
         dest,
@@ -35,13 +40,14 @@ fn queue_of(dest: &Text, tally: Tally, visit: Option<Visited>) -> Queue<'_>
         done: tally.done,
         due: tally.due,
         visit,
+        visits,
     }
 }
 
 /// The same for each hop. The lock is taken once for each.
 ///
 /// Errors: Store, Memory.
-pub(crate) fn queues_of<'a, R: Wait, L: Views, B: Sharing, H: House>(
+fn queues_of<'a, R: Wait, L: Views, B: Sharing, H: House>(
     rt: &R,
     alloc: Global,
     desk: &SharedDesk<L, B>,
@@ -54,8 +60,8 @@ pub(crate) fn queues_of<'a, R: Wait, L: Views, B: Sharing, H: House>(
     let mut queues = Vec::with_capacity(alloc, hops.len())?;
     for hop in hops {
         let tally = desk.tally(rt, &hop.dest)?;
-        let visit = house.visited(&hop.dest);
-        queues.push(queue_of(&hop.dest, tally, visit))?;
+        let (visit, visits) = (house.visited(&hop.dest), house.visits(&hop.dest));
+        queues.push(queue_of(&hop.dest, tally, visit, visits))?;
     }
     Ok(queues)
 }
@@ -72,7 +78,7 @@ fn put_each(out: &mut Vec<u8>, queues: &[Queue<'_>]) -> Result<(), AllocError>
 }
 
 /// How much a node has, as it was counted.
-pub(crate) fn counts_of(totals: Totals) -> Counts
+fn counts_of(totals: Totals) -> Counts
     ensures { result
         ≡ record {
           arrivals = totals.arrivals;
@@ -89,25 +95,27 @@ pub(crate) fn counts_of(totals: Totals) -> Counts
     }
 }
 
-/// The lines of a node: one of it, one for each hop, and one for each association that is open.
+/// The lines of a node: one of it, one for each hop, one for each association that is open, and one
+/// for each caller and modality of which something came within the last hour.
 fn status_lines(
     alloc: Global,
-    name: &Text,
-    since: u64,
+    node: &Identity<'_>,
     counts: Counts,
     queues: &[Queue<'_>],
-    associations: &[Association],
+    around: &Around,
 ) -> Result<Vec<u8>, AllocError>
     ensures { IfOk result (λ text.
         text.items
-        ≡ node_line name.now since counts
+        ≡ line_of_node node.now counts
         ++ flat_map line_of_queue queues.now
-        ++ flat_map association_line associations.now) }
+        ++ flat_map association_line around.now.associations.items
+        ++ flat_map recent_line around.now.recents.items) }
 {
     let mut out = Vec::new(alloc);
-    put_node(&mut out, name, since, counts)?;
+    put_node(&mut out, node, counts)?;
     put_each(&mut out, queues)?;
-    put_associations(&mut out, associations)?;
+    put_associations(&mut out, around.associations.as_slice())?;
+    put_recents(&mut out, around.recents.as_slice())?;
     Ok(out)
 }
 
@@ -116,16 +124,21 @@ fn figure_lines(
     alloc: Global,
     counts: Counts,
     queues: &[Queue<'_>],
-    associations: &[Association],
+    around: &Around,
 ) -> Result<Vec<u8>, AllocError>
     ensures { IfOk result (λ text.
         text.items
-        ≡ figures counts ++ queues_figures queues.now ++ open_figure (length associations.now)) }
+        ≡ figures counts ++ queues_figures queues.now ++ visits_figures queues.now
+        ++ brought_figures around.now.brought.items ++ bytes_figures around.now.brought.items
+        ++ open_figure (length around.now.associations.items)) }
 {
     let mut out = Vec::new(alloc);
     put_figures(&mut out, counts)?;
     put_queues(&mut out, queues)?;
-    put_open(&mut out, associations.len() as u64)?;
+    put_visits(&mut out, queues)?;
+    put_callers(&mut out, around.brought.as_slice())?;
+    put_stored_bytes(&mut out, around.brought.as_slice())?;
+    put_open(&mut out, around.associations.len() as u64)?;
     Ok(out)
 }
 
@@ -169,43 +182,100 @@ pub(crate) fn reply_with(alloc: Global, text: Result<Vec<u8>, AllocError>, media
     }
 }
 
-/// What a node has, as lines or as figures. The lock is held while it is counted, and given back
-/// between one hop and the next.
-pub(crate) fn read_counts<R: Wait, L: Views, B: Sharing, H: House>(
+/// What a node has, its queues, and what goes on around it. The lock is held while it is counted,
+/// and given back between one hop and the next.
+///
+/// Errors: Store, Memory.
+pub(crate) fn count_all<'a, R: Wait, L: Views, B: Sharing, H: House>(
+    rt: &R,
+    alloc: Global,
+    desk: &SharedDesk<L, B>,
+    hops: &'a [NextHop],
+    house: &H,
+    now: u64,
+) -> Result<(Counts, Vec<Queue<'a>>, Around), LedgerFault>
+    ensures { IfOk result (λ all.
+        mapped (λ q. q.dest.now) all.1.items ≡ mapped (λ hop. hop.dest) hops.now) }
+{
+    let counts = counts_of(desk.totals(rt)?);
+    let queues = queues_of(rt, alloc, desk, hops, house)?;
+    let around = house.around(now)?;
+    Ok((counts, queues, around))
+}
+
+/// The program of a node: its version, and since when it serves (milliseconds).
+#[derive(Clone, Copy, Debug, Drop)]
+pub(crate) struct Serving<'a> {
+    pub version: &'a str,
+    pub since: u64,
+}
+
+/// A digest in lower-case hexadecimal digits.
+fn digits_of(alloc: Global, digest: &[u8; 32]) -> Result<String, AllocError>
+    ensures { IfOk result (λ digits. string_bytes digits ≡ encode_lower digest.now) }
+{
+    hex::encode(alloc, digest.as_slice())
+}
+
+/// The lines of the node of that site.
+fn status_of(
+    alloc: Global,
+    site: &Site,
+    serving: Serving<'_>,
+    counts: Counts,
+    queues: &[Queue<'_>],
+    around: &Around,
+) -> Result<Vec<u8>, AllocError> {
+    let plan = digits_of(alloc, site.digest())?;
+    let node = Identity {
+        name: site.name(),
+        plan: plan.as_str(),
+        version: serving.version,
+        since: serving.since,
+    };
+    status_lines(alloc, &node, counts, queues, around)
+}
+
+/// What a node is, has, and what goes on around it, as lines.
+pub(crate) fn read_status<R: Wait, L: Views, B: Sharing, H: House>(
     rt: &R,
     alloc: Global,
     desk: &SharedDesk<L, B>,
     hops: &[NextHop],
     house: &H,
-    since: u64,
-    media: Media,
+    serving: Serving<'_>,
+    now: u64,
 ) -> Reply {
-    let counts = match desk.totals(rt) {
-        Ok(totals) => counts_of(totals),
+    let (counts, queues, around) = match count_all(rt, alloc, desk, hops, house, now) {
+        Ok(all) => all,
         Err(fault) => return refused_by_ledger(alloc, fault),
     };
-    let queues = match queues_of(rt, alloc, desk, hops, house) {
-        Ok(queues) => queues,
+    let text = status_of(
+        alloc,
+        desk.site(),
+        serving,
+        counts,
+        queues.as_slice(),
+        &around,
+    );
+    reply_with(alloc, text, Media::Lines)
+}
+
+/// The same as figures.
+pub(crate) fn read_figures<R: Wait, L: Views, B: Sharing, H: House>(
+    rt: &R,
+    alloc: Global,
+    desk: &SharedDesk<L, B>,
+    hops: &[NextHop],
+    house: &H,
+    now: u64,
+) -> Reply {
+    let (counts, queues, around) = match count_all(rt, alloc, desk, hops, house, now) {
+        Ok(all) => all,
         Err(fault) => return refused_by_ledger(alloc, fault),
     };
-    let associations = match house.associations() {
-        Ok(associations) => associations,
-        Err(AllocError) => return refused_by_ledger(alloc, LedgerFault::Memory),
-    };
-    let (queues, associations) = (queues.as_slice(), associations.as_slice());
-    let text = if media == Media::Figures {
-        figure_lines(alloc, counts, queues, associations)
-    } else {
-        status_lines(
-            alloc,
-            desk.site().name(),
-            since,
-            counts,
-            queues,
-            associations,
-        )
-    };
-    reply_with(alloc, text, media)
+    let text = figure_lines(alloc, counts, queues.as_slice(), &around);
+    reply_with(alloc, text, Media::Figures)
 }
 
 /// The rows that are wanted, as many as a page has.

@@ -6,6 +6,7 @@ use dr_base::Text;
 use dr_session::Link;
 use std::alloc::Global;
 use std::io;
+use std::net::SocketAddr;
 
 /// Where a program connects and listens, each address as a plan writes it (`host:port`). Its
 /// relation says which links may lead to an address; a system's sockets claim nothing.
@@ -36,6 +37,11 @@ pub trait Listening {
 
     /// Waits for the next connection.
     fn accept(&self) -> io::Result<Self::Socket>;
+
+    /// The address of the other side of a connection, where the system tells it.
+    fn peer(&self, _link: &Self::Socket) -> Option<SocketAddr> {
+        None
+    }
 
     /// Ends the waiting: from now on `accept` answers an error, also where it waits already.
     fn close(&self);

@@ -6,7 +6,7 @@ use dr_base::Text;
 use dr_session::Clock;
 use std::alloc::Global;
 use std::io::ErrorKind;
-use std::net::{Net, Shutdown, TcpListener, TcpStream, ToSocketAddrs};
+use std::net::{Net, Shutdown, SocketAddr, TcpListener, TcpStream, ToSocketAddrs};
 use std::os::fd::OwnedFd;
 use std::time::Duration;
 use std::{io, str};
@@ -121,6 +121,10 @@ impl<'a, C: Clock> Listening for SystemListener<'a, C> {
     fn accept(&self) -> io::Result<Socket<'a, TcpStream, C>> {
         let (stream, _) = self.listener.accept()?;
         Socket::new(self.alloc, stream, self.clock, self.limits, self.cut)
+    }
+
+    fn peer(&self, link: &Socket<'a, TcpStream, C>) -> Option<SocketAddr> {
+        link.stream.peer_addr().ok()
     }
 
     /// The listening socket is shut down by a second handle of it, which wakes who waits at the

@@ -10,6 +10,7 @@ use Rattle.dr_ledger.specs.declared.item.Cause.TheVariants as cause
 use Rattle.dr_ledger.specs.declared.item.Progress.{Progress}
 use Rattle.dr_ledger.specs.declared.item.Progress.TheVariants as progress
 use Rattle.dr_run_answer.specs.declared.association.Association.{Association}
+use Rattle.dr_run_answer.specs.declared.intake.Recent.{Recent}
 use Rattle.dr_run_answer.specs.declared.json.Counts.{Counts}
 use Rattle.dr_run_answer.specs.declared.json.Queue.{Queue}
 use Rattle.dr_run_answer.specs.declared.json.Visited.{Visited}
@@ -133,6 +134,15 @@ association_row now association = joined
     ∷ codes "</td><td>" ∷ decimal association.refused
     ∷ codes "</td></tr>\n" ∷ [])
 
+-- what came within the last hour from a caller, of a modality
+abbrev pub recent_row : Recent → Text
+recent_row recent = joined
+    (codes "<tr><td>" ∷ shown recent.caller
+    ∷ codes "</td><td>" ∷ shown recent.modality
+    ∷ codes "</td><td>" ∷ decimal recent.stored
+    ∷ codes "</td><td>" ∷ decimal recent.refused
+    ∷ codes "</td></tr>\n" ∷ [])
+
 -- a form with one button, by which a browser asks for an act on a row; it has the key of this run's
 -- page
 abbrev pub button : Text → Text → Text → Text → Text → Text
@@ -216,6 +226,10 @@ abbrev pub associations_head : Text
 associations_head = codes
     "</table>\n<table><caption>Open associations</caption>\n<tr><th>Caller</th><th>Since</th><th>Stored</th><th>Again</th><th>Refused</th></tr>\n"
 
+abbrev pub recents_head : Text
+recents_head = codes
+    "</table>\n<table><caption>Came in the last hour</caption>\n<tr><th>Caller</th><th>Modality</th><th>Taken</th><th>Refused</th></tr>\n"
+
 abbrev pub held_head : Text
 held_head = codes
     "</table>\n<table><caption>Held, the first 100</caption>\n<tr><th>Instance</th><th>To</th><th>Why</th><th></th></tr>\n"
@@ -225,10 +239,11 @@ tail = codes "</table>\n</body>\n</html>\n"
 
 -- what a node shows that has served since that moment, in a run whose forms have that key
 abbrev pub document : Text → ℕ → ℕ → Counts → Option Text
-    → List Queue → List Association → List (Pair × Progress) → Text
-document name since now counts key queues associations rows =
+    → List Queue → List Association → List Recent → List (Pair × Progress) → Text
+document name since now counts key queues associations recents rows =
     head name ++ figures name since now counts queues
     ++ queues_head ++ flat_map (queue_row now key) queues
     ++ associations_head ++ flat_map (association_row now) associations
+    ++ recents_head ++ flat_map recent_row recents
     ++ held_head ++ flat_map (held_row key) (take 100 (filter is_held rows))
     ++ tail

@@ -3,6 +3,7 @@ ghost use Rattle.std.specs.Prelude.{◌≡◌, ◌++◌, OnOk, filter, flat_map,
 ghost use Rattle.dr_run_page.specs.Documents.{document, figures, figures_under, head};
 ghost use Rattle.dr_run_page.specs.Documents.{held_cells, held_head, held_row};
 ghost use Rattle.dr_run_page.specs.Documents.{association_row, associations_head, is_held};
+ghost use Rattle.dr_run_page.specs.Documents.{recent_row, recents_head};
 ghost use Rattle.dr_run_page.specs.Documents.{queue_cells, queue_row, queues_head, tail};
 ghost use Rattle.dr_ledger.specs.declared.item.Progress.TheVariants.{Held};
 
@@ -11,7 +12,7 @@ use crate::light::light;
 use crate::pieces::{Piece, put_pieces};
 use dr_base::Text;
 use dr_ledger::{Cause, Progress};
-use dr_run_answer::{Association, Counts, Queue};
+use dr_run_answer::{Association, Counts, Queue, Recent};
 use std::alloc::AllocError;
 
 /// So many held rows are shown at most.
@@ -188,6 +189,36 @@ fn put_associations(
     Ok(())
 }
 
+/// Adds the row of what came from a caller, of a modality.
+fn put_recent(out: &mut Vec<u8>, recent: &Recent) -> Result<(), AllocError>
+    ensures { OnOk result (out.new.items ≡ out.old.items ++ recent_row recent.now) }
+{
+    put_pieces(
+        out,
+        &[
+            Piece::Markup("<tr><td>"),
+            Piece::Words(recent.caller.as_bytes()),
+            Piece::Markup("</td><td>"),
+            Piece::Words(recent.modality.as_bytes()),
+            Piece::Markup("</td><td>"),
+            Piece::Number(recent.stored),
+            Piece::Markup("</td><td>"),
+            Piece::Number(recent.refused),
+            Piece::Markup("</td></tr>\n"),
+        ],
+    )
+}
+
+/// Adds a row for each caller and modality of which something came.
+fn put_recents(out: &mut Vec<u8>, recents: &[Recent]) -> Result<(), AllocError>
+    ensures { OnOk result (out.new.items ≡ out.old.items ++ flat_map recent_row recents.now) }
+{
+    for recent in recents {
+        put_recent(out, recent)?;
+    }
+    Ok(())
+}
+
 /// Adds what is shown of an instance that is held.
 fn put_cells<'x>(
     out: &mut Vec<u8>,
@@ -252,7 +283,8 @@ fn put_all_held(
 }
 
 /// Adds the document: what a node has, each next node with its queue, associations that are open,
-/// and the first rows that are held, in the order in which they are handed in.
+/// what came within the last hour, and the first rows that are held, in the order in which they are
+/// handed in.
 ///
 /// Errors: want of memory; then a part of it may stand there.
 pub fn put_document(
@@ -260,11 +292,12 @@ pub fn put_document(
     shown: &Shown<'_>,
     queues: &[Queue<'_>],
     associations: &[Association],
+    recents: &[Recent],
     rows: &[((Text, Text), Progress)],
 ) -> Result<(), AllocError>
     ensures { OnOk result (out.new.items ≡ out.old.items
         ++ document shown.now.name.now shown.now.since shown.now.moment shown.now.counts
-        (option_copied shown.now.key) queues.now associations.now rows.now) }
+        (option_copied shown.now.key) queues.now associations.now recents.now rows.now) }
 {
     put_head(out, shown.name)?;
     put_node(out, shown, queues)?;
@@ -276,6 +309,10 @@ pub fn put_document(
         b"</table>\n<table><caption>Open associations</caption>\n<tr><th>Caller</th><th>Since</th><th>Stored</th><th>Again</th><th>Refused</th></tr>\n",
     )?;
     put_associations(out, shown.moment, associations)?;
+    out.extend_from_slice(
+        b"</table>\n<table><caption>Came in the last hour</caption>\n<tr><th>Caller</th><th>Modality</th><th>Taken</th><th>Refused</th></tr>\n",
+    )?;
+    put_recents(out, recents)?;
     out.extend_from_slice(
         b"</table>\n<table><caption>Held, the first 100</caption>\n<tr><th>Instance</th><th>To</th><th>Why</th><th></th></tr>\n",
     )?;

@@ -9,8 +9,8 @@ use dr_desk::{Pass, SharedDesk, Sharing};
 use dr_desk_workers::WorkersFault;
 use dr_ledger::LedgerFault;
 use dr_ledger_views::Views;
-use dr_run_answer::{Association, Visited};
-use dr_run_control::{Console, House, talk};
+use dr_run_answer::{Visited, Visits};
+use dr_run_control::{Around, Console, House, talk};
 use dr_run_open::NextHop;
 use dr_run_request::{Access, Browser, Order, Refused};
 use dr_session::Clock;
@@ -35,22 +35,29 @@ const AGAIN: u64 = 100;
 /// milliseconds, so that who sends such requests without end takes little of the node's time.
 const REST: u64 = 100;
 
-/// What listens for those who ask, and what they may.
+/// What listens for those who ask, what they may, and the version that they are told.
 #[derive(Drop)]
 pub struct ControlPort {
     listener: TcpListener,
     keys: RandomState,
     access: Access,
+    version: &'static str,
     closed: AtomicBool,
 }
 
 impl ControlPort {
     /// It listens, and is open.
-    pub fn new(listener: TcpListener, keys: RandomState, access: Access) -> ControlPort {
+    pub fn new(
+        listener: TcpListener,
+        keys: RandomState,
+        access: Access,
+        version: &'static str,
+    ) -> ControlPort {
         ControlPort {
             listener,
             keys,
             access,
+            version,
             closed: AtomicBool::new(false),
         }
     }
@@ -115,8 +122,17 @@ impl<'a, R: Wait, G: Log> House for Home<'a, R, G> {
         self.signal.visited(self.rt, dest)
     }
 
-    fn associations(&self) -> Result<Vec<Association>, AllocError> {
-        self.signal.open.shown(self.rt, self.alloc)
+    fn visits(&self, dest: &Text) -> Visits {
+        self.signal.visits(self.rt, dest)
+    }
+
+    fn around(&self, now: u64) -> Result<Around, AllocError> {
+        let (rt, alloc) = (self.rt, self.alloc);
+        Ok(Around {
+            associations: self.signal.open.shown(rt, alloc)?,
+            brought: self.signal.intake.brought(rt, alloc)?,
+            recents: self.signal.intake.recents(rt, alloc, now)?,
+        })
     }
 
     fn is_quiet(&self, dest: &Text, now: u64) -> bool {
@@ -192,6 +208,7 @@ fn answer_caller<R: Wait, L: Views, B: Sharing, C: Clock, G: Log>(
         access: &port.access,
         browser,
         hops: view.hops,
+        version: port.version,
         since: view.since,
         clock,
         house,

@@ -7,7 +7,8 @@
 use crate::visit::Visit;
 use dr_base::Text;
 use dr_desk_workers::Tally;
-use dr_ledger::{Arrived, LedgerFault, Outcome, Progress};
+use dr_ledger::{Arrived, Instance, LedgerFault, Outcome, Progress};
+use dr_route::Key;
 use dr_run_control::name_of_refusal;
 use dr_run_open::code_of;
 use dr_run_request::{Order, Refused, RowName};
@@ -15,6 +16,7 @@ use dr_run_shown::Escaped;
 use dr_session::{Ended, SessionFault};
 use log::{Log, debug, error, info, warn};
 use std::fmt::{Display, Formatter};
+use std::net::SocketAddr;
 use std::{fmt, io};
 
 /// How an association ended, in a word.
@@ -73,15 +75,38 @@ pub fn tell_association<G: Log>(
     }
 }
 
-/// Tells what the ledger answered an instance that came.
+/// What rules read of an instance, as an event shows it.
+#[derive(Drop)]
+struct KeyShown<'a>(&'a Key);
+
+impl<'a> Display for KeyShown<'a> {
+    fn fmt<W: fmt::Write>(&self, f: &mut Formatter<W>) -> fmt::Result {
+        let (class, syntax) = (
+            Escaped(self.0.class.as_bytes()),
+            Escaped(self.0.syntax.uid()),
+        );
+        let (modality, station) = (
+            Escaped(self.0.modality.as_bytes()),
+            Escaped(self.0.station.as_bytes()),
+        );
+        write!(
+            f,
+            "class={class} syntax={syntax} modality=\"{modality}\" station=\"{station}\""
+        )
+    }
+}
+
+/// Tells what the ledger answered an instance that came. Of one that was refused it tells what
+/// rules read of it.
 pub fn tell_arrival<G: Log>(
     log: &G,
     session: u64,
     caller: &Text,
-    uid: &Text,
+    instance: &Instance,
     answer: Result<Arrived, LedgerFault>,
 ) {
-    let (caller, uid) = (Escaped(caller.as_bytes()), Escaped(uid.as_bytes()));
+    let caller = Escaped(caller.as_bytes());
+    let uid = Escaped(instance.uid.as_bytes());
     match answer {
         Ok(Arrived::New) => {
             debug!(log; target: "instance", "new session={session} caller=\"{caller}\" uid={uid}");
@@ -93,10 +118,10 @@ pub fn tell_arrival<G: Log>(
             );
         }
         Err(fault) => {
-            let fault = code_of(fault);
+            let (fault, key) = (code_of(fault), KeyShown(&instance.key));
             warn!(
                 log; target: "instance",
-                "refused session={session} caller=\"{caller}\" uid={uid} fault=\"{fault}\""
+                "refused session={session} caller=\"{caller}\" uid={uid} fault=\"{fault}\" {key}"
             );
         }
     }
@@ -277,6 +302,25 @@ pub fn tell_unswept<G: Log>(log: &G, fault: LedgerFault) {
 pub fn tell_shut<G: Log>(log: &G) {
     let fault = code_of(LedgerFault::Store);
     error!(log; target: "node", "shut fault=\"{fault}\"");
+}
+
+/// A peer's address, as an event shows it; a hyphen where the system doesn't tell it.
+#[derive(Drop)]
+struct PeerShown(Option<SocketAddr>);
+
+impl Display for PeerShown {
+    fn fmt<W: fmt::Write>(&self, f: &mut Formatter<W>) -> fmt::Result {
+        match self.0 {
+            Some(address) => write!(f, "{address}"),
+            None => f.write_str("-"),
+        }
+    }
+}
+
+/// Tells that a connection was accepted, and from where it comes.
+pub fn tell_came<G: Log>(log: &G, session: u64, peer: Option<SocketAddr>) {
+    let peer = PeerShown(peer);
+    info!(log; target: "association", "comes session={session} address=\"{peer}\"");
 }
 
 /// Tells that connections can't be accepted.

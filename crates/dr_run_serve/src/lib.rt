@@ -27,6 +27,7 @@ mod asked;
 mod caller;
 mod control;
 mod events;
+mod intake;
 mod keeper;
 mod monitor;
 mod open;

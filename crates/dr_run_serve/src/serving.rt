@@ -6,7 +6,7 @@ ghost use Rattle.dr_ledger.specs.Histories.{IsJournalled};
 ghost use Rattle.dr_ledger.specs.SiteRoutes.{site_routing};
 
 use crate::control::{View, answer_all, passes_of};
-use crate::events::tell_unaccepted;
+use crate::events::{tell_came, tell_unaccepted};
 use crate::keeper::keep;
 use crate::monitor::Monitor;
 use crate::sender::{HopSender, send_rows};
@@ -122,6 +122,7 @@ fn accept_links<
         };
         is_failing = false;
         count = count.saturating_add(1);
+        tell_came(log, count, listener.peer(&link));
         let connection = Connection {
             session: count,
             link,

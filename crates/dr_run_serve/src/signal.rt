@@ -1,8 +1,9 @@
 //! What wakes those who send, and who tells of the node.
+use crate::intake::Intake;
 use crate::open::Open;
 use crate::sweep::Over;
 use dr_base::Text;
-use dr_run_answer::Visited;
+use dr_run_answer::{Visited, Visits};
 use dr_run_open::NextHop;
 use std::alloc::{AllocError, Global};
 use std::collections::VecDeque;
@@ -45,13 +46,39 @@ pub struct Call {
 
 /// What is known of the visits to a hop.
 #[derive(Clone, Copy, Debug)]
-struct Visits {
+struct Known {
     /// When its sender looked last whether it is to be visited (milliseconds); 0 for never.
     looked: u64,
     /// Whether a visit is under way.
     is_under_way: bool,
     /// The last one at which something was due, and that has ended.
     last: Option<Visited>,
+    /// How all of these ended.
+    visits: Visits,
+}
+
+/// None has ended.
+const NONE: Visits = Visits {
+    released: 0,
+    rejected: 0,
+    aborted: 0,
+    closed: 0,
+    unreached: 0,
+    failed: 0,
+};
+
+/// How visits ended, with one more that came to that.
+fn with_one(visits: Visits, came: &str) -> Visits {
+    let mut counted = visits;
+    match came {
+        "released" => counted.released = visits.released.saturating_add(1),
+        "rejected" => counted.rejected = visits.rejected.saturating_add(1),
+        "aborted" => counted.aborted = visits.aborted.saturating_add(1),
+        "closed" => counted.closed = visits.closed.saturating_add(1),
+        "unreached" => counted.unreached = visits.unreached.saturating_add(1),
+        _ => counted.failed = visits.failed.saturating_add(1),
+    }
+    counted
 }
 
 /// Wakes the one who sends to a hop, and is told of its visits.
@@ -60,7 +87,7 @@ pub struct Bell {
     dest: Text,
     call: Mutex<Call>,
     changed: Condvar,
-    visits: Mutex<Visits>,
+    visits: Mutex<Known>,
 }
 
 impl Bell {
@@ -74,10 +101,11 @@ impl Bell {
                 over: false,
             }),
             changed: Condvar::new(),
-            visits: Mutex::new(Visits {
+            visits: Mutex::new(Known {
                 looked: 0,
                 is_under_way: false,
                 last: None,
+                visits: NONE,
             }),
         })
     }
@@ -116,6 +144,7 @@ impl Bell {
         held.is_under_way = false;
         if let Some(came) = came {
             held.last = Some(Visited { at, came });
+            held.visits = with_one(held.visits, came);
         }
     }
 
@@ -151,7 +180,7 @@ fn is_meant(dest: &Text, dests: Option<&[Text]>) -> bool {
     }
 }
 
-/// How far a node is, a bell for each hop, and the associations that are open.
+/// How far a node is, a bell for each hop, the associations that are open, and what came over all.
 #[derive(Drop)]
 pub struct Signal {
     news: Mutex<News>,
@@ -161,6 +190,7 @@ pub struct Signal {
     stopping: AtomicBool,
     bells: Vec<Bell>,
     pub open: Open,
+    pub intake: Intake,
     sweeps: bool,
     over: Mutex<VecDeque<Over>>,
 }
@@ -186,6 +216,7 @@ impl Signal {
             stopping: AtomicBool::new(false),
             bells,
             open: Open::new(alloc),
+            intake: Intake::new(alloc),
             sweeps,
             over: Mutex::new(VecDeque::new(alloc)),
         })
@@ -269,6 +300,14 @@ impl Signal {
         match self.bell_of(dest) {
             Some(bell) => bell.visits.lock(rt).last,
             None => None,
+        }
+    }
+
+    /// In which ways the visits to that node ended at which something was due.
+    pub fn visits<R: Wait>(&self, rt: &R, dest: &Text) -> Visits {
+        match self.bell_of(dest) {
+            Some(bell) => bell.visits.lock(rt).visits,
+            None => NONE,
         }
     }
 

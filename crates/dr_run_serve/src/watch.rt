@@ -5,7 +5,7 @@ use crate::events::{tell_arrival, tell_association, tell_crowded, tell_threads};
 use crate::signal::Signal;
 use dr_base::Text;
 use dr_desk_workers::{Gate, Point, Tally};
-use dr_ledger::{Arrived, LedgerFault};
+use dr_ledger::{Arrived, Instance, LedgerFault};
 use dr_pdu::{AssociateAc, AssociateRq};
 use dr_session::{Clock, Ended, SessionFault};
 use log::{Log, debug};
@@ -47,7 +47,7 @@ impl<'a, R: Wait, C: Clock, G: Log> Gate for Watch<'a, R, C, G> {
         &self,
         session: u64,
         caller: &Text,
-        uid: &Text,
+        instance: &Instance,
         answer: Result<Arrived, LedgerFault>,
     ) {
         match answer {
@@ -56,7 +56,11 @@ impl<'a, R: Wait, C: Clock, G: Log> Gate for Watch<'a, R, C, G> {
             Err(_) => {}
         }
         self.signal.open.note(self.rt, session, answer);
-        tell_arrival(self.log, session, caller, uid, answer);
+        let now = self.clock.now();
+        self.signal
+            .intake
+            .note(self.rt, caller, instance, answer, now);
+        tell_arrival(self.log, session, caller, instance, answer);
     }
 
     fn asked(&self, session: u64, request: &AssociateRq, answer: Option<&AssociateAc>) {

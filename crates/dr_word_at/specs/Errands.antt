@@ -2,7 +2,7 @@
 use Rattle.std.specs.Prelude.{◌≡◌, ◌⊎◌, ℕ, List, codes, Result, Ok, Err, IsErr}
 use Rattle.std.specs.Borrow.{Bor}
 use Rattle.dr_base.specs.Texts.{Text}
-use Rattle.dr_run_ask.specs.Calls.{dest_form, row_form, uid_form}
+use Rattle.dr_run_ask.specs.Calls.{dest_form, reason_form, row_form, uid_form}
 use Rattle.dr_run_ask.specs.Conversations.{OnlyReads, Tells}
 use Rattle.dr_run_ask.specs.declared.answer.Answer.{Answer}
 use Rattle.dr_run_ask.specs.declared.call.Call.{Call}
@@ -28,6 +28,7 @@ status_of faults.Host = ends.Refused
 status_of faults.Unknown = ends.Refused
 status_of faults.Closed = ends.Refused
 status_of faults.Token = ends.Refused
+status_of faults.NoHop = ends.Refused
 status_of faults.NotHeld = ends.Refused
 status_of faults.NotOver = ends.Refused
 status_of faults.Store = ends.InputOutput
@@ -63,6 +64,10 @@ module _ {S : Type 0} (answers : S → Call → Result Answer AskFault → S →
       Acts name digest (dest_form dest.now) calls.Requeue (codes "requeued\n") old came new
   Runs name digest (errands.GiveUp uid dest) old came new =
       Acts name digest (row_form uid.now dest.now) calls.GiveUp (codes "dropped\n") old came new
+  Runs name digest (errands.GiveUpFor uid dest reason) old came new = Acts name digest
+      (reason_form uid.now dest.now reason.now) calls.GiveUp (codes "dropped\n") old came new
+  Runs name digest (errands.Visit dest) old came new =
+      Acts name digest (dest_form dest.now) calls.Visit (codes "visited\n") old came new
   Runs name digest (errands.Forget uid) old came new =
       Acts name digest (uid_form uid.now) calls.Forget (codes "forgotten\n") old came new
   Runs name digest errands.Stop old came new =

@@ -1,13 +1,15 @@
 //! What a node that runs is asked and told by a word.
 ghost use Rattle.std.specs.Prelude.{◌≡◌, codes};
-ghost use Rattle.dr_run_ask.specs.Calls.{dest_form, row_form, uid_form};
+ghost use Rattle.dr_run_ask.specs.Calls.{dest_form, reason_form, row_form, uid_form};
 ghost use Rattle.dr_run_ask.specs.Conversations.{OnlyReads};
 ghost use Rattle.dr_run_ask.specs.declared.call.Call.TheVariants as calls;
 ghost use Rattle.dr_word_at.specs.Errands.{Acts, Does, Runs};
 
 use crate::listing::{list_of, summary_of};
 use dr_base::Text;
-use dr_run_ask::{AskFault, Asks, Call, Meant, dest_form, row_form, see, tell, uid_form};
+use dr_run_ask::{
+    AskFault, Asks, Call, Meant, dest_form, reason_form, row_form, see, tell, uid_form,
+};
 use dr_run_open::{NextHop, Status};
 use dr_word_line::Errand;
 use std::alloc::{AllocError, Global};
@@ -177,6 +179,49 @@ fn give_row_up<A: Asks>(
     act(alloc, node, meant, call, "dropped\n")
 }
 
+/// Gives a held row up for a reason.
+///
+/// Errors: those of `act`.
+fn give_row_up_for<A: Asks>(
+    alloc: Global,
+    node: &mut A,
+    meant: Meant<'_>,
+    uid: &str,
+    dest: &str,
+    reason: &str,
+) -> Result<Outcome, AskFault>
+    ensures { Acts A.answers meant.entry.name.now meant.entry.digest.now
+        (reason_form uid.now dest.now reason.now)
+        calls.GiveUp (codes "dropped\n") node.old result node.new }
+{
+    let form = match reason_form(alloc, uid, dest, reason) {
+        Ok(form) => form,
+        Err(AllocError) => return Err(AskFault::Memory),
+    };
+    let call = Call::GiveUp(form.as_str());
+    act(alloc, node, meant, call, "dropped\n")
+}
+
+/// Has a node visit another one now.
+///
+/// Errors: those of `act`.
+fn visit_node<A: Asks>(
+    alloc: Global,
+    node: &mut A,
+    meant: Meant<'_>,
+    dest: &str,
+) -> Result<Outcome, AskFault>
+    ensures { Acts A.answers meant.entry.name.now meant.entry.digest.now (dest_form dest.now)
+        calls.Visit (codes "visited\n") node.old result node.new }
+{
+    let form = match dest_form(alloc, dest) {
+        Ok(form) => form,
+        Err(AllocError) => return Err(AskFault::Memory),
+    };
+    let call = Call::Visit(form.as_str());
+    act(alloc, node, meant, call, "visited\n")
+}
+
 /// Forgets an instance.
 ///
 /// Errors: those of `act`.
@@ -217,7 +262,11 @@ pub fn run_errand<A: Asks>(
         Errand::Requeue(uid, dest) => requeue_row(alloc, node, meant, uid, dest),
         Errand::RequeueAll(dest) => requeue_all(alloc, node, meant, dest),
         Errand::GiveUp(uid, dest) => give_row_up(alloc, node, meant, uid, dest),
+        Errand::GiveUpFor(uid, dest, reason) => give_row_up_for(
+            alloc, node, meant, uid, dest, reason,
+        ),
         Errand::Forget(uid) => forget_instance(alloc, node, meant, uid),
+        Errand::Visit(dest) => visit_node(alloc, node, meant, dest),
         Errand::Stop => act(alloc, node, meant, Call::Stop, "stopped\n"),
     }
 }

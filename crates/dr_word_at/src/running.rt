@@ -31,6 +31,7 @@ fn status_of(fault: AskFault) -> Status
         | AskFault::Unknown
         | AskFault::Closed
         | AskFault::Token
+        | AskFault::NoHop
         | AskFault::NotHeld
         | AskFault::NotOver => Status::Refused,
         AskFault::Memory => Status::Memory,

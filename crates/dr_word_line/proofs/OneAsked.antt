@@ -74,6 +74,11 @@ of_eight word a b c d e f g =
     cond (second word == 111) (asks.Question a b (questions.RouteOfKey c (record { class = d; syntax = e; modality = f; station = g })))
     (asks.AtRunning (running a b c e (Some g)) errands.Stop)
 
+-- what nine words tell a running node
+abbrev of_nine : List ℕ → RunningNode → Word → Task
+of_nine word given h =
+    cond (initial word == 118) (asks.AtRunning given (errands.Visit h)) (asks.AtRunning given (errands.Forget h))
+
 -- what a running node is told of a row, by the word or by the option
 abbrev of_rows : List ℕ → RunningNode → Word → Word → Task
 of_rows option given h i =
@@ -94,7 +99,7 @@ meant (word ∷ a ∷ b ∷ c ∷ d ∷ []) = of_five word.now a b c d
 meant (word ∷ a ∷ b ∷ c ∷ d ∷ e ∷ []) = sixth d.now word.now (files a b c d) e
 meant (word ∷ a ∷ b ∷ c ∷ d ∷ e ∷ f ∷ []) = seventh d.now word.now e.now (files a b c d) e f
 meant (word ∷ a ∷ b ∷ c ∷ d ∷ e ∷ f ∷ g ∷ []) = of_eight word.now a b c d e f g
-meant (word ∷ a ∷ b ∷ c ∷ d ∷ e ∷ f ∷ g ∷ h ∷ []) = asks.AtRunning (running a b c e (Some g)) (errands.Forget h)
+meant (word ∷ a ∷ b ∷ c ∷ d ∷ e ∷ f ∷ g ∷ h ∷ []) = of_nine word.now (running a b c e (Some g)) h
 meant (word ∷ a ∷ b ∷ c ∷ d ∷ e ∷ f ∷ g ∷ h ∷ i ∷ more) = of_ten word.now h.now (running a b c e (Some g)) h i
 
 no_hyphen : (word : List ℕ) → IsNoOption word → (initial word == 45) ≡ false
@@ -194,8 +199,18 @@ module _ (words : List Word) where
       (subst (Means (asks.AtRunning (running given.plan given.certificate given.node given.at (Some h.1)) errands.Stop)) (sym h.2.2)
       (subst (λ n. of_eight n given.plan given.certificate given.node h.2.1 given.at h.0 h.1 ≡ asks.AtRunning (running given.plan given.certificate given.node given.at (Some h.1)) errands.Stop) (sym h.2.3) refl))
   is_meant (asks.AtRunning given (errands.Forget uid)) h =
-      subst (λ (token : Option Word). meant words ≡ asks.AtRunning (running given.plan given.certificate given.node given.at token) (errands.Forget uid)) (sym h.0.5)
-      (subst (Means (asks.AtRunning (running given.plan given.certificate given.node given.at (Some h.0.1)) (errands.Forget uid))) (sym h.0.2.2) refl)
+      subst (λ (token : Option Word). meant words ≡ asks.AtRunning (running given.plan given.certificate given.node given.at token) (errands.Forget uid))
+      (sym h.0.5)
+      (subst (Means (asks.AtRunning (running given.plan given.certificate given.node given.at (Some h.0.1)) (errands.Forget uid))) (sym h.0.2.2)
+      (subst (λ n. of_nine n (running given.plan given.certificate given.node given.at (Some h.0.1)) uid ≡ asks.AtRunning (running given.plan given.certificate given.node given.at (Some h.0.1)) (errands.Forget uid))
+      (sym h.0.2.3) refl))
+  is_meant (asks.AtRunning given (errands.Visit dest)) h =
+      subst (λ (token : Option Word). meant words ≡ asks.AtRunning (running given.plan given.certificate given.node given.at token) (errands.Visit dest))
+      (sym h.0.5)
+      (subst (Means (asks.AtRunning (running given.plan given.certificate given.node given.at (Some h.0.1)) (errands.Visit dest))) (sym h.0.2.2)
+      (subst (λ n. of_nine n (running given.plan given.certificate given.node given.at (Some h.0.1)) dest ≡ asks.AtRunning (running given.plan given.certificate given.node given.at (Some h.0.1)) (errands.Visit dest))
+      (sym h.0.2.3) refl))
+  is_meant (asks.AtRunning given (errands.GiveUpFor uid dest reason)) h = absurd h
   is_meant (asks.AtRunning given (errands.GiveUp uid dest)) h =
       subst (λ (token : Option Word). meant words ≡ asks.AtRunning (running given.plan given.certificate given.node given.at token) (errands.GiveUp uid dest)) (sym h.0.5)
       (subst (Means (asks.AtRunning (running given.plan given.certificate given.node given.at (Some h.0.1)) (errands.GiveUp uid dest))) (sym h.0.2.2)

@@ -276,8 +276,8 @@ IsToRunning name words given more =
     × (given.token ≡ Some file)
 
 -- the words ask this of a node that runs, or tell it: to read, no token is needed, and to act, one
--- is; a strict summary, and reading with a token, are asked for by options, of which nothing is
--- said here
+-- is; a strict summary, a reason, and reading with a token are given by options, of which nothing
+-- is said here
 abbrev pub IsErrandOf : List (Bor (List ℕ)) → RunningNode → Errand → Type 0
 IsErrandOf words given errands.List = IsAtRunning (codes "list") words given []
 IsErrandOf words given errands.Summary =
@@ -293,8 +293,11 @@ IsErrandOf words given (errands.RequeueAll dest) =
     × (option.now ≡ codes "--all-held")
 IsErrandOf words given (errands.GiveUp uid dest) =
     IsToRunning (codes "drop") words given (uid ∷ dest ∷ []) × IsNoOption uid.now
+IsErrandOf words given (errands.GiveUpFor uid dest reason) = ⊥
 IsErrandOf words given (errands.Forget uid) =
     IsToRunning (codes "forget") words given (uid ∷ []) × IsNoOption uid.now
+IsErrandOf words given (errands.Visit dest) =
+    IsToRunning (codes "visit") words given (dest ∷ []) × IsNoOption dest.now
 IsErrandOf words given errands.Stop = IsToRunning (codes "stop") words given []
 
 -- the word adopt, the paths of a plan and its certificate, those of the next plan and its

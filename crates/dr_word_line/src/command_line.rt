@@ -1,4 +1,5 @@
 //! The command line as clap knows it: its words, their values and their options.
+use crate::words::VERSION;
 use clap::{Arg, ArgAction, Command, value_parser};
 use std::alloc::{AllocError, Global};
 
@@ -127,6 +128,8 @@ enum Choice {
     Dest,
     Uid,
     Next,
+    Visited,
+    Reason,
     Other,
     AllHeld,
     File,
@@ -164,6 +167,8 @@ impl<'a> Makes<Arg<'a>> for Choice {
             Choice::Dest => Ok(dest(alloc)),
             Choice::Uid => Ok(needed(alloc, "UID", "the SOP instance UID")),
             Choice::Next => Ok(needed(alloc, "DEST", "the node to which it is not to be sent")),
+            Choice::Visited => Ok(needed(alloc, "DEST", "the node to which it is to send")),
+            Choice::Reason => reason(alloc),
             Choice::Other => Ok(other(alloc)),
             Choice::AllHeld => all_held(alloc),
             Choice::File => Ok(needed(alloc, "FILE", "a Part 10 file")),
@@ -388,6 +393,16 @@ fn at_token<'a>(alloc: Global) -> Result<Arg<'a>, AllocError> {
         .requires_arg("AT")
 }
 
+/// Why a row is given up.
+fn reason<'a>(alloc: Global) -> Result<Arg<'a>, AllocError> {
+    Arg::new(alloc, "REASON")
+        .long("reason")
+        .action(ArgAction::Set)
+        .value_name("TEXT")
+        .help("with --at: why, for the node's log")
+        .requires_arg("AT")
+}
+
 /// The word `list`.
 fn list<'a>(alloc: Global, values: &[Value<'a>]) -> Result<Command<'a>, AllocError> {
     let about = "Prints what a node has: its arrivals, what it keeps, and what is queued";
@@ -455,7 +470,13 @@ fn give_up<'a>(alloc: Global, values: &[Value<'a>]) -> Result<Command<'a>, Alloc
         "drop",
         about,
         values,
-        &[Choice::Uid, Choice::Next, Choice::At, Choice::AtToken],
+        &[
+            Choice::Uid,
+            Choice::Next,
+            Choice::At,
+            Choice::AtToken,
+            Choice::Reason,
+        ],
     )
 }
 
@@ -468,6 +489,18 @@ fn forget<'a>(alloc: Global, values: &[Value<'a>]) -> Result<Command<'a>, AllocE
         about,
         values,
         &[Choice::Uid, Choice::At, Choice::AtToken],
+    )
+}
+
+/// The word `visit`.
+fn visit<'a>(alloc: Global) -> Result<Command<'a>, AllocError> {
+    let about = "Has a node that runs visit a next node now";
+    word(
+        alloc,
+        "visit",
+        about,
+        RUNNING,
+        &[Choice::Visited, Choice::AtNeeded, Choice::AtToken],
     )
 }
 
@@ -739,7 +772,7 @@ fn serve<'a>(alloc: Global) -> Result<Command<'a>, AllocError> {
 /// The program, with no word yet.
 fn program<'a>(alloc: Global) -> Result<Command<'a>, AllocError> {
     Command::new(alloc, "dr_router")
-        .version("0.3.0")
+        .version(VERSION)
         .about("A DICOM store-and-forward router")
         .no_binary_name(true)
         .subcommand_required(true)
@@ -766,6 +799,7 @@ enum Verb {
     Requeue,
     Drop,
     Forget,
+    Visit,
     Stop,
     Adopt,
     Audit,
@@ -789,6 +823,7 @@ const VERBS: &[Verb] = &[
     Verb::Requeue,
     Verb::Drop,
     Verb::Forget,
+    Verb::Visit,
     Verb::Stop,
     Verb::Adopt,
     Verb::Audit,
@@ -814,6 +849,7 @@ impl<'a> Makes<Command<'a>> for Verb {
             Verb::Requeue => requeue(alloc, LEDGER),
             Verb::Drop => give_up(alloc, LEDGER),
             Verb::Forget => forget(alloc, LEDGER),
+            Verb::Visit => visit(alloc),
             Verb::Stop => stop(alloc),
             Verb::Adopt => adopt(alloc),
             Verb::Audit => audit(alloc),
@@ -836,6 +872,7 @@ const RUNNING_VERBS: &[Running] = &[
     Running(Verb::Requeue),
     Running(Verb::Drop),
     Running(Verb::Forget),
+    Running(Verb::Visit),
     Running(Verb::Stop),
 ];
 

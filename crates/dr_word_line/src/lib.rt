@@ -16,5 +16,5 @@ mod words;
 pub use reading::read_words;
 pub use words::{
     Controlled, Duty, Errand, KeyWords, NextPlan, PlanChange, Question, RunningNode, Serving,
-    SiteFiles, Task, Verbosity, Waits,
+    SiteFiles, Task, VERSION, Verbosity, Waits,
 };

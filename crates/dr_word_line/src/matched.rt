@@ -199,8 +199,12 @@ fn errand_of<'a>(name: &str, given: &ArgMatches<'a>) -> Errand<'a> {
             Some(all) => Errand::RequeueAll(all),
             None => Errand::Requeue(uid_of(given), dest_of(given)),
         },
-        "drop" => Errand::GiveUp(uid_of(given), dest_of(given)),
+        "drop" => match given.get_str("REASON") {
+            Some(reason) => Errand::GiveUpFor(uid_of(given), dest_of(given), reason),
+            None => Errand::GiveUp(uid_of(given), dest_of(given)),
+        },
         "forget" => Errand::Forget(uid_of(given)),
+        "visit" => Errand::Visit(dest_of(given)),
         _ => Errand::Stop,
     }
 }

@@ -140,6 +140,23 @@ fn read_forgetting<'a>(words: &'a [&'a str]) -> Option<Task<'a>>
     }
 }
 
+/// Which node words tell a running one to visit now, if they are of that form.
+fn read_visiting<'a>(words: &'a [&'a str]) -> Option<Task<'a>>
+    ensures asked { IfSome result (λ asked. Asks words.now asked) }
+    ensures visit { IfNone result
+        ((given : RunningNodeValue) (dest : Bor (List ℕ))
+        → IsErrandOf words.now given (errands.Visit dest)
+        → ⊥) }
+{
+    let Some((given, more)) = to_running("visit", words) else {
+        return None;
+    };
+    match more {
+        [dest] if is_no_option(dest) => Some(Task::AtRunning(given, Errand::Visit(dest))),
+        _ => None,
+    }
+}
+
 /// Whether words tell a running node to end.
 fn read_stopping<'a>(words: &'a [&'a str]) -> Option<Task<'a>>
     ensures asked { IfSome result (λ asked. Asks words.now asked) }
@@ -173,6 +190,9 @@ pub(crate) fn read_running<'a>(words: &'a [&'a str]) -> Option<Task<'a>>
         return Some(asked);
     }
     if let Some(asked) = read_forgetting(words) {
+        return Some(asked);
+    }
+    if let Some(asked) = read_visiting(words) {
         return Some(asked);
     }
     match read_stopping(words) {

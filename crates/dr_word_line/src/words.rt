@@ -2,6 +2,9 @@
 use clap::Error;
 use dr_run_files::NodeFiles;
 
+/// The version of the program.
+pub const VERSION: &str = "0.3.0";
+
 /// The four values of an instance by which it is routed, as words: the SOP class UID, the UID of
 /// the transfer syntax, the modality and the station name.
 #[derive(Clone, Copy, Drop)]
@@ -189,8 +192,12 @@ pub enum Errand<'a> {
     RequeueAll(&'a str),
     /// To give up the held row of the instance of this UID to that node.
     GiveUp(&'a str, &'a str),
+    /// The same for this reason, which the node's log keeps.
+    GiveUpFor(&'a str, &'a str, &'a str),
     /// To forget the instance of this UID, which is over.
     Forget(&'a str),
+    /// To visit that node now.
+    Visit(&'a str),
     /// To end in order.
     Stop,
 }

@@ -25,3 +25,15 @@ returns-in-Forget g c = as_asked g.A.Asks.answers c.args.meant.name.now c.args.m
 
 pub returns-in-Stop : goal.returns-in-Stop
 returns-in-Stop g c = as_asked g.A.Asks.answers c.args.meant.name.now c.args.meant.digest.now c.args.node.now c.act.new.node c.act.result c.args.errand errands.Stop c.in-Stop.is c.act.ensures
+
+pub returns-in-GiveUpFor : goal.returns-in-GiveUpFor
+returns-in-GiveUpFor g c =
+    as_asked g.A.Asks.answers c.args.meant.name.now c.args.meant.digest.now c.args.node.now
+    c.give_row_up_for.new.node c.give_row_up_for.result c.args.errand
+    (errands.GiveUpFor c.in-GiveUpFor.uid c.in-GiveUpFor.dest c.in-GiveUpFor.reason) c.in-GiveUpFor.is c.give_row_up_for.ensures
+
+pub returns-in-Visit : goal.returns-in-Visit
+returns-in-Visit g c =
+    as_asked g.A.Asks.answers c.args.meant.name.now c.args.meant.digest.now c.args.node.now
+    c.visit_node.new.node c.visit_node.result c.args.errand
+    (errands.Visit c.in-Visit.dest) c.in-Visit.is c.visit_node.ensures
