@@ -165,7 +165,8 @@ fn put_visits_of(out: &mut Vec<u8>, queue: &Queue<'_>) -> Result<(), AllocError>
     put_came(out, queue.dest, "aborted", queue.visits.aborted)?;
     put_came(out, queue.dest, "closed", queue.visits.closed)?;
     put_came(out, queue.dest, "unreached", queue.visits.unreached)?;
-    put_came(out, queue.dest, "failed", queue.visits.failed)
+    put_came(out, queue.dest, "failed", queue.visits.failed)?;
+    Ok(())
 }
 
 /// The same for each node.

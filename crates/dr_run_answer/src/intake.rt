@@ -4,7 +4,7 @@ ghost use Rattle.dr_run_answer.specs.Answers.{brought_figure, brought_figures, b
 ghost use Rattle.dr_run_answer.specs.Answers.{bytes_figures, bytes_of, recent_line};
 
 use crate::figures::{put_labelled, put_twice_labelled};
-use crate::json::{put_number, put_word};
+use crate::json::{put_named, put_number};
 use crate::quoted::put_text;
 use dr_base::Text;
 use std::alloc::AllocError;
@@ -36,7 +36,7 @@ fn put_recent(out: &mut Vec<u8>, recent: &Recent) -> Result<(), AllocError>
 {
     out.extend_from_slice(b"{\"from\":")?;
     put_text(out, &recent.caller)?;
-    put_word(out, "modality", recent.modality.as_bytes())?;
+    put_named(out, "modality", &recent.modality)?;
     put_number(out, "stored", recent.stored)?;
     put_number(out, "refused", recent.refused)?;
     out.extend_from_slice(b"}\n")?;

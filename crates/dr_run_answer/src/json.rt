@@ -80,13 +80,27 @@ pub(crate) fn put_number(out: &mut Vec<u8>, name: &str, value: u64) -> Result<()
 }
 
 /// Adds a text behind its name.
-pub(crate) fn put_word(out: &mut Vec<u8>, name: &str, value: &[u8]) -> Result<(), AllocError>
+fn put_word(out: &mut Vec<u8>, name: &str, value: &[u8]) -> Result<(), AllocError>
     ensures { OnOk result (out.new.items ≡ out.old.items ++ word name.now value.now) }
 {
     out.extend_from_slice(b",\"")?;
     out.extend_from_slice(name.as_bytes())?;
     out.extend_from_slice(b"\":")?;
     put_quoted(out, value)
+}
+
+/// The same of a `Text`.
+pub(crate) fn put_named(out: &mut Vec<u8>, name: &str, value: &Text) -> Result<(), AllocError>
+    ensures { OnOk result (out.new.items ≡ out.old.items ++ word name.now value.now) }
+{
+    put_word(out, name, value.as_bytes())
+}
+
+/// The same of words.
+fn put_said(out: &mut Vec<u8>, name: &str, value: &str) -> Result<(), AllocError>
+    ensures { OnOk result (out.new.items ≡ out.old.items ++ word name.now value.now) }
+{
+    put_word(out, name, value.as_bytes())
 }
 
 /// Adds whether something is so, behind its name.
@@ -184,8 +198,8 @@ pub fn put_node(out: &mut Vec<u8>, node: &Identity<'_>, counts: Counts) -> Resul
 {
     out.extend_from_slice(b"{\"node\":")?;
     put_text(out, node.name)?;
-    put_word(out, "plan", node.plan.as_bytes())?;
-    put_word(out, "version", node.version.as_bytes())?;
+    put_said(out, "plan", node.plan)?;
+    put_said(out, "version", node.version)?;
     put_number(out, "since", node.since)?;
     put_number(out, "arrivals", counts.arrivals)?;
     put_number(out, "kept", counts.kept)?;

@@ -17,9 +17,9 @@ returns c =
     let p5 = ended in
     let e1 = chained old (p0) p1 c.extend_from_slice.new.self.items c.put_text.new.out.items
     c.in_ok-extend_from_slice.ensures.items c.in_ok-put_text.ensures in
-    let e2 = chained old (p0 ++ p1) p2 c.put_text.new.out.items c.put_word.new.out.items
-    e1 c.in_ok-put_word.ensures in
-    let e3 = chained old (p0 ++ p1 ++ p2) p3 c.put_word.new.out.items c.put_number.new.out.items
+    let e2 = chained old (p0 ++ p1) p2 c.put_text.new.out.items c.put_named.new.out.items
+    e1 c.in_ok-put_named.ensures in
+    let e3 = chained old (p0 ++ p1 ++ p2) p3 c.put_named.new.out.items c.put_number.new.out.items
     e2 c.in_ok-put_number.ensures in
     let e4 = chained old (p0 ++ p1 ++ p2 ++ p3) p4 c.put_number.new.out.items c.put_number-2.new.out.items
     e3 c.in_ok-put_number-2.ensures in

@@ -22,11 +22,11 @@ returns c =
     let p9 = ended in
     let e1 = chained old (p0) p1 c.extend_from_slice.new.self.items c.put_text.new.out.items
     c.in_ok-extend_from_slice.ensures.items c.in_ok-put_text.ensures in
-    let e2 = chained old (p0 ++ p1) p2 c.put_text.new.out.items c.put_word.new.out.items
-    e1 c.in_ok-put_word.ensures in
-    let e3 = chained old (p0 ++ p1 ++ p2) p3 c.put_word.new.out.items c.put_word-2.new.out.items
-    e2 c.in_ok-put_word-2.ensures in
-    let e4 = chained old (p0 ++ p1 ++ p2 ++ p3) p4 c.put_word-2.new.out.items c.put_number.new.out.items
+    let e2 = chained old (p0 ++ p1) p2 c.put_text.new.out.items c.put_said.new.out.items
+    e1 c.in_ok-put_said.ensures in
+    let e3 = chained old (p0 ++ p1 ++ p2) p3 c.put_said.new.out.items c.put_said-2.new.out.items
+    e2 c.in_ok-put_said-2.ensures in
+    let e4 = chained old (p0 ++ p1 ++ p2 ++ p3) p4 c.put_said-2.new.out.items c.put_number.new.out.items
     e3 c.in_ok-put_number.ensures in
     let e5 = chained old (p0 ++ p1 ++ p2 ++ p3 ++ p4) p5 c.put_number.new.out.items c.put_number-2.new.out.items
     e4 c.in_ok-put_number-2.ensures in
