@@ -1,12 +1,14 @@
 #!/usr/bin/env python3
-"""Measures for how long a running node's ledger is held by what is asked of it, call by call, by how long a peer that stores has to wait
-meanwhile: on the built program, on loopback and this machine's disk.
+"""Measures for how long a running node's ledger is held by what is asked of it, call by call, by how long a peer that
+stores has to wait meanwhile: on the built program, on loopback and this machine's disk.
 
-    bench/held_up.py             # 100,000 rows that wait, and eight images of 32 MB; some minutes, on a machine that does nothing else
+    bench/held_up.py             # 100,000 rows that wait, and eight images of 32 MB; some minutes, on a machine that
+                                 does nothing else
     bench/held_up.py 5000 2      # as many rows and images
 
-A node's ledger has one lock. Whoever stores waits while another call has it; so the longest wait of a store beside a call, less the longest
-without one, says how long the call held the lock at least. The rows wait for a node that is down; the images go to another one.
+A node's ledger has one lock. Whoever stores waits while another call has it; so the longest wait of a store beside a
+call, less the longest without one, says how long the call held the lock at least. The rows wait for a node that is
+down; the images go to another one.
 """
 import os
 import statistics

@@ -1,11 +1,13 @@
 #!/usr/bin/env python3
-"""Measures running nodes of the built program beside dcmtk's storescp, on loopback and this machine's disk, all in one run.
+"""Measures running nodes of the built program beside dcmtk's storescp, on loopback and this machine's disk, all in one
+run.
 
     bench/peers.py            # some minutes, on a machine that does nothing else
     bench/peers.py --tiny     # a few small files: whether it runs, not how fast
 
-storescp never syncs a file that it writes (seen by strace, 3.6.7); a node acknowledges what is synced. So the disk's own
-syncs are measured too: a node can't acknowledge more instances a second than the disk syncs, association by association.
+storescp never syncs a file that it writes (seen by strace, 3.6.7); a node acknowledges what is synced. So the disk's
+own syncs are measured too: a node can't acknowledge more instances a second than the disk syncs, association by
+association.
 """
 import os
 import random

@@ -1,5 +1,6 @@
 #!/usr/bin/env python3
-"""How long a script takes on the built program: instances of 1 kB that go over a line of 16 nodes, 15 hops each, over links that stay open.
+"""How long a script takes on the built program: instances of 1 kB that go over a line of 16 nodes, 15 hops each, over
+links that stay open.
 
     bench/simulate.py            scripts of 25,000, 50,000 and 100,000 steps
 """

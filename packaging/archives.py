@@ -1,4 +1,5 @@
-"""Archives whose bytes tell nothing of when, where and by whom they were made: members in the order of their names, all of one moment, all root's."""
+"""Archives whose bytes tell nothing of when, where and by whom they were made: members in the order of their names, all
+of one moment, all root's."""
 import gzip
 import io
 import os

@@ -1,7 +1,8 @@
 """A release of the checkout: its package for Debian, its archive, and the statement that says what they were made from.
 
-What goes into both is the program, the unit, the manual page, the words that bash offers, the pages for whoever runs nodes, and the sample
-plans. Their bytes are determined by these files, the statement and the moment of the last commit; so two builds give the same.
+What goes into both is the program, the unit, the manual page, the words that bash offers, the pages for whoever runs
+nodes, and the sample plans. Their bytes are determined by these files, the statement and the moment of the last commit;
+so two builds give the same.
 """
 import hashlib
 import os

@@ -1,6 +1,6 @@
 #!/usr/bin/env python3
-"""Brings the ledgers of the sample plan's nodes over to other plans, by `adopt` of the built program. Meanwhile an instance waits at CT1 and
-another one at GATE; under the next plan both go on.
+"""Brings the ledgers of the sample plan's nodes over to other plans, by `adopt` of the built program. Meanwhile an
+instance waits at CT1 and another one at GATE; under the next plan both go on.
 
     tests/adopting.py
 """

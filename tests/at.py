@@ -1,6 +1,7 @@
 #!/usr/bin/env python3
-"""The words at nodes that run (--at), by the built program, on loopback: what they print is what the words print of a file, acts are told once the node
-was seen to be the one that is meant, and what answers like no node ends them by a named fault, in bounded time and memory.
+"""The words at nodes that run (--at), by the built program, on loopback: what they print is what the words print of a
+file, acts are told once the node was seen to be the one that is meant, and what answers like no node ends them by a
+named fault, in bounded time and memory.
 
     tests/at.py
 """

@@ -1,6 +1,6 @@
 #!/usr/bin/env python3
-"""Audits the ledgers of the sample plan's nodes, by `audit` of the built program: after nodes were killed, with a ledger that is lost, older than
-the others, another one's or changed, and with nodes of other makers.
+"""Audits the ledgers of the sample plan's nodes, by `audit` of the built program: after nodes were killed, with a
+ledger that is lost, older than the others, another one's or changed, and with nodes of other makers.
 
     tests/audit.py
 """

@@ -1,8 +1,10 @@
 #!/usr/bin/env python3
-"""Compares the storage classes that plans of format 3 name with a second copy of PS3.6, and looks at the sets that come with the product.
+"""Compares the storage classes that plans of format 3 name with a second copy of PS3.6, and looks at the sets that come
+with the product.
 
-The second copy is that of pydicom (Debian's python3-pydicom). Where it isn't there the test says so, and looks at the tables alone.
-A class is left out that is retired, or of another standard (DICOS, DICONDE), and what stores nothing (storage commitment, a directory).
+The second copy is that of pydicom (Debian's python3-pydicom). Where it isn't there the test says so, and looks at the
+tables alone. A class is left out that is retired, or of another standard (DICOS, DICONDE), and what stores nothing
+(storage commitment, a directory).
 """
 import os
 import re

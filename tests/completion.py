@@ -1,5 +1,6 @@
 #!/usr/bin/env python3
-"""Compares what bash offers for the words of the program (packaging/dr_router.bash) with the words that the program's help lists.
+"""Compares what bash offers for the words of the program (packaging/dr_router.bash) with the words that the program's
+help lists.
 
     tests/completion.py [PROGRAM]
 """

@@ -1,9 +1,11 @@
 #!/usr/bin/env python3
-"""Asks running nodes what they have over their control connection, and tells them to act: by the built program, on loopback. Who may, what is answered,
-and that nothing else acts; then requests that are no requests, slow ones, and many at a time, while a peer stores.
+"""Asks running nodes what they have over their control connection, and tells them to act: by the built program, on
+loopback. Who may, what is answered, and that nothing else acts; then requests that are no requests, slow ones, and many
+at a time, while a peer stores.
 
     tests/control.py
-    tests/control.py --more    20,000 malformed requests while two peers store, and by how much their rate falls, which ./test leaves out
+    tests/control.py --more    20,000 malformed requests while two peers store, and by how much their rate falls, which
+                               ./test leaves out
 """
 import base64
 import hashlib

@@ -4,10 +4,10 @@
     tests/documents.py            compares
     tests/documents.py --write    puts what is printed into the documents
 
-In a document, a block ```toml NAME is written to the file NAME. In a block ```console each line that begins with '$ ' is a
-command; what follows, up to the next command, is what it prints: standard output, then standard error, then its exit
-status in brackets where that isn't 0. Each document's commands run in one folder of its own, beside the folder plans/.
-A command may end in '> FILE' or '< FILE'; 'dr_router' is the built program.
+In a document, a block ```toml NAME is written to the file NAME. In a block ```console each line that begins with '$ '
+is a command; what follows, up to the next command, is what it prints: standard output, then standard error, then its
+exit status in brackets where that isn't 0. Each document's commands run in one folder of its own, beside the folder
+plans/. A command may end in '> FILE' or '< FILE'; 'dr_router' is the built program.
 """
 import html
 import os

@@ -3,8 +3,9 @@
 
     tests/expansions.py [PROGRAM]
 
-What it expands is its own expansion; plans/hospital-by-names.toml means what plans/hospital.toml says; small plans mean what is written
-beside them here; and each word that nobody defines is found. What the program expands is compared byte by byte, where it is built.
+What it expands is its own expansion; plans/hospital-by-names.toml means what plans/hospital.toml says; small plans mean
+what is written beside them here; and each word that nobody defines is found. What the program expands is compared byte
+by byte, where it is built.
 """
 import json
 import os

@@ -1,9 +1,11 @@
 #!/usr/bin/env python3
-"""Journals that random runs leave match, by the definitions of crates/dr_world_journals/specs written again in Python. And journals
-that are changed at random afterwards either fail a clause, or the four claims of docs/HEADLINE.md hold of what they make.
+"""Journals that random runs leave match, by the definitions of crates/dr_world_journals/specs written again in Python.
+And journals that are changed at random afterwards either fail a clause, or the four claims of docs/HEADLINE.md hold of
+what they make.
 
-    tests/journals_match.py [RUNS] [SEED]      no run may leave journals that don't match, no journals that match may break a claim,
-                                               and each clause must refuse some journals (1,000 runs: about half a minute)
+    tests/journals_match.py [RUNS] [SEED]      no run may leave journals that don't match, no journals that match may
+                                               break a claim, and each clause must refuse some journals (1,000 runs:
+                                               about half a minute)
     tests/journals_match.py --wrong [RUNS]     without any one of the clauses some journals that pass must break a claim
 """
 import collections

@@ -1,11 +1,13 @@
 #!/usr/bin/env python3
-"""Answers the calls in the `stdin` of tests/played/ledger (ledgers in memory) and of tests/played/tables (ledgers in tables) by a ledger of
-its own, written again from crates/dr_ledger/specs (Books, Replies, Adopting, Bodies), and compares what it answers with the `stdout` there,
-with which tests/played.py compares what the ledgers answer. So the answers that are wanted come from outside the programs.
+"""Answers the calls in the `stdin` of tests/played/ledger (ledgers in memory) and of tests/played/tables (ledgers in
+tables) by a ledger of its own, written again from crates/dr_ledger/specs (Books, Replies, Adopting, Bodies), and
+compares what it answers with the `stdout` there, with which tests/played.py compares what the ledgers answer. So the
+answers that are wanted come from outside the programs.
 
-The lines for ledgers in tables begin with those for ledgers in memory, but for `refuse` and `refusals`, and this is looked at too. Behind them
-the files are closed, changed, opened again and stopped, and desks are shared. How often a disk can be stopped in a call is the program's to
-say; of what it says of those stops, it is looked at that each is answered as it may be, and that the numbers go together.
+The lines for ledgers in tables begin with those for ledgers in memory, but for `refuse` and `refusals`, and this is
+looked at too. Behind them the files are closed, changed, opened again and stopped, and desks are shared. How often a
+disk can be stopped in a call is the program's to say; of what it says of those stops, it is looked at that each is
+answered as it may be, and that the numbers go together.
 
     tests/ledger_rows.py              says where they differ; its status is 0 where they don't
     tests/ledger_rows.py --print      prints the answers of ledgers in memory

@@ -1,9 +1,9 @@
 #!/usr/bin/env python3
-"""Plays random events over random sound plans, by the definitions of crates/dr_world_model/specs written again in Python,
-and tests the four claims of docs/HEADLINE.md, and what lasts, after each event.
+"""Plays random events over random sound plans, by the definitions of crates/dr_world_model/specs written again in
+Python, and tests the four claims of docs/HEADLINE.md, and what lasts, after each event.
 
-    tests/message_world.py [RUNS] [SEED]       no claim may fail, and each event and reply must have happened (2,000 runs:
-                                               about half a minute; at least 300)
+    tests/message_world.py [RUNS] [SEED]       no claim may fail, and each event and reply must have happened (2,000
+                                               runs: about half a minute; at least 300)
     tests/message_world.py --wrong [RUNS]      each wrong definition must make some claim fail
 """
 import collections

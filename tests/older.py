@@ -1,10 +1,11 @@
 #!/usr/bin/env python3
-"""Opens ledger files from before: their journal's lines have no instances of their own, and they may lack the table of prints, that of
-targets, or the index of the rows that are due. Each is made of a file of today by the sqlite3 of Python, and is opened by the built
-program, which brings it over; then it is the file of today again, row by row. A file that is refused stays as it was.
+"""Opens ledger files from before: their journal's lines have no instances of their own, and they may lack the table of
+prints, that of targets, or the index of the rows that are due. Each is made of a file of today by the sqlite3 of
+Python, and is opened by the built program, which brings it over; then it is the file of today again, row by row. A file
+that is refused stays as it was.
 
-Files of today are opened too whose journal and whose tables don't agree: an instance that was forgotten is no item any more, one that
-wasn't is the item that its lines show, and a row that was dropped is just that.
+Files of today are opened too whose journal and whose tables don't agree: an instance that was forgotten is no item any
+more, one that wasn't is the item that its lines show, and a row that was dropped is just that.
 
     tests/older.py
 """

@@ -3,9 +3,9 @@
 
     tests/packaging.py
 
-A fresh root is a folder with the files of this machine's essential packages and of `passwd`, by dpkg's own lists: nothing is fetched. It needs root, a
-Debian, and the leave to change roots; else the package is made and looked at alone, which a line says. DR_ROUTER names the program, where it isn't the
-one that this repository builds.
+A fresh root is a folder with the files of this machine's essential packages and of `passwd`, by dpkg's own lists:
+nothing is fetched. It needs root, a Debian, and the leave to change roots; else the package is made and looked at
+alone, which a line says. DR_ROUTER names the program, where it isn't the one that this repository builds.
 """
 import io
 import os

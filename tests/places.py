@@ -1,6 +1,6 @@
 #!/usr/bin/env python3
-"""Compares what the program says of a plan's fault, below the fault's name: where it stands, and what to change. A table of bad plans with the lines
-that are to be printed, worked by hand.
+"""Compares what the program says of a plan's fault, below the fault's name: where it stands, and what to change. A
+table of bad plans with the lines that are to be printed, worked by hand.
 
     tests/places.py [PROGRAM]
 """

@@ -1,7 +1,7 @@
 #!/usr/bin/env python3
-"""Compares the program, byte for byte, with what was worked by hand (plan_cases.py), and with readers of plans, walks and
-certificates that share nothing with it: random plans, certificates with faults, and texts with each of the seven faults,
-from a fixed seed.
+"""Compares the program, byte for byte, with what was worked by hand (plan_cases.py), and with readers of plans, walks
+and certificates that share nothing with it: random plans, certificates with faults, and texts with each of the seven
+faults, from a fixed seed.
 
     tests/plans.py [TIMES] [SEED]      TIMES as many as the test of the repository tries (half a minute a time)
     tests/plans.py --wrong             how many of its plans see each wrong definition

@@ -1,8 +1,8 @@
 #!/usr/bin/env python3
 """Looks at the rooms of crates.txt: `tests/rooms.py`.
 
-Each crate is in the section of its room, behind those of the room that it stands on; no arrow goes up to a later room; each folder of
-crates/ has its line; and the picture in docs/ is that of crates.txt.
+Each crate is in the section of its room, behind those of the room that it stands on; no arrow goes up to a later room;
+each folder of crates/ has its line; and the picture in docs/ is that of crates.txt.
 """
 import os
 import sys

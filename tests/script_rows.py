@@ -1,6 +1,6 @@
 #!/usr/bin/env python3
-"""Plays worked scripts on the built program (`simulate`) and compares what it prints with reports that were written by hand.
-Each script is played three times: as it stands, and with each Move cut into Moves of 7 bytes and of 1 byte.
+"""Plays worked scripts on the built program (`simulate`) and compares what it prints with reports that were written by
+hand. Each script is played three times: as it stands, and with each Move cut into Moves of 7 bytes and of 1 byte.
 
     tests/script_rows.py
 """

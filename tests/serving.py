@@ -1,7 +1,8 @@
 #!/usr/bin/env python3
-"""Runs routers of the sample plan on loopback, each a process of the built program with a ledger in a file: an instance enters at CT1, goes by
-GATE and is kept at ARCH. Then what a person meets: a file that another program has open, another node's file, a dead hop, repeats, reports that would
-replace a file, forged lines of a log, peers that say nothing, kill -9.
+"""Runs routers of the sample plan on loopback, each a process of the built program with a ledger in a file: an instance
+enters at CT1, goes by GATE and is kept at ARCH. Then what a person meets: a file that another program has open, another
+node's file, a dead hop, repeats, reports that would replace a file, forged lines of a log, peers that say nothing, kill
+-9.
 
     tests/serving.py
     tests/serving.py --more    cases that measure time and memory, which ./test leaves out

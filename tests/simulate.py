@@ -1,11 +1,13 @@
 #!/usr/bin/env python3
-"""Plays random scripts on the built program, over random sound plans, and compares each report with that of a world written
-again from the documents (script_world.py), which counts the bytes of PDUs but writes none: requests, stores and releases in
-random cuts, with aborts, lost connections, calls that come to no link, late marks, restarts, refused stores, instances that come twice, held rows that are queued again
-or given up, instances that are forgotten, and changes of plan.
+"""Plays random scripts on the built program, over random sound plans, and compares each report with that of a world
+written again from the documents (script_world.py), which counts the bytes of PDUs but writes none: requests, stores and
+releases in random cuts, with aborts, lost connections, calls that come to no link, late marks, restarts, refused
+stores, instances that come twice, held rows that are queued again or given up, instances that are forgotten, and
+changes of plan.
 
-    tests/simulate.py [RUNS] [SEED]        no report may differ, and each kind of step, of answer and of reason for which a
-                                           step is skipped must have come (500 runs: about half a minute; at least 300)
+    tests/simulate.py [RUNS] [SEED]        no report may differ, and each kind of step, of answer and of reason for
+                                           which a step is skipped must have come (500 runs: about half a minute; at
+                                           least 300)
     tests/simulate.py --wrong [RUNS]       each wrong definition of the world must make some report differ
 """
 import collections

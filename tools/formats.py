@@ -1,9 +1,9 @@
 #!/usr/bin/env python3
 """Looks at the form of what is committed, which needs no proof: `tools/formats.py`.
 
-Each source is in the kit's layout; no line of src/ or specs/ is over 100 columns, but for a text that is alone on it; each wrong body
-and wrong definition can be applied to the sources as they are; each that wrong/gate names is there; and each file whose first line names
-what runs it may be run. What isn't so is printed, and the exit status is 1.
+Each source is in the kit's layout; no line of src/ or specs/ is over 100 columns, but for a text that is alone on it;
+each wrong body and wrong definition can be applied to the sources as they are; each that wrong/gate names is there; and
+each file whose first line names what runs it may be run. What isn't so is printed, and the exit status is 1.
 """
 import os
 import subprocess

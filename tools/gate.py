@@ -1,5 +1,6 @@
 #!/usr/bin/env python3
-"""Runs `rt ci`, and says what each crate cost: CPU seconds of its proof and of its tests, and of all processes together.
+"""Runs `rt ci`, and says what each crate cost: CPU seconds of its proof and of its tests, and of all processes
+together.
 
 The lines of `rt ci` go to standard output as they come, but for the last one, 'N passed, M failed', which stays the
 last: the table comes before it. With --quiet only the lines that say how a crate or a program came out are shown, each
@@ -12,8 +13,8 @@ Kit 13b proves each crate from nothing, and its `rt ci` takes no names. With kit
 these and those below them are proved, which is not the gate), and what an earlier run on this machine passed isn't
 proved again, and costs nothing.
 
-`rt ci` guesses a check's memory at twice what it takes, and leaves processors idle: where RT_JOBS isn't set and at least
-3.5 GB are free for each processor, it is set to the number of processors, which asks no guess.
+`rt ci` guesses a check's memory at twice what it takes, and leaves processors idle: where RT_JOBS isn't set and at
+least 3.5 GB are free for each processor, it is set to the number of processors, which asks no guess.
 """
 import collections
 import os

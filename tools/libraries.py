@@ -1,12 +1,14 @@
 """Proves the libraries below a crate side by side, each over the statements of those below it: `build_libraries`.
 
-The kit's prover is called directly, as the gate calls it, and not by `rt lib`: a library is read without its proofs then, which
-takes half the time. What is made is in the crate's `out/rlib`; `rt check` and `rt run` don't take it, and prove these libraries
-for themselves. A library that the gate has made is taken as it is. What was made from other sources is made anew.
+The kit's prover is called directly, as the gate calls it, and not by `rt lib`: a library is read without its proofs
+then, which takes half the time. What is made is in the crate's `out/rlib`; `rt check` and `rt run` don't take it, and
+prove these libraries for themselves. A library that the gate has made is taken as it is. What was made from other
+sources is made anew.
 
-Beside a library its `sources` has the digest of all that it was made from: the kit, and the sources and the lines of `crates.txt` of it
-and of those below it. With DR_PROVED=FOLDER, which is for whoever works in several clones, each library that is proved goes there
-under its digest, and one that is there isn't proved again; what another clone is proving is waited for. The gate never looks there.
+Beside a library its `sources` has the digest of all that it was made from: the kit, and the sources and the lines of
+`crates.txt` of it and of those below it. With DR_PROVED=FOLDER, which is for whoever works in several clones, each
+library that is proved goes there under its digest, and one that is there isn't proved again; what another clone is
+proving is waited for. The gate never looks there.
 """
 import functools
 import hashlib

@@ -1,9 +1,10 @@
 #!/usr/bin/env python3
-"""The picture of the rooms: `tools/picture.py` writes docs/rooms.dot, which `dot -Tsvg docs/rooms.dot -o docs/rooms.svg` draws.
+"""The picture of the rooms: `tools/picture.py` writes docs/rooms.dot, which
+`dot -Tsvg docs/rooms.dot -o docs/rooms.svg` draws.
 
-The rooms are the sections of crates.txt, lowest first: a line '# ROOM: what it has', and the lines of its crates. Each is a box with its
-crates; an arrow goes from a room to one that it stands on, but where other arrows lead there too. An arrow to a later room is dashed:
-tests/rooms.py lets none pass.
+The rooms are the sections of crates.txt, lowest first: a line '# ROOM: what it has', and the lines of its crates. Each
+is a box with its crates; an arrow goes from a room to one that it stands on, but where other arrows lead there too. An
+arrow to a later room is dashed: tests/rooms.py lets none pass.
 """
 import os
 import sys

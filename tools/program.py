@@ -1,8 +1,8 @@
 #!/usr/bin/env python3
 """Proves and builds a program, the libraries below it side by side: `tools/program.py PROGRAM LOG`.
 
-The program is checked over the statements of its libraries, compiled from what that check proved, and linked. One line a crate goes
-to standard error, and all that the kit says to the file LOG. What has been proved isn't proved again.
+The program is checked over the statements of its libraries, compiled from what that check proved, and linked. One line
+a crate goes to standard error, and all that the kit says to the file LOG. What has been proved isn't proved again.
 """
 import fcntl
 import os

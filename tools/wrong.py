@@ -1,14 +1,15 @@
 #!/usr/bin/env python3
-"""Tries wrong bodies and wrong definitions, each of which the prover must refuse: `tools/wrong.py --gate` tries those that wrong/gate
-names, `--all` those of all crates, `CRATE..` those of these crates, `--itself` the tester. With `--table` a table of the crates is
-printed at the end.
+"""Tries wrong bodies and wrong definitions, each of which the prover must refuse: `tools/wrong.py --gate` tries those
+that wrong/gate names, `--all` those of all crates, `CRATE..` those of these crates, `--itself` the tester. With
+`--table` a table of the crates is printed at the end.
 
-wrong/CRATE/NAME.edit changes places of a crate's source: lines 'file: ', 'old: ' (a text that is there once, on a line or on several) and
-'new: '. Each text is on one line of the edit, where a blank stands for any blanks and line breaks; comments begin with '#', and all else is
-refused. The edits of a crate that change different functions are applied together, and these functions alone are checked; an edit is
-refused only where the prover refuses the function that it changed. What can't be told apart so is tried alone. An edit of a definition is
-in no function: the crate's laws are checked for it, and where they don't refuse it all of the crate. What isn't refused, can't be read or
-applied or doesn't reach the prover is told at the end, and makes the exit status 1. The libraries below are those that the gate has made;
+wrong/CRATE/NAME.edit changes places of a crate's source: lines 'file: ', 'old: ' (a text that is there once, on a line
+or on several) and 'new: '. Each text is on one line of the edit, where a blank stands for any blanks and line breaks;
+comments begin with '#', and all else is refused. The edits of a crate that change different functions are applied
+together, and these functions alone are checked; an edit is refused only where the prover refuses the function that it
+changed. What can't be told apart so is tried alone. An edit of a definition is in no function: the crate's laws are
+checked for it, and where they don't refuse it all of the crate. What isn't refused, can't be read or applied or doesn't
+reach the prover is told at the end, and makes the exit status 1. The libraries below are those that the gate has made;
 what isn't there is proved first.
 """
 import concurrent.futures

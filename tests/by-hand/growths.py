@@ -1,15 +1,19 @@
 #!/usr/bin/env python3
-"""Refuses each growth of memory in turn, one in each run of a built program, and looks for an answer that is another one then.
+"""Refuses each growth of memory in turn, one in each run of a built program, and looks for an answer that is another
+one then.
 
     tests/by-hand/growths.py ledger [FIRST]     calls on a ledger in memory (tests/played/ledger)
     tests/by-hand/growths.py desk [FIRST]       two sessions on one shared desk (tests/played/workers)
-    tests/by-hand/growths.py world [FIRST]      an instance on its way over three nodes in the simulator (tests/played/world)
+    tests/by-hand/growths.py world [FIRST]      an instance on its way over three nodes in the simulator
+                                                (tests/played/world)
 
-A small library that is loaded before the program (LD_PRELOAD) counts its calls for memory and refuses the one whose number it is told; the
-numbers go up, from the FIRST on, until a run meets no refusal. A run is as it is to be where it ends by itself and has printed what a
-run without refusals prints, or the first lines of it and then, on standard error, that it has no memory. One that hangs, dies, prints another
-line or ends so without having met a refusal is named, and the status is 1. Of worlds a line may say that there is no memory, and the report at the
-end is to show the instance kept at the archive or waiting on its way, or no arrival at all. It needs `cc`, and takes some twenty minutes, so it is no part of ./test.
+A small library that is loaded before the program (LD_PRELOAD) counts its calls for memory and refuses the one whose
+number it is told; the numbers go up, from the FIRST on, until a run meets no refusal. A run is as it is to be where it
+ends by itself and has printed what a run without refusals prints, or the first lines of it and then, on standard error,
+that it has no memory. One that hangs, dies, prints another line or ends so without having met a refusal is named, and
+the status is 1. Of worlds a line may say that there is no memory, and the report at the end is to show the instance
+kept at the archive or waiting on its way, or no arrival at all. It needs `cc`, and takes some twenty minutes, so it is
+no part of ./test.
 """
 import concurrent.futures
 import os

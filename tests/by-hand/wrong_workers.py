@@ -1,10 +1,11 @@
 #!/usr/bin/env python3
-"""Tries wrong bodies of the shared desk and of its workers of which no contract speaks: the test tests/played/workers must fail.
+"""Tries wrong bodies of the shared desk and of its workers of which no contract speaks: the test tests/played/workers
+must fail.
 
     tests/by-hand/wrong_workers.py [NAME..]
 
-Each is tried in a copy of the crates, without a proof (`tests/played.py`). It takes two or three minutes each, so it is no part of ./test: run it
-where you have changed those crates. The last line is 'N passed, M failed'.
+Each is tried in a copy of the crates, without a proof (`tests/played.py`). It takes two or three minutes each, so it is
+no part of ./test: run it where you have changed those crates. The last line is 'N passed, M failed'.
 """
 import os
 import shutil

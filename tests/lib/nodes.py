@@ -1,5 +1,5 @@
-"""What tests of running nodes share: files of the standard by bytes, and rooms, in which nodes of a plan run as processes of the built
-program. DR_ROUTER names the program, where it isn't the one that this repository builds."""
+"""What tests of running nodes share: files of the standard by bytes, and rooms, in which nodes of a plan run as
+processes of the built program. DR_ROUTER names the program, where it isn't the one that this repository builds."""
 import datetime
 import os
 import re

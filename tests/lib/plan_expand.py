@@ -1,6 +1,8 @@
-"""Expands plans of format 3, written from the definitions in crates/dr_plan_expand/specs; for expansions.py and plan_reader.py.
+"""Expands plans of format 3, written from the definitions in crates/dr_plan_expand/specs; for expansions.py and
+plan_reader.py.
 
-The tables of classes, of transfer syntaxes and of sets are those of the crate: tests/classes.py compares the first with a second copy.
+The tables of classes, of transfer syntaxes and of sets are those of the crate: tests/classes.py compares the first with
+a second copy.
 """
 import re
 import tomllib

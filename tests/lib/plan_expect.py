@@ -1,7 +1,7 @@
 """What is expected of a plan: which rows hold, worked out over single instances and not over cells; for plans.py.
 
-Written from the definitions in crates/dr_plan_expect/specs and crates/dr_cert_expect/specs. `WRONG_ROWS` has definitions that differ in
-one thing each.
+Written from the definitions in crates/dr_plan_expect/specs and crates/dr_cert_expect/specs. `WRONG_ROWS` has
+definitions that differ in one thing each.
 """
 from lib.plan_model import LOCAL
 from lib.plan_reader import ANY, SYNTAXES

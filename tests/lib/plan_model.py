@@ -1,7 +1,7 @@
 """Which plans are sound, their certificates, and the verdict on a certificate; for plans.py.
 
-Written from the definitions in crates/dr_route/specs, dr_plan_model/specs, dr_plan_sound/specs, dr_check/specs and dr_cert/specs.
-`WRONG` has definitions that differ in one thing each.
+Written from the definitions in crates/dr_route/specs, dr_plan_model/specs, dr_plan_sound/specs, dr_check/specs and
+dr_cert/specs. `WRONG` has definitions that differ in one thing each.
 """
 import hashlib
 import re

@@ -1,5 +1,5 @@
-"""Associations by hand: PDUs and commands of the standard as bytes, and a requestor over a socket of this process, for tests that can't
-wait for the start of another program, or that send what no program of the standard does."""
+"""Associations by hand: PDUs and commands of the standard as bytes, and a requestor over a socket of this process, for
+tests that can't wait for the start of another program, or that send what no program of the standard does."""
 import socket
 import struct
 import threading

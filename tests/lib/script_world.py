@@ -1,6 +1,6 @@
-"""The nodes of a sound plan, their links and what is on the wires, by what docs/HEADLINE.md, docs/USAGE.md and the association
-table of PS3.8 section 9.2 say of the simulator; for simulate.py. A PDU is its kind, what it says and how many bytes it has: nothing
-is written and read, so that nothing is shared with the product.
+"""The nodes of a sound plan, their links and what is on the wires, by what docs/HEADLINE.md, docs/USAGE.md and the
+association table of PS3.8 section 9.2 say of the simulator; for simulate.py. A PDU is its kind, what it says and how
+many bytes it has: nothing is written and read, so that nothing is shared with the product.
 """
 import collections
 
