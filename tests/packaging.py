@@ -328,7 +328,7 @@ def installation():
         root.install(older_package(program))
         home = os.stat(f'{root.folder}/var/lib/dr_router')
         same((home.st_uid, home.st_gid, stat.S_IMODE(home.st_mode)), (*root.owner(), 0o750))
-        same(root.text('usr/lib/systemd/system/dr_router@.service').count('/usr/bin/dr_router '), 2)
+        same(root.text('usr/lib/systemd/system/dr_router@.service').count('/usr/bin/dr_router '), 3)
         root.put_plan()
         same(root.run('verify', '/etc/dr_router/plan.toml', '/etc/dr_router/certificate').stdout, b'yes\n')
         root.send(b'1.2.3.4')
