@@ -3,17 +3,16 @@ use Rattle.std.proofs.Common.{◌≡◌, ◌⊎◌, ℕ, ◌≤◌, List, Option
 use Rattle.std.proofs.Common.{refl, sym, ap, subst, ◌∙◌, arith}
 use Rattle.std.specs.FinMap as map
 use mathlib.Core.Logic.{∥∥₁_elim}
-use Rattle.dr_base.specs.Texts.{Text, text_cmp}
+use Rattle.dr_base.specs.Texts.{Text}
 use Rattle.dr_cert.specs.Sealing.{Certified}
 use Rattle.dr_plan_model.specs.Networks.{Network}
 use Rattle.dr_plan_model.specs.Plans.{IsNode, IsTheNode, NamesNoNode}
 use Rattle.dr_plan_model.specs.declared.plan.Node.{Node}
 use Rattle.dr_ledger.specs.declared.fault.LedgerFault.{LedgerFault}
 use Rattle.dr_ledger.specs.declared.fault.LedgerFault.TheVariants as ledger
-use Rattle.dr_ledger.specs.Adopting.{Adopting, IsFit, Unfits, site_after}
+use Rattle.dr_ledger.specs.Adopting.{Adopting, IsFit, Unfits}
 use Rattle.dr_ledger.specs.Bodies.{Bodies, HasBodies, IsNeeded, OnlyLetsGo}
 use Rattle.dr_ledger.specs.Books.{Adoption, Book, after}
-use Rattle.dr_ledger.specs.Pairs.{Pair}
 use Rattle.dr_ledger.specs.Replies.{Counts, HasRisen}
 use Rattle.dr_ledger.proofs.Maps.{texts}
 use Rattle.dr_ledger.proofs.Needs.{adoptions_need_the_same}
@@ -53,11 +52,17 @@ same_bodies b c old new had has needed lets_go = map.same_map texts.total texts.
 
 -- ---- nodes
 
-pub no_node : (plan seen : Network) (name asked : Text) → seen ≡ plan → asked ≡ name → NamesNoNode seen asked → NamesNoNode plan name
-no_node plan seen name asked p n h = subst (λ (x : Network). NamesNoNode x name) p (subst (λ (t : Text). NamesNoNode seen t) n h)
+pub no_node : (plan seen : Network) (name asked : Text)
+    → seen ≡ plan → asked ≡ name → NamesNoNode seen asked → NamesNoNode plan name
+no_node plan seen name asked p n h =
+    subst (λ (x : Network). NamesNoNode x name) p (subst (λ (t : Text). NamesNoNode seen t) n h)
 
-pub one_node : (plan seen : Network) (name asked : Text) (node : Node) → seen ≡ plan → asked ≡ name → IsTheNode seen asked node → NamesNoNode plan name → ⊥
-one_node plan seen name asked node p n h none = none node (subst (λ (x : Network). IsNode x name node) p (subst (λ (t : Text). IsNode seen t node) n h.0))
+pub one_node : (plan seen : Network) (name asked : Text) (node : Node)
+    → seen ≡ plan → asked ≡ name
+    → IsTheNode seen asked node
+    → NamesNoNode plan name → ⊥
+one_node plan seen name asked node p n h none = none node
+    (subst (λ (x : Network). IsNode x name node) p (subst (λ (t : Text). IsNode seen t node) n h.0))
 
 -- ---- books
 
@@ -71,7 +76,8 @@ left b c ledger.NotWaiting h = absurd h
 left b c ledger.NotHeld h = absurd h
 left b c ledger.NotOver h = absurd h
 
-module _ {L : Type 0} (site_of : L → Part) (book : L → Book) (bodies : L → Bodies) (stands : L → Type 0) (failed : L → ℕ) where
+module _ {L : Type 0} (site_of : L → Part) (book : L → Book) (bodies : L → Bodies)
+    (stands : L → Type 0) (failed : L → ℕ) where
   pub still : (old : L) → IsAsItWas site_of book bodies stands failed old old
   still old = record {
     site = refl;
@@ -109,7 +115,8 @@ module _ {L : Type 0} (site_of : L → Part) (book : L → Book) (bodies : L →
   }
 
   -- the ledger refused
-  pub refused : {A : Type 0} (next : Network) (why : LedgerFault) (result : Result A LedgerFault) (old new : L)
+  pub refused : {A : Type 0} (next : Network) (why : LedgerFault) (result : Result A LedgerFault)
+      (old new : L)
       → result ≡ Err why
       → (NamesNoNode next (site_of old).name → ⊥)
       → Counts result (failed old) (failed new)
@@ -141,9 +148,11 @@ module _ {L : Type 0} (site_of : L → Part) (book : L → Book) (bodies : L →
     stood = stood;
     fit = λ s. fit (stood s);
     adopted = adopted;
-    data_sets = λ s. same_bodies (book old) (book new) (bodies old) (bodies new) (bodied old (stood s)) (bodied new s)
-        (λ uid needed. subst (λ (b : Book). IsNeeded b uid) (sym (adopted s)) ((adoptions_need_the_same (book old) uid).1 needed))
-        (lets_go s);
+    data_sets = λ s. same_bodies (book old) (book new) (bodies old) (bodies new)
+        (bodied old (stood s)) (bodied new s)
+        (λ uid needed. subst
+        (λ (b : Book). IsNeeded b uid) (sym (adopted s))
+        ((adoptions_need_the_same (book old) uid).1 needed)) (lets_go s);
     never_falls = falls;
   }
 
@@ -162,9 +171,9 @@ module _ {L : Type 0} (site_of : L → Part) (book : L → Book) (bodies : L →
         site = site;
         stood = stood;
         same = same;
-        data_sets = λ s. same_bodies (book old) (book new) (bodies old) (bodies new) (bodied old (stood s)) (bodied new s)
-            (λ uid needed. subst (λ (b : Book). IsNeeded b uid) (sym (same s)) needed)
-            (lets_go s);
+        data_sets = λ s. same_bodies (book old) (book new) (bodies old) (bodies new)
+            (bodied old (stood s)) (bodied new s)
+            (λ uid needed. subst (λ (b : Book). IsNeeded b uid) (sym (same s)) needed) (lets_go s);
         never_falls = falls;
       }
 
@@ -199,8 +208,11 @@ module _ {L : Type 0} (site_of : L → Part) (book : L → Book) (bodies : L →
       absurd (node (subst (λ (p : Part). NamesNoNode next p.name) a.site h.0))
   refused_then next (fault.Unfit uid dest) old mid new node a b h = (
     node,
-    λ s. subst (λ (p : Part). Unfits next p.name (book old) (Some (uid, dest))) a.site
-        (subst (λ (x : Book). Unfits next (site_of mid).name x (Some (uid, dest))) (a.same (b.stood s)) (h.1 s)),
+    λ s. subst
+        (λ (p : Part). Unfits next p.name (book old) (Some (uid, dest))) a.site
+        (subst
+        (λ (x : Book). Unfits next (site_of mid).name x (Some (uid, dest))) (a.same (b.stood s))
+        (h.1 s)),
   )
   refused_then next fault.Store old mid new node a b h = (node, risen _ _ _ a.never_falls h.1)
   refused_then next fault.Memory old mid new node a b h = node

@@ -1,5 +1,5 @@
 -- A desk that threads share takes another plan, which ends the sharing; or it is shared as before.
-use Rattle.std.specs.Prelude.{◌≡◌, ℕ, List, map as mapped}
+use Rattle.std.specs.Prelude.{ℕ, List, map as mapped}
 use Rattle.dr_cert.specs.Sealing.{Certified}
 use Rattle.dr_plan_model.specs.Networks.{Network}
 use Rattle.dr_plan_model.specs.Plans.{NamesNoNode}

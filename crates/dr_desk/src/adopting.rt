@@ -153,7 +153,8 @@ impl<L: Ledger> Desk<L> {
     /// Passes that are out are of that sharing; by their type no later one takes them.
     ///
     /// Errors, in this order: NoNode, where the plan has no such node; Unfit, where it doesn't go
-    /// on with a row; Store; Memory. After each of them the ledger is as it was.
+    /// on with a row; Store; Memory. The last two may come before the rows are known. After each of
+    /// them the ledger is as it was.
     pub fn adopt(&mut self, alloc: Global, site: &Site, next: &Sealed) -> Result<Site, AdoptFault>
         requires { L.site self.old.ledger ≡ site.now }
         ensures { AnswersPlan L.site L.book L.bodies L.stands L.failed next.now result

@@ -239,8 +239,9 @@ impl<L: Ledger, B: Sharing> SharedDesk<L, B> {
     /// has ended; by their type no later one takes them.
     ///
     /// Errors, in this order: NoNode, where the plan has no such node; Unfit, where it doesn't go
-    /// on with a row; Receipt; Store; Memory. After each of them the ledger is as it was; the desk
-    /// is shared as before, and the passes are still of it.
+    /// on with a row; Receipt, as by `close`; Store; Memory. The last two may come before the rows
+    /// or the journal are known. After each of them the ledger is as it was; the desk is shared as
+    /// before, and the passes are still of it.
     pub fn adopt(
         self,
         alloc: Global,

@@ -18,18 +18,23 @@ pub returns-in-Ok : goal.returns-in-Ok
 returns-in-Ok g c =
     let e = c.in-Ok.ensures in
     subst
-    (λ (p : Part). HasTaken g.L.Ledger.site g.L.Ledger.book g.L.Ledger.bodies g.L.Ledger.stands g.L.Ledger.failed c.args.next.now p c.args.ledger.now c.adopt.new.self)
-    (sym c.requires.copy)
-    (went_over g.L.Ledger.site g.L.Ledger.book g.L.Ledger.bodies g.L.Ledger.stands g.L.Ledger.failed c.args.next.now c.args.own c.args.ledger.now c.adopt.new.self
-    g.L.Ledger.bodied c.requires.part c.requires.name c.requires.fit e.site e.stood e.reply e.bodies e.counts.never_falls)
+    (λ (p : Part). HasTaken g.L.Ledger.site g.L.Ledger.book g.L.Ledger.bodies g.L.Ledger.stands
+    g.L.Ledger.failed c.args.next.now p c.args.ledger.now c.adopt.new.self) (sym c.requires.copy)
+    (went_over g.L.Ledger.site g.L.Ledger.book g.L.Ledger.bodies g.L.Ledger.stands g.L.Ledger.failed
+    c.args.next.now c.args.own c.args.ledger.now c.adopt.new.self g.L.Ledger.bodied c.requires.part
+    c.requires.name c.requires.fit e.site e.stood e.reply e.bodies e.counts.never_falls)
 
 pub returns-in-Err : goal.returns-in-Err
 returns-in-Err g c =
     let e = c.in-Err.ensures in (
       subst
-          (λ (w : AdoptFault). RefusesPlan g.L.Ledger.site g.L.Ledger.book g.L.Ledger.bodies g.L.Ledger.stands g.L.Ledger.failed c.args.next.now.plan w c.args.ledger.now c.adopt.new.self)
-          (sym c.untaken.ensures)
-          (refused g.L.Ledger.site g.L.Ledger.book g.L.Ledger.bodies g.L.Ledger.stands g.L.Ledger.failed c.args.next.now.plan c.in-Err.why _ c.args.ledger.now c.adopt.new.self refl c.requires.node e.counts),
-      stayed g.L.Ledger.site g.L.Ledger.book g.L.Ledger.bodies g.L.Ledger.stands g.L.Ledger.failed c.in-Err.why c.args.own c.args.ledger.now c.adopt.new.self
-          g.L.Ledger.bodied e.site e.stood e.reply e.bodies e.counts.never_falls,
+          (λ (w : AdoptFault). RefusesPlan g.L.Ledger.site g.L.Ledger.book g.L.Ledger.bodies
+          g.L.Ledger.stands g.L.Ledger.failed c.args.next.now.plan w c.args.ledger.now
+          c.adopt.new.self) (sym c.untaken.ensures)
+          (refused g.L.Ledger.site g.L.Ledger.book g.L.Ledger.bodies g.L.Ledger.stands
+          g.L.Ledger.failed c.args.next.now.plan c.in-Err.why _ c.args.ledger.now c.adopt.new.self
+          refl c.requires.node e.counts),
+      stayed g.L.Ledger.site g.L.Ledger.book g.L.Ledger.bodies g.L.Ledger.stands g.L.Ledger.failed
+          c.in-Err.why c.args.own c.args.ledger.now c.adopt.new.self g.L.Ledger.bodied e.site
+          e.stood e.reply e.bodies e.counts.never_falls,
     )
