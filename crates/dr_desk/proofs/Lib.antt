@@ -1,6 +1,9 @@
 pub mod Apart
+pub mod Carried
 pub mod Figures
+pub mod Handed
 pub mod Holding
 pub mod Journals
 pub mod Recorded
 mod Refusing
+pub mod Taken

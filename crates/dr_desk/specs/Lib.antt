@@ -1,5 +1,8 @@
+pub mod AdoptionLaws
+pub mod Adoptions
 pub mod Agreeing
 pub mod Answering
+pub mod Changes
 pub mod Growing
 pub mod Laws
 pub mod Reading

@@ -13,7 +13,7 @@ use dr_site::Site;
 /// reply of the book's definition, and adds the line of the call if it was accepted, and else none.
 #[derive(Drop)]
 pub struct Desk<L> {
-    ledger: L,
+    pub(crate) ledger: L,
 }
 
 impl<L: Ledger> Desk<L> {

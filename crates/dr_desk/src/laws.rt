@@ -1,10 +1,14 @@
-//! Laws of receipts, and of what a shared desk refuses.
+//! Laws of receipts, of what a shared desk refuses, and of adoptions.
 ghost use Rattle.std.specs.Prelude.{ℕ};
 ghost use Rattle.dr_base.specs.Texts.{Text};
 ghost use Rattle.dr_ledger.specs.declared.item.Instance.{Instance};
 ghost use Rattle.dr_ledger.specs.declared.item.Outcome.{Outcome};
 ghost use Rattle.dr_ledger.specs.Replies.{Arrives, Drops, Forgets, Requeues, Settles};
 ghost use Rattle.dr_ledger.specs.SiteRoutes.{site_routing};
+ghost use Rattle.dr_desk.specs.AdoptionLaws.{AdoptionsAreNoted, AdoptionsCarryOver};
+ghost use Rattle.dr_desk.specs.AdoptionLaws.{AdoptionsHaveNoReceipt, NoNodeComesFirst};
+ghost use Rattle.dr_desk.specs.AdoptionLaws.{ReceiptsStay, RefusalsLeaveTheHoldings};
+ghost use Rattle.dr_desk.specs.AdoptionLaws.{TakenPlansAreFit, TwoAreCarriedOver, UnfitRowsAreOne};
 ghost use Rattle.dr_desk.specs.Answering.{RefusalLeaves};
 ghost use Rattle.dr_desk.specs.Laws.{ArrivalsAreRecorded, FewAreHeld, FiguresAreRight};
 ghost use Rattle.dr_desk.specs.Laws.{DroppingsAreRecorded, ForgettingsAreRecorded};
@@ -55,4 +59,27 @@ pub fn the_newest_are_held()
 /// Receipts that agree with a journal of two lines, and such that don't.
 pub fn figures_are_right()
     ensures { FiguresAreRight }
+{}
+
+/// An adoption that is refused leaves all that is listed. One that is accepted is noted by one
+/// line; it keeps what is kept, and carries over what waits or is held, and nothing else.
+pub fn adoptions_carry_over<L: Ledger>()
+    ensures refused { RefusalsLeaveTheHoldings L.site L.book L.bodies L.stands L.failed }
+    ensures accepted { AdoptionsCarryOver L.site L.book L.bodies L.stands L.failed }
+    ensures noted { AdoptionsAreNoted L.site L.book L.bodies L.stands L.failed }
+    ensures two { TwoAreCarriedOver }
+{}
+
+/// A plan without the ledger's node is refused for that alone. One with an unfit row is never
+/// taken, and the row that is named is one.
+pub fn plans_are_answered_in_order<L: Ledger>()
+    ensures no_node { NoNodeComesFirst L.site L.book L.bodies L.stands L.failed }
+    ensures fit { TakenPlansAreFit L.site L.book L.bodies L.stands L.failed }
+    ensures unfit { UnfitRowsAreOne L.site L.book L.bodies L.stands L.failed }
+{}
+
+/// What receipts say stays true of the journal after an adoption, of whose line there is none.
+pub fn receipts_outlast_adoptions()
+    ensures stay { ReceiptsStay }
+    ensures none { AdoptionsHaveNoReceipt }
 {}

@@ -6,6 +6,8 @@
 //! the receipts with the journal.
 #![tactic(auto)]
 
+pub mod adopting;
+pub mod changing;
 pub mod closing;
 pub mod desk;
 mod held;
@@ -18,6 +20,8 @@ pub mod shared;
 pub mod sharing;
 mod views;
 
+pub use adopting::AdoptFault;
+pub use changing::{ChangeFault, Changed, NotChanged};
 pub use closing::{CloseFault, Closed, Mismatch, NotClosed};
 pub use desk::Desk;
 pub use holdings::{Holdings, Totals};

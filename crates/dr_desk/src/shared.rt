@@ -37,7 +37,7 @@ use std::sync::{Mutex, Wait};
 /// thread may have called in between; so what a call answers is said of the ledger at one moment.
 #[derive(Drop)]
 pub struct SharedDesk<L: Ledger, B: Sharing> {
-    site: Site,
+    pub(crate) site: Site,
     pub(crate) held: Mutex<Held<L, B>>,
 }
 

@@ -1,0 +1,34 @@
+use Rattle.std.proofs.Common.{refl, sym, ap, subst, ◌∙◌}
+use Rattle.dr_plan_model.specs.Plans.{NamesNoNode}
+use Rattle.dr_site.specs.Parts.{Part}
+use Rattle.dr_desk.proofs.Taken.{answered_then, no_node, one_node, still}
+use Rattle.dr_desk.proofs.adopting.adopt_by.Goals as goal
+
+pub returns-in_default : goal.returns-in_default
+returns-in_default g c = (
+  (
+    no_node _ _ _ _ c.plan.ensures.same
+        (c.name.ensures ∙ ap (λ (p : Part). p.name) (sym c.requires)) c.in_default.ensures,
+    refl,
+  ),
+  still g.L.Ledger.site g.L.Ledger.book g.L.Ledger.bodies g.L.Ledger.stands g.L.Ledger.failed
+      c.args.ledger.now,
+)
+
+pub test_rows-requires : goal.test_rows-requires
+test_rows-requires g c = one_node _ _ _ _ _ c.plan.ensures.same
+    (c.name.ensures ∙ ap (λ (p : Part). p.name) (sym c.requires)) c.in-Some.ensures
+
+pub take-requires-clause-node : goal.take-requires-clause-node
+take-requires-clause-node g c = subst
+    (λ (p : Part). NamesNoNode c.args.next.now.plan p.name → ⊥) (sym c.in-Ok.ensures.same.site)
+    (one_node _ _ _ _ _ c.plan.ensures.same
+    (c.name.ensures ∙ ap (λ (p : Part). p.name) (sym c.requires)) c.in-Some.ensures)
+
+pub returns-in-Ok : goal.returns-in-Ok
+returns-in-Ok g c = answered_then g.L.Ledger.site g.L.Ledger.book g.L.Ledger.bodies
+    g.L.Ledger.stands g.L.Ledger.failed c.args.next.now c.take.result c.args.ledger.now
+    c.test_rows.new.ledger c.take.new.ledger
+    (one_node _ _ _ _ _ c.plan.ensures.same
+    (c.name.ensures ∙ ap (λ (p : Part). p.name) (sym c.requires)) c.in-Some.ensures)
+    c.in-Ok.ensures.same c.take.ensures
