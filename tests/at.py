@@ -143,6 +143,10 @@ def refusals():
         for word, more in ('list', ()), ('list', ('--summary',)), ('stop', ()), ('requeue', ('1.2', 'ARCH')), ('drop', ('1.2', 'ARCH')):
             told(at(room, word, 'GATE', node.at, *more), 1, '', 'dr_router: H4 OtherNode\n')
         told(at(room, 'stop', 'NONE', node.at), 1, '', 'dr_router: NoNode\n')
+        # the same nodes by another plan: a comment more
+        room.put_plan(room.text('plan') + '# another plan\n', plan=('next', 'next certificate'))
+        for word in 'list', 'stop':
+            told(room.run(word, 'next', 'next certificate', 'CT1', '--at', node.at, '--token', 'token'), 1, '', 'dr_router: H5 OtherPlan\n')
         nobody = f'127.0.0.1:{free_port()}'
         told(at(room, 'stop', 'CT1', nobody), 3, '', 'dr_router: H1 NoConnection\n')
         told(at(room, 'list', 'CT1', nobody), 3, '', 'dr_router: H1 NoConnection\n')
