@@ -1,18 +1,18 @@
 //! Tables that are found.
-ghost use Rattle.std.specs.Prelude.{◌≡◌, ◌+◌, ℕ, IsTrue, Some, length};
+ghost use Rattle.std.specs.Prelude.{◌≡◌, ◌↔◌, ◌+◌, IsTrue, MatchOption, false, length};
 ghost use Rattle.std.specs.FinMap as map;
 ghost use Rattle.sqlite.specs.Held.{state};
 ghost use Rattle.dr_base.specs.Texts.{text_cmp};
 ghost use Rattle.dr_ledger.specs.Pairs.{pair_cmp};
 ghost use Rattle.dr_ledger.specs.Replies.{Lists};
-ghost use Rattle.dr_store_schema.specs.Books.{AreBelow, all_kept_in, arrivals_in, rows_of};
+ghost use Rattle.dr_store_schema.specs.Books.{all_kept_in, arrivals_in, rows_of};
 ghost use Rattle.dr_store_schema.specs.Ledgers.{IsLedger};
 ghost use Rattle.dr_store_reads.specs.Queries.{Asked};
 ghost use Rattle.dr_store_lists.specs.Lists.{IsJournal, goal_cmp, goals_of, keys_of};
 ghost use Rattle.dr_store_lists.specs.Lists.{whole_prints_of};
 ghost use Rattle.dr_store_audit.specs.Found.{AreListsOf};
 ghost use Rattle.dr_store_writes.specs.Effects.{IsSiteOf};
-ghost use Rattle.dr_store_open.specs.Opening.{AreReadIf, IsAgreedIf, IsWholeIf, Seen};
+ghost use Rattle.dr_store_open.specs.Opening.{AreReadIf, HasNumbers, IsAgreedIf, IsWholeIf, Seen};
 
 use crate::bodies::test_bodies;
 use dr_base::Text;
@@ -31,7 +31,7 @@ use std::alloc::Global;
 /// Whether the node and the plan are the site's.
 fn is_owner(owner: &Owner, site: &Site) -> bool
     ensures { IsTrue result
-        → (owner.now.node ≡ site.now.name) × (owner.now.plan ≡ site.now.digest) }
+        ↔ ((owner.now.node ≡ site.now.name) × (owner.now.plan ≡ site.now.digest)) }
 {
     if owner.node != *site.name() {
         return false;
@@ -41,7 +41,7 @@ fn is_owner(owner: &Owner, site: &Site) -> bool
 
 /// The number of the next line, if the tables are a ledger's.
 fn next_if(is: bool, next: u64) -> Option<u64>
-    ensures { (n : ℕ) → result ≡ Some n → IsTrue is × (n ≡ next) }
+    ensures { MatchOption result (is ≡ false) (λ n. IsTrue is × (n ≡ next)) }
 {
     if is {
         return Some(next);
@@ -49,11 +49,11 @@ fn next_if(is: bool, next: u64) -> Option<u64>
     None
 }
 
-/// Whether it is the number of the next line after these, where they are numbered from 1.
-fn is_next(notes: &[(u64, Note)], next: u64) -> bool
-    ensures { IsTrue result → next ≡ length notes.now + 1 }
+/// The number of the next line after these, where they are numbered from 1.
+fn number_after(notes: &[(u64, Note)]) -> u64
+    ensures { result ≡ length notes.now + 1 }
 {
-    notes.len() as u64 + 1 == next
+    notes.len() as u64 + 1
 }
 
 /// Reads each data set again.
@@ -84,17 +84,14 @@ fn compare<'x, S: Alter>(
     rows: &'x [((Text, Text), Progress)],
     notes: &'x [(u64, Note)],
     goals: &'x [(u64, Text)],
-    next: u64,
 ) -> Result<Option<u64>, LedgerFault>
     ensures seen { Seen IsLedger result (state S.Store conn.old) (state S.Store conn.new)
         (λ found. AreListsOf (state S.Store conn.old).now.trees keys.now prints.now arrivals.now
         kept.now rows.now notes.now goals.now
-        → AreBelow next ((state S.Store conn.old).now.trees 11)
+        → HasNumbers (state S.Store conn.old).now.trees
         → IsAgreedIf site.now (state S.Store conn.old).now.trees found) }
 {
-    if !is_next(notes, next) {
-        return Ok(None);
-    }
+    let next = number_after(notes);
     match agree(
         alloc, site, keys, prints, arrivals, kept, rows, notes, goals, next,
     ) {
@@ -104,7 +101,7 @@ fn compare<'x, S: Alter>(
     }
 }
 
-/// The same, with the number of the next line.
+/// The same, where each line has a number.
 fn with_goals<'x, S: Alter>(
     conn: &mut Connection<S>,
     alloc: Global,
@@ -128,8 +125,8 @@ fn with_goals<'x, S: Alter>(
         → IsAgreedIf site.now (state S.Store conn.old).now.trees found) }
 {
     match next_number(conn) {
-        Ok(next) => compare(
-            conn, alloc, site, keys, prints, arrivals, kept, rows, notes, goals, next,
+        Ok(_) => compare(
+            conn, alloc, site, keys, prints, arrivals, kept, rows, notes, goals,
         ),
         Err(fault) => Err(fault),
     }
