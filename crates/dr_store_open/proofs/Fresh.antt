@@ -1,10 +1,9 @@
 -- What a new ledger's tables are, and what isn't a ledger's.
-use Rattle.std.proofs.Common.{◌≡◌, ◌∙◌, ◌+◌, ℕ, false, inl, inr, List, [], ◌∷◌, Some, is_some, length, refl, sym, ap, subst, arith}
+use Rattle.std.proofs.Common.{◌≡◌, ◌∙◌, ◌+◌, ℕ, false, inl, inr, List, [], ◌∷◌, Some, is_some}
+use Rattle.std.proofs.Common.{length, refl, sym, ap, subst, arith}
 use Rattle.std.specs.Ordering.{nat_cmp}
 use Rattle.std.specs.FinMap as map
-use Rattle.std.specs.FinMap.{FinMap}
 use Rattle.sqlite.specs.Order.{Row}
-use Rattle.sqlite.specs.Effect.{Database}
 use Rattle.dr_base.specs.Texts.{Text, text_cmp}
 use Rattle.dr_route.specs.declared.key.Key.{Key}
 use Rattle.dr_site.specs.Parts.{Part}
@@ -18,12 +17,12 @@ use Rattle.dr_ledger.proofs.Wholes.{no_entry, no_member}
 use Rattle.dr_store_schema.specs.Books.{bodies_of, book_of}
 use Rattle.dr_store_schema.specs.Tables.{tables}
 use Rattle.dr_store_schema.proofs.WhatIsWritten.{empty_tables_are_empty, no_entries}
-use Rattle.dr_store_writes.specs.Effects.{IsSiteOf, site_row}
+use Rattle.dr_store_writes.specs.Effects.{site_row}
 use Rattle.dr_store_reads.specs.declared.finding.Print.{Print}
-use Rattle.dr_store_lists.specs.Lists.{notes_of}
 use Rattle.dr_store_lists.specs.declared.listing.Note.{Note}
 use Rattle.dr_store_audit.specs.Journal.{CountUp}
-use Rattle.dr_store_open.specs.Opening.{BadTablesAreNone, HasLedgerOf, LedgersAreOne, NewLedgersAreLedgers, new_trees}
+use Rattle.dr_store_open.specs.Opening.{BadTablesAreNone, HasLedgerOf, LedgersAreOne}
+use Rattle.dr_store_open.specs.Opening.{NewLedgersAreLedgers, new_trees}
 use Rattle.dr_store_open.proofs.Wholly.{one_owner}
 
 module _ (part : Part) where
@@ -45,8 +44,17 @@ module _ (part : Part) where
   ]
 
   journalled : (routing : Routing) → IsJournalled routing empty_book
-  journalled routing =
-      ([], record { since = []; lines = refl; before = inl refl; accepted = tt; history = tt; fold = refl })
+  journalled routing = (
+    [],
+    record {
+      since = [];
+      lines = refl;
+      before = inl refl;
+      accepted = tt;
+      history = tt;
+      fold = refl;
+    },
+  )
 
   no_key : (uid : Text) → is_some (map.get (map.empty {X = Key} {R = text_cmp}) uid) ≡ false
   no_key uid = ap is_some (map.get-empty text_cmp uid)
@@ -65,7 +73,9 @@ module _ (part : Part) where
       hold = record {
         found = record {
           ahead = λ m late. refl;
-          journalled = subst (IsJournalled (site_routing part)) (sym book) (journalled (site_routing part));
+          journalled =
+              let routing = site_routing part in
+              subst (IsJournalled routing) (sym book) (journalled routing);
           there = λ uid. (
             λ body. absurd (no_body uid body.0 body.1),
             λ needed. absurd (unneeded uid (subst (λ b. IsNeeded b uid) book needed)),
@@ -83,7 +93,8 @@ new_ledgers_are part = new_ledger_is part
 
 pub ledgers_are_one : LedgersAreOne
 ledgers_are_one n m part other db one two =
-    let owner = one_owner db.trees part.name other.name part.digest other.digest one.owned two.owned in
+    let owner =
+    one_owner db.trees part.name other.name part.digest other.digest one.owned two.owned in
     (one.agreed.next ∙ sym two.agreed.next, owner.0, owner.1)
 
 nobody : (row : Row) → [] ≡ row ∷ [] → ⊥

@@ -1,6 +1,6 @@
 -- Where an opening refuses a file.
-use Rattle.std.proofs.Common.{◌≡◌, ◌∙◌, Bool, false, true, true≢false, Result, Ok, Err, IsTrue, sym}
-use Rattle.std.specs.Prelude.{◌↔◌, IfErr, MatchResult}
+use Rattle.std.proofs.Common.{◌≡◌, ◌∙◌, Bool, false, true≢false, Result, Ok, Err, IsTrue, sym}
+use Rattle.std.specs.Prelude.{◌↔◌, IfErr}
 
 -- of a fault that can't be
 pub no_err : {A E : Type 0} (r : Result A E) (P : E → Type 0) → ((e : E) → P e) → IfErr r P

@@ -1,17 +1,16 @@
 -- Data sets that are read again, and what is read of them.
-use Rattle.std.proofs.Common.{◌≡◌, ◌≢◌, ◌∙◌, ℕ, List, Bool, false, true≢false, Some, None, Result, Ok, Err, IsTrue, refl, sym, ap, subst}
+use Rattle.std.proofs.Common.{◌≡◌, ◌≢◌, ◌∙◌, Bool, false, true≢false, Some, None, Result, Ok, Err}
+use Rattle.std.proofs.Common.{IsTrue, refl, sym, ap, subst}
 use Rattle.std.specs.Prelude.{◌↔◌}
-use Rattle.std.specs.FinMap as map
 use Rattle.sqlite.specs.Tree.{Trees}
 use Rattle.dr_base.specs.Texts.{Text}
-use Rattle.dr_route.specs.declared.key.Key.{Key}
 use Rattle.dr_ledger.specs.declared.content.ItemFault.{ItemFault}
 use Rattle.dr_ledger.specs.declared.content.ItemFault.TheVariants.{Memory}
 use Rattle.dr_ledger.specs.declared.content.Job.{Job}
 use Rattle.dr_ledger.specs.declared.item.Instance.{Instance}
 use Rattle.dr_ledger.specs.Items.{IsItem, ReadsItem}
 use Rattle.dr_ledger.proofs.Reading.{items_are_one}
-use Rattle.dr_store_schema.specs.Books.{contents_in, instance_by, items_of, prints_of}
+use Rattle.dr_store_schema.specs.Books.{instance_by, prints_of}
 use Rattle.dr_store_reads.specs.Queries.{IsJobOf}
 use Rattle.dr_store_reads.specs.declared.finding.Print.{Print}
 use Rattle.dr_store_open.specs.Opening.{IsReadAs, IsSpelled}
