@@ -120,7 +120,7 @@ module _ {K : Type 0} {R : K → K → Ordering} (x : IsExact R) where
 
 -- ---- all of a list
 
-every_one : {X : Type 0} (P : X → Type 0) (xs : List X) → ((x : X) → Contains xs x → P x) → AllByRecursion P xs
+pub every_one : {X : Type 0} (P : X → Type 0) (xs : List X) → ((x : X) → Contains xs x → P x) → AllByRecursion P xs
 every_one P [] each = tt
 every_one P (x ∷ xs) each = (each x (Contains-here x xs), every_one P xs (λ y there. each y (Contains-there x xs y there)))
 

@@ -5,7 +5,7 @@ use Rattle.sqlite.specs.Table.{Table}
 use Rattle.sqlite_schema.specs.declared.schema.Column.{Column}
 use Rattle.sqlite_schema.specs.declared.schema.Index.{Index}
 use Rattle.sqlite_schema.specs.declared.schema.Reference.{Reference}
-use Rattle.sqlite.specs.Kind.TheVariants.{Integer, Text}
+use Rattle.sqlite.specs.Kind.TheVariants.{Blob, Integer, Text}
 use Rattle.dr_store_schema.specs.Tables.{arrival_table, column_named, item_table, journal_table}
 use Rattle.dr_store_schema.specs.Tables.{kept_table, print_table, queue_table, site_table}
 use Rattle.dr_store_schema.specs.Tables.{target_table}
@@ -59,6 +59,13 @@ with_call rest =
     ∷ column_named (codes "dest") Text false ∷ column_named (codes "outcome") Integer false
     ∷ column_named (codes "moment") Integer false ∷ rest
 
+-- those that have a line's instance
+abbrev pub instance_columns : List Column
+instance_columns =
+    column_named (codes "class") Text false ∷ column_named (codes "syntax") Text false
+    ∷ column_named (codes "modality") Blob false ∷ column_named (codes "station") Blob false
+    ∷ column_named (codes "length") Integer false ∷ column_named (codes "sha256") Blob false ∷ []
+
 -- columns sort as they stand
 abbrev pub index_of : List ℕ → ℕ → ℕ → List ℕ → Bool → Index
 index_of name tree table columns unique = record {
@@ -70,10 +77,34 @@ index_of name tree table columns unique = record {
   is_unique = unique;
 }
 
+-- the owner, instances, and who brought them
+abbrev pub stock_tables : List Table
+stock_tables = site_table ∷ item_table ∷ print_table ∷ arrival_table ∷ []
+
+-- what is kept, the queue and the journal
+abbrev pub moves_tables : List Table
+moves_tables = kept_table ∷ queue_table ∷ journal_table ∷ target_table ∷ []
+
 abbrev pub ledger_tables : List Table
 ledger_tables =
     site_table ∷ item_table ∷ print_table ∷ arrival_table ∷ kept_table ∷ queue_table ∷ journal_table
     ∷ target_table ∷ []
+
+abbrev pub key_indexes : List Index
+key_indexes =
+    index_of (codes "sqlite_autoindex_item_1") 2 1 (1 ∷ []) true
+    ∷ index_of (codes "sqlite_autoindex_print_1") 4 3 (1 ∷ []) true
+    ∷ index_of (codes "sqlite_autoindex_arrival_1") 6 5 (1 ∷ 2 ∷ []) true
+    ∷ index_of (codes "sqlite_autoindex_kept_1") 8 7 (1 ∷ []) true
+    ∷ index_of (codes "sqlite_autoindex_queue_1") 10 9 (1 ∷ 2 ∷ []) true
+    ∷ index_of (codes "sqlite_autoindex_target_1") 13 12 (1 ∷ 2 ∷ []) true
+    ∷ []
+
+abbrev pub row_indexes : List Index
+row_indexes =
+    index_of (codes "queue_due") 14 9 (2 ∷ 3 ∷ 5 ∷ 1 ∷ []) false
+    ∷ index_of (codes "arrival_uid") 15 5 (2 ∷ []) false
+    ∷ []
 
 -- those of keys, that of the rows that are due, and that of an instance's arrivals
 abbrev pub ledger_indexes : List Index

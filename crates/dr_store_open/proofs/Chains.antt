@@ -165,3 +165,29 @@ module _ {A B : Type 0} {Asks : Database → Type 0} (old mid new : State) (x : 
 
       more : HasCleanDisk new → IsTrue old.is_open → Asks old.now → Asks mid.now
       more clean is_open has = subst Asks (sym (stood clean is_open has).1) has
+
+-- a query of a ledger's tables, and then one more, which failed
+pub then_failed : {A B : Type 0} {why : LedgerFault} (old mid new : State) (x : A)
+    (One : Database → A → Type 0) (Two : Database → B → Type 0)
+    → Asked IsLedger (Ok x) old mid (One old.now)
+    → Asked {A = B} IsLedger (Err why) mid new (Two mid.now)
+    → Asked {A = B} IsLedger (Err why) old new (Two old.now)
+then_failed {why = why} old mid new x One Two one two =
+    asked_then {Asks = IsLedger} {More = IsLedger} old mid new x (Err why) One Two Two
+    (λ is_open has shown. has) (λ db shown y more. more) one
+    (as_seen mid new (Err why) (Two mid.now) two)
+
+-- two of them, and what is made of both answers
+pub two_asked : {A B C : Type 0} (old mid new : State) (x : A) (y : B) (z : C)
+    (One : Database → A → Type 0) (Two : Database → B → Type 0) (Both : Database → C → Type 0)
+    → ((db : Database) → One db x → Two db y → Both db z)
+    → Asked IsLedger (Ok x) old mid (One old.now)
+    → Asked IsLedger (Ok y) mid new (Two mid.now)
+    → Asked IsLedger (Ok z) old new (Both old.now)
+two_asked {B = B} old mid new x y z One Two Both says one two =
+    let Pair : Database → B → Type 0 = λ db w. One db x × Two db w in
+    asked_as {Asks = IsLedger} old new y (Ok z) (Pair old.now) (Both old.now)
+    (λ shown. says old.now shown.0 shown.1)
+    (asked_then {Asks = IsLedger} {More = IsLedger} old mid new x (Ok y) One Two Pair
+    (λ is_open has shown. has) (λ db shown w more. (shown, more)) one
+    (as_seen mid new (Ok y) (Two mid.now) two))

@@ -3,6 +3,9 @@ mod Blank
 mod Chains
 mod Emptied
 mod Filling
+mod Fresh
 mod Left
 mod Queried
+mod Refused
+mod Reread
 mod Wholly

@@ -1,5 +1,6 @@
 -- What is found in a file, and what an opening answers.
-use Rattle.std.specs.Prelude.{All, ◌≡◌, ◌≤◌, ◌+◌, ◌⊎◌, ℕ, false, IsTrue, List, [], Option, None}
+use Rattle.std.specs.Prelude.{All, ◌≡◌, ◌≤◌, ◌+◌, ◌⊎◌, ℕ, zero, suc, false, IsTrue, List, [], ◌∷◌}
+use Rattle.std.specs.Prelude.{Option, None}
 use Rattle.std.specs.Prelude.{Some, Result, Ok, Err, OnOk, length, true}
 use Rattle.std.specs.FinMap as map
 use Rattle.sha2.specs.Sha256.{sha256}
@@ -15,15 +16,17 @@ use Rattle.dr_ledger.specs.declared.fault.LedgerFault.{LedgerFault}
 use Rattle.dr_ledger.specs.Books.{empty_book}
 use Rattle.dr_ledger.specs.Items.{IsItem, instance_of}
 use Rattle.dr_ledger.specs.Replies.{Reads}
-use Rattle.dr_store_schema.specs.Books.{AreBelow, bodies_of, book_of, items_of, lines_of, prints_of}
+use Rattle.dr_store_schema.specs.Books.{AreBelow, bodies_of, book_of, items_of, lines_of}
 use Rattle.dr_store_schema.specs.Ledgers.{AreRows, IsCounted}
 use Rattle.dr_store_schema.specs.Tables.{tables}
-use Rattle.dr_store_writes.specs.Effects.{IsSiteOf}
+use Rattle.dr_store_writes.specs.Effects.{IsSiteOf, site_row}
 use Rattle.std.specs.List.{AllByRecursion}
-use Rattle.dr_store_reads.specs.Queries.{Stays}
+use Rattle.dr_store_reads.specs.Queries.{IsJobOf, Stays}
 use Rattle.dr_store_reads.specs.declared.finding.Print.{Print}
+use Rattle.dr_store_lists.specs.Lists.{notes_of}
+use Rattle.dr_store_lists.specs.declared.listing.Note.{Note}
 use Rattle.dr_store_calls.specs.Calling.{IsKept}
-use Rattle.dr_store_audit.specs.Found.{IsFound}
+use Rattle.dr_store_audit.specs.Found.{HoldTogether}
 use Rattle.dr_store_audit.specs.Older.{IsOlder}
 use Rattle.dr_store_open.specs.Renewing.{HasNoRows, KeepsRows}
 
@@ -52,11 +55,15 @@ IsOwn uid db =
 abbrev pub IsSpelled : Job → Print → Type 0
 IsSpelled job print = (length job.body ≡ print.size) × (sha256 job.body ≡ print.digest)
 
--- where the print is that of its uid, the data set is the instance's if the print says that it is
--- there
+-- what stands in the row of that uid for its data set is read as an item of this uid and the row's
+-- key, with this print
+abbrev pub IsReadAs : Text → Print → Trees → Type 0
+IsReadAs uid print db =
+    (job : Job) × IsJobOf uid db (Some job) × IsItem job × IsSpelled job print
+
+-- where the print says that the data set is there, it is read as the item's
 abbrev pub AreOwnUnder : Trees → Text × Print → Type 0
-AreOwnUnder db p =
-    p.1.whole ≡ true → map.get (prints_of db) p.0 ≡ Some (p.1.size, p.1.digest) → IsOwn p.0 db
+AreOwnUnder db p = p.1.whole ≡ true → IsReadAs p.0 p.1 db
 
 -- ---- all of it
 
@@ -64,31 +71,48 @@ AreOwnUnder db p =
 abbrev pub IsNext : ℕ → Trees → Type 0
 IsNext n db = n ≡ length (lines_of db) + 1
 
--- The tables are those of a ledger of that site, whose next line has number n.
+-- The tables are those of a ledger of that site, whose next line has number n: they hold together,
+-- and each data set that is there is its item's.
 pub record IsAgreed (n : ℕ) (part : Part) (db : Trees) : Type 0 where
   pub next : IsNext n db
   pub below : AreBelow n (db 11)
-  pub found : IsFound n part db
+  pub hold : HoldTogether n part db (map.entries (notes_of db))
   pub own : (uid : Text) → IsOwn uid db
 
--- they are, or it isn't said
+-- they are, or they are no ledger's of that site
 abbrev pub IsAgreedIf : Part → Trees → Option ℕ → Type 0
-IsAgreedIf part db None = Unit {0}
+IsAgreedIf part db None = (n : ℕ) → IsAgreed n part db → ⊥
 IsAgreedIf part db (Some n) = IsAgreed n part db
 
 -- the tables are owned by the site: by its node, under its plan
 abbrev pub IsOwnedBy : Part → Trees → Type 0
 IsOwnedBy part db = IsSiteOf part.name part.digest db
 
--- the tables are those of a ledger of that site, and it owns them; or it isn't said
+-- the tables are those of a ledger of that site, and it owns them; or they aren't, or it doesn't
 abbrev pub IsWholeIf : Part → Trees → Option ℕ → Type 0
-IsWholeIf part db None = Unit {0}
+IsWholeIf part db None = (n : ℕ) → IsAgreed n part db → IsOwnedBy part db → ⊥
 IsWholeIf part db (Some n) = IsAgreed n part db × IsOwnedBy part db
 
--- each data set that is there was read again, and the next line has this number; or it isn't said
+-- each line has a number
+abbrev pub HasNumbers : Trees → Type 0
+HasNumbers db = (m : ℕ) × AreBelow m (db 11)
+
+-- each data set that is there was read again as its item's, and the next line has this number; or
+-- one of them isn't read so
 abbrev pub AreReadIf : Trees → List (Text × Print) → ℕ → Option ℕ → Type 0
-AreReadIf db prints next None = Unit {0}
+AreReadIf db prints next None = All (AreOwnUnder db) prints → ⊥
 AreReadIf db prints next (Some n) = (n ≡ next) × All (AreOwnUnder db) prints
+
+-- The database has a ledger of that site, whose next line has number n: it has just a ledger's
+-- tables, the site owns them, and they are those of a ledger of that site.
+pub record HasLedgerOf (n : ℕ) (part : Part) (db : Database) : Type 0 where
+  pub schema : db.schema ≡ tables
+  pub owned : IsOwnedBy part db.trees
+  pub agreed : IsAgreed n part db.trees
+
+-- it has none, whatever the number of the next line
+abbrev pub HasNoLedgerOf : Part → Database → Type 0
+HasNoLedgerOf part db = (n : ℕ) → HasLedgerOf n part db → ⊥
 
 -- ---- calls that only read
 
@@ -114,20 +138,28 @@ IfFound (Ok None) P = Unit {0}
 IfFound (Ok (Some x)) P = P x
 IfFound (Err why) P = Unit {0}
 
+-- where nothing is found, this holds
+abbrev pub IfNotFound : {A : Type 0} → Result (Option A) LedgerFault → Type 0 → Type 0
+IfNotFound (Ok None) P = P
+IfNotFound (Ok (Some x)) P = Unit {0}
+IfNotFound (Err why) P = Unit {0}
+
 -- The store is open with the tables of a ledger of that site, which owns them, and whose next line
 -- has number n. All of it was committed before.
 pub record IsLedgerFound (n : ℕ) (part : Part) (old new : State) : Type 0 where
   pub kept : IsKept n part new
   pub owned : IsOwnedBy part new.committed.trees
   pub next : IsNext n new.committed.trees
+  pub ledger : HasLedgerOf n part new.committed
   pub same : new.committed ≡ old.committed
 
 -- What tells whether a file has a ledger of this site does. Where it says the number n of the next
--- line, that ledger is found. Whatever it answers, nothing is committed, and a crash leaves only
--- what it could leave before.
+-- line, that ledger is found; where it says none, the file has no ledger of this site. Whatever it
+-- answers, nothing is committed, and a crash leaves only what it could leave before.
 pub record IsOpened (part : Part) (result : Result (Option ℕ) LedgerFault)
     (old new : State) : Type 0 where
   pub has : IfFound result (λ n. old.now.schema ≡ tables)
+  pub is_not : HasCleanDisk new → IfNotFound result (HasNoLedgerOf part old.now)
   pub kept : HasCleanDisk new → IfFound result (λ n. IsLedgerFound n part old new)
   pub stays : HasCleanDisk new → IsTrue new.is_open
       → IsTrue old.is_open × (new.committed ≡ old.committed)
@@ -187,3 +219,29 @@ pub record LeavesFile (old new : State) : Type 0 where
       → (IsOlder old.now.schema → ⊥)
       → IsTrue new.is_open
       → new.committed ≡ old.committed
+
+-- ---- laws
+
+-- the trees of a site's new ledger, which has no row but the owner's
+abbrev pub new_trees : Part → Trees
+new_trees part zero = site_row part.name part.digest ∷ []
+new_trees part (suc tree) = []
+
+-- a new ledger is one of its site, and its next line is the first
+abbrev pub NewLedgersAreLedgers : Type 0
+NewLedgersAreLedgers =
+    (part : Part) → HasLedgerOf 1 part (record { schema = tables; trees = new_trees part })
+
+-- what a database has is one node's ledger, under one plan, and its next line has one number
+abbrev pub LedgersAreOne : Type 0
+LedgersAreOne =
+    (n m : ℕ) (part other : Part) (db : Database)
+    → HasLedgerOf n part db → HasLedgerOf m other db
+    → (n ≡ m) × (part.name ≡ other.name) × (part.digest ≡ other.digest)
+
+-- without an owner, or with a line under another number than its place, there is none
+pub record BadTablesAreNone : Type 0 where
+  pub unowned : (part : Part) (db : Database) → db.trees 0 ≡ [] → HasNoLedgerOf part db
+  pub renumbered : (part : Part) (db : Database) (note : Note) (rest : List (ℕ × Note))
+      → map.entries (notes_of db.trees) ≡ (2, note) ∷ rest
+      → HasNoLedgerOf part db

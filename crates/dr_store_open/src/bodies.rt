@@ -1,15 +1,12 @@
 //! Data sets that are read again.
-ghost use Rattle.std.specs.Prelude.{◌≡◌, ◌↔◌, All, IsTrue, Some, true};
-ghost use Rattle.std.specs.FinMap as map;
+ghost use Rattle.std.specs.Prelude.{◌≡◌, ◌≢◌, ◌↔◌, All, IsTrue, false};
 ghost use Rattle.sqlite.specs.Held.{state};
-ghost use Rattle.sha2.specs.Sha256.{sha256};
-ghost use Rattle.dr_ledger.specs.declared.content.Job.{Job};
+ghost use Rattle.dr_ledger.specs.declared.content.ItemFault.TheVariants as item_fault;
 ghost use Rattle.dr_ledger.specs.Items.{IsItem};
 ghost use Rattle.dr_ledger.specs.Replies.{Reads};
-ghost use Rattle.dr_store_schema.specs.Books.{prints_of};
 ghost use Rattle.dr_store_schema.specs.Ledgers.{IsLedger};
 ghost use Rattle.dr_store_reads.specs.Queries.{Asked};
-ghost use Rattle.dr_store_open.specs.Opening.{AreOwnUnder, IsOwn, IsSpelled, Seen};
+ghost use Rattle.dr_store_open.specs.Opening.{AreOwnUnder, IsReadAs, IsSpelled, Seen};
 
 use dr_base::Text;
 use dr_ledger::{Item, ItemFault, Job, LedgerFault};
@@ -21,23 +18,34 @@ use std::alloc::Global;
 /// Whether the item has this uid, this key and this print.
 fn is_of(item: &Item, uid: &Text, key: &Key, print: &Print) -> bool
     ensures { IsTrue result
-        → (item.now.uid ≡ uid.now) × (item.now.key ≡ key.now) × IsSpelled item.now print.now }
+        ↔ ((item.now.uid ≡ uid.now) × (item.now.key ≡ key.now) × IsSpelled item.now print.now) }
 {
-    if item.uid() != uid || item.key() != key {
-        return false;
+    item.uid() == uid
+        && item.key() == key
+        && item.body().len() as u64 == print.size
+        && *item.digest() == print.digest
+}
+
+/// A data set that isn't read is no item's, but where memory ran out.
+fn not_read(fault: ItemFault) -> Result<bool, LedgerFault>
+    ensures { Reads result (λ own. (own ≡ false) × (fault ≢ item_fault.Memory)) }
+{
+    match fault {
+        ItemFault::Memory => Err(LedgerFault::Memory),
+        ItemFault::TooLarge => Ok(false),
+        ItemFault::Data => Ok(false),
+        ItemFault::NoUid => Ok(false),
     }
-    item.body().len() as u64 == print.size && *item.digest() == print.digest
 }
 
 /// Whether the data set is that of the instance, as it is read again.
 fn is_own(alloc: Global, job: Job, print: &Print) -> Result<bool, LedgerFault>
-    ensures { Reads result (λ own. IsTrue own → IsItem job × IsSpelled job print.now) }
+    ensures { Reads result (λ own. IsTrue own ↔ (IsItem job × IsSpelled job print.now)) }
 {
     let Job { uid, key, body } = job;
     match Item::read(alloc, key.syntax, body) {
         Ok(item) => Ok(is_of(&item, &uid, &key, print)),
-        Err(ItemFault::Memory) => Err(LedgerFault::Memory),
-        Err(_) => Ok(false),
+        Err(fault) => not_read(fault),
     }
 }
 
@@ -49,10 +57,7 @@ fn test_body<'x, S: Alter>(
     print: &'x Print,
 ) -> Result<bool, LedgerFault>
     ensures asked { Asked IsLedger result (state S.Store conn.old) (state S.Store conn.new)
-        (λ own. IsTrue own
-        → map.get (prints_of (state S.Store conn.old).now.trees) uid.now
-        ≡ Some (print.now.size, print.now.digest)
-        → IsOwn uid.now (state S.Store conn.old).now.trees) }
+        (λ own. IsTrue own ↔ IsReadAs uid.now print.now (state S.Store conn.old).now.trees) }
 {
     match find_job(conn, alloc, uid) {
         Ok(Some(job)) => is_own(alloc, job, print),
@@ -68,7 +73,7 @@ fn test_print<'x, S: Alter>(
     print: &'x (Text, Print),
 ) -> Result<bool, LedgerFault>
     ensures seen { Seen IsLedger result (state S.Store conn.old) (state S.Store conn.new)
-        (λ own. IsTrue own → AreOwnUnder (state S.Store conn.old).now.trees print.now) }
+        (λ own. IsTrue own ↔ AreOwnUnder (state S.Store conn.old).now.trees print.now) }
 {
     if print.1.whole {
         return test_body(conn, alloc, &print.0, &print.1);
@@ -83,7 +88,7 @@ pub fn test_bodies<'x, S: Alter>(
     prints: &'x [(Text, Print)],
 ) -> Result<bool, LedgerFault>
     ensures seen { Seen IsLedger result (state S.Store conn.old) (state S.Store conn.new)
-        (λ own. IsTrue own → All (AreOwnUnder (state S.Store conn.old).now.trees) prints.now) }
+        (λ own. IsTrue own ↔ All (AreOwnUnder (state S.Store conn.old).now.trees) prints.now) }
 {
     for print in prints {
         let own = match test_print(conn, alloc, print) {

@@ -1,4 +1,7 @@
 //! Why a file's ledger isn't opened.
+ghost use Rattle.std.specs.Prelude.{◌≢◌};
+ghost use Rattle.dr_store_open.specs.declared.fault.OpeningFault.TheVariants as opening;
+
 use dr_ledger::LedgerFault;
 use dr_store_audit::FindingFault;
 use dr_store_reads::fault_of;
@@ -42,7 +45,9 @@ impl<T: Drop> From<AllocFailed<T>> for OpeningFault {
 }
 
 /// The fault of an opening where a ledger answers this.
-pub fn opening_fault(fault: LedgerFault) -> OpeningFault {
+pub fn opening_fault(fault: LedgerFault) -> OpeningFault
+    ensures { result ≢ opening.OtherSite }
+{
     match fault {
         LedgerFault::Memory => OpeningFault::Memory,
         _ => OpeningFault::Store,

@@ -1,29 +1,21 @@
 //! Tables that are found.
-ghost use Rattle.std.specs.Prelude.{◌≡◌, ◌+◌, ℕ, IsTrue, Some, length};
-ghost use Rattle.std.specs.FinMap as map;
+ghost use Rattle.std.specs.Prelude.{◌≡◌, ◌↔◌, ◌+◌, IsTrue, MatchOption, false, length};
 ghost use Rattle.sqlite.specs.Held.{state};
-ghost use Rattle.dr_base.specs.Texts.{text_cmp};
-ghost use Rattle.dr_ledger.specs.Pairs.{pair_cmp};
-ghost use Rattle.dr_ledger.specs.Replies.{Lists};
-ghost use Rattle.dr_store_schema.specs.Books.{AreBelow, all_kept_in, arrivals_in, rows_of};
+ghost use Rattle.sqlite.specs.Tree.{Trees};
 ghost use Rattle.dr_store_schema.specs.Ledgers.{IsLedger};
 ghost use Rattle.dr_store_reads.specs.Queries.{Asked};
-ghost use Rattle.dr_store_lists.specs.Lists.{IsJournal, goal_cmp, goals_of, keys_of};
-ghost use Rattle.dr_store_lists.specs.Lists.{whole_prints_of};
-ghost use Rattle.dr_store_audit.specs.Found.{AreListsOf};
+ghost use Rattle.dr_store_audit.specs.Found.{AgreesAs, HoldTogether};
 ghost use Rattle.dr_store_writes.specs.Effects.{IsSiteOf};
-ghost use Rattle.dr_store_open.specs.Opening.{AreReadIf, IsAgreedIf, IsWholeIf, Seen};
+ghost use Rattle.dr_store_open.specs.Listed.{IsJournalOf, IsMovesOf, IsStockOf};
+ghost use Rattle.dr_store_open.specs.Opening.{AreReadIf, HasNumbers, IsAgreedIf, IsWholeIf, Seen};
 
 use crate::bodies::test_bodies;
+use crate::listed::{Journal, Moves, Stock, list_journal, list_moves, list_stock};
 use dr_base::Text;
-use dr_ledger::{LedgerFault, Progress};
-use dr_route::Key;
+use dr_ledger::LedgerFault;
 use dr_site::Site;
 use dr_store_audit::{FindingFault, agree};
-use dr_store_lists::{
-    Note, all_arrivals, all_kept, all_keys, all_notes, all_prints, all_rows, all_targets,
-    next_number,
-};
+use dr_store_lists::next_number;
 use dr_store_reads::{Owner, Print, find_owner};
 use sqlite::{Alter, Connection};
 use std::alloc::Global;
@@ -31,7 +23,7 @@ use std::alloc::Global;
 /// Whether the node and the plan are the site's.
 fn is_owner(owner: &Owner, site: &Site) -> bool
     ensures { IsTrue result
-        → (owner.now.node ≡ site.now.name) × (owner.now.plan ≡ site.now.digest) }
+        ↔ ((owner.now.node ≡ site.now.name) × (owner.now.plan ≡ site.now.digest)) }
 {
     if owner.node != *site.name() {
         return false;
@@ -41,7 +33,7 @@ fn is_owner(owner: &Owner, site: &Site) -> bool
 
 /// The number of the next line, if the tables are a ledger's.
 fn next_if(is: bool, next: u64) -> Option<u64>
-    ensures { (n : ℕ) → result ≡ Some n → IsTrue is × (n ≡ next) }
+    ensures { MatchOption result (is ≡ false) (λ n. IsTrue is × (n ≡ next)) }
 {
     if is {
         return Some(next);
@@ -49,11 +41,11 @@ fn next_if(is: bool, next: u64) -> Option<u64>
     None
 }
 
-/// Whether it is the number of the next line after these, where they are numbered from 1.
-fn is_next(notes: &[(u64, Note)], next: u64) -> bool
-    ensures { IsTrue result → next ≡ length notes.now + 1 }
+/// The number of the line after these, where they are numbered from 1.
+fn number_after(journal: &Journal) -> u64
+    ensures { result ≡ length journal.now.notes.items + 1 }
 {
-    notes.len() as u64 + 1 == next
+    journal.notes.len() as u64 + 1
 }
 
 /// Reads each data set again.
@@ -72,227 +64,112 @@ fn read_bodies<'x, S: Alter>(
     }
 }
 
+/// Compares all lists with what the journal's lines make.
+fn agree_all(
+    alloc: Global,
+    site: &Site,
+    stock: &Stock,
+    moves: &Moves,
+    journal: &Journal,
+    next: u64,
+) -> Result<(), FindingFault>
+    ensures { (db : Trees)
+        → IsStockOf db stock.now
+        → IsMovesOf db moves.now
+        → IsJournalOf db journal.now
+        → AgreesAs result (HoldTogether next site.now db journal.now.notes.items) }
+{
+    agree(
+        alloc,
+        site,
+        stock.keys.as_slice(),
+        stock.prints.as_slice(),
+        stock.arrivals.as_slice(),
+        moves.kept.as_slice(),
+        moves.rows.as_slice(),
+        journal.notes.as_slice(),
+        journal.goals.as_slice(),
+        next,
+    )
+}
+
 /// Compares all lists with what the journal's lines make, and reads each data set again.
 fn compare<'x, S: Alter>(
     conn: &mut Connection<S>,
     alloc: Global,
     site: &'x Site,
-    keys: &'x [(Text, Key)],
-    prints: &'x [(Text, Print)],
-    arrivals: &'x [(Text, Text)],
-    kept: &'x [Text],
-    rows: &'x [((Text, Text), Progress)],
-    notes: &'x [(u64, Note)],
-    goals: &'x [(u64, Text)],
-    next: u64,
+    stock: &'x Stock,
+    moves: &'x Moves,
+    journal: &'x Journal,
 ) -> Result<Option<u64>, LedgerFault>
     ensures seen { Seen IsLedger result (state S.Store conn.old) (state S.Store conn.new)
-        (λ found. AreListsOf (state S.Store conn.old).now.trees keys.now prints.now arrivals.now
-        kept.now rows.now notes.now goals.now
-        → AreBelow next ((state S.Store conn.old).now.trees 11)
+        (λ found. IsStockOf (state S.Store conn.old).now.trees stock.now
+        → IsMovesOf (state S.Store conn.old).now.trees moves.now
+        → IsJournalOf (state S.Store conn.old).now.trees journal.now
+        → HasNumbers (state S.Store conn.old).now.trees
         → IsAgreedIf site.now (state S.Store conn.old).now.trees found) }
 {
-    if !is_next(notes, next) {
-        return Ok(None);
-    }
-    match agree(
-        alloc, site, keys, prints, arrivals, kept, rows, notes, goals, next,
-    ) {
-        Ok(()) => read_bodies(conn, alloc, prints, next),
+    let next = number_after(journal);
+    match agree_all(alloc, site, stock, moves, journal, next) {
+        Ok(()) => read_bodies(conn, alloc, stock.prints.as_slice(), next),
         Err(FindingFault::OtherSite) => Ok(None),
         Err(FindingFault::Memory) => Err(LedgerFault::Memory),
     }
 }
 
-/// The same, with the number of the next line.
-fn with_goals<'x, S: Alter>(
+/// The same, where each line has a number.
+fn with_journal<'x, S: Alter>(
     conn: &mut Connection<S>,
     alloc: Global,
     site: &'x Site,
-    keys: &'x [(Text, Key)],
-    prints: &'x [(Text, Print)],
-    arrivals: &'x [(Text, Text)],
-    kept: &'x [Text],
-    rows: &'x [((Text, Text), Progress)],
-    notes: &'x [(u64, Note)],
-    goals: &'x [(u64, Text)],
+    stock: &'x Stock,
+    moves: &'x Moves,
+    journal: &'x Journal,
 ) -> Result<Option<u64>, LedgerFault>
     ensures asked { Asked IsLedger result (state S.Store conn.old) (state S.Store conn.new)
-        (λ found. keys.now ≡ map.entries (keys_of (state S.Store conn.old).now.trees)
-        → prints.now ≡ map.entries (whole_prints_of (state S.Store conn.old).now.trees)
-        → Lists pair_cmp (arrivals_in ((state S.Store conn.old).now.trees 5)) arrivals.now
-        → Lists text_cmp (all_kept_in ((state S.Store conn.old).now.trees 7)) kept.now
-        → rows.now ≡ map.entries (rows_of (state S.Store conn.old).now.trees)
-        → IsJournal (state S.Store conn.old).now.trees notes.now
-        → Lists goal_cmp (goals_of (state S.Store conn.old).now.trees) goals.now
+        (λ found. IsStockOf (state S.Store conn.old).now.trees stock.now
+        → IsMovesOf (state S.Store conn.old).now.trees moves.now
+        → IsJournalOf (state S.Store conn.old).now.trees journal.now
         → IsAgreedIf site.now (state S.Store conn.old).now.trees found) }
 {
     match next_number(conn) {
-        Ok(next) => compare(
-            conn, alloc, site, keys, prints, arrivals, kept, rows, notes, goals, next,
-        ),
+        Ok(_) => compare(conn, alloc, site, stock, moves, journal),
         Err(fault) => Err(fault),
     }
 }
 
-/// The same, with all goals.
-fn with_notes<'x, S: Alter>(
+/// The same, with the journal.
+fn with_moves<'x, S: Alter>(
     conn: &mut Connection<S>,
     alloc: Global,
     site: &'x Site,
-    keys: &'x [(Text, Key)],
-    prints: &'x [(Text, Print)],
-    arrivals: &'x [(Text, Text)],
-    kept: &'x [Text],
-    rows: &'x [((Text, Text), Progress)],
-    notes: &'x [(u64, Note)],
+    stock: &'x Stock,
+    moves: &'x Moves,
 ) -> Result<Option<u64>, LedgerFault>
     ensures asked { Asked IsLedger result (state S.Store conn.old) (state S.Store conn.new)
-        (λ found. keys.now ≡ map.entries (keys_of (state S.Store conn.old).now.trees)
-        → prints.now ≡ map.entries (whole_prints_of (state S.Store conn.old).now.trees)
-        → Lists pair_cmp (arrivals_in ((state S.Store conn.old).now.trees 5)) arrivals.now
-        → Lists text_cmp (all_kept_in ((state S.Store conn.old).now.trees 7)) kept.now
-        → rows.now ≡ map.entries (rows_of (state S.Store conn.old).now.trees)
-        → IsJournal (state S.Store conn.old).now.trees notes.now
+        (λ found. IsStockOf (state S.Store conn.old).now.trees stock.now
+        → IsMovesOf (state S.Store conn.old).now.trees moves.now
         → IsAgreedIf site.now (state S.Store conn.old).now.trees found) }
 {
-    match all_targets(conn, alloc) {
-        Ok(goals) => with_goals(
-            conn,
-            alloc,
-            site,
-            keys,
-            prints,
-            arrivals,
-            kept,
-            rows,
-            notes,
-            goals.as_slice(),
-        ),
+    match list_journal(conn, alloc) {
+        Ok(journal) => with_journal(conn, alloc, site, stock, moves, &journal),
         Err(fault) => Err(fault),
     }
 }
 
-/// The same, with all lines.
-fn with_rows<'x, S: Alter>(
+/// The same, with what is kept and the rows.
+fn with_stock<'x, S: Alter>(
     conn: &mut Connection<S>,
     alloc: Global,
     site: &'x Site,
-    keys: &'x [(Text, Key)],
-    prints: &'x [(Text, Print)],
-    arrivals: &'x [(Text, Text)],
-    kept: &'x [Text],
-    rows: &'x [((Text, Text), Progress)],
+    stock: &'x Stock,
 ) -> Result<Option<u64>, LedgerFault>
     ensures asked { Asked IsLedger result (state S.Store conn.old) (state S.Store conn.new)
-        (λ found. keys.now ≡ map.entries (keys_of (state S.Store conn.old).now.trees)
-        → prints.now ≡ map.entries (whole_prints_of (state S.Store conn.old).now.trees)
-        → Lists pair_cmp (arrivals_in ((state S.Store conn.old).now.trees 5)) arrivals.now
-        → Lists text_cmp (all_kept_in ((state S.Store conn.old).now.trees 7)) kept.now
-        → rows.now ≡ map.entries (rows_of (state S.Store conn.old).now.trees)
+        (λ found. IsStockOf (state S.Store conn.old).now.trees stock.now
         → IsAgreedIf site.now (state S.Store conn.old).now.trees found) }
 {
-    match all_notes(conn, alloc) {
-        Ok(notes) => with_notes(
-            conn,
-            alloc,
-            site,
-            keys,
-            prints,
-            arrivals,
-            kept,
-            rows,
-            notes.as_slice(),
-        ),
-        Err(fault) => Err(fault),
-    }
-}
-
-/// The same, with all rows.
-fn with_kept<'x, S: Alter>(
-    conn: &mut Connection<S>,
-    alloc: Global,
-    site: &'x Site,
-    keys: &'x [(Text, Key)],
-    prints: &'x [(Text, Print)],
-    arrivals: &'x [(Text, Text)],
-    kept: &'x [Text],
-) -> Result<Option<u64>, LedgerFault>
-    ensures asked { Asked IsLedger result (state S.Store conn.old) (state S.Store conn.new)
-        (λ found. keys.now ≡ map.entries (keys_of (state S.Store conn.old).now.trees)
-        → prints.now ≡ map.entries (whole_prints_of (state S.Store conn.old).now.trees)
-        → Lists pair_cmp (arrivals_in ((state S.Store conn.old).now.trees 5)) arrivals.now
-        → Lists text_cmp (all_kept_in ((state S.Store conn.old).now.trees 7)) kept.now
-        → IsAgreedIf site.now (state S.Store conn.old).now.trees found) }
-{
-    match all_rows(conn, alloc) {
-        Ok(rows) => with_rows(
-            conn,
-            alloc,
-            site,
-            keys,
-            prints,
-            arrivals,
-            kept,
-            rows.as_slice(),
-        ),
-        Err(fault) => Err(fault),
-    }
-}
-
-/// The same, with all kept uids.
-fn with_arrivals<'x, S: Alter>(
-    conn: &mut Connection<S>,
-    alloc: Global,
-    site: &'x Site,
-    keys: &'x [(Text, Key)],
-    prints: &'x [(Text, Print)],
-    arrivals: &'x [(Text, Text)],
-) -> Result<Option<u64>, LedgerFault>
-    ensures asked { Asked IsLedger result (state S.Store conn.old) (state S.Store conn.new)
-        (λ found. keys.now ≡ map.entries (keys_of (state S.Store conn.old).now.trees)
-        → prints.now ≡ map.entries (whole_prints_of (state S.Store conn.old).now.trees)
-        → Lists pair_cmp (arrivals_in ((state S.Store conn.old).now.trees 5)) arrivals.now
-        → IsAgreedIf site.now (state S.Store conn.old).now.trees found) }
-{
-    match all_kept(conn, alloc) {
-        Ok(kept) => with_kept(conn, alloc, site, keys, prints, arrivals, kept.as_slice()),
-        Err(fault) => Err(fault),
-    }
-}
-
-/// The same, with all arrivals.
-fn with_prints<'x, S: Alter>(
-    conn: &mut Connection<S>,
-    alloc: Global,
-    site: &'x Site,
-    keys: &'x [(Text, Key)],
-    prints: &'x [(Text, Print)],
-) -> Result<Option<u64>, LedgerFault>
-    ensures asked { Asked IsLedger result (state S.Store conn.old) (state S.Store conn.new)
-        (λ found. keys.now ≡ map.entries (keys_of (state S.Store conn.old).now.trees)
-        → prints.now ≡ map.entries (whole_prints_of (state S.Store conn.old).now.trees)
-        → IsAgreedIf site.now (state S.Store conn.old).now.trees found) }
-{
-    match all_arrivals(conn, alloc) {
-        Ok(arrivals) => with_arrivals(conn, alloc, site, keys, prints, arrivals.as_slice()),
-        Err(fault) => Err(fault),
-    }
-}
-
-/// The same, with all prints.
-fn with_keys<'x, S: Alter>(
-    conn: &mut Connection<S>,
-    alloc: Global,
-    site: &'x Site,
-    keys: &'x [(Text, Key)],
-) -> Result<Option<u64>, LedgerFault>
-    ensures asked { Asked IsLedger result (state S.Store conn.old) (state S.Store conn.new)
-        (λ found. keys.now ≡ map.entries (keys_of (state S.Store conn.old).now.trees)
-        → IsAgreedIf site.now (state S.Store conn.old).now.trees found) }
-{
-    match all_prints(conn, alloc) {
-        Ok(prints) => with_prints(conn, alloc, site, keys, prints.as_slice()),
+    match list_moves(conn, alloc) {
+        Ok(moves) => with_moves(conn, alloc, site, stock, &moves),
         Err(fault) => Err(fault),
     }
 }
@@ -306,8 +183,8 @@ pub fn find_lists<'x, S: Alter>(
     ensures asked { Asked IsLedger result (state S.Store conn.old) (state S.Store conn.new)
         (λ found. IsAgreedIf site.now (state S.Store conn.old).now.trees found) }
 {
-    match all_keys(conn, alloc) {
-        Ok(keys) => with_keys(conn, alloc, site, keys.as_slice()),
+    match list_stock(conn, alloc) {
+        Ok(stock) => with_stock(conn, alloc, site, &stock),
         Err(fault) => Err(fault),
     }
 }

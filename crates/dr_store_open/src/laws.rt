@@ -1,13 +1,31 @@
-//! Laws of what an opening leaves.
+//! Laws of what an opening finds, and of what it leaves.
 ghost use Rattle.std.specs.Prelude.{◌≡◌, IsTrue};
 ghost use Rattle.sqlite.specs.Held.{state};
 ghost use Rattle.sqlite.specs.Tree.{Trees};
 ghost use Rattle.dr_store_schema.specs.Tables.{tables};
 ghost use Rattle.dr_store_audit.specs.Older.{IsOlder};
-ghost use Rattle.dr_store_open.specs.Opening.{IsBlank, LeavesFile, LeavesOldOr, StaysAsFound};
+ghost use Rattle.dr_store_open.specs.Opening.{BadTablesAreNone, IsBlank, LeavesFile, LeavesOldOr};
+ghost use Rattle.dr_store_open.specs.Opening.{LedgersAreOne, NewLedgersAreLedgers, StaysAsFound};
 ghost use Rattle.dr_store_open.specs.Renewing.{HasNoRows, KeepsRows};
 
 use sqlite::{Alter, Connection};
+
+/// A new ledger's database has a ledger of its site, whose next line is the first: such a file is
+/// never refused.
+pub fn a_new_ledger_is_a_ledger()
+    ensures { NewLedgersAreLedgers }
+{}
+
+/// What a database has is one node's ledger, under one plan, with one number of the next line: so
+/// an opening has one answer for each content of a file.
+pub fn a_file_has_one_ledger()
+    ensures { LedgersAreOne }
+{}
+
+/// Tables without an owner are no ledger's, nor those whose first line isn't numbered 1.
+pub fn bad_tables_are_no_ledgers()
+    ensures { BadTablesAreNone }
+{}
 
 /// Of a file that has a ledger's tables of today an opening makes nothing, also where it refuses
 /// the file: what is committed stays, and a crash leaves only what it could leave before.

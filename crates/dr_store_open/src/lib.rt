@@ -12,6 +12,7 @@ pub mod finding;
 pub mod laws;
 mod ledger;
 mod lines;
+pub mod listed;
 pub mod making;
 mod older;
 pub mod opening;

@@ -1,5 +1,6 @@
 //! A file's ledger, opened.
-ghost use Rattle.std.specs.Prelude.{◌≡◌, ◌≤◌, ◌↔◌, IfOk, OnOk, false, IsTrue, true};
+ghost use Rattle.std.specs.Prelude.{◌≡◌, ◌≤◌, ◌↔◌, IfErr, IfOk, MatchResult, OnOk, false};
+ghost use Rattle.std.specs.Prelude.{IsTrue, true};
 ghost use Rattle.sqlite.specs.Held.{state};
 ghost use Rattle.sqlite.specs.State.{HasCleanDisk, IsLive};
 ghost use Rattle.dr_store_schema.specs.Tables.{tables};
@@ -7,7 +8,9 @@ ghost use Rattle.sqlite_trees.specs.View.{doubt};
 ghost use Rattle.dr_store_calls.specs.Calling.{IsKept};
 ghost use Rattle.dr_store_audit.specs.Older.{IsOlder};
 ghost use Rattle.dr_store_open.specs.Renewing.{KeepsRows};
-ghost use Rattle.dr_store_open.specs.Opening.{HasNewLedger, IsBlank, IsBroughtOver, IsNext};
+ghost use Rattle.dr_store_open.specs.declared.fault.OpeningFault.TheVariants as opening;
+ghost use Rattle.dr_store_open.specs.Opening.{HasLedgerOf, HasNewLedger, HasNoLedgerOf, IsBlank};
+ghost use Rattle.dr_store_open.specs.Opening.{IsBroughtOver, IsNext};
 ghost use Rattle.dr_store_open.specs.Opening.{IsOpened, IsOwnedBy, LeavesFile};
 ghost use Rattle.dr_store_open.specs.Opening.{LeavesOldOrCommitted};
 ghost use Rattle.dr_store_open.specs.Opening.{StaysAsFound};
@@ -93,6 +96,8 @@ fn make_new<S: Alter>(conn: &mut Connection<S>, site: &Site) -> Result<bool, Ope
         → LeavesOldOrCommitted (state S.Store conn.old) (state S.Store conn.new))) }
     ensures file { HasCleanDisk (state S.Store conn.new)
         → LeavesFile (state S.Store conn.old) (state S.Store conn.new) }
+    ensures ours { (state S.Store conn.old).now.schema ≡ tables
+        → MatchResult result (λ made. made ≡ false) (λ fault. ⊥) × (conn.new ≡ conn.old) }
 {
     if !is_blank(conn.schema()) {
         return Ok(false);
@@ -129,6 +134,8 @@ fn prepare<S: Alter>(
         made ≡ false → KeepsRows (state S.Store conn.old).now (state S.Store conn.new).committed) }
     ensures file { HasCleanDisk (state S.Store conn.new)
         → LeavesFile (state S.Store conn.old) (state S.Store conn.new) }
+    ensures ours { (state S.Store conn.old).now.schema ≡ tables
+        → MatchResult result (λ made. made ≡ false) (λ fault. ⊥) × (conn.new ≡ conn.old) }
 {
     if make_new(conn, site)? {
         return Ok(true);
@@ -141,7 +148,7 @@ fn prepare<S: Alter>(
 
 /// Whether a ledger whose tables were made just now has no line yet.
 fn is_as_made(made: bool, next: u64) -> bool
-    ensures { IsTrue result → made ≡ true → next ≡ 1 }
+    ensures { IsTrue result ↔ (made ≡ true → next ≡ 1) }
 {
     if made {
         return next == 1;
@@ -156,7 +163,8 @@ fn is_as_made(made: bool, next: u64) -> bool
 /// Whatever it answers, a crash leaves what it could leave before, or what an opening makes of the
 /// file, whole. A file that has other tables than none or those of before stays as it was.
 ///
-/// Errors: OtherSite; Store; Memory.
+/// Errors: OtherSite, never where the file has a ledger of this site in the tables of today; Store;
+/// Memory.
 pub fn open<S: Alter>(
     conn: &mut Connection<S>,
     alloc: Global,
@@ -180,6 +188,11 @@ pub fn open<S: Alter>(
         → HasNewLedger (state S.Store conn.old) (state S.Store conn.new)) }
     ensures file { HasCleanDisk (state S.Store conn.new)
         → LeavesFile (state S.Store conn.old) (state S.Store conn.new) }
+    ensures refused { IfErr result (λ fault. HasCleanDisk (state S.Store conn.new)
+        → fault ≡ opening.OtherSite
+        → HasNoLedgerOf site.now (state S.Store conn.old).now) }
+    ensures is { IfOk result (λ next. HasCleanDisk (state S.Store conn.new)
+        → HasLedgerOf next site.now (state S.Store conn.new).committed) }
     ensures idle { conn.new.in_transaction ≡ false }
     ensures clean { doubt (state S.Store conn.old).is_clean
         ≤ doubt (state S.Store conn.new).is_clean }
@@ -222,6 +235,8 @@ pub fn on<S: Alter + Drop>(
     ensures made { IfOk result (λ opened. HasCleanDisk (state S.Store opened.0)
         → IsBlank (state S.Store conn).now.schema
         → HasNewLedger (state S.Store conn) (state S.Store opened.0)) }
+    ensures is { IfOk result (λ opened. HasCleanDisk (state S.Store opened.0)
+        → HasLedgerOf opened.1 site.now (state S.Store opened.0).committed) }
     ensures idle { IfOk result (λ opened. opened.0.in_transaction ≡ false) }
     ensures clean { IfOk result (λ opened.
         doubt (state S.Store conn).is_clean ≤ doubt (state S.Store opened.0).is_clean) }

@@ -1,5 +1,5 @@
 //! A ledger's file from before, brought over to the tables of today.
-ghost use Rattle.std.specs.Prelude.{◌≡◌, ◌≤◌, IfOk, IfSome, OnOk, IsTrue, false, true};
+ghost use Rattle.std.specs.Prelude.{◌≡◌, ◌≤◌, IfErr, IfOk, IfSome, OnOk, IsTrue, false, true};
 ghost use Rattle.sqlite.specs.Held.{state};
 ghost use Rattle.sqlite.specs.State.{HasCleanDisk, Survives};
 ghost use Rattle.sqlite_trees.specs.View.{doubt};
@@ -383,6 +383,8 @@ pub fn renew_older<S: Alter>(
         → OnOk result (KeepsRows (state S.Store conn.old).now (state S.Store conn.new).committed) }
     ensures file { HasCleanDisk (state S.Store conn.new)
         → LeavesFile (state S.Store conn.old) (state S.Store conn.new) }
+    ensures ours { (state S.Store conn.old).now.schema ≡ tables
+        → IfErr result (λ fault. ⊥) × (conn.new ≡ conn.old) }
 {
     match lacking(conn.schema()) {
         Some(lacks) => bring_over(conn, alloc, site, lacks),

@@ -1,6 +1,6 @@
-use Rattle.std.proofs.Common.{◌∙◌}
+use Rattle.std.proofs.Common.{◌∙◌, sym}
 use Rattle.dr_store_audit.proofs.Forms.{written_out}
 use Rattle.dr_store_audit.proofs.schema.is_ours.Goals as goal
 
-pub returns-in-Some : goal.returns-in-Some
-returns-in-Some c = λ yes. c.in-Some.ensures ∙ written_out
+pub returns : goal.returns
+returns c = (λ yes. c.are_all.ensures.0 yes ∙ written_out, λ same. c.are_all.ensures.1 (same ∙ sym written_out))

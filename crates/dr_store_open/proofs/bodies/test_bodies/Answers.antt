@@ -1,12 +1,14 @@
-use Rattle.std.proofs.Common.{◌≡◌, ◌+◌, ◌++◌, ◌∷◌, [], Bool, IsTrue, Ok, Err, false, take, true, true≢false, subst, sym, arith}
-use Rattle.std.specs.Prelude.{All}
+use Rattle.std.proofs.Common.{◌≡◌, ◌∙◌, ◌+◌, ◌++◌, ◌∷◌, [], Bool, IsTrue, List, Ok, Err, false, refl, take, true, true≢false, subst, sym, arith}
+use Rattle.std.specs.Prelude.{All, ◌↔◌}
+use Rattle.dr_base.specs.Texts.{Text}
+use Rattle.dr_store_reads.specs.declared.finding.Print.{Print}
 use Rattle.std.proofs.lemmas.List.{take_all, take_more}
 use Rattle.std.proofs.lemmas.List.Elements.{All-push}
 use Rattle.sqlite.specs.Effect.{Database}
 use Rattle.sqlite.specs.Held.{state}
 use Rattle.dr_store_schema.specs.Ledgers.{IsLedger}
 use Rattle.dr_store_open.specs.Opening.{AreOwnUnder}
-use Rattle.dr_store_open.proofs.Chains.{not_asked, seen_as, seen_failed, seen_map, seen_then}
+use Rattle.dr_store_open.proofs.Chains.{not_asked, seen_as, seen_failed, seen_then}
 use Rattle.dr_store_open.proofs.bodies.test_bodies.Goals as goal
 
 pub loop-print-init : goal.loop-print-init
@@ -28,7 +30,7 @@ loop-print-preserved g c =
     let Two : Database → Bool → Type 0 = λ db own. AreOwnUnder db.trees p in
     let Both : Database → Bool → Type 0 = λ db own. All (AreOwnUnder db.trees) (take (i + 1) prints) in
     seen_then {Asks = IsLedger} old mid new true (Ok true) One Two Both (λ db one y two. subst (All (AreOwnUnder db.trees)) (sym more) (All-push (AreOwnUnder db.trees) (take i prints) p one two)) c.loop-print.invariant
-    (seen_as mid new c.in-Ok.own (Ok true) (λ own. IsTrue own → AreOwnUnder mid.now.trees p) (Two mid.now) (λ h. h c.if-not-own.false) c.in-Ok.ensures.seen)
+    (seen_as mid new c.in-Ok.own (Ok true) (λ own. IsTrue own ↔ AreOwnUnder mid.now.trees p) (Two mid.now) (λ h. h.0 c.if-not-own.false) c.in-Ok.ensures.seen)
 
 pub returns : goal.returns
 returns g c =
@@ -36,9 +38,10 @@ returns g c =
     let i = c.loop-print.print-index in
     let old = state g.S.Store c.args.conn.now in
     let new = state g.S.Store c.loop-print.conn in
+    let All_of : List (Text × Print) → Type 0 = All (AreOwnUnder old.now.trees) in
     record {
-      seen = seen_map {Asks = IsLedger} old new (Ok true) (λ own. All (AreOwnUnder old.now.trees) (take i prints)) (λ own. IsTrue own → All (AreOwnUnder old.now.trees) prints)
-          (λ own all yes. subst (All (AreOwnUnder old.now.trees)) (take_all i prints (omega (arith, c.loop-print-test.false))) all) c.loop-print.invariant;
+      seen = seen_as {Asks = IsLedger} old new true (Ok true) (λ own. All_of (take i prints)) (λ own. IsTrue own ↔ All_of prints)
+          (λ all. (λ yes. subst All_of (take_all i prints (omega (arith, c.loop-print-test.false))) all, λ every. refl)) c.loop-print.invariant;
     }
 
 pub returns-then-not-own : goal.returns-then-not-own
@@ -50,10 +53,13 @@ returns-then-not-own g c =
     let mid = state g.S.Store c.loop-print.conn in
     let new = state g.S.Store c.test_print.new.conn in
     let One : Database → Bool → Type 0 = λ db own. All (AreOwnUnder db.trees) (take i prints) in
-    let Other : Database → Bool → Type 0 = λ db own. IsTrue own → All (AreOwnUnder db.trees) prints in
+    let Two : Database → Bool → Type 0 = λ db own. (own ≡ false) × (AreOwnUnder db.trees p → ⊥) in
+    let Other : Database → Bool → Type 0 = λ db own. IsTrue own ↔ All (AreOwnUnder db.trees) prints in
     record {
-      seen = seen_then {Asks = IsLedger} old mid new true (Ok false) One Other Other (λ db one y two. two) c.loop-print.invariant
-          (seen_as mid new c.in-Ok.own (Ok false) (λ own. IsTrue own → AreOwnUnder mid.now.trees p) (Other mid.now) (λ h yes. absurd (true≢false (sym yes))) c.in-Ok.ensures.seen);
+      seen = seen_then {Asks = IsLedger} old mid new true (Ok false) One Two Other
+          (λ db one y two. (λ yes. absurd (true≢false (sym yes ∙ two.0)), λ every. absurd (two.1 (subst (AreOwnUnder db.trees) (sym c.print-item.is) (every i p c.loop-print-test.true)))))
+          c.loop-print.invariant
+          (seen_as mid new c.in-Ok.own (Ok false) (λ own. IsTrue own ↔ AreOwnUnder mid.now.trees p) (Two mid.now) (λ h. (refl, λ under. true≢false (sym (h.1 under) ∙ c.if-not-own.true))) c.in-Ok.ensures.seen);
     }
 
 pub returns-in-Err : goal.returns-in-Err
@@ -65,8 +71,8 @@ returns-in-Err g c =
     let mid = state g.S.Store c.loop-print.conn in
     let new = state g.S.Store c.test_print.new.conn in
     let One : Database → Bool → Type 0 = λ db own. All (AreOwnUnder db.trees) (take i prints) in
-    let Other : Database → Bool → Type 0 = λ db own. IsTrue own → All (AreOwnUnder db.trees) prints in
+    let Other : Database → Bool → Type 0 = λ db own. IsTrue own ↔ All (AreOwnUnder db.trees) prints in
     record {
       seen = seen_then {Asks = IsLedger} old mid new true (Err c.in-Err.fault) One Other Other (λ db one y two. two) c.loop-print.invariant
-          (seen_failed mid new c.in-Err.fault (λ own. IsTrue own → AreOwnUnder mid.now.trees p) (Other mid.now) c.in-Err.ensures.seen);
+          (seen_failed mid new c.in-Err.fault (λ own. IsTrue own ↔ AreOwnUnder mid.now.trees p) (Other mid.now) c.in-Err.ensures.seen);
     }

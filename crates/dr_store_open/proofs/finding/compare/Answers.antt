@@ -1,12 +1,13 @@
-use Rattle.std.proofs.Common.{ℕ, Option, Ok, Err, None}
+use Rattle.std.proofs.Common.{◌∙◌, ℕ, Option, Ok, Err, None, subst}
 use Rattle.sqlite.specs.Held.{state}
 use Rattle.dr_ledger.specs.declared.fault.LedgerFault.TheVariants as fault
-use Rattle.dr_store_schema.specs.Books.{AreBelow}
 use Rattle.dr_store_schema.specs.Ledgers.{IsLedger}
-use Rattle.dr_store_audit.specs.Found.{AreListsOf}
-use Rattle.dr_store_open.specs.Opening.{AreReadIf, IsAgreedIf}
+use Rattle.dr_store_audit.specs.Found.{AgreesAs, HoldTogether}
+use Rattle.dr_store_audit.specs.declared.fault.FindingFault.{FindingFault}
+use Rattle.dr_store_open.specs.Listed.{IsJournalOf, IsMovesOf, IsStockOf}
+use Rattle.dr_store_open.specs.Opening.{AreReadIf, HasNumbers, IsAgreedIf}
 use Rattle.dr_store_open.proofs.Chains.{not_asked, seen_map}
-use Rattle.dr_store_open.proofs.Wholly.{agreed}
+use Rattle.dr_store_open.proofs.Wholly.{agreed, not_agreed}
 use Rattle.dr_store_open.proofs.finding.compare.Goals as goal
 
 pub returns-in-Ok : goal.returns-in-Ok
@@ -15,29 +16,32 @@ returns-in-Ok g c =
     let old = state g.S.Store c.args.conn.now in
     let new = state g.S.Store c.read_bodies.new.conn in
     let db = old.now.trees in
-    let Other : Option ℕ → Type 0 = λ found. AreListsOf db c.args.keys.now c.args.prints.now c.args.arrivals.now c.args.kept.now c.args.rows.now c.args.notes.now c.args.goals.now → AreBelow c.args.next (db 11) → IsAgreedIf part db found in
+    let next = c.number_after-next.result in
+    let prints = c.as_slice.result.now in
+    let Other : Option ℕ → Type 0 = λ found. IsStockOf db c.args.stock.now → IsMovesOf db c.args.moves.now → IsJournalOf db c.args.journal.now → HasNumbers db → IsAgreedIf part db found in
     record {
-      seen = seen_map {Asks = IsLedger} old new c.read_bodies.result (AreReadIf db c.args.prints.now c.args.next) Other
-          (λ found read are below. agreed part db c.args.prints.now c.args.notes.now c.args.next are.prints_are are.notes_are (c.is_next.ensures c.if-not-is_next.false) (c.in-Ok.ensures db are).found below found read) c.read_bodies.ensures.seen;
+      seen = seen_map {Asks = IsLedger} old new c.read_bodies.result (AreReadIf db prints next) Other
+          (λ found read stock moves journal numbers. agreed part db prints c.args.journal.now.notes.items next numbers.0 (c.as_slice.ensures.value ∙ stock.prints) journal.notes c.number_after-next.ensures numbers.1 (c.in-Ok.ensures db stock moves journal) found read)
+          c.read_bodies.ensures.seen;
     }
 
 pub returns-in-Err-OtherSite : goal.returns-in-Err-OtherSite
 returns-in-Err-OtherSite g c =
+    let part = c.args.site.now in
     let old = state g.S.Store c.args.conn.now in
     let db = old.now.trees in
-    let Other : Option ℕ → Type 0 = λ found. AreListsOf db c.args.keys.now c.args.prints.now c.args.arrivals.now c.args.kept.now c.args.rows.now c.args.notes.now c.args.goals.now → AreBelow c.args.next (db 11) → IsAgreedIf c.args.site.now db found in
-    record { seen = not_asked {Asks = IsLedger} old (Ok None) Other (λ are below. tt) }
+    let next = c.number_after-next.result in
+    let notes = c.args.journal.now.notes.items in
+    let If : FindingFault → Type 0 = λ why. AgreesAs (Err why) (HoldTogether next part db notes) in
+    let Other : Option ℕ → Type 0 = λ found. IsStockOf db c.args.stock.now → IsMovesOf db c.args.moves.now → IsJournalOf db c.args.journal.now → HasNumbers db → IsAgreedIf part db found in
+    record {
+      seen = not_asked {Asks = IsLedger} old (Ok None) Other
+          (λ stock moves journal numbers. not_agreed part db notes next journal.notes c.number_after-next.ensures (subst If c.in-Err-OtherSite.field-0-is (c.in-Err-OtherSite.ensures db stock moves journal)));
+    }
 
 pub returns-in-Err-Memory : goal.returns-in-Err-Memory
 returns-in-Err-Memory g c =
     let old = state g.S.Store c.args.conn.now in
     let db = old.now.trees in
-    let Other : Option ℕ → Type 0 = λ found. AreListsOf db c.args.keys.now c.args.prints.now c.args.arrivals.now c.args.kept.now c.args.rows.now c.args.notes.now c.args.goals.now → AreBelow c.args.next (db 11) → IsAgreedIf c.args.site.now db found in
+    let Other : Option ℕ → Type 0 = λ found. IsStockOf db c.args.stock.now → IsMovesOf db c.args.moves.now → IsJournalOf db c.args.journal.now → HasNumbers db → IsAgreedIf c.args.site.now db found in
     record { seen = not_asked {Asks = IsLedger} old (Err fault.Memory) Other tt }
-
-pub returns-then-not-is_next : goal.returns-then-not-is_next
-returns-then-not-is_next g c =
-    let old = state g.S.Store c.args.conn.now in
-    let db = old.now.trees in
-    let Other : Option ℕ → Type 0 = λ found. AreListsOf db c.args.keys.now c.args.prints.now c.args.arrivals.now c.args.kept.now c.args.rows.now c.args.notes.now c.args.goals.now → AreBelow c.args.next (db 11) → IsAgreedIf c.args.site.now db found in
-    record { seen = not_asked {Asks = IsLedger} old (Ok None) Other (λ are below. tt) }

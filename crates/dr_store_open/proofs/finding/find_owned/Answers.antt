@@ -28,7 +28,12 @@ pub returns-in-Ok-None : goal.returns-in-Ok-None
 returns-in-Ok-None g c =
     let old = state g.S.Store c.args.conn.now in
     let new = state g.S.Store c.find_owner.new.conn in
-    record { asked = asked_as {Asks = IsLedger} old new c.in-Ok-None.field-0 (Ok None) (IsOwnerOf old.now.trees) (IsWholeIf c.args.site.now old.now.trees) (λ shown. tt) c.in-Ok-None.ensures.asked }
+    let part = c.args.site.now in
+    let is : c.in-Ok-None.field-0 ≡ None = search rules in
+    record {
+      asked = asked_as {Asks = IsLedger} old new c.in-Ok-None.field-0 (Ok None) (IsOwnerOf old.now.trees) (IsWholeIf part old.now.trees)
+          (λ shown n agreed owned. (subst (IsOwnerOf old.now.trees) is shown) part.name part.digest owned) c.in-Ok-None.ensures.asked;
+    }
 
 pub returns-in-Err : goal.returns-in-Err
 returns-in-Err g c =

@@ -1,5 +1,6 @@
-use Rattle.std.proofs.Common.{◌≡◌, false, sym, subst}
+use Rattle.std.proofs.Common.{◌≡◌, ◌∙◌, false, refl, sym, subst}
 use Rattle.sqlite.specs.Held.{state}
+use Rattle.dr_store_schema.specs.Tables.{tables}
 use Rattle.dr_store_audit.specs.Older.{IsOlder}
 use Rattle.dr_store_open.specs.Opening.{LeavesOldOrCommitted, StaysAsFound}
 use Rattle.dr_store_open.specs.Renewing.{KeepsRows}
@@ -21,3 +22,14 @@ returns-in-Ok-clause-kept g c clean older named committed same =
     let stood : c.in_ok-make_new.field-0 ≡ false = c.if-branch.false in
     let it = c.in_ok-make_new.ensures.found stood in
     subst (λ h. KeepsRows (state g.S.Store h).now (state g.S.Store c.renew_older.new.conn).committed) it.1 (c.in-Ok.ensures.kept clean (subst (λ h. IsOlder (state g.S.Store h).now.schema) (sym it.1) older) named committed)
+
+pub returns-in-Ok-clause-ours : goal.returns-in-Ok-clause-ours
+returns-in-Ok-clause-ours g c named =
+    let one = (c.in_ok-make_new.ensures.ours named).1 in
+    let two = c.in-Ok.ensures.ours (subst (λ h. (state g.S.Store h).now.schema ≡ tables) (sym one) named) in
+    (refl, two.1 ∙ one)
+
+pub returns-in-Err-clause-ours : goal.returns-in-Err-clause-ours
+returns-in-Err-clause-ours g c named =
+    let one = (c.in_ok-make_new.ensures.ours named).1 in
+    absurd (c.in-Err.ensures.ours (subst (λ h. (state g.S.Store h).now.schema ≡ tables) (sym one) named)).0

@@ -40,3 +40,8 @@ returns-in-Some-clause-file g c clean =
           (c.bring_over.ensures.crash clean (queries_of old.now.schema older));
       stays = λ blank other is_open. absurd (other older);
     }
+
+pub returns-in-Some-clause-ours : goal.returns-in-Some-clause-ours
+returns-in-Some-clause-ours g c named =
+    let older : IsOlder (state g.S.Store c.args.conn.now).now.schema = (c.in-Some.lacks, sym c.schema.ensures.value ∙ c.in-Some.ensures) in
+    absurd (no_older_is_new (state g.S.Store c.args.conn.now).now.schema older named)

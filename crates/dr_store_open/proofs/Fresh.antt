@@ -1,0 +1,110 @@
+-- What a new ledger's tables are, and what isn't a ledger's.
+use Rattle.std.proofs.Common.{◌≡◌, ◌∙◌, ◌+◌, ℕ, false, inl, inr, List, [], ◌∷◌, Some, is_some}
+use Rattle.std.proofs.Common.{length, refl, sym, ap, subst, arith}
+use Rattle.std.specs.Ordering.{nat_cmp}
+use Rattle.std.specs.FinMap as map
+use Rattle.sqlite.specs.Order.{Row}
+use Rattle.dr_base.specs.Texts.{Text, text_cmp}
+use Rattle.dr_route.specs.declared.key.Key.{Key}
+use Rattle.dr_site.specs.Parts.{Part}
+use Rattle.dr_ledger.specs.Bodies.{Bodies, IsNeeded}
+use Rattle.dr_ledger.specs.Books.{Book, empty_book}
+use Rattle.dr_ledger.specs.Histories.{IsJournalled}
+use Rattle.dr_ledger.specs.Pairs.{pair_cmp}
+use Rattle.dr_ledger.specs.Routings.{Routing}
+use Rattle.dr_ledger.specs.SiteRoutes.{site_routing}
+use Rattle.dr_ledger.proofs.Wholes.{no_entry, no_member}
+use Rattle.dr_store_schema.specs.Books.{bodies_of, book_of}
+use Rattle.dr_store_schema.specs.Tables.{tables}
+use Rattle.dr_store_schema.proofs.WhatIsWritten.{empty_tables_are_empty, no_entries}
+use Rattle.dr_store_writes.specs.Effects.{site_row}
+use Rattle.dr_store_reads.specs.declared.finding.Print.{Print}
+use Rattle.dr_store_lists.specs.declared.listing.Note.{Note}
+use Rattle.dr_store_audit.specs.Journal.{CountUp}
+use Rattle.dr_store_open.specs.Opening.{BadTablesAreNone, HasLedgerOf, LedgersAreOne}
+use Rattle.dr_store_open.specs.Opening.{NewLedgersAreLedgers, new_trees}
+use Rattle.dr_store_open.proofs.Wholly.{one_owner}
+
+module _ (part : Part) where
+  book : book_of (new_trees part) ≡ empty_book
+  book = empty_tables_are_empty.book
+
+  bodies : bodies_of (new_trees part) ≡ map.empty
+  bodies = empty_tables_are_empty.bodies
+
+  no_body : (uid : Text) (body : List ℕ) → map.get (bodies_of (new_trees part)) uid ≡ Some body → ⊥
+  no_body uid body there =
+      let P : Bodies → Type 0 = λ all. map.get all uid ≡ Some body in
+      no_entry text_cmp uid body (subst P bodies there)
+
+  unneeded : (uid : Text) → IsNeeded empty_book uid → ⊥
+  unneeded uid needed = elim needed [
+    | inl kept ↦ no_member text_cmp uid kept
+    | inr row ↦ no_entry pair_cmp (uid, row.0) row.1 row.2
+  ]
+
+  journalled : (routing : Routing) → IsJournalled routing empty_book
+  journalled routing = (
+    [],
+    record {
+      since = [];
+      lines = refl;
+      before = inl refl;
+      accepted = tt;
+      history = tt;
+      fold = refl;
+    },
+  )
+
+  no_key : (uid : Text) → is_some (map.get (map.empty {X = Key} {R = text_cmp}) uid) ≡ false
+  no_key uid = ap is_some (map.get-empty text_cmp uid)
+
+  no_print : (uid : Text)
+      → is_some (map.get (map.empty {X = Print} {R = text_cmp}) uid) ≡ false
+  no_print uid = ap is_some (map.get-empty text_cmp uid)
+
+  new_ledger_is : HasLedgerOf 1 part (record { schema = tables; trees = new_trees part })
+  new_ledger_is = record {
+    schema = refl;
+    owned = refl;
+    agreed = record {
+      next = ap (λ (b : Book). length b.lines + 1) (sym book);
+      below = tt;
+      hold = record {
+        found = record {
+          ahead = λ m late. refl;
+          journalled =
+              let routing = site_routing part in
+              subst (IsJournalled routing) (sym book) (journalled routing);
+          there = λ uid. (
+            λ body. absurd (no_body uid body.0 body.1),
+            λ needed. absurd (unneeded uid (subst (λ b. IsNeeded b uid) book needed)),
+          );
+        };
+        together = λ uid. no_key uid ∙ sym (no_print uid);
+        numbered = subst (CountUp 1) (sym (no_entries nat_cmp Note)) tt;
+      };
+      own = λ uid body there. absurd (no_body uid body there);
+    };
+  }
+
+pub new_ledgers_are : NewLedgersAreLedgers
+new_ledgers_are part = new_ledger_is part
+
+pub ledgers_are_one : LedgersAreOne
+ledgers_are_one n m part other db one two =
+    let owner =
+    one_owner db.trees part.name other.name part.digest other.digest one.owned two.owned in
+    (one.agreed.next ∙ sym two.agreed.next, owner.0, owner.1)
+
+nobody : (row : Row) → [] ≡ row ∷ [] → ⊥
+nobody row e = cc
+
+pub bad_tables_are_none : BadTablesAreNone
+bad_tables_are_none = record {
+  unowned = λ part db none n is. nobody (site_row part.name part.digest) (sym none ∙ is.owned);
+  renumbered = λ part db note rest all n is.
+      let up : CountUp 1 ((2, note) ∷ rest) = subst (CountUp 1) all is.agreed.hold.numbered in
+      let same : 2 ≡ 1 = up.0 in
+      omega (arith, same);
+}
