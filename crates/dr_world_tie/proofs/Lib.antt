@@ -1,4 +1,5 @@
 pub mod Acceptances
+pub mod Acceptors
 pub mod Closing
 pub mod Controls
 pub mod CallerLeaving
@@ -7,6 +8,7 @@ pub mod Changes
 pub mod Leaving
 pub mod Agreeing
 pub mod ContextSets
+pub mod Foreigners
 pub mod Fragments
 pub mod Fronts
 pub mod Giving

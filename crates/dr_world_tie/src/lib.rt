@@ -15,6 +15,10 @@ ghost use Rattle.dr_world_tie.specs.Changes.{WhatIsKeptStaysThrough};
 ghost use Rattle.dr_world_tie.specs.Changes.{WhatIsTakenIsOne};
 ghost use Rattle.dr_world_tie.specs.Closing.{ClosingIsClose};
 ghost use Rattle.dr_world_tie.specs.Desks.{SiteStepsArePlanSteps};
+ghost use Rattle.dr_world_tie.specs.Foreign.{AcceptorsBegin, AnyBytesCome, ClaimsHoldAfterBytes};
+ghost use Rattle.dr_world_tie.specs.Foreign.{NothingUnheardIsStored, OneInputComes};
+ghost use Rattle.dr_world_tie.specs.Foreign.{OursAreNotForeign, RequestsAreAnswered};
+ghost use Rattle.dr_world_tie.specs.Foreign.{StoresAreBrought};
 ghost use Rattle.dr_world_tie.specs.Moves.{CallerMoves, ReceiverMoves};
 ghost use Rattle.dr_world_tie.specs.Nodes.{ForgettingIsForget, GivingUpIsDrop, RefusingIsRefuse};
 ghost use Rattle.dr_world_tie.specs.Nodes.{RequeueingIsRequeue, StayingAwayIsStayAway};
@@ -173,4 +177,23 @@ pub fn site_steps_are_plan_steps()
 pub fn pieces_make_commands()
     ensures alone { PiecesMakeCommands }
     ensures with_data { PiecesMakeStores }
+{}
+
+/// Whatever another maker's product writes to an acceptor of ours, in whatever pieces, is what
+/// happens in the message world among other makers' products, and the four claims hold of ours.
+pub fn others_are_heard()
+    ensures input { OneInputComes }
+    ensures bytes { AnyBytesCome }
+    ensures claims { ClaimsHoldAfterBytes }
+{}
+
+/// A request of another product's that our acceptor accepts is a call, and a store that it heard to
+/// its end is a store of the message world. One that it hasn't heard is none, and a link of ours is
+/// none of another product's.
+pub fn others_calls_and_stores()
+    ensures fresh { AcceptorsBegin }
+    ensures answered { RequestsAreAnswered }
+    ensures brought { StoresAreBrought }
+    ensures unheard { NothingUnheardIsStored }
+    ensures own { OursAreNotForeign }
 {}
