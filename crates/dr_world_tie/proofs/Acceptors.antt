@@ -1,17 +1,16 @@
 -- What an acceptor does with an input, whoever wrote it.
-use Rattle.std.proofs.Common.{◌≡◌, ◌≢◌, ℕ, Bool, true, false, List, [], ◌∷◌, Option, Some, None}
+use Rattle.std.proofs.Common.{◌≡◌, ℕ, Bool, true, false, List, [], ◌∷◌, Option, Some, None}
 use Rattle.std.proofs.Common.{Result, Ok, Err, Contains, refl, sym, ap, subst, ◌∙◌, inl, inr, ◌⊎◌}
 use Rattle.std.proofs.Common.{arith}
 use Rattle.std.specs.Prelude.{◌&&◌, ◌||◌, ◌==◌, ◌%◌, ◌+◌, nat_le, not, is_some, if◌then◌else◌}
 use Rattle.std.specs.List.{AllByRecursion, list_any}
 use Rattle.std.specs.Option.{option_map_or}
 use Rattle.std.specs.Str.{bytes_eq}
-use Rattle.std.proofs.lemmas.Bool.{cases_Bool, false≢true}
+use Rattle.std.proofs.lemmas.Bool.{false≢true}
 use Rattle.std.proofs.lemmas.List.{append-nil}
 use Rattle.std.proofs.lemmas.Slice.Eq.{bytes_eq-Decides}
 use Rattle.dr_base.specs.Texts.{Text}
 use Rattle.dr_base.specs.Syntaxes.{syntax_uid}
-use Rattle.dr_base.specs.declared.syntax.Syntax.{Syntax}
 use Rattle.dr_route.specs.Routes.{local}
 use Rattle.dr_route.specs.declared.accept.AcceptRow.{AcceptRow}
 use Rattle.dr_site.specs.Parts.{Part}
@@ -46,16 +45,14 @@ use Rattle.dr_dimse.specs.declared.fault.DimseFault.{DimseFault}
 use Rattle.dr_dimse.specs.declared.fault.DimseFault.TheVariants as dimse
 use Rattle.dr_dimse.specs.Taking.{Stage as Taken}
 use Rattle.dr_ledger.specs.declared.content.Job.{Job}
-use Rattle.dr_ledger.specs.declared.content.ItemFault.{ItemFault}
 use Rattle.dr_ledger.specs.declared.content.ItemFault.TheVariants as items
-use Rattle.dr_ledger.specs.Items.{ReadsItem}
 use Rattle.dr_nego.specs.Fragments.{spellings}
 use Rattle.dr_nego.specs.declared.agreed.Agreed.{Agreed}
 use Rattle.dr_nego.specs.declared.agreed.Pair.{Pair}
 use Rattle.dr_nego.specs.declared.answering.Answer.{Answer}
 use Rattle.dr_nego.specs.declared.answering.Answer.TheVariants.{Accept, Reject, TooSmall}
-use Rattle.dr_nego.specs.Agreeing.{AssociateRq, AssociateAc, pair_at, is_id}
-use Rattle.dr_nego.specs.Answering.{answer, answer_by, refusal, acceptance_of, agreed_by}
+use Rattle.dr_nego.specs.Agreeing.{AssociateRq, pair_at, is_id}
+use Rattle.dr_nego.specs.Answering.{answer, answer_by, acceptance_of, agreed_by}
 use Rattle.dr_nego.specs.Answering.{application_context, is_stranger, is_caller}
 use Rattle.dr_nego.proofs.OneContext.{found_is}
 use Rattle.dr_session.specs.declared.ends.Core.{Core}
@@ -67,19 +64,17 @@ use Rattle.dr_session.specs.declared.ends.Input.TheVariants as input
 use Rattle.dr_session.specs.declared.ends.LinkAction.{LinkAction}
 use Rattle.dr_session.specs.declared.ends.LinkAction.TheVariants.{Close}
 use Rattle.dr_session.specs.declared.ends.Moment.{Moment}
-use Rattle.dr_session.specs.declared.ends.Pending.{Pending}
 use Rattle.dr_session.specs.declared.ends.Told.{Told}
 use Rattle.dr_session.specs.declared.ends.Told.TheVariants.{Plain, Quiet, Fault, Strange, Store}
 use Rattle.dr_session.specs.declared.ends.Told.TheVariants.{Whole, Agreement}
 use Rattle.dr_session.specs.Desks.{DeskCall, DeskAnswer, Arrive, Arrival, Upcoming, First, Settling}
-use Rattle.dr_session.specs.Messages.{command_pdus}
 use Rattle.dr_session.specs.Reactions.{Reaction, turn, occurs, moves, acts, event_of, is_taken}
 use Rattle.dr_session.specs.Reactions.{is_taken_at, is_acceptable, is_requestor, is_idle}
 use Rattle.dr_session.specs.Reactions.{has_waited, decides, decides_at, stepped_by, leaves_by, left}
 use Rattle.dr_session.specs.Reactions.{aborted, released, rejected, rj, effect, write, abort_pdu}
 use Rattle.dr_session.specs.Reactions.{reason_of, requested, requested_other, replied, stores}
 use Rattle.dr_session.specs.Reactions.{arrives, brings, is_named, arrival, stored, status_of, says}
-use Rattle.dr_session.specs.Telling.{Looks, Tells, TellsValue, TellsIn, Says, SaysOf, Finds}
+use Rattle.dr_session.specs.Telling.{Looks, Tells, TellsValue, TellsIn, Says, SaysOf}
 use Rattle.dr_session.specs.Telling.{FindsIn}
 use Rattle.dr_session.specs.Turns.{Turns, Ends, Asks}
 use Rattle.dr_session.specs.Plays.{Reacts, at_moment, with_stage}

@@ -9,7 +9,6 @@ use Rattle.std.specs.Str.{bytes_eq}
 use Rattle.std.specs.Ordering.{eq_by_cmp, nat_cmp}
 use Rattle.std.proofs.lemmas.Bool.{cases_Bool, false≢true}
 use Rattle.std.proofs.lemmas.Option.{same_Some}
-use Rattle.std.proofs.lemmas.List.{append-nil}
 use Rattle.std.proofs.lemmas.Slice.Eq.{bytes_eq-Decides}
 use Rattle.dr_base.specs.Texts.{Text}
 use Rattle.dr_base.specs.Syntaxes.{syntax_uid}
@@ -21,7 +20,7 @@ use Rattle.dr_route.specs.declared.accept.Callers.{Callers}
 use Rattle.dr_route.specs.declared.accept.Callers.TheVariants as callers
 use Rattle.dr_plan_model.specs.Networks.{Network}
 use Rattle.dr_plan_model.specs.Walks.{Accepts}
-use Rattle.dr_plan_model.proofs.Gathered.{nothing_in_nil, Contains-cons_cases, Contains-there}
+use Rattle.dr_plan_model.proofs.Gathered.{Contains-there}
 use Rattle.dr_plan_model.proofs.Gathered.{Contains-here}
 use Rattle.dr_plan_sound.specs.declared.certificate.Certificate.{Certificate}
 use Rattle.dr_plan_sound.proofs.Hopping.{goes_to}
@@ -30,8 +29,6 @@ use Rattle.dr_site.specs.Sites.{IsCertified}
 use Rattle.dr_site.proofs.ContextsAsPlanned.{accepts_as_planned}
 use Rattle.dr_ulstate.specs.declared.table.State.TheVariants.{Sta2, Sta3, Sta6}
 use Rattle.dr_ulstate.specs.Standing.{moved, standing}
-use Rattle.dr_pdu.specs.declared.pdu.AssociateRj.{AssociateRj}
-use Rattle.dr_pdu.specs.declared.pdu.Pdu.TheVariants as pdu
 use Rattle.dr_pdu.specs.declared.pdu.Pdv.{Pdv}
 use Rattle.dr_pdu.specs.Feeding.{Feeding}
 use Rattle.dr_dimse.specs.declared.command.Command.TheVariants.{StoreRq, StoreRsp}
@@ -41,7 +38,6 @@ use Rattle.dr_ledger.specs.declared.content.Job.{Job}
 use Rattle.dr_ledger.specs.declared.fault.LedgerFault.TheVariants as fault
 use Rattle.dr_ledger.specs.declared.item.Arrived.TheVariants.{New, Again}
 use Rattle.dr_ledger.specs.declared.item.Instance.{Instance}
-use Rattle.dr_ledger.specs.declared.item.Outcome.TheVariants.{Status}
 use Rattle.dr_ledger.specs.declared.item.Progress.TheVariants.{Waiting}
 use Rattle.dr_ledger.specs.Books.{Book, empty_book}
 use Rattle.dr_ledger.specs.Items.{IsItem, instance_of}
@@ -54,7 +50,7 @@ use Rattle.dr_nego.specs.declared.agreed.Pair.{Pair}
 use Rattle.dr_nego.specs.Agreeing.{AssociateRq, pair_at, is_id}
 use Rattle.dr_nego.specs.declared.answering.Answer.TheVariants.{Accept}
 use Rattle.dr_nego.specs.Answering.{answer, acceptance_of, agreed_by, is_row_for, is_caller}
-use Rattle.dr_nego.proofs.OneContext.{any_passes, among_texts, found_is, is_the_caller, row_is_for}
+use Rattle.dr_nego.proofs.OneContext.{any_passes, among_texts, found_is, row_is_for}
 use Rattle.dr_nego.proofs.OneContext.{same_texts}
 use Rattle.dr_session.specs.declared.ends.Core.{Core}
 use Rattle.dr_session.specs.declared.ends.Effect.{Effect}
@@ -62,8 +58,8 @@ use Rattle.dr_session.specs.declared.ends.Input.{Input}
 use Rattle.dr_session.specs.declared.ends.Input.TheVariants.{Request, Value}
 use Rattle.dr_session.specs.declared.ends.LinkAction.{LinkAction}
 use Rattle.dr_session.specs.declared.ends.Moment.{Moment}
-use Rattle.dr_session.specs.Desks.{DeskCall, DeskAnswer, Arrive, Arrival}
-use Rattle.dr_session.specs.Plays.{Reacts, Plays, PlaysBytes, Hears, HearsBy, at_moment, with_stage}
+use Rattle.dr_session.specs.Desks.{Arrive, Arrival}
+use Rattle.dr_session.specs.Plays.{Reacts, Plays, HearsBy, at_moment, with_stage}
 use Rattle.dr_ulstate.specs.Phases.{in_its_phase}
 use Rattle.dr_session.specs.Reactions.{effect, stored, status_of}
 use Rattle.dr_world_model.specs.Worlds.{World, Link, Contexts, Stage, Asking, Answering, Rejecting}
@@ -73,7 +69,7 @@ use Rattle.dr_world_model.specs.Worlds.{without_receiver, books_with, start}
 use Rattle.dr_world_model.specs.Calls.{Reply, Arriving, Settlement, store_outcome_of}
 use Rattle.dr_world_model.specs.Calls as calls
 use Rattle.dr_world_model.specs.Steps.{IsLink, new_link, asked, after_settling}
-use Rattle.dr_world_model.specs.Events.{AgreeCaller, Receive, Answered, BreakReceiver}
+use Rattle.dr_world_model.specs.Events.{Receive, BreakReceiver}
 use Rattle.dr_world_model.specs.Among.{Ours, Act, Own, Other, Turn, Calls, Takes, Stores, RunsAmong}
 use Rattle.dr_world_model.specs.Among.{answered_link, HeadlineAmong}
 use Rattle.dr_world_model.proofs.AmongActs.{headline_holds_among}
@@ -87,7 +83,7 @@ use Rattle.dr_world_tie.specs.Ties.{IsDeskOf, OnlyHere, StaysOff}
 use Rattle.dr_world_tie.specs.Foreign.{AreTaken, Serves, StandsAt, IsCalledBy, ShowsForeign, Came}
 use Rattle.dr_world_tie.specs.Foreign.{Nothing, Asked, Brought, Left, reading, reading_at, AreActs}
 use Rattle.dr_world_tie.specs.Foreign.{Writes, WritesControls, OnlyOf, Comes, ComeAll}
-use Rattle.dr_world_tie.specs.Foreign.{OthersHaveNone, CallsAsNoneOfOurs, NoneCallsAsOurs, StandsIn}
+use Rattle.dr_world_tie.specs.Foreign.{OthersHaveNone, CallsAsNoneOfOurs, StandsIn}
 use Rattle.dr_world_tie.specs.Foreign.{OneInputComes, AnyBytesCome, ClaimsHoldAfterBytes}
 use Rattle.dr_world_tie.specs.Foreign.{StoresAreBrought, RequestsAreAnswered, AcceptorsBegin}
 use Rattle.dr_world_tie.specs.Foreign.{NothingUnheardIsStored, OursAreNotForeign}
@@ -98,7 +94,7 @@ use Rattle.dr_world_tie.proofs.Leaving.{only_link}
 use Rattle.dr_world_tie.proofs.Off.{off_stays_off}
 use Rattle.dr_world_tie.proofs.Stores.{same_status}
 use Rattle.dr_world_tie.proofs.Values.{store_by}
-use Rattle.dr_world_tie.proofs.Acceptors.{Gone, Stays, Kept, Brings, Served, IsAgreedOn, Took}
+use Rattle.dr_world_tie.proofs.Acceptors.{Gone, Stays, Kept, Brings, IsAgreedOn, Took}
 use Rattle.dr_world_tie.proofs.Acceptors.{Refused, awaited, served, accepts, both_hold}
 
 -- ---- acts, one after another
