@@ -90,12 +90,12 @@ use Rattle.dr_world_tie.proofs.Controls.{close_fits}
 abbrev pub Gone : {S : Type 0} → Core → S → S → Effect → Type 0
 Gone c s u x = (u ≡ s) × StaysOff c false x
 
-state_is : (c : Core) (requestor : Bool) (state : State)
+pub state_is : (c : Core) (requestor : Bool) (state : State)
     → IsAt c requestor state → state_of c.phase ≡ state
 state_is c requestor state at =
     ap (λ (o : Option Standing). option_map_or (λ (b : Standing). b.state) o Sta1) at.1 ∙ at.3
 
-side_is : (c : Core) (requestor : Bool) (state : State)
+pub side_is : (c : Core) (requestor : Bool) (state : State)
     → IsAt c requestor state
     → is_requestor c ≡ requestor
 side_is c requestor state at =
@@ -105,7 +105,7 @@ side_is c requestor state at =
 
 module _ {S : Type 0} (step : S → DeskCall → DeskAnswer → S → Type 0) (moment : Moment) (c : Core)
     (s u : S) (x : Effect) where
-  no_event : (told : Told)
+  pub no_event : (told : Told)
       → event_of told moment c ≡ None
       → Turns step (turn moment c told) s x u
       → (x ≡ effect [] c) × (u ≡ s)
@@ -129,7 +129,7 @@ module _ {S : Type 0} (step : S → DeskCall → DeskAnswer → S → Type 0) (m
       t
 
   -- an event that the table doesn't have in the state
-  no_cell : (told : Told) (e : UpperEvent) (requestor : Bool) (state : State)
+  pub no_cell : (told : Told) (e : UpperEvent) (requestor : Bool) (state : State)
       (at : IsAt c requestor state)
       → event_of told moment c ≡ Some e
       → cell e state requestor (is_taken told moment c) ≡ None
@@ -141,7 +141,7 @@ module _ {S : Type 0} (step : S → DeskCall → DeskAnswer → S → Type 0) (m
       (at_cell told e requestor state at event h)
 
   -- one that it has, whether or not what was told is taken
-  acts_as : (told : Told) (e : UpperEvent) (requestor : Bool) (state : State) (act : Action)
+  pub acts_as : (told : Told) (e : UpperEvent) (requestor : Bool) (state : State) (act : Action)
       (next : State) (at : IsAt c requestor state)
       → event_of told moment c ≡ Some e
       → cell e state requestor (is_taken told moment c) ≡ Some (act, next)
@@ -154,7 +154,7 @@ module _ {S : Type 0} (step : S → DeskCall → DeskAnswer → S → Type 0) (m
       (at_cell told e requestor state at event h)
 
   -- an input that is told as it came
-  as_plain : (i : Input)
+  pub as_plain : (i : Input)
       → (r : Reacts step c (at_moment moment i) s x u)
       → (r.told ≡ Plain i) × (r.stage ≡ c.assembly.stage)
       → Turns step (turn moment c (Plain i)) s x u

@@ -115,7 +115,7 @@ runs_on ours (Turn next ∷ a) b plan mid last w v u h k =
 
 -- ---- what stays as it was
 
-only_none : (w : World) (number : Option ℕ) (name : Text) → OnlyOf w w number name
+pub only_none : (w : World) (number : Option ℕ) (name : Text) → OnlyOf w w number name
 only_none w number name = record {
   books = λ other apart. refl;
   links = λ other apart. refl;
@@ -123,7 +123,7 @@ only_none w number name = record {
   rest = (refl, refl);
 }
 
-only_of : (w v : World) (number : ℕ) (name : Text)
+pub only_of : (w v : World) (number : ℕ) (name : Text)
     → OnlyHere w v number name
     → OnlyOf w v (Some number) name
 only_of w v number name h = record {
@@ -474,7 +474,7 @@ are_taken plan certificate site is caller agreed pair =
 
 -- ---- ends
 
-side_still :
+pub side_still :
     (plan : Network) (certificate : Certificate) (name : Text) (c d : Core) (ear new : Feeding)
     → d.site ≡ c.site → new.limit ≡ ear.limit
     → IsSideOf plan certificate name c ear
@@ -485,7 +485,8 @@ side_still plan certificate name c d ear new same limit h = subst
     × (new.limit ≡ (site_in p).max_pdu)
     × (p ≡ Some (site_in p))) (sym same) (h.0, h.1, limit ∙ h.2, h.3)
 
-desk_still : (w : World) (name : Text) (s t : Desk) → t ≡ s → IsDeskOf w name s → IsDeskOf w name t
+pub desk_still : (w : World) (name : Text) (s t : Desk)
+    → t ≡ s → IsDeskOf w name s → IsDeskOf w name t
 desk_still w name s t same desk = subst (λ (d : Desk). IsDeskOf w name d) (sym same) desk
 
 controls_of : (c : Core) (x : Effect) → StaysOff c false x → WritesControls x.acts
@@ -1252,7 +1253,7 @@ all_only ours plan name (came ∷ cames) w v number next acts written h = only_t
     name h.6.only (all_only ours plan name cames h.4 v h.5 next h.1 h.3 h.8)
     (all_kept ours plan name cames h.4 v h.5 next h.1 h.3 h.8)
 
-limit_still : (failed : Bool) (ear new : Feeding) (piece : List ℕ) (inputs : List Input)
+pub limit_still : (failed : Bool) (ear new : Feeding) (piece : List ℕ) (inputs : List Input)
     → HearsBy failed ear piece inputs new
     → new.limit ≡ ear.limit
 limit_still true ear new piece inputs h = ap (λ (f : Feeding). f.limit) h.1
@@ -1310,7 +1311,7 @@ claims_hold_after_bytes ours first plan certificate sound certified before w run
 
 -- ---- laws
 
-one_link : (w : World) (number : ℕ) (a b : Link) → IsLink w number a → IsLink w number b → a ≡ b
+pub one_link : (w : World) (number : ℕ) (a b : Link) → IsLink w number a → IsLink w number b → a ≡ b
 one_link w number a b one other = same_Some a b (sym one ∙ other)
 
 pub stores_are_brought : StoresAreBrought

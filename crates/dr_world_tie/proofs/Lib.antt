@@ -8,6 +8,7 @@ pub mod Changes
 pub mod Leaving
 pub mod Agreeing
 pub mod ContextSets
+pub mod ForeignReplies
 pub mod Foreigners
 pub mod Fragments
 pub mod Fronts
@@ -21,6 +22,7 @@ pub mod Opening
 pub mod Pendings
 pub mod Pushing
 pub mod Rejections
+pub mod Requestors
 pub mod Requests
 pub mod Responses
 pub mod Restarted

@@ -19,6 +19,9 @@ ghost use Rattle.dr_world_tie.specs.Foreign.{AcceptorsBegin, AnyBytesCome, Claim
 ghost use Rattle.dr_world_tie.specs.Foreign.{NothingUnheardIsStored, OneInputComes};
 ghost use Rattle.dr_world_tie.specs.Foreign.{OursAreNotForeign, RequestsAreAnswered};
 ghost use Rattle.dr_world_tie.specs.Foreign.{StoresAreBrought};
+ghost use Rattle.dr_world_tie.specs.ForeignCalls.{AnyAnswersCome, CallsToOursAreNotForeign};
+ghost use Rattle.dr_world_tie.specs.ForeignCalls.{ClaimsHoldAfterAnswers, NothingUnheardIsAnswered};
+ghost use Rattle.dr_world_tie.specs.ForeignCalls.{OneAnswerComes, ResponsesAreReplies};
 ghost use Rattle.dr_world_tie.specs.Moves.{CallerMoves, ReceiverMoves};
 ghost use Rattle.dr_world_tie.specs.Nodes.{ForgettingIsForget, GivingUpIsDrop, RefusingIsRefuse};
 ghost use Rattle.dr_world_tie.specs.Nodes.{RequeueingIsRequeue, StayingAwayIsStayAway};
@@ -196,4 +199,20 @@ pub fn others_calls_and_stores()
     ensures brought { StoresAreBrought }
     ensures unheard { NothingUnheardIsStored }
     ensures own { OursAreNotForeign }
+{}
+
+/// Whatever another maker's product writes to a requestor of ours, in whatever pieces, is what
+/// happens in the message world among other makers' products, and the four claims hold of ours.
+pub fn others_answers_are_heard()
+    ensures input { OneAnswerComes }
+    ensures bytes { AnyAnswersCome }
+    ensures claims { ClaimsHoldAfterAnswers }
+{}
+
+/// A response that our requestor awaits is another product's reply. An answer that it hasn't heard
+/// is none, and a link to one of ours is none to another product.
+pub fn others_reply()
+    ensures replied { ResponsesAreReplies }
+    ensures unheard { NothingUnheardIsAnswered }
+    ensures own { CallsToOursAreNotForeign }
 {}
