@@ -8,6 +8,7 @@ pub mod Changes
 pub mod Leaving
 pub mod Agreeing
 pub mod ContextSets
+pub mod ForeignPushes
 pub mod ForeignReplies
 pub mod Foreigners
 pub mod Fragments

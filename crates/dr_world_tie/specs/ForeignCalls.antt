@@ -1,44 +1,50 @@
 -- A requestor of ours that called another maker's product: whatever bytes that writes, what the
 -- requestor does with them is what happens in the message world among other makers' products.
-use Rattle.std.specs.Prelude.{◌≡◌, ◌≢◌, ◌++◌, ℕ, Bool, true, false, List, [], ◌∷◌, Option, None}
-use Rattle.std.specs.Prelude.{Some, Ok}
+use Rattle.std.specs.Prelude.{◌≡◌, ◌≢◌, ◌++◌, ◌+◌, ℕ, Bool, true, false, List, [], ◌∷◌, Option}
+use Rattle.std.specs.Prelude.{None, Some, Ok}
 use Rattle.dr_base.specs.Texts.{Text}
 use Rattle.dr_plan_model.specs.Networks.{Network}
 use Rattle.dr_plan_sound.specs.declared.certificate.Certificate.{Certificate}
 use Rattle.dr_plan_sound.specs.Soundness.{IsSound}
+use Rattle.dr_site.specs.Parts.{Part, IsPartOf}
 use Rattle.dr_site.specs.Sites.{IsCertified}
 use Rattle.dr_ulstate.specs.Phases.{may_send}
 use Rattle.dr_pdu.specs.declared.pdu.Pdv.{Pdv}
-use Rattle.dr_pdu.specs.Feeding.{Feeding}
+use Rattle.dr_pdu.specs.Feeding.{Feeding, fresh}
 use Rattle.dr_dimse.specs.declared.command.Command.TheVariants.{StoreRsp}
 use Rattle.dr_dimse.specs.declared.message.Awaited.{Awaited}
 use Rattle.dr_dimse.specs.declared.message.Awaited.TheVariants.{Nothing as NothingAwaited}
 use Rattle.dr_dimse.specs.declared.message.Body.{Body}
 use Rattle.dr_dimse.specs.Taking.{Stage as Taken, Idle, InCommand, InData, IsAwaited}
 use Rattle.dr_dimse.specs.Taking.{Takes as TakesValue}
+use Rattle.dr_ledger.specs.declared.content.Job.{Job}
 use Rattle.dr_ledger.specs.declared.item.Instance.{Instance}
+use Rattle.dr_ledger.specs.Items.{instance_of}
 use Rattle.dr_nego.specs.declared.agreed.Agreed.{Agreed}
 use Rattle.dr_nego.specs.declared.agreed.Pair.{Pair}
-use Rattle.dr_nego.specs.Agreeing.{pair_at}
+use Rattle.dr_nego.specs.Agreeing.{AssociateRq, pair_at}
+use Rattle.dr_nego.specs.Proposing.{IsProposal}
 use Rattle.dr_session.specs.declared.ends.Core.{Core}
 use Rattle.dr_session.specs.declared.ends.Effect.{Effect}
 use Rattle.dr_session.specs.declared.ends.Input.{Input}
 use Rattle.dr_session.specs.declared.ends.Input.TheVariants.{PushAsked, Value}
+use Rattle.dr_session.specs.declared.ends.LinkAction.{LinkAction}
 use Rattle.dr_session.specs.declared.ends.Moment.{Moment}
-use Rattle.dr_session.specs.Plays.{Reacts, PlaysBytes, at_moment}
-use Rattle.dr_session.specs.Reactions.{storing}
+use Rattle.dr_session.specs.Ends.{requesting}
+use Rattle.dr_session.specs.Plays.{Reacts, PlaysBytes, at_moment, without_data}
+use Rattle.dr_session.specs.Reactions.{storing, store_pdus, write}
 use Rattle.dr_world_model.specs.Worlds.{World, Link, Contexts, Stage, Asking, Answering, Rejecting}
 use Rattle.dr_world_model.specs.Worlds.{Open, Storing, Replying, Gone, start}
 use Rattle.dr_world_model.specs.Calls.{Answer}
-use Rattle.dr_world_model.specs.Steps.{IsLink}
-use Rattle.dr_world_model.specs.Events.{AgreeCaller, Answered, BreakCaller}
+use Rattle.dr_world_model.specs.Steps.{IsHop, IsLink, asked}
+use Rattle.dr_world_model.specs.Events.{AgreeCaller, Answered, Ask, BreakCaller, Give}
 use Rattle.dr_world_model.specs.Among.{Ours, Act, Own, Other, Agrees, Replies, RunsAmong}
 use Rattle.dr_world_model.specs.Among.{HeadlineAmong}
 use Rattle.dr_world_tie.specs.Desks.{Desk, LedgerStep}
 use Rattle.dr_world_tie.specs.Channels.{Terminal, IsOff, IsAsking, IsEstablished, HasPending}
 use Rattle.dr_world_tie.specs.Channels.{IsSideOf, message}
 use Rattle.dr_world_tie.specs.Ties.{IsDeskOf}
-use Rattle.dr_world_tie.specs.Foreign.{OnlyOf, WritesControls}
+use Rattle.dr_world_tie.specs.Foreign.{OnlyOf, ShowsForeign, WritesControls}
 
 -- ---- which link a requestor of ours is
 
@@ -171,7 +177,71 @@ ClaimsHoldAfterAnswers =
     × HeadlineAmong ours plan v
     × CallsIn ours plan certificate name v number (record { core = x.core; ear = new }) t
 
+-- ---- sending
+
+-- what the requestor did that was asked to send a row
+pub data Pushed : Type 0 where
+  Kept : Pushed  -- none was due, or it may not send
+  -- the first that was due is under way, or was settled as one that no context was accepted for
+  Gave : (answer : Option Answer) → Pushed
+  Broke : Pushed  -- its store failed, and the end left
+
+abbrev pub acts_of_push : ℕ → Pushed → List Act
+acts_of_push number Kept = []
+acts_of_push number (Gave answer) = Own (Give number answer) ∷ []
+acts_of_push number Broke = Own (BreakCaller number None) ∷ []
+
+-- what is written: the store that is under way in the message world, or what one writes that leaves
+abbrev pub Sends : World → ℕ → Pushed → List LinkAction → Type 0
+Sends v number Kept acts = WritesControls acts
+Sends v number (Gave None) acts =
+    (item : Job) × (link : Link) × (accepted : Contexts) × (agreed : Agreed) × (context id : ℕ)
+    × IsLink v number link
+    × (link.stage ≡ Storing accepted (instance_of item))
+    × (acts ≡ write (store_pdus agreed context id item) ∷ [])
+Sends v number (Gave (Some answer)) acts = WritesControls acts
+Sends v number Broke acts = WritesControls acts
+
+-- A push is one of these three things, and the end stands in the world that it leads to.
+abbrev pub OnePushComes : Type 0
+OnePushComes =
+    (ours : Ours) (plan : Network) (certificate : Certificate) (name : Text) (w : World)
+    (number : ℕ) (k : Terminal) (s : Desk)
+    → CallsIn ours plan certificate name w number k s
+    → (moment : Moment) → moment.now ≡ w.time → (x : Effect) (t : Desk)
+    → Reacts (LedgerStep plan name) k.core (at_moment moment PushAsked) s x t
+    → (pushed : Pushed) × (v : World)
+    × LeadsTo ours plan name w number (acts_of_push number pushed) v
+    × Sends v number pushed x.acts
+    × CallsIn ours plan certificate name v number (record { core = x.core; ear = k.ear }) t
+
 -- ---- laws
+
+-- A fresh requestor, whose request has gone out to another product, is the link that its node asked
+-- for.
+abbrev pub RequestorsBegin : Type 0
+RequestorsBegin =
+    (ours : Ours) (plan : Network) (certificate : Certificate) (site : Part) (dest : Text)
+    (rq : AssociateRq) (now : ℕ) (w : World) (s : Desk)
+    → IsPartOf plan certificate site
+    → ours site.name ≡ true → ours dest ≡ false → IsHop plan site.name dest
+    → IsProposal site dest rq
+    → IsDeskOf w site.name s
+    → RunsAmong ours plan w (Own (Ask site.name dest) ∷ []) plan (asked w site.name dest)
+    × CallsIn ours plan certificate site.name (asked w site.name dest) (w.opened + 1)
+    (record { core = requesting (Some site) dest rq now; ear = fresh site.max_pdu }) s
+
+-- An end whose data set under way is let go, for want of room, is the same link.
+abbrev pub LettingGoIsNothing : Type 0
+LettingGoIsNothing =
+    (ours : Ours) (plan : Network) (certificate : Certificate) (name : Text) (w : World)
+    (number : ℕ) (opened : Option ℕ) (c : Core) (ear : Feeding)
+    → (ShowsForeign ours plan certificate name w opened (record { core = c; ear = ear })
+    → ShowsForeign ours plan certificate name w opened
+    (record { core = without_data c; ear = ear }))
+    × (ShowsCall ours plan certificate name w number (record { core = c; ear = ear })
+    → ShowsCall ours plan certificate name w number
+    (record { core = without_data c; ear = ear }))
 
 -- The last value of the response that the end awaits, in the context of its request, is that the
 -- other replies with this status, and the end settles its row by it.

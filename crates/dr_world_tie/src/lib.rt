@@ -21,7 +21,9 @@ ghost use Rattle.dr_world_tie.specs.Foreign.{OursAreNotForeign, RequestsAreAnswe
 ghost use Rattle.dr_world_tie.specs.Foreign.{StoresAreBrought};
 ghost use Rattle.dr_world_tie.specs.ForeignCalls.{AnyAnswersCome, CallsToOursAreNotForeign};
 ghost use Rattle.dr_world_tie.specs.ForeignCalls.{ClaimsHoldAfterAnswers, NothingUnheardIsAnswered};
-ghost use Rattle.dr_world_tie.specs.ForeignCalls.{OneAnswerComes, ResponsesAreReplies};
+ghost use Rattle.dr_world_tie.specs.ForeignCalls.{LettingGoIsNothing, OneAnswerComes};
+ghost use Rattle.dr_world_tie.specs.ForeignCalls.{OnePushComes, RequestorsBegin};
+ghost use Rattle.dr_world_tie.specs.ForeignCalls.{ResponsesAreReplies};
 ghost use Rattle.dr_world_tie.specs.Moves.{CallerMoves, ReceiverMoves};
 ghost use Rattle.dr_world_tie.specs.Nodes.{ForgettingIsForget, GivingUpIsDrop, RefusingIsRefuse};
 ghost use Rattle.dr_world_tie.specs.Nodes.{RequeueingIsRequeue, StayingAwayIsStayAway};
@@ -215,4 +217,12 @@ pub fn others_reply()
     ensures replied { ResponsesAreReplies }
     ensures unheard { NothingUnheardIsAnswered }
     ensures own { CallsToOursAreNotForeign }
+{}
+
+/// A requestor that called another maker's product begins as the link that its node asked for, what
+/// it is asked to send is what its node gives, and a data set that is let go is nothing.
+pub fn others_are_called()
+    ensures fresh { RequestorsBegin }
+    ensures pushed { OnePushComes }
+    ensures let_go { LettingGoIsNothing }
 {}
