@@ -671,8 +671,8 @@ calls_still true Rejecting receiver c h = absurd h
 calls_still true (Replying accepted item status) receiver c h = absurd h
 calls_still true Gone receiver c h = absurd h
 
-foreign_still : (ours : Ours) (plan : Network) (certificate : Certificate) (name : Text) (w : World)
-    (opened : Option ℕ) (c : Core) (ear : Feeding)
+pub foreign_still : (ours : Ours) (plan : Network) (certificate : Certificate) (name : Text)
+    (w : World) (opened : Option ℕ) (c : Core) (ear : Feeding)
     → ShowsForeign ours plan certificate name w opened (record { core = c; ear = ear })
     → ShowsForeign ours plan certificate name w opened (record { core = without_data c; ear = ear })
 foreign_still ours plan certificate name w None c ear (side, inl asking) =

@@ -14,6 +14,7 @@ pub mod Foreigners
 pub mod Fragments
 pub mod Fronts
 pub mod Giving
+pub mod LinksToOthers
 pub mod Moves
 pub mod Moving
 pub mod Nodes

@@ -5,8 +5,10 @@
 //! What happens at an end is an event of the message world, and leaves the channel that link
 //! (`specs/Ties.antt`, `Moves.antt`, `Closing.antt`). A whole world of bytes and its steps stand in
 //! `specs/ByteWorlds.antt`, and beside which message world it stands in `specs/Shown.antt`; how all
-//! its nodes take another plan in `specs/Changes.antt`. Nothing here runs: the crate has
-//! definitions, and functions without a body whose contracts are theorems about them.
+//! its nodes take another plan in `specs/Changes.antt`. What one end of ours does whose peer is
+//! another maker's product, whatever bytes that writes, is said in `specs/Foreign.antt`,
+//! `ForeignCalls.antt` and `ForeignLinks.antt`. Nothing here runs: the crate has definitions, and
+//! functions without a body whose contracts are theorems about them.
 #![tactic(auto)]
 
 ghost use Rattle.dr_world_tie.specs.Changes.{ChangesKeepTheHeadline, NewWorldsMayTake};
@@ -24,6 +26,7 @@ ghost use Rattle.dr_world_tie.specs.ForeignCalls.{ClaimsHoldAfterAnswers, Nothin
 ghost use Rattle.dr_world_tie.specs.ForeignCalls.{LettingGoIsNothing, OneAnswerComes};
 ghost use Rattle.dr_world_tie.specs.ForeignCalls.{OnePushComes, RequestorsBegin};
 ghost use Rattle.dr_world_tie.specs.ForeignCalls.{ResponsesAreReplies};
+ghost use Rattle.dr_world_tie.specs.ForeignLinks.{WhatAcceptorsHear, WhatRequestorsHear};
 ghost use Rattle.dr_world_tie.specs.Moves.{CallerMoves, ReceiverMoves};
 ghost use Rattle.dr_world_tie.specs.Nodes.{ForgettingIsForget, GivingUpIsDrop, RefusingIsRefuse};
 ghost use Rattle.dr_world_tie.specs.Nodes.{RequeueingIsRequeue, StayingAwayIsStayAway};
@@ -225,4 +228,11 @@ pub fn others_are_called()
     ensures fresh { RequestorsBegin }
     ensures pushed { OnePushComes }
     ensures let_go { LettingGoIsNothing }
+{}
+
+/// Whatever comes over a link to another maker's product, its end, silence or a fault too, is what
+/// happens in the message world, as long as memory lasts.
+pub fn links_to_others()
+    ensures acceptors { WhatAcceptorsHear }
+    ensures requestors { WhatRequestorsHear }
 {}
