@@ -80,13 +80,13 @@ module _ {S : Type 0} (step : S → DeskCall → DeskAnswer → S → Type 0) (m
   abbrev told : Told
   told = Plain (Request rq)
 
-  by_cell : (acceptable : Bool) → is_acceptable (answer rq site moment.others) ≡ acceptable → Turns step (moves (after_cell (cell AssociateRqPdu Sta2 false acceptable) at.0 moment.now c.phase) moment told c) s x u
+  pub by_cell : (acceptable : Bool) → is_acceptable (answer rq site moment.others) ≡ acceptable → Turns step (moves (after_cell (cell AssociateRqPdu Sta2 false acceptable) at.0 moment.now c.phase) moment told c) s x u
   by_cell acceptable e =
       let taken : is_taken_at c.site rq moment ≡ acceptable = ap (λ (o : Option Part). is_taken_at o rq moment) has ∙ e in
       let t1 = subst (λ (b : Bool). Turns step (moves (next_stepped AssociateRqPdu b c.phase moment.now) moment told c) s x u) taken h in
       subst (λ (r : Result (Action × Next) Next). Turns step (moves r moment told c) s x u) (stepped_at AssociateRqPdu acceptable c.phase moment.now false Sta2 at.0 at.1 at.2 at.3) t1
 
-  decided : (d : Core) (a : Answer) → answer rq site moment.others ≡ a → Turns step (decides_at c.site moment rq d) s x u → Turns step (decides a moment rq d) s x u
+  pub decided : (d : Core) (a : Answer) → answer rq site moment.others ≡ a → Turns step (decides_at c.site moment rq d) s x u → Turns step (decides a moment rq d) s x u
   decided d a e t =
       let t0 : Turns step (decides (answer rq site moment.others) moment rq d) s x u = subst (λ (o : Option Part). Turns step (decides_at o moment rq d) s x u) has t in
       subst (λ (b : Answer). Turns step (decides b moment rq d) s x u) e t0

@@ -65,7 +65,7 @@ use Rattle.dr_world_tie.proofs.Leaving.{AreFit, carries_more, only_link, acts_by
 
 -- ---- what is pending
 
-abbrev HasPendingOf : Option Instance → Core → Type 0
+abbrev pub HasPendingOf : Option Instance → Core → Type 0
 HasPendingOf None c = c.pending ≡ None
 HasPendingOf (Some item) c = (id context : ℕ) × (c.pending ≡ Some (storing id context item.uid))
 
@@ -80,7 +80,7 @@ caller_stands Gone receiver c h = absurd h
 
 -- ---- what was left, and what the desk answered
 
-abbrev IsLeft : List LinkAction → Core → Effect → Type 0
+abbrev pub IsLeft : List LinkAction → Core → Effect → Type 0
 IsLeft acts c x = (x ≡ effect acts (left c)) ⊎ (x ≡ effect acts (desk_failed (left c)))
 
 by_answer : (plan : Network) (name : Text) (p : Pending) (now : ℕ) (acts : List LinkAction) (c : Core) (s m t : Desk) (x : Effect) (a : DeskAnswer) → LedgerStep plan name s (Settle p.uid c.peer Broken now) a m
@@ -105,7 +105,7 @@ Does plan name c now (Some item) (Some answer) s t = LedgerStep plan name s (Set
 Does plan name c now None (Some answer) s t = ⊥
 Does plan name c now (Some item) None s t = ⊥
 
-left_of : (plan : Network) (name : Text) (item : Option Instance) (now : ℕ) (acts : List LinkAction) (c : Core) (s t : Desk) (x : Effect) → HasPendingOf item c → Turns (LedgerStep plan name) (leaves_by c.pending now acts c) s x t
+pub left_of : (plan : Network) (name : Text) (item : Option Instance) (now : ℕ) (acts : List LinkAction) (c : Core) (s t : Desk) (x : Effect) → HasPendingOf item c → Turns (LedgerStep plan name) (leaves_by c.pending now acts c) s x t
     → (answer : Option Answer) × Does plan name c now item answer s t × IsLeft acts c x
 left_of plan name None now acts c s t x none h =
     let e : (x ≡ effect acts (left c)) × (t ≡ s) = subst (λ (o : Option Pending). Turns (LedgerStep plan name) (leaves_by o now acts c) s x t) none h in

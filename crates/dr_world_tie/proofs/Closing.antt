@@ -41,7 +41,7 @@ use Rattle.dr_world_tie.proofs.Off.{off_stays_off}
 
 -- ---- what is written
 
-bytes_append : (xs ys : List LinkAction) → bytes_of (xs ++ ys) ≡ bytes_of xs ++ bytes_of ys
+pub bytes_append : (xs ys : List LinkAction) → bytes_of (xs ++ ys) ≡ bytes_of xs ++ bytes_of ys
 bytes_append [] ys = refl
 bytes_append (action.Write bytes ∷ xs) ys = ap (λ (l : List ℕ). bytes ++ l) (bytes_append xs ys) ∙ sym (append_assoc bytes (bytes_of xs) (bytes_of ys))
 bytes_append (action.Close ∷ xs) ys = bytes_append xs ys

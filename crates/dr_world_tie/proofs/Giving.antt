@@ -49,13 +49,13 @@ use Rattle.dr_world_tie.specs.Ties.{IsDeskOf, Happens, caller_did, GivesStore}
 use Rattle.dr_world_tie.proofs.ContextSets.{has_context}
 use Rattle.dr_world_tie.proofs.Leaving.{only_link}
 
-both : (a b : Bool) → (a && b) ≡ true → (a ≡ true) × (b ≡ true)
+pub both : (a b : Bool) → (a && b) ≡ true → (a ≡ true) × (b ≡ true)
 both true true e = (refl, refl)
 both true false e = absurd (false≢true e)
 both false b e = absurd (false≢true e)
 
 -- the context that is found is of that class and transfer syntax
-in_pairs : (class syntax : Text) (xs : List Pair) (context : ℕ) → option_map (λ (x : Pair). x.id) (find (is_for class syntax) xs) ≡ Some context → (x : Pair) × Contains xs x × (is_for class syntax x ≡ true)
+pub in_pairs : (class syntax : Text) (xs : List Pair) (context : ℕ) → option_map (λ (x : Pair). x.id) (find (is_for class syntax) xs) ≡ Some context → (x : Pair) × Contains xs x × (is_for class syntax x ≡ true)
 in_pairs class syntax [] context e = absurd (let f : None ≡ Some context = e in cc)
 in_pairs class syntax (y ∷ ys) context e = elim (cases_Bool (is_for class syntax y)) [
   | inl is_so ↦ (y, Contains-here y ys, is_so)

@@ -1,4 +1,5 @@
 pub mod Acceptances
+pub mod Acceptors
 pub mod Closing
 pub mod Controls
 pub mod CallerLeaving
@@ -7,9 +8,13 @@ pub mod Changes
 pub mod Leaving
 pub mod Agreeing
 pub mod ContextSets
+pub mod ForeignPushes
+pub mod ForeignReplies
+pub mod Foreigners
 pub mod Fragments
 pub mod Fronts
 pub mod Giving
+pub mod LinksToOthers
 pub mod Moves
 pub mod Moving
 pub mod Nodes
@@ -19,6 +24,7 @@ pub mod Opening
 pub mod Pendings
 pub mod Pushing
 pub mod Rejections
+pub mod Requestors
 pub mod Requests
 pub mod Responses
 pub mod Restarted

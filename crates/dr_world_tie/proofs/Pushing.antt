@@ -64,7 +64,7 @@ use Rattle.dr_world_tie.proofs.Giving.{happens}
 use Rattle.dr_world_tie.proofs.Responses.{Settled, settled}
 
 -- where no context is found, none is of that class and transfer syntax
-none_of : (class syntax : Text) (xs : List Pair) → option_map (λ (x : Pair). x.id) (find (is_for class syntax) xs) ≡ None → (x : Pair) → Contains xs x → x.class ≡ class → x.syntax ≡ syntax → ⊥
+pub none_of : (class syntax : Text) (xs : List Pair) → option_map (λ (x : Pair). x.id) (find (is_for class syntax) xs) ≡ None → (x : Pair) → Contains xs x → x.class ≡ class → x.syntax ≡ syntax → ⊥
 none_of class syntax [] e x h c t = nothing_in_nil x h
 none_of class syntax (y ∷ ys) e x h c t = elim (cases_Bool (is_for class syntax y)) [
   | inl is_so ↦ (let f : Some y.id ≡ None = subst (λ (b : Bool). option_map (λ (z : Pair). z.id) (if b then Some y else find (is_for class syntax) ys) ≡ None) is_so e in cc)

@@ -96,13 +96,13 @@ settled plan w link peer uid outcome now answer s t desk peer_is time h =
     }
 
 -- what the end does with the desk's answer: it goes on, or aborts
-abbrev GoesOn : Answer → Core → Moment → Effect → Type 0
+abbrev pub GoesOn : Answer → Core → Moment → Effect → Type 0
 GoesOn (Ok r) core moment x = x ≡ effect [] (settled_with core)
 GoesOn (Err fault.NotWaiting) core moment x = x ≡ effect [] (settled_with core)
 GoesOn (Err fault.Store) core moment x = x ≡ effect (write (abort_pdu 0 0 ∷ []) ∷ []) (desk_failed (aborted (left (stepped_by AbortRequest moment.now core))))
 GoesOn (Err why) core moment x = ⊥
 
-by_answer : (plan : Network) (name : Text) (p : Pending) (outcome : Outcome) (moment : Moment) (core : Core) (s m t : Desk) (x : Effect) (a : DeskAnswer) → LedgerStep plan name s (Settle p.uid core.peer outcome moment.now) a m
+pub by_answer : (plan : Network) (name : Text) (p : Pending) (outcome : Outcome) (moment : Moment) (core : Core) (s m t : Desk) (x : Effect) (a : DeskAnswer) → LedgerStep plan name s (Settle p.uid core.peer outcome moment.now) a m
     → Turns (LedgerStep plan name) (settling (Ends (effect [] (settled_with core))) (aborts_desk moment core) a) m x t
     → (answer : Answer) × LedgerStep plan name s (Settle p.uid core.peer outcome moment.now) (Settling answer) t × GoesOn answer core moment x
 by_answer plan name p outcome moment core s m t x (Settling (Ok r)) h (e, same) = (Ok r, subst (λ (d : Desk). LedgerStep plan name s (Settle p.uid core.peer outcome moment.now) (Settling (Ok r)) d) (sym same) h, e)

@@ -76,7 +76,7 @@ status_small (Err fault.NotHeld) = omega arith
 status_small (Err fault.NotOver) = omega arith
 
 -- the status that is written is the message world's
-same_status : (reply : Reply) → status_of reply ≡ calls.status_of reply
+pub same_status : (reply : Reply) → status_of reply ≡ calls.status_of reply
 same_status (Ok r) = refl
 same_status (Err fault.NoLine) = refl
 same_status (Err fault.Conflict) = refl

@@ -5,8 +5,10 @@
 //! What happens at an end is an event of the message world, and leaves the channel that link
 //! (`specs/Ties.antt`, `Moves.antt`, `Closing.antt`). A whole world of bytes and its steps stand in
 //! `specs/ByteWorlds.antt`, and beside which message world it stands in `specs/Shown.antt`; how all
-//! its nodes take another plan in `specs/Changes.antt`. Nothing here runs: the crate has
-//! definitions, and functions without a body whose contracts are theorems about them.
+//! its nodes take another plan in `specs/Changes.antt`. What one end of ours does whose peer is
+//! another maker's product, whatever bytes that writes, is said in `specs/Foreign.antt`,
+//! `ForeignCalls.antt` and `ForeignLinks.antt`. Nothing here runs: the crate has definitions, and
+//! functions without a body whose contracts are theorems about them.
 #![tactic(auto)]
 
 ghost use Rattle.dr_world_tie.specs.Changes.{ChangesKeepTheHeadline, NewWorldsMayTake};
@@ -15,6 +17,16 @@ ghost use Rattle.dr_world_tie.specs.Changes.{WhatIsKeptStaysThrough};
 ghost use Rattle.dr_world_tie.specs.Changes.{WhatIsTakenIsOne};
 ghost use Rattle.dr_world_tie.specs.Closing.{ClosingIsClose};
 ghost use Rattle.dr_world_tie.specs.Desks.{SiteStepsArePlanSteps};
+ghost use Rattle.dr_world_tie.specs.Foreign.{AcceptorsBegin, AnyBytesCome, ClaimsHoldAfterBytes};
+ghost use Rattle.dr_world_tie.specs.Foreign.{NothingUnheardIsStored, OneInputComes};
+ghost use Rattle.dr_world_tie.specs.Foreign.{OursAreNotForeign, RequestsAreAnswered};
+ghost use Rattle.dr_world_tie.specs.Foreign.{StoresAreBrought};
+ghost use Rattle.dr_world_tie.specs.ForeignCalls.{AnyAnswersCome, CallsToOursAreNotForeign};
+ghost use Rattle.dr_world_tie.specs.ForeignCalls.{ClaimsHoldAfterAnswers, NothingUnheardIsAnswered};
+ghost use Rattle.dr_world_tie.specs.ForeignCalls.{LettingGoIsNothing, OneAnswerComes};
+ghost use Rattle.dr_world_tie.specs.ForeignCalls.{OnePushComes, RequestorsBegin};
+ghost use Rattle.dr_world_tie.specs.ForeignCalls.{ResponsesAreReplies};
+ghost use Rattle.dr_world_tie.specs.ForeignLinks.{WhatAcceptorsHear, WhatRequestorsHear};
 ghost use Rattle.dr_world_tie.specs.Moves.{CallerMoves, ReceiverMoves};
 ghost use Rattle.dr_world_tie.specs.Nodes.{ForgettingIsForget, GivingUpIsDrop, RefusingIsRefuse};
 ghost use Rattle.dr_world_tie.specs.Nodes.{RequeueingIsRequeue, StayingAwayIsStayAway};
@@ -173,4 +185,54 @@ pub fn site_steps_are_plan_steps()
 pub fn pieces_make_commands()
     ensures alone { PiecesMakeCommands }
     ensures with_data { PiecesMakeStores }
+{}
+
+/// Whatever another maker's product writes to an acceptor of ours, in whatever pieces, is what
+/// happens in the message world among other makers' products, and the four claims hold of ours.
+pub fn others_are_heard()
+    ensures input { OneInputComes }
+    ensures bytes { AnyBytesCome }
+    ensures claims { ClaimsHoldAfterBytes }
+{}
+
+/// A request of another product's that our acceptor accepts is a call, and a store that it heard to
+/// its end is a store of the message world. One that it hasn't heard is none, and a link of ours is
+/// none of another product's.
+pub fn others_calls_and_stores()
+    ensures fresh { AcceptorsBegin }
+    ensures answered { RequestsAreAnswered }
+    ensures brought { StoresAreBrought }
+    ensures unheard { NothingUnheardIsStored }
+    ensures own { OursAreNotForeign }
+{}
+
+/// Whatever another maker's product writes to a requestor of ours, in whatever pieces, is what
+/// happens in the message world among other makers' products, and the four claims hold of ours.
+pub fn others_answers_are_heard()
+    ensures input { OneAnswerComes }
+    ensures bytes { AnyAnswersCome }
+    ensures claims { ClaimsHoldAfterAnswers }
+{}
+
+/// A response that our requestor awaits is another product's reply. An answer that it hasn't heard
+/// is none, and a link to one of ours is none to another product.
+pub fn others_reply()
+    ensures replied { ResponsesAreReplies }
+    ensures unheard { NothingUnheardIsAnswered }
+    ensures own { CallsToOursAreNotForeign }
+{}
+
+/// A requestor that called another maker's product begins as the link that its node asked for, what
+/// it is asked to send is what its node gives, and a data set that is let go is nothing.
+pub fn others_are_called()
+    ensures fresh { RequestorsBegin }
+    ensures pushed { OnePushComes }
+    ensures let_go { LettingGoIsNothing }
+{}
+
+/// Whatever comes over a link to another maker's product, its end, silence or a fault too, is what
+/// happens in the message world, as long as memory lasts.
+pub fn links_to_others()
+    ensures acceptors { WhatAcceptorsHear }
+    ensures requestors { WhatRequestorsHear }
 {}
