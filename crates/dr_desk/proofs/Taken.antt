@@ -99,6 +99,15 @@ module _ {L : Type 0} (site_of : L → Part) (book : L → Book) (bodies : L →
     never_falls = (let p = a.never_falls in let q = b.never_falls in omega arith);
   }
 
+  -- what fits the ledger as it was fits it
+  pub fit_then : (plan : Network) (old mid : L)
+      → IsAsItWas site_of book bodies stands failed old mid
+      → (stands mid → IsFit plan (site_of old).name (book old))
+      → stands mid → IsFit plan (site_of mid).name (book mid)
+  fit_then plan old mid a fit s =
+      subst (λ (p : Part). IsFit plan p.name (book mid)) (sym a.site)
+      (subst (λ (x : Book). IsFit plan (site_of old).name x) (sym (a.same s)) (fit s))
+
   -- the ledger was only read
   pub was_read : {A : Type 0} (result : Result A LedgerFault) (old new : L)
       → site_of new ≡ site_of old

@@ -86,6 +86,8 @@ impl<L: Ledger, B: Sharing> Held<L, B> {
             (AreApart (flat_map (λ p. numbers p.receipts.items) passes.now)) }
         ensures refuses { IfErr result (λ why.
             (plan : Network) → (NamesNoNode plan (L.site self.old.desk.ledger).name → ⊥)
+            → (L.stands self.new.desk.ledger
+            → IsFit plan (L.site self.old.desk.ledger).name (L.book self.old.desk.ledger))
             → RefusesChange L.site L.book L.bodies L.stands L.failed B.site B.first
             (λ lines. AllByRecursion (λ p. All (IsOfLine lines) p.receipts.items) passes.now)
             (AllByRecursion (λ p. Rises p.receipts.items) passes.now)
