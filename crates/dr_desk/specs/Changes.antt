@@ -37,7 +37,8 @@ module _ {L : Type 0} (site_of : L → Part) (book : L → Book) (bodies : L →
       × HasTaken site_of book bodies stands failed next site old new
 
   -- Why the ledger doesn't take the plan: as one that isn't shared; or the plan has its node and
-  -- goes on with all its rows, but this of the receipts or of the journal's beginning doesn't agree.
+  -- goes on with all its rows, but this of the receipts or of the journal's beginning doesn't
+  -- agree.
   abbrev pub RefusesChange : (List Entry → Type 0) → Type 0 → Type 0
       → Network → ChangeFault → L → L → Type 0
   RefusesChange Of Rise Apart next (Plan why) old new =

@@ -5,8 +5,8 @@
 //! its calls made and holds receipts for the last of them. `close` ends the sharing and compares
 //! the receipts with the journal.
 //!
-//! A desk that nobody else has takes another plan: `Desk::adopt`, or `SharedDesk::adopt`, which ends
-//! the sharing where the plan is taken.
+//! A desk that nobody else has takes another plan: `Desk::adopt`, or `SharedDesk::adopt`, which
+//! ends the sharing where the plan is taken.
 #![tactic(auto)]
 
 pub mod adopting;
