@@ -4,6 +4,7 @@ use Rattle.std.specs.List.{AllByRecursion, flat_map}
 use Rattle.dr_plan_model.specs.Networks.{Network}
 use Rattle.dr_plan_model.specs.Plans.{NamesNoNode}
 use Rattle.dr_ledger.specs.declared.item.Entry.{Entry}
+use Rattle.dr_ledger.specs.Adopting.{IsFit}
 use Rattle.dr_ledger.specs.Bodies.{Bodies}
 use Rattle.dr_ledger.specs.Books.{Adoption, Book, Line, after}
 use Rattle.dr_ledger.specs.Replies.{entry_of}
@@ -42,7 +43,8 @@ module _ {L : Type 0} (site_of : L → Part) (book : L → Book) (bodies : L →
       (why : CloseFault) (old new : L)
       → (NamesNoNode plan (site_of old).name → ⊥)
       → (stands new
-      → Fails why (BeginWith first (book old).lines) (Of (mapped entry_of (book old).lines)) Rise
+      → IsFit plan (site_of old).name (book old)
+      × Fails why (BeginWith first (book old).lines) (Of (mapped entry_of (book old).lines)) Rise
       Apart)
       → RefusesChange site_of book bodies stands failed own first Of Rise Apart plan
       (disagreed_by why) old new
@@ -55,7 +57,8 @@ module _ {L : Type 0} (site_of : L → Part) (book : L → Book) (bodies : L →
       → told ≡ disagreed_by why
       → (NamesNoNode plan (site_of old).name → ⊥)
       → (stands new
-      → Fails why (BeginWith first (book old).lines) (Of (mapped entry_of (book old).lines)) Rise
+      → IsFit plan (site_of old).name (book old)
+      × Fails why (BeginWith first (book old).lines) (Of (mapped entry_of (book old).lines)) Rise
       Apart)
       → RefusesChange site_of book bodies stands failed own first Of Rise Apart plan told old new
   disagrees Of Rise Apart plan why told old new is node fails = subst
@@ -86,9 +89,14 @@ module _ {L : Type 0} (site_of : L → Part) (book : L → Book) (bodies : L →
       refused_then site_of book bodies stands failed plan why old mid new node a b h
   changed_then Of Rise Apart plan (Receipt why) old mid new node a b h = (
     node,
-    λ s. subst
-        (λ (x : Book). Fails (close.Receipt why) (BeginWith first x.lines)
-        (Of (mapped entry_of x.lines)) Rise Apart) (a.same (b.stood s)) (h.1 s),
+    λ s.
+        let same = a.same (b.stood s) in (
+          subst (λ (p : Part). IsFit plan p.name (book old)) a.site
+              (subst (λ (x : Book). IsFit plan (site_of mid).name x) same (h.1 s).0),
+          subst
+              (λ (x : Book). Fails (close.Receipt why) (BeginWith first x.lines)
+              (Of (mapped entry_of x.lines)) Rise Apart) same (h.1 s).1,
+        ),
   )
 
   -- the same, of passes whose receipts these are
@@ -110,7 +118,8 @@ module _ {L : Type 0} (site_of : L → Part) (book : L → Book) (bodies : L →
         → told ≡ disagreed_by why
         → (NamesNoNode plan (site_of old).name → ⊥)
         → (stands new
-        → Fails why (BeginWith first (book old).lines) (Of xs (mapped entry_of (book old).lines))
+        → IsFit plan (site_of old).name (book old)
+        × Fails why (BeginWith first (book old).lines) (Of xs (mapped entry_of (book old).lines))
         (Rise xs) (Apart xs))
         → Refuses xs told old new
     passes_disagree why told old new is node fails =

@@ -19,7 +19,48 @@ use Rattle.dr_ledger.proofs.Needs.{adoptions_need_the_same}
 use Rattle.dr_site.specs.Parts.{IsPartOf, Part}
 use Rattle.dr_desk.specs.declared.adopting.AdoptFault.{AdoptFault}
 use Rattle.dr_desk.specs.declared.adopting.AdoptFault.TheVariants as fault
-use Rattle.dr_desk.specs.Adoptions.{AnswersPlan, HasTaken, IsAsItWas, RefusesPlan, untaken_by}
+use Rattle.dr_desk.specs.Adoptions.{AnswersPlan, HasTaken, IsAsItWas, LastsAfter, RefusesPlan}
+use Rattle.dr_desk.specs.Adoptions.{StillStands, untaken_by}
+
+-- ---- the premise
+
+-- what the ledger answered
+pub lasts_still :
+    {A : Type 0} (why : LedgerFault) (told : AdoptFault) (Trusted Trusts Stood Stands : Type 0)
+    → told ≡ untaken_by why → (Trusts → Trusted)
+    → StillStands {A = A} (Err told) Trusted Trusts Stood Stands
+lasts_still {A} why told Trusted Trusts Stood Stands is trusted = record {
+  trusted = trusted;
+  lasts = subst
+      (λ (w : AdoptFault). LastsAfter {A = A} (Err w) (Trusts → Stood → Stands)) (sym is) (of why);
+}
+  where
+    of : (w : LedgerFault) → LastsAfter {A = A} (Err (untaken_by w)) (Trusts → Stood → Stands)
+    of ledger.Store = tt
+    of ledger.Memory = tt
+    of ledger.NoLine = tt
+    of ledger.Conflict = tt
+    of ledger.NotWaiting = tt
+    of ledger.NotHeld = tt
+    of ledger.NotOver = tt
+
+-- an answer that comes once the rows were looked at
+pub lasts_then :
+    {A : Type 0} (result : Result A AdoptFault) (Trusted Mid Trusts Stood Between Stands : Type 0)
+    → (Mid → Trusted) → (Mid → Stood → Between)
+    → StillStands result Mid Trusts Between Stands
+    → StillStands result Trusted Trusts Stood Stands
+lasts_then {A} result Trusted Mid Trusts Stood Between Stands first goes h =
+    record { trusted = λ t. first (h.trusted t); lasts = of result h.lasts }
+  where
+    of : (r : Result A AdoptFault)
+        → LastsAfter r (Trusts → Between → Stands)
+        → LastsAfter r (Trusts → Stood → Stands)
+    of (Ok value) k = λ t s. k t (goes (h.trusted t) s)
+    of (Err fault.NoNode) k = λ t s. k t (goes (h.trusted t) s)
+    of (Err (fault.Unfit uid dest)) k = λ t s. k t (goes (h.trusted t) s)
+    of (Err fault.Store) k = tt
+    of (Err fault.Memory) k = tt
 
 -- ---- data sets
 
@@ -98,6 +139,15 @@ module _ {L : Type 0} (site_of : L → Part) (book : L → Book) (bodies : L →
     data_sets = λ s. b.data_sets s ∙ a.data_sets (b.stood s);
     never_falls = (let p = a.never_falls in let q = b.never_falls in omega arith);
   }
+
+  -- what fits the ledger as it was fits it
+  pub fit_then : (plan : Network) (old mid : L)
+      → IsAsItWas site_of book bodies stands failed old mid
+      → (stands mid → IsFit plan (site_of old).name (book old))
+      → stands mid → IsFit plan (site_of mid).name (book mid)
+  fit_then plan old mid a fit s =
+      subst (λ (p : Part). IsFit plan p.name (book mid)) (sym a.site)
+      (subst (λ (x : Book). IsFit plan (site_of old).name x) (sym (a.same s)) (fit s))
 
   -- the ledger was only read
   pub was_read : {A : Type 0} (result : Result A LedgerFault) (old new : L)

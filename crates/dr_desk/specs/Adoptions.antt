@@ -24,6 +24,21 @@ untaken_by ledger.NotWaiting = fault.Memory
 untaken_by ledger.NotHeld = fault.Memory
 untaken_by ledger.NotOver = fault.Memory
 
+-- the premise of what is claimed lasts after an answer, but where a store failed or memory ran out
+abbrev pub LastsAfter : {A : Type 0} → Result A AdoptFault → Type 0 → Type 0
+LastsAfter (Ok value) Lasts = Lasts
+LastsAfter (Err fault.NoNode) Lasts = Lasts
+LastsAfter (Err (fault.Unfit uid dest)) Lasts = Lasts
+LastsAfter (Err fault.Store) Lasts = Unit {0}
+LastsAfter (Err fault.Memory) Lasts = Unit {0}
+
+-- Nobody but what the ledger trusts, a failed store or want of memory can end its premise. And what
+-- is trusted afterwards was trusted before.
+pub record StillStands {A : Type 0} (result : Result A AdoptFault)
+    (Trusted Trusts Stood Stands : Type 0) : Type 0 where
+  pub trusted : Trusts → Trusted
+  pub lasts : LastsAfter result (Trusts → Stood → Stands)
+
 module _ {L : Type 0} (site_of : L → Part) (book : L → Book) (bodies : L → Bodies)
     (stands : L → Type 0) (failed : L → ℕ) where
   -- The ledger has what it had: its site, its book with its journal, and its data sets. Where its

@@ -4,6 +4,7 @@ use Rattle.dr_cert.specs.Sealing.{Certified}
 use Rattle.dr_plan_model.specs.Networks.{Network}
 use Rattle.dr_plan_model.specs.Plans.{NamesNoNode}
 use Rattle.dr_ledger.specs.declared.item.Entry.{Entry}
+use Rattle.dr_ledger.specs.Adopting.{IsFit}
 use Rattle.dr_ledger.specs.Bodies.{Bodies}
 use Rattle.dr_ledger.specs.Books.{Book, Line}
 use Rattle.dr_ledger.specs.Replies.{entry_of}
@@ -35,8 +36,9 @@ module _ {L : Type 0} (site_of : L → Part) (book : L → Book) (bodies : L →
       × IsShared site_of book stands failed own first old
       × HasTaken site_of book bodies stands failed next site old new
 
-  -- Why the ledger doesn't take the plan: as one that isn't shared; or the plan has its node, but
-  -- this of the receipts or of the journal's beginning doesn't agree.
+  -- Why the ledger doesn't take the plan: as one that isn't shared; or the plan has its node and
+  -- goes on with all its rows, but this of the receipts or of the journal's beginning doesn't
+  -- agree.
   abbrev pub RefusesChange : (List Entry → Type 0) → Type 0 → Type 0
       → Network → ChangeFault → L → L → Type 0
   RefusesChange Of Rise Apart next (Plan why) old new =
@@ -44,7 +46,8 @@ module _ {L : Type 0} (site_of : L → Part) (book : L → Book) (bodies : L →
   RefusesChange Of Rise Apart next (Receipt why) old new =
       (NamesNoNode next (site_of old).name → ⊥)
       × (stands new
-      → Fails (close.Receipt why) (BeginWith first (book old).lines)
+      → IsFit next (site_of old).name (book old)
+      × Fails (close.Receipt why) (BeginWith first (book old).lines)
       (Of (mapped entry_of (book old).lines)) Rise Apart)
 
   -- it is refused, and the ledger is as it was

@@ -1,6 +1,7 @@
 //! A desk that takes another plan.
 ghost use Rattle.std.specs.Prelude.{◌≡◌, IfOk, MatchResult};
-ghost use Rattle.dr_desk.specs.Adoptions.{AnswersPlan, IsAsItWas, RefusesPlan, untaken_by};
+ghost use Rattle.dr_desk.specs.Adoptions.{AnswersPlan, IsAsItWas, RefusesPlan, StillStands};
+ghost use Rattle.dr_desk.specs.Adoptions.{untaken_by};
 ghost use Rattle.dr_ledger.specs.Adopting.{IsFit};
 ghost use Rattle.dr_plan_model.specs.Plans.{NamesNoNode};
 ghost use Rattle.dr_site.specs.Parts.{IsPartOf};
@@ -54,6 +55,8 @@ pub(crate) fn test_rows<L: Ledger>(ledger: &mut L, next: &Sealed) -> Result<(), 
         (λ why.
         RefusesPlan L.site L.book L.bodies L.stands L.failed next.now.plan why ledger.old
         ledger.new) }
+    ensures lasts { StillStands result (L.trusts ledger.old) (L.trusts ledger.new)
+        (L.stands ledger.old) (L.stands ledger.new) }
 {
     match ledger.unfit(next) {
         Ok(None) => Ok(()),
@@ -89,8 +92,10 @@ fn go_over<L: Ledger>(
     requires name { own.name ≡ (L.site ledger.old).name }
     requires fit { L.stands ledger.old → IsFit next.now.plan own.name (L.book ledger.old) }
     requires copy { copy ≡ own }
-    ensures { AnswersPlan L.site L.book L.bodies L.stands L.failed next.now result ledger.old
-        ledger.new }
+    ensures answers { AnswersPlan L.site L.book L.bodies L.stands L.failed next.now result
+        ledger.old ledger.new }
+    ensures lasts { StillStands result (L.trusts ledger.old) (L.trusts ledger.new)
+        (L.stands ledger.old) (L.stands ledger.new) }
 {
     match ledger.adopt(next, own) {
         Ok(()) => Ok(copy),
@@ -112,8 +117,10 @@ pub(crate) fn take<L: Ledger>(
     requires name { name.now ≡ (L.site ledger.old).name }
     requires fit { L.stands ledger.old
         → IsFit next.now.plan (L.site ledger.old).name (L.book ledger.old) }
-    ensures { AnswersPlan L.site L.book L.bodies L.stands L.failed next.now result ledger.old
-        ledger.new }
+    ensures answers { AnswersPlan L.site L.book L.bodies L.stands L.failed next.now result
+        ledger.old ledger.new }
+    ensures lasts { StillStands result (L.trusts ledger.old) (L.trusts ledger.new)
+        (L.stands ledger.old) (L.stands ledger.new) }
 {
     match parts_of(alloc, next, name) {
         Ok((own, copy)) => go_over(ledger, next, own, copy),
@@ -131,8 +138,10 @@ fn adopt_by<L: Ledger>(
     next: &Sealed,
 ) -> Result<Site, AdoptFault>
     requires { L.site ledger.old ≡ site.now }
-    ensures { AnswersPlan L.site L.book L.bodies L.stands L.failed next.now result ledger.old
-        ledger.new }
+    ensures answers { AnswersPlan L.site L.book L.bodies L.stands L.failed next.now result
+        ledger.old ledger.new }
+    ensures lasts { StillStands result (L.trusts ledger.old) (L.trusts ledger.new)
+        (L.stands ledger.old) (L.stands ledger.new) }
 {
     let Some(_) = next.plan().node(site.name()) else {
         return Err(AdoptFault::NoNode);
@@ -157,8 +166,10 @@ impl<L: Ledger> Desk<L> {
     /// them the ledger is as it was.
     pub fn adopt(&mut self, alloc: Global, site: &Site, next: &Sealed) -> Result<Site, AdoptFault>
         requires { L.site self.old.ledger ≡ site.now }
-        ensures { AnswersPlan L.site L.book L.bodies L.stands L.failed next.now result
+        ensures answers { AnswersPlan L.site L.book L.bodies L.stands L.failed next.now result
             self.old.ledger self.new.ledger }
+        ensures lasts { StillStands result (L.trusts self.old.ledger) (L.trusts self.new.ledger)
+            (L.stands self.old.ledger) (L.stands self.new.ledger) }
     {
         adopt_by(&mut self.ledger, alloc, site, next)
     }

@@ -77,6 +77,7 @@ impl<L: Ledger, B: Sharing> Held<L, B> {
     fn compare(&mut self, alloc: Global, passes: &[Pass<B>]) -> Result<(), ChangeFault>
         ensures same { IsAsItWas L.site L.book L.bodies L.stands L.failed self.old.desk.ledger
             self.new.desk.ledger }
+        ensures passes { self.new.passes ≡ self.old.passes }
         ensures of_lines { OnOk result (L.stands self.new.desk.ledger
             → AllByRecursion (λ p.
             All (IsOfLine (mapped entry_of (L.book self.new.desk.ledger).lines)) p.receipts.items)
@@ -86,6 +87,8 @@ impl<L: Ledger, B: Sharing> Held<L, B> {
             (AreApart (flat_map (λ p. numbers p.receipts.items) passes.now)) }
         ensures refuses { IfErr result (λ why.
             (plan : Network) → (NamesNoNode plan (L.site self.old.desk.ledger).name → ⊥)
+            → (L.stands self.new.desk.ledger
+            → IsFit plan (L.site self.old.desk.ledger).name (L.book self.old.desk.ledger))
             → RefusesChange L.site L.book L.bodies L.stands L.failed B.site B.first
             (λ lines. AllByRecursion (λ p. All (IsOfLine lines) p.receipts.items) passes.now)
             (AllByRecursion (λ p. Rises p.receipts.items) passes.now)
@@ -124,6 +127,7 @@ impl<L: Ledger, B: Sharing> Held<L, B> {
         ensures all { IfOk result (λ c. L.stands c.desk.ledger
             → length passes.items ≡ c.passes
             → length B.first + c.sum + 1 ≡ length (L.book c.desk.ledger).lines) }
+        ensures passes { IfOk result (λ c. c.passes ≡ self.passes) }
         ensures few { IfOk result (λ c. length passes.items ≤ c.passes) }
         ensures refuses { IfErr result (λ e.
             (why : AdoptFaultValue) × (e.fault ≡ ChangeFault.Plan why)
@@ -191,6 +195,7 @@ impl<L: Ledger, B: Sharing> Held<L, B> {
         ensures all { IfOk result (λ c. L.stands c.desk.ledger
             → length passes.items ≡ c.passes
             → length B.first + c.sum + 1 ≡ length (L.book c.desk.ledger).lines) }
+        ensures passes { IfOk result (λ c. c.passes ≡ self.passes) }
         ensures few { IfOk result (λ c. length passes.items ≤ c.passes) }
         ensures stays { IfErr result (λ e.
             StaysBy L.site L.book L.bodies L.stands L.failed B.site B.first

@@ -4,6 +4,9 @@
 //! one call of the ledger and never longer; each thread has a `Pass`, which counts the lines that
 //! its calls made and holds receipts for the last of them. `close` ends the sharing and compares
 //! the receipts with the journal.
+//!
+//! A desk that nobody else has takes another plan: `Desk::adopt`, or `SharedDesk::adopt`, which
+//! ends the sharing where the plan is taken.
 #![tactic(auto)]
 
 pub mod adopting;

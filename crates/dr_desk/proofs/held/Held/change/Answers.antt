@@ -3,7 +3,7 @@ use Rattle.dr_plan_model.specs.Plans.{NamesNoNode}
 use Rattle.dr_site.specs.Parts.{Part}
 use Rattle.dr_desk.proofs.Handed.{of_lines_after, stays_as, stays_by_plan}
 use Rattle.dr_desk.proofs.Journals.{of_lines_by}
-use Rattle.dr_desk.proofs.Taken.{both, no_node, one_node, still}
+use Rattle.dr_desk.proofs.Taken.{both, fit_then, no_node, one_node, still}
 use Rattle.dr_desk.proofs.held.Held.change.Goals as goal
 
 pub returns-in_default-clause-stays : goal.returns-in_default-clause-stays
@@ -36,7 +36,10 @@ returns-in-Err-compare-clause-stays g c =
     c.args.self.desk.ledger c.test_rows.new.ledger c.compare.new.self.desk.ledger
     c.as_slice.ensures.value node a b
     (c.in-Err-compare.ensures.refuses c.args.next.now.plan
-    (subst (λ (p : Part). NamesNoNode c.args.next.now.plan p.name → ⊥) (sym a.site) node))
+    (subst (λ (p : Part). NamesNoNode c.args.next.now.plan p.name → ⊥) (sym a.site) node)
+    (λ s. fit_then g.L.Ledger.site g.L.Ledger.book g.L.Ledger.bodies g.L.Ledger.stands
+    g.L.Ledger.failed c.args.next.now.plan c.args.self.desk.ledger c.test_rows.new.ledger a
+    c.in_default-test_rows.ensures.fit (b.stood s)))
 
 pub hand_over-requires-clause-node : goal.hand_over-requires-clause-node
 hand_over-requires-clause-node g c =

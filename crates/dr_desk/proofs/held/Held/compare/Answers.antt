@@ -4,13 +4,15 @@ use Rattle.dr_desk.proofs.Journals.{begins_shown, fails_by}
 use Rattle.dr_desk.proofs.held.Held.compare.Goals as goal
 
 pub returns-clause-refuses : goal.returns-clause-refuses
-returns-clause-refuses g c = λ plan node. passes_disagree g.L.Ledger.site g.L.Ledger.book
+returns-clause-refuses g c = λ plan node fit. passes_disagree g.L.Ledger.site g.L.Ledger.book
     g.L.Ledger.bodies g.L.Ledger.stands g.L.Ledger.failed g.B.Sharing.site g.B.Sharing.first
     c.args.passes.now
     (λ p. p.receipts.items) plan c.in-Err-agree.why c.disagreed.result c.args.self.now.desk.ledger
     c.lines.new.self.ledger c.disagreed.ensures node
     (λ s. let grows = c.args.self.now.grows (c.lines.ensures.stood s) in
-    let shown = c.as_slice-2.ensures ∙ c.in-Ok.ensures.reply s in
-    fails_by
-    (λ p. p.receipts.items) _ _ _ c.args.passes.now _ _ _ refl shown
-    (begins_shown _ _ _ _ (c.as_slice.ensures ∙ grows.1) shown) c.in-Err-agree.ensures.fault)
+    let shown = c.as_slice-2.ensures ∙ c.in-Ok.ensures.reply s in (
+      fit s,
+      fails_by
+          (λ p. p.receipts.items) _ _ _ c.args.passes.now _ _ _ refl shown
+          (begins_shown _ _ _ _ (c.as_slice.ensures ∙ grows.1) shown) c.in-Err-agree.ensures.fault,
+    ))
