@@ -1,5 +1,6 @@
 -- A push of a requestor of ours that called another product, and how its end begins.
-use Rattle.std.proofs.Common.{◌≡◌, ℕ, Bool, true, false, [], ◌∷◌, Option, Some, None, Ok, Err, refl}
+use Rattle.std.proofs.Common.{arith, ◌≡◌, ℕ, Bool, true, false, [], ◌∷◌, Option, Some, None, Ok}
+use Rattle.std.proofs.Common.{Err, refl}
 use Rattle.std.proofs.Common.{sym, ap, subst, ◌∙◌, inl, inr}
 use Rattle.std.specs.Prelude.{◌+◌, ◌&&◌, if◌then◌else◌, not, is_some}
 use Rattle.std.specs.FinMap as map_of
@@ -371,6 +372,7 @@ module _ (ours : Ours) (plan : Network) (certificate : Certificate) (w : World) 
                     ∙ ap (λ (l : _). map_of.get l other) st.links;
                 armed = st.armed;
                 rest = (st.rest.0, st.rest.1);
+                opened = (let e : v.opened ≡ w.opened = st.rest.2 in omega (arith, e));
               };
             },
             b.1,

@@ -233,6 +233,7 @@ pub record Middle (w : World) (link : Link) (o : Option Instance) (answer : Opti
       → set.contains world.armed other ≡ set.contains w.armed other
   pub links : world.links ≡ w.links
   pub rest : (world.time ≡ w.time) × (world.stood ≡ w.stood)
+  pub opened : world.opened ≡ w.opened
 
 middle : (plan : Network) (w : World) (link : Link) (c : Core) (now : ℕ) (s t : Desk)
     → IsDeskOf w link.caller s → c.peer ≡ link.receiver → now ≡ w.time
@@ -247,6 +248,7 @@ middle plan w link c now s t desk peer time None None h = record {
   armed = λ other apart. refl;
   links = refl;
   rest = (refl, refl);
+  opened = refl;
 }
 middle plan w link c now s t desk peer time (Some item) (Some answer) h =
     let st : SettledAt w link item.uid Broken answer t =
@@ -259,6 +261,7 @@ middle plan w link c now s t desk peer time (Some item) (Some answer) h =
       armed = st.armed;
       links = st.links;
       rest = (st.rest.0, st.rest.1);
+      opened = st.rest.2;
     }
 middle plan w link c now s t desk peer time None (Some answer) h = absurd h
 middle plan w link c now s t desk peer time (Some item) None h = absurd h
@@ -382,6 +385,7 @@ module _ (ours : Ours) (plan : Network) (certificate : Certificate)
                   ∙ ap (λ (l : _). map_of.get l other) m.links;
               armed = m.armed;
               rest = m.rest;
+              opened = (let e : v.opened ≡ w.opened = m.opened in omega (arith, e));
             };
           },
           (off.4.0, off.4.1, off.4.2),
@@ -589,6 +593,7 @@ module _ (ours : Ours) (plan : Network) (certificate : Certificate)
                     ∙ (only_link w number rejecting node).links other apart_from);
                 armed = st.armed;
                 rest = (st.rest.0, st.rest.1);
+                opened = (let e : v.opened ≡ w.opened = st.rest.2 in omega (arith, e));
               };
             },
             (off.4.0, off.4.1, off.4.2),
@@ -738,6 +743,7 @@ module _ (ours : Ours) (plan : Network) (certificate : Certificate)
                     ∙ (only_link w number replying node).links other apart_from);
                 armed = st.armed;
                 rest = (st.rest.0, st.rest.1);
+                opened = (let e : v.opened ≡ w.opened = st.rest.2 in omega (arith, e));
               };
             },
             b.1,

@@ -1,6 +1,8 @@
 -- What an acceptor of ours does with what another product writes, in the message world.
-use Rattle.std.proofs.Common.{◌≡◌, ◌≢◌, ℕ, Bool, true, false, List, [], ◌∷◌, ◌++◌, map, Contains}
-use Rattle.std.proofs.Common.{Option, Some, None, Ok, Err, refl, sym, ap, subst, ◌∙◌, inl, inr, ◌⊎◌}
+use Rattle.std.proofs.Common.{arith, ◌≡◌, ◌≢◌, ℕ, Bool, true, false, List, [], ◌∷◌, ◌++◌, map}
+use Rattle.std.proofs.Common.{Contains, Option, Some, None, Ok, Err, refl, sym, ap, subst, ◌∙◌, inl}
+use Rattle.std.proofs.Common.{inr}
+use Rattle.std.proofs.Common.{◌⊎◌, ◌≤◌, ◌<◌}
 use Rattle.std.specs.Prelude.{◌+◌, ◌&&◌, ◌||◌}
 use Rattle.std.specs.List.{AllByRecursion, list_any}
 use Rattle.std.specs.FinMap as map_of
@@ -121,6 +123,7 @@ only_none w number name = record {
   links = λ other apart. refl;
   armed = λ other apart. refl;
   rest = (refl, refl);
+  opened = omega arith;
 }
 
 pub only_of : (w v : World) (number : ℕ) (name : Text)
@@ -131,6 +134,7 @@ only_of w v number name h = record {
   links = λ other apart. h.links other (λ e. apart (ap (λ (n : ℕ). Some n) (sym e)));
   armed = h.armed;
   rest = (h.rest.0, h.rest.1);
+  opened = (let e : v.opened ≡ w.opened = h.rest.2 in omega (arith, e));
 }
 
 -- a number stays once there is one
@@ -144,6 +148,10 @@ only_then w v u number next name first later keeps = record {
   links = λ other apart. later.links other apart ∙ first.links other (λ e. apart (keeps other e));
   armed = λ other apart. later.armed other apart ∙ first.armed other apart;
   rest = (later.rest.0 ∙ first.rest.0, later.rest.1 ∙ first.rest.1);
+  opened = (
+      let a : w.opened ≤ v.opened = first.opened in
+      let b : v.opened ≤ u.opened = later.opened in
+      omega (arith, a, b));
 }
 
 are_kept :
@@ -208,6 +216,7 @@ pub record Ready (ours : Ours) (plan : Network) (w : World) (number : ℕ) (link
   pub armed : world.armed ≡ w.armed
   pub links : (other : ℕ) → other ≢ number → map_of.get world.links other ≡ map_of.get w.links other
   pub rest : (world.time ≡ w.time) × (world.stood ≡ w.stood)
+  pub opened : world.opened ≡ w.opened
 
 none_waits : (uid dest : Text) → IsWaiting empty_book uid dest → ⊥
 none_waits uid dest (tries, due, e) =
@@ -242,6 +251,7 @@ module _ (ours : Ours) (plan : Network) (w : World) (number : ℕ) (link : Link)
     armed = refl;
     links = λ other apart. refl;
     rest = (refl, refl);
+    opened = refl;
   }
 
   ready_answering : link.stage ≡ Answering accepted → Ready ours plan w number link accepted
@@ -265,6 +275,7 @@ module _ (ours : Ours) (plan : Network) (w : World) (number : ℕ) (link : Link)
         armed = refl;
         links = (only_link w number (at_stage link (Open accepted)) link.receiver).links;
         rest = (refl, refl);
+        opened = refl;
       }
 
   ready_replying : (item : Instance) (status : ℕ)
@@ -311,6 +322,7 @@ module _ (ours : Ours) (plan : Network) (w : World) (number : ℕ) (link : Link)
         armed = refl;
         links = (only_link mid number then_link link.receiver).links;
         rest = (refl, refl);
+        opened = refl;
       }
 
 -- ---- an instance comes to the node
@@ -326,6 +338,7 @@ pub record Arrived (plan : Network) (w : World) (name caller : Text) (item : Ins
       → set.contains mid.armed other ≡ set.contains w.armed other
   pub links : mid.links ≡ w.links
   pub rest : (mid.time ≡ w.time) × (mid.stood ≡ w.stood)
+  pub opened : mid.opened ≡ w.opened
 
 arrives_at :
     (plan : Network) (w : World) (name caller : Text) (item : Job) (reply : Reply) (s t : Desk)
@@ -352,6 +365,7 @@ arrives_at plan w name caller item reply s t desk h =
       armed = a.3;
       links = refl;
       rest = (refl, refl);
+      opened = refl;
     }
 
 -- where the plan has no line for it, nothing happens
@@ -544,7 +558,12 @@ module _ (ours : Ours) (plan : Network) (certificate : Certificate) (name : Text
     [],
     w,
     None,
-    record { are = (refl, refl); runs = (refl, refl); only = only_none w None name },
+    record {
+      are = (refl, refl);
+      runs = (refl, refl);
+      only = only_none w None name;
+      counted = λ n e. inl e;
+    },
     writes,
     record {
       own = own;
@@ -573,6 +592,7 @@ module _ (ours : Ours) (plan : Network) (certificate : Certificate) (name : Text
       links = λ o apart. new_there o (λ e. apart (ap (λ (n : ℕ). Some n) (sym e)));
       armed = λ o apart. refl;
       rest = (refl, refl);
+      opened = omega arith;
     }
       where
         new_there : (o : ℕ) → o ≢ fresh
@@ -624,6 +644,8 @@ module _ (ours : Ours) (plan : Network) (certificate : Certificate) (name : Text
           ),
         );
         only = only_new (answered_link (new_link caller name) answer);
+        counted = λ n e. (let q : fresh ≡ n = same_Some fresh n e in
+            inr (omega (arith, q), omega (arith, q)));
       },
       writes,
       record {
@@ -752,7 +774,12 @@ module _ (ours : Ours) (plan : Network) (certificate : Certificate)
     [],
     w,
     Some number,
-    record { are = (refl, refl); runs = (refl, refl); only = only_none w (Some number) node },
+    record {
+      are = (refl, refl);
+      runs = (refl, refl);
+      only = only_none w (Some number) node;
+      counted = λ n e. inl e;
+    },
     writes,
     record {
       own = own;
@@ -794,6 +821,7 @@ module _ (ours : Ours) (plan : Network) (certificate : Certificate)
       );
       only = only_of w (with_link w number (without_receiver link)) number node
           (only_link w number (without_receiver link) node);
+      counted = λ n e. inl e;
     },
     controls_of k.core x h.1,
     record {
@@ -864,6 +892,9 @@ module _ (ours : Ours) (plan : Network) (certificate : Certificate)
               ∙ ((only_link ready.world number waiting node).links o other ∙ ready.links o other));
           armed = λ o apart. came.armed o apart ∙ ap (λ (a : _). set.contains a o) ready.armed;
           rest = (came.rest.0 ∙ ready.rest.0, came.rest.1 ∙ ready.rest.1);
+          opened = (
+              let e : v.opened ≡ w.opened = came.opened ∙ ready.opened in
+              omega (arith, e));
         } in
         let behind : List Act = Other (Stores number i) ∷ Own (Receive number reply) ∷ [] in (
           reading number link.stage ++ behind,
@@ -912,6 +943,7 @@ module _ (ours : Ours) (plan : Network) (certificate : Certificate)
                   ),
                 );
             only = only;
+            counted = λ n e. inl e;
           },
           (
             Rattle.std.specs.Option.option_map_or (λ (a : Agreed). a.limit) d.agreed 0,

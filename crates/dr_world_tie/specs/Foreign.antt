@@ -1,7 +1,7 @@
 -- An acceptor of ours whose peer is another maker's product: whatever bytes that writes, what the
 -- acceptor does with them is what happens in the message world among other makers' products.
 use Rattle.std.specs.Prelude.{◌≡◌, ◌≢◌, ◌↔◌, ◌⊎◌, ◌+◌, ℕ, Bool, true, false, List, [], ◌∷◌, ◌++◌}
-use Rattle.std.specs.Prelude.{Option, None, Some, Ok, Err}
+use Rattle.std.specs.Prelude.{◌<◌, ◌≤◌, Option, None, Some, Ok, Err}
 use Rattle.std.specs.List.{AllByRecursion}
 use Rattle.std.specs.FinMap as map
 use Rattle.std.specs.FinSet as set
@@ -184,13 +184,15 @@ pub record OnlyOf (w v : World) (number : Option ℕ) (name : Text) : Type 0 whe
       → same_text other name ≡ false
       → set.contains v.armed other ≡ set.contains w.armed other
   pub rest : (v.time ≡ w.time) × (v.stood ≡ w.stood)
+  pub opened : w.opened ≤ v.opened
 
--- this came at the end, and it is these acts
+-- this came at the end, and it is these acts; a number that it has from then on is a new one
 pub record Comes (ours : Ours) (plan : Network) (name : Text) (w : World) (number : Option ℕ)
     (came : Came) (acts : List Act) (v : World) (next : Option ℕ) : Type 0 where
   pub are : AreActs w name number came acts next
   pub runs : RunsAmong ours plan w acts plan v
   pub only : OnlyOf w v next name
+  pub counted : (n : ℕ) → next ≡ Some n → (number ≡ Some n) ⊎ ((w.opened < n) × (n ≤ v.opened))
 
 -- one after the other, and all that is written
 abbrev pub ComeAll : Ours → Network → Text → World → Option ℕ → List Came → List Act

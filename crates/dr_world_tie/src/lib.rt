@@ -27,6 +27,8 @@ ghost use Rattle.dr_world_tie.specs.ForeignCalls.{LettingGoIsNothing, OneAnswerC
 ghost use Rattle.dr_world_tie.specs.ForeignCalls.{OnePushComes, RequestorsBegin};
 ghost use Rattle.dr_world_tie.specs.ForeignCalls.{ResponsesAreReplies};
 ghost use Rattle.dr_world_tie.specs.ForeignLinks.{WhatAcceptorsHear, WhatRequestorsHear};
+ghost use Rattle.dr_world_tie.specs.ForeignWorlds.{OthersAreNotHere, OursCanListen};
+ghost use Rattle.dr_world_tie.specs.ForeignWorlds.{OwnWorldsKeepTheClaims};
 ghost use Rattle.dr_world_tie.specs.Moves.{CallerMoves, ReceiverMoves};
 ghost use Rattle.dr_world_tie.specs.Nodes.{ForgettingIsForget, GivingUpIsDrop, RefusingIsRefuse};
 ghost use Rattle.dr_world_tie.specs.Nodes.{RequeueingIsRequeue, StayingAwayIsStayAway};
@@ -235,4 +237,12 @@ pub fn others_are_called()
 pub fn links_to_others()
     ensures acceptors { WhatAcceptorsHear }
     ensures requestors { WhatRequestorsHear }
+{}
+
+/// After whatever happens at nodes of ours that have links to other makers' products alone, the
+/// four claims hold of their books.
+pub fn claims_hold_among_others()
+    ensures claims { OwnWorldsKeepTheClaims }
+    ensures listens { OursCanListen }
+    ensures others { OthersAreNotHere }
 {}

@@ -1,0 +1,559 @@
+-- Nodes of ours among other makers' products, to which alone they have links.
+use Rattle.std.proofs.Common.{◌≡◌, ◌≢◌, ℕ, ◌<◌, ◌≤◌, Bool, true, false, List, [], ◌∷◌, ◌++◌, Option}
+use Rattle.std.proofs.Common.{Some, None, refl, sym, ap, subst, ◌∙◌, inl, inr, ◌⊎◌, arith}
+use Rattle.std.specs.Prelude.{◌==◌, ◌+◌, ◌^◌, min, if◌then◌else◌}
+use Rattle.std.specs.FinMap as map_of
+use Rattle.std.specs.FinSet as set
+use Rattle.std.proofs.lemmas.Bool.{cases_Bool, eqb-true, eqb-false, false≢true}
+use Rattle.std.proofs.lemmas.Option.{same_Some}
+use Rattle.dr_base.specs.Texts.{Text, text_cmp}
+use Rattle.dr_plan_model.specs.Networks.{Network}
+use Rattle.dr_plan_sound.specs.declared.certificate.Certificate.{Certificate}
+use Rattle.dr_site.specs.Sites.{IsCertified}
+use Rattle.dr_ledger.specs.Items.{instance_of}
+use Rattle.dr_pdu.specs.Feeding.{fresh}
+use Rattle.dr_session.specs.Ends.{accepting, requesting}
+use Rattle.dr_ledger.proofs.Maps.{get_other, same_or_not, texts, ties_itself}
+use Rattle.dr_session.specs.declared.ends.Input.TheVariants as input
+use Rattle.dr_world_model.specs.Worlds.{World, start}
+use Rattle.dr_world_model.specs.Events.{Event, Ask, Drop, Refuse, Requeue, Take, Tick}
+use Rattle.dr_world_model.specs.Events.{StayAway as AwayEvent}
+use Rattle.dr_world_model.specs.Steps.{IsHop, asked, new_link, passed}
+use Rattle.dr_world_model.proofs.Lookups.{numbers as numbers_of}
+use Rattle.dr_world_model.specs.Among.{Ours, Act, ArrivesAtOurs, Own, RunsAmong, HeadlineAmong}
+use Rattle.dr_world_model.proofs.AmongActs.{headline_holds_among}
+use Rattle.dr_world_tie.specs.ByteWorlds.{Side, Requestor, Acceptor}
+use Rattle.dr_world_tie.specs.Desks.{Desk, LedgerStep}
+use Rattle.dr_session.specs.Desks.{Settle, Settling}
+use Rattle.dr_ledger.specs.declared.item.Outcome.TheVariants.{Broken}
+use Rattle.dr_world_tie.specs.Channels.{Terminal}
+use Rattle.dr_world_tie.specs.Nodes.{GivesUpAt, HappensAt, OnlyAt}
+use Rattle.dr_world_tie.specs.Ties.{IsDeskOf, with_desk}
+use Rattle.dr_world_tie.specs.Foreign.{Came, ComeAll, OnlyOf, OthersHaveNone, ShowsForeign}
+use Rattle.dr_world_tie.specs.ForeignCalls.{CallsIn, LeadsTo, ShowsCall, acts_of, acts_of_all}
+use Rattle.dr_world_tie.specs.ForeignCalls.{acts_of_push}
+use Rattle.dr_world_tie.specs.ForeignWorlds.{OwnEnd, OwnWorld, with_end, with_done, own_beginning}
+use Rattle.dr_world_tie.specs.ForeignWorlds.{OwnStep, Listens, Opens, Hears, Pushes, Releases}
+use Rattle.dr_world_tie.specs.ForeignWorlds.{Submits, Passes, HearsWhat, IsAskedFor}
+use Rattle.dr_world_tie.specs.ForeignWorlds.{BeginsListening, BeginsCalling, DoesAlone}
+use Rattle.dr_world_tie.specs.ForeignWorlds.{OthersAreNotHere, OursCanListen}
+use Rattle.dr_world_tie.specs.ForeignWorlds.{GivesUp, OwnSteps, PutsBack, Refuses, StaysAway}
+use Rattle.dr_world_tie.specs.ForeignWorlds.{OwnRuns, ShowsBy, ShowsOwn, OwnWorldsKeepTheClaims}
+use Rattle.dr_world_tie.proofs.Foreigners.{acceptors_begin, all_only, all_run, only_none, runs_on}
+use Rattle.dr_world_tie.proofs.ForeignPushes.{one_push_comes, requestors_begin}
+use Rattle.dr_world_tie.proofs.ForeignReplies.{one_answer_comes}
+use Rattle.dr_world_tie.proofs.LinksToOthers.{what_acceptors_hear, what_requestors_hear}
+use Rattle.dr_world_tie.proofs.Nodes.{giving_up_is_drop, refusing_is_refuse}
+use Rattle.dr_world_tie.proofs.Nodes.{requeueing_is_requeue, staying_away_is_stay_away}
+use Rattle.dr_world_tie.proofs.Nodes.{submitting_takes}
+
+-- a number from then on is the one before, or a new one
+abbrev Counts : World → World → Option ℕ → Option ℕ → Type 0
+Counts w v number next =
+    (n : ℕ) → next ≡ Some n → (number ≡ Some n) ⊎ ((w.opened < n) × (n ≤ v.opened))
+
+all_counted : (ours : Ours) (plan : Network) (name : Text) (cames : List Came) (w v : World)
+    (number next : Option ℕ) (acts : List Act) (written : _)
+    → ComeAll ours plan name w number cames acts written v next
+    → Counts w v number next
+all_counted ours plan name [] w v number next acts written h n e = inl (sym h.3 ∙ e)
+all_counted ours plan name (came ∷ cames) w v number next acts written h n e =
+    elim (all_counted ours plan name cames h.4 v h.5 next h.1 h.3 h.8 n e) [
+      | inl was ↦ elim (h.6.counted n was) [
+        | inl before ↦ inl before
+        | inr new ↦
+            (let a : w.opened < n = new.0 in
+            let b : n ≤ h.4.opened = new.1 in
+            let d : h.4.opened ≤ v.opened =
+            (all_only ours plan name cames h.4 v h.5 next h.1 h.3 h.8).opened in
+            inr (a, omega (arith, b, d)))
+      ]
+      | inr new ↦ (
+          let a : h.4.opened < n = new.0 in
+          let d : w.opened ≤ h.4.opened = h.6.only.opened in
+          inr (omega (arith, a, d), new.1))
+    ]
+
+module _ (ours : Ours) (plan : Network) (certificate : Certificate) where
+  -- what isn't touched stays shown
+  shown_still :
+      (w v : World) (next at : Option ℕ) (name : Text) (side : Side) (node : Text) (k : Terminal)
+      → OnlyOf w v next name
+      → ((m : ℕ) → at ≡ Some m → next ≢ Some m)
+      → ShowsBy ours plan certificate w at side node k
+      → ShowsBy ours plan certificate v at side node k
+  shown_still w v next None name Acceptor node k only apart h = h
+  shown_still w v next (Some m) name Acceptor node k only apart h =
+      (h.0, (h.1.0, only.links m (apart m refl) ∙ h.1.1, h.1.2))
+  shown_still w v next at name Requestor node k only apart h =
+      (h.0, h.1, (h.2.0, (h.2.1.0, only.links h.0 (apart h.0 h.1) ∙ h.2.1.1, h.2.1.2)))
+
+  module _ (b : OwnWorld) (w : World) (shows : ShowsOwn ours plan certificate b w) (i : ℕ)
+      (node : Text) (own : ours node ≡ true) (v : World) (next : Option ℕ)
+      (only : OnlyOf w v next node) (counts : Counts w v (shows.numbers i) next) (t : Desk)
+      (desk_is : IsDeskOf v node t) where
+    abbrev numbers_now : ℕ → Option ℕ
+    numbers_now j = if j == i then next else shows.numbers j
+
+    desks_now : (name : Text) → ours name ≡ true → IsDeskOf v name (with_desk b.desks node t name)
+    desks_now name its = elim (same_or_not texts name node) [
+      | inl same ↦ subst
+          (λ (m : Text). IsDeskOf v m (with_desk b.desks node t m)) (sym same)
+          (subst
+          (λ (c : Bool). IsDeskOf v node (if c then t else b.desks node))
+          (sym (ties_itself texts node)) desk_is)
+      | inr apart ↦ subst
+          (λ (c : Bool). IsDeskOf v name (if c then t else b.desks name)) (sym apart) (
+            (shows.desks name its).0 ∙ sym (only.books name apart),
+            (shows.desks name its).1 ∙ sym (only.armed name apart),
+          )
+    ]
+
+    at_it : (j : ℕ) → (j == i) ≡ true → numbers_now j ≡ next
+    at_it j e = ap (λ (c : Bool). if c then next else shows.numbers j) e
+
+    beside : (j : ℕ) → (j == i) ≡ false → numbers_now j ≡ shows.numbers j
+    beside j e = ap (λ (c : Bool). if c then next else shows.numbers j) e
+
+    untouched : (j : ℕ) → (j == i) ≡ false → (m : ℕ) → shows.numbers j ≡ Some m → next ≢ Some m
+    untouched j e m at is = elim (counts m is) [
+      | inl before ↦ eqb-false j i e (shows.apart j i m at before)
+      | inr new ↦ (
+          let a : w.opened < m = new.0 in
+          let d : m ≤ w.opened = shows.known j m at in
+          absurd (omega (arith, a, d)))
+    ]
+
+    known_now : (j n : ℕ) → numbers_now j ≡ Some n → n ≤ v.opened
+    known_now j n e = elim (cases_Bool (j == i)) [
+      | inl it ↦ elim (counts n (sym (at_it j it) ∙ e)) [
+        | inl before ↦ (
+            let a : n ≤ w.opened = shows.known i n before in
+            let d : w.opened ≤ v.opened = only.opened in
+            omega (arith, a, d))
+        | inr new ↦ new.1
+      ]
+      | inr not_it ↦ (
+          let a : n ≤ w.opened = shows.known j n (sym (beside j not_it) ∙ e) in
+          let d : w.opened ≤ v.opened = only.opened in
+          omega (arith, a, d))
+    ]
+
+    apart_now : (j l n : ℕ) → numbers_now j ≡ Some n → numbers_now l ≡ Some n → j ≡ l
+    apart_now j l n e f = elim (cases_Bool (j == i)) [
+      | inl it ↦ elim (cases_Bool (l == i)) [
+        | inl too ↦ eqb-true j i it ∙ sym (eqb-true l i too)
+        | inr not_too ↦
+            absurd (untouched l not_too n (sym (beside l not_too) ∙ f) (sym (at_it j it) ∙ e))
+      ]
+      | inr not_it ↦ elim (cases_Bool (l == i)) [
+        | inl too ↦
+            absurd (untouched j not_it n (sym (beside j not_it) ∙ e) (sym (at_it l too) ∙ f))
+        | inr not_too ↦ shows.apart j l n (sym (beside j not_it) ∙ e) (sym (beside l not_too) ∙ f)
+      ]
+    ]
+
+    -- the world with another end in its place
+    done : (side : Side) (k : Terminal)
+        → ShowsBy ours plan certificate v next side node k
+        → ShowsOwn ours plan certificate
+        (with_done b i (record { side = side; node = node; terminal = k }) t) v
+    done side k shown = record {
+      time = only.rest.0 ∙ shows.time;
+      desks = desks_now;
+      numbers = numbers_now;
+      own = λ j e there. elim (cases_Bool (j == i)) [
+        | inl it ↦ subst (λ (d : OwnEnd). ours d.node ≡ true) (is_it j e it there) own
+        | inr not_it ↦ shows.own j e (is_other j e not_it there)
+      ];
+      ends = λ j e there. elim (cases_Bool (j == i)) [
+        | inl it ↦ subst
+            (λ (o : Option ℕ). ShowsBy ours plan certificate v o e.side e.node e.terminal)
+            (sym (at_it j it))
+            (subst
+            (λ (d : OwnEnd). ShowsBy ours plan certificate v next d.side d.node d.terminal)
+            (is_it j e it there) shown)
+        | inr not_it ↦ subst
+            (λ (o : Option ℕ). ShowsBy ours plan certificate v o e.side e.node e.terminal)
+            (sym (beside j not_it))
+            (shown_still w v next (shows.numbers j) node e.side e.node e.terminal only
+            (untouched j not_it) (shows.ends j e (is_other j e not_it there)))
+      ];
+      apart = apart_now;
+      known = known_now;
+    }
+      where
+        is_it : (j : ℕ) (e : OwnEnd) → (j == i) ≡ true
+            → with_end b.ends i (record { side = side; node = node; terminal = k }) j ≡ Some e
+            → record { side = side; node = node; terminal = k } ≡ e
+        is_it j e it there = same_Some (record { side = side; node = node; terminal = k }) e
+            (subst
+            (λ (c : Bool).
+            (if c then Some (record { side = side; node = node; terminal = k }) else b.ends j)
+            ≡ Some e) it there)
+
+        is_other : (j : ℕ) (e : OwnEnd) → (j == i) ≡ false
+            → with_end b.ends i (record { side = side; node = node; terminal = k }) j ≡ Some e
+            → b.ends j ≡ Some e
+        is_other j e not_it there = subst
+            (λ (c : Bool).
+            (if c then Some (record { side = side; node = node; terminal = k }) else b.ends j)
+            ≡ Some e) not_it there
+
+  -- ---- one step
+
+  abbrev Acts : World → OwnWorld → Type 0
+  Acts w new =
+      (acts : List Act) × (v : World)
+      × RunsAmong ours plan w acts plan v
+      × ShowsOwn ours plan certificate new v
+
+  module _ (certified : IsCertified plan certificate) (b : OwnWorld) (w : World)
+      (shows : ShowsOwn ours plan certificate b w) (others : OthersHaveNone ours w) where
+    as_new : (new made : OwnWorld) → new ≡ made → Acts w made → Acts w new
+    as_new new made e h = subst (λ (z : OwnWorld). Acts w z) (sym e) h
+
+    -- the numbers with none at a free place
+    hears : (i : ℕ) (came : _) (new : OwnWorld)
+        → HearsWhat ours plan certificate b i came new
+        → Acts w new
+    hears i came new h = as_new new _ h.is (by_side h.end.side refl)
+      where
+        by_side : (side : Side) → h.end.side ≡ side
+            → Acts w
+            (with_done b i
+            (record {
+              side = h.end.side;
+              node = h.end.node;
+              terminal = record { core = h.core; ear = h.left.ear };
+            }) h.after)
+        by_side Acceptor e =
+            let own = shows.own i h.end h.there in
+            let shown :
+            ShowsForeign ours plan certificate h.end.node w (shows.numbers i) h.end.terminal =
+            subst
+            (λ (z : Side).
+            ShowsBy ours plan certificate w (shows.numbers i) z h.end.node h.end.terminal) e
+            (shows.ends i h.end h.there) in
+            let a = what_acceptors_hear ours plan certificate certified h.end.node w
+            (shows.numbers i) h.end.terminal (b.desks h.end.node) record {
+              own = own;
+              others = others;
+              desk = shows.desks h.end.node own;
+              shows = shown;
+            } h.moment came h.acts h.left h.after h.none h.hears in
+            let core_is : a.0 ≡ h.core = same_Some a.0 h.core (sym a.1 ∙ h.lives) in
+            let all = a.2.4 in
+            let v : World = a.2.2 in
+            let next : Option ℕ = a.2.3 in
+            let only =
+            all_only ours plan h.end.node a.2.0 w v (shows.numbers i) next a.2.1 h.acts all in
+            let shown_now : ShowsForeign ours plan certificate h.end.node v next
+            (record { core = h.core; ear = h.left.ear }) = subst
+            (λ (c : _). ShowsForeign ours plan certificate h.end.node v next
+            (record { core = c; ear = h.left.ear })) core_is a.2.5.shows in (
+              a.2.1,
+              v,
+              all_run ours plan h.end.node a.2.0 w v (shows.numbers i) next a.2.1 h.acts all,
+              done b w shows i h.end.node own v next only
+                  (all_counted ours plan h.end.node a.2.0 w v (shows.numbers i) next a.2.1 h.acts
+                  all) h.after a.2.5.desk h.end.side (record { core = h.core; ear = h.left.ear })
+                  (subst
+                  (λ (z : Side). ShowsBy ours plan certificate v next z h.end.node
+                  (record { core = h.core; ear = h.left.ear })) (sym e) shown_now),
+            )
+        by_side Requestor e =
+            let own = shows.own i h.end h.there in
+            let shown :
+            ShowsBy ours plan certificate w (shows.numbers i) Requestor h.end.node h.end.terminal =
+            subst
+            (λ (z : Side).
+            ShowsBy ours plan certificate w (shows.numbers i) z h.end.node h.end.terminal) e
+            (shows.ends i h.end h.there) in
+            let a = what_requestors_hear ours plan certificate certified h.end.node w shown.0
+            h.end.terminal (b.desks h.end.node) record {
+              own = own;
+              desk = shows.desks h.end.node own;
+              shows = shown.2;
+            } h.moment (h.now ∙ sym shows.time) came h.acts h.left h.after h.hears in
+            let core_is : a.0 ≡ h.core = same_Some a.0 h.core (sym a.1 ∙ h.lives) in
+            let v : World = a.2.1 in
+            let shown_now : ShowsCall ours plan certificate h.end.node v shown.0
+            (record { core = h.core; ear = h.left.ear }) = subst
+            (λ (c : _). ShowsCall ours plan certificate h.end.node v shown.0
+            (record { core = c; ear = h.left.ear })) core_is a.2.4.shows in (
+              acts_of_all shown.0 a.2.0,
+              v,
+              a.2.2.runs,
+              done b w shows i h.end.node own v (Some shown.0) a.2.2.only
+                  (λ n q. inl (shown.1 ∙ q)) h.after a.2.4.desk h.end.side
+                  (record { core = h.core; ear = h.left.ear })
+                  (subst
+                  (λ (z : Side). ShowsBy ours plan certificate v (Some shown.0) z h.end.node
+                  (record { core = h.core; ear = h.left.ear })) (sym e) (shown.0, refl, shown_now)),
+            )
+
+    -- an end at a place of its own
+    listens : (i : ℕ) (node : Text) (new : OwnWorld)
+        → BeginsListening ours plan certificate b i node new
+        → Acts w new
+    listens i node new h = as_new new _ h.is (
+      [],
+      w,
+      (refl, refl),
+      done b w shows i node h.own w None (only_none w None node)
+          (λ n q. absurd (cc q)) (b.desks node) (shows.desks node h.own) Acceptor
+          (record { core = accepting h.site b.time; ear = fresh h.site.max_pdu })
+          (subst
+          (λ (n : Text). ShowsForeign ours plan certificate n w None
+          (record { core = accepting h.site b.time; ear = fresh h.site.max_pdu })) h.named
+          (acceptors_begin ours plan certificate h.site w b.time h.part)),
+    )
+
+    only_asked : (node dest : Text) → OnlyOf w (asked w node dest) (Some (w.opened + 1)) node
+    only_asked node dest = record {
+      books = λ other apart. refl;
+      links = λ other apart. elim (same_or_not numbers_of other (w.opened + 1)) [
+        | inl same ↦ absurd (apart (ap (λ (n : ℕ). Some n) (sym same)))
+        | inr is_not ↦ get_other numbers_of w.links (w.opened + 1) (new_link node dest) other is_not
+      ];
+      armed = λ other apart. refl;
+      rest = (refl, refl);
+      opened = omega arith;
+    }
+
+    opens : (i : ℕ) (node dest : Text) (new : OwnWorld)
+        → BeginsCalling ours plan certificate b i node dest new
+        → Acts w new
+    opens i node dest new h =
+        let k : Terminal =
+        record { core = requesting (Some h.site) dest h.rq b.time; ear = fresh h.site.max_pdu } in
+        let P : Text → Type 0 = λ n. ours n ≡ true → IsHop plan n dest → IsDeskOf w n (b.desks node)
+        → RunsAmong ours plan w (Own (Ask n dest) ∷ []) plan (asked w n dest)
+        × CallsIn ours plan certificate n (asked w n dest) (w.opened + 1) k (b.desks node)
+        in
+        let a = subst P h.named
+        (λ own hop at. requestors_begin ours plan certificate h.site dest h.rq b.time w
+        (b.desks node) h.part own h.away hop h.proposal at) h.own h.hop
+        (shows.desks node h.own) in
+        let v : World = asked w node dest in
+        as_new new _ h.is (
+          Own (Ask node dest) ∷ [],
+          v,
+          a.0,
+          done b w shows i node h.own v (Some (w.opened + 1)) (only_asked node dest)
+              (λ n q.
+              (let same : w.opened + 1 ≡ n = same_Some (w.opened + 1) n q in
+              inr (omega (arith, same), omega (arith, same)))) (b.desks node) a.1.desk Requestor k
+              (w.opened + 1, refl, a.1.shows),
+        )
+
+    -- a requestor is asked for something
+    finishes : (i : ℕ) (h_end : OwnEnd) (own : ours h_end.node ≡ true) (n : ℕ)
+        → shows.numbers i ≡ Some n → h_end.side ≡ Requestor
+        → (acts : List Act) (v : World) (t : Desk) (k : Terminal)
+        → LeadsTo ours plan h_end.node w n acts v
+        → CallsIn ours plan certificate h_end.node v n k t
+        → Acts w (with_done b i (record { side = h_end.side; node = h_end.node; terminal = k }) t)
+    finishes i h_end own n at e acts v t k leads calls = (
+      acts,
+      v,
+      leads.runs,
+      done b w shows i h_end.node own v (Some n) leads.only
+          (λ m q. inl (at ∙ q)) t calls.desk h_end.side k
+          (subst
+          (λ (z : Side). ShowsBy ours plan certificate v (Some n) z h_end.node k) (sym e)
+          (n, refl, calls.shows)),
+    )
+
+    shown_call : (i : ℕ) (e : OwnEnd) → b.ends i ≡ Some e → e.side ≡ Requestor
+        → ShowsBy ours plan certificate w (shows.numbers i) Requestor e.node e.terminal
+    shown_call i e there calls = subst
+        (λ (z : Side). ShowsBy ours plan certificate w (shows.numbers i) z e.node e.terminal) calls
+        (shows.ends i e there)
+
+    pushes : (i : ℕ) (new : OwnWorld)
+        → IsAskedFor ours plan certificate b i input.PushAsked new
+        → Acts w new
+    pushes i new h =
+        let own = shows.own i h.end h.there in
+        let shown = shown_call i h.end h.there h.calls in
+        let a = one_push_comes ours plan certificate h.end.node w shown.0 h.end.terminal
+        (b.desks h.end.node) record {
+          own = own;
+          desk = shows.desks h.end.node own;
+          shows = shown.2;
+        } h.moment (h.now ∙ sym shows.time) h.effect h.after h.reacts in
+        as_new new _ h.is
+        (finishes i h.end own shown.0 shown.1 h.calls (acts_of_push shown.0 a.0) a.1 h.after
+        (record { core = h.effect.core; ear = h.end.terminal.ear }) a.2 a.4)
+
+    releases : (i : ℕ) (new : OwnWorld)
+        → IsAskedFor ours plan certificate b i input.ReleaseAsked new
+        → Acts w new
+    releases i new h =
+        let own = shows.own i h.end h.there in
+        let shown = shown_call i h.end h.there h.calls in
+        let a = one_answer_comes ours plan certificate certified h.end.node w shown.0 h.end.terminal
+        (b.desks h.end.node) record {
+          own = own;
+          desk = shows.desks h.end.node own;
+          shows = shown.2;
+        } h.moment (h.now ∙ sym shows.time) input.ReleaseAsked
+        (λ e. cc e) h.effect h.after h.reacts in
+        as_new new _ h.is
+        (finishes i h.end own shown.0 shown.1 h.calls (acts_of shown.0 a.0) a.1 h.after
+        (record { core = h.effect.core; ear = h.end.terminal.ear }) a.2 a.4)
+
+    -- links stay as they are
+    shown_as : (v : World) → v.links ≡ w.links
+        → (at : Option ℕ) (side : Side) (node : Text) (k : Terminal)
+        → ShowsBy ours plan certificate w at side node k
+        → ShowsBy ours plan certificate v at side node k
+    shown_as v same None Acceptor node k h = h
+    shown_as v same (Some m) Acceptor node k h =
+        (h.0, (h.1.0, ap (λ (l : _). map_of.get l m) same ∙ h.1.1, h.1.2))
+    shown_as v same at Requestor node k h =
+        (h.0, h.1, (h.2.0, (h.2.1.0, ap (λ (l : _). map_of.get l h.0) same ∙ h.2.1.1, h.2.1.2)))
+
+    only_at : (v : World) (name : Text) → OnlyAt w v name → OnlyOf w v None name
+    only_at v name o = record {
+      books = o.books;
+      links = λ other apart. ap (λ (l : _). map_of.get l other) o.links;
+      armed = o.armed;
+      rest = (o.rest.0, o.rest.1);
+      opened = (let e : v.opened ≡ w.opened = o.rest.2 in omega (arith, e));
+    }
+
+    alone : (node : Text) (Does : Desk → Desk → Type 0) (new : OwnWorld)
+        → (h : DoesAlone ours plan certificate b node Does new) (event : Event)
+        → ArrivesAtOurs ours w event
+        → HappensAt plan w event node h.after
+        → Acts w new
+    alone node Does new h event arrives a = as_new new _ h.is (
+      Own event ∷ [],
+      a.after,
+      (arrives, (a.after, a.step, (refl, refl))),
+      record {
+        time = a.only.rest.0 ∙ shows.time;
+        desks = desks_now b w shows 0 node h.own a.after None (only_at a.after node a.only)
+            (λ n q. absurd (cc q)) h.after a.desk_is;
+        numbers = shows.numbers;
+        own = shows.own;
+        ends = λ i e there. shown_as a.after a.only.links (shows.numbers i) e.side e.node e.terminal
+            (shows.ends i e there);
+        apart = shows.apart;
+        known = λ i n at. (
+            let few : n ≤ w.opened = shows.known i n at in
+            let e : a.after.opened ≡ w.opened = a.only.rest.2 in
+            omega (arith, few, e));
+      },
+    )
+
+    passes : (ms : ℕ) (new : OwnWorld)
+        → new ≡ record { time = min (b.time + ms) (2 ^ 62); desks = b.desks; ends = b.ends }
+        → Acts w new
+    passes ms new is = as_new new _ is (
+      Own (Tick ms) ∷ [],
+      passed w ms,
+      (tt, (passed w ms, refl, (refl, refl))),
+      record {
+        time = ap (λ (n : ℕ). min (n + ms) (2 ^ 62)) shows.time;
+        desks = shows.desks;
+        numbers = shows.numbers;
+        own = shows.own;
+        ends = λ i e there. shown_as (passed w ms) refl (shows.numbers i) e.side e.node e.terminal
+            (shows.ends i e there);
+        apart = shows.apart;
+        known = shows.known;
+      },
+    )
+
+    one_step : (step : OwnStep) (new : OwnWorld)
+        → OwnSteps ours plan certificate b step new
+        → Acts w new
+    one_step (Listens i node) new h = listens i node new h
+    one_step (Opens i node dest) new h = opens i node dest new h
+    one_step (Hears i came) new h = hears i came new h
+    one_step (Pushes i) new h = pushes i new h
+    one_step (Releases i) new h = releases i new h
+    one_step (Submits node item) new h = alone node _ new h
+        (Take node (instance_of item) h.does.0) h.own
+        (submitting_takes plan w node item (b.desks node) h.after h.does.0 h.is_node
+        (shows.desks node h.own) h.does.1)
+    one_step (StaysAway node uid dest) new h = alone node _ new h
+        (AwayEvent node uid dest h.does.0) tt
+        (staying_away_is_stay_away plan w node uid dest (b.desks node) h.after h.does.0 h.is_node
+        (shows.desks node h.own)
+        (subst
+        (λ (n : ℕ). LedgerStep plan node (b.desks node) (Settle uid dest Broken n)
+        (Settling h.does.0) h.after)
+        (sym shows.time) h.does.1))
+    one_step (PutsBack node uid dest) new h = alone node _ new h
+        (Requeue node uid dest h.does.0) tt
+        (requeueing_is_requeue plan w node uid dest (b.desks node) h.after h.does.0 h.is_node
+        (shows.desks node h.own) h.does.1)
+    one_step (GivesUp node uid dest) new h = alone node _ new h
+        (Drop node uid dest h.does.0) tt
+        (giving_up_is_drop plan w node uid dest (b.desks node) h.after h.does.0 h.is_node
+        (shows.desks node h.own)
+        (subst (λ (n : ℕ). GivesUpAt (b.desks node) uid dest n h.does.0 h.after)
+        (sym shows.time) h.does.1))
+    one_step (Refuses node) new h = alone node _ new h (Refuse node) tt
+        (subst (λ (d : Desk). HappensAt plan w (Refuse node) node d) (sym h.does)
+        (refusing_is_refuse plan w node (b.desks node) h.is_node (shows.desks node h.own)))
+    one_step (Passes ms) new h = passes ms new h
+
+  -- ---- any steps
+
+  any_steps : IsCertified plan certificate
+      → (steps : List OwnStep) (b new : OwnWorld) (before : List Act) (w : World)
+      → RunsAmong ours plan start before plan w
+      → ShowsOwn ours plan certificate b w
+      → OwnRuns ours plan certificate b steps new
+      → (acts : List Act) × (v : World)
+      × RunsAmong ours plan start acts plan v
+      × ShowsOwn ours plan certificate new v
+  any_steps certified [] b new before w runs shows h =
+      (before, w, runs, subst (λ (z : OwnWorld). ShowsOwn ours plan certificate z w) (sym h) shows)
+  any_steps certified (step ∷ steps) b new before w runs shows h =
+      let claims : HeadlineAmong ours plan w =
+      headline_holds_among ours plan certified.sound before plan w runs in
+      let one = one_step certified b w shows claims.others step h.0 h.1 in
+      any_steps certified steps h.0 new (before ++ one.0) one.1
+      (runs_on ours before one.0 plan plan plan start w one.1 runs one.2) one.3 h.2
+
+  beginning_shown : ShowsOwn ours plan certificate own_beginning start
+  beginning_shown = record {
+    time = refl;
+    desks = λ name its. (refl, sym (set.contains-empty text_cmp name));
+    numbers = λ i. None;
+    own = λ i e there. absurd (cc there);
+    ends = λ i e there. absurd (cc there);
+    apart = λ i j n at also. absurd (cc at);
+    known = λ i n at. absurd (cc at);
+  }
+
+pub own_worlds_keep_the_claims : OwnWorldsKeepTheClaims
+own_worlds_keep_the_claims ours plan certificate certified steps b runs =
+    let all = any_steps ours plan certificate certified steps own_beginning b [] start (refl, refl)
+    (beginning_shown ours plan certificate) runs in (
+      all.0,
+      all.1,
+      all.2,
+      all.3,
+      headline_holds_among ours plan certified.sound all.0 plan all.1 all.2,
+    )
+
+-- ---- laws
+
+pub ours_can_listen : OursCanListen
+ours_can_listen ours plan certificate b number site free own part =
+    (_, record { free = free; own = own; site = site; part = part; named = refl; is = refl })
+
+pub others_are_not_here : OthersAreNotHere
+others_are_not_here = record {
+  listens = λ ours plan certificate b new number node away h. false≢true (sym away ∙ h.own);
+  calls = λ ours plan certificate b new number node dest own h. false≢true (sym h.away ∙ own);
+  takes = λ ours plan certificate b new node item away h. false≢true (sym away ∙ h.own);
+}
