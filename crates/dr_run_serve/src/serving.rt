@@ -193,7 +193,10 @@ fn serve_links<
     };
     let (passes, has_served) = thread::join(
         rt,
-        || work(rt, alloc, from, desk, terms, &watch),
+        ||
+            requires { IsSync R.row × IsSend L.row × IsSend B.row × IsSync B.row × IsSend K.row
+                × IsSync C.row × IsSync G.row }
+        { work(rt, alloc, from, desk, terms, &watch) },
         || accept_links(rt, listener, to, terms.links, signal, clock, log),
     );
     if has_served {
