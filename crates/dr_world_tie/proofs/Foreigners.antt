@@ -1256,7 +1256,7 @@ play_all ours plan certificate certified name moment ear (i ∷ is) none w numbe
       more.5,
     )
 
-all_kept : (ours : Ours) (plan : Network) (name : Text) (cames : List Came) (w v : World)
+pub all_kept : (ours : Ours) (plan : Network) (name : Text) (cames : List Came) (w v : World)
     (number next : Option ℕ) (acts : List Act) (written : List LinkAction)
     → ComeAll ours plan name w number cames acts written v next
     → Keeps number next

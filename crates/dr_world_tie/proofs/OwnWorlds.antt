@@ -4,6 +4,8 @@ use Rattle.std.proofs.Common.{Some, None, refl, sym, ap, subst, ◌∙◌, inl, 
 use Rattle.std.specs.Prelude.{◌==◌, ◌+◌, ◌^◌, min, if◌then◌else◌}
 use Rattle.std.specs.FinMap as map_of
 use Rattle.std.specs.FinSet as set
+use Rattle.std.proofs.lemmas.Bool.{eq-eqb}
+use Rattle.std.specs.Ordering.{nat_cmp}
 use Rattle.std.proofs.lemmas.Bool.{cases_Bool, eqb-true, eqb-false, false≢true}
 use Rattle.std.proofs.lemmas.Option.{same_Some}
 use Rattle.dr_base.specs.Texts.{Text, text_cmp}
@@ -15,8 +17,14 @@ use Rattle.dr_pdu.specs.Feeding.{fresh}
 use Rattle.dr_session.specs.Ends.{accepting, requesting}
 use Rattle.dr_ledger.proofs.Maps.{get_other, same_or_not, texts, ties_itself}
 use Rattle.dr_session.specs.declared.ends.Input.TheVariants as input
-use Rattle.dr_world_model.specs.Worlds.{World, start}
-use Rattle.dr_world_model.specs.Events.{Event, Ask, Drop, Refuse, Requeue, Take, Tick}
+use Rattle.dr_world_model.specs.Worlds.{Link, World, start}
+use Rattle.dr_world_model.specs.Worlds.{Stage, Asking, Answering, Rejecting, Open, Storing}
+use Rattle.dr_world_model.specs.Worlds.{Replying, Gone}
+use Rattle.dr_world_model.specs.Steps.{IsLink, NoneIsPending, pending}
+use Rattle.dr_session.specs.declared.ends.Core.{Core}
+use Rattle.dr_session.specs.Pendings.{pending_of}
+use Rattle.dr_ledger.specs.declared.item.Instance.{Instance}
+use Rattle.dr_world_model.specs.Events.{Event, Ask, Drop, Forget, Refuse, Requeue, Take, Tick}
 use Rattle.dr_world_model.specs.Events.{StayAway as AwayEvent}
 use Rattle.dr_world_model.specs.Steps.{IsHop, asked, new_link, passed}
 use Rattle.dr_world_model.proofs.Lookups.{numbers as numbers_of}
@@ -31,12 +39,13 @@ use Rattle.dr_world_tie.specs.Nodes.{GivesUpAt, HappensAt, OnlyAt}
 use Rattle.dr_world_tie.specs.Ties.{IsDeskOf, with_desk}
 use Rattle.dr_world_tie.specs.Foreign.{Came, ComeAll, OnlyOf, OthersHaveNone, ShowsForeign}
 use Rattle.dr_world_tie.specs.ForeignCalls.{CallsIn, LeadsTo, ShowsCall, acts_of, acts_of_all}
-use Rattle.dr_world_tie.specs.ForeignCalls.{acts_of_push}
+use Rattle.dr_world_tie.specs.ForeignCalls.{CallsAt, IsCallOf, acts_of_push}
 use Rattle.dr_world_tie.specs.ForeignWorlds.{OwnEnd, OwnWorld, with_end, with_done, own_beginning}
 use Rattle.dr_world_tie.specs.ForeignWorlds.{OwnStep, Listens, Opens, Hears, Pushes, Releases}
 use Rattle.dr_world_tie.specs.ForeignWorlds.{Submits, Passes, HearsWhat, IsAskedFor}
 use Rattle.dr_world_tie.specs.ForeignWorlds.{BeginsListening, BeginsCalling, DoesAlone}
 use Rattle.dr_world_tie.specs.ForeignWorlds.{OthersAreNotHere, OursCanListen}
+use Rattle.dr_world_tie.specs.ForeignWorlds.{Forgets, NoneAwaits}
 use Rattle.dr_world_tie.specs.ForeignWorlds.{GivesUp, OwnSteps, PutsBack, Refuses, StaysAway}
 use Rattle.dr_world_tie.specs.ForeignWorlds.{OwnRuns, ShowsBy, ShowsOwn, OwnWorldsKeepTheClaims}
 use Rattle.dr_world_tie.proofs.Foreigners.{acceptors_begin, all_only, all_run, only_none, runs_on}
@@ -45,7 +54,8 @@ use Rattle.dr_world_tie.proofs.ForeignReplies.{one_answer_comes}
 use Rattle.dr_world_tie.proofs.LinksToOthers.{what_acceptors_hear, what_requestors_hear}
 use Rattle.dr_world_tie.proofs.Nodes.{giving_up_is_drop, refusing_is_refuse}
 use Rattle.dr_world_tie.proofs.Nodes.{requeueing_is_requeue, staying_away_is_stay_away}
-use Rattle.dr_world_tie.proofs.Nodes.{submitting_takes}
+use Rattle.dr_world_tie.proofs.Nodes.{forgetting_is_forget, submitting_takes}
+use Rattle.dr_world_tie.proofs.Foreigners.{all_kept, one_link}
 
 -- a number from then on is the one before, or a new one
 abbrev Counts : World → World → Option ℕ → Option ℕ → Type 0
@@ -155,10 +165,11 @@ module _ (ours : Ours) (plan : Network) (certificate : Certificate) where
 
     -- the world with another end in its place
     done : (side : Side) (k : Terminal)
+        → ((n : ℕ) → shows.numbers i ≡ Some n → next ≡ Some n)
         → ShowsBy ours plan certificate v next side node k
         → ShowsOwn ours plan certificate
         (with_done b i (record { side = side; node = node; terminal = k }) t) v
-    done side k shown = record {
+    done side k keeps shown = record {
       time = only.rest.0 ∙ shows.time;
       desks = desks_now;
       numbers = numbers_now;
@@ -181,8 +192,95 @@ module _ (ours : Ours) (plan : Network) (certificate : Certificate) where
       ];
       apart = apart_now;
       known = known_now;
+      free = λ j none. elim (cases_Bool (j == i)) [
+        | inl it ↦ absurd (placed j it none)
+        | inr not_it ↦ beside j not_it ∙ shows.free j (left_free j not_it none)
+      ];
+      called = λ n link there its. at_number next refl n link there its;
     }
       where
+        placed : (j : ℕ) → (j == i) ≡ true
+            → with_end b.ends i (record { side = side; node = node; terminal = k }) j ≡ None
+            → ⊥
+        placed j it none =
+            let e : OwnEnd = record { side = side; node = node; terminal = k } in
+            let f : Some e ≡ None = subst
+            (λ (c : Bool). (if c then Some e else b.ends j) ≡ None) it none in
+            cc f
+
+        left_free : (j : ℕ) → (j == i) ≡ false
+            → with_end b.ends i (record { side = side; node = node; terminal = k }) j ≡ None
+            → b.ends j ≡ None
+        left_free j not_it none = subst
+            (λ (c : Bool).
+            (if c then Some (record { side = side; node = node; terminal = k }) else b.ends j)
+            ≡ None) not_it none
+
+        -- a link that one of ours called, under another number
+        another : (n : ℕ) (link : Link) → next ≢ Some n → IsLink v n link → ours link.caller ≡ true
+            → (j : ℕ) × (e : OwnEnd)
+            × (with_end b.ends i (record { side = side; node = node; terminal = k }) j ≡ Some e)
+            × (numbers_now j ≡ Some n)
+            × (e.side ≡ Requestor)
+        another n link apart there its =
+            let a = shows.called n link (sym (only.links n apart) ∙ there) its in
+            elim (cases_Bool (a.0 == i)) [
+              | inl it ↦ absurd
+                  (apart
+                  (keeps n
+                  (subst (λ (j : ℕ). shows.numbers j ≡ Some n) (eqb-true a.0 i it) a.3)))
+              | inr not_it ↦ (
+                a.0,
+                a.1,
+                ap
+                    (λ (c : Bool).
+                    if c then Some (record { side = side; node = node; terminal = k })
+                    else b.ends a.0) not_it ∙ a.2,
+                beside a.0 not_it ∙ a.3,
+                a.4,
+              )
+            ]
+
+        -- the link of this end
+        its_own : (s : Side) → side ≡ s → (n : ℕ) → next ≡ Some n → (link : Link) → IsLink v n link
+            → ours link.caller ≡ true
+            → (j : ℕ) × (e : OwnEnd)
+            × (with_end b.ends i (record { side = side; node = node; terminal = k }) j ≡ Some e)
+            × (numbers_now j ≡ Some n)
+            × (e.side ≡ Requestor)
+        its_own Acceptor is n at link there its =
+            let s1 : ShowsBy ours plan certificate v next Acceptor node k = subst
+            (λ (z : Side). ShowsBy ours plan certificate v next z node k) is shown in
+            let s2 : ShowsForeign ours plan certificate node v (Some n) k = subst
+            (λ (o : Option ℕ). ShowsForeign ours plan certificate node v o k) at s1 in
+            let same : s2.1.0 ≡ link = one_link v n s2.1.0 link s2.1.1 there in
+            absurd (false≢true (sym s2.1.2.caller ∙ (ap (λ (l : Link). ours l.caller) same ∙ its)))
+        its_own Requestor is n at link there its = (
+          i,
+          record { side = side; node = node; terminal = k },
+          ap
+              (λ (c : Bool).
+              if c then Some (record { side = side; node = node; terminal = k }) else b.ends i)
+              (eq-eqb i i refl),
+          at_it i (eq-eqb i i refl) ∙ at,
+          is,
+        )
+
+        at_number : (o : Option ℕ) → next ≡ o → (n : ℕ) (link : Link) → IsLink v n link
+            → ours link.caller ≡ true
+            → (j : ℕ) × (e : OwnEnd)
+            × (with_end b.ends i (record { side = side; node = node; terminal = k }) j ≡ Some e)
+            × (numbers_now j ≡ Some n)
+            × (e.side ≡ Requestor)
+        at_number None is n link there its =
+            another n link (λ e. (let f : None ≡ Some n = sym is ∙ e in cc f)) there its
+        at_number (Some m) is n link there its = elim (cases_Bool (m == n)) [
+          | inl it ↦
+              its_own side refl n (is ∙ ap (λ (q : ℕ). Some q) (eqb-true m n it)) link there its
+          | inr not_it ↦ another n link
+              (λ e. eqb-false m n not_it (same_Some m n (sym is ∙ e))) there its
+        ]
+
         is_it : (j : ℕ) (e : OwnEnd) → (j == i) ≡ true
             → with_end b.ends i (record { side = side; node = node; terminal = k }) j ≡ Some e
             → record { side = side; node = node; terminal = k } ≡ e
@@ -258,6 +356,7 @@ module _ (ours : Ours) (plan : Network) (certificate : Certificate) where
               done b w shows i h.end.node own v next only
                   (all_counted ours plan h.end.node a.2.0 w v (shows.numbers i) next a.2.1 h.acts
                   all) h.after a.2.5.desk h.end.side (record { core = h.core; ear = h.left.ear })
+                  (all_kept ours plan h.end.node a.2.0 w v (shows.numbers i) next a.2.1 h.acts all)
                   (subst
                   (λ (z : Side). ShowsBy ours plan certificate v next z h.end.node
                   (record { core = h.core; ear = h.left.ear })) (sym e) shown_now),
@@ -288,10 +387,17 @@ module _ (ours : Ours) (plan : Network) (certificate : Certificate) where
               done b w shows i h.end.node own v (Some shown.0) a.2.2.only
                   (λ n q. inl (shown.1 ∙ q)) h.after a.2.4.desk h.end.side
                   (record { core = h.core; ear = h.left.ear })
+                  (λ n q. sym shown.1 ∙ q)
                   (subst
                   (λ (z : Side). ShowsBy ours plan certificate v (Some shown.0) z h.end.node
                   (record { core = h.core; ear = h.left.ear })) (sym e) (shown.0, refl, shown_now)),
             )
+
+    -- a free place had no number
+    none_before : (i : ℕ) → b.ends i ≡ None → (next : Option ℕ) (n : ℕ) → shows.numbers i ≡ Some n
+        → next ≡ Some n
+    none_before i free next n q =
+        (let f : None ≡ Some n = sym (shows.free i free) ∙ q in absurd (cc f))
 
     -- an end at a place of its own
     listens : (i : ℕ) (node : Text) (new : OwnWorld)
@@ -304,6 +410,7 @@ module _ (ours : Ours) (plan : Network) (certificate : Certificate) where
       done b w shows i node h.own w None (only_none w None node)
           (λ n q. absurd (cc q)) (b.desks node) (shows.desks node h.own) Acceptor
           (record { core = accepting h.site b.time; ear = fresh h.site.max_pdu })
+          (none_before i h.free None)
           (subst
           (λ (n : Text). ShowsForeign ours plan certificate n w None
           (record { core = accepting h.site b.time; ear = fresh h.site.max_pdu })) h.named
@@ -345,6 +452,7 @@ module _ (ours : Ours) (plan : Network) (certificate : Certificate) where
               (λ n q.
               (let same : w.opened + 1 ≡ n = same_Some (w.opened + 1) n q in
               inr (omega (arith, same), omega (arith, same)))) (b.desks node) a.1.desk Requestor k
+              (none_before i h.free (Some (w.opened + 1)))
               (w.opened + 1, refl, a.1.shows),
         )
 
@@ -361,6 +469,7 @@ module _ (ours : Ours) (plan : Network) (certificate : Certificate) where
       leads.runs,
       done b w shows i h_end.node own v (Some n) leads.only
           (λ m q. inl (at ∙ q)) t calls.desk h_end.side k
+          (λ m q. sym at ∙ q)
           (subst
           (λ (z : Side). ShowsBy ours plan certificate v (Some n) z h_end.node k) (sym e)
           (n, refl, calls.shows)),
@@ -447,6 +556,9 @@ module _ (ours : Ours) (plan : Network) (certificate : Certificate) where
             let few : n ≤ w.opened = shows.known i n at in
             let e : a.after.opened ≡ w.opened = a.only.rest.2 in
             omega (arith, few, e));
+        free = shows.free;
+        called = λ n link there its. shows.called n link
+            (ap (λ (l : _). map_of.get l n) (sym a.only.links) ∙ there) its;
       },
     )
 
@@ -466,8 +578,41 @@ module _ (ours : Ours) (plan : Network) (certificate : Certificate) where
             (shows.ends i e there);
         apart = shows.apart;
         known = shows.known;
+        free = shows.free;
+        called = shows.called;
       },
     )
+
+    -- what a requestor has pending, and its link in the message world
+    pend_by : (st : Stage) (receiver : Text) (c : Core) (item : Instance)
+        → CallsAt true st receiver c
+        → pending st ≡ Some item
+        → pending_of c.pending ≡ Some item.uid
+    pend_by Asking receiver c item h e = absurd (cc e)
+    pend_by (Answering accepted) receiver c item h e = absurd h
+    pend_by Rejecting receiver c item h e = absurd h
+    pend_by (Open accepted) receiver c item h e = absurd (cc e)
+    pend_by (Storing accepted it) receiver c item h e =
+        ap pending_of h.1.2 ∙ ap (λ (x : Instance). Some x.uid) (same_Some it item e)
+    pend_by (Replying accepted it status) receiver c item h e = absurd h
+    pend_by Gone receiver c item h e = absurd h
+
+    none_pending : (node uid : Text) → NoneAwaits b node uid → ours node ≡ true
+        → NoneIsPending w node uid
+    none_pending node uid none its number link item there caller on pend same =
+        let a = shows.called number link there (ap ours caller ∙ its) in
+        let s = shown_call a.0 a.1 a.2 a.4 in
+        let number_is : s.0 ≡ number = same_Some s.0 number (sym s.1 ∙ a.3) in
+        let at : IsLink w number s.2.1.0 =
+        subst (λ (n : ℕ). IsLink w n s.2.1.0) number_is s.2.1.1 in
+        let call : IsCallOf ours a.1.node link a.1.terminal.core = subst
+        (λ (l : Link). IsCallOf ours a.1.node l a.1.terminal.core)
+        (one_link w number s.2.1.0 link at there) s.2.1.2 in
+        let stands : CallsAt true link.stage link.receiver a.1.terminal.core = subst
+        (λ (c : Bool). CallsAt c link.stage link.receiver a.1.terminal.core) on call.stands in
+        none a.0 a.1 a.2 (sym call.caller ∙ caller)
+        (pend_by link.stage link.receiver a.1.terminal.core item stands pend
+        ∙ ap (λ (u : Text). Some u) same)
 
     one_step : (step : OwnStep) (new : OwnWorld)
         → OwnSteps ours plan certificate b step new
@@ -499,6 +644,10 @@ module _ (ours : Ours) (plan : Network) (certificate : Certificate) where
         (shows.desks node h.own)
         (subst (λ (n : ℕ). GivesUpAt (b.desks node) uid dest n h.does.0 h.after)
         (sym shows.time) h.does.1))
+    one_step (Forgets node uid) new h = alone node _ new h.1
+        (Forget node uid h.1.does.0) tt
+        (forgetting_is_forget plan w node uid (b.desks node) h.1.after h.1.does.0 h.1.is_node
+        (none_pending node uid h.0 h.1.own) (shows.desks node h.1.own) h.1.does.1)
     one_step (Refuses node) new h = alone node _ new h (Refuse node) tt
         (subst (λ (d : Desk). HappensAt plan w (Refuse node) node d) (sym h.does)
         (refusing_is_refuse plan w node (b.desks node) h.is_node (shows.desks node h.own)))
@@ -532,6 +681,9 @@ module _ (ours : Ours) (plan : Network) (certificate : Certificate) where
     ends = λ i e there. absurd (cc there);
     apart = λ i j n at also. absurd (cc at);
     known = λ i n at. absurd (cc at);
+    free = λ i none. refl;
+    called = λ n link there its.
+        (let f : None ≡ Some link = sym (map_of.get-empty nat_cmp n) ∙ there in absurd (cc f));
   }
 
 pub own_worlds_keep_the_claims : OwnWorldsKeepTheClaims

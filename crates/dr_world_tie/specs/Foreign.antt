@@ -111,7 +111,9 @@ ShowsForeign ours plan certificate name w (Some number) t =
 
 -- what the acceptor did, as the message world sees it
 pub data Came : Type 0 where
-  Nothing : Came  -- no store of an instance was heard to its end, and the end stays as it was
+  -- nothing for that world: a part of a message, a request that is refused before the ledger is
+  -- asked or that has no line there, or what an end hears that is off
+  Nothing : Came
   Asked : (caller : Text) → (answer : Option Contexts) → Came  -- a request was answered
   Brought : (item : Instance) → (reply : Reply) → Came  -- an instance was stored, and answered
   Left : Came  -- the end left
@@ -186,7 +188,7 @@ pub record OnlyOf (w v : World) (number : Option ℕ) (name : Text) : Type 0 whe
   pub rest : (v.time ≡ w.time) × (v.stood ≡ w.stood)
   pub opened : w.opened ≤ v.opened
 
--- this came at the end, and it is these acts; a number that it has from then on is a new one
+-- this came at the end, and it is these acts; a number that the end didn't have before is a new one
 pub record Comes (ours : Ours) (plan : Network) (name : Text) (w : World) (number : Option ℕ)
     (came : Came) (acts : List Act) (v : World) (next : Option ℕ) : Type 0 where
   pub are : AreActs w name number came acts next

@@ -1,7 +1,7 @@
 -- Nodes of ours among other makers' products, to which alone they have links: all their desks and
 -- ends, what may happen there, and that the four claims hold after any of it.
-use Rattle.std.specs.Prelude.{◌≡◌, ◌≤◌, ◌+◌, ◌^◌, ◌==◌, if◌then◌else◌, ℕ, true, false, List, []}
-use Rattle.std.specs.Prelude.{◌∷◌, min, Option, None, Some, Ok}
+use Rattle.std.specs.Prelude.{◌≢◌, ◌≡◌, ◌≤◌, ◌+◌, ◌^◌, ◌==◌, if◌then◌else◌, ℕ, true, false, List}
+use Rattle.std.specs.Prelude.{[], ◌∷◌, min, Option, None, Some, Ok}
 use Rattle.dr_base.specs.Texts.{Text}
 use Rattle.dr_route.specs.Routes.{local}
 use Rattle.dr_plan_model.specs.Networks.{Network}
@@ -24,16 +24,17 @@ use Rattle.dr_session.specs.declared.ends.Moment.{Moment}
 use Rattle.dr_session.specs.Desks.{Arrive, Arrival, Settle, Settling}
 use Rattle.dr_session.specs.Ends.{Terminal as End, HearsOf, accepting, requesting}
 use Rattle.dr_session.specs.Ledgers.{desk}
+use Rattle.dr_session.specs.Pendings.{pending_of}
 use Rattle.dr_session.specs.Plays.{Reacts, at_moment}
-use Rattle.dr_world_model.specs.Worlds.{World, start}
+use Rattle.dr_world_model.specs.Worlds.{Link, World, start}
 use Rattle.dr_world_model.specs.Calls.{Answer, Reply}
 use Rattle.dr_world_model.specs.Events.{HasNode}
-use Rattle.dr_world_model.specs.Steps.{IsHop}
+use Rattle.dr_world_model.specs.Steps.{IsHop, IsLink}
 use Rattle.dr_world_model.specs.Among.{Ours, Act, RunsAmong, HeadlineAmong}
 use Rattle.dr_world_tie.specs.ByteWorlds.{Side, Requestor, Acceptor}
 use Rattle.dr_world_tie.specs.Desks.{Desk, LedgerStep}
 use Rattle.dr_world_tie.specs.Channels.{Terminal}
-use Rattle.dr_world_tie.specs.Nodes.{GivesUpAt, RequeuesAt}
+use Rattle.dr_world_tie.specs.Nodes.{ForgetsAt, GivesUpAt, RequeuesAt}
 use Rattle.dr_world_tie.specs.Ties.{IsDeskOf, with_desk}
 use Rattle.dr_world_tie.specs.Foreign.{ShowsForeign}
 use Rattle.dr_world_tie.specs.ForeignCalls.{ShowsCall}
@@ -78,8 +79,16 @@ pub data OwnStep : Type 0 where
   StaysAway : (node : Text) → (uid : Text) → (dest : Text) → OwnStep
   PutsBack : (node : Text) → (uid : Text) → (dest : Text) → OwnStep  -- a held row waits again
   GivesUp : (node : Text) → (uid : Text) → (dest : Text) → OwnStep  -- a held row is given up
+  -- a node forgets what is over, where no requestor of it awaits an answer about it
+  Forgets : (node : Text) → (uid : Text) → OwnStep
   Refuses : (node : Text) → OwnStep  -- a node's store is to refuse its next line
   Passes : (ms : ℕ) → OwnStep  -- time passes
+
+-- no end of the node has a store of the uid pending
+abbrev pub NoneAwaits : OwnWorld → Text → Text → Type 0
+NoneAwaits b node uid =
+    (i : ℕ) (e : OwnEnd) → b.ends i ≡ Some e → e.node ≡ node
+    → pending_of e.terminal.core.pending ≢ Some uid
 
 module _ (ours : Ours) (plan : Network) (certificate : Certificate) where
   -- an end of ours that listens to a fresh connection
@@ -201,6 +210,9 @@ module _ (ours : Ours) (plan : Network) (certificate : Certificate) where
       DoesAlone old node (λ s t. (answer : Answer) × RequeuesAt s uid dest answer t) new
   OwnSteps old (GivesUp node uid dest) new =
       DoesAlone old node (λ s t. (answer : Answer) × GivesUpAt s uid dest old.time answer t) new
+  OwnSteps old (Forgets node uid) new =
+      NoneAwaits old node uid
+      × DoesAlone old node (λ s t. (answer : Answer) × ForgetsAt s uid answer t) new
   OwnSteps old (Refuses node) new = DoesAlone old node (λ s t. t ≡ desk s.book true) new
   OwnSteps old (Passes ms) new =
       new ≡ record { time = min (old.time + ms) (2 ^ 62); desks = old.desks; ends = old.ends }
@@ -218,7 +230,8 @@ module _ (ours : Ours) (plan : Network) (certificate : Certificate) where
   ShowsBy w at Requestor node k =
       (n : ℕ) × (at ≡ Some n) × ShowsCall ours plan certificate node w n k
 
-  -- the same time, the desks of ours, and each end shown, each link by one end
+  -- the same time, the desks of ours, and each end shown, each link by one end; and each link that
+  -- one of ours called is its requestor's
   pub record ShowsOwn (b : OwnWorld) (w : World) : Type 0 where
     pub time : w.time ≡ b.time
     pub desks : (name : Text) → ours name ≡ true → IsDeskOf w name (b.desks name)
@@ -229,6 +242,12 @@ module _ (ours : Ours) (plan : Network) (certificate : Certificate) where
         → ShowsBy w (numbers i) e.side e.node e.terminal
     pub apart : (i j n : ℕ) → numbers i ≡ Some n → numbers j ≡ Some n → i ≡ j
     pub known : (i n : ℕ) → numbers i ≡ Some n → n ≤ w.opened
+    pub free : (i : ℕ) → b.ends i ≡ None → numbers i ≡ None
+    pub called : (n : ℕ) (link : Link)
+        → IsLink w n link
+        → ours link.caller ≡ true
+        → (i : ℕ) × (e : OwnEnd) × (b.ends i ≡ Some e) × (numbers i ≡ Some n)
+        × (e.side ≡ Requestor)
 
 -- After any steps from the beginning, whatever others write, a world of messages stands beside it,
 -- to which acts lead from the start, and of which the four claims hold.
