@@ -364,6 +364,59 @@ fn control_of<'a, U: Ending>(
     }
 }
 
+/// Opens a node and serves at its address, until its input or who asks over its control connection
+/// ends it, where either may; the report of what it then has.
+///
+/// Errors: Stream where the system gives no thread for the input; File with the control's address,
+/// where nothing may listen there. The others are those of `serve_node`.
+fn serve_until_ended<
+    'a,
+    R: Threads + Wait + Sync + time::Clock,
+    F: Files,
+    O: Ledgers,
+    N: Network + Sync,
+    C: Clock + Sync,
+    G: Monitor + Sync,
+    U: Ending,
+>(
+    rt: &R,
+    alloc: Global,
+    files: &F,
+    ledgers: &O,
+    given: NodeFiles<'a>,
+    serving: Serving<'a>,
+    network: &N,
+    clock: &C,
+    log: &G,
+    ending: &U,
+) -> Result<Result<Text, Halt<'a>>, Failure<'a>>
+where
+    O::Ledger: Send,
+    N::Socket: Send,
+    N::Listener: Sync,
+    ensures { IfOk result (Serves (F.holds files.now given.entry.plan.now)
+        (F.holds files.now given.entry.certificate.now) (O.opens ledgers.now given.entry.ledger.now)
+        O.Ledger.site O.Ledger.book O.Ledger.stands given.entry.node.now) }
+{
+    let stop = stop_of(alloc, serving, ending)?;
+    let control = control_of(alloc, serving, ending)?;
+    let came = serve_node(
+        rt,
+        alloc,
+        files,
+        ledgers,
+        given,
+        serving,
+        stop.as_ref(),
+        control.as_ref(),
+        network,
+        clock,
+        log,
+    );
+    drop(control);
+    Ok(came)
+}
+
 /// Serves at the address of a node, whose plan, certificate and ledger are in these files, and
 /// sends what is due. After so many connections (for 0 never), or where that is asked for when the
 /// input has ended, the node's report is printed. Events are logged as they happen; where a file is
@@ -415,21 +468,8 @@ where
         files,
         path: serving.report,
     };
-    let stop = stop_of(alloc, serving, ending)?;
-    let control = control_of(alloc, serving, ending)?;
-    let came = serve_node(
-        rt,
-        alloc,
-        files,
-        ledgers,
-        given,
-        serving,
-        stop.as_ref(),
-        control.as_ref(),
-        network,
-        clock,
-        &monitor,
-    );
-    drop(control);
+    let came = serve_until_ended(
+        rt, alloc, files, ledgers, given, serving, network, clock, &monitor, ending,
+    )?;
     finish(came, output, faults)
 }
