@@ -8,16 +8,53 @@ mod input;
 mod over;
 
 use crate::events::EventLog;
-use crate::files::{SystemDisk, SystemFiles};
+use crate::files::{Databases, SystemDisk, SystemFiles};
 use crate::input::InputEnd;
 use crate::over::run_stored;
+use dr_run_files::Files;
 use dr_run_net::{Cut, Sockets, SystemClock};
 use dr_run_open::Status;
+use dr_run_report::Paths;
+use dr_run_token::Tokens;
 use dr_word_check::{given_words, tell_unread_words};
 use std::process::ExitCode;
 use std::sync::Wait;
 use std::thread::Threads;
 use std::{io, time};
+
+/// Runs the program on these words, over the system's network, clock, log, input and outputs, and
+/// any files. The files are the system's in `run` alone: all types at once are too many for the
+/// prover to compare.
+fn run_over_files<
+    'x,
+    T: Threads + Wait + Sync + time::Clock,
+    F: Files + Paths + Tokens + Sync,
+    D: Databases,
+>(rt: &'x HostRuntime, threads: &'x T, words: &[&str], files: &F, databases: &D) -> Status
+where
+    D::Store: Send,
+{
+    let (mut input, mut output, mut faults) = (rt.stdin(), rt.stdout(), rt.stderr());
+    let (clock, cut) = (SystemClock::start(rt), Cut::new());
+    run_stored(
+        threads,
+        rt.alloc(),
+        words,
+        &mut input,
+        &mut output,
+        &mut faults,
+        files,
+        databases,
+        &Sockets::new(rt, &clock, &cut),
+        &clock,
+        &EventLog { rt, clock: &clock },
+        &InputEnd {
+            rt: threads,
+            input: rt.stdin(),
+            system: rt,
+        },
+    )
+}
 
 /// Runs the program on its words, which fails only where they can't be read. `threads` is the
 /// runtime too, by which nodes run.
@@ -30,27 +67,8 @@ fn run<'x, T: Threads + Wait + Sync + time::Clock>(
     for word in given.as_slice() {
         words.push(word.as_str())?;
     }
-    let (mut input, mut output, mut faults) = (rt.stdin(), rt.stdout(), rt.stderr());
-    let (clock, cut) = (SystemClock::start(rt), Cut::new());
-    let status = run_stored(
-        threads,
-        rt.alloc(),
-        words.as_slice(),
-        &mut input,
-        &mut output,
-        &mut faults,
-        &SystemDisk::new(rt),
-        &SystemFiles(rt),
-        &Sockets::new(rt, &clock, &cut),
-        &clock,
-        &EventLog { rt, clock: &clock },
-        &InputEnd {
-            rt: threads,
-            input: rt.stdin(),
-            system: rt,
-        },
-    );
-    Ok(status)
+    let (files, databases) = (SystemDisk::new(rt), SystemFiles(rt));
+    Ok(run_over_files(rt, threads, words.as_slice(), &files, &databases))
 }
 
 fn main(rt: HostRuntime) -> ExitCode {
