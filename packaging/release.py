@@ -119,8 +119,8 @@ def archive(program, says, at):
 def unit():
     """The unit with the program where the package puts it."""
     text = part("dr_router@.service")
-    if text.count(b"/usr/local/bin/dr_router") != 3:
-        raise Refused("X5 Unit: the unit doesn't name the program in three places")
+    if text.count(b"/usr/local/bin/dr_router") != 4:
+        raise Refused("X5 Unit: the unit doesn't name the program in four places")
     return text.replace(b"/usr/local/bin/dr_router", b"/usr/bin/dr_router")
 
 

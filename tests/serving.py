@@ -565,10 +565,14 @@ def aborts(link):
     return True
 
 
+# how the unit has the C library let go of memory: what is large goes back to the system at once
+LETS_GO = {'MALLOC_ARENA_MAX': '2', 'MALLOC_MMAP_THRESHOLD_': '1048576'}
+
+
 def crowded():
     """Where there is no room in memory for a data set that comes, it is answered A700H, and comes in later; the others do at once."""
     with Room() as room:
-        arch = room.serve('ARCH', 0, '--memory', '128')
+        arch = room.serve('ARCH', 0, '--memory', '128', env={**os.environ, **LETS_GO})
         bodies = {uid: data_set(uid, element(0x7fe0, 0x10, b'OW', bytes(48 << 20))) for uid in (b'1.2.3.%d' % number for number in range(4))}
         answers = {}
         def store(uid):
@@ -603,7 +607,7 @@ def many_transfers():
     """Of 64 data sets of 64 MiB that come at once those for which there is no room come again, and in the end each is kept. The node stays
     below what the unit lets it have. That is more than the budget, which doesn't count what is copied on its way into the ledger."""
     with Room() as room:
-        arch = room.serve('ARCH', 0)
+        arch = room.serve('ARCH', 0, env={**os.environ, **LETS_GO})
         size = 64 << 20
         head = len(data_set(b'1.2.3.4', element(0x7fe0, 0x10, b'OW', b'')))
         # what they have in common is made once: this process has all of them at a time
