@@ -120,19 +120,19 @@ class Requestor:
         return number_in(body[6:], 0x900)
 
     def echo(self):
-        self.last += 1
+        self.last = self.last % 0xffff + 1
         self.link.sendall(values(1, 1, command((2, VERIFICATION), (0x100, ECHO), (0x110, self.last), (0x800, 0x101))))
         return self.response()
 
     def store(self, uid, data, syntax=EXPLICIT, of=CT):
-        self.last += 1
+        self.last = self.last % 0xffff + 1
         asked = command((2, of), (0x100, STORE), (0x110, self.last), (0x700, 0), (0x800, 1), (0x1000, uid))
         self.link.sendall(values(CONTEXT_OF[syntax], 1, asked) + values(CONTEXT_OF[syntax], 0, data))
         return self.response()
 
     def ask(self, field):
         """A request that this program may not know, without a data set."""
-        self.last += 1
+        self.last = self.last % 0xffff + 1
         self.link.sendall(values(3, 1, command((2, CT), (0x100, field), (0x110, self.last), (0x700, 0), (0x800, 0x101))))
         return self.response()
 
