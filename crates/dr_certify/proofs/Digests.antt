@@ -1,5 +1,5 @@
 -- A SHA-256 has 32 bytes.
-use Rattle.std.proofs.Common.{ℕ, zero, suc, ◌<◌, ◌/◌, ◌^◌, mod-lt, List, [], ◌∷◌, arith}
+use Rattle.std.proofs.Common.{◌≡◌, sym, subst, ℕ, zero, suc, ◌<◌, ◌/◌, ◌^◌, mod-lt, List, [], ◌∷◌, arith}
 use Rattle.std.specs.Prelude.{All, slice_index}
 use Rattle.std.specs.Int.{to_be_bytes, byte_at, w32}
 use Rattle.std.proofs.lemmas.List.Elements.{All-nil, All-cons, All-append}
@@ -28,3 +28,9 @@ each_byte h (suc n) = All-append IsByte (digest_bytes h n) (to_be_bytes w32 (sli
 pub is_digest : (text : List ℕ) → IsDigest (sha256 text)
 unfolding sha256
 is_digest text = (length-sha256 text, each_byte (final_hash initial_hash_256 text) 8)
+
+-- and so has the digest of a plan that was read of a text
+pub of_core : (digest text : List ℕ) → digest ≡ sha256 text → IsDigest digest
+of_core digest text is =
+    let D : List ℕ → Type 0 = λ it. IsDigest it in
+    subst D (sym is) (is_digest text)

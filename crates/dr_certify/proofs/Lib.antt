@@ -1,3 +1,4 @@
 pub mod Digests
+pub mod Found
 pub mod Moved
 pub mod Read

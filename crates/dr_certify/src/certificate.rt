@@ -1,14 +1,16 @@
 //! The certificate of a plan, as text.
 ghost use Rattle.std.specs.Prelude.{◌≡◌, true, false, IfOk, IfSome, Ok};
-ghost use Rattle.dr_base.specs.Texts.{Text as OfText};
-ghost use Rattle.dr_plan.specs.Reading.{Reads};
-ghost use Rattle.dr_certify.specs.Certified.{Certifies, Finds, HasNoCertificate, Prints};
+ghost use Rattle.dr_plan_model.specs.Networks.{Network};
+ghost use Rattle.dr_plan_model.specs.declared.plan.Format.TheVariants.{Three};
+ghost use Rattle.dr_cert_text.specs.Printable.{IsDigest};
+ghost use Rattle.dr_certify.specs.Certified.{Certifies, Finds, FindsOf, HasNoCertificate, Prints};
 
 use crate::input::read_input;
 use dr_base::Text;
 use dr_cert_text::write_certificate;
 use dr_check::{CheckFault, Fault, Verdict, check};
-use dr_plan::{Plan, PlanFault, read_plan};
+use dr_plan_core::{PlanFault, read_core};
+use dr_plan_model::{Format, Plan};
 use std::alloc::{AllocError, Global};
 use std::io;
 use std::io::{Read, Write};
@@ -39,7 +41,7 @@ impl From<AllocError> for Refusal {
 ///
 /// Errors: Unsound, TooLarge, Memory.
 pub fn certify(alloc: Global, plan: &Plan) -> Result<Text, Refusal>
-    ensures { (text : OfText) → Reads text (Ok plan.now) → Certifies text result }
+    ensures { IsDigest plan.now.digest → Certifies plan.now result }
 {
     match check(alloc, plan) {
         Ok(Verdict::Yes(certificate)) => Ok(write_certificate(alloc, &certificate)?),
@@ -49,9 +51,12 @@ pub fn certify(alloc: Global, plan: &Plan) -> Result<Text, Refusal>
     }
 }
 
-/// What a plan's text comes to, where its plan was certified or refused.
+/// What a plan of format 1 or 2 comes to, where it was certified or refused.
 fn found_of(certified: Result<Text, Refusal>) -> Result<Option<Text>, AllocError>
-    ensures { (text : OfText) → Certifies text certified → IfOk result (Finds text) }
+    ensures { (plan : Network)
+        → (plan.format ≡ Three → ⊥)
+        → Certifies plan certified
+        → IfOk result (FindsOf plan) }
 {
     match certified {
         Ok(certificate) => Ok(Some(certificate)),
@@ -64,20 +69,32 @@ fn found_of(certified: Result<Text, Refusal>) -> Result<Option<Text>, AllocError
     }
 }
 
-/// The text of the certificate of the plan that this text writes; None where it writes none, or one
-/// that has no certificate.
+/// The text of the certificate of the plan; None where it has none, and of format 3, whose text is
+/// to be expanded before it is read.
+fn certificate_of_plan(alloc: Global, plan: &Plan) -> Result<Option<Text>, AllocError>
+    ensures { IsDigest plan.now.digest → IfOk result (FindsOf plan.now) }
+{
+    match plan.format() {
+        Format::Three => Ok(None),
+        Format::One | Format::Two => found_of(certify(alloc, plan)),
+    }
+}
+
+/// The text of the certificate of the plan that this text writes as it stands; None where it writes
+/// none, or one that has no certificate or is of format 3.
 fn certificate_of(alloc: Global, text: &[u8]) -> Result<Option<Text>, AllocError>
     ensures { IfOk result (Finds text.now) }
 {
-    match read_plan(alloc, text) {
-        Ok(plan) => found_of(certify(alloc, &plan)),
+    match read_core(alloc, text) {
+        Ok(plan) => certificate_of_plan(alloc, &plan),
         Err(PlanFault::Memory) => Err(AllocError),
         Err(_) => Ok(None),
     }
 }
 
 /// Prints to the output the certificate of the plan on the input, and answers whether it has one:
-/// where the text writes no plan, or the plan isn't sound or too large, nothing is printed.
+/// where the text writes no plan of format 1 or 2, or the plan isn't sound or too large, nothing is
+/// printed.
 ///
 /// Errors: those of the input and of the output, and `OutOfMemory`.
 pub fn print_certificate<R: Read, W: Write>(

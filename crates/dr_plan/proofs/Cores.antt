@@ -11,9 +11,10 @@ use Rattle.dr_plan_expand.specs.Expanding.{Fails}
 use Rattle.dr_plan_expand.specs.declared.fault.ExpandFault.{ExpandFault}
 use Rattle.dr_plan_expand.specs.declared.fault.ExpandFault.TheVariants as expand
 use Rattle.dr_plan_text.proofs.Refusals.{empty_tree}
-use Rattle.dr_plan.specs.declared.fault.PlanFault.{PlanFault}
+use Rattle.dr_plan_core.specs.declared.fault.PlanFault.{PlanFault}
 use Rattle.dr_plan.specs.Faults.{fault_of}
-use Rattle.dr_plan.specs.Reading.{ReadsCore, Reads, IsOfThird, IsReadFor, HasNoCore}
+use Rattle.dr_plan_core.specs.Reading.{ReadsCore}
+use Rattle.dr_plan.specs.Reading.{Reads, IsOfThird, IsReadFor, HasNoCore}
 
 -- what is read of the text that is read for it is what is read of it
 pub read_for : (text core : Text) (r : Result Network PlanFault) → IsReadFor text core → ReadsCore core r → Reads text r

@@ -1,10 +1,3 @@
-pub mod EachNames
-pub mod Forms
-pub mod GoodNames
-pub mod Mapped
-pub mod PlanForm
-pub mod Typing
-pub mod OneAnswer
-pub mod Refusals
 pub mod OneReading
 pub mod Cores
+pub mod AsItStands

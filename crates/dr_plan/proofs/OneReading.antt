@@ -11,11 +11,12 @@ use Rattle.dr_plan_expand.specs.Expanding.{Expands, ExpandsTo, Fails}
 use Rattle.dr_plan_expand.specs.declared.fault.ExpandFault.{ExpandFault}
 use Rattle.dr_plan_expand.specs.declared.fault.ExpandFault.TheVariants as expand
 use Rattle.dr_plan_expand.proofs.OneExpansion.{one_expansion, none_expands_and_fails, one_fault}
-use Rattle.dr_plan.specs.declared.fault.PlanFault.{PlanFault}
-use Rattle.dr_plan.specs.declared.fault.PlanFault.TheVariants as fault
+use Rattle.dr_plan_core.specs.declared.fault.PlanFault.{PlanFault}
+use Rattle.dr_plan_core.specs.declared.fault.PlanFault.TheVariants as fault
 use Rattle.dr_plan.specs.Faults.{fault_of}
-use Rattle.dr_plan.specs.Reading.{ReadsCore, Reads, IsOfThird, IsReadFor, HasNoCore}
-use Rattle.dr_plan.proofs.OneAnswer.{one_core_answer}
+use Rattle.dr_plan_core.specs.Reading.{ReadsCore}
+use Rattle.dr_plan.specs.Reading.{Reads, IsOfThird, IsReadFor, HasNoCore}
+use Rattle.dr_plan_core.proofs.OneAnswer.{one_core_answer}
 
 -- one text is read for a text
 third_of : (text core : Text) → Expands text core → IsOfThird text

@@ -3,8 +3,10 @@ use Rattle.std.specs.Prelude.{◌≡◌, ◌≢◌, Result, Ok, Err}
 use Rattle.dr_base.specs.Texts.{Text}
 use Rattle.dr_plan_model.specs.Networks.{Network}
 use Rattle.dr_plan_model.specs.Formed.{AreWellFormed}
-use Rattle.dr_plan.specs.declared.fault.PlanFault.{PlanFault}
-use Rattle.dr_plan.specs.declared.fault.PlanFault.TheVariants.{Memory}
+use Rattle.dr_plan_core.specs.declared.fault.PlanFault.{PlanFault}
+use Rattle.dr_plan_core.specs.declared.fault.PlanFault.TheVariants.{Memory}
+use Rattle.dr_plan_model.specs.declared.plan.Format.TheVariants.{Three}
+use Rattle.dr_plan_core.specs.Reading.{ReadsCore}
 use Rattle.dr_plan.specs.Reading.{Reads}
 
 -- want of memory aside, a text has one answer
@@ -19,3 +21,9 @@ PlansAreWellFormed =
     (text : Text) (plan : Network)
     → Reads text (Ok plan)
     → AreWellFormed plan.format plan.nodes plan.flows
+
+-- what is read of a text as it stands, and isn't of format 3, is its plan
+abbrev pub CoresAreRead : Type 0
+CoresAreRead =
+    (text : Text) (plan : Network)
+    → ReadsCore text (Ok plan) → plan.format ≢ Three → Reads text (Ok plan)

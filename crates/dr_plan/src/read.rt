@@ -1,64 +1,16 @@
 //! The plan of a text.
 ghost use Rattle.std.specs.Prelude.{◌≡◌, IfOk, IfErr, MatchOption};
-ghost use Rattle.dr_plan.specs.Reading.{Passes, ReadsCore, Reads, IsOfThird, HasNoCore};
+ghost use Rattle.dr_plan.specs.Faults.{fault_of as plan_fault};
+ghost use Rattle.dr_plan.specs.Reading.{Reads, IsOfThird, HasNoCore};
 ghost use Rattle.dr_plan_expand.specs.Expanding.{Expands};
 
-use crate::fault::PlanFault;
-use crate::limits::is_within_limits;
-use crate::names::{Among, WellFormed, each_name, names_of};
-use crate::routes::sends_elsewhere;
-use crate::syntaxes::knows_syntaxes;
-use crate::typed::{flows_of, nodes_of};
 use dr_base::Text;
+use dr_plan_core::{PlanFault, read_core};
 use dr_plan_expand::ExpandFault;
 use dr_plan_expand::expand::expand;
 use dr_plan_expand::tables::is_third;
 use dr_plan_model::Plan;
-use dr_plan_text::{PlanText, read_text};
-use sha2::{Digest, Sha256};
 use std::alloc::Global;
-
-/// The first fault that a plan has beside those of its fields.
-fn pass(alloc: Global, plan: &PlanText) -> Result<(), PlanFault>
-    ensures { Passes plan.now result }
-{
-    if !knows_syntaxes(plan) {
-        return Err(PlanFault::Syntax);
-    }
-    if !each_name(&WellFormed, plan) {
-        return Err(PlanFault::Name);
-    }
-    let Some(names) = names_of(alloc, plan.nodes.as_slice())? else {
-        return Err(PlanFault::Name);
-    };
-    if !is_within_limits(plan) {
-        return Err(PlanFault::Limit);
-    }
-    if !each_name(&Among(&names), plan) {
-        return Err(PlanFault::UnknownNode);
-    }
-    if !sends_elsewhere(plan) {
-        return Err(PlanFault::SelfRoute);
-    }
-    Ok(())
-}
-
-/// The plan that the text writes as it stands, with the text's SHA-256, or its first fault.
-fn read_core(alloc: Global, text: &[u8]) -> Result<Plan, PlanFault>
-    ensures { ReadsCore text.now result }
-{
-    let written = read_text(alloc, text)?;
-    pass(alloc, &written)?;
-    let PlanText {
-        format,
-        nodes,
-        flows,
-    } = written;
-    let nodes = nodes_of(alloc, nodes)?;
-    let flows = flows_of(alloc, flows)?;
-    let plan = Plan::new(alloc, format, nodes, flows, Sha256::digest(text))?;
-    Ok(plan)
-}
 
 /// The text to which a text of format 3 expands; None for a text of another format, and for what
 /// isn't TOML.
@@ -78,6 +30,18 @@ pub fn core_of(alloc: Global, text: &[u8]) -> Result<Option<Text>, ExpandFault>
     match expand(alloc, &root) {
         Ok(core) => Ok(Some(core)),
         Err(fault) => Err(fault),
+    }
+}
+
+/// Why a text is no plan that isn't expanded.
+fn fault_of(fault: ExpandFault) -> PlanFault
+    ensures { result ≡ plan_fault fault }
+{
+    match fault {
+        ExpandFault::Field => PlanFault::Field,
+        ExpandFault::Limit => PlanFault::Limit,
+        ExpandFault::Unknown => PlanFault::UnknownName,
+        ExpandFault::Memory => PlanFault::Memory,
     }
 }
 
@@ -102,6 +66,6 @@ pub fn read_plan(alloc: Global, text: &[u8]) -> Result<Plan, PlanFault>
 {
     match core_of(alloc, text) {
         Ok(found) => read_found(alloc, text, found),
-        Err(fault) => Err(PlanFault::from(fault)),
+        Err(fault) => Err(fault_of(fault)),
     }
 }

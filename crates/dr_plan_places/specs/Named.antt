@@ -11,7 +11,7 @@ use Rattle.dr_plan_text.specs.declared.words.AcceptText.{AcceptText}
 use Rattle.dr_plan_text.specs.declared.words.NodeText.{NodeText}
 use Rattle.dr_plan_text.specs.declared.words.FlowText.{FlowText}
 use Rattle.dr_plan_text.specs.declared.words.PlanText.{PlanText}
-use Rattle.dr_plan.specs.Reading.{EachCaller, EachNameOfNode}
+use Rattle.dr_plan_core.specs.Reading.{EachCaller, EachNameOfNode}
 use Rattle.dr_plan_places.specs.Firsts.{IsFirstAt, IsFirstBad}
 use Rattle.dr_plan_places.specs.declared.names.RuleName.{RuleName}
 use Rattle.dr_plan_places.specs.declared.names.RuleName.TheVariants.{From, To}

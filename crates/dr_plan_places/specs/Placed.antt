@@ -7,7 +7,7 @@ use Rattle.dr_plan_text.specs.declared.words.AcceptText.{AcceptText}
 use Rattle.dr_plan_text.specs.declared.words.NodeText.{NodeText}
 use Rattle.dr_plan_text.specs.declared.words.FlowText.{FlowText}
 use Rattle.dr_plan_text.specs.declared.words.PlanText.{PlanText}
-use Rattle.dr_plan.specs.Reading.{IsSyntax, HasMaxPdu, IsWithinLimits, node_names}
+use Rattle.dr_plan_core.specs.Reading.{IsSyntax, HasMaxPdu, IsWithinLimits, node_names}
 use Rattle.dr_plan_places.specs.Firsts.{IsFirstAt, IsFirstBad}
 use Rattle.dr_plan_places.specs.Named.{IsNameAt}
 use Rattle.dr_plan_places.specs.declared.syntaxes.SyntaxPlace.{SyntaxPlace}
@@ -18,8 +18,8 @@ use Rattle.dr_plan_places.specs.declared.own.OwnPlace.{OwnPlace}
 use Rattle.dr_plan_places.specs.declared.own.OwnPlace.TheVariants as own
 use Rattle.dr_plan_places.specs.declared.place.Place.{Place}
 use Rattle.dr_plan_places.specs.declared.place.Place.TheVariants as place
-use Rattle.dr_plan.specs.declared.fault.PlanFault.{PlanFault}
-use Rattle.dr_plan.specs.declared.fault.PlanFault.TheVariants as fault
+use Rattle.dr_plan_core.specs.declared.fault.PlanFault.{PlanFault}
+use Rattle.dr_plan_core.specs.declared.fault.PlanFault.TheVariants as fault
 
 -- the transfer syntaxes of the row are routed
 abbrev pub KnowsRow : AcceptText → Type 0

@@ -1,6 +1,7 @@
 //! What stands below the name of a fault.
 ghost use Rattle.std.specs.Prelude.{◌≡◌, ◌≢◌, Err, MatchOption};
-ghost use Rattle.dr_plan.specs.Reading.{Passes, Reads, ReadsCore, IsOfThird};
+ghost use Rattle.dr_plan_core.specs.Reading.{Passes, ReadsCore};
+ghost use Rattle.dr_plan.specs.Reading.{Reads, IsOfThird};
 ghost use Rattle.dr_plan_expand.specs.Expanding.{Expands};
 ghost use Rattle.dr_plan_text.specs.Tables.{Writes};
 ghost use Rattle.dr_plan_text.specs.declared.words.PlanText.{PlanText as Written};

@@ -1,6 +1,6 @@
 //! The limit that a plan doesn't keep.
 ghost use Rattle.std.specs.Prelude.{◌≡◌, ◌↔◌, IsTrue, All, MatchOption};
-ghost use Rattle.dr_plan.specs.Reading.{HasMaxPdu, IsWithinLimits};
+ghost use Rattle.dr_plan_core.specs.Reading.{HasMaxPdu, IsWithinLimits};
 ghost use Rattle.dr_plan_places.specs.Placed.{IsLimitAt};
 
 use crate::first::{Look, first};

@@ -1,7 +1,7 @@
 //! The first name of a plan that hasn't a property.
 ghost use Rattle.std.specs.Prelude.{◌≡◌, ◌↔◌, IsTrue, All, MatchOption};
 ghost use Rattle.dr_plan_model.specs.Formed.{HasForm};
-ghost use Rattle.dr_plan.specs.Reading.{EachCaller, EachNameOfNode, EachName};
+ghost use Rattle.dr_plan_core.specs.Reading.{EachCaller, EachNameOfNode, EachName};
 ghost use Rattle.dr_plan_places.specs.Named.{EachOfRow, EachOfRule, EachOfFlow, IsCallerAt};
 ghost use Rattle.dr_plan_places.specs.Named.{IsRowNameAt, IsRuleNameAt, IsNodeNameAt, IsFlowNameAt};
 ghost use Rattle.dr_plan_places.specs.Named.{IsNameAt};

@@ -1,6 +1,6 @@
 //! Nodes by their names.
 ghost use Rattle.std.specs.Prelude.{◌≡◌, ◌≢◌, ◌↔◌, IsTrue, AllPairs, Contains, MatchOption, map};
-ghost use Rattle.dr_plan.specs.Reading.{node_names};
+ghost use Rattle.dr_plan_core.specs.Reading.{node_names};
 ghost use Rattle.dr_plan_places.specs.Placed.{AreTwins};
 
 use crate::first::{Look, TextTest, first};

@@ -1,6 +1,6 @@
 //! A rule or a flow that goes to its own node.
 ghost use Rattle.std.specs.Prelude.{◌≡◌, ◌≢◌, ◌↔◌, IsTrue, All, MatchOption};
-ghost use Rattle.dr_plan.specs.Reading.{SendsElsewhere};
+ghost use Rattle.dr_plan_core.specs.Reading.{SendsElsewhere};
 ghost use Rattle.dr_plan_places.specs.Placed.{LeavesRule, LeavesNode, IsOwnTarget, IsOwnInNode};
 ghost use Rattle.dr_plan_places.specs.Placed.{IsOwnAt};
 

@@ -1,8 +1,8 @@
 //! Where a fault stands in a plan.
 ghost use Rattle.std.specs.Prelude.{◌≡◌, MatchOption, Err};
 ghost use Rattle.dr_plan_model.specs.Formed.{IsName};
-ghost use Rattle.dr_plan.specs.Reading.{Passes};
-ghost use Rattle.dr_plan.specs.declared.fault.PlanFault.TheVariants.{Memory};
+ghost use Rattle.dr_plan_core.specs.Reading.{Passes};
+ghost use Rattle.dr_plan_core.specs.declared.fault.PlanFault.TheVariants.{Memory};
 ghost use Rattle.dr_plan_places.specs.Placed.{IsPlaceIn, fault_at};
 
 use crate::first::TextTest;

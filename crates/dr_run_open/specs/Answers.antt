@@ -5,7 +5,7 @@ use Rattle.std.specs.declared.option.Option.{Option}
 use Rattle.std.specs.Io.KnownBytes.{Appends}
 use Rattle.dr_base.specs.Texts.{Text}
 use Rattle.dr_plan.specs.Reading.{Reads}
-use Rattle.dr_plan.specs.declared.fault.PlanFault.TheVariants.{Memory as NoMemory}
+use Rattle.dr_plan_core.specs.declared.fault.PlanFault.TheVariants.{Memory as NoMemory}
 use Rattle.dr_run_open.specs.declared.answer.PlanAnswer.{PlanAnswer}
 use Rattle.dr_run_open.specs.declared.answer.PlanAnswer.TheVariants.{Sound, Unsound, NoPlan}
 use Rattle.dr_run_open.specs.declared.answer.PlanAnswer.TheVariants.{TooLarge, Memory}

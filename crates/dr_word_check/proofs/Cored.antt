@@ -1,7 +1,7 @@
 -- What is found to be read for a text.
 use Rattle.std.proofs.Common.{◌≡◌, ◌≢◌, refl, inl, inr, subst, sym, Ok, Err}
 use Rattle.dr_base.specs.Texts.{Text}
-use Rattle.dr_plan.specs.declared.fault.PlanFault.{PlanFault}
+use Rattle.dr_plan_core.specs.declared.fault.PlanFault.{PlanFault}
 use Rattle.dr_plan.specs.Faults.{fault_of}
 use Rattle.dr_plan.specs.Reading.{Reads, IsOfThird, IsReadFor, HasNoCore}
 use Rattle.dr_plan.proofs.Cores.{uncored}

@@ -3,16 +3,22 @@ use Rattle.std.specs.Prelude.{◌≡◌, ◌≢◌, Ok, Err}
 use Rattle.dr_base.specs.Texts.{Text}
 use Rattle.dr_plan_model.specs.Networks.{Network}
 use Rattle.dr_plan.specs.Reading.{Reads}
-use Rattle.dr_plan.specs.declared.fault.PlanFault.TheVariants.{Memory as NoMemory}
+use Rattle.dr_plan_core.specs.declared.fault.PlanFault.TheVariants.{Memory as NoMemory}
 use Rattle.dr_check.specs.declared.fault.Fault.{Fault}
 use Rattle.dr_check.specs.Answering.{Judges}
 use Rattle.dr_check.specs.Shown.{IsTooLarge}
 use Rattle.dr_check.specs.declared.verdict.Verdict.TheVariants.{No}
-use Rattle.dr_certify.specs.Certified.{IsCertified}
+use Rattle.dr_certify.specs.Certified.{HasCertificate}
 use Rattle.dr_word_check.specs.Faults.{no_line}
 use Rattle.dr_run_open.specs.declared.answer.PlanAnswer.{PlanAnswer}
 use Rattle.dr_run_open.specs.declared.answer.PlanAnswer.TheVariants.{Sound, Unsound, NoPlan}
 use Rattle.dr_run_open.specs.declared.answer.PlanAnswer.TheVariants.{TooLarge, Memory}
+
+-- the text writes a sound plan, and this is the text of the plan's certificate
+pub record IsCertified (text output : Text) : Type 0 where
+  pub plan : Network
+  pub reads : Reads text (Ok plan)
+  pub has : HasCertificate plan output
 
 -- the text writes a plan of which this fault is named, the first of those that show themselves, and
 -- this is the fault's line

@@ -1,4 +1,4 @@
-use Rattle.dr_plan.proofs.PlanForm.{well_formed}
+use Rattle.dr_plan_core.proofs.PlanForm.{well_formed}
 use Rattle.dr_plan.proofs.laws.the_plan_of_a_text_is_well_formed.Goals as goal
 
 pub returns : goal.returns

@@ -1,6 +1,6 @@
 use Rattle.std.proofs.Common.{refl, sym, subst, inl, inr, Err}
 use Rattle.dr_base.specs.Texts.{Text}
-use Rattle.dr_plan.specs.Reading.{ReadsCore}
+use Rattle.dr_plan_core.specs.Reading.{ReadsCore}
 use Rattle.dr_plan.proofs.OneReading.{fault_of_core}
 use Rattle.dr_plan_places.proofs.explaining.explain_found.Goals as goal
 

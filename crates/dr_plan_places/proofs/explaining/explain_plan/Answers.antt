@@ -1,5 +1,5 @@
 use Rattle.std.proofs.Common.{subst, Err}
-use Rattle.dr_plan.specs.Reading.{Passes}
+use Rattle.dr_plan_core.specs.Reading.{Passes}
 use Rattle.dr_plan_text.specs.declared.words.PlanText.{PlanText}
 use Rattle.dr_plan_text.proofs.OnePlan.{one_plan}
 use Rattle.dr_plan_places.proofs.explaining.explain_plan.Goals as goal

@@ -1,5 +1,5 @@
 use Rattle.std.proofs.Common.{arith, refl}
-use Rattle.dr_plan.proofs.GoodNames.{name_of}
+use Rattle.dr_plan_core.proofs.GoodNames.{name_of}
 use Rattle.dr_plan_places.proofs.flaws.name_flaw.Goals as goal
 
 pub returns-then-is_trimmed : goal.returns-then-is_trimmed

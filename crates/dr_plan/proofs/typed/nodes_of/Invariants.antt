@@ -1,8 +1,0 @@
-use Rattle.std.specs.Vec.Iter.{into_iter_items}
-use Rattle.dr_plan.specs.Reading.{IsTypable}
-use Rattle.dr_plan.specs.Spelling.{written_node}
-use Rattle.dr_plan.proofs.Typing.{Left}
-use Rattle.dr_plan.proofs.typed.nodes_of.Given as goal
-
-abbrev pub invariant-loop-node : goal.invariant-loop-node
-invariant-loop-node l = Left written_node IsTypable l.fn.nodes l.typed.items (into_iter_items l.node-iterator)
