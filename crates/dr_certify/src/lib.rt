@@ -1,5 +1,5 @@
-//! The certificate of a plan, which `check` prints of a sound one; and what the program of the first
-//! certificate prints of a text, which reads plans of formats 1 and 2 alone.
+//! The certificate of a plan, which `check` prints of a sound one; and what the program of the
+//! first certificate prints of a text, which reads plans of formats 1 and 2 alone.
 #![tactic(auto)]
 
 mod certificate;

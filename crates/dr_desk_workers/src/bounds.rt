@@ -8,8 +8,8 @@ use std::sync::Mutex;
 /// Who serves holds so many bytes at most before it asks for room.
 const UNASKED: u64 = 264 * FREE;
 
-/// What the ledger makes of a data set on its way into its tables, one at a time: four copies of the
-/// largest (the value of its cell, the row, the pages, and these as they are written).
+/// What the ledger makes of a data set on its way into its tables, one at a time: four copies of
+/// the largest (the value of its cell, the row, the pages, and these as they are written).
 const COPIES: u64 = 4 * MOST;
 
 /// How many associations are open, what all of them may hold in memory of data sets, and who waits

@@ -22,7 +22,7 @@ third (Some d) Three says is = refl
 pub as_it_stands : (text : Text) (plan : Network) → ReadsCore text (Ok plan) → plan.format ≢ Three → Reads text (Ok plan)
 as_it_stands text plan reads other =
     let not_third : IsOfThird text → ⊥ = λ it. (
-      let same : it.0 ≡ reads.0.0 = same_Some it.0 reads.0.0 (sym it.1.1 ∙ reads.0.1.1) in
-      other (third (get_member (codes "format") reads.0.0) plan.format reads.0.2.format (subst IsThird same it.2))
-      ) in
+    let same : it.0 ≡ reads.0.0 = same_Some it.0 reads.0.0 (sym it.1.1 ∙ reads.0.1.1) in
+    other (third (get_member (codes "format") reads.0.0) plan.format reads.0.2.format (subst IsThird same it.2))
+    ) in
     read_for text text (Ok plan) (inl (not_third, refl)) reads

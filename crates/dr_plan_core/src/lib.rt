@@ -1,5 +1,5 @@
-//! The plan that a text writes as it stands: in formats 1 and 2 the text's plan, in format 3 that of
-//! a text that was expanded. Exactly that plan, or its first fault.
+//! The plan that a text writes as it stands: in formats 1 and 2 the text's plan, in format 3 that
+//! of a text that was expanded. Exactly that plan, or its first fault.
 #![tactic(auto)]
 
 mod fault;

@@ -38,8 +38,8 @@ fn pass(alloc: Global, plan: &PlanText) -> Result<(), PlanFault>
 }
 
 /// The plan that the text writes as it stands, with the text's SHA-256, or its first fault in the
-/// order of `PlanFault`. Memory is answered only where a growth was refused, and never for the empty
-/// text.
+/// order of `PlanFault`. Memory is answered only where a growth was refused, and never for the
+/// empty text.
 pub fn read_core(alloc: Global, text: &[u8]) -> Result<Plan, PlanFault>
     ensures { ReadsCore text.now result }
 {

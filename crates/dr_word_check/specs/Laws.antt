@@ -40,4 +40,5 @@ OneCertificateIsPrinted =
 
 -- what the program of the first certificate prints for a text is its certificate
 abbrev pub FirstCertificatesAreIts : Type 0
-FirstCertificatesAreIts = (text output : Text) → IsCertifiedFirst text output → IsCertified text output
+FirstCertificatesAreIts =
+    (text output : Text) → IsCertifiedFirst text output → IsCertified text output
