@@ -1,6 +1,6 @@
 -- What stays in a list that is filtered.
 use Rattle.std.proofs.Common.{◌≡◌, ◌<◌, ◌⊎◌, inl, inr, sym, ◌∙◌, ap, subst, List, [], ◌∷◌, Contains}
-use Rattle.std.proofs.Common.{Bool, true, filter, arith}
+use Rattle.std.proofs.Common.{Bool, true, filter, arith, Result, Ok, Err, OnErr}
 use Rattle.std.proofs.lemmas.Bool.{cases_Bool, false≢true}
 use Rattle.std.proofs.lemmas.List.Elements.{Contains-append_left, Contains-append_right}
 use Rattle.std.proofs.lemmas.List.Elements.{Contains-append_cases, Contains-push_cases}
@@ -38,3 +38,8 @@ kept_in {X = X} test (y ∷ ys) x among holds =
           | inr later ↦ kept_in test ys x later holds
         ])
     ]
+
+-- what holds at all holds at an error
+pub on_err : {A E P : Type 0} (r : Result A E) → P → OnErr r P
+on_err (Ok value) it = tt
+on_err (Err why) it = it

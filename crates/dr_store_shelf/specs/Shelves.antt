@@ -1,5 +1,5 @@
 -- What a shelf gives out for a data set, and why it refuses one.
-use Rattle.std.specs.Prelude.{◌≡◌, ◌≢◌, ℕ, List, Contains}
+use Rattle.std.specs.Prelude.{◌≢◌, ◌≤◌, ℕ, List, Contains, length}
 use Rattle.sqlite_disk.specs.declared.Disk.{Ghosts}
 use Rattle.sqlite_disk.specs.Disk.{MoreFaults}
 use Rattle.dr_store_bodies.specs.declared.bodies.Bodies.{Bodies}
@@ -55,6 +55,6 @@ module _ {D : Type 0} {g : Ghosts D} where
   abbrev pub Stands : ℕ → Bodies D g → List ℕ → List ℕ → Type 0
   Stands key file cell bytes = IsHeld file (extent_in cell) bytes × Passes key cell bytes
 
-  -- the extent of the cell is in use
+  -- the cell has an extent, which is in use
   abbrev pub IsUsed : Bodies D g → List ℕ → Type 0
-  IsUsed file cell = Contains (extents file) (extent_in cell)
+  IsUsed file cell = (16 ≤ length cell) × Contains (extents file) (extent_in cell)

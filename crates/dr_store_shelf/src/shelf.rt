@@ -1,5 +1,5 @@
 //! A place for data sets.
-ghost use Rattle.std.specs.Prelude.{◌≡◌, ◌<◌, ℕ, List, length, IfErr, IfOk};
+ghost use Rattle.std.specs.Prelude.{◌≡◌, ◌<◌, ℕ, List, length, IfErr, IfOk, OnErr};
 ghost use Rattle.dr_store_shelf.specs.Shelves.{IsWhyNotPut, IsWhyNotRead, bytes_of};
 
 use crate::fault::ShelfFault;
@@ -60,6 +60,8 @@ pub trait Shelf {
             → uses self.old other → apart (bytes_of cell body.now) other) }
         ensures keeps { (cell bytes : List ℕ) → uses self.old cell → stands self.old cell bytes
             → uses self.new cell × stands self.new cell bytes }
+        ensures unused { OnErr result
+            ((cell : List ℕ) → uses self.new cell → uses self.old cell) }
         ensures clean { is_clean self.new → is_clean self.old }
         ensures why { IfErr result
             (IsWhyNotPut (is_usable self.old) (faults self.old) (faults self.new)) };
@@ -79,9 +81,11 @@ pub trait Shelf {
         ensures why { IfErr result (λ fault. is_clean self.new → (bytes : List ℕ)
             → IsWhyNotRead (is_usable self.old) (stands self.old cell.items bytes) fault) };
 
-    /// Lets a data set go, whose cell no row has, and that no row gets after a crash either. No
-    /// byte is touched until its place is taken by another.
+    /// Lets a data set go, whose cell no row has, and that no row gets after a crash either. Where
+    /// a cell names a place, this one is in use no more. No byte is touched until its place is
+    /// taken by another.
     fn let_go(&mut self, cell: &[u8])
+        ensures gone { (apart cell.now cell.now → ⊥) → uses self.new cell.now → ⊥ }
         ensures keeps { (other bytes : List ℕ) → apart cell.now other
             → uses self.old other → stands self.old other bytes
             → uses self.new other × stands self.new other bytes }

@@ -7,19 +7,19 @@ use Rattle.dr_store_shelf.proofs.in_file.InFile.read.Goals as goal
 
 pub returns-in_err-get-clause-keeps : goal.returns-in_err-get-clause-keeps
 returns-in_err-get-clause-keeps g c = λ other bytes used stands. (
-  subst (λ xs. Contains xs (extent_in other)) (sym c.get.ensures.listed) used,
+  (used.0, subst (λ xs. Contains xs (extent_in other)) (sym c.get.ensures.listed) used.1),
   (c.get.ensures.keeps (extent_in other) bytes stands.0, stands.1),
 )
 
 pub returns-then-not-passes-clause-keeps : goal.returns-then-not-passes-clause-keeps
 returns-then-not-passes-clause-keeps g c = λ other bytes used stands. (
-  subst (λ xs. Contains xs (extent_in other)) (sym c.get.ensures.listed) used,
+  (used.0, subst (λ xs. Contains xs (extent_in other)) (sym c.get.ensures.listed) used.1),
   (c.get.ensures.keeps (extent_in other) bytes stands.0, stands.1),
 )
 
 pub returns-clause-keeps : goal.returns-clause-keeps
 returns-clause-keeps g c = λ other bytes used stands. (
-  subst (λ xs. Contains xs (extent_in other)) (sym c.get.ensures.listed) used,
+  (used.0, subst (λ xs. Contains xs (extent_in other)) (sym c.get.ensures.listed) used.1),
   (c.get.ensures.keeps (extent_in other) bytes stands.0, stands.1),
 )
 

@@ -5,7 +5,7 @@ use Rattle.dr_store_shelf.proofs.in_file.InFile.restart.Goals as goal
 pub returns : goal.returns
 returns g c = record {
   keeps = λ cell bytes used stands. (
-    subst (λ xs. Contains xs (extent_in cell)) (sym c.in_ok-left.ensures.listed) used,
+    (used.0, subst (λ xs. Contains xs (extent_in cell)) (sym c.in_ok-left.ensures.listed) used.1),
     (c.in_ok-left.ensures.keeps (extent_in cell) bytes stands.0, stands.1),
   );
 }
