@@ -34,8 +34,8 @@ number_written (n ∷ more) zero at place fits low =
 number_written (n ∷ more) (suc i) at place fits low =
     ap (λ k. number_at (written (n ∷ more)) k) (let it : at ≡ 8 + i * 8 = omega (arith, place) in it)
     ∙ ap (λ rest. from_le_bytes w64 (take 8 rest))
-        (sym (drop-drop (i * 8) 8 (written (n ∷ more)))
-        ∙ ap (drop (i * 8)) (drop_at (to_le_bytes w64 n) (written more) 8 refl))
+    (sym (drop-drop (i * 8) 8 (written (n ∷ more)))
+    ∙ ap (drop (i * 8)) (drop_at (to_le_bytes w64 n) (written more) 8 refl))
     ∙ number_written more i (i * 8) refl (λ k under. fits (suc k) (omega (arith, under))) (omega (arith, low))
 
 -- the piece that begins there
@@ -65,7 +65,7 @@ says key at body sums are fits =
             let within : i < length sums = omega (arith, low, are.enough) in (
               omega (arith, count, within),
               number_written numbers (suc (suc i)) (16 + i * 8) (omega arith) fits (omega (arith, within))
-              ∙ are.each i within,
+                  ∙ are.each i within,
             );
       };
     }
@@ -86,11 +86,11 @@ pub says_at :
 says_at key at body cell blank one two =
     let sums = blank.sums in
     let says_it = says key at body sums blank.are
-        (fit_all at (length body) sums one two blank.fit) in
+    (fit_all at (length body) sums one two blank.fit) in
     let is : to_le_bytes w64 at ++ drop 8 cell ≡ written (at ∷ length body ∷ sums) =
     ap (λ bytes. to_le_bytes w64 at ++ drop 8 bytes) blank.says
     ∙ ap (λ rest. to_le_bytes w64 at ++ rest)
-        (drop_at (to_le_bytes w64 0) (written (length body ∷ sums)) 8 refl) in
+    (drop_at (to_le_bytes w64 0) (written (length body ∷ sums)) 8 refl) in
     subst (λ bytes. (extent_in bytes ≡ placed at (length body)) × Passes key bytes body) (sym is)
     (says_it.extent, says_it.passes)
 

@@ -14,9 +14,9 @@ first_or_later :
 first_or_later y ys x among =
     elim (Contains-append_cases (y ∷ []) ys x among) [
       | inl first ↦ elim (Contains-push_cases [] y x first) [
-          | inl none ↦ absurd (nothing x none)
-          | inr same ↦ inl same
-        ]
+        | inl none ↦ absurd (nothing x none)
+        | inr same ↦ inl same
+      ]
       | inr later ↦ inr later
     ]
 
@@ -27,16 +27,16 @@ kept_in {X = X} test [] x among holds = absurd (nothing x among)
 kept_in {X = X} test (y ∷ ys) x among holds =
     elim (cases_Bool (test y)) [
       | inl here ↦ rw here (elim (first_or_later y ys x among) [
-          | inl same ↦ (let P : X → Type 0 = λ z. Contains (y ∷ filter test ys) z in
+        | inl same ↦ (let P : X → Type 0 = λ z. Contains (y ∷ filter test ys) z in
             subst P same
             (Contains-append_left (y ∷ []) (filter test ys) y (Contains-push [] y)))
-          | inr later ↦ Contains-append_right (y ∷ []) (filter test ys) x
+        | inr later ↦ Contains-append_right (y ∷ []) (filter test ys) x
             (kept_in test ys x later holds)
-        ])
+      ])
       | inr other ↦ rw other (elim (first_or_later y ys x among) [
-          | inl same ↦ absurd (false≢true (sym other ∙ (ap test same ∙ holds)))
-          | inr later ↦ kept_in test ys x later holds
-        ])
+        | inl same ↦ absurd (false≢true (sym other ∙ (ap test same ∙ holds)))
+        | inr later ↦ kept_in test ys x later holds
+      ])
     ]
 
 -- what holds at all holds at an error

@@ -47,8 +47,8 @@ returns-then-not-passes-clause-why g c = λ clean bytes stands.
     let shown : c.deref.result.now ≡ bytes =
     c.deref.ensures.value
     ∙ take_at c.get.new.buf (drop (length c.get.new.buf) c.in_ok-bytes.bytes.items)
-        c.in_ok-bytes.bytes.len long
+    c.in_ok-bytes.bytes.len long
     ∙ same in
     let yes : IsTrue c.passes.result = c.passes.ensures.1
-        (subst (Passes c.args.self.now.key c.args.cell.now) (sym shown) stands.1) in
+    (subst (Passes c.args.self.now.key c.args.cell.now) (sym shown) stands.1) in
     absurd (search rules)

@@ -20,12 +20,12 @@ returns-in-Some-clause-keeps g c = λ other bytes apart used stands.
       (
         used.0,
         subst (λ xs. Contains xs (extent_in other)) (sym c.free.ensures.listed)
-        (kept_in (λ (e : Extent). not (e.at == gone.at)) (extents file) (extent_in other) used.1
-        stays),
+            (kept_in (λ (e : Extent). not (e.at == gone.at)) (extents file) (extent_in other) used.1
+            stays),
       ),
       (
         subst (λ disk. Stand (g.D.Disk.seen disk) (g.D.Disk.may_leave disk) (extent_in other) bytes)
-        (sym c.free.ensures.untouched) stands.0,
+            (sym c.free.ensures.untouched) stands.0,
         stands.1,
       ),
     )

@@ -33,10 +33,10 @@ returns-clause-stands g c =
     let one : e.at < 2 ^ 64 = search rules in
     let two : length body < 2 ^ 64 = search rules in
     let it = extent_named c.args.self.now.key e body c.in_ok-cell.cell.items
-        c.placed_cell.result.items c.in_ok-cell.ensures held.whole one two
-        c.placed_cell.ensures in (
+    c.placed_cell.result.items c.in_ok-cell.ensures held.whole one two
+    c.placed_cell.ensures in (
       subst (λ (f : Extent). Stand (g.D.Disk.seen disk) (g.D.Disk.may_leave disk) f body)
-      (sym it.0) held,
+          (sym it.0) held,
       it.1,
     )
 
@@ -50,13 +50,12 @@ returns-clause-used g c =
     let one : e.at < 2 ^ 64 = search rules in
     let two : length body < 2 ^ 64 = search rules in
     let it = extent_named c.args.self.now.key e body c.in_ok-cell.cell.items
-        c.placed_cell.result.items c.in_ok-cell.ensures held.whole one two
-        c.placed_cell.ensures in
-    (
+    c.placed_cell.result.items c.in_ok-cell.ensures held.whole one two
+    c.placed_cell.ensures in (
       it.1.long,
       subst (Contains new) (sym it.0)
-      (Contains-permutation (e ∷ old) new e c.in_ok-extent.ensures.listed
-      (Contains-append_left (e ∷ []) old e (Contains-push [] e))),
+          (Contains-permutation (e ∷ old) new e c.in_ok-extent.ensures.listed
+          (Contains-append_left (e ∷ []) old e (Contains-push [] e))),
     )
 
 pub returns-clause-beside : goal.returns-clause-beside
@@ -68,8 +67,8 @@ returns-clause-beside g c = λ other used.
     let one : e.at < 2 ^ 64 = search rules in
     let two : length body < 2 ^ 64 = search rules in
     let it = extent_named c.args.self.now.key e body c.in_ok-cell.cell.items
-        c.placed_cell.result.items c.in_ok-cell.ensures held.whole one two
-        c.placed_cell.ensures in
+    c.placed_cell.result.items c.in_ok-cell.ensures held.whole one two
+    c.placed_cell.ensures in
     let another : (extent_in other).at ≢ e.at =
     All-contains (λ (f : Extent). f.at ≢ e.at) old (extent_in other)
     c.in_ok-extent.ensures.other used.1 in
@@ -83,7 +82,7 @@ returns-clause-keeps g c = λ cell bytes used stands.
       (
         used.0,
         Contains-permutation (e ∷ old) new (extent_in cell) c.in_ok-extent.ensures.listed
-        (Contains-append_right (e ∷ []) old (extent_in cell) used.1),
+            (Contains-append_right (e ∷ []) old (extent_in cell) used.1),
       ),
       (c.put.ensures.keeps (extent_in cell) bytes used.1 stands.0, stands.1),
     )
