@@ -1,5 +1,5 @@
 //! The data sets of a ledger in one file.
-ghost use Rattle.std.specs.Prelude.{◌≡◌, ◌==◌, ◌∷◌, [], ℕ, ◌+◌, ◌^◌, ◌%◌, ◌<◌, ◌≤◌, take};
+ghost use Rattle.std.specs.Prelude.{◌≡◌, ◌≢◌, ◌==◌, ◌∷◌, [], ℕ, ◌+◌, ◌^◌, ◌%◌, ◌<◌, ◌≤◌, take};
 ghost use Rattle.std.specs.Prelude.{drop, List, length, not, filter};
 ghost use Rattle.std.specs.Prelude.{All, AllPairs, Contains, IfErr, IfOk, OnOk, OnErr, IsTrue};
 ghost use Rattle.dr_store_bodies.specs.declared.extent.Extent.{Extent};
@@ -70,6 +70,7 @@ impl<D: Disk> Bodies<D> {
             IsPermutation (e ∷ extents self.old) (extents self.new)) }
         ensures aligned { IfOk result (λ e. e.at % 4096 ≡ 0) }
         ensures first { IfOk result (λ e. IsFirst (extents self.old) (length body.now) e.at) }
+        ensures other { IfOk result (λ e. All (λ f. f.at ≢ e.at) (extents self.old)) }
         ensures unlisted { OnErr result (extents self.new ≡ extents self.old) }
         ensures keeps { (e : Extent) (bytes : List ℕ)
             → Contains (extents self.old) e → IsHeld self.old e bytes → IsHeld self.new e bytes }

@@ -15,7 +15,7 @@ use Rattle.dr_ledger.specs.declared.item.Instance.{Instance}
 use Rattle.dr_route.specs.declared.key.Key.{Key}
 use Rattle.dr_store_schema.specs.Books.{Print, content_in, contents_in, instance_by, item_in, items_in, items_of, key_in, print_in, print_or_none, prints_in, prints_of, whole_in, wholes_in}
 use Rattle.dr_store_schema.proofs.WhatIsWritten.{cells_say_what_was_written}
-use Rattle.dr_store_writes.specs.Effects.{AddsCells, AddsRow, GoesOn, item_cells, print_cells}
+use Rattle.dr_store_writes.specs.Effects.{AddsCells, AddsRow, GoesOn, item_row, print_cells}
 use Rattle.dr_store_writes.proofs.Maps.{equal, map_put}
 use Rattle.dr_store_changes.specs.Changes.{AddsOnlyLine, HasNeither, Stores}
 use Rattle.dr_store_changes.specs.Writing.{IsMade}
@@ -82,28 +82,28 @@ no_key v w q (r ∷ rows) none = go (eq_by_cmp text_cmp q (content_in r).0) none
 abbrev new_item : Text → Key → ℕ → List ℕ → Instance
 new_item uid key size digest = record { uid = uid; key = key; size = size; digest = digest }
 
-pub stores : (uid : Text) (key : Key) (size : ℕ) (digest body : List ℕ) (whole : ℕ) (old mid new : State) → HasNeither uid old.now.trees → AddsCells 1 (item_cells uid key body) old mid
+pub stores : (n : ℕ) (uid : Text) (key : Key) (size : ℕ) (digest body : List ℕ) (whole : ℕ) (old mid new : State) → HasNeither uid old.now.trees → AddsRow 1 (item_row n uid key body) old mid
     → AddsCells 3 (print_cells uid size digest whole) mid new → GoesOn old new × Stores (new_item uid key size digest) body whole old.now.trees new.now.trees
-stores uid key size digest body whole old mid new neither item print =
+stores n uid key size digest body whole old mid new neither item print =
     let before = old.now.trees in
     let between = mid.now.trees in
     let after = new.now.trees in
-    let i = item.adds.others in
+    let i = item.others in
     let p = print.adds.others in
     let rows = before 1 in
     let marks = before 3 in
-    let row : Row = Int item.id ∷ item_cells uid key body in
+    let row : Row = item_row n uid key body in
     let mark : Row = Int print.id ∷ print_cells uid size digest whole in
-    let rows_are : after 1 ≡ put_row row rows = p.items (omega arith) ∙ item.adds.rows in
+    let rows_are : after 1 ≡ put_row row rows = p.items (omega arith) ∙ item.rows in
     let marks_were : between 3 ≡ marks = i.prints (omega arith) in
     let marks_are : after 3 ≡ put_row mark marks = print.adds.rows ∙ ap (put_row mark) marks_were in
     let free_mark = subst (λ rs. is_taken rs mark ≡ false) marks_were print.adds.free in
     let no_item = not_found content_in rows uid neither.0 in
     let no_mark = not_found whole_in marks uid neither.1 in
-    let contents : contents_in (after 1) ≡ map.insert (contents_in rows) uid body = ap contents_in rows_are ∙ map_put nat_list_cmp_total exact_bytes content_in row rows item.adds.free no_item in
+    let contents : contents_in (after 1) ≡ map.insert (contents_in rows) uid body = ap contents_in rows_are ∙ map_put nat_list_cmp_total exact_bytes content_in row rows item.free no_item in
     let key_is : key_in row ≡ key = ap (λ syntax. record key { syntax = syntax }) (cells_say_what_was_written.syntax key.syntax) in
     let keys : keys_in (after 1) ≡ map.insert (keys_in rows) uid key =
-    ap keys_in rows_are ∙ map_put nat_list_cmp_total exact_bytes keyed row rows item.adds.free (no_key (λ r. (content_in r).1) key_in uid rows no_item) ∙ ap (map.insert (keys_in rows) uid) key_is in
+    ap keys_in rows_are ∙ map_put nat_list_cmp_total exact_bytes keyed row rows item.free (no_key (λ r. (content_in r).1) key_in uid rows no_item) ∙ ap (map.insert (keys_in rows) uid) key_is in
     let wholes : wholes_in (after 3) ≡ map.insert (wholes_in marks) uid whole = ap wholes_in marks_are ∙ map_put nat_list_cmp_total exact_bytes whole_in mark marks free_mark no_mark in
     let prints : prints_in (after 3) ≡ map.insert (prints_in marks) uid (size, digest) =
     ap prints_in marks_are ∙ map_put nat_list_cmp_total exact_bytes print_in mark marks free_mark (no_key (λ r. (whole_in r).1) (λ r. (print_in r).1) uid marks no_mark) in
@@ -114,7 +114,7 @@ stores uid key size digest body whole old mid new neither item print =
     ∙ at q (eq_by_cmp text_cmp q uid) refl
     ∙ ap (λ got. cond (eq_by_cmp text_cmp q uid) (Some (new_item uid key size digest)) got) (sym (item_at (prints_in marks) rows q))
     ∙ sym (map.get-insert nat_list_cmp_total (items_of before) uid (new_item uid key size digest) q)) in (
-      goes_over old mid new item.adds.goes_on print.adds.goes_on,
+      goes_over old mid new item.goes_on print.adds.goes_on,
       record {
         items = items;
         contents = contents;

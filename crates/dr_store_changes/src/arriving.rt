@@ -13,14 +13,16 @@ use dr_store_writes::{
 };
 use sqlite::{Alter, Error, Transaction};
 
-/// Stores an instance that isn't there, with its data set, or with none where it isn't needed;
-/// `whole` is 1 where it is there, and else 0.
+/// Stores an instance that isn't there, by line `n`, with its data set, or with none where it isn't
+/// needed; `whole` is 1 where it is there, and else 0.
 pub fn store<'x, S: Alter>(
     tx: &mut Transaction<'_, S>,
+    n: u64,
     item: &'x Instance,
     body: &'x [u8],
     whole: u64,
 ) -> Result<(), Error>
+    requires number { n ≤ 2 ^ 62 }
     requires size { item.now.size ≤ 2 ^ 62 }
     requires whole { whole ≤ 2 ^ 62 }
     ensures same_reference { tx.new.conn.ghost_name ≡ tx.old.conn.ghost_name }
@@ -30,7 +32,7 @@ pub fn store<'x, S: Alter>(
         × Stores item.now body.now whole (state S.Store tx.old.conn.now).now.trees
         (state S.Store tx.new.conn.now).now.trees) }
 {
-    add_item(tx, &item.uid, &item.key, body)?;
+    add_item(tx, n, &item.uid, &item.key, body)?;
     add_print(tx, &item.uid, item.size, &item.digest, whole)?;
     Ok(())
 }

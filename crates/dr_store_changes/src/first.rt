@@ -27,14 +27,16 @@ pub enum Taking {
     Nothing,
 }
 
-/// Takes the instance in, and its data set.
+/// Takes the instance in by line `n`, and its data set.
 fn take<'x, S: Alter>(
     tx: &mut Transaction<'_, S>,
+    n: u64,
     item: &'x Instance,
     body: &'x [u8],
     taking: Taking,
 ) -> Result<(), Error>
-    requires { item.now.size ≤ 2 ^ 62 }
+    requires number { n ≤ 2 ^ 62 }
+    requires size { item.now.size ≤ 2 ^ 62 }
     ensures same_reference { tx.new.conn.ghost_name ≡ tx.old.conn.ghost_name }
     ensures step { Step result (state S.Store tx.old.conn.now) (state S.Store tx.new.conn.now)
         (AsksToTake taking item.now.uid (state S.Store tx.old.conn.now).now.trees
@@ -43,8 +45,8 @@ fn take<'x, S: Alter>(
         (state S.Store tx.new.conn.now).now.trees) }
 {
     match taking {
-        Taking::New => store(tx, item, body, 1),
-        Taking::Bare => store(tx, item, &[], 0),
+        Taking::New => store(tx, n, item, body, 1),
+        Taking::Bare => store(tx, n, item, &[], 0),
         Taking::Again => take_back(tx, &item.uid, body),
         Taking::Nothing => Ok(()),
     }
@@ -53,12 +55,14 @@ fn take<'x, S: Alter>(
 /// The same, and who brought it.
 fn take_from<'x, S: Alter>(
     tx: &mut Transaction<'_, S>,
+    n: u64,
     caller: &'x Text,
     item: &'x Instance,
     body: &'x [u8],
     taking: Taking,
 ) -> Result<(), Error>
-    requires { item.now.size ≤ 2 ^ 62 }
+    requires number { n ≤ 2 ^ 62 }
+    requires size { item.now.size ≤ 2 ^ 62 }
     ensures same_reference { tx.new.conn.ghost_name ≡ tx.old.conn.ghost_name }
     ensures step { Step result (state S.Store tx.old.conn.now) (state S.Store tx.new.conn.now)
         (AsksToTake taking item.now.uid (state S.Store tx.old.conn.now).now.trees
@@ -66,7 +70,7 @@ fn take_from<'x, S: Alter>(
         × Then (TakesIn taking item.now body.now) (NotesArrival (caller.now, item.now.uid))
         (state S.Store tx.old.conn.now).now.trees (state S.Store tx.new.conn.now).now.trees) }
 {
-    take(tx, item, body, taking)?;
+    take(tx, n, item, body, taking)?;
     note_arrival(tx, caller, &item.uid)?;
     Ok(())
 }
@@ -195,7 +199,8 @@ pub struct Arriving<'x> {
 
 impl Arriving<'_> {
     /// All but its line.
-    fn fill<S: Alter>(&self, tx: &mut Transaction<'_, S>) -> Result<(), Error>
+    fn fill<S: Alter>(&self, tx: &mut Transaction<'_, S>, n: u64) -> Result<(), Error>
+        requires { n ≤ 2 ^ 62 }
         ensures same_reference { tx.new.conn.ghost_name ≡ tx.old.conn.ghost_name }
         ensures step { Step result (state S.Store tx.old.conn.now) (state S.Store tx.new.conn.now)
             (AsksToTake self.now.taking self.now.item.now.uid
@@ -212,7 +217,7 @@ impl Arriving<'_> {
             (KeepsIf self.now.item.now.uid self.now.keeps))
             (state S.Store tx.old.conn.now).now.trees (state S.Store tx.new.conn.now).now.trees) }
     {
-        take_from(tx, self.caller, self.item, self.body, self.taking)?;
+        take_from(tx, n, self.caller, self.item, self.body, self.taking)?;
         queue(tx, &self.item.uid, self.again, self.dests, self.keeps)?;
         Ok(())
     }
@@ -229,7 +234,7 @@ impl Change for Arriving<'_> {
         s.dests.now s.keeps s.names.now n };
 
     fn run<S: Alter>(&self, tx: &mut Transaction<'_, S>, n: u64) -> Result<(), Error> {
-        self.fill(tx)?;
+        self.fill(tx, n)?;
         write_line(tx, n, self.caller, self.item, self.names)?;
         Ok(())
     }

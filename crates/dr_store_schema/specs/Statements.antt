@@ -42,10 +42,11 @@ create_arrival_uid = codes "CREATE INDEX arrival_uid ON arrival (uid)"
 
 -- ---- a first arrival
 
--- an instance with its data set
+-- An instance with its data set, under the number of the line by which it comes. Where a statement
+-- leaves the rowid to the database, that reads the table's last row whole, with its data set.
 abbrev pub insert_item : List ℕ
 insert_item = codes
-    "INSERT INTO item (uid, class, syntax, modality, station, body) VALUES (?1, ?2, ?3, ?4, ?5, ?6)"
+    "INSERT INTO item (rowid, uid, class, syntax, modality, station, body) VALUES (?1, ?2, ?3, ?4, ?5, ?6, ?7)"
 
 -- the length and the SHA-256 of its data set, and whether it is there
 abbrev pub insert_print : List ℕ

@@ -14,7 +14,7 @@ use Rattle.dr_store_schema.specs.Cells.{outcome_value}
 use Rattle.dr_store_schema.specs.Ledgers.{IsCounted, IsLedger}
 use Rattle.dr_store_schema.specs.Statements as text
 use Rattle.dr_store_schema.specs.Tables as table
-use Rattle.dr_store_writes.specs.Effects.{AddsRow, AddsCells, item_cells, print_cells, arrival_cells, kept_cells, new_cells, target_cells, arrived_line, dropped_line, settled_line, requeued_line, adopted_line, forgotten_line, instance_cells, site_row}
+use Rattle.dr_store_writes.specs.Effects.{AddsRow, AddsCells, item_row, print_cells, arrival_cells, kept_cells, new_cells, target_cells, arrived_line, dropped_line, settled_line, requeued_line, adopted_line, forgotten_line, instance_cells, site_row}
 use Rattle.dr_store_writes.proofs.Casts.{cast_null, cast_int, cast_outcome}
 use Rattle.dr_store_writes.proofs.Commands as command
 use Rattle.dr_store_writes.proofs.Inserted.{adds}
@@ -29,9 +29,9 @@ under_its_number : (tree : ℕ) (row : Row) (old new : State) (sql : List ℕ) (
 under_its_number tree row old new sql params (Ok count) f h = f count h
 under_its_number tree row old new sql params (Err e) f h = tt
 
-pub item_added : (old new : State) (uid : texts.Text) (key : Key) (body : List ℕ) (r : Result ℕ Error) → IsLedger old.now → ExecutesInside 0 text.insert_item (item_cells uid key body) old new r → OnOk r (AddsCells 1 (item_cells uid key body) old new)
-item_added old new uid key body r has = under_its_id 1 (next_rowid (old.now.trees 1)) (item_cells uid key body) old new text.insert_item (item_cells uid key body) r (λ count h.
-    adds old new text.insert_item (item_cells uid key body) 1 command.item_terms 7 table.item_table (Int (next_rowid (old.now.trees 1)) ∷ item_cells uid key body) count has command.insert_item.0 command.insert_item.1 refl (rw (cast_null)) refl refl (inr refl) (inl (omega arith)) (inl (omega arith)) (inl (omega arith)) (λ e. absurd (omega (arith, e))) h)
+pub item_added : (old new : State) (n : ℕ) (uid : texts.Text) (key : Key) (body : List ℕ) (r : Result ℕ Error) → IsLedger old.now → ExecutesInside 0 text.insert_item (item_row n uid key body) old new r → OnOk r (AddsRow 1 (item_row n uid key body) old new)
+item_added old new n uid key body r has = under_its_number 1 (item_row n uid key body) old new text.insert_item (item_row n uid key body) r (λ count h.
+    adds old new text.insert_item (item_row n uid key body) 1 command.item_terms 7 table.item_table (item_row n uid key body) count has command.insert_item.0 command.insert_item.1 refl (rw (cast_int (pos n))) refl refl (inr refl) (inl (omega arith)) (inl (omega arith)) (inl (omega arith)) (λ e. absurd (omega (arith, e))) h)
 
 pub print_added : (old new : State) (uid : texts.Text) (size : ℕ) (digest : List ℕ) (whole : ℕ) (r : Result ℕ Error) → IsLedger old.now → ExecutesInside 0 text.insert_print ((print_cells uid size digest whole)) old new r → OnOk r (AddsCells 3 (print_cells uid size digest whole) old new)
 print_added old new uid size digest whole r has = under_its_id 3 (next_rowid (old.now.trees 3)) (print_cells uid size digest whole) old new text.insert_print ((print_cells uid size digest whole)) r (λ count h.

@@ -22,7 +22,7 @@ Is sql command = (command_of (understood tables sql) ≡ command) × IsPlain (un
 -- ---- INSERT: the rowid is chosen where its value is NULL
 
 abbrev pub item_terms : List Term
-item_terms = lit Null ∷ col 0 0 ∷ col 0 1 ∷ col 0 2 ∷ col 0 3 ∷ col 0 4 ∷ col 0 5 ∷ []
+item_terms = col 0 0 ∷ col 0 1 ∷ col 0 2 ∷ col 0 3 ∷ col 0 4 ∷ col 0 5 ∷ col 0 6 ∷ []
 
 pub insert_item : Is text.insert_item (Insert 1 (Values item_terms 7))
 unfolding understood everything

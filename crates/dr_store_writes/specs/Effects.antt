@@ -62,10 +62,11 @@ pub record AddsCells (tree : ℕ) (cells : Row) (old new : State) : Type 0 where
 
 -- ---- the cells of each table's row
 
-abbrev pub item_cells : texts.Text → Key → List ℕ → Row
-item_cells uid key body =
-    Text uid ∷ Text key.class ∷ Text (mark_of key.syntax) ∷ Blob key.modality ∷ Blob key.station
-    ∷ Blob body ∷ []
+-- an item's row, under the number of the line by which it came
+abbrev pub item_row : ℕ → texts.Text → Key → List ℕ → Row
+item_row n uid key body =
+    Int (pos n) ∷ Text uid ∷ Text key.class ∷ Text (mark_of key.syntax) ∷ Blob key.modality
+    ∷ Blob key.station ∷ Blob body ∷ []
 
 -- `whole` is 1 where the data set is there, and else 0
 abbrev pub print_cells : texts.Text → ℕ → List ℕ → ℕ → Row

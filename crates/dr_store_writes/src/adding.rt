@@ -4,7 +4,7 @@ ghost use Rattle.sqlite.specs.Held.{state};
 ghost use Rattle.dr_store_writes.specs.Effects.{AddsCells, AddsRow, Step, adopted_line};
 ghost use Rattle.dr_store_writes.specs.Effects.{arrival_cells, arrived_line, dropped_line};
 ghost use Rattle.dr_store_writes.specs.Effects.{forgotten_line};
-ghost use Rattle.dr_store_writes.specs.Effects.{item_cells, kept_cells, new_cells, print_cells};
+ghost use Rattle.dr_store_writes.specs.Effects.{item_row, kept_cells, new_cells, print_cells};
 ghost use Rattle.dr_store_writes.specs.Effects.{requeued_line};
 ghost use Rattle.dr_store_writes.specs.Effects.{settled_line, site_row, target_cells};
 
@@ -16,22 +16,28 @@ use dr_route::Key;
 use sqlite::types::ValueRef;
 use sqlite::{Alter, Error, Transaction};
 
-/// An instance with its data set, or with none where it isn't needed.
+/// An instance with its data set, or with none where it isn't needed, under the rowid `n`: the
+/// number of the line by which it comes.
+///
+/// A rowid that is left to the database costs a reading of the table's last row, with its data set.
 pub fn add_item<'x, S: Alter>(
     tx: &mut Transaction<'_, S>,
+    n: u64,
     uid: &'x Text,
     key: &'x Key,
     body: &'x [u8],
 ) -> Result<usize, Error>
+    requires { n ≤ 2 ^ 62 }
     ensures same_reference { tx.new.conn.ghost_name ≡ tx.old.conn.ghost_name }
     ensures step { Step result (state S.Store tx.old.conn.now) (state S.Store tx.new.conn.now)
-        (AddsCells 1 (item_cells uid.now key.now body.now) (state S.Store tx.old.conn.now)
+        (AddsRow 1 (item_row n uid.now key.now body.now) (state S.Store tx.old.conn.now)
         (state S.Store tx.new.conn.now)) }
 {
     run(
         tx,
-        "INSERT INTO item (uid, class, syntax, modality, station, body) VALUES (?1, ?2, ?3, ?4, ?5, ?6)",
+        "INSERT INTO item (rowid, uid, class, syntax, modality, station, body) VALUES (?1, ?2, ?3, ?4, ?5, ?6, ?7)",
         &[
+            number_cell(n),
             ValueRef::Text(uid.as_bytes()),
             ValueRef::Text(key.class.as_bytes()),
             syntax_cell(key.syntax),

@@ -1,5 +1,5 @@
 use Rattle.std.proofs.Common.{◌≡◌, ℕ, ◌^◌, ◌<◌, length, insert, slice_index_or, All, IsTrue, is_ok}
-use Rattle.std.proofs.Common.{sym, subst, inl, inr, rules}
+use Rattle.std.proofs.Common.{sym, subst, inl, inr, rules, arith}
 use Rattle.std.proofs.lemmas.Bool.{cases_Bool, cases_lt}
 use Rattle.std.proofs.lemmas.List.Sorted.{IsPermutation-insert}
 use Rattle.sqlite_disk.specs.Disk.{Only}
@@ -24,6 +24,20 @@ returns-clause-first g c =
 
 pub returns-clause-listed : goal.returns-clause-listed
 returns-clause-listed g c = rw (c.in_ok-insert.ensures.items) (IsPermutation-insert _ _ _)
+
+pub returns-clause-other : goal.returns-clause-other
+returns-clause-other g c =
+    let old = c.args.self.now.extents.items in
+    let n = length c.args.body.now in
+    let place : IsPlace old n c.in-Some.index c.in-Some.at =
+    subst (λ xs. IsPlace xs n c.in-Some.index c.in-Some.at) c.deref.ensures.value
+    c.in-Some.ensures.place in
+    λ k d low.
+    let some : 0 < (slice_index_or old k d).size = c.args.self.now.filled k d low in
+    elim (cases_lt k c.in-Some.index) [
+      | inl under ↦ λ e. absurd (omega (arith, e, some, place.gap.behind k d under))
+      | inr over ↦ λ e. absurd (omega (arith, e, c.requires, place.gap.before k d over low))
+    ]
 
 pub invariant_of-self-2 : goal.invariant_of-self-2
 invariant_of-self-2 g c =

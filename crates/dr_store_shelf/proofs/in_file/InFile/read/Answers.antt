@@ -1,0 +1,54 @@
+use Rattle.std.proofs.Common.{◌≡◌, length, drop, take_at, ap, ◌∙◌, subst, sym, Contains, rules}
+use Rattle.std.proofs.Common.{List, ℕ, IsTrue}
+use Rattle.dr_store_bodies.specs.declared.extent.Extent.{Extent}
+use Rattle.dr_store_bodies.specs.Extents.{Stand}
+use Rattle.dr_store_shelf.specs.Cells.{Passes, extent_in}
+use Rattle.dr_store_shelf.proofs.in_file.InFile.read.Goals as goal
+
+pub returns-in_err-get-clause-keeps : goal.returns-in_err-get-clause-keeps
+returns-in_err-get-clause-keeps g c = λ other bytes used stands. (
+  (used.0, subst (λ xs. Contains xs (extent_in other)) (sym c.get.ensures.listed) used.1),
+  (c.get.ensures.keeps (extent_in other) bytes stands.0, stands.1),
+)
+
+pub returns-then-not-passes-clause-keeps : goal.returns-then-not-passes-clause-keeps
+returns-then-not-passes-clause-keeps g c = λ other bytes used stands. (
+  (used.0, subst (λ xs. Contains xs (extent_in other)) (sym c.get.ensures.listed) used.1),
+  (c.get.ensures.keeps (extent_in other) bytes stands.0, stands.1),
+)
+
+pub returns-clause-keeps : goal.returns-clause-keeps
+returns-clause-keeps g c = λ other bytes used stands. (
+  (used.0, subst (λ xs. Contains xs (extent_in other)) (sym c.get.ensures.listed) used.1),
+  (c.get.ensures.keeps (extent_in other) bytes stands.0, stands.1),
+)
+
+pub returns-clause-read : goal.returns-clause-read
+returns-clause-read g c = λ clean bytes stands.
+    let disk = c.args.self.now.bodies.disk in
+    let held : Stand (g.D.Disk.seen disk) (g.D.Disk.may_leave disk) c.args.extent bytes =
+    subst (λ (e : Extent). Stand (g.D.Disk.seen disk) (g.D.Disk.may_leave disk) e bytes)
+    (sym c.requires) stands.0 in
+    let same : c.get.new.buf ≡ bytes = c.in_ok-get.ensures.read clean bytes held in
+    let long : length c.get.new.buf ≡ c.in_ok-bytes.bytes.len =
+    ap length same ∙ held.whole ∙ sym c.in_ok-bytes.ensures.len in
+    take_at c.get.new.buf (drop (length c.get.new.buf) c.in_ok-bytes.bytes.items)
+    c.in_ok-bytes.bytes.len long ∙ same
+
+pub returns-then-not-passes-clause-why : goal.returns-then-not-passes-clause-why
+returns-then-not-passes-clause-why g c = λ clean bytes stands.
+    let disk = c.args.self.now.bodies.disk in
+    let held : Stand (g.D.Disk.seen disk) (g.D.Disk.may_leave disk) c.args.extent bytes =
+    subst (λ (e : Extent). Stand (g.D.Disk.seen disk) (g.D.Disk.may_leave disk) e bytes)
+    (sym c.requires) stands.0 in
+    let same : c.get.new.buf ≡ bytes = c.in_ok-get.ensures.read clean bytes held in
+    let long : length c.get.new.buf ≡ c.in_ok-bytes.bytes.len =
+    ap length same ∙ held.whole ∙ sym c.in_ok-bytes.ensures.len in
+    let shown : c.deref.result.now ≡ bytes =
+    c.deref.ensures.value
+    ∙ take_at c.get.new.buf (drop (length c.get.new.buf) c.in_ok-bytes.bytes.items)
+    c.in_ok-bytes.bytes.len long
+    ∙ same in
+    let yes : IsTrue c.passes.result = c.passes.ensures.1
+    (subst (Passes c.args.self.now.key c.args.cell.now) (sym shown) stands.1) in
+    absurd (search rules)

@@ -1,0 +1,7 @@
+use Rattle.dr_store_shelf.proofs.in_file.InFileShelf.get.Goals as goal
+
+pub returns-clause-read : goal.returns-clause-read
+returns-clause-read g c = rw c.deref.ensures.value at c.find.ensures.read
+
+pub returns-clause-why : goal.returns-clause-why
+returns-clause-why g c = rw c.deref.ensures.value at c.find.ensures.why

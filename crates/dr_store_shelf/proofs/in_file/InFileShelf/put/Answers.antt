@@ -1,0 +1,88 @@
+use Rattle.std.proofs.Common.{◌≡◌, ◌≢◌, ◌<◌, ◌^◌, List, ℕ, [], ◌∷◌, length, All, Contains}
+use Rattle.std.proofs.Common.{subst, sym, ap, ◌∙◌, rules}
+use Rattle.std.proofs.lemmas.List.Sorted.{Contains-permutation}
+use Rattle.std.proofs.lemmas.List.Elements.{All-contains, Contains-append_left}
+use Rattle.std.proofs.lemmas.List.Elements.{Contains-append_right, Contains-push}
+use Rattle.dr_store_bodies.specs.declared.extent.Extent.{Extent}
+use Rattle.dr_store_bodies.specs.Bodies.{extents}
+use Rattle.dr_store_bodies.specs.Extents.{Stand}
+use Rattle.dr_store_shelf.specs.Cells.{Passes, extent_in}
+use Rattle.dr_store_shelf.proofs.CellLemmas.{extent_named}
+use Rattle.dr_store_shelf.proofs.Kept.{on_err}
+use Rattle.dr_store_shelf.proofs.in_file.InFileShelf.put.Goals as goal
+
+pub returns-in_err-extent-clause-keeps : goal.returns-in_err-extent-clause-keeps
+returns-in_err-extent-clause-keeps g c = λ cell bytes used stands. (
+  (used.0, subst (λ xs. Contains xs (extent_in cell)) (sym c.in_err-extent.ensures.unlisted) used.1),
+  (c.put.ensures.keeps (extent_in cell) bytes used.1 stands.0, stands.1),
+)
+
+pub returns-in_err-extent-clause-unused : goal.returns-in_err-extent-clause-unused
+returns-in_err-extent-clause-unused g c =
+    on_err c.from_residual-in_err-extent.result (λ cell used. (
+      used.0,
+      subst (λ xs. Contains xs (extent_in cell)) c.in_err-extent.ensures.unlisted used.1,
+    ))
+
+pub returns-clause-stands : goal.returns-clause-stands
+returns-clause-stands g c =
+    let body = c.args.body.now in
+    let e : Extent = c.in_ok-extent.extent in
+    let held = c.in_ok-extent.ensures.held in
+    let disk = c.put.new.self.disk in
+    let one : e.at < 2 ^ 64 = search rules in
+    let two : length body < 2 ^ 64 = search rules in
+    let it = extent_named c.args.self.now.key e body c.in_ok-cell.cell.items
+    c.placed_cell.result.items c.in_ok-cell.ensures held.whole one two
+    c.placed_cell.ensures in (
+      subst (λ (f : Extent). Stand (g.D.Disk.seen disk) (g.D.Disk.may_leave disk) f body)
+          (sym it.0) held,
+      it.1,
+    )
+
+pub returns-clause-used : goal.returns-clause-used
+returns-clause-used g c =
+    let body = c.args.body.now in
+    let e : Extent = c.in_ok-extent.extent in
+    let held = c.in_ok-extent.ensures.held in
+    let old = extents c.args.self.now.bodies in
+    let new = extents c.put.new.self in
+    let one : e.at < 2 ^ 64 = search rules in
+    let two : length body < 2 ^ 64 = search rules in
+    let it = extent_named c.args.self.now.key e body c.in_ok-cell.cell.items
+    c.placed_cell.result.items c.in_ok-cell.ensures held.whole one two
+    c.placed_cell.ensures in (
+      it.1.long,
+      subst (Contains new) (sym it.0)
+          (Contains-permutation (e ∷ old) new e c.in_ok-extent.ensures.listed
+          (Contains-append_left (e ∷ []) old e (Contains-push [] e))),
+    )
+
+pub returns-clause-beside : goal.returns-clause-beside
+returns-clause-beside g c = λ other used.
+    let body = c.args.body.now in
+    let e : Extent = c.in_ok-extent.extent in
+    let held = c.in_ok-extent.ensures.held in
+    let old = extents c.args.self.now.bodies in
+    let one : e.at < 2 ^ 64 = search rules in
+    let two : length body < 2 ^ 64 = search rules in
+    let it = extent_named c.args.self.now.key e body c.in_ok-cell.cell.items
+    c.placed_cell.result.items c.in_ok-cell.ensures held.whole one two
+    c.placed_cell.ensures in
+    let another : (extent_in other).at ≢ e.at =
+    All-contains (λ (f : Extent). f.at ≢ e.at) old (extent_in other)
+    c.in_ok-extent.ensures.other used.1 in
+    λ same. another (sym same ∙ ap (λ (f : Extent). f.at) it.0)
+
+pub returns-clause-keeps : goal.returns-clause-keeps
+returns-clause-keeps g c = λ cell bytes used stands.
+    let e : Extent = c.in_ok-extent.extent in
+    let old = extents c.args.self.now.bodies in
+    let new = extents c.put.new.self in (
+      (
+        used.0,
+        Contains-permutation (e ∷ old) new (extent_in cell) c.in_ok-extent.ensures.listed
+            (Contains-append_right (e ∷ []) old (extent_in cell) used.1),
+      ),
+      (c.put.ensures.keeps (extent_in cell) bytes used.1 stands.0, stands.1),
+    )

@@ -1,0 +1,60 @@
+-- What a shelf gives out for a data set, and why it refuses one.
+use Rattle.std.specs.Prelude.{◌≢◌, ◌≤◌, ℕ, List, Contains, length}
+use Rattle.sqlite_disk.specs.declared.Disk.{Ghosts}
+use Rattle.sqlite_disk.specs.Disk.{MoreFaults}
+use Rattle.dr_store_bodies.specs.declared.bodies.Bodies.{Bodies}
+use Rattle.dr_store_bodies.specs.declared.fault.BodyFault.{BodyFault}
+use Rattle.dr_store_bodies.specs.declared.fault.BodyFault.TheVariants as body
+use Rattle.dr_store_bodies.specs.Bodies.{extents, IsHeld}
+use Rattle.dr_store_shelf.specs.declared.fault.ShelfFault.{ShelfFault}
+use Rattle.dr_store_shelf.specs.declared.fault.ShelfFault.TheVariants as fault
+use Rattle.dr_store_shelf.specs.declared.shelf.Cell.{Cell}
+use Rattle.dr_store_shelf.specs.declared.shelf.Cell.TheVariants.{Itself, Name}
+use Rattle.dr_store_shelf.specs.Cells.{Passes, extent_in}
+
+-- the bytes of a cell that was given out for this data set
+abbrev pub bytes_of : Cell → List ℕ → List ℕ
+bytes_of Itself body = body
+bytes_of (Name cell) body = cell.items
+
+-- the fault for that of the file
+abbrev pub fault_for : BodyFault → ShelfFault
+fault_for (body.Io error) = fault.Io error
+fault_for body.Memory = fault.Memory
+fault_for body.Unusable = fault.Unusable
+fault_for body.Misfit = fault.NoCell
+fault_for body.Full = fault.Full
+
+-- Why a data set was not put: a call of the disk failed, memory or room is wanting, or a sync
+-- failed before.
+abbrev pub IsWhyNotPut : (usable : Type 0) → (old new : ℕ) → ShelfFault → Type 0
+IsWhyNotPut usable old new (fault.Io error) = MoreFaults old new
+IsWhyNotPut usable old new fault.Memory = Unit {0}
+IsWhyNotPut usable old new fault.Unusable = usable → ⊥
+IsWhyNotPut usable old new fault.Full = Unit {0}
+IsWhyNotPut usable old new fault.NoCell = ⊥
+IsWhyNotPut usable old new fault.Unreadable = ⊥
+
+-- Why none was read by a cell: the same, or, where no wrong answer of the medium was taken as true,
+-- the cell stands for none.
+abbrev pub IsWhyNotRead : (usable stands : Type 0) → ShelfFault → Type 0
+IsWhyNotRead usable stands (fault.Io error) = Unit {0}
+IsWhyNotRead usable stands fault.Memory = Unit {0}
+IsWhyNotRead usable stands fault.Unusable = usable → ⊥
+IsWhyNotRead usable stands fault.Full = ⊥
+IsWhyNotRead usable stands fault.NoCell = stands → ⊥
+IsWhyNotRead usable stands fault.Unreadable = stands → ⊥
+
+-- two cells name different places
+abbrev pub AreApart : List ℕ → List ℕ → Type 0
+AreApart cell other = (extent_in cell).at ≢ (extent_in other).at
+
+module _ {D : Type 0} {g : Ghosts D} where
+  -- the extent of the cell holds these bytes, now and after a crash at this moment, and they pass
+  -- the cell's test
+  abbrev pub Stands : ℕ → Bodies D g → List ℕ → List ℕ → Type 0
+  Stands key file cell bytes = IsHeld file (extent_in cell) bytes × Passes key cell bytes
+
+  -- the cell has an extent, which is in use
+  abbrev pub IsUsed : Bodies D g → List ℕ → Type 0
+  IsUsed file cell = (16 ≤ length cell) × Contains (extents file) (extent_in cell)

@@ -1,0 +1,156 @@
+//! Data sets in a file beside the database.
+ghost use Rattle.std.specs.Prelude.{◌≡◌, ℕ, List, IfErr, IfOk, IsTrue};
+ghost use Rattle.dr_store_bodies.specs.Bodies.{IsClean, IsUsable, extents};
+ghost use Rattle.dr_store_bodies.specs.Extents.{Stand};
+ghost use Rattle.dr_store_shelf.specs.Cells.{Passes, extent_in};
+ghost use Rattle.dr_store_shelf.specs.Shelves.{IsUsed, IsWhyNotRead, Stands};
+
+use crate::cell::{blank_cell, extent_of, passes, placed_cell};
+use crate::fault::ShelfFault;
+use crate::shelf::{Cell, Shelf};
+use dr_store_bodies::{Bodies, Extent};
+use sqlite_disk::{Crash, Disk};
+use std::alloc::Global;
+
+/// Each data set stands in an extent of a file, which its cell names.
+#[derive(Drop)]
+pub struct InFile<D: Disk> {
+    alloc: Global,
+    /// The key under which the digests are taken: it stays the same as long as the file is kept.
+    key: u64,
+    bodies: Bodies<D>,
+}
+
+impl<D: Disk> InFile<D> {
+    /// A shelf over this file, with the digests under this key.
+    pub fn of(alloc: Global, key: u64, bodies: Bodies<D>) -> InFile<D>
+        ensures file { result.bodies ≡ bodies }
+        ensures key { result.key ≡ key }
+    {
+        InFile { alloc, key, bodies }
+    }
+
+    /// Reads what the extent of a cell holds, and tests it.
+    fn read(&mut self, cell: &[u8], extent: Extent) -> Result<Vec<u8>, ShelfFault>
+        requires { extent ≡ extent_in cell.now }
+        ensures read { IfOk result (λ got. IsClean self.new.bodies → (bytes : List ℕ)
+            → Stands self.old.key self.old.bodies cell.now bytes → got.items ≡ bytes) }
+        ensures tested { IfOk result (λ got. Passes self.old.key cell.now got.items) }
+        ensures keeps { (other bytes : List ℕ) → IsUsed self.old.bodies other
+            → Stands self.old.key self.old.bodies other bytes
+            → IsUsed self.new.bodies other × Stands self.new.key self.new.bodies other bytes }
+        ensures clean { IsClean self.new.bodies → IsClean self.old.bodies }
+        ensures why { IfErr result (λ fault. IsClean self.new.bodies → (bytes : List ℕ)
+            → IsWhyNotRead (IsUsable self.old.bodies)
+            (Stands self.old.key self.old.bodies cell.now bytes) fault) }
+    {
+        let mut bytes = vec![in self.alloc; 0u8; extent.size]?;
+        self.bodies.get(extent, &mut bytes)?;
+        if !passes(self.key, cell, &bytes) {
+            return Err(ShelfFault::Unreadable);
+        }
+        Ok(bytes)
+    }
+
+    /// The same, by the cell alone.
+    fn find(&mut self, cell: &[u8]) -> Result<Vec<u8>, ShelfFault>
+        ensures read { IfOk result (λ got. IsClean self.new.bodies → (bytes : List ℕ)
+            → Stands self.old.key self.old.bodies cell.now bytes → got.items ≡ bytes) }
+        ensures tested { IfOk result (λ got. Passes self.old.key cell.now got.items) }
+        ensures keeps { (other bytes : List ℕ) → IsUsed self.old.bodies other
+            → Stands self.old.key self.old.bodies other bytes
+            → IsUsed self.new.bodies other × Stands self.new.key self.new.bodies other bytes }
+        ensures clean { IsClean self.new.bodies → IsClean self.old.bodies }
+        ensures why { IfErr result (λ fault. IsClean self.new.bodies → (bytes : List ℕ)
+            → IsWhyNotRead (IsUsable self.old.bodies)
+            (Stands self.old.key self.old.bodies cell.now bytes) fault) }
+    {
+        match extent_of(cell) {
+            Some(extent) => self.read(cell, extent),
+            None => Err(ShelfFault::NoCell),
+        }
+    }
+}
+
+impl<D: Disk> Shelf for InFile<D> {
+    ghost use Rattle.dr_store_bodies.specs.Bodies.{IsClean, IsUsable, faults};
+    ghost use Rattle.dr_store_shelf.specs.Cells.{Passes};
+    ghost use Rattle.dr_store_shelf.specs.Shelves.{AreApart, IsUsed, Stands};
+    ghost use Rattle.dr_store_shelf.specs.Held.{held_is_one};
+
+    ghost stands = { λ it. Stands it.key it.bodies };
+
+    ghost uses = { λ it. IsUsed it.bodies };
+
+    ghost apart = { AreApart };
+
+    ghost passes = { λ it. Passes it.key };
+
+    ghost is_clean = { λ it. IsClean it.bodies };
+
+    ghost is_usable = { λ it. IsUsable it.bodies };
+
+    ghost faults = { λ it. faults it.bodies };
+
+    ghost one = { λ it cell bytes other is so. held_is_one _ _ _ bytes other is.0 so.0 };
+
+    ghost passed = { λ it cell bytes is. is.1 };
+
+    fn put(&mut self, body: &[u8]) -> Result<Cell, ShelfFault> {
+        let cell = blank_cell(self.alloc, self.key, body)?;
+        let extent = self.bodies.put(body)?;
+        Ok(Cell::Name(placed_cell(cell, extent.at)))
+    }
+
+    fn get(&mut self, cell: Vec<u8>) -> Result<Vec<u8>, ShelfFault> {
+        self.find(&cell)
+    }
+
+    fn let_go(&mut self, cell: &[u8]) {
+        if let Some(extent) = extent_of(cell) {
+            self.bodies.free(extent);
+        }
+    }
+}
+
+impl<D: Disk + Drop> InFile<D> {
+    /// A shelf over a file in which these extents are in use, in the order of their places.
+    ///
+    /// Errors: Io, Unusable; NoCell where the file hasn't these extents.
+    pub fn open(
+        alloc: Global,
+        key: u64,
+        file: D,
+        list: Vec<Extent>,
+    ) -> Result<InFile<D>, ShelfFault>
+        ensures key { IfOk result (λ it. it.key ≡ key) }
+        ensures listed { IfOk result (λ it. extents it.bodies ≡ list.items) }
+        ensures keeps { IfOk result (λ it. (cell bytes : List ℕ)
+            → Stand (D.Disk.seen file) (D.Disk.may_leave file) (extent_in cell) bytes
+            → Passes key cell bytes
+            → Stands it.key it.bodies cell bytes) }
+        ensures clean { IfOk result (λ it. IsClean it.bodies → IsTrue (D.Disk.is_clean file)) }
+        ensures usable { IfOk result (λ it. IsUsable it.bodies) }
+    {
+        let bodies = Bodies::open(file, list)?;
+        Ok(InFile { alloc, key, bodies })
+    }
+}
+
+impl<D: Crash + Drop> InFile<D> {
+    /// What is there after a crash and an opening: each cell that was in use is, and stands for
+    /// what it stood for.
+    pub fn restart(self) -> Result<InFile<D>, ShelfFault>
+        ensures keeps { IfOk result (λ it. (cell bytes : List ℕ) → IsUsed self.bodies cell
+            → Stands self.key self.bodies cell bytes
+            → IsUsed it.bodies cell × Stands it.key it.bodies cell bytes) }
+    {
+        let InFile { alloc, key, bodies } = self;
+        let left = bodies.restart()?;
+        Ok(InFile {
+            alloc,
+            key,
+            bodies: left,
+        })
+    }
+}

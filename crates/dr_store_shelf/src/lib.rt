@@ -1,0 +1,20 @@
+//! Where the data sets of a ledger are put, and the cells of its table that stand for them.
+//!
+//! A shelf gives out a cell for each data set that it takes, a row of bytes for the ledger's table,
+//! and gives the data set for the cell. Either the cell is the data set itself (`InRow`), or it
+//! names an extent of a file beside the database, with the digests by which what is read is tested
+//! (`InFile`).
+#![tactic(auto)]
+
+mod cell;
+mod fault;
+mod in_file;
+mod in_row;
+pub mod laws;
+mod shelf;
+
+pub use cell::{blank_cell, extent_of, passes, placed_cell};
+pub use fault::ShelfFault;
+pub use in_file::InFile;
+pub use in_row::InRow;
+pub use shelf::{Cell, Shelf};

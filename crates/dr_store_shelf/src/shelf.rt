@@ -1,0 +1,93 @@
+//! A place for data sets.
+ghost use Rattle.std.specs.Prelude.{◌≡◌, ◌<◌, ℕ, List, length, IfErr, IfOk, OnErr};
+ghost use Rattle.dr_store_shelf.specs.Shelves.{IsWhyNotPut, IsWhyNotRead, bytes_of};
+
+use crate::fault::ShelfFault;
+
+/// What stands in a ledger's table for a data set that was put.
+#[derive(Debug, Drop)]
+pub enum Cell {
+    /// The data set itself.
+    Itself,
+    /// These bytes, which name it.
+    Name(Vec<u8>),
+}
+
+/// A place for data sets, which gives out a cell for each.
+///
+/// A cell that is in use stands for the same bytes until it is let go, whatever else is put, read
+/// or let go, and whether or not a call is refused.
+pub trait Shelf {
+    // The cell stands for these bytes: they are what is read by it, now and after a crash at this
+    // moment.
+    ghost stands: { Self → List ℕ → List ℕ → Type 0 };
+
+    // The cell is in use.
+    ghost uses: { Self → List ℕ → Type 0 };
+
+    // The one cell can be let go without the other.
+    ghost apart: { List ℕ → List ℕ → Type 0 };
+
+    // These bytes pass the test that the cell has for them.
+    ghost passes: { Self → List ℕ → List ℕ → Type 0 };
+
+    // No wrong answer of a medium has been taken as true.
+    ghost is_clean: { Self → Type 0 };
+
+    // No sync has failed.
+    ghost is_usable: { Self → Type 0 };
+
+    // How many calls of a disk have failed.
+    ghost faults: { Self → ℕ };
+
+    // A cell stands for one data set at most, which passes its test.
+    ghost one: { (it : Self) (cell bytes other : List ℕ)
+        → stands it cell bytes → stands it cell other → bytes ≡ other };
+
+    ghost passed: { (it : Self) (cell bytes : List ℕ) → stands it cell bytes
+        → passes it cell bytes };
+
+    /// Puts a data set, durably: whoever commits a row with the cell afterwards finds it, whatever
+    /// crash comes.
+    ///
+    /// Errors: Io where a call of the disk failed, Memory, Unusable, Full. None leaves a cell in
+    /// use that wasn't.
+    fn put(&mut self, body: &[u8]) -> Result<Cell, ShelfFault>
+        requires { 0 < length body.now }
+        ensures stands { IfOk result (λ cell. stands self.new (bytes_of cell body.now) body.now) }
+        ensures used { IfOk result (λ cell. uses self.new (bytes_of cell body.now)) }
+        ensures beside { IfOk result (λ cell. (other : List ℕ)
+            → uses self.old other → apart (bytes_of cell body.now) other) }
+        ensures keeps { (cell bytes : List ℕ) → uses self.old cell → stands self.old cell bytes
+            → uses self.new cell × stands self.new cell bytes }
+        ensures unused { OnErr result
+            ((cell : List ℕ) → uses self.new cell → uses self.old cell) }
+        ensures clean { is_clean self.new → is_clean self.old }
+        ensures why { IfErr result
+            (IsWhyNotPut (is_usable self.old) (faults self.old) (faults self.new)) };
+
+    /// Reads the data set of a cell. What is answered has passed the cell's test, also where the
+    /// medium answered wrongly.
+    ///
+    /// Errors: Io, Memory, Unusable; NoCell and Unreadable only where the cell stands for no data
+    /// set, or a medium answered wrongly.
+    fn get(&mut self, cell: Vec<u8>) -> Result<Vec<u8>, ShelfFault>
+        ensures read { IfOk result (λ got. is_clean self.new → (bytes : List ℕ)
+            → stands self.old cell.items bytes → got.items ≡ bytes) }
+        ensures tested { IfOk result (λ got. passes self.old cell.items got.items) }
+        ensures keeps { (other bytes : List ℕ) → uses self.old other → stands self.old other bytes
+            → uses self.new other × stands self.new other bytes }
+        ensures clean { is_clean self.new → is_clean self.old }
+        ensures why { IfErr result (λ fault. is_clean self.new → (bytes : List ℕ)
+            → IsWhyNotRead (is_usable self.old) (stands self.old cell.items bytes) fault) };
+
+    /// Lets a data set go, whose cell no row has, and that no row gets after a crash either. Where
+    /// a cell names a place, this one is in use no more. No byte is touched until its place is
+    /// taken by another.
+    fn let_go(&mut self, cell: &[u8])
+        ensures gone { (apart cell.now cell.now → ⊥) → uses self.new cell.now → ⊥ }
+        ensures keeps { (other bytes : List ℕ) → apart cell.now other
+            → uses self.old other → stands self.old other bytes
+            → uses self.new other × stands self.new other bytes }
+        ensures clean { is_clean self.new → is_clean self.old };
+}
