@@ -133,6 +133,8 @@ def reads():
         same(node.read('/rows?dest=ARCH'), [])
         same(node.ask('GET', '/rows'), (400, '{"fault":"Field"}\n'))
         same(node.ask('GET', '/rows?dest=GATE&state=lost'), (400, '{"fault":"Field"}\n'))
+        for limit in ('', '0', '1001', '-1', '+5', '007', '5.0', 'many', '%2B1', '99999999999999999999'):
+            same(node.ask('GET', f'/rows?dest=GATE&limit={limit}'), (400, '{"fault":"Field"}\n'))
         same(node.read('/health'), [{'well': True}])
         code, figures = node.ask('GET', '/metrics')
         same(code, 200)
@@ -233,6 +235,9 @@ def orders():
         # GATE isn't there, so that the rows wait
         same(node.act('/requeue', dest='GATE'), DONE)
         same([row['uid'] for row in node.read('/rows?dest=GATE&state=waiting')], [uid.decode() for uid in uids])
+        # a page of as many rows as are asked for
+        for more, first, last in ('', 0, 5), ('&limit=1000', 0, 5), ('&limit=5', 0, 5), ('&limit=2', 0, 2), ('&limit=2&after=1.2.3.1', 2, 4), ('&limit=2&after=1.2.3.3', 4, 5):
+            same([row['uid'] for row in node.read(f'/rows?dest=GATE{more}')], [uid.decode() for uid in uids[first:last]])
         hop = node.wait('/status', lambda lines: 'came' in lines[1])[1]
         same((hop['dest'], hop['waiting'], hop['held'], hop['came']), ('GATE', 5, 0, 'unreached'))
         assert abs(time.time() * 1000 - hop['visited']) < 60_000, hop

@@ -1,7 +1,7 @@
 -- What a request does at the shared desk, and how it is answered.
 use Rattle.std.specs.List.{list_any}
 use Rattle.std.specs.Prelude.{◌≡◌, ◌⊎◌, ℕ, Bool, true, false, List, [], ◌∷◌, bytes_eq}
-use Rattle.std.specs.Prelude.{Option, Ok, Err, Result, MatchResult, codes}
+use Rattle.std.specs.Prelude.{Option, None, Some, option_map, Ok, Err, Result, MatchResult, codes}
 use Rattle.http.specs.declared.request.Request.{Request}
 use Rattle.http.specs.Request.{head_of, body_of}
 use Rattle.dr_base.specs.Texts.{Text}
@@ -14,7 +14,7 @@ use Rattle.dr_desk.specs.declared.receipt.Reply.TheVariants.{Done}
 use Rattle.dr_ledger_views.specs.declared.stage.Stage.{Stage}
 use Rattle.dr_ledger_views.specs.declared.stage.Stage.TheVariants as stage
 use Rattle.dr_ledger_views.specs.declared.stage.Tally.{Tally}
-use Rattle.dr_ledger_views.specs.Views.{Row}
+use Rattle.dr_ledger_views.specs.Views.{Row, page_of}
 use Rattle.dr_ledger.specs.Books.{Book, Line}
 use Rattle.dr_ledger.specs.Replies.{Drops, Forgets, Requeues}
 use Rattle.dr_ledger.specs.declared.fault.LedgerFault.{LedgerFault}
@@ -39,6 +39,7 @@ use Rattle.dr_run_request.specs.declared.wanted.FormFault.{FormFault}
 use Rattle.dr_run_request.specs.declared.wanted.FormFault.TheVariants as fault
 use Rattle.dr_run_request.specs.declared.wanted.Stage.{Stage as Word}
 use Rattle.dr_run_request.specs.declared.wanted.Stage.TheVariants as word
+use Rattle.dr_run_request.specs.declared.wanted.Wanted.{Wanted}
 use Rattle.dr_site.specs.Parts.{Part}
 
 -- by this route the node is told what to do by a form
@@ -224,3 +225,15 @@ stage_named word.Waiting = stage.Waiting
 stage_named word.Held = stage.Held
 stage_named word.Done = stage.Done
 stage_named word.Dropped = stage.Dropped
+
+-- behind which uid the rows of a page stand: behind none, where none is named
+abbrev pub after_named : Option Text → Text
+after_named None = []
+after_named (Some uid) = uid
+
+-- the rows that are wanted, of those that there are: to the node, at the stage that is named, behind
+-- the uid that is named, and as many as are asked for
+abbrev pub page_wanted : List Row → Wanted → List Row
+page_wanted rows wanted =
+    page_of rows wanted.dest (option_map stage_named wanted.stage) (after_named wanted.after)
+    wanted.limit

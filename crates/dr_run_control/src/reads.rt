@@ -1,12 +1,15 @@
 //! What a running node shows of itself.
 ghost use Rattle.hex.specs.Hex.{encode_lower};
+ghost use Rattle.std.specs.FinMap as map;
 ghost use Rattle.std.specs.Prelude.{◌≡◌, ◌++◌, IfOk, OnOk, flat_map, length, map as mapped};
-ghost use Rattle.std.specs.Prelude.{string_bytes};
+ghost use Rattle.std.specs.Prelude.{option_map, string_bytes};
+ghost use Rattle.dr_desk.specs.Reading.{Reading};
+ghost use Rattle.dr_ledger.specs.Replies.{Reads};
 ghost use Rattle.dr_run_answer.specs.Answers.{association_line, brought_figures, bytes_figures};
 ghost use Rattle.dr_run_answer.specs.Answers.{figures, instance_line, line_of_node, line_of_queue};
 ghost use Rattle.dr_run_answer.specs.Answers.{open_figure, queues_figures, recent_line, row_line};
 ghost use Rattle.dr_run_answer.specs.Answers.{visits_figures};
-ghost use Rattle.dr_run_control.specs.Consoles.{IsCounted, stage_named};
+ghost use Rattle.dr_run_control.specs.Consoles.{IsCounted, page_wanted, stage_named};
 
 use crate::console::{Around, House};
 use crate::reply::{Media, Reply, misread, refused_by_ledger};
@@ -25,9 +28,6 @@ use dr_site::Site;
 use http::StatusCode;
 use std::alloc::{AllocError, Global};
 use std::sync::Wait;
-
-/// So many rows are on a page at most.
-const PAGE: u32 = 1_000;
 
 /// How many rows are on their way to a node, as they were counted.
 fn queue_of(dest: &Text, tally: Tally, visit: Option<Visited>, visits: Visits) -> Queue<'_>
@@ -278,7 +278,17 @@ pub(crate) fn read_figures<R: Wait, L: Views, B: Sharing, H: House>(
     reply_with(alloc, text, Media::Figures)
 }
 
-/// The rows that are wanted, as many as a page has.
+/// The stage of the rows that are wanted, if one is named.
+fn stage_in(wanted: &Wanted) -> Option<Stage>
+    ensures { result ≡ option_map stage_named wanted.now.stage }
+{
+    match wanted.stage {
+        Some(word) => Some(stage_of(word)),
+        None => None,
+    }
+}
+
+/// The rows that are wanted, as many as are asked for: those that the book has at one moment.
 ///
 /// Errors: Store, Memory.
 fn page_of<R: Wait, L: Views, B: Sharing>(
@@ -286,11 +296,15 @@ fn page_of<R: Wait, L: Views, B: Sharing>(
     alloc: Global,
     desk: &SharedDesk<L, B>,
     wanted: &Wanted,
-) -> Result<Seq<((Text, Text), Progress)>, LedgerFault> {
-    let stage = wanted.stage.map(stage_of);
+) -> Result<Seq<((Text, Text), Progress)>, LedgerFault>
+    ensures { Reading L.site L.book L.bodies L.stands L.failed B.site B.first
+        (λ l answer. Reads answer (λ all.
+        all ≡ page_wanted (map.entries (L.book l).rows) wanted.now)) result }
+{
+    let stage = stage_in(wanted);
     match &wanted.after {
-        Some(after) => desk.page(rt, &wanted.dest, stage, after, PAGE),
-        None => desk.page(rt, &wanted.dest, stage, &Text::empty(alloc), PAGE),
+        Some(after) => desk.page(rt, &wanted.dest, stage, after, wanted.limit),
+        None => desk.page(rt, &wanted.dest, stage, &Text::empty(alloc), wanted.limit),
     }
 }
 
