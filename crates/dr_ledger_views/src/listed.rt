@@ -112,11 +112,7 @@ pub fn rows_of(alloc: Global, rows: &[Row], uid: &Text) -> Result<Seq<Row>, Allo
 }
 
 /// Adds the caller of an arrival, where it is of the instance.
-fn add_caller(
-    callers: &mut Seq<Text>,
-    arrival: &(Text, Text),
-    uid: &Text,
-) -> Result<(), AllocError>
+fn add_caller(callers: &mut Seq<Text>, arrival: &(Text, Text), uid: &Text) -> Result<(), AllocError>
     ensures { OnOk result (callers.new ≡ callers.old ++ caller_if uid.now arrival.now) }
 {
     if arrival.1 == *uid {

@@ -44,8 +44,8 @@ module _ (line : Recent) where
       let own = named line.caller line.modality x at.1 in
       let alike : (caller modality : Text) → is_by caller modality y ≡ is_by caller modality x = λ caller modality. ap (is_by caller modality) same in
       let grown : (figure : Recent → ℕ) (more : ℕ) → figure y ≡ min most (figure x + more) → (caller modality : Text)
-          → sum_by (λ (r : Recent). if_so (is_by caller modality r) (figure r)) xs + if_so (is_by caller modality line) more ≤ most
-          → sum_by (λ (r : Recent). if_so (is_by caller modality r) (figure r)) (set xs i y) ≡ sum_by (λ (r : Recent). if_so (is_by caller modality r) (figure r)) xs + if_so (is_by caller modality line) more =
+      → sum_by (λ (r : Recent). if_so (is_by caller modality r) (figure r)) xs + if_so (is_by caller modality line) more ≤ most
+      → sum_by (λ (r : Recent). if_so (is_by caller modality r) (figure r)) (set xs i y) ≡ sum_by (λ (r : Recent). if_so (is_by caller modality r) (figure r)) xs + if_so (is_by caller modality line) more =
       λ figure more says caller modality small.
       let Sum : ℕ = sum_by (λ (r : Recent). if_so (is_by caller modality r) (figure r)) xs in
       let its : is_by caller modality x ≡ is_by caller modality line = λ j. bytes_eq (own.0 j) caller && bytes_eq (own.1 j) modality in

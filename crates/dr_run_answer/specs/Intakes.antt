@@ -52,7 +52,8 @@ most = 2 ^ 64 - 1
 
 -- to how many of a caller's instances such an answer was given
 abbrev pub answers_to : (Answer → Bool) → Text → List Notice → ℕ
-answers_to such caller all = sum_by (λ (n : Notice). if_so (bytes_eq n.caller caller && such n.answer) 1) all
+answers_to such caller all =
+    sum_by (λ (n : Notice). if_so (bytes_eq n.caller caller && such n.answer) 1) all
 
 -- how many bytes those have that were stored
 abbrev pub bytes_from : Text → List Notice → ℕ

@@ -1,4 +1,5 @@
-//! An instance: who brought it, and its rows, with the moment of their last try where that is known.
+//! An instance: who brought it, and its rows, with the moment of their last try where that is
+//! known.
 ghost use Rattle.std.specs.Prelude.{◌≡◌, ◌≤◌, ◌-◌, ◌^◌, ◌++◌, OnOk, flat_map, min};
 ghost use Rattle.dr_run_answer.specs.Answers.{from_line, last_try, own_row_line, tried_at};
 ghost use Rattle.dr_run_answer.specs.Answers.{tried_part};

@@ -2,8 +2,8 @@
 //!
 //! - Lines of JSON, one object each: what a node has (`put_node`), how many rows are on their way
 //!   to a node (`put_queue`), associations that are open (`put_associations`), what came within the
-//!   last hour (`put_recents`), an instance (`put_instance`), who brought it (`put_froms`), its rows
-//!   (`put_own_rows`), and rows (`put_rows`).
+//!   last hour (`put_recents`), an instance (`put_instance`), who brought it (`put_froms`), its
+//!   rows (`put_own_rows`), and rows (`put_rows`).
 //! - Figures in the text format of Prometheus: `put_figures`, `put_queues`, `put_visits`,
 //!   `put_callers`, `put_stored_bytes`, `put_open`.
 //! - What came is counted by `noted`: by caller, and of the last hour by caller and modality.

@@ -236,8 +236,8 @@ abbrev pub after_named : Option Text → Text
 after_named None = []
 after_named (Some uid) = uid
 
--- the rows that are wanted, of those that there are: to the node, at the stage that is named, behind
--- the uid that is named, and as many as are asked for
+-- the rows that are wanted, of those that there are: to the node, at the stage that is named,
+-- behind the uid that is named, and as many as are asked for
 abbrev pub page_wanted : List Row → Wanted → List Row
 page_wanted rows wanted =
     page_of rows wanted.dest (option_map stage_named wanted.stage) (after_named wanted.after)

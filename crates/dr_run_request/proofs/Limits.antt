@@ -105,9 +105,12 @@ unfolding digits
 more_is = refl
 
 pub limits_are_right : LimitsAreRight
-limits_are_right =
-    ((one_is, (lit≤ tt, lit≤ tt)), (most_is, (lit≤ tt, lit≤ tt)), refl,
-    (λ n says. another (codes "0") 0 n (lit≤ tt) zero_is not_zero says),
-    (λ n says. another (codes "1001") 1001 n (lit≤ tt) more_is not_more says),
-    (λ n says. not_padded n _ says),
-    (λ n says. not_empty n says))
+limits_are_right = (
+  (one_is, (lit≤ tt, lit≤ tt)),
+  (most_is, (lit≤ tt, lit≤ tt)),
+  refl,
+  (λ n says. another (codes "0") 0 n (lit≤ tt) zero_is not_zero says),
+  (λ n says. another (codes "1001") 1001 n (lit≤ tt) more_is not_more says),
+  (λ n says. not_padded n _ says),
+  (λ n says. not_empty n says),
+)

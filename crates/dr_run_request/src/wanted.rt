@@ -1,5 +1,6 @@
 //! What a request names: a row, or those rows that it wants to see.
-ghost use Rattle.std.specs.Prelude.{◌≡◌, ◌<◌, ◌^◌, ℕ, IfNone, IfOk, IfSome, MatchOption, MatchResult};
+ghost use Rattle.std.specs.Prelude.{◌≡◌, ◌<◌, ◌^◌, ℕ, IfNone, IfOk, IfSome, MatchOption};
+ghost use Rattle.std.specs.Prelude.{MatchResult};
 ghost use Rattle.std.specs.Prelude.{◌↔◌, Option, IsTrue, Some, codes, decimal};
 ghost use Rattle.dr_run_request.specs.Forms.{IsLimit, LimitOf, NamesInstance, NamesRow, StageOf};
 ghost use Rattle.dr_run_request.specs.Forms.{Wants, value_in, word_of};

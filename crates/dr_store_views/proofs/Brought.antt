@@ -100,10 +100,10 @@ module _ (uid : Text) where
       ordered = sorted;
       each = λ caller. (
         (λ there. set.contains-from_list pairs_total (map arrival_in table) (caller, uid)
-        ∙ list_any-from_Contains (eq_by_cmp_equiv pairs_total) (caller, uid) (map arrival_in table) (has_contains (map arrival_in table) (caller, uid) (brought caller (contains_has (map shown_text rows) caller there)))),
+            ∙ list_any-from_Contains (eq_by_cmp_equiv pairs_total) (caller, uid) (map arrival_in table) (has_contains (map arrival_in table) (caller, uid) (brought caller (contains_has (map shown_text rows) caller there)))),
         (λ noted. has_contains (map shown_text rows) caller
-        (shown_too caller
-        (contains_has (map arrival_in table) (caller, uid)
-        (Contains-from_any (λ a b tied. pairs_exact a b (maps.equal (pair_cmp a b) tied)) (caller, uid) (map arrival_in table) (sym (set.contains-from_list pairs_total (map arrival_in table) (caller, uid)) ∙ noted))))),
+            (shown_too caller
+            (contains_has (map arrival_in table) (caller, uid)
+            (Contains-from_any (λ a b tied. pairs_exact a b (maps.equal (pair_cmp a b) tied)) (caller, uid) (map arrival_in table) (sym (set.contains-from_list pairs_total (map arrival_in table) (caller, uid)) ∙ noted))))),
       );
     }
