@@ -133,6 +133,8 @@ def reads():
         same(node.read('/rows?dest=ARCH'), [])
         same(node.ask('GET', '/rows'), (400, '{"fault":"Field"}\n'))
         same(node.ask('GET', '/rows?dest=GATE&state=lost'), (400, '{"fault":"Field"}\n'))
+        for limit in ('', '0', '1001', '-1', '+5', '007', '5.0', 'many', '%2B1', '99999999999999999999'):
+            same(node.ask('GET', f'/rows?dest=GATE&limit={limit}'), (400, '{"fault":"Field"}\n'))
         same(node.read('/health'), [{'well': True}])
         code, figures = node.ask('GET', '/metrics')
         same(code, 200)
@@ -217,7 +219,7 @@ def orders():
         hold(room, *uids)
         node = Asked(room, 'CT1', 0)
         row = {'uid': '1.2.3.0', 'dest': 'GATE', 'state': 'held', 'cause': 'C0F1'}
-        whole = [{'instance': '1.2.3.0', 'body': True, 'over': False}, row]
+        whole = [{'instance': '1.2.3.0', 'body': True, 'over': False}, {'from': '-'}, row]
         same(node.read('/instance/1.2.3.0'), whole)
         same(node.read('/instance/1%2E2.3.0'), whole)
         for unknown in '1.2.3', '', '1.2.3.0/', '%00%ff%22%0a':
@@ -233,7 +235,14 @@ def orders():
         # GATE isn't there, so that the rows wait
         same(node.act('/requeue', dest='GATE'), DONE)
         same([row['uid'] for row in node.read('/rows?dest=GATE&state=waiting')], [uid.decode() for uid in uids])
+        # a page of as many rows as are asked for
+        for more, first, last in ('', 0, 5), ('&limit=1000', 0, 5), ('&limit=5', 0, 5), ('&limit=2', 0, 2), ('&limit=2&after=1.2.3.1', 2, 4), ('&limit=2&after=1.2.3.3', 4, 5):
+            same([row['uid'] for row in node.read(f'/rows?dest=GATE{more}')], [uid.decode() for uid in uids[first:last]])
         hop = node.wait('/status', lambda lines: 'came' in lines[1])[1]
+        # a row that waits says when it was tried last
+        row = node.wait('/instance/1.2.3.4', lambda lines: 'tried' in lines[-1])[-1]
+        same((row['state'], row['due'] - row['tried']), ('waiting', 1000 * min(300, 2 ** (row['tries'] - 1))))
+        assert abs(time.time() * 1000 - row['tried']) < 60_000, row
         same((hop['dest'], hop['waiting'], hop['held'], hop['came']), ('GATE', 5, 0, 'unreached'))
         assert abs(time.time() * 1000 - hop['visited']) < 60_000, hop
         text = node.ask('GET', '/')[1]
@@ -247,7 +256,7 @@ def orders():
         assert re.search('^dr_router_visits_total{dest="GATE",came="released"} [1-9]', figures, re.M), figures
         assert re.search('^dr_router_visits_total{dest="GATE",came="unreached"} [1-9]', figures, re.M), figures
         same(node.act('/drop', uid='1.2.3.0', dest='GATE', reason='twice\n"by hand"' + 200 * 'x'), DONE)
-        same(node.read('/instance/1.2.3.0')[0], {'instance': '1.2.3.0', 'body': False, 'over': True})
+        same(node.read('/instance/1.2.3.0')[:2], [{'instance': '1.2.3.0', 'body': False, 'over': True}, {'from': '-'}])
         same(node.act('/forget', uid='1.2.3.0'), DONE)
         same(node.ask('GET', '/instance/1.2.3.0'), (404, '{"fault":"Instance"}\n'))
         same(node.act('/stop'), DONE)

@@ -251,7 +251,9 @@ def forged():
         ended(arch)
         told_at_arch = [event[3] for event in room.events('ARCH') if event[2] == 'instance']
         same(told_at_arch, ['refused session=1 caller="A\\nB\\x1b[1m\\" \\\\C" uid=1.2.3.4 fault="G1 NoLine" '
-                            f'class={CT.decode()} syntax={EXPLICIT.decode()} modality="CT" station="S1"'])
+                            f'class={CT.decode()} syntax={EXPLICIT.decode()} modality="CT" station="S1" '
+                            f'why="no flow or rule at ARCH brings {CT.decode()} in {EXPLICIT.decode()} of modality \'CT\' and station \'S1\' '
+                            'from A\\nB\\x1b[1m\\" \\\\C"'])
 
 
 def refused_contexts():

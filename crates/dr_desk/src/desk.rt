@@ -178,4 +178,8 @@ impl<L: Views> Views for Desk<L> {
     ) -> Result<Seq<((Text, Text), Progress)>, LedgerFault> {
         self.ledger.page(dest, stage, after, limit)
     }
+
+    fn callers_of(&mut self, uid: &Text) -> Result<Seq<Text>, LedgerFault> {
+        self.ledger.callers_of(uid)
+    }
 }

@@ -2,7 +2,8 @@
 ghost use Rattle.std.specs.Prelude.{◌≡◌, IfOk};
 ghost use Rattle.std.specs.FinMap as map;
 ghost use Rattle.dr_ledger.specs.Replies.{Reads};
-ghost use Rattle.dr_ledger_views.specs.Views.{IsLeast, IsTally, dues, page_of, rows_of};
+ghost use Rattle.dr_ledger_views.specs.Views.{AreCallers, IsLeast, IsTally, dues, page_of};
+ghost use Rattle.dr_ledger_views.specs.Views.{rows_of};
 ghost use Rattle.dr_desk.specs.Reading.{Answered, AreTotals, Failing, HasFailed, Reading};
 
 use crate::held::Held;
@@ -75,6 +76,15 @@ impl<L: Views, B: Sharing> Held<L, B> {
     {
         self.desk.page(dest, stage, after, limit)
     }
+
+    /// The ledger's `callers_of`.
+    fn callers_of(&mut self, uid: &Text) -> Result<Seq<Text>, LedgerFault>
+        ensures { Answered L.site L.book L.bodies L.stands L.failed B.site B.first
+            (λ l answer. Reads answer (AreCallers (L.book l).arrivals uid.now))
+            result self.old.desk.ledger self.new.desk.ledger }
+    {
+        self.desk.callers_of(uid)
+    }
 }
 
 impl<L: Views, B: Sharing> SharedDesk<L, B> {
@@ -137,5 +147,13 @@ impl<L: Views, B: Sharing> SharedDesk<L, B> {
             all ≡ page_of (map.entries (L.book l).rows) dest.now stage after.now limit)) result }
     {
         self.held.lock(rt).page(dest, stage, after, limit)
+    }
+
+    /// The ledger's `callers_of`.
+    pub fn callers_of<R: Wait>(&self, rt: &R, uid: &Text) -> Result<Seq<Text>, LedgerFault>
+        ensures { Reading L.site L.book L.bodies L.stands L.failed B.site B.first
+            (λ l answer. Reads answer (AreCallers (L.book l).arrivals uid.now)) result }
+    {
+        self.held.lock(rt).callers_of(uid)
     }
 }

@@ -36,7 +36,8 @@ use dr_ledger::{
     moved,
 };
 use dr_ledger_views::listing::{
-    count_all_arrivals, count_all_kept, count_all_rows, first_of_all, own_of_all, page_of_all,
+    callers_of_all, count_all_arrivals, count_all_kept, count_all_rows, first_of_all, own_of_all,
+    page_of_all,
 };
 use dr_ledger_views::{Stage, Views};
 use dr_site::Site;
@@ -722,5 +723,9 @@ impl Views for MemoryLedger {
         limit: u32,
     ) -> Result<Seq<((Text, Text), Progress)>, LedgerFault> {
         page_of_all(self.alloc, self, dest, stage, after, limit)
+    }
+
+    fn callers_of(&mut self, uid: &Text) -> Result<Seq<Text>, LedgerFault> {
+        callers_of_all(self.alloc, self, uid)
     }
 }

@@ -1,4 +1,5 @@
 pub mod Asked
+pub mod Callers
 mod Figures
 mod Least
 mod Pages

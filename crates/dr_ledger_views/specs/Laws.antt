@@ -2,14 +2,18 @@
 use Rattle.std.specs.Prelude.{◌≡◌, ◌≤◌, ◌<◌, ◌+◌, ℕ, suc, List, [], ◌∷◌, ◌++◌, codes, Option, None}
 use Rattle.std.specs.Prelude.{Some}
 use Rattle.std.specs.FinMap as map
+use Rattle.std.specs.FinSet as set
+use Rattle.std.specs.FinSet.{FinSet}
 use Rattle.dr_base.specs.Texts.{Text}
 use Rattle.dr_ledger.specs.Books.{Book}
+use Rattle.dr_ledger.specs.Pairs.{Pair, pair_cmp}
 use Rattle.dr_ledger.specs.Replies.{Dues}
 use Rattle.dr_ledger.specs.declared.item.Cause.TheVariants as cause
 use Rattle.dr_ledger.specs.declared.item.Progress.TheVariants as progress
 use Rattle.dr_ledger_views.specs.declared.stage.Stage.{Stage}
 use Rattle.dr_ledger_views.specs.declared.stage.Stage.TheVariants as stage
-use Rattle.dr_ledger_views.specs.Views.{IsLeast, Row, all_behind, dues, how_many, page_of}
+use Rattle.dr_ledger_views.specs.Views.{AreCallers, IsLeast, Row, all_behind, dues, how_many}
+use Rattle.dr_ledger_views.specs.Views.{page_of}
 
 -- Each row to a destination is at one stage: the four counts add up to all of them.
 abbrev pub CountsAddUp : Type 0
@@ -65,7 +69,31 @@ NoneIsNeverDue =
     → IsLeast (dues (map.entries b.rows) dest) None → (now : ℕ) (uid : Text)
     → Dues b dest now (Some uid) → ⊥
 
+-- the callers of an instance are one list
+abbrev pub CallersAreOne : Type 0
+CallersAreOne =
+    (arrivals : FinSet pair_cmp) (uid : Text) (one other : List Text)
+    → AreCallers arrivals uid one → AreCallers arrivals uid other → one ≡ other
+
+-- and nobody brought what isn't noted
+abbrev pub NobodyBringsNothing : Type 0
+NobodyBringsNothing = (uid : Text) → AreCallers set.empty uid []
+
 -- ---- figures
+
+-- two callers, of whom one brought two instances, and the other one of them
+abbrev pub some_arrivals : List Pair
+some_arrivals =
+    (codes "CT1", codes "1.1") ∷ (codes "CT1", codes "1.2") ∷ (codes "MR2", codes "1.2") ∷ []
+
+pub record CallersAreRight : Type 0 where
+  pub both : AreCallers (set.from_list some_arrivals) (codes "1.2") (codes "CT1" ∷ codes "MR2" ∷ [])
+  pub one : AreCallers (set.from_list some_arrivals) (codes "1.1") (codes "CT1" ∷ [])
+  pub none : AreCallers (set.from_list some_arrivals) (codes "1.3") []
+  pub not_the_other : AreCallers (set.from_list some_arrivals) (codes "1.1")
+      (codes "CT1" ∷ codes "MR2" ∷ []) → ⊥
+  pub not_in_any_order : AreCallers (set.from_list some_arrivals) (codes "1.2")
+      (codes "MR2" ∷ codes "CT1" ∷ []) → ⊥
 
 -- three instances: the first waits for ARCH and is held for PACS, the second waits for ARCH and was
 -- tried once, the third is done at ARCH

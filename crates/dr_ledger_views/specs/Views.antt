@@ -1,12 +1,16 @@
 -- What is asked of a book without a list of all that it has: how many rows of a destination are at
--- a stage, since when the first of them is due, and its rows in pages. All of it is said of the
--- rows as the book lists them, by (uid, destination).
-use Rattle.std.specs.Prelude.{Bool, true, ◌≡◌, ◌≤◌, ◌==◌, ◌&&◌, ℕ, List, [], All, Contains}
-use Rattle.std.specs.Prelude.{cond, filter, filter_map, length, take, Option, None, Some}
+-- a stage, since when the first of them is due, its rows in pages, and who brought an instance. All
+-- but the last is said of the rows as the book lists them, by (uid, destination).
+use Rattle.std.specs.Prelude.{Bool, true, ◌≡◌, ◌≤◌, ◌==◌, ◌&&◌, ◌↔◌, ℕ, List, [], ◌∷◌, All}
+use Rattle.std.specs.Prelude.{Contains, cond, filter, filter_map, flat_map, length, take, Option}
+use Rattle.std.specs.Prelude.{None, Some}
+use Rattle.std.specs.FinSet as set
+use Rattle.std.specs.FinSet.{FinSet}
+use Rattle.std.specs.List.Sorted.{IsStrictlySortedBy}
 use Rattle.std.specs.Ordering.{is_lt}
 use Rattle.std.specs.Str.{bytes_eq}
 use Rattle.dr_base.specs.Texts.{Text, text_cmp}
-use Rattle.dr_ledger.specs.Pairs.{Pair}
+use Rattle.dr_ledger.specs.Pairs.{Pair, pair_cmp}
 use Rattle.dr_ledger.specs.declared.item.Progress.{Progress}
 use Rattle.dr_ledger.specs.declared.item.Progress.TheVariants as progress
 use Rattle.dr_ledger_views.specs.declared.stage.Stage.{Stage}
@@ -90,6 +94,21 @@ dues rows dest = filter_map (due_for dest) rows
 abbrev pub IsLeast : List ℕ → Option ℕ → Type 0
 IsLeast moments None = moments ≡ []
 IsLeast moments (Some least) = Contains moments least × All (λ moment. least ≤ moment) moments
+
+-- ---- callers
+
+-- who brought an instance: the callers of its arrivals, in byte order, each once and no other
+pub record AreCallers (arrivals : FinSet pair_cmp) (uid : Text) (callers : List Text) : Type 0 where
+  pub ordered : IsStrictlySortedBy text_cmp callers
+  pub each : (caller : Text)
+      → Contains callers caller ↔ (set.contains arrivals (caller, uid) ≡ true)
+
+-- the same of the arrivals in a list: the caller of one, where it is of that instance
+abbrev pub caller_if : Text → Pair → List Text
+caller_if uid arrival = cond (bytes_eq arrival.1 uid) (arrival.0 ∷ []) []
+
+abbrev pub callers_among : List Pair → Text → List Text
+callers_among arrivals uid = flat_map (caller_if uid) arrivals
 
 -- ---- all of it, of one destination
 

@@ -1,6 +1,7 @@
 //! Laws of what is asked of a book. Nothing here runs: each function's contract is a law.
-ghost use Rattle.dr_ledger_views.specs.Laws.{CountsAddUp, EmptyPagesAreTheEnd, FiguresAreRight};
-ghost use Rattle.dr_ledger_views.specs.Laws.{FirstsAreDue, LeastIsOne, NoneIsNeverDue};
+ghost use Rattle.dr_ledger_views.specs.Laws.{CallersAreOne, CallersAreRight, CountsAddUp};
+ghost use Rattle.dr_ledger_views.specs.Laws.{EmptyPagesAreTheEnd, FiguresAreRight, FirstsAreDue};
+ghost use Rattle.dr_ledger_views.specs.Laws.{LeastIsOne, NobodyBringsNothing, NoneIsNeverDue};
 ghost use Rattle.dr_ledger_views.specs.Laws.{PagesAreTheWhole};
 
 /// The counts of a destination add up to all of its rows.
@@ -19,6 +20,17 @@ pub fn firsts_are_due()
     ensures one { LeastIsOne }
     ensures some { FirstsAreDue }
     ensures none { NoneIsNeverDue }
+{}
+
+/// The callers of an instance are one list, and of what isn't noted an empty one.
+pub fn callers_are_one()
+    ensures one { CallersAreOne }
+    ensures none { NobodyBringsNothing }
+{}
+
+/// Figures of callers.
+pub fn callers_are_right()
+    ensures { CallersAreRight }
 {}
 
 /// Figures of an example.

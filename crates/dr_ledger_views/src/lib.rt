@@ -1,5 +1,5 @@
 //! What is asked of a ledger without a list of all that it has: counts, the first moment at which a
-//! row is due, and rows in pages.
+//! row is due, rows in pages, and who brought an instance.
 //!
 //! What is shown of the book is said in `specs/Views.antt`. The trait `Views` stands beside
 //! `LetsGo`.

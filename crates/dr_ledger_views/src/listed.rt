@@ -1,8 +1,9 @@
 //! The same, of the rows as a ledger lists them.
-ghost use Rattle.std.specs.Prelude.{◌≡◌, IfOk, Some};
+ghost use Rattle.std.specs.Prelude.{◌≡◌, ◌++◌, IfOk, OnOk, Some};
 ghost use Rattle.dr_ledger_views.specs.Earlier.{earlier};
-ghost use Rattle.dr_ledger_views.specs.Views.{IsLeast, due_for, due_of, dues, how_many, is_at};
-ghost use Rattle.dr_ledger_views.specs.Views.{is_behind, is_of, is_to, is_wanted, page_of, rows_of};
+ghost use Rattle.dr_ledger_views.specs.Views.{IsLeast, caller_if, callers_among, due_for, due_of};
+ghost use Rattle.dr_ledger_views.specs.Views.{dues, how_many, is_at, is_behind, is_of, is_to};
+ghost use Rattle.dr_ledger_views.specs.Views.{is_wanted, page_of, rows_of};
 
 use crate::stage::Stage;
 use dr_base::{Seq, Text};
@@ -108,6 +109,31 @@ pub fn rows_of(alloc: Global, rows: &[Row], uid: &Text) -> Result<Seq<Row>, Allo
         }
     }
     Ok(all)
+}
+
+/// Adds the caller of an arrival, where it is of the instance.
+fn add_caller(callers: &mut Seq<Text>, arrival: &(Text, Text), uid: &Text) -> Result<(), AllocError>
+    ensures { OnOk result (callers.new ≡ callers.old ++ caller_if uid.now arrival.now) }
+{
+    if arrival.1 == *uid {
+        return callers.push(arrival.0.clone()?);
+    }
+    Ok(())
+}
+
+/// The callers of those of the arrivals that are of the instance, in the order of the arrivals.
+pub fn callers_of(
+    alloc: Global,
+    arrivals: &[(Text, Text)],
+    uid: &Text,
+) -> Result<Seq<Text>, AllocError>
+    ensures { IfOk result (λ callers. callers ≡ callers_among arrivals.now uid.now) }
+{
+    let mut callers = Seq::new(alloc);
+    for arrival in arrivals {
+        add_caller(&mut callers, arrival, uid)?;
+    }
+    Ok(callers)
 }
 
 /// The moment from which on a row that waits is due.

@@ -4,9 +4,10 @@ ghost use Rattle.std.specs.Prelude.{◌≡◌, Some};
 ghost use Rattle.std.specs.FinMap as map;
 ghost use Rattle.std.specs.FinSet as set;
 ghost use Rattle.dr_ledger.specs.Replies.{Counts, Lasts, Reads};
-ghost use Rattle.dr_ledger_views.specs.Views.{IsLeast, dues, how_many, page_of, rows_of};
+ghost use Rattle.dr_ledger_views.specs.Views.{AreCallers, IsLeast, dues, how_many, page_of};
+ghost use Rattle.dr_ledger_views.specs.Views.{rows_of};
 
-use crate::listed::{first_due, how_many, page_of, rows_of};
+use crate::listed::{callers_of, first_due, how_many, page_of, rows_of};
 use crate::stage::Stage;
 use dr_base::{Seq, Text};
 use dr_ledger::{Ledger, LedgerFault, Progress};
@@ -139,4 +140,27 @@ pub fn page_of_all<L: Ledger>(
     let rows = ledger.rows()?;
     let page = page_of(alloc, rows.as_slice(), dest, stage, after, limit)?;
     Ok(page)
+}
+
+/// Who brought an instance.
+pub fn callers_of_all<L: Ledger>(
+    alloc: Global,
+    ledger: &mut L,
+    uid: &Text,
+) -> Result<Seq<Text>, LedgerFault>
+    ensures reply { L.stands ledger.new
+        → Reads result (AreCallers (L.book ledger.old).arrivals uid.now) }
+    ensures same { L.stands ledger.new
+        → (L.book ledger.new ≡ L.book ledger.old)
+        × (L.bodies ledger.new ≡ L.bodies ledger.old) }
+    ensures counts { Counts result (L.failed ledger.old) (L.failed ledger.new) }
+    ensures armed { L.armed ledger.new ≡ L.armed ledger.old }
+    ensures stood { L.stands ledger.new → L.stands ledger.old }
+    ensures lasts { Lasts result (L.trusts ledger.old) (L.trusts ledger.new)
+        (L.stands ledger.old) (L.stands ledger.new) }
+    ensures site { L.site ledger.new ≡ L.site ledger.old }
+{
+    let arrivals = ledger.arrivals()?;
+    let callers = callers_of(alloc, arrivals.as_slice(), uid)?;
+    Ok(callers)
 }

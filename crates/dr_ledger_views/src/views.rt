@@ -3,7 +3,8 @@ ghost use Rattle.std.specs.Prelude.{◌≡◌};
 ghost use Rattle.std.specs.FinMap as map;
 ghost use Rattle.std.specs.FinSet as set;
 ghost use Rattle.dr_ledger.specs.Replies.{Counts, Lasts, Reads};
-ghost use Rattle.dr_ledger_views.specs.Views.{IsLeast, IsTally, dues, how_many, page_of, rows_of};
+ghost use Rattle.dr_ledger_views.specs.Views.{AreCallers, IsLeast, IsTally, dues, how_many};
+ghost use Rattle.dr_ledger_views.specs.Views.{page_of, rows_of};
 ghost use Rattle.std.specs.Prelude.{Some};
 
 use crate::stage::{Stage, Tally};
@@ -101,6 +102,20 @@ pub trait Views: LetsGo {
             → Reads result (λ all. all
             ≡ page_of (map.entries (Self.book self.old).rows) dest.now stage
             after.now limit) }
+        ensures same { Self.stands self.new
+            → (Self.book self.new ≡ Self.book self.old)
+            × (Self.bodies self.new ≡ Self.bodies self.old) }
+        ensures counts { Counts result (Self.failed self.old) (Self.failed self.new) }
+        ensures armed { Self.armed self.new ≡ Self.armed self.old }
+        ensures stood { Self.stands self.new → Self.stands self.old }
+        ensures lasts { Lasts result (Self.trusts self.old) (Self.trusts self.new)
+            (Self.stands self.old) (Self.stands self.new) }
+        ensures site { Self.site self.new ≡ Self.site self.old };
+
+    /// Who brought an instance since the last adoption, in byte order.
+    fn callers_of(&mut self, uid: &Text) -> Result<Seq<Text>, LedgerFault>
+        ensures reply { Self.stands self.new
+            → Reads result (AreCallers (Self.book self.old).arrivals uid.now) }
         ensures same { Self.stands self.new
             → (Self.book self.new ≡ Self.book self.old)
             × (Self.bodies self.new ≡ Self.bodies self.old) }

@@ -1,1 +1,5 @@
 pub mod Chained
+mod Counted
+mod Lines
+mod Totals
+mod Tries

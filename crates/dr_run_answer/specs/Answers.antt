@@ -1,5 +1,6 @@
 -- What a running node answers, as lines: JSON's objects, and figures for Prometheus.
-use Rattle.std.specs.Prelude.{ℕ, ◌/◌, ◌%◌, ◌∷◌, ◌++◌, List, [], Bool, Option}
+use Rattle.std.specs.Prelude.{ℕ, ◌-◌, ◌*◌, ◌/◌, ◌%◌, ◌^◌, ◌==◌, min, ◌∷◌, ◌++◌, List, [], Bool}
+use Rattle.std.specs.Prelude.{Option}
 use Rattle.std.specs.Prelude.{None, Some, if◌then◌else◌}
 use Rattle.std.specs.Prelude.{codes, decimal, flat_map}
 use Rattle.dr_base.specs.Texts.{Text}
@@ -71,6 +72,32 @@ row_line row =
 abbrev pub instance_line : Text → Bool → Bool → Text
 instance_line uid body over =
     begun (codes "instance") uid ++ flag (codes "body") body ++ flag (codes "over") over ++ ended
+
+-- a caller who brought it
+abbrev pub from_line : Text → Text
+from_line caller = begun (codes "from") caller ++ ended
+
+-- When a row was tried last that is due at that moment after so many tries: it waits 1, 2, 4, ..
+-- and at most 300 seconds. Nothing is known of one that wasn't tried, or doesn't wait.
+abbrev pub tried_at : ℕ → ℕ → Option ℕ
+tried_at tries due =
+    if tries == 0 then None else Some (due - 1000 * min 300 (2 ^ (tries - 1)))
+
+abbrev pub last_try : Progress → Option ℕ
+last_try (progress.Waiting tries due) = tried_at tries due
+last_try (progress.Held why) = None
+last_try progress.Done = None
+last_try progress.Dropped = None
+
+abbrev pub tried_part : Option ℕ → Text
+tried_part None = []
+tried_part (Some moment) = number (codes "tried") moment
+
+-- the line of a row of an instance that is asked for: that of the row, and when it was tried last
+abbrev pub own_row_line : Pair × Progress → Text
+own_row_line row =
+    begun (codes "uid") row.0.0 ++ word (codes "dest") row.0.1 ++ progress_part row.1
+    ++ tried_part (last_try row.1) ++ ended
 
 -- the line of a node of that plan, whose program has that version, and that serves since that
 -- moment

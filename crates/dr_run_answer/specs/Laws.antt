@@ -1,10 +1,70 @@
 -- Figures of answers.
-use Rattle.std.specs.Prelude.{◌≡◌, [], ◌∷◌, ◌++◌, codes, false, true, None, Some}
+use Rattle.std.specs.Prelude.{◌≡◌, ◌≤◌, ℕ, List, [], ◌∷◌, ◌++◌, codes, false, filter, length, not}
+use Rattle.std.specs.Prelude.{true, None, Some, sum_by}
+use Rattle.dr_base.specs.Texts.{Text}
 use Rattle.dr_ledger.specs.declared.item.Cause.TheVariants as cause
 use Rattle.dr_ledger.specs.declared.item.Progress.TheVariants.{Waiting, Held, Done}
-use Rattle.dr_run_answer.specs.Answers.{brought_figure, bytes_of, fault_line, instance_line}
-use Rattle.dr_run_answer.specs.Answers.{late_line, node_line, queue_line, recent_line, row_line}
-use Rattle.dr_run_answer.specs.Answers.{rows_figure, visits_figure}
+use Rattle.dr_ledger.specs.Books.{retried}
+use Rattle.dr_run_answer.specs.Answers.{brought_figure, bytes_of, fault_line, from_line}
+use Rattle.dr_run_answer.specs.Answers.{instance_line, last_try, late_line, node_line, own_row_line}
+use Rattle.dr_run_answer.specs.Answers.{queue_line, recent_line, row_line, rows_figure}
+use Rattle.dr_run_answer.specs.Answers.{visits_figure}
+use Rattle.dr_run_answer.specs.Intakes.{AreRecent, AreTotals, CountsMinute, CountsOne, KeepHours}
+use Rattle.dr_run_answer.specs.Intakes.{Notice, came_within, is_of_hour, is_refused, most, said_by}
+use Rattle.dr_run_answer.specs.declared.intake.Brought.{Brought}
+use Rattle.dr_run_answer.specs.declared.intake.Recent.{Recent}
+use Rattle.dr_run_answer.specs.declared.noted.Minute.{Minute}
+
+-- so few instances came, and so few bytes, that each figure is within 64 bits
+abbrev pub AreCountable : List Notice → Type 0
+AreCountable all = (length all ≤ most) × (sum_by (λ (n : Notice). n.size) all ≤ most)
+
+-- where nothing came there is no line
+abbrev pub NothingIsCounted : Type 0
+NothingIsCounted = AreTotals [] [] × ((from : ℕ) → KeepHours from [] [])
+
+-- An instance that is noted counts for its caller, once: so the lines are the totals of all that
+-- came since the first.
+abbrev pub NotedIsCounted : Type 0
+NotedIsCounted =
+    (all : List Notice) (n : Notice) (old new : List Brought)
+    → AreCountable (n ∷ all)
+    → AreTotals all old → CountsOne n.caller n.answer n.size old new → AreTotals (n ∷ all) new
+
+-- it counts for its minute, too
+abbrev pub NotedIsKept : Type 0
+NotedIsKept =
+    (from : ℕ) (all : List Notice) (n : Notice) (old new : List Minute)
+    → AreCountable (n ∷ all)
+    → KeepHours from all old
+    → CountsMinute n.minute n.caller n.modality (not (is_refused n.answer)) old new
+    → KeepHours from (n ∷ all) new
+
+-- what is let go is of no hour that is still asked for
+abbrev pub OldIsLetGo : Type 0
+OldIsLetGo =
+    (from now : ℕ) (all : List Notice) (lines : List Minute)
+    → from ≤ now
+    → KeepHours from all lines
+    → KeepHours now all (filter (λ (one : Minute). is_of_hour now one.minute) lines)
+
+-- and so the lines of an hour say what came in it
+abbrev pub RecentIsWhatCame : Type 0
+RecentIsWhatCame =
+    (from now : ℕ) (all : List Notice) (minutes : List Minute) (lines : List Recent)
+    → AreCountable all
+    → from ≤ now
+    → KeepHours from all minutes
+    → AreRecent now minutes lines
+    → (caller modality : Text)
+    → (said_by (λ r. r.stored) caller modality lines
+    ≡ came_within (λ answer. not (is_refused answer)) caller modality now all)
+    × (said_by (λ r. r.refused) caller modality lines
+    ≡ came_within is_refused caller modality now all)
+
+-- what a try in vain leaves of a row tells when that was
+abbrev pub TriesAreTold : Type 0
+TriesAreTold = (tries now : ℕ) → 1 ≤ tries → last_try (retried tries now) ≡ Some now
 
 -- the lines of rows, of an instance, of a node, of a queue, of faults and of a figure; a UID with a
 -- quote and a line feed
@@ -37,4 +97,12 @@ LinesAreWrittenSo =
     ≡ codes "dr_router_stored_bytes_total{caller=\"CT1\"} 4\n")
     × (instance_line (codes "1.2") true false
     ≡ codes "{\"instance\":\"1.2\",\"body\":true,\"over\":false}\n")
+    × (from_line (codes "CT1") ≡ codes "{\"from\":\"CT1\"}\n")
+    × (own_row_line ((codes "1.2", codes "ARCH"), Waiting 3 9000)
+    ≡ codes "{\"uid\":\"1.2\",\"dest\":\"ARCH\",\"state\":\"waiting\",\"tries\":3,\"due\":9000,"
+    ++ codes "\"tried\":5000}\n")
+    × (own_row_line ((codes "1.2", codes "ARCH"), Waiting 0 0)
+    ≡ codes "{\"uid\":\"1.2\",\"dest\":\"ARCH\",\"state\":\"waiting\",\"tries\":0,\"due\":0}\n")
+    × (own_row_line ((codes "1.2", codes "ARCH"), Done)
+    ≡ codes "{\"uid\":\"1.2\",\"dest\":\"ARCH\",\"state\":\"done\"}\n")
     × (late_line (codes "ARCH") ≡ codes "{\"fault\":\"Late\",\"dest\":\"ARCH\"}\n")

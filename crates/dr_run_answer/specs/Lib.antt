@@ -1,3 +1,4 @@
 pub mod Answers
+pub mod Intakes
 pub mod Laws
 pub mod Quoting

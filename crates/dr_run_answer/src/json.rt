@@ -151,7 +151,7 @@ fn put_held(out: &mut Vec<u8>, cause: Cause) -> Result<(), AllocError>
 }
 
 /// Adds how far a row is.
-fn put_progress(out: &mut Vec<u8>, progress: Progress) -> Result<(), AllocError>
+pub(crate) fn put_progress(out: &mut Vec<u8>, progress: Progress) -> Result<(), AllocError>
     ensures { OnOk result (out.new.items ≡ out.old.items ++ progress_part progress) }
 {
     match progress {

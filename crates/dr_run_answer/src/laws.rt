@@ -1,7 +1,24 @@
 //! What holds of all answers. Nothing here runs: each function's contract is a law.
-ghost use Rattle.dr_run_answer.specs.Laws.{LinesAreWrittenSo};
+ghost use Rattle.dr_run_answer.specs.Laws.{LinesAreWrittenSo, NotedIsCounted, NotedIsKept};
+ghost use Rattle.dr_run_answer.specs.Laws.{NothingIsCounted, OldIsLetGo, RecentIsWhatCame};
+ghost use Rattle.dr_run_answer.specs.Laws.{TriesAreTold};
 
 /// Lines are written so.
 pub fn lines_are_written_so()
     ensures { LinesAreWrittenSo }
+{}
+
+/// What a try in vain leaves of a row tells when that was.
+pub fn tries_are_told()
+    ensures { TriesAreTold }
+{}
+
+/// What is noted of an instance counts: for its caller, and for its minute as long as an hour has
+/// it.
+pub fn what_is_noted_counts()
+    ensures nothing { NothingIsCounted }
+    ensures callers { NotedIsCounted }
+    ensures minutes { NotedIsKept }
+    ensures old { OldIsLetGo }
+    ensures recent { RecentIsWhatCame }
 {}

@@ -2,9 +2,11 @@
 //!
 //! - Lines of JSON, one object each: what a node has (`put_node`), how many rows are on their way
 //!   to a node (`put_queue`), associations that are open (`put_associations`), what came within the
-//!   last hour (`put_recents`), an instance (`put_instance`), and rows (`put_rows`).
+//!   last hour (`put_recents`), an instance (`put_instance`), who brought it (`put_froms`), its
+//!   rows (`put_own_rows`), and rows (`put_rows`).
 //! - Figures in the text format of Prometheus: `put_figures`, `put_queues`, `put_visits`,
 //!   `put_callers`, `put_stored_bytes`, `put_open`.
+//! - What came is counted by `noted`: by caller, and of the last hour by caller and modality.
 //!
 //! Whatever a peer sent, as a UID, stands in it escaped, so that it begins no line, no object and
 //! no label.
@@ -12,14 +14,17 @@
 
 mod association;
 mod figures;
+mod instance;
 mod intake;
 mod json;
 pub mod laws;
+pub mod noted;
 mod page;
 mod quoted;
 
 pub use association::{Association, put_associations};
 pub use figures::{put_figures, put_open, put_queues, put_visits};
+pub use instance::{put_froms, put_own_rows};
 pub use intake::{Brought, Recent, put_callers, put_recents, put_stored_bytes};
 pub use json::{
     Counts, Identity, Queue, Visited, Visits, put_done, put_fault, put_instance, put_late,

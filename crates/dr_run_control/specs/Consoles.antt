@@ -1,11 +1,14 @@
 -- What a request does at the shared desk, and how it is answered.
 use Rattle.std.specs.List.{list_any}
-use Rattle.std.specs.Prelude.{◌≡◌, ◌⊎◌, ℕ, Bool, true, false, List, [], ◌∷◌, bytes_eq}
-use Rattle.std.specs.Prelude.{Option, Ok, Err, Result, MatchResult, codes}
+use Rattle.std.specs.FinMap as map
+use Rattle.std.specs.Prelude.{◌≡◌, ◌↔◌, ◌⊎◌, ◌++◌, ℕ, Bool, true, false, IsTrue, List, [], ◌∷◌}
+use Rattle.std.specs.Prelude.{bytes_eq, flat_map}
+use Rattle.std.specs.Prelude.{Option, None, Some, option_map, Ok, Err, Result, MatchResult, codes}
 use Rattle.http.specs.declared.request.Request.{Request}
 use Rattle.http.specs.Request.{head_of, body_of}
 use Rattle.dr_base.specs.Texts.{Text}
 use Rattle.dr_desk.specs.Answering.{Answers as DeskAnswers}
+use Rattle.dr_desk.specs.Reading.{Reading}
 use Rattle.dr_desk.specs.Receipts.{Leaves, Notes}
 use Rattle.dr_desk.specs.declared.receipt.Call.{Call}
 use Rattle.dr_desk.specs.declared.receipt.Call.TheVariants.{Requeuing, Dropping, Forgetting}
@@ -14,12 +17,14 @@ use Rattle.dr_desk.specs.declared.receipt.Reply.TheVariants.{Done}
 use Rattle.dr_ledger_views.specs.declared.stage.Stage.{Stage}
 use Rattle.dr_ledger_views.specs.declared.stage.Stage.TheVariants as stage
 use Rattle.dr_ledger_views.specs.declared.stage.Tally.{Tally}
-use Rattle.dr_ledger_views.specs.Views.{Row}
+use Rattle.dr_ledger_views.specs.Views.{AreCallers, Row, page_of, rows_of}
+use Rattle.dr_ledger.specs.Bodies.{Bodies}
 use Rattle.dr_ledger.specs.Books.{Book, Line}
-use Rattle.dr_ledger.specs.Replies.{Drops, Forgets, Requeues}
+use Rattle.dr_ledger.specs.Replies.{Drops, Forgets, IsOver, Reads, Requeues}
 use Rattle.dr_ledger.specs.declared.fault.LedgerFault.{LedgerFault}
 use Rattle.dr_ledger.specs.declared.fault.LedgerFault.TheVariants as ledger
-use Rattle.dr_run_answer.specs.Answers.{done_line, fault_line}
+use Rattle.dr_run_answer.specs.Answers.{done_line, fault_line, from_line, instance_line}
+use Rattle.dr_run_answer.specs.Answers.{own_row_line}
 use Rattle.dr_run_answer.specs.declared.json.Queue.{Queue}
 use Rattle.dr_run_answer.specs.declared.json.Visited.{Visited}
 use Rattle.dr_run_answer.specs.declared.json.Visits.{Visits}
@@ -39,6 +44,7 @@ use Rattle.dr_run_request.specs.declared.wanted.FormFault.{FormFault}
 use Rattle.dr_run_request.specs.declared.wanted.FormFault.TheVariants as fault
 use Rattle.dr_run_request.specs.declared.wanted.Stage.{Stage as Word}
 use Rattle.dr_run_request.specs.declared.wanted.Stage.TheVariants as word
+use Rattle.dr_run_request.specs.declared.wanted.Wanted.{Wanted}
 use Rattle.dr_site.specs.Parts.{Part}
 
 -- by this route the node is told what to do by a form
@@ -224,3 +230,45 @@ stage_named word.Waiting = stage.Waiting
 stage_named word.Held = stage.Held
 stage_named word.Done = stage.Done
 stage_named word.Dropped = stage.Dropped
+
+-- behind which uid the rows of a page stand: behind none, where none is named
+abbrev pub after_named : Option Text → Text
+after_named None = []
+after_named (Some uid) = uid
+
+-- the rows that are wanted, of those that there are: to the node, at the stage that is named,
+-- behind the uid that is named, and as many as are asked for
+abbrev pub page_wanted : List Row → Wanted → List Row
+page_wanted rows wanted =
+    page_of rows wanted.dest (option_map stage_named wanted.stage) (after_named wanted.after)
+    wanted.limit
+
+module _ {L : Type 0} (site_of : L → Part) (book : L → Book) (bodies : L → Bodies)
+    (stands : L → Type 0) (failed : L → ℕ) (own : Part) (first : List Line) where
+  -- what is told of an instance, each part as the ledger has it at a moment of its own
+  pub record AreParts (uid : Text) (body over : Bool) (callers : List Text) (rows : List Row)
+      : Type 0 where
+    pub is_there : Reading site_of book bodies stands failed own first
+        (λ l answer. Reads answer (λ there. there ≡ map.contains_key (bodies l) uid)) (Ok body)
+    pub is_over : Reading site_of book bodies stands failed own first
+        (λ l answer. Reads answer (λ over. IsTrue over ↔ IsOver (book l) uid)) (Ok over)
+    pub brought : Reading site_of book bodies stands failed own first
+        (λ l answer. Reads answer (AreCallers (book l).arrivals uid)) (Ok callers)
+    pub goes_on : Reading site_of book bodies stands failed own first
+        (λ l answer. Reads answer (λ all. all ≡ rows_of (map.entries (book l).rows) uid)) (Ok rows)
+
+  -- the lines that tell it
+  pub record IsTold (uid text : Text) : Type 0 where
+    pub body : Bool
+    pub over : Bool
+    pub callers : List Text
+    pub rows : List Row
+    pub parts : AreParts uid body over callers rows
+    pub told : text
+        ≡ instance_line uid body over ++ flat_map from_line callers ++ flat_map own_row_line rows
+
+  -- an instance of which nothing is told isn't there
+  abbrev pub IsMissing : Text → Type 0
+  IsMissing uid =
+      Reading site_of book bodies stands failed own first
+      (λ l answer. Reads answer (λ there. there ≡ map.contains_key (book l).items uid)) (Ok false)

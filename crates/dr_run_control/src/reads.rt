@@ -1,12 +1,17 @@
 //! What a running node shows of itself.
 ghost use Rattle.hex.specs.Hex.{encode_lower};
-ghost use Rattle.std.specs.Prelude.{◌≡◌, ◌++◌, IfOk, OnOk, flat_map, length, map as mapped};
-ghost use Rattle.std.specs.Prelude.{string_bytes};
+ghost use Rattle.std.specs.FinMap as map;
+ghost use Rattle.std.specs.Prelude.{◌≡◌, ◌++◌, IfOk, MatchOption, OnOk, flat_map, length};
+ghost use Rattle.std.specs.Prelude.{map as mapped, option_map, string_bytes};
+ghost use Rattle.dr_desk.specs.Reading.{Reading};
+ghost use Rattle.dr_ledger.specs.Replies.{Reads};
 ghost use Rattle.dr_run_answer.specs.Answers.{association_line, brought_figures, bytes_figures};
-ghost use Rattle.dr_run_answer.specs.Answers.{figures, instance_line, line_of_node, line_of_queue};
-ghost use Rattle.dr_run_answer.specs.Answers.{open_figure, queues_figures, recent_line, row_line};
+ghost use Rattle.dr_run_answer.specs.Answers.{figures, from_line, instance_line, line_of_node};
+ghost use Rattle.dr_run_answer.specs.Answers.{line_of_queue, open_figure, own_row_line};
+ghost use Rattle.dr_run_answer.specs.Answers.{queues_figures, recent_line, row_line};
 ghost use Rattle.dr_run_answer.specs.Answers.{visits_figures};
-ghost use Rattle.dr_run_control.specs.Consoles.{IsCounted, stage_named};
+ghost use Rattle.dr_run_control.specs.Consoles.{AreParts, IsCounted, IsMissing, IsTold};
+ghost use Rattle.dr_run_control.specs.Consoles.{page_wanted, stage_named};
 
 use crate::console::{Around, House};
 use crate::reply::{Media, Reply, misread, refused_by_ledger};
@@ -16,8 +21,8 @@ use dr_ledger::{LedgerFault, Progress};
 use dr_ledger_views::{Stage, Tally, Views};
 use dr_run_answer::{
     Counts, Identity, Queue, Visited, Visits, put_associations, put_callers, put_figures,
-    put_instance, put_late, put_node, put_open, put_queue, put_queues, put_recents, put_rows,
-    put_stored_bytes, put_visits, put_well,
+    put_froms, put_instance, put_late, put_node, put_open, put_own_rows, put_queue, put_queues,
+    put_recents, put_rows, put_stored_bytes, put_visits, put_well,
 };
 use dr_run_open::NextHop;
 use dr_run_request::{Stage as Word, Wanted, instance_of, wanted_of};
@@ -25,9 +30,6 @@ use dr_site::Site;
 use http::StatusCode;
 use std::alloc::{AllocError, Global};
 use std::sync::Wait;
-
-/// So many rows are on a page at most.
-const PAGE: u32 = 1_000;
 
 /// How many rows are on their way to a node, as they were counted.
 fn queue_of(dest: &Text, tally: Tally, visit: Option<Visited>, visits: Visits) -> Queue<'_>
@@ -278,7 +280,17 @@ pub(crate) fn read_figures<R: Wait, L: Views, B: Sharing, H: House>(
     reply_with(alloc, text, Media::Figures)
 }
 
-/// The rows that are wanted, as many as a page has.
+/// The stage of the rows that are wanted, if one is named.
+fn stage_in(wanted: &Wanted) -> Option<Stage>
+    ensures { result ≡ option_map stage_named wanted.now.stage }
+{
+    match wanted.stage {
+        Some(word) => Some(stage_of(word)),
+        None => None,
+    }
+}
+
+/// The rows that are wanted, as many as are asked for: those that the book has at one moment.
 ///
 /// Errors: Store, Memory.
 fn page_of<R: Wait, L: Views, B: Sharing>(
@@ -286,11 +298,15 @@ fn page_of<R: Wait, L: Views, B: Sharing>(
     alloc: Global,
     desk: &SharedDesk<L, B>,
     wanted: &Wanted,
-) -> Result<Seq<((Text, Text), Progress)>, LedgerFault> {
-    let stage = wanted.stage.map(stage_of);
+) -> Result<Seq<((Text, Text), Progress)>, LedgerFault>
+    ensures { Reading L.site L.book L.bodies L.stands L.failed B.site B.first
+        (λ l answer. Reads answer (λ all.
+        all ≡ page_wanted (map.entries (L.book l).rows) wanted.now)) result }
+{
+    let stage = stage_in(wanted);
     match &wanted.after {
-        Some(after) => desk.page(rt, &wanted.dest, stage, after, PAGE),
-        None => desk.page(rt, &wanted.dest, stage, &Text::empty(alloc), PAGE),
+        Some(after) => desk.page(rt, &wanted.dest, stage, after, wanted.limit),
+        None => desk.page(rt, &wanted.dest, stage, &Text::empty(alloc), wanted.limit),
     }
 }
 
@@ -311,21 +327,62 @@ pub(crate) fn read_rows<R: Wait, L: Views, B: Sharing>(
     }
 }
 
-/// The lines of an instance: one of it, and one for each of its rows.
+/// The lines of an instance: one of it, one for each caller who brought it, and one for each of its
+/// rows.
 fn instance_lines(
     alloc: Global,
     uid: &Text,
     body: bool,
     over: bool,
+    callers: &[Text],
     rows: &[((Text, Text), Progress)],
 ) -> Result<Vec<u8>, AllocError>
     ensures { IfOk result (λ text.
-        text.items ≡ instance_line uid.now body over ++ flat_map row_line rows.now) }
+        text.items
+        ≡ instance_line uid.now body over ++ flat_map from_line callers.now
+        ++ flat_map own_row_line rows.now) }
 {
     let mut out = Vec::new(alloc);
     put_instance(&mut out, uid, body, over)?;
-    put_rows(&mut out, rows)?;
+    put_froms(&mut out, callers)?;
+    put_own_rows(&mut out, rows)?;
     Ok(out)
+}
+
+/// What is told of an instance: whether its data set is there, whether its rows are over, who
+/// brought it, and its rows. The lock is given back between one and the next.
+///
+/// Errors: Store, Memory.
+fn parts_of<R: Wait, L: Views, B: Sharing>(
+    rt: &R,
+    desk: &SharedDesk<L, B>,
+    uid: &Text,
+) -> Result<(bool, bool, Seq<Text>, Seq<((Text, Text), Progress)>), LedgerFault>
+    ensures { IfOk result (λ parts. AreParts L.site L.book L.bodies L.stands L.failed B.site
+        B.first uid.now parts.0 parts.1 parts.2 parts.3) }
+{
+    let body = desk.has_body(rt, uid)?;
+    let over = desk.is_over(rt, uid)?;
+    let callers = desk.callers_of(rt, uid)?;
+    let rows = desk.rows_of(rt, uid)?;
+    Ok((body, over, callers, rows))
+}
+
+/// The lines of an instance that is there.
+///
+/// Errors: Store, Memory.
+fn lines_of<R: Wait, L: Views, B: Sharing>(
+    rt: &R,
+    alloc: Global,
+    desk: &SharedDesk<L, B>,
+    uid: &Text,
+) -> Result<Vec<u8>, LedgerFault>
+    ensures { IfOk result (λ text. IsTold L.site L.book L.bodies L.stands L.failed B.site B.first
+        uid.now text.items) }
+{
+    let (body, over, callers, rows) = parts_of(rt, desk, uid)?;
+    let text = instance_lines(alloc, uid, body, over, callers.as_slice(), rows.as_slice())?;
+    Ok(text)
 }
 
 /// What the node has of an instance; None where it has none of that UID.
@@ -336,14 +393,19 @@ fn instance_text<R: Wait, L: Views, B: Sharing>(
     alloc: Global,
     desk: &SharedDesk<L, B>,
     uid: &Text,
-) -> Result<Option<Vec<u8>>, LedgerFault> {
+) -> Result<Option<Vec<u8>>, LedgerFault>
+    ensures { IfOk result (λ found. MatchOption found
+        (IsMissing L.site L.book L.bodies L.stands L.failed B.site B.first uid.now)
+        (λ text. IsTold L.site L.book L.bodies L.stands L.failed B.site B.first uid.now
+        text.items)) }
+{
     if !desk.has(rt, uid)? {
         return Ok(None);
     }
-    let body = desk.has_body(rt, uid)?;
-    let over = desk.is_over(rt, uid)?;
-    let rows = desk.rows_of(rt, uid)?;
-    Ok(Some(instance_lines(alloc, uid, body, over, rows.as_slice())?))
+    match lines_of(rt, alloc, desk, uid) {
+        Ok(text) => Ok(Some(text)),
+        Err(fault) => Err(fault),
+    }
 }
 
 /// What the node has of the instance that a path names.

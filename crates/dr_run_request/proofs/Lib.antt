@@ -1,2 +1,4 @@
 mod Going
+mod Limits
+mod Numerals
 mod Once

@@ -1,5 +1,5 @@
 -- The fields of a form (application/x-www-form-urlencoded), in a body or behind a `?`.
-use Rattle.std.specs.Prelude.{◌≡◌, ◌++◌, List, [], ◌∷◌, bytes_eq, codes}
+use Rattle.std.specs.Prelude.{◌≡◌, ◌≤◌, ◌++◌, ℕ, List, [], ◌∷◌, bytes_eq, codes, decimal}
 use Rattle.std.specs.Prelude.{Option, None, Some, option_map, if◌then◌else◌}
 use Rattle.form_urlencoded.specs.Form.{decode, raw_pairs}
 use Rattle.percent_encoding.specs.Percent.{percent_decode}
@@ -36,13 +36,23 @@ abbrev pub StageOf : Option Text → Option Stage → Type 0
 StageOf None stage = stage ≡ None
 StageOf (Some word) stage = (one : Stage) × (stage ≡ Some one) × (word ≡ word_of one)
 
+-- so many rows may be on a page
+abbrev pub IsLimit : ℕ → Type 0
+IsLimit limit = (1 ≤ limit) × (limit ≤ 1000)
+
+-- how many rows a word asks for, as a number in decimal digits; a whole page where there is no word
+abbrev pub LimitOf : Option Text → ℕ → Type 0
+LimitOf None limit = limit ≡ 1000
+LimitOf (Some word) limit = (word ≡ decimal limit) × IsLimit limit
+
 -- the rows that a form asks for: to the node that it names, at the stage that it names, behind the
--- UID that it names
+-- UID that it names, and as many as it names
 abbrev pub Wants : Text → Wanted → Type 0
 Wants form wanted =
     (value_in form (codes "dest") ≡ Some wanted.dest)
     × StageOf (value_in form (codes "state")) wanted.stage
     × (value_in form (codes "after") ≡ wanted.after)
+    × LimitOf (value_in form (codes "limit")) wanted.limit
 
 -- the instance that a path names, behind what stands before its UID
 abbrev pub NamesInstance : Text → Text → Type 0

@@ -1,7 +1,9 @@
 //! What a request names: a row, or those rows that it wants to see.
-ghost use Rattle.std.specs.Prelude.{◌≡◌, IfNone, IfOk, IfSome, MatchResult, Option, Some, codes};
-ghost use Rattle.dr_run_request.specs.Forms.{NamesInstance, NamesRow, StageOf, Wants, value_in};
-ghost use Rattle.dr_run_request.specs.Forms.{word_of};
+ghost use Rattle.std.specs.Prelude.{◌≡◌, ◌<◌, ◌^◌, ℕ, IfNone, IfOk, IfSome, MatchOption};
+ghost use Rattle.std.specs.Prelude.{MatchResult};
+ghost use Rattle.std.specs.Prelude.{◌↔◌, Option, IsTrue, Some, codes, decimal};
+ghost use Rattle.dr_run_request.specs.Forms.{IsLimit, LimitOf, NamesInstance, NamesRow, StageOf};
+ghost use Rattle.dr_run_request.specs.Forms.{Wants, value_in, word_of};
 ghost use Rattle.dr_base.specs.Texts.{Text as TextValue};
 ghost use Rattle.dr_run_request.specs.declared.wanted.FormFault.TheVariants as fault;
 ghost use Rattle.dr_run_request.specs.declared.wanted.RowName.{RowName as RowNameValue};
@@ -12,6 +14,10 @@ use crate::form::{raw_value, value_in};
 use dr_base::Text;
 use percent_encoding::percent_decode;
 use std::alloc::{AllocError, Global};
+use std::str;
+
+/// So many rows are asked for where no number is named, and at most where one is.
+const MOST_ROWS: u32 = 1_000;
 
 /// A row: of which instance, and where to.
 #[derive(Debug, Drop)]
@@ -29,13 +35,14 @@ pub enum Stage {
     Dropped,
 }
 
-/// Which rows are wanted: those to a node, at a stage if one is named, and behind a UID if one is
-/// named.
+/// Which rows are wanted: those to a node, at a stage if one is named, behind a UID if one is
+/// named, and so many of them (1 to 1,000).
 #[derive(Debug, Drop)]
 pub struct Wanted {
     pub dest: Text,
     pub stage: Option<Stage>,
     pub after: Option<Text>,
+    pub limit: u32,
 }
 
 /// Why a form says nothing that is understood.
@@ -178,9 +185,68 @@ fn stage_in(word: &Option<Text>) -> Result<Option<Stage>, FormFault>
     }
 }
 
+/// The number that is written so, without a sign or a leading zero.
+fn number_of(word: &[u8]) -> Option<u32>
+    ensures { MatchOption result
+        ((n : ℕ) → IsLimit n → word.now ≡ decimal n → ⊥)
+        (λ n. (word.now ≡ decimal n) × (n < 2 ^ 32)) }
+{
+    let Ok(text) = str::from_utf8(word) else {
+        return None;
+    };
+    let Ok(number) = text.parse::<u32>() else {
+        return None;
+    };
+    let mut digits = itoa::Buffer::new();
+    if digits.format(number).as_bytes() != word {
+        return None;
+    }
+    Some(number)
+}
+
+/// Whether so many rows may be on a page.
+fn is_limit(number: u32) -> bool
+    ensures { IsTrue result ↔ IsLimit number }
+{
+    1 <= number && number <= MOST_ROWS
+}
+
+/// How many rows a word asks for.
+///
+/// Errors: Field where it is no number from 1 to 1,000 as it is written in digits.
+fn limit_of(word: &[u8]) -> Result<u32, FormFault>
+    ensures { MatchResult result
+        (λ limit. (word.now ≡ decimal limit) × IsLimit limit)
+        (λ why. (why ≡ fault.Field)
+        × ((n : ℕ) → IsLimit n → word.now ≡ decimal n → ⊥)) }
+{
+    let Some(number) = number_of(word) else {
+        return Err(FormFault::Field);
+    };
+    if is_limit(number) {
+        return Ok(number);
+    }
+    Err(FormFault::Field)
+}
+
+/// How many rows a form asks for: a whole page where it names no number.
+///
+/// Errors: Field where it names what is no number from 1 to 1,000.
+fn limit_in(word: &Option<Text>) -> Result<u32, FormFault>
+    ensures { MatchResult result
+        (LimitOf word.now)
+        (λ why. (why ≡ fault.Field) × ((n : ℕ) → LimitOf word.now n → ⊥)) }
+{
+    match word {
+        Some(word) => limit_of(word.as_bytes()),
+        None => Ok(MOST_ROWS),
+    }
+}
+
 /// The rows that a form asks for.
 ///
-/// Errors: Field where it names no destination, or a stage that there isn't; Memory.
+/// Errors: Field where it names no destination, a stage that there isn't, or a number of rows that
+/// isn't one from 1 to 1,000; Memory.
 pub fn wanted_of(alloc: Global, form: &[u8]) -> Result<Wanted, FormFault>
     ensures { MatchResult result
         (Wants form.now)
@@ -189,9 +255,16 @@ pub fn wanted_of(alloc: Global, form: &[u8]) -> Result<Wanted, FormFault>
     let dest = value_in(alloc, form, "dest")?;
     let word = value_in(alloc, form, "state")?;
     let after = value_in(alloc, form, "after")?;
+    let number = value_in(alloc, form, "limit")?;
     let stage = stage_in(&word)?;
+    let limit = limit_in(&number)?;
     match dest {
-        Some(dest) => Ok(Wanted { dest, stage, after }),
+        Some(dest) => Ok(Wanted {
+            dest,
+            stage,
+            after,
+            limit,
+        }),
         None => Err(FormFault::Field),
     }
 }

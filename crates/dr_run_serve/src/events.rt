@@ -96,33 +96,98 @@ impl<'a> Display for KeyShown<'a> {
     }
 }
 
-/// Tells what the ledger answered an instance that came. Of one that was refused it tells what
-/// rules read of it.
+/// The sentence that says why a node has nowhere to go for an instance of a caller; of no other
+/// fault there is one.
+#[derive(Drop)]
+struct WhyShown<'a> {
+    fault: LedgerFault,
+    node: &'a Text,
+    caller: &'a Text,
+    key: &'a Key,
+}
+
+impl<'a> WhyShown<'a> {
+    /// That no flow of the node and no rule of it fits.
+    fn put_sentence<W: fmt::Write>(&self, f: &mut Formatter<W>) -> fmt::Result {
+        let (node, caller) = (
+            Escaped(self.node.as_bytes()),
+            Escaped(self.caller.as_bytes()),
+        );
+        let (class, syntax) = (
+            Escaped(self.key.class.as_bytes()),
+            Escaped(self.key.syntax.uid()),
+        );
+        let (modality, station) = (
+            Escaped(self.key.modality.as_bytes()),
+            Escaped(self.key.station.as_bytes()),
+        );
+        write!(
+            f,
+            " why=\"no flow or rule at {node} brings {class} in {syntax}"
+        )?;
+        write!(
+            f,
+            " of modality '{modality}' and station '{station}' from {caller}\""
+        )
+    }
+}
+
+impl<'a> Display for WhyShown<'a> {
+    fn fmt<W: fmt::Write>(&self, f: &mut Formatter<W>) -> fmt::Result {
+        match self.fault {
+            LedgerFault::NoLine => self.put_sentence(f),
+            _ => Ok(()),
+        }
+    }
+}
+
+/// Tells of an instance that the ledger refused: what rules read of it, and where it has nowhere to
+/// go, a sentence.
+fn tell_refusal<G: Log>(
+    log: &G,
+    session: u64,
+    node: &Text,
+    caller: &Text,
+    instance: &Instance,
+    fault: LedgerFault,
+) {
+    let (key, uid) = (&instance.key, Escaped(instance.uid.as_bytes()));
+    let why = WhyShown {
+        fault,
+        node,
+        caller,
+        key,
+    };
+    let (caller, fault, key) = (Escaped(caller.as_bytes()), code_of(fault), KeyShown(key));
+    warn!(
+        log; target: "instance",
+        "refused session={session} caller=\"{caller}\" uid={uid} fault=\"{fault}\" {key}{why}"
+    );
+}
+
+/// Tells what the ledger of a node answered an instance that came.
 pub fn tell_arrival<G: Log>(
     log: &G,
     session: u64,
+    node: &Text,
     caller: &Text,
     instance: &Instance,
     answer: Result<Arrived, LedgerFault>,
 ) {
-    let caller = Escaped(caller.as_bytes());
+    let shown = Escaped(caller.as_bytes());
     let uid = Escaped(instance.uid.as_bytes());
     match answer {
         Ok(Arrived::New) => {
-            debug!(log; target: "instance", "new session={session} caller=\"{caller}\" uid={uid}");
+            debug!(log; target: "instance", "new session={session} caller=\"{shown}\" uid={uid}");
         }
         Ok(Arrived::Again) => {
             debug!(
                 log; target: "instance",
-                "again session={session} caller=\"{caller}\" uid={uid}"
+                "again session={session} caller=\"{shown}\" uid={uid}"
             );
         }
         Err(fault) => {
-            let (fault, key) = (code_of(fault), KeyShown(&instance.key));
-            warn!(
-                log; target: "instance",
-                "refused session={session} caller=\"{caller}\" uid={uid} fault=\"{fault}\" {key}"
-            );
+            tell_refusal(log, session, node, caller, instance, fault);
         }
     }
 }

@@ -189,6 +189,7 @@ fn serve_links<
         signal,
         clock,
         log,
+        node: desk.site().name(),
         request: terms.request(),
     };
     let (passes, has_served) = thread::join(

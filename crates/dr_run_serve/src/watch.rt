@@ -21,6 +21,8 @@ pub struct Watch<'a, R: Wait, C: Clock, G: Log> {
     pub signal: &'a Signal,
     pub clock: &'a C,
     pub log: &'a G,
+    /// The node's name.
+    pub node: &'a Text,
     /// How many milliseconds a caller has for its request.
     pub request: u64,
 }
@@ -60,7 +62,7 @@ impl<'a, R: Wait, C: Clock, G: Log> Gate for Watch<'a, R, C, G> {
         self.signal
             .intake
             .note(self.rt, caller, instance, answer, now);
-        tell_arrival(self.log, session, caller, instance, answer);
+        tell_arrival(self.log, session, self.node, caller, instance, answer);
     }
 
     fn asked(&self, session: u64, request: &AssociateRq, answer: Option<&AssociateAc>) {

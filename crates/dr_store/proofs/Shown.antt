@@ -20,7 +20,8 @@ use Rattle.dr_ledger.specs.Books.{Book}
 use Rattle.dr_ledger.specs.Items.{instance_of}
 use Rattle.dr_ledger.specs.Replies.{AreKept, Dues, IsDue, IsNext, Lists}
 use Rattle.dr_ledger.proofs.Growing.{inside}
-use Rattle.dr_ledger_views.specs.Views.{IsLeast}
+use Rattle.dr_ledger.specs.Pairs.{pair_cmp}
+use Rattle.dr_ledger_views.specs.Views.{AreCallers, IsLeast}
 use Rattle.dr_store.proofs.Sets.{coded_instance, coded_text}
 use Rattle.dr_store.proofs.Stable.{Stable, both, by_code, each, is_in, never, of_dec, of_prop, tested}
 
@@ -85,6 +86,15 @@ lists code {R} elements all h = record {
   each = λ x. (
     λ there. of_prop (Bool-set _ _) (∥∥₁_map h (λ l. (l.each x).0 there)),
     λ has. of_dec (is_in (tested code) all x) (∥∥₁_map h (λ l. (l.each x).1 has)),
+  );
+}
+
+pub callers : (arrivals : FinSet pair_cmp) (uid : Text) (all : List Text) → Stable (AreCallers arrivals uid all)
+callers arrivals uid all h = record {
+  ordered = of_prop (IsStrictlySortedBy-prop text_cmp all) (∥∥₁_map h (λ l. l.ordered));
+  each = λ x. (
+    λ there. of_prop (Bool-set _ _) (∥∥₁_map h (λ l. (l.each x).0 there)),
+    λ has. of_dec (is_in (tested coded_text) all x) (∥∥₁_map h (λ l. (l.each x).1 has)),
   );
 }
 

@@ -27,7 +27,9 @@ use dr_ledger_views::{Stage, Views};
 use dr_site::Site;
 use dr_store_calls::{adopt, arrive, forget, give_up, is_over, requeue, settle};
 use dr_store_reads::find_row;
-use dr_store_views::{count_arrivals, count_kept, count_rows, first_moment, page, rows_of};
+use dr_store_views::{
+    callers_of, count_arrivals, count_kept, count_rows, first_moment, page, rows_of,
+};
 use sqlite::{Alter, Connection};
 use std::alloc::Global;
 
@@ -382,6 +384,12 @@ impl<S: Alter> Views for SqlLedger<S> {
         limit: u32,
     ) -> Result<Seq<((Text, Text), Progress)>, LedgerFault> {
         let answer = page(&mut self.conn, self.alloc, dest, stage, after, limit);
+        self.failures = counted(&answer, self.failures);
+        answer
+    }
+
+    fn callers_of(&mut self, uid: &Text) -> Result<Seq<Text>, LedgerFault> {
+        let answer = callers_of(&mut self.conn, self.alloc, uid);
         self.failures = counted(&answer, self.failures);
         answer
     }

@@ -1,3 +1,4 @@
+mod Brought
 mod Counted
 mod First
 mod Grouped

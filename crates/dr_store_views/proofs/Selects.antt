@@ -82,6 +82,28 @@ pub rows_of : Is text.rows_of rows_query names
 unfolding understood everything
 rows_of = record { command = refl; listing = refl; plain = (refl, refl) }
 
+-- WHERE uid = ?1, of arrivals
+abbrev pub of_uid_brought : List Term
+of_uid_brought = op2 (Compare Eq Binary) (col 1 2) (col 0 0) ∷ []
+
+-- their callers, in order
+abbrev pub callers_query : Query
+callers_query = record {
+  from = inner 5 end;
+  filter = of_uid_brought;
+  group = None;
+  project = col 1 1 ∷ [];
+  distinct = false;
+  collations = [];
+  order = (col 1 1, ascending Binary) ∷ [];
+  limit = lit (Int (negsuc 0));
+  offset = lit (Int (pos 0));
+}
+
+pub callers_of : Is text.callers_of callers_query (codes "caller" ∷ [])
+unfolding understood everything
+callers_of = record { command = refl; listing = refl; plain = (refl, refl) }
+
 -- WHERE dest = ?1 AND state >= ?2 AND state <= ?3 AND uid > ?4
 abbrev pub behind : List Term
 behind =

@@ -17,6 +17,10 @@ abbrev pub rows_of : List ℕ
 rows_of = codes
     "SELECT uid, dest, state, tries, due, cause FROM queue WHERE uid = ?1 ORDER BY dest"
 
+-- who brought an instance
+abbrev pub callers_of : List ℕ
+callers_of = codes "SELECT caller FROM arrival WHERE uid = ?1 ORDER BY caller"
+
 -- a page of the rows of a destination in states from ?2 to ?3, behind a uid
 abbrev pub page : List ℕ
 page = codes

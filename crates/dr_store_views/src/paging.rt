@@ -1,22 +1,24 @@
-//! Rows of an instance, and pages of a destination's rows.
+//! Rows of an instance, who brought it, and pages of a destination's rows.
 ghost use Rattle.std.specs.Prelude.{◌≡◌, map as mapped, pos};
 ghost use Rattle.std.specs.FinMap as map;
 ghost use Rattle.sqlite.specs.Held.{state};
 ghost use Rattle.sqlite.specs.declared.types.Value.TheVariants.{Int};
 ghost use Rattle.sqlite_value.specs.Value.{owned};
 ghost use Rattle.dr_ledger.specs.Replies.{Reads};
-ghost use Rattle.dr_ledger_views.specs.Views.{page_of, rows_of as own_rows};
-ghost use Rattle.dr_store_schema.specs.Books.{rows_of as all_rows_of};
+ghost use Rattle.std.specs.List.Sorted.{IsStrictlySortedBy};
+ghost use Rattle.dr_base.specs.Texts.{text_cmp};
+ghost use Rattle.dr_ledger_views.specs.Views.{AreCallers, page_of, rows_of as own_rows};
+ghost use Rattle.dr_store_schema.specs.Books.{arrivals_in, rows_of as all_rows_of};
 ghost use Rattle.dr_store_schema.specs.Ledgers.{IsLedger};
 ghost use Rattle.dr_store_lists.specs.Lists.{shown_entry};
-ghost use Rattle.dr_store_reads.specs.Queries.{Asked};
+ghost use Rattle.dr_store_reads.specs.Queries.{Asked, shown_text};
 ghost use Rattle.dr_store_views.specs.Answers.{greatest_state, least_state};
 
 use crate::counting::state_cell;
 use dr_base::{Seq, Text};
 use dr_ledger::{LedgerFault, Progress};
 use dr_ledger_views::Stage;
-use dr_store_lists::listing::row_entries;
+use dr_store_lists::listing::{row_entries, text_keys};
 use dr_store_reads::queries::ask;
 use sqlite::types::ValueRef;
 use sqlite::{Alter, Connection, Row};
@@ -78,6 +80,34 @@ pub fn rows_of<'x, S: Alter>(
         &[ValueRef::Text(uid.as_bytes())],
     )?;
     entries_in(alloc, rows.as_slice())
+}
+
+/// What the rows of an answer say, which are texts; they have to rise.
+fn texts_in(alloc: Global, rows: &[Row]) -> Result<Seq<Text>, LedgerFault>
+    ensures { Reads result (λ all.
+        (all ≡ mapped shown_text rows.now) × IsStrictlySortedBy text_cmp all) }
+{
+    match text_keys(alloc, rows) {
+        Ok(all) => Ok(Seq::from_vec(all)),
+        Err(fault) => Err(fault),
+    }
+}
+
+/// Who brought an instance, in byte order. Its arrivals are looked up in an index.
+pub fn callers_of<'x, S: Alter>(
+    conn: &mut Connection<S>,
+    alloc: Global,
+    uid: &'x Text,
+) -> Result<Seq<Text>, LedgerFault>
+    ensures asked { Asked IsLedger result (state S.Store conn.old) (state S.Store conn.new)
+        (AreCallers (arrivals_in ((state S.Store conn.old).now.trees 5)) uid.now) }
+{
+    let rows = ask(
+        conn,
+        "SELECT caller FROM arrival WHERE uid = ?1 ORDER BY caller",
+        &[ValueRef::Text(uid.as_bytes())],
+    )?;
+    texts_in(alloc, rows.as_slice())
 }
 
 /// A page of the rows to the destination, in byte order of their uids.

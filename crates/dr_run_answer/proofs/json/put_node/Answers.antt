@@ -1,5 +1,5 @@
 use Rattle.std.proofs.Common.{◌++◌}
-use Rattle.std.specs.Prelude.{codes, decimal}
+use Rattle.std.specs.Prelude.{codes}
 use Rattle.dr_run_answer.specs.Quoting.{quoted}
 use Rattle.dr_run_answer.specs.Answers.{ended, number, word}
 use Rattle.dr_run_answer.proofs.Chained.{chained}

@@ -1,0 +1,47 @@
+use Rattle.std.proofs.Common.{◌≡◌, ℕ, List, refl}
+use Rattle.sqlite.specs.Held.{state}
+use Rattle.sqlite.specs.Tree.{Trees}
+use Rattle.dr_base.specs.Texts.{Text}
+use Rattle.dr_ledger_views.specs.Views.{AreCallers}
+use Rattle.dr_store_schema.specs.Books.{arrivals_in}
+use Rattle.dr_store.proofs.Shown.{callers}
+use Rattle.dr_store_calls.proofs.Calls.{asked_looked}
+use Rattle.dr_store.proofs.Writes.{looked_books, looked_kept, looked_lasting, looked_reads, looked_safe}
+use Rattle.dr_store.proofs.ledger.SqlLedgerViews.callers_of.Goals as goal
+
+pub invariant_of-self : goal.invariant_of-self
+invariant_of-self g c =
+    let n = c.args.self.now.next in
+    let part = c.args.self.now.site in
+    let uid = c.args.uid.now in
+    let r = c.callers_of-answer.result in
+    let old = state g.S.Store c.args.self.now.conn in
+    let new = state g.S.Store c.callers_of-answer.new.conn in
+    let Shows : Trees → List Text → Type 0 = λ base. AreCallers (arrivals_in (base 5)) uid in
+    let looked = asked_looked n part r old new Shows c.callers_of-answer.ensures.asked in
+    record {
+      idle = c.callers_of-answer.ensures.asked.idle c.args.self.now.idle;
+      kept = looked_kept n part r old new Shows c.args.self.now.kept looked;
+    }
+
+-- by hand: the search loses itself in what the trait asks
+pub returns : goal.returns
+returns g c =
+    let n = c.args.self.now.next in
+    let part = c.args.self.now.site in
+    let uid = c.args.uid.now in
+    let r = c.callers_of-answer.result in
+    let old = state g.S.Store c.args.self.now.conn in
+    let new = state g.S.Store c.callers_of-answer.new.conn in
+    let Shows : Trees → List Text → Type 0 = λ base. AreCallers (arrivals_in (base 5)) uid in
+    let looked = asked_looked n part r old new Shows c.callers_of-answer.ensures.asked in
+    let kept = c.args.self.now.kept in
+    record {
+      reply = looked_reads n part r old new Shows kept looked (λ all. callers (arrivals_in (old.committed.trees 5)) uid all);
+      same = looked_books n part r old new Shows kept looked;
+      counts = c.counted-self.ensures.counts;
+      armed = refl;
+      stood = looked_safe n part r old new Shows kept looked;
+      lasts = looked_lasting n part r old new Shows kept looked;
+      site = refl;
+    }
