@@ -49,11 +49,7 @@ fn is_unfit(
 }
 
 /// Adds a copy of the row's place, where it is unfit.
-fn add_if(
-    found: &mut Vec<(Text, Text)>,
-    unfit: bool,
-    at: &(Text, Text),
-) -> Result<(), AllocError>
+fn add_if(found: &mut Vec<(Text, Text)>, unfit: bool, at: &(Text, Text)) -> Result<(), AllocError>
     ensures { OnOk result (MatchBool unfit (found.new.items ≡ found.old.items ++ at.now ∷ [])
         (found.new.items ≡ found.old.items)) }
 {

@@ -1,2 +1,2 @@
-mod Telling
+mod Printed
 mod Visits

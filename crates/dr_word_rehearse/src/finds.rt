@@ -21,11 +21,6 @@ pub enum Found<L: Ledger + Drop> {
 /// Ledgers that can be opened as they are found: none is made, and none is brought over.
 pub trait Finds: Ledgers {
     /// The ledger of that site.
-    fn find(
-        &self,
-        alloc: Global,
-        path: &str,
-        site: Site,
-    ) -> Result<Found<Self::Ledger>, OpenFault>
+    fn find(&self, alloc: Global, path: &str, site: Site) -> Result<Found<Self::Ledger>, OpenFault>
         ensures { IfOk result (IsFoundBy (Self.opens self.now path.now) Self.Ledger.site site) };
 }
