@@ -6,7 +6,7 @@ _dr_router_nodes() {
 }
 
 _dr_router() {
-    local words="check expand verify route graph lint expect diff simulate echo new serve send list requeue drop forget visit stop adopt audit help"
+    local words="check expand import verify route graph lint expect diff simulate echo new serve send list requeue drop forget visit stop adopt audit help"
     local current=${COMP_WORDS[COMP_CWORD]} word=${COMP_WORDS[1]} plan=${COMP_WORDS[2]}
     COMPREPLY=()
     if [ "$COMP_CWORD" -eq 1 ]; then
@@ -34,7 +34,7 @@ _dr_router() {
         "route 4" | "echo "[34] | "new 4" | "serve 4" | "send 4" | "list 4" | "requeue "[47] | "drop "[47] | "forget 4" | "visit 4" | "stop 4")
             local IFS=$'\n'
             mapfile -t COMPREPLY < <(compgen -W "$(_dr_router_nodes "$plan")" -- "$current") ;;
-        "check 2" | "expand 2" | "verify "[23] | "route "[235] | "graph "[23] | "lint "[23] | "expect "[234] | "diff "[2345] | "simulate "[234] | "echo 2" | "new "[235] | "serve "[235] | "send "[2356] | "list "[235] | "requeue "[235] | "drop "[235] | "forget "[235] | "visit "[23] | "stop "[23] | "adopt "[2345] | "audit "[23])
+        "check 2" | "expand 2" | "import 2" | "verify "[23] | "route "[235] | "graph "[23] | "lint "[23] | "expect "[234] | "diff "[2345] | "simulate "[234] | "echo 2" | "new "[235] | "serve "[235] | "send "[2356] | "list "[235] | "requeue "[235] | "drop "[235] | "forget "[235] | "visit "[23] | "stop "[23] | "adopt "[2345] | "audit "[23])
             mapfile -t COMPREPLY < <(compgen -f -- "$current") ;;
         "audit "[68] | "audit 1"[02468])
             local IFS=$'\n'
@@ -50,9 +50,13 @@ _dr_router() {
         "list 6")
             mapfile -t COMPREPLY < <(compgen -W "--summary" -- "$current") ;;
         "diff 6")
-            mapfile -t COMPREPLY < <(compgen -W "--fail-on-lost" -- "$current") ;;
+            mapfile -t COMPREPLY < <(compgen -W "--fail-on-lost --json" -- "$current") ;;
         "lint 4")
-            mapfile -t COMPREPLY < <(compgen -W "--strict" -- "$current") ;;
+            mapfile -t COMPREPLY < <(compgen -W "--strict --json" -- "$current") ;;
+        "check 3" | "expect 5" | "route 6" | "route 9")
+            mapfile -t COMPREPLY < <(compgen -W "--json" -- "$current") ;;
+        "adopt 7")
+            mapfile -t COMPREPLY < <(compgen -W "--dry-run" -- "$current") ;;
         "requeue 6")
             mapfile -t COMPREPLY < <(compgen -W "--all-held" -- "$current") ;;
         "help 2")

@@ -46,6 +46,10 @@ def adopt(room, old=PLAN, new=NEXT, folder='.'):
     return room.run('adopt', *old, *new, folder)
 
 
+def rehearse(room, old=PLAN, new=NEXT, folder='.'):
+    return room.run('adopt', '--dry-run', *old, *new, folder)
+
+
 def refused(run, status, fault, node):
     """The fault, and below it the node at which it is."""
     told(run, status, '', f'dr_router: {fault}\n  node {node}\n')
@@ -235,10 +239,37 @@ def some_files():
         same(books(room, NEXT), after)
 
 
+def rehearsals():
+    """All rows that are in the way are named, and nothing has changed: no book, no owner, and no file is made."""
+    with Room() as room:
+        prepare(room)
+        before = books(room)
+        told(rehearse(room), 0, 'new\tARCH\nfits\n', '')
+        for text, lines_of_rows in (
+            (PAST_ARCH, ['no\tU1 Unfit\tGATE\t1.2.3.4\tARCH']),
+            (PAST_GATE, ['no\tU1 Unfit\tCT1\t1.2.3.5\tGATE', 'no\tU1 Unfit\tGATE\t1.2.3.4\tARCH']),
+        ):
+            room.put_plan(text, OTHER)
+            told(rehearse(room, PLAN, OTHER), 1, ''.join(f'{line}\n' for line in ['new\tARCH', *lines_of_rows]), '')
+            told(adopt(room, PLAN, OTHER), 1, f'{lines_of_rows[0]}\n', '')
+            copy(room, 'none', 'ARCH')
+            os.remove(f'{room.folder}/ARCH.db')
+        same(books(room), before)
+        told(rehearse(room, folder='no/folder'), 0, 'new\tARCH\nnew\tCT1\nnew\tGATE\nfits\n', '')
+        gate = room.serve('GATE', 0)
+        same(rehearse(room).returncode, 3)
+        stop(gate)
+        room.put_plan(WITHOUT_ARCH, OTHER)
+        refused(rehearse(room, PLAN, OTHER), 1, 'NoNode', 'ARCH')
+        same(is_there(room, 'ARCH'), False)
+        told(adopt(room), 0, 'adopted\n', '')
+        told(rehearse(room), 0, 'fits\n', '')
+
+
 def main():
     if not os.path.exists(PROGRAM):
         sys.exit(f'{PROGRAM} is not built')
-    run_cases('adopting', next_plan, two_steps, unfit_rows, held_rows, refused_plans, refused_files, some_files)
+    run_cases('adopting', next_plan, two_steps, unfit_rows, held_rows, refused_plans, refused_files, some_files, rehearsals)
 
 
 if __name__ == '__main__':

@@ -16,7 +16,7 @@ import sys
 
 sys.dont_write_bytecode = True
 from lib.nodes import PLAN, PROGRAM, Room, data_set, element, ended, part10, run_cases, same, stop, told
-from adopting import NEXT, NEXT_TEXT, adopt, book, copy, kept
+from adopting import NEXT, NEXT_TEXT, adopt, book, copy, kept, rehearse
 
 TABLES = {
     'site': 'id', 'item': 'uid', 'print': 'uid', 'arrival': 'caller, uid', 'kept': 'uid', 'queue': 'uid, dest', 'journal': 'n', 'target': 'n, dest',
@@ -285,10 +285,22 @@ def refused(room, name, status=1, why='G6 OtherSite'):
     same(all_of(room, name), before)
 
 
+def rehearsed():
+    """A rehearsal of a change of plan names a file from before, and leaves it as it is."""
+    with Room() as room:
+        prepare(room)
+        room.put_plan(NEXT_TEXT, NEXT)
+        make_older(room, 'older', 'GATE', LATER)
+        copy(room, 'older', 'GATE')
+        before = all_of(room, 'GATE')
+        told(rehearse(room), 1, 'older\tGATE\n', '')
+        same(all_of(room, 'GATE'), before)
+
+
 def main():
     if not os.path.exists(PROGRAM):
         sys.exit(f'{PROGRAM} is not built')
-    run_cases('older', older_files, what_is_let_go, goes_on, refused_files, forgotten, not_forgotten, dropped, not_dropped, other_lines)
+    run_cases('older', older_files, what_is_let_go, goes_on, refused_files, forgotten, not_forgotten, dropped, not_dropped, other_lines, rehearsed)
 
 
 if __name__ == '__main__':

@@ -3,6 +3,7 @@
 
     tests/program.py
 """
+import json
 import os
 import resource
 import subprocess
@@ -56,6 +57,15 @@ def checks(certificate):
         is_answer('a plan with a cycle', run(words, given), 1, cycle_line(), b'')
     is_answer('an overfull hop', run(['check', OVERFULL]), 1, b'no\tTooManyContexts\tCT1\tARCH\n', b'')
     is_answer('no plan', run(['check'], b'[[node]'), 1, b'', b'dr_router: L1 NotToml\n')
+    for words, given in ((['check', '--json', CYCLE], b''), (['check', CYCLE, '--json'], b''), (['check', '--json'], content(CYCLE))):
+        got = run(words, given)
+        is_answer('a cycle as JSON', got, 1, (b'[["no","Cycle",',), b'')
+        if json.loads(got[1]) != [cycle_line().decode().rstrip('\n').split('\t')]:
+            sys.exit(f'a cycle as JSON: {got}')
+    is_answer('no plan, as JSON', run(['check', '--json'], b'[[node]'), 1, b'[]\n', b'dr_router: L1 NotToml\n')
+    as_json = json.loads(run(['check', '--json', SOUND])[1])
+    if as_json != [line.split('\t') for line in printed.decode().splitlines()]:
+        sys.exit('a certificate as JSON')
 
 
 def verdicts(certificate):

@@ -1,5 +1,6 @@
 //! The system's files as databases, and ledgers in databases.
 ghost use Rattle.std.specs.Prelude.{◌≡◌, IfOk, false};
+ghost use Rattle.dr_word_rehearse.specs.Looks.{IsFoundBy};
 
 use dr_base::Text;
 use dr_run_files::Files;
@@ -8,8 +9,10 @@ use dr_run_report::{FileId, Paths, ReportPlace, SystemPaths};
 use dr_run_token::{SystemTokens, Tokens};
 use dr_site::Site;
 use dr_store::SqlLedger;
+use dr_store_audit::{is_ours, lacking};
 use dr_store_open::{OpeningFault, ledger_on};
 use dr_word_check::Disk;
+use dr_word_rehearse::{Finds, Found};
 use sqlite::{Alter, Connection, Error, ErrorCode, File, FileStore};
 use std::alloc::Global;
 use std::io::ErrorKind;
@@ -153,6 +156,45 @@ impl<'a, D: Databases> Ledgers for StoredLedgers<'a, D> {
         }
         match self.0.open_database(path) {
             Ok(conn) => ledger_over(alloc, conn, site),
+            Err(error) => Err(file_fault(&error)),
+        }
+    }
+}
+
+/// What is found over a connection to a database. Where its tables are those of today, opening its
+/// ledger changes nothing of it.
+fn found_over<S: Alter + Drop>(
+    alloc: Global,
+    conn: Connection<S>,
+    site: Site,
+) -> Result<Found<SqlLedger<S>>, OpenFault>
+    requires { conn.in_transaction ≡ false }
+    ensures { IfOk result (IsFoundBy (λ l. Unit {0}) (λ l. l.site) site) }
+{
+    if !is_ours(conn.schema()) {
+        if lacking(conn.schema()).is_some() {
+            return Ok(Found::Older);
+        }
+        return Err(OpenFault::OtherSite);
+    }
+    match ledger_over(alloc, conn, site) {
+        Ok(ledger) => Ok(Found::Ledger(ledger)),
+        Err(fault) => Err(fault),
+    }
+}
+
+impl<'a, D: Databases> Finds for StoredLedgers<'a, D> {
+    fn find(
+        &self,
+        alloc: Global,
+        path: &str,
+        site: Site,
+    ) -> Result<Found<SqlLedger<D::Store>>, OpenFault> {
+        if !self.0.is_there(path) {
+            return Ok(Found::Nothing);
+        }
+        match self.0.open_database(path) {
+            Ok(conn) => found_over(alloc, conn, site),
             Err(error) => Err(file_fault(&error)),
         }
     }

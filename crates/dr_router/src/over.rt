@@ -3,12 +3,13 @@ use crate::files::{Databases, StoredLedgers};
 use dr_ledger_journal::TellsJournal;
 use dr_run_files::Files;
 use dr_run_net::Network;
-use dr_run_open::{Ledgers, Status};
+use dr_run_open::Status;
 use dr_run_report::Paths;
 use dr_run_serve::Ending;
 use dr_run_token::Tokens;
 use dr_session::Clock;
 use dr_word_all::run_words;
+use dr_word_rehearse::Finds;
 use log::Log;
 use std::alloc::Global;
 use std::io::{Read, Write};
@@ -24,7 +25,7 @@ pub fn run_over<
     W: Write,
     E: Write,
     F: Files + Paths + Tokens + Sync,
-    O: Ledgers,
+    O: Finds,
     N: Network + Sync,
     C: Clock + Sync,
     G: Log + Sync,

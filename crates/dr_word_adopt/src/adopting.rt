@@ -28,7 +28,7 @@ const LF: u8 = 10;
 /// The plan in force and the next one, each sealed with its certificate.
 ///
 /// Errors: NoPlan, NoCertificate, Failed.
-fn seal_both<'a, F: Files>(
+pub fn seal_both<'a, F: Files>(
     alloc: Global,
     files: &F,
     given: PlanChange<'a>,
@@ -144,7 +144,7 @@ fn change_files<'a, F: Files, O: Ledgers>(
 }
 
 /// The line that is printed of a row that isn't fit.
-fn unfit_text(alloc: Global, node: &Text, uid: &Text, dest: &Text) -> Result<Text, AllocError>
+pub fn unfit_text(alloc: Global, node: &Text, uid: &Text, dest: &Text) -> Result<Text, AllocError>
     ensures { IfOk result (λ text. text ≡ unfit_line node.now uid.now dest.now) }
 {
     let mut out = Vec::new(alloc);

@@ -113,7 +113,7 @@ fn look_into<L: Ledger + Drop>(
 /// The site of the node of that name by the plan in force, and that by the next one.
 ///
 /// Errors: NoNode, Memory.
-fn parts_of<'a>(
+pub fn parts_of<'a>(
     alloc: Global,
     old: &Sealed,
     next: &Sealed,

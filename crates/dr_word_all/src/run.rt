@@ -10,7 +10,7 @@ ghost use Rattle.dr_word_audit.specs.Names.{text_of};
 ghost use Rattle.dr_word_check.specs.Runs.{Answers, Verifies};
 ghost use Rattle.dr_word_line.specs.Words.{IsPlainCheck, IsCheckOf, IsVerifyOf, IsQuestionOf};
 ghost use Rattle.dr_word_line.specs.Words.{IsSimulateOf, IsEchoOf, IsDutyOf, IsAdoptOf};
-ghost use Rattle.dr_word_line.specs.Words.{IsAuditOf};
+ghost use Rattle.dr_word_line.specs.Words.{IsAuditOf, IsImportOf};
 ghost use Rattle.dr_run_open.specs.declared.status.Status.TheVariants.{Success, Refused, Usage};
 ghost use Rattle.dr_word_line.specs.declared.words.Task.TheVariants as asks;
 ghost use Rattle.dr_word_line.specs.declared.words.Duty.{Duty as DutyValue};
@@ -19,6 +19,8 @@ ghost use Rattle.dr_word_line.specs.declared.words.PlanChange.{PlanChange as Pla
 ghost use Rattle.dr_word_line.specs.declared.words.SiteFiles.{SiteFiles as SiteFilesValue};
 ghost use Rattle.dr_word_line.specs.declared.words.Question.{Question as QuestionValue};
 ghost use Rattle.dr_word_echo.specs.Runs.{Echoes};
+ghost use Rattle.dr_word_import.specs.Imports.{PrintsPlan};
+ghost use Rattle.dr_word_rehearse.specs.Endings.{Rehearses};
 ghost use Rattle.dr_word_route.specs.Runs.{Asks};
 ghost use Rattle.dr_word_serve.specs.Sending.{VisitsBy};
 ghost use Rattle.dr_word_serve.specs.Working.{Works};
@@ -27,7 +29,7 @@ ghost use Rattle.dr_word_simulate.specs.Runs.{Simulates};
 use dr_ledger_journal::TellsJournal;
 use dr_run_files::{Failure, Files};
 use dr_run_net::Network;
-use dr_run_open::{Ledgers, Status};
+use dr_run_open::Status;
 use dr_run_report::Paths;
 use dr_run_serve::{Ending, OwnPort, Tallied};
 use dr_run_token::Tokens;
@@ -37,7 +39,10 @@ use dr_word_at::ask_files;
 use dr_word_audit::audit_files;
 use dr_word_check::tell_failure;
 use dr_word_echo::echo_files;
+use dr_word_import::import_file;
+use dr_word_json::run_as_json;
 use dr_word_line::{Task, read_words};
+use dr_word_rehearse::{Finds, rehearse_files};
 use dr_word_serve::work_files;
 use dr_word_simulate::run_offline;
 use log::Log;
@@ -57,7 +62,7 @@ fn run_any<
     W: Write,
     E: Write,
     F: Files + Paths + Tokens + Sync,
-    O: Ledgers,
+    O: Finds,
     N: Network + Sync,
     C: Clock + Sync,
     G: Log + Sync,
@@ -126,6 +131,14 @@ where
         → IfOk result
         (Adopts (F.holds files.now) (O.opens ledgers.now) O.Ledger.site O.Ledger.book
         O.Ledger.stands change (W.contents output.old) (W.contents output.new)) }
+    ensures rehearsed { (change : PlanChangeValue)
+        → asked.entry ≡ asks.Rehearse change
+        → IfOk result
+        (Rehearses (F.holds files.now) (O.opens ledgers.now) O.Ledger.site O.Ledger.book
+        O.Ledger.stands change (W.contents output.old) (W.contents output.new)) }
+    ensures imported { (table : Bor (List ℕ))
+        → asked.entry ≡ asks.Import table
+        → IfOk result (λ _. PrintsPlan (W.contents output.old) (W.contents output.new)) }
     ensures audited { (given : SiteFilesValue)
         → asked.entry ≡ asks.Audit given
         → IfOk result
@@ -151,6 +164,18 @@ where
             ask_files(alloc, files, given, errand, network, clock, output, faults)
         }
         Task::Adopt(change) => adopt_files(alloc, files, ledgers, change, output, faults),
+        Task::Rehearse(change) => { rehearse_files(alloc, files, ledgers, change, output, faults) }
+        Task::Import(path) => import_file(alloc, files, path, output, faults),
+        Task::CheckInputAsJson => {
+            run_as_json(alloc, Task::CheckInput, input, output, faults, files)
+        }
+        Task::CheckFileAsJson(path) => {
+            run_as_json(alloc, Task::CheckFile(path), input, output, faults, files)
+        }
+        Task::QuestionAsJson(plan, certificate, question) => {
+            let asked = Task::Question(plan, certificate, question);
+            run_as_json(alloc, asked, input, output, faults, files)
+        }
         Task::Audit(given) => audit_files(alloc, files, ledgers, given, &[], output, faults),
         Task::AuditAmong(given, others) => {
             audit_files(
@@ -175,7 +200,7 @@ pub fn run_words<
     W: Write,
     E: Write,
     F: Files + Paths + Tokens + Sync,
-    O: Ledgers,
+    O: Finds,
     N: Network + Sync,
     C: Clock + Sync,
     G: Log + Sync,
@@ -249,6 +274,10 @@ where
         → (result ≡ Success) ⊎ (result ≡ Refused)
         → Adopts (F.holds files.now) (O.opens ledgers.now) O.Ledger.site O.Ledger.book
         O.Ledger.stands change (W.contents output.old) (W.contents output.new) result }
+    ensures imported { (table : Bor (List ℕ))
+        → IsImportOf words.now table
+        → (result ≡ Success) ⊎ (result ≡ Refused)
+        → PrintsPlan (W.contents output.old) (W.contents output.new) }
     ensures audited { (given : SiteFilesValue)
         → IsAuditOf words.now given
         → (result ≡ Success) ⊎ (result ≡ Refused)

@@ -235,7 +235,12 @@ pub fn run_asked<'a, R: Read, W: Write, E: Write, F: Files>(
         | Task::Question(_, _, _)
         | Task::AtNode(_, _)
         | Task::AtRunning(_, _)
+        | Task::Import(_)
+        | Task::CheckInputAsJson
+        | Task::CheckFileAsJson(_)
+        | Task::QuestionAsJson(_, _, _)
         | Task::Adopt(_)
+        | Task::Rehearse(_)
         | Task::Audit(_)
         | Task::AuditAmong(_, _) => { Ok(tell_other_word(faults)?) }
         Task::Told(error) => Ok(tell_words(&error, output, faults)?),

@@ -14,7 +14,7 @@ use Rattle.dr_word_line.specs.declared.words.PlanChange.{PlanChange}
 use Rattle.dr_word_line.specs.declared.words.SiteFiles.{SiteFiles}
 use Rattle.dr_word_line.specs.declared.words.NextPlan.{NextPlan}
 use Rattle.dr_word_line.specs.declared.words.Question.TheVariants as questions
-use Rattle.dr_word_line.specs.Words.{Asks, IsAdoptOf, IsAuditOf, IsCheckOf, IsDiffOf, IsDutyOf, IsEchoOf, IsErrandOf, IsExpandOf, IsExpectOf, IsFileRouteOf, IsForgetOf, IsGiveUpOf, IsGraphOf, IsKeyRouteOf, IsLintOf, IsListOf, IsMakeOf, IsPlainCheck, IsRequeueAllOf, IsRequeueOf, IsSendOf, IsServeOf, IsSimulateOf, IsSummaryOf, IsVerifyOf}
+use Rattle.dr_word_line.specs.Words.{Asks, IsAdoptOf, IsAuditOf, IsCheckOf, IsDiffOf, IsDutyOf, IsEchoOf, IsErrandOf, IsExpandOf, IsExpectOf, IsFileRouteOf, IsForgetOf, IsGiveUpOf, IsGraphOf, IsImportOf, IsKeyRouteOf, IsLintOf, IsListOf, IsMakeOf, IsPlainCheck, IsRequeueAllOf, IsRequeueOf, IsSendOf, IsServeOf, IsSimulateOf, IsSummaryOf, IsVerifyOf}
 
 -- no duty is asked for, where none of each kind is
 module _ (words : List (Bor (List ℕ)))
@@ -65,6 +65,7 @@ module _ (words : List (Bor (List ℕ)))
     (input : IsPlainCheck words → ⊥)
     (file : (plan : Bor (List ℕ)) → IsCheckOf words plan → ⊥)
     (expand : (plan : Bor (List ℕ)) → IsExpandOf words plan → ⊥)
+    (imported : (table : Bor (List ℕ)) → IsImportOf words table → ⊥)
     (verify : (plan certificate : Bor (List ℕ)) → IsVerifyOf words plan certificate → ⊥)
     (simulate : (plan certificate script : Bor (List ℕ)) → IsSimulateOf words plan certificate script → ⊥)
     (echo : (plan caller called : Bor (List ℕ)) → IsEchoOf words plan caller called → ⊥)
@@ -82,6 +83,7 @@ module _ (words : List (Bor (List ℕ)))
   nothing_asked asks.CheckInput h = input h
   nothing_asked (asks.CheckFile plan) h = file plan h
   nothing_asked (asks.Expand plan) h = expand plan h
+  nothing_asked (asks.Import table) h = imported table h
   nothing_asked (asks.Verify plan certificate) h = verify plan certificate h
   nothing_asked (asks.Simulate plan certificate script) h = simulate plan certificate script h
   nothing_asked (asks.Echo plan caller called) h = echo plan caller called h
@@ -97,4 +99,8 @@ module _ (words : List (Bor (List ℕ)))
   nothing_asked (asks.Adopt change) h = adopt change h
   nothing_asked (asks.Audit given) h = audit given h
   nothing_asked (asks.AuditAmong given others) h = absurd h
+  nothing_asked (asks.Rehearse change) h = absurd h
+  nothing_asked asks.CheckInputAsJson h = absurd h
+  nothing_asked (asks.CheckFileAsJson plan) h = absurd h
+  nothing_asked (asks.QuestionAsJson plan certificate question) h = absurd h
   nothing_asked (asks.Told error) h = absurd h

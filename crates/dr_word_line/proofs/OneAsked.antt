@@ -87,11 +87,15 @@ of_rows option given h i =
 abbrev of_ten : List ℕ → List ℕ → RunningNode → Word → Word → Task
 of_ten word option given h i = cond (initial word == 100) (asks.AtRunning given (errands.GiveUp h i)) (of_rows option given h i)
 
+-- what a word and one more ask for
+abbrev of_two : List ℕ → Word → Task
+of_two word a = cond (initial word == 101) (asks.Expand a) (cond (initial word == 105) (asks.Import a) (asks.CheckFile a))
+
 -- what words of a plain form ask for: their number says nearly all, and then the first byte of the first word or of the option
 abbrev meant : List Word → Task
 meant [] = asks.CheckInput
 meant (word ∷ []) = asks.CheckInput
-meant (word ∷ a ∷ []) = cond (initial word.now == 101) (asks.Expand a) (asks.CheckFile a)
+meant (word ∷ a ∷ []) = of_two word.now a
 meant (word ∷ a ∷ b ∷ []) =
     cond (initial word.now == 118) (asks.Verify a b) (cond (initial word.now == 103) (asks.Question a b questions.Graph) (asks.Question a b questions.Lint))
 meant (word ∷ a ∷ b ∷ c ∷ []) = of_four word.now a b c
@@ -122,10 +126,13 @@ module _ (words : List Word) where
   is_meant asks.CheckInput (inr h) = subst (Means asks.CheckInput) (sym h.1) refl
   is_meant (asks.CheckFile a) h =
       subst (Means (asks.CheckFile a)) (sym h.1)
-      (subst (λ n. cond (initial n == 101) (asks.Expand a) (asks.CheckFile a) ≡ asks.CheckFile a) (sym h.2) refl)
+      (subst (λ n. of_two n a ≡ asks.CheckFile a) (sym h.2) refl)
   is_meant (asks.Expand a) h =
       subst (Means (asks.Expand a)) (sym h.1)
-      (subst (λ n. cond (initial n == 101) (asks.Expand a) (asks.CheckFile a) ≡ asks.Expand a) (sym h.2) refl)
+      (subst (λ n. of_two n a ≡ asks.Expand a) (sym h.2) refl)
+  is_meant (asks.Import a) h =
+      subst (Means (asks.Import a)) (sym h.1)
+      (subst (λ n. of_two n a ≡ asks.Import a) (sym h.2) refl)
   is_meant (asks.Verify a b) h =
       subst (Means (asks.Verify a b)) (sym h.1)
       (subst (λ n. cond (initial n == 118) (asks.Verify a b) (cond (initial n == 103) (asks.Question a b questions.Graph) (asks.Question a b questions.Lint)) ≡ asks.Verify a b) (sym h.2) refl)
@@ -233,6 +240,10 @@ module _ (words : List Word) where
       subst (Means (asks.Audit given)) (sym h.1)
       (subst (λ n. of_four n given.plan given.certificate given.folder ≡ asks.Audit given) (sym h.2) refl)
   is_meant (asks.AuditAmong given others) h = absurd h
+  is_meant (asks.Rehearse change) h = absurd h
+  is_meant asks.CheckInputAsJson h = absurd h
+  is_meant (asks.CheckFileAsJson plan) h = absurd h
+  is_meant (asks.QuestionAsJson plan certificate question) h = absurd h
   is_meant (asks.Told error) h = absurd h
 
   -- words of a plain form ask for one thing

@@ -8,7 +8,9 @@ use Rattle.dr_word_line.specs.declared.words.Task.TheVariants.{Verify}
 use Rattle.dr_word_line.specs.declared.words.Task.TheVariants.{Simulate, Echo}
 use Rattle.dr_word_line.specs.declared.words.Task.TheVariants.{Question as AsksQuestion, AtNode}
 use Rattle.dr_word_line.specs.declared.words.Task.TheVariants.{Adopt, Audit, AtRunning, AuditAmong}
-use Rattle.dr_word_line.specs.declared.words.Task.TheVariants.{Told}
+use Rattle.dr_word_line.specs.declared.words.Task.TheVariants.{Told, Import, Rehearse}
+use Rattle.dr_word_line.specs.declared.words.Task.TheVariants.{CheckInputAsJson, CheckFileAsJson}
+use Rattle.dr_word_line.specs.declared.words.Task.TheVariants.{QuestionAsJson}
 use Rattle.dr_word_line.specs.declared.words.Duty.{Duty}
 use Rattle.dr_word_line.specs.declared.words.Duty.TheVariants.{List as ToList, Summary, Requeue}
 use Rattle.dr_word_line.specs.declared.words.Duty.TheVariants.{RequeueAll, GiveUp, Forget, Make}
@@ -54,6 +56,14 @@ IsExpandOf words plan =
     × (words ≡ word ∷ plan ∷ [])
     × (word.now ≡ codes "expand")
     × IsNoOption plan.now
+
+-- the word import and a file's path: they ask for a plan for the devices of the table in that file
+abbrev pub IsImportOf : List (Bor (List ℕ)) → Bor (List ℕ) → Type 0
+IsImportOf words table =
+    (word : Bor (List ℕ))
+    × (words ≡ word ∷ table ∷ [])
+    × (word.now ≡ codes "import")
+    × IsNoOption table.now
 
 -- the word verify and two files' paths: they ask for a verification of the certificate in the
 -- second for the plan in the first
@@ -327,12 +337,14 @@ IsAuditOf words given =
     × IsNoOption given.certificate.now
     × IsNoOption given.folder.now
 
--- the words are of a plain form, which asks for this; that nodes are of other makers is said by
--- options, of which nothing is said here
+-- the words are of a plain form, which asks for this; that nodes are of other makers, that nothing
+-- is to be changed, and that an answer is to be JSON is said by options, of which nothing is said
+-- here
 abbrev pub Asks : List (Bor (List ℕ)) → Task → Type 0
 Asks words CheckInput = IsPlainCheck words
 Asks words (CheckFile plan) = IsCheckOf words plan
 Asks words (Expand plan) = IsExpandOf words plan
+Asks words (Import table) = IsImportOf words table
 Asks words (Verify plan certificate) = IsVerifyOf words plan certificate
 Asks words (Simulate plan certificate script) = IsSimulateOf words plan certificate script
 Asks words (Echo plan caller called) = IsEchoOf words plan caller called
@@ -342,6 +354,10 @@ Asks words (AtRunning given errand) = IsErrandOf words given errand
 Asks words (Adopt change) = IsAdoptOf words change
 Asks words (Audit given) = IsAuditOf words given
 Asks words (AuditAmong given others) = ⊥
+Asks words (Rehearse change) = ⊥
+Asks words CheckInputAsJson = ⊥
+Asks words (CheckFileAsJson plan) = ⊥
+Asks words (QuestionAsJson plan certificate question) = ⊥
 Asks words (Told error) = ⊥
 
 -- what the words of a plain form ask for, and nothing where they are of none

@@ -4,13 +4,18 @@
 //! doesn't know are clap's, of which no contract speaks.
 #![tactic(auto)]
 
+mod choices;
 mod command_line;
 mod ledgers;
 mod matched;
+mod node_words;
 mod option;
+mod parts;
+mod plan_words;
 mod plans;
 mod reading;
 mod running;
+mod serve_options;
 mod words;
 
 pub use reading::read_words;

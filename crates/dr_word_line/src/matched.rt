@@ -47,6 +47,48 @@ fn question_of<'a>(name: &str, given: &ArgMatches<'a>) -> Option<Question<'a>> {
     }
 }
 
+/// Whether the answer to a question is asked for as JSON, as clap has read it.
+fn wants_json(name: &str, given: &ArgMatches<'_>) -> bool {
+    match name {
+        "route" | "lint" | "diff" | "expect" => given.get_flag("JSON"),
+        _ => false,
+    }
+}
+
+/// What a question about a plan and its certificate asks for, as clap has read it.
+fn ask<'a>(
+    name: &str,
+    given: &ArgMatches<'a>,
+    plan: &'a str,
+    certificate: &'a str,
+    question: Question<'a>,
+) -> Task<'a> {
+    if wants_json(name, given) {
+        return Task::QuestionAsJson(plan, certificate, question);
+    }
+    Task::Question(plan, certificate, question)
+}
+
+/// What `check` asks for, as clap has read it.
+fn check_of<'a>(given: &ArgMatches<'a>) -> Task<'a> {
+    let is_json = given.get_flag("JSON");
+    match given.get_str("PLAN") {
+        Some(plan) if is_json => Task::CheckFileAsJson(plan),
+        Some(plan) => Task::CheckFile(plan),
+        None if is_json => Task::CheckInputAsJson,
+        None => Task::CheckInput,
+    }
+}
+
+/// What `adopt` asks for, as clap has read it.
+fn adopt_of<'a>(given: &ArgMatches<'a>) -> Task<'a> {
+    let change = change_of(given);
+    if given.get_flag("DRYRUN") {
+        return Task::Rehearse(change);
+    }
+    Task::Adopt(change)
+}
+
 /// How long a node is to wait for its peers, as clap has read it.
 fn waits_of(given: &ArgMatches<'_>) -> Waits {
     Waits {
@@ -139,7 +181,7 @@ fn read_certified<'a>(
     certificate: &'a str,
 ) -> Task<'a> {
     if let Some(question) = question_of(name, given) {
-        return Task::Question(plan, certificate, question);
+        return ask(name, given, plan, certificate, question);
     }
     if let Some(duty) = duty_of(name, given) {
         let node = given.get_str("NODE").unwrap_or("");
@@ -252,12 +294,15 @@ pub(crate) fn read_others<'a>(alloc: Global, words: &'a [&'a str]) -> Result<Tas
     let Some((name, given)) = matches.subcommand() else {
         return Ok(Task::CheckInput);
     };
+    if name == "check" {
+        return Ok(check_of(given));
+    }
+    if name == "import" {
+        return Ok(Task::Import(given.get_str("CSV").unwrap_or("")));
+    }
     let Some(plan) = given.get_str("PLAN") else {
         return Ok(Task::CheckInput);
     };
-    if name == "check" {
-        return Ok(Task::CheckFile(plan));
-    }
     if name == "expand" {
         return Ok(Task::Expand(plan));
     }
@@ -267,7 +312,7 @@ pub(crate) fn read_others<'a>(alloc: Global, words: &'a [&'a str]) -> Result<Tas
         return Ok(Task::Echo(plan, caller, called));
     }
     if name == "adopt" {
-        return Ok(Task::Adopt(change_of(given)));
+        return Ok(adopt_of(given));
     }
     if name == "audit" {
         return audit_of(alloc, given);

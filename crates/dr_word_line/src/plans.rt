@@ -2,7 +2,8 @@
 ghost use Rattle.std.specs.Prelude.{ℕ, List, IfNone, IfSome};
 ghost use Rattle.std.specs.Borrow.{Bor};
 ghost use Rattle.dr_word_line.specs.Words.{Asks, IsCheckOf, IsDiffOf, IsEchoOf, IsExpandOf};
-ghost use Rattle.dr_word_line.specs.Words.{IsExpectOf, IsFileRouteOf, IsGraphOf, IsKeyRouteOf};
+ghost use Rattle.dr_word_line.specs.Words.{IsExpectOf, IsFileRouteOf, IsGraphOf, IsImportOf};
+ghost use Rattle.dr_word_line.specs.Words.{IsKeyRouteOf};
 ghost use Rattle.dr_word_line.specs.Words.{IsLintOf, IsPlainCheck, IsSimulateOf, IsVerifyOf};
 ghost use Rattle.dr_word_line.specs.declared.words.KeyWords.{KeyWords as KeyWordsValue};
 ghost use Rattle.dr_word_line.specs.declared.words.NextPlan.{NextPlan as NextPlanValue};
@@ -31,6 +32,17 @@ pub(crate) fn read_expand<'a>(words: &'a [&'a str]) -> Option<Task<'a>>
 {
     match words {
         [word, plan] if *word == "expand" && is_no_option(plan) => Some(Task::Expand(plan)),
+        _ => None,
+    }
+}
+
+/// What words ask for that is to be imported, if they are of that form.
+pub(crate) fn read_import<'a>(words: &'a [&'a str]) -> Option<Task<'a>>
+    ensures asked { IfSome result (λ asked. Asks words.now asked) }
+    ensures imported { IfNone result ((table : Bor (List ℕ)) → IsImportOf words.now table → ⊥) }
+{
+    match words {
+        [word, table] if *word == "import" && is_no_option(table) => Some(Task::Import(table)),
         _ => None,
     }
 }

@@ -2,7 +2,7 @@
 ghost use Rattle.std.specs.Prelude.{◌≡◌, ℕ, List, IfOk};
 ghost use Rattle.std.specs.Borrow.{Bor};
 ghost use Rattle.dr_word_line.specs.Words.{IsAdoptOf, IsAuditOf, IsCheckOf, IsDutyOf, IsEchoOf};
-ghost use Rattle.dr_word_line.specs.Words.{IsErrandOf};
+ghost use Rattle.dr_word_line.specs.Words.{IsErrandOf, IsImportOf};
 ghost use Rattle.dr_word_line.specs.Words.{IsExpandOf, IsPlainCheck, IsQuestionOf, IsSimulateOf};
 ghost use Rattle.dr_word_line.specs.Words.{IsVerifyOf, Reads};
 ghost use Rattle.dr_run_files.specs.declared.node.NodeFiles.{NodeFiles as NodeFilesValue};
@@ -17,7 +17,8 @@ ghost use Rattle.dr_word_line.specs.declared.words.Question.{Question as Questio
 use crate::ledgers::read_ledger;
 use crate::matched::read_others;
 use crate::plans::{
-    read_check, read_diff, read_expand, read_expect, read_pair, read_question, read_route,
+    read_check, read_diff, read_expand, read_expect, read_import, read_pair, read_question,
+    read_route,
 };
 use crate::running::read_running;
 use crate::words::Task;
@@ -31,6 +32,9 @@ fn read_plain<'a>(words: &'a [&'a str]) -> Option<Task<'a>>
         return Some(asked);
     }
     if let Some(asked) = read_expand(words) {
+        return Some(asked);
+    }
+    if let Some(asked) = read_import(words) {
         return Some(asked);
     }
     if let Some(asked) = read_pair(words) {
@@ -64,6 +68,8 @@ pub fn read_words<'a>(alloc: Global, words: &'a [&'a str]) -> Result<Task<'a>, A
         (plan : Bor (List ℕ)) → IsCheckOf words.now plan → a ≡ asks.CheckFile plan) }
     ensures expand { IfOk result (λ a.
         (plan : Bor (List ℕ)) → IsExpandOf words.now plan → a ≡ asks.Expand plan) }
+    ensures imported { IfOk result (λ a.
+        (table : Bor (List ℕ)) → IsImportOf words.now table → a ≡ asks.Import table) }
     ensures verify { IfOk result (λ a. (plan certificate : Bor (List ℕ))
         → IsVerifyOf words.now plan certificate
         → a ≡ asks.Verify plan certificate) }

@@ -211,6 +211,8 @@ pub enum Task<'a> {
     CheckFile(&'a str),
     /// To print the text that is read for the plan in this file.
     Expand(&'a str),
+    /// To print a plan to begin with, for the devices of the table in this file.
+    Import(&'a str),
     /// To verify, for the plan whose text is in the first file, the certificate whose text is in
     /// the second.
     Verify(&'a str, &'a str),
@@ -222,12 +224,20 @@ pub enum Task<'a> {
     Echo(&'a str, &'a str, &'a str),
     /// To answer a question about the plan in the first file, whose certificate is in the second.
     Question(&'a str, &'a str, Question<'a>),
+    /// To do as `CheckInput` says, and to print the answer as JSON.
+    CheckInputAsJson,
+    /// The same as `CheckFile` says.
+    CheckFileAsJson(&'a str),
+    /// The same as `Question` says.
+    QuestionAsJson(&'a str, &'a str, Question<'a>),
     /// To do this at a node that has these files.
     AtNode(NodeFiles<'a>, Duty<'a>),
     /// To ask this of a node that runs, or to tell it.
     AtRunning(RunningNode<'a>, Errand<'a>),
     /// To bring the ledgers of all nodes of a plan over to another plan.
     Adopt(PlanChange<'a>),
+    /// To say what that would come to, and to change nothing.
+    Rehearse(PlanChange<'a>),
     /// To audit the ledgers of all nodes of a plan.
     Audit(SiteFiles<'a>),
     /// The same of all nodes but those of these names, which are of other makers.

@@ -3,6 +3,7 @@ use Rattle.std.specs.Borrow.{Bor}
 use Rattle.std.specs.Prelude.{IfOk}
 use Rattle.dr_base.specs.Texts.{Text}
 use Rattle.dr_word_adopt.specs.Endings.{Adopts}
+use Rattle.dr_word_rehearse.specs.Endings.{Rehearses}
 use Rattle.dr_word_audit.specs.Endings.{EndsAs}
 use Rattle.dr_word_audit.specs.Names.{text_of}
 use Rattle.dr_word_line.specs.declared.words.Task.{Task}
@@ -37,9 +38,10 @@ returns-in-AtNode-clause-worked g c = λ given duty asked.
     subst (λ (at : NodeFiles). P at duty) (ap (given_of given) same)
     (subst (λ (what : Duty). P c.in-AtNode.given what) (ap (duty_of duty) same) c.work_files.ensures)
 
--- the change that the word `adopt` asks for, else this
+-- the change that the word `adopt` asks for, or asks to rehearse, else this
 change_of : PlanChange → Task → PlanChange
 change_of other (asks.Adopt change) = change
+change_of other (asks.Rehearse change) = change
 change_of other asked = other
 
 pub returns-in-Adopt-clause-adopted : goal.returns-in-Adopt-clause-adopted
@@ -49,6 +51,17 @@ returns-in-Adopt-clause-adopted g c = λ change asked.
     let P : PlanChange → Type 0 = λ files. IfOk c.adopt_files.result (Adopts (g.F.Files.holds c.args.files.now) (g.O.Ledgers.opens c.args.ledgers.now) g.O.Ledger.Ledger.site g.O.Ledger.Ledger.book g.O.Ledger.Ledger.stands files
     (g.W.Write.contents c.args.output.now) (g.W.Write.contents c.adopt_files.new.output)) in
     subst P (ap (change_of change) same) c.adopt_files.ensures
+
+pub returns-in-Rehearse-clause-rehearsed : goal.returns-in-Rehearse-clause-rehearsed
+unfolding change_of
+returns-in-Rehearse-clause-rehearsed g c = λ change asked.
+    let same : asks.Rehearse c.in-Rehearse.change ≡ asks.Rehearse change = sym c.in-Rehearse.is ∙ asked in
+    let P : PlanChange → Type 0 = λ files. IfOk c.rehearse_files.result (Rehearses (g.F.Files.holds c.args.files.now) (g.O.Ledgers.opens c.args.ledgers.now) g.O.Ledger.Ledger.site g.O.Ledger.Ledger.book g.O.Ledger.Ledger.stands files
+    (g.W.Write.contents c.args.output.now) (g.W.Write.contents c.rehearse_files.new.output)) in
+    subst P (ap (change_of change) same) c.rehearse_files.ensures
+
+pub returns-in-Import-clause-imported : goal.returns-in-Import-clause-imported
+returns-in-Import-clause-imported g c = λ table asked. c.import_file.ensures
 
 -- the files that the word `audit` asks for, else these
 site_of : SiteFiles → Task → SiteFiles

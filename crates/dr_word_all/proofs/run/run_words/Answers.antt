@@ -28,3 +28,6 @@ returns-in-Ok-run_any-clause-adopted g c = λ change asks ends. c.in-Ok-run_any.
 
 pub returns-in-Ok-run_any-clause-audited : goal.returns-in-Ok-run_any-clause-audited
 returns-in-Ok-run_any-clause-audited g c = λ given asks ends. c.in-Ok-run_any.ensures.audited given (c.in-Ok.ensures.audit given asks)
+
+pub returns-in-Ok-run_any-clause-imported : goal.returns-in-Ok-run_any-clause-imported
+returns-in-Ok-run_any-clause-imported g c = λ table asks ends. c.in-Ok-run_any.ensures.imported table (c.in-Ok.ensures.imported table asks)

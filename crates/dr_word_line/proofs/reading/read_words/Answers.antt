@@ -20,6 +20,12 @@ returns-in-Some-clause-expand c = λ plan h. one_asked _ _ (asks.Expand plan) c.
 pub returns-clause-expand : goal.returns-clause-expand
 returns-clause-expand c = λ plan h. absurd (c.in_default.ensures (asks.Expand plan) h)
 
+pub returns-in-Some-clause-imported : goal.returns-in-Some-clause-imported
+returns-in-Some-clause-imported c = λ table h. one_asked _ _ (asks.Import table) c.in-Some.ensures h
+
+pub returns-clause-imported : goal.returns-clause-imported
+returns-clause-imported c = λ table h. absurd (c.in_default.ensures (asks.Import table) h)
+
 pub returns-in-Some-clause-verify : goal.returns-in-Some-clause-verify
 returns-in-Some-clause-verify c = λ plan certificate h. one_asked _ _ (asks.Verify plan certificate) c.in-Some.ensures h
 

@@ -1,0 +1,3 @@
+mod Picked
+mod Picks
+mod Rows

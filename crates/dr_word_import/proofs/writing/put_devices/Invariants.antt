@@ -1,0 +1,7 @@
+use Rattle.std.proofs.Common.{◌≡◌, ◌++◌, take}
+use Rattle.std.specs.Prelude.{flat_map}
+use Rattle.dr_word_import.specs.Tables.{device_tables}
+use Rattle.dr_word_import.proofs.writing.put_devices.Given as goal
+
+abbrev pub invariant-loop-it : goal.invariant-loop-it
+invariant-loop-it l = l.out.items ≡ l.initial.out.items ++ flat_map (device_tables l.all l.gate) (take l.it-index l.all)

@@ -1,0 +1,7 @@
+//! Laws of documents. Nothing here runs: each function's contract is a law.
+ghost use Rattle.dr_word_json.specs.Laws.{FiguresAreRight};
+
+/// Figures of documents.
+pub fn figures_are_right()
+    ensures { FiguresAreRight }
+{}

@@ -1,0 +1,235 @@
+//! The options of words, and the values that aren't like those of other words.
+use crate::parts::{Makes, Value, needed, optional};
+use crate::serve_options::{
+    anyone, control, forget_after, forget_never, host, links, log, memory, must_exist, report,
+    seconds, token, until_input_ends, with_control, workers,
+};
+use clap::{Arg, ArgAction};
+use std::alloc::{AllocError, Global};
+
+/// The options, and the values that aren't like those of other words.
+#[derive(Clone, Copy)]
+pub(crate) enum Choice {
+    Plan,
+    Syntax,
+    Modality,
+    Station,
+    Strict,
+    Json,
+    DryRun,
+    Fails,
+    Summary,
+    IfHeld,
+    At,
+    AtNeeded,
+    AtToken,
+    Row,
+    Dest,
+    Uid,
+    Next,
+    Visited,
+    Reason,
+    Other,
+    AllHeld,
+    File,
+    Links,
+    Log,
+    Report,
+    Workers,
+    Memory,
+    Seconds(Value<'static>, &'static str),
+    UntilInputEnds,
+    MustExist,
+    ForgetAfter,
+    ForgetNever,
+    Control,
+    Token,
+    Host,
+    Anyone,
+}
+
+impl<'a> Makes<Arg<'a>> for Choice {
+    fn make(self, alloc: Global) -> Result<Arg<'a>, AllocError> {
+        match self {
+            Choice::Plan => Ok(file_of_check(alloc)),
+            Choice::Syntax => syntax(alloc),
+            Choice::Modality => Ok(modality(alloc)),
+            Choice::Station => Ok(station(alloc)),
+            Choice::Strict => Ok(strict(alloc)),
+            Choice::Json => Ok(json(alloc)),
+            Choice::DryRun => Ok(dry_run(alloc)),
+            Choice::Fails => Ok(fails(alloc)),
+            Choice::Summary => Ok(summary(alloc)),
+            Choice::IfHeld => if_held(alloc),
+            Choice::At => Ok(at(alloc)),
+            Choice::AtNeeded => Ok(at(alloc).required(true)),
+            Choice::AtToken => at_token(alloc),
+            Choice::Row => row(alloc),
+            Choice::Dest => Ok(dest(alloc)),
+            Choice::Uid => Ok(needed(alloc, "UID", "the SOP instance UID")),
+            Choice::Next => Ok(needed(alloc, "DEST", "the node to which it is not to be sent")),
+            Choice::Visited => Ok(needed(alloc, "DEST", "the node to which it is to send")),
+            Choice::Reason => reason(alloc),
+            Choice::Other => Ok(other(alloc)),
+            Choice::AllHeld => all_held(alloc),
+            Choice::File => Ok(needed(alloc, "FILE", "a Part 10 file")),
+            Choice::Links => Ok(links(alloc)),
+            Choice::Log => Ok(log(alloc)),
+            Choice::Report => Ok(report(alloc)),
+            Choice::Workers => Ok(workers(alloc)),
+            Choice::Memory => Ok(memory(alloc)),
+            Choice::Seconds((name, help), option) => Ok(seconds(alloc, name, option, help)),
+            Choice::UntilInputEnds => Ok(until_input_ends(alloc)),
+            Choice::MustExist => Ok(must_exist(alloc)),
+            Choice::ForgetAfter => forget_after(alloc),
+            Choice::ForgetNever => Ok(forget_never(alloc)),
+            Choice::Control => Ok(control(alloc)),
+            Choice::Token => with_control(token(alloc)),
+            Choice::Host => with_control(host(alloc)),
+            Choice::Anyone => with_control(anyone(alloc)),
+        }
+    }
+}
+
+/// The file of `check`, which may be left out.
+fn file_of_check<'a>(alloc: Global) -> Arg<'a> {
+    optional(
+        alloc,
+        "PLAN",
+        "the file with the plan; without it the plan is read from the standard input",
+    )
+}
+
+/// The UID of a transfer syntax, behind the SOP class of an instance whose values are given.
+fn syntax<'a>(alloc: Global) -> Result<Arg<'a>, AllocError> {
+    optional(alloc, "SYNTAX", "the UID of its transfer syntax").requires_arg("STATION")
+}
+
+/// Its modality.
+fn modality<'a>(alloc: Global) -> Arg<'a> {
+    optional(
+        alloc,
+        "MODALITY",
+        "its modality; an empty word is the empty value",
+    )
+}
+
+/// Its station name.
+fn station<'a>(alloc: Global) -> Arg<'a> {
+    optional(
+        alloc,
+        "STATION",
+        "its station name; an empty word is the empty value",
+    )
+}
+
+/// The option of `lint` for a no where something looks wrong.
+fn strict<'a>(alloc: Global) -> Arg<'a> {
+    Arg::new(alloc, "STRICT")
+        .long("strict")
+        .action(ArgAction::SetTrue)
+        .help("ends with the status 1 where something looks wrong")
+}
+
+/// The option of words about plans for an answer as JSON.
+fn json<'a>(alloc: Global) -> Arg<'a> {
+    Arg::new(alloc, "JSON")
+        .long("json")
+        .action(ArgAction::SetTrue)
+        .help("prints the answer as JSON: a list of its lines, each a list of its parts")
+}
+
+/// The option of `diff` for a no where something is lost.
+fn fails<'a>(alloc: Global) -> Arg<'a> {
+    Arg::new(alloc, "FAILS")
+        .long("fail-on-lost")
+        .action(ArgAction::SetTrue)
+        .help("ends with the status 1 where an instance isn't kept any more where it was")
+}
+
+/// The option of `list` for numbers alone.
+fn summary<'a>(alloc: Global) -> Arg<'a> {
+    Arg::new(alloc, "SUMMARY")
+        .long("summary")
+        .action(ArgAction::SetTrue)
+        .help("prints how many there are instead")
+}
+
+/// The option of `list` for a no where a row is held.
+fn if_held<'a>(alloc: Global) -> Result<Arg<'a>, AllocError> {
+    Arg::new(alloc, "IFHELD")
+        .long("fail-if-held")
+        .action(ArgAction::SetTrue)
+        .help("with --summary and --at: ends with the status 1 where a row is held")
+        .requires_arg("AT")
+}
+
+/// Where a node that runs is asked.
+fn at<'a>(alloc: Global) -> Arg<'a> {
+    Arg::new(alloc, "AT")
+        .long("at")
+        .action(ArgAction::Set)
+        .value_name("HOST:PORT")
+        .help("in the place of DB: asks the node that runs, by its control connection there")
+}
+
+/// The token that a node that runs asks for.
+fn at_token<'a>(alloc: Global) -> Result<Arg<'a>, AllocError> {
+    Arg::new(alloc, "TOKEN")
+        .long("token")
+        .action(ArgAction::Set)
+        .value_name("FILE")
+        .help("with --at: the file with the token, which nobody but its owner may read")
+        .requires_arg("AT")
+}
+
+/// Why a row is given up.
+fn reason<'a>(alloc: Global) -> Result<Arg<'a>, AllocError> {
+    Arg::new(alloc, "REASON")
+        .long("reason")
+        .action(ArgAction::Set)
+        .value_name("TEXT")
+        .help("with --at: why, for the node's log")
+        .requires_arg("AT")
+}
+
+/// The option of `requeue` for all held rows.
+fn all_held<'a>(alloc: Global) -> Result<Arg<'a>, AllocError> {
+    Arg::new(alloc, "ALL")
+        .long("all-held")
+        .action(ArgAction::Set)
+        .value_name("DEST")
+        .help("queues all held rows to that node again")
+        .conflicts_with("UID")
+}
+
+/// The UID of the one row that `requeue` queues again.
+fn row<'a>(alloc: Global) -> Result<Arg<'a>, AllocError> {
+    let row = optional(alloc, "UID", "the SOP instance UID of the row").required_unless_present(
+        "ALL",
+    )?;
+    row.requires_arg("DEST")
+}
+
+/// Where that row goes.
+fn dest<'a>(alloc: Global) -> Arg<'a> {
+    optional(alloc, "DEST", "the node to which it is to be sent")
+}
+
+/// The option of `adopt` to change nothing.
+fn dry_run<'a>(alloc: Global) -> Arg<'a> {
+    Arg::new(alloc, "DRYRUN")
+        .long("dry-run")
+        .action(ArgAction::SetTrue)
+        .help("changes nothing, and prints each row that would be in the way")
+}
+
+/// The option of `audit` for a node that has no ledger here.
+fn other<'a>(alloc: Global) -> Arg<'a> {
+    Arg::new(alloc, "OTHER")
+        .long("other")
+        .action(ArgAction::Append)
+        .value_name("NAME")
+        .allow_hyphen_values(true)
+        .help("a node of another maker, which has no ledger here; once for each")
+}

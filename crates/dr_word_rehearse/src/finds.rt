@@ -1,0 +1,26 @@
+//! Ledgers as they are found.
+ghost use Rattle.std.specs.Prelude.{IfOk};
+ghost use Rattle.dr_word_rehearse.specs.Looks.{IsFoundBy};
+
+use dr_ledger::Ledger;
+use dr_run_open::{Ledgers, OpenFault};
+use dr_site::Site;
+use std::alloc::Global;
+
+/// What is found by the path of a ledger.
+#[derive(Drop)]
+pub enum Found<L: Ledger + Drop> {
+    /// Nothing is there.
+    Nothing,
+    /// A ledger's file from before, which would first have to be brought over.
+    Older,
+    /// The ledger.
+    Ledger(L),
+}
+
+/// Ledgers that can be opened as they are found: none is made, and none is brought over.
+pub trait Finds: Ledgers {
+    /// The ledger of that site.
+    fn find(&self, alloc: Global, path: &str, site: Site) -> Result<Found<Self::Ledger>, OpenFault>
+        ensures { IfOk result (IsFoundBy (Self.opens self.now path.now) Self.Ledger.site site) };
+}
