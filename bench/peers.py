@@ -22,7 +22,7 @@ sys.dont_write_bytecode = True
 HERE = os.path.dirname(os.path.abspath(__file__))
 sys.path.insert(0, f'{os.path.dirname(HERE)}/tests')
 from lib.requestor import ACCEPTED, RELEASED, Requestor
-from lib.nodes import PROGRAM, Room, data_set, element, part10, stop
+from lib.nodes import LETS_GO, PROGRAM, Room, data_set, element, part10, stop
 
 LONG = 600
 SIZES = (('1 kB', 1 << 10, 1000), ('512 kB', 512 << 10, 200), ('32 MB', 32 << 20, 8))
@@ -105,7 +105,8 @@ def receiving(sizes):
 
 
 def ours(room):
-    return room.serve('ARCH', 0)
+    """A node, by the unit's settings of the C library."""
+    return room.serve('ARCH', 0, env={**os.environ, **LETS_GO})
 
 
 def forwarding(sizes):
@@ -183,7 +184,7 @@ def storing_at_once(count):
 def crowd(at_once, size):
     """So many associations that bring an image of that size at the same time, each again until it is taken: the greatest memory."""
     with Room() as room:
-        arch, pixels, tries = room.serve('ARCH', 0), image(size), []
+        arch, pixels, tries = ours(room), image(size), []
         def store_until_taken(number):
             uid = b'1.2.3.%d' % number
             body = data_set(uid, pixels)
@@ -233,7 +234,7 @@ def memory(size):
     with Room() as room:
         for number in range(4):
             room.put(f'{number}.dcm', part10(f'1.2.3.{number}'.encode(), image(size)))
-        arch = room.serve('ARCH', 0)
+        arch = ours(room)
         idle = most_memory(arch)
         senders = [room.start('storescu', '-aet', 'GATE', '-aec', 'ARCH', '127.0.0.1', str(room.ports['ARCH']), f'{number}.dcm') for number in range(4)]
         for sender in senders:

@@ -23,7 +23,7 @@ import time
 
 sys.dont_write_bytecode = True
 from lib.requestor import ABORT, ACCEPTED, DATA, REJECTED, RELEASED, Acceptor, Requestor, associate, command, context, hear, pdu, stored, values
-from lib.nodes import CT, EXPLICIT, IMPLICIT, LIMIT, PROGRAM, Room, data_set, element, ended, lines, part10, run_cases, same, stop, told
+from lib.nodes import CT, EXPLICIT, IMPLICIT, LETS_GO, LIMIT, PROGRAM, Room, data_set, element, ended, lines, part10, run_cases, same, stop, told
 
 
 def three_nodes():
@@ -565,10 +565,6 @@ def aborts(link):
         said += piece
     link.close()
     return True
-
-
-# how the unit has the C library let go of memory: what is large goes back to the system at once
-LETS_GO = {'MALLOC_ARENA_MAX': '2', 'MALLOC_MMAP_THRESHOLD_': '1048576'}
 
 
 def crowded():

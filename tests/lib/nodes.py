@@ -17,6 +17,8 @@ IMPLICIT, EXPLICIT = b'1.2.840.10008.1.2', b'1.2.840.10008.1.2.1'
 CT = b'1.2.840.10008.5.1.4.1.1.2'
 PLAN = ('plan', 'certificate')
 LIMIT = 60
+# how the unit has the C library let go of memory: what is large goes back to the system at once
+LETS_GO = {'MALLOC_ARENA_MAX': '2', 'MALLOC_MMAP_THRESHOLD_': '1048576'}
 EVENT = re.compile(r'(\d{4}-\d\d-\d\dT\d\d:\d\d:\d\d\.\d{3}Z) \[(\w+) +(\w+)\] (.*)')
 
 
