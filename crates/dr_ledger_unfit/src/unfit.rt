@@ -42,7 +42,8 @@ pub fn unfit_rows<L: TellsJournal>(
     ledger: &mut L,
 ) -> Result<Vec<(Text, Text)>, LedgerFault>
     ensures reply { L.stands ledger.new
-        → Reads result (λ found. ∥ AreUnfit next.now.plan name.now (L.book ledger.old) found.items ∥₁) }
+        → Reads result (λ found.
+        ∥ AreUnfit next.now.plan name.now (L.book ledger.old) found.items ∥₁) }
     ensures same { L.stands ledger.new → L.book ledger.new ≡ L.book ledger.old }
     ensures stood { L.stands ledger.new → L.stands ledger.old }
     ensures site { L.site ledger.new ≡ L.site ledger.old }

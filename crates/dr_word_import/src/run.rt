@@ -19,7 +19,8 @@ fn write_plan<W: Write, E: Write>(
     output: &mut W,
     faults: &mut E,
 ) -> io::Result<Status>
-    ensures { IfOk result (λ _. WritesPlan text.now (W.contents output.old) (W.contents output.new)) }
+    ensures { IfOk result (λ _.
+        WritesPlan text.now (W.contents output.old) (W.contents output.new)) }
 {
     match read_plan(alloc, text) {
         Ok(_) => {

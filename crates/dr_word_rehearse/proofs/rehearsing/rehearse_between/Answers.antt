@@ -29,7 +29,7 @@ returns-in-Some g c =
       c.in_ok-names.names.items,
       are,
       subst (λ (halt : Halt). LooksAt (g.O.Ledgers.opens c.args.ledgers.now) g.O.Ledger.Ledger.site g.O.Ledger.Ledger.book g.O.Ledger.Ledger.stands c.args.folder.now c.args.old.now c.args.next.now c.in_ok-names.names.items (Err halt) c.args.all.now.items) (sym c.at.ensures)
-      ((c.in-Some.name.now, among, inr none), left),
+          ((c.in-Some.name.now, among, inr none), left),
     )
 
 pub returns : goal.returns
