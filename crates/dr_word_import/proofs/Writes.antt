@@ -1,5 +1,5 @@
 -- From a text that was written to the plan of devices.
-use Rattle.std.proofs.Common.{◌≡◌, List, Option, Result, Ok, Err, inl, inr, ℕ}
+use Rattle.std.proofs.Common.{◌≡◌, ◌∙◌, ◌++◌, ap, append_assoc, List, Option, Result, Ok, Err, inl, inr, ℕ}
 use Rattle.std.specs.Prelude.{IfOk}
 use Rattle.dr_base.specs.Texts.{Text}
 use Rattle.dr_run_open.specs.declared.status.Status.{Status}
@@ -11,3 +11,7 @@ pub prints_plan : {E : Type 0} (result : Result Status E) (all : List Device) (g
 prints_plan (Ok status) all gate text old new is (inl w) = inr (text, w.0, (all, gate, w.1.0, is, w.1.1))
 prints_plan (Ok status) all gate text old new is (inr none) = inl none
 prints_plan (Err e) all gate text old new is h = tt
+
+-- a piece, and what was added behind it
+pub chained : (o a b p q : List ℕ) → p ≡ o ++ a → q ≡ p ++ b → q ≡ o ++ (a ++ b)
+chained o a b p q first later = later ∙ (ap (λ (x : List ℕ). x ++ b) first ∙ append_assoc o a b)

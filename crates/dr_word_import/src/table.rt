@@ -119,7 +119,9 @@ fn is_port(field: &[u8]) -> bool {
         if *byte < b'0' || *byte > b'9' {
             return false;
         }
-        number = (number * 10 + u64::from(*byte - b'0')) % 1_000_000;
+        number = number
+            .saturating_mul(10)
+            .saturating_add(u64::from(*byte - b'0'));
     }
     number <= 65535
 }
@@ -214,6 +216,15 @@ fn place(
     Ok(())
 }
 
+/// Names a row that isn't placed.
+fn name_row<E: Write>(row: &StringRecord, fault: RowFault, faults: &mut E) -> io::Result<()> {
+    let line = match row.position() {
+        Some(position) => position.line,
+        None => 0,
+    };
+    writeln!(faults, "dr_router: line {line}: {fault}")
+}
+
 /// Places a row, and names it where that can't be done.
 fn place_or_name<E: Write>(
     alloc: Global,
@@ -227,13 +238,85 @@ fn place_or_name<E: Write>(
         Err(RowFault::Memory) => Err(io::Error::from(AllocError)),
         Err(fault) => {
             table.is_whole = false;
-            let line = match row.position() {
-                Some(position) => position.line,
-                None => 0,
-            };
-            writeln!(faults, "dr_router: line {line}: {fault}")
+            name_row(row, fault, faults)
         }
     }
+}
+
+/// Where the columns stand by the first row; names what is missing.
+fn begin<E: Write>(row: &StringRecord, faults: &mut E) -> io::Result<Option<Columns>> {
+    let columns = columns_of(row);
+    if columns.is_none() {
+        writeln!(
+            faults,
+            "dr_router: the first line needs AE title, host, port, modality and role"
+        )?;
+    }
+    Ok(columns)
+}
+
+/// Takes a row: the first one tells the columns, each other is placed. Answers the columns, where
+/// rows may follow.
+fn take_row<E: Write>(
+    alloc: Global,
+    columns: Option<Columns>,
+    row: &StringRecord,
+    table: &mut Table,
+    faults: &mut E,
+) -> io::Result<Option<Columns>> {
+    match columns {
+        Some(known) => {
+            place_or_name(alloc, known, row, table, faults)?;
+            Ok(columns)
+        }
+        None => {
+            let first = begin(row, faults)?;
+            table.is_whole = first.is_some();
+            Ok(first)
+        }
+    }
+}
+
+/// Takes what was read as a row.
+fn take_read<E: Write>(
+    alloc: Global,
+    columns: Option<Columns>,
+    read: Result<StringRecord, csv::Error>,
+    table: &mut Table,
+    faults: &mut E,
+) -> io::Result<Option<Columns>> {
+    match read {
+        Ok(row) => take_row(alloc, columns, &row, table, faults),
+        Err(_) => {
+            table.is_whole = false;
+            writeln!(faults, "dr_router: the table can't be read to its end")?;
+            Ok(None)
+        }
+    }
+}
+
+/// Takes all rows of a table, to the first that can't be read.
+fn take_rows<E: Write>(
+    alloc: Global,
+    text: &[u8],
+    table: &mut Table,
+    faults: &mut E,
+) -> io::Result<()> {
+    let mut columns = None;
+    let rows = ReaderBuilder::new()
+        .has_headers(false)
+        .flexible(true)
+        .trim(Trim::All)
+        .from_reader(alloc, text)
+        .into_records();
+    for read in rows {
+        match take_read(alloc, columns, read, table, faults) {
+            Ok(Some(known)) => columns = Some(known),
+            Ok(None) => return Ok(()),
+            Err(fault) => return Err(fault),
+        }
+    }
+    Ok(())
 }
 
 /// The devices of a table, whose first row names its columns. Each row that isn't placed is named.
@@ -244,33 +327,8 @@ pub fn read_table<E: Write>(alloc: Global, text: &[u8], faults: &mut E) -> io::R
         devices: Vec::new(alloc),
         is_whole: true,
     };
-    let mut columns = None;
-    let rows = ReaderBuilder::new()
-        .has_headers(false)
-        .flexible(true)
-        .trim(Trim::All)
-        .from_reader(alloc, text)
-        .into_records();
-    for row in rows {
-        let Ok(row) = row else {
-            table.is_whole = false;
-            writeln!(faults, "dr_router: the table can't be read to its end")?;
-            return Ok(table);
-        };
-        match columns {
-            Some(columns) => place_or_name(alloc, columns, &row, &mut table, faults)?,
-            None => {
-                columns = columns_of(&row);
-                if columns.is_none() {
-                    table.is_whole = false;
-                    writeln!(
-                        faults,
-                        "dr_router: the first line needs AE title, host, port, modality and role"
-                    )?;
-                    return Ok(table);
-                }
-            }
-        }
+    match take_rows(alloc, text, &mut table, faults) {
+        Ok(()) => Ok(table),
+        Err(fault) => Err(fault),
     }
-    Ok(table)
 }

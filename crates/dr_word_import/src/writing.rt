@@ -43,6 +43,14 @@ fn put_value(out: &mut Vec<u8>, key: &[u8], word: &[u8]) -> Result<(), AllocErro
     Ok(())
 }
 
+/// Adds a line that ends with a name between quotes.
+fn put_named(out: &mut Vec<u8>, key: &[u8], name: &Text) -> Result<(), AllocError>
+    ensures { OnOk result (out.new.items ≡ out.old.items ++ line (key.now ++ quoted name.now)) }
+{
+    put_value(out, key, name.as_bytes())?;
+    Ok(())
+}
+
 /// Adds a line with a list of one word.
 fn put_list(out: &mut Vec<u8>, key: &[u8], word: &[u8]) -> Result<(), AllocError>
     ensures { OnOk result
@@ -229,8 +237,8 @@ fn put_flow_head(out: &mut Vec<u8>, gate: &Text, it: &Device) -> Result<(), Allo
 {
     out.push(LF)?;
     put_line(out, b"[[flow]]")?;
-    put_value(out, b"at = ", it.name.as_bytes())?;
-    put_value(out, b"to = ", gate.as_bytes())?;
+    put_named(out, b"at = ", &it.name)?;
+    put_named(out, b"to = ", gate)?;
     Ok(())
 }
 

@@ -1,5 +1,4 @@
-use Rattle.std.proofs.Common.{◌∙◌, inl}
-use Rattle.std.proofs.KnownBytes.{Appends-nil}
+use Rattle.std.proofs.Common.{◌∙◌}
 use Rattle.dr_word_import.proofs.Writes.{prints_plan}
 use Rattle.dr_word_import.proofs.run.tell_plan.Goals as goal
 
