@@ -1,5 +1,8 @@
 -- What is printed of a rehearsal, and how it ends.
-use Rattle.std.proofs.Common.{◌≡◌, ◌∙◌, ◌++◌, Bool, cond, List, Result, Ok, Err, Option, Vec, ap, false≢true, refl, subst, sym, ℕ}
+use Rattle.std.proofs.Common.{◌≡◌, ◌∷◌, [], ◌∙◌, ◌++◌, ◌+◌, ◌<◌, append_assoc, get_or, length, take, Bool, cond, List, Result, Ok, Err, Option, Vec, ap, refl, false, true, subst, sym, ℕ}
+use Rattle.std.proofs.lemmas.Bool.{false≢true}
+use Rattle.std.proofs.lemmas.List.{append-nil, take_more}
+use Rattle.std.proofs.lemmas.List.Concat.{flat_map-append}
 use Rattle.std.specs.Global.{Global}
 use Rattle.std.specs.Prelude.{IfOk, IsErr, IsErrAnd, MatchResult, flat_map}
 use Rattle.std.specs.Io.KnownBytes.{Appends}
@@ -10,7 +13,7 @@ use Rattle.dr_run_open.specs.declared.halt.Halt.{Halt}
 use Rattle.dr_run_open.specs.declared.status.Status.{Status}
 use Rattle.dr_word_adopt.specs.Endings.{EndsChange}
 use Rattle.dr_word_adopt.specs.declared.change.Halted.{Halted}
-use Rattle.dr_word_rehearse.specs.Endings.{EndsRehearsal, lines_of}
+use Rattle.dr_word_rehearse.specs.Endings.{EndsRehearsal, fits, fits_line, lines_of, printed_of}
 use Rattle.dr_word_rehearse.specs.Rehearsals.{halt_of}
 use Rattle.dr_word_rehearse.specs.declared.looking.Looked.{Looked}
 
@@ -34,3 +37,23 @@ pub ends_some : {E : Type 0} (all : List Looked) (halt : Halt) (old mid new : Op
 ends_some all halt old mid new result before h =
     ok_as result (EndsChange (Err halt) mid new) (EndsRehearsal (Err halt) all old new)
     (λ status ends. (Appends-trans old mid new (flat_map lines_of all) (printed_by halt) before ends.0, ends.1)) h
+
+-- all fits, and that is printed behind the lines
+pub printed_fits : (all : List Looked) (b : Bool) (was new : Text) → b ≡ true → b ≡ fits all → was ≡ flat_map lines_of all → new ≡ was ++ fits_line → new ≡ printed_of all
+printed_fits all b was new yes_it is lines more =
+    more ∙ ap (λ (t : Text). t ++ fits_line) lines ∙ ap (λ (x : Bool). flat_map lines_of all ++ cond x fits_line []) (sym yes_it ∙ is)
+
+-- not all fits, and nothing is
+pub printed_unfit : (all : List Looked) (b : Bool) (was : Text) → b ≡ false → b ≡ fits all → was ≡ flat_map lines_of all → was ≡ printed_of all
+printed_unfit all b was no_it is lines =
+    lines ∙ sym (append-nil (flat_map lines_of all)) ∙ ap (λ (x : Bool). flat_map lines_of all ++ cond x fits_line []) (sym no_it ∙ is)
+
+-- the lines of one more of them
+pub more_lines : {X : Type 0} (f : X → Text) (xs : List X) (i : ℕ) (x : X) → i < length xs → x ≡ get_or xs i x → (start was new : Text) → was ≡ start ++ flat_map f (take i xs) → new ≡ was ++ f x → new ≡ start ++ flat_map f (take (i + 1) xs)
+more_lines {X} f xs i x lt at start was new so_far more =
+    more ∙ ap (λ (t : Text). t ++ f x) so_far ∙ append_assoc start (flat_map f (take i xs)) (f x) ∙ ap (λ (t : Text). start ++ t) (sym step)
+  where
+    step : flat_map f (take (i + 1) xs) ≡ flat_map f (take i xs) ++ f x
+    step =
+        ap (λ (ys : List X). flat_map f ys) (take_more xs i x lt) ∙ ap (λ (y : X). flat_map f (take i xs ++ y ∷ [])) (sym at) ∙ flat_map-append f (take i xs) (x ∷ [])
+        ∙ ap (λ (t : Text). flat_map f (take i xs) ++ t) (append-nil (f x))

@@ -6,6 +6,7 @@ use Rattle.std.proofs.lemmas.List.Elements.{All-nil, All-push}
 use Rattle.dr_base.specs.Texts.{Text}
 use Rattle.dr_cert.specs.Sealing.{Certified}
 use Rattle.dr_ledger.specs.Books.{Book}
+use Rattle.dr_run_open.specs.Openings.{IsUnopened}
 use Rattle.dr_run_open.specs.declared.halt.Halt.{Halt}
 use Rattle.dr_run_open.specs.declared.halt.Halt.TheVariants.{NoPlan, NoCertificate, NoNode, NotOpened, NoInstance, Refused, Receipt, Failed, Memory}
 use Rattle.dr_plan_model.specs.Networks.{Network}
@@ -44,6 +45,18 @@ module _ {L : Type 0} (site_of : L → Part) (book : L → Book) (stands : L →
         → MatchResult result (IsLookAt site_of book stands next name Opens site own) IsUnread
     into_all f (Ok look) by h = into_at f look by h
     into_all f (Err halt) by h = h
+
+-- why a ledger isn't opened is why it isn't read
+pub unopened_unread : (halt : Halt) → IsUnopened halt → IsUnread halt
+unopened_unread (NotOpened fault) h = tt
+unopened_unread Memory h = tt
+unopened_unread (Refused fault) h = absurd h
+unopened_unread NoNode h = absurd h
+unopened_unread (NoPlan told) h = absurd h
+unopened_unread (NoCertificate fault) h = absurd h
+unopened_unread (NoInstance fault) h = absurd h
+unopened_unread Receipt h = absurd h
+unopened_unread (Failed failure) h = absurd h
 
 -- why a ledger isn't read is why the node isn't seen
 pub unread_unseen : (old next : Certified) (name : Text) (halt : Halt) → IsUnread halt → IsUnseen old next name halt

@@ -1,10 +1,12 @@
 //! What is printed of a rehearsal.
 ghost use Rattle.std.specs.Prelude.{◌≡◌, ◌++◌, ◌∷◌, [], Err, IfOk, MatchResult, Ok, OnOk, flat_map};
 ghost use Rattle.std.specs.Io.KnownBytes.{Appends};
+ghost use Rattle.std.specs.List.{list_any};
 ghost use Rattle.dr_word_rehearse.specs.Endings.{EndsRehearsal, fits as fits_all, is_some_row};
 ghost use Rattle.dr_word_rehearse.specs.Endings.{is_in_the_way as is_look_in_the_way};
 ghost use Rattle.dr_ledger_report.specs.Reports.{line_of};
 ghost use Rattle.dr_word_rehearse.specs.Endings.{lines_of, look_lines, printed_of, row_line};
+ghost use Rattle.dr_word_rehearse.specs.Endings.{stands_in_the_way};
 ghost use Rattle.dr_word_rehearse.specs.Rehearsals.{halt_of};
 
 use crate::looking::{Look, Looked};
@@ -37,11 +39,18 @@ fn is_in_the_way(look: &Look) -> bool
     }
 }
 
+/// Whether some node stands in the way.
+fn is_any_in_the_way(all: &[Looked]) -> bool
+    ensures { result ≡ list_any stands_in_the_way all.now }
+{
+    all.iter().any(|looked| is_in_the_way(&looked.look))
+}
+
 /// Whether no node stands in the way.
 fn fits(all: &[Looked]) -> bool
     ensures { result ≡ fits_all all.now }
 {
-    !all.iter().any(|looked| is_in_the_way(&looked.look))
+    !is_any_in_the_way(all)
 }
 
 /// Adds the line of a row.

@@ -6,3 +6,6 @@ returns-in-Ok-came g c = at_node (g.O.Ledgers.opens c.args.ledgers.now) g.O.Ledg
 
 pub returns-in-Err-came : goal.returns-in-Err-came
 returns-in-Err-came g c = unread_unseen c.args.old.now c.args.next.now c.args.name.now c.in-Err-came.halt c.in-Err-came.ensures
+
+pub returns-in-Err : goal.returns-in-Err
+returns-in-Err g c = c.in-Err.ensures

@@ -1,7 +1,10 @@
-use Rattle.std.proofs.Common.{◌∙◌, arith, subst, sym, Err}
+use Rattle.std.proofs.Common.{◌∙◌, arith, Err, List, Result, subst, sym}
 use Rattle.std.proofs.lemmas.List.{take_all}
 use Rattle.dr_run_open.specs.declared.halt.Halt.{Halt}
-use Rattle.dr_word_rehearse.specs.Rehearsals.{LooksAt}
+use Rattle.dr_run_open.specs.declared.halt.Halt.TheVariants.{Memory}
+use Rattle.dr_word_rehearse.specs.Rehearsals.{AreLooked, LooksAt}
+use Rattle.dr_word_rehearse.specs.declared.looking.Looked.{Looked}
+use Rattle.dr_word_rehearse.proofs.Printed.{halt_as}
 use Rattle.dr_word_rehearse.proofs.Visits.{none_shown, one_shown, stops_here}
 use Rattle.dr_word_rehearse.proofs.looking.look_at_all.Goals as goal
 
@@ -20,3 +23,8 @@ returns-in-Err g c =
     subst (λ (halt : Halt). LooksAt (g.O.Ledgers.opens c.args.ledgers.now) g.O.Ledger.Ledger.site g.O.Ledger.Ledger.book g.O.Ledger.Ledger.stands c.args.folder.now c.args.old.now c.args.next.now c.args.names.now (Err halt) c.loop-name.all.items) (sym c.at.ensures)
     (stops_here (g.O.Ledgers.opens c.args.ledgers.now) g.O.Ledger.Ledger.site g.O.Ledger.Ledger.book g.O.Ledger.Ledger.stands c.args.folder.now c.args.old.now c.args.next.now c.args.names.now c.loop-name.name-index c.name-item.result c.loop-name-test.true c.name-item.is c.loop-name.all.items c.loop-name.invariant
     c.in-Err.halt c.in-Err.ensures)
+
+pub returns-in_err-add-in-Ok : goal.returns-in_err-add-in-Ok
+returns-in_err-add-in-Ok g c =
+    halt_as (λ (came : Result (Unit {0}) Halt). LooksAt (g.O.Ledgers.opens c.args.ledgers.now) g.O.Ledger.Ledger.site g.O.Ledger.Ledger.book g.O.Ledger.Ledger.stands c.args.folder.now c.args.old.now c.args.next.now c.args.names.now came c.add.new.all.items) Memory c.from_residual.result c.from_residual.ensures.0 c.from_residual.ensures.1
+    (subst (λ (ls : List Looked). AreLooked (g.O.Ledgers.opens c.args.ledgers.now) g.O.Ledger.Ledger.site g.O.Ledger.Ledger.book g.O.Ledger.Ledger.stands c.args.folder.now c.args.old.now c.args.next.now ls) (sym c.in_err-add-in-Ok.ensures.err) c.loop-name.invariant.1)

@@ -36,3 +36,6 @@ pub returns : goal.returns
 returns g c =
     let are = subst (λ (plan : Network). AreNames plan c.in_ok-names.names.items) c.plan.ensures.same c.in_ok-names.ensures in
     inl (c.as_slice-2.result.now, subst (AreNames c.args.old.now.plan) (sym c.as_slice-2.ensures.value) are, c.look_at_all.ensures)
+
+pub look_at_all-requires : goal.look_at_all-requires
+look_at_all-requires g c = c.requires
