@@ -1,7 +1,5 @@
 -- What a table of devices stands for: a plan of format 3 to begin with.
-use Rattle.std.specs.Prelude.{ℕ, Bool, true, false, ◌&&◌, cond, List, [], ◌∷◌, ◌++◌, codes, filter}
-use Rattle.std.specs.Prelude.{flat_map}
-use Rattle.std.specs.List.{list_any}
+use Rattle.std.specs.Prelude.{Bool, true, false, cond, List, [], ◌∷◌, ◌++◌, codes, flat_map}
 use Rattle.dr_base.specs.Texts.{Text}
 use Rattle.dr_word_import.specs.declared.device.Device.{Device}
 use Rattle.dr_word_import.specs.declared.device.Role.{Role}

@@ -1,5 +1,5 @@
 //! The plan of devices, as text.
-ghost use Rattle.std.specs.Prelude.{◌≡◌, ◌++◌, ◌∷◌, [], IfOk, OnOk, codes, flat_map};
+ghost use Rattle.std.specs.Prelude.{◌≡◌, ◌++◌, IfOk, OnOk, codes, flat_map};
 ghost use Rattle.dr_word_import.specs.Tables.{accept_at_gate, accept_behind, accept_table};
 ghost use Rattle.dr_word_import.specs.Tables.{device_tables, flow_head, flow_table, flow_tail};
 ghost use Rattle.dr_word_import.specs.Tables.{gate_rule};
