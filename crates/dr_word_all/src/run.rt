@@ -41,7 +41,7 @@ use dr_word_check::tell_failure;
 use dr_word_echo::echo_files;
 use dr_word_import::import_file;
 use dr_word_json::run_as_json;
-use dr_word_line::{Task, read_words};
+use dr_word_line::{Question, Task, read_words};
 use dr_word_rehearse::{Finds, rehearse_files};
 use dr_word_serve::work_files;
 use dr_word_simulate::run_offline;
@@ -51,6 +51,50 @@ use std::io::{Read, Write};
 use std::sync::Wait;
 use std::thread::Threads;
 use std::{io, time};
+
+/// Checks the plan on the standard input, and prints the answer as JSON.
+///
+/// Errors: Stream, File.
+fn check_input_as_json<'a, R: Read, W: Write, E: Write, F: Files>(
+    alloc: Global,
+    input: &mut R,
+    output: &mut W,
+    faults: &mut E,
+    files: &F,
+) -> Result<Status, Failure<'a>> {
+    run_as_json(alloc, Task::CheckInput, input, output, faults, files)
+}
+
+/// Checks the plan in a file, and prints the answer as JSON.
+///
+/// Errors: Stream, File.
+fn check_file_as_json<'a, R: Read, W: Write, E: Write, F: Files>(
+    alloc: Global,
+    path: &'a str,
+    input: &mut R,
+    output: &mut W,
+    faults: &mut E,
+    files: &F,
+) -> Result<Status, Failure<'a>> {
+    run_as_json(alloc, Task::CheckFile(path), input, output, faults, files)
+}
+
+/// Answers a question about the plan in the first file, whose certificate is in the second, as
+/// JSON.
+///
+/// Errors: Stream, File.
+fn answer_as_json<'a, R: Read, W: Write, E: Write, F: Files>(
+    alloc: Global,
+    given: (&'a str, &'a str),
+    question: Question<'a>,
+    input: &mut R,
+    output: &mut W,
+    faults: &mut E,
+    files: &F,
+) -> Result<Status, Failure<'a>> {
+    let asked = Task::Question(given.0, given.1, question);
+    run_as_json(alloc, asked, input, output, faults, files)
+}
 
 /// Does what was asked for.
 ///
@@ -164,17 +208,15 @@ where
             ask_files(alloc, files, given, errand, network, clock, output, faults)
         }
         Task::Adopt(change) => adopt_files(alloc, files, ledgers, change, output, faults),
-        Task::Rehearse(change) => { rehearse_files(alloc, files, ledgers, change, output, faults) }
+        Task::Rehearse(change) => rehearse_files(alloc, files, ledgers, change, output, faults),
         Task::Import(path) => import_file(alloc, files, path, output, faults),
-        Task::CheckInputAsJson => {
-            run_as_json(alloc, Task::CheckInput, input, output, faults, files)
-        }
+        Task::CheckInputAsJson => check_input_as_json(alloc, input, output, faults, files),
         Task::CheckFileAsJson(path) => {
-            run_as_json(alloc, Task::CheckFile(path), input, output, faults, files)
+            check_file_as_json(alloc, path, input, output, faults, files)
         }
         Task::QuestionAsJson(plan, certificate, question) => {
-            let asked = Task::Question(plan, certificate, question);
-            run_as_json(alloc, asked, input, output, faults, files)
+            let given = (plan, certificate);
+            answer_as_json(alloc, given, question, input, output, faults, files)
         }
         Task::Audit(given) => audit_files(alloc, files, ledgers, given, &[], output, faults),
         Task::AuditAmong(given, others) => {
