@@ -253,7 +253,6 @@ def rehearsals():
             told(rehearse(room, PLAN, OTHER), 1, ''.join(f'{line}\n' for line in ['new\tARCH', *lines_of_rows]), '')
             told(adopt(room, PLAN, OTHER), 1, f'{lines_of_rows[0]}\n', '')
             copy(room, 'none', 'ARCH')
-            os.remove(f'{room.folder}/ARCH.db')
         same(books(room), before)
         told(rehearse(room, folder='no/folder'), 0, 'new\tARCH\nnew\tCT1\nnew\tGATE\nfits\n', '')
         gate = room.serve('GATE', 0)

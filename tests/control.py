@@ -256,7 +256,9 @@ def orders():
         assert re.search('^dr_router_visits_total{dest="GATE",came="released"} [1-9]', figures, re.M), figures
         assert re.search('^dr_router_visits_total{dest="GATE",came="unreached"} [1-9]', figures, re.M), figures
         same(node.act('/drop', uid='1.2.3.0', dest='GATE', reason='twice\n"by hand"' + 200 * 'x'), DONE)
-        same(node.read('/instance/1.2.3.0')[:2], [{'instance': '1.2.3.0', 'body': False, 'over': True}, {'from': '-'}])
+        # who brings what was given up brings it anew, so nobody is noted for it
+        shown = [{'instance': '1.2.3.0', 'body': False, 'over': True}, {'uid': '1.2.3.0', 'dest': 'GATE', 'state': 'dropped'}]
+        same(node.read('/instance/1.2.3.0'), shown)
         same(node.act('/forget', uid='1.2.3.0'), DONE)
         same(node.ask('GET', '/instance/1.2.3.0'), (404, '{"fault":"Instance"}\n'))
         same(node.act('/stop'), DONE)

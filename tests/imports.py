@@ -28,7 +28,7 @@ TABLES = [
     ('no scanner', HEADER + GATE + ARCH, 'certificate', ''),
     ('no gate', HEADER + SCANNER + ARCH, '', 'dr_router: no line of the table is a router\n'),
     ('nothing', '', '', 'dr_router: no line of the table is a router\n'),
-    ('no header', SCANNER + GATE, '', 'dr_router: the first line needs AE title, host, port, modality and role\n'),
+    ('no header', SCANNER + GATE, '', 'dr_router: the first line needs AE title, host, port, modality and role\ndr_router: no line of the table is a router\n'),
     ('a title that is too long', USUAL + 'A2345678901234567,10.1.0.3,104,CT,scanner\n', 'certificate',
      'dr_router: line 5: its AE title isn\'t 1 to 16 printable characters without @, " and \\\n'),
     ('a title that would be a group', USUAL + '@A,10.1.0.3,104,CT,scanner\n', 'certificate',
