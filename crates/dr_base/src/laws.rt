@@ -5,12 +5,12 @@ ghost use Rattle.dr_base.specs.Padding.{trimmed, unpadded};
 ghost use Rattle.dr_base.specs.Runs.{Run, AreParts};
 
 /// A kind of part: which texts begin with it, and what is left of them behind it.
-pub trait Part {
+pub trait TextPart {
     ghost starts: { List ℕ → Self → List ℕ → Type 0 };
 }
 
 /// A run goes on by one more part, and by another run.
-pub fn a_run_goes_on<P: Part>()
+pub fn a_run_goes_on<P: TextPart>()
     ensures by_one { (xs : List P) (x : P) (text mid rest : List ℕ)
         → Run P.starts xs text mid → P.starts mid x rest
         → Run P.starts (xs ++ x ∷ []) text rest }
@@ -21,7 +21,7 @@ pub fn a_run_goes_on<P: Part>()
 
 /// A text is a run of one list of parts at most, and each run that begins it is the front of that
 /// one.
-pub fn a_text_has_one_run<P: Part>()
+pub fn a_text_has_one_run<P: TextPart>()
     ensures same { AreParts P.starts
         → (xs ys : List P) (text : List ℕ)
         → Run P.starts xs text [] → Run P.starts ys text [] → ys ≡ xs }
@@ -36,7 +36,7 @@ pub fn a_text_has_one_run<P: Part>()
 {}
 
 /// Where a part stands with more behind it, a run does.
-pub fn a_run_stands_in_longer_texts<P: Part>()
+pub fn a_run_stands_in_longer_texts<P: TextPart>()
     ensures longer { ((text : List ℕ) (x : P) (rest more : List ℕ)
         → P.starts text x rest
         → P.starts (text ++ more) x (rest ++ more))

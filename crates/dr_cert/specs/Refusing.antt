@@ -5,8 +5,8 @@ use Rattle.dr_plan_sound.specs.declared.certificate.Certificate.{Certificate}
 use Rattle.dr_plan_sound.specs.Soundness.{IsSound}
 use Rattle.dr_plan_sound.specs.Certificates.{IsCertificateOf}
 use Rattle.dr_cert.specs.Sealing.{Certified}
-use Rattle.dr_cert_text.specs.declared.fault.ReadFault.{ReadFault}
-use Rattle.dr_cert_text.specs.declared.fault.ReadFault.TheVariants as read
+use Rattle.dr_cert_text.specs.declared.fault.CertificateFault.{CertificateFault}
+use Rattle.dr_cert_text.specs.declared.fault.CertificateFault.TheVariants as read
 use Rattle.dr_cert.specs.declared.fault.CertFault.{CertFault}
 use Rattle.dr_cert.specs.declared.fault.CertFault.TheVariants.{Text, OtherPlan, Order, MissingLine}
 use Rattle.dr_cert.specs.declared.fault.CertFault.TheVariants.{NoContext, DeadEnd, WrongRank}
@@ -39,7 +39,7 @@ IsRefused plan certificate HopList =
 IsRefused plan certificate Memory = Unit {0}
 
 -- the fault of a certificate whose text isn't read, by the same name
-abbrev pub named_for : ReadFault → CertFault
+abbrev pub named_for : CertificateFault → CertFault
 named_for read.Text = Text
 named_for read.Memory = Memory
 

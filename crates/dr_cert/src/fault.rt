@@ -1,5 +1,5 @@
 //! Why a certificate isn't accepted.
-use dr_cert_text::ReadFault;
+use dr_cert_text::CertificateFault;
 use std::alloc::{AllocError, AllocFailed};
 use thiserror::Error;
 
@@ -49,16 +49,16 @@ impl From<AllocError> for CertFault {
 }
 
 /// A text that isn't read is refused by the same name.
-impl From<ReadFault> for CertFault {
+impl From<CertificateFault> for CertFault {
     ghost use Rattle.std.specs.Prelude.{◌≡◌};
     ghost use Rattle.dr_cert.specs.Refusing.{named_for};
 
     ghost from_gives = { λ fault e. e ≡ named_for fault };
 
-    fn from(fault: ReadFault) -> CertFault {
+    fn from(fault: CertificateFault) -> CertFault {
         match fault {
-            ReadFault::Text => CertFault::Text,
-            ReadFault::Memory => CertFault::Memory,
+            CertificateFault::Text => CertFault::Text,
+            CertificateFault::Memory => CertFault::Memory,
         }
     }
 }

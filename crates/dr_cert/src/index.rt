@@ -6,13 +6,13 @@ ghost use Rattle.dr_plan_sound.specs.Stops.{stop_cmp};
 ghost use Rattle.dr_cert.specs.Indexing.{IsIndexOf, AreSorted, StandsAt, HasNoLine, HasRank};
 ghost use Rattle.dr_cert.specs.Indexing.{AreRanksOf, line_of};
 
-use crate::place::Place;
+use crate::place::StopPlace;
 use dr_plan_sound::{Line, Stop};
 use std::alloc::{AllocError, Global};
 use std::collections::BTreeMap;
 
 /// The place of the stop's line.
-pub fn find(lines: &[Line], stop: &Place<'_>) -> Option<usize>
+pub fn find(lines: &[Line], stop: &StopPlace<'_>) -> Option<usize>
     requires { AreSorted lines.now }
     ensures { MatchOption result (HasNoLine lines.now stop.now) (StandsAt lines.now stop.now) }
 {
@@ -23,7 +23,7 @@ pub fn find(lines: &[Line], stop: &Place<'_>) -> Option<usize>
 }
 
 /// The rank of the stop's line.
-pub fn rank_of(lines: &[Line], stop: &Place<'_>) -> Option<u32>
+pub fn rank_of(lines: &[Line], stop: &StopPlace<'_>) -> Option<u32>
     requires { AreSorted lines.now }
     ensures { MatchOption result (HasNoLine lines.now stop.now) (HasRank lines.now stop.now) }
 {

@@ -10,13 +10,13 @@ use std::marker::Model;
 
 /// A stop whose texts stand elsewhere; contracts see the stop itself.
 #[derive(Drop)]
-pub struct Place<'a> {
+pub struct StopPlace<'a> {
     caller: &'a Text,
     node: &'a Text,
     cell: Cell<'a>,
 }
 
-impl<'a> Model for Place<'a> {
+impl<'a> Model for StopPlace<'a> {
     ghost use Rattle.dr_plan_sound.specs.declared.certificate.Stop.{Stop};
 
     ghost Value = { Stop };
@@ -24,19 +24,19 @@ impl<'a> Model for Place<'a> {
     ghost view = { λ p. record { caller = p.caller.now; node = p.node.now; cell = p.cell } };
 }
 
-impl<'a> Place<'a> {
+impl<'a> StopPlace<'a> {
     /// The stop at the node, for the keys of the cell from the caller.
-    pub fn new(caller: &'a Text, node: &'a Text, cell: Cell<'a>) -> Place<'a>
+    pub fn new(caller: &'a Text, node: &'a Text, cell: Cell<'a>) -> StopPlace<'a>
         ensures { result ≡ record { caller = caller.now; node = node.now; cell = cell.entry } }
     {
-        Place { caller, node, cell }
+        StopPlace { caller, node, cell }
     }
 
     /// The same of a cell that has texts of its own.
-    pub fn of_cell(caller: &'a Text, node: &'a Text, cell: &'a OwnedCell) -> Place<'a>
+    pub fn of_cell(caller: &'a Text, node: &'a Text, cell: &'a OwnedCell) -> StopPlace<'a>
         ensures { result ≡ record { caller = caller.now; node = node.now; cell = cell.now } }
     {
-        Place::new(caller, node, cell.borrowed())
+        StopPlace::new(caller, node, cell.borrowed())
     }
 
     /// How the stop compares to this one.

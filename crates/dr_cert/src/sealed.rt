@@ -6,7 +6,7 @@ ghost use Rattle.dr_plan_sound.specs.Certificates.{IsCertificateOf};
 
 use crate::fault::CertFault;
 use crate::index::{index_of, rank_of};
-use crate::place::Place;
+use crate::place::StopPlace;
 use crate::verify::{test_lines, test_order};
 use dr_base::Text;
 use dr_plan_model::Plan;
@@ -19,7 +19,7 @@ use std::marker::Model;
 /// A plan and its certificate, with what finds a line of it: the plan's literals, and the lines by
 /// their stops.
 #[derive(Drop)]
-struct Parts {
+struct SealedParts {
     plan: Plan,
     certificate: Certificate,
     literals: Literals,
@@ -30,7 +30,7 @@ struct Parts {
 /// moves as a pointer.
 #[derive(Drop)]
 pub struct Sealed {
-    parts: Box<Parts>,
+    parts: Box<SealedParts>,
 }
 
 impl Model for Sealed {
@@ -46,7 +46,7 @@ impl Model for Sealed {
 }
 
 /// Puts the parts of a sealed plan on the heap.
-fn boxed(alloc: Global, parts: Parts) -> Result<Box<Parts>, AllocError>
+fn boxed(alloc: Global, parts: SealedParts) -> Result<Box<SealedParts>, AllocError>
     ensures { IfOk result (λ b. b.value ≡ parts) }
 {
     let boxed = Box::new(alloc, parts)?;
@@ -90,7 +90,7 @@ impl Sealed {
         let index = index_of(alloc, certificate.lines.as_slice())?;
         test_lines(alloc, &plan, &certificate, index.as_slice())?;
         let literals = literals(alloc, &plan)?;
-        let parts = Parts {
+        let parts = SealedParts {
             plan,
             certificate,
             literals,
@@ -105,7 +105,7 @@ impl Sealed {
         ensures { IfOk result (λ sealed. sealed ≡ self.now) }
     {
         let own = self.parts.as_ref();
-        let parts = Parts {
+        let parts = SealedParts {
             plan: own.plan.copy()?,
             certificate: copy_certificate(&own.certificate)?,
             literals: copy_literals(&own.literals)?,
@@ -139,7 +139,7 @@ impl Sealed {
         ensures { IsRankIn self.now.plan key.now caller.now node.now result }
     {
         let parts = self.parts.as_ref();
-        let stop = Place::new(caller, node, cell_of(&parts.literals, key));
+        let stop = StopPlace::new(caller, node, cell_of(&parts.literals, key));
         match rank_of(parts.index.as_slice(), &stop) {
             Some(rank) => Some(rank),
             None => None,

@@ -8,7 +8,7 @@ ghost use Rattle.dr_cert.specs.Verifying.{Begins, Walks, Verifies};
 use crate::fault::CertFault;
 use crate::hop_list::are_right_hops;
 use crate::index::find;
-use crate::place::Place;
+use crate::place::StopPlace;
 use crate::walk::walk_lines;
 use dr_cert_text::{are_hops_in_order, are_lines_in_order};
 use dr_plan_model::Plan;
@@ -74,7 +74,10 @@ fn is_indexed(line: &Line, index: &[Line]) -> bool
     ensures { IsTrue result ↔ Contains index.now line.now }
 {
     let stop = &line.stop;
-    let Some(place) = find(index, &Place::of_cell(&stop.caller, &stop.node, &stop.cell)) else {
+    let Some(place) = find(
+        index,
+        &StopPlace::of_cell(&stop.caller, &stop.node, &stop.cell),
+    ) else {
         return false;
     };
     index[place].rank == line.rank

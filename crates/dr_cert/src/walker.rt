@@ -8,7 +8,7 @@ ghost use Rattle.dr_plan_model.specs.Plans.{IsWellFormed};
 ghost use Rattle.dr_cert.specs.Indexing.{AreSorted};
 
 use crate::index::find;
-use crate::place::Place;
+use crate::place::StopPlace;
 use crate::survey::{Survey, does_something, is_let_in};
 use dr_base::Text;
 use dr_plan_entries::EntryVisitor;
@@ -103,7 +103,7 @@ impl<'a> Walker<'a> {
     }
 
     /// Goes to the stop, which is reached from now on, and gives the place of its line.
-    pub fn mark(&mut self, stop: &Place<'_>) -> Result<Option<usize>, AllocError>
+    pub fn mark(&mut self, stop: &StopPlace<'_>) -> Result<Option<usize>, AllocError>
         requires walking { IsWalking self.old }
         requires come_to { IsComeTo self.old.plan.now stop.now }
         ensures { IfOk result (AfterMark self.old self.new stop.now) }
@@ -129,7 +129,7 @@ impl<'a> Walker<'a> {
         let lines = self.lines;
         let mut rank: u64 = 0;
         for to in targets {
-            let Some(place) = self.mark(&Place::of_cell(&stop.node, to, &stop.cell))? else {
+            let Some(place) = self.mark(&StopPlace::of_cell(&stop.node, to, &stop.cell))? else {
                 return Ok(None);
             };
             rank = rank.max(lines[place].rank as u64 + 1);
@@ -192,7 +192,7 @@ impl<'a> EntryVisitor for Walker<'a> {
 
     fn visit(&mut self, site: &Text, cell: &OwnedCell) -> Result<Option<Missing<'a>>, AllocError> {
         let lines = self.lines;
-        let stop = Place::of_cell(self.local, site, cell);
+        let stop = StopPlace::of_cell(self.local, site, cell);
         match self.mark(&stop)? {
             Some(_) => Ok(None),
             None => Ok(Some(Missing {

@@ -8,7 +8,7 @@ use Rattle.dr_route.specs.declared.cell.OwnedCell.{OwnedCell}
 use Rattle.dr_plan_model.specs.Networks.{Network}
 use Rattle.dr_plan_model.specs.Walks.{IsDestination}
 use Rattle.dr_plan_model.proofs.Gathered.{nothing_in_nil}
-use Rattle.dr_cert_diff.specs.declared.change.Change.{Change}
+use Rattle.dr_cert_diff.specs.declared.change.RouteChange.{RouteChange}
 use Rattle.dr_cert_diff.specs.Comparing.{Compares, IsWithout}
 use Rattle.dr_cert_diff.specs.Differing.{IsLost, IsRight, LiesInBoth}
 use Rattle.dr_cert_diff.proofs.Refining.{gained_alike, lost_alike}

@@ -21,8 +21,8 @@ use Rattle.dr_plan_model.specs.Plans.{IsWellFormed, modalities_of, stations_of, 
 use Rattle.dr_plan_model.specs.Walks.{Flows, IsDestination, IsEntry, IsWalk, Keeps, last_place}
 use Rattle.dr_plan_model.specs.declared.literals.Attribute.TheVariants.{Modality}
 use Rattle.dr_plan_model.proofs.WalksAlike.{named_are_plain, no_rule_keeps, no_rule_sends, stations_are_plain}
-use Rattle.dr_cert_diff.specs.declared.change.Change.{Change}
-use Rattle.dr_cert_diff.specs.declared.parts.Parts.{Parts}
+use Rattle.dr_cert_diff.specs.declared.change.RouteChange.{RouteChange}
+use Rattle.dr_cert_diff.specs.declared.parts.FieldParts.{FieldParts}
 use Rattle.dr_cert_diff.specs.Differing.{IsLost, LiesInBoth, literals_of_both}
 use Rattle.dr_cert_diff.specs.Entering.{HasClasses, HasSites}
 use Rattle.dr_cert_diff.specs.Going.{ArePartsOf, AtClass, AtPair, AtSite, Over, cell_at}
@@ -67,7 +67,7 @@ station_part values (station.Literal literal) v lies = lies.0
 station_part values (station.Prefix prefix) v lies = lies.1.among
 station_part values station.Rest v lies = tt
 
-module _ (old new : Network) (parts : Parts) (are : ArePartsOf old new parts) where
+module _ (old new : Network) (parts : FieldParts) (are : ArePartsOf old new parts) where
   -- each key of a class and a transfer syntax is in a cell of these parts
   in_pair : (at site : Text) (key : Key) → site ≡ at → AtPair old new at key.class key.syntax parts site key
   in_pair at site key is =

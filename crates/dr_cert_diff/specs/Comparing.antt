@@ -4,7 +4,7 @@ use Rattle.dr_base.specs.Texts.{Text}
 use Rattle.dr_route.specs.declared.key.Key.{Key}
 use Rattle.dr_route.specs.declared.cell.OwnedCell.{OwnedCell}
 use Rattle.dr_plan_model.specs.Networks.{Network}
-use Rattle.dr_cert_diff.specs.declared.change.Change.{Change}
+use Rattle.dr_cert_diff.specs.declared.change.RouteChange.{RouteChange}
 use Rattle.dr_cert_diff.specs.Differing.{IsLost, IsRight, LiesInBoth}
 
 -- just those of the names that aren't in the set
@@ -13,7 +13,7 @@ IsWithout names set rest =
     (name : Text) → Contains rest name ↔ (Contains names name × (Contains set name → ⊥))
 
 -- what changes for the keys of the cell that enter at the site; none where nothing does
-abbrev pub Compares : Network → Network → Text → OwnedCell → Option Change → Type 0
+abbrev pub Compares : Network → Network → Text → OwnedCell → Option RouteChange → Type 0
 Compares old new site cell None =
     (key : Key) → LiesInBoth old new cell key → (dest : Text)
     → IsLost old new site key dest ⊎ IsLost new old site key dest

@@ -10,7 +10,7 @@ use Rattle.dr_route.specs.declared.cell.OwnedCell.{OwnedCell}
 use Rattle.dr_plan_model.specs.Networks.{Network}
 use Rattle.dr_plan_model.specs.Plans.{modalities_of, stations_of, prefixes_of}
 use Rattle.dr_plan_model.specs.Walks.{IsDestination}
-use Rattle.dr_cert_diff.specs.declared.change.Change.{Change}
+use Rattle.dr_cert_diff.specs.declared.change.RouteChange.{RouteChange}
 
 -- the modalities and stations that the one plan or the other names, which part all keys into cells
 -- that neither tells apart
@@ -34,7 +34,7 @@ IsLost old new site key dest =
 
 -- The change is so for each key of its cell, and there is one: exactly the nodes that don't keep it
 -- any more, and exactly those that keep it now and didn't.
-pub record IsRight (old new : Network) (change : Change) : Type 0 where
+pub record IsRight (old new : Network) (change : RouteChange) : Type 0 where
   pub some_key : LiesInBoth old new change.cell (key_of change.cell)
   pub lost : (key : Key) → LiesInBoth old new change.cell key → (dest : Text)
       → Contains change.lost dest ↔ IsLost old new change.site key dest
@@ -43,19 +43,19 @@ pub record IsRight (old new : Network) (change : Change) : Type 0 where
   pub some : (change.lost ≢ []) ⊎ (change.gained ≢ [])
 
 -- what changes for the key that enters at the site is in some change
-abbrev pub IsTold : Network → Network → List Change → Text → Key → Type 0
+abbrev pub IsTold : Network → Network → List RouteChange → Text → Key → Type 0
 IsTold old new changes site key =
     (dest : Text) → IsLost old new site key dest ⊎ IsLost new old site key dest
-    → (change : Change)
+    → (change : RouteChange)
     × Contains changes change
     × (change.site ≡ site)
     × LiesInBoth old new change.cell key
 
 -- just what changes, for all keys and wherever they enter
-pub record IsDiff (old new : Network) (changes : List Change) : Type 0 where
-  pub right : (change : Change) → Contains changes change → IsRight old new change
+pub record IsDiff (old new : Network) (changes : List RouteChange) : Type 0 where
+  pub right : (change : RouteChange) → Contains changes change → IsRight old new change
   pub whole : (site : Text) (key : Key) → IsTold old new changes site key
 
 -- some change loses a node that kept
-abbrev pub LosesSome : List Change → Type 0
-LosesSome changes = (change : Change) × Contains changes change × (change.lost ≢ [])
+abbrev pub LosesSome : List RouteChange → Type 0
+LosesSome changes = (change : RouteChange) × Contains changes change × (change.lost ≢ [])

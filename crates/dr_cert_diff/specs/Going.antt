@@ -10,17 +10,17 @@ use Rattle.dr_route.specs.declared.cell.OwnedField.{OwnedField}
 use Rattle.dr_route.specs.declared.cell.OwnedStation.{OwnedStation}
 use Rattle.dr_plan_model.specs.Networks.{Network}
 use Rattle.dr_plan_model.specs.Walks.{IsEntry}
-use Rattle.dr_cert_diff.specs.declared.change.Change.{Change}
-use Rattle.dr_cert_diff.specs.declared.parts.Parts.{Parts}
+use Rattle.dr_cert_diff.specs.declared.change.RouteChange.{RouteChange}
+use Rattle.dr_cert_diff.specs.declared.parts.FieldParts.{FieldParts}
 use Rattle.dr_cert_diff.specs.Differing.{IsRight, IsTold, LiesInBoth, literals_of_both}
 
 -- what is added is right, nothing is taken away, and what changes for the keys of which `P` speaks
 -- is there
 pub record Adds (old new : Network) (P : Text → Key → Type 0)
-    (before after : List Change) : Type 0 where
-  pub right : ((change : Change) → Contains before change → IsRight old new change)
-      → (change : Change) → Contains after change → IsRight old new change
-  pub kept : (change : Change) → Contains before change → Contains after change
+    (before after : List RouteChange) : Type 0 where
+  pub right : ((change : RouteChange) → Contains before change → IsRight old new change)
+      → (change : RouteChange) → Contains after change → IsRight old new change
+  pub kept : (change : RouteChange) → Contains before change → Contains after change
   pub whole : (site : Text) (key : Key) → P site key → IsTold old new after site key
 
 -- what one of the elements says
@@ -43,12 +43,12 @@ AtModality old new at class syntax stations modality =
     Over stations (λ station. At old new at (cell_at class syntax modality station))
 
 -- the keys of a class and a transfer syntax
-abbrev pub AtPair : Network → Network → Text → Text → Syntax → Parts → Text → Key → Type 0
+abbrev pub AtPair : Network → Network → Text → Text → Syntax → FieldParts → Text → Key → Type 0
 AtPair old new at class syntax parts =
     Over parts.modalities.items (AtModality old new at class syntax parts.stations.items)
 
 -- the keys of a class, in either transfer syntax
-abbrev pub AtClass : Network → Network → Text → Parts → Text → Text → Key → Type 0
+abbrev pub AtClass : Network → Network → Text → FieldParts → Text → Text → Key → Type 0
 AtClass old new at parts class site key =
     AtPair old new at class Implicit parts site key
     ⊎ AtPair old new at class Explicit parts site key
@@ -58,7 +58,7 @@ abbrev pub AtSite : Network → Network → Text → Text → Key → Type 0
 AtSite old new at site key = (site ≡ at) × (IsEntry old site key ⊎ IsEntry new site key)
 
 -- just the parts of the modalities and of the stations that neither plan tells apart
-pub record ArePartsOf (old new : Network) (parts : Parts) : Type 0 where
+pub record ArePartsOf (old new : Network) (parts : FieldParts) : Type 0 where
   pub modalities : (part : OwnedField)
       → Contains parts.modalities.items part ↔ IsPart (literals_of_both old new).modalities part
   pub stations : (part : OwnedStation)

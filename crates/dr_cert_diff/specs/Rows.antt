@@ -4,7 +4,7 @@ use Rattle.dr_base.specs.Texts.{Text}
 use Rattle.dr_base.specs.Syntaxes.{syntax_uid}
 use Rattle.dr_route.specs.declared.cell.OwnedCell.{OwnedCell}
 use Rattle.dr_plan_sound.specs.Printed.{printed_field, printed_station}
-use Rattle.dr_cert_diff.specs.declared.change.Change.{Change}
+use Rattle.dr_cert_diff.specs.declared.change.RouteChange.{RouteChange}
 
 -- the node where keys enter, and their class, transfer syntax, modality and station
 abbrev pub entry_fields : Text → OwnedCell → Text
@@ -23,7 +23,7 @@ row_of word site cell (dest ∷ more) =
     word ++ entry_fields site cell ++ flat_map dest_field (dest ∷ more) ++ (10 ∷ [])
 
 -- the lines of a change: what is lost, and what is gained
-abbrev pub change_rows : Change → Text
+abbrev pub change_rows : RouteChange → Text
 change_rows change =
     row_of (codes "lost") change.site change.cell change.lost
     ++ row_of (codes "gained") change.site change.cell change.gained

@@ -8,7 +8,7 @@ use dr_route::OwnedCell;
 /// What changes for the keys of a cell that enter at a node: the nodes that kept them and don't any
 /// more, and those that keep them and didn't, each in byte order.
 #[derive(Debug, Drop)]
-pub struct Change {
+pub struct RouteChange {
     pub site: Text,
     pub cell: OwnedCell,
     pub lost: Seq<Text>,
@@ -16,14 +16,14 @@ pub struct Change {
 }
 
 /// Whether the change loses a node.
-fn loses(change: &Change) -> bool
+fn loses(change: &RouteChange) -> bool
     ensures { IsTrue result ↔ (change.now.lost ≢ []) }
 {
     !change.lost.is_empty()
 }
 
 /// Whether some node is lost.
-pub fn has_lost(changes: &[Change]) -> bool
+pub fn has_lost(changes: &[RouteChange]) -> bool
     ensures { IsTrue result ↔ LosesSome changes.now }
 {
     for change in changes {

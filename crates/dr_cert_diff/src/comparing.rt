@@ -8,7 +8,7 @@ ghost use Rattle.dr_plan_model.specs.Walks.{IsDestination};
 ghost use Rattle.dr_cert_diff.specs.Comparing.{Compares, IsWithout};
 ghost use Rattle.dr_cert_diff.specs.Differing.{LiesInBoth};
 
-use crate::change::Change;
+use crate::change::RouteChange;
 use dr_base::{Seq, Text};
 use dr_cert::Sealed;
 use dr_cert_trace::reach_of;
@@ -121,7 +121,7 @@ pub fn compare(
     both: &Both<'_>,
     site: &Text,
     cell: &OwnedCell,
-) -> Result<Option<Change>, AllocError>
+) -> Result<Option<RouteChange>, AllocError>
     requires { LiesInBoth both.now.old.now.plan both.now.new.now.plan cell.now (key_of cell.now) }
     ensures { IfOk result
         (Compares both.now.old.now.plan both.now.new.now.plan site.now cell.now) }
@@ -136,7 +136,7 @@ pub fn compare(
     }
     let site = copy_name(site)?;
     let cell = copy_cell(cell)?;
-    Ok(Some(Change {
+    Ok(Some(RouteChange {
         site,
         cell,
         lost,

@@ -5,10 +5,10 @@ ghost use Rattle.dr_cert_diff.specs.Differing.{IsDiff, LiesInBoth, literals_of_b
 ghost use Rattle.dr_cert_diff.specs.Going.{Adds, ArePartsOf, At, AtClass, AtModality, AtPair};
 ghost use Rattle.dr_cert_diff.specs.Going.{AtSite, Over, cell_at};
 
-use crate::change::Change;
+use crate::change::RouteChange;
 use crate::comparing::{Both, compare};
 use crate::entries::{classes_at, sites_of};
-use crate::parts::{Parts, parts_of};
+use crate::parts::{FieldParts, parts_of};
 use dr_base::{Syntax, Text};
 use dr_cert::Sealed;
 use dr_route::{OwnedCell, OwnedField, OwnedStation};
@@ -16,14 +16,14 @@ use std::alloc::{AllocError, Global};
 
 /// A class and a transfer syntax.
 #[derive(Drop)]
-struct Pair<'a> {
+struct SyntaxPair<'a> {
     class: &'a Text,
     syntax: Syntax,
 }
 
 /// The cell of a class and a transfer syntax with these parts.
 fn cell_of(
-    pair: &Pair<'_>,
+    pair: &SyntaxPair<'_>,
     modality: &OwnedField,
     station: &OwnedStation,
 ) -> Result<OwnedCell, AllocError>
@@ -44,7 +44,7 @@ fn note(
     both: &Both<'_>,
     site: &Text,
     cell: &OwnedCell,
-    changes: &mut Vec<Change>,
+    changes: &mut Vec<RouteChange>,
 ) -> Result<(), AllocError>
     requires { LiesInBoth both.now.old.now.plan both.now.new.now.plan cell.now (key_of cell.now) }
     ensures { OnOk result (Adds both.now.old.now.plan both.now.new.now.plan
@@ -63,10 +63,10 @@ fn note_at(
     alloc: Global,
     both: &Both<'_>,
     site: &Text,
-    pair: &Pair<'_>,
+    pair: &SyntaxPair<'_>,
     modality: &OwnedField,
     station: &OwnedStation,
-    changes: &mut Vec<Change>,
+    changes: &mut Vec<RouteChange>,
 ) -> Result<(), AllocError>
     requires { LiesInBoth both.now.old.now.plan both.now.new.now.plan
         (cell_at pair.now.class.now pair.now.syntax modality.now station.now)
@@ -87,10 +87,10 @@ fn over_stations(
     alloc: Global,
     both: &Both<'_>,
     site: &Text,
-    pair: &Pair<'_>,
+    pair: &SyntaxPair<'_>,
     modality: &OwnedField,
-    parts: &Parts,
-    changes: &mut Vec<Change>,
+    parts: &FieldParts,
+    changes: &mut Vec<RouteChange>,
 ) -> Result<(), AllocError>
     requires parts { ArePartsOf both.now.old.now.plan both.now.new.now.plan parts.now }
     requires modality { IsPart
@@ -113,9 +113,9 @@ fn over_modalities(
     alloc: Global,
     both: &Both<'_>,
     site: &Text,
-    pair: &Pair<'_>,
-    parts: &Parts,
-    changes: &mut Vec<Change>,
+    pair: &SyntaxPair<'_>,
+    parts: &FieldParts,
+    changes: &mut Vec<RouteChange>,
 ) -> Result<(), AllocError>
     requires { ArePartsOf both.now.old.now.plan both.now.new.now.plan parts.now }
     ensures { OnOk result (Adds both.now.old.now.plan both.now.new.now.plan
@@ -135,20 +135,20 @@ fn over_syntaxes(
     both: &Both<'_>,
     site: &Text,
     class: &Text,
-    parts: &Parts,
-    changes: &mut Vec<Change>,
+    parts: &FieldParts,
+    changes: &mut Vec<RouteChange>,
 ) -> Result<(), AllocError>
     requires { ArePartsOf both.now.old.now.plan both.now.new.now.plan parts.now }
     ensures { OnOk result (Adds both.now.old.now.plan both.now.new.now.plan
         (AtClass both.now.old.now.plan both.now.new.now.plan site.now parts.now class.now)
         changes.old.items changes.new.items) }
 {
-    let implicit = Pair {
+    let implicit = SyntaxPair {
         class,
         syntax: Syntax::Implicit,
     };
     over_modalities(alloc, both, site, &implicit, parts, changes)?;
-    let explicit = Pair {
+    let explicit = SyntaxPair {
         class,
         syntax: Syntax::Explicit,
     };
@@ -162,8 +162,8 @@ fn over_classes(
     both: &Both<'_>,
     site: &Text,
     classes: &[Text],
-    parts: &Parts,
-    changes: &mut Vec<Change>,
+    parts: &FieldParts,
+    changes: &mut Vec<RouteChange>,
 ) -> Result<(), AllocError>
     requires { ArePartsOf both.now.old.now.plan both.now.new.now.plan parts.now }
     ensures { OnOk result (Adds both.now.old.now.plan both.now.new.now.plan
@@ -181,8 +181,8 @@ fn at_site(
     alloc: Global,
     both: &Both<'_>,
     site: &Text,
-    parts: &Parts,
-    changes: &mut Vec<Change>,
+    parts: &FieldParts,
+    changes: &mut Vec<RouteChange>,
 ) -> Result<(), AllocError>
     requires { ArePartsOf both.now.old.now.plan both.now.new.now.plan parts.now }
     ensures { OnOk result (Adds both.now.old.now.plan both.now.new.now.plan
@@ -199,8 +199,8 @@ fn over_sites(
     alloc: Global,
     both: &Both<'_>,
     sites: &[Text],
-    parts: &Parts,
-    changes: &mut Vec<Change>,
+    parts: &FieldParts,
+    changes: &mut Vec<RouteChange>,
 ) -> Result<(), AllocError>
     requires { ArePartsOf both.now.old.now.plan both.now.new.now.plan parts.now }
     ensures { OnOk result (Adds both.now.old.now.plan both.now.new.now.plan
@@ -218,7 +218,7 @@ fn over_sites(
 /// those that keep them and didn't.
 ///
 /// Errors: want of memory.
-pub fn changes(alloc: Global, old: &Sealed, new: &Sealed) -> Result<Vec<Change>, AllocError>
+pub fn changes(alloc: Global, old: &Sealed, new: &Sealed) -> Result<Vec<RouteChange>, AllocError>
     ensures { IfOk result (λ v. IsDiff old.now.plan new.now.plan v.items) }
 {
     let both = Both { old, new };

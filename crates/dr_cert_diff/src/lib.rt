@@ -10,6 +10,6 @@ pub mod laws;
 mod parts;
 mod print;
 
-pub use change::{Change, has_lost};
+pub use change::{RouteChange, has_lost};
 pub use going::changes;
 pub use print::changes_text;

@@ -79,13 +79,13 @@ fn station_parts(
 
 /// The parts of the modalities and of the stations.
 #[derive(Drop)]
-pub struct Parts {
+pub struct FieldParts {
     pub modalities: Vec<OwnedField>,
     pub stations: Vec<OwnedStation>,
 }
 
 /// The parts that neither plan tells apart.
-pub fn parts_of(alloc: Global, old: &Plan, new: &Plan) -> Result<Parts, AllocError>
+pub fn parts_of(alloc: Global, old: &Plan, new: &Plan) -> Result<FieldParts, AllocError>
     ensures { IfOk result (ArePartsOf old.now new.now) }
 {
     let one = literals(alloc, old)?;
@@ -107,7 +107,7 @@ pub fn parts_of(alloc: Global, old: &Plan, new: &Plan) -> Result<Parts, AllocErr
     )?;
     let modalities = modality_parts(alloc, modalities.as_slice())?;
     let stations = station_parts(alloc, stations.as_slice(), prefixes.as_slice())?;
-    Ok(Parts {
+    Ok(FieldParts {
         modalities,
         stations,
     })

@@ -2,7 +2,7 @@
 ghost use Rattle.std.specs.Prelude.{◌≡◌, ◌++◌, IfOk, OnOk, flat_map};
 ghost use Rattle.dr_cert_diff.specs.Rows.{change_rows, dest_field, entry_fields, row_of};
 
-use crate::change::Change;
+use crate::change::RouteChange;
 use dr_base::Text;
 use dr_cert_text::{add_field, add_station, field_bytes};
 use dr_route::OwnedCell;
@@ -55,7 +55,7 @@ fn add_row(
 }
 
 /// Adds the rows of a change.
-fn add_change(out: &mut Vec<u8>, change: &Change) -> Result<(), AllocError>
+fn add_change(out: &mut Vec<u8>, change: &RouteChange) -> Result<(), AllocError>
     ensures { OnOk result (out.new.items ≡ out.old.items ++ change_rows change.now) }
 {
     add_row(
@@ -75,7 +75,7 @@ fn add_change(out: &mut Vec<u8>, change: &Change) -> Result<(), AllocError>
 }
 
 /// The rows of all changes.
-pub fn changes_text(alloc: Global, changes: &[Change]) -> Result<Text, AllocError>
+pub fn changes_text(alloc: Global, changes: &[RouteChange]) -> Result<Text, AllocError>
     ensures { IfOk result (λ text. text ≡ flat_map change_rows changes.now) }
 {
     let mut out = Vec::new(alloc);

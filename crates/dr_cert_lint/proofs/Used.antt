@@ -20,11 +20,11 @@ use Rattle.dr_plan_sound.proofs.RankedLines.{some_cell}
 use Rattle.dr_plan_sound.proofs.Ranks.{sound_has_rank}
 use Rattle.dr_plan_entries.proofs.Entries.{cell_that_lies}
 use Rattle.dr_cert_lint.specs.Uses.{IsKnownPart, IsUsed, ServesLine, Uses}
-use Rattle.dr_cert_lint.specs.declared.uses.Part.{Part}
-use Rattle.dr_cert_lint.specs.declared.uses.Part.TheVariants.{Whole, Row, Rule, Kept}
+use Rattle.dr_cert_lint.specs.declared.uses.PartInUse.{PartInUse}
+use Rattle.dr_cert_lint.specs.declared.uses.PartInUse.TheVariants.{Whole, Row, Rule, Kept}
 
 -- a part is of use for keys of one cell alike
-uses_alike : (plan : Network) (cell : OwnedCell) (k l : Key) → LiesIn plan cell k → LiesIn plan cell l → (part : Part) → IsKnownPart plan part → (caller : Text) → Uses part caller k → Uses part caller l
+uses_alike : (plan : Network) (cell : OwnedCell) (k l : Key) → LiesIn plan cell k → LiesIn plan cell l → (part : PartInUse) → IsKnownPart plan part → (caller : Text) → Uses part caller k → Uses part caller l
 uses_alike plan cell k l a b Whole known caller h = tt
 uses_alike plan cell k l a b (Row row) known caller h =
     let C : Text → Type 0 = λ c. Takes row.now caller c k.syntax in
@@ -33,7 +33,7 @@ uses_alike plan cell k l a b (Row row) known caller h =
 uses_alike plan cell k l a b (Rule rule) known caller h = holds_agrees (literals_of plan) cell k l a b rule.now known caller h
 uses_alike plan cell k l a b (Kept rules) known caller h = keeps_agree (literals_of plan) cell k l a b rules.now known caller h
 
-module _ (plan : Network) (certificate : Certificate) (formed : IsWellFormed plan) (sound : IsSound plan) (own : IsCertificateOf plan certificate) (name : Text) (part : Part) (known : IsKnownPart plan part) where
+module _ (plan : Network) (certificate : Certificate) (formed : IsWellFormed plan) (sound : IsSound plan) (own : IsCertificateOf plan certificate) (name : Text) (part : PartInUse) (known : IsKnownPart plan part) where
   -- a line shows that the part is used
   pub used_by_line : (line : Line) → Contains certificate.lines line → ServesLine name part line → IsUsed plan name part
   used_by_line line among serves =

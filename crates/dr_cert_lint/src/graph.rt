@@ -8,7 +8,7 @@ ghost use Rattle.dr_cert_lint.specs.Texts.{Rows};
 use crate::edges::{Edge, edges_of};
 use crate::flows::is_entry;
 use crate::print::{add_decimal, add_escaped, add_if, add_quoted};
-use crate::uses::{Part, is_used};
+use crate::uses::{PartInUse, is_used};
 use dr_base::Text;
 use dr_cert::Sealed;
 use dr_plan_model::Node;
@@ -55,7 +55,12 @@ fn add_vertex(
         × (out.new.items ≡ out.old.items ++ row)) }
 {
     let enters = is_entry(sealed.plan().flows(), &node.name);
-    let keeps = is_used(alloc, sealed, &node.name, Part::Kept(node.rules.as_slice()))?;
+    let keeps = is_used(
+        alloc,
+        sealed,
+        &node.name,
+        PartInUse::Kept(node.rules.as_slice()),
+    )?;
     add_vertex_row(out, node, enters, keeps)?;
     Ok(())
 }

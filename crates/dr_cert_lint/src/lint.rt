@@ -10,7 +10,7 @@ ghost use Rattle.dr_cert_lint.specs.Texts.{Rows};
 
 use crate::flows::{brings, brings_in, is_among};
 use crate::print::{add_field, add_number};
-use crate::uses::{Part, is_used};
+use crate::uses::{PartInUse, is_used};
 use dr_base::{Syntax, Text};
 use dr_cert::Sealed;
 use dr_plan_model::{Flow, Node};
@@ -40,7 +40,7 @@ fn add_whole(
         × IsWholeText sealed.now.plan node.now text
         × (out.new.items ≡ out.old.items ++ text)) }
 {
-    if is_used(alloc, sealed, &node.name, Part::Whole)? {
+    if is_used(alloc, sealed, &node.name, PartInUse::Whole)? {
         return Ok(());
     }
     add_whole_row(out, node)?;
@@ -77,7 +77,7 @@ fn add_unused(
         × IsUnusedText sealed.now.plan node.now number row.now text
         × (out.new.items ≡ out.old.items ++ text)) }
 {
-    if is_used(alloc, sealed, &node.name, Part::Row(row))? {
+    if is_used(alloc, sealed, &node.name, PartInUse::Row(row))? {
         return Ok(());
     }
     add_unused_row(out, node, number, row)?;
@@ -202,7 +202,7 @@ fn add_rule(
         × IsRuleText sealed.now.plan node.now number rule.now text
         × (out.new.items ≡ out.old.items ++ text)) }
 {
-    if is_used(alloc, sealed, &node.name, Part::Rule(rule))? {
+    if is_used(alloc, sealed, &node.name, PartInUse::Rule(rule))? {
         return Ok(());
     }
     add_rule_row(out, node, number)?;

@@ -12,7 +12,7 @@ use std::slice;
 
 /// A part of a node, which may be of use for what comes there.
 #[derive(Clone, Copy, Drop)]
-pub enum Part<'a> {
+pub enum PartInUse<'a> {
     /// The node itself.
     Whole,
     /// An accept row.
@@ -25,19 +25,19 @@ pub enum Part<'a> {
 
 /// Whether the part is of use for what the caller brings. What enters at the node itself isn't
 /// accepted by a row.
-fn uses(alloc: Global, part: Part<'_>, caller: &Text, key: &Key) -> Result<bool, AllocError>
+fn uses(alloc: Global, part: PartInUse<'_>, caller: &Text, key: &Key) -> Result<bool, AllocError>
     ensures { IfOk result (λ b. IsTrue b ↔ Uses part.entry caller.now key.now) }
 {
     match part {
-        Part::Whole => Ok(true),
-        Part::Row(row) => {
+        PartInUse::Whole => Ok(true),
+        PartInUse::Row(row) => {
             if is_local(caller) {
                 return Ok(false);
             }
             Ok(accepts(slice::from_ref(row), caller, &key.class, key.syntax))
         }
-        Part::Rule(rule) => Ok(holds(rule, caller, key)),
-        Part::Kept(rules) => {
+        PartInUse::Rule(rule) => Ok(holds(rule, caller, key)),
+        PartInUse::Kept(rules) => {
             let targets = routing::targets(alloc, rules, caller, key)?;
             Ok(targets.keep)
         }
@@ -45,7 +45,7 @@ fn uses(alloc: Global, part: Part<'_>, caller: &Text, key: &Key) -> Result<bool,
 }
 
 /// Whether the line is of the node, and the part of use for what it speaks of.
-fn serves(alloc: Global, line: &Line, name: &Text, part: Part<'_>) -> Result<bool, AllocError>
+fn serves(alloc: Global, line: &Line, name: &Text, part: PartInUse<'_>) -> Result<bool, AllocError>
     ensures { IfOk result (λ b. IsTrue b ↔ ServesLine name.now part.entry line.now) }
 {
     let stop = &line.stop;
@@ -64,7 +64,7 @@ pub fn is_used(
     alloc: Global,
     sealed: &Sealed,
     name: &Text,
-    part: Part<'_>,
+    part: PartInUse<'_>,
 ) -> Result<bool, AllocError>
     requires { IsKnownPart sealed.now.plan part }
     ensures { IfOk result (λ b. IsTrue b ↔ IsUsed sealed.now.plan name.now part.entry) }

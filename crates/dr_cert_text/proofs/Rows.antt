@@ -4,8 +4,8 @@ use Rattle.std.specs.Prelude.{All, flat_map}
 use Rattle.std.proofs.lemmas.List.{append_cancel_left, append-nil}
 use Rattle.std.proofs.lemmas.List.Concat.{flat_map-append}
 use Rattle.std.proofs.lemmas.List.Elements.{All-head, All-tail}
-use Rattle.dr_cert_text.specs.declared.fault.ReadFault.{ReadFault}
-use Rattle.dr_cert_text.specs.declared.fault.ReadFault.TheVariants.{Text, Memory}
+use Rattle.dr_cert_text.specs.declared.fault.CertificateFault.{CertificateFault}
+use Rattle.dr_cert_text.specs.declared.fault.CertificateFault.TheVariants.{Text, Memory}
 use Rattle.dr_cert_text.specs.CertificateText.{row}
 use Rattle.dr_cert_text.specs.Cuts.{Lacks, SplitsAt}
 use Rattle.dr_cert_text.specs.Reading.{HasNone, Reads, BeginsWith, AreRowsOf, ReadsRows}
@@ -87,6 +87,6 @@ module _ {X : Type 0} (word : List ℕ) (written : X → List ℕ) where
         (λ y more can e. none y can (sym (unsplit 10 fields (written y) later more split.1 (plain y can) (sym split.0 ∙ e)).0))
 
     pub rows_fault : (items : List X) (text rest behind fields later : List ℕ) → text ≡ flat_map R items ++ rest → All Can items → rest ≡ (word ++ 9 ∷ []) ++ behind → SplitsAt 10 behind fields later →
-        (fault : ReadFault) → Reads written Can fields (Err fault) → ReadsRows word written Can text (Err fault)
+        (fault : CertificateFault) → Reads written Can fields (Err fault) → ReadsRows word written Can text (Err fault)
     rows_fault items text rest behind fields later so_far all starts split Text none = no_item items text rest behind fields later so_far all starts split none
     rows_fault items text rest behind fields later so_far all starts split Memory none = tt

@@ -14,8 +14,8 @@ use Rattle.dr_cert_text.specs.CertificateText.{row, hop_row, line_row, front, ve
 use Rattle.dr_cert_text.specs.Cuts.{Lacks, SplitsAt}
 use Rattle.dr_cert_text.specs.Printable.{IsDigest, IsPrintableLine, IsPrintableHop, IsPrintable}
 use Rattle.dr_cert_text.specs.Reading.{HasNone, IsReadBack, Reads, BeginsWith, AreRowsOf, ReadsRows}
-use Rattle.dr_cert_text.specs.declared.fault.ReadFault.{ReadFault}
-use Rattle.dr_cert_text.specs.declared.fault.ReadFault.TheVariants.{Text, Memory}
+use Rattle.dr_cert_text.specs.declared.fault.CertificateFault.{CertificateFault}
+use Rattle.dr_cert_text.specs.declared.fault.CertificateFault.TheVariants.{Text, Memory}
 use Rattle.dr_cert_text.proofs.Injective.{same_line, same_hop, line_plain, hop_plain}
 use Rattle.dr_cert_text.proofs.Numerals.{hex_plain, same_digest, decoded}
 use Rattle.dr_cert_text.proofs.Splits.{unsplit, All-back}
@@ -121,7 +121,7 @@ pub no_digest : (format : Format) (text behind digits rows : List ℕ) → text 
 no_digest format text behind digits rows starts split none certificate p e = none certificate.digest p.digest (parts format text behind digits rows starts split certificate p e).digest
 
 pub hops_fault : (format : Format) (text behind digits rows : List ℕ) → text ≡ front format ++ behind → SplitsAt 10 behind digits rows →
-    (fault : ReadFault) → ReadsRows (codes "hop") printed_hop IsPrintableHop rows (Err fault) → Reads certificate_text IsPrintable text (Err fault)
+    (fault : CertificateFault) → ReadsRows (codes "hop") printed_hop IsPrintableHop rows (Err fault) → Reads certificate_text IsPrintable text (Err fault)
 hops_fault format text behind digits rows starts split Text none = λ certificate p e.
     none certificate.hops (behind_hops certificate) (hops_are_rows certificate digits rows p (parts format text behind digits rows starts split certificate p e))
 hops_fault format text behind digits rows starts split Memory none = tt
@@ -132,7 +132,7 @@ after_hops : (format : Format) (text behind digits rows after : List ℕ) (hops 
 after_hops format text behind digits rows after hops starts split read certificate p e = (hops_read certificate digits rows after hops p (parts format text behind digits rows starts split certificate p e) read).1
 
 pub lines_fault : (format : Format) (text behind digits rows after : List ℕ) (hops : List Hop) → text ≡ front format ++ behind → SplitsAt 10 behind digits rows → AreRowsOf (codes "hop") printed_hop IsPrintableHop rows hops after →
-    (fault : ReadFault) → ReadsRows (codes "line") printed_line IsPrintableLine after (Err fault) → Reads certificate_text IsPrintable text (Err fault)
+    (fault : CertificateFault) → ReadsRows (codes "line") printed_line IsPrintableLine after (Err fault) → Reads certificate_text IsPrintable text (Err fault)
 lines_fault format text behind digits rows after hops starts split read Text none = λ certificate p e.
     none certificate.lines last_row (lines_are_rows certificate after p (after_hops format text behind digits rows after hops starts split read certificate p e))
 lines_fault format text behind digits rows after hops starts split read Memory none = tt
@@ -172,7 +172,7 @@ same_certificate a b pa pb e =
     let lines = rows_same (codes "line") printed_line IsPrintableLine line_plain same_line a.lines b.lines last_row last_row pa.lines pb.lines lines_end lines_end hops.1 in
     λ i. record { format = format i; digest = digest i; hops = hops.0 i; lines = lines.0 i }
 
-pub read_back : (certificate : Certificate) → IsPrintable certificate → (answer : Result Certificate ReadFault) → Reads certificate_text IsPrintable (certificate_text certificate) answer →
+pub read_back : (certificate : Certificate) → IsPrintable certificate → (answer : Result Certificate CertificateFault) → Reads certificate_text IsPrintable (certificate_text certificate) answer →
     (answer ≡ Ok certificate) ⊎ (answer ≡ Err Memory)
 read_back certificate p (Ok found) h = inl (ap Ok (same_certificate found certificate h.1 p h.0))
 read_back certificate p (Err Text) h = absurd (h certificate p refl)

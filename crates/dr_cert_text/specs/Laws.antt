@@ -8,8 +8,8 @@ use Rattle.dr_plan_sound.specs.declared.certificate.Line.{Line}
 use Rattle.dr_plan_sound.specs.declared.certificate.Hop.{Hop}
 use Rattle.dr_plan_sound.specs.declared.certificate.Certificate.{Certificate}
 use Rattle.dr_plan_sound.specs.Printed.{printed_field, printed_station, printed_line, printed_hop}
-use Rattle.dr_cert_text.specs.declared.fault.ReadFault.{ReadFault}
-use Rattle.dr_cert_text.specs.declared.fault.ReadFault.TheVariants.{Memory}
+use Rattle.dr_cert_text.specs.declared.fault.CertificateFault.{CertificateFault}
+use Rattle.dr_cert_text.specs.declared.fault.CertificateFault.TheVariants.{Memory}
 use Rattle.dr_cert_text.specs.Reading.{Reads}
 use Rattle.dr_cert_text.specs.CertificateText.{front, certificate_text}
 use Rattle.dr_cert_text.specs.Printable.{IsPrintable, IsPrintableLine, IsPrintableHop}
@@ -50,7 +50,7 @@ abbrev pub WhatIsWrittenIsRead : Type 0
 WhatIsWrittenIsRead =
     (certificate : Certificate)
     → IsPrintable certificate
-    → (answer : Result Certificate ReadFault)
+    → (answer : Result Certificate CertificateFault)
     → Reads certificate_text IsPrintable (certificate_text certificate) answer
     → (answer ≡ Ok certificate) ⊎ (answer ≡ Err Memory)
 

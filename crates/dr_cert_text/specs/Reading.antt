@@ -2,8 +2,8 @@
 use Rattle.std.specs.Prelude.{◌≡◌, ℕ, List, [], ◌∷◌, ◌++◌, Result, Ok, Err, All, flat_map}
 use Rattle.std.specs.Borrow.{Bor}
 use Rattle.dr_cert_text.specs.CertificateText.{row}
-use Rattle.dr_cert_text.specs.declared.fault.ReadFault.{ReadFault}
-use Rattle.dr_cert_text.specs.declared.fault.ReadFault.TheVariants.{Text, Memory}
+use Rattle.dr_cert_text.specs.declared.fault.CertificateFault.{CertificateFault}
+use Rattle.dr_cert_text.specs.declared.fault.CertificateFault.TheVariants.{Text, Memory}
 
 -- `written` gives the text of a value, and `Can` says which values can be read back: this one can,
 -- and has this text
@@ -15,7 +15,9 @@ abbrev pub HasNone : {X : Type 0} → (X → List ℕ) → (X → Type 0) → Li
 HasNone {X} written Can text = (x : X) → Can x → written x ≡ text → ⊥
 
 -- what reading a text answers: the value that has it, or that none has; or memory ran out
-abbrev pub Reads : {X : Type 0} → (X → List ℕ) → (X → Type 0) → List ℕ → Result X ReadFault → Type 0
+abbrev pub Reads : {X : Type 0} → (X → List ℕ) → (X → Type 0) → List ℕ
+    → Result X CertificateFault
+    → Type 0
 Reads written Can text (Ok x) = IsReadBack written Can text x
 Reads written Can text (Err Text) = HasNone written Can text
 Reads written Can text (Err Memory) = Unit {0}
@@ -35,7 +37,7 @@ AreRowsOf word written Can text items rest =
 -- what reading rows answers: their values and the text behind them, that it has no such rows, or
 -- want of memory
 abbrev pub ReadsRows : {X : Type 0} → List ℕ → (X → List ℕ) → (X → Type 0) → List ℕ
-    → Result (List X × Bor (List ℕ)) ReadFault
+    → Result (List X × Bor (List ℕ)) CertificateFault
     → Type 0
 ReadsRows word written Can text (Ok found) = AreRowsOf word written Can text found.0 found.1.now
 ReadsRows {X} word written Can text (Err Text) =

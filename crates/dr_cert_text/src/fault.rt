@@ -5,7 +5,7 @@ use thiserror::Error;
 /// Why a text isn't read. Memory is answered only where a growth was refused, and it may come
 /// before a later row is known to be wrong.
 #[derive(Clone, Copy, PartialEq, Eq, Debug, Error)]
-pub enum ReadFault {
+pub enum CertificateFault {
     /// No certificate is written so.
     #[error("Text")]
     Text,
@@ -13,24 +13,24 @@ pub enum ReadFault {
     Memory,
 }
 
-impl From<AllocError> for ReadFault {
+impl From<AllocError> for CertificateFault {
     ghost use Rattle.std.specs.Prelude.{◌≡◌};
-    ghost use Rattle.dr_cert_text.specs.declared.fault.ReadFault.TheVariants.{Memory};
+    ghost use Rattle.dr_cert_text.specs.declared.fault.CertificateFault.TheVariants.{Memory};
 
     ghost from_gives = { λ _ e. e ≡ Memory };
 
-    fn from(_: AllocError) -> ReadFault {
-        ReadFault::Memory
+    fn from(_: AllocError) -> CertificateFault {
+        CertificateFault::Memory
     }
 }
 
-impl<T: Drop> From<AllocFailed<T>> for ReadFault {
+impl<T: Drop> From<AllocFailed<T>> for CertificateFault {
     ghost use Rattle.std.specs.Prelude.{◌≡◌};
-    ghost use Rattle.dr_cert_text.specs.declared.fault.ReadFault.TheVariants.{Memory};
+    ghost use Rattle.dr_cert_text.specs.declared.fault.CertificateFault.TheVariants.{Memory};
 
     ghost from_gives = { λ _ e. e ≡ Memory };
 
-    fn from(_: AllocFailed<T>) -> ReadFault {
-        ReadFault::Memory
+    fn from(_: AllocFailed<T>) -> CertificateFault {
+        CertificateFault::Memory
     }
 }

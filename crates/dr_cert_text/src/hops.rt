@@ -6,7 +6,7 @@ ghost use Rattle.dr_cert_text.specs.Fields.{AreHopFields};
 ghost use Rattle.dr_cert_text.specs.Printable.{IsPrintableHop};
 ghost use Rattle.dr_cert_text.specs.Reading.{HasNone};
 
-use crate::fault::ReadFault;
+use crate::fault::CertificateFault;
 use crate::fields::{field_before_tab, read_number};
 use crate::printed::{Printed, add_field};
 use dr_base::{Syntax, Text};
@@ -69,9 +69,9 @@ impl Printed for Hop {
         add_field(out, self.syntax.uid())
     }
 
-    fn read(alloc: Global, fields: &[u8]) -> Result<Hop, ReadFault> {
+    fn read(alloc: Global, fields: &[u8]) -> Result<Hop, CertificateFault> {
         let Some(found) = cut_hop(fields) else {
-            return Err(ReadFault::Text);
+            return Err(CertificateFault::Text);
         };
         let from = Text::copy_of(alloc, found.from)?;
         let to = Text::copy_of(alloc, found.to)?;

@@ -13,7 +13,7 @@ pub mod reader;
 pub mod sorted;
 pub mod writer;
 
-pub use fault::ReadFault;
+pub use fault::CertificateFault;
 pub use order::{order_hops, order_lines};
 pub use printed::{add_field, add_station, field_bytes};
 pub use reader::read_certificate;

@@ -6,7 +6,7 @@ ghost use Rattle.dr_cert_text.specs.Fields.{AreLineFields};
 ghost use Rattle.dr_cert_text.specs.Printable.{IsPrintableLine};
 ghost use Rattle.dr_cert_text.specs.Reading.{HasNone};
 
-use crate::fault::ReadFault;
+use crate::fault::CertificateFault;
 use crate::fields::{field_before_tab, read_field, read_number, read_station};
 use crate::printed::{Printed, add_field, add_station, field_bytes};
 use dr_base::{Syntax, Text};
@@ -75,9 +75,9 @@ impl Printed for Line {
         add_field(out, digits.format(self.rank).as_bytes())
     }
 
-    fn read(alloc: Global, fields: &[u8]) -> Result<Line, ReadFault> {
+    fn read(alloc: Global, fields: &[u8]) -> Result<Line, CertificateFault> {
         let Some(found) = cut_line(fields) else {
-            return Err(ReadFault::Text);
+            return Err(CertificateFault::Text);
         };
         let class = Text::copy_of(alloc, found.class)?;
         let modality = read_field(alloc, found.modality)?;

@@ -4,7 +4,7 @@ ghost use Rattle.dr_plan_sound.specs.Printed.{printed_field, printed_station};
 ghost use Rattle.dr_cert_text.specs.Cuts.{Lacks};
 ghost use Rattle.dr_cert_text.specs.Reading.{Reads};
 
-use crate::fault::ReadFault;
+use crate::fault::CertificateFault;
 use dr_route::{OwnedField, OwnedStation};
 use std::alloc::{AllocError, Global};
 
@@ -30,7 +30,7 @@ pub trait Printed: Sized + Drop {
         ensures { OnOk result (out.new.items ≡ out.old.items ++ printed self.now) };
 
     /// Reads its fields.
-    fn read(alloc: Global, fields: &[u8]) -> Result<Self, ReadFault>
+    fn read(alloc: Global, fields: &[u8]) -> Result<Self, CertificateFault>
         requires { Lacks 10 fields.now }
         ensures { Reads printed printable fields.now result };
 }

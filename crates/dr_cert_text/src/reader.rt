@@ -7,7 +7,7 @@ ghost use Rattle.dr_plan_model.specs.declared.plan.Format.{Format as FormatValue
 ghost use Rattle.dr_cert_text.specs.Printable.{IsPrintable};
 ghost use Rattle.dr_cert_text.specs.Reading.{Reads, ReadsRows};
 
-use crate::fault::ReadFault;
+use crate::fault::CertificateFault;
 use crate::fields::{after, read_digest, split_at_byte};
 use crate::printed::Printed;
 use crate::writer::front_of;
@@ -22,7 +22,7 @@ const LF: u8 = 10;
 const MAX_LINES: usize = 65_536;
 
 /// The values of the rows in front that begin with this kind's word, and what follows them.
-fn read_rows<P: Printed>(alloc: Global, text: &[u8]) -> Result<(Seq<P>, &[u8]), ReadFault>
+fn read_rows<P: Printed>(alloc: Global, text: &[u8]) -> Result<(Seq<P>, &[u8]), CertificateFault>
     requires { (item : P) → P.printable item → Lacks 10 (P.printed item) }
     ensures { ReadsRows P.word P.printed P.printable text.now result }
 {
@@ -30,7 +30,7 @@ fn read_rows<P: Printed>(alloc: Global, text: &[u8]) -> Result<(Seq<P>, &[u8]), 
     let mut rest = text;
     while let Some(behind) = after(rest, P::row_start()) {
         let Some((fields, later)) = split_at_byte(behind, LF) else {
-            return Err(ReadFault::Text);
+            return Err(CertificateFault::Text);
         };
         items.push(P::read(alloc, fields)?)?;
         rest = later;
@@ -62,25 +62,25 @@ fn read_front(text: &[u8]) -> Option<(Format, &[u8])>
 /// Errors: Text where no such certificate has the text, as with a CR before an LF, an upper-case
 /// digest, a number with a leading zero or beyond its range, a 65,537th line, or anything behind
 /// the row `end`; Memory.
-pub fn read_certificate(alloc: Global, text: &[u8]) -> Result<Certificate, ReadFault>
+pub fn read_certificate(alloc: Global, text: &[u8]) -> Result<Certificate, CertificateFault>
     ensures { Reads certificate_text IsPrintable text.now result }
 {
     let Some((format, behind)) = read_front(text) else {
-        return Err(ReadFault::Text);
+        return Err(CertificateFault::Text);
     };
     let Some((digits, rows)) = split_at_byte(behind, LF) else {
-        return Err(ReadFault::Text);
+        return Err(CertificateFault::Text);
     };
     let Some(digest) = read_digest(digits) else {
-        return Err(ReadFault::Text);
+        return Err(CertificateFault::Text);
     };
     let (hops, after_hops) = read_rows::<Hop>(alloc, rows)?;
     let (lines, after_lines) = read_rows::<Line>(alloc, after_hops)?;
     if after_lines != b"end\n".as_slice() {
-        return Err(ReadFault::Text);
+        return Err(CertificateFault::Text);
     }
     if lines.len() > MAX_LINES {
-        return Err(ReadFault::Text);
+        return Err(CertificateFault::Text);
     }
     Ok(Certificate {
         format,

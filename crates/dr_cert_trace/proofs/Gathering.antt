@@ -16,17 +16,17 @@ use Rattle.dr_plan_sound.specs.Ranked.{line_at}
 use Rattle.dr_plan_sound.proofs.RankedLines.{some_cell}
 use Rattle.dr_plan_sound.proofs.Ranks.{sound_has_rank}
 use Rattle.dr_cert_trace.specs.Stages.{AreStages, Gathers, HasDepth}
-use Rattle.dr_cert_trace.specs.declared.stages.Stage.{Stage}
+use Rattle.dr_cert_trace.specs.declared.stages.TraceStage.{TraceStage}
 
 -- each stage has its depth, and each line's place that the key comes to is a stage
-pub record AreSoFar (plan : Network) (key : Key) (lines : List Line) (stages : List Stage) : Type 0 where
-  pub each : (stage : Stage) → Contains stages stage → HasDepth plan key stage
-  pub all : (line : Line) → Contains lines line → IsReached plan key line.stop.caller line.stop.node → (stage : Stage) × Contains stages stage × (stage.place ≡ (line.stop.caller, line.stop.node))
+pub record AreSoFar (plan : Network) (key : Key) (lines : List Line) (stages : List TraceStage) : Type 0 where
+  pub each : (stage : TraceStage) → Contains stages stage → HasDepth plan key stage
+  pub all : (line : Line) → Contains lines line → IsReached plan key line.stop.caller line.stop.node → (stage : TraceStage) × Contains stages stage × (stage.place ≡ (line.stop.caller, line.stop.node))
 
 pub none : (plan : Network) (key : Key) → AreSoFar plan key [] []
 none plan key = record { each = λ stage h. absurd (nothing_in_nil stage h); all = λ line h reached. absurd (nothing_in_nil line h) }
 
-module _ (plan : Network) (key : Key) (lines : List Line) (stages : List Stage) (i : ℕ) (line : Line) (lt : i < length lines) (at : line ≡ get_or lines i line) where
+module _ (plan : Network) (key : Key) (lines : List Line) (stages : List TraceStage) (i : ℕ) (line : Line) (lt : i < length lines) (at : line ≡ get_or lines i line) where
   pushed : take (i + 1) lines ≡ take i lines ++ line ∷ []
   pushed = take_more lines i line lt ∙ ap (λ (x : Line). take i lines ++ x ∷ []) (sym at)
 
@@ -34,7 +34,7 @@ module _ (plan : Network) (key : Key) (lines : List Line) (stages : List Stage) 
   among x h = Contains-push_cases (take i lines) line x (subst (λ (xs : List Line). Contains xs x) pushed h)
 
   -- a line's place that the key comes to
-  pub one_more : (stage : Stage) → HasDepth plan key stage → stage.place ≡ (line.stop.caller, line.stop.node) →
+  pub one_more : (stage : TraceStage) → HasDepth plan key stage → stage.place ≡ (line.stop.caller, line.stop.node) →
       AreSoFar plan key (take i lines) stages → AreSoFar plan key (take (i + 1) lines) (stages ++ stage ∷ [])
   one_more stage depth place so_far = record {
     each = λ x h. elim (Contains-push_cases stages stage x h) [ inl before ↦ so_far.each x before | inr same ↦ subst (HasDepth plan key) same depth ];
@@ -55,14 +55,14 @@ module _ (plan : Network) (key : Key) (lines : List Line) (stages : List Stage) 
   }
 
   -- a line more
-  pub goes_on : (next : List Stage) → Gathers plan key line stages next → AreSoFar plan key (take i lines) stages → AreSoFar plan key (take (i + 1) lines) next
+  pub goes_on : (next : List TraceStage) → Gathers plan key line stages next → AreSoFar plan key (take i lines) stages → AreSoFar plan key (take (i + 1) lines) next
   goes_on next step so_far = elim step [
     | inl more ↦ subst (AreSoFar plan key (take (i + 1) lines)) (sym more.3) (one_more more.0 more.1 more.2 so_far)
     | inr never ↦ subst (AreSoFar plan key (take (i + 1) lines)) (sym never.1) (passed never.0 so_far)
   ]
 
 -- each place that the key comes to has a line in the certificate
-pub all_lines : (plan : Network) (certificate : Certificate) (key : Key) (stages : List Stage) → IsSound plan → IsCertificateOf plan certificate →
+pub all_lines : (plan : Network) (certificate : Certificate) (key : Key) (stages : List TraceStage) → IsSound plan → IsCertificateOf plan certificate →
     AreSoFar plan key certificate.lines stages → AreStages plan key stages
 all_lines plan certificate key stages sound own so_far = record {
   each = so_far.each;
@@ -74,7 +74,7 @@ all_lines plan certificate key stages sound own so_far = record {
 }
 
 -- in another order they are the same
-pub permuted : (plan : Network) (key : Key) (these those : List Stage) → IsPermutation these those → AreStages plan key these → AreStages plan key those
+pub permuted : (plan : Network) (key : Key) (these those : List TraceStage) → IsPermutation these those → AreStages plan key these → AreStages plan key those
 permuted plan key these those same all = record {
   each = λ stage h. all.each stage (Contains-permutation those these stage (IsPermutation-sym these those same) h);
   all = λ caller name reached. (let s = all.all caller name reached in (s.0, Contains-permutation these those s.0 same s.1, s.2));

@@ -13,16 +13,16 @@ use Rattle.dr_plan_model.specs.Walks.{Sends, Keeps, IsEntry, IsReached, IsDestin
 use Rattle.dr_plan_model.proofs.Gathered.{nothing_in_nil}
 use Rattle.dr_plan_sound.specs.Soundness.{IsRank}
 use Rattle.dr_plan_sound.proofs.Hopping.{walk_push, last_push, last_hop}
-use Rattle.dr_cert_trace.specs.declared.stages.Stage.{Stage}
+use Rattle.dr_cert_trace.specs.declared.stages.TraceStage.{TraceStage}
 use Rattle.dr_cert_trace.specs.Traces.{ComesTo, GoesOnTo}
 use Rattle.dr_cert_trace.specs.Stages.{AreOrdered}
 use Rattle.dr_cert_trace.specs.Found.{AreFound, HasPair, IsKnown, Passes}
 
 -- What was found is right, and of the stages that were passed all is found.
-pub record IsSoFar (plan : Network) (site : Text) (key : Key) (passed : List Stage) (pairs : BTreeSet (Text × Text)) (keeps : BTreeSet Text) : Type 0 where
+pub record IsSoFar (plan : Network) (site : Text) (key : Key) (passed : List TraceStage) (pairs : BTreeSet (Text × Text)) (keeps : BTreeSet Text) : Type 0 where
   pub goes : (pair : Text × Text) → HasPair pairs pair → GoesOnTo plan site key pair.0 pair.1
   pub ends : (name : Text) → HasName keeps name → IsDestination plan local site key name
-  pub whole : (stage : Stage) → Contains passed stage → ComesTo plan site key stage.place →
+  pub whole : (stage : TraceStage) → Contains passed stage → ComesTo plan site key stage.place →
       ((to : Text) → Sends plan stage.place.1 stage.place.0 key to → HasPair pairs (stage.place.1, to)) × (Keeps plan stage.place.1 stage.place.0 key → HasName keeps stage.place.1)
 
 either : (a b : ℕ) → (a < b) ⊎ (b ≤ a)
@@ -54,7 +54,7 @@ module _ (plan : Network) (site : Text) (key : Key) where
   reached entry caller name comes = (site, comes.0, entry, comes.1, comes.2)
 
   -- what is known is so
-  pub known_comes : (passed : List Stage) (pairs : BTreeSet (Text × Text)) (keeps : BTreeSet Text) → IsSoFar plan site key passed pairs keeps →
+  pub known_comes : (passed : List TraceStage) (pairs : BTreeSet (Text × Text)) (keeps : BTreeSet Text) → IsSoFar plan site key passed pairs keeps →
       (place : Text × Text) → IsKnown pairs site place → ComesTo plan site key place
   known_comes passed pairs keeps so_far place known = elim known [
     | inl entry ↦ ([], tt, sym entry)
@@ -69,9 +69,9 @@ module _ (plan : Network) (site : Text) (key : Key) where
       let same : length l.0 ≡ s = l.2 in
       omega arith
 
-  module _ (stages : List Stage) (ordered : AreOrdered plan key stages) (entry : IsEntry plan site key) where
+  module _ (stages : List TraceStage) (ordered : AreOrdered plan key stages) (entry : IsEntry plan site key) where
     -- the stage of a place is in front of those with fewer hops left
-    in_front : (front stage : Stage) (i : ℕ) → i < length stages → get_or stages i stage ≡ stage → Contains stages front → front.depth < stage.depth → Contains (take i stages) front
+    in_front : (front stage : TraceStage) (i : ℕ) → i < length stages → get_or stages i stage ≡ stage → Contains stages front → front.depth < stage.depth → Contains (take i stages) front
     in_front front stage i lt at among less =
         let k = among.0 in
         let within : k < length stages = among.1 in
@@ -79,14 +79,14 @@ module _ (plan : Network) (site : Text) (key : Key) where
           | inl less_far ↦ (k, (let few : length (take i stages) ≡ i = length-take-le i stages (omega arith) in let l : k < length (take i stages) = omega arith in l), get_or-take i stages k front less_far ∙ among.2)
           | inr behind ↦ absurd ((
               let not_less = ordered.1 i k stage behind within in
-              let a : (get_or stages i stage).depth ≡ stage.depth = ap (λ (s : Stage). s.depth) at in
-              let b : (get_or stages k stage).depth ≡ front.depth = ap (λ (s : Stage). s.depth) (get_or_default stages k stage front within ∙ among.2) in
+              let a : (get_or stages i stage).depth ≡ stage.depth = ap (λ (s : TraceStage). s.depth) at in
+              let b : (get_or stages k stage).depth ≡ front.depth = ap (λ (s : TraceStage). s.depth) (get_or_default stages k stage front within ∙ among.2) in
               let n : (get_or stages i stage).depth ≤ (get_or stages k stage).depth = not_less in
               omega arith))
         ]
 
     -- the stage that is passed next is known, if the key comes there
-    pub is_known_by_then : (i : ℕ) (stage : Stage) → i < length stages → get_or stages i stage ≡ stage → (pairs : BTreeSet (Text × Text)) (keeps : BTreeSet Text) →
+    pub is_known_by_then : (i : ℕ) (stage : TraceStage) → i < length stages → get_or stages i stage ≡ stage → (pairs : BTreeSet (Text × Text)) (keeps : BTreeSet Text) →
         IsSoFar plan site key (take i stages) pairs keeps → ComesTo plan site key stage.place → IsKnown pairs site stage.place
     is_known_by_then i stage lt at pairs keeps so_far comes = elim (before stage.place.0 stage.place.1 comes) [
       | inl entry_place ↦ inl entry_place
@@ -108,20 +108,20 @@ module _ (plan : Network) (site : Text) (key : Key) where
     ]
 
     -- one stage more is passed
-    pub passes : (i : ℕ) (stage : Stage) → i < length stages → get_or stages i stage ≡ stage → (pairs more : BTreeSet (Text × Text)) (keeps kept : BTreeSet Text) →
+    pub passes : (i : ℕ) (stage : TraceStage) → i < length stages → get_or stages i stage ≡ stage → (pairs more : BTreeSet (Text × Text)) (keeps kept : BTreeSet Text) →
         Passes plan site key stage.place pairs more keeps kept → IsSoFar plan site key (take i stages) pairs keeps → IsSoFar plan site key (take (i + 1) stages) more kept
     passes i stage lt at pairs more keeps kept step so_far =
-        let pushed : take (i + 1) stages ≡ take i stages ++ stage ∷ [] = take_more stages i stage lt ∙ ap (λ (s : Stage). take i stages ++ s ∷ []) at in
+        let pushed : take (i + 1) stages ≡ take i stages ++ stage ∷ [] = take_more stages i stage lt ∙ ap (λ (s : TraceStage). take i stages ++ s ∷ []) at in
         elim step [
           | inl un ↦ record {
             goes = λ pair h. so_far.goes pair (subst (λ (keys : List (Text × Text)). Contains keys pair) un.1 h);
             ends = λ name h. so_far.ends name (subst (λ (keys : List Text). Contains keys name) un.2 h);
-            whole = λ other h comes. elim (Contains-push_cases (take i stages) stage other (subst (λ (xs : List Stage). Contains xs other) pushed h)) [
+            whole = λ other h comes. elim (Contains-push_cases (take i stages) stage other (subst (λ (xs : List TraceStage). Contains xs other) pushed h)) [
               | inl earlier ↦ (let w = so_far.whole other earlier comes in (
                 λ to sent. subst (λ (keys : List (Text × Text)). Contains keys (other.place.1, to)) (sym un.1) (w.0 to sent),
                 λ keep. subst (λ (keys : List Text). Contains keys other.place.1) (sym un.2) (w.1 keep),
               ))
-              | inr same ↦ absurd (un.0 (is_known_by_then i stage lt at pairs keeps so_far (subst (λ (s : Stage). ComesTo plan site key s.place) (sym same) comes)))
+              | inr same ↦ absurd (un.0 (is_known_by_then i stage lt at pairs keeps so_far (subst (λ (s : TraceStage). ComesTo plan site key s.place) (sym same) comes)))
             ];
           }
           | inr on ↦ (let here = known_comes (take i stages) pairs keeps so_far stage.place on.0 in record {
@@ -140,12 +140,12 @@ module _ (plan : Network) (site : Text) (key : Key) where
                     subst (λ (n : Text). Keeps plan n (last_place local site here.0).0 key) (ap (λ (p : Text × Text). p.1) here.2 ∙ sym new.0) k),
               )
             ];
-            whole = λ other h comes. elim (Contains-push_cases (take i stages) stage other (subst (λ (xs : List Stage). Contains xs other) pushed h)) [
+            whole = λ other h comes. elim (Contains-push_cases (take i stages) stage other (subst (λ (xs : List TraceStage). Contains xs other) pushed h)) [
               | inl earlier ↦ (let w = so_far.whole other earlier comes in (
                 λ to sent. (on.1.pairs (other.place.1, to)).1 (inl (w.0 to sent)),
                 λ keep. (on.1.keeps other.place.1).1 (inl (w.1 keep)),
               ))
-              | inr same ↦ subst (λ (s : Stage). ((to : Text) → Sends plan s.place.1 s.place.0 key to → HasPair more (s.place.1, to)) × (Keeps plan s.place.1 s.place.0 key → HasName kept s.place.1)) same
+              | inr same ↦ subst (λ (s : TraceStage). ((to : Text) → Sends plan s.place.1 s.place.0 key to → HasPair more (s.place.1, to)) × (Keeps plan s.place.1 s.place.0 key → HasName kept s.place.1)) same
                   (λ to sent. (on.1.pairs (stage.place.1, to)).1 (inr (refl, sent)), λ keep. (on.1.keeps stage.place.1).1 (inr (refl, keep)))
             ];
           })

@@ -11,25 +11,25 @@ use std::alloc::{AllocError, Global};
 /// A place that a key comes to, and how deep it lies: the fewer hops there may still be, the
 /// deeper.
 #[derive(Drop)]
-pub struct Stage {
+pub struct TraceStage {
     pub depth: u32,
     /// The caller that brings the key, and the node.
     pub place: (Text, Text),
 }
 
 /// The stage of a place with this rank.
-fn stage_of(caller: &Text, node: &Text, rank: u32) -> Result<Stage, AllocError>
+fn stage_of(caller: &Text, node: &Text, rank: u32) -> Result<TraceStage, AllocError>
     ensures { IfOk result (λ s.
         (s.place ≡ (caller.now, node.now)) × (s.depth + rank ≡ 2 ^ 32 - 1)) }
 {
     let place = (caller.clone()?, node.clone()?);
     let depth = u32::MAX - rank;
-    Ok(Stage { depth, place })
+    Ok(TraceStage { depth, place })
 }
 
 /// The stage of a line's place, where the key comes there.
 fn add_stage(
-    stages: &mut Vec<Stage>,
+    stages: &mut Vec<TraceStage>,
     sealed: &Sealed,
     line: &Line,
     key: &Key,
@@ -47,7 +47,7 @@ fn add_stage(
 
 /// The places that the key comes to, in the order of the certificate's lines; one may stand there
 /// more than once.
-fn unsorted_stages(alloc: Global, sealed: &Sealed, key: &Key) -> Result<Vec<Stage>, AllocError>
+fn unsorted_stages(alloc: Global, sealed: &Sealed, key: &Key) -> Result<Vec<TraceStage>, AllocError>
     ensures { IfOk result (λ all. AreStages sealed.now.plan key.now all.items) }
 {
     let _plan = sealed.plan();
@@ -59,7 +59,7 @@ fn unsorted_stages(alloc: Global, sealed: &Sealed, key: &Key) -> Result<Vec<Stag
 }
 
 /// The places that the key comes to, those from which it may go farthest first.
-pub fn stages_of(alloc: Global, sealed: &Sealed, key: &Key) -> Result<Vec<Stage>, AllocError>
+pub fn stages_of(alloc: Global, sealed: &Sealed, key: &Key) -> Result<Vec<TraceStage>, AllocError>
     ensures { IfOk result (λ all. AreOrdered sealed.now.plan key.now all.items) }
 {
     let mut stages = unsorted_stages(alloc, sealed, key)?;

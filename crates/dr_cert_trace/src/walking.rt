@@ -9,7 +9,7 @@ ghost use Rattle.dr_cert_trace.specs.Found.{AreFound, GoesOn, Passes};
 ghost use Rattle.dr_cert_trace.specs.Stages.{AreOrdered};
 
 use crate::pairs::{add_pairs, is_known};
-use crate::stages::Stage;
+use crate::stages::TraceStage;
 use dr_base::Text;
 use dr_plan_model::Plan;
 use dr_plan_model::sending::sends;
@@ -77,7 +77,7 @@ pub fn walk(
     plan: &Plan,
     site: &Text,
     key: &Key,
-    stages: &[Stage],
+    stages: &[TraceStage],
 ) -> Result<(BTreeSet<(Text, Text)>, BTreeSet<Text>), AllocError>
     requires stages { AreOrdered plan.now key.now stages.now }
     requires formed { IsWellFormed plan.now }

@@ -18,8 +18,8 @@ use Rattle.dr_plan_sound.specs.Ranked.{line_at}
 use Rattle.dr_plan_sound.proofs.Hopping.{last_hop, reached_not_local}
 use Rattle.dr_check.specs.declared.search.Search.{Search}
 use Rattle.dr_check.specs.declared.search.Frame.{Frame}
-use Rattle.dr_check.specs.declared.search.End.{End}
-use Rattle.dr_check.specs.declared.search.End.TheVariants as end
+use Rattle.dr_check.specs.declared.search.WalkEnd.{WalkEnd}
+use Rattle.dr_check.specs.declared.search.WalkEnd.TheVariants as end
 use Rattle.dr_check.specs.declared.fault.Fault.TheVariants as fault
 use Rattle.dr_check.specs.Shown.{ComesBack, IsShown}
 use Rattle.dr_check.specs.Firsts.{IsHarmless, IsFirstWalk}
@@ -170,7 +170,7 @@ first_walk plan formed cell is nodes first = λ key lies site over walked other 
 
 -- ---- the end of a search
 pub first_end : (plan : Network) → IsWellFormed plan → (cell : OwnedCell) → IsCellOf plan cell → (s : Search) (caller node : Text) →
-    IsTrail plan (key_of cell) (s.path.items ++ node ∷ []) caller node → IsAllOpen cell s → IsFirstYet plan cell (s.path.items ++ node ∷ []) → (e : End) →
+    IsTrail plan (key_of cell) (s.path.items ++ node ∷ []) caller node → IsAllOpen cell s → IsFirstYet plan cell (s.path.items ++ node ∷ []) → (e : WalkEnd) →
     IsEnd plan cell (s.path.items ++ node ∷ []) e → WasTested plan cell caller node s e → IsFirstEnd plan cell (s.path.items ++ node ∷ []) e
 first_end plan formed cell is s caller node trail opened first e = by_end e
   where
@@ -191,7 +191,7 @@ first_end plan formed cell is s caller node trail opened first e = by_end e
         not_back plan cell s caller node trail opened fresh shown.site shown.over shown.nodes
         (ends_at plan formed cell nodes caller node trail shown.site shown.over shown.nodes) wrong
 
-    by_end : (e : End) → IsEnd plan cell nodes e → WasTested plan cell caller node s e → IsFirstEnd plan cell nodes e
+    by_end : (e : WalkEnd) → IsEnd plan cell nodes e → WasTested plan cell caller node s e → IsFirstEnd plan cell nodes e
     by_end end.NoContext ended tested = (ended, is_first)
     by_end end.Cycle ended tested = (ended, (is_first, has_context tested))
     by_end end.DeadEnd ended tested = (ended, (is_first, has_context tested.0, no_circle tested.1))

@@ -13,8 +13,8 @@ use Rattle.dr_plan_sound.specs.declared.certificate.Stop.{Stop}
 use Rattle.dr_plan_sound.proofs.Hopping.{reached_not_local}
 use Rattle.dr_check.specs.declared.search.Search.{Search}
 use Rattle.dr_check.specs.declared.search.Frame.{Frame}
-use Rattle.dr_check.specs.declared.search.Found.{Found}
-use Rattle.dr_check.specs.declared.search.Found.TheVariants as found
+use Rattle.dr_check.specs.declared.search.WalkFound.{WalkFound}
+use Rattle.dr_check.specs.declared.search.WalkFound.TheVariants as found
 use Rattle.dr_check.specs.declared.search.Mark.TheVariants.{Open, Finished}
 use Rattle.dr_check.specs.Searching.{IsSearching, IsTrail, IsInside, IsDone, IsNew, IsRankedBy, IsTaken, IsFirstYet, EndsWell, IsAllOpen, GoesOnFrom, AfterReach, mark_at, stop_at, pairs_from}
 use Rattle.dr_check.specs.Stacks.{IsTop, IsStack, IsSameFrame, Enters, Leaves, Steps, stop_of_frame}
@@ -157,7 +157,7 @@ stack_begins plan cell start caller node (g ∷ below) f s stack =
     begins_pushed start stack.0 s.path.items node f.node (stack_begins plan cell start caller node below g stack.0 stack.3) stack.1.path
 
 -- what the last step of a search comes to, the whole search does
-pub after_steps : (plan : Network) (cell : OwnedCell) (old new start : Search) (f g : Frame) (below after : List Frame) (caller node : Text) (answer : Found) →
+pub after_steps : (plan : Network) (cell : OwnedCell) (old new start : Search) (f g : Frame) (below after : List Frame) (caller node : Text) (answer : WalkFound) →
     Steps plan cell old f below new g after (Some answer) → IsStack plan cell start caller node (reverse below) f old → AfterReach plan cell caller node start new answer
 after_steps plan cell old new start f g below after caller node (found.Rank r) steps stack = steps start caller node stack
 after_steps plan cell old new start f g below after caller node (found.End e) steps stack = (steps.0, steps.1 start caller node stack)

@@ -17,12 +17,12 @@ use Rattle.dr_plan_sound.specs.Ranked.{line_at, SendsOn, IsRanked}
 use Rattle.dr_check.specs.declared.search.Search.{Search}
 use Rattle.dr_check.specs.declared.search.Mark.{Mark}
 use Rattle.dr_check.specs.declared.search.Mark.TheVariants.{Open, Finished}
-use Rattle.dr_check.specs.declared.search.End.{End}
-use Rattle.dr_check.specs.declared.search.End.TheVariants as end
-use Rattle.dr_check.specs.declared.search.Seen.{Seen}
-use Rattle.dr_check.specs.declared.search.Seen.TheVariants as seen
-use Rattle.dr_check.specs.declared.search.Found.{Found}
-use Rattle.dr_check.specs.declared.search.Found.TheVariants as found
+use Rattle.dr_check.specs.declared.search.WalkEnd.{WalkEnd}
+use Rattle.dr_check.specs.declared.search.WalkEnd.TheVariants as end
+use Rattle.dr_check.specs.declared.search.SeenStop.{SeenStop}
+use Rattle.dr_check.specs.declared.search.SeenStop.TheVariants as seen
+use Rattle.dr_check.specs.declared.search.WalkFound.{WalkFound}
+use Rattle.dr_check.specs.declared.search.WalkFound.TheVariants as found
 use Rattle.dr_check.specs.declared.fault.Fault.TheVariants as fault
 use Rattle.dr_check.specs.Firsts.{IsNamedFirst, NothingBefore, IsHarmless}
 use Rattle.dr_check.specs.Shown.{IsShown, IsTooLarge}
@@ -104,14 +104,14 @@ pub record IsDone (plan : Network) (cell : OwnedCell) (caller node : Text) (r : 
 
 -- what a search that ends shows of the walk that it stands on: a fault there, or a plan with too
 -- many lines
-abbrev pub IsEnd : Network → OwnedCell → List Text → End → Type 0
+abbrev pub IsEnd : Network → OwnedCell → List Text → WalkEnd → Type 0
 IsEnd plan cell walk end.NoContext = IsShown plan (fault.NoContext walk cell)
 IsEnd plan cell walk end.Cycle = IsShown plan (fault.Cycle walk cell)
 IsEnd plan cell walk end.DeadEnd = IsShown plan (fault.DeadEnd walk cell)
 IsEnd plan cell walk end.TooLarge = IsTooLarge plan
 
 -- what is known where a search ends so: what is tested before
-abbrev pub WasTested : Network → OwnedCell → Text → Text → Search → End → Type 0
+abbrev pub WasTested : Network → OwnedCell → Text → Text → Search → WalkEnd → Type 0
 WasTested plan cell caller node s end.NoContext = Unit {0}
 WasTested plan cell caller node s end.Cycle = IsTaken plan cell caller node
 WasTested plan cell caller node s end.DeadEnd =
@@ -119,7 +119,7 @@ WasTested plan cell caller node s end.DeadEnd =
 WasTested plan cell caller node s end.TooLarge = Unit {0}
 
 -- a search that ends names the first walk that shows a fault
-abbrev pub IsFirstEnd : Network → OwnedCell → List Text → End → Type 0
+abbrev pub IsFirstEnd : Network → OwnedCell → List Text → WalkEnd → Type 0
 IsFirstEnd plan cell walk end.NoContext =
     IsEnd plan cell walk end.NoContext × IsNamedFirst plan (fault.NoContext walk cell)
 IsFirstEnd plan cell walk end.Cycle =
@@ -153,7 +153,7 @@ GoesOnFrom old node new = (rest : List Text) × (new.path.items ≡ old.path.ite
 
 -- what the whole search from a stop comes to: its rank, or an end that is right, on a walk over
 -- that stop
-abbrev pub AfterReach : Network → OwnedCell → Text → Text → Search → Search → Found → Type 0
+abbrev pub AfterReach : Network → OwnedCell → Text → Text → Search → Search → WalkFound → Type 0
 AfterReach plan cell caller node old new (found.Rank r) = IsDone plan cell caller node r old new
 AfterReach plan cell caller node old new (found.End e) =
     IsFirstEnd plan cell new.path.items e × GoesOnFrom old node new
@@ -171,7 +171,7 @@ pub record IsNew (plan : Network) (cell : OwnedCell) (caller node : Text) (stop 
   pub taken : IsTaken plan cell caller node
 
 -- what is found on looking at a stop: it is finished, or the search ends there, or it is new
-abbrev pub Finds : Network → OwnedCell → Text → Text → Search → Seen → Type 0
+abbrev pub Finds : Network → OwnedCell → Text → Text → Search → SeenStop → Type 0
 Finds plan cell caller node s (seen.Finished r) =
     (mark_at s.marks (stop_at caller node cell) ≡ Some (Finished r)) × IsTaken plan cell caller node
 Finds plan cell caller node s (seen.End e) =

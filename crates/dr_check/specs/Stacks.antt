@@ -13,10 +13,10 @@ use Rattle.dr_plan_sound.specs.declared.certificate.Stop.{Stop}
 use Rattle.dr_check.specs.declared.search.Search.{Search}
 use Rattle.dr_check.specs.declared.search.Frame.{Frame}
 use Rattle.dr_check.specs.declared.search.Mark.TheVariants.{Open, Finished}
-use Rattle.dr_check.specs.declared.search.Next.{Next}
-use Rattle.dr_check.specs.declared.search.Next.TheVariants as next
-use Rattle.dr_check.specs.declared.search.Found.{Found}
-use Rattle.dr_check.specs.declared.search.Found.TheVariants as found
+use Rattle.dr_check.specs.declared.search.NextTarget.{NextTarget}
+use Rattle.dr_check.specs.declared.search.NextTarget.TheVariants as next
+use Rattle.dr_check.specs.declared.search.WalkFound.{WalkFound}
+use Rattle.dr_check.specs.declared.search.WalkFound.TheVariants as found
 use Rattle.dr_check.specs.Searching.{IsSearching, IsTrail, IsInside, IsDone, IsNew, IsRankedBy}
 use Rattle.dr_check.specs.Searching.{IsFirstEnd, IsFirstYet, EndsWell, IsAllOpen, IsTaken}
 use Rattle.dr_check.specs.Searching.{GoesOnFrom, mark_at, stop_at}
@@ -77,7 +77,7 @@ pub record IsSameFrame (f g : Frame) : Type 0 where
 
 -- what is found among the targets of a frame: nothing more, an end of the search, or a stop that is
 -- new
-abbrev pub GoesOn : Network → OwnedCell → Search → Frame → Frame → Next → Type 0
+abbrev pub GoesOn : Network → OwnedCell → Search → Frame → Frame → NextTarget → Type 0
 GoesOn plan cell s f g next.Nothing =
     IsSameFrame f g × IsTop plan cell g s × (g.searched ≡ length g.targets)
 GoesOn plan cell s f g (next.End node e) = IsFirstEnd plan cell (s.path.items ++ node ∷ []) e
@@ -93,7 +93,7 @@ left_to_do s below = 2 * (65536 - btree_map_len s.marks) + length below
 
 -- what one step of the search does, whatever stop it began at: less is left to do, or it is done
 abbrev pub Steps : Network → OwnedCell → Search → Frame → List Frame → Search → Frame → List Frame
-    → Option Found → Type 0
+    → Option WalkFound → Type 0
 Steps plan cell old f below new g after None =
     (left_to_do new after < left_to_do old below)
     × ((start : Search) (caller node : Text)

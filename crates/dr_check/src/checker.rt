@@ -8,7 +8,7 @@ ghost use Rattle.dr_check.specs.Searching.{IsFirstEnd};
 ghost use Rattle.dr_check.specs.Stopping.{IsStoppedAt};
 
 use crate::fault::Fault;
-use crate::search::{End, Found, Search, reach};
+use crate::search::{Search, WalkEnd, WalkFound, reach};
 use dr_base::{Seq, Text};
 use dr_plan_entries::EntryVisitor;
 use dr_plan_model::Plan;
@@ -74,7 +74,7 @@ fn copy_of(cell: &OwnedCell) -> Result<OwnedCell, AllocError>
 }
 
 /// Why the checker stops where the search ended, at the end of this walk of the cell's keys.
-fn stopped_by(end: End, walk: Vec<Text>, cell: OwnedCell) -> Stopped
+fn stopped_by(end: WalkEnd, walk: Vec<Text>, cell: OwnedCell) -> Stopped
     ensures { (plan : Network) (site : Words) (over : List Words)
         → walk.items ≡ site ∷ over
         → IsFirstEnd plan cell walk.items end
@@ -82,10 +82,10 @@ fn stopped_by(end: End, walk: Vec<Text>, cell: OwnedCell) -> Stopped
 {
     let walk = Seq::from_vec(walk);
     match end {
-        End::NoContext => Stopped::Fault(Fault::NoContext { walk, cell }),
-        End::Cycle => Stopped::Fault(Fault::Cycle { walk, cell }),
-        End::DeadEnd => Stopped::Fault(Fault::DeadEnd { walk, cell }),
-        End::TooLarge => Stopped::TooLarge,
+        WalkEnd::NoContext => Stopped::Fault(Fault::NoContext { walk, cell }),
+        WalkEnd::Cycle => Stopped::Fault(Fault::Cycle { walk, cell }),
+        WalkEnd::DeadEnd => Stopped::Fault(Fault::DeadEnd { walk, cell }),
+        WalkEnd::TooLarge => Stopped::TooLarge,
     }
 }
 
@@ -107,8 +107,8 @@ impl<'a> EntryVisitor for Checker<'a> {
         let key = key_in(alloc, cell)?;
         let plan = self.plan;
         match reach(&mut self.search, plan, cell, &key, &self.local, site)? {
-            Found::Rank(_) => Ok(None),
-            Found::End(end) => {
+            WalkFound::Rank(_) => Ok(None),
+            WalkFound::End(end) => {
                 let walk = mem::replace(&mut self.search.path, Vec::new(alloc));
                 Ok(Some(stopped_by(end, walk, copy_of(cell)?)))
             }

@@ -45,7 +45,7 @@ pub struct Search {
 
 /// Why the search ends at the end of the walk that it is on.
 #[derive(Clone, Copy, Debug, Drop)]
-pub enum End {
+pub enum WalkEnd {
     NoContext,
     Cycle,
     DeadEnd,
@@ -54,24 +54,24 @@ pub enum End {
 
 /// What is found on looking at the next stop of a walk.
 #[derive(Drop)]
-enum Seen {
+enum SeenStop {
     /// It was finished before, with this rank.
     Finished(u32),
     /// The search ends there.
-    End(End),
+    End(WalkEnd),
     /// It is to be entered for the first time, and sends on to these nodes.
     New { stop: Stop, targets: Seq<Text> },
 }
 
 /// What is found on looking at the next targets of a stop, one after another.
 #[derive(Drop)]
-enum Next {
+enum NextTarget {
     /// All of them have been searched.
     Nothing,
     /// The search ends at this one.
     End {
         node: Text,
-        end: End,
+        end: WalkEnd,
     },
     /// This one is to be entered for the first time, and sends on to these nodes.
     New {
@@ -83,9 +83,9 @@ enum Next {
 
 /// What a search comes to: the rank of the stop that it began at, or its end at some stop.
 #[derive(Clone, Copy, Drop)]
-pub enum Found {
+pub enum WalkFound {
     Rank(u32),
-    End(End),
+    End(WalkEnd),
 }
 
 /// A stop that the search stands on: the nodes that it sends to, how many of them have been
@@ -146,7 +146,7 @@ fn look(
     key: &Key,
     caller: &Text,
     node: &Text,
-) -> Result<Seen, AllocError>
+) -> Result<SeenStop, AllocError>
     requires formed { IsWellFormed plan.now }
     requires cell { IsCellOf plan.now cell.now }
     requires key { key.now ≡ key_of cell.now }
@@ -156,22 +156,22 @@ fn look(
     ensures { IfOk result (Finds plan.now cell.now caller.now node.now search.now) }
 {
     if !is_accepted(plan, caller, node, cell) {
-        return Ok(Seen::End(End::NoContext));
+        return Ok(SeenStop::End(WalkEnd::NoContext));
     }
     let stop = stop_of(caller, node, cell)?;
     match mark_of(search, &stop) {
-        Some(Mark::Open) => return Ok(Seen::End(End::Cycle)),
-        Some(Mark::Finished(rank)) => return Ok(Seen::Finished(rank)),
+        Some(Mark::Open) => return Ok(SeenStop::End(WalkEnd::Cycle)),
+        Some(Mark::Finished(rank)) => return Ok(SeenStop::Finished(rank)),
         None => {}
     }
     let targets = sending::sends(search.alloc, plan, node, caller, key)?;
     if is_dead_end(&targets) {
-        return Ok(Seen::End(End::DeadEnd));
+        return Ok(SeenStop::End(WalkEnd::DeadEnd));
     }
     if search.marks.len() == MOST_LINES {
-        return Ok(Seen::End(End::TooLarge));
+        return Ok(SeenStop::End(WalkEnd::TooLarge));
     }
-    Ok(Seen::New {
+    Ok(SeenStop::New {
         stop,
         targets: targets.to,
     })
@@ -277,7 +277,7 @@ fn go_on(
     cell: &OwnedCell,
     key: &Key,
     frame: &mut Frame,
-) -> Result<Next, AllocError>
+) -> Result<NextTarget, AllocError>
     requires formed { IsWellFormed plan.now }
     requires cell { IsCellOf plan.now cell.now }
     requires key { key.now ≡ key_of cell.now }
@@ -287,17 +287,17 @@ fn go_on(
     while frame.searched < frame.targets.len() {
         let node = &frame.targets.as_slice()[frame.searched];
         match look(search, plan, cell, key, &frame.node, node)? {
-            Seen::Finished(rank) => {
+            SeenStop::Finished(rank) => {
                 frame.rank = frame.rank.max(rank + 1);
                 frame.searched += 1;
             }
-            Seen::End(end) => {
+            SeenStop::End(end) => {
                 let node = node.clone()?;
-                return Ok(Next::End { node, end });
+                return Ok(NextTarget::End { node, end });
             }
-            Seen::New { stop, targets } => {
+            SeenStop::New { stop, targets } => {
                 let node = node.clone()?;
-                return Ok(Next::New {
+                return Ok(NextTarget::New {
                     node,
                     stop,
                     targets,
@@ -305,7 +305,7 @@ fn go_on(
             }
         }
     }
-    Ok(Next::Nothing)
+    Ok(NextTarget::Nothing)
 }
 
 /// One step of the search: it enters a stop behind the one that it stands on, or finishes that one.
@@ -317,7 +317,7 @@ fn step(
     key: &Key,
     top: &mut Frame,
     below: &mut Vec<Frame>,
-) -> Result<Option<Found>, AllocError>
+) -> Result<Option<WalkFound>, AllocError>
     requires formed { IsWellFormed plan.now }
     requires cell { IsCellOf plan.now cell.now }
     requires key { key.now ≡ key_of cell.now }
@@ -327,11 +327,11 @@ fn step(
         below.new.items) }
 {
     match go_on(search, plan, cell, key, top)? {
-        Next::End { node, end } => {
+        NextTarget::End { node, end } => {
             search.path.push(node)?;
-            Ok(Some(Found::End(end)))
+            Ok(Some(WalkFound::End(end)))
         }
-        Next::New {
+        NextTarget::New {
             node,
             stop,
             targets,
@@ -341,7 +341,7 @@ fn step(
             below.push(mem::replace(top, next))?;
             Ok(None)
         }
-        Next::Nothing => {
+        NextTarget::Nothing => {
             leave(search, cell, top)?;
             let rank = top.rank;
             match below.pop() {
@@ -349,7 +349,7 @@ fn step(
                     *top = frame;
                     Ok(None)
                 }
-                None => Ok(Some(Found::Rank(rank))),
+                None => Ok(Some(WalkFound::Rank(rank))),
             }
         }
     }
@@ -364,7 +364,7 @@ pub fn reach(
     key: &Key,
     caller: &Text,
     node: &Text,
-) -> Result<Found, AllocError>
+) -> Result<WalkFound, AllocError>
     requires formed { IsWellFormed plan.now }
     requires cell { IsCellOf plan.now cell.now }
     requires key { key.now ≡ key_of cell.now }
@@ -375,12 +375,12 @@ pub fn reach(
     ensures { IfOk result (AfterReach plan.now cell.now caller.now node.now search.old search.new) }
 {
     let mut top = match look(search, plan, cell, key, caller, node)? {
-        Seen::Finished(rank) => return Ok(Found::Rank(rank)),
-        Seen::End(end) => {
+        SeenStop::Finished(rank) => return Ok(WalkFound::Rank(rank)),
+        SeenStop::End(end) => {
             search.path.push(node.clone()?)?;
-            return Ok(Found::End(end));
+            return Ok(WalkFound::End(end));
         }
-        Seen::New { stop, targets } => begin(search, caller, node, stop, targets)?,
+        SeenStop::New { stop, targets } => begin(search, caller, node, stop, targets)?,
     };
     let mut below = Vec::new(search.alloc);
     'search: loop {

@@ -21,7 +21,7 @@ pub enum Sender {
 
 /// A search for a flow that brings a key in at a site, and to a node.
 #[derive(Drop)]
-struct Flows<'a> {
+struct FlowSearch<'a> {
     site: &'a Text,
     key: &'a Key,
     to: &'a Text,
@@ -34,7 +34,7 @@ fn brings_to(flow: &Flow, site: &Text, key: &Key, to: &Text) -> bool
     flow.at == *site && flow.to == *to && fits(flow, key)
 }
 
-impl<'a> Look for Flows<'a> {
+impl<'a> Look for FlowSearch<'a> {
     type Value = Flow;
 
     type Place = ();
@@ -53,7 +53,7 @@ impl<'a> Look for Flows<'a> {
 
 /// A search for a rule that sends a key on to a node.
 #[derive(Drop)]
-struct Rules<'a> {
+struct RuleSearch<'a> {
     caller: &'a Text,
     key: &'a Key,
     to: &'a Text,
@@ -73,7 +73,7 @@ fn sends_to(rule: &Rule, caller: &Text, key: &Key, to: &Text) -> bool
     holds(rule, caller, key) && is_among(rule.to.as_slice(), to)
 }
 
-impl<'a> Look for Rules<'a> {
+impl<'a> Look for RuleSearch<'a> {
     type Value = Rule;
 
     type Place = ();
@@ -97,7 +97,7 @@ pub fn sender_of(plan: &Plan, name: &Text, caller: &Text, key: &Key, to: &Text) 
         (IsSender plan.now name.now caller.now key.now to.now) }
 {
     if is_local(caller) {
-        let flows = Flows {
+        let flows = FlowSearch {
             site: name,
             key,
             to,
@@ -110,7 +110,7 @@ pub fn sender_of(plan: &Plan, name: &Text, caller: &Text, key: &Key, to: &Text) 
     let Some(node) = plan.node(name) else {
         return None;
     };
-    let rules = Rules { caller, key, to };
+    let rules = RuleSearch { caller, key, to };
     match first(&rules, node.rules.as_slice()) {
         Some((index, ())) => Some(Sender::Rule(index)),
         None => None,

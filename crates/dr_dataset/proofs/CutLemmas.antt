@@ -9,9 +9,9 @@ use Rattle.dr_dataset.specs.declared.fault.DataFault.{DataFault}
 use Rattle.dr_dataset.specs.declared.fault.DataFault.TheVariants.{Truncated, BadLength}
 use Rattle.dr_dataset.specs.declared.header.Tag.{Tag}
 use Rattle.dr_dataset.specs.declared.header.Vr.{Vr}
-use Rattle.dr_dataset.specs.declared.header.Form.{Form}
-use Rattle.dr_dataset.specs.declared.frame.Frame.{Frame}
-use Rattle.dr_dataset.specs.declared.frame.Frame.TheVariants.{InSequence, InItem}
+use Rattle.dr_dataset.specs.declared.header.HeaderForm.{HeaderForm}
+use Rattle.dr_dataset.specs.declared.frame.OpenSequence.{OpenSequence}
+use Rattle.dr_dataset.specs.declared.frame.OpenSequence.TheVariants.{InSequence, InItem}
 use Rattle.dr_dataset.specs.declared.token.Token.{Token}
 use Rattle.dr_dataset.specs.declared.token.Token.TheVariants.{Value, Sequence, PlainItem, Item, ItemEnd, SequenceEnd}
 use Rattle.dr_dataset.specs.Elements.{item_group, undefined, inside, is_short, tag_text, StartsForm, StartsHeader, StartsMark}
@@ -25,12 +25,12 @@ use Rattle.dr_dataset.proofs.TokenLemmas.{IsNext, token_sound, token_whole}
 abbrev Splits : (List ℕ → List ℕ → Type 0) → List ℕ → List ℕ → Type 0
 Splits Starts text rest = (pre : List ℕ) × (text ≡ pre ++ rest) × ((r : List ℕ) → Starts (pre ++ r) r)
 
-form_splits : (s : Syntax) (text : List ℕ) (f : Form) (rest : List ℕ) → StartsForm s text f rest → Splits (λ x r. StartsForm s x f r) text rest
+form_splits : (s : Syntax) (text : List ℕ) (f : HeaderForm) (rest : List ℕ) → StartsForm s text f rest → Splits (λ x r. StartsForm s x f r) text rest
 form_splits Implicit text f rest (v, h, is) = (to_le_bytes w32 f.len, is, λ r. (v, h, refl))
 form_splits Explicit text f rest (v, has, capitals, inl (short, h, is)) = (v.first ∷ v.second ∷ to_le_bytes w16 f.len, is, λ r. (v, has, capitals, inl (short, h, refl)))
 form_splits Explicit text f rest (v, has, capitals, inr (a, b, short, h, is)) = (v.first ∷ v.second ∷ a ∷ b ∷ to_le_bytes w32 f.len, is, λ r. (v, has, capitals, inr (a, b, short, h, refl)))
 
-header_splits : (s : Syntax) (text : List ℕ) (t : Tag) (f : Form) (rest : List ℕ) → StartsHeader s text t f rest → Splits (λ x r. StartsHeader s x t f r) text rest
+header_splits : (s : Syntax) (text : List ℕ) (t : Tag) (f : HeaderForm) (rest : List ℕ) → StartsHeader s text t f rest → Splits (λ x r. StartsHeader s x t f r) text rest
 header_splits s text t f rest (behind, (g, e, is), ne, form) =
     let p = form_splits s behind f rest form in
     (tag_text t ++ p.0, is ∙ ap (λ (x : List ℕ). tag_text t ++ x) p.1, λ r. (p.0 ++ r, (g, e, refl), ne, p.2 r))
@@ -40,7 +40,7 @@ mark_splits element text len rest (behind, (g, e, is), h, len_is) =
     let t : Tag = record { group = item_group; element = element } in
     (tag_text t ++ to_le_bytes w32 len, is ∙ ap (λ (x : List ℕ). tag_text t ++ x) len_is, λ r. (to_le_bytes w32 len ++ r, (g, e, refl), h, refl))
 
-next_splits : (s : Syntax) (fs : List Frame) (text : List ℕ) (token : Token) (rest : List ℕ) → IsNext s fs text token rest → Splits (λ x r. IsNext s fs x token r) text rest
+next_splits : (s : Syntax) (fs : List OpenSequence) (text : List ℕ) (token : Token) (rest : List ℕ) → IsNext s fs text token rest → Splits (λ x r. IsNext s fs x token r) text rest
 next_splits s fs text (Value t len) rest (wants, f, header, is, defined, short) = let p = header_splits (in_force s fs) text t f rest header in (p.0, p.1, λ r. (wants, f, p.2 r, is, defined, short))
 next_splits s fs text (Sequence t w) rest (wants, room, (f, header, len, is)) = let p = header_splits (in_force s fs) text t f rest header in (p.0, p.1, λ r. (wants, room, (f, p.2 r, len, is)))
 next_splits s fs text (PlainItem len) rest (wants, defined, m) = let p = mark_splits 0xE000 text len rest m in (p.0, p.1, λ r. (wants, defined, p.2 r))
@@ -69,7 +69,7 @@ Answer = Result (Token × List ℕ) DataFault
 ok_not_err : (p : Token × List ℕ) (f : DataFault) → ◌≡◌ {A = Answer} (Ok p) (Err f) → ⊥
 ok_not_err p f e = cc
 
-pub nothing_behind : (s : Syntax) (fs : List Frame) (h : List ℕ) (b : ℕ) (token : Token) (rest : List ℕ) → token_of s fs h ≡ Err Truncated → token_of s fs (h ++ b ∷ []) ≡ Ok (token, rest) → rest ≡ []
+pub nothing_behind : (s : Syntax) (fs : List OpenSequence) (h : List ℕ) (b : ℕ) (token : Token) (rest : List ℕ) → token_of s fs h ≡ Err Truncated → token_of s fs (h ++ b ∷ []) ≡ Ok (token, rest) → rest ≡ []
 nothing_behind s fs h b token [] cut e = refl
 nothing_behind s fs h b token (c ∷ cs) cut e =
     let p = next_splits s fs (h ++ b ∷ []) token (c ∷ cs) (token_sound s fs (h ++ b ∷ []) token (c ∷ cs) e) in
@@ -80,7 +80,7 @@ nothing_behind s fs h b token (c ∷ cs) cut e =
     absurd (ok_not_err (token, l.0) Truncated (sym sooner ∙ cut))
 
 -- a header that is read, alone
-pub header_alone : (s : Syntax) (fs : List Frame) (text : List ℕ) (token : Token) (rest : List ℕ) → token_of s fs text ≡ Ok (token, rest) → (pre : List ℕ) × (text ≡ pre ++ rest) × (token_of s fs pre ≡ Ok (token, []))
+pub header_alone : (s : Syntax) (fs : List OpenSequence) (text : List ℕ) (token : Token) (rest : List ℕ) → token_of s fs text ≡ Ok (token, rest) → (pre : List ℕ) × (text ≡ pre ++ rest) × (token_of s fs pre ≡ Ok (token, []))
 header_alone s fs text token rest e =
     let p = next_splits s fs text token rest (token_sound s fs text token rest e) in
     (p.0, p.1, ap (token_of s fs) (sym (append-nil p.0)) ∙ token_whole s fs (p.0 ++ []) token [] (p.2 []))
@@ -115,7 +115,7 @@ long_stands (a ∷ b ∷ c ∷ d ∷ rest) len h =
     let p : ℕ × List ℕ = (from_le_bytes w32 (a ∷ b ∷ c ∷ d ∷ []), rest) in (p, ap (λ (x : Bool). cond x (Some p) None) (four a b c d rest h))
 
 abbrev FormAnswer : Type 0
-FormAnswer = Result (Form × List ℕ) DataFault
+FormAnswer = Result (HeaderForm × List ℕ) DataFault
 
 with_stands : (v : Option Vr) (o : Option (ℕ × List ℕ)) → ((p : ℕ × List ℕ) × (o ≡ Some p)) → form_with v o ≢ Err Truncated
 with_stands v None p e = absurd (cc p.1)
@@ -146,7 +146,7 @@ value_whole : (o : Bool) (t : Tag) (len : ℕ) (rest : List ℕ) → value_token
 value_whole true t len rest e = cc e
 value_whole false t len rest e = cc e
 
-by_whole : (u : Bool) (s : Syntax) (top full : Bool) (t : Tag) (f : Form) (rest : List ℕ) → element_token_by u s top full t f rest ≢ Err Truncated
+by_whole : (u : Bool) (s : Syntax) (top full : Bool) (t : Tag) (f : HeaderForm) (rest : List ℕ) → element_token_by u s top full t f rest ≢ Err Truncated
 by_whole true s top full t f rest e = sequence_whole full t rest (inside s f.vr) e
 by_whole false s top full t f rest e = value_whole (is_long_key top t f.len) t f.len rest e
 
@@ -180,7 +180,7 @@ if_stands false a b p q e = q e
 length_not_cut : ◌≢◌ {A = Answer} (Err BadLength) (Err Truncated)
 length_not_cut e = cc e
 
-tag_stands : (s : Syntax) (fs : List Frame) (t : Tag) (text : List ℕ) → 8 ≤ length text → AreBytes text → token_with s fs (Some (t, text)) ≢ Err Truncated
+tag_stands : (s : Syntax) (fs : List OpenSequence) (t : Tag) (text : List ℕ) → 8 ≤ length text → AreBytes text → token_with s fs (Some (t, text)) ≢ Err Truncated
 tag_stands s [] t text len h = element_stands s true (is_full []) t text len h
 tag_stands s (InItem w ∷ fs) t text len h =
     let l = long_stands text (omega (arith, len)) h in
@@ -190,7 +190,7 @@ tag_stands s (InSequence u w ∷ fs) t text len h =
     if_stands (has_tag item_group 0xE000 t) (open_item_token (long_of text)) (cond (has_tag item_group 0xE0DD t) (end_token (SequenceEnd u) (long_of text)) (Err BadLength)) (open_item_stands (long_of text) l)
     (if_stands (has_tag item_group 0xE0DD t) (end_token (SequenceEnd u) (long_of text)) (Err BadLength) (end_stands (SequenceEnd u) (long_of text) l) length_not_cut)
 
-pub twelve_hold : (s : Syntax) (fs : List Frame) (text : List ℕ) → 12 ≤ length text → AreBytes text → token_of s fs text ≢ Err Truncated
+pub twelve_hold : (s : Syntax) (fs : List OpenSequence) (text : List ℕ) → 12 ≤ length text → AreBytes text → token_of s fs text ≢ Err Truncated
 twelve_hold s fs [] len h e = absurd (omega arith)
 twelve_hold s fs (a ∷ []) len h e = absurd (omega arith)
 twelve_hold s fs (a ∷ b ∷ []) len h e = absurd (omega arith)

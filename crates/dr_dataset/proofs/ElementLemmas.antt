@@ -6,8 +6,8 @@ use Rattle.dr_base.specs.declared.syntax.Syntax.{Syntax}
 use Rattle.dr_dataset.specs.declared.fault.DataFault.{DataFault}
 use Rattle.dr_dataset.specs.declared.fault.DataFault.TheVariants.{Memory}
 use Rattle.dr_dataset.specs.declared.header.Tag.{Tag}
-use Rattle.dr_dataset.specs.declared.frame.Frame.{Frame}
-use Rattle.dr_dataset.specs.declared.frame.Frame.TheVariants.{InSequence, InItem}
+use Rattle.dr_dataset.specs.declared.frame.OpenSequence.{OpenSequence}
+use Rattle.dr_dataset.specs.declared.frame.OpenSequence.TheVariants.{InSequence, InItem}
 use Rattle.dr_dataset.specs.declared.token.Token.{Token}
 use Rattle.dr_dataset.specs.declared.token.Token.TheVariants.{Value, Sequence, PlainItem, Item, ItemEnd, SequenceEnd}
 use Rattle.dr_dataset.specs.Elements.{Element}
@@ -20,7 +20,7 @@ use Rattle.dr_dataset.proofs.WalkLemmas.{Place, at, value_by, move, move_by, mov
 use Rattle.dr_dataset.proofs.OneAnswerLemmas.{meet, fault_is_stuck, open_at_most}
 
 -- how far a place is: each element of the top level counts twice, at its begin and at its end
-abbrev opened : List Frame → ℕ
+abbrev opened : List OpenSequence → ℕ
 opened [] = 0
 opened (f ∷ fs) = 1
 
@@ -28,46 +28,46 @@ abbrev weight : Place → ℕ
 weight p = 2 * length p.done + opened p.frames
 
 -- a place behind another one: its frames nest, it is no nearer, and it is farther where the first is at the top
-abbrev IsFarther : List Frame → List Element → Place → Type 0
+abbrev IsFarther : List OpenSequence → List Element → Place → Type 0
 IsFarther fs es q = (is_nested q.frames ≡ true) × (weight (at fs [] es) ≤ weight q) × (fs ≡ [] → weight (at fs [] es) < weight q)
 
-value_farther : (b : Bool) (fs : List Frame) (rest : List ℕ) (es xs : List Element) (q : Place) → is_nested fs ≡ true → length es ≤ length xs → (fs ≡ [] → length es < length xs) → value_by b fs rest xs ≡ Some q → IsFarther fs es q
+value_farther : (b : Bool) (fs : List OpenSequence) (rest : List ℕ) (es xs : List Element) (q : Place) → is_nested fs ≡ true → length es ≤ length xs → (fs ≡ [] → length es < length xs) → value_by b fs rest xs ≡ Some q → IsFarther fs es q
 value_farther false fs rest es xs q n more top e = absurd (cc)
 value_farther true fs rest es xs q n more top e =
     let same : at fs rest xs ≡ q = cc in
     subst (λ (x : Place). IsFarther fs es x) same (n, omega (arith, more), λ none. omega (arith, top none))
 
-whole_longer : (fs : List Frame) (es : List Element) (t : Tag) (v : Option (List ℕ)) → (length es ≤ length (es ++ whole fs t v)) × (fs ≡ [] → length es < length (es ++ whole fs t v))
+whole_longer : (fs : List OpenSequence) (es : List Element) (t : Tag) (v : Option (List ℕ)) → (length es ≤ length (es ++ whole fs t v)) × (fs ≡ [] → length es < length (es ++ whole fs t v))
 whole_longer [] es t v = (omega (arith, length-append es (whole [] t v)), λ _. omega (arith, length-append es (whole [] t v)))
 whole_longer (f ∷ fs) es t v = (omega (arith, length-append es (whole (f ∷ fs) t v)), λ none. absurd (cc))
 
-moved_to : (s : Syntax) (fs : List Frame) (es : List Element) (r q : Place) → ◌≡◌ {A = Option Place} (Some r) (Some q) → IsFarther fs es r → IsFarther fs es q
+moved_to : (s : Syntax) (fs : List OpenSequence) (es : List Element) (r q : Place) → ◌≡◌ {A = Option Place} (Some r) (Some q) → IsFarther fs es r → IsFarther fs es q
 moved_to s fs es r q e f = let same : r ≡ q = cc in subst (λ (x : Place). IsFarther fs es x) same f
 
-end_farther : (s : Syntax) (fs : List Frame) (es : List Element) (behind : List ℕ) (t : Tag) (w : Syntax) (outer : List Frame) → is_nested fs ≡ true → fs ≡ InSequence t w ∷ outer → IsFarther fs es (at (without_first fs) behind (es ++ whole (without_first fs) t None))
+end_farther : (s : Syntax) (fs : List OpenSequence) (es : List Element) (behind : List ℕ) (t : Tag) (w : Syntax) (outer : List OpenSequence) → is_nested fs ≡ true → fs ≡ InSequence t w ∷ outer → IsFarther fs es (at (without_first fs) behind (es ++ whole (without_first fs) t None))
 end_farther s fs es behind t w outer n is =
-    subst (λ (x : List Frame). is_nested x ≡ true → IsFarther x es (at (without_first x) behind (es ++ whole (without_first x) t None))) (sym is) (by_outer outer) n
+    subst (λ (x : List OpenSequence). is_nested x ≡ true → IsFarther x es (at (without_first x) behind (es ++ whole (without_first x) t None))) (sym is) (by_outer outer) n
   where
-    by_outer : (outer : List Frame) → is_nested (InSequence t w ∷ outer) ≡ true → IsFarther (InSequence t w ∷ outer) es (at outer behind (es ++ whole outer t None))
+    by_outer : (outer : List OpenSequence) → is_nested (InSequence t w ∷ outer) ≡ true → IsFarther (InSequence t w ∷ outer) es (at outer behind (es ++ whole outer t None))
     by_outer [] n = (refl, omega (arith, length-append es (whole [] t None)), λ none. absurd (cc))
     by_outer (f ∷ fs) n = (nested_outer (InSequence t w) (f ∷ fs) n, omega (arith, length-append es (whole (f ∷ fs) t None)), λ none. absurd (cc))
 
-item_end_farther : (s : Syntax) (fs : List Frame) (es : List Element) (behind : List ℕ) (w : Syntax) (outer : List Frame) → is_nested fs ≡ true → fs ≡ InItem w ∷ outer → IsFarther fs es (at (without_first fs) behind es)
+item_end_farther : (s : Syntax) (fs : List OpenSequence) (es : List Element) (behind : List ℕ) (w : Syntax) (outer : List OpenSequence) → is_nested fs ≡ true → fs ≡ InItem w ∷ outer → IsFarther fs es (at (without_first fs) behind es)
 item_end_farther s fs es behind w outer n is =
-    subst (λ (x : List Frame). is_nested x ≡ true → IsFarther x es (at (without_first x) behind es)) (sym is) (by_outer outer) n
+    subst (λ (x : List OpenSequence). is_nested x ≡ true → IsFarther x es (at (without_first x) behind es)) (sym is) (by_outer outer) n
   where
-    by_outer : (outer : List Frame) → is_nested (InItem w ∷ outer) ≡ true → IsFarther (InItem w ∷ outer) es (at outer behind es)
+    by_outer : (outer : List OpenSequence) → is_nested (InItem w ∷ outer) ≡ true → IsFarther (InItem w ∷ outer) es (at outer behind es)
     by_outer [] n = absurd (cc)
     by_outer (f ∷ fs) n = (nested_outer (InItem w) (f ∷ fs) n, omega arith, λ none. absurd (cc))
 
-token_farther : (s : Syntax) (fs : List Frame) (es : List Element) (text : List ℕ) (token : Token) (behind : List ℕ) (q : Place) → is_nested fs ≡ true → token_of s fs text ≡ Ok (token, behind) → move_token s fs es token behind ≡ Some q → IsFarther fs es q
+token_farther : (s : Syntax) (fs : List OpenSequence) (es : List Element) (text : List ℕ) (token : Token) (behind : List ℕ) (q : Place) → is_nested fs ≡ true → token_of s fs text ≡ Ok (token, behind) → move_token s fs es token behind ≡ Some q → IsFarther fs es q
 token_farther s fs es text (Value t len) behind q n e m =
     let l = whole_longer fs es t (Some (take len behind)) in
     value_farther (leb len (length behind)) fs (drop len behind) es (es ++ whole fs t (Some (take len behind))) q n l.0 l.1 m
 token_farther s fs es text (Sequence t w) behind q n e m =
     moved_to s fs es (at (InSequence t w ∷ fs) behind es) q m (sequence_nests s fs text (Sequence t w) behind t w n e refl, by_frames fs, λ none. omega (arith, ap opened none))
   where
-    by_frames : (fs : List Frame) → 2 * length es + opened fs ≤ 2 * length es + 1
+    by_frames : (fs : List OpenSequence) → 2 * length es + opened fs ≤ 2 * length es + 1
     by_frames [] = omega arith
     by_frames (f ∷ fs) = omega arith
 token_farther s [] es text (PlainItem len) behind q n e m = let next = token_sound s [] text (PlainItem len) behind e in absurd (cc next.0)
@@ -145,6 +145,6 @@ none_where_it_fails s text f e rest ne (fs, more, o, h) starts =
     let w = meet s u.0 v.0 (at [] text []) (at fs more []) (at [] rest (e ∷ [])) u.1 v.1 (fault_is_stuck s fs [] more f (open_at_most s fs text [] more o) ne h) in
     not_nearer fs (walk_farther s w.0 (at [] rest (e ∷ [])) (at fs more []) refl w.1)
   where
-    not_nearer : (fs : List Frame) → 2 ≤ 0 + opened fs → ⊥
+    not_nearer : (fs : List OpenSequence) → 2 ≤ 0 + opened fs → ⊥
     not_nearer [] h = omega arith
     not_nearer (f ∷ fs) h = omega arith

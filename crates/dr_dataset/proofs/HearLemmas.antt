@@ -10,7 +10,7 @@ use Rattle.dr_base.specs.declared.syntax.Syntax.{Syntax}
 use Rattle.dr_dataset.specs.declared.fault.DataFault.{DataFault}
 use Rattle.dr_dataset.specs.declared.fault.DataFault.TheVariants.{Truncated, BadVr, BadLength, TooDeep, Memory}
 use Rattle.dr_dataset.specs.declared.header.Tag.{Tag}
-use Rattle.dr_dataset.specs.declared.frame.Frame.{Frame}
+use Rattle.dr_dataset.specs.declared.frame.OpenSequence.{OpenSequence}
 use Rattle.dr_dataset.specs.declared.token.Token.{Token}
 use Rattle.dr_dataset.specs.declared.token.Token.TheVariants.{Value, Sequence, Item, ItemEnd, SequenceEnd}
 use Rattle.dr_dataset.specs.declared.values.Attributes.{Attributes}
@@ -18,8 +18,8 @@ use Rattle.dr_dataset.specs.declared.whole.Whole.{Whole}
 use Rattle.dr_dataset.specs.declared.caught.Caught.{Caught}
 use Rattle.dr_dataset.specs.declared.scanner.Scanner.{Scanner}
 use Rattle.dr_dataset.specs.declared.hearing.Scan.{Scan}
-use Rattle.dr_dataset.specs.declared.hearing.Place.{Place}
-use Rattle.dr_dataset.specs.declared.hearing.Place.TheVariants.{InHeader, InValue, Failed}
+use Rattle.dr_dataset.specs.declared.hearing.ScanPlace.{ScanPlace}
+use Rattle.dr_dataset.specs.declared.hearing.ScanPlace.TheVariants.{InHeader, InValue, Failed}
 use Rattle.dr_dataset.specs.Elements.{Element}
 use Rattle.dr_dataset.specs.DataSet.{has_tag, is_key, first_value, Opens, FirstFault, Scans, IsDataSet}
 use Rattle.dr_base.specs.Padding.{trimmed}
@@ -93,7 +93,7 @@ note_one_keeps c d t bytes b0 b1 b2 b3 i0 i1 i2 i3 k0 k1 k2 k3 es e tag value sh
     first3 false false false true e = refl
     first3 false false false false e = absurd (cc)
 
-pub short_whole : (w : Option Whole) (fs : List Frame) (t : Tag) (v : Option (List ℕ)) → elements_of w ≡ whole fs t v → IsShort v → IsShortKey w
+pub short_whole : (w : Option Whole) (fs : List OpenSequence) (t : Tag) (v : Option (List ℕ)) → elements_of w ≡ whole fs t v → IsShort v → IsShortKey w
 short_whole None fs t v e h = tt
 short_whole (Some w) (f ∷ fs) t v e h = absurd (cc)
 short_whole (Some w) [] t v e h =
@@ -102,10 +102,10 @@ short_whole (Some w) [] t v e h =
 
 -- ---- places
 
-at_place : (s : Syntax) (text : List ℕ) (scan : Scan) (p : Place) → scan.place ≡ p → Hears s text scan → HearsAt s text scan p
-at_place s text scan p is h = subst (λ (x : Place). HearsAt s text scan x) is h.1
+at_place : (s : Syntax) (text : List ℕ) (scan : Scan) (p : ScanPlace) → scan.place ≡ p → Hears s text scan → HearsAt s text scan p
+at_place s text scan p is h = subst (λ (x : ScanPlace). HearsAt s text scan x) is h.1
 
-nothing_yet : (s : Syntax) (fs : List Frame) → token_of s fs [] ≡ Err Truncated
+nothing_yet : (s : Syntax) (fs : List OpenSequence) → token_of s fs [] ≡ Err Truncated
 nothing_yet s fs = refl
 
 no_bytes : AreBytes []
@@ -139,7 +139,7 @@ settles_item scan missing is z s text h =
     (h.0, in_header s text (record scan { place = InHeader }) es (subst (λ (x : List ℕ). Opens s scan.scanner.stack text es x) ends.1 on) a none)
 
 -- an element whose bytes were kept, or one that is none of the four, or that isn't at the top
-caught_on : (c : Caught) (es : List Element) (fs : List Frame) (t : Tag) (items got : List ℕ) → (is_kept fs (Some t) ≡ true → items ≡ got) → AreCaught c (es ++ whole fs t (Some items)) → AreCaught c (es ++ whole fs t (Some got))
+caught_on : (c : Caught) (es : List Element) (fs : List OpenSequence) (t : Tag) (items got : List ℕ) → (is_kept fs (Some t) ≡ true → items ≡ got) → AreCaught c (es ++ whole fs t (Some items)) → AreCaught c (es ++ whole fs t (Some got))
 caught_on c es (f ∷ fs) t items got kept a = a
 caught_on c es [] t items got kept a = by_key (is_key t) refl
   where
@@ -163,7 +163,7 @@ settles_element scan t missing w found is z elements fits note s text h =
 
 -- ---- bytes of a value
 
-kept_short : (s : Syntax) (fs : List Frame) (t : Option Tag) (len : ℕ) (token got : List ℕ) → is_kept fs t ≡ true → token_of s fs token ≡ Ok (value_header t len, got) → len ≤ 1024
+kept_short : (s : Syntax) (fs : List OpenSequence) (t : Option Tag) (len : ℕ) (token got : List ℕ) → is_kept fs t ≡ true → token_of s fs token ≡ Ok (value_header t len, got) → len ≤ 1024
 kept_short s [] (Some t) len token got kept e = let next = token_sound s [] token (Value t len) got e in next.5 refl kept
 kept_short s [] None len token got kept e = absurd (cc)
 kept_short s (f ∷ fs) t len token got kept e = absurd (cc)
@@ -203,11 +203,11 @@ waits scan scanner header b byte items syntax stack cut is s text h =
     let (es, o, a, e, bytes) = at_place s text scan InHeader is h in
     let new = record scan { scanner = scanner; header = header } in
     let longer : Opens s scanner.stack (text ++ b ∷ []) es header.items =
-    subst (λ (x : List ℕ). Opens s scanner.stack (text ++ b ∷ []) es x) (sym items) (subst (λ (x : List Frame). Opens s x (text ++ b ∷ []) es (scan.header.items ++ b ∷ [])) (sym stack) (opens_longer s scan.scanner.stack text es scan.header.items (b ∷ []) o)) in
+    subst (λ (x : List ℕ). Opens s scanner.stack (text ++ b ∷ []) es x) (sym items) (subst (λ (x : List OpenSequence). Opens s x (text ++ b ∷ []) es (scan.header.items ++ b ∷ [])) (sym stack) (opens_longer s scan.scanner.stack text es scan.header.items (b ∷ []) o)) in
     let still : token_of s scanner.stack header.items ≡ Err Truncated =
-    ap (λ (x : List Frame). token_of s x header.items) stack ∙ ap (λ (x : Syntax). token_of x scan.scanner.stack header.items) (sym h.0) ∙ cut in
+    ap (λ (x : List OpenSequence). token_of s x header.items) stack ∙ ap (λ (x : Syntax). token_of x scan.scanner.stack header.items) (sym h.0) ∙ cut in
     let here : HearsAt s (text ++ b ∷ []) new InHeader = (es, longer, a, still, subst AreBytes (sym items) (byte_more scan.header.items b byte bytes)) in
-    (syntax ∙ h.0, subst (λ (x : Place). HearsAt s (text ++ b ∷ []) new x) (sym is) here)
+    (syntax ∙ h.0, subst (λ (x : ScanPlace). HearsAt s (text ++ b ∷ []) new x) (sym is) here)
 
 some_text : (xs : List ℕ) (b : ℕ) → xs ++ b ∷ [] ≢ []
 some_text [] b e = cc e
@@ -243,18 +243,18 @@ awaits scan t len token is s text (syntax, place, none, (before, es, header, o, 
     let same : scan.scanner.stack ≡ before = stack ∙ ap (λ (x : Token). open_behind s x before) is ∙ unmoved t in
     let sum : len ≡ length {A = ℕ} [] + len = omega arith in
     let here : token_of s scan.scanner.stack header ≡ Ok (value_header t (length {A = ℕ} [] + len), []) =
-    ap (λ (x : List Frame). token_of s x header) same ∙ e ∙ ap (λ (x : Token). Ok (x, [])) is ∙ ap (λ (n : ℕ). Ok (value_header t n, [])) sum in
-    (syntax, (es, header, [], subst (λ (x : List Frame). Opens s x text es header) (sym same) o, a, here, (λ _. refl), none))
+    ap (λ (x : List OpenSequence). token_of s x header) same ∙ e ∙ ap (λ (x : Token). Ok (x, [])) is ∙ ap (λ (n : ℕ). Ok (value_header t n, [])) sum in
+    (syntax, (es, header, [], subst (λ (x : List OpenSequence). Opens s x text es header) (sym same) o, a, here, (λ _. refl), none))
   where
     unmoved : (t : Option Tag) → open_behind s (value_header t len) before ≡ before
     unmoved None = refl
     unmoved (Some t) = refl
 
-goes_on_by : (scan : Scan) (s : Syntax) (text : List ℕ) (found : Caught) (before : List Frame) (header : List ℕ) (es more : List Element) → scan.scanner.syntax ≡ s → scan.place ≡ InHeader → scan.header.items ≡ [] → Opens s before text es header
+goes_on_by : (scan : Scan) (s : Syntax) (text : List ℕ) (found : Caught) (before : List OpenSequence) (header : List ℕ) (es more : List Element) → scan.scanner.syntax ≡ s → scan.place ≡ InHeader → scan.header.items ≡ [] → Opens s before text es header
     → Grows s before header scan.scanner.stack more [] → AreCaught found (es ++ more) → Hears s text (record scan { found = found })
 goes_on_by scan s text found before header es more syntax place none o grows a =
     let new = record scan { found = found } in
-    (syntax, subst (λ (x : Place). HearsAt s text new x) (sym place) (in_header s text new (es ++ more) (grows text es o) a none))
+    (syntax, subst (λ (x : ScanPlace). HearsAt s text new x) (sym place) (in_header s text new (es ++ more) (grows text es o) a none))
 
 pub opens_on : (scan : Scan) (token : Token) → (((t : Tag) × (w : Syntax) × (token ≡ Sequence t w)) ⊎ ((token ≡ Item) ⊎ (token ≡ ItemEnd))) → (s : Syntax) (text : List ℕ) → Begun s text token scan → Hears s text scan
 opens_on scan token which s text (syntax, place, none, (before, es, header, o, a, e, stack, nested)) =
@@ -279,7 +279,7 @@ ends_sequence scan token t w found is elements note s text (syntax, place, none,
 pub stays_failed : (scan : Scan) (f : DataFault) (more : List ℕ) → scan.place ≡ Failed f → (s : Syntax) (text : List ℕ) → Hears s text scan → Hears s (text ++ more) scan
 stays_failed scan f more is s text h =
     let (cut, memory, fault) = at_place s text scan (Failed f) is h in
-    (h.0, subst (λ (x : Place). HearsAt s (text ++ more) scan x) (sym is) (cut, memory, fault_stays s text more f cut memory fault))
+    (h.0, subst (λ (x : ScanPlace). HearsAt s (text ++ more) scan x) (sym is) (cut, memory, fault_stays s text more f cut memory fault))
 
 pub failed : (scan : Scan) (f : DataFault) → scan.place ≡ Failed f → (s : Syntax) (text : List ℕ) → Hears s text scan → FirstFault s text f
 failed scan f is s text h = (at_place s text scan (Failed f) is h).2
@@ -292,7 +292,7 @@ pub cut : (scan : Scan) → ((t : Option Tag) → scan.place ≢ InValue t 0) �
     → (s : Syntax) (text : List ℕ) → Hears s text scan → FirstFault s text Truncated
 cut scan settled unfailed more s text h = by_place scan.place refl
   where
-    by_place : (p : Place) → scan.place ≡ p → FirstFault s text Truncated
+    by_place : (p : ScanPlace) → scan.place ≡ p → FirstFault s text Truncated
     by_place InHeader is =
         let (es, o, a, e, bytes) = at_place s text scan InHeader is h in
         (scan.scanner.stack, es, scan.header.items, o, shows s scan.scanner.stack scan.header.items Truncated (more is) e)
@@ -305,7 +305,7 @@ pub whole_set : (scan : Scan) → (scan.place ≡ InHeader) × (scan.header.item
     → (es : List Element) × Opens s [] text es [] × AreCaught scan.found es
 whole_set scan (is, none, top) s text h =
     let (es, o, a, e, bytes) = at_place s text scan InHeader is h in
-    (es, subst (λ (x : List Frame). Opens s x text es []) top (subst (λ (x : List ℕ). Opens s scan.scanner.stack text es x) none o), a)
+    (es, subst (λ (x : List OpenSequence). Opens s x text es []) top (subst (λ (x : List ℕ). Opens s scan.scanner.stack text es x) none o), a)
 
 pub no_memory : (scan : Scan) → (scan.place ≡ InHeader) × (scan.header.items ≡ []) × (scan.scanner.stack ≡ []) → (s : Syntax) (text : List ℕ) → Hears s text scan → FirstFault s text Memory
 no_memory scan end s text h = let w = whole_set scan end s text h in ([], w.0, [], w.1, (refl, refl))
@@ -369,7 +369,7 @@ begins_at_once scan scanner piece token rest new none syntax read stack nested o
     some pre e empty = ok_not_cut (sym e ∙ ap (token_of scan.scanner.syntax scan.scanner.stack) empty ∙ nothing_yet scan.scanner.syntax scan.scanner.stack)
 
     begun : (a : (pre : List ℕ) × (piece ≡ pre ++ rest) × (token_of scan.scanner.syntax scan.scanner.stack pre ≡ Ok (token, []))) → scan.place ≡ InHeader → (s : Syntax) (text : List ℕ) → Hears s text scan
-        → (before : List Frame) × (es : List Element) × (header : List ℕ) × Opens s before (text ++ a.0) es header × AreCaught scan.found es × (token_of s before header ≡ Ok (token, [])) × (scanner.stack ≡ open_behind s token before) × (is_nested before ≡ true)
+        → (before : List OpenSequence) × (es : List Element) × (header : List ℕ) × Opens s before (text ++ a.0) es header × AreCaught scan.found es × (token_of s before header ≡ Ok (token, [])) × (scanner.stack ≡ open_behind s token before) × (is_nested before ≡ true)
     begun a is s text h =
         let (es, o, c, e, bytes) = at_place s text scan InHeader is h in
         let from_start : Opens s scan.scanner.stack text es [] = subst (λ (x : List ℕ). Opens s scan.scanner.stack text es x) none o in
@@ -381,20 +381,20 @@ same_scanner scan scanner syntax stack is s text h =
     let (es, o, c, e, bytes) = at_place s text scan InHeader is h in
     let new = record scan { scanner = scanner } in
     let here : HearsAt s text new InHeader =
-    (es, subst (λ (x : List Frame). Opens s x text es scan.header.items) (sym stack) o, c, ap (λ (x : List Frame). token_of s x scan.header.items) stack ∙ e, bytes) in
-    (syntax ∙ h.0, subst (λ (x : Place). HearsAt s text new x) (sym is) here)
+    (es, subst (λ (x : List OpenSequence). Opens s x text es scan.header.items) (sym stack) o, c, ap (λ (x : List OpenSequence). token_of s x scan.header.items) stack ∙ e, bytes) in
+    (syntax ∙ h.0, subst (λ (x : ScanPlace). HearsAt s text new x) (sym is) here)
 
 -- ---- the text so far
 
 abbrev IsCutOrWhole : Syntax → List ℕ → Type 0
 IsCutOrWhole s text = FirstFault s text Truncated ⊎ ((es : List Element) × IsDataSet s text es)
 
-cut_or_whole : (s : Syntax) (text : List ℕ) (es : List Element) (fs : List Frame) (items : List ℕ) → Opens s fs text es items → token_of s fs items ≡ Err Truncated → IsCutOrWhole s text
+cut_or_whole : (s : Syntax) (text : List ℕ) (es : List Element) (fs : List OpenSequence) (items : List ℕ) → Opens s fs text es items → token_of s fs items ≡ Err Truncated → IsCutOrWhole s text
 cut_or_whole s text es [] [] o e = inr (es, o)
 cut_or_whole s text es (f ∷ fs) items o e = inl (f ∷ fs, es, items, o, shows s (f ∷ fs) items Truncated (λ none top. cc top) e)
 cut_or_whole s text es [] (b ∷ bs) o e = inl ([], es, b ∷ bs, o, shows s [] (b ∷ bs) Truncated (λ none top. cc none) e)
 
-behind_value : (s : Syntax) (text : List ℕ) (es : List Element) (fs : List Frame) (t : Option Tag) (token got : List ℕ) → Opens s fs text es token → token_of s fs token ≡ Ok (value_header t (length got + 0), got) → IsCutOrWhole s text
+behind_value : (s : Syntax) (text : List ℕ) (es : List Element) (fs : List OpenSequence) (t : Option Tag) (token got : List ℕ) → Opens s fs text es token → token_of s fs token ≡ Ok (value_header t (length got + 0), got) → IsCutOrWhole s text
 behind_value s text es fs None token got o e =
     let ends = ends_value (length got + 0) 0 got refl (omega arith) in
     cut_or_whole s text es fs [] (subst (λ (x : List ℕ). Opens s fs text es x) ends.1 (after_plain_item s fs text token es (length got + 0) got e ends.2 o)) (nothing_yet s fs)
@@ -406,7 +406,7 @@ behind_value s text es fs (Some t) token got o e =
 pub in_order : (scan : Scan) → ((f : DataFault) → scan.place ≢ Failed f) → (s : Syntax) (text : List ℕ) → Hears s text scan → (f : DataFault) → FirstFault s text f → (f ≡ Truncated) ⊎ (f ≡ Memory)
 in_order scan unfailed s text h f fault = by_fault f fault
   where
-    by_place : (p : Place) → scan.place ≡ p → IsCutOrWhole s text
+    by_place : (p : ScanPlace) → scan.place ≡ p → IsCutOrWhole s text
     by_place InHeader is = let (es, o, a, e, bytes) = at_place s text scan InHeader is h in cut_or_whole s text es scan.scanner.stack scan.header.items o e
     by_place (InValue t zero) is = let (es, token, got, o, a, e, kept, none) = at_place s text scan (InValue t zero) is h in behind_value s text es scan.scanner.stack t token got o e
     by_place (InValue t (suc m)) is =

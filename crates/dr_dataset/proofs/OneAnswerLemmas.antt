@@ -7,8 +7,8 @@ use Rattle.dr_base.specs.declared.syntax.Syntax.{Syntax}
 use Rattle.dr_dataset.specs.declared.fault.DataFault.{DataFault}
 use Rattle.dr_dataset.specs.declared.fault.DataFault.TheVariants.{Truncated, BadVr, BadLength, TooDeep, Memory}
 use Rattle.dr_dataset.specs.declared.values.Attributes.{Attributes}
-use Rattle.dr_dataset.specs.declared.frame.Frame.{Frame}
-use Rattle.dr_dataset.specs.declared.frame.Frame.TheVariants.{InSequence, InItem}
+use Rattle.dr_dataset.specs.declared.frame.OpenSequence.{OpenSequence}
+use Rattle.dr_dataset.specs.declared.frame.OpenSequence.TheVariants.{InSequence, InItem}
 use Rattle.dr_dataset.specs.declared.token.Token.{Token}
 use Rattle.dr_dataset.specs.declared.token.Token.TheVariants.{Value, Sequence, PlainItem, Item, ItemEnd, SequenceEnd}
 use Rattle.dr_dataset.specs.Elements.{Element, undefined, StartsMark}
@@ -44,11 +44,11 @@ one_place s p x y a b stuck end = let w = meet s a.0 b.0 p x y a.1 b.1 stuck in 
 
 -- ---- no move leads on from a fault
 
-room : (fs : List Frame) → open_sequences fs ≤ 32 → is_full fs ≡ false → open_sequences fs < 32
+room : (fs : List OpenSequence) → open_sequences fs ≤ 32 → is_full fs ≡ false → open_sequences fs < 32
 room fs most e = let ne : open_sequences fs ≢ 32 = eqb-false (open_sequences fs) 32 e in omega (arith, most, ne)
 
 -- a header whose bytes are there is a token that may stand there
-token_then : (s : Syntax) (fs : List Frame) (text : List ℕ) (token : Token) (behind : List ℕ) → open_sequences fs ≤ 32 → IsNext s fs text token behind → Has token behind → (rest : List ℕ) × StartsToken s fs text rest
+token_then : (s : Syntax) (fs : List OpenSequence) (text : List ℕ) (token : Token) (behind : List ℕ) → open_sequences fs ≤ 32 → IsNext s fs text token behind → Has token behind → (rest : List ℕ) × StartsToken s fs text rest
 token_then s [] text (Value t len) behind most (wants, f, header, is, defined, short) has =
     let e : Element = record { tag = t; value = Some (take len behind) } in
     (drop len behind, inl (e, plain_of s text t f behind len header is defined has, λ key. subst (λ (n : ℕ). n ≤ 1024) (sym (length-take-le len behind has)) (short refl key)))
@@ -80,7 +80,7 @@ token_then s (InItem w ∷ fs) text (SequenceEnd t) behind most next has = absur
 token_then s (InSequence u w ∷ fs) text (SequenceEnd t) behind most next has = (behind, inr (inr next.1))
 
 -- where a token leads on, its bytes are there
-no_move : (s : Syntax) (fs : List Frame) (es : List Element) (token : Token) (behind : List ℕ) → (Has token behind → ⊥) → move_token s fs es token behind ≡ None
+no_move : (s : Syntax) (fs : List OpenSequence) (es : List Element) (token : Token) (behind : List ℕ) → (Has token behind → ⊥) → move_token s fs es token behind ≡ None
 no_move s fs es (Value t len) behind none = by_test (leb len (length behind)) refl
   where
     by_test : (b : Bool) → leb len (length behind) ≡ b → move_token s fs es (Value t len) behind ≡ None
@@ -96,19 +96,19 @@ no_move s fs es Item behind none = absurd (none tt)
 no_move s fs es ItemEnd behind none = absurd (none tt)
 no_move s fs es (SequenceEnd t) behind none = absurd (none tt)
 
-cut_is_stuck : (s : Syntax) (fs : List Frame) (es : List Element) (text : List ℕ) (o : Result (Token × List ℕ) DataFault) → open_sequences fs ≤ 32 → token_of s fs text ≡ o → ((rest : List ℕ) → StartsToken s fs text rest → ⊥) → move_by s fs es o ≡ None
+cut_is_stuck : (s : Syntax) (fs : List OpenSequence) (es : List Element) (text : List ℕ) (o : Result (Token × List ℕ) DataFault) → open_sequences fs ≤ 32 → token_of s fs text ≡ o → ((rest : List ℕ) → StartsToken s fs text rest → ⊥) → move_by s fs es o ≡ None
 cut_is_stuck s fs es text (Err f) most e none = refl
 cut_is_stuck s fs es text (Ok p) most e none =
     no_move s fs es p.0 p.1 (λ has. let t = token_then s fs text p.0 p.1 most (token_sound s fs text p.0 p.1 e) has in none t.0 t.1)
 
-pub fault_is_stuck : (s : Syntax) (fs : List Frame) (es : List Element) (text : List ℕ) (f : DataFault) → open_sequences fs ≤ 32 → f ≢ Memory → Shows s fs text f → move s (at fs text es) ≡ None
+pub fault_is_stuck : (s : Syntax) (fs : List OpenSequence) (es : List Element) (text : List ℕ) (f : DataFault) → open_sequences fs ≤ 32 → f ≢ Memory → Shows s fs text f → move s (at fs text es) ≡ None
 fault_is_stuck s fs es text BadVr most ne h = ap (move_by s fs es) (vr_fault s fs text h)
 fault_is_stuck s fs es text BadLength most ne h = ap (move_by s fs es) (length_fault s fs text h)
 fault_is_stuck s fs es text TooDeep most ne h = ap (move_by s fs es) (depth_fault s fs text h)
 fault_is_stuck s fs es text Memory most ne h = absurd (ne refl)
 fault_is_stuck s fs es text Truncated most ne h = cut_is_stuck s fs es text (token_of s fs text) most refl h.1
 
-pub open_at_most : (s : Syntax) (fs : List Frame) (text : List ℕ) (es : List Element) (rest : List ℕ) → Opens s fs text es rest → open_sequences fs ≤ 32
+pub open_at_most : (s : Syntax) (fs : List OpenSequence) (text : List ℕ) (es : List Element) (rest : List ℕ) → Opens s fs text es rest → open_sequences fs ≤ 32
 open_at_most s [] text es rest o = omega arith
 open_at_most s (InSequence t w ∷ fs) text es rest (items, mid, first, o, m, r) = omega (arith, m.1)
 open_at_most s (InItem w ∷ fs) text es rest (xs, mid, first, o, m, r) = open_at_most s fs text es mid o
@@ -127,7 +127,7 @@ vr_not_depth e = cc
 length_not_depth : ◌≡◌ {A = Answer} (Err BadLength) (Err TooDeep) → ⊥
 length_not_depth e = cc
 
-pub one_fault : (s : Syntax) (fs : List Frame) (text : List ℕ) (f g : DataFault) → f ≢ Memory → g ≢ Memory → Shows s fs text f → Shows s fs text g → f ≡ g
+pub one_fault : (s : Syntax) (fs : List OpenSequence) (text : List ℕ) (f g : DataFault) → f ≢ Memory → g ≢ Memory → Shows s fs text f → Shows s fs text g → f ≡ g
 one_fault s fs text Memory g mf mg a b = absurd (mf refl)
 one_fault s fs text Truncated Memory mf mg a b = absurd (mg refl)
 one_fault s fs text BadVr Memory mf mg a b = absurd (mg refl)
@@ -151,8 +151,8 @@ one_fault s fs text TooDeep BadLength mf mg a b = absurd (length_not_depth (sym 
 one_fault s fs text TooDeep TooDeep mf mg a b = refl
 
 -- nothing shows at the end of a data set
-no_fault_at_end : (s : Syntax) (fs : List Frame) (text : List ℕ) (f : DataFault) → f ≢ Memory → fs ≡ [] → text ≡ [] → Shows s fs text f → ⊥
-no_fault_at_end s fs text f ne none end h = at_end f ne (subst (λ (x : List Frame). Shows s x [] f) none (subst (λ (x : List ℕ). Shows s fs x f) end h))
+no_fault_at_end : (s : Syntax) (fs : List OpenSequence) (text : List ℕ) (f : DataFault) → f ≢ Memory → fs ≡ [] → text ≡ [] → Shows s fs text f → ⊥
+no_fault_at_end s fs text f ne none end h = at_end f ne (subst (λ (x : List OpenSequence). Shows s x [] f) none (subst (λ (x : List ℕ). Shows s fs x f) end h))
   where
     at_end : (f : DataFault) → f ≢ Memory → Shows s [] [] f → ⊥
     at_end Truncated ne h = h.0 refl refl
@@ -184,7 +184,7 @@ pub one_first_fault : (s : Syntax) (text : List ℕ) (f g : DataFault) → f ≢
 one_first_fault s text f g mf mg (fs, es, rest, o, h) (gs, xs, more, p, k) =
     let same = one_place s (at [] text []) (at fs rest es) (at gs more xs) (opens_walk s fs text es rest o) (opens_walk s gs text xs more p)
     (fault_is_stuck s fs es rest f (open_at_most s fs text es rest o) mf h) (fault_is_stuck s gs xs more g (open_at_most s gs text xs more p) mg k) in
-    let there : Shows s fs rest g = subst (λ (x : List ℕ). Shows s fs x g) (rest_of (at gs more xs) (at fs rest es) same) (subst (λ (x : List Frame). Shows s x more g) (frames_of (at gs more xs) (at fs rest es) same) k) in
+    let there : Shows s fs rest g = subst (λ (x : List ℕ). Shows s fs x g) (rest_of (at gs more xs) (at fs rest es) same) (subst (λ (x : List OpenSequence). Shows s x more g) (frames_of (at gs more xs) (at fs rest es) same) k) in
     one_fault s fs rest f g mf mg h there
 
 err_of : (f : DataFault) → ◌≢◌ {A = Result Attributes DataFault} (Err f) (Err Memory) → f ≢ Memory

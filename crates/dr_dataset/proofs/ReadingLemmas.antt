@@ -9,7 +9,7 @@ use Rattle.dr_dataset.specs.declared.fault.DataFault.{DataFault}
 use Rattle.dr_dataset.specs.declared.fault.DataFault.TheVariants.{Truncated, BadVr}
 use Rattle.dr_dataset.specs.declared.header.Tag.{Tag}
 use Rattle.dr_dataset.specs.declared.header.Vr.{Vr}
-use Rattle.dr_dataset.specs.declared.header.Form.{Form}
+use Rattle.dr_dataset.specs.declared.header.HeaderForm.{HeaderForm}
 use Rattle.dr_dataset.specs.Elements.{is_capital, is_short, tag_text, StartsTag, StartsForm}
 use Rattle.dr_dataset.specs.Reading.{is_byte, short_of, long_of, tag_of, form_with, lettered_form_of, are_capitals, explicit_form_of, form_of}
 
@@ -111,24 +111,24 @@ tag_whole text t rest (g, e, is) =
 some_pair : (a c : ℕ) (b d : List ℕ) → a ≡ c → b ≡ d → ◌≡◌ {A = Option (ℕ × List ℕ)} (Some (a, b)) (Some (c, d))
 some_pair a c b d e f = ap (λ (n : ℕ). Some (n, b)) e ∙ ap (λ (r : List ℕ). Some (c, r)) f
 
-ok_form : (f g : Form) (b d : List ℕ) → ◌≡◌ {A = Result (Form × List ℕ) DataFault} (Ok (f, b)) (Ok (g, d)) → (f ≡ g) × (b ≡ d)
+ok_form : (f g : HeaderForm) (b d : List ℕ) → ◌≡◌ {A = Result (HeaderForm × List ℕ) DataFault} (Ok (f, b)) (Ok (g, d)) → (f ≡ g) × (b ≡ d)
 ok_form f g b d e =
-    let same : ◌≡◌ {A = Form × List ℕ} (f, b) (g, d) = cc in
-    (ap (λ (q : Form × List ℕ). q.0) same, ap (λ (q : Form × List ℕ). q.1) same)
+    let same : ◌≡◌ {A = HeaderForm × List ℕ} (f, b) (g, d) = cc in
+    (ap (λ (q : HeaderForm × List ℕ). q.0) same, ap (λ (q : HeaderForm × List ℕ). q.1) same)
 
-with_sound : (v : Option Vr) (o : Option (ℕ × List ℕ)) (f : Form) (rest : List ℕ) → form_with v o ≡ Ok (f, rest) → (f.vr ≡ v) × (o ≡ Some (f.len, rest))
+with_sound : (v : Option Vr) (o : Option (ℕ × List ℕ)) (f : HeaderForm) (rest : List ℕ) → form_with v o ≡ Ok (f, rest) → (f.vr ≡ v) × (o ≡ Some (f.len, rest))
 with_sound v None f rest e = absurd (cc)
 with_sound v (Some p) f rest e =
     let same = ok_form (record { vr = v; len = p.0 }) f p.1 rest e in
-    (sym (ap (λ (x : Form). x.vr) same.0), some_pair p.0 f.len p.1 rest (ap (λ (x : Form). x.len) same.0) same.1)
+    (sym (ap (λ (x : HeaderForm). x.vr) same.0), some_pair p.0 f.len p.1 rest (ap (λ (x : HeaderForm). x.len) same.0) same.1)
 
 -- the letters and the length that an explicit form has
-abbrev IsLettered : Bool → Bool → Vr → List ℕ → Form → List ℕ → Type 0
+abbrev IsLettered : Bool → Bool → Vr → List ℕ → HeaderForm → List ℕ → Type 0
 IsLettered capitals short v text f rest = (capitals ≡ true) × (f.vr ≡ Some v)
     × (((short ≡ true) × (f.len < 2 ^ 16) × (text ≡ to_le_bytes w16 f.len ++ rest))
     ⊎ ((r s : ℕ) × (short ≡ false) × (f.len < 2 ^ 32) × (text ≡ r ∷ s ∷ (to_le_bytes w32 f.len ++ rest))))
 
-lettered_sound : (capitals short : Bool) (v : Vr) (text : List ℕ) (f : Form) (rest : List ℕ) → lettered_form_of capitals short v text ≡ Ok (f, rest) → IsLettered capitals short v text f rest
+lettered_sound : (capitals short : Bool) (v : Vr) (text : List ℕ) (f : HeaderForm) (rest : List ℕ) → lettered_form_of capitals short v text ≡ Ok (f, rest) → IsLettered capitals short v text f rest
 lettered_sound false short v text f rest e = absurd (cc)
 lettered_sound true true v text f rest e =
     let w = with_sound (Some v) (short_of text) f rest e in
@@ -141,7 +141,7 @@ lettered_sound true false v (r ∷ s ∷ text) f rest e =
     let l = long_sound text f.len rest w.1 in
     (refl, w.0, inr (r, s, refl, l.0, ap (λ (x : List ℕ). r ∷ s ∷ x) l.1))
 
-pub form_sound : (s : Syntax) (text : List ℕ) (f : Form) (rest : List ℕ) → form_of s text ≡ Ok (f, rest) → StartsForm s text f rest
+pub form_sound : (s : Syntax) (text : List ℕ) (f : HeaderForm) (rest : List ℕ) → form_of s text ≡ Ok (f, rest) → StartsForm s text f rest
 form_sound Implicit text f rest e =
     let w = with_sound None (long_of text) f rest e in
     let l = long_sound text f.len rest w.1 in
@@ -153,10 +153,10 @@ form_sound Explicit (a ∷ b ∷ text) f rest e =
     let l = lettered_sound (are_capitals v) (is_short v) v text f rest e in
     (v, l.1, l.0, elim l.2 [ inl h ↦ inl (h.0, h.1, ap (λ (x : List ℕ). a ∷ b ∷ x) h.2) | inr h ↦ inr (h.0, h.1, h.2, h.3, ap (λ (x : List ℕ). a ∷ b ∷ x) h.4) ])
 
-whole_with : (f : Form) (v : Option Vr) (rest : List ℕ) → f.vr ≡ v → form_with v (Some (f.len, rest)) ≡ Ok (f, rest)
+whole_with : (f : HeaderForm) (v : Option Vr) (rest : List ℕ) → f.vr ≡ v → form_with v (Some (f.len, rest)) ≡ Ok (f, rest)
 whole_with f v rest e = ap (λ (x : Option Vr). Ok (record { vr = x; len = f.len }, rest)) (sym e)
 
-pub form_whole : (s : Syntax) (text : List ℕ) (f : Form) (rest : List ℕ) → StartsForm s text f rest → form_of s text ≡ Ok (f, rest)
+pub form_whole : (s : Syntax) (text : List ℕ) (f : HeaderForm) (rest : List ℕ) → StartsForm s text f rest → form_of s text ≡ Ok (f, rest)
 form_whole Implicit text f rest (v, h, e) =
     ap (λ (x : List ℕ). form_with None (long_of x)) e ∙ ap (λ (o : Option (ℕ × List ℕ)). form_with None o) (long_whole f.len rest h) ∙ whole_with f None rest v
 form_whole Explicit text f rest (v, is, capitals, inl (short, h, e)) =

@@ -6,9 +6,9 @@ use Rattle.dr_base.specs.declared.syntax.Syntax.TheVariants.{Explicit}
 use Rattle.dr_dataset.specs.declared.fault.DataFault.{DataFault}
 use Rattle.dr_dataset.specs.declared.fault.DataFault.TheVariants.{Truncated, BadVr, BadLength, TooDeep, Memory}
 use Rattle.dr_dataset.specs.declared.header.Tag.{Tag}
-use Rattle.dr_dataset.specs.declared.header.Form.{Form}
-use Rattle.dr_dataset.specs.declared.frame.Frame.{Frame}
-use Rattle.dr_dataset.specs.declared.frame.Frame.TheVariants.{InSequence, InItem}
+use Rattle.dr_dataset.specs.declared.header.HeaderForm.{HeaderForm}
+use Rattle.dr_dataset.specs.declared.frame.OpenSequence.{OpenSequence}
+use Rattle.dr_dataset.specs.declared.frame.OpenSequence.TheVariants.{InSequence, InItem}
 use Rattle.dr_dataset.specs.declared.token.Token.{Token}
 use Rattle.dr_dataset.specs.declared.token.Token.TheVariants.{Value, Sequence, PlainItem, Item, ItemEnd, SequenceEnd}
 use Rattle.dr_dataset.specs.Elements.{undefined, item_group, inside, StartsTag, StartsForm, StartsHeader, StartsMark, OpensSequence, OpensItem, EndsItem, EndsSequence}
@@ -27,7 +27,7 @@ ok_parts a c b d e =
 
 -- the header of an element, behind its tag
 abbrev IsElement : Syntax → Bool → Bool → Tag → List ℕ → Token → List ℕ → Type 0
-IsElement s top full t text token rest = (t.group ≢ item_group) × (f : Form) × StartsForm s text f rest
+IsElement s top full t text token rest = (t.group ≢ item_group) × (f : HeaderForm) × StartsForm s text f rest
     × (((within : Syntax) × (f.len ≡ undefined) × (inside s f.vr ≡ Some within) × (full ≡ false) × (token ≡ Sequence t within))
     ⊎ ((f.len ≢ undefined) × (is_long_key top t f.len ≡ false) × (token ≡ Value t f.len)))
 
@@ -41,7 +41,7 @@ sequence_sound full t behind None token rest e = absurd (cc)
 sequence_sound true t behind (Some within) token rest e = absurd (cc)
 sequence_sound false t behind (Some within) token rest e = let p = ok_parts (Sequence t within) token behind rest e in (within, refl, refl, sym p.0, p.1)
 
-by_sound : (u : Bool) (s : Syntax) (top full : Bool) (t : Tag) (f : Form) (text behind : List ℕ) (token : Token) (rest : List ℕ) → eqb f.len undefined ≡ u → t.group ≢ item_group → StartsForm s text f behind
+by_sound : (u : Bool) (s : Syntax) (top full : Bool) (t : Tag) (f : HeaderForm) (text behind : List ℕ) (token : Token) (rest : List ℕ) → eqb f.len undefined ≡ u → t.group ≢ item_group → StartsForm s text f behind
     → element_token_by u s top full t f behind ≡ Ok (token, rest) → IsElement s top full t text token rest
 by_sound true s top full t f text behind token rest len ne starts e =
     let q = sequence_sound full t behind (inside s f.vr) token rest e in
@@ -50,7 +50,7 @@ by_sound false s top full t f text behind token rest len ne starts e =
     let q = value_sound (is_long_key top t f.len) t f.len behind token rest e in
     (ne, f, subst (λ (r : List ℕ). StartsForm s text f r) q.2 starts, inr (eqb-false f.len undefined len, q.0, q.1))
 
-with_sound : (s : Syntax) (top full : Bool) (t : Tag) (text : List ℕ) (o : Result (Form × List ℕ) DataFault) (token : Token) (rest : List ℕ) → form_of s text ≡ o → t.group ≢ item_group
+with_sound : (s : Syntax) (top full : Bool) (t : Tag) (text : List ℕ) (o : Result (HeaderForm × List ℕ) DataFault) (token : Token) (rest : List ℕ) → form_of s text ≡ o → t.group ≢ item_group
     → element_token_with s top full t o ≡ Ok (token, rest) → IsElement s top full t text token rest
 with_sound s top full t text (Err fault) token rest is ne e = absurd (cc)
 with_sound s top full t text (Ok p) token rest is ne e =
@@ -66,14 +66,14 @@ element_sound s top full t text token rest e = element_sound_by (eqb t.group ite
 
 -- ---- the next token, under what is open
 
-abbrev IsInItem : List Frame → Type 0
-IsInItem fs = (within : Syntax) × (outer : List Frame) × (fs ≡ InItem within ∷ outer)
+abbrev IsInItem : List OpenSequence → Type 0
+IsInItem fs = (within : Syntax) × (outer : List OpenSequence) × (fs ≡ InItem within ∷ outer)
 
-abbrev IsInSequence : List Frame → Tag → Type 0
-IsInSequence fs t = (within : Syntax) × (outer : List Frame) × (fs ≡ InSequence t within ∷ outer)
+abbrev IsInSequence : List OpenSequence → Tag → Type 0
+IsInSequence fs t = (within : Syntax) × (outer : List OpenSequence) × (fs ≡ InSequence t within ∷ outer)
 
-abbrev pub IsNext : Syntax → List Frame → List ℕ → Token → List ℕ → Type 0
-IsNext s fs text (Value t len) rest = (wants_elements fs ≡ true) × (f : Form) × StartsHeader (in_force s fs) text t f rest × (f.len ≡ len) × (len ≢ undefined) × (fs ≡ [] → is_key t ≡ true → len ≤ 1024)
+abbrev pub IsNext : Syntax → List OpenSequence → List ℕ → Token → List ℕ → Type 0
+IsNext s fs text (Value t len) rest = (wants_elements fs ≡ true) × (f : HeaderForm) × StartsHeader (in_force s fs) text t f rest × (f.len ≡ len) × (len ≢ undefined) × (fs ≡ [] → is_key t ≡ true → len ≤ 1024)
 IsNext s fs text (Sequence t within) rest = (wants_elements fs ≡ true) × (is_full fs ≡ false) × OpensSequence (in_force s fs) text t within rest
 IsNext s fs text (PlainItem len) rest = (wants_elements fs ≡ false) × (len ≢ undefined) × StartsMark 0xE000 text len rest
 IsNext s fs text Item rest = (wants_elements fs ≡ false) × OpensItem text rest
@@ -89,7 +89,7 @@ short_key top t len e is key =
     ltb-false 1024 len inner
 
 -- an element's header at a place where elements are expected
-element_next : (s : Syntax) (fs : List Frame) (top : Bool) (t : Tag) (text behind : List ℕ) (token : Token) (rest : List ℕ) → wants_elements fs ≡ true → (fs ≡ [] → top ≡ true) → StartsTag text t behind
+element_next : (s : Syntax) (fs : List OpenSequence) (top : Bool) (t : Tag) (text behind : List ℕ) (token : Token) (rest : List ℕ) → wants_elements fs ≡ true → (fs ≡ [] → top ≡ true) → StartsTag text t behind
     → IsElement (in_force s fs) top (is_full fs) t behind token rest → IsNext s fs text token rest
 element_next s fs top t text behind token rest wants at_top starts (ne, f, form, inl (within, len, is, full, token_is)) =
     let next : IsNext s fs text (Sequence t within) rest = (wants, full, (f, (behind, starts, ne, form), len, is)) in
@@ -129,7 +129,7 @@ open_item_sound (Some p) token rest e =
     let q = open_item_sound_by (eqb p.0 undefined) p token rest refl e in
     (p.0, ap (λ (r : List ℕ). Some (p.0, r)) q.0, q.1)
 
-item_next : (s : Syntax) (sequence : Tag) (within : Syntax) (fs : List Frame) (t : Tag) (text behind : List ℕ) (token : Token) (rest : List ℕ) (o p : Bool) → StartsTag text t behind
+item_next : (s : Syntax) (sequence : Tag) (within : Syntax) (fs : List OpenSequence) (t : Tag) (text behind : List ℕ) (token : Token) (rest : List ℕ) (o p : Bool) → StartsTag text t behind
     → has_tag item_group 0xE000 t ≡ o → has_tag item_group 0xE0DD t ≡ p
     → cond o (open_item_token (long_of behind)) (cond p (end_token (SequenceEnd sequence) (long_of behind)) (Err BadLength)) ≡ Ok (token, rest) → IsNext s (InSequence sequence within ∷ fs) text token rest
 item_next s sequence within fs t text behind token rest true p starts o e f =
@@ -145,7 +145,7 @@ item_next s sequence within fs t text behind token rest false true starts o e f 
     subst (λ (x : Token). IsNext s (InSequence sequence within ∷ fs) text x rest) (sym q.2) ((within, fs, refl), (q.0, m))
 item_next s sequence within fs t text behind token rest false false starts o e f = absurd (cc)
 
-in_item_next : (s within : Syntax) (fs : List Frame) (t : Tag) (text behind : List ℕ) (token : Token) (rest : List ℕ) (o : Bool) → StartsTag text t behind → has_tag item_group 0xE00D t ≡ o
+in_item_next : (s within : Syntax) (fs : List OpenSequence) (t : Tag) (text behind : List ℕ) (token : Token) (rest : List ℕ) (o : Bool) → StartsTag text t behind → has_tag item_group 0xE00D t ≡ o
     → cond o (end_token ItemEnd (long_of behind)) (element_token within false (is_full (InItem within ∷ fs)) t behind) ≡ Ok (token, rest) → IsNext s (InItem within ∷ fs) text token rest
 in_item_next s within fs t text behind token rest true starts o f =
     let q = end_sound ItemEnd (long_of behind) token rest f in
@@ -154,7 +154,7 @@ in_item_next s within fs t text behind token rest true starts o f =
 in_item_next s within fs t text behind token rest false starts o f =
     element_next s (InItem within ∷ fs) false t text behind token rest refl (λ none. absurd (cc)) starts (element_sound within false (is_full (InItem within ∷ fs)) t behind token rest f)
 
-with_next : (s : Syntax) (fs : List Frame) (text : List ℕ) (o : Option (Tag × List ℕ)) (token : Token) (rest : List ℕ) → tag_of text ≡ o → token_with s fs o ≡ Ok (token, rest) → IsNext s fs text token rest
+with_next : (s : Syntax) (fs : List OpenSequence) (text : List ℕ) (o : Option (Tag × List ℕ)) (token : Token) (rest : List ℕ) → tag_of text ≡ o → token_with s fs o ≡ Ok (token, rest) → IsNext s fs text token rest
 with_next s fs text None token rest o e = absurd (cc)
 with_next s [] text (Some p) token rest o e =
     element_next s [] true p.0 text p.1 token rest refl (λ _. refl) (tag_sound text p.0 p.1 o) (element_sound s true (is_full []) p.0 p.1 token rest e)
@@ -163,35 +163,35 @@ with_next s (InItem within ∷ fs) text (Some p) token rest o e =
 with_next s (InSequence t within ∷ fs) text (Some p) token rest o e =
     item_next s t within fs p.0 text p.1 token rest (has_tag item_group 0xE000 p.0) (has_tag item_group 0xE0DD p.0) (tag_sound text p.0 p.1 o) refl refl e
 
-pub token_sound : (s : Syntax) (fs : List Frame) (text : List ℕ) (token : Token) (rest : List ℕ) → token_of s fs text ≡ Ok (token, rest) → IsNext s fs text token rest
+pub token_sound : (s : Syntax) (fs : List OpenSequence) (text : List ℕ) (token : Token) (rest : List ℕ) → token_of s fs text ≡ Ok (token, rest) → IsNext s fs text token rest
 token_sound s fs text token rest e = with_next s fs text (tag_of text) token rest refl e
 
 -- ---- all that the grammar has is read
 
 -- an element whose form reads so
-element_is : (s : Syntax) (top full : Bool) (t : Tag) (f : Form) (text rest : List ℕ) → t.group ≢ item_group → StartsForm s text f rest
+element_is : (s : Syntax) (top full : Bool) (t : Tag) (f : HeaderForm) (text rest : List ℕ) → t.group ≢ item_group → StartsForm s text f rest
     → element_token s top full t text ≡ element_token_by (eqb f.len undefined) s top full t f rest
 element_is s top full t f text rest ne form =
     let other : eqb t.group item_group ≡ false = ne_eqb t.group item_group ne in
-    ap (λ (o : Bool). cond o (Err BadLength) (element_token_with s top full t (form_of s text))) other ∙ ap (λ (o : Result (Form × List ℕ) DataFault). element_token_with s top full t o) (form_whole s text f rest form)
+    ap (λ (o : Bool). cond o (Err BadLength) (element_token_with s top full t (form_of s text))) other ∙ ap (λ (o : Result (HeaderForm × List ℕ) DataFault). element_token_with s top full t o) (form_whole s text f rest form)
 
-value_is : (s : Syntax) (top full : Bool) (t : Tag) (f : Form) (text rest : List ℕ) (o : Bool) → t.group ≢ item_group → StartsForm s text f rest → f.len ≢ undefined → is_long_key top t f.len ≡ o
+value_is : (s : Syntax) (top full : Bool) (t : Tag) (f : HeaderForm) (text rest : List ℕ) (o : Bool) → t.group ≢ item_group → StartsForm s text f rest → f.len ≢ undefined → is_long_key top t f.len ≡ o
     → element_token s top full t text ≡ value_token o t f.len rest
 value_is s top full t f text rest o ne form len key =
     element_is s top full t f text rest ne form ∙ ap (λ (u : Bool). element_token_by u s top full t f rest) (ne_eqb f.len undefined len) ∙ ap (λ (u : Bool). value_token u t f.len rest) key
 
-sequence_is : (s : Syntax) (top full : Bool) (t : Tag) (f : Form) (text rest : List ℕ) (w : Option Syntax) → t.group ≢ item_group → StartsForm s text f rest → f.len ≡ undefined → inside s f.vr ≡ w
+sequence_is : (s : Syntax) (top full : Bool) (t : Tag) (f : HeaderForm) (text rest : List ℕ) (w : Option Syntax) → t.group ≢ item_group → StartsForm s text f rest → f.len ≡ undefined → inside s f.vr ≡ w
     → element_token s top full t text ≡ sequence_token full t rest w
 sequence_is s top full t f text rest w ne form len is =
     element_is s top full t f text rest ne form ∙ ap (λ (u : Bool). element_token_by u s top full t f rest) (eq-eqb f.len undefined len) ∙ ap (λ (u : Option Syntax). sequence_token full t rest u) is
 
 -- whether elements stand at the top
-abbrev is_top : List Frame → Bool
+abbrev is_top : List OpenSequence → Bool
 is_top [] = true
 is_top (f ∷ fs) = false
 
 -- where elements are expected, a tag of another group begins one
-place_is : (s : Syntax) (fs : List Frame) (t : Tag) (text behind : List ℕ) → wants_elements fs ≡ true → StartsTag text t behind → t.group ≢ item_group
+place_is : (s : Syntax) (fs : List OpenSequence) (t : Tag) (text behind : List ℕ) → wants_elements fs ≡ true → StartsTag text t behind → t.group ≢ item_group
     → token_of s fs text ≡ element_token (in_force s fs) (is_top fs) (is_full fs) t behind
 place_is s [] t text behind wants starts ne = ap (λ (o : Option (Tag × List ℕ)). token_with s [] o) (tag_whole text t behind starts)
 place_is s (InSequence u within ∷ fs) t text behind wants starts ne = absurd (cc)
@@ -200,7 +200,7 @@ place_is s (InItem within ∷ fs) t text behind wants starts ne =
     ap (λ (o : Option (Tag × List ℕ)). token_with s (InItem within ∷ fs) o) (tag_whole text t behind starts)
     ∙ ap (λ (o : Bool). cond o (end_token ItemEnd (long_of behind)) (element_token within false (is_full (InItem within ∷ fs)) t behind)) other
 
-key_fits : (fs : List Frame) (t : Tag) (len : ℕ) (k : Bool) → is_key t ≡ k → (fs ≡ [] → is_key t ≡ true → len ≤ 1024) → is_long_key (is_top fs) t len ≡ false
+key_fits : (fs : List OpenSequence) (t : Tag) (len : ℕ) (k : Bool) → is_key t ≡ k → (fs ≡ [] → is_key t ≡ true → len ≤ 1024) → is_long_key (is_top fs) t len ≡ false
 key_fits (f ∷ fs) t len k is h = refl
 key_fits [] t len false is h = ap (λ (o : Bool). o && ltb 1024 len) is
 key_fits [] t len true is h = ap (λ (o : Bool). o && ltb 1024 len) is ∙ le-ltb 1024 len (h refl is)
@@ -208,7 +208,7 @@ key_fits [] t len true is h = ap (λ (o : Bool). o && ltb 1024 len) is ∙ le-lt
 mark_is : (element : ℕ) (text : List ℕ) (len : ℕ) (rest : List ℕ) → StartsMark element text len rest → (behind : List ℕ) × (tag_of text ≡ Some (record { group = item_group; element = element }, behind)) × (long_of behind ≡ Some (len, rest))
 mark_is element text len rest (behind, starts, h, e) = (behind, tag_whole text (record { group = item_group; element = element }) behind starts, ap long_of e ∙ long_whole len rest h)
 
-pub token_whole : (s : Syntax) (fs : List Frame) (text : List ℕ) (token : Token) (rest : List ℕ) → IsNext s fs text token rest → token_of s fs text ≡ Ok (token, rest)
+pub token_whole : (s : Syntax) (fs : List OpenSequence) (text : List ℕ) (token : Token) (rest : List ℕ) → IsNext s fs text token rest → token_of s fs text ≡ Ok (token, rest)
 token_whole s fs text (Value t len) rest (wants, f, (behind, starts, ne, form), is, defined, short) =
     let same : f.len ≢ undefined = subst (λ (n : ℕ). n ≢ undefined) (sym is) defined in
     let fits : fs ≡ [] → is_key t ≡ true → f.len ≤ 1024 = subst (λ (n : ℕ). fs ≡ [] → is_key t ≡ true → n ≤ 1024) (sym is) short in
@@ -255,7 +255,7 @@ not_tag group element t h = elim (cases_eq t.group group) [
 bad_group : (s : Syntax) (top full : Bool) (t : Tag) (text : List ℕ) → t.group ≡ item_group → element_token s top full t text ≡ Err BadLength
 bad_group s top full t text e = ap (λ (o : Bool). cond o (Err BadLength) (element_token_with s top full t (form_of s text))) (eq-eqb t.group item_group e)
 
-pub bad_tag : (s : Syntax) (fs : List Frame) (t : Tag) (text behind : List ℕ) → StartsTag text t behind → IsBadTag fs t → token_of s fs text ≡ Err BadLength
+pub bad_tag : (s : Syntax) (fs : List OpenSequence) (t : Tag) (text behind : List ℕ) → StartsTag text t behind → IsBadTag fs t → token_of s fs text ≡ Err BadLength
 bad_tag s [] t text behind starts bad = ap (λ (o : Option (Tag × List ℕ)). token_with s [] o) (tag_whole text t behind starts) ∙ bad_group s true (is_full []) t behind bad
 bad_tag s (InItem within ∷ fs) t text behind starts bad =
     let other : has_tag item_group 0xE00D t ≡ false = not_tag item_group 0xE00D t (λ _. bad.1) in
@@ -269,7 +269,7 @@ bad_tag s (InSequence u within ∷ fs) t text behind starts bad =
     ∙ ap (λ (o : Bool). cond o (open_item_token (long_of behind)) (cond (has_tag item_group 0xE0DD t) (end_token (SequenceEnd u) (long_of behind)) (Err BadLength))) no_item
     ∙ ap (λ (o : Bool). cond o (end_token (SequenceEnd u) (long_of behind)) (Err BadLength)) no_end
 
-pub vr_fault : (s : Syntax) (fs : List Frame) (text : List ℕ) → ShowsVr s fs text → token_of s fs text ≡ Err BadVr
+pub vr_fault : (s : Syntax) (fs : List OpenSequence) (text : List ℕ) → ShowsVr s fs text → token_of s fs text ≡ Err BadVr
 vr_fault s fs text (t, a, b, rest, wants, explicit, starts, ne, letters) =
     let other : eqb t.group item_group ≡ false = ne_eqb t.group item_group ne in
     place_is s fs t text (a ∷ b ∷ rest) wants starts ne
@@ -277,18 +277,18 @@ vr_fault s fs text (t, a, b, rest, wants, explicit, starts, ne, letters) =
     ∙ ap (λ (o : Bool). cond o (Err BadLength) (element_token_with Explicit (is_top fs) (is_full fs) t (form_of Explicit (a ∷ b ∷ rest)))) other
     ∙ ap (element_token_with Explicit (is_top fs) (is_full fs) t) (bad_letters a b rest letters)
 
-long_key : (fs : List Frame) (t : Tag) (len : ℕ) → fs ≡ [] → is_key t ≡ true → 1024 < len → is_long_key (is_top fs) t len ≡ true
+long_key : (fs : List OpenSequence) (t : Tag) (len : ℕ) → fs ≡ [] → is_key t ≡ true → 1024 < len → is_long_key (is_top fs) t len ≡ true
 long_key [] t len e key h = ap (λ (o : Bool). o && ltb 1024 len) key ∙ lt-ltb 1024 len h
 long_key (f ∷ fs) t len e key h = absurd (cc)
 
-pub length_fault : (s : Syntax) (fs : List Frame) (text : List ℕ) → ShowsLength s fs text → token_of s fs text ≡ Err BadLength
+pub length_fault : (s : Syntax) (fs : List OpenSequence) (text : List ℕ) → ShowsLength s fs text → token_of s fs text ≡ Err BadLength
 length_fault s fs text (inl (t, rest, starts, bad)) = bad_tag s fs t text rest starts bad
 length_fault s fs text (inr (t, f, rest, wants, (behind, starts, ne, form), inl (len, none))) =
     place_is s fs t text behind wants starts ne ∙ sequence_is (in_force s fs) (is_top fs) (is_full fs) t f behind rest None ne form len none
 length_fault s fs text (inr (t, f, rest, wants, (behind, starts, ne, form), inr (top, key, len, long))) =
     place_is s fs t text behind wants starts ne ∙ value_is (in_force s fs) (is_top fs) (is_full fs) t f behind rest true ne form len (long_key fs t f.len top key long)
 
-pub depth_fault : (s : Syntax) (fs : List Frame) (text : List ℕ) → ShowsDepth s fs text → token_of s fs text ≡ Err TooDeep
+pub depth_fault : (s : Syntax) (fs : List OpenSequence) (text : List ℕ) → ShowsDepth s fs text → token_of s fs text ≡ Err TooDeep
 depth_fault s fs text (t, within, rest, wants, (f, (behind, starts, ne, form), len, is), deep) =
     place_is s fs t text behind wants starts ne ∙ sequence_is (in_force s fs) (is_top fs) (is_full fs) t f behind rest (Some within) ne form len is
     ∙ ap (λ (o : Bool). sequence_token o t rest (Some within)) (eq-eqb (open_sequences fs) 32 deep)
@@ -296,7 +296,7 @@ depth_fault s fs text (t, within, rest, wants, (f, (behind, starts, ne, form), l
 -- ---- faults that are answered show
 
 -- what each answered fault says; `Truncated` says it elsewhere, by what is not there
-abbrev pub Tells : Syntax → List Frame → List ℕ → DataFault → Type 0
+abbrev pub Tells : Syntax → List OpenSequence → List ℕ → DataFault → Type 0
 Tells s fs text Truncated = Unit {0}
 Tells s fs text BadVr = ShowsVr s fs text
 Tells s fs text BadLength = ShowsLength s fs text
@@ -306,37 +306,37 @@ Tells s fs text Memory = ⊥
 err_is : (f g : DataFault) → ◌≡◌ {A = Answer} (Err f) (Err g) → f ≡ g
 err_is f g e = cc
 
-full_is : (fs : List Frame) → is_full fs ≡ true → open_sequences fs ≡ 32
+full_is : (fs : List OpenSequence) → is_full fs ≡ true → open_sequences fs ≡ 32
 full_is fs e = eqb-true (open_sequences fs) 32 e
 
-tells : (s : Syntax) (fs : List Frame) (text : List ℕ) (f fault : DataFault) → Tells s fs text f → ◌≡◌ {A = Answer} (Err f) (Err fault) → Tells s fs text fault
+tells : (s : Syntax) (fs : List OpenSequence) (text : List ℕ) (f fault : DataFault) → Tells s fs text f → ◌≡◌ {A = Answer} (Err f) (Err fault) → Tells s fs text fault
 tells s fs text f fault t e = subst (λ (x : DataFault). Tells s fs text x) (err_is f fault e) t
 
-sequence_tells : (s : Syntax) (fs : List Frame) (text : List ℕ) (t : Tag) (f : Form) (rest : List ℕ) (full : Bool) (w : Option Syntax) (fault : DataFault) → wants_elements fs ≡ true → StartsHeader (in_force s fs) text t f rest
+sequence_tells : (s : Syntax) (fs : List OpenSequence) (text : List ℕ) (t : Tag) (f : HeaderForm) (rest : List ℕ) (full : Bool) (w : Option Syntax) (fault : DataFault) → wants_elements fs ≡ true → StartsHeader (in_force s fs) text t f rest
     → f.len ≡ undefined → inside (in_force s fs) f.vr ≡ w → is_full fs ≡ full → sequence_token full t rest w ≡ Err fault → Tells s fs text fault
 sequence_tells s fs text t f rest full None fault wants h len is room e = tells s fs text BadLength fault (inr (t, f, rest, wants, h, inl (len, is))) e
 sequence_tells s fs text t f rest true (Some within) fault wants h len is room e = tells s fs text TooDeep fault (t, within, rest, wants, (f, h, len, is), full_is fs room) e
 sequence_tells s fs text t f rest false (Some within) fault wants h len is room e = absurd (cc)
 
-long_is : (fs : List Frame) (t : Tag) (len : ℕ) → is_long_key (is_top fs) t len ≡ true → (fs ≡ []) × (is_key t ≡ true) × (1024 < len)
+long_is : (fs : List OpenSequence) (t : Tag) (len : ℕ) → is_long_key (is_top fs) t len ≡ true → (fs ≡ []) × (is_key t ≡ true) × (1024 < len)
 long_is [] t len e = let p = and_parts (is_key t) (ltb 1024 len) e in (refl, p.0, ltb-true 1024 len p.1)
 long_is (f ∷ fs) t len e = absurd (cc)
 
-value_tells : (s : Syntax) (fs : List Frame) (text : List ℕ) (t : Tag) (f : Form) (rest : List ℕ) (o : Bool) (fault : DataFault) → wants_elements fs ≡ true → StartsHeader (in_force s fs) text t f rest
+value_tells : (s : Syntax) (fs : List OpenSequence) (text : List ℕ) (t : Tag) (f : HeaderForm) (rest : List ℕ) (o : Bool) (fault : DataFault) → wants_elements fs ≡ true → StartsHeader (in_force s fs) text t f rest
     → f.len ≢ undefined → is_long_key (is_top fs) t f.len ≡ o → value_token o t f.len rest ≡ Err fault → Tells s fs text fault
 value_tells s fs text t f rest true fault wants h len long e =
     let l = long_is fs t f.len long in
     tells s fs text BadLength fault (inr (t, f, rest, wants, h, inr (l.0, l.1, len, l.2))) e
 value_tells s fs text t f rest false fault wants h len long e = absurd (cc)
 
-by_tells : (s : Syntax) (fs : List Frame) (text : List ℕ) (t : Tag) (f : Form) (rest : List ℕ) (u : Bool) (fault : DataFault) → wants_elements fs ≡ true → StartsHeader (in_force s fs) text t f rest
+by_tells : (s : Syntax) (fs : List OpenSequence) (text : List ℕ) (t : Tag) (f : HeaderForm) (rest : List ℕ) (u : Bool) (fault : DataFault) → wants_elements fs ≡ true → StartsHeader (in_force s fs) text t f rest
     → eqb f.len undefined ≡ u → element_token_by u (in_force s fs) (is_top fs) (is_full fs) t f rest ≡ Err fault → Tells s fs text fault
 by_tells s fs text t f rest true fault wants h u e =
     sequence_tells s fs text t f rest (is_full fs) (inside (in_force s fs) f.vr) fault wants h (eqb-true f.len undefined u) refl refl e
 by_tells s fs text t f rest false fault wants h u e =
     value_tells s fs text t f rest (is_long_key (is_top fs) t f.len) fault wants h (eqb-false f.len undefined u) refl e
 
-form_tells : (s : Syntax) (fs : List Frame) (text : List ℕ) (t : Tag) (behind : List ℕ) (o : Result (Form × List ℕ) DataFault) (fault : DataFault) → wants_elements fs ≡ true → StartsTag text t behind → t.group ≢ item_group
+form_tells : (s : Syntax) (fs : List OpenSequence) (text : List ℕ) (t : Tag) (behind : List ℕ) (o : Result (HeaderForm × List ℕ) DataFault) (fault : DataFault) → wants_elements fs ≡ true → StartsTag text t behind → t.group ≢ item_group
     → form_of (in_force s fs) behind ≡ o → element_token_with (in_force s fs) (is_top fs) (is_full fs) t o ≡ Err fault → Tells s fs text fault
 form_tells s fs text t behind (Ok p) fault wants starts ne is e =
     by_tells s fs text t p.0 p.1 (eqb p.0.len undefined) fault wants (behind, starts, ne, form_sound (in_force s fs) behind p.0 p.1 is) refl e
@@ -347,17 +347,17 @@ form_tells s fs text t behind (Err f) fault wants starts ne is e =
           (t, h.2, h.3, h.4, wants, h.1, subst (λ (x : List ℕ). StartsTag text t x) h.5 starts, ne, h.6)) e
     ]
 
-element_tells : (s : Syntax) (fs : List Frame) (text : List ℕ) (t : Tag) (behind : List ℕ) (o : Bool) (fault : DataFault) → wants_elements fs ≡ true → StartsTag text t behind → (t.group ≡ item_group → IsBadTag fs t)
+element_tells : (s : Syntax) (fs : List OpenSequence) (text : List ℕ) (t : Tag) (behind : List ℕ) (o : Bool) (fault : DataFault) → wants_elements fs ≡ true → StartsTag text t behind → (t.group ≡ item_group → IsBadTag fs t)
     → eqb t.group item_group ≡ o → cond o (Err BadLength) (element_token_with (in_force s fs) (is_top fs) (is_full fs) t (form_of (in_force s fs) behind)) ≡ Err fault → Tells s fs text fault
 element_tells s fs text t behind true fault wants starts bad o e = tells s fs text BadLength fault (inl (t, behind, starts, bad (eqb-true t.group item_group o))) e
 element_tells s fs text t behind false fault wants starts bad o e =
     form_tells s fs text t behind (form_of (in_force s fs) behind) fault wants starts (eqb-false t.group item_group o) refl e
 
-end_tells : (s : Syntax) (fs : List Frame) (text : List ℕ) (end : Token) (o : Option (ℕ × List ℕ)) (fault : DataFault) → end_token end o ≡ Err fault → Tells s fs text fault
+end_tells : (s : Syntax) (fs : List OpenSequence) (text : List ℕ) (end : Token) (o : Option (ℕ × List ℕ)) (fault : DataFault) → end_token end o ≡ Err fault → Tells s fs text fault
 end_tells s fs text end None fault e = tells s fs text Truncated fault tt e
 end_tells s fs text end (Some p) fault e = absurd (cc)
 
-open_item_tells : (s : Syntax) (fs : List Frame) (text : List ℕ) (o : Option (ℕ × List ℕ)) (fault : DataFault) → open_item_token o ≡ Err fault → Tells s fs text fault
+open_item_tells : (s : Syntax) (fs : List OpenSequence) (text : List ℕ) (o : Option (ℕ × List ℕ)) (fault : DataFault) → open_item_token o ≡ Err fault → Tells s fs text fault
 open_item_tells s fs text None fault e = tells s fs text Truncated fault tt e
 open_item_tells s fs text (Some p) fault e = absurd (never (eqb p.0 undefined) e)
   where
@@ -371,25 +371,25 @@ has_not group element t e is = elim (and_cases (eqb t.group group) (eqb t.elemen
   | inr h ↦ eqb-false t.element element h
 ]
 
-item_tells : (s : Syntax) (u : Tag) (within : Syntax) (fs : List Frame) (text : List ℕ) (t : Tag) (behind : List ℕ) (o p : Bool) (fault : DataFault) → StartsTag text t behind → has_tag item_group 0xE000 t ≡ o → has_tag item_group 0xE0DD t ≡ p
+item_tells : (s : Syntax) (u : Tag) (within : Syntax) (fs : List OpenSequence) (text : List ℕ) (t : Tag) (behind : List ℕ) (o p : Bool) (fault : DataFault) → StartsTag text t behind → has_tag item_group 0xE000 t ≡ o → has_tag item_group 0xE0DD t ≡ p
     → cond o (open_item_token (long_of behind)) (cond p (end_token (SequenceEnd u) (long_of behind)) (Err BadLength)) ≡ Err fault → Tells s (InSequence u within ∷ fs) text fault
 item_tells s u within fs text t behind true p fault starts o q e = open_item_tells s (InSequence u within ∷ fs) text (long_of behind) fault e
 item_tells s u within fs text t behind false true fault starts o q e = end_tells s (InSequence u within ∷ fs) text (SequenceEnd u) (long_of behind) fault e
 item_tells s u within fs text t behind false false fault starts o q e =
     tells s (InSequence u within ∷ fs) text BadLength fault (inl (t, behind, starts, λ is. (has_not item_group 0xE000 t o is, has_not item_group 0xE0DD t q is))) e
 
-in_item_tells : (s within : Syntax) (fs : List Frame) (text : List ℕ) (t : Tag) (behind : List ℕ) (o : Bool) (fault : DataFault) → StartsTag text t behind → has_tag item_group 0xE00D t ≡ o
+in_item_tells : (s within : Syntax) (fs : List OpenSequence) (text : List ℕ) (t : Tag) (behind : List ℕ) (o : Bool) (fault : DataFault) → StartsTag text t behind → has_tag item_group 0xE00D t ≡ o
     → cond o (end_token ItemEnd (long_of behind)) (element_token within false (is_full (InItem within ∷ fs)) t behind) ≡ Err fault → Tells s (InItem within ∷ fs) text fault
 in_item_tells s within fs text t behind true fault starts o e = end_tells s (InItem within ∷ fs) text ItemEnd (long_of behind) fault e
 in_item_tells s within fs text t behind false fault starts o e =
     element_tells s (InItem within ∷ fs) text t behind (eqb t.group item_group) fault refl starts (λ is. (is, has_not item_group 0xE00D t o is)) refl e
 
-with_tells : (s : Syntax) (fs : List Frame) (text : List ℕ) (o : Option (Tag × List ℕ)) (fault : DataFault) → tag_of text ≡ o → token_with s fs o ≡ Err fault → Tells s fs text fault
+with_tells : (s : Syntax) (fs : List OpenSequence) (text : List ℕ) (o : Option (Tag × List ℕ)) (fault : DataFault) → tag_of text ≡ o → token_with s fs o ≡ Err fault → Tells s fs text fault
 with_tells s fs text None fault o e = tells s fs text Truncated fault tt e
 with_tells s [] text (Some p) fault o e = element_tells s [] text p.0 p.1 (eqb p.0.group item_group) fault refl (tag_sound text p.0 p.1 o) (λ is. is) refl e
 with_tells s (InItem within ∷ fs) text (Some p) fault o e = in_item_tells s within fs text p.0 p.1 (has_tag item_group 0xE00D p.0) fault (tag_sound text p.0 p.1 o) refl e
 with_tells s (InSequence t within ∷ fs) text (Some p) fault o e =
     item_tells s t within fs text p.0 p.1 (has_tag item_group 0xE000 p.0) (has_tag item_group 0xE0DD p.0) fault (tag_sound text p.0 p.1 o) refl refl e
 
-pub token_tells : (s : Syntax) (fs : List Frame) (text : List ℕ) (fault : DataFault) → token_of s fs text ≡ Err fault → Tells s fs text fault
+pub token_tells : (s : Syntax) (fs : List OpenSequence) (text : List ℕ) (fault : DataFault) → token_of s fs text ≡ Err fault → Tells s fs text fault
 token_tells s fs text fault e = with_tells s fs text (tag_of text) fault refl e

@@ -7,8 +7,8 @@ use Rattle.dr_base.specs.Runs.{Run}
 use Rattle.dr_base.specs.declared.syntax.Syntax.{Syntax}
 use Rattle.dr_dataset.specs.declared.fault.DataFault.{DataFault}
 use Rattle.dr_dataset.specs.declared.header.Tag.{Tag}
-use Rattle.dr_dataset.specs.declared.frame.Frame.{Frame}
-use Rattle.dr_dataset.specs.declared.frame.Frame.TheVariants.{InSequence, InItem}
+use Rattle.dr_dataset.specs.declared.frame.OpenSequence.{OpenSequence}
+use Rattle.dr_dataset.specs.declared.frame.OpenSequence.TheVariants.{InSequence, InItem}
 use Rattle.dr_dataset.specs.declared.token.Token.{Token}
 use Rattle.dr_dataset.specs.declared.token.Token.TheVariants.{Value, Sequence, PlainItem, Item, ItemEnd, SequenceEnd}
 use Rattle.dr_dataset.specs.Elements.{Element, StartsPlain, StartsItem, OpensItem, EndsItem, EndsSequence, StartsElement}
@@ -19,18 +19,18 @@ use Rattle.dr_dataset.proofs.TokenLemmas.{IsNext, token_whole}
 
 -- a place: what is open, what is left, and which elements of the top level are whole
 pub record Place : Type 0 where
-  pub frames : List Frame
+  pub frames : List OpenSequence
   pub rest : List ℕ
   pub done : List Element
 
-abbrev pub at : List Frame → List ℕ → List Element → Place
+abbrev pub at : List OpenSequence → List ℕ → List Element → Place
 at fs rest es = record { frames = fs; rest = rest; done = es }
 
-abbrev pub value_by : Bool → List Frame → List ℕ → List Element → Option Place
+abbrev pub value_by : Bool → List OpenSequence → List ℕ → List Element → Option Place
 value_by false fs rest es = None
 value_by true fs rest es = Some (at fs rest es)
 
-abbrev pub move_token : Syntax → List Frame → List Element → Token → List ℕ → Option Place
+abbrev pub move_token : Syntax → List OpenSequence → List Element → Token → List ℕ → Option Place
 move_token s fs es (Value t len) behind = value_by (leb len (length behind)) fs (drop len behind) (es ++ whole fs t (Some (take len behind)))
 move_token s fs es (Sequence t w) behind = Some (at (InSequence t w ∷ fs) behind es)
 move_token s fs es (PlainItem len) behind = value_by (leb len (length behind)) fs (drop len behind) es
@@ -38,7 +38,7 @@ move_token s fs es Item behind = Some (at (InItem (in_force s fs) ∷ fs) behind
 move_token s fs es ItemEnd behind = Some (at (without_first fs) behind es)
 move_token s fs es (SequenceEnd t) behind = Some (at (without_first fs) behind (es ++ whole (without_first fs) t None))
 
-abbrev pub move_by : Syntax → List Frame → List Element → Result (Token × List ℕ) DataFault → Option Place
+abbrev pub move_by : Syntax → List OpenSequence → List Element → Result (Token × List ℕ) DataFault → Option Place
 move_by s fs es (Err f) = None
 move_by s fs es (Ok p) = move_token s fs es p.0 p.1
 
@@ -74,7 +74,7 @@ pub then_walks : (s : Syntax) (p q r : Place) → Walks s p q → Walks s q r �
 then_walks s p q r a b = walks_on s a.0 p q r a.1 b
 
 -- a run of parts, each a walk that comes back to the same frames
-pub run_walks : {X : Type 0} (s : Syntax) (fs : List Frame) (es : List Element) (Starts : List ℕ → X → List ℕ → Type 0) → ((text : List ℕ) (x : X) (rest : List ℕ) → Starts text x rest → Walks s (at fs text es) (at fs rest es))
+pub run_walks : {X : Type 0} (s : Syntax) (fs : List OpenSequence) (es : List Element) (Starts : List ℕ → X → List ℕ → Type 0) → ((text : List ℕ) (x : X) (rest : List ℕ) → Starts text x rest → Walks s (at fs text es) (at fs rest es))
     → (xs : List X) (text rest : List ℕ) → Run Starts xs text rest → Walks s (at fs text es) (at fs rest es)
 run_walks s fs es Starts each [] text rest r = subst (λ (x : List ℕ). Walks s (at fs text es) (at fs x es)) r (stays s (at fs text es))
 run_walks s fs es Starts each (x ∷ xs) text rest r =
@@ -82,7 +82,7 @@ run_walks s fs es Starts each (x ∷ xs) text rest r =
 
 -- ---- each part is a walk
 
-by_token : (s : Syntax) (fs : List Frame) (es : List Element) (text : List ℕ) (token : Token) (behind : List ℕ) → IsNext s fs text token behind → move s (at fs text es) ≡ move_token s fs es token behind
+by_token : (s : Syntax) (fs : List OpenSequence) (es : List Element) (text : List ℕ) (token : Token) (behind : List ℕ) → IsNext s fs text token behind → move s (at fs text es) ≡ move_token s fs es token behind
 by_token s fs es text token behind next = ap (move_by s fs es) (token_whole s fs text token behind next)
 
 one_move : (s : Syntax) (p q : Place) → move s p ≡ Some q → Walks s p q
@@ -98,15 +98,15 @@ there : (value rest : List ℕ) (n : ℕ) → length value ≡ n → leb n (leng
 there value rest n e = le-leb n (length (value ++ rest)) (omega (arith, length-append value rest, e))
 
 -- what the bytes of a value move to
-value_moves : (fs : List Frame) (es es' : List Element) (value rest : List ℕ) (n : ℕ) → length value ≡ n → es ≡ es' → value_by (leb n (length (value ++ rest))) fs (drop n (value ++ rest)) es ≡ Some (at fs rest es')
+value_moves : (fs : List OpenSequence) (es es' : List Element) (value rest : List ℕ) (n : ℕ) → length value ≡ n → es ≡ es' → value_by (leb n (length (value ++ rest))) fs (drop n (value ++ rest)) es ≡ Some (at fs rest es')
 value_moves fs es es' value rest n len e =
     ap (λ (b : Bool). value_by b fs (drop n (value ++ rest)) es) (there value rest n len) ∙ ap (λ (x : List ℕ). Some (at fs x es)) (left value rest n len) ∙ ap (λ (x : List Element). Some (at fs rest x)) e
 
 -- one of the four is short, where it stands at the top
-abbrev pub IsFit : List Frame → Element → Type 0
+abbrev pub IsFit : List OpenSequence → Element → Type 0
 IsFit fs e = fs ≡ [] → is_key e.tag ≡ true → IfSome e.value (λ v. length v ≤ 1024)
 
-plain_walks : (s : Syntax) (fs : List Frame) (es : List Element) (text : List ℕ) (e : Element) (rest : List ℕ) → wants_elements fs ≡ true → IsFit fs e → StartsPlain (in_force s fs) text e rest
+plain_walks : (s : Syntax) (fs : List OpenSequence) (es : List Element) (text : List ℕ) (e : Element) (rest : List ℕ) → wants_elements fs ≡ true → IsFit fs e → StartsPlain (in_force s fs) text e rest
     → Walks s (at fs text es) (at fs rest (es ++ whole fs e.tag e.value))
 plain_walks s fs es text e rest wants short (t, f, value, header, defined, len, is) =
     let bound : fs ≡ [] → is_key t ≡ true → f.len ≤ 1024 = λ none key. subst (λ (n : ℕ). n ≤ 1024) len (subst (λ (x : Element). is_key x.tag ≡ true → IfSome x.value (λ v. length v ≤ 1024)) is (short none) key) in
@@ -116,35 +116,35 @@ plain_walks s fs es text e rest wants short (t, f, value, header, defined, len, 
     by_token s fs es text (Value t f.len) (value ++ rest) next ∙ value_moves fs (es ++ whole fs t (Some (take f.len (value ++ rest)))) (es ++ whole fs t (Some value)) value rest f.len len found in
     subst (λ (x : Element). Walks s (at fs text es) (at fs rest (es ++ whole fs x.tag x.value))) (sym is) (one_move s (at fs text es) (at fs rest (es ++ whole fs t (Some value))) here)
 
-open_walks : (s : Syntax) (fs : List Frame) (es : List Element) (text : List ℕ) (t : Tag) (w : Syntax) (rest : List ℕ) → MayOpen s fs text t w rest → Walks s (at fs text es) (at (InSequence t w ∷ fs) rest es)
+open_walks : (s : Syntax) (fs : List OpenSequence) (es : List Element) (text : List ℕ) (t : Tag) (w : Syntax) (rest : List ℕ) → MayOpen s fs text t w rest → Walks s (at fs text es) (at (InSequence t w ∷ fs) rest es)
 open_walks s fs es text t w rest (wants, room, opens) =
     let next : IsNext s fs text (Sequence t w) rest = (wants, ne_eqb (open_sequences fs) 32 (λ e. omega (arith, e, room)), opens) in
     one_move s (at fs text es) (at (InSequence t w ∷ fs) rest es) (by_token s fs es text (Sequence t w) rest next)
 
-open_item_walks : (s : Syntax) (t : Tag) (w : Syntax) (fs : List Frame) (es : List Element) (text rest : List ℕ) → OpensItem text rest → Walks s (at (InSequence t w ∷ fs) text es) (at (InItem w ∷ InSequence t w ∷ fs) rest es)
+open_item_walks : (s : Syntax) (t : Tag) (w : Syntax) (fs : List OpenSequence) (es : List Element) (text rest : List ℕ) → OpensItem text rest → Walks s (at (InSequence t w ∷ fs) text es) (at (InItem w ∷ InSequence t w ∷ fs) rest es)
 open_item_walks s t w fs es text rest opens =
     one_move s (at (InSequence t w ∷ fs) text es) (at (InItem w ∷ InSequence t w ∷ fs) rest es) (by_token s (InSequence t w ∷ fs) es text Item rest (refl, opens))
 
-end_item_walks : (s : Syntax) (w : Syntax) (fs : List Frame) (es : List Element) (text rest : List ℕ) → EndsItem text rest → Walks s (at (InItem w ∷ fs) text es) (at fs rest es)
+end_item_walks : (s : Syntax) (w : Syntax) (fs : List OpenSequence) (es : List Element) (text rest : List ℕ) → EndsItem text rest → Walks s (at (InItem w ∷ fs) text es) (at fs rest es)
 end_item_walks s w fs es text rest end = one_move s (at (InItem w ∷ fs) text es) (at fs rest es) (by_token s (InItem w ∷ fs) es text ItemEnd rest ((w, fs, refl), end))
 
-end_sequence_walks : (s : Syntax) (t : Tag) (w : Syntax) (fs : List Frame) (es : List Element) (text rest : List ℕ) → EndsSequence text rest → Walks s (at (InSequence t w ∷ fs) text es) (at fs rest (es ++ whole fs t None))
+end_sequence_walks : (s : Syntax) (t : Tag) (w : Syntax) (fs : List OpenSequence) (es : List Element) (text rest : List ℕ) → EndsSequence text rest → Walks s (at (InSequence t w ∷ fs) text es) (at fs rest (es ++ whole fs t None))
 end_sequence_walks s t w fs es text rest end =
     one_move s (at (InSequence t w ∷ fs) text es) (at fs rest (es ++ whole fs t None)) (by_token s (InSequence t w ∷ fs) es text (SequenceEnd t) rest ((w, fs, refl), end))
 
 -- elements with at most so many levels, where so many are left
 abbrev ElementsWalk : Syntax → ℕ → Type 0
-ElementsWalk s n = (fs : List Frame) (es : List Element) (text : List ℕ) (e : Element) (rest : List ℕ) → wants_elements fs ≡ true → n ≡ levels_left fs → IsFit fs e → StartsElement n (in_force s fs) text e rest
+ElementsWalk s n = (fs : List OpenSequence) (es : List Element) (text : List ℕ) (e : Element) (rest : List ℕ) → wants_elements fs ≡ true → n ≡ levels_left fs → IsFit fs e → StartsElement n (in_force s fs) text e rest
     → Walks s (at fs text es) (at fs rest (es ++ whole fs e.tag e.value))
 
 -- an element in an item leaves the same elements whole
-inner_walks : (s : Syntax) (n : ℕ) → ElementsWalk s n → (w : Syntax) (fs : List Frame) (es : List Element) → n ≡ levels_left (InItem w ∷ fs) → (xs : List Element) (text rest : List ℕ)
+inner_walks : (s : Syntax) (n : ℕ) → ElementsWalk s n → (w : Syntax) (fs : List OpenSequence) (es : List Element) → n ≡ levels_left (InItem w ∷ fs) → (xs : List Element) (text rest : List ℕ)
     → Run (StartsElement n w) xs text rest → Walks s (at (InItem w ∷ fs) text es) (at (InItem w ∷ fs) rest es)
 inner_walks s n each w fs es levels =
     run_walks s (InItem w ∷ fs) es (StartsElement n w)
     (λ text x rest starts. subst (λ (l : List Element). Walks s (at (InItem w ∷ fs) text es) (at (InItem w ∷ fs) rest l)) (append-nil es) (each (InItem w ∷ fs) es text x rest refl levels (λ none. absurd (cc)) starts))
 
-item_walks : (s : Syntax) (n : ℕ) → ElementsWalk s n → (t : Tag) (w : Syntax) (fs : List Frame) (es : List Element) → n ≡ levels_left (InSequence t w ∷ fs) → (text : List ℕ) (xs : List Element) (rest : List ℕ)
+item_walks : (s : Syntax) (n : ℕ) → ElementsWalk s n → (t : Tag) (w : Syntax) (fs : List OpenSequence) (es : List Element) → n ≡ levels_left (InSequence t w ∷ fs) → (text : List ℕ) (xs : List Element) (rest : List ℕ)
     → StartsItem (StartsElement n w) text xs rest → Walks s (at (InSequence t w ∷ fs) text es) (at (InSequence t w ∷ fs) rest es)
 item_walks s n each t w fs es levels text xs rest (inl ((value, defined, mark), none)) =
     let here = InSequence t w ∷ fs in
@@ -180,7 +180,7 @@ tops_walk s (x ∷ xs) es text rest r =
     then_walks s (at [] text es) (at [] r.0 (es ++ x ∷ [])) (at [] rest (es ++ x ∷ xs)) (top_walks s es text x r.0 r.1) (subst (λ (l : List Element). Walks s (at [] r.0 (es ++ x ∷ [])) (at [] rest l)) same on)
 
 -- a front that is in order is a walk from its start
-pub opens_walk : (s : Syntax) (fs : List Frame) (text : List ℕ) (es : List Element) (rest : List ℕ) → Opens s fs text es rest → Walks s (at [] text []) (at fs rest es)
+pub opens_walk : (s : Syntax) (fs : List OpenSequence) (text : List ℕ) (es : List Element) (rest : List ℕ) → Opens s fs text es rest → Walks s (at [] text []) (at fs rest es)
 opens_walk s [] text es rest r = tops_walk s es [] text rest r
 opens_walk s (InSequence t w ∷ fs) text es rest (items, mid, first, o, m, r) =
     let n = levels_left (InSequence t w ∷ fs) in

@@ -10,9 +10,9 @@ use Rattle.dr_dataset.specs.declared.fault.DataFault.{DataFault}
 use Rattle.dr_dataset.specs.declared.fault.DataFault.TheVariants.{Truncated, BadVr, BadLength}
 use Rattle.dr_dataset.specs.declared.fault.DataFault.TheVariants.{TooDeep, Memory}
 use Rattle.dr_dataset.specs.declared.header.Tag.{Tag}
-use Rattle.dr_dataset.specs.declared.header.Form.{Form}
-use Rattle.dr_dataset.specs.declared.frame.Frame.{Frame}
-use Rattle.dr_dataset.specs.declared.frame.Frame.TheVariants.{InSequence, InItem}
+use Rattle.dr_dataset.specs.declared.header.HeaderForm.{HeaderForm}
+use Rattle.dr_dataset.specs.declared.frame.OpenSequence.{OpenSequence}
+use Rattle.dr_dataset.specs.declared.frame.OpenSequence.TheVariants.{InSequence, InItem}
 use Rattle.dr_dataset.specs.declared.values.Attributes.{Attributes}
 use Rattle.dr_dataset.specs.Elements.{Element, undefined, item_group, is_capital, inside, StartsTag}
 use Rattle.dr_dataset.specs.Elements.{StartsHeader, StartsPlain, OpensSequence, StartsPlainItem}
@@ -53,42 +53,42 @@ value_at group element es = trimmed (unwrap_or (first_value group element es) []
 -- ---- the first fault: behind a front that is in order, something is not
 
 -- the syntax in force under what is open, the innermost first
-abbrev pub in_force : Syntax → List Frame → Syntax
+abbrev pub in_force : Syntax → List OpenSequence → Syntax
 in_force s [] = s
 in_force s (InSequence t within ∷ fs) = within
 in_force s (InItem within ∷ fs) = within
 
 -- how many sequences are open
-abbrev pub open_sequences : List Frame → ℕ
+abbrev pub open_sequences : List OpenSequence → ℕ
 open_sequences [] = 0
 open_sequences (InSequence t within ∷ fs) = suc (open_sequences fs)
 open_sequences (InItem within ∷ fs) = open_sequences fs
 
 -- how many sequences may still be opened
-abbrev pub levels_left : List Frame → ℕ
+abbrev pub levels_left : List OpenSequence → ℕ
 levels_left fs = 32 - open_sequences fs
 
 -- whether elements are expected under what is open; else items are
-abbrev pub wants_elements : List Frame → Bool
+abbrev pub wants_elements : List OpenSequence → Bool
 wants_elements [] = true
 wants_elements (InSequence t within ∷ fs) = false
 wants_elements (InItem within ∷ fs) = true
 
 -- the header of a sequence, where one may be opened
-abbrev pub MayOpen : Syntax → List Frame → List ℕ → Tag → Syntax → List ℕ → Type 0
+abbrev pub MayOpen : Syntax → List OpenSequence → List ℕ → Tag → Syntax → List ℕ → Type 0
 MayOpen s fs text t within rest =
     (wants_elements fs ≡ true)
     × (open_sequences fs < 32)
     × OpensSequence (in_force s fs) text t within rest
 
 -- the header of an item of undefined length, in a sequence, whose syntax it has
-abbrev pub MayOpenItem : List Frame → List ℕ → Syntax → List ℕ → Type 0
+abbrev pub MayOpenItem : List OpenSequence → List ℕ → Syntax → List ℕ → Type 0
 MayOpenItem (InSequence t u ∷ fs) text within rest = (within ≡ u) × OpensItem text rest
 MayOpenItem fs text within rest = ⊥
 
 -- The text begins with whole top-level elements, then, for each frame, an opening and whole parts;
 -- then the rest follows.
-abbrev pub Opens : Syntax → List Frame → List ℕ → List Element → List ℕ → Type 0
+abbrev pub Opens : Syntax → List OpenSequence → List ℕ → List Element → List ℕ → Type 0
 Opens s [] text es rest = Run (StartsTop s) es text rest
 Opens s (InSequence t within ∷ fs) text es rest =
     (items : List (List Element))
@@ -102,7 +102,7 @@ Opens s (InItem within ∷ fs) text es rest =
     × Run (StartsElement (levels_left fs) within) xs first rest
 
 -- what may stand next under what is open, and then the rest follows: one value, opening or end
-abbrev pub StartsToken : Syntax → List Frame → List ℕ → List ℕ → Type 0
+abbrev pub StartsToken : Syntax → List OpenSequence → List ℕ → List ℕ → Type 0
 StartsToken s [] text rest =
     ((e : Element)
     × StartsPlain s text e rest
@@ -117,7 +117,7 @@ StartsToken s (InSequence t u ∷ fs) text rest =
 
 -- a tag that can't stand there: a sequence has items and its end, an item elements and its end, the
 -- top elements
-abbrev pub IsBadTag : List Frame → Tag → Type 0
+abbrev pub IsBadTag : List OpenSequence → Tag → Type 0
 IsBadTag (InSequence u within ∷ fs) t =
     t.group ≡ item_group → (t.element ≢ 0xE000) × (t.element ≢ 0xE0DD)
 IsBadTag (InItem within ∷ fs) t = (t.group ≡ item_group) × (t.element ≢ 0xE00D)
@@ -125,7 +125,7 @@ IsBadTag [] t = t.group ≡ item_group
 
 -- an element in the explicit syntax whose value representation isn't two capital letters (PS3.5
 -- 6.2, 7.1.2)
-abbrev pub ShowsVr : Syntax → List Frame → List ℕ → Type 0
+abbrev pub ShowsVr : Syntax → List OpenSequence → List ℕ → Type 0
 ShowsVr s fs text =
     (t : Tag) × (a b : ℕ) × (rest : List ℕ)
     × (wants_elements fs ≡ true)
@@ -135,17 +135,17 @@ ShowsVr s fs text =
     × (is_capital a && is_capital b ≡ false)
 
 -- a tag or a length that can't stand under what is open
-abbrev pub ShowsLength : Syntax → List Frame → List ℕ → Type 0
+abbrev pub ShowsLength : Syntax → List OpenSequence → List ℕ → Type 0
 ShowsLength s fs text =
     ((t : Tag) × (rest : List ℕ) × StartsTag text t rest × IsBadTag fs t)
-    ⊎ ((t : Tag) × (f : Form) × (rest : List ℕ)
+    ⊎ ((t : Tag) × (f : HeaderForm) × (rest : List ℕ)
     × (wants_elements fs ≡ true)
     × StartsHeader (in_force s fs) text t f rest
     × (((f.len ≡ undefined) × (inside (in_force s fs) f.vr ≡ None))
     ⊎ ((fs ≡ []) × (is_key t ≡ true) × (f.len ≢ undefined) × (1024 < f.len))))
 
 -- a sequence opens where 32 are open, which is the most
-abbrev pub ShowsDepth : Syntax → List Frame → List ℕ → Type 0
+abbrev pub ShowsDepth : Syntax → List OpenSequence → List ℕ → Type 0
 ShowsDepth s fs text =
     (t : Tag) × (within : Syntax) × (rest : List ℕ)
     × (wants_elements fs ≡ true)
@@ -153,7 +153,7 @@ ShowsDepth s fs text =
     × (open_sequences fs ≡ 32)
 
 -- the text shows this fault, where these sequences and items are open
-abbrev pub Shows : Syntax → List Frame → List ℕ → DataFault → Type 0
+abbrev pub Shows : Syntax → List OpenSequence → List ℕ → DataFault → Type 0
 Shows s fs text BadVr = ShowsVr s fs text
 Shows s fs text BadLength = ShowsLength s fs text
 Shows s fs text TooDeep = ShowsDepth s fs text
@@ -171,7 +171,7 @@ Shows s fs text Memory = (fs ≡ []) × (text ≡ [])
 -- Behind a front that is in order the fault shows, so it is the one at the least offset.
 abbrev pub FirstFault : Syntax → List ℕ → DataFault → Type 0
 FirstFault s text fault =
-    (fs : List Frame) × (es : List Element) × (rest : List ℕ) × Opens s fs text es rest
+    (fs : List OpenSequence) × (es : List Element) × (rest : List ℕ) × Opens s fs text es rest
     × Shows s fs rest fault
 
 -- the four attributes, or the first fault

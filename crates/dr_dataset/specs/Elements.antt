@@ -10,7 +10,7 @@ use Rattle.dr_base.specs.declared.syntax.Syntax.{Syntax}
 use Rattle.dr_base.specs.declared.syntax.Syntax.TheVariants.{Implicit, Explicit}
 use Rattle.dr_dataset.specs.declared.header.Tag.{Tag}
 use Rattle.dr_dataset.specs.declared.header.Vr.{Vr}
-use Rattle.dr_dataset.specs.declared.header.Form.{Form}
+use Rattle.dr_dataset.specs.declared.header.HeaderForm.{HeaderForm}
 
 -- the undefined length, FFFFFFFFH, of what ends by a mark (PS3.5 7.1.1, 7.5)
 abbrev pub undefined : ℕ
@@ -46,7 +46,7 @@ is_short v = list_any (λ (p : ℕ × ℕ). (p.0 == v.first) && (p.1 == v.second
 -- What stands behind an element's tag (PS3.5 7.1.2, 7.1.3). Implicit: a length of four bytes.
 -- Explicit: two capital letters, and then a length of two bytes, or two reserved bytes and a length
 -- of four.
-abbrev pub StartsForm : Syntax → List ℕ → Form → List ℕ → Type 0
+abbrev pub StartsForm : Syntax → List ℕ → HeaderForm → List ℕ → Type 0
 StartsForm Implicit text f rest =
     (f.vr ≡ None) × (f.len < 2 ^ 32) × (text ≡ to_le_bytes w32 f.len ++ rest)
 StartsForm Explicit text f rest =
@@ -58,7 +58,7 @@ StartsForm Explicit text f rest =
     × (text ≡ v.first ∷ v.second ∷ r ∷ s ∷ (to_le_bytes w32 f.len ++ rest))))
 
 -- the header of an element: a tag, which isn't of the group of items, and its form
-abbrev pub StartsHeader : Syntax → List ℕ → Tag → Form → List ℕ → Type 0
+abbrev pub StartsHeader : Syntax → List ℕ → Tag → HeaderForm → List ℕ → Type 0
 StartsHeader s text t f rest =
     (behind : List ℕ) × StartsTag text t behind × (t.group ≢ item_group)
     × StartsForm s behind f rest
@@ -89,7 +89,7 @@ pub record Element : Type 0 where
 -- an element of defined length, which is not looked into
 abbrev pub StartsPlain : Syntax → List ℕ → Element → List ℕ → Type 0
 StartsPlain s text e rest =
-    (t : Tag) × (f : Form) × (value : List ℕ)
+    (t : Tag) × (f : HeaderForm) × (value : List ℕ)
     × StartsHeader s text t f (value ++ rest)
     × (f.len ≢ undefined) × (length value ≡ f.len)
     × (e ≡ record { tag = t; value = Some value })
@@ -97,7 +97,10 @@ StartsPlain s text e rest =
 -- the header of a sequence of undefined length, with its tag and the syntax inside it
 abbrev pub OpensSequence : Syntax → List ℕ → Tag → Syntax → List ℕ → Type 0
 OpensSequence s text t within rest =
-    (f : Form) × StartsHeader s text t f rest × (f.len ≡ undefined) × (inside s f.vr ≡ Some within)
+    (f : HeaderForm)
+    × StartsHeader s text t f rest
+    × (f.len ≡ undefined)
+    × (inside s f.vr ≡ Some within)
 
 -- an item of defined length, which is not looked into
 abbrev pub StartsPlainItem : List ℕ → List ℕ → Type 0

@@ -3,14 +3,14 @@ use Rattle.std.specs.Prelude.{◌≢◌, List, ℕ, ◌++◌}
 use Rattle.dr_base.specs.declared.syntax.Syntax.{Syntax}
 use Rattle.dr_dataset.specs.declared.fault.DataFault.{DataFault}
 use Rattle.dr_dataset.specs.declared.fault.DataFault.TheVariants.{Truncated, Memory}
-use Rattle.dr_dataset.specs.declared.frame.Frame.{Frame}
+use Rattle.dr_dataset.specs.declared.frame.OpenSequence.{OpenSequence}
 use Rattle.dr_dataset.specs.Elements.{Element}
 use Rattle.dr_dataset.specs.DataSet.{Opens, FirstFault}
 
 -- a front of a text that is in order stays so, with the same elements, whatever bytes follow
 abbrev pub FrontsStay : Type 0
 FrontsStay =
-    (s : Syntax) (fs : List Frame) (text : List ℕ) (es : List Element) (rest more : List ℕ)
+    (s : Syntax) (fs : List OpenSequence) (text : List ℕ) (es : List Element) (rest more : List ℕ)
     → Opens s fs text es rest
     → Opens s fs (text ++ more) es (rest ++ more)
 

@@ -9,15 +9,15 @@ use Rattle.dr_base.specs.declared.syntax.Syntax.{Syntax}
 use Rattle.dr_dataset.specs.declared.fault.DataFault.{DataFault}
 use Rattle.dr_dataset.specs.declared.fault.DataFault.TheVariants.{Truncated, Memory}
 use Rattle.dr_dataset.specs.declared.header.Tag.{Tag}
-use Rattle.dr_dataset.specs.declared.frame.Frame.{Frame}
+use Rattle.dr_dataset.specs.declared.frame.OpenSequence.{OpenSequence}
 use Rattle.dr_dataset.specs.declared.token.Token.{Token}
 use Rattle.dr_dataset.specs.declared.token.Token.TheVariants.{Value, PlainItem}
 use Rattle.dr_dataset.specs.declared.values.Attributes.{Attributes}
 use Rattle.dr_dataset.specs.declared.whole.Whole.{Whole}
 use Rattle.dr_dataset.specs.declared.caught.Caught.{Caught}
 use Rattle.dr_dataset.specs.declared.hearing.Scan.{Scan}
-use Rattle.dr_dataset.specs.declared.hearing.Place.{Place}
-use Rattle.dr_dataset.specs.declared.hearing.Place.TheVariants.{InHeader, InValue, Failed}
+use Rattle.dr_dataset.specs.declared.hearing.ScanPlace.{ScanPlace}
+use Rattle.dr_dataset.specs.declared.hearing.ScanPlace.TheVariants.{InHeader, InValue, Failed}
 use Rattle.dr_dataset.specs.Elements.{Element}
 use Rattle.dr_dataset.specs.DataSet.{is_key, first_value, Opens, FirstFault}
 use Rattle.dr_base.specs.Calls.{Calls}
@@ -53,7 +53,7 @@ value_header None len = PlainItem len
 value_header (Some t) len = Value t len
 
 -- whether the bytes of a value are kept: those of one of the four, at the top
-abbrev pub is_kept : List Frame → Option Tag → Bool
+abbrev pub is_kept : List OpenSequence → Option Tag → Bool
 is_kept [] (Some t) = is_key t
 is_kept [] None = false
 is_kept (f ∷ fs) t = false
@@ -63,7 +63,7 @@ abbrev pub AreBytes : List ℕ → Type 0
 AreBytes text = (i : ℕ) → get_or text i 0 < 256
 
 -- what a scan that stands at this place knows of the text so far
-abbrev pub HearsAt : Syntax → List ℕ → Scan → Place → Type 0
+abbrev pub HearsAt : Syntax → List ℕ → Scan → ScanPlace → Type 0
 -- behind a front that is in order stand the bytes of a header that isn't whole
 HearsAt s text scan InHeader =
     (es : List Element)
@@ -121,7 +121,7 @@ abbrev pub Begun : Syntax → List ℕ → Token → Scan → Type 0
 Begun s text token scan =
     (scan.scanner.syntax ≡ s)
     × (scan.place ≡ InHeader) × (scan.header.items ≡ [])
-    × ((before : List Frame) × (es : List Element) × (header : List ℕ)
+    × ((before : List OpenSequence) × (es : List Element) × (header : List ℕ)
     × Opens s before text es header
     × AreCaught scan.found es
     × (token_of s before header ≡ Ok (token, []))

@@ -9,7 +9,7 @@ use Rattle.dr_dataset.specs.declared.fault.DataFault.{DataFault}
 use Rattle.dr_dataset.specs.declared.fault.DataFault.TheVariants.{Truncated, BadVr}
 use Rattle.dr_dataset.specs.declared.header.Tag.{Tag}
 use Rattle.dr_dataset.specs.declared.header.Vr.{Vr}
-use Rattle.dr_dataset.specs.declared.header.Form.{Form}
+use Rattle.dr_dataset.specs.declared.header.HeaderForm.{HeaderForm}
 use Rattle.dr_dataset.specs.Elements.{is_capital, is_short}
 
 -- what a function takes off the front of a text, with the borrowed rest behind it, is what is
@@ -58,18 +58,18 @@ tag_of text = None
 
 -- the form of an element from its value representation and the length that was read, if there was
 -- one
-abbrev pub form_with : Option Vr → Option (ℕ × List ℕ) → Result (Form × List ℕ) DataFault
+abbrev pub form_with : Option Vr → Option (ℕ × List ℕ) → Result (HeaderForm × List ℕ) DataFault
 form_with v None = Err Truncated
 form_with v (Some p) = Ok (record { vr = v; len = p.0 }, p.1)
 
 -- behind the letters of a value representation, two reserved bytes and a length of four (PS3.5
 -- 7.1.2)
-abbrev pub long_form_of : Vr → List ℕ → Result (Form × List ℕ) DataFault
+abbrev pub long_form_of : Vr → List ℕ → Result (HeaderForm × List ℕ) DataFault
 long_form_of v (r ∷ s ∷ rest) = form_with (Some v) (long_of rest)
 long_form_of v text = Err Truncated
 
 -- the form behind two letters, by whether they are capitals and whether their length has two bytes
-abbrev pub lettered_form_of : Bool → Bool → Vr → List ℕ → Result (Form × List ℕ) DataFault
+abbrev pub lettered_form_of : Bool → Bool → Vr → List ℕ → Result (HeaderForm × List ℕ) DataFault
 lettered_form_of false short v text = Err BadVr
 lettered_form_of true true v text = form_with (Some v) (short_of text)
 lettered_form_of true false v text = long_form_of v text
@@ -80,7 +80,7 @@ are_capitals v = is_capital v.first && is_capital v.second
 
 -- what stands behind a tag in the explicit syntax: letters and a length (PS3.5 7.1.2), and what
 -- follows
-abbrev pub explicit_form_of : List ℕ → Result (Form × List ℕ) DataFault
+abbrev pub explicit_form_of : List ℕ → Result (HeaderForm × List ℕ) DataFault
 explicit_form_of (a ∷ b ∷ rest) =
     let v : Vr = record { first = a; second = b } in
     lettered_form_of (are_capitals v) (is_short v) v rest
@@ -88,6 +88,6 @@ explicit_form_of text = Err Truncated
 
 -- what stands behind a tag in either syntax, and what follows: a length, with or without letters
 -- before it
-abbrev pub form_of : Syntax → List ℕ → Result (Form × List ℕ) DataFault
+abbrev pub form_of : Syntax → List ℕ → Result (HeaderForm × List ℕ) DataFault
 form_of Implicit text = form_with None (long_of text)
 form_of Explicit text = explicit_form_of text

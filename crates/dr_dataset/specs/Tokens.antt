@@ -5,9 +5,9 @@ use Rattle.dr_base.specs.declared.syntax.Syntax.{Syntax}
 use Rattle.dr_dataset.specs.declared.fault.DataFault.{DataFault}
 use Rattle.dr_dataset.specs.declared.fault.DataFault.TheVariants.{Truncated, BadLength, TooDeep}
 use Rattle.dr_dataset.specs.declared.header.Tag.{Tag}
-use Rattle.dr_dataset.specs.declared.header.Form.{Form}
-use Rattle.dr_dataset.specs.declared.frame.Frame.{Frame}
-use Rattle.dr_dataset.specs.declared.frame.Frame.TheVariants.{InSequence, InItem}
+use Rattle.dr_dataset.specs.declared.header.HeaderForm.{HeaderForm}
+use Rattle.dr_dataset.specs.declared.frame.OpenSequence.{OpenSequence}
+use Rattle.dr_dataset.specs.declared.frame.OpenSequence.TheVariants.{InSequence, InItem}
 use Rattle.dr_dataset.specs.declared.token.Token.{Token}
 use Rattle.dr_dataset.specs.declared.token.Token.TheVariants.{Value, Sequence, PlainItem, Item}
 use Rattle.dr_dataset.specs.declared.token.Token.TheVariants.{ItemEnd, SequenceEnd}
@@ -31,14 +31,14 @@ abbrev pub is_long_key : Bool → Tag → ℕ → Bool
 is_long_key top t len = top && (is_key t && nat_lt 1024 len)
 
 -- the token of an element by whether its length is undefined: a sequence then, and else a value
-abbrev pub element_token_by : Bool → Syntax → Bool → Bool → Tag → Form → List ℕ
+abbrev pub element_token_by : Bool → Syntax → Bool → Bool → Tag → HeaderForm → List ℕ
     → Result (Token × List ℕ) DataFault
 element_token_by true s top full t f rest = sequence_token full t rest (inside s f.vr)
 element_token_by false s top full t f rest = value_token (is_long_key top t f.len) t f.len rest
 
 -- the token of an element whose tag is known, from its form or the fault of its form
 abbrev pub element_token_with : Syntax → Bool → Bool → Tag
-    → Result (Form × List ℕ) DataFault
+    → Result (HeaderForm × List ℕ) DataFault
     → Result (Token × List ℕ) DataFault
 element_token_with s top full t (Err fault) = Err fault
 element_token_with s top full t (Ok p) =
@@ -73,11 +73,11 @@ item_token sequence t rest =
     else Err BadLength)
 
 -- 32 sequences are open, so no further one may be
-abbrev pub is_full : List Frame → Bool
+abbrev pub is_full : List OpenSequence → Bool
 is_full fs = open_sequences fs == 32
 
 -- the token by its tag and by what is open: elements at the top and in an item, items in a sequence
-abbrev pub token_with : Syntax → List Frame → Option (Tag × List ℕ)
+abbrev pub token_with : Syntax → List OpenSequence → Option (Tag × List ℕ)
     → Result (Token × List ℕ) DataFault
 token_with s fs None = Err Truncated
 token_with s [] (Some p) = element_token s true (is_full []) p.0 p.1
@@ -88,16 +88,16 @@ token_with s (InItem within ∷ fs) (Some p) =
 token_with s (InSequence t within ∷ fs) (Some p) = item_token t p.0 p.1
 
 -- the header or end that comes next, and the text behind it
-abbrev pub token_of : Syntax → List Frame → List ℕ → Result (Token × List ℕ) DataFault
+abbrev pub token_of : Syntax → List OpenSequence → List ℕ → Result (Token × List ℕ) DataFault
 token_of s fs text = token_with s fs (tag_of text)
 
 -- what is open once the innermost has ended
-abbrev pub without_first : List Frame → List Frame
+abbrev pub without_first : List OpenSequence → List OpenSequence
 without_first [] = []
 without_first (f ∷ fs) = fs
 
 -- what is open behind a token that came where these were open
-abbrev pub open_behind : Syntax → Token → List Frame → List Frame
+abbrev pub open_behind : Syntax → Token → List OpenSequence → List OpenSequence
 open_behind s (Value t len) fs = fs
 open_behind s (Sequence t within) fs = InSequence t within ∷ fs
 open_behind s (PlainItem len) fs = fs
@@ -106,7 +106,7 @@ open_behind s ItemEnd fs = without_first fs
 open_behind s (SequenceEnd t) fs = without_first fs
 
 -- items stand in sequences, sequences in items or at the top, and at most 32 sequences are open
-abbrev pub is_nested : List Frame → Bool
+abbrev pub is_nested : List OpenSequence → Bool
 is_nested [] = true
 is_nested (InSequence t within ∷ []) = true
 is_nested (InSequence t within ∷ InSequence u v ∷ fs) = false

@@ -5,9 +5,9 @@ use Rattle.std.specs.Option.{option_copied}
 use Rattle.dr_base.specs.declared.syntax.Syntax.{Syntax}
 use Rattle.dr_dataset.specs.declared.fault.DataFault.{DataFault}
 use Rattle.dr_dataset.specs.declared.header.Tag.{Tag}
-use Rattle.dr_dataset.specs.declared.frame.Frame.{Frame}
+use Rattle.dr_dataset.specs.declared.frame.OpenSequence.{OpenSequence}
 use Rattle.dr_dataset.specs.declared.whole.Whole.{Whole}
-use Rattle.dr_dataset.specs.declared.found.Found.{Found}
+use Rattle.dr_dataset.specs.declared.found.ElementsFound.{ElementsFound}
 use Rattle.dr_dataset.specs.declared.values.Attributes.{Attributes}
 use Rattle.dr_dataset.specs.Elements.{Element}
 use Rattle.dr_base.specs.Padding.{trimmed}
@@ -15,7 +15,7 @@ use Rattle.dr_dataset.specs.DataSet.{first_value, Opens, Shows}
 
 -- an element, as the one element of the top level that it is where nothing is open behind it, and
 -- none else
-abbrev pub whole : List Frame → Tag → Option (List ℕ) → List Element
+abbrev pub whole : List OpenSequence → Tag → Option (List ℕ) → List Element
 whole [] t value = record { tag = t; value = value } ∷ []
 whole (f ∷ fs) t value = []
 
@@ -25,7 +25,7 @@ elements_of None = []
 elements_of (Some w) = record { tag = w.tag; value = option_copied w.value } ∷ []
 
 -- a scan has found the first bytes of each of the four tags in these elements
-abbrev pub AreFound : Found → List Element → Type 0
+abbrev pub AreFound : ElementsFound → List Element → Type 0
 AreFound f es =
     (option_copied f.class ≡ first_value 0x0008 0x0016 es)
     × (option_copied f.instance ≡ first_value 0x0008 0x0018 es)
@@ -37,7 +37,7 @@ abbrev pub text_of : Option (Bor (List ℕ)) → List ℕ
 text_of value = trimmed (unwrap_or (option_copied value) [])
 
 -- the attributes are the four values that were found, trimmed
-abbrev pub AreValues : Found → Attributes → Type 0
+abbrev pub AreValues : ElementsFound → Attributes → Type 0
 AreValues f a =
     (a.class ≡ text_of f.class)
     × (a.instance ≡ text_of f.instance)
@@ -47,7 +47,7 @@ AreValues f a =
 -- a fault shows before one element of the top level is whole
 abbrev pub FailsAtOnce : Syntax → List ℕ → DataFault → Type 0
 FailsAtOnce s text fault =
-    (fs : List Frame) × (rest : List ℕ) × Opens s fs text [] rest × Shows s fs rest fault
+    (fs : List OpenSequence) × (rest : List ℕ) × Opens s fs text [] rest × Shows s fs rest fault
 
 -- an element that was found whole, as the grammar sees it
 abbrev pub element_of : Whole → Element

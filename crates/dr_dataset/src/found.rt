@@ -10,7 +10,7 @@ use crate::whole::Whole;
 /// SOP class UID, SOP instance UID, modality and station name: the bytes of the first element with
 /// each tag.
 #[derive(Clone, Copy)]
-pub struct Found<'a> {
+pub struct ElementsFound<'a> {
     pub class: Option<&'a [u8]>,
     pub instance: Option<&'a [u8]>,
     pub modality: Option<&'a [u8]>,
@@ -38,12 +38,12 @@ pub fn first_of<'a>(found: Option<&'a [u8]>, is_it: bool, value: &'a [u8]) -> Op
     found
 }
 
-impl<'a> Found<'a> {
+impl<'a> ElementsFound<'a> {
     /// Nothing is found yet.
-    pub fn nothing() -> Found<'a>
+    pub fn nothing() -> ElementsFound<'a>
         ensures { AreFound result [] }
     {
-        Found {
+        ElementsFound {
             class: None,
             instance: None,
             modality: None,
@@ -53,7 +53,7 @@ impl<'a> Found<'a> {
 
     /// Behind one more element, or none: the first with each tag counts, one of undefined length
     /// too.
-    pub fn with(self, element: Option<Whole<'a>>) -> Found<'a>
+    pub fn with(self, element: Option<Whole<'a>>) -> ElementsFound<'a>
         ensures { (es : List Element) → AreFound self.entry es
             → AreFound result (es ++ elements_of element.entry) }
     {
@@ -63,13 +63,13 @@ impl<'a> Found<'a> {
         }
     }
 
-    fn with_one(self, element: Whole<'a>) -> Found<'a>
+    fn with_one(self, element: Whole<'a>) -> ElementsFound<'a>
         ensures { (es : List Element) → AreFound self.entry es
             → AreFound result (es ++ elements_of (Some element.entry)) }
     {
         let tag = element.tag;
         let bytes = bytes_of(element.value);
-        Found {
+        ElementsFound {
             class: first_of(self.class, tag.is(0x0008, 0x0016), bytes),
             instance: first_of(self.instance, tag.is(0x0008, 0x0018), bytes),
             modality: first_of(self.modality, tag.is(0x0008, 0x0060), bytes),

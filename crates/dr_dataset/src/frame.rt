@@ -4,7 +4,7 @@ use dr_base::Syntax;
 
 /// A sequence or an item of undefined length whose end hasn't come yet (PS3.5 section 7.5).
 #[derive(Clone, Copy, Debug, PartialEq, Eq)]
-pub enum Frame {
+pub enum OpenSequence {
     /// A sequence, with its tag and the syntax of what is inside it.
     InSequence(Tag, Syntax),
     /// An item of a sequence, with that syntax.
@@ -12,8 +12,8 @@ pub enum Frame {
 }
 
 /// What the places of a stack hold before anything was open.
-impl Default for Frame {
-    fn default() -> Frame {
-        Frame::InItem(Syntax::Implicit)
+impl Default for OpenSequence {
+    fn default() -> OpenSequence {
+        OpenSequence::InItem(Syntax::Implicit)
     }
 }

@@ -34,7 +34,7 @@ pub struct Vr {
 /// What stands between a tag and a value: the value representation, which the implicit syntax
 /// leaves out, and the length in bytes.
 #[derive(Clone, Copy, Debug, PartialEq, Eq)]
-pub struct Form {
+pub struct HeaderForm {
     pub vr: Option<Vr>,
     pub len: u32,
 }
@@ -104,7 +104,7 @@ pub fn tag_at(text: &[u8]) -> Option<(Tag, &[u8])>
 }
 
 /// What stands behind the tag of an element, and what follows.
-pub fn form_at(text: &[u8], syntax: Syntax) -> Result<(Form, &[u8]), DataFault>
+pub fn form_at(text: &[u8], syntax: Syntax) -> Result<(HeaderForm, &[u8]), DataFault>
     ensures { Gives result (form_of syntax text.now) }
 {
     match syntax {
@@ -112,13 +112,13 @@ pub fn form_at(text: &[u8], syntax: Syntax) -> Result<(Form, &[u8]), DataFault>
             let Some((len, rest)) = long_at(text) else {
                 return Err(DataFault::Truncated);
             };
-            Ok((Form { vr: None, len }, rest))
+            Ok((HeaderForm { vr: None, len }, rest))
         }
         Syntax::Explicit => explicit_form_at(text),
     }
 }
 
-fn explicit_form_at(text: &[u8]) -> Result<(Form, &[u8]), DataFault>
+fn explicit_form_at(text: &[u8]) -> Result<(HeaderForm, &[u8]), DataFault>
     ensures { Gives result (explicit_form_of text.now) }
 {
     let [first, second, rest @ ..] = text else {
@@ -138,7 +138,7 @@ fn explicit_form_at(text: &[u8]) -> Result<(Form, &[u8]), DataFault>
         return Err(DataFault::Truncated);
     };
     Ok((
-        Form {
+        HeaderForm {
             vr: Some(vr),
             len: u32::from(len),
         },
@@ -147,7 +147,7 @@ fn explicit_form_at(text: &[u8]) -> Result<(Form, &[u8]), DataFault>
 }
 
 /// Two reserved bytes and a length of four.
-fn long_form_at(text: &[u8], vr: Vr) -> Result<(Form, &[u8]), DataFault>
+fn long_form_at(text: &[u8], vr: Vr) -> Result<(HeaderForm, &[u8]), DataFault>
     ensures { Gives result (long_form_of vr text.now) }
 {
     let [_, _, rest @ ..] = text else {
@@ -156,7 +156,7 @@ fn long_form_at(text: &[u8], vr: Vr) -> Result<(Form, &[u8]), DataFault>
     let Some((len, rest)) = long_at(rest) else {
         return Err(DataFault::Truncated);
     };
-    Ok((Form { vr: Some(vr), len }, rest))
+    Ok((HeaderForm { vr: Some(vr), len }, rest))
 }
 
 /// The syntax inside an element of undefined length, if it is a sequence.

@@ -23,7 +23,7 @@ use std::alloc::{AllocError, Global};
 
 /// Where a scan is.
 #[derive(Clone, Copy)]
-pub enum Place {
+pub enum ScanPlace {
     /// Between tokens or inside a header.
     InHeader,
     /// Behind the header of an element with that tag, or of an item; so many bytes of its value are
@@ -38,7 +38,7 @@ pub enum Place {
 #[derive(Drop)]
 pub struct Scan {
     scanner: Scanner,
-    place: Place,
+    place: ScanPlace,
     header: ArrayVec<u8, 12>,
     value: Kept,
     found: Caught,
@@ -51,7 +51,7 @@ impl Scan {
     {
         Scan {
             scanner: Scanner::new(syntax),
-            place: Place::InHeader,
+            place: ScanPlace::InHeader,
             header: ArrayVec::new(),
             value: ArrayVec::new(),
             found: Caught::nothing(),
@@ -75,7 +75,7 @@ impl Scan {
             rest = self.take(rest);
         }
         match self.place {
-            Place::Failed(fault) => Err(fault),
+            ScanPlace::Failed(fault) => Err(fault),
             _ => Ok(()),
         }
     }
@@ -90,11 +90,11 @@ impl Scan {
         ensures again { (f : FaultName) → HasFailed self.old f → result ≡ Err f }
     {
         self.settle();
-        if let Place::Failed(fault) = self.place {
+        if let ScanPlace::Failed(fault) = self.place {
             return Err(fault);
         }
         if !self.is_at_end() {
-            self.place = Place::Failed(DataFault::Truncated);
+            self.place = ScanPlace::Failed(DataFault::Truncated);
             return Err(DataFault::Truncated);
         }
         let Ok(values) = values_of(alloc, &self.found) else {
@@ -112,9 +112,9 @@ impl Scan {
     {
         self.settle();
         match self.place {
-            Place::Failed(_) => &[],
-            Place::InValue(tag, missing) => self.take_value(piece, tag, missing),
-            Place::InHeader => self.take_header(piece),
+            ScanPlace::Failed(_) => &[],
+            ScanPlace::InValue(tag, missing) => self.take_value(piece, tag, missing),
+            ScanPlace::InHeader => self.take_header(piece),
         }
     }
 
@@ -122,22 +122,22 @@ impl Scan {
     fn settle(&mut self)
         ensures hears { (s : SyntaxName) (text : List ℕ)
             → Hears s text self.old → Hears s text self.new }
-        ensures settled { (t : OptionName TagName) → self.new.place ≢ Place.InValue t 0 }
+        ensures settled { (t : OptionName TagName) → self.new.place ≢ ScanPlace.InValue t 0 }
         ensures failed { (f : FaultName) → HasFailed self.old f → HasFailed self.new f }
     {
-        let Place::InValue(tag, missing) = self.place else {
+        let ScanPlace::InValue(tag, missing) = self.place else {
             return;
         };
         if missing > 0 {
             return;
         }
         let Some(tag) = tag else {
-            self.place = Place::InHeader;
+            self.place = ScanPlace::InHeader;
             return;
         };
         let whole = self.scanner.at_top(tag, Some(self.value.as_slice()));
         self.found.note(whole);
-        self.place = Place::InHeader;
+        self.place = ScanPlace::InHeader;
     }
 
     /// Takes bytes of the value.
@@ -145,13 +145,13 @@ impl Scan {
         requires some { piece.now ≢ [] }
         requires awaited { 0 < missing }
         ensures { (taken : List ℕ) × (piece.now ≡ taken ++ result.now) × (taken ≢ [])
-            × (self.old.place ≡ Place.InValue tag missing → GoesOn self.old taken self.new) }
+            × (self.old.place ≡ ScanPlace.InValue tag missing → GoesOn self.old taken self.new) }
     {
         let count = piece.len().min(missing as usize);
         let (bytes, rest) = piece.split_at(count);
         let is_kept = self.keeps(tag);
         keep_more(&mut self.value, is_kept, bytes);
-        self.place = Place::InValue(tag, missing - count as u32);
+        self.place = ScanPlace::InValue(tag, missing - count as u32);
         rest
     }
 
@@ -169,7 +169,7 @@ impl Scan {
     fn take_header<'a>(&mut self, piece: &'a [u8]) -> &'a [u8]
         requires { piece.now ≢ [] }
         ensures { (taken : List ℕ) × (piece.now ≡ taken ++ result.now) × (taken ≢ [])
-            × (self.old.place ≡ Place.InHeader → GoesOn self.old taken self.new) }
+            × (self.old.place ≡ ScanPlace.InHeader → GoesOn self.old taken self.new) }
     {
         if self.header.is_empty() {
             return self.take_first(piece);
@@ -182,7 +182,7 @@ impl Scan {
         requires some { piece.now ≢ [] }
         requires fresh { self.old.header.items ≡ [] }
         ensures { (taken : List ℕ) × (piece.now ≡ taken ++ result.now) × (taken ≢ [])
-            × (self.old.place ≡ Place.InHeader → GoesOn self.old taken self.new) }
+            × (self.old.place ≡ ScanPlace.InHeader → GoesOn self.old taken self.new) }
     {
         let Ok((token, rest)) = self.scanner.step(piece) else {
             return self.take_one(piece);
@@ -195,7 +195,7 @@ impl Scan {
     fn take_one<'a>(&mut self, piece: &'a [u8]) -> &'a [u8]
         requires { piece.now ≢ [] }
         ensures { (taken : List ℕ) × (piece.now ≡ taken ++ result.now) × (taken ≢ [])
-            × (self.old.place ≡ Place.InHeader → GoesOn self.old taken self.new) }
+            × (self.old.place ≡ ScanPlace.InHeader → GoesOn self.old taken self.new) }
     {
         let [byte, rest @ ..] = piece else {
             return piece;
@@ -205,7 +205,7 @@ impl Scan {
     }
 
     fn take_byte(&mut self, byte: u8)
-        ensures { self.old.place ≡ Place.InHeader → GoesOn self.old (byte ∷ []) self.new }
+        ensures { self.old.place ≡ ScanPlace.InHeader → GoesOn self.old (byte ∷ []) self.new }
     {
         if self.header.is_full() {
             return;
@@ -217,7 +217,7 @@ impl Scan {
                 if let DataFault::Truncated = fault {
                     return;
                 }
-                self.place = Place::Failed(fault);
+                self.place = ScanPlace::Failed(fault);
                 return;
             }
         };
@@ -244,23 +244,23 @@ impl Scan {
 
     fn await_value(&mut self, tag: Option<Tag>, len: u32)
         ensures { self.new
-            ≡ record self.old { place = Place.InValue tag len; value = record { items = [] } } }
+            ≡ record self.old { place = ScanPlace.InValue tag len; value = record { items = [] } } }
     {
         self.value.clear();
-        self.place = Place::InValue(tag, len);
+        self.place = ScanPlace::InValue(tag, len);
     }
 
     /// Whether the data set may end here.
     fn is_at_end(&self) -> bool
         ensures { MatchBool result
-            ((self.now.place ≡ Place.InHeader)
+            ((self.now.place ≡ ScanPlace.InHeader)
             × (self.now.header.items ≡ [])
             × (self.now.scanner.stack ≡ []))
-            (self.now.place ≡ Place.InHeader
+            (self.now.place ≡ ScanPlace.InHeader
             → self.now.header.items ≡ []
             → self.now.scanner.stack ≢ []) }
     {
-        let Place::InHeader = self.place else {
+        let ScanPlace::InHeader = self.place else {
             return false;
         };
         self.scanner.is_at_end(self.header.as_slice())

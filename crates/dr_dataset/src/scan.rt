@@ -7,21 +7,21 @@ ghost use Rattle.dr_dataset.specs.DataSet.{IsDataSet, FirstFault, Scans};
 ghost use Rattle.dr_dataset.specs.Wholes.{AreFound, AreValues};
 
 use crate::fault::DataFault;
-use crate::found::{Found, bytes_of};
+use crate::found::{ElementsFound, bytes_of};
 use crate::scanner::Scanner;
 use crate::values::Attributes;
 use dr_base::padding::trimmed;
 use dr_base::{Syntax, Text};
 use std::alloc::{AllocError, Global};
 
-fn found_in(text: &[u8], syntax: Syntax) -> Result<Found<'_>, DataFault>
+fn found_in(text: &[u8], syntax: Syntax) -> Result<ElementsFound<'_>, DataFault>
     ensures ok { IfOk result (λ f.
         (es : List Element) × IsDataSet syntax text.now es × AreFound f es) }
     ensures err { IfErr result (λ fault.
         (fault ≢ DataFault.Memory) × FirstFault syntax text.now fault) }
 {
     let mut scanner = Scanner::new(syntax);
-    let mut found = Found::nothing();
+    let mut found = ElementsFound::nothing();
     let mut rest = text;
     'tokens: while !scanner.is_at_end(rest) {
         let (element, after) = scanner.advance(rest)?;
@@ -37,7 +37,7 @@ fn text_of(alloc: Global, value: Option<&[u8]>) -> Result<Text, AllocError>
     Text::copy_of(alloc, trimmed(bytes_of(value)))
 }
 
-fn values_of(alloc: Global, found: Found<'_>) -> Result<Attributes, AllocError>
+fn values_of(alloc: Global, found: ElementsFound<'_>) -> Result<Attributes, AllocError>
     ensures { IfOk result (λ a. AreValues found.entry a) }
 {
     Ok(Attributes {

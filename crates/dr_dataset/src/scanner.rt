@@ -11,7 +11,7 @@ ghost use Rattle.dr_dataset.specs.Tokens.{is_nested, is_full, element_token, ite
 ghost use Rattle.dr_dataset.specs.Tokens.{open_item_token, token_of, open_behind};
 
 use crate::fault::DataFault;
-use crate::frame::Frame;
+use crate::frame::OpenSequence;
 use crate::header::{Tag, UNDEFINED, form_at, long_at, syntax_inside, tag_at};
 use crate::stack::Stack;
 use crate::token::Token;
@@ -132,9 +132,9 @@ impl Scanner {
         };
         match self.stack.top() {
             None => element_at(rest, tag, self.syntax, true, false),
-            Some(Frame::InSequence(sequence, _)) => item_at(rest, tag, sequence),
-            Some(Frame::InItem(_)) if tag == ITEM_END => end_at(rest, Token::ItemEnd),
-            Some(Frame::InItem(inside)) => {
+            Some(OpenSequence::InSequence(sequence, _)) => item_at(rest, tag, sequence),
+            Some(OpenSequence::InItem(_)) if tag == ITEM_END => end_at(rest, Token::ItemEnd),
+            Some(OpenSequence::InItem(inside)) => {
                 element_at(rest, tag, inside, false, self.stack.is_full())
             }
         }
@@ -153,10 +153,10 @@ impl Scanner {
         let (token, rest) = self.token_at(text)?;
         match token {
             Token::Value(_, _) | Token::PlainItem(_) => {}
-            Token::Sequence(tag, inside) => self.stack.push(Frame::InSequence(tag, inside)),
+            Token::Sequence(tag, inside) => self.stack.push(OpenSequence::InSequence(tag, inside)),
             Token::Item => {
                 let inside = self.syntax_in_force();
-                self.stack.push(Frame::InItem(inside));
+                self.stack.push(OpenSequence::InItem(inside));
             }
             Token::ItemEnd | Token::SequenceEnd(_) => {
                 let _ = self.stack.pop();
@@ -254,7 +254,8 @@ impl Scanner {
     {
         match self.stack.top() {
             None => self.syntax,
-            Some(Frame::InSequence(_, inside)) | Some(Frame::InItem(inside)) => inside,
+            Some(OpenSequence::InSequence(_, inside)) | Some(OpenSequence::InItem(inside)) =>
+                inside,
         }
     }
 }

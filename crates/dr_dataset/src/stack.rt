@@ -1,7 +1,7 @@
 //! What is open at a place of a data set, in an array that takes no memory from an allocator.
 ghost use Rattle.std.specs.Prelude.{◌≡◌, ◌==◌, ◌<◌, ◌∷◌, [], length, slice_get};
 
-use crate::frame::Frame;
+use crate::frame::OpenSequence;
 use arrayvec::ArrayVec;
 use std::marker::Model;
 
@@ -11,14 +11,14 @@ const MOST_OPEN: usize = 64;
 /// Open sequences and items, which contracts see as their list, the innermost first.
 #[derive(Drop)]
 pub struct Stack {
-    frames: ArrayVec<Frame, MOST_OPEN>,
+    frames: ArrayVec<OpenSequence, MOST_OPEN>,
 }
 
 impl Model for Stack {
     ghost use Rattle.std.specs.Prelude.{List, reverse};
-    ghost use Rattle.dr_dataset.specs.declared.frame.Frame.{Frame};
+    ghost use Rattle.dr_dataset.specs.declared.frame.OpenSequence.{OpenSequence};
 
-    ghost Value = { List Frame };
+    ghost Value = { List OpenSequence };
 
     ghost view = { λ s. reverse s.frames.items };
 }
@@ -34,7 +34,7 @@ impl Stack {
     }
 
     /// The innermost.
-    pub fn top(&self) -> Option<Frame>
+    pub fn top(&self) -> Option<OpenSequence>
         ensures { result ≡ slice_get self.now 0 }
     {
         match self.frames.as_slice() {
@@ -58,7 +58,7 @@ impl Stack {
     }
 
     /// A sequence or an item opens, inside all that is open; there has to be room for it.
-    pub fn push(&mut self, frame: Frame)
+    pub fn push(&mut self, frame: OpenSequence)
         requires { length self.old < 64 }
         ensures { self.new ≡ frame ∷ self.old }
     {
@@ -66,7 +66,7 @@ impl Stack {
     }
 
     /// The innermost ends, and is handed out; something has to be open.
-    pub fn pop(&mut self) -> Frame
+    pub fn pop(&mut self) -> OpenSequence
         requires { 0 < length self.old }
         ensures { self.old ≡ result ∷ self.new }
     {

@@ -13,7 +13,7 @@ use Rattle.dr_ledger.specs.SiteRoutes.{site_routing}
 use Rattle.dr_site.specs.Parts.{Part}
 use Rattle.dr_desk.specs.declared.closing.CloseFault.{CloseFault}
 use Rattle.dr_desk.specs.declared.closing.CloseFault.TheVariants as fault
-use Rattle.dr_desk.specs.declared.closing.Mismatch.TheVariants.{Beginning, OtherLine, Falling, Twice}
+use Rattle.dr_desk.specs.declared.closing.ReceiptMismatch.TheVariants.{Beginning, OtherLine, Falling, Twice}
 use Rattle.dr_desk.specs.declared.receipt.Receipt.{Receipt}
 use Rattle.dr_desk.specs.Agreeing.{AreApart, Fails, IsOfLine, Rises, numbers, unread_by}
 use Rattle.dr_desk.specs.Growing.{BeginWith, Grows}

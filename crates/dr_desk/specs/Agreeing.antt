@@ -7,8 +7,9 @@ use Rattle.dr_ledger.specs.declared.fault.LedgerFault.{LedgerFault}
 use Rattle.dr_ledger.specs.declared.fault.LedgerFault.TheVariants as ledger
 use Rattle.dr_desk.specs.declared.closing.CloseFault.{CloseFault}
 use Rattle.dr_desk.specs.declared.closing.CloseFault.TheVariants as fault
-use Rattle.dr_desk.specs.declared.closing.Mismatch.TheVariants.{Beginning, OtherLine, Falling}
-use Rattle.dr_desk.specs.declared.closing.Mismatch.TheVariants.{Twice}
+use Rattle.dr_desk.specs.declared.closing.ReceiptMismatch.TheVariants.{Beginning, OtherLine}
+use Rattle.dr_desk.specs.declared.closing.ReceiptMismatch.TheVariants.{Falling}
+use Rattle.dr_desk.specs.declared.closing.ReceiptMismatch.TheVariants.{Twice}
 use Rattle.dr_desk.specs.declared.receipt.Receipt.{Receipt}
 use Rattle.dr_desk.specs.Receipts.{Records}
 

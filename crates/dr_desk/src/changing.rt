@@ -13,9 +13,9 @@ ghost use Rattle.dr_plan_model.specs.Networks.{Network};
 ghost use Rattle.dr_plan_model.specs.Plans.{NamesNoNode};
 
 use crate::adopting::{AdoptFault, take, test_rows, untaken};
-use crate::closing::{CloseFault, Mismatch, agree, joined};
+use crate::closing::{CloseFault, ReceiptMismatch, agree, joined};
 use crate::desk::Desk;
-use crate::held::Held;
+use crate::held::HeldDesk;
 use crate::pass::Pass;
 use crate::shared::SharedDesk;
 use crate::sharing::Sharing;
@@ -32,7 +32,7 @@ pub enum ChangeFault {
     #[error("{0}")]
     Plan(AdoptFault),
     #[error("J1 Receipt")]
-    Receipt(Mismatch),
+    Receipt(ReceiptMismatch),
 }
 
 /// A desk that has taken another plan, and is no longer shared: its site from then on, the sum of
@@ -58,7 +58,7 @@ pub struct NotChanged<L: Ledger, B: Sharing> {
 #[derive(Drop)]
 struct Unchanged<L: Ledger, B: Sharing> {
     fault: ChangeFault,
-    held: Held<L, B>,
+    held: HeldDesk<L, B>,
     passes: Vec<Pass<B>>,
 }
 
@@ -72,7 +72,7 @@ fn disagreed(why: CloseFault) -> ChangeFault
     }
 }
 
-impl<L: Ledger, B: Sharing> Held<L, B> {
+impl<L: Ledger, B: Sharing> HeldDesk<L, B> {
     /// Compares the receipts of the passes with the journal.
     fn compare(&mut self, alloc: Global, passes: &[Pass<B>]) -> Result<(), ChangeFault>
         ensures same { IsAsItWas L.site L.book L.bodies L.stands L.failed self.old.desk.ledger
@@ -137,7 +137,7 @@ impl<L: Ledger, B: Sharing> Held<L, B> {
             self.desk.ledger e.held.desk.ledger) }
         ensures back { IfErr result (λ e. e.passes ≡ passes) }
     {
-        let Held {
+        let HeldDesk {
             desk,
             kept,
             number,
@@ -156,7 +156,7 @@ impl<L: Ledger, B: Sharing> Held<L, B> {
             }),
             Err(why) => Err(Unchanged {
                 fault: ChangeFault::Plan(why),
-                held: Held {
+                held: HeldDesk {
                     desk,
                     kept,
                     number,

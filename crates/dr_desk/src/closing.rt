@@ -17,7 +17,7 @@ use thiserror::Error;
 
 /// Where receipts and journal don't agree.
 #[derive(Clone, Copy, PartialEq, Eq, Debug)]
-pub enum Mismatch {
+pub enum ReceiptMismatch {
     /// The journal doesn't begin with the lines that it had when the desk was shared.
     Beginning,
     /// A receipt isn't of the line at its number.
@@ -32,7 +32,7 @@ pub enum Mismatch {
 #[derive(Clone, Copy, PartialEq, Eq, Debug, Error)]
 pub enum CloseFault {
     #[error("J1 Receipt")]
-    Receipt(Mismatch),
+    Receipt(ReceiptMismatch),
     #[error("Store")]
     Store,
     #[error("Memory")]
@@ -100,17 +100,17 @@ pub(crate) fn agree<B: Sharing>(
         (AreApart (flat_map (λ p. numbers p.receipts.items) passes.now))) }
 {
     if !begin_with(lines, kept) {
-        return Err(CloseFault::Receipt(Mismatch::Beginning));
+        return Err(CloseFault::Receipt(ReceiptMismatch::Beginning));
     }
     if !are_of_lines(lines, passes) {
-        return Err(CloseFault::Receipt(Mismatch::OtherLine));
+        return Err(CloseFault::Receipt(ReceiptMismatch::OtherLine));
     }
     if !rise(passes) {
-        return Err(CloseFault::Receipt(Mismatch::Falling));
+        return Err(CloseFault::Receipt(ReceiptMismatch::Falling));
     }
     let all = numbers_of(alloc, passes)?;
     if !are_apart(alloc, all.as_slice())? {
-        return Err(CloseFault::Receipt(Mismatch::Twice));
+        return Err(CloseFault::Receipt(ReceiptMismatch::Twice));
     }
     Ok(())
 }

@@ -36,7 +36,7 @@ const MOST_PASSES: u64 = 65_535;
 /// is one call of the ledger, and the counting of its line; no item is read or hashed there, no
 /// receipt is made or dropped.
 #[derive(Drop)]
-pub(crate) struct Held<L: Ledger, B: Sharing> {
+pub(crate) struct HeldDesk<L: Ledger, B: Sharing> {
     pub(crate) desk: Desk<L>,
     pub(crate) kept: Seq<Entry>,
     pub(crate) number: u64,
@@ -81,7 +81,7 @@ fn holdings_of<L: Ledger>(ledger: &mut L, lines: u64) -> Result<Holdings, Ledger
     })
 }
 
-impl<L: Ledger, B: Sharing> Held<L, B> {
+impl<L: Ledger, B: Sharing> HeldDesk<L, B> {
     /// No line more can be numbered: that counts as a failed store.
     fn refuse(&mut self) -> LedgerFault
         requires { self.old.number ≡ 2 ^ 64 - 1 }
@@ -113,7 +113,7 @@ impl<L: Ledger, B: Sharing> Held<L, B> {
         if self.number == u64::MAX {
             return Err(self.refuse());
         }
-        let Held {
+        let HeldDesk {
             desk,
             number,
             tally,
@@ -147,7 +147,7 @@ impl<L: Ledger, B: Sharing> Held<L, B> {
         if self.number == u64::MAX {
             return Err(self.refuse());
         }
-        let Held {
+        let HeldDesk {
             desk,
             number,
             tally,
@@ -178,7 +178,7 @@ impl<L: Ledger, B: Sharing> Held<L, B> {
         if self.number == u64::MAX {
             return Err(self.refuse());
         }
-        let Held {
+        let HeldDesk {
             desk,
             number,
             tally,
@@ -360,7 +360,7 @@ impl<L: Ledger, B: Sharing> Held<L, B> {
             passes.items) (AllByRecursion (λ p. Rises p.receipts.items) passes.items)
             (AreApart (flat_map (λ p. numbers p.receipts.items) passes.items))) }
     {
-        let Held {
+        let HeldDesk {
             desk,
             kept,
             number: _,
@@ -396,7 +396,7 @@ impl<L: Ledger, B: Sharing> Held<L, B> {
     }
 }
 
-impl<L: LetsGo, B: Sharing> Held<L, B> {
+impl<L: LetsGo, B: Sharing> HeldDesk<L, B> {
     /// The ledger's `give_up`, with the number of the line.
     pub(crate) fn give_up(
         &mut self,
@@ -419,7 +419,7 @@ impl<L: LetsGo, B: Sharing> Held<L, B> {
         if self.number == u64::MAX {
             return Err(self.refuse());
         }
-        let Held {
+        let HeldDesk {
             desk,
             number,
             tally,
@@ -444,7 +444,7 @@ impl<L: LetsGo, B: Sharing> Held<L, B> {
         if self.number == u64::MAX {
             return Err(self.refuse());
         }
-        let Held {
+        let HeldDesk {
             desk,
             number,
             tally,

@@ -25,7 +25,7 @@ mod views;
 
 pub use adopting::AdoptFault;
 pub use changing::{ChangeFault, Changed, NotChanged};
-pub use closing::{CloseFault, Closed, Mismatch, NotClosed};
+pub use closing::{CloseFault, Closed, NotClosed, ReceiptMismatch};
 pub use desk::Desk;
 pub use holdings::{Holdings, Totals};
 pub use pass::{Pass, TooManyPasses};

@@ -19,7 +19,7 @@ ghost use Rattle.dr_desk.specs.Receipts.{Leaves, Notes, arrival_of};
 
 use crate::closing::{Closed, NotClosed};
 use crate::desk::Desk;
-use crate::held::Held;
+use crate::held::HeldDesk;
 use crate::holdings::Holdings;
 use crate::pass::{Pass, TooManyPasses};
 use crate::receipt::{Call, Receipt, Reply, arrival, dropping, forgetting, requeuing, settling};
@@ -38,7 +38,7 @@ use std::sync::{Mutex, Wait};
 #[derive(Drop)]
 pub struct SharedDesk<L: Ledger, B: Sharing> {
     pub(crate) site: Site,
-    pub(crate) held: Mutex<Held<L, B>>,
+    pub(crate) held: Mutex<HeldDesk<L, B>>,
 }
 
 impl<L: Ledger, B: Sharing> SharedDesk<L, B> {
@@ -72,7 +72,7 @@ impl<L: Ledger, B: Sharing> SharedDesk<L, B> {
         };
         let (tally, rest) = blank.open::<B>();
         let number = kept.len() as u64;
-        let held = Held {
+        let held = HeldDesk {
             desk,
             kept,
             number,
@@ -393,7 +393,7 @@ impl<L: Ledger, B: Sharing> SharedDesk<L, B> {
         self.into_held().close(alloc, passes)
     }
 
-    fn into_held(self) -> Held<L, B> {
+    fn into_held(self) -> HeldDesk<L, B> {
         let SharedDesk { site: _, held } = self;
         held.into_inner()
     }

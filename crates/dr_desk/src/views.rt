@@ -6,16 +6,16 @@ ghost use Rattle.dr_ledger_views.specs.Views.{AreCallers, IsLeast, IsTally, dues
 ghost use Rattle.dr_ledger_views.specs.Views.{rows_of};
 ghost use Rattle.dr_desk.specs.Reading.{Answered, AreTotals, Failing, HasFailed, Reading};
 
-use crate::held::Held;
+use crate::held::HeldDesk;
 use crate::holdings::Totals;
 use crate::shared::SharedDesk;
 use crate::sharing::Sharing;
 use dr_base::{Seq, Text};
 use dr_ledger::{LedgerFault, Progress};
-use dr_ledger_views::{Stage, Tally, Views, tally};
+use dr_ledger_views::{HopTally, Stage, Views, tally};
 use std::sync::Wait;
 
-impl<L: Views, B: Sharing> Held<L, B> {
+impl<L: Views, B: Sharing> HeldDesk<L, B> {
     /// How much there is. The journal's lines are counted as they are added.
     fn totals(&mut self) -> Result<Totals, LedgerFault>
         ensures reply { Answered L.site L.book L.bodies L.stands L.failed B.site B.first
@@ -35,7 +35,7 @@ impl<L: Views, B: Sharing> Held<L, B> {
     }
 
     /// How many rows to the destination are at which stage.
-    fn tally(&mut self, dest: &Text) -> Result<Tally, LedgerFault>
+    fn tally(&mut self, dest: &Text) -> Result<HopTally, LedgerFault>
         ensures { Answered L.site L.book L.bodies L.stands L.failed B.site B.first
             (λ l answer. Reads answer (IsTally (map.entries (L.book l).rows) dest.now))
             result self.old.desk.ledger self.new.desk.ledger }
@@ -104,7 +104,7 @@ impl<L: Views, B: Sharing> SharedDesk<L, B> {
     /// five calls of the ledger.
     ///
     /// Errors: Store, Memory.
-    pub fn tally<R: Wait>(&self, rt: &R, dest: &Text) -> Result<Tally, LedgerFault>
+    pub fn tally<R: Wait>(&self, rt: &R, dest: &Text) -> Result<HopTally, LedgerFault>
         ensures { Reading L.site L.book L.bodies L.stands L.failed B.site B.first
             (λ l answer. Reads answer (IsTally (map.entries (L.book l).rows) dest.now)) result }
     {

@@ -7,7 +7,7 @@ use Rattle.dr_dimse.specs.Vectors.{moved_text}
 use Rattle.dr_dimse.proofs.FigureLemmas.{moved_read}
 use Rattle.dr_dataset.specs.declared.fault.DataFault.TheVariants.{BadVr}
 use Rattle.dr_dataset.specs.declared.header.Tag.{Tag}
-use Rattle.dr_dataset.specs.declared.header.Form.{Form}
+use Rattle.dr_dataset.specs.declared.header.HeaderForm.{HeaderForm}
 use Rattle.dr_dataset.specs.DataSet.{Scans}
 use Rattle.dr_dataset.specs.Elements.{Element}
 use Rattle.dr_dataset.specs.Worked.{modality_text}
@@ -31,7 +31,7 @@ store_is_message =
 pub modality_read : Scans Implicit modality_text (Ok modality_alone)
 modality_read =
     let t : Tag = record { group = 8; element = 0x60 } in
-    let f : Form = record { vr = None; len = 2 } in
+    let f : HeaderForm = record { vr = None; len = 2 } in
     let value : List ℕ = 0x4D ∷ 0x52 ∷ [] in
     let e : Element = record { tag = t; value = Some value } in
     (e ∷ [], ([], (inl (t, f, value, (0x02 ∷ 0x00 ∷ 0x00 ∷ 0x00 ∷ value, (omega arith, omega arith, refl), λ h. omega (arith, h), (refl, omega arith, refl)), λ h. omega (arith, h), refl, refl), λ key. omega arith), refl), refl, refl, refl, refl)

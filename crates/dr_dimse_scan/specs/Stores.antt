@@ -13,7 +13,7 @@ use Rattle.dr_dataset.specs.declared.hearing.Scan.{Scan}
 use Rattle.dr_dataset.specs.declared.values.Attributes.{Attributes}
 use Rattle.dr_dataset.specs.DataSet.{Scans}
 use Rattle.dr_dataset.specs.Hearing.{Hears}
-use Rattle.dr_dimse_scan.specs.declared.heard.Heard.{Heard}
+use Rattle.dr_dimse_scan.specs.declared.heard.HeardMessage.{HeardMessage}
 
 -- ---- which data sets are read
 
@@ -54,13 +54,13 @@ IsScanOf (Some s) (Some text) scan = Hears s text scan
 IsScanOf s text scan = ⊥
 
 -- if a message comes with a scan, that has heard its data set
-abbrev pub HasScan : Option Syntax → Heard → Type 0
+abbrev pub HasScan : Option Syntax → HeardMessage → Type 0
 HasScan s h = IfSome h.scan (λ b. IsScanOf s (store_text h.message) b.value)
 
 -- ---- the assembly's answer
 
 -- an answer without its scan
-abbrev pub message_of : Result (Option Heard) DimseFault → Result (Option Message) DimseFault
+abbrev pub message_of : Result (Option HeardMessage) DimseFault → Result (Option Message) DimseFault
 message_of (Ok None) = Ok None
 message_of (Ok (Some h)) = Ok (Some h.message)
 message_of (Err fault) = Err fault

@@ -14,7 +14,7 @@ use std::alloc::Global;
 
 /// A whole message.
 #[derive(Drop)]
-pub struct Heard {
+pub struct HeardMessage {
     /// The message.
     pub message: Message,
     /// A scan that has heard the message's data set, all of it. It may be there only where the
@@ -24,7 +24,7 @@ pub struct Heard {
     pub scan: Option<Box<Scan>>,
 }
 
-impl Heard {
+impl HeardMessage {
     /// The message, and what its data set is read as: the four attributes, or the first fault
     /// (PS3.5 section 7); None where it isn't a C-STORE-RQ, its data set was too large to be kept,
     /// or no syntax is named. `syntax` is the one that was named when the message ended.
@@ -40,7 +40,7 @@ impl Heard {
         ensures message { result.0 ≡ self.message }
         ensures reads { ReadsStore syntax (store_text self.message) result.1 }
     {
-        let Heard { message, scan } = self;
+        let HeardMessage { message, scan } = self;
         let found = found_in(alloc, &message, scan, syntax);
         (message, found)
     }

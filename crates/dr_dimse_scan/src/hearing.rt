@@ -8,7 +8,7 @@ ghost use Rattle.dr_dataset.specs.Hearing.{Hears};
 ghost use Rattle.dr_dimse_scan.specs.Stores.{HasScan, IsScanOf, message_of, store_in, store_text};
 ghost use Rattle.dr_dimse_scan.specs.Following.{HasHeard, HasHeardFirst, is_storing, store_of};
 
-use crate::heard::Heard;
+use crate::heard::HeardMessage;
 use crate::store::{is_store, text_in};
 use dr_base::Syntax;
 use dr_dataset::Scan;
@@ -75,7 +75,11 @@ impl Hearing {
     /// Errors: those of `Assembly::take`, after which all is as before. A fault of a data set is no
     /// error: its message comes whole, and its scan answers the fault. Nor is it one that there is
     /// no memory for a scan: then there is none.
-    pub fn take(&mut self, pdv: Pdv, syntax: Option<Syntax>) -> Result<Option<Heard>, DimseFault>
+    pub fn take(
+        &mut self,
+        pdv: Pdv,
+        syntax: Option<Syntax>,
+    ) -> Result<Option<HeardMessage>, DimseFault>
         ensures awaited { self.new.awaited ≡ self.old.awaited }
         ensures takes { Takes self.old.awaited self.old.stage pdv (message_of result)
             self.new.stage }
@@ -92,7 +96,7 @@ impl Hearing {
             Ok(Some(message)) => {
                 let last = mem::replace(&mut self.reading, None);
                 let scan = end(&message, last, before, syntax);
-                Ok(Some(Heard { message, scan }))
+                Ok(Some(HeardMessage { message, scan }))
             }
             Err(fault) => Err(fault),
         }

@@ -11,5 +11,5 @@ mod hearing;
 pub mod laws;
 mod store;
 
-pub use heard::Heard;
+pub use heard::HeardMessage;
 pub use hearing::Hearing;

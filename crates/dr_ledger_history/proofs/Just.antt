@@ -11,11 +11,11 @@ use Rattle.dr_ledger.specs.declared.item.Progress.{Progress}
 use Rattle.dr_ledger.specs.Pairs.{Pair, pair_cmp}
 use Rattle.dr_ledger.proofs.Maps.{text_pairs, texts}
 use Rattle.dr_ledger_history.specs.Contents.{AreInOrder, Content, all_of, content}
-use Rattle.dr_ledger_history.specs.declared.parts.Parts.{Parts}
+use Rattle.dr_ledger_history.specs.declared.parts.HistoryParts.{HistoryParts}
 use Rattle.dr_ledger_history.specs.Trees.{as_map}
 use Rattle.dr_ledger_history.proofs.Ordered.{one_map, one_set}
 
-module _ (parts : Parts) (items : tree.BTreeMap Text Instance) (arrivals : List Pair) (kept : List Text) (rows : List (Pair × Progress)) where
+module _ (parts : HistoryParts) (items : tree.BTreeMap Text Instance) (arrivals : List Pair) (kept : List Text) (rows : List (Pair × Progress)) where
   abbrev all : Content
   all = all_of (as_map text_cmp items) arrivals kept rows
 

@@ -11,7 +11,7 @@ use Rattle.dr_ledger.specs.declared.item.Instance.{Instance}
 use Rattle.dr_ledger.specs.declared.item.Progress.{Progress}
 use Rattle.dr_ledger.specs.Books.{Book}
 use Rattle.dr_ledger.specs.Pairs.{Pair, pair_cmp}
-use Rattle.dr_ledger_history.specs.declared.parts.Parts.{Parts}
+use Rattle.dr_ledger_history.specs.declared.parts.HistoryParts.{HistoryParts}
 use Rattle.dr_ledger_history.specs.Trees.{as_map, as_set}
 
 -- what a node has: items by uid, arrivals (caller, uid), kept uids, how far each (uid, destination)
@@ -32,7 +32,7 @@ book_of c =
     record { items = c.items; arrivals = c.arrivals; kept = c.kept; rows = c.rows; lines = [] }
 
 -- what the parts hold
-abbrev pub content : Parts → Content
+abbrev pub content : HistoryParts → Content
 content p = record {
   items = as_map text_cmp p.items;
   arrivals = as_set pair_cmp p.arrivals;

@@ -11,7 +11,7 @@ ghost use Rattle.dr_ledger_history.specs.Told.{IsTold, IsToldSince, Tells, Tells
 ghost use Rattle.dr_ledger_history.specs.Trees.{as_map};
 
 use crate::line::{HistoryFault, JournalLine};
-use crate::parts::Parts;
+use crate::parts::HistoryParts;
 use crate::site::is_by;
 use dr_base::Text;
 use dr_ledger::{Instance, Progress};
@@ -25,7 +25,7 @@ use std::collections::BTreeMap;
 #[derive(Drop)]
 pub struct History {
     alloc: Global,
-    parts: Parts,
+    parts: HistoryParts,
 }
 
 impl History {
@@ -35,7 +35,7 @@ impl History {
     {
         History {
             alloc,
-            parts: Parts::new(alloc),
+            parts: HistoryParts::new(alloc),
         }
     }
 

@@ -25,19 +25,19 @@ const LAST_MOMENT: u64 = 1 << 62;
 
 /// Instances by uid, who brought which uid, the kept uids, and how far each (uid, destination) is.
 #[derive(Drop)]
-pub struct Parts {
+pub struct HistoryParts {
     items: BTreeMap<Text, Instance>,
     arrivals: BTreeSet<(Text, Text)>,
     kept: BTreeSet<Text>,
     rows: BTreeMap<(Text, Text), Progress>,
 }
 
-impl Parts {
+impl HistoryParts {
     /// Of nothing; it takes no memory.
-    pub fn new(alloc: Global) -> Parts
+    pub fn new(alloc: Global) -> HistoryParts
         ensures { content result ≡ content_of empty_book }
     {
-        Parts {
+        HistoryParts {
             items: BTreeMap::new(alloc),
             arrivals: BTreeSet::new(alloc),
             kept: BTreeSet::new(alloc),

@@ -13,7 +13,7 @@ use Rattle.dr_ledger_memory.specs.declared.note.Note.{Note}
 use Rattle.dr_ledger_memory.specs.declared.note.Note.TheVariants as note
 use Rattle.dr_ledger_memory.specs.declared.parts.Bringing.{Bringing}
 use Rattle.dr_ledger_memory.specs.declared.parts.Parts.{Parts}
-use Rattle.dr_ledger_memory.specs.declared.parts.Rest.{Rest}
+use Rattle.dr_ledger_memory.specs.declared.parts.FurtherArrival.{FurtherArrival}
 use Rattle.dr_ledger_memory.specs.Bringings.{AreCopies, IsFor, IsJoined}
 use Rattle.dr_ledger_memory.specs.Changes.{AreAlike, IsBrought, IsMoved, IsOneMore, IsPutAt, IsRest, IsSame, MovesAt, TakesAt, Tree, at}
 use Rattle.dr_ledger_memory.specs.Entries.{IsTaken, Row}
@@ -38,7 +38,7 @@ is_for caller item targets rows copies new a j = record {
 }
 
 -- the rest says what the whole said
-pub rested : (old new : Tree) (b : Bringing) (rest : Rest) → IsRest b rest → TakesAt old rest.uid rest.rows.items rest.keep rest.body new → TakesAt old b.uid b.rows.items b.keep b.body new
+pub rested : (old new : Tree) (b : Bringing) (rest : FurtherArrival) → IsRest b rest → TakesAt old rest.uid rest.rows.items rest.keep rest.body new → TakesAt old b.uid b.rows.items b.keep b.body new
 rested old new b rest is t =
     let U : Text → Type 0 = λ x. TakesAt old x b.rows.items b.keep b.body new in
     let R : List Row → Type 0 = λ x. TakesAt old rest.uid x b.keep b.body new in

@@ -6,7 +6,7 @@ use Rattle.dr_route.specs.declared.rule.Targets.{Targets}
 use Rattle.dr_ledger.specs.declared.content.Job.{Job}
 use Rattle.dr_ledger.specs.Items.{IsItem, instance_of}
 use Rattle.dr_ledger_memory.specs.declared.bringing.Copies.{Copies}
-use Rattle.dr_ledger_memory.specs.declared.bringing.Line.{Line}
+use Rattle.dr_ledger_memory.specs.declared.bringing.CopiedLine.{CopiedLine}
 use Rattle.dr_ledger_memory.specs.declared.note.Note.{Note}
 use Rattle.dr_ledger_memory.specs.declared.note.Note.TheVariants as note
 use Rattle.dr_ledger_memory.specs.declared.parts.Bringing.{Bringing}
@@ -30,7 +30,7 @@ pub record IsFor (caller : Text) (item : Job) (targets : Targets) (rows : List R
   pub note : new.note ≡ note_for caller item targets
 
 -- what is copied for its line
-pub record IsLine (caller : Text) (item : Job) (line : Line) : Type 0 where
+pub record IsLine (caller : Text) (item : Job) (line : CopiedLine) : Type 0 where
   pub caller_is : line.caller ≡ caller
   pub instance : line.instance ≡ instance_of item
 

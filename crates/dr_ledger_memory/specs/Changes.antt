@@ -14,7 +14,7 @@ use Rattle.dr_ledger_memory.specs.declared.note.Note.{Note}
 use Rattle.dr_ledger_memory.specs.declared.note.Note.TheVariants as note
 use Rattle.dr_ledger_memory.specs.declared.parts.Bringing.{Bringing}
 use Rattle.dr_ledger_memory.specs.declared.parts.Parts.{Parts}
-use Rattle.dr_ledger_memory.specs.declared.parts.Rest.{Rest}
+use Rattle.dr_ledger_memory.specs.declared.parts.FurtherArrival.{FurtherArrival}
 use Rattle.dr_ledger_memory.specs.Entries.{IsMovedOn, IsPruned, IsTaken, Row}
 
 -- what stands at each uid
@@ -71,7 +71,7 @@ IsOneMore old arrival new =
     ≡ (eq_by_cmp pair_cmp key arrival || sorted.contains pair_cmp old key)
 
 -- what an arrival brings, but for who brought it
-pub record IsRest (new : Bringing) (rest : Rest) : Type 0 where
+pub record IsRest (new : Bringing) (rest : FurtherArrival) : Type 0 where
   pub uid : rest.uid ≡ new.uid
   pub rows : rest.rows.items ≡ new.rows.items
   pub keep : rest.keep ≡ new.keep

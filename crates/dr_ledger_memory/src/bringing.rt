@@ -36,12 +36,12 @@ struct Copies {
     arrival: (Text, Text),
     instance: Instance,
     rows: Vec<(Text, Progress)>,
-    line: Line,
+    line: CopiedLine,
 }
 
 /// What is copied for its line.
 #[derive(Drop)]
-struct Line {
+struct CopiedLine {
     caller: Text,
     instance: Instance,
 }
@@ -68,12 +68,12 @@ fn copied(
     })
 }
 
-fn line_of(caller: &Text, item: &Item) -> Result<Line, AllocError>
+fn line_of(caller: &Text, item: &Item) -> Result<CopiedLine, AllocError>
     ensures { IfOk result (IsLine caller.now item.now) }
 {
     let caller = caller.clone()?;
     let instance = item.instance()?;
-    Ok(Line { caller, instance })
+    Ok(CopiedLine { caller, instance })
 }
 
 /// The copies with what the item and the targets have. Nothing fails here, so that nothing is let

@@ -45,7 +45,7 @@ pub struct Bringing {
 
 /// What a further arrival of a uid brings, but for who brought it.
 #[derive(Drop)]
-struct Rest {
+struct FurtherArrival {
     uid: Text,
     rows: Vec<(Text, Progress)>,
     keep: bool,
@@ -153,7 +153,7 @@ impl Parts {
     }
 
     /// What is left of it. Nothing fails here, so that nothing is let go by halves.
-    fn take_rest(&mut self, rest: Rest)
+    fn take_rest(&mut self, rest: FurtherArrival)
         requires rows { T (is_sorted text_cmp rest.rows.items) }
         requires room { vec_len self.old.notes < vec_capacity self.old.notes }
         requires known { IsSome (tree.get text_cmp self.old.held rest.uid) }
@@ -164,7 +164,7 @@ impl Parts {
         ensures waiting { self.new.waiting ≡ self.old.waiting }
         ensures ordered { tree.IsOrdered text_cmp self.new.held }
     {
-        let Rest {
+        let FurtherArrival {
             uid,
             rows,
             keep,
@@ -351,11 +351,11 @@ fn write<T: Drop>(notes: &mut Vec<T>, note: T)
 }
 
 /// The arrival apart from the rest.
-fn parted(new: Bringing) -> ((Text, Text), Rest)
+fn parted(new: Bringing) -> ((Text, Text), FurtherArrival)
     ensures arrival { result.0 ≡ new.arrival }
     ensures rest { IsRest new result.1 }
 {
-    let rest = Rest {
+    let rest = FurtherArrival {
         uid: new.uid,
         rows: new.rows,
         keep: new.keep,

@@ -15,7 +15,7 @@ use Rattle.dr_ledger.specs.declared.item.Progress.{Progress}
 use Rattle.dr_ledger.specs.declared.item.Progress.TheVariants as progress
 use Rattle.dr_ledger_views.specs.declared.stage.Stage.{Stage}
 use Rattle.dr_ledger_views.specs.declared.stage.Stage.TheVariants as stage
-use Rattle.dr_ledger_views.specs.declared.stage.Tally.{Tally}
+use Rattle.dr_ledger_views.specs.declared.stage.HopTally.{HopTally}
 
 -- a row, as a book lists it: which instance, where to, and how far it is
 abbrev pub Row : Type 0
@@ -112,7 +112,7 @@ callers_among arrivals uid = flat_map (caller_if uid) arrivals
 
 -- ---- all of it, of one destination
 
-pub record IsTally (rows : List Row) (dest : Text) (tally : Tally) : Type 0 where
+pub record IsTally (rows : List Row) (dest : Text) (tally : HopTally) : Type 0 where
   pub waiting : tally.waiting ≡ how_many rows dest (Some stage.Waiting)
   pub held : tally.held ≡ how_many rows dest (Some stage.Held)
   pub done : tally.done ≡ how_many rows dest (Some stage.Done)

@@ -11,5 +11,5 @@ pub mod listing;
 pub mod stage;
 pub mod views;
 
-pub use stage::{Stage, Tally};
+pub use stage::{HopTally, Stage};
 pub use views::{Views, tally};

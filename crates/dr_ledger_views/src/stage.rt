@@ -42,7 +42,7 @@ impl Stage {
 /// How many rows to a destination are at which stage, and from which moment on (milliseconds) the
 /// first that waits is due.
 #[derive(Clone, Copy, PartialEq, Eq, Debug)]
-pub struct Tally {
+pub struct HopTally {
     pub waiting: u64,
     pub held: u64,
     pub done: u64,

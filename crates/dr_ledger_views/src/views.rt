@@ -7,7 +7,7 @@ ghost use Rattle.dr_ledger_views.specs.Views.{AreCallers, IsLeast, IsTally, dues
 ghost use Rattle.dr_ledger_views.specs.Views.{page_of, rows_of};
 ghost use Rattle.std.specs.Prelude.{Some};
 
-use crate::stage::{Stage, Tally};
+use crate::stage::{HopTally, Stage};
 use dr_base::{Seq, Text};
 use dr_ledger::{LedgerFault, LetsGo, Progress};
 
@@ -128,7 +128,7 @@ pub trait Views: LetsGo {
 }
 
 /// How many rows to the destination are at which stage, and since when the first that waits is due.
-pub fn tally<L: Views>(ledger: &mut L, dest: &Text) -> Result<Tally, LedgerFault>
+pub fn tally<L: Views>(ledger: &mut L, dest: &Text) -> Result<HopTally, LedgerFault>
     ensures reply { L.stands ledger.new
         → Reads result (IsTally (map.entries (L.book ledger.old).rows) dest.now) }
     ensures same { L.stands ledger.new
@@ -146,7 +146,7 @@ pub fn tally<L: Views>(ledger: &mut L, dest: &Text) -> Result<Tally, LedgerFault
     let done = ledger.count_rows(dest, Stage::Done)?;
     let dropped = ledger.count_rows(dest, Stage::Dropped)?;
     let due = ledger.first_due(dest)?;
-    Ok(Tally {
+    Ok(HopTally {
         waiting,
         held,
         done,

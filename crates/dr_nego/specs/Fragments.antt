@@ -7,8 +7,8 @@ use Rattle.std.specs.List.{flat_map}
 use Rattle.dr_pdu.specs.declared.pdu.Pdu.{Pdu}
 use Rattle.dr_pdu.specs.declared.pdu.Pdu.TheVariants.{Transfer}
 use Rattle.dr_pdu.specs.Written.{written}
-use Rattle.dr_nego.specs.declared.fragment.Kind.{Kind}
-use Rattle.dr_nego.specs.declared.fragment.Kind.TheVariants.{Command, DataSet}
+use Rattle.dr_nego.specs.declared.fragment.FragmentKind.{FragmentKind}
+use Rattle.dr_nego.specs.declared.fragment.FragmentKind.TheVariants.{Command, DataSet}
 
 -- The largest even size within a limit less 6 bytes: the length, the context and the header of a
 -- value stand before its fragment. No limit, and one over 1,048,576, count as 1,048,576.
@@ -54,13 +54,13 @@ value_pdus id is_command (piece ∷ next ∷ more) =
     value_pdu id is_command false piece ∷ value_pdus id is_command (next ∷ more)
 
 -- whether the fragments are of a command, and not of a data set
-abbrev pub is_command : Kind → Bool
+abbrev pub is_command : FragmentKind → Bool
 is_command Command = true
 is_command DataSet = false
 
 -- the P-DATA-TFs that a command or a data set is sent in, in a context and within the receiver's
 -- greatest length
-abbrev pub fragment_pdus : ℕ → ℕ → Kind → List ℕ → List Pdu
+abbrev pub fragment_pdus : ℕ → ℕ → FragmentKind → List ℕ → List Pdu
 fragment_pdus limit id kind text = value_pdus id (is_command kind) (pieces (piece_size limit) text)
 
 -- what is written of PDUs, one after the other

@@ -28,8 +28,8 @@ use Rattle.dr_nego.specs.declared.agreed.Agreed.{Agreed}
 use Rattle.dr_nego.specs.declared.answering.Answer.TheVariants.{Accept, Reject}
 use Rattle.dr_nego.specs.declared.fault.NegoFault.{NegoFault}
 use Rattle.dr_nego.specs.declared.fault.NegoFault.TheVariants.{Memory}
-use Rattle.dr_nego.specs.declared.fragment.Kind.{Kind}
-use Rattle.dr_nego.specs.declared.fragment.Kind.TheVariants.{Command, DataSet}
+use Rattle.dr_nego.specs.declared.fragment.FragmentKind.{FragmentKind}
+use Rattle.dr_nego.specs.declared.fragment.FragmentKind.TheVariants.{Command, DataSet}
 use Rattle.dr_nego.specs.Agreeing.{AssociateRq, AssociateAc, Concludes, AreAgreed, IsTooSmall}
 use Rattle.dr_nego.specs.Agreeing.{agreed_on, context_for}
 use Rattle.dr_nego.specs.Answering.{answer, acceptance_of, agreed_by}
@@ -148,7 +148,7 @@ LastIsMarked =
 
 -- each PDU of fragments can be written, and meets the limit
 abbrev pub FragmentsFit : Type 0
-FragmentsFit = (limit id : ℕ) (kind : Kind) (text : List ℕ) → (IsTooSmall limit → ⊥) →
+FragmentsFit = (limit id : ℕ) (kind : FragmentKind) (text : List ℕ) → (IsTooSmall limit → ⊥) →
     All (λ (p : Pdu). Fits p × MeetsLimit limit p) (fragment_pdus limit id kind text)
 
 -- ---- what hears fragments
@@ -165,7 +165,7 @@ values_of pdus = flat_map values_in pdus
 -- the values of a text's fragments are the whole of it, of its kind, in its context
 abbrev pub FragmentsAreWhole : Type 0
 FragmentsAreWhole =
-    (limit id : ℕ) (kind : Kind) (text : List ℕ)
+    (limit id : ℕ) (kind : FragmentKind) (text : List ℕ)
     → IsWhole (is_command kind) id (values_of (fragment_pdus limit id kind text)) text
 
 -- the fragments of a command that announces no data set are its message

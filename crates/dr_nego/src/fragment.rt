@@ -16,7 +16,7 @@ const GREATEST: u32 = 1_048_576;
 
 /// What a fragment is part of.
 #[derive(Clone, Copy, PartialEq, Eq, Debug)]
-pub enum Kind {
+pub enum FragmentKind {
     Command,
     DataSet,
 }
@@ -35,12 +35,12 @@ fn piece_size(limit: u32) -> usize
 }
 
 /// The message control header (annex E.2): bit 0 is set for a command, bit 1 for the last fragment.
-fn header_of(kind: Kind, is_last: bool) -> u8
+fn header_of(kind: FragmentKind, is_last: bool) -> u8
     ensures { result ≡ header_of (is_command kind) is_last }
 {
     let command = match kind {
-        Kind::Command => 1,
-        Kind::DataSet => 0,
+        FragmentKind::Command => 1,
+        FragmentKind::DataSet => 0,
     };
     let last = if is_last { 2 } else { 0 };
     command + last
@@ -75,7 +75,7 @@ fn put_value(out: &mut Vec<u8>, id: u8, header: u8, fragment: &[u8]) -> Result<(
 fn put_fragment(
     out: &mut Vec<u8>,
     id: u8,
-    kind: Kind,
+    kind: FragmentKind,
     is_last: bool,
     fragment: &[u8],
 ) -> Result<(), AllocError>
@@ -99,7 +99,7 @@ pub fn put_fragments(
     out: &mut Vec<u8>,
     agreed: &Agreed,
     id: u8,
-    kind: Kind,
+    kind: FragmentKind,
     bytes: &[u8],
 ) -> Result<(), AllocError>
     requires { IsTooSmall agreed.now.limit → ⊥ }

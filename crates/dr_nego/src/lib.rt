@@ -18,5 +18,5 @@ pub use agreed::{Agreed, Pair};
 pub use answering::{Answer, Policy};
 pub use concluding::conclude;
 pub use fault::NegoFault;
-pub use fragment::{Kind, put_fragments};
+pub use fragment::{FragmentKind, put_fragments};
 pub use proposing::{propose, propose_echo};

@@ -20,18 +20,18 @@ use Rattle.dr_node.specs.declared.event.LinkEvent.{LinkEvent}
 use Rattle.dr_node.specs.declared.event.LinkEvent.TheVariants as event
 use Rattle.dr_node.specs.declared.fault.NodeFault.{NodeFault}
 use Rattle.dr_node.specs.declared.fault.NodeFault.TheVariants.{LinkKnown, LinkUnknown, NoHop, Memory}
-use Rattle.dr_node.specs.declared.links.Side.{Side}
+use Rattle.dr_node.specs.declared.links.LinkSide.{LinkSide}
 use Rattle.dr_node.specs.Laws.{IsAcceptedWhereFree, KnownIsRefused, OnlyAt, OverDoesNothing, UnknownIsRefused}
 use Rattle.dr_node.specs.Sides.{Sides, Deed, Does, DoesIn, DoesAt, AcceptsIn, MeetsEvent, accepts_at, moment_at, with_end}
 use Rattle.dr_node.proofs.Keeping.{Acts}
 
 -- ---- other links
 
-elsewhere : (b : Bool) (x o : Option Side) → (b ≡ true → ⊥) → cond b x o ≡ o
+elsewhere : (b : Bool) (x o : Option LinkSide) → (b ≡ true → ⊥) → cond b x o ≡ o
 elsewhere true x o apart = absurd (apart refl)
 elsewhere false x o apart = refl
 
-pub put_elsewhere : (old : Sides) (link : ℕ) (side : Side) → OnlyAt link old (map.insert old link side)
+pub put_elsewhere : (old : Sides) (link : ℕ) (side : LinkSide) → OnlyAt link old (map.insert old link side)
 put_elsewhere old link side other apart =
     map.get-insert nat_cmp_total old link side other ∙ elsewhere (eq_by_cmp nat_cmp other link) (Some side) (map.get old other) (λ e. apart (tells_apart map.nat_cmp-IsAntisymmetric other link e))
 
@@ -39,10 +39,10 @@ pub taken_elsewhere : (old : Sides) (link : ℕ) → OnlyAt link old (map.remove
 taken_elsewhere old link other apart =
     map.get-remove nat_cmp_total old link other ∙ elsewhere (eq_by_cmp nat_cmp other link) None (map.get old other) (λ e. apart (tells_apart map.nat_cmp-IsAntisymmetric other link e))
 
-pub put_here : (old : Sides) (link : ℕ) (side : Side) → map.get (map.insert old link side) link ≡ Some side
+pub put_here : (old : Sides) (link : ℕ) (side : LinkSide) → map.get (map.insert old link side) link ≡ Some side
 put_here old link side = map.get-insert nat_cmp_total old link side link ∙ ap (λ b. cond b (Some side) (map.get old link)) ((eq_by_cmp_equiv nat_cmp_total).refl link)
 
-pub only_there : {S : Type 0} (does : Deed S) (now link : ℕ) (known : Option Side) (old new : Sides) (s t : S) (result : Result (List LinkAction) NodeFault) → DoesIn does now link known old s result new t → OnlyAt link old new
+pub only_there : {S : Type 0} (does : Deed S) (now link : ℕ) (known : Option LinkSide) (old new : Sides) (s t : S) (result : Result (List LinkAction) NodeFault) → DoesIn does now link known old s result new t → OnlyAt link old new
 only_there does now link None old new s t result h = let P : Sides → Type 0 = OnlyAt link old in subst P (sym h.1) (λ other apart. refl)
 only_there does now link (Some side) old new s t (Ok acts) h = let P : Sides → Type 0 = OnlyAt link old in subst P (sym h.2) (put_elsewhere old link (with_end side h.0))
 only_there does now link (Some side) old new s t (Err Memory) h = let P : Sides → Type 0 = OnlyAt link old in subst P (sym h.3) (taken_elsewhere old link)
@@ -55,10 +55,10 @@ only_there does now link (Some side) old new s t (Err NoHop) h = absurd h
 pub free : IsAcceptedWhereFree
 free site link now old none =
     let new = map.insert old link (accepts_at site now) in
-    let P : Option Side → Type 0 = λ o. AcceptsIn o site link now old (Ok tt) new in
+    let P : Option LinkSide → Type 0 = λ o. AcceptsIn o site link now old (Ok tt) new in
     (new, subst P (sym none) refl, put_here old link (accepts_at site now), put_elsewhere old link (accepts_at site now))
 
-refused : (site : Part) (link now : ℕ) (old new : Sides) (side : Side) (result : Result (Unit {0}) NodeFault) → AcceptsIn (Some side) site link now old result new → (result ≡ Err LinkKnown) × (new ≡ old)
+refused : (site : Part) (link now : ℕ) (old new : Sides) (side : LinkSide) (result : Result (Unit {0}) NodeFault) → AcceptsIn (Some side) site link now old result new → (result ≡ Err LinkKnown) × (new ≡ old)
 refused site link now old new side (Ok done) h = absurd h
 refused site link now old new side (Err LinkKnown) h = (refl, h)
 refused site link now old new side (Err LinkUnknown) h = absurd h
@@ -67,7 +67,7 @@ refused site link now old new side (Err Memory) h = absurd h
 
 pub known : KnownIsRefused
 known site link now old new side result there h =
-    let P : Option Side → Type 0 = λ o. AcceptsIn o site link now old result new in
+    let P : Option LinkSide → Type 0 = λ o. AcceptsIn o site link now old result new in
     refused site link now old new side result (subst P there h)
 
 -- ---- links that are unknown or over
@@ -75,7 +75,7 @@ known site link now old new side result there h =
 module _ {S : Type 0} (step : S → DeskCall → DeskAnswer → S → Type 0) where
   pub unknown : UnknownIsRefused step
   unknown what now link old s none =
-      let P : Option Side → Type 0 = λ o. DoesIn (MeetsEvent step what) now link o old s (Err LinkUnknown) old s in
+      let P : Option LinkSide → Type 0 = λ o. DoesIn (MeetsEvent step what) now link o old s (Err LinkUnknown) old s in
       subst P (sym none) (refl, refl, refl)
 
   abbrev Rests : Acts → Terminal → Terminal → S → S → Type 0
@@ -113,7 +113,7 @@ module _ {S : Type 0} (step : S → DeskCall → DeskAnswer → S → Type 0) wh
   acts_of (Ok acts) = acts
   acts_of (Err e) = []
 
-  over_at : (what : LinkEvent) (now link : ℕ) (side : Side) (old new : Sides) (s t : S) (result : Result (List LinkAction) NodeFault) → IsOver side.end.core →
+  over_at : (what : LinkEvent) (now link : ℕ) (side : LinkSide) (old new : Sides) (s t : S) (result : Result (List LinkAction) NodeFault) → IsOver side.end.core →
       DoesAt (MeetsEvent step what) now link side old s result new t → (result ≡ Ok []) × (t ≡ s) × (map.get new link ≡ Some side)
   unfolding acts_of
   over_at what now link side old new s t (Ok acts) over h =
@@ -129,5 +129,5 @@ module _ {S : Type 0} (step : S → DeskCall → DeskAnswer → S → Type 0) wh
 
   pub over : OverDoesNothing step
   over what now link old new s t side result there is_over h =
-      let P : Option Side → Type 0 = λ o. DoesIn (MeetsEvent step what) now link o old s result new t in
+      let P : Option LinkSide → Type 0 = λ o. DoesIn (MeetsEvent step what) now link o old s result new t in
       over_at what now link side old new s t result is_over (subst P there h)

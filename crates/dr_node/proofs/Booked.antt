@@ -26,7 +26,7 @@ use Rattle.dr_node.specs.declared.event.LinkEvent.{LinkEvent}
 use Rattle.dr_node.specs.declared.event.LinkEvent.TheVariants as event
 use Rattle.dr_node.specs.declared.fault.NodeFault.{NodeFault}
 use Rattle.dr_node.specs.declared.fault.NodeFault.TheVariants.{LinkKnown, LinkUnknown, NoHop, Memory}
-use Rattle.dr_node.specs.declared.links.Side.{Side}
+use Rattle.dr_node.specs.declared.links.LinkSide.{LinkSide}
 use Rattle.dr_node.specs.Desks.{LedgerStep}
 use Rattle.dr_node.specs.Laws.{desk_of}
 use Rattle.dr_node.specs.Sides.{Sides, Deed, Does, DoesIn, DoesAt, MeetsEvent, Pushes, moment_at}
@@ -122,7 +122,7 @@ module _ {S T : Type 0} (step : S → DeskCall → DeskAnswer → S → Type 0) 
 
   deeds : (does : Deed S) (also : Deed T) →
       ((at : Moment) (old : Terminal) (s t : S) (result : Acts) (new : Terminal) → does at old s result new t → Holds t → also at old (shows s) result new (shows t)) →
-      (now link : ℕ) (known : Option Side) (old new : Sides) (s t : S) (result : Result (List LinkAction) NodeFault) → DoesIn does now link known old s result new t → Holds t →
+      (now link : ℕ) (known : Option LinkSide) (old new : Sides) (s t : S) (result : Result (List LinkAction) NodeFault) → DoesIn does now link known old s result new t → Holds t →
       DoesIn also now link known old (shows s) result new (shows t)
   deeds does also each now link None old new s t result h k = (h.0, h.1, ap shows h.2)
   deeds does also each now link (Some side) old new s t (Ok acts) h k = (h.0, each (moment_at link old now) side.end s t (Ok acts) h.0 h.1 k, h.2)

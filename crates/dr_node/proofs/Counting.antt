@@ -7,18 +7,18 @@ use Rattle.std.specs.Cmp.{nat_cmp_total, unsigned_Decides}
 use Rattle.std.specs.FinMap as map
 use Rattle.std.specs.FinMap.{put}
 use Rattle.std.specs.FinMap.Entries.{by_order}
-use Rattle.dr_node.specs.declared.links.Side.{Side}
+use Rattle.dr_node.specs.declared.links.LinkSide.{LinkSide}
 use Rattle.dr_node.specs.Laws.{CountsOthersAlone, NewLinksAreNotCounted}
 use Rattle.dr_node.specs.Sides.{Sides, is_other, is_taken, others}
 
 -- the link's own side isn't counted
-not_own : (link number : ℕ) (side : Side) → number ≡ link → is_other link (number, side) ≡ false
+not_own : (link number : ℕ) (side : LinkSide) → number ≡ link → is_other link (number, side) ≡ false
 not_own link number side same = ap (λ b. not b && is_taken side) ((unsigned_Decides number link).1 same)
 
-dropped : (p : ℕ × Side → Bool) (e : ℕ × Side) (es : List (ℕ × Side)) → p e ≡ false → filter p (e ∷ es) ≡ filter p es
+dropped : (p : ℕ × LinkSide → Bool) (e : ℕ × LinkSide) (es : List (ℕ × LinkSide)) → p e ≡ false → filter p (e ∷ es) ≡ filter p es
 dropped p e es h = ap (λ b. cond b (e ∷ filter p es) (filter p es)) h
 
-own_put : (link : ℕ) (side : Side) (es : List (ℕ × Side)) → filter (is_other link) (put nat_cmp link side es) ≡ filter (is_other link) es
+own_put : (link : ℕ) (side : LinkSide) (es : List (ℕ × LinkSide)) → filter (is_other link) (put nat_cmp link side es) ≡ filter (is_other link) es
 own_put link side [] = dropped (is_other link) (link, side) [] (not_own link link side refl)
 own_put link side (e ∷ es) = by_case (nat_cmp link e.0) refl (own_put link side es)
   where

@@ -14,7 +14,7 @@ use Rattle.dr_session.specs.declared.ends.LinkAction.{LinkAction}
 use Rattle.dr_session.specs.Ends.{Terminal, OpensTo}
 use Rattle.dr_node.specs.declared.fault.NodeFault.{NodeFault}
 use Rattle.dr_node.specs.declared.fault.NodeFault.TheVariants.{LinkKnown, LinkUnknown, NoHop, Memory}
-use Rattle.dr_node.specs.declared.links.Side.{Side}
+use Rattle.dr_node.specs.declared.links.LinkSide.{LinkSide}
 use Rattle.dr_node.specs.Sides.{Sides, OpensIn}
 
 pub hop_found : (dest : Text) (hops : List Hop) → true ≡ list_any (ends_at dest) hops → (hop : Hop) × Contains hops hop × (hop.to ≡ dest)
@@ -44,13 +44,13 @@ is_memory : (r : Answer) (E : NodeFault → Type 0) → ((e : NodeFault) → E e
 is_memory (Ok x) E f i h = absurd h
 is_memory (Err e) E f i h = ap Err (f e h)
 
-no_side : (o : Option Side) → false ≡ is_some o → o ≡ None
+no_side : (o : Option LinkSide) → false ≡ is_some o → o ≡ None
 no_side None h = refl
 no_side (Some x) h = absurd (let e : ⊥ = cc in e)
 
 module _ (site : Part) (dest : Text) (link now : ℕ) (old : Sides) (fresh : false ≡ is_some (map.get old link)) where
   at_none : (result : Answer) (new : Sides) → OpensIn None site dest link now old result new → OpensIn (map.get old link) site dest link now old result new
-  at_none result new h = let P : Option Side → Type 0 = λ o. OpensIn o site dest link now old result new in subst P (sym (no_side (map.get old link) fresh)) h
+  at_none result new h = let P : Option LinkSide → Type 0 = λ o. OpensIn o site dest link now old result new in subst P (sym (no_side (map.get old link) fresh)) h
 
   pub without_hop : (hops : List Hop) → hops ≡ site.hops → false ≡ list_any (ends_at dest) hops → OpensIn (map.get old link) site dest link now old (Err NoHop) old
   without_hop hops same h =

@@ -15,7 +15,7 @@ use Rattle.dr_session.specs.Ledgers.{Desk, RoutedStep, desk}
 use Rattle.dr_node.specs.declared.event.LinkEvent.{LinkEvent}
 use Rattle.dr_node.specs.declared.fault.NodeFault.{NodeFault}
 use Rattle.dr_node.specs.declared.fault.NodeFault.TheVariants.{LinkKnown, LinkUnknown}
-use Rattle.dr_node.specs.declared.links.Side.{Side}
+use Rattle.dr_node.specs.declared.links.LinkSide.{LinkSide}
 use Rattle.dr_node.specs.Desks.{LedgerStep}
 use Rattle.dr_node.specs.Sides.{Sides, Accepts, Deed, Does, MeetsEvent, Opens, Pushes, accepts_at}
 use Rattle.dr_node.specs.Sides.{is_taken, others}
@@ -51,7 +51,7 @@ IsAcceptedWhereFree =
 
 abbrev pub KnownIsRefused : Type 0
 KnownIsRefused =
-    (site : Part) (link now : ℕ) (old new : Sides) (side : Side)
+    (site : Part) (link now : ℕ) (old new : Sides) (side : LinkSide)
     (result : Result (Unit {0}) NodeFault)
     → map.get old link ≡ Some side
     → Accepts site link now old result new
@@ -67,7 +67,7 @@ UnknownIsRefused {S} step =
 -- An end that is over answers an empty list, whatever is asked of it, calls nothing, and stays.
 abbrev pub OverDoesNothing : {S : Type 0} → (S → DeskCall → DeskAnswer → S → Type 0) → Type 0
 OverDoesNothing {S} step =
-    (what : LinkEvent) (now link : ℕ) (old new : Sides) (s t : S) (side : Side)
+    (what : LinkEvent) (now link : ℕ) (old new : Sides) (s t : S) (side : LinkSide)
     (result : Result (List LinkAction) NodeFault)
     → map.get old link ≡ Some side
     → IsOver side.end.core
@@ -77,7 +77,7 @@ OverDoesNothing {S} step =
 -- What becomes of a link's own side makes no difference to how many others there are.
 abbrev pub CountsOthersAlone : Type 0
 CountsOthersAlone =
-    (link : ℕ) (old : Sides) (side : Side)
+    (link : ℕ) (old : Sides) (side : LinkSide)
     → others link (map.insert old link side) ≡ others link old
 
 -- A connection that was opened to the node counts only once its association is accepted.

@@ -24,14 +24,14 @@ use Rattle.dr_node.specs.declared.event.LinkEvent.TheVariants as event
 use Rattle.dr_node.specs.declared.fault.NodeFault.{NodeFault}
 use Rattle.dr_node.specs.declared.fault.NodeFault.TheVariants.{LinkKnown, LinkUnknown, NoHop}
 use Rattle.dr_node.specs.declared.fault.NodeFault.TheVariants.{Memory}
-use Rattle.dr_node.specs.declared.links.Side.{Side}
+use Rattle.dr_node.specs.declared.links.LinkSide.{LinkSide}
 
 -- the sides of a node's links, by the links' numbers
 abbrev pub Sides : Type 0
-Sides = FinMap nat_cmp Side
+Sides = FinMap nat_cmp LinkSide
 
 -- the side with another end
-abbrev pub with_end : Side → Terminal → Side
+abbrev pub with_end : LinkSide → Terminal → LinkSide
 with_end side end = record { end = end; accepted = side.accepted }
 
 -- the sides after an adoption: none, or as they were where it was refused
@@ -53,11 +53,11 @@ is_standing Sta12 = true
 is_standing s = false
 
 -- the node accepted it, and hasn't left it
-abbrev pub is_taken : Side → Bool
+abbrev pub is_taken : LinkSide → Bool
 is_taken side = side.accepted && is_standing (state_in side.end.core)
 
 -- and it is of another link
-abbrev pub is_other : ℕ → ℕ × Side → Bool
+abbrev pub is_other : ℕ → ℕ × LinkSide → Bool
 is_other link entry = not (entry.0 == link) && is_taken entry.1
 
 -- how many links other than this one are such
@@ -86,7 +86,7 @@ Pushes step at old s result new t = Meets step at PushAsked old s result new t
 -- The same at one link: its end alone is another. A link that isn't there does nothing.
 abbrev pub MeetsAt : {S : Type 0}
     → (Terminal → S → Result (List LinkAction) AllocError → Terminal → S → Type 0)
-    → ℕ → Option Side → Sides → S
+    → ℕ → Option LinkSide → Sides → S
     → Option (Result (List LinkAction) AllocError)
     → Sides → S → Type 0
 MeetsAt does link None old s None new t = (new ≡ old) × (t ≡ s)
@@ -98,7 +98,7 @@ MeetsAt does link known old s other new t = ⊥
 
 -- The deed is done at the link's end alone, with that many others counted. Where memory ended the
 -- link is dropped.
-abbrev pub DoesAt : {S : Type 0} → Deed S → ℕ → ℕ → Side → Sides → S
+abbrev pub DoesAt : {S : Type 0} → Deed S → ℕ → ℕ → LinkSide → Sides → S
     → Result (List LinkAction) NodeFault
     → Sides → S → Type 0
 DoesAt does now link side old s (Ok acts) new t =
@@ -112,7 +112,7 @@ DoesAt does now link side old s (Err Memory) new t =
 DoesAt does now link side old s (Err other) new t = ⊥
 
 -- An unknown link is refused, and nothing is done.
-abbrev pub DoesIn : {S : Type 0} → Deed S → ℕ → ℕ → Option Side → Sides → S
+abbrev pub DoesIn : {S : Type 0} → Deed S → ℕ → ℕ → Option LinkSide → Sides → S
     → Result (List LinkAction) NodeFault
     → Sides → S → Type 0
 DoesIn does now link None old s result new t = (result ≡ Err LinkUnknown) × (new ≡ old) × (t ≡ s)
@@ -126,11 +126,11 @@ Does does now link old s result new t = DoesIn does now link (map.get old link) 
 -- ---- how a link begins
 
 -- the side of a connection that was opened to this node
-abbrev pub accepts_at : Part → ℕ → Side
+abbrev pub accepts_at : Part → ℕ → LinkSide
 accepts_at site now = record { end = begins site.max_pdu (accepting site now); accepted = true }
 
 -- A link is accepted where there is none of its number.
-abbrev pub AcceptsIn : Option Side → Part → ℕ → ℕ → Sides
+abbrev pub AcceptsIn : Option LinkSide → Part → ℕ → ℕ → Sides
     → Result (Unit {0}) NodeFault
     → Sides → Type 0
 AcceptsIn None site link now old (Ok done) new = new ≡ map.insert old link (accepts_at site now)
@@ -143,7 +143,7 @@ Accepts site link now old result new = AcceptsIn (map.get old link) site link no
 
 -- A link is opened where there is none of its number, for a hop of the site. The request goes out
 -- at once.
-abbrev pub OpensIn : Option Side → Part → Text → ℕ → ℕ → Sides
+abbrev pub OpensIn : Option LinkSide → Part → Text → ℕ → ℕ → Sides
     → Result (List LinkAction) NodeFault
     → Sides → Type 0
 OpensIn None site dest link now old (Ok acts) new =
@@ -163,6 +163,6 @@ Opens site dest link now old result new =
 
 -- ---- states
 
-abbrev pub state_of_side : Option Side → Option State
+abbrev pub state_of_side : Option LinkSide → Option State
 state_of_side None = None
 state_of_side (Some side) = Some (state_in side.end.core)

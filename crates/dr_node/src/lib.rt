@@ -12,5 +12,5 @@ pub mod node;
 
 pub use event::LinkEvent;
 pub use fault::NodeFault;
-pub use links::{Links, Side};
+pub use links::{LinkSide, Links};
 pub use node::Node;

@@ -23,13 +23,13 @@ use std::marker::Model;
 
 /// This node's side of a link.
 #[derive(Drop)]
-pub struct Side {
+pub struct LinkSide {
     pub end: End,
     /// Whether this node accepted the link; else it asked for it.
     pub accepted: bool,
 }
 
-impl Side {
+impl LinkSide {
     /// Whether this node accepted the association and hasn't left it: it is in Sta6 to Sta12 (PS3.8
     /// 9.2.1).
     pub fn is_taken(&self) -> bool
@@ -71,7 +71,7 @@ impl Side {
 /// The sides of a node's links, by the links' numbers. Contracts see them as a map.
 #[derive(Drop)]
 pub struct Links {
-    sides: BTreeMap<u64, Side>,
+    sides: BTreeMap<u64, LinkSide>,
 }
 
 impl Model for Links {
@@ -103,7 +103,7 @@ impl Links {
     }
 
     /// The node's side of a link, if it has one of that number.
-    pub fn side(&self, link: u64) -> Option<&Side>
+    pub fn side(&self, link: u64) -> Option<&LinkSide>
         ensures { option_copied result ≡ map.get self.now link }
     {
         self.sides.get(&link)
@@ -156,7 +156,7 @@ impl Links {
         }
         let end = accept(alloc, site, now)?;
         let accepted = true;
-        self.put(link, Side { end, accepted })?;
+        self.put(link, LinkSide { end, accepted })?;
         Ok(())
     }
 
@@ -182,12 +182,12 @@ impl Links {
         }
         let (end, actions) = request(alloc, site.copy()?, dest, now)?;
         let accepted = false;
-        self.put(link, Side { end, accepted })?;
+        self.put(link, LinkSide { end, accepted })?;
         Ok(actions)
     }
 
     /// One more link; without memory nothing changes.
-    fn put(&mut self, link: u64, side: Side) -> Result<(), AllocError>
+    fn put(&mut self, link: u64, side: LinkSide) -> Result<(), AllocError>
         ensures ok { OnOk result (self.new ≡ map.insert self.old link side) }
         ensures err { OnErr result (self.new ≡ self.old) }
     {
@@ -321,11 +321,11 @@ fn request(
 }
 
 /// Whether it is the side of another link, which this node accepted and hasn't left.
-fn is_other(link: u64, number: u64, side: &Side) -> bool
+fn is_other(link: u64, number: u64, side: &LinkSide) -> bool
     ensures { result ≡ other_of link (number, side.now) }
 {
     number != link && side.is_taken()
 }
 
 /// A side that is needed no more.
-fn let_go(_side: Option<Side>) {}
+fn let_go(_side: Option<LinkSide>) {}

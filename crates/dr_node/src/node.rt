@@ -23,7 +23,7 @@ ghost use Rattle.dr_site.specs.Parts.{IsPartOf};
 use crate::away::settle_due;
 use crate::event::LinkEvent;
 use crate::fault::NodeFault;
-use crate::links::{Links, Side};
+use crate::links::{LinkSide, Links};
 use dr_base::{Seq, Text};
 use dr_cert::Sealed;
 use dr_ledger::{Arrived, Entry, Item, Ledger, LedgerFault, LetsGo, Progress, Refusing};
@@ -84,7 +84,7 @@ impl<L: Ledger> Node<L> {
     }
 
     /// This node's side of a link; None where there is no link of that number. It takes no memory.
-    pub fn side(&self, link: u64) -> Option<&Side>
+    pub fn side(&self, link: u64) -> Option<&LinkSide>
         ensures { option_copied result ≡ map.get self.now.links link }
     {
         self.links.side(link)

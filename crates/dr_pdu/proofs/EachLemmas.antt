@@ -1,7 +1,7 @@
 -- Two lists that go together, and the items of one type.
 use Rattle.std.proofs.Common.{◌≡◌, ℕ, zero, suc, ◌+◌, ◌<◌, List, [], ◌∷◌, ◌++◌, length, get_or, take, drop, map, filter, Bool, true, false, cond, eqb, refl, ap, ◌∙◌, arith, eq-eqb}
 use Rattle.std.proofs.lemmas.List.{take_more}
-use Rattle.dr_pdu.specs.declared.items.Item.{Item as Found}
+use Rattle.dr_pdu.specs.declared.items.PduItem.{PduItem as Found}
 use Rattle.dr_pdu.specs.Items.{Item, bodies}
 use Rattle.dr_pdu.specs.Reads.{items}
 use Rattle.dr_pdu.specs.Grammar.{Each}

@@ -1,6 +1,6 @@
 -- What the private readers of the decoder and writers of the encoder promise.
 use Rattle.std.specs.Prelude.{◌≡◌, ℕ, List, ◌++◌, map, Result, Ok, Err}
-use Rattle.dr_pdu.specs.declared.items.Item.{Item as Found}
+use Rattle.dr_pdu.specs.declared.items.PduItem.{PduItem as Found}
 use Rattle.dr_pdu.specs.declared.fault.PduFault.{PduFault}
 use Rattle.dr_pdu.specs.declared.fault.PduFault.TheVariants.{BadItem, Memory}
 use Rattle.dr_pdu.specs.Items.{Item}

@@ -11,7 +11,7 @@ ghost use Rattle.dr_pdu.specs.declared.pdu.Front.{Front as FrontText};
 
 use crate::contexts::{answer_bytes, answer_len, proposal_bytes, proposal_len};
 use crate::fault::PduFault;
-use crate::items::{Item, first, items_of, uids};
+use crate::items::{PduItem, first, items_of, uids};
 use crate::pdu::{Association, ContextAnswer, ContextProposal, Front};
 use dr_base::padding::{trimmed, unpadded};
 use dr_base::{Seq, Text};
@@ -152,7 +152,11 @@ fn answer_of(alloc: Global, body: &[u8]) -> Result<ContextAnswer, PduFault>
 }
 
 /// The contexts of an association PDU, whose items are of that type, in order.
-fn contexts_of<C: Context>(alloc: Global, found: &[Item<'_>], kind: u8) -> Result<Seq<C>, PduFault>
+fn contexts_of<C: Context>(
+    alloc: Global,
+    found: &[PduItem<'_>],
+    kind: u8,
+) -> Result<Seq<C>, PduFault>
     ensures { Reads (λ cs. cs) result (Each C.is_context (bodies kind (items found.now))) }
 {
     let mut contexts = Vec::new(alloc);
@@ -166,7 +170,7 @@ fn contexts_of<C: Context>(alloc: Global, found: &[Item<'_>], kind: u8) -> Resul
 }
 
 /// The greatest length that the user information gives, 0 where it gives none.
-fn greatest_length_of(alloc: Global, found: &[Item<'_>]) -> Result<u32, PduFault>
+fn greatest_length_of(alloc: Global, found: &[PduItem<'_>]) -> Result<u32, PduFault>
     ensures { Reads (λ n. n) result (IsGreatestLength (first_body 0x50 (items found.now))) }
 {
     let Some(body) = first(found, 0x50) else {

@@ -2,7 +2,7 @@
 ghost use Rattle.std.specs.Prelude.{◌≡◌, ℕ, List, map, IfOk};
 ghost use Rattle.std.specs.Option.{option_copied};
 ghost use Rattle.dr_base.specs.Padding.{unpadded};
-ghost use Rattle.dr_pdu.specs.Items.{Item as ItemText, AreItems, StartsItem, first_body, bodies};
+ghost use Rattle.dr_pdu.specs.Items.{PduItem as ItemText, AreItems, StartsItem, first_body, bodies};
 ghost use Rattle.dr_pdu.specs.Reads.{Reads, item, items};
 
 use crate::fault::PduFault;
@@ -12,13 +12,13 @@ use std::alloc::{AllocError, Global};
 
 /// An item where it stands in its text.
 #[derive(Clone, Copy)]
-pub struct Item<'a> {
+pub struct PduItem<'a> {
     pub kind: u8,
     pub body: &'a [u8],
 }
 
 /// The first item of a text that isn't empty, and what follows it.
-fn item_at(text: &[u8]) -> Result<(Item<'_>, &[u8]), PduFault>
+fn item_at(text: &[u8]) -> Result<(PduItem<'_>, &[u8]), PduFault>
     ensures { Reads {Y = ItemText × List ℕ}
         (λ x. (item x.0, x.1.now)) result
         (λ x. StartsItem text.now x.0 x.1) }
@@ -31,11 +31,11 @@ fn item_at(text: &[u8]) -> Result<(Item<'_>, &[u8]), PduFault>
         return Err(PduFault::BadItem);
     }
     let (body, rest) = rest.split_at(len);
-    Ok((Item { kind: *kind, body }, rest))
+    Ok((PduItem { kind: *kind, body }, rest))
 }
 
 /// The items of a text, in order.
-pub fn items_of(alloc: Global, text: &[u8]) -> Result<Vec<Item<'_>>, PduFault>
+pub fn items_of(alloc: Global, text: &[u8]) -> Result<Vec<PduItem<'_>>, PduFault>
     ensures { Reads (λ v. items v.items) result (λ is. AreItems is text.now) }
 {
     let mut found = Vec::new(alloc);
@@ -49,7 +49,7 @@ pub fn items_of(alloc: Global, text: &[u8]) -> Result<Vec<Item<'_>>, PduFault>
 }
 
 /// The body of the first item of that type.
-pub fn first<'a>(found: &[Item<'a>], kind: u8) -> Option<&'a [u8]>
+pub fn first<'a>(found: &[PduItem<'a>], kind: u8) -> Option<&'a [u8]>
     ensures { option_copied result ≡ first_body kind (items found.now) }
 {
     for item in found {
@@ -61,7 +61,7 @@ pub fn first<'a>(found: &[Item<'a>], kind: u8) -> Option<&'a [u8]>
 }
 
 /// The UIDs of the items of one type, in order.
-pub fn uids(alloc: Global, found: &[Item<'_>], kind: u8) -> Result<Seq<Text>, AllocError>
+pub fn uids(alloc: Global, found: &[PduItem<'_>], kind: u8) -> Result<Seq<Text>, AllocError>
     ensures { IfOk result (λ them. them ≡ map unpadded (bodies kind (items found.now))) }
 {
     let mut them = Vec::new(alloc);

@@ -28,8 +28,8 @@ use Rattle.dr_plan_model.specs.Walks.{BeginsOne}
 use Rattle.dr_plan_model.proofs.Gathered.{nothing_in_nil, Contains-cons_cases, Contains-here, Contains-there}
 use Rattle.dr_plan_model.proofs.WalksAlike.{flow_names}
 use Rattle.dr_plan_sound.specs.Printed.{printed_field, printed_station}
-use Rattle.dr_plan_entries.specs.declared.rows.Side.{Side}
-use Rattle.dr_plan_entries.specs.declared.rows.Side.TheVariants.{Modality, Station}
+use Rattle.dr_plan_entries.specs.declared.rows.FlowSide.{FlowSide}
+use Rattle.dr_plan_entries.specs.declared.rows.FlowSide.TheVariants.{Modality, Station}
 use Rattle.dr_plan_entries.specs.Entering.{Admits, AdmitsStation, IsLiteralOf}
 use Rattle.dr_plan_entries.specs.InOrder.{IsLess, IsInPrintedOrder}
 use Rattle.dr_plan_entries.specs.Listing.{IsStationOf, TakesListed, TakesListedStations, TakesAtMost, TakesJust, SomeLists, AreNamed, IsFieldRow, IsStationRow}
@@ -69,24 +69,24 @@ station_moves xs ys (station.Literal literal) all h = all literal h
 station_moves xs ys (station.Prefix prefix) all h = h
 station_moves xs ys station.Rest all h = h
 
-pub at_most_moves : (side : Side) (flow : Flow) (xs ys : List Text) → ((t : Text) → Contains xs t → Contains ys t) → TakesAtMost side flow xs → TakesAtMost side flow ys
+pub at_most_moves : (side : FlowSide) (flow : Flow) (xs ys : List Text) → ((t : Text) → Contains xs t → Contains ys t) → TakesAtMost side flow xs → TakesAtMost side flow ys
 at_most_moves Modality flow xs ys all h = λ field admitted. field_moves xs ys field all (h field admitted)
 at_most_moves Station flow xs ys all h = λ one admitted. station_moves xs ys one all (h one admitted)
 
-pub just_modalities : (side : Side) (flow : Flow) (sets : Listed) (texts : List Text) → side ≡ Modality → IsListedBy flow sets → texts ≡ sets.modalities → TakesListed flow.modalities (listed flow.modalities) →
+pub just_modalities : (side : FlowSide) (flow : Flow) (sets : Listed) (texts : List Text) → side ≡ Modality → IsListedBy flow sets → texts ≡ sets.modalities → TakesListed flow.modalities (listed flow.modalities) →
     TakesJust side flow texts
 just_modalities side flow sets texts is by same takes =
-    let J : Side → Type 0 = λ s. TakesJust s flow texts in
+    let J : FlowSide → Type 0 = λ s. TakesJust s flow texts in
     let C : Text → List Text → Type 0 = λ t ts. Contains ts t in
     subst J (sym is) (record {
       named = λ t h. (by.modalities t).0 (subst (C t) same h);
       most = at_most_moves Modality flow (listed flow.modalities) texts (λ t h. subst (C t) (sym same) ((by.modalities t).1 h)) takes;
     })
 
-pub just_stations : (side : Side) (flow : Flow) (sets : Listed) (texts : List Text) → side ≡ Station → IsListedBy flow sets → texts ≡ sets.stations →
+pub just_stations : (side : FlowSide) (flow : Flow) (sets : Listed) (texts : List Text) → side ≡ Station → IsListedBy flow sets → texts ≡ sets.stations →
     TakesListedStations flow.stations (listed_stations flow.stations) → TakesJust side flow texts
 just_stations side flow sets texts is by same takes =
-    let J : Side → Type 0 = λ s. TakesJust s flow texts in
+    let J : FlowSide → Type 0 = λ s. TakesJust s flow texts in
     let C : Text → List Text → Type 0 = λ t ts. Contains ts t in
     subst J (sym is) (record {
       named = λ t h. (by.stations t).0 (subst (C t) same h);
@@ -95,17 +95,17 @@ just_stations side flow sets texts is by same takes =
 
 -- ---- the flows at one place after another
 -- the literals are ones that flows at the places list, and the flows at those passed so far take in no others
-pub record AreGathered (side : Side) (flows : List Flow) (among passed : List ℕ) (literals : List Text) : Type 0 where
+pub record AreGathered (side : FlowSide) (flows : List Flow) (among passed : List ℕ) (literals : List Text) : Type 0 where
   pub named : (t : Text) → Contains literals t → SomeLists side flows among t
   pub most : (k : ℕ) (flow : Flow) → Contains passed k → slice_get flows k ≡ Some flow → TakesAtMost side flow literals
 
-pub none_gathered : (side : Side) (flows : List Flow) (among : List ℕ) (literals : List Text) → literals ≡ [] → AreGathered side flows among [] literals
+pub none_gathered : (side : FlowSide) (flows : List Flow) (among : List ℕ) (literals : List Text) → literals ≡ [] → AreGathered side flows among [] literals
 none_gathered side flows among literals none = record {
   named = λ t h. (let C : List Text → Type 0 = λ ts. Contains ts t in absurd (nothing_in_nil t (subst C none h)));
   most = λ k flow has at. absurd (nothing_in_nil k has);
 }
 
-pub gathered_more : (side : Side) (flows : List Flow) (among passed : List ℕ) (place : ℕ) (flow : Flow) (old new texts : List Text) → Contains among place → slice_get flows place ≡ Some flow →
+pub gathered_more : (side : FlowSide) (flows : List Flow) (among passed : List ℕ) (place : ℕ) (flow : Flow) (old new texts : List Text) → Contains among place → slice_get flows place ≡ Some flow →
     TakesJust side flow texts → ((t : Text) → Contains new t ↔ (Contains old t ⊎ Contains texts t)) → AreGathered side flows among passed old → AreGathered side flows among (passed ++ place ∷ []) new
 gathered_more side flows among passed place flow old new texts has_place here just more so_far = record {
   named = λ t h. elim ((more t).0 h) [
@@ -122,7 +122,7 @@ gathered_more side flows among passed place flow old new texts has_place here ju
   ];
 }
 
-pub gathered_all : (side : Side) (flows : List Flow) (among : List ℕ) (literals names : List Text) → ((t : Text) → Contains names t ↔ Contains literals t) → IsInByteOrder names →
+pub gathered_all : (side : FlowSide) (flows : List Flow) (among : List ℕ) (literals names : List Text) → ((t : Text) → Contains names t ↔ Contains literals t) → IsInByteOrder names →
     AreGathered side flows among among literals → AreNamed side flows among names
 gathered_all side flows among literals names same ordered all = record {
   named = λ t h. all.named t ((same t).0 h);

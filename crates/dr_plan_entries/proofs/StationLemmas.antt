@@ -15,7 +15,7 @@ use Rattle.dr_route.specs.declared.cell.OwnedStation.TheVariants as station
 use Rattle.dr_route.specs.declared.cell.StationValues.{StationValues}
 use Rattle.dr_plan_model.proofs.Gathered.{nothing_in_nil, Contains-cons_cases, Contains-here, Contains-there, only_one}
 use Rattle.dr_plan_sound.specs.Printed.{printed_station}
-use Rattle.dr_plan_entries.specs.declared.stations.Shown.{Shown}
+use Rattle.dr_plan_entries.specs.declared.stations.ShownStations.{ShownStations}
 use Rattle.dr_plan_entries.specs.Entering.{AreStationParts, HasItsText, part_of}
 use Rattle.dr_plan_entries.specs.InOrder.{IsLess, IsInPrintedOrder}
 
@@ -123,7 +123,7 @@ all_are_parts values (station.Prefix p) = (
 all_are_parts values station.Rest = (λ has. tt, λ is. Contains-push (literals_of values ++ prefixes_of values) station.Rest)
 
 -- sorting keeps the parts
-pub sorted_parts : (values : StationValues) (before after : List Shown) → map part_of before ≡ all_of values → IsPermutation before after → AreStationParts values (map part_of after)
+pub sorted_parts : (values : StationValues) (before after : List ShownStations) → map part_of before ≡ all_of values → IsPermutation before after → AreStationParts values (map part_of after)
 sorted_parts values before after all moved part =
     let is = all_are_parts values part in
     let there : IsPermutation (map part_of before) (map part_of after) = IsPermutation-map part_of before after moved in
@@ -139,14 +139,14 @@ AllPairs-map f R (x ∷ xs) h =
     (AllPairs-map f R xs (λ i j d lt long. h (suc i) (suc j) d (omega (arith, lt)) (omega (arith, long))))
 
 -- what was sorted by texts that are its own stands in the order in which it is printed
-pub sorted_shown : (before after : List Shown) → All HasItsText before → IsPermutation before after → IsSortedBy (λ (a b : Shown). is_lt (text_cmp a.text b.text)) after →
+pub sorted_shown : (before after : List ShownStations) → All HasItsText before → IsPermutation before after → IsSortedBy (λ (a b : ShownStations). is_lt (text_cmp a.text b.text)) after →
     IsInPrintedOrder printed_station (map part_of after)
 sorted_shown before after texts moved sorted =
     let known : All HasItsText after = All-permutation HasItsText before after moved texts in
     AllPairs-map part_of (λ a b. IsLess (printed_station b) (printed_station a) → ⊥) after
     (λ i j d lt long less.
     let up : is_lt (text_cmp (get_or after j d).text (get_or after i d).text) ≡ false =
-    sorted_far (λ (a b : Shown). is_lt (text_cmp a.text b.text)) (ranks_by nat_list_cmp_total (λ (s : Shown). s.text)) after sorted i j d (omega (arith, lt)) long in
+    sorted_far (λ (a b : ShownStations). is_lt (text_cmp a.text b.text)) (ranks_by nat_list_cmp_total (λ (s : ShownStations). s.text)) after sorted i j d (omega (arith, lt)) long in
     let none : is_lt (text_cmp (printed_station (get_or after j d).part) (printed_station (get_or after i d).part)) ≡ false =
     rw (← known i d (omega (arith, lt, long)), ← known j d long) up in
     false≢true (sym none ∙ ap is_lt less))

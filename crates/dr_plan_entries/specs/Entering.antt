@@ -21,7 +21,7 @@ use Rattle.dr_plan_model.specs.declared.plan.Values.{Values}
 use Rattle.dr_plan_model.specs.declared.plan.Values.TheVariants as values
 use Rattle.dr_plan_sound.specs.Printed.{printed_field, printed_station}
 use Rattle.dr_plan_entries.specs.InOrder.{IsInPrintedOrder}
-use Rattle.dr_plan_entries.specs.declared.stations.Shown.{Shown}
+use Rattle.dr_plan_entries.specs.declared.stations.ShownStations.{ShownStations}
 use Rattle.dr_plan_entries.specs.declared.narrow.Part.{Part}
 use Rattle.dr_plan_entries.specs.declared.narrow.Part.TheVariants as part
 
@@ -133,11 +133,11 @@ AreStationParts values parts =
     (part : OwnedStation) → Contains parts part ↔ IsStationPart values part
 
 -- the part of the stations, without its text
-abbrev pub part_of : Shown → OwnedStation
+abbrev pub part_of : ShownStations → OwnedStation
 part_of shown = shown.part
 
 -- the text is the one by which the part is printed
-abbrev pub HasItsText : Shown → Type 0
+abbrev pub HasItsText : ShownStations → Type 0
 HasItsText shown = shown.text ≡ printed_station shown.part
 
 -- the two lists have just the parts of a plan's modality and of its station, in the order in which

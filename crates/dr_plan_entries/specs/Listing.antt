@@ -14,8 +14,8 @@ use Rattle.dr_plan_model.specs.Naming.{listed, listed_stations}
 use Rattle.dr_plan_sound.specs.Printed.{printed_field, printed_station}
 use Rattle.dr_plan_entries.specs.Entering.{Admits, AdmitsStation, IsLiteralOf}
 use Rattle.dr_plan_entries.specs.InOrder.{IsInPrintedOrder}
-use Rattle.dr_plan_entries.specs.declared.rows.Side.{Side}
-use Rattle.dr_plan_entries.specs.declared.rows.Side.TheVariants.{Modality, Station}
+use Rattle.dr_plan_entries.specs.declared.rows.FlowSide.{FlowSide}
+use Rattle.dr_plan_entries.specs.declared.rows.FlowSide.TheVariants.{Modality, Station}
 
 -- the part of the stations is one of these literals
 abbrev pub IsStationOf : List Text → OwnedStation → Type 0
@@ -34,29 +34,29 @@ TakesListedStations stations literals =
     (part : OwnedStation) → AdmitsStation stations part → IsStationOf literals part
 
 -- the flow takes in these literals at most, of the one attribute
-abbrev pub TakesAtMost : Side → Flow → List Text → Type 0
+abbrev pub TakesAtMost : FlowSide → Flow → List Text → Type 0
 TakesAtMost Modality flow literals = TakesListed flow.modalities literals
 TakesAtMost Station flow literals = TakesListedStations flow.stations literals
 
 -- what the flow lists of the attribute
-abbrev pub listed_of : Side → Flow → List Text
+abbrev pub listed_of : FlowSide → Flow → List Text
 listed_of Modality flow = listed flow.modalities
 listed_of Station flow = listed_stations flow.stations
 
 -- the flow lists these literals, and takes in no others
-pub record TakesJust (side : Side) (flow : Flow) (literals : List Text) : Type 0 where
+pub record TakesJust (side : FlowSide) (flow : Flow) (literals : List Text) : Type 0 where
   pub named : (t : Text) → Contains literals t → Contains (listed_of side flow) t
   pub most : TakesAtMost side flow literals
 
 -- a flow at one of the places lists the literal
-abbrev pub SomeLists : Side → List Flow → List ℕ → Text → Type 0
+abbrev pub SomeLists : FlowSide → List Flow → List ℕ → Text → Type 0
 SomeLists side flows among t =
     (k : ℕ) × Contains among k
     × ((flow : Flow) × (slice_get flows k ≡ Some flow) × Contains (listed_of side flow) t)
 
 -- the flows at the places list these literals, which stand in byte order and each once, and take in
 -- no others
-pub record AreNamed (side : Side) (flows : List Flow) (among : List ℕ)
+pub record AreNamed (side : FlowSide) (flows : List Flow) (among : List ℕ)
     (literals : List Text) : Type 0 where
   pub named : (t : Text) → Contains literals t → SomeLists side flows among t
   pub most : (k : ℕ) (flow : Flow) → Contains among k

@@ -19,7 +19,7 @@ use std::collections::BTreeSet;
 
 /// One of the two attributes whose values flows list.
 #[derive(Clone, Copy, Debug)]
-pub enum Side {
+pub enum FlowSide {
     Modality,
     Station,
 }
@@ -45,18 +45,18 @@ fn is_station_list(stations: &Stations) -> bool
 }
 
 /// What the flow lists of it, where it takes in nothing else.
-fn listed_alone<'a>(flow: &Flow, listed: &'a Listed, side: Side) -> Option<&'a [Text]>
+fn listed_alone<'a>(flow: &Flow, listed: &'a Listed, side: FlowSide) -> Option<&'a [Text]>
     requires { IsListedBy flow.now listed.now }
     ensures { MatchOption result (Unit {0}) (λ texts. TakesJust side flow.now texts.now) }
 {
     match side {
-        Side::Modality => {
+        FlowSide::Modality => {
             if is_list(&flow.modalities) {
                 return Some(listed.modalities.as_slice());
             }
             None
         }
-        Side::Station => {
+        FlowSide::Station => {
             if is_station_list(&flow.stations) {
                 return Some(listed.stations.as_slice());
             }
@@ -97,7 +97,7 @@ pub fn names_in(
     flows: &[Flow],
     all: &[Listed],
     among: &[usize],
-    side: Side,
+    side: FlowSide,
 ) -> Result<Option<Seq<Text>>, AllocError>
     requires below { AllBelow among.now flows.now }
     requires listed { AreListedBy flows.now all.now }

@@ -13,7 +13,7 @@ use std::alloc::{AllocError, Global};
 
 /// A part of the stations with its printed text, by which it is sorted.
 #[derive(Drop)]
-pub struct Shown {
+pub struct ShownStations {
     text: Text,
     part: OwnedStation,
 }
@@ -28,7 +28,7 @@ fn starred(alloc: Global, prefix: &Text) -> Result<Text, AllocError>
 }
 
 /// Adds the parts of these literals.
-fn add_literals(shown: &mut Vec<Shown>, literals: &[Text]) -> Result<(), AllocError>
+fn add_literals(shown: &mut Vec<ShownStations>, literals: &[Text]) -> Result<(), AllocError>
     ensures parts { OnOk result
         (map part_of shown.new.items
         ≡ map part_of shown.old.items ++ map (λ l. station.Literal l) literals.now) }
@@ -37,13 +37,17 @@ fn add_literals(shown: &mut Vec<Shown>, literals: &[Text]) -> Result<(), AllocEr
     for literal in literals {
         let text = literal.clone()?;
         let part = OwnedStation::Literal(literal.clone()?);
-        shown.push(Shown { text, part })?;
+        shown.push(ShownStations { text, part })?;
     }
     Ok(())
 }
 
 /// Adds the parts of these prefixes.
-fn add_prefixes(alloc: Global, shown: &mut Vec<Shown>, prefixes: &[Text]) -> Result<(), AllocError>
+fn add_prefixes(
+    alloc: Global,
+    shown: &mut Vec<ShownStations>,
+    prefixes: &[Text],
+) -> Result<(), AllocError>
     ensures parts { OnOk result
         (map part_of shown.new.items
         ≡ map part_of shown.old.items ++ map (λ p. station.Prefix p) prefixes.now) }
@@ -52,24 +56,24 @@ fn add_prefixes(alloc: Global, shown: &mut Vec<Shown>, prefixes: &[Text]) -> Res
     for prefix in prefixes {
         let text = starred(alloc, prefix)?;
         let part = OwnedStation::Prefix(prefix.clone()?);
-        shown.push(Shown { text, part })?;
+        shown.push(ShownStations { text, part })?;
     }
     Ok(())
 }
 
 /// The part of all stations that the plan doesn't name, which is printed `*`.
-fn rest(alloc: Global) -> Result<Shown, AllocError>
+fn rest(alloc: Global) -> Result<ShownStations, AllocError>
     ensures { IfOk result (λ s. (s.part ≡ station.Rest) × HasItsText s) }
 {
     let text = Text::copy_of(alloc, b"*")?;
-    Ok(Shown {
+    Ok(ShownStations {
         text,
         part: OwnedStation::Rest,
     })
 }
 
 /// All parts, each with its text.
-fn shown_of(alloc: Global, values: &StationValues) -> Result<Vec<Shown>, AllocError>
+fn shown_of(alloc: Global, values: &StationValues) -> Result<Vec<ShownStations>, AllocError>
     ensures parts { IfOk result (λ v. map part_of v.items
         ≡ map (λ l. station.Literal l) values.now.literals
         ++ map (λ p. station.Prefix p) values.now.prefixes ++ station.Rest ∷ []) }

@@ -13,7 +13,7 @@ ghost use Rattle.dr_plan_entries.specs.Visiting.{AfterVisits, IsEntryCell};
 
 use crate::fields::parts_of;
 use crate::narrow::{Part, first_that_speaks, narrowed, places_of};
-use crate::rows::{Side, fields_from, names_in, stations_from};
+use crate::rows::{FlowSide, fields_from, names_in, stations_from};
 use crate::stations::stations_of;
 use crate::visit::EntryVisitor;
 use dr_base::{Seq, Syntax, Text};
@@ -27,7 +27,7 @@ use std::slice;
 
 /// A plan with the parts of its two fields, in the order in which they are printed.
 #[derive(Drop)]
-struct Sweep<'a> {
+struct EntrySweep<'a> {
     alloc: Global,
     plan: &'a Plan,
     modalities: Seq<OwnedField>,
@@ -91,7 +91,7 @@ fn copy_stations(stations: &Seq<OwnedStation>) -> Result<Seq<OwnedStation>, Allo
     Ok(copy)
 }
 
-impl<'a> Sweep<'a> {
+impl<'a> EntrySweep<'a> {
     /// The stations that the flows at the places list, where they take in no others, and else all
     /// that the plan names.
     fn stations_for(&self, among: &[usize]) -> Result<Seq<OwnedStation>, AllocError>
@@ -104,7 +104,7 @@ impl<'a> Sweep<'a> {
             self.plan.flows(),
             self.plan.listed(),
             among,
-            Side::Station,
+            FlowSide::Station,
         )?;
         let Some(names) = named else {
             let all = copy_stations(&self.stations)?;
@@ -209,7 +209,7 @@ impl<'a> Sweep<'a> {
             self.plan.flows(),
             self.plan.listed(),
             among,
-            Side::Station,
+            FlowSide::Station,
         )?;
         let Some(names) = named else {
             let all = self.stations.as_slice();
@@ -333,7 +333,7 @@ impl<'a> Sweep<'a> {
             self.plan.flows(),
             self.plan.listed(),
             among,
-            Side::Modality,
+            FlowSide::Modality,
         )?;
         let Some(names) = named else {
             let all = self.modalities.as_slice();
@@ -486,7 +486,7 @@ pub fn visit_entries<V: EntryVisitor>(
         visitor.new) }
 {
     let literals = literals(alloc, plan)?;
-    let sweep = Sweep {
+    let sweep = EntrySweep {
         alloc,
         plan,
         modalities: parts_of(alloc, &literals.modalities)?,

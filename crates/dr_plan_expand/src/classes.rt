@@ -6,10 +6,10 @@ ghost use Rattle.dr_plan_expand.specs.Words.{entry};
 ghost use Rattle.dr_plan_expand.specs.Standard.{classes_1, classes_2, classes_3};
 ghost use Rattle.dr_plan_expand.specs.Standard.{classes_4, classes_5};
 
-use crate::known::Known;
+use crate::known::KnownUid;
 
 /// The storage classes, part 1 of 5.
-pub static CLASSES_1: [Known; 33] = [
+pub static CLASSES_1: [KnownUid; 33] = [
     (
         "ComputedRadiographyImageStorage",
         "Computed Radiography Image Storage",
@@ -178,7 +178,7 @@ pub static CLASSES_1: [Known; 33] = [
 ];
 
 /// The storage classes, part 2 of 5.
-pub static CLASSES_2: [Known; 33] = [
+pub static CLASSES_2: [KnownUid; 33] = [
     (
         "RoutineScalpElectroencephalogramWaveformStorage",
         "Routine Scalp Electroencephalogram Waveform Storage",
@@ -347,7 +347,7 @@ pub static CLASSES_2: [Known; 33] = [
 ];
 
 /// The storage classes, part 3 of 5.
-pub static CLASSES_3: [Known; 33] = [
+pub static CLASSES_3: [KnownUid; 33] = [
     (
         "SegmentationStorage",
         "Segmentation Storage",
@@ -516,7 +516,7 @@ pub static CLASSES_3: [Known; 33] = [
 ];
 
 /// The storage classes, part 4 of 5.
-pub static CLASSES_4: [Known; 33] = [
+pub static CLASSES_4: [KnownUid; 33] = [
     (
         "OphthalmicThicknessMapStorage",
         "Ophthalmic Thickness Map Storage",
@@ -685,7 +685,7 @@ pub static CLASSES_4: [Known; 33] = [
 ];
 
 /// The storage classes, part 5 of 5.
-pub static CLASSES_5: [Known; 33] = [
+pub static CLASSES_5: [KnownUid; 33] = [
     (
         "CTPerformedProcedureProtocolStorage",
         "CT Performed Procedure Protocol Storage",
@@ -854,35 +854,35 @@ pub static CLASSES_5: [Known; 33] = [
 ];
 
 /// The table of part 1.
-pub fn classes_1() -> &'static [Known]
+pub fn classes_1() -> &'static [KnownUid]
     ensures { map entry result.now ≡ classes_1 }
 {
     &CLASSES_1
 }
 
 /// The table of part 2.
-pub fn classes_2() -> &'static [Known]
+pub fn classes_2() -> &'static [KnownUid]
     ensures { map entry result.now ≡ classes_2 }
 {
     &CLASSES_2
 }
 
 /// The table of part 3.
-pub fn classes_3() -> &'static [Known]
+pub fn classes_3() -> &'static [KnownUid]
     ensures { map entry result.now ≡ classes_3 }
 {
     &CLASSES_3
 }
 
 /// The table of part 4.
-pub fn classes_4() -> &'static [Known]
+pub fn classes_4() -> &'static [KnownUid]
     ensures { map entry result.now ≡ classes_4 }
 {
     &CLASSES_4
 }
 
 /// The table of part 5.
-pub fn classes_5() -> &'static [Known]
+pub fn classes_5() -> &'static [KnownUid]
     ensures { map entry result.now ≡ classes_5 }
 {
     &CLASSES_5

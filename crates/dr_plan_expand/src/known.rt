@@ -6,19 +6,19 @@ ghost use Rattle.dr_plan_expand.specs.Words.{IsCalled, HasName, HasSome, Names, 
 use crate::find::{Test, first};
 
 /// A class or a transfer syntax of the standard (PS3.6): its keyword, its name and its UID.
-pub type Known = (&'static str, &'static str, &'static str);
+pub type KnownUid = (&'static str, &'static str, &'static str);
 
 /// The name of a set, and the UID of a class that is in it.
 pub type OfSet = (&'static str, &'static str);
 
 /// A table of classes or of transfer syntaxes.
-pub type Table = &'static [Known];
+pub type Table = &'static [KnownUid];
 
 /// A table of classes of sets.
 pub type SetTable = &'static [OfSet];
 
 /// Whether the word is its keyword or its name.
-fn is_called(known: &Known, word: &[u8]) -> bool
+fn is_called(known: &KnownUid, word: &[u8]) -> bool
     ensures { IsTrue result ↔ IsCalled (entry known.now) word.now }
 {
     known.0.as_bytes() == word || known.1.as_bytes() == word
@@ -29,17 +29,17 @@ fn is_called(known: &Known, word: &[u8]) -> bool
 struct Called<'a>(&'a [u8]);
 
 impl<'a> Test for Called<'a> {
-    type Item = Known;
+    type Item = KnownUid;
 
     ghost holds = { λ called known. IsCalled (entry known) called.0.now };
 
-    fn test(&self, known: &Known) -> bool {
+    fn test(&self, known: &KnownUid) -> bool {
         is_called(known, self.0)
     }
 }
 
 /// The UID of the first entry of a table that the word names.
-fn uid_in(table: &[Known], word: &[u8]) -> Option<&'static str>
+fn uid_in(table: &[KnownUid], word: &[u8]) -> Option<&'static str>
     ensures { MatchOption result ((uid : Words) → HasName (map entry table.now) word.now uid → ⊥)
         (λ uid. HasName (map entry table.now) word.now uid.now) }
 {

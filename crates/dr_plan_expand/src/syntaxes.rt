@@ -4,10 +4,10 @@ ghost use Rattle.std.specs.Prelude.{◌≡◌, map};
 ghost use Rattle.dr_plan_expand.specs.Words.{entry};
 ghost use Rattle.dr_plan_expand.specs.Standard.{syntaxes_1};
 
-use crate::known::Known;
+use crate::known::KnownUid;
 
 /// The transfer syntaxes, part 1 of 1.
-pub static SYNTAXES_1: [Known; 2] = [
+pub static SYNTAXES_1: [KnownUid; 2] = [
     (
         "ImplicitVRLittleEndian",
         "Implicit VR Little Endian",
@@ -21,7 +21,7 @@ pub static SYNTAXES_1: [Known; 2] = [
 ];
 
 /// The table of part 1.
-pub fn syntaxes_1() -> &'static [Known]
+pub fn syntaxes_1() -> &'static [KnownUid]
     ensures { map entry result.now ≡ syntaxes_1 }
 {
     &SYNTAXES_1

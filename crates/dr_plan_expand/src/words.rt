@@ -62,9 +62,9 @@ pub fn defined<'a>(definitions: &'a [Definition], name: &[u8]) -> Option<&'a [Te
 
 /// Words that are classes, by their UIDs or their names.
 #[derive(Drop)]
-struct Class<'a>(&'a [Table]);
+struct ClassName<'a>(&'a [Table]);
 
-impl<'a> Yielding for Class<'a> {
+impl<'a> Yielding for ClassName<'a> {
     type Element = Text;
 
     type Thing = Text;
@@ -154,7 +154,7 @@ fn set_of(alloc: Global, classes: &Classes<'_>, name: &[u8]) -> Result<Seq<Text>
         → ⊥) }
 {
     match defined(classes.2, name) {
-        Some(words) => all(&Class(classes.0), alloc, words),
+        Some(words) => all(&ClassName(classes.0), alloc, words),
         None => usual_set(alloc, classes.1, name),
     }
 }
@@ -170,7 +170,7 @@ impl<'a> Yielding for Classes<'a> {
     fn things(&self, alloc: Global, word: &Text) -> Result<Seq<Text>, WordFault> {
         match after_mark(word.as_bytes()) {
             Some(name) => set_of(alloc, self, name),
-            None => Class(self.0).things(alloc, word),
+            None => ClassName(self.0).things(alloc, word),
         }
     }
 }

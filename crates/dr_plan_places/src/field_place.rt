@@ -5,7 +5,7 @@ ghost use Rattle.toml.specs.View.{table_view};
 ghost use Rattle.dr_plan_places.specs.FieldFlaws.{HasFlaw, IsAt, IsIn, IsInNode, IsReadAs};
 
 use crate::flaw::{Flaw, Inspected, flaw_in};
-use crate::rows::{Search, first_row};
+use crate::rows::{TableSearch, first_row};
 use crate::tables::RootTable;
 use dr_plan_model::Format;
 use dr_plan_text::fault::ReadFault;
@@ -40,7 +40,7 @@ pub enum FieldPlace {
 /// A search for a flaw in a table of a form.
 pub struct FlawOf<T>(T);
 
-impl<T: Inspected> Search for FlawOf<T> {
+impl<T: Inspected> TableSearch for FlawOf<T> {
     type Found = Flaw;
 
     ghost is_found = { λ format. HasFlaw (T.is_table format) };
@@ -53,7 +53,7 @@ impl<T: Inspected> Search for FlawOf<T> {
 /// A search for a flaw in a node: its accept rows, its rules, and then its own fields.
 struct FlawOfNode;
 
-impl Search for FlawOfNode {
+impl TableSearch for FlawOfNode {
     type Found = (NodePart, Flaw);
 
     ghost is_found = { λ format node found. IsInNode format node found.0 found.1 };

@@ -9,9 +9,9 @@ use dr_plan_text::{NodeText, PlanText};
 
 /// A search for a node of this name.
 #[derive(Drop)]
-struct OfName<'a>(&'a Text);
+struct NodeOfName<'a>(&'a Text);
 
-impl<'a> Look for OfName<'a> {
+impl<'a> Look for NodeOfName<'a> {
     type Value = NodeText;
 
     type Place = ();
@@ -32,7 +32,7 @@ impl<'a> Look for OfName<'a> {
 fn has_node(nodes: &[NodeText], name: &Text) -> bool
     ensures { IsTrue result ↔ Contains (map (λ node. node.name) nodes.now) name.now }
 {
-    match first(&OfName(name), nodes) {
+    match first(&NodeOfName(name), nodes) {
         Some(_) => true,
         None => false,
     }
@@ -40,9 +40,9 @@ fn has_node(nodes: &[NodeText], name: &Text) -> bool
 
 /// A name is that of one of the plan's nodes.
 #[derive(Drop)]
-pub struct Among<'a>(pub &'a PlanText);
+pub struct AmongNodes<'a>(pub &'a PlanText);
 
-impl<'a> TextTest for Among<'a> {
+impl<'a> TextTest for AmongNodes<'a> {
     ghost holds = { λ among name. Contains (node_names among.0.now) name };
 
     fn test(&self, name: &Text) -> bool {
@@ -57,7 +57,7 @@ pub fn twins_in(nodes: &[NodeText]) -> Option<(usize, usize)>
         (λ twins. AreTwins nodes.now twins.0 twins.1) }
 {
     for (late, node) in nodes.iter().enumerate() {
-        if let Some((early, ())) = first(&OfName(&node.name), &nodes[..late]) {
+        if let Some((early, ())) = first(&NodeOfName(&node.name), &nodes[..late]) {
             return Some((early, late));
         }
     }

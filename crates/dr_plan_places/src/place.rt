@@ -9,7 +9,7 @@ use crate::first::TextTest;
 use crate::flaws::name_flaw;
 use crate::limits::{LimitPlace, limit_in};
 use crate::names::{NamePlace, name_in};
-use crate::nodes::{Among, twins_in};
+use crate::nodes::{AmongNodes, twins_in};
 use crate::own::{OwnPlace, own_in};
 use crate::syntaxes::{SyntaxPlace, syntax_in};
 use dr_base::Text;
@@ -69,7 +69,7 @@ fn unknown_place(plan: &PlanText) -> Option<Place>
     ensures { MatchOption result ⊥ (λ place.
         IsPlaceIn plan.now place × (fault_at place ≡ PlanFault.UnknownNode)) }
 {
-    match name_in(&Among(plan), plan) {
+    match name_in(&AmongNodes(plan), plan) {
         Some(at) => Some(Place::Unknown(at)),
         None => None,
     }

@@ -11,7 +11,7 @@ use std::alloc::{AllocError, Global};
 use toml::{Table, Value};
 
 /// A search for something in a table of a text of some format.
-pub trait Search {
+pub trait TableSearch {
     type Found: Drop;
 
     ghost is_found: { Form → Members → Self.Found → Type 0 };
@@ -36,7 +36,7 @@ fn items_of<'a>(table: &'a Table, key: &str) -> &'a [Value]
 
 /// The first of the values that is a table in which something is found, by its index, and what is
 /// found.
-fn first_among<S: Search>(
+fn first_among<S: TableSearch>(
     alloc: Global,
     format: Format,
     items: &[Value],
@@ -60,7 +60,7 @@ fn first_among<S: Search>(
 /// found.
 ///
 /// Errors: want of memory.
-pub fn first_row<S: Search>(
+pub fn first_row<S: TableSearch>(
     alloc: Global,
     format: Format,
     table: &Table,

@@ -5,7 +5,7 @@ ghost use Rattle.dr_plan_places.specs.ShortFlaws.{IsInShort, IsInShortNode};
 
 use crate::field_place::{FieldPlace, FlawOf, NodePart};
 use crate::flaw::{Flaw, flaw_in};
-use crate::rows::{Search, first_row};
+use crate::rows::{TableSearch, first_row};
 use dr_plan_expand::tables::{
     ShortFlowTable, ShortNodeTable, ShortPlanTable, ShortRowTable, ShortRuleTable,
 };
@@ -16,7 +16,7 @@ use toml::Table;
 /// A search for a flaw in a node: its accept rows, its rules, and then its own fields.
 struct FlawOfShortNode;
 
-impl Search for FlawOfShortNode {
+impl TableSearch for FlawOfShortNode {
     type Found = (NodePart, Flaw);
 
     ghost is_found = { λ _ node found. IsInShortNode node found.0 found.1 };

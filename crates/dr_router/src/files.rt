@@ -12,7 +12,7 @@ use dr_store::SqlLedger;
 use dr_store_audit::{is_ours, lacking};
 use dr_store_open::{OpeningFault, ledger_on};
 use dr_word_check::Disk;
-use dr_word_rehearse::{Finds, Found};
+use dr_word_rehearse::{Finds, LedgerFound};
 use sqlite::{Alter, Connection, Error, ErrorCode, File, FileStore};
 use std::alloc::Global;
 use std::io::ErrorKind;
@@ -167,18 +167,18 @@ fn found_over<S: Alter + Drop>(
     alloc: Global,
     conn: Connection<S>,
     site: Site,
-) -> Result<Found<SqlLedger<S>>, OpenFault>
+) -> Result<LedgerFound<SqlLedger<S>>, OpenFault>
     requires { conn.in_transaction ≡ false }
     ensures { IfOk result (IsFoundBy (λ l. Unit {0}) (λ l. l.site) site) }
 {
     if !is_ours(conn.schema()) {
         if lacking(conn.schema()).is_some() {
-            return Ok(Found::Older);
+            return Ok(LedgerFound::Older);
         }
         return Err(OpenFault::OtherSite);
     }
     match ledger_over(alloc, conn, site) {
-        Ok(ledger) => Ok(Found::Ledger(ledger)),
+        Ok(ledger) => Ok(LedgerFound::Ledger(ledger)),
         Err(fault) => Err(fault),
     }
 }
@@ -189,9 +189,9 @@ impl<'a, D: Databases> Finds for StoredLedgers<'a, D> {
         alloc: Global,
         path: &str,
         site: Site,
-    ) -> Result<Found<SqlLedger<D::Store>>, OpenFault> {
+    ) -> Result<LedgerFound<SqlLedger<D::Store>>, OpenFault> {
         if !self.0.is_there(path) {
-            return Ok(Found::Nothing);
+            return Ok(LedgerFound::Nothing);
         }
         match self.0.open_database(path) {
             Ok(conn) => found_over(alloc, conn, site),

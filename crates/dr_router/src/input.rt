@@ -2,7 +2,7 @@
 use dr_base::Text;
 use dr_run_control::names_of;
 use dr_run_request::Access;
-use dr_run_serve::{ControlPlace, ControlPort, Ending, Stop};
+use dr_run_serve::{ControlPlace, ControlPort, Ending, StopSign};
 use dr_run_token::{SystemTokens, Tokens};
 use dr_word_line::VERSION;
 use std::alloc::Global;
@@ -39,7 +39,7 @@ fn read_out(input: Stdin) {
 }
 
 impl<'a, T: Threads> Ending for InputEnd<'a, T> {
-    fn watch(&self, stop: Arc<Stop, Global>) -> io::Result<()> {
+    fn watch(&self, stop: Arc<StopSign, Global>) -> io::Result<()> {
         let input = self.input;
         let _thread = Builder::new().spawn(self.rt, move || {
             read_out(input);

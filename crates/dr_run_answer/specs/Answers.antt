@@ -10,7 +10,7 @@ use Rattle.dr_ledger.specs.declared.item.Cause.{Cause}
 use Rattle.dr_ledger.specs.declared.item.Cause.TheVariants as cause
 use Rattle.dr_ledger.specs.declared.item.Progress.{Progress}
 use Rattle.dr_ledger.specs.declared.item.Progress.TheVariants as progress
-use Rattle.dr_run_answer.specs.declared.association.Association.{Association}
+use Rattle.dr_run_answer.specs.declared.association.OpenAssociation.{OpenAssociation}
 use Rattle.dr_run_answer.specs.declared.intake.Brought.{Brought}
 use Rattle.dr_run_answer.specs.declared.intake.Recent.{Recent}
 use Rattle.dr_run_answer.specs.declared.json.Counts.{Counts}
@@ -135,7 +135,7 @@ line_of_queue queue =
     queue_line queue.dest.now queue.waiting queue.held queue.done queue.due queue.visit
 
 -- the line of an association that is open
-abbrev pub association_line : Association → Text
+abbrev pub association_line : OpenAssociation → Text
 association_line association =
     begun (codes "caller") association.caller ++ number (codes "session") association.session
     ++ number (codes "since") association.since ++ number (codes "stored") association.stored

@@ -11,7 +11,7 @@ use Rattle.dr_ledger.specs.declared.item.Arrived.TheVariants as arrived
 use Rattle.dr_run_answer.specs.declared.intake.Brought.{Brought}
 use Rattle.dr_run_answer.specs.declared.intake.Recent.{Recent}
 use Rattle.dr_run_answer.specs.declared.noted.Minute.{Minute}
-use Rattle.dr_run_answer.specs.declared.noted.Share.{Share}
+use Rattle.dr_run_answer.specs.declared.noted.CallerShare.{CallerShare}
 
 -- what was answered
 abbrev pub Answer : Type 0
@@ -79,7 +79,7 @@ pub record AreTotals (all : List Notice) (lines : List Brought) : Type 0 where
   pub bytes : (caller : Text) → said_of (λ b. b.bytes) caller lines ≡ bytes_from caller all
 
 -- an instance raises the figures of its caller by that
-abbrev pub IsShare : Answer → ℕ → Share → Type 0
+abbrev pub IsShare : Answer → ℕ → CallerShare → Type 0
 IsShare answer size share =
     (share.stored ≡ if_so (is_stored answer) 1)
     × (share.again ≡ if_so (is_again answer) 1)

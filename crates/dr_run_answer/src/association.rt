@@ -11,7 +11,7 @@ use std::alloc::AllocError;
 /// (milliseconds), and how many instances came over it that are new, were there already, or were
 /// refused.
 #[derive(Debug, Drop)]
-pub struct Association {
+pub struct OpenAssociation {
     pub caller: Text,
     pub session: u64,
     pub since: u64,
@@ -21,7 +21,7 @@ pub struct Association {
 }
 
 /// Adds the line of an association.
-fn put_association(out: &mut Vec<u8>, association: &Association) -> Result<(), AllocError>
+fn put_association(out: &mut Vec<u8>, association: &OpenAssociation) -> Result<(), AllocError>
     ensures { OnOk result (out.new.items ≡ out.old.items ++ association_line association.now) }
 {
     out.extend_from_slice(b"{\"caller\":")?;
@@ -36,7 +36,10 @@ fn put_association(out: &mut Vec<u8>, association: &Association) -> Result<(), A
 }
 
 /// Adds a line for each association.
-pub fn put_associations(out: &mut Vec<u8>, associations: &[Association]) -> Result<(), AllocError>
+pub fn put_associations(
+    out: &mut Vec<u8>,
+    associations: &[OpenAssociation],
+) -> Result<(), AllocError>
     ensures { OnOk result
         (out.new.items ≡ out.old.items ++ flat_map association_line associations.now) }
 {

@@ -22,7 +22,7 @@ pub mod noted;
 mod page;
 mod quoted;
 
-pub use association::{Association, put_associations};
+pub use association::{OpenAssociation, put_associations};
 pub use figures::{put_figures, put_open, put_queues, put_visits};
 pub use instance::{put_froms, put_own_rows};
 pub use intake::{Brought, Recent, put_callers, put_recents, put_stored_bytes};

@@ -20,7 +20,7 @@ pub struct Minute {
 
 /// By how much an instance raises the figures of its caller.
 #[derive(Clone, Copy, Debug)]
-struct Share {
+struct CallerShare {
     stored: u64,
     again: u64,
     refused: u64,
@@ -28,23 +28,23 @@ struct Share {
 }
 
 /// By how much an instance of so many bytes does that was answered so.
-fn share_of(answer: Result<Arrived, LedgerFault>, size: u64) -> Share
+fn share_of(answer: Result<Arrived, LedgerFault>, size: u64) -> CallerShare
     ensures { IsShare answer size result }
 {
     match answer {
-        Ok(Arrived::New) => Share {
+        Ok(Arrived::New) => CallerShare {
             stored: 1,
             again: 0,
             refused: 0,
             bytes: size,
         },
-        Ok(Arrived::Again) => Share {
+        Ok(Arrived::Again) => CallerShare {
             stored: 0,
             again: 1,
             refused: 0,
             bytes: 0,
         },
-        Err(_) => Share {
+        Err(_) => CallerShare {
             stored: 0,
             again: 0,
             refused: 1,
@@ -54,7 +54,7 @@ fn share_of(answer: Result<Arrived, LedgerFault>, size: u64) -> Share
 }
 
 /// Raises the figures of a caller. One stays at its greatest value.
-fn raise(brought: &mut Brought, share: Share)
+fn raise(brought: &mut Brought, share: CallerShare)
     ensures { brought.new ≡ record {
       caller = brought.old.caller;
       stored = min most (brought.old.stored + share.stored);
@@ -72,7 +72,7 @@ fn raise(brought: &mut Brought, share: Share)
 /// What a caller has brought whose first instance raises its figures so.
 ///
 /// Errors: want of memory.
-fn first_of(caller: &Text, share: Share) -> Result<Brought, AllocError>
+fn first_of(caller: &Text, share: CallerShare) -> Result<Brought, AllocError>
     ensures { IfOk result (λ b. b ≡ record {
       caller = caller.now;
       stored = share.stored;
@@ -124,7 +124,11 @@ pub fn note_caller(
 /// Adds a line for a caller that has none.
 ///
 /// Errors: want of memory; nothing has changed then.
-fn add_first(callers: &mut Vec<Brought>, caller: &Text, share: Share) -> Result<(), AllocError>
+fn add_first(
+    callers: &mut Vec<Brought>,
+    caller: &Text,
+    share: CallerShare,
+) -> Result<(), AllocError>
     ensures { MatchResult result
         (λ done. callers.new.items ≡ callers.old.items ++ (record {
           caller = caller.now;

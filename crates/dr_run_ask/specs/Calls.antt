@@ -6,11 +6,12 @@ use Rattle.form_urlencoded.specs.Form.{extend_pairs}
 use Rattle.http1.specs.Fields.{Header}
 use Rattle.http1.specs.Head.{request_text}
 use Rattle.dr_base.specs.Texts.{Text}
-use Rattle.dr_run_ask.specs.declared.call.Call.{Call}
-use Rattle.dr_run_ask.specs.declared.call.Call.TheVariants.{Status, Rows, Requeue, GiveUp, Forget}
-use Rattle.dr_run_ask.specs.declared.call.Call.TheVariants.{Visit, Stop}
+use Rattle.dr_run_ask.specs.declared.call.HttpCall.{HttpCall}
+use Rattle.dr_run_ask.specs.declared.call.HttpCall.TheVariants.{Status, Rows, Requeue, GiveUp}
+use Rattle.dr_run_ask.specs.declared.call.HttpCall.TheVariants.{Forget}
+use Rattle.dr_run_ask.specs.declared.call.HttpCall.TheVariants.{Visit, Stop}
 
-abbrev pub path_of : Call → Text
+abbrev pub path_of : HttpCall → Text
 path_of Status = codes "/status"
 path_of (Rows form) = codes "/rows"
 path_of (Requeue form) = codes "/requeue"
@@ -20,7 +21,7 @@ path_of (Visit form) = codes "/visit"
 path_of Stop = codes "/stop"
 
 -- it changes something
-abbrev pub is_act : Call → Bool
+abbrev pub is_act : HttpCall → Bool
 is_act Status = false
 is_act (Rows form) = false
 is_act (Requeue form) = true
@@ -30,7 +31,7 @@ is_act (Visit form) = true
 is_act Stop = true
 
 -- what it is about
-abbrev pub form_of : Call → Text
+abbrev pub form_of : HttpCall → Text
 form_of Status = []
 form_of (Rows form) = form.now
 form_of (Requeue form) = form.now
@@ -40,7 +41,7 @@ form_of (Visit form) = form.now
 form_of Stop = []
 
 -- an act is told by POST, and all else is asked by GET
-abbrev pub method_of : Call → Text
+abbrev pub method_of : HttpCall → Text
 method_of call = if is_act call then codes "POST" else codes "GET"
 
 -- the forms of a row, of a row with a reason, of a node, of an instance, and of the rows to a node
@@ -67,10 +68,10 @@ abbrev pub query_of : Text → Text
 query_of [] = []
 query_of (byte ∷ form) = codes "?" ++ (byte ∷ form)
 
-abbrev pub target_of : Call → Text
+abbrev pub target_of : HttpCall → Text
 target_of call = if is_act call then path_of call else path_of call ++ query_of (form_of call)
 
-abbrev pub body_of : Call → Text
+abbrev pub body_of : HttpCall → Text
 body_of call = if is_act call then form_of call else []
 
 -- what a field with a token says (RFC 6750 2.1)
@@ -89,19 +90,19 @@ form_fields size =
     ∷ (codes "content-length", size) ∷ []
 
 -- what is said of what is told
-abbrev pub fields_of_body : Call → List Header
+abbrev pub fields_of_body : HttpCall → List Header
 fields_of_body call =
     if is_act call then form_fields (decimal (length (form_of call))) else []
 
 -- the fields of a request: the node's address, that the connection is for one request, the token,
 -- where one is given, and what is said of the body
-abbrev pub fields_of : Text → Option Text → Call → List Header
+abbrev pub fields_of : Text → Option Text → HttpCall → List Header
 fields_of host bearer call =
     ((codes "host", host) ∷ (codes "connection", codes "close") ∷ [])
     ++ bearer_fields bearer ++ fields_of_body call
 
 -- the bytes of a request of HTTP/1.1
-abbrev pub request_of : Text → Option Text → Call → Text
+abbrev pub request_of : Text → Option Text → HttpCall → Text
 request_of host token call =
     request_text (method_of call) (target_of call) 1
     (fields_of host (option_map bearer_of token) call) ++ body_of call

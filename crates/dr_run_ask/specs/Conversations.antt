@@ -5,9 +5,9 @@ use Rattle.serde_json.specs.Data.{Data}
 use Rattle.dr_base.specs.Texts.{Text}
 use Rattle.dr_run_ask.specs.Calls.{is_act}
 use Rattle.dr_run_ask.specs.Lines.{BeginsWith, flag_at, text_at}
-use Rattle.dr_run_ask.specs.declared.answer.Answer.{Answer}
-use Rattle.dr_run_ask.specs.declared.call.Call.{Call}
-use Rattle.dr_run_ask.specs.declared.call.Call.TheVariants.{Status}
+use Rattle.dr_run_ask.specs.declared.answer.HttpAnswer.{HttpAnswer}
+use Rattle.dr_run_ask.specs.declared.call.HttpCall.{HttpCall}
+use Rattle.dr_run_ask.specs.declared.call.HttpCall.TheVariants.{Status}
 use Rattle.dr_run_ask.specs.declared.fault.AskFault.{AskFault}
 use Rattle.dr_run_ask.specs.declared.fault.AskFault.TheVariants.{NoConnection, NoAnswer}
 use Rattle.dr_run_ask.specs.declared.fault.AskFault.TheVariants.{NoNodesAnswer, OtherNode}
@@ -25,7 +25,7 @@ IsOf name digest text =
     × MatchOption (text_at (codes "plan") value) (Unit {0}) (λ told. told ≡ digest)
 
 -- the answer says that an act was done
-abbrev pub IsDone : Answer → Type 0
+abbrev pub IsDone : HttpAnswer → Type 0
 IsDone answer =
     (answer.status ≡ 200)
     × ((value : Data)
@@ -33,7 +33,7 @@ IsDone answer =
     × (flag_at (codes "done") value ≡ Some true))
 
 -- the answer names this fault
-abbrev pub Names : Answer → Text → Type 0
+abbrev pub Names : HttpAnswer → Text → Type 0
 Names answer name =
     (value : Data)
     × BeginsWith answer.body.items value
@@ -59,58 +59,61 @@ name_told Memory = Some (codes "Memory")
 
 -- A refusal by an answer: the fault that it names. Where it names none that is known here, it is no
 -- node's.
-abbrev pub Refuses : Answer → AskFault → Type 0
+abbrev pub Refuses : HttpAnswer → AskFault → Type 0
 Refuses answer fault =
     (fault ≡ NoNodesAnswer)
     ⊎ ((name : Text) × (name_told fault ≡ Some name) × Names answer name)
 
 -- none of them changes anything
-abbrev pub NoneActs : List Call → Type 0
+abbrev pub NoneActs : List HttpCall → Type 0
 NoneActs [] = Unit {0}
 NoneActs (call ∷ calls) = (is_act call ≡ false) × NoneActs calls
 
-module _ {S : Type 0} (answers : S → Call → Result Answer AskFault → S → Type 0) where
+module _ {S : Type 0} (answers : S → HttpCall → Result HttpAnswer AskFault → S → Type 0) where
   -- the node was asked what it is; the one that was meant has answered
-  abbrev pub IsSeen : Text → Text → S → Answer → S → Type 0
+  abbrev pub IsSeen : Text → Text → S → HttpAnswer → S → Type 0
   IsSeen name digest old answer new =
       answers old Status (Ok answer) new
       × (answer.status ≡ 200)
       × IsOf name digest answer.body.items
 
   -- the same, or why it isn't seen; nothing else was asked
-  abbrev pub Sees : Text → Text → S → Result Answer AskFault → S → Type 0
+  abbrev pub Sees : Text → Text → S → Result HttpAnswer AskFault → S → Type 0
   Sees name digest old (Ok answer) new = IsSeen name digest old answer new
   Sees name digest old (Err fault) new =
-      (came : Result Answer AskFault) × answers old Status came new
+      (came : Result HttpAnswer AskFault) × answers old Status came new
 
   -- The node was told this once it was seen to be the one that was meant, and not else. It is done
   -- where the answer says so; else the answer's fault is told, or that none came.
-  abbrev pub IsTold : Text → Text → Call → S → Result Answer AskFault → S → Type 0
+  abbrev pub IsTold : Text → Text → HttpCall → S → Result HttpAnswer AskFault → S → Type 0
   IsTold name digest call old came new =
-      (seen : Answer) × (mid : S) × IsSeen name digest old seen mid × answers mid call came new
+      (seen : HttpAnswer) × (mid : S) × IsSeen name digest old seen mid × answers mid call came new
 
   -- what comes of it behind that
-  abbrev pub TellsSeen : Call → S → Result (Unit {0}) AskFault → S → Type 0
+  abbrev pub TellsSeen : HttpCall → S → Result (Unit {0}) AskFault → S → Type 0
   TellsSeen call old (Ok done) new =
-      (answer : Answer) × answers old call (Ok answer) new × IsDone answer
+      (answer : HttpAnswer) × answers old call (Ok answer) new × IsDone answer
   TellsSeen call old (Err fault) new =
       answers old call (Err fault) new
-      ⊎ ((answer : Answer) × answers old call (Ok answer) new × Refuses answer fault)
+      ⊎ ((answer : HttpAnswer) × answers old call (Ok answer) new × Refuses answer fault)
 
-  abbrev pub Tells : Text → Text → Call → S → Result (Unit {0}) AskFault → S → Type 0
+  abbrev pub Tells : Text → Text → HttpCall → S → Result (Unit {0}) AskFault → S → Type 0
   Tells name digest call old (Ok done) new =
-      (answer : Answer) × IsTold name digest call old (Ok answer) new × IsDone answer
+      (answer : HttpAnswer) × IsTold name digest call old (Ok answer) new × IsDone answer
   Tells name digest call old (Err fault) new =
-      ((came : Result Answer AskFault) × answers old Status came new)
+      ((came : Result HttpAnswer AskFault) × answers old Status came new)
       ⊎ IsTold name digest call old (Err fault) new
-      ⊎ ((answer : Answer) × IsTold name digest call old (Ok answer) new × Refuses answer fault)
+      ⊎ ((answer : HttpAnswer) × IsTold name digest call old (Ok answer) new × Refuses answer fault)
 
   -- from the one state to the other these were asked, one after the other
-  abbrev pub Asked : List Call → S → S → Type 0
+  abbrev pub Asked : List HttpCall → S → S → Type 0
   Asked [] old new = new ≡ old
   Asked (call ∷ calls) old new =
-      (came : Result Answer AskFault) × (mid : S) × answers old call came mid × Asked calls mid new
+      (came : Result HttpAnswer AskFault)
+      × (mid : S)
+      × answers old call came mid
+      × Asked calls mid new
 
   -- whatever was asked is no act
   abbrev pub OnlyReads : S → S → Type 0
-  OnlyReads old new = (calls : List Call) × NoneActs calls × Asked calls old new
+  OnlyReads old new = (calls : List HttpCall) × NoneActs calls × Asked calls old new

@@ -8,11 +8,11 @@ use Rattle.dr_run_request.specs.declared.route.Route.TheVariants as routes
 use Rattle.dr_run_request.specs.Forms.{value_in}
 use Rattle.dr_run_ask.specs.Calls.{dest_form, is_act, method_of, path_of, reason_form, row_form}
 use Rattle.dr_run_ask.specs.Calls.{rows_form, uid_form}
-use Rattle.dr_run_ask.specs.declared.call.Call.{Call}
-use Rattle.dr_run_ask.specs.declared.call.Call.TheVariants as calls
+use Rattle.dr_run_ask.specs.declared.call.HttpCall.{HttpCall}
+use Rattle.dr_run_ask.specs.declared.call.HttpCall.TheVariants as calls
 
 -- it has the path and the method of that route, and is an act where that is one
-abbrev pub IsOfRoute : Call → Route → Type 0
+abbrev pub IsOfRoute : HttpCall → Route → Type 0
 IsOfRoute call route =
     (path_of call ≡ asked.path_of route)
     × (method_of call ≡ asked.method_of route)

@@ -25,7 +25,7 @@ const FIELDS: usize = 32;
 
 /// An answer: its status, and its body.
 #[derive(Debug, Drop)]
-pub struct Answer {
+pub struct HttpAnswer {
     pub status: u16,
     pub body: Vec<u8>,
 }
@@ -109,12 +109,12 @@ fn framing_of(bytes: &[u8], spans: &[HeaderSpan], head: &ResponseSpans) -> Resul
 /// The answer in all bytes that came.
 ///
 /// Errors: NoNodesAnswer, NoAnswer where it is cut, Memory.
-pub fn answer_in(alloc: Global, bytes: &[u8]) -> Result<Answer, AskFault> {
+pub fn answer_in(alloc: Global, bytes: &[u8]) -> Result<HttpAnswer, AskFault> {
     let mut spans = [EMPTY_HEADER_SPAN; FIELDS];
     let head = head_in(bytes, &mut spans)?;
     let framing = framing_of(bytes, &spans, &head)?;
     let body = body_in(alloc, framing, &bytes[head.len..])?;
-    Ok(Answer {
+    Ok(HttpAnswer {
         status: head.code,
         body,
     })

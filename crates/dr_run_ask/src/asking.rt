@@ -7,8 +7,8 @@ ghost use Rattle.dr_run_ask.specs.Conversations.{name_told};
 ghost use Rattle.dr_run_ask.specs.Lines.{BeginsWith, text_at};
 ghost use Rattle.dr_run_ask.specs.declared.fault.AskFault.TheVariants as faults;
 
-use crate::answer::Answer;
-use crate::call::Call;
+use crate::answer::HttpAnswer;
+use crate::call::HttpCall;
 use crate::fault::AskFault;
 use crate::lines::{first_value, flag_at, text_at};
 use dr_base::Text;
@@ -19,8 +19,8 @@ use std::alloc::Global;
 /// what.
 pub trait Asks {
     ghost use Rattle.std.specs.Prelude.{Result};
-    ghost use Rattle.dr_run_ask.specs.declared.answer.Answer.{Answer as AnswerValue};
-    ghost use Rattle.dr_run_ask.specs.declared.call.Call.{Call as CallValue};
+    ghost use Rattle.dr_run_ask.specs.declared.answer.HttpAnswer.{HttpAnswer as AnswerValue};
+    ghost use Rattle.dr_run_ask.specs.declared.call.HttpCall.{HttpCall as CallValue};
     ghost use Rattle.dr_run_ask.specs.declared.fault.AskFault.{AskFault as AskFaultValue};
 
     ghost answers: { Self → CallValue → Result AnswerValue AskFaultValue → Self → Type 0 };
@@ -28,7 +28,7 @@ pub trait Asks {
     /// Asks that, and waits for the answer.
     ///
     /// Errors: NoConnection, NoAnswer, NoNodesAnswer, NoRequest, Memory.
-    fn ask(&mut self, call: Call<'_>) -> Result<Answer, AskFault>
+    fn ask(&mut self, call: HttpCall<'_>) -> Result<HttpAnswer, AskFault>
         ensures { answers self.old call.entry result self.new };
 }
 
@@ -42,7 +42,7 @@ pub struct Meant<'a> {
 /// What the first line of an answer says.
 ///
 /// Errors: NoNodesAnswer where it says nothing; Memory.
-fn said_in(alloc: Global, answer: &Answer) -> Result<Value, AskFault>
+fn said_in(alloc: Global, answer: &HttpAnswer) -> Result<Value, AskFault>
     ensures { IfOk result (λ value. BeginsWith answer.now.body.items (view value)) }
 {
     let value = first_value(alloc, answer.body.as_slice())?;
@@ -90,7 +90,7 @@ fn test_plan(value: &Value, digest: &Text) -> Result<(), AskFault>
 /// Whether the answer's first line is of the node that is meant.
 ///
 /// Errors: OtherNode, OtherPlan, NoNodesAnswer, Memory.
-fn judge(alloc: Global, answer: &Answer, meant: Meant<'_>) -> Result<(), AskFault>
+fn judge(alloc: Global, answer: &HttpAnswer, meant: Meant<'_>) -> Result<(), AskFault>
     ensures { IfOk result
         (λ _. IsOf meant.entry.name.now meant.entry.digest.now answer.now.body.items) }
 {
@@ -155,7 +155,7 @@ fn fault_named(name: &[u8]) -> AskFault
 }
 
 /// Why the node refuses, by its answer.
-pub fn refusal(alloc: Global, answer: &Answer) -> AskFault
+pub fn refusal(alloc: Global, answer: &HttpAnswer) -> AskFault
     ensures { Refuses answer.now result }
 {
     let value = match said_in(alloc, answer) {
@@ -171,10 +171,10 @@ pub fn refusal(alloc: Global, answer: &Answer) -> AskFault
 /// Asks the node what it is: it has to be the one that is meant.
 ///
 /// Errors: those of `Asks::ask`; those of the answer; OtherNode, OtherPlan.
-pub fn see<A: Asks>(alloc: Global, node: &mut A, meant: Meant<'_>) -> Result<Answer, AskFault>
+pub fn see<A: Asks>(alloc: Global, node: &mut A, meant: Meant<'_>) -> Result<HttpAnswer, AskFault>
     ensures { Sees A.answers meant.entry.name.now meant.entry.digest.now node.old result node.new }
 {
-    let answer = match node.ask(Call::Status) {
+    let answer = match node.ask(HttpCall::Status) {
         Ok(answer) => answer,
         Err(fault) => return Err(fault),
     };
@@ -190,7 +190,7 @@ pub fn see<A: Asks>(alloc: Global, node: &mut A, meant: Meant<'_>) -> Result<Ans
 /// Whether the answer says that an act was done.
 ///
 /// Errors: those of the answer.
-fn done(alloc: Global, answer: &Answer) -> Result<(), AskFault>
+fn done(alloc: Global, answer: &HttpAnswer) -> Result<(), AskFault>
     ensures done { IfOk result (λ _. IsDone answer.now) }
     ensures refused { IfErr result (Refuses answer.now) }
 {
@@ -213,7 +213,7 @@ fn done(alloc: Global, answer: &Answer) -> Result<(), AskFault>
 /// Tells the node something, which was seen to be the one that is meant.
 ///
 /// Errors: those of `Asks::ask`; those of the answer.
-fn tell_seen<A: Asks>(alloc: Global, node: &mut A, call: Call<'_>) -> Result<(), AskFault>
+fn tell_seen<A: Asks>(alloc: Global, node: &mut A, call: HttpCall<'_>) -> Result<(), AskFault>
     ensures { TellsSeen A.answers call.entry node.old result node.new }
 {
     let answer = match node.ask(call) {
@@ -230,7 +230,7 @@ pub fn tell<A: Asks>(
     alloc: Global,
     node: &mut A,
     meant: Meant<'_>,
-    call: Call<'_>,
+    call: HttpCall<'_>,
 ) -> Result<(), AskFault>
     ensures { Tells A.answers meant.entry.name.now meant.entry.digest.now call.entry node.old result
         node.new }

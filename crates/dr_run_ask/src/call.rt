@@ -9,7 +9,7 @@ use std::alloc::{AllocError, Global};
 /// What a node that runs is asked, and what it is told, each with its form
 /// (application/x-www-form-urlencoded).
 #[derive(Clone, Copy, Debug, Drop)]
-pub enum Call<'a> {
+pub enum HttpCall<'a> {
     /// What it is, and how much it has.
     Status,
     /// The rows to a node, behind a UID.
@@ -26,19 +26,19 @@ pub enum Call<'a> {
     Stop,
 }
 
-impl<'a> Call<'a> {
+impl<'a> HttpCall<'a> {
     /// Its path.
     pub fn path(self) -> &'static str
         ensures { result.now ≡ path_of self.entry }
     {
         match self {
-            Call::Status => "/status",
-            Call::Rows(_) => "/rows",
-            Call::Requeue(_) => "/requeue",
-            Call::GiveUp(_) => "/drop",
-            Call::Forget(_) => "/forget",
-            Call::Visit(_) => "/visit",
-            Call::Stop => "/stop",
+            HttpCall::Status => "/status",
+            HttpCall::Rows(_) => "/rows",
+            HttpCall::Requeue(_) => "/requeue",
+            HttpCall::GiveUp(_) => "/drop",
+            HttpCall::Forget(_) => "/forget",
+            HttpCall::Visit(_) => "/visit",
+            HttpCall::Stop => "/stop",
         }
     }
 
@@ -47,9 +47,9 @@ impl<'a> Call<'a> {
         ensures { result ≡ is_act self.entry }
     {
         match self {
-            Call::Status | Call::Rows(_) => false,
-            Call::Requeue(_) | Call::GiveUp(_) | Call::Forget(_) => true,
-            Call::Visit(_) | Call::Stop => true,
+            HttpCall::Status | HttpCall::Rows(_) => false,
+            HttpCall::Requeue(_) | HttpCall::GiveUp(_) | HttpCall::Forget(_) => true,
+            HttpCall::Visit(_) | HttpCall::Stop => true,
         }
     }
 
@@ -58,9 +58,9 @@ impl<'a> Call<'a> {
         ensures { result.now ≡ form_of self.entry }
     {
         match self {
-            Call::Status | Call::Stop => "",
-            Call::Rows(form) | Call::Requeue(form) | Call::GiveUp(form) => form,
-            Call::Forget(form) | Call::Visit(form) => form,
+            HttpCall::Status | HttpCall::Stop => "",
+            HttpCall::Rows(form) | HttpCall::Requeue(form) | HttpCall::GiveUp(form) => form,
+            HttpCall::Forget(form) | HttpCall::Visit(form) => form,
         }
     }
 

@@ -1,7 +1,7 @@
 //! What a node that runs is asked and told over its control connection (`serve --control`), by who
 //! asks.
 //!
-//! - `Call` and `request_bytes`: what is asked, as the bytes of a request of HTTP/1.1.
+//! - `HttpCall` and `request_bytes`: what is asked, as the bytes of a request of HTTP/1.1.
 //! - `answer_in`: the answer in the bytes that came; `first_value`, `text_at`: its lines of JSON.
 //! - `Asks`: where a node is asked one thing after the other. `see`, `tell`: the node is asked what
 //!   it is before it is told anything, and nothing is told to another one than was meant.
@@ -15,9 +15,9 @@ pub mod laws;
 mod lines;
 mod request;
 
-pub use answer::{Answer, MOST, answer_in};
+pub use answer::{HttpAnswer, MOST, answer_in};
 pub use asking::{Asks, Meant, refusal, see, tell};
-pub use call::{Call, dest_form, reason_form, row_form, rows_form, uid_form};
+pub use call::{HttpCall, dest_form, reason_form, row_form, rows_form, uid_form};
 pub use fault::AskFault;
 pub use lines::{first_value, flag_at, number_at, text_at, value_of};
 pub use request::request_bytes;

@@ -7,7 +7,7 @@ ghost use Rattle.dr_run_ask.specs.Calls.{form_fields};
 ghost use Rattle.dr_run_ask.specs.Calls.{fields_of_body, method_of, query_of, request_of};
 ghost use Rattle.dr_run_ask.specs.Calls.{target_of};
 
-use crate::call::Call;
+use crate::call::HttpCall;
 use crate::fault::AskFault;
 use dr_base::Text;
 use http1::head::write_request;
@@ -29,7 +29,7 @@ fn put_query(target: &mut Vec<u8>, form: &str) -> Result<(), AllocError>
 }
 
 /// Where the request goes: a path, and what is asked behind it.
-fn target_of(alloc: Global, call: Call<'_>) -> Result<Vec<u8>, AllocError>
+fn target_of(alloc: Global, call: HttpCall<'_>) -> Result<Vec<u8>, AllocError>
     ensures { IfOk result (λ target. target.items ≡ target_of call.entry) }
 {
     let mut target = Vec::from_slice(alloc, call.path().as_bytes())?;
@@ -95,7 +95,7 @@ fn add_form<'f>(fields: &mut Vec<Header<'f>>, size: &'f [u8]) -> Result<(), Allo
 /// Adds what is said of the body: of what is told, that it is a form of so many bytes.
 fn add_body<'f>(
     fields: &mut Vec<Header<'f>>,
-    call: Call<'_>,
+    call: HttpCall<'_>,
     size: &'f str,
 ) -> Result<(), AllocError>
     requires { size.now ≡ decimal (len (form_of call)) }
@@ -113,7 +113,7 @@ fn fields_of<'f>(
     alloc: Global,
     host: &'f Text,
     bearer: Option<&'f [u8]>,
-    call: Call<'_>,
+    call: HttpCall<'_>,
     length: &'f str,
 ) -> Result<Vec<Header<'f>>, AllocError>
     requires { length.now ≡ decimal (len (form_of call)) }
@@ -139,7 +139,7 @@ fn fields_of<'f>(
 /// Errors: NoRequest where a part can't stand in a head; Memory.
 fn put_request(
     out: &mut Vec<u8>,
-    call: Call<'_>,
+    call: HttpCall<'_>,
     target: &[u8],
     fields: &[Header<'_>],
 ) -> Result<(), AskFault>
@@ -165,7 +165,7 @@ fn bytes_with(
     alloc: Global,
     host: &Text,
     bearer: Option<&[u8]>,
-    call: Call<'_>,
+    call: HttpCall<'_>,
 ) -> Result<Vec<u8>, AskFault>
     ensures { IfOk result (λ bytes. bytes.items
         ≡ request_text (method_of call.entry) (target_of call.entry) 1
@@ -188,7 +188,7 @@ pub fn request_bytes(
     alloc: Global,
     host: &Text,
     token: Option<&Text>,
-    call: Call<'_>,
+    call: HttpCall<'_>,
 ) -> Result<Vec<u8>, AskFault>
     ensures { IfOk result (λ bytes.
         bytes.items ≡ request_of host.now (option_map (λ t. t.now) token.entry) call.entry) }

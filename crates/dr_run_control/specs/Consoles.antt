@@ -16,7 +16,7 @@ use Rattle.dr_desk.specs.declared.receipt.Receipt.{Receipt}
 use Rattle.dr_desk.specs.declared.receipt.Reply.TheVariants.{Done}
 use Rattle.dr_ledger_views.specs.declared.stage.Stage.{Stage}
 use Rattle.dr_ledger_views.specs.declared.stage.Stage.TheVariants as stage
-use Rattle.dr_ledger_views.specs.declared.stage.Tally.{Tally}
+use Rattle.dr_ledger_views.specs.declared.stage.HopTally.{HopTally}
 use Rattle.dr_ledger_views.specs.Views.{AreCallers, Row, page_of, rows_of}
 use Rattle.dr_ledger.specs.Bodies.{Bodies}
 use Rattle.dr_ledger.specs.Books.{Book, Line}
@@ -216,7 +216,7 @@ module _ {L : Type 0} (site_of : L → Part) (book : L → Book) (stands : L →
 
 -- the figures of a queue are those that were counted of the rows to its node, and its visits are
 -- those that are known
-abbrev pub IsCounted : Text → Tally → Option Visited → Visits → Queue → Type 0
+abbrev pub IsCounted : Text → HopTally → Option Visited → Visits → Queue → Type 0
 IsCounted dest tally visit visits queue =
     (queue.dest.now ≡ dest) × (queue.waiting ≡ tally.waiting) × (queue.held ≡ tally.held)
     × (queue.done ≡ tally.done)

@@ -9,14 +9,16 @@ ghost use Rattle.dr_run_request.specs.declared.route.Route.TheVariants as RouteV
 
 use crate::acts::act;
 use crate::page::{Times, read_page};
-use crate::reads::{Serving, read_figures, read_health, read_instance, read_rows, read_status};
-use crate::reply::{Media, Reply, misread, refusal, refused_by_ledger, respond};
+use crate::reads::{
+    ServingSince, read_figures, read_health, read_instance, read_rows, read_status,
+};
+use crate::reply::{HttpReply, Media, misread, refusal, refused_by_ledger, respond};
 use bytes::Bytes;
 use dr_base::Text;
 use dr_desk::{Pass, SharedDesk, Sharing};
 use dr_ledger::LedgerFault;
 use dr_ledger_views::Views;
-use dr_run_answer::{Association, Brought, Recent, Visited, Visits, put_done};
+use dr_run_answer::{Brought, OpenAssociation, Recent, Visited, Visits, put_done};
 use dr_run_open::NextHop;
 use dr_run_request::{
     Access, Browser, Order, Refused, Route, admit, is_of_page, order_of, reason_of,
@@ -31,7 +33,7 @@ use std::sync::Wait;
 /// node serves, and what came within the last hour.
 #[derive(Debug, Drop)]
 pub struct Around {
-    pub associations: Vec<Association>,
+    pub associations: Vec<OpenAssociation>,
     pub brought: Vec<Brought>,
     pub recents: Vec<Recent>,
 }
@@ -97,11 +99,11 @@ fn done_text(alloc: Global) -> Vec<u8>
 }
 
 /// The reply to an act that was done.
-fn done(alloc: Global) -> Reply
+fn done(alloc: Global) -> HttpReply
     ensures status { result.status ≡ 200 }
     ensures text { IsToldIn done_line result.text.items }
 {
-    Reply {
+    HttpReply {
         status: StatusCode::OK,
         text: done_text(alloc),
         media: Media::Lines,
@@ -109,7 +111,7 @@ fn done(alloc: Global) -> Reply
 }
 
 /// The reply to what came of an order.
-fn answered(alloc: Global, answer: Result<(), LedgerFault>) -> Reply
+fn answered(alloc: Global, answer: Result<(), LedgerFault>) -> HttpReply
     ensures status { result.status ≡ status_of_answer answer }
     ensures text { IsToldIn (line_of_answer answer) result.text.items }
 {
@@ -120,11 +122,11 @@ fn answered(alloc: Global, answer: Result<(), LedgerFault>) -> Reply
 }
 
 /// The reply where who is to be visited is none to whom this node sends.
-fn nowhere(alloc: Global) -> Reply
+fn nowhere(alloc: Global) -> HttpReply
     ensures status { result.status ≡ 404 }
     ensures text { IsToldIn (fault_line (codes "Hop")) result.text.items }
 {
-    Reply::of_fault(alloc, StatusCode::NOT_FOUND, "Hop")
+    HttpReply::of_fault(alloc, StatusCode::NOT_FOUND, "Hop")
 }
 
 /// Whether the node sends to that one.
@@ -158,7 +160,7 @@ fn do_order<R: Wait, L: Views, B: Sharing, C: Clock, H: House>(
     house: &H,
     order: &Order,
     reason: Option<&Text>,
-) -> Reply
+) -> HttpReply
     ensures { Comes L.site L.book L.stands L.failed B.site B.first
         hops.now order.now result.status result.text.items pass.old.made.count
         pass.old.receipts.items pass.new.made.count pass.new.receipts.items }
@@ -182,7 +184,7 @@ fn obey<R: Wait, L: Views, B: Sharing, C: Clock, H: House>(
     house: &H,
     route: Route,
     form: &[u8],
-) -> Reply
+) -> HttpReply
     ensures { Tells L.site L.book L.stands L.failed B.site B.first
         hops.now route form.now result.status result.text.items pass.old.made.count
         pass.old.receipts.items pass.new.made.count pass.new.receipts.items }
@@ -226,14 +228,14 @@ fn query_of(request: &Request<Bytes>) -> &[u8] {
 
 impl<'a, R: Wait, L: Views, B: Sharing, C: Clock, H: House> Console<'a, R, L, B, C, H> {
     /// The reply to what changes no row.
-    fn look(&self, route: Route, request: &Request<Bytes>) -> Reply
+    fn look(&self, route: Route, request: &Request<Bytes>) -> HttpReply
         ensures { route ≡ RouteValue.Stop
             → (result.status ≡ 200) × IsToldIn done_line result.text.items }
     {
         let (rt, alloc, desk) = (self.rt, self.alloc, self.desk);
         let (hops, house, now) = (self.hops, self.house, self.clock.now());
         let (version, since) = (self.version, self.since);
-        let (serving, times) = (Serving { version, since }, Times { since, now });
+        let (serving, times) = (ServingSince { version, since }, Times { since, now });
         match route {
             Route::Page => read_page(rt, alloc, desk, hops, house, times, self.browser),
             Route::Rows => read_rows(rt, alloc, desk, query_of(request)),
@@ -254,7 +256,7 @@ impl<'a, R: Wait, L: Views, B: Sharing, C: Clock, H: House> Console<'a, R, L, B,
 
 impl<'a, R: Wait, L: Views, B: Sharing, C: Clock, H: House> Console<'a, R, L, B, C, H> {
     /// The reply to a request: an order is done where it may, and what mayn't is refused.
-    fn answer(&mut self, request: &Request<Bytes>) -> Reply
+    fn answer(&mut self, request: &Request<Bytes>) -> HttpReply
         ensures answers { Answers L.site L.book L.stands L.failed B.site B.first
             self.old.access.now self.old.browser.now self.old.hops.now request.now
             result.status result.text.items

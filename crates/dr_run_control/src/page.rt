@@ -4,14 +4,14 @@ ghost use Rattle.dr_run_page.specs.Documents.{document};
 
 use crate::console::House;
 use crate::reads::{count_all, reply_with};
-use crate::reply::{Media, Reply, refused_by_ledger};
+use crate::reply::{HttpReply, Media, refused_by_ledger};
 use dr_base::Text;
 use dr_desk::{SharedDesk, Sharing};
 use dr_ledger::{LedgerFault, Progress};
 use dr_ledger_views::{Stage, Views};
-use dr_run_answer::{Association, Queue, Recent};
+use dr_run_answer::{OpenAssociation, Queue, Recent};
 use dr_run_open::NextHop;
-use dr_run_page::{SHOWN, Shown, put_document};
+use dr_run_page::{NodeShown, SHOWN, put_document};
 use dr_run_request::Browser;
 use std::alloc::{AllocError, Global};
 use std::sync::Wait;
@@ -62,9 +62,9 @@ fn held_rows<R: Wait, L: Views, B: Sharing>(
 /// The document.
 fn page_text(
     alloc: Global,
-    shown: &Shown<'_>,
+    shown: &NodeShown<'_>,
     queues: &[Queue<'_>],
-    associations: &[Association],
+    associations: &[OpenAssociation],
     recents: &[Recent],
     rows: &[Row],
 ) -> Result<Vec<u8>, AllocError>
@@ -104,7 +104,7 @@ pub(crate) fn read_page<R: Wait, L: Views, B: Sharing, H: House>(
     house: &H,
     times: Times,
     browser: &Option<Browser>,
-) -> Reply {
+) -> HttpReply {
     let (counts, queues, around) = match count_all(rt, alloc, desk, hops, house, times.now) {
         Ok(all) => all,
         Err(fault) => return refused_by_ledger(alloc, fault),
@@ -113,7 +113,7 @@ pub(crate) fn read_page<R: Wait, L: Views, B: Sharing, H: House>(
         Ok(rows) => rows,
         Err(fault) => return refused_by_ledger(alloc, fault),
     };
-    let shown = Shown {
+    let shown = NodeShown {
         name: desk.site().name(),
         since: times.since,
         moment: times.now,

@@ -14,11 +14,11 @@ ghost use Rattle.dr_run_control.specs.Consoles.{AreParts, IsCounted, IsMissing, 
 ghost use Rattle.dr_run_control.specs.Consoles.{page_wanted, stage_named};
 
 use crate::console::{Around, House};
-use crate::reply::{Media, Reply, misread, refused_by_ledger};
+use crate::reply::{HttpReply, Media, misread, refused_by_ledger};
 use dr_base::{Seq, Text};
 use dr_desk::{SharedDesk, Sharing, Totals};
 use dr_ledger::{LedgerFault, Progress};
-use dr_ledger_views::{Stage, Tally, Views};
+use dr_ledger_views::{HopTally, Stage, Views};
 use dr_run_answer::{
     Counts, Identity, Queue, Visited, Visits, put_associations, put_callers, put_figures,
     put_froms, put_instance, put_late, put_node, put_open, put_own_rows, put_queue, put_queues,
@@ -32,7 +32,7 @@ use std::alloc::{AllocError, Global};
 use std::sync::Wait;
 
 /// How many rows are on their way to a node, as they were counted.
-fn queue_of(dest: &Text, tally: Tally, visit: Option<Visited>, visits: Visits) -> Queue<'_>
+fn queue_of(dest: &Text, tally: HopTally, visit: Option<Visited>, visits: Visits) -> Queue<'_>
     ensures { IsCounted dest.now tally visit visits result }
 {
     Queue {
@@ -173,14 +173,18 @@ fn well_line(alloc: Global) -> Result<Vec<u8>, AllocError> {
 }
 
 /// The reply with that text; where memory ran out, one without.
-pub(crate) fn reply_with(alloc: Global, text: Result<Vec<u8>, AllocError>, media: Media) -> Reply {
+pub(crate) fn reply_with(
+    alloc: Global,
+    text: Result<Vec<u8>, AllocError>,
+    media: Media,
+) -> HttpReply {
     match text {
-        Ok(text) => Reply {
+        Ok(text) => HttpReply {
             status: StatusCode::OK,
             text,
             media,
         },
-        Err(_) => Reply::bare(alloc, StatusCode::SERVICE_UNAVAILABLE),
+        Err(_) => HttpReply::bare(alloc, StatusCode::SERVICE_UNAVAILABLE),
     }
 }
 
@@ -207,7 +211,7 @@ pub(crate) fn count_all<'a, R: Wait, L: Views, B: Sharing, H: House>(
 
 /// The program of a node: its version, and since when it serves (milliseconds).
 #[derive(Clone, Copy, Debug, Drop)]
-pub(crate) struct Serving<'a> {
+pub(crate) struct ServingSince<'a> {
     pub version: &'a str,
     pub since: u64,
 }
@@ -223,7 +227,7 @@ fn digits_of(alloc: Global, digest: &[u8; 32]) -> Result<String, AllocError>
 fn status_of(
     alloc: Global,
     site: &Site,
-    serving: Serving<'_>,
+    serving: ServingSince<'_>,
     counts: Counts,
     queues: &[Queue<'_>],
     around: &Around,
@@ -245,9 +249,9 @@ pub(crate) fn read_status<R: Wait, L: Views, B: Sharing, H: House>(
     desk: &SharedDesk<L, B>,
     hops: &[NextHop],
     house: &H,
-    serving: Serving<'_>,
+    serving: ServingSince<'_>,
     now: u64,
-) -> Reply {
+) -> HttpReply {
     let (counts, queues, around) = match count_all(rt, alloc, desk, hops, house, now) {
         Ok(all) => all,
         Err(fault) => return refused_by_ledger(alloc, fault),
@@ -271,7 +275,7 @@ pub(crate) fn read_figures<R: Wait, L: Views, B: Sharing, H: House>(
     hops: &[NextHop],
     house: &H,
     now: u64,
-) -> Reply {
+) -> HttpReply {
     let (counts, queues, around) = match count_all(rt, alloc, desk, hops, house, now) {
         Ok(all) => all,
         Err(fault) => return refused_by_ledger(alloc, fault),
@@ -316,7 +320,7 @@ pub(crate) fn read_rows<R: Wait, L: Views, B: Sharing>(
     alloc: Global,
     desk: &SharedDesk<L, B>,
     form: &[u8],
-) -> Reply {
+) -> HttpReply {
     let wanted = match wanted_of(alloc, form) {
         Ok(wanted) => wanted,
         Err(fault) => return misread(alloc, fault),
@@ -414,14 +418,14 @@ pub(crate) fn read_instance<R: Wait, L: Views, B: Sharing>(
     alloc: Global,
     desk: &SharedDesk<L, B>,
     path: &str,
-) -> Reply {
+) -> HttpReply {
     let uid = match instance_of(alloc, path) {
         Ok(uid) => uid,
         Err(fault) => return misread(alloc, fault),
     };
     match instance_text(rt, alloc, desk, &uid) {
         Ok(Some(text)) => reply_with(alloc, Ok(text), Media::Lines),
-        Ok(None) => Reply::of_fault(alloc, StatusCode::NOT_FOUND, "Instance"),
+        Ok(None) => HttpReply::of_fault(alloc, StatusCode::NOT_FOUND, "Instance"),
         Err(fault) => refused_by_ledger(alloc, fault),
     }
 }
@@ -453,16 +457,16 @@ fn late_hop<'a, R: Wait, L: Views, B: Sharing, H: House>(
 }
 
 /// That a node isn't well, since one wasn't visited for long.
-fn late(alloc: Global, dest: &Text) -> Reply {
+fn late(alloc: Global, dest: &Text) -> HttpReply {
     let mut text = Vec::new(alloc);
     let status = StatusCode::SERVICE_UNAVAILABLE;
     match put_late(&mut text, dest) {
-        Ok(()) => Reply {
+        Ok(()) => HttpReply {
             status,
             text,
             media: Media::Lines,
         },
-        Err(_) => Reply::bare(alloc, status),
+        Err(_) => HttpReply::bare(alloc, status),
     }
 }
 
@@ -475,7 +479,7 @@ pub(crate) fn read_health<R: Wait, L: Views, B: Sharing, H: House>(
     hops: &[NextHop],
     house: &H,
     now: u64,
-) -> Reply {
+) -> HttpReply {
     if house.is_failing() {
         return refused_by_ledger(alloc, LedgerFault::Store);
     }

@@ -31,19 +31,19 @@ pub(crate) enum Media {
 
 /// A reply: its status, and its text, of which it is said what it is.
 #[derive(Debug, Drop)]
-pub(crate) struct Reply {
+pub(crate) struct HttpReply {
     pub status: StatusCode,
     pub text: Vec<u8>,
     pub media: Media,
 }
 
-impl Reply {
+impl HttpReply {
     /// With no text.
-    pub fn bare(alloc: Global, status: StatusCode) -> Reply
+    pub fn bare(alloc: Global, status: StatusCode) -> HttpReply
         ensures status { result.status ≡ status }
         ensures text { result.text.items ≡ [] }
     {
-        Reply {
+        HttpReply {
             status,
             text: Vec::new(alloc),
             media: Media::Lines,
@@ -51,11 +51,11 @@ impl Reply {
     }
 
     /// With the name of a fault, where there is memory for it.
-    pub fn of_fault(alloc: Global, status: StatusCode, fault: &str) -> Reply
+    pub fn of_fault(alloc: Global, status: StatusCode, fault: &str) -> HttpReply
         ensures status { result.status ≡ status }
         ensures text { IsToldIn (fault_line fault.now) result.text.items }
     {
-        Reply {
+        HttpReply {
             status,
             text: fault_text(alloc, fault),
             media: Media::Lines,
@@ -105,11 +105,11 @@ pub fn name_of_refusal(refused: Refused) -> &'static str
 }
 
 /// The reply to a request that is refused.
-pub(crate) fn refusal(alloc: Global, refused: Refused) -> Reply
+pub(crate) fn refusal(alloc: Global, refused: Refused) -> HttpReply
     ensures status { result.status ≡ status_of_refusal refused }
     ensures text { IsToldIn (fault_line (name_of_refusal refused)) result.text.items }
 {
-    Reply::of_fault(alloc, status_of_refusal(refused), name_of_refusal(refused))
+    HttpReply::of_fault(alloc, status_of_refusal(refused), name_of_refusal(refused))
 }
 
 /// The status of a form that isn't understood.
@@ -133,11 +133,11 @@ fn name_of_form(fault: FormFault) -> &'static str
 }
 
 /// The reply to a form that isn't understood.
-pub(crate) fn misread(alloc: Global, fault: FormFault) -> Reply
+pub(crate) fn misread(alloc: Global, fault: FormFault) -> HttpReply
     ensures status { result.status ≡ status_of_form fault }
     ensures text { IsToldIn (fault_line (name_of_form fault)) result.text.items }
 {
-    Reply::of_fault(alloc, status_of_form(fault), name_of_form(fault))
+    HttpReply::of_fault(alloc, status_of_form(fault), name_of_form(fault))
 }
 
 /// The status of what a ledger refused.
@@ -155,11 +155,11 @@ fn status_of_fault(fault: LedgerFault) -> StatusCode
 }
 
 /// The reply where a ledger refused.
-pub(crate) fn refused_by_ledger(alloc: Global, fault: LedgerFault) -> Reply
+pub(crate) fn refused_by_ledger(alloc: Global, fault: LedgerFault) -> HttpReply
     ensures status { result.status ≡ status_of_fault fault }
     ensures text { IsToldIn (fault_line (code_of fault)) result.text.items }
 {
-    Reply::of_fault(alloc, status_of_fault(fault), code_of(fault))
+    HttpReply::of_fault(alloc, status_of_fault(fault), code_of(fault))
 }
 
 /// Adds a field.
@@ -238,12 +238,12 @@ fn fill(response: &mut Response, text: Vec<u8>, media: Media) -> Result<(), Allo
 
 /// Makes it the response, to a form of the page or to another request; where there is no memory for
 /// its text, the status alone.
-pub(crate) fn respond(response: &mut Response, reply: Reply, is_of_page: bool)
+pub(crate) fn respond(response: &mut Response, reply: HttpReply, is_of_page: bool)
     requires { response.old.body.items ≡ [] }
     ensures status { response.new.status ≡ reply.status }
     ensures body { IsToldIn reply.text.items response.new.body.items }
 {
-    let Reply {
+    let HttpReply {
         status,
         text,
         media,

@@ -9,7 +9,7 @@ use Rattle.dr_ledger.specs.declared.item.Cause.{Cause}
 use Rattle.dr_ledger.specs.declared.item.Cause.TheVariants as cause
 use Rattle.dr_ledger.specs.declared.item.Progress.{Progress}
 use Rattle.dr_ledger.specs.declared.item.Progress.TheVariants as progress
-use Rattle.dr_run_answer.specs.declared.association.Association.{Association}
+use Rattle.dr_run_answer.specs.declared.association.OpenAssociation.{OpenAssociation}
 use Rattle.dr_run_answer.specs.declared.intake.Recent.{Recent}
 use Rattle.dr_run_answer.specs.declared.json.Counts.{Counts}
 use Rattle.dr_run_answer.specs.declared.json.Queue.{Queue}
@@ -125,7 +125,7 @@ queue_row now key queue =
     queue_cells now queue ++ hop_buttons key queue.dest.now ++ codes "</td></tr>\n"
 
 -- an association that is open, and since when
-abbrev pub association_row : ℕ → Association → Text
+abbrev pub association_row : ℕ → OpenAssociation → Text
 association_row now association = joined
     (codes "<tr><td>" ∷ shown association.caller
     ∷ codes "</td><td>" ∷ ago_words now association.since
@@ -239,7 +239,7 @@ tail = codes "</table>\n</body>\n</html>\n"
 
 -- what a node shows that has served since that moment, in a run whose forms have that key
 abbrev pub document : Text → ℕ → ℕ → Counts → Option Text
-    → List Queue → List Association → List Recent → List (Pair × Progress) → Text
+    → List Queue → List OpenAssociation → List Recent → List (Pair × Progress) → Text
 document name since now counts key queues associations recents rows =
     head name ++ figures name since now counts queues
     ++ queues_head ++ flat_map (queue_row now key) queues

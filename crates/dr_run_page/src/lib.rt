@@ -12,4 +12,4 @@ mod pieces;
 mod shown;
 mod written;
 
-pub use written::{SHOWN, Shown, put_document};
+pub use written::{NodeShown, SHOWN, put_document};

@@ -12,7 +12,7 @@ use crate::light::light;
 use crate::pieces::{Piece, put_pieces};
 use dr_base::Text;
 use dr_ledger::{Cause, Progress};
-use dr_run_answer::{Association, Counts, Queue, Recent};
+use dr_run_answer::{Counts, OpenAssociation, Queue, Recent};
 use std::alloc::AllocError;
 
 /// So many held rows are shown at most.
@@ -24,7 +24,7 @@ const STYLE: &str =
 /// What is shown of a node beside its rows: since when it has served, and the moment now
 /// (milliseconds), how much it has, and the key that the forms of this run have, if there are any.
 #[derive(Debug, Drop)]
-pub struct Shown<'a> {
+pub struct NodeShown<'a> {
     pub name: &'a Text,
     pub since: u64,
     pub moment: u64,
@@ -84,7 +84,11 @@ fn put_figures<'x>(
 }
 
 /// Adds the light, and how much the node has.
-fn put_node(out: &mut Vec<u8>, shown: &Shown<'_>, queues: &[Queue<'_>]) -> Result<(), AllocError>
+fn put_node(
+    out: &mut Vec<u8>,
+    shown: &NodeShown<'_>,
+    queues: &[Queue<'_>],
+) -> Result<(), AllocError>
     ensures { OnOk result
         (out.new.items
         ≡ out.old.items
@@ -153,7 +157,11 @@ fn put_queues(
 }
 
 /// Adds the row of an association.
-fn put_association(out: &mut Vec<u8>, now: u64, association: &Association) -> Result<(), AllocError>
+fn put_association(
+    out: &mut Vec<u8>,
+    now: u64,
+    association: &OpenAssociation,
+) -> Result<(), AllocError>
     ensures { OnOk result (out.new.items ≡ out.old.items ++ association_row now association.now) }
 {
     put_pieces(
@@ -178,7 +186,7 @@ fn put_association(out: &mut Vec<u8>, now: u64, association: &Association) -> Re
 fn put_associations(
     out: &mut Vec<u8>,
     now: u64,
-    associations: &[Association],
+    associations: &[OpenAssociation],
 ) -> Result<(), AllocError>
     ensures { OnOk result (out.new.items
         ≡ out.old.items ++ flat_map (association_row now) associations.now) }
@@ -289,9 +297,9 @@ fn put_all_held(
 /// Errors: want of memory; then a part of it may stand there.
 pub fn put_document(
     out: &mut Vec<u8>,
-    shown: &Shown<'_>,
+    shown: &NodeShown<'_>,
     queues: &[Queue<'_>],
-    associations: &[Association],
+    associations: &[OpenAssociation],
     recents: &[Recent],
     rows: &[((Text, Text), Progress)],
 ) -> Result<(), AllocError>

@@ -21,12 +21,12 @@ fn class_of(proposals: &[ContextProposal], id: u8) -> &[u8] {
 /// A context that was accepted, by its class and its transfer syntax, or refused, by its class and
 /// the answer's result (PS3.8 9.3.3.2).
 #[derive(Drop)]
-struct Context<'a> {
+struct ContextShown<'a> {
     class: &'a [u8],
     answer: &'a ContextAnswer,
 }
 
-impl<'a> Display for Context<'a> {
+impl<'a> Display for ContextShown<'a> {
     fn fmt<W: fmt::Write>(&self, f: &mut Formatter<W>) -> fmt::Result {
         let class = Escaped(self.class);
         if self.answer.result == 0 {
@@ -60,7 +60,7 @@ impl<'a> Display for Contexts<'a> {
                 f.write_str(" ")?;
             }
             let class = class_of(self.proposals, answer.id);
-            write!(f, "{}", Context { class, answer })?;
+            write!(f, "{}", ContextShown { class, answer })?;
             shown += 1;
         }
         Ok(())

@@ -24,13 +24,13 @@ fn left<C: Clock>(clock: &C, until: u64) -> io::Result<Duration> {
 
 /// What a caller sends, until that moment.
 #[derive(Drop)]
-pub struct Incoming<'a, C: Clock> {
+pub struct CallerInput<'a, C: Clock> {
     pub stream: &'a TcpStream,
     pub clock: &'a C,
     pub until: u64,
 }
 
-impl<'a, C: Clock> Read for Incoming<'a, C> {
+impl<'a, C: Clock> Read for CallerInput<'a, C> {
     fn read(&mut self, piece: &mut [u8]) -> io::Result<usize> {
         let left = left(self.clock, self.until)?;
         self.stream.set_read_timeout(Some(left))?;
@@ -71,7 +71,7 @@ impl<'a, C: Clock> Write for Outgoing<'a, C> {
 
 /// Reads what a caller still sends, and lets go of it, until it closes or its time is over: where a
 /// connection is closed with bytes unread, the system drops the answer that is on its way.
-pub fn drain<C: Clock>(caller: &mut Incoming<'_, C>) {
+pub fn drain<C: Clock>(caller: &mut CallerInput<'_, C>) {
     let mut piece = [0u8; 4096];
     for _ in 0..1024u32 {
         match caller.read(&mut piece) {

@@ -1,9 +1,9 @@
 //! The control connection of a node that runs: who asks over it what the node has, and tells it to
 //! act.
-use crate::caller::{ANSWERED, ASKED, Incoming, Outgoing, drain};
+use crate::caller::{ANSWERED, ASKED, CallerInput, Outgoing, drain};
 use crate::events::{tell_act, tell_refused, tell_told_to_stop};
 use crate::signal::Signal;
-use crate::stop::Stop;
+use crate::stop::StopSign;
 use dr_base::Text;
 use dr_desk::{Pass, SharedDesk, Sharing};
 use dr_desk_workers::WorkersFault;
@@ -82,7 +82,7 @@ struct Home<'a, R: Wait, G: Log> {
     rt: &'a R,
     alloc: Global,
     signal: &'a Signal,
-    stop: &'a Stop,
+    stop: &'a StopSign,
     log: &'a G,
     since: u64,
 }
@@ -189,7 +189,7 @@ fn answer_caller<R: Wait, L: Views, B: Sharing, C: Clock, G: Log>(
     stream: &TcpStream,
 ) -> bool {
     let now = clock.now();
-    let mut incoming = Incoming {
+    let mut incoming = CallerInput {
         stream,
         clock,
         until: now + ASKED,
@@ -268,7 +268,7 @@ pub fn answer_all<
     view: View<'_>,
     port: Option<&ControlPort>,
     signal: &Signal,
-    stop: &Stop,
+    stop: &StopSign,
     clock: &C,
     log: &G,
 ) -> Vec<Pass<B>> {

@@ -199,9 +199,9 @@ pub fn tell_crowded<G: Log>(log: &G, session: u64) {
 
 /// What came of a try to send an instance, as an event shows it.
 #[derive(Drop)]
-struct Answer(Outcome);
+struct OutcomeShown(Outcome);
 
-impl Display for Answer {
+impl Display for OutcomeShown {
     fn fmt<W: fmt::Write>(&self, f: &mut Formatter<W>) -> fmt::Result {
         match self.0 {
             Outcome::Status(status) => write!(f, "{status:04X}"),
@@ -216,7 +216,7 @@ fn tell_held<G: Log>(log: &G, uid: &Text, dest: &Text, outcome: Outcome) {
     let (uid, dest, answer) = (
         Escaped(uid.as_bytes()),
         Escaped(dest.as_bytes()),
-        Answer(outcome),
+        OutcomeShown(outcome),
     );
     warn!(log; target: "row", "held dest=\"{dest}\" uid={uid} status=\"{answer}\"");
 }
@@ -226,7 +226,7 @@ fn tell_waiting<G: Log>(log: &G, uid: &Text, dest: &Text, outcome: Outcome, trie
     let (uid, dest, answer) = (
         Escaped(uid.as_bytes()),
         Escaped(dest.as_bytes()),
-        Answer(outcome),
+        OutcomeShown(outcome),
     );
     info!(
         log; target: "row",
@@ -239,7 +239,7 @@ fn tell_settled<G: Log>(log: &G, word: &str, uid: &Text, dest: &Text, outcome: O
     let (uid, dest, answer) = (
         Escaped(uid.as_bytes()),
         Escaped(dest.as_bytes()),
-        Answer(outcome),
+        OutcomeShown(outcome),
     );
     debug!(log; target: "row", "{word} dest=\"{dest}\" uid={uid} status=\"{answer}\"");
 }
@@ -313,9 +313,9 @@ pub fn tell_visit<G: Log>(
 
 /// A moment as an event shows it, in milliseconds; a hyphen where there is none.
 #[derive(Drop)]
-struct Moment(Option<u64>);
+struct MomentShown(Option<u64>);
 
-impl Display for Moment {
+impl Display for MomentShown {
     fn fmt<W: fmt::Write>(&self, f: &mut Formatter<W>) -> fmt::Result {
         match self.0 {
             Some(moment) => write!(f, "{moment}"),
@@ -333,7 +333,7 @@ pub fn tell_holdings<G: Log>(log: &G, arrivals: u64, kept: u64, lines: u64) {
 /// that wait is due.
 pub fn tell_queue<G: Log>(log: &G, dest: &Text, stages: [u64; 3], oldest: Option<u64>) {
     let [waiting, held, done] = stages;
-    let (dest, oldest) = (Escaped(dest.as_bytes()), Moment(oldest));
+    let (dest, oldest) = (Escaped(dest.as_bytes()), MomentShown(oldest));
     info!(
         log; target: "queue",
         "has dest=\"{dest}\" waiting={waiting} held={held} done={done} oldest={oldest}"

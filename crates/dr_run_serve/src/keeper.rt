@@ -2,7 +2,7 @@
 use crate::events::tell_threads;
 use crate::monitor::Monitor;
 use crate::reporting::{LastTold, report_changes};
-use crate::shutting::{Stage, Wake};
+use crate::shutting::{EndStage, Wake};
 use crate::signal::{BEGIN, News};
 use crate::sweeper::Sweeper;
 use dr_desk::{SharedDesk, Sharing};
@@ -54,12 +54,12 @@ pub fn keep<
     if !wake.signal.has_begun(rt, BEGIN) {
         return sweeper;
     }
-    let (mut told, mut stage, mut looks) = (LastTold::new(), Stage::Serving, 0u32);
+    let (mut told, mut stage, mut looks) = (LastTold::new(), EndStage::Serving, 0u32);
     for _ in rt.forever() {
         let now = clock.now();
         stage = wake.stops(rt, stage, now, log);
         told = report_changes(rt, alloc, desk, hops, told, now, false, log);
-        if stage == Stage::Serving {
+        if stage == EndStage::Serving {
             sweeper.turn(rt, alloc, desk, wake.signal, now, log);
         }
         let news = wake.signal.wait(rt, TURN);

@@ -7,7 +7,7 @@
 //! - `events`: what is logged of associations, instances and visits. `Monitor`: a log that may want
 //!   reports of what the node has too.
 //!
-//! A node that is asked to (`Stop`) ends in order: what is under way has 10 s.
+//! A node that is asked to (`StopSign`) ends in order: what is under way has 10 s.
 //!
 //! Where there is a `ControlPort`, those who ask over it are answered by `dr_run_control`, 16 at a
 //! time, each within 30 s.
@@ -50,5 +50,5 @@ pub use control::ControlPort;
 pub use monitor::{FileMonitor, Monitor};
 pub use sending::visit_each;
 pub use serving::{ServeFault, serve};
-pub use stop::{ControlPlace, Ending, Stop, Terms};
+pub use stop::{ControlPlace, Ending, StopSign, Terms};
 pub use tallied::{OwnPort, Tallied};

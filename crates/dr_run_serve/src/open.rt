@@ -1,14 +1,14 @@
 //! The associations that are open, for whoever asks the node for them.
 use dr_base::Text;
 use dr_ledger::{Arrived, LedgerFault};
-use dr_run_answer::Association;
+use dr_run_answer::OpenAssociation;
 use std::alloc::{AllocError, Global};
 use std::sync::{Mutex, Wait};
 
 /// The associations that were accepted and aren't over, under a lock of their own.
 #[derive(Drop)]
 pub struct Open {
-    all: Mutex<Vec<Association>>,
+    all: Mutex<Vec<OpenAssociation>>,
 }
 
 /// One that has just begun.
@@ -19,8 +19,8 @@ fn begun(
     session: u64,
     caller: &[u8],
     since: u64,
-) -> Result<Association, AllocError> {
-    Ok(Association {
+) -> Result<OpenAssociation, AllocError> {
+    Ok(OpenAssociation {
         caller: Text::copy_of(alloc, caller)?,
         session,
         since,
@@ -31,7 +31,7 @@ fn begun(
 }
 
 /// Counts an instance that came over it.
-fn count(association: &mut Association, answer: Result<Arrived, LedgerFault>) {
+fn count(association: &mut OpenAssociation, answer: Result<Arrived, LedgerFault>) {
     match answer {
         Ok(Arrived::New) => association.stored = association.stored.saturating_add(1),
         Ok(Arrived::Again) => association.again = association.again.saturating_add(1),
@@ -42,8 +42,8 @@ fn count(association: &mut Association, answer: Result<Arrived, LedgerFault>) {
 /// A copy of it.
 ///
 /// Errors: want of memory.
-fn copy_of(association: &Association) -> Result<Association, AllocError> {
-    Ok(Association {
+fn copy_of(association: &OpenAssociation) -> Result<OpenAssociation, AllocError> {
+    Ok(OpenAssociation {
         caller: association.caller.clone()?,
         session: association.session,
         since: association.since,
@@ -88,7 +88,11 @@ impl Open {
     /// Those that are open, as they are at this moment.
     ///
     /// Errors: want of memory.
-    pub fn shown<R: Wait>(&self, rt: &R, alloc: Global) -> Result<Vec<Association>, AllocError> {
+    pub fn shown<R: Wait>(
+        &self,
+        rt: &R,
+        alloc: Global,
+    ) -> Result<Vec<OpenAssociation>, AllocError> {
         let all = self.all.lock(rt);
         let mut shown = Vec::with_capacity(alloc, all.len())?;
         for association in all.iter() {

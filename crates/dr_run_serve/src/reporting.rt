@@ -5,7 +5,7 @@ use dr_base::Text;
 use dr_desk::{Holdings, SharedDesk, Sharing};
 use dr_ledger::{Ledger, LedgerFault};
 use dr_ledger_report::report_text;
-use dr_ledger_views::{Tally, Views};
+use dr_ledger_views::{HopTally, Views};
 use dr_run_open::NextHop;
 use log::{Level, Log, log_enabled};
 use std::alloc::Global;
@@ -71,7 +71,7 @@ fn tallies_of<R: Wait, L: Views, B: Sharing>(
     alloc: Global,
     desk: &SharedDesk<L, B>,
     hops: &[NextHop],
-) -> Result<Vec<Tally>, LedgerFault> {
+) -> Result<Vec<HopTally>, LedgerFault> {
     let mut tallies = Vec::with_capacity(alloc, hops.len())?;
     for hop in hops {
         tallies.push(desk.tally(rt, &hop.dest)?)?;
@@ -80,7 +80,7 @@ fn tallies_of<R: Wait, L: Views, B: Sharing>(
 }
 
 /// Logs how many rows to each hop are at which stage.
-fn tell_queues<G: Log>(hops: &[NextHop], tallies: &[Tally], log: &G) {
+fn tell_queues<G: Log>(hops: &[NextHop], tallies: &[HopTally], log: &G) {
     for (hop, tally) in hops.iter().zip(tallies.iter()) {
         let stages = [tally.waiting, tally.held, tally.done];
         tell_queue(log, &hop.dest, stages, tally.due);

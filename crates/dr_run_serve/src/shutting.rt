@@ -4,7 +4,7 @@ ghost use Rattle.dr_ledger.specs.declared.fault.LedgerFault.TheVariants.{Store};
 
 use crate::events::{tell_cut, tell_shut, tell_stopping};
 use crate::signal::Signal;
-use crate::stop::Stop;
+use crate::stop::StopSign;
 use dr_desk::{SharedDesk, Sharing};
 use dr_ledger::{Ledger, LedgerFault};
 use dr_run_net::{Listening, Network};
@@ -16,7 +16,7 @@ const LEFT: u64 = 10_000;
 
 /// How far the orderly end of a node is.
 #[derive(Clone, Copy, PartialEq, Eq, Debug)]
-pub enum Stage {
+pub enum EndStage {
     Serving,
     /// Nothing is begun since that moment.
     Ending(u64),
@@ -61,7 +61,7 @@ pub struct Wake<'a, D: Listening, N: Network> {
     pub signal: &'a Signal,
     pub listener: &'a D,
     pub network: &'a N,
-    pub stop: &'a Stop,
+    pub stop: &'a StopSign,
 }
 
 impl<'a, D: Listening, N: Network> Wake<'a, D, N> {
@@ -86,18 +86,18 @@ impl<'a, D: Listening, N: Network> Wake<'a, D, N> {
     /// Ends the node in order, where that was asked for and from then on: nothing is begun any
     /// more. What is still under way so many milliseconds later is cut. Given is when it began to
     /// end, and whether it was cut; so is the answer.
-    pub fn stops<R: Wait, G: Log>(&self, rt: &R, ending: Stage, now: u64, log: &G) -> Stage {
+    pub fn stops<R: Wait, G: Log>(&self, rt: &R, ending: EndStage, now: u64, log: &G) -> EndStage {
         match ending {
-            Stage::Serving if self.stop.is_asked() => {
+            EndStage::Serving if self.stop.is_asked() => {
                 tell_stopping(log);
                 self.signal.stop(rt);
                 self.listener.close();
-                Stage::Ending(now)
+                EndStage::Ending(now)
             }
-            Stage::Ending(since) if now.saturating_sub(since) >= LEFT => {
+            EndStage::Ending(since) if now.saturating_sub(since) >= LEFT => {
                 tell_cut(log);
                 self.network.cut();
-                Stage::Cut
+                EndStage::Cut
             }
             stage => stage,
         }

@@ -1,7 +1,7 @@
 //! What wakes those who send, and who tells of the node.
 use crate::intake::Intake;
 use crate::open::Open;
-use crate::sweep::Over;
+use crate::sweep::OverInstance;
 use dr_base::Text;
 use dr_run_answer::{Visited, Visits};
 use dr_run_open::NextHop;
@@ -35,7 +35,7 @@ const QUIET: u64 = 600_000;
 
 /// What the one who sends to a hop is woken by.
 #[derive(Clone, Copy, PartialEq, Eq, Debug)]
-pub struct Call {
+pub struct WakeUp {
     /// A row may have been made.
     pub rows: bool,
     /// Somebody wants a visit now.
@@ -46,7 +46,7 @@ pub struct Call {
 
 /// What is known of the visits to a hop.
 #[derive(Clone, Copy, Debug)]
-struct Known {
+struct KnownVisits {
     /// When its sender looked last whether it is to be visited (milliseconds); 0 for never.
     looked: u64,
     /// Whether a visit is under way.
@@ -85,9 +85,9 @@ fn with_one(visits: Visits, came: &str) -> Visits {
 #[derive(Drop)]
 pub struct Bell {
     dest: Text,
-    call: Mutex<Call>,
+    call: Mutex<WakeUp>,
     changed: Condvar,
-    visits: Mutex<Known>,
+    visits: Mutex<KnownVisits>,
 }
 
 impl Bell {
@@ -95,13 +95,13 @@ impl Bell {
     fn new(hop: &NextHop) -> Result<Bell, AllocError> {
         Ok(Bell {
             dest: hop.dest.clone()?,
-            call: Mutex::new(Call {
+            call: Mutex::new(WakeUp {
                 rows: true,
                 visit: false,
                 over: false,
             }),
             changed: Condvar::new(),
-            visits: Mutex::new(Known {
+            visits: Mutex::new(KnownVisits {
                 looked: 0,
                 is_under_way: false,
                 last: None,
@@ -157,7 +157,7 @@ impl Bell {
 
     /// What has happened since it was asked last; where nothing has, it waits for so many
     /// milliseconds.
-    pub fn wait<R: Wait + Clock>(&self, rt: &R, milliseconds: u64) -> Call {
+    pub fn wait<R: Wait + Clock>(&self, rt: &R, milliseconds: u64) -> WakeUp {
         let held = self.call.lock(rt);
         let (mut held, _) = self.changed.wait_timeout_while(
             rt,
@@ -192,7 +192,7 @@ pub struct Signal {
     pub open: Open,
     pub intake: Intake,
     sweeps: bool,
-    over: Mutex<VecDeque<Over>>,
+    over: Mutex<VecDeque<OverInstance>>,
 }
 
 impl Signal {
@@ -231,11 +231,11 @@ impl Signal {
         let Ok(uid) = uid.clone() else {
             return;
         };
-        let _noted = self.over.lock(rt).push_back(Over { uid, at });
+        let _noted = self.over.lock(rt).push_back(OverInstance { uid, at });
     }
 
     /// The first instance that was noted, which is noted no more.
-    pub fn next_over<R: Wait>(&self, rt: &R) -> Option<Over> {
+    pub fn next_over<R: Wait>(&self, rt: &R) -> Option<OverInstance> {
         self.over.lock(rt).pop_front()
     }
 

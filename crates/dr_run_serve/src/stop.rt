@@ -21,14 +21,14 @@ const LONGEST_REQUEST: u64 = 600_000;
 
 /// Whether a node is asked to end in order.
 #[derive(Drop)]
-pub struct Stop {
+pub struct StopSign {
     asked: AtomicBool,
 }
 
-impl Stop {
+impl StopSign {
     /// It isn't.
-    pub fn new() -> Stop {
-        Stop {
+    pub fn new() -> StopSign {
+        StopSign {
             asked: AtomicBool::new(false),
         }
     }
@@ -62,7 +62,7 @@ pub trait Ending {
     /// Asks for the end as soon as the input has ended, in a thread of its own.
     ///
     /// Errors: the system gives no thread.
-    fn watch(&self, stop: Arc<Stop, Global>) -> io::Result<()>;
+    fn watch(&self, stop: Arc<StopSign, Global>) -> io::Result<()>;
 
     /// Listens where a node may be asked.
     ///
@@ -85,7 +85,7 @@ pub struct Terms<'a> {
     request: u64,
     /// After how many milliseconds it forgets what is over; None for never.
     pub forget_after: Option<u64>,
-    pub stop: &'a Stop,
+    pub stop: &'a StopSign,
     pub control: Option<&'a ControlPort>,
     ghost some: { (1 ≤ workers) × (workers ≤ 264) },
 }
@@ -98,7 +98,7 @@ impl<'a> Terms<'a> {
         links: u64,
         workers: usize,
         memory: u64,
-        stop: &'a Stop,
+        stop: &'a StopSign,
         control: Option<&'a ControlPort>,
     ) -> Terms<'a>
         ensures links { result.links ≡ links }

@@ -8,7 +8,7 @@ use std::collections::VecDeque;
 
 /// An instance that came to be over at that moment (milliseconds since 1970).
 #[derive(Drop)]
-pub struct Over {
+pub struct OverInstance {
     pub uid: Text,
     pub at: u64,
 }
@@ -16,7 +16,7 @@ pub struct Over {
 /// Instances that came to be over, in the order in which they are forgotten.
 #[derive(Drop)]
 pub struct Sweep {
-    pub queue: VecDeque<Over>,
+    pub queue: VecDeque<OverInstance>,
 }
 
 impl Sweep {
@@ -32,7 +32,7 @@ impl Sweep {
     /// One more that is over.
     ///
     /// Errors: want of memory; then nothing has changed.
-    pub fn add(&mut self, over: Over) -> Result<(), AllocError>
+    pub fn add(&mut self, over: OverInstance) -> Result<(), AllocError>
         ensures { self.new.queue.items
             ≡ (if is_ok result then self.old.queue.items ++ over ∷ [] else self.old.queue.items) }
     {

@@ -1,7 +1,7 @@
 //! The one who has a node forget what has been over for long.
 use crate::events::{tell_forgotten, tell_unswept};
 use crate::signal::Signal;
-use crate::sweep::{Over, Sweep};
+use crate::sweep::{OverInstance, Sweep};
 use dr_base::Text;
 use dr_desk::{Pass, SharedDesk, Sharing};
 use dr_ledger::{Entry, Ledger, LedgerFault, LetsGo, Progress};
@@ -99,13 +99,13 @@ fn note(found: &mut BTreeMap<Text, u64>, uid: &Text, now: u64) {
 fn in_order(alloc: Global, found: BTreeMap<Text, u64>) -> Result<Sweep, AllocError> {
     let mut all = Vec::with_capacity(alloc, found.len())?;
     for (uid, at) in found {
-        all.push(Over { uid, at })?;
+        all.push(OverInstance { uid, at })?;
     }
     all.sort_unstable_by_key(|over| over.at);
     queued(alloc, all)
 }
 
-fn queued(alloc: Global, all: Vec<Over>) -> Result<Sweep, AllocError> {
+fn queued(alloc: Global, all: Vec<OverInstance>) -> Result<Sweep, AllocError> {
     let mut sweep = Sweep::new(alloc);
     for over in all {
         sweep.add(over)?;

@@ -13,7 +13,7 @@ use Rattle.dr_dimse.specs.Commands.{IsCommand}
 use Rattle.dr_dimse.specs.Taking.{Stage, Idle, InCommand, InData, Takes, TakesData, EndsCommand, Begins, kept, text_so_far}
 use Rattle.dr_dimse.specs.Written.{Fits, FieldFits}
 use Rattle.dr_dimse.proofs.FitLemmas.{read_fits}
-use Rattle.dr_dimse_scan.specs.declared.heard.Heard.{Heard}
+use Rattle.dr_dimse_scan.specs.declared.heard.HeardMessage.{HeardMessage}
 use Rattle.dr_dimse_scan.specs.Stores.{message_of}
 use Rattle.std.specs.Prelude.{Bool, true, false, not, ◌%◌, ◌==◌, ◌&&◌, nat_le, if◌then◌else◌}
 use Rattle.std.specs.Str.{bytes_eq}
@@ -63,7 +63,7 @@ takes_fits awaited s p (Err TooLong) new fits h = (subst (λ (t : Stage). StageF
 takes_fits awaited s p (Err Memory) new fits h = (subst (λ (t : Stage). StageFits t) (sym h) fits, tt)
 
 -- so can that of a message that comes with its scan
-pub heard_fits : (r : Result (Option Heard) DimseFault) → IfOk (message_of r) EndsFit → IfOk r (λ (ended : Option Heard). IfSome ended (λ (h : Heard). Fits h.message.command))
+pub heard_fits : (r : Result (Option HeardMessage) DimseFault) → IfOk (message_of r) EndsFit → IfOk r (λ (ended : Option HeardMessage). IfSome ended (λ (h : HeardMessage). Fits h.message.command))
 heard_fits (Ok None) h = tt
 heard_fits (Ok (Some heard)) h = h
 heard_fits (Err fault) h = tt

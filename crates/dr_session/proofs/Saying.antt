@@ -11,7 +11,7 @@ use Rattle.dr_dimse.specs.declared.fault.DimseFault.{DimseFault}
 use Rattle.dr_dimse.specs.declared.message.Awaited.{Awaited}
 use Rattle.dr_dimse.specs.declared.message.Message.{Message}
 use Rattle.dr_dimse.specs.Taking.{Assembling, Takes}
-use Rattle.dr_dimse_scan.specs.declared.heard.Heard.{Heard}
+use Rattle.dr_dimse_scan.specs.declared.heard.HeardMessage.{HeardMessage}
 use Rattle.dr_dimse_scan.specs.Stores.{message_of}
 use Rattle.dr_nego.specs.declared.agreed.Agreed.{Agreed}
 use Rattle.dr_nego.specs.declared.agreed.Pair.{Pair}
@@ -146,8 +146,8 @@ pub false_not : (b : Bool) → b ≡ true → b ≡ false → ⊥
 false_not b t f = absurd (let k : true ≡ false = sym t ∙ f in cc)
 
 -- an answer of the assembly by its parts
-pub by_ok : (r : Result (Option Heard) DimseFault) (a b : Option Heard) → r ≡ Ok a → a ≡ b → message_of r ≡ message_of (Ok b)
-by_ok r a b h k = ap message_of (h ∙ ap (λ (x : Option Heard). Ok x) k)
+pub by_ok : (r : Result (Option HeardMessage) DimseFault) (a b : Option HeardMessage) → r ≡ Ok a → a ≡ b → message_of r ≡ message_of (Ok b)
+by_ok r a b h k = ap message_of (h ∙ ap (λ (x : Option HeardMessage). Ok x) k)
 
-pub by_err : (r : Result (Option Heard) DimseFault) (a b : DimseFault) → r ≡ Err a → a ≡ b → message_of r ≡ Err b
+pub by_err : (r : Result (Option HeardMessage) DimseFault) (a b : DimseFault) → r ≡ Err a → a ≡ b → message_of r ≡ Err b
 by_err r a b h k = ap message_of (h ∙ ap (λ (x : DimseFault). Err x) k)

@@ -26,7 +26,7 @@ use Rattle.dr_nego.specs.declared.fault.NegoFault.TheVariants.{NoHop, Memory}
 use Rattle.dr_nego.specs.Agreeing.{AssociateRq, context_for}
 use Rattle.dr_nego.specs.Answering.{verification}
 use Rattle.dr_nego.specs.Proposing.{IsProposal, IsHopTo, echo_proposal}
-use Rattle.dr_session.specs.declared.ends.Asked.TheVariants.{Echo}
+use Rattle.dr_session.specs.declared.ends.Requested.TheVariants.{Echo}
 use Rattle.dr_session.specs.declared.ends.Core.{Core}
 use Rattle.dr_session.specs.declared.ends.Effect.{Effect}
 use Rattle.dr_session.specs.declared.ends.Ended.{Ended}

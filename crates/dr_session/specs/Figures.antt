@@ -22,8 +22,8 @@ use Rattle.dr_nego.specs.Figures.{archive, arch, gate, image, context, request, 
 use Rattle.dr_nego.specs.Answering.{acceptance_of}
 use Rattle.dr_base.specs.declared.syntax.Syntax.TheVariants.{Explicit}
 use Rattle.dr_pdu.specs.declared.pdu.Pdu.TheVariants as pdu
-use Rattle.dr_session.specs.declared.ends.Asked.{Asked}
-use Rattle.dr_session.specs.declared.ends.Asked.TheVariants.{Echo, Store}
+use Rattle.dr_session.specs.declared.ends.Requested.{Requested}
+use Rattle.dr_session.specs.declared.ends.Requested.TheVariants.{Echo, Store}
 use Rattle.dr_session.specs.declared.ends.Core.{Core}
 use Rattle.dr_session.specs.declared.ends.Ended.{Ended}
 use Rattle.dr_session.specs.declared.ends.Ended.TheVariants.{Rejected, Aborted, Released, Closed}
@@ -237,7 +237,7 @@ pub record Aborts (c : Core) (at : Moment) (a : Abort) (p : Pending) : Type 0 wh
 -- ---- event 10: a response, at a requestor
 
 -- a request that awaits its response: its message id is 7, its context 3
-abbrev pub asked_for : Asked → Text → Pending
+abbrev pub asked_for : Requested → Text → Pending
 asked_for of uid = record { id = 7; context = 3; asked = of; uid = uid }
 
 -- what the end asks its desk for where this is pending and it hears that message

@@ -3,7 +3,7 @@ use Rattle.std.specs.Prelude.{ℕ, List}
 use Rattle.dr_pdu.specs.declared.pdu.Pdu.{Pdu}
 use Rattle.dr_dimse.specs.declared.command.Command.{Command}
 use Rattle.dr_dimse.specs.Written as command
-use Rattle.dr_nego.specs.declared.fragment.Kind.TheVariants as kind
+use Rattle.dr_nego.specs.declared.fragment.FragmentKind.TheVariants as kind
 use Rattle.dr_nego.specs.Fragments.{fragment_pdus}
 
 abbrev pub command_pdus : ℕ → ℕ → Command → List Pdu

@@ -58,8 +58,8 @@ use Rattle.dr_session.specs.declared.ends.Told.TheVariants.{Plain, Fault, Strang
 use Rattle.dr_session.specs.declared.ends.Told.TheVariants.{Agreement}
 use Rattle.dr_session.specs.declared.ends.LinkAction.{LinkAction}
 use Rattle.dr_session.specs.declared.ends.LinkAction.TheVariants.{Write, Close}
-use Rattle.dr_session.specs.declared.ends.Asked.{Asked}
-use Rattle.dr_session.specs.declared.ends.Asked.TheVariants as asked
+use Rattle.dr_session.specs.declared.ends.Requested.{Requested}
+use Rattle.dr_session.specs.declared.ends.Requested.TheVariants as asked
 use Rattle.dr_session.specs.declared.ends.Pending.{Pending}
 use Rattle.dr_session.specs.declared.ends.Marks.{Marks}
 use Rattle.dr_session.specs.declared.ends.Core.{Core}
@@ -300,7 +300,7 @@ requested c context of command = quiet c
 -- ---- a message, at a requestor: the response that it awaits
 
 -- the status of a response, where it is one of the service that was asked for (PS3.7 9.1.1, 9.1.5)
-abbrev pub answers : Asked → Command → Option ℕ
+abbrev pub answers : Requested → Command → Option ℕ
 answers asked.Store (StoreRsp to status class instance has_data) = Some status
 answers asked.Echo (EchoRsp to status class has_data) = Some status
 answers of command = None

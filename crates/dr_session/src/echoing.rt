@@ -10,7 +10,7 @@ ghost use Rattle.dr_session.specs.Messages.{command_pdus};
 ghost use Rattle.dr_session.specs.Reactions.{id_after, write};
 
 use crate::boxed::BoxedCore;
-use crate::ends::{Asked, Core, Effect, LinkAction, Pending};
+use crate::ends::{Core, Effect, LinkAction, Pending, Requested};
 use crate::react::{act_once, next_id, quiet};
 use crate::writing::write_response;
 use dr_base::{Syntax, Text};
@@ -44,7 +44,7 @@ pub fn ask_echo(alloc: Global, core: BoxedCore, now: u64) -> Result<Effect, Allo
     let pending = Pending {
         id,
         context,
-        asked: Asked::Echo,
+        asked: Requested::Echo,
         uid: Text::empty(alloc),
     };
     act_once(alloc, action, core.await_response(pending, now))

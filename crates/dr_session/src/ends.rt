@@ -128,7 +128,7 @@ pub enum LinkAction {
 
 /// What a requestor asks its acceptor for.
 #[derive(Clone, Copy, PartialEq, Eq)]
-pub enum Asked {
+pub enum Requested {
     Store,
     Echo,
 }
@@ -139,7 +139,7 @@ pub enum Asked {
 pub struct Pending {
     pub id: u16,
     pub context: u8,
-    pub asked: Asked,
+    pub asked: Requested,
     /// The instance that was sent; an echo has none.
     pub uid: Text,
 }

@@ -25,7 +25,8 @@ pub mod writing;
 pub use echo_desk::Echoed;
 pub use end::End;
 pub use ends::{
-    Asked, Core, Effect, Ended, Found, Heard, Input, LinkAction, Marks, Moment, Over, Pending, Told,
+    Core, Effect, Ended, Found, Heard, Input, LinkAction, Marks, Moment, Over, Pending, Requested,
+    Told,
 };
 pub use link::{Clock, Link};
 pub use port::DeskPort;

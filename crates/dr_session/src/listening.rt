@@ -6,7 +6,7 @@ ghost use Rattle.dr_dimse_scan.specs.Stores.{HasScan, message_of};
 
 use dr_base::Syntax;
 use dr_dimse::{Awaited, DimseFault};
-use dr_dimse_scan::{Heard, Hearing};
+use dr_dimse_scan::{HeardMessage, Hearing};
 use dr_pdu::Pdv;
 use std::alloc::Global;
 use std::marker::Model;
@@ -58,7 +58,11 @@ impl Listener {
     /// One more value, as the assembly takes it, of a context with that transfer syntax. The
     /// command of a message that it ends can be written, and the scan that comes with it has heard
     /// its data set.
-    pub fn take(&mut self, pdv: Pdv, syntax: Option<Syntax>) -> Result<Option<Heard>, DimseFault>
+    pub fn take(
+        &mut self,
+        pdv: Pdv,
+        syntax: Option<Syntax>,
+    ) -> Result<Option<HeardMessage>, DimseFault>
         ensures awaited { self.new.awaited ≡ self.old.awaited }
         ensures takes { Takes self.old.awaited self.old.stage pdv (message_of result)
             self.new.stage }

@@ -12,7 +12,7 @@ use crate::ends::{Core, Input, Told};
 use crate::find::find;
 use dr_base::Syntax;
 use dr_dimse::{Command, DimseFault};
-use dr_dimse_scan::Heard;
+use dr_dimse_scan::HeardMessage;
 use dr_nego::{Pair, conclude};
 use dr_pdu::{AssociateAc, Pdv};
 use dr_ulstate::State;
@@ -90,7 +90,7 @@ fn tell_message(
     alloc: Global,
     pair: &Pair,
     syntax: Option<Syntax>,
-    heard: Heard,
+    heard: HeardMessage,
 ) -> Result<Told, AllocError>
     requires fits { Fits heard.message.command }
     requires names { NamesSyntax pair.now.syntax syntax }
@@ -99,7 +99,7 @@ fn tell_message(
         SaysOf pair.now heard.message.id heard.message.body heard.message.command told) }
     ensures fits { IfOk result ToldFits }
 {
-    let Heard { message, scan } = heard;
+    let HeardMessage { message, scan } = heard;
     let of = pair.class.clone()?;
     let context = message.id;
     let command = message.command;

@@ -11,7 +11,7 @@ use dr_base::Text;
 use dr_dimse::{Command, write_command};
 use dr_ledger::Job;
 use dr_nego::concluding::is_too_small;
-use dr_nego::{Agreed, Kind, put_fragments};
+use dr_nego::{Agreed, FragmentKind, put_fragments};
 use dr_pdu::{Abort, AssociateAc, AssociateRj, Pdu, encode};
 use std::alloc::{AllocError, Global};
 
@@ -78,7 +78,7 @@ pub fn write_response(
     }
     let text = write_command(alloc, command)?;
     let mut out = Vec::new(alloc);
-    put_fragments(&mut out, agreed, context, Kind::Command, &text)?;
+    put_fragments(&mut out, agreed, context, FragmentKind::Command, &text)?;
     Ok(LinkAction::Write(Text::from_vec(out)))
 }
 
@@ -106,12 +106,12 @@ pub fn write_store(
     }
     let text = write_command(alloc, &command)?;
     let mut out = Vec::new(alloc);
-    put_fragments(&mut out, agreed, context, Kind::Command, &text)?;
+    put_fragments(&mut out, agreed, context, FragmentKind::Command, &text)?;
     put_fragments(
         &mut out,
         agreed,
         context,
-        Kind::DataSet,
+        FragmentKind::DataSet,
         job.body.as_bytes(),
     )?;
     Ok(LinkAction::Write(Text::from_vec(out)))

@@ -13,7 +13,7 @@ use crate::same::{Same, are_same};
 use dr_base::{Seq, Text};
 use dr_cert::Sealed;
 use dr_cert::index::{find, index_of};
-use dr_cert::place::Place;
+use dr_cert::place::StopPlace;
 use dr_plan_model::literals::literals;
 use dr_plan_model::sending::flow_targets;
 use dr_plan_model::{Flow, Plan};
@@ -47,7 +47,7 @@ impl From<AllocError> for SiteFault {
 
 /// The parts of a site, as they are kept.
 #[derive(Drop)]
-struct Parts {
+struct SiteParts {
     name: Text,
     max_pdu: u32,
     digest: [u8; 32],
@@ -66,7 +66,7 @@ struct Parts {
 /// pointer.
 #[derive(Drop)]
 pub struct Site {
-    parts: Box<Parts>,
+    parts: Box<SiteParts>,
 }
 
 impl Model for Site {
@@ -102,7 +102,7 @@ impl Model for Site {
 }
 
 /// Puts the parts of a site on the heap.
-fn boxed(alloc: Global, parts: Parts) -> Result<Box<Parts>, AllocError>
+fn boxed(alloc: Global, parts: SiteParts) -> Result<Box<SiteParts>, AllocError>
     ensures { IfOk result (λ b. b.value ≡ parts) }
 {
     let boxed = Box::new(alloc, parts)?;
@@ -139,7 +139,7 @@ impl Site {
         let lines = index_of(alloc, own.as_slice())?;
         let hops = hops_from(alloc, certificate.hops.as_slice(), name)?;
         let literals = literals(alloc, plan)?;
-        let parts = Parts {
+        let parts = SiteParts {
             name: copy_name(name)?,
             max_pdu: node.max_pdu,
             digest: *plan.digest(),
@@ -155,7 +155,7 @@ impl Site {
     }
 
     /// The site of these parts, on the heap.
-    fn of_parts(alloc: Global, parts: Parts) -> Result<Site, AllocError>
+    fn of_parts(alloc: Global, parts: SiteParts) -> Result<Site, AllocError>
         requires { IsSite
             (record {
               name = parts.name;
@@ -259,7 +259,7 @@ impl Site {
         ensures { IsTrue result ↔ HasLineFor self.now caller.now key.now }
     {
         let parts = self.parts.as_ref();
-        let stop = Place::new(caller, &parts.name, cell_of(&parts.literals, key));
+        let stop = StopPlace::new(caller, &parts.name, cell_of(&parts.literals, key));
         let Some(_) = find(parts.lines.as_slice(), &stop) else {
             return false;
         };
@@ -306,7 +306,7 @@ impl Site {
         ensures { IfOk result (λ s. s ≡ self.now) }
     {
         let own = self.parts.as_ref();
-        let parts = Parts {
+        let parts = SiteParts {
             name: copy_name(&own.name)?,
             max_pdu: own.max_pdu,
             digest: own.digest,

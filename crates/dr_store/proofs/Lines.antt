@@ -26,8 +26,8 @@ use Rattle.dr_ledger.specs.Replies.{Lists, entry_of}
 use Rattle.dr_ledger.proofs.Growing.{inside}
 use Rattle.dr_ledger.proofs.Maps.{texts, ties_itself}
 use Rattle.dr_store_schema.specs.Books.{Names, keep_mark, keeps_in, lines_of, names_in, targets_in}
-use Rattle.dr_store_lists.specs.declared.listing.Note.{Note}
-use Rattle.dr_store_lists.specs.declared.listing.Note.TheVariants as note
+use Rattle.dr_store_lists.specs.declared.listing.JournalRow.{JournalRow}
+use Rattle.dr_store_lists.specs.declared.listing.JournalRow.TheVariants as note
 use Rattle.dr_store_lists.specs.Lists.{Goal, IsJournal, goal_cmp, goals_of, line_of}
 use Rattle.dr_store_lists.proofs.Alike.{goals_are_names}
 use Rattle.dr_store.specs.Journals.{AreByLine, AreEntries, AreGoalsOf, AreNames, AreTargets, IsEntry, is_mark}
@@ -163,7 +163,7 @@ module _ (base : Trees) (goals : List Goal) (listed : Lists goal_cmp (goals_of b
 -- ---- lines
 
 module _ (base : Trees) (goals : List Goal) (listed : Lists goal_cmp (goals_of base) goals) where
-  line_is : (n : ℕ) (what : Note) (line : Entry) → IsEntry goals n what line → line ≡ entry_of (line_of (base 12) n what)
+  line_is : (n : ℕ) (what : JournalRow) (line : Entry) → IsEntry goals n what line → line ≡ entry_of (line_of (base 12) n what)
   line_is n (note.Arrival caller instance) line (to, keep, are, is) =
       is ∙ (λ j. entry.Arrival caller instance.uid instance.key instance.size (to_are base goals listed n to keep are j) (keeps_are base goals listed n to keep are j))
   line_is n (note.Repeat caller instance) line is = is
@@ -173,11 +173,11 @@ module _ (base : Trees) (goals : List Goal) (listed : Lists goal_cmp (goals_of b
   line_is n (note.Forgetting uid) line is = is
   line_is n note.Adoption line is = is
 
-  all_lines : (notes : List (ℕ × Note)) (all : List Entry) → AreEntries goals notes all → all ≡ mapped entry_of (mapped (λ (e : ℕ × Note). line_of (base 12) e.0 e.1) notes)
+  all_lines : (notes : List (ℕ × JournalRow)) (all : List Entry) → AreEntries goals notes all → all ≡ mapped entry_of (mapped (λ (e : ℕ × JournalRow). line_of (base 12) e.0 e.1) notes)
   all_lines [] [] z = refl
   all_lines [] (line ∷ all) z = absurd z
   all_lines (e ∷ notes) [] z = absurd z
   all_lines (e ∷ notes) (line ∷ all) z = λ i. line_is e.0 e.1 line z.0 i ∷ all_lines notes all z.1 i
 
-  pub lines_are : (notes : List (ℕ × Note)) (all : List Entry) → IsJournal base notes → AreEntries goals notes all → all ≡ mapped entry_of (lines_of base)
+  pub lines_are : (notes : List (ℕ × JournalRow)) (all : List Entry) → IsJournal base notes → AreEntries goals notes all → all ≡ mapped entry_of (lines_of base)
   lines_are notes all j z = all_lines notes all z ∙ ap (mapped entry_of) (j.lines (base 12))

@@ -7,8 +7,8 @@ use Rattle.dr_base.specs.Texts.{Text, text_cmp}
 use Rattle.dr_ledger.specs.declared.item.Entry.{Entry}
 use Rattle.dr_ledger.specs.declared.item.Entry.TheVariants as entry
 use Rattle.dr_store_schema.specs.Books.{keep_mark}
-use Rattle.dr_store_lists.specs.declared.listing.Note.{Note}
-use Rattle.dr_store_lists.specs.declared.listing.Note.TheVariants as note
+use Rattle.dr_store_lists.specs.declared.listing.JournalRow.{JournalRow}
+use Rattle.dr_store_lists.specs.declared.listing.JournalRow.TheVariants as note
 use Rattle.dr_store_lists.specs.Lists.{Goal}
 
 -- the name stands for keeping
@@ -37,7 +37,7 @@ abbrev pub AreTargets : List Goal → ℕ → List Text → Bool → Type 0
 AreTargets goals n to keep = AreByLine goals → AreNames goals n to keep
 
 -- the line of a note
-abbrev pub IsEntry : List Goal → ℕ → Note → Entry → Type 0
+abbrev pub IsEntry : List Goal → ℕ → JournalRow → Entry → Type 0
 IsEntry goals n (note.Arrival caller instance) line =
     (to : List Text) × (keep : Bool)
     × AreTargets goals n to keep
@@ -52,5 +52,6 @@ IsEntry goals n (note.Forgetting uid) line = line ≡ entry.Forgetting uid
 IsEntry goals n note.Adoption line = line ≡ entry.Adoption
 
 -- the lines of all notes
-abbrev pub AreEntries : List Goal → List (ℕ × Note) → List Entry → Type 0
-AreEntries goals notes all = AllZip (λ (n : ℕ × Note) line. IsEntry goals n.0 n.1 line) notes all
+abbrev pub AreEntries : List Goal → List (ℕ × JournalRow) → List Entry → Type 0
+AreEntries goals notes all =
+    AllZip (λ (n : ℕ × JournalRow) line. IsEntry goals n.0 n.1 line) notes all

@@ -15,7 +15,7 @@ ghost use Rattle.dr_store.specs.Journals.{AreEntries, AreGoalsOf, AreTargets, Is
 use dr_base::{Seq, Text};
 use dr_ledger::{Entry, Instance, LedgerFault, Outcome};
 use dr_route::Key;
-use dr_store_lists::{Note, all_notes, all_targets};
+use dr_store_lists::{JournalRow, all_notes, all_targets};
 use sqlite::{Alter, Connection};
 use std::alloc::{AllocError, Global};
 
@@ -139,7 +139,7 @@ fn arrival_of_note(
     instance: &Instance,
     goals: &[(u64, Text)],
 ) -> Result<Entry, LedgerFault>
-    ensures { Reads result (IsEntry goals.now n (Note.Arrival caller.now instance.now)) }
+    ensures { Reads result (IsEntry goals.now n (JournalRow.Arrival caller.now instance.now)) }
 {
     let targets = targets_of(alloc, goals, n)?;
     let line = arrival_line(caller, instance, targets)?;
@@ -188,20 +188,20 @@ fn dropping_line(uid: &Text, dest: &Text, now: u64) -> Result<Entry, AllocError>
 /// The line of a note, with where it goes on to.
 fn line_of_note(
     alloc: Global,
-    note: &(u64, Note),
+    note: &(u64, JournalRow),
     goals: &[(u64, Text)],
 ) -> Result<Entry, LedgerFault>
     ensures { Reads result (IsEntry goals.now note.now.0 note.now.1) }
 {
     match &note.1 {
-        Note::Arrival { caller, instance } => {
+        JournalRow::Arrival { caller, instance } => {
             arrival_of_note(alloc, note.0, caller, instance, goals)
         }
-        Note::Repeat { caller, instance } => {
+        JournalRow::Repeat { caller, instance } => {
             let line = repeat_line(caller, instance)?;
             Ok(line)
         }
-        Note::Settling {
+        JournalRow::Settling {
             uid,
             dest,
             outcome,
@@ -210,27 +210,27 @@ fn line_of_note(
             let line = settling_line(uid, dest, *outcome, *now)?;
             Ok(line)
         }
-        Note::Requeuing { uid, dest } => {
+        JournalRow::Requeuing { uid, dest } => {
             let uid = uid.clone()?;
             let dest = dest.clone()?;
             Ok(Entry::Requeuing { uid, dest })
         }
-        Note::Dropping { uid, dest, now } => {
+        JournalRow::Dropping { uid, dest, now } => {
             let line = dropping_line(uid, dest, *now)?;
             Ok(line)
         }
-        Note::Forgetting { uid } => {
+        JournalRow::Forgetting { uid } => {
             let uid = uid.clone()?;
             Ok(Entry::Forgetting { uid })
         }
-        Note::Adoption => Ok(Entry::Adoption),
+        JournalRow::Adoption => Ok(Entry::Adoption),
     }
 }
 
 /// The lines of all notes.
 fn lines_of_notes(
     alloc: Global,
-    notes: &[(u64, Note)],
+    notes: &[(u64, JournalRow)],
     goals: &[(u64, Text)],
 ) -> Result<Seq<Entry>, LedgerFault>
     ensures { Reads result (AreEntries goals.now notes.now) }
@@ -247,7 +247,7 @@ fn lines_of_notes(
 fn list_by_notes<S: Alter>(
     conn: &mut Connection<S>,
     alloc: Global,
-    notes: &[(u64, Note)],
+    notes: &[(u64, JournalRow)],
 ) -> Result<Seq<Entry>, LedgerFault>
     ensures looked { (n : ℕ) (part : Part)
         → Looked n part result (state S.Store conn.old) (state S.Store conn.new)

@@ -15,7 +15,7 @@ use dr_ledger::LedgerFault;
 use dr_ledger_history::JournalLine;
 use dr_store_audit::goals::are_by_line;
 use dr_store_audit::lines::line_for;
-use dr_store_lists::{Note, all_notes, all_targets};
+use dr_store_lists::{JournalRow, all_notes, all_targets};
 use sqlite::{Alter, Connection};
 use std::alloc::{AllocError, Global};
 
@@ -23,7 +23,7 @@ use std::alloc::{AllocError, Global};
 /// to.
 fn lines_for(
     alloc: Global,
-    notes: &[(u64, Note)],
+    notes: &[(u64, JournalRow)],
     goals: &[(u64, Text)],
 ) -> Result<Seq<JournalLine>, AllocError>
     requires { AreByLine goals.now }
@@ -39,7 +39,7 @@ fn lines_for(
 /// The same, where the goals are in that order.
 fn lines_by(
     alloc: Global,
-    notes: &[(u64, Note)],
+    notes: &[(u64, JournalRow)],
     goals: &[(u64, Text)],
 ) -> Result<Seq<JournalLine>, LedgerFault>
     ensures { Reads result (λ all. mapped line_of all ≡ lines_told goals.now notes.now) }
@@ -55,7 +55,7 @@ fn lines_by(
 fn tell_notes<S: Alter>(
     conn: &mut Connection<S>,
     alloc: Global,
-    notes: &[(u64, Note)],
+    notes: &[(u64, JournalRow)],
 ) -> Result<Seq<JournalLine>, LedgerFault>
     ensures looked { (n : ℕ) (part : Part)
         → Looked n part result (state S.Store conn.old) (state S.Store conn.new)

@@ -31,7 +31,7 @@ use Rattle.dr_ledger_history.proofs.Telling.{all_but_the_lines}
 use Rattle.dr_store_schema.specs.Books.{all_kept_in, arrivals_in, book_of, names_in, rows_of}
 use Rattle.dr_store_writes.proofs.Maps.{equal}
 use Rattle.dr_store_reads.specs.declared.finding.Print.{Print}
-use Rattle.dr_store_lists.specs.declared.listing.Note.{Note}
+use Rattle.dr_store_lists.specs.declared.listing.JournalRow.{JournalRow}
 use Rattle.dr_store_lists.specs.Lists.{Goal, goals_of}
 use Rattle.dr_store_lists.proofs.Alike.{goals_are_names}
 use Rattle.dr_store_audit.specs.Found.{AreListsOf, HoldTogether, IsFound}
@@ -59,7 +59,7 @@ module _ {K : Type 0} {R : K → K → Ordering} (x : IsExact R) where
   as_mapped m = map.same_map x.total x.exact (map.from_entries (map.entries m)) m (λ q. map.get-from_entries x.total (map.entries m) q ∙ sym (map.get-entries m q))
 
 -- what all lists make is what the tables' book has
-module _ (db : Trees) (keys : List (Text × Key)) (prints : List (Text × Print)) (arrivals : List Pair) (kept : List Text) (rows : List (Pair × Progress)) (notes : List (ℕ × Note)) (goals : List Goal)
+module _ (db : Trees) (keys : List (Text × Key)) (prints : List (Text × Print)) (arrivals : List Pair) (kept : List Text) (rows : List (Pair × Progress)) (notes : List (ℕ × JournalRow)) (goals : List Goal)
     (are : AreListsOf db keys prints arrivals kept rows notes goals) (items : FinMap text_cmp Instance) (stocks : Stocks map.empty keys prints items) where
   pub listed_is : all_of items arrivals kept rows ≡ content_of (book_of db)
   listed_is = λ i. record {
@@ -69,7 +69,7 @@ module _ (db : Trees) (keys : List (Text × Key)) (prints : List (Text × Print)
     rows = (ap map.from_entries are.rows_are ∙ as_mapped text_pairs (rows_of db)) i;
   }
 
-module _ (n : ℕ) (part : Part) (db : Trees) (keys : List (Text × Key)) (prints : List (Text × Print)) (arrivals : List Pair) (kept : List Text) (rows : List (Pair × Progress)) (notes : List (ℕ × Note)) (goals : List Goal)
+module _ (n : ℕ) (part : Part) (db : Trees) (keys : List (Text × Key)) (prints : List (Text × Print)) (arrivals : List Pair) (kept : List Text) (rows : List (Pair × Progress)) (notes : List (ℕ × JournalRow)) (goals : List Goal)
     (are : AreListsOf db keys prints arrivals kept rows notes goals) (items : FinMap text_cmp Instance) (stocks : Stocks map.empty keys prints items) (c : Content)
     (journal : IsToldJournal (site_routing part) (lines_told goals notes) c) (all : c ≡ all_of items arrivals kept rows) (uids : FinSet text_cmp)
     (are_needed : (q : Text) → (set.contains uids q ≡ true) ↔ (Contains kept q ⊎ IsOpenIn rows q)) (whole : AllByRecursion (λ (p : Text × Print). p.1.whole ≡ set.contains uids p.0) prints) (before : All (λ (g : Goal). g.0 < n) goals) where

@@ -29,7 +29,7 @@ use Rattle.dr_ledger_history.specs.Contents.{AreInOrder, Content, all_of, conten
 use Rattle.dr_store_schema.specs.Books.{book_of, contents_in, is_whole, names_in, rows_of, wholes_in}
 use Rattle.dr_store_changes.proofs.LettingGo.{body_at}
 use Rattle.dr_store_reads.specs.declared.finding.Print.{Print}
-use Rattle.dr_store_lists.specs.declared.listing.Note.{Note}
+use Rattle.dr_store_lists.specs.declared.listing.JournalRow.{JournalRow}
 use Rattle.dr_store_lists.specs.Lists.{Goal, goal_cmp, keys_of, whole_prints_of}
 use Rattle.dr_store_lists.proofs.Alike.{goals_are_names}
 use Rattle.dr_store_lists.proofs.Orders.{both_T, first_T, its_less, second_T}
@@ -130,7 +130,7 @@ refused finding.Memory P not = tt
 
 -- ---- each test
 
-module _ (n : ℕ) (part : Part) (db : Trees) (keys : List (Text × Key)) (prints : List (Text × Print)) (arrivals : List Pair) (kept : List Text) (rows : List (Pair × Progress)) (notes : List (ℕ × Note)) (goals : List Goal)
+module _ (n : ℕ) (part : Part) (db : Trees) (keys : List (Text × Key)) (prints : List (Text × Print)) (arrivals : List Pair) (kept : List Text) (rows : List (Pair × Progress)) (notes : List (ℕ × JournalRow)) (goals : List Goal)
     (are : AreListsOf db keys prints arrivals kept rows notes goals) (agreed : HoldTogether n part db notes) where
   pub goals_by_line : AreByLine goals
   goals_by_line = by_line goals are.goals_are.ordered

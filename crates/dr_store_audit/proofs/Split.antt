@@ -5,8 +5,8 @@ use Rattle.dr_ledger.specs.Books.{Adoption, Arrival, Book, Dropping, Fold, Forge
 use Rattle.dr_ledger.specs.Histories.{IsBeforeAdoption, IsCall, IsHistory, IsPast}
 use Rattle.dr_ledger.specs.Routings.{Routing}
 use Rattle.dr_store_lists.specs.Lists.{Goal}
-use Rattle.dr_store_lists.specs.declared.listing.Note.{Note}
-use Rattle.dr_store_lists.specs.declared.listing.Note.TheVariants as note
+use Rattle.dr_store_lists.specs.declared.listing.JournalRow.{JournalRow}
+use Rattle.dr_store_lists.specs.declared.listing.JournalRow.TheVariants as note
 use Rattle.dr_store_audit.specs.Journal.{line_told, lines_told}
 use Rattle.dr_store_audit.specs.Telling.{IsNoJournal, IsOver, IsToldJournal, NoneIsOver}
 use Rattle.dr_store_audit.proofs.Journals.{lines_join}
@@ -33,14 +33,14 @@ whole_of zero xs = refl
 whole_of (suc n) [] = refl
 whole_of (suc n) (x ∷ xs) = ap (λ rest. x ∷ rest) (whole_of n xs)
 
-all_told : (goals : List Goal) (notes : List (ℕ × Note)) (n : ℕ) → lines_told goals notes ≡ lines_told goals (take n notes) ++ lines_told goals (drop n notes)
+all_told : (goals : List Goal) (notes : List (ℕ × JournalRow)) (n : ℕ) → lines_told goals notes ≡ lines_told goals (take n notes) ++ lines_told goals (drop n notes)
 all_told goals notes n = ap (lines_told goals) (sym (whole_of n notes)) ∙ lines_join goals (take n notes) (drop n notes)
 
 -- where all notes tell a past, the first ones do
-pub past_told : (goals : List Goal) (notes : List (ℕ × Note)) (n : ℕ) (b : Book) → IsPast (lines_told goals notes) b → IsPast (lines_told goals (take n notes)) b
+pub past_told : (goals : List Goal) (notes : List (ℕ × JournalRow)) (n : ℕ) (b : Book) → IsPast (lines_told goals notes) b → IsPast (lines_told goals (take n notes)) b
 past_told goals notes n b h = past_front (lines_told goals (take n notes)) (lines_told goals (drop n notes)) b (subst (λ (lines : List Line). IsPast lines b) (all_told goals notes n) h)
 
-pub history_told : (routing : Routing) (goals : List Goal) (notes : List (ℕ × Note)) (n : ℕ) (b : Book) → IsHistory routing (lines_told goals notes) b → IsHistory routing (lines_told goals (take n notes)) b
+pub history_told : (routing : Routing) (goals : List Goal) (notes : List (ℕ × JournalRow)) (n : ℕ) (b : Book) → IsHistory routing (lines_told goals notes) b → IsHistory routing (lines_told goals (take n notes)) b
 history_told routing goals notes n b h = history_front routing (lines_told goals (take n notes)) (lines_told goals (drop n notes)) b (subst (λ (lines : List Line). IsHistory routing lines b) (all_told goals notes n) h)
 
 -- ---- lines without an adoption
@@ -71,7 +71,7 @@ history_adopts_none : (routing : Routing) (lines : List Line) (b : Book) → IsH
 history_adopts_none routing [] b h = tt
 history_adopts_none routing (line ∷ lines) b h = (a_call_is_none routing line b h.0, history_adopts_none routing lines (after line b) h.1)
 
-line_is_none : (goals : List Goal) (n : ℕ) (x : Note) → x ≢ note.Adoption → IsNone (line_told goals n x)
+line_is_none : (goals : List Goal) (n : ℕ) (x : JournalRow) → x ≢ note.Adoption → IsNone (line_told goals n x)
 line_is_none goals n (note.Arrival caller item) h = tt
 line_is_none goals n (note.Repeat caller item) h = tt
 line_is_none goals n (note.Settling uid dest what now) h = tt
@@ -80,7 +80,7 @@ line_is_none goals n (note.Dropping uid dest now) h = tt
 line_is_none goals n (note.Forgetting uid) h = tt
 line_is_none goals n note.Adoption h = h refl
 
-pub none_told : (goals : List Goal) (notes : List (ℕ × Note)) → ((k : ℕ) (d : ℕ × Note) → k < length notes → (slice_index_or notes k d).1 ≢ note.Adoption) → NoneAdopts (lines_told goals notes)
+pub none_told : (goals : List Goal) (notes : List (ℕ × JournalRow)) → ((k : ℕ) (d : ℕ × JournalRow) → k < length notes → (slice_index_or notes k d).1 ≢ note.Adoption) → NoneAdopts (lines_told goals notes)
 none_told goals [] each = tt
 none_told goals (e ∷ notes) each = (line_is_none goals e.0 e.1 (each 0 e (omega arith)), none_told goals notes (λ k d low. each (suc k) d (omega (arith, low))))
 
@@ -90,20 +90,20 @@ slice_or (x ∷ xs) zero c d low = refl
 slice_or (x ∷ xs) (suc k) c d low = slice_or xs k c d (omega (arith, low))
 
 -- one note more that is no adoption
-pub one_more_none : (notes : List (ℕ × Note)) (i end : ℕ) (entry : ℕ × Note) → slice_index_or notes i entry ≡ entry → i < length notes → entry.1 ≢ note.Adoption
-    → ((k : ℕ) (d : ℕ × Note) → end ≤ k → k < i → (slice_index_or notes k d).1 ≢ note.Adoption)
-    → (k : ℕ) (d : ℕ × Note) → end ≤ k → k < i + 1 → (slice_index_or notes k d).1 ≢ note.Adoption
+pub one_more_none : (notes : List (ℕ × JournalRow)) (i end : ℕ) (entry : ℕ × JournalRow) → slice_index_or notes i entry ≡ entry → i < length notes → entry.1 ≢ note.Adoption
+    → ((k : ℕ) (d : ℕ × JournalRow) → end ≤ k → k < i → (slice_index_or notes k d).1 ≢ note.Adoption)
+    → (k : ℕ) (d : ℕ × JournalRow) → end ≤ k → k < i + 1 → (slice_index_or notes k d).1 ≢ note.Adoption
 one_more_none notes i end entry is low other before k d from below = by_case (leb i k) refl
   where
     here : k ≡ i → (slice_index_or notes k d).1 ≢ note.Adoption
-    here same adopts = other (ap (λ (e : ℕ × Note). e.1) (sym is ∙ slice_or notes i entry d low ∙ ap (λ n. slice_index_or notes n d) (sym same)) ∙ adopts)
+    here same adopts = other (ap (λ (e : ℕ × JournalRow). e.1) (sym is ∙ slice_or notes i entry d low ∙ ap (λ n. slice_index_or notes n d) (sym same)) ∙ adopts)
 
     by_case : (b : Bool) → leb i k ≡ b → (slice_index_or notes k d).1 ≢ note.Adoption
     by_case true e = here (let high : i ≤ k = leb-true i k e in omega (arith, high, below))
     by_case false e = before k d from (leb-false i k e)
 
 -- none behind a place, of those that are left from there on
-pub none_behind : (notes : List (ℕ × Note)) (n : ℕ) → NoneIsOver n notes → (k : ℕ) (d : ℕ × Note) → k < length (drop n notes) → (slice_index_or (drop n notes) k d).1 ≢ note.Adoption
+pub none_behind : (notes : List (ℕ × JournalRow)) (n : ℕ) → NoneIsOver n notes → (k : ℕ) (d : ℕ × JournalRow) → k < length (drop n notes) → (slice_index_or (drop n notes) k d).1 ≢ note.Adoption
 none_behind notes zero none k d low = none k d (omega arith) low
 none_behind [] (suc n) none k d low = absurd (omega (arith, low))
 none_behind (e ∷ notes) (suc n) none k d low = none_behind notes n (λ m x from more. none (suc m) x (omega (arith, from)) (omega (arith, more))) k d low
@@ -143,7 +143,7 @@ one_split (line ∷ past) (first ∷ other) since more p o s m same =
 
 -- ---- why lines are no journal
 
-module _ (routing : Routing) (goals : List Goal) (past since : List (ℕ × Note)) (ends : IsOver past) (none : NoneAdopts (lines_told goals since)) where
+module _ (routing : Routing) (goals : List Goal) (past since : List (ℕ × JournalRow)) (ends : IsOver past) (none : NoneAdopts (lines_told goals since)) where
   -- the lines up to the last adoption are no past, or those since then are no history behind it
   pub no_journal : (IsPast (lines_told goals past) empty_book → IsHistory routing (lines_told goals since) (Fold (lines_told goals past)) → ⊥) → IsNoJournal routing (lines_told goals (past ++ since))
   no_journal neither b journalled lines =
@@ -153,7 +153,7 @@ module _ (routing : Routing) (goals : List Goal) (past since : List (ℕ × Note
       (subst (λ (s : List Line). IsHistory routing s (Fold (lines_told goals past))) split.1 (subst (λ (p : List Line). IsHistory routing is.since (Fold p)) split.0 is.history))
 
 -- what was told in two parts, or why it wasn't
-pub told_by : (routing : Routing) (goals : List Goal) (past since : List (ℕ × Note)) (first : Content) → IsOver past → NoneAdopts (lines_told goals since) → IsTold (lines_told goals past) first → (r : Result History FindingFault)
+pub told_by : (routing : Routing) (goals : List Goal) (past since : List (ℕ × JournalRow)) (first : Content) → IsOver past → NoneAdopts (lines_told goals since) → IsTold (lines_told goals past) first → (r : Result History FindingFault)
     → MatchResult r (λ h. (before : List Line) → IsToldSince routing before [] first → IsToldSince routing before (lines_told goals since) (content h.parts))
     (λ fault. (before : List Line) → fault ≡ finding.OtherSite → IsToldSince routing before [] first → IsHistory routing (lines_told goals since) (Fold before) → ⊥)
     → MatchResult r (λ h. IsToldJournal routing (lines_told goals (past ++ since)) (content h.parts)) (λ fault. fault ≡ finding.OtherSite → IsNoJournal routing (lines_told goals (past ++ since)))

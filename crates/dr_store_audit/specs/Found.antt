@@ -13,7 +13,7 @@ use Rattle.dr_ledger.specs.Replies.{Lists}
 use Rattle.dr_ledger.specs.SiteRoutes.{site_routing}
 use Rattle.dr_store_schema.specs.Books.{all_kept_in, arrivals_in, bodies_of, book_of, rows_of}
 use Rattle.dr_store_reads.specs.declared.finding.Print.{Print}
-use Rattle.dr_store_lists.specs.declared.listing.Note.{Note}
+use Rattle.dr_store_lists.specs.declared.listing.JournalRow.{JournalRow}
 use Rattle.dr_store_lists.specs.Lists.{Goal, IsJournal, goal_cmp, goals_of, keys_of}
 use Rattle.dr_store_lists.specs.Lists.{whole_prints_of}
 use Rattle.dr_store_changes.specs.Bringing.{GoNowhere}
@@ -24,7 +24,7 @@ use Rattle.dr_store_audit.specs.declared.fault.FindingFault.TheVariants as findi
 -- the lists of all tables but site
 pub record AreListsOf (db : Trees) (keys : List (Text × Key)) (prints : List (Text × Print))
     (arrivals : List Pair) (kept : List Text) (rows : List (Pair × Progress))
-    (notes : List (ℕ × Note)) (goals : List Goal) : Type 0 where
+    (notes : List (ℕ × JournalRow)) (goals : List Goal) : Type 0 where
   pub keys_are : keys ≡ map.entries (keys_of db)
   pub prints_are : prints ≡ map.entries (whole_prints_of db)
   pub arrivals_are : Lists pair_cmp (arrivals_in (db 5)) arrivals
@@ -43,7 +43,8 @@ pub record IsFound (n : ℕ) (part : Part) (db : Trees) : Type 0 where
 
 -- The tables hold together: they are a ledger's, each instance has its key and its print, and the
 -- lines, which these notes say, are numbered from 1 on.
-pub record HoldTogether (n : ℕ) (part : Part) (db : Trees) (notes : List (ℕ × Note)) : Type 0 where
+pub record HoldTogether (n : ℕ) (part : Part) (db : Trees)
+    (notes : List (ℕ × JournalRow)) : Type 0 where
   pub found : IsFound n part db
   pub together : (uid : Text)
       → is_some (map.get (keys_of db) uid) ≡ is_some (map.get (whole_prints_of db) uid)

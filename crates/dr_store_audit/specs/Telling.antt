@@ -9,19 +9,19 @@ use Rattle.dr_ledger_history.specs.declared.line.HistoryFault.{HistoryFault}
 use Rattle.dr_ledger_history.specs.declared.line.HistoryFault.TheVariants as history
 use Rattle.dr_store_audit.specs.declared.fault.FindingFault.{FindingFault}
 use Rattle.dr_store_audit.specs.declared.fault.FindingFault.TheVariants as finding
-use Rattle.dr_store_lists.specs.declared.listing.Note.{Note}
-use Rattle.dr_store_lists.specs.declared.listing.Note.TheVariants as note
+use Rattle.dr_store_lists.specs.declared.listing.JournalRow.{JournalRow}
+use Rattle.dr_store_lists.specs.declared.listing.JournalRow.TheVariants as note
 
 -- the notes are none, or end with an adoption
-abbrev pub IsOver : List (ℕ × Note) → Type 0
+abbrev pub IsOver : List (ℕ × JournalRow) → Type 0
 IsOver notes =
     (notes ≡ [])
-    ⊎ ((earlier : List (ℕ × Note)) × (n : ℕ) × (notes ≡ earlier ++ (n, note.Adoption) ∷ []))
+    ⊎ ((earlier : List (ℕ × JournalRow)) × (n : ℕ) × (notes ≡ earlier ++ (n, note.Adoption) ∷ []))
 
 -- from that place on no note is an adoption
-abbrev pub NoneIsOver : ℕ → List (ℕ × Note) → Type 0
+abbrev pub NoneIsOver : ℕ → List (ℕ × JournalRow) → Type 0
 NoneIsOver from notes =
-    (k : ℕ) (d : ℕ × Note)
+    (k : ℕ) (d : ℕ × JournalRow)
     → from ≤ k → k < length notes → (slice_index_or notes k d).1 ≢ note.Adoption
 
 -- what a line that isn't taken says of the tables: where it is no call that is accepted, they are

@@ -11,7 +11,7 @@ use dr_base::Text;
 use dr_ledger::Progress;
 use dr_route::Key;
 use dr_site::Site;
-use dr_store_lists::Note;
+use dr_store_lists::JournalRow;
 use dr_store_reads::Print;
 use std::alloc::Global;
 
@@ -28,7 +28,7 @@ pub fn agree(
     arrivals: &[(Text, Text)],
     kept: &[Text],
     rows: &[((Text, Text), Progress)],
-    notes: &[(u64, Note)],
+    notes: &[(u64, JournalRow)],
     goals: &[(u64, Text)],
     next: u64,
 ) -> Result<(), FindingFault>

@@ -3,13 +3,13 @@ ghost use Rattle.std.specs.Prelude.{◌≡◌, IfOk};
 ghost use Rattle.dr_ledger_history.specs.Lines.{line_of};
 ghost use Rattle.dr_store_audit.specs.Goals.{AreByLine};
 ghost use Rattle.dr_store_audit.specs.Journal.{line_told};
-ghost use Rattle.dr_store_lists.specs.declared.listing.Note.TheVariants as noted;
+ghost use Rattle.dr_store_lists.specs.declared.listing.JournalRow.TheVariants as noted;
 
 use crate::goals::targets_of;
 use dr_base::Text;
 use dr_ledger::Instance;
 use dr_ledger_history::JournalLine;
-use dr_store_lists::Note;
+use dr_store_lists::JournalRow;
 use std::alloc::{AllocError, Global};
 
 /// A copy of an instance.
@@ -54,18 +54,18 @@ pub fn line_for(
     alloc: Global,
     goals: &[(u64, Text)],
     n: u64,
-    note: &Note,
+    note: &JournalRow,
 ) -> Result<JournalLine, AllocError>
     requires { AreByLine goals.now }
     ensures { IfOk result (λ line. line_of line ≡ line_told goals.now n note.now) }
 {
     match note {
-        Note::Arrival { caller, instance } => arrival_of(alloc, goals, n, caller, instance),
-        Note::Repeat { caller, instance } => Ok(JournalLine::Repeat {
+        JournalRow::Arrival { caller, instance } => arrival_of(alloc, goals, n, caller, instance),
+        JournalRow::Repeat { caller, instance } => Ok(JournalLine::Repeat {
             caller: caller.clone()?,
             instance: copy_of(instance)?,
         }),
-        Note::Settling {
+        JournalRow::Settling {
             uid,
             dest,
             outcome,
@@ -76,16 +76,16 @@ pub fn line_for(
             outcome: *outcome,
             now: *now,
         }),
-        Note::Requeuing { uid, dest } => Ok(JournalLine::Requeuing {
+        JournalRow::Requeuing { uid, dest } => Ok(JournalLine::Requeuing {
             uid: uid.clone()?,
             dest: dest.clone()?,
         }),
-        Note::Dropping { uid, dest, now } => Ok(JournalLine::Dropping {
+        JournalRow::Dropping { uid, dest, now } => Ok(JournalLine::Dropping {
             uid: uid.clone()?,
             dest: dest.clone()?,
             now: *now,
         }),
-        Note::Forgetting { uid } => Ok(JournalLine::Forgetting { uid: uid.clone()? }),
-        Note::Adoption => Ok(JournalLine::Adoption),
+        JournalRow::Forgetting { uid } => Ok(JournalLine::Forgetting { uid: uid.clone()? }),
+        JournalRow::Adoption => Ok(JournalLine::Adoption),
     }
 }

@@ -7,7 +7,7 @@ ghost use Rattle.dr_ledger.specs.SiteRoutes.{site_routing};
 ghost use Rattle.dr_ledger_history.specs.Contents.{content};
 ghost use Rattle.dr_ledger_history.specs.Lines.{line_of};
 ghost use Rattle.dr_ledger_history.specs.Told.{IsTold, IsToldSince};
-ghost use Rattle.dr_store_lists.specs.declared.listing.Note.TheVariants as noted;
+ghost use Rattle.dr_store_lists.specs.declared.listing.JournalRow.TheVariants as noted;
 ghost use Rattle.dr_store_audit.specs.Goals.{AreByLine};
 ghost use Rattle.dr_store_audit.specs.Journal.{CountUp, lines_told};
 ghost use Rattle.dr_store_audit.specs.Telling.{IsNoJournal, IsOver, IsToldJournal, NoneIsOver};
@@ -18,21 +18,21 @@ use crate::lines::line_for;
 use dr_base::Text;
 use dr_ledger_history::{History, JournalLine};
 use dr_site::Site;
-use dr_store_lists::Note;
+use dr_store_lists::JournalRow;
 use std::alloc::Global;
 
 /// Whether it is an adoption.
-fn is_adoption(note: &Note) -> bool
+fn is_adoption(note: &JournalRow) -> bool
     ensures { IsTrue result ↔ (note.now ≡ noted.Adoption) }
 {
     match note {
-        Note::Adoption => true,
+        JournalRow::Adoption => true,
         _ => false,
     }
 }
 
 /// Where the past ends after one more note: there, if that one is an adoption.
-fn end_after(end: usize, next: usize, note: &Note) -> usize
+fn end_after(end: usize, next: usize, note: &JournalRow) -> usize
     ensures { ((result ≡ end) × (note.now ≢ noted.Adoption))
         ⊎ ((result ≡ next) × (note.now ≡ noted.Adoption)) }
 {
@@ -43,7 +43,7 @@ fn end_after(end: usize, next: usize, note: &Note) -> usize
 }
 
 /// How many notes there are up to the last adoption.
-fn count_past(notes: &[(u64, Note)]) -> usize
+fn count_past(notes: &[(u64, JournalRow)]) -> usize
     ensures bound { result ≤ length notes.now }
     ensures over { IsOver (take result notes.now) }
     ensures since { NoneIsOver result notes.now }
@@ -56,7 +56,7 @@ fn count_past(notes: &[(u64, Note)]) -> usize
 }
 
 /// Whether the lines' numbers count up from 1.
-pub fn count_up(notes: &[(u64, Note)]) -> bool
+pub fn count_up(notes: &[(u64, JournalRow)]) -> bool
     ensures { IsTrue result ↔ CountUp 1 notes.now }
 {
     let mut next: u64 = 1;
@@ -116,7 +116,7 @@ fn tell_since(history: History, site: &Site, line: JournalLine) -> Result<Histor
 fn tell_all_past(
     alloc: Global,
     goals: &[(u64, Text)],
-    notes: &[(u64, Note)],
+    notes: &[(u64, JournalRow)],
 ) -> Result<History, FindingFault>
     requires { AreByLine goals.now }
     ensures { MatchResult result
@@ -142,7 +142,7 @@ fn tell_all_since(
     alloc: Global,
     site: &Site,
     goals: &[(u64, Text)],
-    notes: &[(u64, Note)],
+    notes: &[(u64, JournalRow)],
     told: History,
 ) -> Result<History, FindingFault>
     requires { AreByLine goals.now }
@@ -175,7 +175,7 @@ pub fn tell(
     alloc: Global,
     site: &Site,
     goals: &[(u64, Text)],
-    notes: &[(u64, Note)],
+    notes: &[(u64, JournalRow)],
 ) -> Result<History, FindingFault>
     requires { AreByLine goals.now }
     ensures { MatchResult result

@@ -4,7 +4,7 @@ ghost use Rattle.sqlite.specs.Held.{state};
 ghost use Rattle.dr_store_writes.specs.Effects.{GoesOn, HasSite, Step};
 ghost use Rattle.dr_store_calls.specs.Adoptions.{Clears, NotesPlan};
 
-use dr_store_changes::Change;
+use dr_store_changes::TableChange;
 use dr_store_writes::{add_adopted, drop_arrivals, drop_over, set_plan};
 use sqlite::{Alter, Error, Transaction};
 
@@ -44,7 +44,7 @@ pub struct NewPlan<'x> {
     pub digest: &'x [u8],
 }
 
-impl Change for NewPlan<'_> {
+impl TableChange for NewPlan<'_> {
     ghost use Rattle.dr_store_writes.specs.Effects.{HasSite};
     ghost use Rattle.dr_store_calls.specs.Adoptions.{Adopts};
 

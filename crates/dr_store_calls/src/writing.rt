@@ -5,7 +5,7 @@ ghost use Rattle.dr_store_changes.specs.Writing.{Written};
 ghost use Rattle.dr_store_calls.specs.Calling.{IsOwnFault};
 
 use dr_ledger::LedgerFault;
-use dr_store_changes::{Change, write};
+use dr_store_changes::{TableChange, write};
 use dr_store_reads::fault_of;
 use sqlite::{Alter, Connection};
 
@@ -15,7 +15,7 @@ const MOST_LINES: u64 = 1 << 62;
 /// Writes a change as one transaction, whose commit is its last call of the database.
 ///
 /// Errors: Store where the journal is full; Store and Memory of the database.
-pub fn written<C: Change, S: Alter>(
+pub fn written<C: TableChange, S: Alter>(
     conn: &mut Connection<S>,
     n: u64,
     change: &C,

@@ -5,7 +5,7 @@ ghost use Rattle.dr_store_writes.specs.Effects.{GoesOn, Step};
 ghost use Rattle.dr_store_changes.specs.Changes.{AddsRows, AddsTargets, HasNeither, HasRows};
 ghost use Rattle.dr_store_changes.specs.Changes.{KeepsOne, NotesArrival, Renews, Stores};
 
-use crate::writing::Change;
+use crate::writing::TableChange;
 use dr_base::Text;
 use dr_ledger::{Instance, Progress};
 use dr_store_writes::{
@@ -131,7 +131,7 @@ pub struct Repeating<'x> {
     ghost size: { item.now.size ≤ 2 ^ 62 },
 }
 
-impl Change for Repeating<'_> {
+impl TableChange for Repeating<'_> {
     ghost use Rattle.dr_store_writes.specs.Effects.{arrived_line};
     ghost use Rattle.dr_store_changes.specs.Changes.{AddsOnlyLine};
 

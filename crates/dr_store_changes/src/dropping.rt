@@ -7,7 +7,7 @@ ghost use Rattle.dr_store_changes.specs.Changes.{AsksForRow, GivenUp, GivesUp, M
 ghost use Rattle.dr_store_changes.specs.Writing.{IsMade};
 
 use crate::bodies::let_go;
-use crate::writing::Change;
+use crate::writing::TableChange;
 use dr_base::Text;
 use dr_ledger::Progress;
 use dr_store_writes::{add_dropped, drop_arrivals_of, set_row};
@@ -88,7 +88,7 @@ pub struct Dropping<'x> {
     ghost moment: { now ≤ 2 ^ 62 },
 }
 
-impl Change for Dropping<'_> {
+impl TableChange for Dropping<'_> {
     ghost use Rattle.dr_store_changes.specs.Changes.{AsksForRow, GivesUp};
 
     ghost asks = { λ s. AsksForRow (s.uid.now, s.dest.now) };

@@ -8,7 +8,7 @@ ghost use Rattle.dr_store_changes.specs.Changes.{NotesArrival, Renews};
 
 use crate::arriving::{add_rows, add_targets, keep, note_arrival, renew_rows, store};
 use crate::bodies::take_back;
-use crate::writing::Change;
+use crate::writing::TableChange;
 use dr_base::Text;
 use dr_ledger::Instance;
 use dr_store_writes::add_arrived;
@@ -223,7 +223,7 @@ impl Arriving<'_> {
     }
 }
 
-impl Change for Arriving<'_> {
+impl TableChange for Arriving<'_> {
     ghost use Rattle.dr_store_changes.specs.Bringing.{AsksToTake, Brings};
     ghost use Rattle.dr_store_changes.specs.Changes.{HasRows};
 

@@ -5,7 +5,7 @@ ghost use Rattle.dr_store_writes.specs.Effects.{GoesOn, Step};
 ghost use Rattle.dr_store_changes.specs.Bringing.{Then};
 ghost use Rattle.dr_store_changes.specs.Changes.{DropsMoves, DropsStock};
 
-use crate::writing::Change;
+use crate::writing::TableChange;
 use dr_base::Text;
 use dr_store_writes::{add_forgotten, drop_arrivals_of, drop_item, drop_print, drop_rows_of};
 use sqlite::{Alter, Error, Transaction};
@@ -58,7 +58,7 @@ pub struct Forgetting<'x> {
     pub uid: &'x Text,
 }
 
-impl Change for Forgetting<'_> {
+impl TableChange for Forgetting<'_> {
     ghost use Rattle.dr_store_changes.specs.Changes.{TakesOut};
 
     ghost asks = { λ s db. Unit {0} };

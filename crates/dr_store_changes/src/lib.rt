@@ -16,4 +16,4 @@ pub use dropping::Dropping;
 pub use first::{Arriving, Taking};
 pub use forgetting::Forgetting;
 pub use moving::{Requeuing, Settling};
-pub use writing::{Change, write};
+pub use writing::{TableChange, write};

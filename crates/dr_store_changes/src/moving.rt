@@ -7,7 +7,7 @@ ghost use Rattle.dr_store_changes.specs.Changes.{AsksForRow, Moved, MovesOn};
 ghost use Rattle.dr_store_changes.specs.Writing.{IsMade};
 
 use crate::bodies::let_go;
-use crate::writing::Change;
+use crate::writing::TableChange;
 use dr_base::Text;
 use dr_ledger::{Outcome, Progress};
 use dr_store_writes::{add_requeued, add_settled, set_row};
@@ -99,7 +99,7 @@ pub struct Settling<'x> {
     ghost moment: { now ≤ 2 ^ 62 },
 }
 
-impl Change for Settling<'_> {
+impl TableChange for Settling<'_> {
     ghost use Rattle.dr_store_writes.specs.Effects.{settled_line};
     ghost use Rattle.dr_store_changes.specs.Changes.{AsksForRow, MovesOn};
 
@@ -126,7 +126,7 @@ pub struct Requeuing<'x> {
     ghost due: { due_of to ≤ 2 ^ 62 + 300000 },
 }
 
-impl Change for Requeuing<'_> {
+impl TableChange for Requeuing<'_> {
     ghost use Rattle.std.specs.Prelude.{false};
     ghost use Rattle.dr_store_writes.specs.Effects.{requeued_line};
     ghost use Rattle.dr_store_changes.specs.Changes.{AsksForRow, MovesOn};

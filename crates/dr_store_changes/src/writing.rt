@@ -8,7 +8,7 @@ ghost use Rattle.dr_store_changes.specs.Writing.{IsMade, Written};
 use sqlite::{Alter, Connection, Error, Transaction};
 
 /// What a call makes of the tables, statement by statement.
-pub trait Change {
+pub trait TableChange {
     // What the tables have to show before.
     ghost asks: { Self → Trees → Type 0 };
 
@@ -26,7 +26,11 @@ pub trait Change {
 }
 
 /// Makes a change as one transaction, whose commit is its last call of the database.
-pub fn write<C: Change, S: Alter>(conn: &mut Connection<S>, n: u64, change: &C) -> Result<(), Error>
+pub fn write<C: TableChange, S: Alter>(
+    conn: &mut Connection<S>,
+    n: u64,
+    change: &C,
+) -> Result<(), Error>
     requires idle { conn.old.in_transaction ≡ false }
     requires number { n ≤ 2 ^ 62 }
     ensures idle { conn.new.in_transaction ≡ false }

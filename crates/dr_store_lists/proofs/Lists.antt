@@ -37,7 +37,7 @@ use Rattle.dr_store_writes.proofs.Keys.{pairs_exact, pairs_total}
 use Rattle.dr_store_writes.proofs.Maps as maps
 use Rattle.dr_store_lists.specs.Lists.{IsJournal, NotesAreLines, goal_cmp, goals_of, keys_of, line_of, note_by, note_in, shown_entry, shown_goal, shown_key_entry, shown_note, shown_note_entry, shown_pair, shown_print_entry, whole_prints_of}
 use Rattle.dr_store_reads.specs.Queries.{HasTables, shown_text}
-use Rattle.dr_store_lists.specs.declared.listing.Note.{Note}
+use Rattle.dr_store_lists.specs.declared.listing.JournalRow.{JournalRow}
 use Rattle.dr_store_lists.proofs.Apart.{apart_as_listed}
 use Rattle.dr_store_lists.proofs.Orders.{all_entries, both_T, every, first_T, second_T}
 use Rattle.dr_store_reads.proofs.Points.{map_twice}
@@ -168,7 +168,7 @@ journal_listed old new rows has h sorted = record {
   notes = lists_entries 11 whole.all_lines_shown whole.all_lines_order old.now.trees rows answer answer.grouped nat_cmp_total fin.nat_cmp-IsAntisymmetric shown_note_entry sorted;
   lines = λ targets.
       let told : Row → ℕ × Line = λ r. (number_in (column r 0), line_of targets (number_in (column r 0)) (shown_note r)) in
-      map_twice shown_note_entry (λ (e : ℕ × Note). line_of targets e.0 e.1) rows ∙ sym (map_twice told (λ (e : ℕ × Line). e.1) rows)
+      map_twice shown_note_entry (λ (e : ℕ × JournalRow). line_of targets e.0 e.1) rows ∙ sym (map_twice told (λ (e : ℕ × Line). e.1) rows)
       ∙ ap (map (λ (e : ℕ × Line). e.1))
       (lists_entries 11 whole.all_lines_shown whole.all_lines_order old.now.trees rows answer answer.grouped nat_cmp_total fin.nat_cmp-IsAntisymmetric told
       (same_order nat_cmp (λ r. number_in (column r 0)) shown_note (λ r. line_of targets (number_in (column r 0)) (shown_note r)) rows sorted)

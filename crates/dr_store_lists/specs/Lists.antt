@@ -24,8 +24,8 @@ use Rattle.dr_store_schema.specs.Books.{wholes_in}
 use Rattle.dr_store_schema.specs.Cells.{bytes_in, number_in, outcome_in, progress_in, syntax_marked}
 use Rattle.dr_store_schema.specs.Cells.{text_in}
 use Rattle.dr_store_reads.specs.declared.finding.Print.{Print}
-use Rattle.dr_store_lists.specs.declared.listing.Note.{Note}
-use Rattle.dr_store_lists.specs.declared.listing.Note.TheVariants as note
+use Rattle.dr_store_lists.specs.declared.listing.JournalRow.{JournalRow}
+use Rattle.dr_store_lists.specs.declared.listing.JournalRow.TheVariants as note
 
 -- ---- item and print
 
@@ -60,7 +60,7 @@ pub record KeysAndPrintsAreInstances (db : Trees) : Type 0 where
 -- ---- journal
 
 -- what a row of journal says
-abbrev pub note_by : ℕ → Text → Instance → Text → Text → Outcome → ℕ → Note
+abbrev pub note_by : ℕ → Text → Instance → Text → Text → Outcome → ℕ → JournalRow
 note_by zero caller item uid dest what now = note.Arrival caller item
 note_by (suc zero) caller item uid dest what now = note.Repeat caller item
 note_by (suc (suc zero)) caller item uid dest what now = note.Settling uid dest what now
@@ -71,18 +71,18 @@ note_by (suc (suc (suc (suc (suc (suc zero)))))) caller item uid dest what now =
     note.Dropping uid dest now
 note_by (suc (suc (suc (suc (suc (suc (suc more))))))) caller item uid dest what now = note.Adoption
 
-abbrev pub note_in : Row → Note
+abbrev pub note_in : Row → JournalRow
 note_in row = note_by (number_in (column row 2)) (text_in (column row 3)) (instance_in row)
     (text_in (column row 4)) (text_in (column row 5)) (outcome_in (column row 6))
     (number_in (column row 7))
 
 -- by the line's number
-abbrev pub notes_of : Trees → FinMap nat_cmp Note
+abbrev pub notes_of : Trees → FinMap nat_cmp JournalRow
 notes_of db =
     map.from_entries (mapped (λ (row : Row). (number_in (rowid row), note_in row)) (db 11))
 
 -- the line of a note, with where it goes on to
-abbrev pub line_of : List Row → ℕ → Note → Line
+abbrev pub line_of : List Row → ℕ → JournalRow → Line
 line_of targets n (note.Arrival caller item) =
     Arrival caller item (targets_in targets n) (keeps_in targets n)
 line_of targets n (note.Repeat caller item) = Repeat caller item
@@ -93,11 +93,11 @@ line_of targets n (note.Forgetting uid) = Forgetting uid
 line_of targets n note.Adoption = Adoption
 
 -- a list of the notes by their numbers, which tells the lines and has each row
-pub record IsJournal (db : Trees) (all : List (ℕ × Note)) : Type 0 where
+pub record IsJournal (db : Trees) (all : List (ℕ × JournalRow)) : Type 0 where
   pub each : AllByRecursion (λ row. Contains all (number_in (rowid row), note_in row)) (db 11)
   pub notes : all ≡ map.entries (notes_of db)
   pub lines : (targets : List Row)
-      → mapped (λ (e : ℕ × Note). line_of targets e.0 e.1) all ≡ lines_in targets (db 11)
+      → mapped (λ (e : ℕ × JournalRow). line_of targets e.0 e.1) all ≡ lines_in targets (db 11)
 
 -- a row's line is that of its note
 abbrev pub NotesAreLines : Type 0
@@ -159,11 +159,11 @@ shown_entry row = (
   progress_in (column row 2) (column row 3) (column row 4) (column row 5),
 )
 
-abbrev pub shown_settling : Row → Note
+abbrev pub shown_settling : Row → JournalRow
 shown_settling row = note.Settling (text_in (column row 3)) (text_in (column row 4))
     (outcome_in (column row 5)) (number_in (column row 6))
 
-abbrev pub shown_dropping : Row → Note
+abbrev pub shown_dropping : Row → JournalRow
 shown_dropping row =
     note.Dropping (text_in (column row 3)) (text_in (column row 4)) (number_in (column row 6))
 
@@ -181,10 +181,10 @@ shown_instance row = record {
   digest = bytes_in (column row 12);
 }
 
-abbrev pub shown_note : Row → Note
+abbrev pub shown_note : Row → JournalRow
 shown_note row = note_by (number_in (column row 1)) (text_in (column row 2)) (shown_instance row)
     (text_in (column row 3)) (text_in (column row 4)) (outcome_in (column row 5))
     (number_in (column row 6))
 
-abbrev pub shown_note_entry : Row → ℕ × Note
+abbrev pub shown_note_entry : Row → ℕ × JournalRow
 shown_note_entry row = (number_in (column row 0), shown_note row)

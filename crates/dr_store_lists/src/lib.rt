@@ -10,7 +10,7 @@ pub mod listing;
 pub mod rowids;
 
 pub use listing::{
-    Note, all_arrivals, all_kept, all_keys, all_notes, all_prints, all_rows, all_targets,
+    JournalRow, all_arrivals, all_kept, all_keys, all_notes, all_prints, all_rows, all_targets,
 };
 pub use rowids::{
     next_number, test_arrival_rowids, test_counts, test_item_rowids, test_print_rowids,

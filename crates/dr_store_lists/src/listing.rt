@@ -31,7 +31,7 @@ use std::alloc::Global;
 /// A line of the journal as its own row has it: where a first arrival goes on to stands in another
 /// table.
 #[derive(Drop)]
-pub enum Note {
+pub enum JournalRow {
     Arrival {
         caller: Text,
         instance: Instance,
@@ -150,12 +150,12 @@ impl FromRow for ((Text, Text), Progress) {
     }
 }
 
-impl FromRow for (u64, Note) {
+impl FromRow for (u64, JournalRow) {
     ghost use Rattle.dr_store_lists.specs.Lists.{shown_note_entry};
 
     ghost shown = { shown_note_entry };
 
-    fn read(alloc: Global, row: &Row) -> Result<(u64, Note), LedgerFault> {
+    fn read(alloc: Global, row: &Row) -> Result<(u64, JournalRow), LedgerFault> {
         let number = read_number(row, 0)?;
         let note = read_note(alloc, row)?;
         Ok((number, note))
@@ -164,32 +164,32 @@ impl FromRow for (u64, Note) {
 
 /// What a line of the journal says by its columns n, kind, caller, uid, dest, outcome and moment,
 /// and by those of its instance.
-fn read_note(alloc: Global, row: &Row) -> Result<Note, LedgerFault>
+fn read_note(alloc: Global, row: &Row) -> Result<JournalRow, LedgerFault>
     ensures { Reads result (λ note. note ≡ shown_note row.now) }
 {
     match read_number(row, 1)? {
         0 => {
             let caller = read_text(alloc, row, 2)?;
             let instance = read_instance(alloc, row)?;
-            Ok(Note::Arrival { caller, instance })
+            Ok(JournalRow::Arrival { caller, instance })
         }
         1 => {
             let caller = read_text(alloc, row, 2)?;
             let instance = read_instance(alloc, row)?;
-            Ok(Note::Repeat { caller, instance })
+            Ok(JournalRow::Repeat { caller, instance })
         }
         2 => read_settling(alloc, row),
         3 => {
             let uid = read_text(alloc, row, 3)?;
             let dest = read_text(alloc, row, 4)?;
-            Ok(Note::Requeuing { uid, dest })
+            Ok(JournalRow::Requeuing { uid, dest })
         }
         5 => {
             let uid = read_text(alloc, row, 3)?;
-            Ok(Note::Forgetting { uid })
+            Ok(JournalRow::Forgetting { uid })
         }
         6 => read_dropping(alloc, row),
-        _ => Ok(Note::Adoption),
+        _ => Ok(JournalRow::Adoption),
     }
 }
 
@@ -209,14 +209,14 @@ fn read_instance(alloc: Global, row: &Row) -> Result<Instance, LedgerFault>
     })
 }
 
-fn read_settling(alloc: Global, row: &Row) -> Result<Note, LedgerFault>
+fn read_settling(alloc: Global, row: &Row) -> Result<JournalRow, LedgerFault>
     ensures { Reads result (λ note. note ≡ shown_settling row.now) }
 {
     let uid = read_text(alloc, row, 3)?;
     let dest = read_text(alloc, row, 4)?;
     let outcome = read_outcome(row, 5)?;
     let now = read_number(row, 6)?;
-    Ok(Note::Settling {
+    Ok(JournalRow::Settling {
         uid,
         dest,
         outcome,
@@ -224,13 +224,13 @@ fn read_settling(alloc: Global, row: &Row) -> Result<Note, LedgerFault>
     })
 }
 
-fn read_dropping(alloc: Global, row: &Row) -> Result<Note, LedgerFault>
+fn read_dropping(alloc: Global, row: &Row) -> Result<JournalRow, LedgerFault>
     ensures { Reads result (λ note. note ≡ shown_dropping row.now) }
 {
     let uid = read_text(alloc, row, 3)?;
     let dest = read_text(alloc, row, 4)?;
     let now = read_number(row, 6)?;
-    Ok(Note::Dropping { uid, dest, now })
+    Ok(JournalRow::Dropping { uid, dest, now })
 }
 
 /// What all rows say.
@@ -300,11 +300,11 @@ pub fn row_entries(
 }
 
 /// Numbers with notes.
-pub fn note_entries(alloc: Global, rows: &[Row]) -> Result<Vec<(u64, Note)>, LedgerFault>
+pub fn note_entries(alloc: Global, rows: &[Row]) -> Result<Vec<(u64, JournalRow)>, LedgerFault>
     ensures { Reads result (λ all.
         (all.items ≡ mapped shown_note_entry rows.now) × T (is_sorted nat_cmp all.items)) }
 {
-    let entries = read_all::<(u64, Note)>(alloc, rows)?;
+    let entries = read_all::<(u64, JournalRow)>(alloc, rows)?;
     if !rise(entries.as_slice()) {
         return Err(LedgerFault::Store);
     }
@@ -428,7 +428,7 @@ pub fn all_rows<S: Alter>(
 pub fn all_notes<S: Alter>(
     conn: &mut Connection<S>,
     alloc: Global,
-) -> Result<Vec<(u64, Note)>, LedgerFault>
+) -> Result<Vec<(u64, JournalRow)>, LedgerFault>
     ensures asked { Asked HasTables result (state S.Store conn.old) (state S.Store conn.new)
         (λ all. IsJournal (state S.Store conn.old).now.trees all.items) }
 {

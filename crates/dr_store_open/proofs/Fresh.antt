@@ -19,7 +19,7 @@ use Rattle.dr_store_schema.specs.Tables.{tables}
 use Rattle.dr_store_schema.proofs.WhatIsWritten.{empty_tables_are_empty, no_entries}
 use Rattle.dr_store_writes.specs.Effects.{site_row}
 use Rattle.dr_store_reads.specs.declared.finding.Print.{Print}
-use Rattle.dr_store_lists.specs.declared.listing.Note.{Note}
+use Rattle.dr_store_lists.specs.declared.listing.JournalRow.{JournalRow}
 use Rattle.dr_store_audit.specs.Journal.{CountUp}
 use Rattle.dr_store_open.specs.Opening.{BadTablesAreNone, HasLedgerOf, LedgersAreOne}
 use Rattle.dr_store_open.specs.Opening.{NewLedgersAreLedgers, new_trees}
@@ -82,7 +82,7 @@ module _ (part : Part) where
           );
         };
         together = λ uid. no_key uid ∙ sym (no_print uid);
-        numbered = subst (CountUp 1) (sym (no_entries nat_cmp Note)) tt;
+        numbered = subst (CountUp 1) (sym (no_entries nat_cmp JournalRow)) tt;
       };
       own = λ uid body there. absurd (no_body uid body there);
     };

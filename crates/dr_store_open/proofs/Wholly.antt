@@ -26,7 +26,7 @@ use Rattle.dr_store_reads.specs.declared.finding.Print.{Print}
 use Rattle.dr_store_reads.specs.Queries.{Asked, HasTables, IsJobOf}
 use Rattle.dr_store_calls.specs.Calling.{IsKept, IsLedgerOf}
 use Rattle.dr_store_lists.specs.Lists.{IsJournal, keys_of, line_of, note_in, whole_prints_of}
-use Rattle.dr_store_lists.specs.declared.listing.Note.{Note}
+use Rattle.dr_store_lists.specs.declared.listing.JournalRow.{JournalRow}
 use Rattle.dr_store_lists.proofs.Alike.{keys_and_prints}
 use Rattle.dr_store_audit.specs.Found.{HoldTogether}
 use Rattle.dr_store_audit.specs.Journal.{CountUp}
@@ -125,21 +125,21 @@ all_read n part db prints are is =
 
 -- ---- the lines' numbers
 
-all_low : (b a : ℕ) (notes : List (ℕ × Note)) → CountUp a notes → a + length notes ≤ b
-    → AllByRecursion (λ (e : ℕ × Note). e.0 < b) notes
+all_low : (b a : ℕ) (notes : List (ℕ × JournalRow)) → CountUp a notes → a + length notes ≤ b
+    → AllByRecursion (λ (e : ℕ × JournalRow). e.0 < b) notes
 all_low b a [] up le = tt
 all_low b a (e ∷ notes) up le =
     let first : e.0 ≡ a = up.0 in
     (omega (arith, first, le), all_low b (a + 1) notes up.1 (omega (arith, le)))
 
 -- where lines are numbered from 1, none has a number beyond their count
-all_below : (m : ℕ) (notes : List (ℕ × Note)) → CountUp 1 notes → (rows : List Row)
+all_below : (m : ℕ) (notes : List (ℕ × JournalRow)) → CountUp 1 notes → (rows : List Row)
     → AreBelow m rows
     → AllByRecursion (λ row. Contains notes (number_in (rowid row), note_in row)) rows
     → AreBelow (length notes + 1) rows
 all_below m notes up [] low each = tt
 all_below m notes up (row ∷ rows) low each =
-    let Low : ℕ × Note → Type 0 = λ e. e.0 < length notes + 1 in
+    let Low : ℕ × JournalRow → Type 0 = λ e. e.0 < length notes + 1 in
     let all = All-from_recursion Low notes
     (all_low (length notes + 1) 1 notes up (omega arith)) in
     let its : number_in (rowid row) < length notes + 1 =
@@ -147,14 +147,14 @@ all_below m notes up (row ∷ rows) low each =
     let is : number_in (rowid row) ≡ low.0.0 = ap number_in low.0.1 in
     ((low.0.0, low.0.1, omega (arith, its, is)), all_below m notes up rows low.1 each.1)
 
-lines_counted : (db : Trees) (notes : List (ℕ × Note)) → IsJournal db notes
+lines_counted : (db : Trees) (notes : List (ℕ × JournalRow)) → IsJournal db notes
     → length notes ≡ length (lines_of db)
 lines_counted db notes journal =
-    sym (length-map notes (λ (e : ℕ × Note). line_of (db 12) e.0 e.1))
+    sym (length-map notes (λ (e : ℕ × JournalRow). line_of (db 12) e.0 e.1))
     ∙ ap length (journal.lines (db 12))
 
 -- what was compared and read again
-pub agreed : (part : Part) (db : Trees) (prints : List (Text × Print)) (notes : List (ℕ × Note))
+pub agreed : (part : Part) (db : Trees) (prints : List (Text × Print)) (notes : List (ℕ × JournalRow))
     (next m : ℕ) → prints ≡ map.entries (whole_prints_of db) → IsJournal db notes
     → next ≡ length notes + 1 → AreBelow m (db 11) → HoldTogether next part db notes
     → (found : Option ℕ) → AreReadIf db prints next found → IsAgreedIf part db found
@@ -171,7 +171,7 @@ agreed part db prints notes next m are journal after low hold (Some n) read =
     }
 
 -- lists that don't hold together are no ledger's
-pub not_agreed : (part : Part) (db : Trees) (notes : List (ℕ × Note)) (next : ℕ)
+pub not_agreed : (part : Part) (db : Trees) (notes : List (ℕ × JournalRow)) (next : ℕ)
     → IsJournal db notes → next ≡ length notes + 1 → (HoldTogether next part db notes → ⊥)
     → IsAgreedIf part db None
 not_agreed part db notes next journal after apart n is =

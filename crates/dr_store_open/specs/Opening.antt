@@ -24,7 +24,7 @@ use Rattle.std.specs.List.{AllByRecursion}
 use Rattle.dr_store_reads.specs.Queries.{IsJobOf, Stays}
 use Rattle.dr_store_reads.specs.declared.finding.Print.{Print}
 use Rattle.dr_store_lists.specs.Lists.{notes_of}
-use Rattle.dr_store_lists.specs.declared.listing.Note.{Note}
+use Rattle.dr_store_lists.specs.declared.listing.JournalRow.{JournalRow}
 use Rattle.dr_store_calls.specs.Calling.{IsKept}
 use Rattle.dr_store_audit.specs.Found.{HoldTogether}
 use Rattle.dr_store_audit.specs.Older.{IsOlder}
@@ -242,6 +242,6 @@ LedgersAreOne =
 -- without an owner, or with a line under another number than its place, there is none
 pub record BadTablesAreNone : Type 0 where
   pub unowned : (part : Part) (db : Database) → db.trees 0 ≡ [] → HasNoLedgerOf part db
-  pub renumbered : (part : Part) (db : Database) (note : Note) (rest : List (ℕ × Note))
+  pub renumbered : (part : Part) (db : Database) (note : JournalRow) (rest : List (ℕ × JournalRow))
       → map.entries (notes_of db.trees) ≡ (2, note) ∷ rest
       → HasNoLedgerOf part db

@@ -7,7 +7,7 @@ use crate::asking::{ask_within, cells_of, run_within};
 use crate::fault::{OpeningFault, opening_fault};
 use dr_base::{Syntax, Text};
 use dr_ledger::Instance;
-use dr_store_lists::Note;
+use dr_store_lists::JournalRow;
 use dr_store_lists::listing::note_entries;
 use dr_store_reads::reading::{read_number, read_text};
 use sqlite::types::ValueRef;
@@ -125,7 +125,7 @@ pub fn put_lines<'x, S: Alter>(
 pub fn notes_in<S: Alter>(
     tx: &mut Transaction<'_, S>,
     alloc: Global,
-) -> Result<Vec<(u64, Note)>, OpeningFault>
+) -> Result<Vec<(u64, JournalRow)>, OpeningFault>
     ensures same_reference { tx.new.conn.ghost_name ≡ tx.old.conn.ghost_name }
     ensures survives { Survives (state S.Store tx.old.conn.now) (state S.Store tx.new.conn.now)
         (λ _. ⊥) }

@@ -8,7 +8,7 @@ use dr_base::Text;
 use dr_ledger::{LedgerFault, Progress};
 use dr_route::Key;
 use dr_store_lists::{
-    Note, all_arrivals, all_kept, all_keys, all_notes, all_prints, all_rows, all_targets,
+    JournalRow, all_arrivals, all_kept, all_keys, all_notes, all_prints, all_rows, all_targets,
 };
 use dr_store_reads::Print;
 use sqlite::{Alter, Connection};
@@ -32,7 +32,7 @@ pub struct Moves {
 /// The journal's lines, and where they go on to.
 #[derive(Drop)]
 pub struct Journal {
-    pub notes: Vec<(u64, Note)>,
+    pub notes: Vec<(u64, JournalRow)>,
     pub goals: Vec<(u64, Text)>,
 }
 

@@ -13,7 +13,7 @@ use dr_route::{Key, Targets};
 use dr_site::Site;
 use dr_store_audit::Lacks;
 use dr_store_audit::needs::needed;
-use dr_store_lists::Note;
+use dr_store_lists::JournalRow;
 use dr_store_lists::listing::{
     goal_keys, key_entries, pair_keys, print_entries, row_entries, text_keys,
 };
@@ -26,7 +26,7 @@ use std::collections::BTreeSet;
 
 /// What the rows of such a file say, but for its journal.
 #[derive(Drop)]
-pub struct Told {
+pub struct OlderRows {
     pub keys: Vec<(Text, Key)>,
     pub arrivals: Vec<(Text, Text)>,
     pub kept: Vec<Text>,
@@ -54,7 +54,7 @@ fn is_owned(rows: &[Row], site: &Site) -> bool {
 }
 
 /// What the rows say, if the file is this site's.
-pub fn told_of(alloc: Global, site: &Site, sheets: &Sheets) -> Result<Told, OpeningFault> {
+pub fn told_of(alloc: Global, site: &Site, sheets: &Sheets) -> Result<OlderRows, OpeningFault> {
     if !is_owned(sheets.site.as_slice(), site) {
         return Err(OpeningFault::OtherSite);
     }
@@ -64,12 +64,12 @@ pub fn told_of(alloc: Global, site: &Site, sheets: &Sheets) -> Result<Told, Open
     }
 }
 
-fn told_by(alloc: Global, sheets: &Sheets) -> Result<Told, LedgerFault> {
+fn told_by(alloc: Global, sheets: &Sheets) -> Result<OlderRows, LedgerFault> {
     let keys = key_entries(alloc, sheets.items.as_slice())?;
     let arrivals = pair_keys(alloc, sheets.arrivals.as_slice())?;
     let kept = text_keys(alloc, sheets.kept.as_slice())?;
     let rows = row_entries(alloc, sheets.rows.as_slice())?;
-    Ok(Told {
+    Ok(OlderRows {
         keys,
         arrivals,
         kept,
@@ -178,7 +178,7 @@ fn made_prints<'x, S: Alter>(
 }
 
 /// The uids of the data sets that are needed.
-fn needed_uids(alloc: Global, told: &Told) -> Result<BTreeSet<Text>, OpeningFault> {
+fn needed_uids(alloc: Global, told: &OlderRows) -> Result<BTreeSet<Text>, OpeningFault> {
     match needed(alloc, told.kept.as_slice(), told.rows.as_slice()) {
         Ok(uids) => Ok(uids),
         Err(fault) => Err(of_finding(fault)),
@@ -210,7 +210,7 @@ pub fn prints_for<'x, S: Alter>(
     tx: &mut Transaction<'_, S>,
     alloc: Global,
     lacks: Lacks,
-    told: &'x Told,
+    told: &'x OlderRows,
 ) -> Result<Vec<(Text, Print)>, OpeningFault>
     ensures same_reference { tx.new.conn.ghost_name ≡ tx.old.conn.ghost_name }
     ensures survives { Survives (state S.Store tx.old.conn.now) (state S.Store tx.new.conn.now)
@@ -247,14 +247,14 @@ fn add_goals_of(
     goals: &mut Vec<(u64, Text)>,
     alloc: Global,
     site: &Site,
-    note: &(u64, Note),
+    note: &(u64, JournalRow),
 ) -> Result<(), OpeningFault> {
     match &note.1 {
-        Note::Arrival { caller, instance } => {
+        JournalRow::Arrival { caller, instance } => {
             let targets = site.targets(alloc, caller, &instance.key)?;
             add_goals(goals, alloc, note.0, &targets)
         }
-        Note::Adoption => Err(OpeningFault::OtherSite),
+        JournalRow::Adoption => Err(OpeningFault::OtherSite),
         _ => Ok(()),
     }
 }
@@ -263,7 +263,7 @@ fn add_goals_of(
 pub fn made_goals(
     alloc: Global,
     site: &Site,
-    notes: &[(u64, Note)],
+    notes: &[(u64, JournalRow)],
 ) -> Result<Vec<(u64, Text)>, OpeningFault> {
     let mut goals = Vec::new(alloc);
     for note in notes {

@@ -13,14 +13,14 @@ use crate::asking::{add_rows, run_texts};
 use crate::fault::{OpeningFault, of_error, of_finding};
 use crate::lines::{notes_in, put_lines};
 use crate::making::LATER;
-use crate::older::{Told, found_goals, made_goals, prints_for, told_of};
+use crate::older::{OlderRows, found_goals, made_goals, prints_for, told_of};
 use crate::sheets::{Sheets, ask_sheets, test_sheets};
 use dr_base::Text;
 use dr_ledger::Instance;
 use dr_site::Site;
 use dr_store_audit::stock::stock_all;
 use dr_store_audit::{Lacks, agree, lacking};
-use dr_store_lists::Note;
+use dr_store_lists::JournalRow;
 use dr_store_reads::Print;
 use dr_store_writes::{add_print, add_target, set_body};
 use sqlite::{Alter, Connection, Transaction};
@@ -45,9 +45,9 @@ const LEAVE: [&str; 6] = [
 fn test(
     alloc: Global,
     site: &Site,
-    told: &Told,
+    told: &OlderRows,
     prints: &[(Text, Print)],
-    notes: &[(u64, Note)],
+    notes: &[(u64, JournalRow)],
     goals: &[(u64, Text)],
 ) -> Result<(), OpeningFault> {
     let next = notes.len() as u64 + 1;
@@ -238,7 +238,7 @@ fn make_anew<'x, S: Alter>(
 fn goals_for(
     alloc: Global,
     site: &Site,
-    notes: &[(u64, Note)],
+    notes: &[(u64, JournalRow)],
     found: Option<Vec<(u64, Text)>>,
 ) -> Result<Vec<(u64, Text)>, OpeningFault> {
     match found {
@@ -252,7 +252,7 @@ fn put_rest<'x, S: Alter>(
     tx: &mut Transaction<'_, S>,
     alloc: Global,
     site: &'x Site,
-    told: &'x Told,
+    told: &'x OlderRows,
     prints: &'x [(Text, Print)],
     found: Option<Vec<(u64, Text)>>,
 ) -> Result<(), OpeningFault>
@@ -276,7 +276,7 @@ fn put_rest<'x, S: Alter>(
 /// The instances that the file has.
 fn items_of(
     alloc: Global,
-    told: &Told,
+    told: &OlderRows,
     prints: &[(Text, Print)],
 ) -> Result<BTreeMap<Text, Instance>, OpeningFault> {
     match stock_all(alloc, told.keys.as_slice(), prints) {

@@ -8,12 +8,12 @@ use Rattle.dr_store_bodies.specs.declared.fault.BodyFault.TheVariants as body
 use Rattle.dr_store_bodies.specs.Bodies.{extents, IsHeld}
 use Rattle.dr_store_shelf.specs.declared.fault.ShelfFault.{ShelfFault}
 use Rattle.dr_store_shelf.specs.declared.fault.ShelfFault.TheVariants as fault
-use Rattle.dr_store_shelf.specs.declared.shelf.Cell.{Cell}
-use Rattle.dr_store_shelf.specs.declared.shelf.Cell.TheVariants.{Itself, Name}
+use Rattle.dr_store_shelf.specs.declared.shelf.BodyCell.{BodyCell}
+use Rattle.dr_store_shelf.specs.declared.shelf.BodyCell.TheVariants.{Itself, Name}
 use Rattle.dr_store_shelf.specs.Cells.{Passes, extent_in}
 
 -- the bytes of a cell that was given out for this data set
-abbrev pub bytes_of : Cell → List ℕ → List ℕ
+abbrev pub bytes_of : BodyCell → List ℕ → List ℕ
 bytes_of Itself body = body
 bytes_of (Name cell) body = cell.items
 

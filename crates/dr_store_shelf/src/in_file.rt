@@ -7,7 +7,7 @@ ghost use Rattle.dr_store_shelf.specs.Shelves.{IsUsed, IsWhyNotRead, Stands};
 
 use crate::cell::{blank_cell, extent_of, passes, placed_cell};
 use crate::fault::ShelfFault;
-use crate::shelf::{Cell, Shelf};
+use crate::shelf::{BodyCell, Shelf};
 use dr_store_bodies::{Bodies, Extent};
 use sqlite_disk::{Crash, Disk};
 use std::alloc::Global;
@@ -96,10 +96,10 @@ impl<D: Disk> Shelf for InFile<D> {
 
     ghost passed = { λ it cell bytes is. is.1 };
 
-    fn put(&mut self, body: &[u8]) -> Result<Cell, ShelfFault> {
+    fn put(&mut self, body: &[u8]) -> Result<BodyCell, ShelfFault> {
         let cell = blank_cell(self.alloc, self.key, body)?;
         let extent = self.bodies.put(body)?;
-        Ok(Cell::Name(placed_cell(cell, extent.at)))
+        Ok(BodyCell::Name(placed_cell(cell, extent.at)))
     }
 
     fn get(&mut self, cell: Vec<u8>) -> Result<Vec<u8>, ShelfFault> {

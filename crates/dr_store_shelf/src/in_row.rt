@@ -1,6 +1,6 @@
 //! Data sets in the rows of the table.
 use crate::fault::ShelfFault;
-use crate::shelf::{Cell, Shelf};
+use crate::shelf::{BodyCell, Shelf};
 
 /// Each data set stands in the row itself: the cell is the data set.
 #[derive(Clone, Copy, Debug, Drop)]
@@ -28,8 +28,8 @@ impl Shelf for InRow {
 
     ghost passed = { λ _ _ _ is. is };
 
-    fn put(&mut self, _body: &[u8]) -> Result<Cell, ShelfFault> {
-        Ok(Cell::Itself)
+    fn put(&mut self, _body: &[u8]) -> Result<BodyCell, ShelfFault> {
+        Ok(BodyCell::Itself)
     }
 
     fn get(&mut self, cell: Vec<u8>) -> Result<Vec<u8>, ShelfFault> {

@@ -17,4 +17,4 @@ pub use cell::{blank_cell, extent_of, passes, placed_cell};
 pub use fault::ShelfFault;
 pub use in_file::InFile;
 pub use in_row::InRow;
-pub use shelf::{Cell, Shelf};
+pub use shelf::{BodyCell, Shelf};

@@ -6,7 +6,7 @@ use crate::fault::ShelfFault;
 
 /// What stands in a ledger's table for a data set that was put.
 #[derive(Debug, Drop)]
-pub enum Cell {
+pub enum BodyCell {
     /// The data set itself.
     Itself,
     /// These bytes, which name it.
@@ -52,7 +52,7 @@ pub trait Shelf {
     ///
     /// Errors: Io where a call of the disk failed, Memory, Unusable, Full. None leaves a cell in
     /// use that wasn't.
-    fn put(&mut self, body: &[u8]) -> Result<Cell, ShelfFault>
+    fn put(&mut self, body: &[u8]) -> Result<BodyCell, ShelfFault>
         requires { 0 < length body.now }
         ensures stands { IfOk result (λ cell. stands self.new (bytes_of cell body.now) body.now) }
         ensures used { IfOk result (λ cell. uses self.new (bytes_of cell body.now)) }

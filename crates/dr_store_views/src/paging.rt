@@ -18,14 +18,12 @@ use crate::counting::state_cell;
 use dr_base::{Seq, Text};
 use dr_ledger::{LedgerFault, Progress};
 use dr_ledger_views::Stage;
+use dr_ledger_views::listed::Row as Entry;
 use dr_store_lists::listing::{row_entries, text_keys};
 use dr_store_reads::queries::ask;
 use sqlite::types::ValueRef;
 use sqlite::{Alter, Connection, Row};
 use std::alloc::Global;
-
-/// A row: which instance, where to, and how far it is.
-pub type Entry = ((Text, Text), Progress);
 
 /// What the rows of an answer say; their keys have to rise.
 fn entries_in(alloc: Global, rows: &[Row]) -> Result<Seq<Entry>, LedgerFault>

@@ -4,14 +4,14 @@ use Rattle.std.specs.Borrow.{Bor}
 use Rattle.dr_base.specs.Texts.{Text}
 use Rattle.dr_run_ask.specs.Calls.{dest_form, reason_form, row_form, uid_form}
 use Rattle.dr_run_ask.specs.Conversations.{OnlyReads, Tells}
-use Rattle.dr_run_ask.specs.declared.answer.Answer.{Answer}
-use Rattle.dr_run_ask.specs.declared.call.Call.{Call}
-use Rattle.dr_run_ask.specs.declared.call.Call.TheVariants as calls
+use Rattle.dr_run_ask.specs.declared.answer.HttpAnswer.{HttpAnswer}
+use Rattle.dr_run_ask.specs.declared.call.HttpCall.{HttpCall}
+use Rattle.dr_run_ask.specs.declared.call.HttpCall.TheVariants as calls
 use Rattle.dr_run_ask.specs.declared.fault.AskFault.{AskFault}
 use Rattle.dr_run_ask.specs.declared.fault.AskFault.TheVariants as faults
 use Rattle.dr_run_open.specs.declared.status.Status.{Status as Ending}
 use Rattle.dr_run_open.specs.declared.status.Status.TheVariants as ends
-use Rattle.dr_word_at.specs.declared.doing.Outcome.{Outcome}
+use Rattle.dr_word_at.specs.declared.doing.ErrandOutcome.{ErrandOutcome}
 use Rattle.dr_word_line.specs.declared.words.Errand.{Errand}
 use Rattle.dr_word_line.specs.declared.words.Errand.TheVariants as errands
 
@@ -34,10 +34,10 @@ status_of faults.NotOver = ends.Refused
 status_of faults.Store = ends.InputOutput
 status_of faults.Memory = ends.Memory
 
-module _ {S : Type 0} (answers : S → Call → Result Answer AskFault → S → Type 0) where
+module _ {S : Type 0} (answers : S → HttpCall → Result HttpAnswer AskFault → S → Type 0) where
   -- an errand that tells the node this: want of memory may come before anything was asked; where it
   -- is done, this line is printed
-  abbrev pub Does : Text → Text → Call → Text → S → Result Outcome AskFault → S → Type 0
+  abbrev pub Does : Text → Text → HttpCall → Text → S → Result ErrandOutcome AskFault → S → Type 0
   Does name digest call line old (Ok outcome) new =
       Tells answers name digest call old (Ok tt) new
       × (outcome.text ≡ line)
@@ -46,7 +46,10 @@ module _ {S : Type 0} (answers : S → Call → Result Answer AskFault → S →
       (new ≡ old) ⊎ Tells answers name digest call old (Err fault) new
 
   -- the same with this form
-  abbrev pub Acts : Text → Text → Text → (Bor (List ℕ) → Call) → Text → S → Result Outcome AskFault
+  abbrev pub Acts : Text → Text → Text
+      → (Bor (List ℕ) → HttpCall)
+      → Text → S
+      → Result ErrandOutcome AskFault
       → S → Type 0
   Acts name digest form call line old came new =
       (IsErr came × (new ≡ old))
@@ -54,7 +57,7 @@ module _ {S : Type 0} (answers : S → Call → Result Answer AskFault → S →
       × Does name digest (call written) line old came new)
 
   -- What a node is asked and told by an errand: a word that reads asks alone.
-  abbrev pub Runs : Text → Text → Errand → S → Result Outcome AskFault → S → Type 0
+  abbrev pub Runs : Text → Text → Errand → S → Result ErrandOutcome AskFault → S → Type 0
   Runs name digest errands.List old came new = OnlyReads answers old new
   Runs name digest errands.Summary old came new = OnlyReads answers old new
   Runs name digest errands.StrictSummary old came new = OnlyReads answers old new

@@ -3,7 +3,7 @@ ghost use Rattle.std.specs.Prelude.{◌≡◌, IfOk, true, option_map};
 ghost use Rattle.dr_run_ask.specs.Calls.{request_of};
 
 use dr_base::Text;
-use dr_run_ask::{Answer, AskFault, Asks, Call, MOST, answer_in, request_bytes};
+use dr_run_ask::{AskFault, Asks, HttpAnswer, HttpCall, MOST, answer_in, request_bytes};
 use dr_run_net::Network;
 use dr_session::{Clock, Heard, Link};
 use std::alloc::Global;
@@ -80,7 +80,7 @@ fn exchange<L: Link, C: Clock>(
     clock: &C,
     bytes: &[u8],
     until: u64,
-) -> Result<Answer, AskFault>
+) -> Result<HttpAnswer, AskFault>
     ensures { IfOk result (λ _. (mid : L) × L.sends link.old bytes.now true mid) }
 {
     if link.send(bytes) {
@@ -104,7 +104,7 @@ impl<'a, N: Network, C: Clock> Asks for Caller<'a, N, C> {
         × N.Socket.sends link (request_of s.at.now (option_map (λ token. token.now) s.token) call)
         true mid) };
 
-    fn ask(&mut self, call: Call<'_>) -> Result<Answer, AskFault> {
+    fn ask(&mut self, call: HttpCall<'_>) -> Result<HttpAnswer, AskFault> {
         let bytes = request_bytes(self.alloc, self.at, self.token, call)?;
         let until = self.clock.now().saturating_add(WAIT);
         let mut link = connect(self.alloc, self.network, self.at)?;

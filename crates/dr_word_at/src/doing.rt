@@ -2,13 +2,13 @@
 ghost use Rattle.std.specs.Prelude.{◌≡◌, codes};
 ghost use Rattle.dr_run_ask.specs.Calls.{dest_form, reason_form, row_form, uid_form};
 ghost use Rattle.dr_run_ask.specs.Conversations.{OnlyReads};
-ghost use Rattle.dr_run_ask.specs.declared.call.Call.TheVariants as calls;
+ghost use Rattle.dr_run_ask.specs.declared.call.HttpCall.TheVariants as calls;
 ghost use Rattle.dr_word_at.specs.Errands.{Acts, Does, Runs};
 
 use crate::listing::{list_of, summary_of};
 use dr_base::Text;
 use dr_run_ask::{
-    AskFault, Asks, Call, Meant, dest_form, reason_form, row_form, see, tell, uid_form,
+    AskFault, Asks, HttpCall, Meant, dest_form, reason_form, row_form, see, tell, uid_form,
 };
 use dr_run_open::{NextHop, Status};
 use dr_word_line::Errand;
@@ -16,7 +16,7 @@ use std::alloc::{AllocError, Global};
 
 /// What an errand comes to: what is printed, and the exit status.
 #[derive(Drop)]
-pub struct Outcome {
+pub struct ErrandOutcome {
     pub text: Text,
     pub status: Status,
 }
@@ -29,9 +29,9 @@ fn act<A: Asks>(
     alloc: Global,
     node: &mut A,
     meant: Meant<'_>,
-    call: Call<'_>,
+    call: HttpCall<'_>,
     line: &str,
-) -> Result<Outcome, AskFault>
+) -> Result<ErrandOutcome, AskFault>
     ensures { Does A.answers meant.entry.name.now meant.entry.digest.now call.entry line.now
         node.old result node.new }
 {
@@ -40,7 +40,7 @@ fn act<A: Asks>(
         Err(AllocError) => return Err(AskFault::Memory),
     };
     match tell(alloc, node, meant, call) {
-        Ok(()) => Ok(Outcome {
+        Ok(()) => Ok(ErrandOutcome {
             text,
             status: Status::Success,
         }),
@@ -56,11 +56,11 @@ fn list_seen<A: Asks>(
     node: &mut A,
     name: &Text,
     hops: &[NextHop],
-) -> Result<Outcome, AskFault>
+) -> Result<ErrandOutcome, AskFault>
     ensures { OnlyReads A.answers node.old node.new }
 {
     match list_of(alloc, node, name, hops) {
-        Ok(text) => Ok(Outcome {
+        Ok(text) => Ok(ErrandOutcome {
             text,
             status: Status::Success,
         }),
@@ -76,7 +76,7 @@ fn list<A: Asks>(
     node: &mut A,
     meant: Meant<'_>,
     hops: &[NextHop],
-) -> Result<Outcome, AskFault>
+) -> Result<ErrandOutcome, AskFault>
     ensures { OnlyReads A.answers node.old node.new }
 {
     match see(alloc, node, meant) {
@@ -101,7 +101,7 @@ fn summarize<A: Asks>(
     node: &mut A,
     meant: Meant<'_>,
     is_strict: bool,
-) -> Result<Outcome, AskFault>
+) -> Result<ErrandOutcome, AskFault>
     ensures { OnlyReads A.answers node.old node.new }
 {
     let answer = match see(alloc, node, meant) {
@@ -109,7 +109,7 @@ fn summarize<A: Asks>(
         Err(fault) => return Err(fault),
     };
     match summary_of(alloc, meant.name, &answer) {
-        Ok(summed) => Ok(Outcome {
+        Ok(summed) => Ok(ErrandOutcome {
             text: summed.text,
             status: strict_status(is_strict, summed.is_held),
         }),
@@ -126,7 +126,7 @@ fn requeue_row<A: Asks>(
     meant: Meant<'_>,
     uid: &str,
     dest: &str,
-) -> Result<Outcome, AskFault>
+) -> Result<ErrandOutcome, AskFault>
     ensures { Acts A.answers meant.entry.name.now meant.entry.digest.now (row_form uid.now dest.now)
         calls.Requeue (codes "requeued\n") node.old result node.new }
 {
@@ -134,7 +134,7 @@ fn requeue_row<A: Asks>(
         Ok(form) => form,
         Err(AllocError) => return Err(AskFault::Memory),
     };
-    let call = Call::Requeue(form.as_str());
+    let call = HttpCall::Requeue(form.as_str());
     act(alloc, node, meant, call, "requeued\n")
 }
 
@@ -146,7 +146,7 @@ fn requeue_all<A: Asks>(
     node: &mut A,
     meant: Meant<'_>,
     dest: &str,
-) -> Result<Outcome, AskFault>
+) -> Result<ErrandOutcome, AskFault>
     ensures { Acts A.answers meant.entry.name.now meant.entry.digest.now (dest_form dest.now)
         calls.Requeue (codes "requeued\n") node.old result node.new }
 {
@@ -154,7 +154,7 @@ fn requeue_all<A: Asks>(
         Ok(form) => form,
         Err(AllocError) => return Err(AskFault::Memory),
     };
-    let call = Call::Requeue(form.as_str());
+    let call = HttpCall::Requeue(form.as_str());
     act(alloc, node, meant, call, "requeued\n")
 }
 
@@ -167,7 +167,7 @@ fn give_row_up<A: Asks>(
     meant: Meant<'_>,
     uid: &str,
     dest: &str,
-) -> Result<Outcome, AskFault>
+) -> Result<ErrandOutcome, AskFault>
     ensures { Acts A.answers meant.entry.name.now meant.entry.digest.now (row_form uid.now dest.now)
         calls.GiveUp (codes "dropped\n") node.old result node.new }
 {
@@ -175,7 +175,7 @@ fn give_row_up<A: Asks>(
         Ok(form) => form,
         Err(AllocError) => return Err(AskFault::Memory),
     };
-    let call = Call::GiveUp(form.as_str());
+    let call = HttpCall::GiveUp(form.as_str());
     act(alloc, node, meant, call, "dropped\n")
 }
 
@@ -189,7 +189,7 @@ fn give_row_up_for<A: Asks>(
     uid: &str,
     dest: &str,
     reason: &str,
-) -> Result<Outcome, AskFault>
+) -> Result<ErrandOutcome, AskFault>
     ensures { Acts A.answers meant.entry.name.now meant.entry.digest.now
         (reason_form uid.now dest.now reason.now)
         calls.GiveUp (codes "dropped\n") node.old result node.new }
@@ -198,7 +198,7 @@ fn give_row_up_for<A: Asks>(
         Ok(form) => form,
         Err(AllocError) => return Err(AskFault::Memory),
     };
-    let call = Call::GiveUp(form.as_str());
+    let call = HttpCall::GiveUp(form.as_str());
     act(alloc, node, meant, call, "dropped\n")
 }
 
@@ -210,7 +210,7 @@ fn visit_node<A: Asks>(
     node: &mut A,
     meant: Meant<'_>,
     dest: &str,
-) -> Result<Outcome, AskFault>
+) -> Result<ErrandOutcome, AskFault>
     ensures { Acts A.answers meant.entry.name.now meant.entry.digest.now (dest_form dest.now)
         calls.Visit (codes "visited\n") node.old result node.new }
 {
@@ -218,7 +218,7 @@ fn visit_node<A: Asks>(
         Ok(form) => form,
         Err(AllocError) => return Err(AskFault::Memory),
     };
-    let call = Call::Visit(form.as_str());
+    let call = HttpCall::Visit(form.as_str());
     act(alloc, node, meant, call, "visited\n")
 }
 
@@ -230,7 +230,7 @@ fn forget_instance<A: Asks>(
     node: &mut A,
     meant: Meant<'_>,
     uid: &str,
-) -> Result<Outcome, AskFault>
+) -> Result<ErrandOutcome, AskFault>
     ensures { Acts A.answers meant.entry.name.now meant.entry.digest.now (uid_form uid.now)
         calls.Forget (codes "forgotten\n") node.old result node.new }
 {
@@ -238,7 +238,7 @@ fn forget_instance<A: Asks>(
         Ok(form) => form,
         Err(AllocError) => return Err(AskFault::Memory),
     };
-    let call = Call::Forget(form.as_str());
+    let call = HttpCall::Forget(form.as_str());
     act(alloc, node, meant, call, "forgotten\n")
 }
 
@@ -251,7 +251,7 @@ pub fn run_errand<A: Asks>(
     meant: Meant<'_>,
     hops: &[NextHop],
     errand: Errand<'_>,
-) -> Result<Outcome, AskFault>
+) -> Result<ErrandOutcome, AskFault>
     ensures { Runs A.answers meant.entry.name.now meant.entry.digest.now errand.entry node.old
         result node.new }
 {
@@ -267,6 +267,6 @@ pub fn run_errand<A: Asks>(
         ),
         Errand::Forget(uid) => forget_instance(alloc, node, meant, uid),
         Errand::Visit(dest) => visit_node(alloc, node, meant, dest),
-        Errand::Stop => act(alloc, node, meant, Call::Stop, "stopped\n"),
+        Errand::Stop => act(alloc, node, meant, HttpCall::Stop, "stopped\n"),
     }
 }

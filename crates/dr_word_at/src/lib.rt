@@ -13,5 +13,5 @@ mod running;
 mod shown;
 
 pub use caller::Caller;
-pub use doing::{Outcome, run_errand};
+pub use doing::{ErrandOutcome, run_errand};
 pub use running::ask_files;

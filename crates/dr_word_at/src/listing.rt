@@ -5,7 +5,7 @@ use crate::shown::{number_in, put_queue, put_row, text_in};
 use dr_base::Text;
 use dr_ledger_report::{put_name, put_number};
 use dr_run_ask::{
-    Answer, AskFault, Asks, Call, first_value, refusal, rows_form, text_at, value_of,
+    AskFault, Asks, HttpAnswer, HttpCall, first_value, refusal, rows_form, text_at, value_of,
 };
 use dr_run_open::NextHop;
 use std::alloc::{AllocError, Global};
@@ -62,14 +62,14 @@ fn ask_rows<A: Asks>(
     node: &mut A,
     dest: &str,
     after: &str,
-) -> Result<Answer, AskFault>
+) -> Result<HttpAnswer, AskFault>
     ensures { OnlyReads A.answers node.old node.new }
 {
     let form = match rows_form(alloc, dest, after) {
         Ok(form) => form,
         Err(AllocError) => return Err(AskFault::Memory),
     };
-    node.ask(Call::Rows(form.as_str()))
+    node.ask(HttpCall::Rows(form.as_str()))
 }
 
 /// Adds the lines of the rows that an answer tells, and tells the UID of the last one.
@@ -78,7 +78,7 @@ fn ask_rows<A: Asks>(
 fn put_answer(
     alloc: Global,
     out: &mut Vec<u8>,
-    answer: &Answer,
+    answer: &HttpAnswer,
 ) -> Result<Option<String>, AskFault> {
     if answer.status != 200 {
         return Err(refusal(alloc, answer));
@@ -250,7 +250,7 @@ fn put_queues(alloc: Global, out: &mut Vec<u8>, text: &str) -> Result<bool, AskF
 
 /// How many arrivals, kept instances and lines of its journal a node has.
 #[derive(Clone, Copy)]
-struct Totals {
+struct TotalsTold {
     arrivals: u64,
     kept: u64,
     lines: u64,
@@ -259,12 +259,12 @@ struct Totals {
 /// What the first line of an answer tells of them.
 ///
 /// Errors: NoNodesAnswer, Memory.
-fn totals_in(alloc: Global, answer: &Answer) -> Result<Totals, AskFault> {
+fn totals_in(alloc: Global, answer: &HttpAnswer) -> Result<TotalsTold, AskFault> {
     let value = first_value(alloc, answer.body.as_slice())?;
     let arrivals = number_in(&value, "arrivals")?;
     let kept = number_in(&value, "kept")?;
     let lines = number_in(&value, "lines")?;
-    Ok(Totals {
+    Ok(TotalsTold {
         arrivals,
         kept,
         lines,
@@ -274,7 +274,11 @@ fn totals_in(alloc: Global, answer: &Answer) -> Result<Totals, AskFault> {
 /// How much a node has, by what it says of itself.
 ///
 /// Errors: NoNodesAnswer, Memory.
-pub(crate) fn summary_of(alloc: Global, name: &Text, answer: &Answer) -> Result<Summed, AskFault> {
+pub(crate) fn summary_of(
+    alloc: Global,
+    name: &Text,
+    answer: &HttpAnswer,
+) -> Result<Summed, AskFault> {
     let Ok(text) = str::from_utf8(answer.body.as_slice()) else {
         return Err(AskFault::NoNodesAnswer);
     };

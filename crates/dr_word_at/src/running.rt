@@ -3,7 +3,7 @@ ghost use Rattle.std.specs.Prelude.{◌≡◌};
 ghost use Rattle.dr_word_at.specs.Errands.{status_of};
 
 use crate::caller::Caller;
-use crate::doing::{Outcome, run_errand};
+use crate::doing::{ErrandOutcome, run_errand};
 use dr_base::Text;
 use dr_cert::Sealed;
 use dr_run_ask::{AskFault, Meant};
@@ -40,52 +40,56 @@ fn status_of(fault: AskFault) -> Status
 
 /// Why an errand comes to nothing.
 #[derive(Drop)]
-enum Stopped<'a> {
+enum ErrandStopped<'a> {
     /// Before anything was asked.
     Halted(Halt<'a>),
     /// By the node, or on the way to it.
     Asking(AskFault),
 }
 
-impl<'a> From<Halt<'a>> for Stopped<'a> {
-    fn from(halt: Halt<'a>) -> Stopped<'a> {
-        Stopped::Halted(halt)
+impl<'a> From<Halt<'a>> for ErrandStopped<'a> {
+    fn from(halt: Halt<'a>) -> ErrandStopped<'a> {
+        ErrandStopped::Halted(halt)
     }
 }
 
-impl<'a> From<AskFault> for Stopped<'a> {
-    fn from(fault: AskFault) -> Stopped<'a> {
-        Stopped::Asking(fault)
+impl<'a> From<AskFault> for ErrandStopped<'a> {
+    fn from(fault: AskFault) -> ErrandStopped<'a> {
+        ErrandStopped::Asking(fault)
     }
 }
 
-impl<'a> From<AllocError> for Stopped<'a> {
-    fn from(_: AllocError) -> Stopped<'a> {
-        Stopped::Asking(AskFault::Memory)
+impl<'a> From<AllocError> for ErrandStopped<'a> {
+    fn from(_: AllocError) -> ErrandStopped<'a> {
+        ErrandStopped::Asking(AskFault::Memory)
     }
 }
 
 /// Where a node of the plan sends.
 ///
 /// Errors: NoNode, Memory.
-fn hops_from<'a>(alloc: Global, sealed: &Sealed, name: &Text) -> Result<Vec<NextHop>, Stopped<'a>> {
+fn hops_from<'a>(
+    alloc: Global,
+    sealed: &Sealed,
+    name: &Text,
+) -> Result<Vec<NextHop>, ErrandStopped<'a>> {
     let site = match Site::of(alloc, sealed, name) {
         Ok(site) => site,
-        Err(SiteFault::NoNode) => return Err(Stopped::Halted(Halt::NoNode)),
-        Err(SiteFault::Memory) => return Err(Stopped::Asking(AskFault::Memory)),
+        Err(SiteFault::NoNode) => return Err(ErrandStopped::Halted(Halt::NoNode)),
+        Err(SiteFault::Memory) => return Err(ErrandStopped::Asking(AskFault::Memory)),
     };
     let hops = hops_of(alloc, &site, sealed.plan());
     drop(site);
     match hops {
         Ok(hops) => Ok(hops),
-        Err(AllocError) => Err(Stopped::Asking(AskFault::Memory)),
+        Err(AllocError) => Err(ErrandStopped::Asking(AskFault::Memory)),
     }
 }
 
 /// What the plan says of the node that is meant: its name, the digest of the plan in lower-case
 /// hexadecimal digits, and where it sends.
 #[derive(Drop)]
-struct Place {
+struct NodeMeant {
     name: Text,
     digest: Text,
     hops: Vec<NextHop>,
@@ -102,11 +106,15 @@ fn digest_of(alloc: Global, sealed: &Sealed) -> Result<Text, AllocError> {
 /// What the plan says of the node of that name.
 ///
 /// Errors: NoNode, Memory.
-fn place_in<'a>(alloc: Global, sealed: &Sealed, node: &str) -> Result<Place, Stopped<'a>> {
+fn place_in<'a>(
+    alloc: Global,
+    sealed: &Sealed,
+    node: &str,
+) -> Result<NodeMeant, ErrandStopped<'a>> {
     let name = Text::copy_of(alloc, node.as_bytes())?;
     let hops = hops_from(alloc, sealed, &name)?;
     let digest = digest_of(alloc, sealed)?;
-    Ok(Place { name, digest, hops })
+    Ok(NodeMeant { name, digest, hops })
 }
 
 /// What the plan in these files says of the node that is meant.
@@ -116,10 +124,10 @@ fn place_of<'a, F: Files>(
     alloc: Global,
     files: &F,
     given: RunningNode<'a>,
-) -> Result<Place, Stopped<'a>> {
+) -> Result<NodeMeant, ErrandStopped<'a>> {
     let sealed = match seal_files(alloc, files, given.plan, given.certificate) {
         Ok(sealed) => sealed,
-        Err(halt) => return Err(Stopped::Halted(halt)),
+        Err(halt) => return Err(ErrandStopped::Halted(halt)),
     };
     let place = place_in(alloc, &sealed, given.node);
     drop(sealed);
@@ -133,13 +141,13 @@ fn token_of<'a, F: Tokens>(
     alloc: Global,
     files: &F,
     path: Option<&'a str>,
-) -> Result<Option<Text>, Stopped<'a>> {
+) -> Result<Option<Text>, ErrandStopped<'a>> {
     let Some(path) = path else {
         return Ok(None);
     };
     match files.token(alloc, path) {
         Ok(token) => Ok(Some(token)),
-        Err(error) => Err(Stopped::Halted(Halt::Failed(Failure::File(path, error)))),
+        Err(error) => Err(ErrandStopped::Halted(Halt::Failed(Failure::File(path, error)))),
     }
 }
 
@@ -152,9 +160,9 @@ fn ask_at<'x, N: Network, C: Clock>(
     clock: &'x C,
     at: &'x Text,
     token: Option<&'x Text>,
-    place: &Place,
+    place: &NodeMeant,
     errand: Errand<'_>,
-) -> Result<Outcome, AskFault> {
+) -> Result<ErrandOutcome, AskFault> {
     let mut caller = Caller {
         alloc,
         network,
@@ -179,7 +187,7 @@ fn come<'a, F: Files + Tokens, N: Network, C: Clock>(
     errand: Errand<'a>,
     network: &N,
     clock: &C,
-) -> Result<Outcome, Stopped<'a>> {
+) -> Result<ErrandOutcome, ErrandStopped<'a>> {
     let place = place_of(alloc, files, given)?;
     let token = token_of(alloc, files, given.token)?;
     let at = Text::copy_of(alloc, given.at.as_bytes())?;
@@ -206,8 +214,8 @@ pub fn ask_files<'a, F: Files + Tokens, N: Network, C: Clock, W: Write, E: Write
             output.write_all(outcome.text.as_bytes())?;
             Ok(outcome.status)
         }
-        Err(Stopped::Halted(halt)) => finish(Err(halt), output, faults),
-        Err(Stopped::Asking(fault)) => {
+        Err(ErrandStopped::Halted(halt)) => finish(Err(halt), output, faults),
+        Err(ErrandStopped::Asking(fault)) => {
             writeln!(faults, "dr_router: {fault}")?;
             Ok(status_of(fault))
         }

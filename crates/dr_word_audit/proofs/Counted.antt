@@ -9,14 +9,14 @@ use Rattle.dr_ledger_history.specs.declared.line.JournalLine.{JournalLine}
 use Rattle.dr_world_journals.specs.Journals.{until_adoption}
 use Rattle.dr_word_audit.specs.Figures.{how_many, is_of}
 use Rattle.dr_word_audit.specs.Telling.{is_told, number_told}
-use Rattle.dr_word_audit.specs.declared.counting.Kind.{Kind}
+use Rattle.dr_word_audit.specs.declared.counting.LineKind.{LineKind}
 
 one_more : {X Y : Type 0} (b : Bool) (x : X) (y : Y) (xs : List X) (ys : List Y) → length xs ≡ length ys → length (cond b (x ∷ xs) xs) ≡ length (cond b (y ∷ ys) ys)
 one_more true x y xs ys same = ap (λ n. suc n) same
 one_more false x y xs ys same = same
 
 -- what is counted of lines as they are kept is counted of the lines
-pub counts_told : (sort : Kind) (others : List Text) (lines : List JournalLine) → number_told sort others lines ≡ how_many sort others (mapped line_of lines)
+pub counts_told : (sort : LineKind) (others : List Text) (lines : List JournalLine) → number_told sort others lines ≡ how_many sort others (mapped line_of lines)
 counts_told sort others [] = refl
 counts_told sort others (x ∷ xs) = one_more (is_of sort others (line_of x)) x (line_of x) (filter (is_told sort others) xs) (filter (is_of sort others) (mapped line_of xs)) (counts_told sort others xs)
 

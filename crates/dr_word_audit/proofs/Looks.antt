@@ -28,7 +28,7 @@ use Rattle.dr_word_adopt.specs.declared.change.Halted.{Halted}
 use Rattle.dr_word_audit.specs.declared.reading.Gathering.{Gathering}
 use Rattle.dr_word_audit.specs.declared.reading.Gathering.TheVariants.{Missing}
 use Rattle.dr_word_audit.specs.declared.reading.Seen.{Seen}
-use Rattle.dr_word_audit.specs.declared.reading.Shown.{Shown}
+use Rattle.dr_word_audit.specs.declared.reading.JournalShown.{JournalShown}
 
 -- a stop that isn't a ledger's that is missing
 pub stops : (plan : Network) (all : List Text) (name : Text) (halt : Halt) → (NamesNoNode plan name → IsStop plan all NoNode) → IsUnread plan name halt → is_missing halt ≡ false → IsStop plan all halt
@@ -102,7 +102,7 @@ module _ (sealed : Certified) (name : Text) where
         subst P (sym h) tt
 
 -- what a ledger lists, and what is shown of it
-pub shows : (others : List Text) (name : Text) (old mid next : Book) (lines : List JournalLine) (kept : List (Text × ℕ)) (rows : List Row) (count : ℕ) (shown : Shown)
+pub shows : (others : List Text) (name : Text) (old mid next : Book) (lines : List JournalLine) (kept : List (Text × ℕ)) (rows : List Row) (count : ℕ) (shown : JournalShown)
     → mapped line_of lines ≡ old.lines → mid ≡ old → AreKept mid kept → next ≡ mid → rows ≡ map.entries next.rows → count ≡ length kept → ∥ old ≡ Fold old.lines ∥₁
     → IsListed others name lines count rows shown → IsShown others old shown.journal shown.line
 shows others name old mid next lines kept rows count shown whole same has later all counted fold listed =

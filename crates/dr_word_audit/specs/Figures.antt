@@ -12,8 +12,8 @@ use Rattle.dr_run_open.specs.declared.queues.RowStage.{RowStage}
 use Rattle.dr_run_open.specs.declared.queues.RowStage.TheVariants as stages
 use Rattle.dr_word_audit.specs.Names.{is_among}
 use Rattle.dr_word_audit.specs.declared.counting.Figures.{Figures}
-use Rattle.dr_word_audit.specs.declared.counting.Kind.{Kind}
-use Rattle.dr_word_audit.specs.declared.counting.Kind.TheVariants as kind
+use Rattle.dr_word_audit.specs.declared.counting.LineKind.{LineKind}
+use Rattle.dr_word_audit.specs.declared.counting.LineKind.TheVariants as kind
 
 -- the receiver has the instance
 abbrev pub is_taken : Outcome → Bool
@@ -52,13 +52,13 @@ is_answer others (Forgetting uid) = false
 is_answer others Adoption = false
 
 -- the line is of this kind
-abbrev pub is_of : Kind → List Text → Line → Bool
+abbrev pub is_of : LineKind → List Text → Line → Bool
 is_of kind.First others line = is_first line
 is_of kind.Dropped others line = is_dropping line
 is_of kind.Answered others line = is_answer others line
 
 -- how many of these lines are of this kind
-abbrev pub how_many : Kind → List Text → List Line → ℕ
+abbrev pub how_many : LineKind → List Text → List Line → ℕ
 how_many sort others lines = length (filter (is_of sort others) lines)
 
 -- the row is at this stage

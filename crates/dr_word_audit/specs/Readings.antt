@@ -21,7 +21,7 @@ use Rattle.dr_word_audit.specs.Figures.{figures, node_line}
 use Rattle.dr_word_audit.specs.declared.reading.Gathering.{Gathering}
 use Rattle.dr_word_audit.specs.declared.reading.Gathering.TheVariants.{All, Missing}
 use Rattle.dr_word_audit.specs.declared.reading.Seen.{Seen}
-use Rattle.dr_word_audit.specs.declared.reading.Shown.{Shown}
+use Rattle.dr_word_audit.specs.declared.reading.JournalShown.{JournalShown}
 
 -- why the ledger of the node of that name isn't read
 abbrev pub IsUnread : Network → Text → Halt → Type 0
@@ -37,7 +37,7 @@ IsUnread plan name (Failed failure) = ⊥
 
 -- what is shown of a node whose ledger lists these lines, so many kept instances and these rows
 pub record IsListed (others : List Text) (name : Text) (lines : List JournalLine) (kept : ℕ)
-    (rows : List Row) (shown : Shown) : Type 0 where
+    (rows : List Row) (shown : JournalShown) : Type 0 where
   pub named : shown.journal.name ≡ name
   pub whole : shown.journal.lines ≡ lines
   pub told : shown.line ≡ node_line name (figures others (mapped line_of lines) kept rows)

@@ -23,7 +23,7 @@ use dr_run_files::{Failure, Files};
 use dr_run_open::{Halt, Ledgers, Status, seal_files};
 use dr_word_adopt::{Halted, tell_stop};
 use dr_word_line::SiteFiles;
-use dr_world_audit::audit::{AuditFault, Mismatch, NodeJournal, Verdict, audit};
+use dr_world_audit::audit::{AuditFault, AuditVerdict, Mismatch, NodeJournal, audit};
 use std::alloc::{AllocError, Global};
 use std::io::Write;
 
@@ -52,7 +52,7 @@ fn tell_mismatch(
 /// What is printed of a verdict.
 fn tell_verdict(
     alloc: Global,
-    verdict: &Verdict,
+    verdict: &AuditVerdict,
     journals: &[NodeJournal],
     told: &[u8],
 ) -> Result<Audited, AllocError>
@@ -61,11 +61,11 @@ fn tell_verdict(
         → IsConclusion plan journals.now told.now audited) }
 {
     match verdict {
-        Verdict::Holds => {
+        AuditVerdict::Holds => {
             let text = tell_holds(alloc, journals.len(), told)?;
             Ok(Audited::Holds(text))
         }
-        Verdict::No(mismatch) => {
+        AuditVerdict::No(mismatch) => {
             let text = tell_mismatch(alloc, mismatch, journals)?;
             Ok(Audited::No(text))
         }
@@ -75,7 +75,11 @@ fn tell_verdict(
 /// Compares the journals of nodes of the plan, each once.
 ///
 /// Errors: Memory.
-fn judge<'a>(alloc: Global, sealed: &Sealed, journals: &[NodeJournal]) -> Result<Verdict, Halt<'a>>
+fn judge<'a>(
+    alloc: Global,
+    sealed: &Sealed,
+    journals: &[NodeJournal],
+) -> Result<AuditVerdict, Halt<'a>>
     requires { AreOfNodes sealed.now.plan journals.now }
     ensures { MatchResult result (IsVerdict sealed.now.plan journals.now)
         (λ halt. halt ≡ halts.Memory) }

@@ -17,7 +17,7 @@ use dr_world_audit::replay::count_past;
 
 /// Of which lines there may be how many.
 #[derive(Clone, Copy, Debug)]
-pub enum Kind {
+pub enum LineKind {
     /// First arrivals.
     First,
     /// Rows that a person gave up.
@@ -93,18 +93,18 @@ fn is_dropping(line: &JournalLine) -> bool
 }
 
 /// Whether the line is of this kind.
-fn is_of(sort: Kind, others: &[Text], line: &JournalLine) -> bool
+fn is_of(sort: LineKind, others: &[Text], line: &JournalLine) -> bool
     ensures { result ≡ is_told sort others.now line.now }
 {
     match sort {
-        Kind::First => is_first(line),
-        Kind::Dropped => is_dropping(line),
-        Kind::Answered => is_answer(others, line),
+        LineKind::First => is_first(line),
+        LineKind::Dropped => is_dropping(line),
+        LineKind::Answered => is_answer(others, line),
     }
 }
 
 /// How many of the lines are of this kind.
-fn how_many(sort: Kind, others: &[Text], lines: &[JournalLine]) -> usize
+fn how_many(sort: LineKind, others: &[Text], lines: &[JournalLine]) -> usize
     ensures { result ≡ number_told sort others.now lines.now }
 {
     let mut count = 0;
@@ -154,11 +154,11 @@ pub fn figures_of(others: &[Text], lines: &[JournalLine], kept: usize, rows: &[R
 {
     let since = since_of(lines);
     Figures {
-        arrivals: how_many(Kind::First, others, since),
+        arrivals: how_many(LineKind::First, others, since),
         kept,
         waiting: how_many_rows(RowStage::Waiting, rows),
         held: how_many_rows(RowStage::Held, rows),
-        dropped: how_many(Kind::Dropped, others, since),
-        others: how_many(Kind::Answered, others, since),
+        dropped: how_many(LineKind::Dropped, others, since),
+        others: how_many(LineKind::Answered, others, since),
     }
 }

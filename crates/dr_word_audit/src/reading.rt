@@ -20,7 +20,7 @@ use std::alloc::{AllocError, Global};
 
 /// A node's journal, and the line that tells how much the node has.
 #[derive(Drop)]
-pub struct Shown {
+pub struct JournalShown {
     pub journal: NodeJournal,
     pub line: Text,
 }
@@ -29,7 +29,7 @@ pub struct Shown {
 #[derive(Drop)]
 pub struct Seen<L: Ledger + Drop> {
     pub ledger: L,
-    pub shown: Shown,
+    pub shown: JournalShown,
 }
 
 /// What was read of several nodes: their journals, and the lines of all of them.
@@ -118,13 +118,13 @@ fn show(
     lines: Seq<JournalLine>,
     kept: usize,
     rows: &[Row],
-) -> Result<Shown, AllocError>
+) -> Result<JournalShown, AllocError>
     ensures { IfOk result (IsListed others.now name.now lines kept rows.now) }
 {
     let figures = figures_of(others, lines.as_slice(), kept, rows);
     let line = node_line(alloc, name, &figures)?;
     let name = name.clone()?;
-    Ok(Shown {
+    Ok(JournalShown {
         journal: NodeJournal { name, lines },
         line,
     })
@@ -138,7 +138,7 @@ fn read_ledger<L: TellsJournal>(
     others: &[Text],
     name: &Text,
     ledger: &mut L,
-) -> Result<Shown, LedgerFault>
+) -> Result<JournalShown, LedgerFault>
     ensures named { IfOk result (λ shown. shown.journal.name ≡ name.now) }
     ensures shown { IfOk result (λ shown. L.stands ledger.new
         → IsShown others.now (L.book ledger.old) shown.journal shown.line) }
@@ -216,13 +216,13 @@ fn add<L: Ledger + Drop>(all: &mut Gathered<L>, seen: Seen<L>) -> Result<(), All
 fn add_shown(
     journals: &mut Vec<NodeJournal>,
     told: &mut Vec<u8>,
-    shown: Shown,
+    shown: JournalShown,
 ) -> Result<(), AllocError>
     ensures { OnOk result
         ((journals.new.items ≡ journals.old.items ++ shown.journal ∷ [])
         × (told.new.items ≡ told.old.items ++ shown.line)) }
 {
-    let Shown { journal, line } = shown;
+    let JournalShown { journal, line } = shown;
     told.extend_from_slice(line.as_bytes())?;
     journals.push(journal)?;
     Ok(())

@@ -2,7 +2,7 @@
 ghost use Rattle.std.specs.Prelude.{IfOk};
 ghost use Rattle.dr_word_import.specs.Imports.{PrintsPlan, WritesPlan};
 
-use crate::table::{Table, gate_of, read_table};
+use crate::table::{DeviceTable, gate_of, read_table};
 use crate::writing::plan_text;
 use dr_plan::{PlanFault, read_plan};
 use dr_run_files::{Failure, Files, read_file};
@@ -41,7 +41,7 @@ fn write_plan<W: Write, E: Write>(
 /// Writes the plan of a table's devices.
 fn tell_plan<W: Write, E: Write>(
     alloc: Global,
-    table: &Table,
+    table: &DeviceTable,
     output: &mut W,
     faults: &mut E,
 ) -> io::Result<Status>

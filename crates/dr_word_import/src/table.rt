@@ -48,7 +48,7 @@ struct Columns {
 
 /// The devices of a table, and whether each of its rows is one.
 #[derive(Debug, Drop)]
-pub struct Table {
+pub struct DeviceTable {
     pub devices: Vec<Device>,
     pub is_whole: bool,
 }
@@ -230,7 +230,7 @@ fn place_or_name<E: Write>(
     alloc: Global,
     columns: Columns,
     row: &StringRecord,
-    table: &mut Table,
+    table: &mut DeviceTable,
     faults: &mut E,
 ) -> io::Result<()> {
     match place(alloc, columns, row, &mut table.devices) {
@@ -261,7 +261,7 @@ fn take_row<E: Write>(
     alloc: Global,
     columns: Option<Columns>,
     row: &StringRecord,
-    table: &mut Table,
+    table: &mut DeviceTable,
     faults: &mut E,
 ) -> io::Result<Option<Columns>> {
     match columns {
@@ -282,7 +282,7 @@ fn take_read<E: Write>(
     alloc: Global,
     columns: Option<Columns>,
     read: Result<StringRecord, csv::Error>,
-    table: &mut Table,
+    table: &mut DeviceTable,
     faults: &mut E,
 ) -> io::Result<Option<Columns>> {
     match read {
@@ -299,7 +299,7 @@ fn take_read<E: Write>(
 fn take_rows<E: Write>(
     alloc: Global,
     text: &[u8],
-    table: &mut Table,
+    table: &mut DeviceTable,
     faults: &mut E,
 ) -> io::Result<()> {
     let mut columns = None;
@@ -322,8 +322,8 @@ fn take_rows<E: Write>(
 /// The devices of a table, whose first row names its columns. Each row that isn't placed is named.
 ///
 /// Errors: Stream.
-pub fn read_table<E: Write>(alloc: Global, text: &[u8], faults: &mut E) -> io::Result<Table> {
-    let mut table = Table {
+pub fn read_table<E: Write>(alloc: Global, text: &[u8], faults: &mut E) -> io::Result<DeviceTable> {
+    let mut table = DeviceTable {
         devices: Vec::new(alloc),
         is_whole: true,
     };

@@ -15,33 +15,33 @@ use Rattle.dr_word_adopt.specs.Changes.{IsOpenedFor, IsSiteAt, path_in}
 use Rattle.dr_word_adopt.specs.Lookings.{IsUnseen}
 use Rattle.dr_word_rehearse.specs.Looks.{HasJust, IsFoundBy, IsLookAt, IsLooked, IsOverAt, IsUnread, LooksInto, LooksOver, Places}
 use Rattle.dr_word_rehearse.specs.Rehearsals.{AreLooked, LooksAt, looked, node_of}
-use Rattle.dr_word_rehearse.specs.declared.finds.Found.{Found}
-use Rattle.dr_word_rehearse.specs.declared.finds.Found.TheVariants as found
-use Rattle.dr_word_rehearse.specs.declared.looking.Look.{Look}
-use Rattle.dr_word_rehearse.specs.declared.looking.Look.TheVariants.{Nothing, Older, Rows}
+use Rattle.dr_word_rehearse.specs.declared.finds.LedgerFound.{LedgerFound}
+use Rattle.dr_word_rehearse.specs.declared.finds.LedgerFound.TheVariants as found
+use Rattle.dr_word_rehearse.specs.declared.looking.LedgerLook.{LedgerLook}
+use Rattle.dr_word_rehearse.specs.declared.looking.LedgerLook.TheVariants.{Nothing, Older, Rows}
 use Rattle.dr_word_rehearse.specs.declared.looking.Looked.{Looked}
 
 module _ {L : Type 0} (site_of : L → Part) (book : L → Book) (stands : L → Type 0) (Opens : L → Type 0) (site own : Part) where
   -- a ledger of the next plan
-  pub over_at : (f : Found L) (look : Look) → IsFoundBy Opens site_of own f → LooksOver f look → IsOverAt site_of Opens own look
+  pub over_at : (f : LedgerFound L) (look : LedgerLook) → IsFoundBy Opens site_of own f → LooksOver f look → IsOverAt site_of Opens own look
   over_at found.Nothing look by is = subst (IsOverAt site_of Opens own) (sym is) tt
   over_at found.Older look by is = subst (IsOverAt site_of Opens own) (sym is) tt
   over_at (found.Ledger ledger) look by is = subst (IsOverAt site_of Opens own) (sym is.1) (ledger, by.0, by.1, is.2)
 
   module _ (next : Network) (name : Text) where
     -- one of the plan in force
-    pub into_at : (f : Found L) (look : Look) → IsFoundBy Opens site_of site f → LooksInto site_of book stands next name f look → IsLookAt site_of book stands next name Opens site own look
+    pub into_at : (f : LedgerFound L) (look : LedgerLook) → IsFoundBy Opens site_of site f → LooksInto site_of book stands next name f look → IsLookAt site_of book stands next name Opens site own look
     into_at found.Nothing look by is = subst (IsLookAt site_of book stands next name Opens site own) (sym is) tt
     into_at found.Older look by is = subst (IsLookAt site_of book stands next name Opens site own) (sym is) tt
     into_at (found.Ledger first) look by is = subst (IsLookAt site_of book stands next name Opens site own) (sym is.1) (inl (first, by.0, by.1, is.2))
 
-    pub look_at_next : (look : Look) → IsOverAt site_of Opens own look → IsLookAt site_of book stands next name Opens site own look
+    pub look_at_next : (look : LedgerLook) → IsOverAt site_of Opens own look → IsLookAt site_of book stands next name Opens site own look
     look_at_next Nothing h = tt
     look_at_next Older h = tt
     look_at_next (Rows rows) h = inr h
 
     -- what a look into what was found came to
-    pub into_all : (f : Found L) (result : Result Look Halt) → IsFoundBy Opens site_of site f → MatchResult result (LooksInto site_of book stands next name f) IsUnread
+    pub into_all : (f : LedgerFound L) (result : Result LedgerLook Halt) → IsFoundBy Opens site_of site f → MatchResult result (LooksInto site_of book stands next name f) IsUnread
         → MatchResult result (IsLookAt site_of book stands next name Opens site own) IsUnread
     into_all f (Ok look) by h = into_at f look by h
     into_all f (Err halt) by h = h
@@ -71,7 +71,7 @@ unread_unseen old next name Receipt h = absurd h
 unread_unseen old next name (Failed failure) h = absurd h
 
 module _ {L : Type 0} (opens : Text → L → Type 0) (site_of : L → Part) (book : L → Book) (stands : L → Type 0) (folder : Text) (old next : Certified) where
-  abbrev Shown : Text → Look → Type 0
+  abbrev Shown : Text → LedgerLook → Type 0
   Shown name look = IsLooked opens site_of book stands folder old next name look
 
   opened : (sealed : Certified) (name : Text) (site : Part) (ledger : L) → IsSiteAt sealed name site → opens (path_in folder name) ledger → site_of ledger ≡ site → IsOpenedFor opens site_of book stands folder sealed name ledger
@@ -84,7 +84,7 @@ module _ {L : Type 0} (opens : Text → L → Type 0) (site_of : L → Part) (bo
   }
 
   -- a look at the ledger by its path is a look at the node
-  pub at_node : (name : Text) (site own : Part) (look : Look) → IsSiteAt old name site → IsSiteAt next name own → IsLookAt site_of book stands next.plan name (opens (path_in folder name)) site own look → Shown name look
+  pub at_node : (name : Text) (site own : Part) (look : LedgerLook) → IsSiteAt old name site → IsSiteAt next name own → IsLookAt site_of book stands next.plan name (opens (path_in folder name)) site own look → Shown name look
   at_node name site own Nothing at_old at_next h = tt
   at_node name site own Older at_old at_next h = tt
   at_node name site own (Rows rows) at_old at_next (inl h) = inl (h.0, opened old name site h.0 at_old h.1 h.2, h.3)
@@ -103,7 +103,7 @@ module _ {L : Type 0} (opens : Text → L → Type 0) (site_of : L → Part) (bo
       nothing (n ∷ ns) = refl
 
   module _ (names : List Text) (i : ℕ) (name : Text) (lt : i < length names) (at : name ≡ get_or names i name) (was : List Looked) (so_far : (mapped node_of was ≡ take i names) × AllShown was) where
-    pub one_shown : (all : List Looked) (look : Look) → all ≡ was ++ looked name look ∷ [] → Shown name look → (mapped node_of all ≡ take (i + 1) names) × AllShown all
+    pub one_shown : (all : List Looked) (look : LedgerLook) → all ≡ was ++ looked name look ∷ [] → Shown name look → (mapped node_of all ≡ take (i + 1) names) × AllShown all
     one_shown all look is shown =
         let P : List Looked → Type 0 = λ ls. (mapped node_of ls ≡ take (i + 1) names) × AllShown ls in
         subst P (sym is) (

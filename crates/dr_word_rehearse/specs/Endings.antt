@@ -16,8 +16,8 @@ use Rattle.dr_site.specs.Parts.{Part}
 use Rattle.dr_word_adopt.specs.Endings.{unfit_line}
 use Rattle.dr_word_line.specs.declared.words.PlanChange.{PlanChange}
 use Rattle.dr_word_rehearse.specs.Rehearsals.{RehearsesFiles}
-use Rattle.dr_word_rehearse.specs.declared.looking.Look.{Look}
-use Rattle.dr_word_rehearse.specs.declared.looking.Look.TheVariants.{Nothing, Older, Rows}
+use Rattle.dr_word_rehearse.specs.declared.looking.LedgerLook.{LedgerLook}
+use Rattle.dr_word_rehearse.specs.declared.looking.LedgerLook.TheVariants.{Nothing, Older, Rows}
 use Rattle.dr_word_rehearse.specs.declared.looking.Looked.{Looked}
 
 -- what is printed where all nodes would go over
@@ -30,7 +30,7 @@ row_line node row = unfit_line node row.0 row.1
 
 -- What is printed of a node: that it has no ledger yet, and one would be made; that its file would
 -- first have to be brought over; or its rows, a line each.
-abbrev pub look_lines : Text → Look → Text
+abbrev pub look_lines : Text → LedgerLook → Text
 look_lines node Nothing = line_of (codes "new") (node ∷ [])
 look_lines node Older = line_of (codes "older") (node ∷ [])
 look_lines node (Rows rows) = flat_map (row_line node) rows.items
@@ -44,7 +44,7 @@ is_some_row [] = false
 is_some_row (row ∷ rows) = true
 
 -- the node stands in the way, as far as is known: a row doesn't fit, or its rows weren't looked at
-abbrev pub is_in_the_way : Look → Bool
+abbrev pub is_in_the_way : LedgerLook → Bool
 is_in_the_way Nothing = false
 is_in_the_way Older = true
 is_in_the_way (Rows rows) = is_some_row rows.items

@@ -14,7 +14,7 @@ use Rattle.dr_word_adopt.specs.Changes.{AreNames, AreSealed, AreUnsealed}
 use Rattle.dr_word_adopt.specs.declared.change.Halted.{Halted}
 use Rattle.dr_word_line.specs.declared.words.PlanChange.{PlanChange}
 use Rattle.dr_word_rehearse.specs.Looks.{IsLooked}
-use Rattle.dr_word_rehearse.specs.declared.looking.Look.{Look}
+use Rattle.dr_word_rehearse.specs.declared.looking.LedgerLook.{LedgerLook}
 use Rattle.dr_word_rehearse.specs.declared.looking.Looked.{Looked}
 
 -- the node of a look
@@ -22,7 +22,7 @@ abbrev pub node_of : Looked → Text
 node_of looked = looked.node
 
 -- what a look shows of the node of that name
-abbrev pub looked : Text → Look → Looked
+abbrev pub looked : Text → LedgerLook → Looked
 looked name look = record { node = name; look = look }
 
 -- the halt of a rehearsal that stops

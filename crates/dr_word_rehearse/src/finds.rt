@@ -9,7 +9,7 @@ use std::alloc::Global;
 
 /// What is found by the path of a ledger.
 #[derive(Drop)]
-pub enum Found<L: Ledger + Drop> {
+pub enum LedgerFound<L: Ledger + Drop> {
     /// Nothing is there.
     Nothing,
     /// A ledger's file from before, which would first have to be brought over.
@@ -21,6 +21,11 @@ pub enum Found<L: Ledger + Drop> {
 /// Ledgers that can be opened as they are found: none is made, and none is brought over.
 pub trait Finds: Ledgers {
     /// The ledger of that site.
-    fn find(&self, alloc: Global, path: &str, site: Site) -> Result<Found<Self::Ledger>, OpenFault>
+    fn find(
+        &self,
+        alloc: Global,
+        path: &str,
+        site: Site,
+    ) -> Result<LedgerFound<Self::Ledger>, OpenFault>
         ensures { IfOk result (IsFoundBy (Self.opens self.now path.now) Self.Ledger.site site) };
 }

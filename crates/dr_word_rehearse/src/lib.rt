@@ -12,6 +12,6 @@ mod looking;
 mod rehearsing;
 mod telling;
 
-pub use finds::{Finds, Found};
-pub use looking::{Look, Looked};
+pub use finds::{Finds, LedgerFound};
+pub use looking::{LedgerLook, Looked};
 pub use rehearsing::rehearse_files;

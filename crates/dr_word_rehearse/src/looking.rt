@@ -6,7 +6,7 @@ ghost use Rattle.dr_word_rehearse.specs.Looks.{IsFoundBy, IsLookAt, IsLooked, Is
 ghost use Rattle.dr_word_rehearse.specs.Looks.{IsUnread, LooksInto, LooksOver};
 ghost use Rattle.dr_word_rehearse.specs.Rehearsals.{LooksAt, halt_of, looked};
 
-use crate::finds::{Finds, Found};
+use crate::finds::{Finds, LedgerFound};
 use dr_base::Text;
 use dr_cert::Sealed;
 use dr_ledger::{Ledger, LedgerFault};
@@ -19,7 +19,7 @@ use std::alloc::{AllocError, Global};
 
 /// What a look at a node's ledger shows.
 #[derive(Debug, Drop)]
-pub enum Look {
+pub enum LedgerLook {
     /// There is no file.
     Nothing,
     /// The file is of a form from before: its rows aren't looked at.
@@ -33,7 +33,7 @@ pub enum Look {
 #[derive(Debug, Drop)]
 pub struct Looked {
     pub node: Text,
-    pub look: Look,
+    pub look: LedgerLook,
 }
 
 /// The rows of a ledger with which the next plan doesn't go on. The ledger is closed then, with its
@@ -62,7 +62,7 @@ fn find_of<O: Finds>(
     ledgers: &O,
     path: &str,
     site: &Site,
-) -> Result<Found<O::Ledger>, OpenFault>
+) -> Result<LedgerFound<O::Ledger>, OpenFault>
     ensures { IfOk result (IsFoundBy (O.opens ledgers.now path.now) O.Ledger.site site.now) }
 {
     match site.copy() {
@@ -78,31 +78,31 @@ fn look_into<'a, L: TellsJournal + Drop>(
     alloc: Global,
     next: &Sealed,
     name: &Text,
-    found: Found<L>,
-) -> Result<Look, Halt<'a>>
+    found: LedgerFound<L>,
+) -> Result<LedgerLook, Halt<'a>>
     ensures { MatchResult result
         (LooksInto L.site L.book L.stands next.now.plan name.now found) IsUnread }
 {
     match found {
-        Found::Nothing => Ok(Look::Nothing),
-        Found::Older => Ok(Look::Older),
-        Found::Ledger(ledger) => match see(alloc, next, name, ledger) {
-            Ok(rows) => Ok(Look::Rows(rows)),
+        LedgerFound::Nothing => Ok(LedgerLook::Nothing),
+        LedgerFound::Older => Ok(LedgerLook::Older),
+        LedgerFound::Ledger(ledger) => match see(alloc, next, name, ledger) {
+            Ok(rows) => Ok(LedgerLook::Rows(rows)),
             Err(fault) => Err(Halt::Refused(fault)),
         },
     }
 }
 
 /// What a look shows at what was found of the next plan: its ledger is closed again.
-fn look_over<L: Ledger + Drop>(alloc: Global, found: Found<L>) -> Look
+fn look_over<L: Ledger + Drop>(alloc: Global, found: LedgerFound<L>) -> LedgerLook
     ensures { LooksOver found result }
 {
     match found {
-        Found::Nothing => Look::Nothing,
-        Found::Older => Look::Older,
-        Found::Ledger(ledger) => {
+        LedgerFound::Nothing => LedgerLook::Nothing,
+        LedgerFound::Older => LedgerLook::Older,
+        LedgerFound::Ledger(ledger) => {
             drop(ledger);
-            Look::Rows(Vec::new(alloc))
+            LedgerLook::Rows(Vec::new(alloc))
         }
     }
 }
@@ -115,7 +115,7 @@ fn look_again<'a, O: Finds>(
     ledgers: &O,
     path: &str,
     own: &Site,
-) -> Result<Look, Halt<'a>>
+) -> Result<LedgerLook, Halt<'a>>
     ensures { MatchResult result
         (IsOverAt O.Ledger.site (O.opens ledgers.now path.now) own.now) IsUnread }
 {
@@ -137,7 +137,7 @@ fn look_by<'a, O: Finds>(
     own: &Site,
     next: &Sealed,
     name: &Text,
-) -> Result<Look, Halt<'a>>
+) -> Result<LedgerLook, Halt<'a>>
 where
     O::Ledger: TellsJournal,
     ensures { MatchResult result
@@ -166,7 +166,7 @@ fn look_in<'a, O: Finds>(
     own: &Site,
     next: &Sealed,
     name: &Text,
-) -> Result<Look, Halt<'a>>
+) -> Result<LedgerLook, Halt<'a>>
 where
     O::Ledger: TellsJournal,
     ensures { MatchResult result
@@ -189,7 +189,7 @@ fn look_at<'a, O: Finds>(
     old: &Sealed,
     next: &Sealed,
     name: &Text,
-) -> Result<Look, Halt<'a>>
+) -> Result<LedgerLook, Halt<'a>>
 where
     O::Ledger: TellsJournal,
     ensures { MatchResult result
@@ -210,7 +210,7 @@ where
 }
 
 /// Puts what a look shows behind what others showed.
-fn add(all: &mut Vec<Looked>, name: &Text, look: Look) -> Result<(), AllocError>
+fn add(all: &mut Vec<Looked>, name: &Text, look: LedgerLook) -> Result<(), AllocError>
     ensures ok { OnOk result (all.new.items ≡ all.old.items ++ looked name.now look ∷ []) }
     ensures err { OnErr result (all.new.items ≡ all.old.items) }
 {

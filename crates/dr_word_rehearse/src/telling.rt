@@ -9,7 +9,7 @@ ghost use Rattle.dr_word_rehearse.specs.Endings.{lines_of, look_lines, printed_o
 ghost use Rattle.dr_word_rehearse.specs.Endings.{stands_in_the_way};
 ghost use Rattle.dr_word_rehearse.specs.Rehearsals.{halt_of};
 
-use crate::looking::{Look, Looked};
+use crate::looking::{LedgerLook, Looked};
 use dr_base::Text;
 use dr_ledger_report::put_field;
 use dr_run_files::Failure;
@@ -29,13 +29,13 @@ fn is_some(rows: &[(Text, Text)]) -> bool
 }
 
 /// Whether the node stands in the way, as far as is known.
-fn is_in_the_way(look: &Look) -> bool
+fn is_in_the_way(look: &LedgerLook) -> bool
     ensures { result ≡ is_look_in_the_way look.now }
 {
     match look {
-        Look::Nothing => false,
-        Look::Older => true,
-        Look::Rows(rows) => is_some(rows.as_slice()),
+        LedgerLook::Nothing => false,
+        LedgerLook::Older => true,
+        LedgerLook::Rows(rows) => is_some(rows.as_slice()),
     }
 }
 
@@ -95,13 +95,18 @@ fn put_word(out: &mut Vec<u8>, word: &[u8], node: &Text) -> Result<(), AllocErro
 }
 
 /// Adds what is printed of a node.
-fn put_look(alloc: Global, out: &mut Vec<u8>, node: &Text, look: &Look) -> Result<(), AllocError>
+fn put_look(
+    alloc: Global,
+    out: &mut Vec<u8>,
+    node: &Text,
+    look: &LedgerLook,
+) -> Result<(), AllocError>
     ensures { OnOk result (out.new.items ≡ out.old.items ++ look_lines node.now look.now) }
 {
     match look {
-        Look::Nothing => put_word(out, b"new", node),
-        Look::Older => put_word(out, b"older", node),
-        Look::Rows(rows) => put_rows(alloc, out, node, rows.as_slice()),
+        LedgerLook::Nothing => put_word(out, b"new", node),
+        LedgerLook::Older => put_word(out, b"older", node),
+        LedgerLook::Rows(rows) => put_rows(alloc, out, node, rows.as_slice()),
     }
 }
 

@@ -12,8 +12,8 @@ use Rattle.dr_plan_expect.specs.Reading.{WritesExpectations}
 use Rattle.dr_plan_expect.specs.declared.words.Expectation.{Expectation}
 use Rattle.dr_plan_expect.specs.declared.fault.ExpectFault.TheVariants.{Expect, Memory as NoMemory}
 use Rattle.dr_word_route.specs.Expecting.{IsVerdict, IsVerdictOn}
-use Rattle.dr_word_route.specs.declared.expecting.Verdict.{Verdict}
-use Rattle.dr_word_route.specs.declared.expecting.Verdict.TheVariants.{Yes, Missed, Faulty}
+use Rattle.dr_word_route.specs.declared.expecting.ExpectVerdict.{ExpectVerdict}
+use Rattle.dr_word_route.specs.declared.expecting.ExpectVerdict.TheVariants.{Yes, Missed, Faulty}
 use Rattle.dr_word_route.specs.Keys.{ReadsDataSet, ReadsFileKey, ReadsItemKey, ReadsSite}
 use Rattle.dr_word_route.specs.Replies.{IsRouted, IsRoutedFor, IsRefusalAt, IsRouteReply, IsSiteReply}
 use Rattle.dr_word_route.specs.declared.reply.Unanswered.{Unanswered}
@@ -22,7 +22,7 @@ use Rattle.dr_word_route.specs.declared.reply.Response.{Response}
 use Rattle.dr_word_route.specs.declared.reply.Response.TheVariants.{Printed, NoLine, Refused}
 
 -- a verdict on the rows that a text writes is one on the text
-pub verdict_told : (plan : Network) (text : Text) (rows : List Expectation) → WritesExpectations text rows → (verdict : Verdict) → IsVerdictOn plan rows verdict → IsVerdict plan text verdict
+pub verdict_told : (plan : Network) (text : Text) (rows : List Expectation) → WritesExpectations text rows → (verdict : ExpectVerdict) → IsVerdictOn plan rows verdict → IsVerdict plan text verdict
 verdict_told plan text rows writes Yes on = (rows, writes, on)
 verdict_told plan text rows writes (Missed line) on = (rows, writes, on)
 verdict_told plan text rows writes (Faulty (Expect number)) on = absurd on

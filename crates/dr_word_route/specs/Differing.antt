@@ -15,12 +15,12 @@ use Rattle.dr_run_open.specs.declared.status.Status.TheVariants.{Success, Refuse
 use Rattle.dr_word_line.specs.declared.words.NextPlan.{NextPlan}
 use Rattle.dr_cert_diff.specs.Differing.{IsDiff, LosesSome}
 use Rattle.dr_cert_diff.specs.Rows.{change_rows}
-use Rattle.dr_cert_diff.specs.declared.change.Change.{Change}
+use Rattle.dr_cert_diff.specs.declared.change.RouteChange.{RouteChange}
 use Rattle.dr_word_route.specs.Unsealing.{Unseals}
 
 -- the lines of the changes are printed, and the program ends with success; refused, where some node
 -- is lost and that is to be a no
-pub record TellsChanges (changes : List Change) (fails : Bool) (old new : Option (List ℕ))
+pub record TellsChanges (changes : List RouteChange) (fails : Bool) (old new : Option (List ℕ))
     (status : Status) : Type 0 where
   pub printed : Appends old new (flat_map change_rows changes)
   pub no : IsTrue fails → LosesSome changes → status ≡ Refused
@@ -29,7 +29,9 @@ pub record TellsChanges (changes : List Change) (fails : Bool) (old new : Option
 -- what changes from one plan to the next is told, or there was no memory for it
 abbrev pub Differs : Network → Network → Bool → Option (List ℕ) → Option (List ℕ) → Status → Type 0
 Differs plan next fails old new status =
-    ((changes : List Change) × IsDiff plan next changes × TellsChanges changes fails old new status)
+    ((changes : List RouteChange)
+    × IsDiff plan next changes
+    × TellsChanges changes fails old new status)
     ⊎ (Appends old new [] × (status ≡ Memory))
 
 -- a run in which the text is that of the certificate of the next plan, which is sound

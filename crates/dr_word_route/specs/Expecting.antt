@@ -13,19 +13,19 @@ use Rattle.dr_plan_expect.specs.declared.fault.ExpectFault.TheVariants.{Expect, 
 use Rattle.dr_cert_expect.specs.Expected.{Holds, IsFirstMiss}
 use Rattle.dr_cert_expect.specs.Rows.{miss_line}
 use Rattle.dr_cert_expect.specs.declared.answer.Miss.{Miss}
-use Rattle.dr_word_route.specs.declared.expecting.Verdict.{Verdict}
-use Rattle.dr_word_route.specs.declared.expecting.Verdict.TheVariants.{Yes, Missed, Faulty}
+use Rattle.dr_word_route.specs.declared.expecting.ExpectVerdict.{ExpectVerdict}
+use Rattle.dr_word_route.specs.declared.expecting.ExpectVerdict.TheVariants.{Yes, Missed, Faulty}
 
 -- what may be answered for a row that doesn't hold: its line; want of memory may be the answer to
 -- any
-abbrev pub MayMiss : Miss → Verdict → Type 0
+abbrev pub MayMiss : Miss → ExpectVerdict → Type 0
 MayMiss miss Yes = ⊥
 MayMiss miss (Missed line) = line ≡ miss_line miss
 MayMiss miss (Faulty (Expect number)) = ⊥
 MayMiss miss (Faulty Memory) = Unit {0}
 
 -- what may be answered to these rows: that all hold, or the line of the first that doesn't
-abbrev pub IsVerdictOn : Network → List Expectation → Verdict → Type 0
+abbrev pub IsVerdictOn : Network → List Expectation → ExpectVerdict → Type 0
 IsVerdictOn plan rows Yes = All (Holds plan) rows
 IsVerdictOn plan rows (Missed line) =
     (miss : Miss) × IsFirstMiss plan rows miss × (line ≡ miss_line miss)
@@ -34,7 +34,7 @@ IsVerdictOn plan rows (Faulty Memory) = Unit {0}
 
 -- what may be answered to a file's text: the verdict on the rows that it writes, or that it writes
 -- none
-abbrev pub IsVerdict : Network → Text → Verdict → Type 0
+abbrev pub IsVerdict : Network → Text → ExpectVerdict → Type 0
 IsVerdict plan text Yes =
     (rows : List Expectation) × WritesExpectations text rows × IsVerdictOn plan rows Yes
 IsVerdict plan text (Missed line) =
@@ -44,25 +44,26 @@ IsVerdict plan text (Faulty (Expect number)) =
 IsVerdict plan text (Faulty Memory) = Unit {0}
 
 -- what is printed for a verdict: `yes`, or the line; nothing where the file isn't read
-abbrev pub printed_verdict : Verdict → Text
+abbrev pub printed_verdict : ExpectVerdict → Text
 printed_verdict Yes = codes "yes" ++ (10 ∷ [])
 printed_verdict (Missed line) = line
 printed_verdict (Faulty fault) = []
 
 -- the status with which the program ends for a verdict: success where all rows hold, else refused,
 -- or out of memory
-abbrev pub verdict_status : Verdict → Status
+abbrev pub verdict_status : ExpectVerdict → Status
 verdict_status Yes = Success
 verdict_status (Missed line) = Refused
 verdict_status (Faulty (Expect number)) = Refused
 verdict_status (Faulty Memory) = OutOfMemory
 
 -- the verdict is printed after what the output held, and the program ends with its status
-pub record IsTold (verdict : Verdict) (old new : Option (List ℕ)) (status : Status) : Type 0 where
+pub record IsTold (verdict : ExpectVerdict) (old new : Option (List ℕ))
+    (status : Status) : Type 0 where
   pub printed : Appends old new (printed_verdict verdict)
   pub ends : status ≡ verdict_status verdict
 
 -- a verdict on the text is told
 abbrev pub Expects : Network → Text → Option (List ℕ) → Option (List ℕ) → Status → Type 0
 Expects plan text old new status =
-    (verdict : Verdict) × IsVerdict plan text verdict × IsTold verdict old new status
+    (verdict : ExpectVerdict) × IsVerdict plan text verdict × IsTold verdict old new status

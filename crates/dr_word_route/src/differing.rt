@@ -5,7 +5,7 @@ ghost use Rattle.dr_run_open.specs.Answers.{Refuses};
 ghost use Rattle.dr_run_open.specs.declared.status.Status.TheVariants.{Refused, Success};
 ghost use Rattle.dr_cert_diff.specs.Differing.{IsDiff, LosesSome};
 ghost use Rattle.dr_cert_diff.specs.Rows.{change_rows};
-ghost use Rattle.dr_cert_diff.specs.declared.change.Change.{Change as ChangeValue};
+ghost use Rattle.dr_cert_diff.specs.declared.change.RouteChange.{RouteChange as ChangeValue};
 ghost use Rattle.dr_word_route.specs.Differing.{Compares, Differs, JudgesNext, SealsNext};
 ghost use Rattle.dr_word_route.specs.Unsealing.{Unseals};
 

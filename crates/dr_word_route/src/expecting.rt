@@ -19,7 +19,7 @@ use std::io::Write;
 
 /// What is answered to a file of expectations.
 #[derive(Debug, Drop)]
-pub enum Verdict {
+pub enum ExpectVerdict {
     /// All rows hold.
     Yes,
     /// The line of the first row that doesn't.
@@ -28,54 +28,54 @@ pub enum Verdict {
     Faulty(ExpectFault),
 }
 
-impl Verdict {
+impl ExpectVerdict {
     /// The status with which the program ends, where the verdict is told.
     fn status(&self) -> Status
         ensures { result ≡ verdict_status self.now }
     {
         match self {
-            Verdict::Yes => Status::Success,
-            Verdict::Missed(_) => Status::Refused,
-            Verdict::Faulty(ExpectFault::Expect(_)) => Status::Refused,
-            Verdict::Faulty(ExpectFault::Memory) => Status::Memory,
+            ExpectVerdict::Yes => Status::Success,
+            ExpectVerdict::Missed(_) => Status::Refused,
+            ExpectVerdict::Faulty(ExpectFault::Expect(_)) => Status::Refused,
+            ExpectVerdict::Faulty(ExpectFault::Memory) => Status::Memory,
         }
     }
 }
 
 /// The verdict on a row that doesn't hold.
-fn missed(alloc: Global, miss: &Miss) -> Verdict
+fn missed(alloc: Global, miss: &Miss) -> ExpectVerdict
     ensures { MayMiss miss.now result }
 {
     match miss_text(alloc, miss) {
-        Ok(text) => Verdict::Missed(text),
-        Err(AllocError) => Verdict::Faulty(ExpectFault::Memory),
+        Ok(text) => ExpectVerdict::Missed(text),
+        Err(AllocError) => ExpectVerdict::Faulty(ExpectFault::Memory),
     }
 }
 
 /// The verdict on what is expected.
-fn verdict_on(alloc: Global, sealed: &Sealed, rows: &[Expectation]) -> Verdict
+fn verdict_on(alloc: Global, sealed: &Sealed, rows: &[Expectation]) -> ExpectVerdict
     ensures { IsVerdictOn sealed.now.plan rows.now result }
 {
     match first_miss(alloc, sealed, rows) {
-        Ok(None) => Verdict::Yes,
+        Ok(None) => ExpectVerdict::Yes,
         Ok(Some(miss)) => missed(alloc, &miss),
-        Err(AllocError) => Verdict::Faulty(ExpectFault::Memory),
+        Err(AllocError) => ExpectVerdict::Faulty(ExpectFault::Memory),
     }
 }
 
 /// The verdict on a file's text.
-fn verdict_for(alloc: Global, sealed: &Sealed, text: &[u8]) -> Verdict
+fn verdict_for(alloc: Global, sealed: &Sealed, text: &[u8]) -> ExpectVerdict
     ensures { IsVerdict sealed.now.plan text.now result }
 {
     match read_expectations(alloc, text) {
         Ok(rows) => verdict_on(alloc, sealed, rows.as_slice()),
-        Err(fault) => Verdict::Faulty(fault),
+        Err(fault) => ExpectVerdict::Faulty(fault),
     }
 }
 
 /// Writes a verdict: what is answered to the output, and why the file isn't read to the faults.
 fn write_verdict<W: Write, E: Write>(
-    verdict: &Verdict,
+    verdict: &ExpectVerdict,
     output: &mut W,
     faults: &mut E,
 ) -> io::Result<()>
@@ -83,15 +83,15 @@ fn write_verdict<W: Write, E: Write>(
         (Appends (W.contents output.old) (W.contents output.new) (printed_verdict verdict.now)) }
 {
     match verdict {
-        Verdict::Yes => output.write_all(b"yes\n"),
-        Verdict::Missed(text) => output.write_all(text.as_bytes()),
-        Verdict::Faulty(fault) => writeln!(faults, "dr_router: {fault}"),
+        ExpectVerdict::Yes => output.write_all(b"yes\n"),
+        ExpectVerdict::Missed(text) => output.write_all(text.as_bytes()),
+        ExpectVerdict::Faulty(fault) => writeln!(faults, "dr_router: {fault}"),
     }
 }
 
 /// Tells a verdict, and ends as it says.
 fn tell_verdict<W: Write, E: Write>(
-    verdict: &Verdict,
+    verdict: &ExpectVerdict,
     output: &mut W,
     faults: &mut E,
 ) -> io::Result<Status>

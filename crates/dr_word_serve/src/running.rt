@@ -16,7 +16,7 @@ use dr_run_net::{Limits, Listening, Network};
 use dr_run_open::{Halt, Ledgers, Making, NextHop, Opened, Status, finish, hops_of, open_node};
 use dr_run_report::{OwnPaths, Paths, test_path};
 use dr_run_serve::{
-    ControlPlace, ControlPort, Ending, FileMonitor, Monitor, ServeFault, Stop, Terms, serve,
+    ControlPlace, ControlPort, Ending, FileMonitor, Monitor, ServeFault, StopSign, Terms, serve,
 };
 use dr_run_shown::Escaped;
 use dr_session::{Clock, Link};
@@ -256,7 +256,7 @@ fn serve_node<
     ledgers: &O,
     given: NodeFiles<'a>,
     serving: Serving<'a>,
-    stop: &Stop,
+    stop: &StopSign,
     control: Option<&ControlPort>,
     network: &N,
     clock: &C,
@@ -325,8 +325,8 @@ fn stop_of<'a, U: Ending>(
     alloc: Global,
     serving: Serving<'a>,
     ending: &U,
-) -> Result<Arc<Stop, Global>, Failure<'a>> {
-    let Ok(stop) = Arc::new(alloc, Stop::new()) else {
+) -> Result<Arc<StopSign, Global>, Failure<'a>> {
+    let Ok(stop) = Arc::new(alloc, StopSign::new()) else {
         return Err(Failure::Stream(io::Error::from(AllocError)));
     };
     if !serving.until_input_ends {

@@ -29,7 +29,7 @@ pub enum ActFault {
 
 /// Why a script isn't done, and the place in it of what can't be, counted from 0.
 #[derive(Debug, Drop)]
-pub struct Stop {
+pub struct ScriptStop {
     pub place: usize,
     pub fault: ActFault,
 }
@@ -164,7 +164,7 @@ fn add_deed<F: Files>(
 
 /// What is to be done by the lines of a script, up to the first by which nothing can be: then
 /// nothing is.
-pub fn deeds_of<F: Files>(alloc: Global, files: &F, acts: Vec<Act>) -> Result<Vec<Deed>, Stop>
+pub fn deeds_of<F: Files>(alloc: Global, files: &F, acts: Vec<Act>) -> Result<Vec<Deed>, ScriptStop>
     ensures { MatchResult result
         (λ deeds. AllZip (IsDeedOf (F.holds files.now)) acts.items deeds.items)
         (λ stop. StopsAt (F.holds files.now) acts.items stop.place stop.fault) }
@@ -174,7 +174,7 @@ pub fn deeds_of<F: Files>(alloc: Global, files: &F, acts: Vec<Act>) -> Result<Ve
         let place = deeds.len();
         match add_deed(alloc, files, act, &mut deeds) {
             Ok(()) => {}
-            Err(fault) => return Err(Stop { place, fault }),
+            Err(fault) => return Err(ScriptStop { place, fault }),
         }
     }
     Ok(deeds)

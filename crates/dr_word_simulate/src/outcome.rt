@@ -4,7 +4,7 @@ ghost use Rattle.dr_word_simulate.specs.Reported.{IsReportAfter};
 ghost use Rattle.dr_word_simulate.specs.Outcomes.{IsOutcomeOf, StopsAs, status_for};
 ghost use Rattle.dr_world_script.specs.Scripts.{told_lines};
 
-use crate::deeds::{ActFault, Stop, deeds_of};
+use crate::deeds::{ActFault, ScriptStop, deeds_of};
 use crate::telling::tell_changes;
 use dr_base::Text;
 use dr_cert::Sealed;
@@ -71,11 +71,11 @@ fn report_after(alloc: Global, sealed: &Sealed, deeds: &[Deed]) -> Result<Text, 
 }
 
 /// What comes of a script, where something in it can't be done.
-fn outcome_of_stop(alloc: Global, text: &[u8], stop: Stop) -> PlayOutcome
+fn outcome_of_stop(alloc: Global, text: &[u8], stop: ScriptStop) -> PlayOutcome
     requires { stop.place < length (told_lines text.now) }
     ensures { StopsAs text.now stop.place stop.fault result }
 {
-    let Stop { place, fault } = stop;
+    let ScriptStop { place, fault } = stop;
     match fault {
         ActFault::Unsealed => match line_of(alloc, text, place) {
             Ok(line) => PlayOutcome::Unsealed(line),

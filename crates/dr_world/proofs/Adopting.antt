@@ -34,7 +34,7 @@ use Rattle.dr_ledger.specs.Pairs.{Pair}
 use Rattle.dr_ledger.specs.Books.{Book, Adoption, after, empty_book}
 use Rattle.dr_ledger.proofs.Maps.{texts, same_or_not, ties_itself, cases_of}
 use Rattle.dr_session.specs.Ledgers.{Desk, desk}
-use Rattle.dr_node.specs.declared.links.Side.{Side}
+use Rattle.dr_node.specs.declared.links.LinkSide.{LinkSide}
 use Rattle.dr_node.specs.declared.node.Node.{Node}
 use Rattle.dr_node.specs.Sides.{Sides}
 use Rattle.dr_world_model.specs.Worlds.{same_text}
@@ -483,7 +483,7 @@ module _ {L : Type 0} {l : Ghosts L} (plan next : Network) (certificate own : Ce
       seated_next = record { each = is_part; all = is_there }
 
       -- no node has a side of a link any more
-      no_side : (q : Text) (number : ℕ) (side : Side)
+      no_side : (q : Text) (number : ℕ) (side : LinkSide)
           → HasSide (contents new).seats q number side
           → ⊥
       no_side q number side h =

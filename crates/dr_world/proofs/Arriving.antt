@@ -20,14 +20,14 @@ use Rattle.dr_session.specs.Ends.{is_gone, state_in}
 use Rattle.dr_session.specs.Plays.{Reacts, at_moment}
 use Rattle.dr_node.specs.declared.event.LinkEvent.{LinkEvent}
 use Rattle.dr_node.specs.declared.event.LinkEvent.TheVariants as event
-use Rattle.dr_node.specs.declared.links.Side.{Side as NodeSide}
+use Rattle.dr_node.specs.declared.links.LinkSide.{LinkSide as NodeSide}
 use Rattle.dr_node.specs.declared.node.Node.{Node}
 use Rattle.dr_node.specs.Sides.{state_of_side}
 use Rattle.dr_world_tie.specs.Desks.{LedgerStep}
 use Rattle.dr_world_tie.specs.Channels.{Terminal, Channel}
 use Rattle.dr_world_tie.specs.ByteWorlds.{ByteWorld, Move, Side, Requestor, Acceptor, StepNote as ByteNote, Done as WasDone, Skipped as WasSkipped, LinkStep, DoesIf, ReadsIf, Moves, CallerReads, ReceiverReads, CallerMeets, ReceiverMeets, Meets as MeetsBytes, core_at, is_over, with_done}
-use Rattle.dr_world.specs.declared.fronts.Due.{Due}
-use Rattle.dr_world.specs.declared.fronts.Due.TheVariants as due
+use Rattle.dr_world.specs.declared.fronts.MoveDue.{MoveDue}
+use Rattle.dr_world.specs.declared.fronts.MoveDue.TheVariants as due
 use Rattle.dr_world.specs.declared.steps.StepNote.{StepNote}
 use Rattle.dr_world.specs.declared.steps.StepNote.TheVariants.{Done, Skipped}
 use Rattle.dr_world.specs.declared.wires.Wires.{Wires}
@@ -188,8 +188,8 @@ module _ {L : Type 0} {l : Ghosts L} (old : World L l) (link n : ℕ) (side : Si
       (let P : Option Channel → Type 0 = λ o. LinkStep o b WasSkipped b (λ z. Moves plan b link z side n WasSkipped b) in subst P (sym (unlinked (contents old) b s link none)) (refl, refl)))
   nothing_in (Some w) has h = nothing_at w has h
 
-  pub nothing_moves : (what : Due) → IsDue (tree.get nat_cmp old.wires link) old.nodes link side n what → what ≡ due.Nothing → StepsTo (Move link side n) old Skipped old
-  nothing_moves what h is = (let P : Due → Type 0 = λ d. IsDue (tree.get nat_cmp old.wires link) old.nodes link side n d in nothing_in (tree.get nat_cmp old.wires link) refl (subst P is h))
+  pub nothing_moves : (what : MoveDue) → IsDue (tree.get nat_cmp old.wires link) old.nodes link side n what → what ≡ due.Nothing → StepsTo (Move link side n) old Skipped old
+  nothing_moves what h is = (let P : MoveDue → Type 0 = λ d. IsDue (tree.get nat_cmp old.wires link) old.nodes link side n d in nothing_in (tree.get nat_cmp old.wires link) refl (subst P is h))
 
 -- ---- the connection's end
 
@@ -247,9 +247,9 @@ module _ {L : Type 0} {l : Ghosts L} (old new : World L l) (link n : ℕ) (side 
         ),
   )
 
-  pub end_moves : (what : Due) (note : StepNote) (e : LinkEvent) → IsDue (tree.get nat_cmp old.wires link) old.nodes link side n what → what ≡ due.End → e ≡ event.Heard heard.End → Meets (event_at e) link side old note new → StepsTo (Move link side n) old Done new
+  pub end_moves : (what : MoveDue) (note : StepNote) (e : LinkEvent) → IsDue (tree.get nat_cmp old.wires link) old.nodes link side n what → what ≡ due.End → e ≡ event.Heard heard.End → Meets (event_at e) link side old note new → StepsTo (Move link side n) old Done new
   end_moves what note e h is e_is m =
-      let P : Due → Type 0 = λ d. IsDue (tree.get nat_cmp old.wires link) old.nodes link side n d in
+      let P : MoveDue → Type 0 = λ d. IsDue (tree.get nat_cmp old.wires link) old.nodes link side n d in
       let Q : LinkEvent → Type 0 = λ x. Meets (event_at x) link side old note new in
       end_in (tree.get nat_cmp old.wires link) refl note (subst P is h) (subst Q e_is m)
 
@@ -284,9 +284,9 @@ module _ {L : Type 0} {l : Ghosts L} (old new : World L l) (link n : ℕ) (side 
           ),
     )
 
-    pub bytes_move : (what : Due) (note : StepNote) → IsDue (tree.get nat_cmp old.wires link) old.nodes link side n what → what ≡ due.Bytes m → Hears link side m old note new → StepsTo (Move link side n) old note new
+    pub bytes_move : (what : MoveDue) (note : StepNote) → IsDue (tree.get nat_cmp old.wires link) old.nodes link side n what → what ≡ due.Bytes m → Hears link side m old note new → StepsTo (Move link side n) old note new
     bytes_move what note h is heard_so =
-        let P : Due → Type 0 = λ d. IsDue (tree.get nat_cmp old.wires link) old.nodes link side n d in
+        let P : MoveDue → Type 0 = λ d. IsDue (tree.get nat_cmp old.wires link) old.nodes link side n d in
         hears_in (tree.get nat_cmp old.wires link) refl note (subst P is h) heard_so
 
 -- ---- as the calls have it

@@ -23,7 +23,7 @@ use Rattle.dr_session.specs.Ends.{Terminal as End, Meets as EndMeets}
 use Rattle.dr_session.specs.Ledgers.{Desk, RoutedStep}
 use Rattle.dr_session.specs.Plays.{Reacts, at_moment}
 use Rattle.dr_session.specs.Reactions.{effect, is_free, is_idle, occurs, moves}
-use Rattle.dr_node.specs.declared.links.Side.{Side as NodeSide}
+use Rattle.dr_node.specs.declared.links.LinkSide.{LinkSide as NodeSide}
 use Rattle.dr_node.specs.Sides.{moment_at, with_end}
 use Rattle.dr_world_model.proofs.Lookups.{numbers}
 use Rattle.dr_world_model.specs.Worlds.{same_text}

@@ -10,7 +10,7 @@ use Rattle.dr_route.specs.Routes.{local}
 use Rattle.dr_ledger.proofs.Maps.{texts, same_or_not, ties_itself}
 use Rattle.dr_session.specs.Desks.{Arrive, Arrival}
 use Rattle.dr_session.specs.Ledgers.{Desk, desk}
-use Rattle.dr_node.specs.declared.links.Side.{Side}
+use Rattle.dr_node.specs.declared.links.LinkSide.{LinkSide}
 use Rattle.dr_world_model.specs.Worlds.{same_text}
 use Rattle.dr_world_model.specs.Events.{HasNode}
 use Rattle.dr_world_tie.specs.Channels.{Channel}
@@ -34,7 +34,7 @@ ticks plan certificate c b s ms = (
 
 -- the sides that the one nodes have the others have
 abbrev pub AllSides : Seats → Seats → Type 0
-AllSides old new = (name : Text) (number : ℕ) (side : Side) → HasSide old name number side → HasSide new name number side
+AllSides old new = (name : Text) (number : ℕ) (side : LinkSide) → HasSide old name number side → HasSide new name number side
 
 pub linked_as : (old new : Seats) → AllSides old new → (number : ℕ) (o : Option Wires) (k : Option Channel) → LinkedAt old number o k → LinkedAt new number o k
 linked_as old new all number None None h = h

@@ -5,7 +5,7 @@ use Rattle.std.specs.FinMap as map
 use Rattle.dr_base.specs.Texts.{Text}
 use Rattle.dr_ledger.specs.Books.{empty_book}
 use Rattle.dr_session.specs.Ledgers.{desk}
-use Rattle.dr_node.specs.declared.links.Side.{Side}
+use Rattle.dr_node.specs.declared.links.LinkSide.{LinkSide}
 use Rattle.dr_node.specs.Sides.{Sides}
 use Rattle.dr_world_tie.specs.Channels.{Channel}
 use Rattle.dr_world_tie.specs.ByteWorlds.{beginning}
@@ -14,7 +14,7 @@ use Rattle.dr_world.specs.Shows.{Contents, Seat, HasSide, LinkedAt, desk_at}
 use Rattle.dr_world.specs.Laws.{IsNew, NewIsBeginning}
 
 module _ (c : Contents) (n : IsNew c) where
-  no_side : (name : Text) (number : ℕ) (side : Side) → HasSide c.seats name number side → ⊥
+  no_side : (name : Text) (number : ℕ) (side : LinkSide) → HasSide c.seats name number side → ⊥
   no_side name number side h =
       let none : map.get h.0.sides number ≡ None = ap (λ (s : Sides). map.get s number) ((n.seats name h.0 h.1).1) ∙ map.get-empty nat_cmp number in
       let both : None ≡ Some side = sym none ∙ h.2 in

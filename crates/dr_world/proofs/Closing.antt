@@ -13,7 +13,7 @@ use Rattle.dr_session.specs.declared.ends.Effect.{Effect}
 use Rattle.dr_session.specs.declared.ends.Input.TheVariants.{Ended}
 use Rattle.dr_session.specs.declared.ends.Moment.{Moment}
 use Rattle.dr_session.specs.Ledgers.{Desk}
-use Rattle.dr_node.specs.declared.links.Side.{Side}
+use Rattle.dr_node.specs.declared.links.LinkSide.{LinkSide}
 use Rattle.dr_node.specs.Sides.{moment_at, with_end}
 use Rattle.dr_world_model.proofs.Lookups.{numbers}
 use Rattle.dr_world_tie.specs.Desks.{LedgerStep}
@@ -86,7 +86,7 @@ module _ (plan : Network) (certificate : Certificate) (certified : IsCertified p
         subst P (sym d.lost.caller) (side_kept c b s number d.wires d.after k k d.wired d.lost.caller d.lost.receiver d.wires.receiver d.far d.is_far (side_of true k.receiver) (with_end d.theirs d.end) had_theirs d.desk (inr refl) d.wires.caller number
         (side_of false k.caller) (inl (apart_texts d.wires.caller d.wires.receiver linked.apart)) linked.at_caller));
     at_receiver = (let P : Text → Type 0 = λ q. HasSide mid.seats q number (side_of true far_gone.receiver) in
-        let Q : Side → Type 0 = λ x. HasSide mid.seats d.wires.receiver number x in
+        let Q : LinkSide → Type 0 = λ x. HasSide mid.seats d.wires.receiver number x in
         subst P (sym d.lost.receiver) (subst Q first.3 (side_here c b s number d.wires d.after k k d.wired d.lost.caller d.lost.receiver d.wires.receiver d.far d.is_far (side_of true k.receiver) (with_end d.theirs d.end) had_theirs d.desk (inr refl))));
     to_caller = sym d.lost.to_caller;
     to_receiver = sym d.lost.to_receiver;
@@ -125,7 +125,7 @@ module _ (plan : Network) (certificate : Certificate) (certified : IsCertified p
     receiver = linked_mid.receiver;
     apart = linked_mid.apart;
     at_caller = (let P : Text → Type 0 = λ q. HasSide last.seats q number (side_of false (closed k x y).caller) in
-        let Q : Side → Type 0 = λ z. HasSide last.seats d.wires.caller number z in
+        let Q : LinkSide → Type 0 = λ z. HasSide last.seats d.wires.caller number z in
         subst P (sym d.lost.caller) (subst Q second.3 (side_here mid mid_world shown_mid number d.after d.after far_gone far_gone wired_mid refl refl d.wires.caller d.near d.is_near (side_of false k.caller) (with_end d.mine d.own_end) had_mine d.own_desk (inl (sym d.lost.caller)))));
     at_receiver = side_kept mid mid_world shown_mid number d.after d.after far_gone far_gone wired_mid refl refl d.wires.caller d.near d.is_near (side_of false k.caller) (with_end d.mine d.own_end) had_mine d.own_desk (inl (sym d.lost.caller))
         d.after.receiver number (side_of true far_gone.receiver) (inl (apart_texts d.after.receiver d.wires.caller (λ e. linked.apart (sym e ∙ d.lost.receiver)))) linked_mid.at_receiver;

@@ -15,7 +15,7 @@ use Rattle.dr_ulstate.specs.declared.table.State.{State}
 use Rattle.dr_ulstate.specs.declared.table.State.TheVariants.{Sta1, Sta2, Sta3, Sta4, Sta5, Sta6, Sta7, Sta8, Sta9, Sta10, Sta11, Sta12, Sta13}
 use Rattle.dr_ulstate.specs.Phases.{state_of}
 use Rattle.dr_ledger.proofs.Maps.{same_or_not, ties_itself}
-use Rattle.dr_node.specs.declared.links.Side.{Side}
+use Rattle.dr_node.specs.declared.links.LinkSide.{LinkSide}
 use Rattle.dr_node.specs.Sides.{is_other, is_standing, is_taken}
 use Rattle.dr_world_model.proofs.Lookups.{numbers}
 use Rattle.dr_world_model.proofs.Picking.{sorted, first_of_two, both, both_true}
@@ -45,10 +45,10 @@ standing_open Sta13 = refl
 -- ---- entries that pass a test
 
 abbrev Entries : Type 0
-Entries = List (ℕ × Side)
+Entries = List (ℕ × LinkSide)
 
 abbrev numbers_of : Entries → List ℕ
-numbers_of es = mapped (λ (e : ℕ × Side). e.0) es
+numbers_of es = mapped (λ (e : ℕ × LinkSide). e.0) es
 
 two : (a b : Bool) → T a → T b → T (a && b)
 two true b h k = k
@@ -62,7 +62,7 @@ other : (a b : Bool) → T (a && b) → T b
 other true b h = h
 other false b h = absurd h
 
-module _ (p : ℕ × Side → Bool) where
+module _ (p : ℕ × LinkSide → Bool) where
   below_filter : (x : ℕ) (es : Entries) → T (below_all nat_cmp x es) → T (below_all nat_cmp x (filter p es))
   below_filter x [] h = h
   below_filter x (e ∷ es) h = by_test (p e) (below_filter x es (other _ _ h))
@@ -90,34 +90,34 @@ module _ (p : ℕ × Side → Bool) where
       apart Greater t = absurd t
 
   Found : ℕ → Entries → Type 0
-  Found q es = (side : Side) × (find nat_cmp q es ≡ Some side) × (p (q, side) ≡ true)
+  Found q es = (side : LinkSide) × (find nat_cmp q es ≡ Some side) × (p (q, side) ≡ true)
 
-  later : (q : ℕ) (e : ℕ × Side) (es : Entries) → T (below_all nat_cmp e.0 es) → (side : Side) × (find nat_cmp q es ≡ Some side) × (p (q, side) ≡ true)
-      → (side : Side) × (find nat_cmp q (e ∷ es) ≡ Some side) × (p (q, side) ≡ true)
+  later : (q : ℕ) (e : ℕ × LinkSide) (es : Entries) → T (below_all nat_cmp e.0 es) → (side : LinkSide) × (find nat_cmp q es ≡ Some side) × (p (q, side) ≡ true)
+      → (side : LinkSide) × (find nat_cmp q (e ∷ es) ≡ Some side) × (p (q, side) ≡ true)
   later q e es below h = elim (same_or_not numbers q e.0) [
     | inl same ↦ absurd (let n : find nat_cmp q es ≡ None = subst (λ (k : ℕ). find nat_cmp k es ≡ None) (sym same) (not_below e.0 es below) in let x : None ≡ Some h.0 = sym n ∙ h.1 in let y : ⊥ = cc in y)
     | inr apart ↦ (h.0, ap (λ (b : Bool). cond b (Some e.1) (find nat_cmp q es)) apart ∙ h.1, h.2)
   ]
 
-  found : (q : ℕ) (es : Entries) → T (is_sorted nat_cmp es) → Contains (numbers_of (filter p es)) q → (side : Side) × (find nat_cmp q es ≡ Some side) × (p (q, side) ≡ true)
+  found : (q : ℕ) (es : Entries) → T (is_sorted nat_cmp es) → Contains (numbers_of (filter p es)) q → (side : LinkSide) × (find nat_cmp q es ≡ Some side) × (p (q, side) ≡ true)
   found q [] s h = absurd (nothing_in_nil q h)
   found q (e ∷ es) s h = by_test (p e) refl (found q es (other _ _ s)) h
     where
-      by_test : (b : Bool) → p e ≡ b → (Contains (numbers_of (filter p es)) q → (side : Side) × (find nat_cmp q es ≡ Some side) × (p (q, side) ≡ true)) → Contains (numbers_of (cond b (e ∷ filter p es) (filter p es))) q
-          → (side : Side) × (find nat_cmp q (e ∷ es) ≡ Some side) × (p (q, side) ≡ true)
+      by_test : (b : Bool) → p e ≡ b → (Contains (numbers_of (filter p es)) q → (side : LinkSide) × (find nat_cmp q es ≡ Some side) × (p (q, side) ≡ true)) → Contains (numbers_of (cond b (e ∷ filter p es) (filter p es))) q
+          → (side : LinkSide) × (find nat_cmp q (e ∷ es) ≡ Some side) × (p (q, side) ≡ true)
       by_test false is go c = later q e es (one _ _ s) (go c)
       by_test true is go c = elim (Contains-cons_cases e.0 (numbers_of (filter p es)) q c) [
         | inl same ↦ (e.1, ap (λ (b : Bool). cond b (Some e.1) (find nat_cmp q es)) (ap (eq_by_cmp nat_cmp q) same ∙ ties_itself numbers q), subst (λ (n : ℕ). p (n, e.1) ≡ true) same is)
         | inr more ↦ later q e es (one _ _ s) (go more)
       ]
 
-  listed : (q : ℕ) (es : Entries) (side : Side) → find nat_cmp q es ≡ Some side → p (q, side) ≡ true → Contains (numbers_of (filter p es)) q
+  listed : (q : ℕ) (es : Entries) (side : LinkSide) → find nat_cmp q es ≡ Some side → p (q, side) ≡ true → Contains (numbers_of (filter p es)) q
   listed q [] side f t = absurd (let x : ⊥ = cc in x)
   listed q (e ∷ es) side f t = elim (same_or_not numbers q e.0) [
     | inl same ↦
         let g : Some e.1 ≡ Some side = sym (ap (λ (b : Bool). cond b (Some e.1) (find nat_cmp q es)) (ap (eq_by_cmp nat_cmp q) (sym same) ∙ ties_itself numbers q)) ∙ f in
         let one_side : e.1 ≡ side = cc in
-        let passes : p e ≡ true = ap (λ (n : ℕ). p (n, e.1)) (sym same) ∙ (ap (λ (x : Side). p (q, x)) one_side ∙ t) in
+        let passes : p e ≡ true = ap (λ (n : ℕ). p (n, e.1)) (sym same) ∙ (ap (λ (x : LinkSide). p (q, x)) one_side ∙ t) in
         subst (λ (b : Bool). Contains (numbers_of (cond b (e ∷ filter p es) (filter p es))) q) (sym passes)
         (subst (λ (n : ℕ). Contains (numbers_of (e ∷ filter p es)) n) (sym same) (Contains-here e.0 (numbers_of (filter p es))))
     | inr apart ↦
@@ -159,7 +159,7 @@ wired_there c b s number k is = by_get (c.wires number) refl (subst (λ (o : Opt
     by_get None e h = absurd (subst (λ (o : Option Wires). LinkedAt c.seats number o (Some k)) e h)
 
 -- a node has one side of a number at most
-pub one_side : (seats : Seats) (name : Text) (number : ℕ) (x y : Side) → HasSide seats name number x → HasSide seats name number y → x ≡ y
+pub one_side : (seats : Seats) (name : Text) (number : ℕ) (x y : LinkSide) → HasSide seats name number x → HasSide seats name number y → x ≡ y
 one_side seats name number x y (s, e, f) (t, g, h) =
     let same : Some s ≡ Some t = sym e ∙ g in
     let seat : s ≡ t = cc in
@@ -167,7 +167,7 @@ one_side seats name number x y (s, e, f) (t, g, h) =
     cc
 
 module _ (c : Contents) (b : ByteWorld) (s : ShowsBytes c b) (link : ℕ) (name : Text) (seat : Seat) (is : c.seats name ≡ Some seat) where
-  goes : (number : ℕ) (side : Side) → map.get seat.sides number ≡ Some side → is_other link (number, side) ≡ true → (number ≢ link) × ((k : Channel) × (map.get b.links number ≡ Some k) × (receiver_of k ≡ name) × (is_open (state_of k.receiver.core.phase) ≡ true))
+  goes : (number : ℕ) (side : LinkSide) → map.get seat.sides number ≡ Some side → is_other link (number, side) ≡ true → (number ≢ link) × ((k : Channel) × (map.get b.links number ≡ Some k) × (receiver_of k ≡ name) × (is_open (state_of k.receiver.core.phase) ≡ true))
   goes number side has t =
       let taken : is_taken side ≡ true = both (not (number == link)) (is_taken side) t in
       let apart : not (number == link) ≡ true = first_of_two (not (number == link)) (is_taken side) t in (
@@ -193,7 +193,7 @@ module _ (c : Contents) (b : ByteWorld) (s : ShowsBytes c b) (link : ℕ) (name 
           ]
 
   comes : (number : ℕ) → (number ≢ link) × ((k : Channel) × (map.get b.links number ≡ Some k) × (receiver_of k ≡ name) × (is_open (state_of k.receiver.core.phase) ≡ true))
-      → (side : Side) × (map.get seat.sides number ≡ Some side) × (is_other link (number, side) ≡ true)
+      → (side : LinkSide) × (map.get seat.sides number ≡ Some side) × (is_other link (number, side) ≡ true)
   comes number (apart, (k, has, at_name, open_there)) =
       let w = wired_there c b s number k has in
       let there : HasSide c.seats name number (side_of true k.receiver) = subst (λ (n : Text). HasSide c.seats n number (side_of true k.receiver)) (sym w.2.receiver ∙ at_name) w.2.at_receiver in
@@ -224,5 +224,5 @@ others_are_counted c b s link name seat is =
               listed (is_other link) number es f.0 (sym (map.get-entries seat.sides number) ∙ f.1) f.2,
         ),
       ),
-      sym (length-map (filter (is_other link) es) (λ (e : ℕ × Side). e.0)),
+      sym (length-map (filter (is_other link) es) (λ (e : ℕ × LinkSide). e.0)),
     )

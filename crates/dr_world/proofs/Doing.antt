@@ -11,7 +11,7 @@ use Rattle.dr_pdu.specs.Feeding.{Feeding}
 use Rattle.dr_ledger.proofs.Maps.{texts, same_or_not, ties_itself, get_new, get_other}
 use Rattle.dr_session.specs.declared.ends.Effect.{Effect}
 use Rattle.dr_session.specs.Ledgers.{Desk}
-use Rattle.dr_node.specs.declared.links.Side.{Side}
+use Rattle.dr_node.specs.declared.links.LinkSide.{LinkSide}
 use Rattle.dr_node.specs.Sides.{is_taken}
 use Rattle.dr_world_model.proofs.Lookups.{numbers}
 use Rattle.dr_world_model.specs.Worlds.{same_text}
@@ -57,7 +57,7 @@ still_seated plan certificate seats name seat new is site s = record {
 -- ---- one side of one link
 
 module _ (c : Contents) (b : ByteWorld) (s : ShowsBytes c b) (number : ℕ) (w v : Wires) (k l : Channel) (wired : c.wires number ≡ Some w) (caller : v.caller ≡ w.caller) (receiver : v.receiver ≡ w.receiver)
-    (name : Text) (seat : Seat) (is : c.seats name ≡ Some seat) (was side : Side) (had : map.get seat.sides number ≡ Some was) (t : Desk) (of : (name ≡ w.caller) ⊎ (name ≡ w.receiver)) where
+    (name : Text) (seat : Seat) (is : c.seats name ≡ Some seat) (was side : LinkSide) (had : map.get seat.sides number ≡ Some was) (t : Desk) (of : (name ≡ w.caller) ⊎ (name ≡ w.receiver)) where
   abbrev new : Contents
   new = with_end_done c name seat number side t v
 
@@ -67,7 +67,7 @@ module _ (c : Contents) (b : ByteWorld) (s : ShowsBytes c b) (number : ℕ) (w v
   pub side_here : HasSide (with_end_done c name seat number side t v).seats name number side
   side_here = (with_side seat number side t, seat_new, get_new numbers seat.sides number side)
 
-  pub side_kept : (other : Text) (n : ℕ) (x : Side) → (same_text other name ≡ false) ⊎ (eq_by_cmp nat_cmp n number ≡ false) → HasSide c.seats other n x → HasSide (with_end_done c name seat number side t v).seats other n x
+  pub side_kept : (other : Text) (n : ℕ) (x : LinkSide) → (same_text other name ≡ false) ⊎ (eq_by_cmp nat_cmp n number ≡ false) → HasSide c.seats other n x → HasSide (with_end_done c name seat number side t v).seats other n x
   side_kept other n x (inl apart) h = (h.0, seat_there c.seats name (with_side seat number side t) other apart ∙ h.1, h.2)
   side_kept other n x (inr apart) h = elim (same_or_not texts other name) [
     | inl same ↦
@@ -78,7 +78,7 @@ module _ (c : Contents) (b : ByteWorld) (s : ShowsBytes c b) (number : ℕ) (w v
     | inr away ↦ (h.0, seat_there c.seats name (with_side seat number side t) other away ∙ h.1, h.2)
   ]
 
-  side_had : (other : Text) (n : ℕ) (x : Side) → (same_text other name ≡ false) ⊎ (eq_by_cmp nat_cmp n number ≡ false) → HasSide (with_end_done c name seat number side t v).seats other n x → HasSide c.seats other n x
+  side_had : (other : Text) (n : ℕ) (x : LinkSide) → (same_text other name ≡ false) ⊎ (eq_by_cmp nat_cmp n number ≡ false) → HasSide (with_end_done c name seat number side t v).seats other n x → HasSide c.seats other n x
   side_had other n x (inl apart) h = (h.0, sym (seat_there c.seats name (with_side seat number side t) other apart) ∙ h.1, h.2)
   side_had other n x (inr apart) h = elim (same_or_not texts other name) [
     | inl same ↦
@@ -142,7 +142,7 @@ module _ (c : Contents) (b : ByteWorld) (s : ShowsBytes c b) (number : ℕ) (w v
       let R : Option Channel → Type 0 = λ o. LinkedAt (with_end_done c name seat number side t v).seats n (c.wires n) o in
       subst Q (sym (wires_there n apart)) (subst R (sym (get_other numbers b.links number l n apart)) (linked_same n apart (c.wires n) (map.get b.links n) (s.links n)))
 
-  side_stands : (q : Text) (n : ℕ) (x : Side) → HasSide (with_end_done c name seat number side t v).seats q n x → IsOfLink (with_wires c.wires number v) q n ⊎ (is_taken x ≡ false)
+  side_stands : (q : Text) (n : ℕ) (x : LinkSide) → HasSide (with_end_done c name seat number side t v).seats q n x → IsOfLink (with_wires c.wires number v) q n ⊎ (is_taken x ≡ false)
   side_stands q n x h = elim (same_or_not numbers n number) [
     | inl same ↦ elim (same_or_not texts q name) [
       | inl named ↦ inl (let P : Text → Type 0 = λ z. IsOfLink (with_wires c.wires number v) z n in let Q : ℕ → Type 0 = λ m. IsOfLink (with_wires c.wires number v) name m in
@@ -152,7 +152,7 @@ module _ (c : Contents) (b : ByteWorld) (s : ShowsBytes c b) (number : ℕ) (w v
     | inr apart ↦ elim (s.sides q n x (side_had q n x (inr apart) h)) [ inl l ↦ inl (of_link q n l) | inr free ↦ inr free ]
   ]
 
-  still_fresh : (q : Text) (n : ℕ) (x : Side) → HasSide (with_end_done c name seat number side t v).seats q n x → c.opened < n → ⊥
+  still_fresh : (q : Text) (n : ℕ) (x : LinkSide) → HasSide (with_end_done c name seat number side t v).seats q n x → c.opened < n → ⊥
   still_fresh q n x h less = elim (same_or_not numbers n number) [
     | inl same ↦ s.fresh name number was (seat, is, had) (subst (λ (m : ℕ). c.opened < m) same less)
     | inr apart ↦ s.fresh q n x (side_had q n x (inr apart) h) less
@@ -175,7 +175,7 @@ module _ (c : Contents) (b : ByteWorld) (s : ShowsBytes c b) (number : ℕ) (w v
   pub caller_done : c.seats w.caller ≡ Some seat → map.get seat.sides number ≡ Some (side_of false k.caller) → x.core.site ≡ k.caller.core.site → v.to_caller.items ≡ wire → v.to_receiver.items ≡ w.to_receiver.items ++ bytes_of x.acts
       → ShowsBytes (with_end_done c w.caller seat number (side_of false (record { core = x.core; ear = ear })) t v) (with_done b w.caller t number (caller_as k wire ear x))
   caller_done is had site at_caller at_receiver =
-      let side : Side = side_of false (record { core = x.core; ear = ear }) in
+      let side : LinkSide = side_of false (record { core = x.core; ear = ear }) in
       done_shows c b s number w v k (caller_as k wire ear x) wired caller receiver w.caller seat is (side_of false k.caller) side had t (inl refl) (record {
         caller = ap (λ (o : Option Part). (site_in o).name) site ∙ (linked.caller ∙ sym caller);
         receiver = linked.receiver ∙ sym receiver;
@@ -192,7 +192,7 @@ module _ (c : Contents) (b : ByteWorld) (s : ShowsBytes c b) (number : ℕ) (w v
   pub receiver_done : c.seats w.receiver ≡ Some seat → map.get seat.sides number ≡ Some (side_of true k.receiver) → x.core.site ≡ k.receiver.core.site → v.to_receiver.items ≡ wire → v.to_caller.items ≡ w.to_caller.items ++ bytes_of x.acts
       → ShowsBytes (with_end_done c w.receiver seat number (side_of true (record { core = x.core; ear = ear })) t v) (with_done b w.receiver t number (receiver_as k wire ear x))
   receiver_done is had site at_receiver at_caller =
-      let side : Side = side_of true (record { core = x.core; ear = ear }) in
+      let side : LinkSide = side_of true (record { core = x.core; ear = ear }) in
       done_shows c b s number w v k (receiver_as k wire ear x) wired caller receiver w.receiver seat is (side_of true k.receiver) side had t (inr refl) (record {
         caller = linked.caller ∙ sym caller;
         receiver = ap (λ (o : Option Part). (site_in o).name) site ∙ (linked.receiver ∙ sym receiver);

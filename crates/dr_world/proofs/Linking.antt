@@ -18,7 +18,7 @@ use Rattle.dr_session.specs.declared.ends.Heard.TheVariants as heard
 use Rattle.dr_session.specs.Ledgers.{Desk}
 use Rattle.dr_node.specs.declared.event.LinkEvent.TheVariants as event
 use Rattle.dr_node.specs.declared.fault.NodeFault.TheVariants.{LinkUnknown}
-use Rattle.dr_node.specs.declared.links.Side.{Side as NodeSide}
+use Rattle.dr_node.specs.declared.links.LinkSide.{LinkSide as NodeSide}
 use Rattle.dr_node.specs.declared.node.Node.{Node}
 use Rattle.dr_node.specs.Sides.{Sides, Deed, Does, DoesIn, with_end}
 use Rattle.dr_world_model.proofs.Lookups.{numbers}

@@ -28,7 +28,7 @@ use Rattle.dr_session.specs.Ledgers.{Desk, RoutedStep}
 use Rattle.dr_session.specs.Plays.{At, Reacts, Plays, PlaysBytes, at_moment}
 use Rattle.dr_session.specs.Reactions.{Reaction, effect, is_idle, is_impatient}
 use Rattle.dr_session.specs.Turns.{Turns, Ends, Asks, Fails}
-use Rattle.dr_node.specs.declared.links.Side.{Side}
+use Rattle.dr_node.specs.declared.links.LinkSide.{LinkSide}
 use Rattle.dr_node.specs.Sides.{moment_at, with_end}
 use Rattle.dr_world_tie.specs.Desks.{LedgerStep}
 use Rattle.dr_world_tie.specs.Channels.{Terminal}
@@ -143,7 +143,7 @@ module _ (plan : Network) (certificate : Certificate) (certified : IsCertified p
   at_desk : b.desks name ≡ seat.desk
   at_desk = desk_there c b s name seat is
 
-  module _ (accepted : Bool) (end : Terminal) (own : Side) (has : map.get seat.sides number ≡ Some own) (had : map.get seat.sides number ≡ Some (side_of accepted end)) (acts : List LinkAction) (new : End) (t : Desk) where
+  module _ (accepted : Bool) (end : Terminal) (own : LinkSide) (has : map.get seat.sides number ≡ Some own) (had : map.get seat.sides number ≡ Some (side_of accepted end)) (acts : List LinkAction) (new : End) (t : Desk) where
     own_is : own ≡ side_of accepted end
     own_is = (let e : Some own ≡ Some (side_of accepted end) = sym has ∙ had in cc)
 
@@ -157,16 +157,16 @@ module _ (plan : Network) (certificate : Certificate) (certified : IsCertified p
     pub happens : (i : Input) → Meets (RoutedStep (site_routing seat.site)) (moment_at number seat.sides c.now) i own.end seat.desk (Ok acts) new t
         → (x : Effect) × Happened (LedgerStep plan name) end.core (moment_at number seat.sides c.now) i (b.desks name) x t × (acts ≡ x.acts) × (with_end own new ≡ side_of accepted (record { core = x.core; ear = end.ear }))
     happens i h =
-        let P : Side → Type 0 = λ o. Meets (RoutedStep (site_routing seat.site)) (moment_at number seat.sides c.now) i o.end seat.desk (Ok acts) new t in
+        let P : LinkSide → Type 0 = λ o. Meets (RoutedStep (site_routing seat.site)) (moment_at number seat.sides c.now) i o.end seat.desk (Ok acts) new t in
         let m = met (RoutedStep (site_routing seat.site)) (moment_at number seat.sides c.now) end.core end.ear seat.desk acts new t i (subst P own_is h) in
-        (m.0, happened_as m.0 i m.1, m.2, ap (λ (o : Side). with_end o new) own_is ∙ ap (λ (z : End). with_end (side_of accepted end) z) m.3)
+        (m.0, happened_as m.0 i m.1, m.2, ap (λ (o : LinkSide). with_end o new) own_is ∙ ap (λ (z : End). with_end (side_of accepted end) z) m.3)
 
     pub hears : (piece : List ℕ) → is_gone (state_of end.core.phase) ≡ false → HearsBytes (RoutedStep (site_routing seat.site)) own.end.core (moment_at number seat.sides c.now) piece own.end seat.desk (Ok acts) new t
         → (x : Effect) × PlaysBytes (LedgerStep plan name) (moment_at number seat.sides c.now) end.ear end.core piece (b.desks name) new.ear x t × (acts ≡ x.acts) × (with_end own new ≡ side_of accepted (record { core = x.core; ear = new.ear }))
     hears piece on h =
-        let P : Side → Type 0 = λ o. HearsBytes (RoutedStep (site_routing seat.site)) o.end.core (moment_at number seat.sides c.now) piece o.end seat.desk (Ok acts) new t in
+        let P : LinkSide → Type 0 = λ o. HearsBytes (RoutedStep (site_routing seat.site)) o.end.core (moment_at number seat.sides c.now) piece o.end seat.desk (Ok acts) new t in
         let m = heard (RoutedStep (site_routing seat.site)) (moment_at number seat.sides c.now) end.core end.ear seat.desk acts new t piece on (subst P own_is h) in
         let planned : PlaysBytes (LedgerStep plan name) (moment_at number seat.sides c.now) end.ear end.core piece seat.desk new.ear m.0 t =
         bytes_as (RoutedStep (site_routing seat.site)) (LedgerStep plan name) to_plan (moment_at number seat.sides c.now) end.ear end.core piece seat.desk new.ear m.0 t m.1 in
         let Q : Desk → Type 0 = λ d. PlaysBytes (LedgerStep plan name) (moment_at number seat.sides c.now) end.ear end.core piece d new.ear m.0 t in
-        (m.0, subst Q (sym at_desk) planned, m.2, ap (λ (o : Side). with_end o new) own_is ∙ ap (λ (z : End). with_end (side_of accepted end) z) m.3)
+        (m.0, subst Q (sym at_desk) planned, m.2, ap (λ (o : LinkSide). with_end o new) own_is ∙ ap (λ (z : End). with_end (side_of accepted end) z) m.3)

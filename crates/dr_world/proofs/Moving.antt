@@ -14,7 +14,7 @@ use Rattle.dr_session.specs.Ends.{is_gone, state_in}
 use Rattle.dr_session.specs.Ledgers.{Desk}
 use Rattle.dr_session.specs.Plays.{PlaysBytes}
 use Rattle.dr_node.specs.declared.event.LinkEvent.TheVariants as event
-use Rattle.dr_node.specs.declared.links.Side.{Side as NodeSide}
+use Rattle.dr_node.specs.declared.links.LinkSide.{LinkSide as NodeSide}
 use Rattle.dr_node.specs.Sides.{moment_at}
 use Rattle.dr_world_tie.specs.Desks.{LedgerStep}
 use Rattle.dr_world_tie.specs.Channels.{Channel}

@@ -20,7 +20,7 @@ use Rattle.dr_site.proofs.ContextsAsPlanned.{hop_to, pairs_as_planned}
 use Rattle.dr_nego.specs.Proposing.{IsHopTo}
 use Rattle.dr_ledger.proofs.Maps.{texts, same_or_not, ties_itself, get_new, get_other}
 use Rattle.dr_session.specs.Ledgers.{Desk}
-use Rattle.dr_node.specs.declared.links.Side.{Side}
+use Rattle.dr_node.specs.declared.links.LinkSide.{LinkSide}
 use Rattle.dr_node.specs.Sides.{is_taken, accepts_at}
 use Rattle.dr_world_model.proofs.Lookups.{numbers}
 use Rattle.dr_world_model.specs.Worlds.{same_text}
@@ -58,11 +58,11 @@ hops_elsewhere plan certificate certified site is dest hop goes =
 
 -- ---- one side more at a node
 
-module _ (seats : Seats) (name : Text) (seat : Seat) (is : seats name ≡ Some seat) (number : ℕ) (side : Side) (t : Desk) where
+module _ (seats : Seats) (name : Text) (seat : Seat) (is : seats name ≡ Some seat) (number : ℕ) (side : LinkSide) (t : Desk) where
   side_here : HasSide (with_seat seats name (with_side seat number side t)) name number side
   side_here = (with_side seat number side t, seat_here seats name (with_side seat number side t), get_new numbers seat.sides number side)
 
-  side_kept : (other : Text) (n : ℕ) (x : Side) → (same_text other name ≡ false) ⊎ (eq_by_cmp nat_cmp n number ≡ false) → HasSide seats other n x → HasSide (with_seat seats name (with_side seat number side t)) other n x
+  side_kept : (other : Text) (n : ℕ) (x : LinkSide) → (same_text other name ≡ false) ⊎ (eq_by_cmp nat_cmp n number ≡ false) → HasSide seats other n x → HasSide (with_seat seats name (with_side seat number side t)) other n x
   side_kept other n x (inl apart) h = (h.0, seat_there seats name (with_side seat number side t) other apart ∙ h.1, h.2)
   side_kept other n x (inr apart) h = elim (same_or_not texts other name) [
     | inl same ↦
@@ -73,7 +73,7 @@ module _ (seats : Seats) (name : Text) (seat : Seat) (is : seats name ≡ Some s
     | inr away ↦ (h.0, seat_there seats name (with_side seat number side t) other away ∙ h.1, h.2)
   ]
 
-  side_had : (other : Text) (n : ℕ) (x : Side) → (same_text other name ≡ false) ⊎ (eq_by_cmp nat_cmp n number ≡ false) → HasSide (with_seat seats name (with_side seat number side t)) other n x → HasSide seats other n x
+  side_had : (other : Text) (n : ℕ) (x : LinkSide) → (same_text other name ≡ false) ⊎ (eq_by_cmp nat_cmp n number ≡ false) → HasSide (with_seat seats name (with_side seat number side t)) other n x → HasSide seats other n x
   side_had other n x (inl apart) h = (h.0, sym (seat_there seats name (with_side seat number side t) other apart) ∙ h.1, h.2)
   side_had other n x (inr apart) h = elim (same_or_not texts other name) [
     | inl same ↦
@@ -87,7 +87,7 @@ module _ (seats : Seats) (name : Text) (seat : Seat) (is : seats name ≡ Some s
 
 -- ---- the worlds
 
-module _ (c : Contents) (b : ByteWorld) (s : ShowsBytes c b) (from to : Text) (away : from ≢ to) (near far : Seat) (is_near : c.seats from ≡ Some near) (is_far : c.seats to ≡ Some far) (mine theirs : Side) (w : Wires) (k : Channel)
+module _ (c : Contents) (b : ByteWorld) (s : ShowsBytes c b) (from to : Text) (away : from ≢ to) (near far : Seat) (is_near : c.seats from ≡ Some near) (is_far : c.seats to ≡ Some far) (mine theirs : LinkSide) (w : Wires) (k : Channel)
     (caller : w.caller ≡ from) (receiver : w.receiver ≡ to) where
   abbrev number : ℕ
   number = c.opened + 1
@@ -101,10 +101,10 @@ module _ (c : Contents) (b : ByteWorld) (s : ShowsBytes c b) (from to : Text) (a
   far_mid : with_seat c.seats from (with_side near (c.opened + 1) mine near.desk) to ≡ Some far
   far_mid = seat_there c.seats from (with_side near (c.opened + 1) mine near.desk) to (apart_texts to from (λ e. away (sym e))) ∙ is_far
 
-  kept : (q : Text) (n : ℕ) (x : Side) → eq_by_cmp nat_cmp n (c.opened + 1) ≡ false → HasSide c.seats q n x → HasSide (with_opened c from near mine to far theirs w).seats q n x
+  kept : (q : Text) (n : ℕ) (x : LinkSide) → eq_by_cmp nat_cmp n (c.opened + 1) ≡ false → HasSide c.seats q n x → HasSide (with_opened c from near mine to far theirs w).seats q n x
   kept q n x apart h = side_kept mid to far far_mid (c.opened + 1) theirs far.desk q n x (inr apart) (side_kept c.seats from near is_near (c.opened + 1) mine near.desk q n x (inr apart) h)
 
-  had : (q : Text) (n : ℕ) (x : Side) → eq_by_cmp nat_cmp n (c.opened + 1) ≡ false → HasSide (with_opened c from near mine to far theirs w).seats q n x → HasSide c.seats q n x
+  had : (q : Text) (n : ℕ) (x : LinkSide) → eq_by_cmp nat_cmp n (c.opened + 1) ≡ false → HasSide (with_opened c from near mine to far theirs w).seats q n x → HasSide c.seats q n x
   had q n x apart h = side_had c.seats from near is_near (c.opened + 1) mine near.desk q n x (inr apart) (side_had mid to far far_mid (c.opened + 1) theirs far.desk q n x (inr apart) h)
 
   wires_here : with_wires c.wires (c.opened + 1) w (c.opened + 1) ≡ Some w
@@ -150,10 +150,10 @@ module _ (c : Contents) (b : ByteWorld) (s : ShowsBytes c b) (from to : Text) (a
       by_end (inr e) = inr (e ∙ sym receiver)
 
   -- elsewhere no side has the new number
-  none_yet : (q : Text) (n : ℕ) (x : Side) → n ≡ c.opened + 1 → HasSide c.seats q n x → ⊥
+  none_yet : (q : Text) (n : ℕ) (x : LinkSide) → n ≡ c.opened + 1 → HasSide c.seats q n x → ⊥
   none_yet q n x same h = s.fresh q n x h (subst (λ (m : ℕ). c.opened < m) (sym same) (omega arith))
 
-  side_stands : (q : Text) (n : ℕ) (x : Side) → HasSide (with_opened c from near mine to far theirs w).seats q n x → IsOfLink (with_wires c.wires (c.opened + 1) w) q n ⊎ (is_taken x ≡ false)
+  side_stands : (q : Text) (n : ℕ) (x : LinkSide) → HasSide (with_opened c from near mine to far theirs w).seats q n x → IsOfLink (with_wires c.wires (c.opened + 1) w) q n ⊎ (is_taken x ≡ false)
   side_stands q n x h = elim (same_or_not numbers n (c.opened + 1)) [
     | inl same ↦ elim (same_or_not texts q to) [
       | inl at_to ↦ inl (of_new q n same (inr at_to))
@@ -165,7 +165,7 @@ module _ (c : Contents) (b : ByteWorld) (s : ShowsBytes c b) (from to : Text) (a
     | inr apart ↦ elim (s.sides q n x (had q n x apart h)) [ inl l ↦ inl (of_link q n apart l) | inr free ↦ inr free ]
   ]
 
-  still_fresh : (q : Text) (n : ℕ) (x : Side) → HasSide (with_opened c from near mine to far theirs w).seats q n x → c.opened + 1 < n → ⊥
+  still_fresh : (q : Text) (n : ℕ) (x : LinkSide) → HasSide (with_opened c from near mine to far theirs w).seats q n x → c.opened + 1 < n → ⊥
   still_fresh q n x h less = elim (same_or_not numbers n (c.opened + 1)) [
     | inl same ↦ (let l : c.opened + 1 < c.opened + 1 = subst (λ (m : ℕ). c.opened + 1 < m) same less in omega arith)
     | inr apart ↦ s.fresh q n x (had q n x apart h) (omega arith)

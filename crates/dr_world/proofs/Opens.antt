@@ -22,7 +22,7 @@ use Rattle.dr_session.specs.declared.ends.LinkAction.{LinkAction}
 use Rattle.dr_session.specs.declared.desk.LedgerDesk.{LedgerDesk}
 use Rattle.dr_session.specs.Ends.{Terminal, OpensTo}
 use Rattle.dr_session.specs.Ledgers.{desk}
-use Rattle.dr_node.specs.declared.links.Side.{Side}
+use Rattle.dr_node.specs.declared.links.LinkSide.{LinkSide}
 use Rattle.dr_node.specs.declared.node.Node.{Node}
 use Rattle.dr_node.specs.Sides.{Sides, AcceptsIn, OpensIn, accepts_at}
 use Rattle.dr_world_model.proofs.Lookups.{numbers}
@@ -72,11 +72,11 @@ module _ {L : Type 0} {l : Ghosts L} (name : Text) (n : Node L l) (sides : Sides
 -- ---- what was opened
 
 -- the request that was written, and the side that wrote it
-opened_side : (site : Part) (dest : Text) (link now : ℕ) (o : Option Side) (old new : Sides) (acts : List LinkAction) → OpensIn o site dest link now old (Ok acts) new → (end : Terminal) × OpensTo site dest now (Ok (end, acts)) × (new ≡ map.insert old link (record { end = end; accepted = false }))
+opened_side : (site : Part) (dest : Text) (link now : ℕ) (o : Option LinkSide) (old new : Sides) (acts : List LinkAction) → OpensIn o site dest link now old (Ok acts) new → (end : Terminal) × OpensTo site dest now (Ok (end, acts)) × (new ≡ map.insert old link (record { end = end; accepted = false }))
 opened_side site dest link now None old new acts h = h
 opened_side site dest link now (Some side) old new acts h = absurd h
 
-accepted_side : (site : Part) (link now : ℕ) (o : Option Side) (old new : Sides) → AcceptsIn o site link now old (Ok tt) new → new ≡ map.insert old link (accepts_at site now)
+accepted_side : (site : Part) (link now : ℕ) (o : Option LinkSide) (old new : Sides) → AcceptsIn o site link now old (Ok tt) new → new ≡ map.insert old link (accepts_at site now)
 accepted_side site link now None old new h = h
 accepted_side site link now (Some side) old new h = absurd h
 
@@ -103,7 +103,7 @@ module _ {L : Type 0} {l : Ghosts L} (old new : World L l) (from to : Text) (act
 
     near_side : opens.1 ≡ map.insert (seat_of opens.0).sides (old.opened + 1) (asks_at (l.site opens.0.desk.ledger) to o.1.0 old.time.passed)
     near_side =
-        o.2 ∙ (ap (λ (e : Terminal). map.insert opens.0.links new.opened (let s : Side = record { end = e; accepted = false } in s)) o.1.2
+        o.2 ∙ (ap (λ (e : Terminal). map.insert opens.0.links new.opened (let s : LinkSide = record { end = e; accepted = false } in s)) o.1.2
         ∙ (ap (λ (p : Part). map.insert opens.0.links new.opened (asks_at p to o.1.0 old.time.passed)) (sym near_site) ∙ ap (λ (m : ℕ). map.insert opens.0.links m (asks_at (l.site opens.0.desk.ledger) to o.1.0 old.time.passed)) next))
 
     far_side : accepts.1 ≡ map.insert (seat_of accepts.0).sides (old.opened + 1) (accepts_at (l.site accepts.0.desk.ledger) old.time.passed)

@@ -26,13 +26,13 @@ use Rattle.dr_session.specs.declared.ends.Heard.TheVariants as heard
 use Rattle.dr_session.specs.Ledgers.{desk}
 use Rattle.dr_node.specs.declared.event.LinkEvent.{LinkEvent}
 use Rattle.dr_node.specs.declared.event.LinkEvent.TheVariants as event
-use Rattle.dr_node.specs.declared.links.Side.{Side}
+use Rattle.dr_node.specs.declared.links.LinkSide.{LinkSide}
 use Rattle.dr_node.specs.declared.node.Node.{Node}
 use Rattle.dr_node.specs.Sides.{is_standing, is_taken}
 use Rattle.dr_world_model.proofs.Lookups.{numbers}
 use Rattle.dr_world_model.specs.Worlds.{same_text}
 use Rattle.dr_world_tie.specs.Channels.{Channel}
-use Rattle.dr_world_tie.specs.ByteWorlds.{Side as WorldSide, ByteWorld, AreLinksOf, Done, Restart, is_there, caller_of, receiver_of}
+use Rattle.dr_world_tie.specs.ByteWorlds.{LinkSide as WorldSide, ByteWorld, AreLinksOf, Done, Restart, is_there, caller_of, receiver_of}
 use Rattle.dr_world_tie.proofs.Others.{as_pairs}
 use Rattle.dr_world.specs.declared.steps.StepNote.{StepNote}
 use Rattle.dr_world.specs.declared.steps.StepNote.TheVariants as note
@@ -88,7 +88,7 @@ module _ (plan : Network) (certificate : Certificate) (certified : IsCertified p
   elsewhere : (q : Text) → same_text q node ≡ false → new.seats q ≡ mid.seats q
   elsewhere q apart = seats q ∙ ap (λ (x : Bool). cond x (Some (emptied seat)) (mid.seats q)) apart
 
-  no_side : (n : ℕ) (x : Side) → HasSide new.seats node n x → ⊥
+  no_side : (n : ℕ) (x : LinkSide) → HasSide new.seats node n x → ⊥
   no_side n x h =
       let one : h.0 ≡ emptied seat = one_seat (new.seats node) h.0 (emptied seat) h.1 at_node in
       let got : map.get (emptied seat).sides n ≡ Some x = subst (λ (y : Seat). map.get y.sides n ≡ Some x) one h.2 in
@@ -97,13 +97,13 @@ module _ (plan : Network) (certificate : Certificate) (certified : IsCertified p
       f
 
   -- a side that is there now is another node's, which had it
-  had : (q : Text) (n : ℕ) (x : Side) → HasSide new.seats q n x → (same_text q node ≡ false) × HasSide mid.seats q n x
+  had : (q : Text) (n : ℕ) (x : LinkSide) → HasSide new.seats q n x → (same_text q node ≡ false) × HasSide mid.seats q n x
   had q n x h = elim (same_or_not texts q node) [
     | inl same ↦ (let P : Text → Type 0 = λ z. HasSide new.seats z n x in absurd (no_side n x (subst P same h)))
     | inr apart ↦ (apart, (h.0, sym (elsewhere q apart) ∙ h.1, h.2))
   ]
 
-  still : (q : Text) (n : ℕ) (x : Side) → same_text q node ≡ false → HasSide mid.seats q n x → HasSide new.seats q n x
+  still : (q : Text) (n : ℕ) (x : LinkSide) → same_text q node ≡ false → HasSide mid.seats q n x → HasSide new.seats q n x
   still q n x apart h = (h.0, elsewhere q apart ∙ h.1, h.2)
 
   -- ---- links
@@ -151,7 +151,7 @@ module _ (plan : Network) (certificate : Certificate) (certified : IsCertified p
 
   -- ---- sides
 
-  one_side : (q : Text) (n : ℕ) (x y : Side) → HasSide mid.seats q n x → HasSide mid.seats q n y → x ≡ y
+  one_side : (q : Text) (n : ℕ) (x y : LinkSide) → HasSide mid.seats q n x → HasSide mid.seats q n y → x ≡ y
   one_side q n x y h k =
       let seats_same : h.0 ≡ k.0 = one_seat (mid.seats q) h.0 k.0 h.1 k.1 in
       let got : map.get k.0.sides n ≡ Some x = subst (λ (z : Seat). map.get z.sides n ≡ Some x) seats_same h.2 in
@@ -159,7 +159,7 @@ module _ (plan : Network) (certificate : Certificate) (certified : IsCertified p
       cc
 
   -- the far side of a link that is lost is over
-  lost_side : (q : Text) (n : ℕ) (x : Side) → HasSide mid.seats q n x → same_text q node ≡ false → Contains all n → IsOfLink mid.wires q n → is_taken x ≡ false
+  lost_side : (q : Text) (n : ℕ) (x : LinkSide) → HasSide mid.seats q n x → same_text q node ≡ false → Contains all n → IsOfLink mid.wires q n → is_taken x ≡ false
   lost_side q n x h apart among (w, wired, which) =
       let l = linked_there mid g.after g.shows n w wired in
       elim which [
@@ -172,7 +172,7 @@ module _ (plan : Network) (certificate : Certificate) (certified : IsCertified p
             ap is_taken (one_side w.receiver n x (side_of true l.0.receiver) (subst P at_receiver h) l.2.at_receiver) ∙ ap (λ (q : State). is_standing q) (g.over n among l.0 l.1 away)
       ]
 
-  sides : (q : Text) (n : ℕ) (x : Side) → HasSide new.seats q n x → IsOfLink new.wires q n ⊎ (is_taken x ≡ false)
+  sides : (q : Text) (n : ℕ) (x : LinkSide) → HasSide new.seats q n x → IsOfLink new.wires q n ⊎ (is_taken x ≡ false)
   sides q n x h =
       let was = had q n x h in
       elim (g.shows.sides q n x was.1) [

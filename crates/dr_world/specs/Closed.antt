@@ -6,7 +6,7 @@ use Rattle.dr_session.specs.declared.ends.Input.TheVariants.{Ended}
 use Rattle.dr_session.specs.declared.ends.LinkAction.{LinkAction}
 use Rattle.dr_session.specs.Ends.{Terminal, Meets}
 use Rattle.dr_session.specs.Ledgers.{Desk, RoutedStep}
-use Rattle.dr_node.specs.declared.links.Side.{Side}
+use Rattle.dr_node.specs.declared.links.LinkSide.{LinkSide}
 use Rattle.dr_node.specs.Sides.{moment_at, with_end}
 use Rattle.dr_world.specs.declared.wires.Wires.{Wires}
 use Rattle.dr_world.specs.Shows.{Contents, Seat, with_seat, with_side, with_wires}
@@ -26,7 +26,7 @@ pub record IsClosed (old : Contents) (number : ℕ) (new : Contents) : Type 0 wh
   pub lost : AreLost wires after
   pub far : Seat
   pub is_far : old.seats wires.receiver ≡ Some far
-  pub theirs : Side
+  pub theirs : LinkSide
   pub has_theirs : map.get far.sides number ≡ Some theirs
   pub acts : List LinkAction
   pub end : Terminal
@@ -37,7 +37,7 @@ pub record IsClosed (old : Contents) (number : ℕ) (new : Contents) : Type 0 wh
   pub is_near : with_seat old.seats wires.receiver (with_side far number (with_end theirs end) desk)
       wires.caller
       ≡ Some near
-  pub mine : Side
+  pub mine : LinkSide
   pub has_mine : map.get near.sides number ≡ Some mine
   pub own_acts : List LinkAction
   pub own_end : Terminal

@@ -8,7 +8,7 @@ use Rattle.dr_session.specs.declared.ends.LinkAction.{LinkAction}
 use Rattle.dr_session.specs.declared.ends.Moment.{Moment}
 use Rattle.dr_session.specs.Ends.{Terminal}
 use Rattle.dr_session.specs.Ledgers.{Desk}
-use Rattle.dr_node.specs.declared.links.Side.{Side as NodeSide}
+use Rattle.dr_node.specs.declared.links.LinkSide.{LinkSide as NodeSide}
 use Rattle.dr_node.specs.Sides.{moment_at, with_end}
 use Rattle.dr_world_tie.specs.Channels.{bytes_of}
 use Rattle.dr_world_tie.specs.ByteWorlds.{Side, Requestor, Acceptor, StepNote, Done, Skipped}

@@ -8,7 +8,7 @@ use Rattle.std.specs.BTreeMap.{BTreeMap}
 use Rattle.dr_base.specs.Texts.{Text}
 use Rattle.dr_ledger.specs.declared.ledger.Ledger.{Ghosts}
 use Rattle.dr_session.specs.Pendings.{pending_in}
-use Rattle.dr_node.specs.declared.links.Side.{Side}
+use Rattle.dr_node.specs.declared.links.LinkSide.{LinkSide}
 use Rattle.dr_node.specs.declared.node.Node.{Node}
 use Rattle.dr_world_model.specs.Worlds.{same_text}
 use Rattle.dr_world.specs.declared.wires.Wires.{Wires}
@@ -16,7 +16,7 @@ use Rattle.dr_world.specs.Shows.{Seat, Seats}
 use Rattle.dr_world.specs.Nodes.{seats_of}
 
 -- the uid whose store awaits its response at a side of a link
-abbrev pub pending_of_side : Option Side → Option Text
+abbrev pub pending_of_side : Option LinkSide → Option Text
 pending_of_side None = None
 pending_of_side (Some side) = pending_in side.end.core
 

@@ -12,12 +12,12 @@ use Rattle.dr_pdu.specs.Written.{Fits, written}
 use Rattle.dr_session.specs.declared.ends.Heard.TheVariants as heard
 use Rattle.dr_session.specs.declared.ends.LinkAction.{LinkAction}
 use Rattle.dr_node.specs.declared.event.LinkEvent.TheVariants as event
-use Rattle.dr_node.specs.declared.links.Side.{Side as NodeSide}
+use Rattle.dr_node.specs.declared.links.LinkSide.{LinkSide as NodeSide}
 use Rattle.dr_node.specs.declared.node.Node.{Node}
 use Rattle.dr_world_tie.specs.Channels.{Terminal}
 use Rattle.dr_world_tie.specs.ByteWorlds.{Side, IsMoved}
-use Rattle.dr_world.specs.declared.fronts.Due.{Due}
-use Rattle.dr_world.specs.declared.fronts.Due.TheVariants as due
+use Rattle.dr_world.specs.declared.fronts.MoveDue.{MoveDue}
+use Rattle.dr_world.specs.declared.fronts.MoveDue.TheVariants as due
 use Rattle.dr_world.specs.declared.steps.StepNote.{StepNote}
 use Rattle.dr_world.specs.declared.steps.StepNote.TheVariants.{Done, Skipped}
 use Rattle.dr_world.specs.declared.wires.Wires.{Wires}
@@ -64,7 +64,7 @@ kept_at link (Some n) = kept_of (map.get n.links link)
 -- reader is over, or its wire is empty and the writer isn't over; the connection's end, where the
 -- wire is empty and the writer is over; else bytes.
 abbrev pub IsDueAt : {L : Type 0} {l : Ghosts L}
-    → BTreeMap Text (Node L l) → ℕ → Side → ℕ → Wires → Due → Type 0
+    → BTreeMap Text (Node L l) → ℕ → Side → ℕ → Wires → MoveDue → Type 0
 IsDueAt nodes link side n w due.Nothing =
     (n ≡ 0)
     ⊎ ((over_at link (tree.get text_cmp nodes (name_at side w)) ≡ true)
@@ -82,7 +82,7 @@ IsDueAt nodes link side n w (due.Bytes m) =
     × IsMovable (kept_at link (tree.get text_cmp nodes (name_at side w))) (wire_at side w) n m
 
 abbrev pub IsDue : {L : Type 0} {l : Ghosts L}
-    → Option Wires → BTreeMap Text (Node L l) → ℕ → Side → ℕ → Due → Type 0
+    → Option Wires → BTreeMap Text (Node L l) → ℕ → Side → ℕ → MoveDue → Type 0
 IsDue None nodes link side n what = what ≡ due.Nothing
 IsDue (Some w) nodes link side n what = IsDueAt nodes link side n w what
 

@@ -8,13 +8,14 @@ use Rattle.dr_nego.specs.Fragments.{spellings}
 use Rattle.dr_nego.specs.Proposing.{IsProposal, IsHopTo}
 use Rattle.dr_session.specs.Ends.{begins, requesting}
 use Rattle.dr_site.specs.Parts.{Part}
-use Rattle.dr_node.specs.declared.links.Side.{Side}
+use Rattle.dr_node.specs.declared.links.LinkSide.{LinkSide}
 use Rattle.dr_node.specs.Sides.{accepts_at}
 use Rattle.dr_world.specs.declared.wires.Wires.{Wires}
 use Rattle.dr_world.specs.Shows.{Contents, Seat, with_seat, with_side, with_wires}
 
 -- one link more, under the next number: a side at each of two nodes, and its wires
-abbrev pub with_opened : Contents → Text → Seat → Side → Text → Seat → Side → Wires → Contents
+abbrev pub with_opened : Contents → Text → Seat → LinkSide → Text → Seat → LinkSide → Wires
+    → Contents
 with_opened c from near mine to far theirs w = record {
   now = c.now;
   opened = c.opened + 1;
@@ -24,7 +25,7 @@ with_opened c from near mine to far theirs w = record {
 }
 
 -- the requestor's side, which has asked for the association
-abbrev pub asks_at : Part → Text → AssociateRq → ℕ → Side
+abbrev pub asks_at : Part → Text → AssociateRq → ℕ → LinkSide
 asks_at site dest rq now =
     record { end = begins site.max_pdu (requesting (Some site) dest rq now); accepted = false }
 

@@ -9,7 +9,7 @@ use Rattle.dr_plan_sound.specs.declared.certificate.Certificate.{Certificate}
 use Rattle.dr_site.specs.Parts.{Part, IsPartOf}
 use Rattle.dr_ledger.specs.Books.{empty_book}
 use Rattle.dr_session.specs.Ledgers.{Desk, desk}
-use Rattle.dr_node.specs.declared.links.Side.{Side}
+use Rattle.dr_node.specs.declared.links.LinkSide.{LinkSide}
 use Rattle.dr_node.specs.Sides.{Sides, is_taken}
 use Rattle.dr_world_model.specs.Worlds.{same_text}
 use Rattle.dr_world_model.specs.Events.{HasNode}
@@ -58,7 +58,7 @@ abbrev pub with_desk_of : Seat → Desk → Seat
 with_desk_of seat t = record { site = seat.site; sides = seat.sides; desk = t }
 
 -- one of its sides is another now, and its ledger
-abbrev pub with_side : Seat → ℕ → Side → Desk → Seat
+abbrev pub with_side : Seat → ℕ → LinkSide → Desk → Seat
 with_side seat number side t =
     record { site = seat.site; sides = map.insert seat.sides number side; desk = t }
 
@@ -69,7 +69,7 @@ abbrev pub with_wires : (ℕ → Option Wires) → ℕ → Wires → ℕ → Opt
 with_wires wires number w other = cond (eq_by_cmp nat_cmp other number) (Some w) (wires other)
 
 -- after something was done at one end of a link, at that node
-abbrev pub with_end_done : Contents → Text → Seat → ℕ → Side → Desk → Wires → Contents
+abbrev pub with_end_done : Contents → Text → Seat → ℕ → LinkSide → Desk → Wires → Contents
 with_end_done c name seat number side t w = record {
   now = c.now;
   opened = c.opened;
@@ -79,11 +79,11 @@ with_end_done c name seat number side t w = record {
 
 -- An end as its node has it. Its core is there: where memory ended one the whole world is over, and
 -- stands for no world of bytes.
-abbrev pub side_of : Bool → Terminal → Side
+abbrev pub side_of : Bool → Terminal → LinkSide
 side_of accepted end =
     record { end = record { ear = end.ear; core = Some end.core }; accepted = accepted }
 
-abbrev pub HasSide : Seats → Text → ℕ → Side → Type 0
+abbrev pub HasSide : Seats → Text → ℕ → LinkSide → Type 0
 HasSide seats name number side =
     (seat : Seat) × (seats name ≡ Some seat) × (map.get seat.sides number ≡ Some side)
 
@@ -119,11 +119,11 @@ pub record ShowsBytes (c : Contents) (b : ByteWorld) : Type 0 where
   pub links : (number : ℕ) → LinkedAt c.seats number (c.wires number) (map.get b.links number)
   -- A side whose link is there no more, as its other node was started anew, is over: it isn't
   -- counted among others.
-  pub sides : (name : Text) (number : ℕ) (side : Side)
+  pub sides : (name : Text) (number : ℕ) (side : LinkSide)
       → HasSide c.seats name number side
       → IsOfLink c.wires name number ⊎ (is_taken side ≡ false)
   -- the next link's number is free at each node
-  pub fresh : (name : Text) (number : ℕ) (side : Side)
+  pub fresh : (name : Text) (number : ℕ) (side : LinkSide)
       → HasSide c.seats name number side
       → c.opened < number → ⊥
 

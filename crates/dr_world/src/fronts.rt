@@ -4,7 +4,7 @@ ghost use Rattle.dr_world.specs.Moved.{IsLeftOf, IsMovable, TellsLength};
 
 /// What a Move of bytes finds to do at its reader.
 #[derive(Clone, Copy, PartialEq, Eq, Debug)]
-pub enum Due {
+pub enum MoveDue {
     Nothing,
     /// The reader hears that the connection has ended.
     End,

@@ -25,7 +25,7 @@ use Rattle.dr_world_model.specs.Claims.{IsFairOutcome, IsToSend}
 use Rattle.dr_world_audit.specs.declared.audit.Mismatch.{Mismatch}
 use Rattle.dr_world_audit.specs.declared.audit.Mismatch.TheVariants as mismatch
 use Rattle.dr_world_audit.specs.declared.audit.NodeJournal.{NodeJournal}
-use Rattle.dr_world_audit.specs.declared.hop.Hop.{Hop as Held}
+use Rattle.dr_world_audit.specs.declared.hop.AuditHop.{AuditHop as Held}
 use Rattle.dr_world_audit.specs.Comparing.{IsUnanswered, IsUnsent}
 use Rattle.dr_world_audit.specs.Hops.{held, hop_of}
 use Rattle.dr_world_audit.specs.Sites.{AreApart, DoesHold, DoesNotHold, IsForNoReason, IsNotThere, IsUnfair, Shows, Tells, TellsNode, all_came, all_done, all_of, all_sent, books_of, is_fair, lines_at, names, ours_of}

@@ -28,10 +28,10 @@ use Rattle.dr_world_model.specs.Claims.{IsToSend}
 use Rattle.dr_world_model.proofs.AdoptionsKept.{no_row}
 use Rattle.dr_world_model.proofs.Walking.{goes_reached}
 use Rattle.dr_world_audit.specs.declared.audit.NodeJournal.{NodeJournal}
-use Rattle.dr_world_audit.specs.declared.audit.Stop.{Stop}
-use Rattle.dr_world_audit.specs.declared.audit.Stop.TheVariants as stop
-use Rattle.dr_world_audit.specs.declared.fault.ReadFault.{ReadFault}
-use Rattle.dr_world_audit.specs.declared.fault.ReadFault.TheVariants as fault
+use Rattle.dr_world_audit.specs.declared.audit.AuditStop.{AuditStop}
+use Rattle.dr_world_audit.specs.declared.audit.AuditStop.TheVariants as stop
+use Rattle.dr_world_audit.specs.declared.fault.JournalFault.{JournalFault}
+use Rattle.dr_world_audit.specs.declared.fault.JournalFault.TheVariants as fault
 use Rattle.dr_world_audit.specs.declared.trail.Trail.{Trail}
 use Rattle.dr_world_audit.specs.Hops.{Notes}
 use Rattle.dr_world_audit.specs.Readings.{IsJournal, IsRead, Reads}
@@ -104,7 +104,7 @@ module _ (plan : Network) (certificate : Certificate) (site : Part) (certified :
         )
 
     -- the node can't be read
-    pub node_stops : (old new : Trail) (why : ReadFault) (s : Stop) → StopsFor node why s → Reads plan site (lines_at node) old new (Err why) → ReadsNode plan ours node old new (Err s)
+    pub node_stops : (old new : Trail) (why : JournalFault) (s : AuditStop) → StopsFor node why s → Reads plan site (lines_at node) old new (Err why) → ReadsNode plan ours node old new (Err s)
     node_stops old new fault.NoCall (stop.No mismatch) is reads =
         let lines = lines_at node in
         let P : Text → Type 0 = λ n. IsSince (plan_routing plan n) (until_adoption lines) (Fold lines) in

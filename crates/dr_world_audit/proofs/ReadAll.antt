@@ -16,9 +16,9 @@ use Rattle.dr_ledger_history.specs.declared.line.HistoryFault.{HistoryFault}
 use Rattle.dr_ledger_history.specs.declared.line.HistoryFault.TheVariants as history
 use Rattle.dr_ledger_history.specs.Contents.{Content, book_of, content_of}
 use Rattle.dr_ledger_history.specs.Told.{IsTold, IsToldSince}
-use Rattle.dr_world_audit.specs.declared.fault.ReadFault.{ReadFault}
-use Rattle.dr_world_audit.specs.declared.fault.ReadFault.TheVariants as fault
-use Rattle.dr_world_audit.specs.declared.hop.Hop.{Hop as Held}
+use Rattle.dr_world_audit.specs.declared.fault.JournalFault.{JournalFault}
+use Rattle.dr_world_audit.specs.declared.fault.JournalFault.TheVariants as fault
+use Rattle.dr_world_audit.specs.declared.hop.AuditHop.{AuditHop as Held}
 use Rattle.dr_world_audit.specs.declared.trail.Trail.{Trail}
 use Rattle.dr_world_audit.specs.Hops.{Notes, held}
 use Rattle.dr_world_audit.specs.Readings.{IsJournal, IsRead, Reads}
@@ -107,7 +107,7 @@ module _ (plan : Network) (site : Part) (lines past since : List Line) (all : li
   since_fails history.NoCall old mid new fails = λ j. fails (since_of j)
   since_fails history.Memory old mid new fails = tt
 
-  pub stand_fails : (c : Content) (why : ReadFault) (hops : List Held) (old new : Trail) → IsTold past c → Stands plan site.name (book_of c) (goals past) old.sent.items hops (Err why) → Reads plan site lines old new (Err why)
+  pub stand_fails : (c : Content) (why : JournalFault) (hops : List Held) (old new : Trail) → IsTold past c → Stands plan site.name (book_of c) (goals past) old.sent.items hops (Err why) → Reads plan site lines old new (Err why)
   stand_fails c (fault.Unfit uid to) hops old new told u = (
     (let P : List Line → Type 0 = λ p. IsPast p empty_book in subst P (sym until) told.past),
     unfit_there c told (uid, to) u,

@@ -21,11 +21,11 @@ use Rattle.dr_route.specs.declared.key.Key.{Key}
 use Rattle.dr_route.specs.contracts.key.KeyOrd.TheImpl as keys
 use Rattle.dr_ledger.proofs.Maps.{texts}
 use Rattle.dr_world_model.proofs.Lookups.{numbers}
-use Rattle.dr_world_audit.specs.declared.hop.Hop.{Hop}
+use Rattle.dr_world_audit.specs.declared.hop.AuditHop.{AuditHop}
 use Rattle.dr_world_audit.specs.contracts.hop.HopOrd.TheImpl as hops
 use Rattle.dr_world_audit.specs.contracts.hop.HopOrd.TheImpl.Laws as hop_laws
 
-abbrev pub hop_cmp : Hop → Hop → Ordering
+abbrev pub hop_cmp : AuditHop → AuditHop → Ordering
 hop_cmp = hops.cmp-value.it
 
 then_equal : (o p : Ordering) → ordering_then o p ≡ Equal → (o ≡ Equal) × (p ≡ Equal)
@@ -65,11 +65,11 @@ hop_exact a b e =
     let digest_is = exact_bytes a.digest b.digest s.1 in
     (λ j. record { from = from_is j; to = to_is j; uid = uid_is j; key = key_is j; size = size_is j; digest = digest_is j })
 
-pub hop_in : (s : BTreeSet Hop) (k : Hop) → IsTrue (contains hop_cmp s k) ↔ Contains s.keys k
+pub hop_in : (s : BTreeSet AuditHop) (k : AuditHop) → IsTrue (contains hop_cmp s k) ↔ Contains s.keys k
 hop_in s k = btree_set_contains_iff hop_laws.total-law hop_exact s k
 
 -- ---- a set with one more
-pub hop_added : (s n : BTreeSet Hop) (k : Hop) → Updates hop_cmp s n k true → (m : Hop) → Contains n.keys m ↔ (Contains s.keys m ⊎ (k ≡ m))
+pub hop_added : (s n : BTreeSet AuditHop) (k : AuditHop) → Updates hop_cmp s n k true → (m : AuditHop) → Contains n.keys m ↔ (Contains s.keys m ⊎ (k ≡ m))
 hop_added s n k h m =
     let in_n = hop_in n m in
     let in_s = hop_in s m in (
@@ -83,13 +83,13 @@ hop_added s n k h m =
           | inr apart ↦ rw apart (in_s.1 before)
         ])
         | inr same ↦
-            let P : Hop → Type 0 = λ x. Contains n.keys x in
+            let P : AuditHop → Type 0 = λ x. Contains n.keys x in
             subst P same ((hop_in n k).0 h.1)
       ],
     )
 
 -- the set has one more, and so has the list
-pub one_more : (old new done : List Hop) (k : Hop) → ((h : Hop) → Contains old h ↔ Contains done h) → ((h : Hop) → Contains new h ↔ (Contains old h ⊎ (k ≡ h))) → (h : Hop) → Contains new h ↔ Contains (done ++ k ∷ []) h
+pub one_more : (old new done : List AuditHop) (k : AuditHop) → ((h : AuditHop) → Contains old h ↔ Contains done h) → ((h : AuditHop) → Contains new h ↔ (Contains old h ⊎ (k ≡ h))) → (h : AuditHop) → Contains new h ↔ Contains (done ++ k ∷ []) h
 one_more old new done k so_far added h = (
   λ had. elim ((added h).0 had) [
     | inl was ↦ Contains-append_left done (k ∷ []) h ((so_far h).0 was)

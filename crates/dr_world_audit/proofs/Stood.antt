@@ -9,7 +9,7 @@ use Rattle.dr_plan_model.specs.Networks.{Network}
 use Rattle.dr_plan_model.proofs.Gathered.{nothing_in_nil, only_one}
 use Rattle.dr_ledger.specs.Books.{Book, Line}
 use Rattle.dr_ledger.specs.Pairs.{Pair}
-use Rattle.dr_world_audit.specs.declared.hop.Hop.{Hop as Held}
+use Rattle.dr_world_audit.specs.declared.hop.AuditHop.{AuditHop as Held}
 use Rattle.dr_world_audit.specs.Hops.{grows_by}
 use Rattle.dr_world_audit.specs.Standing.{FitsAt}
 use Rattle.dr_world_audit.proofs.Lists.{grown, same}

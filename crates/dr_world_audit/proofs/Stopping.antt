@@ -17,11 +17,11 @@ use Rattle.dr_world_model.specs.Claims.{IsFairOutcome}
 use Rattle.dr_world_audit.specs.declared.audit.AuditFault.{AuditFault}
 use Rattle.dr_world_audit.specs.declared.audit.AuditFault.TheVariants as fault
 use Rattle.dr_world_audit.specs.declared.audit.Mismatch.{Mismatch}
-use Rattle.dr_world_audit.specs.declared.audit.Verdict.{Verdict}
-use Rattle.dr_world_audit.specs.declared.audit.Verdict.TheVariants as verdicts
+use Rattle.dr_world_audit.specs.declared.audit.AuditVerdict.{AuditVerdict}
+use Rattle.dr_world_audit.specs.declared.audit.AuditVerdict.TheVariants as verdicts
 use Rattle.dr_world_audit.specs.declared.audit.NodeJournal.{NodeJournal}
-use Rattle.dr_world_audit.specs.declared.audit.Stop.{Stop}
-use Rattle.dr_world_audit.specs.declared.audit.Stop.TheVariants as stop
+use Rattle.dr_world_audit.specs.declared.audit.AuditStop.{AuditStop}
+use Rattle.dr_world_audit.specs.declared.audit.AuditStop.TheVariants as stop
 use Rattle.dr_world_audit.specs.declared.trail.Trail.{Trail}
 use Rattle.dr_world_audit.specs.Hops.{Notes}
 use Rattle.dr_world_audit.specs.Sites.{AreRead, FirstUnfair, IsNotFair, IsUnfair, NotesNode, Shows, all_of, is_fair, lines_at}
@@ -77,7 +77,7 @@ module _ (plan : Network) (ours : List Text) where
         );
   }
 
-  pub all_stop : (nodes : List NodeJournal) (one : NodeJournal) → Contains nodes one → (old mid new : Trail) (s : Stop) → ReadsNode plan ours one mid new (Err s) → ReadsAll plan ours nodes old new (Err s)
+  pub all_stop : (nodes : List NodeJournal) (one : NodeJournal) → Contains nodes one → (old mid new : Trail) (s : AuditStop) → ReadsNode plan ours one mid new (Err s) → ReadsAll plan ours nodes old new (Err s)
   all_stop nodes one among old mid new (stop.No mismatch) fails = (one, among, fails)
   all_stop nodes one among old mid new (stop.Fault fault.NoNode) fails = (one, among, fails)
   all_stop nodes one among old mid new (stop.Fault fault.Twice) fails = absurd fails
@@ -116,21 +116,21 @@ settled_unfair ours node line uid dest outcome now is a b n first second named a
     differ h k = (let e : true ≡ false = sym h ∙ k in cc e)
 
 -- the verdict of a stop
-pub stopped : (P : Verdict → Type 0) (s : Stop) (v : Verdict) → IsVerdictOf s v → ((told : Mismatch) → s ≡ stop.No told → P (verdicts.No told)) → P v
+pub stopped : (P : AuditVerdict → Type 0) (s : AuditStop) (v : AuditVerdict) → IsVerdictOf s v → ((told : Mismatch) → s ≡ stop.No told → P (verdicts.No told)) → P v
 stopped P (stop.No mismatch) v is each = subst P (sym is) (each mismatch refl)
 stopped P (stop.Fault why) v is each = absurd is
 
 -- what holds of each such verdict and fault, holds of what is given
-pub if_so : (P Q : Verdict → Type 0) (R S : AuditFault → Type 0) (result : Result Verdict AuditFault) → MatchResult result P R → ((v : Verdict) → P v → Q v) → ((why : AuditFault) → R why → S why) → MatchResult result Q S
+pub if_so : (P Q : AuditVerdict → Type 0) (R S : AuditFault → Type 0) (result : Result AuditVerdict AuditFault) → MatchResult result P R → ((v : AuditVerdict) → P v → Q v) → ((why : AuditFault) → R why → S why) → MatchResult result Q S
 if_so P Q R S (Ok v) h each other = each v h
 if_so P Q R S (Err why) h each other = other why h
 
 -- the fault of a stop
-pub faulted : (P : AuditFault → Type 0) (s : Stop) (why : AuditFault) → IsFaultOf s why → ((other : AuditFault) → s ≡ stop.Fault other → P other) → P why
+pub faulted : (P : AuditFault → Type 0) (s : AuditStop) (why : AuditFault) → IsFaultOf s why → ((other : AuditFault) → s ≡ stop.Fault other → P other) → P why
 faulted P (stop.No mismatch) why is each = absurd is
 faulted P (stop.Fault other) why is each = subst P (sym is) (each other refl)
 
 -- what the answers show, the reading shows
-pub tested : (plan : Network) (ours : List Text) (node : NodeJournal) (old new : Trail) (s : Stop) → TestsAnswers plan ours node (Err s) → ReadsNode plan ours node old new (Err s)
+pub tested : (plan : Network) (ours : List Text) (node : NodeJournal) (old new : Trail) (s : AuditStop) → TestsAnswers plan ours node (Err s) → ReadsNode plan ours node old new (Err s)
 tested plan ours node old new (stop.No mismatch) t = t
 tested plan ours node old new (stop.Fault why) t = subst (RefusesNode plan node) (sym t) tt

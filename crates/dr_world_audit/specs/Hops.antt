@@ -1,6 +1,6 @@
 -- Hops as they are held.
 use Rattle.std.specs.Prelude.{◌≡◌, List, ◌++◌, map as mapped}
-use Rattle.dr_world_audit.specs.declared.hop.Hop.{Hop as Held}
+use Rattle.dr_world_audit.specs.declared.hop.AuditHop.{AuditHop as Held}
 use Rattle.dr_world_audit.specs.declared.trail.Trail.{Trail}
 use Rattle.dr_world_journals.specs.Hops.{Hop}
 

@@ -6,8 +6,8 @@ use Rattle.dr_ledger.specs.Books.{Line, Fold, empty_book}
 use Rattle.dr_ledger.specs.Histories.{IsPast, IsSince}
 use Rattle.dr_ledger.specs.Pairs.{Pair}
 use Rattle.dr_ledger.specs.SiteRoutes.{site_routing}
-use Rattle.dr_world_audit.specs.declared.fault.ReadFault.{ReadFault}
-use Rattle.dr_world_audit.specs.declared.fault.ReadFault.TheVariants as fault
+use Rattle.dr_world_audit.specs.declared.fault.JournalFault.{JournalFault}
+use Rattle.dr_world_audit.specs.declared.fault.JournalFault.TheVariants as fault
 use Rattle.dr_world_audit.specs.declared.trail.Trail.{Trail}
 use Rattle.dr_world_audit.specs.Hops.{Notes}
 use Rattle.dr_world_audit.specs.Standing.{FitsAt, UnfitAt}
@@ -30,7 +30,7 @@ pub record IsRead (plan : Network) (site : Part) (lines : List Line)
 
 -- the journal was read, or it is none of the site's node, or the plan doesn't go on with a row
 abbrev pub Reads : Network → Part → List Line → Trail → Trail
-    → Result (Unit {0}) ReadFault
+    → Result (Unit {0}) JournalFault
     → Type 0
 Reads plan site lines old new (Ok done) = IsRead plan site lines old new
 Reads plan site lines old new (Err fault.NoCall) = IsJournal site lines → ⊥

@@ -20,8 +20,8 @@ use Rattle.dr_world_model.specs.Worlds.{same_text}
 use Rattle.dr_world_audit.specs.declared.audit.NodeJournal.{NodeJournal}
 use Rattle.dr_world_audit.specs.declared.audit.Mismatch.{Mismatch}
 use Rattle.dr_world_audit.specs.declared.audit.Mismatch.TheVariants as mismatch
-use Rattle.dr_world_audit.specs.declared.audit.Verdict.{Verdict}
-use Rattle.dr_world_audit.specs.declared.audit.Verdict.TheVariants as verdict
+use Rattle.dr_world_audit.specs.declared.audit.AuditVerdict.{AuditVerdict}
+use Rattle.dr_world_audit.specs.declared.audit.AuditVerdict.TheVariants as verdict
 use Rattle.dr_world_audit.specs.declared.trail.Trail.{Trail}
 use Rattle.dr_world_audit.specs.Hops.{Notes}
 use Rattle.dr_world_journals.specs.Hops.{Hop, came_to, done_at, sent_from}
@@ -200,6 +200,6 @@ pub record DoesNotHold (plan : Network) (nodes : List NodeJournal)
       → ⊥
 
 -- it holds only where the journals are histories and match, and a mismatch is one
-abbrev pub Audits : Network → List NodeJournal → Verdict → Type 0
+abbrev pub Audits : Network → List NodeJournal → AuditVerdict → Type 0
 Audits plan nodes verdict.Holds = DoesHold plan nodes
 Audits plan nodes (verdict.No mismatch) = DoesNotHold plan nodes mismatch

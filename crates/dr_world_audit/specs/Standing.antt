@@ -11,14 +11,14 @@ use Rattle.dr_ledger.specs.Books.{Book}
 use Rattle.dr_ledger.specs.Pairs.{Pair}
 use Rattle.dr_ledger_history.specs.declared.line.HistoryFault.{HistoryFault}
 use Rattle.dr_ledger_history.specs.declared.line.HistoryFault.TheVariants as history
-use Rattle.dr_world_audit.specs.declared.fault.ReadFault.{ReadFault}
-use Rattle.dr_world_audit.specs.declared.fault.ReadFault.TheVariants as fault
-use Rattle.dr_world_audit.specs.declared.hop.Hop.{Hop as Held}
+use Rattle.dr_world_audit.specs.declared.fault.JournalFault.{JournalFault}
+use Rattle.dr_world_audit.specs.declared.fault.JournalFault.TheVariants as fault
+use Rattle.dr_world_audit.specs.declared.hop.AuditHop.{AuditHop as Held}
 use Rattle.dr_world_audit.specs.Hops.{grows_by}
 use Rattle.dr_world_journals.specs.Hops.{if_row, standing}
 
 -- the fault of a journal for that of its history
-abbrev pub as_read : HistoryFault → ReadFault
+abbrev pub as_read : HistoryFault → JournalFault
 as_read history.NoCall = fault.NoCall
 as_read history.Memory = fault.Memory
 
@@ -48,7 +48,7 @@ goals_to uid to = mapped (λ (next : Text). (uid, next)) to
 
 -- all rows that stand for these goals fit, and are noted; or one doesn't fit
 abbrev pub Stands : Network → Text → Book → List Pair → List Held → List Held
-    → Result (Unit {0}) ReadFault
+    → Result (Unit {0}) JournalFault
     → Type 0
 Stands plan name b all old new (Ok done) =
     grows_by old (standing name b all) new

@@ -9,20 +9,20 @@ use Rattle.dr_world_audit.specs.declared.audit.AuditFault.TheVariants as fault
 use Rattle.dr_world_audit.specs.declared.audit.Mismatch.{Mismatch}
 use Rattle.dr_world_audit.specs.declared.audit.Mismatch.TheVariants as what
 use Rattle.dr_world_audit.specs.declared.audit.NodeJournal.{NodeJournal}
-use Rattle.dr_world_audit.specs.declared.hop.Hop.{Hop as Held}
+use Rattle.dr_world_audit.specs.declared.hop.AuditHop.{AuditHop as Held}
 use Rattle.dr_world_audit.specs.Comparing.{IsUnanswered, IsUnsent}
-use Rattle.dr_world_audit.specs.declared.audit.Stop.{Stop}
-use Rattle.dr_world_audit.specs.declared.audit.Stop.TheVariants as stop
-use Rattle.dr_world_audit.specs.declared.audit.Verdict.{Verdict}
-use Rattle.dr_world_audit.specs.declared.audit.Verdict.TheVariants as verdicts
-use Rattle.dr_world_audit.specs.declared.fault.ReadFault.{ReadFault}
-use Rattle.dr_world_audit.specs.declared.fault.ReadFault.TheVariants as read
+use Rattle.dr_world_audit.specs.declared.audit.AuditStop.{AuditStop}
+use Rattle.dr_world_audit.specs.declared.audit.AuditStop.TheVariants as stop
+use Rattle.dr_world_audit.specs.declared.audit.AuditVerdict.{AuditVerdict}
+use Rattle.dr_world_audit.specs.declared.audit.AuditVerdict.TheVariants as verdicts
+use Rattle.dr_world_audit.specs.declared.fault.JournalFault.{JournalFault}
+use Rattle.dr_world_audit.specs.declared.fault.JournalFault.TheVariants as read
 use Rattle.dr_world_audit.specs.declared.trail.Trail.{Trail}
 use Rattle.dr_world_audit.specs.Sites.{AreApart, AreRead, IsUnfair, NotesNode, Shows, TellsNode}
 use Rattle.dr_world_audit.specs.Sites.{lines_at}
 
 -- there is no memory
-abbrev pub for_memory : Stop
+abbrev pub for_memory : AuditStop
 for_memory = stop.Fault fault.Memory
 
 -- each line's answer is fair
@@ -30,13 +30,13 @@ abbrev pub AllFair : List Text → NodeJournal → Type 0
 AllFair ours node = (line : Line) → Contains (lines_at node) line → IsUnfair ours line → ⊥
 
 -- all answers are fair, or one isn't
-abbrev pub TestsAnswers : Network → List Text → NodeJournal → Result (Unit {0}) Stop → Type 0
+abbrev pub TestsAnswers : Network → List Text → NodeJournal → Result (Unit {0}) AuditStop → Type 0
 TestsAnswers plan ours node (Ok done) = AllFair ours node
 TestsAnswers plan ours node (Err (stop.No mismatch)) = TellsNode plan ours node mismatch
 TestsAnswers plan ours node (Err (stop.Fault why)) = why ≡ fault.Memory
 
 -- the mismatch of a node's journal that isn't read
-abbrev pub StopsFor : NodeJournal → ReadFault → Stop → Type 0
+abbrev pub StopsFor : NodeJournal → JournalFault → AuditStop → Type 0
 StopsFor node read.NoCall (stop.No mismatch) = mismatch ≡ what.NoHistory node.name
 StopsFor node (read.Unfit uid to) (stop.No mismatch) = mismatch ≡ what.NoHop node.name uid to
 StopsFor node read.Memory (stop.No mismatch) = ⊥
@@ -65,7 +65,7 @@ IsTwice nodes fault.Memory = Unit {0}
 
 -- the node's journal was read, or it doesn't show what it has to
 abbrev pub ReadsNode : Network → List Text → NodeJournal → Trail → Trail
-    → Result (Unit {0}) Stop
+    → Result (Unit {0}) AuditStop
     → Type 0
 ReadsNode plan ours node old new (Ok done) = Shows plan ours node × NotesNode plan node old new
 ReadsNode plan ours node old new (Err (stop.No mismatch)) = TellsNode plan ours node mismatch
@@ -73,7 +73,7 @@ ReadsNode plan ours node old new (Err (stop.Fault why)) = RefusesNode plan node 
 
 -- all were read, or one doesn't show what it has to
 abbrev pub ReadsAll : Network → List Text → List NodeJournal → Trail → Trail
-    → Result (Unit {0}) Stop
+    → Result (Unit {0}) AuditStop
     → Type 0
 ReadsAll plan ours nodes old new (Ok done) = AreRead plan ours nodes old new
 ReadsAll plan ours nodes old new (Err (stop.No mismatch)) =
@@ -92,11 +92,11 @@ Compares ours came sent done (Some mismatch) =
     × (mismatch ≡ what.NoArrival hop.from hop.uid hop.to))
 
 -- the verdict is the mismatch of the stop
-abbrev pub IsVerdictOf : Stop → Verdict → Type 0
+abbrev pub IsVerdictOf : AuditStop → AuditVerdict → Type 0
 IsVerdictOf (stop.No mismatch) verdict = verdict ≡ verdicts.No mismatch
 IsVerdictOf (stop.Fault why) verdict = ⊥
 
 -- the fault is that of the stop
-abbrev pub IsFaultOf : Stop → AuditFault → Type 0
+abbrev pub IsFaultOf : AuditStop → AuditFault → Type 0
 IsFaultOf (stop.No mismatch) why = ⊥
 IsFaultOf (stop.Fault other) why = why ≡ other

@@ -11,8 +11,8 @@ ghost use Rattle.dr_world_audit.specs.Stops.{Compares, IsVerdictOf, ReadsAll, Re
 ghost use Rattle.dr_world_audit.specs.Stops.{IsFaultOf, IsTwice, Refuses, TestsAnswers};
 
 use crate::comparing::{first_unanswered, first_unsent, is_ours, set_of};
-use crate::fault::ReadFault;
-use crate::hop::Hop;
+use crate::fault::JournalFault;
+use crate::hop::AuditHop;
 use crate::reading::read_journal;
 use crate::trail::Trail;
 use dr_base::{Seq, Text};
@@ -48,7 +48,7 @@ pub enum Mismatch {
 
 /// What an audit comes to.
 #[derive(Debug, Drop)]
-pub enum Verdict {
+pub enum AuditVerdict {
     Holds,
     No(Mismatch),
 }
@@ -156,31 +156,31 @@ fn first_unfair<'a>(ours: &BTreeSet<Text>, lines: &'a [JournalLine]) -> Option<&
 
 /// Why the reading of all journals ends.
 #[derive(Debug, Drop)]
-enum Stop {
+enum AuditStop {
     No(Mismatch),
     Fault(AuditFault),
 }
 
-impl From<AllocError> for Stop {
+impl From<AllocError> for AuditStop {
     ghost use Rattle.std.specs.Prelude.{◌≡◌};
     ghost use Rattle.dr_world_audit.specs.Stops.{for_memory};
 
     ghost from_gives = { λ _ e. e ≡ for_memory };
 
-    fn from(_: AllocError) -> Stop {
-        Stop::Fault(AuditFault::Memory)
+    fn from(_: AllocError) -> AuditStop {
+        AuditStop::Fault(AuditFault::Memory)
     }
 }
 
 /// Tests that what the node was answered by ours is fair.
-fn test_answers(ours: &BTreeSet<Text>, node: &NodeJournal) -> Result<(), Stop>
+fn test_answers(ours: &BTreeSet<Text>, node: &NodeJournal) -> Result<(), AuditStop>
     ensures { (plan : Network) → TestsAnswers plan ours.now.keys node.now result }
 {
     let Some(line) = first_unfair(ours, node.lines.as_slice()) else {
         return Ok(());
     };
     let mismatch = unfair_at(ours, node, line)?;
-    Err(Stop::No(mismatch))
+    Err(AuditStop::No(mismatch))
 }
 
 /// The mismatch of a line that isn't fair.
@@ -215,21 +215,21 @@ fn unfair_at(
 }
 
 /// The stop for a fault of a journal.
-fn stop_of(node: &NodeJournal, fault: ReadFault) -> Stop
+fn stop_of(node: &NodeJournal, fault: JournalFault) -> AuditStop
     ensures { StopsFor node.now fault result }
 {
     let name = match node.name.clone() {
         Ok(name) => name,
-        Err(AllocError) => return Stop::Fault(AuditFault::Memory),
+        Err(AllocError) => return AuditStop::Fault(AuditFault::Memory),
     };
     match fault {
-        ReadFault::NoCall => Stop::No(Mismatch::NoHistory { node: name }),
-        ReadFault::Unfit { uid, to } => Stop::No(Mismatch::NoHop {
+        JournalFault::NoCall => AuditStop::No(Mismatch::NoHistory { node: name }),
+        JournalFault::Unfit { uid, to } => AuditStop::No(Mismatch::NoHop {
             node: name,
             uid,
             to,
         }),
-        ReadFault::Memory => Stop::Fault(AuditFault::Memory),
+        JournalFault::Memory => AuditStop::Fault(AuditFault::Memory),
     }
 }
 
@@ -240,7 +240,7 @@ fn read_node(
     ours: &BTreeSet<Text>,
     node: &NodeJournal,
     trail: &mut Trail,
-) -> Result<(), Stop>
+) -> Result<(), AuditStop>
     ensures { ReadsNode sealed.now.plan ours.now.keys node.now trail.old trail.new result }
 {
     let _plan = sealed.plan();
@@ -251,8 +251,8 @@ fn read_node(
     }
     let site = match Site::of(alloc, sealed, &node.name) {
         Ok(site) => site,
-        Err(SiteFault::NoNode) => return Err(Stop::Fault(AuditFault::NoNode)),
-        Err(SiteFault::Memory) => return Err(Stop::Fault(AuditFault::Memory)),
+        Err(SiteFault::NoNode) => return Err(AuditStop::Fault(AuditFault::NoNode)),
+        Err(SiteFault::Memory) => return Err(AuditStop::Fault(AuditFault::Memory)),
     };
     match read_journal(alloc, sealed, &site, node.lines.as_slice(), trail) {
         Ok(()) => Ok(()),
@@ -267,7 +267,7 @@ fn read_all(
     ours: &BTreeSet<Text>,
     nodes: &[NodeJournal],
     trail: &mut Trail,
-) -> Result<(), Stop>
+) -> Result<(), AuditStop>
     ensures { ReadsAll sealed.now.plan ours.now.keys nodes.now trail.old trail.new result }
 {
     for node in nodes {
@@ -280,7 +280,7 @@ fn read_all(
 }
 
 /// The mismatch of a hop that had no reason.
-fn unsent_at(hop: &Hop) -> Result<Mismatch, AllocError>
+fn unsent_at(hop: &AuditHop) -> Result<Mismatch, AllocError>
     ensures { IfOk result (λ m. m ≡ what.NoReason hop.now.to hop.now.uid hop.now.from) }
 {
     Ok(Mismatch::NoReason {
@@ -291,7 +291,7 @@ fn unsent_at(hop: &Hop) -> Result<Mismatch, AllocError>
 }
 
 /// The mismatch of a hop that didn't arrive.
-fn unanswered_at(hop: &Hop) -> Result<Mismatch, AllocError>
+fn unanswered_at(hop: &AuditHop) -> Result<Mismatch, AllocError>
     ensures { IfOk result (λ m. m ≡ what.NoArrival hop.now.from hop.now.uid hop.now.to) }
 {
     Ok(Mismatch::NoArrival {
@@ -326,12 +326,12 @@ fn compare(
 }
 
 /// The verdict where the reading of journals ended.
-fn verdict_of(stop: Stop) -> Result<Verdict, AuditFault>
+fn verdict_of(stop: AuditStop) -> Result<AuditVerdict, AuditFault>
     ensures { MatchResult result (IsVerdictOf stop) (IsFaultOf stop) }
 {
     match stop {
-        Stop::No(mismatch) => Ok(Verdict::No(mismatch)),
-        Stop::Fault(fault) => Err(fault),
+        AuditStop::No(mismatch) => Ok(AuditVerdict::No(mismatch)),
+        AuditStop::Fault(fault) => Err(fault),
     }
 }
 
@@ -340,7 +340,11 @@ fn verdict_of(stop: Stop) -> Result<Verdict, AuditFault>
 ///
 /// Errors: NoNode where the plan has no node of one of the names; Twice where two journals are of
 /// one node; Memory.
-pub fn audit(alloc: Global, sealed: &Sealed, nodes: &[NodeJournal]) -> Result<Verdict, AuditFault>
+pub fn audit(
+    alloc: Global,
+    sealed: &Sealed,
+    nodes: &[NodeJournal],
+) -> Result<AuditVerdict, AuditFault>
     ensures { MatchResult result (Audits sealed.now.plan nodes.now)
         (Refuses sealed.now.plan nodes.now) }
 {
@@ -356,7 +360,7 @@ pub fn audit(alloc: Global, sealed: &Sealed, nodes: &[NodeJournal]) -> Result<Ve
         Err(stop) => return verdict_of(stop),
     }
     match compare(alloc, &ours, trail)? {
-        Some(mismatch) => Ok(Verdict::No(mismatch)),
-        None => Ok(Verdict::Holds),
+        Some(mismatch) => Ok(AuditVerdict::No(mismatch)),
+        None => Ok(AuditVerdict::Holds),
     }
 }

@@ -2,16 +2,16 @@
 ghost use Rattle.std.specs.Prelude.{◌≡◌, ◌↔◌, Contains, IfOk, IsTrue, false, option_copied};
 ghost use Rattle.dr_world_audit.specs.Comparing.{FirstUnanswered, FirstUnsent, IsUnanswered};
 ghost use Rattle.dr_world_audit.specs.Comparing.{IsUnsent};
-ghost use Rattle.dr_world_audit.specs.declared.hop.Hop.{Hop as Held};
+ghost use Rattle.dr_world_audit.specs.declared.hop.AuditHop.{AuditHop as Held};
 
-use crate::hop::Hop;
+use crate::hop::AuditHop;
 use dr_base::Text;
 use dr_route::is_local;
 use std::alloc::{AllocError, Global};
 use std::collections::BTreeSet;
 
 /// The hops as a set.
-pub fn set_of(alloc: Global, hops: Vec<Hop>) -> Result<BTreeSet<Hop>, AllocError>
+pub fn set_of(alloc: Global, hops: Vec<AuditHop>) -> Result<BTreeSet<AuditHop>, AllocError>
     ensures { IfOk result (λ s. (h : Held) → Contains s.keys h ↔ Contains hops.items h) }
 {
     let mut set = BTreeSet::new(alloc);
@@ -22,7 +22,7 @@ pub fn set_of(alloc: Global, hops: Vec<Hop>) -> Result<BTreeSet<Hop>, AllocError
 }
 
 /// Whether the hop is one of these.
-fn is_among(hop: &Hop, hops: &BTreeSet<Hop>) -> bool
+fn is_among(hop: &AuditHop, hops: &BTreeSet<AuditHop>) -> bool
     ensures { IsTrue result ↔ Contains hops.now.keys hop.now }
 {
     hops.contains(hop)
@@ -38,9 +38,9 @@ pub fn is_ours(name: &Text, ours: &BTreeSet<Text>) -> bool
 /// The first hop that one of ours notes as done to another and that didn't come there.
 pub fn first_unanswered<'a>(
     ours: &BTreeSet<Text>,
-    done: &'a [Hop],
-    came: &BTreeSet<Hop>,
-) -> Option<&'a Hop>
+    done: &'a [AuditHop],
+    came: &BTreeSet<AuditHop>,
+) -> Option<&'a AuditHop>
     ensures { FirstUnanswered ours.now.keys done.now came.now.keys (option_copied result) }
 {
     for hop in done {
@@ -52,7 +52,7 @@ pub fn first_unanswered<'a>(
 }
 
 /// Whether the hop is to another of ours and didn't come there.
-fn is_unanswered(ours: &BTreeSet<Text>, hop: &Hop, came: &BTreeSet<Hop>) -> bool
+fn is_unanswered(ours: &BTreeSet<Text>, hop: &AuditHop, came: &BTreeSet<AuditHop>) -> bool
     ensures yes { IsTrue result → IsUnanswered ours.now.keys came.now.keys hop.now }
     ensures no { result ≡ false → IsUnanswered ours.now.keys came.now.keys hop.now → ⊥ }
 {
@@ -65,9 +65,9 @@ fn is_unanswered(ours: &BTreeSet<Text>, hop: &Hop, came: &BTreeSet<Hop>) -> bool
 /// The first hop that came from another of ours and that wasn't to go on there.
 pub fn first_unsent<'a>(
     ours: &BTreeSet<Text>,
-    came: &'a [Hop],
-    sent: &BTreeSet<Hop>,
-) -> Option<&'a Hop>
+    came: &'a [AuditHop],
+    sent: &BTreeSet<AuditHop>,
+) -> Option<&'a AuditHop>
     ensures { FirstUnsent ours.now.keys came.now sent.now.keys (option_copied result) }
 {
     for hop in came {
@@ -79,7 +79,7 @@ pub fn first_unsent<'a>(
 }
 
 /// Whether the hop came from another of ours and wasn't to go on there.
-fn is_unsent(ours: &BTreeSet<Text>, hop: &Hop, sent: &BTreeSet<Hop>) -> bool
+fn is_unsent(ours: &BTreeSet<Text>, hop: &AuditHop, sent: &BTreeSet<AuditHop>) -> bool
     ensures yes { IsTrue result → IsUnsent ours.now.keys sent.now.keys hop.now }
     ensures no { result ≡ false → IsUnsent ours.now.keys sent.now.keys hop.now → ⊥ }
 {

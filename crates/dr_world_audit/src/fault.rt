@@ -8,7 +8,7 @@ use std::alloc::{AllocError, AllocFailed};
 
 /// Why a journal isn't read to its end.
 #[derive(Debug, Drop)]
-pub enum ReadFault {
+pub enum JournalFault {
     /// The lines are no history of the node.
     NoCall,
     /// The row of the instance to the node was carried over, and the plan has no such hop for it.
@@ -16,34 +16,34 @@ pub enum ReadFault {
     Memory,
 }
 
-impl From<AllocError> for ReadFault {
+impl From<AllocError> for JournalFault {
     ghost use Rattle.std.specs.Prelude.{◌≡◌};
-    ghost use Rattle.dr_world_audit.specs.declared.fault.ReadFault.TheVariants.{Memory};
+    ghost use Rattle.dr_world_audit.specs.declared.fault.JournalFault.TheVariants.{Memory};
 
     ghost from_gives = { λ _ e. e ≡ Memory };
 
-    fn from(_: AllocError) -> ReadFault {
-        ReadFault::Memory
+    fn from(_: AllocError) -> JournalFault {
+        JournalFault::Memory
     }
 }
 
-impl<T: Drop> From<AllocFailed<T>> for ReadFault {
+impl<T: Drop> From<AllocFailed<T>> for JournalFault {
     ghost use Rattle.std.specs.Prelude.{◌≡◌};
-    ghost use Rattle.dr_world_audit.specs.declared.fault.ReadFault.TheVariants.{Memory};
+    ghost use Rattle.dr_world_audit.specs.declared.fault.JournalFault.TheVariants.{Memory};
 
     ghost from_gives = { λ _ e. e ≡ Memory };
 
-    fn from(_: AllocFailed<T>) -> ReadFault {
-        ReadFault::Memory
+    fn from(_: AllocFailed<T>) -> JournalFault {
+        JournalFault::Memory
     }
 }
 
 /// The fault of a journal for that of its history.
-pub fn of_history(fault: HistoryFault) -> ReadFault
+pub fn of_history(fault: HistoryFault) -> JournalFault
     ensures { result ≡ as_read fault }
 {
     match fault {
-        HistoryFault::NoCall => ReadFault::NoCall,
-        HistoryFault::Memory => ReadFault::Memory,
+        HistoryFault::NoCall => JournalFault::NoCall,
+        HistoryFault::Memory => JournalFault::Memory,
     }
 }

@@ -9,7 +9,7 @@ use std::alloc::{AllocError, Global};
 
 /// An instance on its way from the one node to the other.
 #[derive(PartialEq, Eq, PartialOrd, Ord, Debug, Drop)]
-pub struct Hop {
+pub struct AuditHop {
     pub from: Text,
     pub to: Text,
     pub uid: Text,
@@ -19,10 +19,15 @@ pub struct Hop {
 }
 
 /// The instance on its way between these nodes.
-pub fn hop_of(alloc: Global, from: &Text, to: &Text, instance: &Instance) -> Result<Hop, AllocError>
+pub fn hop_of(
+    alloc: Global,
+    from: &Text,
+    to: &Text,
+    instance: &Instance,
+) -> Result<AuditHop, AllocError>
     ensures { IfOk result (λ h. h ≡ hop_at (from.now, to.now, instance.now)) }
 {
-    Ok(Hop {
+    Ok(AuditHop {
         from: from.clone()?,
         to: to.clone()?,
         uid: instance.uid.clone()?,

@@ -3,7 +3,7 @@ ghost use Rattle.std.specs.Prelude.{◌≡◌, map as mapped};
 ghost use Rattle.dr_ledger_history.specs.Lines.{line_of};
 ghost use Rattle.dr_world_audit.specs.Readings.{Reads};
 
-use crate::fault::{ReadFault, of_history};
+use crate::fault::{JournalFault, of_history};
 use crate::replay::{count_past, tell_past, tell_since};
 use crate::standing::stand_all;
 use crate::trail::Trail;
@@ -22,7 +22,7 @@ pub fn read_journal(
     site: &Site,
     lines: &[JournalLine],
     trail: &mut Trail,
-) -> Result<(), ReadFault>
+) -> Result<(), JournalFault>
     ensures { Reads sealed.now.plan site.now (mapped line_of lines.now) trail.old trail.new result }
 {
     let (past, since) = lines.split_at(count_past(lines));

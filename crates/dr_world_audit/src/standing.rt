@@ -6,8 +6,8 @@ ghost use Rattle.dr_world_audit.specs.Hops.{grows_by};
 ghost use Rattle.dr_world_audit.specs.Standing.{FitsAt, Stands, StandsAt, UnfitAt, goals_to};
 ghost use Rattle.dr_world_journals.specs.Hops.{goals, goals_by, stands_at};
 
-use crate::fault::ReadFault;
-use crate::hop::Hop;
+use crate::fault::JournalFault;
+use crate::hop::AuditHop;
 use crate::trail::push_hop;
 use dr_base::Text;
 use dr_cert::Sealed;
@@ -32,7 +32,7 @@ fn stand_at(
     name: &Text,
     told: &History,
     at: &(Text, Text),
-    sent: &mut Vec<Hop>,
+    sent: &mut Vec<AuditHop>,
 ) -> Result<bool, AllocError>
     ensures hops { OnOk result
         (grows_by sent.old.items (stands_at name.now (book_of (content told.now.parts)) at.now)
@@ -61,8 +61,8 @@ fn stand_each(
     told: &History,
     uid: &Text,
     to: &[Text],
-    sent: &mut Vec<Hop>,
-) -> Result<(), ReadFault>
+    sent: &mut Vec<AuditHop>,
+) -> Result<(), JournalFault>
     ensures { Stands ends.entry.0.now.plan ends.entry.1.now (book_of (content told.now.parts))
         (goals_to uid.now to.now) sent.old.items sent.new.items result }
 {
@@ -70,7 +70,7 @@ fn stand_each(
         let at = (uid.clone()?, next.clone()?);
         if !stand_at(alloc, ends.0, ends.1, told, &at, sent)? {
             let (uid, to) = at;
-            return Err(ReadFault::Unfit { uid, to });
+            return Err(JournalFault::Unfit { uid, to });
         }
     }
     Ok(())
@@ -84,8 +84,8 @@ fn stand_line(
     ends: (&Sealed, &Text),
     told: &History,
     line: &JournalLine,
-    sent: &mut Vec<Hop>,
-) -> Result<(), ReadFault>
+    sent: &mut Vec<AuditHop>,
+) -> Result<(), JournalFault>
     ensures { Stands ends.entry.0.now.plan ends.entry.1.now (book_of (content told.now.parts))
         (goals_by (line_of line.now)) sent.old.items sent.new.items result }
 {
@@ -113,8 +113,8 @@ pub fn stand_all(
     ends: (&Sealed, &Text),
     told: &History,
     lines: &[JournalLine],
-    sent: &mut Vec<Hop>,
-) -> Result<(), ReadFault>
+    sent: &mut Vec<AuditHop>,
+) -> Result<(), JournalFault>
     ensures { Stands ends.entry.0.now.plan ends.entry.1.now (book_of (content told.now.parts))
         (goals (mapped line_of lines.now)) sent.old.items sent.new.items result }
 {

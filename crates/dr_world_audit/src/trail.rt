@@ -8,7 +8,7 @@ ghost use Rattle.dr_world_audit.specs.Hops.{Notes, grows_by};
 ghost use Rattle.dr_world_journals.specs.Hops.{came_by, done_by, hop_of as hops_at, if_success};
 ghost use Rattle.dr_world_journals.specs.Hops.{to_each, went_by};
 
-use crate::hop::{Hop, hop_of};
+use crate::hop::{AuditHop, hop_of};
 use dr_base::{Seq, Text};
 use dr_ledger::{Instance, Outcome};
 use dr_ledger_history::{History, JournalLine};
@@ -19,15 +19,15 @@ use std::alloc::{AllocError, Global};
 /// What came to nodes, what is to go on from nodes, and what was answered with success.
 #[derive(Drop)]
 pub struct Trail {
-    pub came: Vec<Hop>,
-    pub sent: Vec<Hop>,
-    pub done: Vec<Hop>,
+    pub came: Vec<AuditHop>,
+    pub sent: Vec<AuditHop>,
+    pub done: Vec<AuditHop>,
 }
 
 /// Notes an instance on its way between two nodes.
 pub fn push_hop(
     alloc: Global,
-    hops: &mut Vec<Hop>,
+    hops: &mut Vec<AuditHop>,
     from: &Text,
     to: &Text,
     instance: &Instance,
@@ -42,7 +42,7 @@ pub fn push_hop(
 /// Notes an instance on its way to each of these nodes.
 fn push_each(
     alloc: Global,
-    hops: &mut Vec<Hop>,
+    hops: &mut Vec<AuditHop>,
     from: &Text,
     instance: &Instance,
     to: &[Text],
@@ -59,7 +59,7 @@ fn push_each(
 /// Notes a success, of the instance that the history has now.
 fn push_done(
     alloc: Global,
-    hops: &mut Vec<Hop>,
+    hops: &mut Vec<AuditHop>,
     name: &Text,
     dest: &Text,
     found: Option<&Instance>,
@@ -85,7 +85,7 @@ fn is_success(status: u16) -> bool
 /// Notes an outcome, where it is a success, of the instance that the history has now.
 fn push_outcome(
     alloc: Global,
-    hops: &mut Vec<Hop>,
+    hops: &mut Vec<AuditHop>,
     ends: (&Text, &Text),
     outcome: Outcome,
     found: Option<&Instance>,

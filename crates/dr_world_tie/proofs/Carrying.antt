@@ -38,7 +38,7 @@ use Rattle.dr_ledger.specs.Items.{IsItem}
 use Rattle.dr_ledger.specs.declared.content.Job.{Job}
 use Rattle.dr_nego.specs.declared.agreed.Agreed.{Agreed}
 use Rattle.dr_nego.specs.declared.agreed.Pair.{Pair}
-use Rattle.dr_nego.specs.declared.fragment.Kind.TheVariants as kind
+use Rattle.dr_nego.specs.declared.fragment.FragmentKind.TheVariants as kind
 use Rattle.dr_nego.specs.Agreeing.{IsTooSmall, pair_of, pair_at, is_id, is_for, context_for}
 use Rattle.dr_nego.specs.Answering.{answer_of, pairs_of}
 use Rattle.dr_nego.specs.Proposing.{context_of}

@@ -16,7 +16,7 @@ ghost use Rattle.dr_session.specs.Reactions.{settled_with, desk_failed, dried};
 ghost use Rattle.dr_session.specs.Turns.{Turns, Broke, Ends};
 
 use crate::boxed::BoxedCore;
-use crate::ends::{Asked, Core, Effect, LinkAction, Moment, Pending};
+use crate::ends::{Core, Effect, LinkAction, Moment, Pending, Requested};
 use crate::port::DeskPort;
 use crate::react::leaving::{abort, abort_desk, act_once, quiet};
 use crate::writing::write_store;
@@ -96,15 +96,15 @@ fn settle_refused<P: DeskPort>(
 }
 
 /// The status of a response, where it is one of the service that was asked for.
-fn answers(asked: Asked, command: &Command) -> Option<u16>
+fn answers(asked: Requested, command: &Command) -> Option<u16>
     ensures { result ≡ answers asked command.now }
 {
     match asked {
-        Asked::Store => match command {
+        Requested::Store => match command {
             Command::StoreRsp { status, .. } => Some(*status),
             _ => None,
         },
-        Asked::Echo => match command {
+        Requested::Echo => match command {
             Command::EchoRsp { status, .. } => Some(*status),
             _ => None,
         },
@@ -269,7 +269,7 @@ fn give_in(
     let pending = Pending {
         id,
         context,
-        asked: Asked::Store,
+        asked: Requested::Store,
         uid: uid_of(job),
     };
     act_once(alloc, action, core.await_response(pending, at.now))

@@ -10,7 +10,7 @@ ghost use Rattle.dr_world.specs.Whole.{StepsTo};
 
 use crate::calls::{input_at, is_over_at};
 use crate::fault::WorldFault;
-use crate::fronts::{Due, movable};
+use crate::fronts::{MoveDue, movable};
 use crate::steps::StepNote;
 use crate::wires::Wires;
 use crate::world::{World, ended};
@@ -39,12 +39,12 @@ impl<L: Ledger> World<L> {
             StepsTo (Move link (named reader) most) self.old note self.new) }
     {
         match self.due(link, reader, most) {
-            Due::Nothing => Ok(StepNote::Skipped),
-            Due::End => {
+            MoveDue::Nothing => Ok(StepNote::Skipped),
+            MoveDue::End => {
                 let _note = self.meet(link, reader, ended())?;
                 Ok(StepNote::Done)
             }
-            Due::Bytes(count) => {
+            MoveDue::Bytes(count) => {
                 let note = self.hear(link, reader, count)?;
                 Ok(note)
             }
@@ -52,12 +52,12 @@ impl<L: Ledger> World<L> {
     }
 
     /// What a Move of at most so many bytes finds to do.
-    fn due(&self, link: u64, reader: Side, most: u64) -> Due
+    fn due(&self, link: u64, reader: Side, most: u64) -> MoveDue
         ensures { IsDue (tree.get nat_cmp self.now.wires link) self.now.nodes link (named reader)
             most result }
     {
         let Some(wires) = self.wires.get(&link) else {
-            return Due::Nothing;
+            return MoveDue::Nothing;
         };
         due_at(&self.nodes, wires, link, reader, most)
     }
@@ -86,23 +86,23 @@ fn due_at<L: Ledger>(
     link: u64,
     reader: Side,
     most: u64,
-) -> Due
+) -> MoveDue
     ensures { IsDueAt nodes.now link (named reader) most wires.now result }
 {
     if most == 0 {
-        return Due::Nothing;
+        return MoveDue::Nothing;
     }
     if is_over_at(nodes, wires.name(reader), link) {
-        return Due::Nothing;
+        return MoveDue::Nothing;
     }
     let wire = wires.wire(reader);
     if !wire.is_empty() {
-        return Due::Bytes(movable_at(nodes, wires.name(reader), link, wire, most));
+        return MoveDue::Bytes(movable_at(nodes, wires.name(reader), link, wire, most));
     }
     if is_over_at(nodes, wires.name(other_than(reader)), link) {
-        return Due::End;
+        return MoveDue::End;
     }
-    Due::Nothing
+    MoveDue::Nothing
 }
 
 /// How many of at most so many bytes of a wire may come to the end of a link at the node of that

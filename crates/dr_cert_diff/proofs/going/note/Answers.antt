@@ -1,5 +1,5 @@
 use Rattle.std.proofs.Common.{◌≡◌, sym, subst, List, ◌++◌, ◌∷◌, [], Option}
-use Rattle.dr_cert_diff.specs.declared.change.Change.{Change}
+use Rattle.dr_cert_diff.specs.declared.change.RouteChange.{RouteChange}
 use Rattle.dr_cert_diff.specs.Comparing.{Compares}
 use Rattle.dr_cert_diff.specs.Going.{Adds, At}
 use Rattle.dr_cert_diff.proofs.Adding.{adds_nothing, adds_one}
@@ -11,7 +11,7 @@ returns-in_default c =
     let new = c.args.both.now.new.now.plan in
     let site = c.args.site.now in
     let cell = c.args.cell.now in
-    adds_nothing old new site cell c.args.changes.now.items (subst (λ (o : Option Change). Compares old new site cell o) c.in_default.is c.in_ok-change.ensures)
+    adds_nothing old new site cell c.args.changes.now.items (subst (λ (o : Option RouteChange). Compares old new site cell o) c.in_default.is c.in_ok-change.ensures)
 
 pub returns : goal.returns
 returns c =
@@ -19,6 +19,6 @@ returns c =
     let new = c.args.both.now.new.now.plan in
     let site = c.args.site.now in
     let cell = c.args.cell.now in
-    let found = subst (λ (o : Option Change). Compares old new site cell o) c.in-Some.is c.in_ok-change.ensures in
+    let found = subst (λ (o : Option RouteChange). Compares old new site cell o) c.in-Some.is c.in_ok-change.ensures in
     let pushed : c.push.new.self.items ≡ c.args.changes.now.items ++ c.in-Some.change ∷ [] = c.in_ok-push.ensures.items in
-    subst (λ (xs : List Change). Adds old new (At old new site cell) c.args.changes.now.items xs) (sym pushed) (adds_one old new site cell c.args.changes.now.items c.in-Some.change found.0 found.1 found.2)
+    subst (λ (xs : List RouteChange). Adds old new (At old new site cell) c.args.changes.now.items xs) (sym pushed) (adds_one old new site cell c.args.changes.now.items c.in-Some.change found.0 found.1 found.2)

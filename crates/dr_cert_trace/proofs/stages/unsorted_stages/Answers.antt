@@ -3,13 +3,13 @@ use Rattle.std.proofs.lemmas.List.{take_all}
 use Rattle.dr_plan_sound.specs.Certificates.{IsCertificateOf}
 use Rattle.dr_plan_sound.specs.Soundness.{IsSound}
 use Rattle.dr_plan_sound.specs.declared.certificate.Line.{Line}
-use Rattle.dr_cert_trace.specs.declared.stages.Stage.{Stage}
+use Rattle.dr_cert_trace.specs.declared.stages.TraceStage.{TraceStage}
 use Rattle.dr_cert_trace.proofs.Gathering.{AreSoFar, all_lines, goes_on, none}
 use Rattle.dr_cert_trace.proofs.stages.unsorted_stages.Goals as goal
 
 pub loop-line-init : goal.loop-line-init
 loop-line-init c =
-    subst (λ (xs : List Stage). AreSoFar c.args.sealed.now.plan c.args.key.now [] xs) (sym c.new-stages.ensures.items) (none c.args.sealed.now.plan c.args.key.now)
+    subst (λ (xs : List TraceStage). AreSoFar c.args.sealed.now.plan c.args.key.now [] xs) (sym c.new-stages.ensures.items) (none c.args.sealed.now.plan c.args.key.now)
 
 pub loop-line-preserved : goal.loop-line-preserved
 loop-line-preserved c =

@@ -1,6 +1,6 @@
 use Rattle.std.proofs.Common.{rules, ◌≡◌, List, get_or, sym, subst, take, arith}
 use Rattle.std.proofs.lemmas.List.{take_all}
-use Rattle.dr_cert_trace.specs.declared.stages.Stage.{Stage}
+use Rattle.dr_cert_trace.specs.declared.stages.TraceStage.{TraceStage}
 use Rattle.dr_cert_trace.proofs.Walked.{IsSoFar, all_found, none, passes}
 use Rattle.dr_cert_trace.proofs.walking.walk.Goals as goal
 
@@ -18,4 +18,4 @@ pub returns : goal.returns
 returns c =
     let all : take c.loop-stage.stage-index c.args.stages.now ≡ c.args.stages.now = take_all _ _ (omega arith) in
     all_found c.args.plan.now c.args.site.now c.args.key.now c.args.stages.now c.requires.stages c.requires.enters c.loop-stage.pairs c.loop-stage.keeps
-    (subst (λ (xs : List Stage). IsSoFar c.args.plan.now c.args.site.now c.args.key.now xs c.loop-stage.pairs c.loop-stage.keeps) all c.loop-stage.invariant)
+    (subst (λ (xs : List TraceStage). IsSoFar c.args.plan.now c.args.site.now c.args.key.now xs c.loop-stage.pairs c.loop-stage.keeps) all c.loop-stage.invariant)

@@ -1,7 +1,7 @@
 use Rattle.std.proofs.Common.{◌≡◌, ◌∷◌, ◌∙◌, inl, inr, sym, ap, subst, List}
 use Rattle.dr_base.specs.Texts.{Text}
 use Rattle.dr_check.specs.declared.fault.Fault.TheVariants as fault
-use Rattle.dr_check.specs.declared.search.End.TheVariants as end
+use Rattle.dr_check.specs.declared.search.WalkEnd.TheVariants as end
 use Rattle.dr_check.specs.Searching.{IsFirstEnd}
 use Rattle.dr_check.proofs.checker.stopped_by.Goals as goal
 

@@ -4,7 +4,7 @@ use Rattle.std.proofs.lemmas.List.Elements.{All-push}
 use Rattle.dr_base.specs.Texts.{Text}
 use Rattle.dr_route.specs.declared.cell.OwnedStation.{OwnedStation}
 use Rattle.dr_route.specs.declared.cell.OwnedStation.TheVariants as station
-use Rattle.dr_plan_entries.specs.declared.stations.Shown.{Shown}
+use Rattle.dr_plan_entries.specs.declared.stations.ShownStations.{ShownStations}
 use Rattle.dr_plan_entries.specs.Entering.{HasItsText, part_of}
 use Rattle.dr_plan_entries.proofs.StationLemmas.{made_more, map_push}
 use Rattle.dr_plan_entries.proofs.stations.add_literals.Goals as goal
@@ -13,11 +13,11 @@ pub loop-literal-preserved : goal.loop-literal-preserved
 loop-literal-preserved c =
     let e = take_more c.args.literals.now c.loop-literal.literal-index c.literal-item.result c.loop-literal-test.true in
     let more : take (c.loop-literal.literal-index + 1) c.args.literals.now ≡ take c.loop-literal.literal-index c.args.literals.now ++ c.literal-item.result ∷ [] = rw (← c.literal-item.is) at e in
-    let xs : List Shown = c.loop-literal.shown.items in
+    let xs : List ShownStations = c.loop-literal.shown.items in
     let first : List OwnedStation = map part_of c.args.shown.now.items in
     let make : Text → OwnedStation = λ t. station.Literal t in
     record {
-      parts = ap (λ (ys : List Shown). map part_of ys) c.in_ok-push.ensures.items
+      parts = ap (λ (ys : List ShownStations). map part_of ys) c.in_ok-push.ensures.items
           ∙ (map_push part_of xs _
           ∙ (ap (λ (t : Text). map part_of xs ++ station.Literal t ∷ []) c.in_ok-clone.ensures
           ∙ (made_more make first (map part_of xs) (take c.loop-literal.literal-index c.args.literals.now) c.literal-item.result c.loop-literal.invariant.parts

@@ -5,7 +5,7 @@ use Rattle.std.proofs.lemmas.List.Elements.{All-push}
 use Rattle.dr_base.specs.Texts.{Text}
 use Rattle.dr_route.specs.declared.cell.OwnedStation.{OwnedStation}
 use Rattle.dr_route.specs.declared.cell.OwnedStation.TheVariants as station
-use Rattle.dr_plan_entries.specs.declared.stations.Shown.{Shown}
+use Rattle.dr_plan_entries.specs.declared.stations.ShownStations.{ShownStations}
 use Rattle.dr_plan_entries.specs.Entering.{HasItsText, part_of}
 use Rattle.dr_plan_entries.proofs.StationLemmas.{made_more, map_push}
 use Rattle.dr_plan_entries.proofs.stations.add_prefixes.Goals as goal
@@ -14,11 +14,11 @@ pub loop-prefix-preserved : goal.loop-prefix-preserved
 loop-prefix-preserved c =
     let e = take_more c.args.prefixes.now c.loop-prefix.prefix-index c.prefix-item.result c.loop-prefix-test.true in
     let more : take (c.loop-prefix.prefix-index + 1) c.args.prefixes.now ≡ take c.loop-prefix.prefix-index c.args.prefixes.now ++ c.prefix-item.result ∷ [] = rw (← c.prefix-item.is) at e in
-    let xs : List Shown = c.loop-prefix.shown.items in
+    let xs : List ShownStations = c.loop-prefix.shown.items in
     let first : List OwnedStation = map part_of c.args.shown.now.items in
     let make : Text → OwnedStation = λ t. station.Prefix t in
     record {
-      parts = ap (λ (ys : List Shown). map part_of ys) c.in_ok-push.ensures.items
+      parts = ap (λ (ys : List ShownStations). map part_of ys) c.in_ok-push.ensures.items
           ∙ (map_push part_of xs _
           ∙ (ap (λ (t : Text). map part_of xs ++ station.Prefix t ∷ []) c.in_ok-clone.ensures
           ∙ (made_more make first (map part_of xs) (take c.loop-prefix.prefix-index c.args.prefixes.now) c.prefix-item.result c.loop-prefix.invariant.parts

@@ -10,7 +10,7 @@ use Rattle.dr_session.specs.declared.ends.Core.{Core}
 use Rattle.dr_session.specs.declared.ends.Effect.{Effect}
 use Rattle.dr_session.specs.declared.ends.LinkAction.{LinkAction}
 use Rattle.dr_session.specs.Ends.{echoes_by, echoes_in, echoing}
-use Rattle.dr_session.specs.declared.ends.Asked.TheVariants.{Echo}
+use Rattle.dr_session.specs.declared.ends.Requested.TheVariants.{Echo}
 use Rattle.dr_session.specs.Messages.{command_pdus}
 use Rattle.dr_session.specs.Reactions.{write, awaiting, id_after}
 use Rattle.std.specs.Prelude.{IfOk}

@@ -7,7 +7,7 @@ use Rattle.dr_route.specs.declared.key.Key.{Key}
 use Rattle.dr_ledger.specs.declared.item.Entry.{Entry}
 use Rattle.dr_ledger.specs.Replies.{Lists, entry_of}
 use Rattle.dr_store_schema.specs.Books.{lines_of}
-use Rattle.dr_store_lists.specs.declared.listing.Note.{Note}
+use Rattle.dr_store_lists.specs.declared.listing.JournalRow.{JournalRow}
 use Rattle.dr_store_lists.specs.Lists.{Goal, IsJournal, goal_cmp, goals_of, keys_of, whole_prints_of}
 use Rattle.dr_store_reads.specs.declared.finding.Print.{Print}
 use Rattle.dr_store_calls.proofs.Calls.{asked_looked}
@@ -23,7 +23,7 @@ returns-in-Ok-clause-looked g c n part =
     let old = state g.S.Store c.args.conn.now in
     let mid = state g.S.Store c.all_notes.new.conn in
     let new = state g.S.Store c.list_by_notes.new.conn in
-    let Shows : Trees → Vec (ℕ × Note) Global → Type 0 = λ base notes. IsJournal base notes.items in
+    let Shows : Trees → Vec (ℕ × JournalRow) Global → Type 0 = λ base notes. IsJournal base notes.items in
     let Then : Trees → List Entry → Type 0 = λ base all. IsJournal base slice → all ≡ mapped entry_of (lines_of base) in
     let Says : Trees → List Entry → Type 0 = λ base all. all ≡ mapped entry_of (lines_of base) in
     looked_both n part old mid new Shows c.in-Ok.notes c.list_by_notes.result Then Says (asked_looked n part _ old mid Shows (of_ledger _ old mid (Shows old.now.trees) c.in-Ok.ensures.asked)) (c.list_by_notes.ensures.looked n part)
@@ -33,6 +33,6 @@ pub returns-in-Err-clause-looked : goal.returns-in-Err-clause-looked
 returns-in-Err-clause-looked g c n part =
     let old = state g.S.Store c.args.conn.now in
     let new = state g.S.Store c.all_notes.new.conn in
-    let Shows : Trees → Vec (ℕ × Note) Global → Type 0 = λ base notes. IsJournal base notes.items in
+    let Shows : Trees → Vec (ℕ × JournalRow) Global → Type 0 = λ base notes. IsJournal base notes.items in
     let Says : Trees → List Entry → Type 0 = λ base all. all ≡ mapped entry_of (lines_of base) in
     failed_as n part c.in-Err.fault old new Shows Says (asked_looked n part _ old new Shows (of_ledger _ old new (Shows old.now.trees) c.in-Err.ensures.asked))

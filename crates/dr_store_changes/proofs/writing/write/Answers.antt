@@ -11,6 +11,6 @@ returns-clause-written g c =
     let begun = c.transaction-tx.ensures.begun in
     let last = c.commit.new.self.0 in
     let same : last ≡ c.conn-2-1.given.0 = search rules in
-    subst (λ h. Written c.args.n (g.C.Change.asks c.args.change.now) (g.C.Change.makes c.args.change.now c.args.n) c.commit.result (state g.S.Store old) (state g.S.Store h)) same
-    (all_run (state g.S.Store old) (state g.S.Store mid) (state g.S.Store last) c.args.n (g.C.Change.asks c.args.change.now) (g.C.Change.makes c.args.change.now c.args.n) c.in_ok-run.field-0 c.commit.result
+    subst (λ h. Written c.args.n (g.C.TableChange.asks c.args.change.now) (g.C.TableChange.makes c.args.change.now c.args.n) c.commit.result (state g.S.Store old) (state g.S.Store h)) same
+    (all_run (state g.S.Store old) (state g.S.Store mid) (state g.S.Store last) c.args.n (g.C.TableChange.asks c.args.change.now) (g.C.TableChange.makes c.args.change.now c.args.n) c.in_ok-run.field-0 c.commit.result
     (rw begun at c.in_ok-run.ensures.step) c.commit.ensures.ok c.commit.ensures.err c.commit.ensures.survives)

@@ -4,13 +4,13 @@ use Rattle.dr_ledger.specs.Pairs.{pair_cmp}
 use Rattle.dr_ledger.specs.Replies.{Lists}
 use Rattle.dr_store_schema.specs.Books.{all_kept_in, arrivals_in}
 use Rattle.dr_store_lists.specs.Lists.{IsJournal, goal_cmp, goals_of}
-use Rattle.dr_store_lists.specs.declared.listing.Note.{Note}
+use Rattle.dr_store_lists.specs.declared.listing.JournalRow.{JournalRow}
 use Rattle.dr_store_audit.specs.Found.{AgreesAs, HoldTogether}
 use Rattle.dr_store_open.proofs.finding.agree_all.Goals as goal
 
 pub returns : goal.returns
 returns c = λ db stock moves journal.
-    let As : List (ℕ × Note) → Type 0 = λ notes. AgreesAs c.agree.result (HoldTogether c.args.next c.args.site.now db notes) in
+    let As : List (ℕ × JournalRow) → Type 0 = λ notes. AgreesAs c.agree.result (HoldTogether c.args.next c.args.site.now db notes) in
     subst As c.as_slice-6.ensures.value (c.agree.ensures db (record {
       keys_are = c.as_slice.ensures.value ∙ stock.keys;
       prints_are = c.as_slice-2.ensures.value ∙ stock.prints;

@@ -1,6 +1,6 @@
 use Rattle.std.proofs.Common.{refl}
 use Rattle.dr_run_ask.proofs.Chains.{reads_nothing, reads_one}
-use Rattle.dr_run_ask.specs.declared.call.Call.TheVariants.{Rows}
+use Rattle.dr_run_ask.specs.declared.call.HttpCall.TheVariants.{Rows}
 use Rattle.dr_word_at.proofs.listing.ask_rows.Goals as goal
 
 pub returns-in-Err : goal.returns-in-Err

@@ -3,7 +3,7 @@ use Rattle.std.specs.Prelude.{map as mapped}
 use Rattle.dr_ledger.specs.Books.{Line}
 use Rattle.dr_ledger_history.specs.Lines.{line_of}
 use Rattle.dr_word_audit.specs.Figures.{how_many}
-use Rattle.dr_word_audit.specs.declared.counting.Kind.TheVariants as kind
+use Rattle.dr_word_audit.specs.declared.counting.LineKind.TheVariants as kind
 use Rattle.dr_word_audit.proofs.Counted.{counts_told}
 use Rattle.dr_word_audit.proofs.counting.figures_of.Goals as goal
 

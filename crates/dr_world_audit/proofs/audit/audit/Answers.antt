@@ -1,9 +1,9 @@
 use Rattle.std.proofs.Common.{◌∙◌, ◌++◌, List, subst, ap}
 use Rattle.std.specs.Prelude.{Option, Err}
 use Rattle.dr_world_audit.specs.declared.audit.Mismatch.{Mismatch}
-use Rattle.dr_world_audit.specs.declared.audit.Stop.{Stop}
+use Rattle.dr_world_audit.specs.declared.audit.AuditStop.{AuditStop}
 use Rattle.dr_world_audit.specs.declared.trail.Trail.{Trail}
-use Rattle.dr_world_audit.specs.declared.hop.Hop.{Hop as Held}
+use Rattle.dr_world_audit.specs.declared.hop.AuditHop.{AuditHop as Held}
 use Rattle.dr_world_audit.specs.Hops.{held}
 use Rattle.dr_world_audit.specs.Sites.{Audits, all_came, all_done, all_sent}
 use Rattle.dr_world_audit.specs.Stops.{Compares, IsFaultOf, IsVerdictOf, ReadsAll, Refuses}
@@ -17,7 +17,7 @@ returns-in-Err c =
     let nodes = c.args.nodes.now in
     let keys = c.in_ok-ours.ours.keys in
     let old : Trail = record { came = c.new.result; sent = c.new-2.result; done = c.new-3.result } in
-    let P : Stop → Type 0 = λ s. ReadsAll plan keys nodes old c.read_all.new.trail (Err s) in
+    let P : AuditStop → Type 0 = λ s. ReadsAll plan keys nodes old c.read_all.new.trail (Err s) in
     if_so (IsVerdictOf c.in-Err.stop) (Audits plan nodes) (IsFaultOf c.in-Err.stop) (Refuses plan nodes) c.verdict_of.result c.verdict_of.ensures
     (λ v is. stopped (Audits plan nodes) c.in-Err.stop v is (λ told same.
     let u = subst P same c.in-Err.ensures in

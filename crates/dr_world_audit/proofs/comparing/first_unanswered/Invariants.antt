@@ -1,6 +1,6 @@
 use Rattle.std.proofs.Common.{Contains, take}
 use Rattle.dr_world_audit.specs.Comparing.{IsUnanswered}
-use Rattle.dr_world_audit.specs.declared.hop.Hop.{Hop as Held}
+use Rattle.dr_world_audit.specs.declared.hop.AuditHop.{AuditHop as Held}
 use Rattle.dr_world_audit.proofs.comparing.first_unanswered.Given as goal
 
 abbrev pub invariant-loop-hop : goal.invariant-loop-hop

@@ -1,7 +1,7 @@
 use Rattle.std.proofs.Common.{◌≡◌, length, rules, sym, subst, List, Contains}
 use Rattle.std.specs.Prelude.{◌↔◌}
 use Rattle.std.specs.Vec.Iter.{into_iter_items}
-use Rattle.dr_world_audit.specs.declared.hop.Hop.{Hop as Held}
+use Rattle.dr_world_audit.specs.declared.hop.AuditHop.{AuditHop as Held}
 use Rattle.dr_world_audit.proofs.Sets.{comes_to_end, goes_on, hop_added, one_more}
 use Rattle.dr_world_audit.proofs.comparing.set_of.Goals as goal
 

@@ -6,7 +6,7 @@ use Rattle.dr_ledger_history.specs.Contents.{book_of, content}
 use Rattle.dr_ledger_history.specs.Lines.{line_of}
 use Rattle.dr_world_journals.specs.Hops.{goals}
 use Rattle.dr_world_journals.specs.Journals.{until_adoption}
-use Rattle.dr_world_audit.specs.declared.fault.ReadFault.{ReadFault}
+use Rattle.dr_world_audit.specs.declared.fault.JournalFault.{JournalFault}
 use Rattle.dr_world_audit.specs.declared.trail.Trail.{Trail}
 use Rattle.dr_world_audit.specs.Readings.{Reads}
 use Rattle.dr_world_audit.specs.Standing.{Stands}
@@ -27,7 +27,7 @@ returns-in-Err c =
     let until : until_adoption lines ≡ past = sym (front ∙ c.count_past.ensures.past) in
     let before : IsBeforeAdoption past = subst IsBeforeAdoption (sym front) c.count_past.ensures.over in
     let old = c.args.trail.now in
-    let P : ReadFault → Type 0 = λ f. Reads plan site lines old old (Err f) in
+    let P : JournalFault → Type 0 = λ f. Reads plan site lines old old (Err f) in
     subst P (sym c.of_history.ensures) (past_fails plan site lines past since all until before c.in-Err.fault old old c.in-Err.ensures)
 
 pub returns-in-Err-stand_all : goal.returns-in-Err-stand_all
@@ -79,6 +79,6 @@ returns-in-Err-tell_since c =
     let old = c.args.trail.now in
     let told = content c.in-Ok.told.parts in
     let mid : Trail = record { came = old.came; sent = c.stand_all.new.sent; done = old.done } in
-    let P : ReadFault → Type 0 = λ f. Reads plan site lines old c.tell_since.new.trail (Err f) in
+    let P : JournalFault → Type 0 = λ f. Reads plan site lines old c.tell_since.new.trail (Err f) in
     subst P (sym c.of_history-in-Err-tell_since.ensures) (since_fails plan site lines past since all until before c.in-Err-tell_since.fault old mid c.tell_since.new.trail
     (c.in-Err-tell_since.ensures past (begun plan site lines past since all until before told c.in-Ok.ensures)))

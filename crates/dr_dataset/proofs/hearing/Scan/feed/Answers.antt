@@ -2,7 +2,7 @@ use Rattle.std.proofs.Common.{◌≡◌, ◌++◌, [], List, ℕ, sym, ap, subst
 use Rattle.std.proofs.lemmas.List.{append-nil}
 use Rattle.std.proofs.lemmas.Bool.{eqb-true}
 use Rattle.dr_dataset.specs.Hearing.{Hears}
-use Rattle.dr_dataset.specs.declared.hearing.Place.TheVariants.{Failed as InFailed}
+use Rattle.dr_dataset.specs.declared.hearing.ScanPlace.TheVariants.{Failed as InFailed}
 use Rattle.dr_dataset.proofs.HearLemmas.{all_taken, failed, failed_same, in_order}
 use Rattle.dr_dataset.proofs.hearing.Scan.feed.Goals as goal
 

@@ -1,5 +1,5 @@
 use Rattle.std.proofs.Common.{◌≡◌, ◌∙◌, sym, ap, Err}
-use Rattle.dr_dataset.specs.declared.hearing.Place.TheVariants.{Failed as InFailed}
+use Rattle.dr_dataset.specs.declared.hearing.ScanPlace.TheVariants.{Failed as InFailed}
 use Rattle.dr_dataset.proofs.HearLemmas.{failed, failed_same, finishes_failed, cut, no_memory, read}
 use Rattle.dr_dataset.proofs.hearing.Scan.finish.Goals as goal
 

@@ -1,6 +1,6 @@
 use Rattle.std.proofs.Common.{ap, ◌∙◌, Some, List, ℕ, subst, length, ◌≤◌}
 use Rattle.dr_dataset.specs.Wholes.{whole}
-use Rattle.dr_dataset.specs.declared.hearing.Place.TheVariants.{InValue}
+use Rattle.dr_dataset.specs.declared.hearing.ScanPlace.TheVariants.{InValue}
 use Rattle.dr_dataset.proofs.HearLemmas.{settles_item, settles_element}
 use Rattle.dr_dataset.proofs.hearing.Scan.settle.Goals as goal
 

@@ -1,6 +1,6 @@
 use Rattle.std.proofs.Common.{◌≡◌, ap, ◌∙◌, Some, sym, false}
 use Rattle.std.specs.Prelude.{slice_get}
-use Rattle.dr_dataset.specs.declared.frame.Frame.TheVariants.{InItem}
+use Rattle.dr_dataset.specs.declared.frame.OpenSequence.TheVariants.{InItem}
 use Rattle.dr_dataset.specs.DataSet.{has_tag}
 use Rattle.dr_dataset.specs.Elements.{item_group}
 use Rattle.dr_dataset.proofs.NestLemmas.{token_in_item}

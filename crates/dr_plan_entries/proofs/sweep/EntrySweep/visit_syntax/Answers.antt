@@ -6,7 +6,7 @@ use Rattle.dr_plan_model.specs.declared.plan.Flow.{Flow}
 use Rattle.dr_plan_model.specs.Networks.{Network}
 use Rattle.dr_plan_model.specs.Listings.{AreListedBy}
 use Rattle.dr_plan_entries.specs.Entering.{AllBelow}
-use Rattle.dr_plan_entries.specs.declared.rows.Side.TheVariants.{Modality}
+use Rattle.dr_plan_entries.specs.declared.rows.FlowSide.TheVariants.{Modality}
 use Rattle.dr_plan_entries.specs.Listing.{AreNamed, IsFieldRow}
 use Rattle.dr_plan_entries.proofs.RowLemmas.{named_fields}
 use Rattle.dr_plan_entries.proofs.sweep.Sweep.visit_syntax.Goals as goal

@@ -6,7 +6,7 @@ use Rattle.dr_plan_model.specs.declared.plan.Flow.{Flow}
 use Rattle.dr_plan_model.specs.Networks.{Network}
 use Rattle.dr_plan_model.specs.Listings.{AreListedBy}
 use Rattle.dr_plan_entries.specs.Entering.{AllBelow}
-use Rattle.dr_plan_entries.specs.declared.rows.Side.TheVariants.{Station}
+use Rattle.dr_plan_entries.specs.declared.rows.FlowSide.TheVariants.{Station}
 use Rattle.dr_plan_entries.specs.Listing.{AreNamed, IsStationRow}
 use Rattle.dr_plan_entries.proofs.RowLemmas.{named_stations}
 use Rattle.dr_plan_entries.proofs.sweep.Sweep.visit_modality.Goals as goal
