@@ -2,16 +2,22 @@
 """Looks at the form of what is committed, which needs no proof: `tools/formats.py`.
 
 Each source is in the kit's layout; no line of src/ or specs/ is over 100 columns, but for a text that is alone on it;
-each wrong body and wrong definition can be applied to the sources as they are; each that wrong/gate names is there; and
-each file whose first line names what runs it may be run. What isn't so is printed, and the exit status is 1.
+each wrong body and wrong definition can be applied to the sources as they are; each that wrong/gate names is there; no
+type's name stands in two crates but for one notion; and each file whose first line names what runs it may be run. What isn't so is printed, and the exit status is 1.
 """
 import os
+import re
 import subprocess
 import sys
 
 from crates import TOP, listed, prover, sources_of
 from wrap import sources, too_long
 from wrong import Bad, chosen, read_edit
+
+NAMED = re.compile(r"^(?:pub(?:\([^)]*\))? )?(?:struct|enum|trait|type)\s+(\w+)", re.MULTILINE)
+# Names of one notion that crates have apart: a node of the plan and of the simulator; a row that a ledger lists, and how far one is;
+# tests of a name that tell the fault or not; and what compares values, since nobody may implement a trait for types that aren't his.
+SAME_NOTION = {"Node", "Row", "Stage", "WellFormed", "Same"}
 
 
 def out_of_layout():
@@ -47,6 +53,18 @@ def unapplied():
     return said + [f"{it.removeprefix(f'{TOP}/')}: wrong/gate names it, and it isn't there" for it in missing]
 
 
+def shared_names():
+    """The types that two crates name alike, though they mean different things by it."""
+    found = {}
+    for crate in listed():
+        for path in (it for it in sources_of(crate) if "/src/" in it and it.endswith(".rt")):
+            with open(path, encoding="utf-8") as file:
+                for it in NAMED.findall(file.read()):
+                    found.setdefault(it, set()).add(crate)
+    return [f"the type {it} stands in {' and '.join(sorted(crates))}"
+            for it, crates in sorted(found.items()) if len(crates) > 1 and it not in SAME_NOTION]
+
+
 def not_to_be_run():
     """The files that say what runs them, and that the system would not run: a test of the gate that can't be started fails at its end."""
     said = []
@@ -61,7 +79,7 @@ def not_to_be_run():
 
 
 def main():
-    said = out_of_layout() + over_long() + unapplied() + not_to_be_run()
+    said = out_of_layout() + over_long() + unapplied() + shared_names() + not_to_be_run()
     print("\n".join(said), end="\n" * bool(said))
     print(f"formats: {len(said)} faults")
     return 1 if said else 0
