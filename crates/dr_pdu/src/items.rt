@@ -2,7 +2,7 @@
 ghost use Rattle.std.specs.Prelude.{◌≡◌, ℕ, List, map, IfOk};
 ghost use Rattle.std.specs.Option.{option_copied};
 ghost use Rattle.dr_base.specs.Padding.{unpadded};
-ghost use Rattle.dr_pdu.specs.Items.{PduItem as ItemText, AreItems, StartsItem, first_body, bodies};
+ghost use Rattle.dr_pdu.specs.Items.{Item as ItemText, AreItems, StartsItem, first_body, bodies};
 ghost use Rattle.dr_pdu.specs.Reads.{Reads, item, items};
 
 use crate::fault::PduFault;

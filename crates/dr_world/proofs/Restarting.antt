@@ -32,7 +32,7 @@ use Rattle.dr_node.specs.Sides.{is_standing, is_taken}
 use Rattle.dr_world_model.proofs.Lookups.{numbers}
 use Rattle.dr_world_model.specs.Worlds.{same_text}
 use Rattle.dr_world_tie.specs.Channels.{Channel}
-use Rattle.dr_world_tie.specs.ByteWorlds.{LinkSide as WorldSide, ByteWorld, AreLinksOf, Done, Restart, is_there, caller_of, receiver_of}
+use Rattle.dr_world_tie.specs.ByteWorlds.{Side as WorldSide, ByteWorld, AreLinksOf, Done, Restart, is_there, caller_of, receiver_of}
 use Rattle.dr_world_tie.proofs.Others.{as_pairs}
 use Rattle.dr_world.specs.declared.steps.StepNote.{StepNote}
 use Rattle.dr_world.specs.declared.steps.StepNote.TheVariants as note

@@ -1,7 +1,7 @@
 use Rattle.std.specs.Option.{option_copied}
 use Rattle.dr_dataset.specs.Elements.{Element}
 use Rattle.dr_dataset.proofs.FoundLemmas.{found_more}
-use Rattle.dr_dataset.proofs.found.Found.with_one.Goals as goal
+use Rattle.dr_dataset.proofs.found.ElementsFound.with_one.Goals as goal
 
 pub returns : goal.returns
 returns c =

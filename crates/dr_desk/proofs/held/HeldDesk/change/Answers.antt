@@ -4,7 +4,7 @@ use Rattle.dr_site.specs.Parts.{Part}
 use Rattle.dr_desk.proofs.Handed.{of_lines_after, stays_as, stays_by_plan}
 use Rattle.dr_desk.proofs.Journals.{of_lines_by}
 use Rattle.dr_desk.proofs.Taken.{both, fit_then, no_node, one_node, still}
-use Rattle.dr_desk.proofs.held.Held.change.Goals as goal
+use Rattle.dr_desk.proofs.held.HeldDesk.change.Goals as goal
 
 pub returns-in_default-clause-stays : goal.returns-in_default-clause-stays
 returns-in_default-clause-stays g c = (

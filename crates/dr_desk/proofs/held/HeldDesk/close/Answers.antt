@@ -3,7 +3,7 @@ use Rattle.std.proofs.Common.{map as mapped}
 use Rattle.dr_ledger.specs.Books.{Book}
 use Rattle.dr_ledger.specs.Replies.{entry_of}
 use Rattle.dr_desk.proofs.Journals.{at_most, begins_shown, fails_by, grows_by, journalled_by, just, of_lines_by, unread_fails}
-use Rattle.dr_desk.proofs.held.Held.close.Goals as goal
+use Rattle.dr_desk.proofs.held.HeldDesk.close.Goals as goal
 
 pub returns-in-Err-clause-fault : goal.returns-in-Err-clause-fault
 returns-in-Err-clause-fault g c = λ s. unread_fails _ _ _ _ _ _ c.unread.ensures

@@ -1,7 +1,7 @@
 use Rattle.std.proofs.Common.{refl, ◌∙◌}
 use Rattle.dr_desk.proofs.Handed.{passes_disagree}
 use Rattle.dr_desk.proofs.Journals.{begins_shown, fails_by}
-use Rattle.dr_desk.proofs.held.Held.compare.Goals as goal
+use Rattle.dr_desk.proofs.held.HeldDesk.compare.Goals as goal
 
 pub returns-clause-refuses : goal.returns-clause-refuses
 returns-clause-refuses g c = λ plan node fit. passes_disagree g.L.Ledger.site g.L.Ledger.book

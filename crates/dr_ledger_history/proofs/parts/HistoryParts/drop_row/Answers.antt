@@ -3,7 +3,7 @@ use Rattle.dr_ledger.specs.Pairs.{pair_cmp}
 use Rattle.dr_ledger_history.specs.Contents.{content}
 use Rattle.dr_ledger_history.specs.Trees.{as_map, as_set}
 use Rattle.dr_ledger_history.proofs.Telling.{dropped}
-use Rattle.dr_ledger_history.proofs.parts.Parts.drop_row.Goals as goal
+use Rattle.dr_ledger_history.proofs.parts.HistoryParts.drop_row.Goals as goal
 
 pub returns : goal.returns
 returns c =

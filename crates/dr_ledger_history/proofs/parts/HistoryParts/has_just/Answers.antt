@@ -1,7 +1,7 @@
 use Rattle.std.proofs.Common.{◌≡◌, ◌∙◌, sym, true≢false}
 use Rattle.dr_ledger_history.proofs.Just.{arrivals_alike, has_all, items_alike, kept_alike, rows_alike}
-use Rattle.dr_ledger_history.proofs.parts.Parts.has_just.Goals as goal
-use Rattle.dr_ledger_history.proofs.parts.Parts.has_just.Goals.{then-not-are_items-via-then-not-are_items, then-not-are_items-via-else-not-are_items+then-not-are_arrivals}
+use Rattle.dr_ledger_history.proofs.parts.HistoryParts.has_just.Goals as goal
+use Rattle.dr_ledger_history.proofs.parts.HistoryParts.has_just.Goals.{then-not-are_items-via-then-not-are_items, then-not-are_items-via-else-not-are_items+then-not-are_arrivals}
 
 pub returns-then-not-are_items : goal.returns-then-not-are_items
 returns-then-not-are_items c = record {

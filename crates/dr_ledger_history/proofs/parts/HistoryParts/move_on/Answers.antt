@@ -4,7 +4,7 @@ use Rattle.dr_ledger_history.specs.Contents.{content}
 use Rattle.dr_ledger_history.specs.Trees.{as_map}
 use Rattle.dr_ledger.specs.Pairs.{pair_cmp}
 use Rattle.dr_ledger_history.proofs.Telling.{settled}
-use Rattle.dr_ledger_history.proofs.parts.Parts.move_on.Goals as goal
+use Rattle.dr_ledger_history.proofs.parts.HistoryParts.move_on.Goals as goal
 
 pub returns : goal.returns
 returns c =

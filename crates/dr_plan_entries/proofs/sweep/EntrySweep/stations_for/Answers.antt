@@ -9,7 +9,7 @@ use Rattle.dr_plan_entries.specs.Entering.{AllBelow}
 use Rattle.dr_plan_entries.specs.declared.rows.FlowSide.TheVariants.{Station}
 use Rattle.dr_plan_entries.specs.Listing.{AreNamed, IsStationRow}
 use Rattle.dr_plan_entries.proofs.RowLemmas.{named_stations}
-use Rattle.dr_plan_entries.proofs.sweep.Sweep.stations_for.Goals as goal
+use Rattle.dr_plan_entries.proofs.sweep.EntrySweep.stations_for.Goals as goal
 
 pub names_in-requires-clause-below : goal.names_in-requires-clause-below
 names_in-requires-clause-below c = let P : List Flow → Type 0 = λ fs. AllBelow c.args.among.now fs in subst P (sym c.flows.ensures.same) c.requires.below

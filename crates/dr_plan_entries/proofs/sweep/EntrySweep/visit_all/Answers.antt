@@ -11,7 +11,7 @@ use Rattle.dr_plan_entries.proofs.Entries.{wanted_entry, entry_wanted}
 use Rattle.dr_plan_entries.proofs.Orders.{by_site, byte_order_is_printed}
 use Rattle.dr_plan_entries.proofs.Visits.{Picks, picked_is, picked_below, one_more, all_of_them, went_on, wants_alike, found_in_row}
 use Rattle.dr_plan_entries.proofs.Wanted.{site_in, site_out}
-use Rattle.dr_plan_entries.proofs.sweep.Sweep.visit_all.Goals as goal
+use Rattle.dr_plan_entries.proofs.sweep.EntrySweep.visit_all.Goals as goal
 
 pub narrowed-requires-clause-below : goal.narrowed-requires-clause-below
 narrowed-requires-clause-below g c =

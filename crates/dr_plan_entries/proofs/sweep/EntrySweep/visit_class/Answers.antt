@@ -7,7 +7,7 @@ use Rattle.dr_plan_entries.specs.InOrder.{IsLess}
 use Rattle.dr_plan_entries.proofs.Entries.{two_syntaxes}
 use Rattle.dr_plan_entries.proofs.Orders.{by_syntax, implicit_is_not_above}
 use Rattle.dr_plan_entries.proofs.Visits.{found_first, then_more, went_on}
-use Rattle.dr_plan_entries.proofs.sweep.Sweep.visit_class.Goals as goal
+use Rattle.dr_plan_entries.proofs.sweep.EntrySweep.visit_class.Goals as goal
 
 pub returns-then-is_some : goal.returns-then-is_some
 returns-then-is_some g c =

@@ -4,7 +4,7 @@ use Rattle.dr_plan_model.specs.declared.plan.Flow.{Flow}
 use Rattle.dr_plan_entries.specs.Entering.{AllBelow, WantsSyntax}
 use Rattle.dr_plan_entries.proofs.Visits.{Picks, picked_is, picked_below, wants_alike}
 use Rattle.dr_plan_entries.proofs.Wanted.{syntax_alike}
-use Rattle.dr_plan_entries.proofs.sweep.Sweep.visit_class_in.Goals as goal
+use Rattle.dr_plan_entries.proofs.sweep.EntrySweep.visit_class_in.Goals as goal
 
 pub visit_syntax-requires-clause-fit : goal.visit_syntax-requires-clause-fit
 visit_syntax-requires-clause-fit g c = λ flow k has at.

@@ -11,7 +11,7 @@ use Rattle.dr_plan_entries.proofs.Visits.{Picks, picked_is, picked_below, one_mo
 use Rattle.dr_plan_entries.specs.Listing.{IsStationRow}
 use Rattle.dr_plan_entries.proofs.RowLemmas.{fewer_flows}
 use Rattle.dr_plan_entries.proofs.Wanted.{modality_in, modality_out}
-use Rattle.dr_plan_entries.proofs.sweep.Sweep.visit_modalities.Goals as goal
+use Rattle.dr_plan_entries.proofs.sweep.EntrySweep.visit_modalities.Goals as goal
 
 pub visit_left-requires-clause-fit : goal.visit_left-requires-clause-fit
 visit_left-requires-clause-fit g c = λ flow k has at.

@@ -1,7 +1,7 @@
 use Rattle.std.proofs.Common.{take, Contains}
 use Rattle.dr_plan_entries.specs.Entering.{WantsSyntax}
 use Rattle.dr_plan_entries.specs.Visiting.{GoesOn}
-use Rattle.dr_plan_entries.proofs.sweep.Sweep.visit_modalities.Given as goal
+use Rattle.dr_plan_entries.proofs.sweep.EntrySweep.visit_modalities.Given as goal
 
 abbrev pub invariant-loop-modality : goal.invariant-loop-modality
 invariant-loop-modality g l = GoesOn g.V.EntryVisitor.plan g.V.EntryVisitor.is_ready g.V.EntryVisitor.has_visited g.V.EntryVisitor.shows

@@ -8,7 +8,7 @@ use Rattle.dr_plan_entries.specs.Visiting.{GoesOn}
 use Rattle.dr_plan_entries.proofs.Orders.{by_class, byte_order_is_printed}
 use Rattle.dr_plan_entries.proofs.Visits.{Picks, picked_is, picked_below, one_more, all_of_them, went_on, found_in_row}
 use Rattle.dr_plan_entries.proofs.Wanted.{class_in, class_out}
-use Rattle.dr_plan_entries.proofs.sweep.Sweep.visit_site.Goals as goal
+use Rattle.dr_plan_entries.proofs.sweep.EntrySweep.visit_site.Goals as goal
 
 pub visit_class-requires-clause-fit : goal.visit_class-requires-clause-fit
 visit_class-requires-clause-fit g c = λ flow k has at.

@@ -1,7 +1,7 @@
 use Rattle.std.proofs.Common.{take, Contains}
 use Rattle.dr_plan_entries.specs.Entering.{WantsSite}
 use Rattle.dr_plan_entries.specs.Visiting.{GoesOn}
-use Rattle.dr_plan_entries.proofs.sweep.Sweep.visit_site.Given as goal
+use Rattle.dr_plan_entries.proofs.sweep.EntrySweep.visit_site.Given as goal
 
 abbrev pub invariant-loop-class : goal.invariant-loop-class
 invariant-loop-class g l = GoesOn g.V.EntryVisitor.plan g.V.EntryVisitor.is_ready g.V.EntryVisitor.has_visited g.V.EntryVisitor.shows

@@ -12,7 +12,7 @@ use Rattle.dr_plan_entries.proofs.Entries.{enters}
 use Rattle.dr_plan_entries.proofs.Orders.{not_before_itself, same_cell}
 use Rattle.dr_plan_entries.proofs.Visits.{stays, the_only_one}
 use Rattle.dr_plan_entries.proofs.Wanted.{is_wanted}
-use Rattle.dr_plan_entries.proofs.sweep.Sweep.visit_station.Goals as goal
+use Rattle.dr_plan_entries.proofs.sweep.EntrySweep.visit_station.Goals as goal
 
 pub visit-requires-clause-entry : goal.visit-requires-clause-entry
 visit-requires-clause-entry g c =

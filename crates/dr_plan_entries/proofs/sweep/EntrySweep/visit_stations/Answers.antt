@@ -6,7 +6,7 @@ use Rattle.dr_plan_entries.specs.Entering.{WantsModality, WantsStation}
 use Rattle.dr_plan_entries.specs.Visiting.{GoesOn}
 use Rattle.dr_plan_entries.proofs.Orders.{by_station}
 use Rattle.dr_plan_entries.proofs.Visits.{one_more, all_of_them, went_on, found_in_row}
-use Rattle.dr_plan_entries.proofs.sweep.Sweep.visit_stations.Goals as goal
+use Rattle.dr_plan_entries.proofs.sweep.EntrySweep.visit_stations.Goals as goal
 
 pub loop-station-preserved : goal.loop-station-preserved
 loop-station-preserved g c =

@@ -9,7 +9,7 @@ use Rattle.dr_plan_entries.specs.Entering.{AllBelow}
 use Rattle.dr_plan_entries.specs.declared.rows.FlowSide.TheVariants.{Modality}
 use Rattle.dr_plan_entries.specs.Listing.{AreNamed, IsFieldRow}
 use Rattle.dr_plan_entries.proofs.RowLemmas.{named_fields}
-use Rattle.dr_plan_entries.proofs.sweep.Sweep.visit_syntax.Goals as goal
+use Rattle.dr_plan_entries.proofs.sweep.EntrySweep.visit_syntax.Goals as goal
 
 pub names_in-requires-clause-below : goal.names_in-requires-clause-below
 names_in-requires-clause-below g c = let P : List Flow → Type 0 = λ fs. AllBelow c.args.among.now fs in subst P (sym c.flows.ensures.same) c.requires.below
