@@ -17,7 +17,7 @@ use Rattle.dr_run_answer.specs.declared.json.Counts.{Counts}
 use Rattle.dr_run_answer.specs.declared.json.Identity.{Identity}
 use Rattle.dr_run_answer.specs.declared.json.Queue.{Queue}
 use Rattle.dr_run_answer.specs.declared.json.Visited.{Visited}
-use Rattle.dr_run_answer.specs.Quoting.{quoted}
+use Rattle.dr_base_quoted.specs.Quoting.{quoted}
 
 -- a member behind another: its name, then a number or a text
 abbrev pub member : Text → Text → Text

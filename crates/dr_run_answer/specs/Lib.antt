@@ -1,4 +1,3 @@
 pub mod Answers
 pub mod Intakes
 pub mod Laws
-pub mod Quoting

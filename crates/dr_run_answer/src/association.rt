@@ -3,8 +3,8 @@ ghost use Rattle.std.specs.Prelude.{◌≡◌, ◌++◌, OnOk, flat_map};
 ghost use Rattle.dr_run_answer.specs.Answers.{association_line};
 
 use crate::json::put_number;
-use crate::quoted::put_text;
 use dr_base::Text;
+use dr_base_quoted::put_text;
 use std::alloc::AllocError;
 
 /// An association that is open: who asked for it, the number of its session, since when it is open

@@ -6,8 +6,8 @@ ghost use Rattle.dr_run_answer.specs.Answers.{label_part, other_part, value_part
 ghost use Rattle.dr_run_answer.specs.Answers.{visits_figure, visits_figures, visits_of};
 
 use crate::json::{Counts, Queue, put_decimal};
-use crate::quoted::{put_text, put_words};
 use dr_base::Text;
+use dr_base_quoted::{put_text, put_words};
 use std::alloc::AllocError;
 
 /// Adds a figure of the whole node.

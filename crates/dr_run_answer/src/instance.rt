@@ -5,8 +5,8 @@ ghost use Rattle.dr_run_answer.specs.Answers.{from_line, last_try, own_row_line,
 ghost use Rattle.dr_run_answer.specs.Answers.{tried_part};
 
 use crate::json::{put_named, put_number, put_progress};
-use crate::quoted::put_text;
 use dr_base::Text;
+use dr_base_quoted::put_text;
 use dr_ledger::Progress;
 use std::alloc::AllocError;
 

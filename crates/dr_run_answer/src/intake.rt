@@ -5,8 +5,8 @@ ghost use Rattle.dr_run_answer.specs.Answers.{bytes_figures, bytes_of, recent_li
 
 use crate::figures::{put_labelled, put_twice_labelled};
 use crate::json::{put_named, put_number};
-use crate::quoted::put_text;
 use dr_base::Text;
+use dr_base_quoted::put_text;
 use std::alloc::AllocError;
 
 /// What a caller has brought since the node serves: how many instances that were new, were there

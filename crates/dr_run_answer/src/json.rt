@@ -5,8 +5,8 @@ ghost use Rattle.dr_run_answer.specs.Answers.{flag, held_part, instance_line, la
 ghost use Rattle.dr_run_answer.specs.Answers.{line_of_node, line_of_queue, number, progress_part};
 ghost use Rattle.dr_run_answer.specs.Answers.{row_line, visit_part, waiting_part, well_line, word};
 
-use crate::quoted::{put_quoted, put_text};
 use dr_base::Text;
+use dr_base_quoted::{put_quoted, put_text};
 use dr_ledger::{Cause, Progress};
 use std::alloc::AllocError;
 

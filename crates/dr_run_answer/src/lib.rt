@@ -20,7 +20,6 @@ mod json;
 pub mod laws;
 pub mod noted;
 mod page;
-mod quoted;
 
 pub use association::{OpenAssociation, put_associations};
 pub use figures::{put_figures, put_open, put_queues, put_visits};
@@ -31,4 +30,3 @@ pub use json::{
     put_node, put_queue, put_row, put_well,
 };
 pub use page::put_rows;
-pub use quoted::put_quoted;

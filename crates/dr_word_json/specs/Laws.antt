@@ -10,4 +10,4 @@ FiguresAreRight =
     × (document
     (codes "no" ++ (9 ∷ codes "DeadEnd") ++ (10 ∷ []) ++ codes "CT1" ++ (9 ∷ []) ++ (10 ∷ []))
     ≡ codes "[[\"no\",\"DeadEnd\"]," ++ (10 ∷ []) ++ codes "[\"CT1\",\"\"]]" ++ (10 ∷ []))
-    × (document (codes "a\"b" ++ (10 ∷ [])) ≡ codes "[[\"a\\u0022b\"]]" ++ (10 ∷ []))
+    × (document (codes "a\"b" ++ (10 ∷ [])) ≡ codes "[[\"a\\\"b\"]]" ++ (10 ∷ []))

@@ -2,8 +2,8 @@
 ghost use Rattle.std.specs.Prelude.{◌≡◌, ◌++◌, IfOk, OnOk, flat_map};
 ghost use Rattle.dr_word_json.specs.Documents.{document, part_of};
 
-use crate::quoting::put_quoted_byte;
 use dr_base::Text;
+use dr_base_quoted::put_quoted_byte;
 use std::alloc::{AllocError, Global};
 
 const TAB: u8 = 9;

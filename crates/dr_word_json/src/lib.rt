@@ -6,7 +6,6 @@
 
 mod document;
 pub mod laws;
-mod quoting;
 mod run;
 
 pub use document::document_of;

@@ -1,7 +1,7 @@
 use Rattle.std.proofs.Common.{◌++◌}
 use Rattle.std.specs.Prelude.{codes}
 use Rattle.dr_run_answer.specs.Answers.{ended}
-use Rattle.dr_run_answer.specs.Quoting.{quoted}
+use Rattle.dr_base_quoted.specs.Quoting.{quoted}
 use Rattle.dr_run_answer.proofs.Chained.{chained}
 use Rattle.dr_run_answer.proofs.json.put_late.Goals as goal
 

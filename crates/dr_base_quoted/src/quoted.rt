@@ -1,6 +1,6 @@
 //! Texts between quotes.
 ghost use Rattle.std.specs.Prelude.{◌≡◌, ◌<◌, ◌++◌, ◌/◌, ◌%◌, ◌∷◌, [], OnOk, flat_map};
-ghost use Rattle.dr_run_answer.specs.Quoting.{hex_digit, is_plain, quoted, quoted_byte};
+ghost use Rattle.dr_base_quoted.specs.Quoting.{hex_digit, is_plain, quoted, quoted_byte};
 
 use dr_base::Text;
 use std::alloc::AllocError;
@@ -47,7 +47,8 @@ fn put_hex(out: &mut Vec<u8>, byte: u8) -> Result<(), AllocError>
     Ok(())
 }
 
-fn put_byte(out: &mut Vec<u8>, byte: u8) -> Result<(), AllocError>
+/// Adds a byte as it stands between quotes.
+pub fn put_quoted_byte(out: &mut Vec<u8>, byte: u8) -> Result<(), AllocError>
     ensures { OnOk result (out.new.items ≡ out.old.items ++ quoted_byte byte) }
 {
     if is_plain(byte) {
@@ -67,7 +68,7 @@ fn put_bytes(out: &mut Vec<u8>, bytes: &[u8]) -> Result<(), AllocError>
     ensures { OnOk result (out.new.items ≡ out.old.items ++ flat_map quoted_byte bytes.now) }
 {
     for byte in bytes {
-        put_byte(out, *byte)?;
+        put_quoted_byte(out, *byte)?;
     }
     Ok(())
 }
@@ -83,14 +84,14 @@ pub fn put_quoted(out: &mut Vec<u8>, bytes: &[u8]) -> Result<(), AllocError>
 }
 
 /// The same of a `Text`.
-pub(crate) fn put_text(out: &mut Vec<u8>, text: &Text) -> Result<(), AllocError>
+pub fn put_text(out: &mut Vec<u8>, text: &Text) -> Result<(), AllocError>
     ensures { OnOk result (out.new.items ≡ out.old.items ++ quoted text.now) }
 {
     put_quoted(out, text.as_bytes())
 }
 
 /// The same of words.
-pub(crate) fn put_words(out: &mut Vec<u8>, words: &str) -> Result<(), AllocError>
+pub fn put_words(out: &mut Vec<u8>, words: &str) -> Result<(), AllocError>
     ensures { OnOk result (out.new.items ≡ out.old.items ++ quoted words.now) }
 {
     put_quoted(out, words.as_bytes())

@@ -1,0 +1,11 @@
+-- Laws of texts between quotes.
+use Rattle.std.specs.Prelude.{◌≡◌, [], ◌∷◌, ◌++◌, codes}
+use Rattle.dr_base_quoted.specs.Quoting.{quoted}
+
+-- figures: no byte; plain ones; a quote and a backslash; a line feed, a tab and a byte above 127
+abbrev pub FiguresAreRight : Type 0
+FiguresAreRight =
+    (quoted [] ≡ codes "\"\"")
+    × (quoted (codes "1.2 CT~") ≡ codes "\"1.2 CT~\"")
+    × (quoted (codes "a\"b\\") ≡ codes "\"a\\\"b\\\\\"")
+    × (quoted (10 ∷ 9 ∷ 200 ∷ []) ≡ codes "\"\\n\\u0009\\u00c8\"")
