@@ -109,6 +109,7 @@ def archive(program, says, at):
     files = {
         "dr_router": (program, 0o755),
         "STATEMENT": (says, 0o644),
+        "dr_router-backup": (part("dr_router-backup"), 0o755),
         **{it: (part(it), 0o644) for it in ("dr_router@.service", "dr_router.1", "dr_router.bash", "alerts.yml")},
         **guide(),
     }
@@ -128,6 +129,7 @@ def installed(program, says):
     """What the package puts where."""
     files = {
         "usr/bin/dr_router": (program, 0o755),
+        "usr/bin/dr_router-backup": (part("dr_router-backup"), 0o755),
         "usr/lib/systemd/system/dr_router@.service": (unit(), 0o644),
         "usr/share/man/man1/dr_router.1.gz": (packed(part("dr_router.1")), 0o644),
         "usr/share/bash-completion/completions/dr_router": (part("dr_router.bash"), 0o644),

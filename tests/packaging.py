@@ -346,7 +346,7 @@ def installation():
         ledgers = contents(f'{root.folder}/var/lib/dr_router')
         for word in '-r', '-P':
             root.dpkg(word, 'bitrusset')
-            same(os.path.exists(f'{root.folder}/usr/bin/dr_router'), False)
+            same([os.path.exists(f'{root.folder}/usr/bin/{it}') for it in ('dr_router', 'dr_router-backup')], [False, False])
             same(contents(f'{root.folder}/var/lib/dr_router') == ledgers, True)
             same(sorted(os.listdir(f'{root.folder}/etc/dr_router')), ['certificate', 'plan.toml'])
         same(os.path.exists(f'{root.folder}/usr/share/doc/bitrusset'), False)
