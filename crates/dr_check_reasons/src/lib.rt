@@ -6,6 +6,6 @@ mod remedy;
 mod sender;
 mod wording;
 
-pub use remedy::{Remedy, remedy_of};
-pub use sender::{Sender, holding_rule, sender_of};
+pub use remedy::Remedy;
+pub use sender::Sender;
 pub use wording::describe;

@@ -20,10 +20,9 @@ pub mod settling;
 mod writing;
 
 pub use adopting::adopt;
-pub use arriving::{bring_item, bring_new, repeat};
 pub use dropping::give_up;
 pub use forgetting::{forget, is_over};
 pub use knowing::{Known, know};
 pub use plan::NewPlan;
-pub use receiving::{arrive, receive};
+pub use receiving::arrive;
 pub use settling::{requeue, settle};

@@ -10,8 +10,7 @@ pub mod laws;
 pub mod moving;
 pub mod writing;
 
-pub use arriving::{Repeating, add_rows, add_targets, keep, note_arrival, renew_rows, store};
-pub use bodies::{let_go, take_back};
+pub use arriving::Repeating;
 pub use dropping::Dropping;
 pub use first::{Arriving, Taking};
 pub use forgetting::Forgetting;
