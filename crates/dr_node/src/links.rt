@@ -81,7 +81,7 @@ impl Model for Links {
     ghost use Rattle.std.specs.Coded.{coded_ℕ};
     ghost use Rattle.std.specs.FinMap as maps;
     ghost use Rattle.dr_node.specs.Sides.{Sides};
-    ghost use Rattle.dr_node.specs.contracts.links.Side as side;
+    ghost use Rattle.dr_node.specs.contracts.links.LinkSide as side;
 
     ghost Value = { Sides };
 

@@ -30,7 +30,7 @@ use Rattle.dr_world_audit.specs.Comparing.{IsUnanswered, IsUnsent}
 use Rattle.dr_world_audit.specs.Hops.{held, hop_of}
 use Rattle.dr_world_audit.specs.Sites.{AreApart, DoesHold, DoesNotHold, IsForNoReason, IsNotThere, IsUnfair, Shows, Tells, TellsNode, all_came, all_done, all_of, all_sent, books_of, is_fair, lines_at, names, ours_of}
 use Rattle.dr_world_audit.specs.Stops.{Compares}
-use Rattle.dr_world_audit.specs.contracts.hop.HopOrd.TheImpl.Laws as hop_laws
+use Rattle.dr_world_audit.specs.contracts.hop.AuditHopOrd.TheImpl.Laws as hop_laws
 use Rattle.dr_world_audit.proofs.Named.{book_is, named_in, others_are_empty, ours_found, ours_in}
 use Rattle.dr_world_audit.proofs.Sets.{hop_cmp, hop_exact}
 use Rattle.dr_world_audit.proofs.Stopping.{is_fair_of, mapped_from, mapped_has}

@@ -22,8 +22,8 @@ use Rattle.dr_route.specs.contracts.key.KeyOrd.TheImpl as keys
 use Rattle.dr_ledger.proofs.Maps.{texts}
 use Rattle.dr_world_model.proofs.Lookups.{numbers}
 use Rattle.dr_world_audit.specs.declared.hop.AuditHop.{AuditHop}
-use Rattle.dr_world_audit.specs.contracts.hop.HopOrd.TheImpl as hops
-use Rattle.dr_world_audit.specs.contracts.hop.HopOrd.TheImpl.Laws as hop_laws
+use Rattle.dr_world_audit.specs.contracts.hop.AuditHopOrd.TheImpl as hops
+use Rattle.dr_world_audit.specs.contracts.hop.AuditHopOrd.TheImpl.Laws as hop_laws
 
 abbrev pub hop_cmp : AuditHop → AuditHop → Ordering
 hop_cmp = hops.cmp-value.it

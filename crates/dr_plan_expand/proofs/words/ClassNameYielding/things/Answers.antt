@@ -1,6 +1,6 @@
 use Rattle.std.proofs.Common.{refl, ◌∙◌, ap, inl, inr, [], ◌∷◌}
 use Rattle.std.proofs.lemmas.Bool.{false≢true}
-use Rattle.dr_plan_expand.proofs.words.ClassYielding.things.Goals as goal
+use Rattle.dr_plan_expand.proofs.words.ClassNameYielding.things.Goals as goal
 
 pub returns-then-is_class-clause-ok : goal.returns-then-is_class-clause-ok
 returns-then-is_class-clause-ok c = (c.args.word.now, inl (rw c.as_bytes.ensures at (c.if-is_class.ensures.0 refl), refl), c.in_ok-one.ensures ∙ ap (λ t. t ∷ []) c.as_bytes-then-is_class.ensures)

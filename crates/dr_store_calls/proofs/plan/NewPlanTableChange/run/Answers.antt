@@ -4,7 +4,7 @@ use Rattle.dr_store_changes.specs.Writing.{IsMade}
 use Rattle.dr_store_changes.proofs.Steps.{as_done, one_then}
 use Rattle.dr_store_calls.specs.Adoptions.{Adopts, Clears, NotesPlan}
 use Rattle.dr_store_calls.proofs.Changes.{adopts, owned_still}
-use Rattle.dr_store_calls.proofs.plan.NewPlanChange.run.Goals as goal
+use Rattle.dr_store_calls.proofs.plan.NewPlanTableChange.run.Goals as goal
 
 pub returns-clause-step : goal.returns-clause-step
 returns-clause-step g c =
