@@ -42,6 +42,17 @@ impl From<TooManyPasses> for WorkersFault {
     }
 }
 
+/// What the workers share: the desk, who is told of what they do, and how much there is of each
+/// thing that they have to share.
+#[derive(Drop)]
+struct Workshop<'a, R: Wait, L: Ledger, B: Sharing, G: Gate> {
+    rt: &'a R,
+    alloc: Global,
+    desk: &'a SharedDesk<L, B>,
+    gate: &'a G,
+    bounds: &'a Bounds,
+}
+
 /// Runs up to n workers, 1 to 264, on the connections of a channel until it is closed and empty,
 /// and gives back n passes, one for each. All passes are made before any connection is taken. A
 /// worker's thread is started where none of those that have begun waits for a connection. Where the
@@ -82,15 +93,14 @@ pub fn workers<
         passes.push_reserved(pass);
     }
     let bounds = Bounds::new(memory);
-    start_as_needed(
+    let workshop = Workshop {
         rt,
         alloc,
         desk,
         gate,
-        connections,
-        &bounds,
-        passes.as_mut_slice(),
-    );
+        bounds: &bounds,
+    };
+    start_as_needed(&workshop, connections, passes.as_mut_slice());
     Ok(passes)
 }
 
@@ -104,37 +114,25 @@ fn start_as_needed<
     C: Clock + Drop + Send,
     G: Gate + Sync,
 >(
-    rt: &R,
-    alloc: Global,
-    desk: &SharedDesk<L, B>,
-    gate: &G,
+    workshop: &Workshop<'_, R, L, B, G>,
     connections: &Receiver<Connection<K, C>>,
-    bounds: &Bounds,
     passes: &mut [Pass<B>],
 ) {
     thread::scope(
         thread::scope_env(),
-        rt,
+        workshop.rt,
         move |scope|
             requires { IsSync R.row × IsSend L.row × IsSend B.row × IsSync B.row × IsSend K.row
                 × IsSend C.row × IsSync G.row }
         {
             let mut begun = 0usize;
             for pass in passes {
-                if !bounds.staff.admit(rt) {
+                if !workshop.bounds.staff.admit(workshop.rt) {
                     return;
                 }
-                let started = scope.spawn(move || work(
-                    rt,
-                    alloc,
-                    desk,
-                    gate,
-                    connections,
-                    bounds,
-                    pass,
-                ));
+                let started = scope.spawn(move || work(workshop, connections, pass));
                 if let Err(refused) = started {
-                    gate.lacks(begun);
+                    workshop.gate.lacks(begun);
                     (refused.value)();
                     return;
                 }
@@ -146,31 +144,24 @@ fn start_as_needed<
 
 /// Serves until the channel is closed and empty.
 fn work<R: Wait + time::Clock, L: Ledger, B: Sharing, K: Link + Drop, C: Clock + Drop, G: Gate>(
-    rt: &R,
-    alloc: Global,
-    desk: &SharedDesk<L, B>,
-    gate: &G,
+    workshop: &Workshop<'_, R, L, B, G>,
     connections: &Receiver<Connection<K, C>>,
-    bounds: &Bounds,
     pass: &mut Pass<B>,
 ) {
+    let (rt, staff) = (workshop.rt, &workshop.bounds.staff);
     for connection in connections.iter(rt) {
-        bounds.staff.take(rt);
-        serve(rt, alloc, desk, gate, connection, bounds, pass);
-        bounds.staff.give_back(rt);
+        staff.take(rt);
+        serve(workshop, connection, pass);
+        staff.give_back(rt);
     }
-    bounds.staff.end(rt);
+    staff.end(rt);
 }
 
 /// Serves one connection to its end, however the session ends. The session counts from this moment,
 /// and its length from that at which the connection came.
 fn serve<R: Wait + time::Clock, L: Ledger, B: Sharing, K: Link + Drop, C: Clock + Drop, G: Gate>(
-    rt: &R,
-    alloc: Global,
-    desk: &SharedDesk<L, B>,
-    gate: &G,
+    workshop: &Workshop<'_, R, L, B, G>,
     connection: Connection<K, C>,
-    bounds: &Bounds,
     pass: &mut Pass<B>,
 ) {
     let Connection {
@@ -178,13 +169,11 @@ fn serve<R: Wait + time::Clock, L: Ledger, B: Sharing, K: Link + Drop, C: Clock 
         link,
         clock,
     } = connection;
-    gate.at(session, Point::Taken);
+    workshop.gate.at(session, Point::Taken);
     let counts = SessionCounts::new();
     let opened = link.opened();
-    let ended = receive_gated(
-        rt, alloc, desk, gate, session, link, &clock, &counts, bounds, pass,
-    );
-    gate.ended(
+    let ended = receive_gated(workshop, session, link, &clock, &counts, pass);
+    workshop.gate.ended(
         session,
         ended,
         counts.tally(clock.now().saturating_sub(opened)),
@@ -209,17 +198,15 @@ fn counted_from(taken: u64, awaits: u64) -> u64
 /// A session behind a gate. What came first is answered in its turn at the door; who was let in is
 /// counted out when the session has ended.
 fn receive_gated<R: Wait + time::Clock, L: Ledger, B: Sharing, K: Link + Drop, C: Clock, G: Gate>(
-    rt: &R,
-    alloc: Global,
-    desk: &SharedDesk<L, B>,
-    gate: &G,
+    workshop: &Workshop<'_, R, L, B, G>,
     session: u64,
     link: K,
     clock: &C,
     counts: &SessionCounts,
-    bounds: &Bounds,
     pass: &mut Pass<B>,
 ) -> Result<Ended, SessionFault> {
+    let (rt, alloc, desk) = (workshop.rt, workshop.alloc, workshop.desk);
+    let (gate, bounds) = (workshop.gate, workshop.bounds);
     let (mut link, taken) = (link, clock.now());
     let ahead = ahead_of(alloc, &mut link, gate, clock, taken);
     let request = request_in(alloc, &ahead);

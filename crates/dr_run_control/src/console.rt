@@ -149,64 +149,6 @@ fn goes(hops: &[NextHop], order: &Order) -> bool
     }
 }
 
-/// Does what is ordered.
-fn do_order<R: Wait, L: Views, B: Sharing, C: Clock, H: House>(
-    rt: &R,
-    alloc: Global,
-    desk: &SharedDesk<L, B>,
-    pass: &mut Pass<B>,
-    hops: &[NextHop],
-    clock: &C,
-    house: &H,
-    order: &Order,
-    reason: Option<&Text>,
-) -> HttpReply
-    ensures { Comes L.site L.book L.stands L.failed B.site B.first
-        hops.now order.now result.status result.text.items pass.old.made.count
-        pass.old.receipts.items pass.new.made.count pass.new.receipts.items }
-{
-    if goes(hops, order) {
-        let answer = act(rt, alloc, desk, pass, order, clock.now());
-        house.acted(order, reason, answer.err());
-        return answered(alloc, answer);
-    }
-    nowhere(alloc)
-}
-
-/// Does what the form of a route orders.
-fn obey<R: Wait, L: Views, B: Sharing, C: Clock, H: House>(
-    rt: &R,
-    alloc: Global,
-    desk: &SharedDesk<L, B>,
-    pass: &mut Pass<B>,
-    hops: &[NextHop],
-    clock: &C,
-    house: &H,
-    route: Route,
-    form: &[u8],
-) -> HttpReply
-    ensures { Tells L.site L.book L.stands L.failed B.site B.first
-        hops.now route form.now result.status result.text.items pass.old.made.count
-        pass.old.receipts.items pass.new.made.count pass.new.receipts.items }
-{
-    let order = match order_of(alloc, route, form) {
-        Ok(order) => order,
-        Err(fault) => return misread(alloc, fault),
-    };
-    let reason = reason_of(alloc, form).unwrap_or(None);
-    do_order(
-        rt,
-        alloc,
-        desk,
-        pass,
-        hops,
-        clock,
-        house,
-        &order,
-        reason.as_ref(),
-    )
-}
-
 /// Whether the node is told what to do by a form.
 fn gives_order(route: Route) -> bool
     ensures { result ≡ gives_order route }
@@ -255,6 +197,43 @@ impl<'a, R: Wait, L: Views, B: Sharing, C: Clock, H: House> Console<'a, R, L, B,
 }
 
 impl<'a, R: Wait, L: Views, B: Sharing, C: Clock, H: House> Console<'a, R, L, B, C, H> {
+    /// Does what is ordered.
+    fn do_order(&mut self, order: &Order, reason: Option<&Text>) -> HttpReply
+        ensures comes { Comes L.site L.book L.stands L.failed B.site B.first
+            self.old.hops.now order.now result.status result.text.items
+            self.old.pass.now.made.count self.old.pass.now.receipts.items
+            self.new.pass.now.made.count self.new.pass.now.receipts.items }
+        ensures access { (self.new.access.now ≡ self.old.access.now)
+            × (self.new.browser.now ≡ self.old.browser.now)
+            × (self.new.hops.now ≡ self.old.hops.now) }
+    {
+        if goes(self.hops, order) {
+            let (rt, desk, now) = (self.rt, self.desk, self.clock.now());
+            let answer = act(rt, self.alloc, desk, self.pass, order, now);
+            self.house.acted(order, reason, answer.err());
+            return answered(self.alloc, answer);
+        }
+        nowhere(self.alloc)
+    }
+
+    /// Does what the form of a route orders.
+    fn obey(&mut self, route: Route, form: &[u8]) -> HttpReply
+        ensures tells { Tells L.site L.book L.stands L.failed B.site B.first
+            self.old.hops.now route form.now result.status result.text.items
+            self.old.pass.now.made.count self.old.pass.now.receipts.items
+            self.new.pass.now.made.count self.new.pass.now.receipts.items }
+        ensures access { (self.new.access.now ≡ self.old.access.now)
+            × (self.new.browser.now ≡ self.old.browser.now)
+            × (self.new.hops.now ≡ self.old.hops.now) }
+    {
+        let order = match order_of(self.alloc, route, form) {
+            Ok(order) => order,
+            Err(fault) => return misread(self.alloc, fault),
+        };
+        let reason = reason_of(self.alloc, form).unwrap_or(None);
+        self.do_order(&order, reason.as_ref())
+    }
+
     /// The reply to a request: an order is done where it may, and what mayn't is refused.
     fn answer(&mut self, request: &Request<Bytes>) -> HttpReply
         ensures answers { Answers L.site L.book L.stands L.failed B.site B.first
@@ -274,17 +253,7 @@ impl<'a, R: Wait, L: Views, B: Sharing, C: Clock, H: House> Console<'a, R, L, B,
             }
         };
         if gives_order(route) {
-            return obey(
-                self.rt,
-                self.alloc,
-                self.desk,
-                self.pass,
-                self.hops,
-                self.clock,
-                self.house,
-                route,
-                request.body().as_slice(),
-            );
+            return self.obey(route, request.body().as_slice());
         }
         self.look(route, request)
     }

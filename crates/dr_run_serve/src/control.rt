@@ -2,8 +2,9 @@
 //! act.
 use crate::caller::{ANSWERED, ASKED, CallerInput, Outgoing, drain};
 use crate::events::{tell_act, tell_refused, tell_told_to_stop};
+use crate::live::LiveNode;
 use crate::signal::Signal;
-use crate::stop::StopSign;
+use crate::stop::{StopSign, Terms};
 use dr_base::Text;
 use dr_desk::{Pass, SharedDesk, Sharing};
 use dr_desk_workers::WorkersFault;
@@ -11,7 +12,6 @@ use dr_ledger::LedgerFault;
 use dr_ledger_views::Views;
 use dr_run_answer::{Visited, Visits};
 use dr_run_control::{Around, Console, House, talk};
-use dr_run_open::NextHop;
 use dr_run_request::{Access, Browser, Order, Refused};
 use dr_session::Clock;
 use log::Log;
@@ -167,27 +167,16 @@ fn browser_of(alloc: Global, port: &ControlPort) -> Option<Browser> {
     }
 }
 
-/// What those who ask are shown of the node, beside its desk: where it sends, and since when it
-/// serves, in milliseconds.
-#[derive(Clone, Copy)]
-pub struct View<'a> {
-    pub hops: &'a [NextHop],
-    pub since: u64,
-}
-
 /// Answers one who asks, and lets go of the connection. Whether it was answered well.
 fn answer_caller<R: Wait, L: Views, B: Sharing, C: Clock, G: Log>(
-    rt: &R,
-    alloc: Global,
-    desk: &SharedDesk<L, B>,
+    node: &LiveNode<'_, R, L, B, C, G>,
     pass: &mut Pass<B>,
-    view: View<'_>,
     port: &ControlPort,
     browser: &Option<Browser>,
     house: &Home<'_, R, G>,
-    clock: &C,
     stream: &TcpStream,
 ) -> bool {
+    let (alloc, clock) = (node.alloc, node.clock);
     let now = clock.now();
     let mut incoming = CallerInput {
         stream,
@@ -201,15 +190,15 @@ fn answer_caller<R: Wait, L: Views, B: Sharing, C: Clock, G: Log>(
         well: false,
     };
     let mut console = Console {
-        rt,
+        rt: node.rt,
         alloc,
-        desk,
+        desk: node.desk,
         pass,
         access: &port.access,
         browser,
-        hops: view.hops,
+        hops: node.hops,
         version: port.version,
-        since: view.since,
+        since: house.since,
         clock,
         house,
     };
@@ -222,16 +211,13 @@ fn answer_caller<R: Wait, L: Views, B: Sharing, C: Clock, G: Log>(
 
 /// Answers those who ask, one after the other, until nobody is accepted any more.
 fn answer_callers<R: Wait + time::Clock, L: Views, B: Sharing, C: Clock, G: Log>(
-    rt: &R,
-    alloc: Global,
-    desk: &SharedDesk<L, B>,
+    node: &LiveNode<'_, R, L, B, C, G>,
     pass: &mut Pass<B>,
-    view: View<'_>,
     port: &ControlPort,
     browser: &Option<Browser>,
     house: &Home<'_, R, G>,
-    clock: &C,
 ) {
+    let rt = node.rt;
     for _ in rt.forever() {
         let came = port.listener.accept();
         if port.is_closed() {
@@ -239,9 +225,7 @@ fn answer_callers<R: Wait + time::Clock, L: Views, B: Sharing, C: Clock, G: Log>
         }
         match came {
             Ok((stream, _)) => {
-                let well = answer_caller(
-                    rt, alloc, desk, pass, view, port, browser, house, clock, &stream,
-                );
+                let well = answer_caller(node, pass, port, browser, house, &stream);
                 drop(stream);
                 if !well {
                     thread::sleep(rt, Duration::from_millis(REST));
@@ -253,7 +237,7 @@ fn answer_callers<R: Wait + time::Clock, L: Views, B: Sharing, C: Clock, G: Log>
 }
 
 /// Answers all who ask, each in one of so many threads as there are passes, until nobody is
-/// accepted any more.
+/// accepted any more. They are told since when the node serves, in milliseconds.
 pub fn answer_all<
     R: Threads + Wait + Sync + time::Clock,
     L: Views + Drop + Send,
@@ -261,18 +245,12 @@ pub fn answer_all<
     C: Clock + Sync,
     G: Log + Sync,
 >(
-    rt: &R,
-    alloc: Global,
-    desk: &SharedDesk<L, B>,
+    node: &LiveNode<'_, R, L, B, C, G>,
     passes: Vec<Pass<B>>,
-    view: View<'_>,
-    port: Option<&ControlPort>,
-    signal: &Signal,
-    stop: &StopSign,
-    clock: &C,
-    log: &G,
+    since: u64,
+    terms: Terms<'_>,
 ) -> Vec<Pass<B>> {
-    let Some(port) = port else {
+    let Some(port) = terms.control else {
         return passes;
     };
     let mut passes = passes;
@@ -281,19 +259,19 @@ pub fn answer_all<
         return passes;
     }
     let house = Home {
-        rt,
-        alloc,
-        signal,
-        stop,
-        log,
-        since: view.since,
+        rt: node.rt,
+        alloc: node.alloc,
+        signal: node.signal,
+        stop: terms.stop,
+        log: node.log,
+        since,
     };
-    let browser = browser_of(alloc, port);
+    let browser = browser_of(node.alloc, port);
     thread::for_each_mut(
-        rt,
+        node.rt,
         passes.as_mut_slice(),
         count,
-        &|_, pass| { answer_callers(rt, alloc, desk, pass, view, port, &browser, &house, clock) },
+        &|_, pass| { answer_callers(node, pass, port, &browser, &house) },
     );
     passes
 }

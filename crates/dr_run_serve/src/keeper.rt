@@ -1,17 +1,16 @@
 //! The one who tells of a node, has it forget what is over, and ends it where its store is shut.
 use crate::events::tell_threads;
+use crate::live::LiveNode;
 use crate::monitor::Monitor;
 use crate::reporting::{LastTold, report_changes};
 use crate::shutting::{EndStage, Wake};
 use crate::signal::{BEGIN, News};
 use crate::sweeper::Sweeper;
-use dr_desk::{SharedDesk, Sharing};
+use dr_desk::Sharing;
 use dr_ledger_views::Views;
 use dr_run_net::{Listening, Network};
-use dr_run_open::NextHop;
 use dr_session::Clock;
 use log::Log;
-use std::alloc::Global;
 use std::sync::Wait;
 use std::time;
 
@@ -40,16 +39,12 @@ pub fn keep<
     C: Clock,
     G: Monitor,
 >(
-    rt: &R,
-    alloc: Global,
-    desk: &SharedDesk<L, B>,
-    hops: &[NextHop],
+    node: &LiveNode<'_, R, L, B, C, G>,
     senders: usize,
     sweeper: Sweeper<B>,
     wake: &Wake<'_, D, N>,
-    clock: &C,
-    log: &G,
 ) -> Sweeper<B> {
+    let (rt, clock, log) = (node.rt, node.clock, node.log);
     let mut sweeper = sweeper;
     if !wake.signal.has_begun(rt, BEGIN) {
         return sweeper;
@@ -58,16 +53,16 @@ pub fn keep<
     for _ in rt.forever() {
         let now = clock.now();
         stage = wake.stops(rt, stage, now, log);
-        told = report_changes(rt, alloc, desk, hops, told, now, false, log);
+        told = report_changes(node, told, now, false);
         if stage == EndStage::Serving {
-            sweeper.turn(rt, alloc, desk, wake.signal, now, log);
+            sweeper.turn(node, now);
         }
         let news = wake.signal.wait(rt, TURN);
-        if news.doubts && wake.ends(rt, desk, log) {
+        if news.doubts && wake.ends(rt, node.desk, log) {
             return sweeper;
         }
         if news.over && news.sent {
-            report_changes(rt, alloc, desk, hops, told, clock.now(), true, log);
+            report_changes(node, told, clock.now(), true);
             return sweeper;
         }
         looks = looks.saturating_add(1);

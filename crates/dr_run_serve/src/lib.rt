@@ -29,6 +29,7 @@ mod control;
 mod events;
 mod intake;
 mod keeper;
+mod live;
 mod monitor;
 mod open;
 mod reporting;
@@ -47,6 +48,7 @@ mod visit;
 mod watch;
 
 pub use control::ControlPort;
+pub use live::Means;
 pub use monitor::{FileMonitor, Monitor};
 pub use sending::visit_each;
 pub use serving::{ServeFault, serve};

@@ -1,5 +1,6 @@
 //! What is told of a running node now and then: a report of what it has, and a summary in the log.
 use crate::events::{tell_holdings, tell_queue, tell_unread, tell_unwritten};
+use crate::live::LiveNode;
 use crate::monitor::Monitor;
 use dr_base::Text;
 use dr_desk::{Holdings, SharedDesk, Sharing};
@@ -7,6 +8,7 @@ use dr_ledger::{Ledger, LedgerFault};
 use dr_ledger_report::report_text;
 use dr_ledger_views::{HopTally, Views};
 use dr_run_open::NextHop;
+use dr_session::Clock;
 use log::{Level, Log, log_enabled};
 use std::alloc::Global;
 use std::io;
@@ -91,15 +93,12 @@ fn tell_queues<G: Log>(hops: &[NextHop], tallies: &[HopTally], log: &G) {
 /// stage: all of it, or nothing. How many lines the journal had then.
 ///
 /// Errors: Store, Memory.
-fn summarize<R: Wait, L: Views, B: Sharing, G: Log>(
-    rt: &R,
-    alloc: Global,
-    desk: &SharedDesk<L, B>,
-    hops: &[NextHop],
-    log: &G,
+fn summarize<R: Wait, L: Views, B: Sharing, C: Clock, G: Log>(
+    node: &LiveNode<'_, R, L, B, C, G>,
 ) -> Result<u64, LedgerFault> {
-    let totals = desk.totals(rt)?;
-    let tallies = tallies_of(rt, alloc, desk, hops)?;
+    let (hops, log) = (node.hops, node.log);
+    let totals = node.desk.totals(node.rt)?;
+    let tallies = tallies_of(node.rt, node.alloc, node.desk, hops)?;
     tell_holdings(log, totals.arrivals, totals.kept, totals.lines);
     tell_queues(hops, tallies.as_slice(), log);
     Ok(totals.lines)
@@ -127,20 +126,18 @@ fn report<G: Monitor>(
 
 /// Reports what the node has; how many lines the journal had then. None where that couldn't be
 /// read or written.
-fn try_report<R: Wait, L: Ledger, B: Sharing, G: Monitor>(
-    rt: &R,
-    alloc: Global,
-    desk: &SharedDesk<L, B>,
-    monitor: &G,
+fn try_report<R: Wait, L: Ledger, B: Sharing, C: Clock, G: Monitor>(
+    node: &LiveNode<'_, R, L, B, C, G>,
 ) -> Option<u64> {
-    let holdings = match desk.holdings(rt) {
+    let (desk, monitor) = (node.desk, node.log);
+    let holdings = match desk.holdings(node.rt) {
         Ok(holdings) => holdings,
         Err(fault) => {
             tell_unread(monitor, fault);
             return None;
         }
     };
-    match report(alloc, desk.site().name(), &holdings, monitor) {
+    match report(node.alloc, desk.site().name(), &holdings, monitor) {
         Ok(()) => Some(holdings.lines),
         Err(error) => {
             tell_unwritten(monitor, &error);
@@ -151,21 +148,17 @@ fn try_report<R: Wait, L: Ledger, B: Sharing, G: Monitor>(
 
 /// Tells of the node if its journal has grown since it was told of last, and it is time to. What
 /// couldn't be read or written is tried again as late as the next report.
-pub fn report_changes<R: Wait, L: Views, B: Sharing, G: Monitor>(
-    rt: &R,
-    alloc: Global,
-    desk: &SharedDesk<L, B>,
-    hops: &[NextHop],
+pub fn report_changes<R: Wait, L: Views, B: Sharing, C: Clock, G: Monitor>(
+    node: &LiveNode<'_, R, L, B, C, G>,
     told: LastTold,
     now: u64,
     is_over: bool,
-    monitor: &G,
 ) -> LastTold {
-    let mut told = told;
-    let lines = desk.line_count(rt);
+    let (mut told, monitor) = (told, node.log);
+    let lines = node.desk.line_count(node.rt);
     let is_logged = log_enabled!(monitor; target: "node", Level::Info);
     if is_logged && told.summary.is_due(lines, now, is_over) {
-        told.summary = match summarize(rt, alloc, desk, hops, monitor) {
+        told.summary = match summarize(node) {
             Ok(lines) => Telling {
                 lines: Some(lines),
                 next: now.saturating_add(MINUTE),
@@ -178,7 +171,7 @@ pub fn report_changes<R: Wait, L: Views, B: Sharing, G: Monitor>(
     }
     if monitor.wants_reports() && told.report.is_due(lines, now, is_over) {
         told.report = told.report.later(now);
-        if let Some(lines) = try_report(rt, alloc, desk, monitor) {
+        if let Some(lines) = try_report(node) {
             told.report.lines = Some(lines);
         }
     }

@@ -3,10 +3,11 @@ ghost use Rattle.std.specs.Prelude.{◌≡◌, ◌↔◌, IsTrue, max, true};
 ghost use Rattle.dr_run_serve.specs.Rests.{IsVisited, rest_end};
 
 use crate::events::{tell_visit, word_of_visit};
+use crate::live::LiveNode;
 use crate::rest::Rest;
 use crate::resting::rest_after;
 use crate::shutting::is_shut;
-use crate::signal::{BEGIN, Signal};
+use crate::signal::BEGIN;
 use crate::tallied::{SharedPort, Tallied};
 use crate::visit::{Visit, visit_hop};
 use dr_base::Text;
@@ -17,7 +18,7 @@ use dr_run_net::Network;
 use dr_run_open::NextHop;
 use dr_session::Clock;
 use log::Log;
-use std::alloc::{AllocError, Global};
+use std::alloc::AllocError;
 use std::sync::Wait;
 use std::time;
 
@@ -74,33 +75,21 @@ fn next_due<R: Wait, L: Views, B: Sharing>(
 ///
 /// Errors: those of a visit.
 fn visit<R: Wait, L: Ledger, B: Sharing, N: Network, C: Clock, G: Log>(
-    rt: &R,
-    alloc: Global,
-    desk: &SharedDesk<L, B>,
+    node: &LiveNode<'_, R, L, B, C, G>,
+    network: &N,
     pass: &mut Pass<B>,
     hop: &NextHop,
-    signal: &Signal,
-    network: &N,
-    clock: &C,
-    log: &G,
 ) -> Result<(Visit, u64), LedgerFault> {
+    let (rt, desk, log) = (node.rt, node.desk, node.log);
     let before = pass.count();
     let mut port = SharedPort {
         rt,
         desk,
         pass,
-        signal,
+        signal: node.signal,
         log,
     };
-    let visited = visit_hop(
-        alloc,
-        desk.site(),
-        &hop.dest,
-        &hop.address,
-        network,
-        &mut port,
-        clock,
-    );
+    let visited = visit_hop(node.alloc, desk.site(), hop, network, &mut port, node.clock);
     let settled = port.tally().saturating_sub(before);
     if visited.is_err() && is_shut(rt, desk) {
         return Err(LedgerFault::Store);
@@ -113,45 +102,35 @@ fn visit<R: Wait, L: Ledger, B: Sharing, N: Network, C: Clock, G: Log>(
 ///
 /// Errors: those of a visit.
 fn send<R: Wait, L: Views, B: Sharing, N: Network, C: Clock, G: Log>(
-    rt: &R,
-    alloc: Global,
-    desk: &SharedDesk<L, B>,
-    sender: &mut HopSender<B>,
-    signal: &Signal,
+    node: &LiveNode<'_, R, L, B, C, G>,
     network: &N,
-    clock: &C,
-    log: &G,
+    sender: &mut HopSender<B>,
 ) -> Result<Option<&'static str>, LedgerFault> {
     let HopSender { pass, hop, rest } = sender;
-    let (visit, settled) = visit(rt, alloc, desk, pass, hop, signal, network, clock, log)?;
-    *rest = rest_after(*rest, &visit, settled, clock.now());
-    hop.due = next_due(rt, desk, &hop.dest)?;
+    let (visit, settled) = visit(node, network, pass, hop)?;
+    *rest = rest_after(*rest, &visit, settled, node.clock.now());
+    hop.due = next_due(node.rt, node.desk, &hop.dest)?;
     Ok(word_of_visit(&visit))
 }
 
 /// The same, and where that failed the hop is looked at again 1 s later, since it isn't known what
 /// is due.
 fn send_or_rest<R: Wait, L: Views, B: Sharing, N: Network, C: Clock, G: Log>(
-    rt: &R,
-    alloc: Global,
-    desk: &SharedDesk<L, B>,
-    sender: &mut HopSender<B>,
-    signal: &Signal,
+    node: &LiveNode<'_, R, L, B, C, G>,
     network: &N,
-    clock: &C,
-    log: &G,
+    sender: &mut HopSender<B>,
 ) -> Option<&'static str> {
-    match send(rt, alloc, desk, sender, signal, network, clock, log) {
+    match send(node, network, sender) {
         Ok(came) => {
             if came.is_some() {
-                signal.recover();
+                node.signal.recover();
             }
             came
         }
         Err(_) => {
             sender.hop.due = 0;
-            sender.rest = Rest::none().lengthened(clock.now());
-            signal.doubt(rt);
+            sender.rest = Rest::none().lengthened(node.clock.now());
+            node.signal.doubt(node.rt);
             Some("ledger")
         }
     }
@@ -197,16 +176,12 @@ fn hurry<B: Sharing>(sender: &mut HopSender<B>)
 /// one last visit. Where no worker ever begins, nothing is sent; where the node ends in order, or
 /// its store is shut, nothing more.
 pub fn send_rows<R: Wait + time::Clock, L: Views, B: Sharing, N: Network, C: Clock, G: Log>(
-    rt: &R,
-    alloc: Global,
-    desk: &SharedDesk<L, B>,
+    node: &LiveNode<'_, R, L, B, C, G>,
+    network: &N,
     sender: &mut HopSender<B>,
     number: usize,
-    signal: &Signal,
-    network: &N,
-    clock: &C,
-    log: &G,
 ) {
+    let (rt, signal, clock) = (node.rt, node.signal, node.clock);
     signal.count_sender(rt);
     let Some(bell) = signal.bell(number) else {
         return;
@@ -229,7 +204,7 @@ pub fn send_rows<R: Wait + time::Clock, L: Views, B: Sharing, N: Network, C: Clo
         }
         if is_visited(sender, call.over, clock.now()) {
             bell.begin_visit(rt);
-            let came = send_or_rest(rt, alloc, desk, sender, signal, network, clock, log);
+            let came = send_or_rest(node, network, sender);
             bell.end_visit(rt, came, clock.now());
         }
         if call.over {

@@ -28,7 +28,7 @@ pub fn visit_each<N: Network, P: Tallied, C: Clock>(
         hops.now port.old result port.new }
 {
     for hop in hops {
-        let _visited = visit_hop(alloc, site, &hop.dest, &hop.address, network, port, clock)?;
+        let _visited = visit_hop(alloc, site, hop, network, port, clock)?;
     }
     Ok(())
 }

@@ -5,9 +5,10 @@ ghost use Rattle.dr_desk.specs.Growing.{BeginWith};
 ghost use Rattle.dr_ledger.specs.Histories.{IsJournalled};
 ghost use Rattle.dr_ledger.specs.SiteRoutes.{site_routing};
 
-use crate::control::{View, answer_all, passes_of};
+use crate::control::{answer_all, passes_of};
 use crate::events::{tell_came, tell_unaccepted};
 use crate::keeper::keep;
+use crate::live::{Deployment, LiveNode, Means};
 use crate::monitor::Monitor;
 use crate::sender::{HopSender, send_rows};
 use crate::shutting::Wake;
@@ -170,15 +171,12 @@ fn serve_links<
     C: Clock + Sync,
     G: Log + Sync,
 >(
-    rt: &R,
-    alloc: Global,
-    desk: &SharedDesk<L, B>,
+    node: &LiveNode<'_, R, L, B, C, G>,
     listener: &D,
     terms: Terms<'_>,
-    signal: &Signal,
-    clock: &C,
-    log: &G,
 ) -> Result<Vec<Pass<B>>, WorkersFault> {
+    let (rt, alloc, desk) = (node.rt, node.alloc, node.desk);
+    let (signal, clock, log) = (node.signal, node.clock, node.log);
     let Ok((to, from)) = bounded(alloc, QUEUE) else {
         signal.end(rt);
         return Err(WorkersFault::Memory);
@@ -215,16 +213,7 @@ fn send_all<
     N: Network + Sync,
     C: Clock + Sync,
     G: Log + Sync,
->(
-    rt: &R,
-    alloc: Global,
-    desk: &SharedDesk<L, B>,
-    senders: Vec<HopSender<B>>,
-    signal: &Signal,
-    network: &N,
-    clock: &C,
-    log: &G,
-) -> Vec<HopSender<B>>
+>(node: &LiveNode<'_, R, L, B, C, G>, network: &N, senders: Vec<HopSender<B>>) -> Vec<HopSender<B>>
 where
     N::Socket: Send,
     N::Listener: Sync,
@@ -233,15 +222,13 @@ where
     let count = senders.len();
     if count > 0 {
         thread::for_each_mut(
-            rt,
+            node.rt,
             senders.as_mut_slice(),
             count,
-            &|number, sender| {
-                send_rows(rt, alloc, desk, sender, number, signal, network, clock, log)
-            },
+            &|number, sender| { send_rows(node, network, sender, number) },
         );
     }
-    signal.end_sending(rt);
+    node.signal.end_sending(node.rt);
     senders
 }
 
@@ -255,28 +242,23 @@ fn send_and_keep<
     C: Clock + Sync,
     G: Monitor + Sync,
 >(
-    rt: &R,
-    alloc: Global,
-    desk: &SharedDesk<L, B>,
-    hops: &[NextHop],
+    node: &LiveNode<'_, R, L, B, C, G>,
     senders: Vec<HopSender<B>>,
     sweeper: Sweeper<B>,
     wake: &Wake<'_, D, N>,
-    clock: &C,
-    log: &G,
 ) -> (Vec<HopSender<B>>, Sweeper<B>)
 where
     N::Socket: Send,
     N::Listener: Sync,
 {
-    let (signal, network, count) = (wake.signal, wake.network, senders.len());
+    let (network, count) = (wake.network, senders.len());
     thread::join(
-        rt,
+        node.rt,
         ||
             requires { IsSync R.row × IsSend L.row × IsSend B.row × IsSync B.row × IsSync N.row
                 × IsSend N.Socket.row × IsSync N.Listener.row × IsSync C.row × IsSync G.row }
-        { send_all(rt, alloc, desk, senders, signal, network, clock, log) },
-        || keep(rt, alloc, desk, hops, count, sweeper, wake, clock, log),
+        { send_all(node, network, senders) },
+        || keep(node, count, sweeper, wake),
     )
 }
 
@@ -298,40 +280,34 @@ fn serve_and_send<
     C: Clock + Sync,
     G: Monitor + Sync,
 >(
-    rt: &R,
-    alloc: Global,
-    desk: &SharedDesk<L, B>,
-    hops: &[NextHop],
+    node: &LiveNode<'_, R, L, B, C, G>,
     senders: Vec<HopSender<B>>,
     sweeper: Sweeper<B>,
-    listener: &D,
     terms: Terms<'_>,
-    signal: &Signal,
-    network: &N,
-    clock: &C,
-    log: &G,
+    means: Means<'_, D, N, C, G>,
 ) -> Came<B>
 where
     N::Socket: Send,
     N::Listener: Sync,
 {
+    let listener = means.listener;
     let wake = Wake {
-        signal,
+        signal: node.signal,
         listener,
-        network,
+        network: means.network,
         stop: terms.stop,
     };
     let came = thread::join(
-        rt,
+        node.rt,
         ||
             requires { IsSync R.row × IsSend L.row × IsSend B.row × IsSync B.row × IsSend K.row
                 × IsSync D.row × IsSync C.row × IsSync G.row }
-        { serve_links(rt, alloc, desk, listener, terms, signal, clock, log) },
+        { serve_links(node, listener, terms) },
         ||
             requires { IsSync R.row × IsSend L.row × IsSend B.row × IsSync B.row × IsSync D.row
                 × IsSync N.row × IsSend N.Socket.row × IsSync N.Listener.row × IsSync C.row
                 × IsSync G.row }
-        { send_and_keep(rt, alloc, desk, hops, senders, sweeper, &wake, clock, log) },
+        { send_and_keep(node, senders, sweeper, &wake) },
     );
     if let Some(port) = terms.control {
         port.close();
@@ -360,57 +336,29 @@ fn serve_all<
     C: Clock + Sync,
     G: Monitor + Sync,
 >(
-    rt: &R,
-    alloc: Global,
-    desk: &SharedDesk<L, B>,
-    hops: &[NextHop],
+    node: &LiveNode<'_, R, L, B, C, G>,
     senders: Vec<HopSender<B>>,
     sweeper: Sweeper<B>,
     asked: Vec<Pass<B>>,
-    listener: &D,
     terms: Terms<'_>,
-    signal: &Signal,
-    network: &N,
-    clock: &C,
-    log: &G,
+    means: Means<'_, D, N, C, G>,
 ) -> Served<B>
 where
     N::Socket: Send,
     N::Listener: Sync,
 {
-    let view = View {
-        hops,
-        since: clock.now(),
-    };
+    let since = node.clock.now();
     let ((served, (senders, sweeper)), asked) = thread::join(
-        rt,
+        node.rt,
         ||
             requires { IsSync R.row × IsSend L.row × IsSend B.row × IsSync B.row × IsSend K.row
                 × IsSync D.row × IsSync N.row × IsSend N.Socket.row × IsSync N.Listener.row
                 × IsSync C.row × IsSync G.row }
-        {
-            serve_and_send(
-                rt, alloc, desk, hops, senders, sweeper, listener, terms, signal, network, clock,
-                log,
-            )
-        },
+        { serve_and_send(node, senders, sweeper, terms, means) },
         ||
             requires { IsSync R.row × IsSend L.row × IsSend B.row × IsSync B.row × IsSync C.row
                 × IsSync G.row }
-        {
-            answer_all(
-                rt,
-                alloc,
-                desk,
-                asked,
-                view,
-                terms.control,
-                signal,
-                terms.stop,
-                clock,
-                log,
-            )
-        },
+        { answer_all(node, asked, since, terms) },
     );
     Served {
         served,
@@ -516,17 +464,14 @@ fn serve_by<
     rt: &R,
     alloc: Global,
     desk: &SharedDesk<L, B>,
-    hops: &[NextHop],
-    listener: &D,
-    terms: Terms<'_>,
-    network: &N,
-    clock: &C,
-    log: &G,
+    deployment: &Deployment<'_, D, N, C, G>,
 ) -> Result<Vec<Pass<B>>, ServeFault>
 where
     N::Socket: Send,
     N::Listener: Sync,
 {
+    let (terms, means) = (deployment.terms, deployment.means);
+    let hops = deployment.hops.as_slice();
     let signal = Signal::new(alloc, hops, terms.forget_after.is_some())?;
     let Ok(senders) = senders_of(rt, alloc, desk, hops) else {
         return Err(ServeFault::Memory);
@@ -541,10 +486,16 @@ where
         drop(sweeper);
         return Err(ServeFault::Memory);
     };
-    let came = serve_all(
-        rt, alloc, desk, hops, senders, sweeper, asked, listener, terms, &signal, network, clock,
-        log,
-    );
+    let node = LiveNode {
+        rt,
+        alloc,
+        desk,
+        hops,
+        signal: &signal,
+        clock: means.clock,
+        log: means.log,
+    };
+    let came = serve_all(&node, senders, sweeper, asked, terms, means);
     all_passes(came, signal.is_shut())
 }
 
@@ -562,12 +513,7 @@ fn serve_shared<
     rt: &R,
     alloc: Global,
     desk: SharedDesk<L, B>,
-    hops: Vec<NextHop>,
-    listener: &D,
-    terms: Terms<'_>,
-    network: &N,
-    clock: &C,
-    log: &G,
+    deployment: Deployment<'_, D, N, C, G>,
 ) -> Result<L, ServeFault>
 where
     N::Socket: Send,
@@ -578,18 +524,8 @@ where
         L.stands l → ∥ IsJournalled (site_routing B.site) (L.book l) ∥₁) }
     ensures of { IfOk result (λ l. L.site l ≡ B.site) }
 {
-    let came = serve_by(
-        rt,
-        alloc,
-        &desk,
-        hops.as_slice(),
-        listener,
-        terms,
-        network,
-        clock,
-        log,
-    );
-    drop(hops);
+    let came = serve_by(rt, alloc, &desk, &deployment);
+    drop(deployment);
     match came {
         Ok(passes) => closed(alloc, desk, passes),
         Err(fault) => {
@@ -642,12 +578,7 @@ fn share<
     ledger: L,
     site: Site,
     blank: Blank,
-    hops: Vec<NextHop>,
-    listener: &D,
-    terms: Terms<'_>,
-    network: &N,
-    clock: &C,
-    log: &G,
+    deployment: Deployment<'_, D, N, C, G>,
 ) -> Result<L, ServeFault>
 where
     N::Socket: Send,
@@ -666,7 +597,7 @@ where
         Err((LedgerFault::Memory, _)) => return Err(ServeFault::Memory),
         Err(_) => return Err(ServeFault::Store),
     };
-    serve_shared(rt, alloc, desk, hops, listener, terms, network, clock, log)
+    serve_shared(rt, alloc, desk, deployment)
 }
 
 /// Serves the associations that are asked for at a listener, each in a thread of its own, 256 at a
@@ -696,11 +627,8 @@ pub fn serve<
     ledger: L,
     site: Site,
     hops: Vec<NextHop>,
-    listener: &D,
     terms: Terms<'_>,
-    network: &N,
-    clock: &C,
-    log: &G,
+    means: Means<'_, D, N, C, G>,
 ) -> Result<L, ServeFault>
 where
     N::Socket: Send,
@@ -712,17 +640,6 @@ where
         L.stands l → ∥ IsJournalled (site_routing site) (L.book l) ∥₁) }
     ensures of { IfOk result (λ l. L.site l ≡ site) }
 {
-    share::<R, L, Brand, K, D, N, C, G>(
-        rt,
-        alloc,
-        ledger,
-        site,
-        Blank::new(65_536),
-        hops,
-        listener,
-        terms,
-        network,
-        clock,
-        log,
-    )
+    let deployment = Deployment { hops, terms, means };
+    share::<R, L, Brand, K, D, N, C, G>(rt, alloc, ledger, site, Blank::new(65_536), deployment)
 }

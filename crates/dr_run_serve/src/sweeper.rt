@@ -1,10 +1,12 @@
 //! The one who has a node forget what has been over for long.
 use crate::events::{tell_forgotten, tell_unswept};
+use crate::live::LiveNode;
 use crate::signal::Signal;
 use crate::sweep::{OverInstance, Sweep};
 use dr_base::Text;
 use dr_desk::{Pass, SharedDesk, Sharing};
 use dr_ledger::{Entry, Ledger, LedgerFault, LetsGo, Progress};
+use dr_session::Clock;
 use log::Log;
 use std::alloc::{AllocError, Global};
 use std::collections::BTreeMap;
@@ -200,31 +202,24 @@ impl<B: Sharing> Sweeper<B> {
     /// how many instances there were.
     ///
     /// Errors: Store, Memory.
-    fn sweep<R: Wait, L: LetsGo>(
+    fn sweep<R: Wait, L: LetsGo, C: Clock, G: Log>(
         &mut self,
-        rt: &R,
-        alloc: Global,
-        desk: &SharedDesk<L, B>,
-        signal: &Signal,
+        node: &LiveNode<'_, R, L, B, C, G>,
         since: u64,
     ) -> Result<u64, LedgerFault> {
-        let mut sweep = self.known(rt, alloc, desk)?;
-        take_in(rt, &mut sweep, signal);
-        let came = forget_due(rt, desk, &mut self.pass, &mut sweep, since);
+        let mut sweep = self.known(node.rt, node.alloc, node.desk)?;
+        take_in(node.rt, &mut sweep, node.signal);
+        let came = forget_due(node.rt, node.desk, &mut self.pass, &mut sweep, since);
         self.sweep = Some(sweep);
         came
     }
 
     /// A turn: what has been over for long enough is forgotten, so many at most. Where the store
     /// refuses that, the next turn comes a minute later.
-    pub fn turn<R: Wait, L: LetsGo, G: Log>(
+    pub fn turn<R: Wait, L: LetsGo, C: Clock, G: Log>(
         &mut self,
-        rt: &R,
-        alloc: Global,
-        desk: &SharedDesk<L, B>,
-        signal: &Signal,
+        node: &LiveNode<'_, R, L, B, C, G>,
         now: u64,
-        log: &G,
     ) {
         let Some(after) = self.after else {
             return;
@@ -232,13 +227,13 @@ impl<B: Sharing> Sweeper<B> {
         if now < self.next {
             return;
         }
-        match self.sweep(rt, alloc, desk, signal, now.saturating_sub(after)) {
+        match self.sweep(node, now.saturating_sub(after)) {
             Ok(0) => {}
-            Ok(count) => tell_forgotten(log, count),
+            Ok(count) => tell_forgotten(node.log, count),
             Err(fault) => {
                 self.next = now.saturating_add(PAUSE);
-                signal.doubt(rt);
-                tell_unswept(log, fault);
+                node.signal.doubt(node.rt);
+                tell_unswept(node.log, fault);
             }
         }
     }

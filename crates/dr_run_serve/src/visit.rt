@@ -5,6 +5,7 @@ use crate::tallied::Tallied;
 use dr_base::Text;
 use dr_ledger::{LedgerFault, Outcome};
 use dr_run_net::Network;
+use dr_run_open::NextHop;
 use dr_session::{Clock, Ended, SessionFault, deliver};
 use dr_site::Site;
 use std::alloc::Global;
@@ -69,27 +70,27 @@ fn told(came: Result<Ended, SessionFault>) -> Result<Visit, LedgerFault>
 fn send_due<N: Network, P: Tallied, C: Clock>(
     alloc: Global,
     site: &Site,
-    dest: &Text,
-    address: &Text,
+    hop: &NextHop,
     uid: &Text,
     network: &N,
     port: &mut P,
     clock: &C,
 ) -> Result<Visit, LedgerFault>
     ensures { SendsDue (N.reaches network.now) N.Socket.hears N.Socket.sends N.Socket.closes P.step
-        P.finds (C.tells clock.now) site.now dest.now address.now uid.now port.old result port.new }
+        P.finds (C.tells clock.now) site.now hop.now.dest hop.now.address uid.now
+        port.old result port.new }
 {
-    let mut link = match network.connect(alloc, address) {
+    let mut link = match network.connect(alloc, &hop.address) {
         Ok(link) => link,
         Err(error) => {
-            give_up(uid, dest, port, clock)?;
+            give_up(uid, &hop.dest, port, clock)?;
             return Ok(Visit::Unreached(error));
         }
     };
     let before = port.tally();
-    let ended = deliver(alloc, &mut link, site, port, clock, dest);
+    let ended = deliver(alloc, &mut link, site, port, clock, &hop.dest);
     if port.tally() == before {
-        give_up(uid, dest, port, clock)?;
+        give_up(uid, &hop.dest, port, clock)?;
     }
     told(ended)
 }
@@ -100,17 +101,16 @@ fn send_due<N: Network, P: Tallied, C: Clock>(
 pub fn visit_hop<N: Network, P: Tallied, C: Clock>(
     alloc: Global,
     site: &Site,
-    dest: &Text,
-    address: &Text,
+    hop: &NextHop,
     network: &N,
     port: &mut P,
     clock: &C,
 ) -> Result<Visit, LedgerFault>
     ensures { Visits (N.reaches network.now) N.Socket.hears N.Socket.sends N.Socket.closes P.step
-        P.finds (C.tells clock.now) site.now dest.now address.now port.old result port.new }
+        P.finds (C.tells clock.now) site.now hop.now.dest hop.now.address port.old result port.new }
 {
-    let Some(uid) = first_due(dest, port, clock)? else {
+    let Some(uid) = first_due(&hop.dest, port, clock)? else {
         return Ok(Visit::Idle);
     };
-    send_due(alloc, site, dest, address, &uid, network, port, clock)
+    send_due(alloc, site, hop, &uid, network, port, clock)
 }

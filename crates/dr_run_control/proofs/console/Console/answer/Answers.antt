@@ -10,14 +10,17 @@ returns-in-Err-clause-answers g c =
 pub returns-then-gives_order-clause-answers : goal.returns-then-gives_order-clause-answers
 returns-then-gives_order-clause-answers g c =
     let old = c.args.self.now.pass.now in
-    let new = c.obey.new.pass in
+    let new = c.obey.new.self.pass.now in
     let same : c.as_slice.result.now ≡ body_of c.args.request.now = search rules in
     inr (inl (
       c.in-Ok.route,
       sym c.gives_order.ensures ∙ c.if-gives_order.true,
       c.in-Ok.ensures,
-      subst (λ (form : List ℕ). Tells g.L.Ledger.site g.L.Ledger.book g.L.Ledger.stands g.L.Ledger.failed g.B.Sharing.site g.B.Sharing.first c.args.self.now.hops.now c.in-Ok.route form c.obey.result.status c.obey.result.text.items old.made.count old.receipts.items new.made.count new.receipts.items) same c.obey.ensures,
+      subst (λ (form : List ℕ). Tells g.L.Ledger.site g.L.Ledger.book g.L.Ledger.stands g.L.Ledger.failed g.B.Sharing.site g.B.Sharing.first c.args.self.now.hops.now c.in-Ok.route form c.obey.result.status c.obey.result.text.items old.made.count old.receipts.items new.made.count new.receipts.items) same c.obey.ensures.tells,
     ))
+
+pub returns-then-gives_order-clause-access : goal.returns-then-gives_order-clause-access
+returns-then-gives_order-clause-access g c = c.obey.ensures.access
 
 pub returns-clause-answers : goal.returns-clause-answers
 returns-clause-answers g c =
