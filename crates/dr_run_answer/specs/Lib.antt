@@ -2,3 +2,4 @@ pub mod Answers
 pub mod Intakes
 pub mod Laws
 pub mod Quoting
+pub mod Responses
