@@ -17,7 +17,9 @@ use Rattle.dr_pdu.specs.Written.{Fits as FitsPdu}
 use Rattle.dr_pdu.proofs.CutLemmas.{starts_nothing}
 use Rattle.dr_pdu.proofs.OneFeed.{one_feed}
 use Rattle.dr_pdu.proofs.WrittenLemmas.{written_spells}
-use Rattle.dr_dimse.specs.Commands.{IsCommand, status_of}
+use Rattle.dr_dimse.specs.Commands.{IsCommand, ReadsCommand, status_of}
+use Rattle.dr_dimse.specs.declared.fault.DimseFault.{DimseFault}
+use Rattle.dr_dimse.specs.declared.fault.DimseFault.TheVariants.{BadCommand}
 use Rattle.dr_dimse.specs.Written.{Fits}
 use Rattle.dr_dimse.specs.Written as command
 use Rattle.dr_dimse.specs.declared.command.Command.{Command}
@@ -48,6 +50,17 @@ told_one text None None a b = refl
 told_one text None (Some t) a b = sym (a b.0 b.1) ∙ b.2
 told_one text (Some s) None a b = sym a.2 ∙ b a.0 a.1
 told_one text (Some s) (Some t) a b = sym a.2 ∙ (ap status_of (one_command text a.0 b.0 a.1 b.1) ∙ b.2)
+
+-- the status of the command that a text spells
+pub told_by : (text : List ℕ) (c : Command) (said : Option ℕ) → IsCommand text c → said ≡ status_of c → TellsStatus text said
+told_by text c None is e = λ d reads. ap status_of (one_command text d c reads is) ∙ sym e
+told_by text c (Some status) is e = (c, is, sym e)
+
+-- or it spells none
+pub told_none : (text : List ℕ) (fault : DimseFault) → ReadsCommand text (Err fault) → fault ≡ BadCommand → TellsStatus text None
+told_none text fault reads is =
+    let P : DimseFault → Type 0 = λ f. ReadsCommand text (Err f) in
+    λ c spells. absurd (subst P is reads c spells)
 
 came_one : (bytes : List ℕ) (ps qs : List Pdu) → ComesOut bytes ps → ComesOut bytes qs → ps ≡ qs
 came_one bytes ps qs (r, new, a, feeds, is) (s, new', b, feeds', is') =
@@ -98,12 +111,5 @@ responses_say_their_status limit context c said large fits says =
     let all = recursion_from_All Free ps (λ k d within. ((fit k d within).0, free (get_or ps k d))) in
     let joined : command_text ps ≡ text = whole context (pieces (piece_size limit) text) ∙ sym (pieces_are_whole limit large text).joined in
     let P : List ℕ → Type 0 = λ t. TellsStatus t (status_of c) in
-    let own : TellsStatus text (status_of c) = told_of text c (written_reads c fits) in
+    let own : TellsStatus text (status_of c) = told_by text c (status_of c) (written_reads c fits) refl in
     one_status (spellings ps) said (status_of c) says (ps, comes_out ps all, subst P (sym joined) own)
-  where
-    told_of : (text : List ℕ) (c : Command) → IsCommand text c → TellsStatus text (status_of c)
-    told_of text c is = by_status (status_of c) refl
-      where
-        by_status : (said : Option ℕ) → status_of c ≡ said → TellsStatus text said
-        by_status None e = λ d reads. ap status_of (one_command text d c reads is) ∙ e
-        by_status (Some status) e = (c, is, e)
