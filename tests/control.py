@@ -367,6 +367,8 @@ def associations():
         figures = node.ask('GET', '/metrics')[1].splitlines()
         for answer, count in ('stored', 2), ('again', 1), ('refused', 1):
             assert f'dr_router_instances_total{{caller="CT1",answer="{answer}"}} {count}' in figures, figures
+        for status, count in ('0000', 3), ('C0F1', 1):
+            assert f'dr_router_answers_total{{caller="CT1",status="{status}"}} {count}' in figures, figures
         size = len(data_set(b'1.2.3.4'))
         assert f'dr_router_stored_bytes_total{{caller="CT1"}} {2 * size}' in figures, (size, figures)
         # the log says from where a connection came, and of what is refused what rules read of it
@@ -374,6 +376,56 @@ def associations():
         assert any(re.fullmatch('comes session=1 address="127.0.0.1:[0-9]+"', line) for line in said), said
         assert any(line.startswith('refused session=1 caller="CT1" uid=1.2.3.4 fault="G2 Conflict" class=') and ' modality="CT" station="' in line for line in said), said
         assert '<caption>Open associations</caption>\n<tr><th>Caller</th><th>Since</th><th>Stored</th><th>Again</th><th>Refused</th></tr>\n</table>' in node.ask('GET', '/')[1]
+        stop(node.process)
+
+
+def responses():
+    """Each response counts by its status: for its caller in figures, also while the association is open, and in the line of its end. Nothing
+    else that is sent counts, and who isn't let in has no figure."""
+    with Room() as room:
+        node = Asked(room, 'GATE', 0, token=False)
+        pattern = 'dr_router_answers_total{caller="([^"]*)",status="([^"]*)"} ([0-9]+)'
+
+        def waits_for(**counts):
+            # a response is counted as soon as it was sent, so that its caller may be a moment earlier
+            want, end = [('CT1', status[1:], str(count)) for status, count in counts.items()], time.monotonic() + LIMIT
+            while (came := re.findall(f'^{pattern}$', node.ask('GET', '/metrics')[1], re.M)) != want:
+                assert time.monotonic() < end, (want, came)
+                time.sleep(0.05)
+
+        def end_of(session):
+            """What the log says of an association's end, behind the number of its session."""
+            until = time.monotonic() + LIMIT
+            while not (found := [said for _, _, about, event in room.events('GATE') if about == 'association'
+                                 for word, _, said in [event.partition(f' session={session} ')] if word in ('released', 'closed', 'rejected')]):
+                assert time.monotonic() < until, room.events('GATE')
+                time.sleep(0.05)
+            return re.sub(r'milliseconds=[0-9]+$', 'milliseconds=N', found[0])
+        waits_for()
+        same([line for line in node.ask('GET', '/metrics')[1].splitlines() if 'answers' in line], ['# TYPE dr_router_answers_total counter'])
+        with Requestor(room.ports['GATE'], 'CT1', 'GATE') as first:
+            waits_for()
+            same(first.echo(), 0)
+            same(first.store(b'1.2.3.4', data_set(b'1.2.3.4')), 0)
+            waits_for(_0000=2)
+            same(first.store(b'1.2.3.4', data_set(b'1.2.3.4', element(0x10, 0x10, b'PN', b'Other'))), 0xC0F1)
+            same(first.ask(0x0020), 0x0211)
+            same(first.store(b'1.2.3.5', data_set(b'1.2.3.6')), 0xA900)
+            same(first.store(b'1.2.3.4', data_set(b'1.2.3.4')), 0)
+            waits_for(_0000=3, _C0F1=1, _0211=1, _A900=1)
+            with Requestor(room.ports['GATE'], 'CT1', 'GATE') as second:
+                same(second.store(b'1.2.3.7', data_set(b'1.2.3.7')), 0)
+                waits_for(_0000=4, _C0F1=1, _0211=1, _A900=1)
+                second.release()
+            same(end_of(2), 'instances=1 refused=0 statuses="0000=1" milliseconds=N')
+            first.release()
+        same(end_of(1), 'instances=2 refused=1 statuses="0000=3 C0F1=1 0211=1 A900=1" milliseconds=N')
+        with Requestor(room.ports['GATE'], 'CT1', 'GATE') as silent:
+            silent.release()
+        same(end_of(3), 'instances=0 refused=0 milliseconds=N')
+        with Requestor(room.ports['GATE'], 'STRANGER', 'GATE'):
+            same(end_of(4), 'why="1 1 3" instances=0 refused=0 milliseconds=N')
+        waits_for(_0000=4, _C0F1=1, _0211=1, _A900=1)
         stop(node.process)
 
 
@@ -594,7 +646,7 @@ def main():
         sys.exit(f'{PROGRAM} is not built')
     if sys.argv[1:] == ['--more']:
         return run_cases('control --more', flood_of_20_000)
-    return run_cases('control', reads, page, acts, orders, hurried, forms, associations, refusals, places, hostile, flood)
+    return run_cases('control', reads, page, acts, orders, hurried, forms, associations, responses, refusals, places, hostile, flood)
 
 
 if __name__ == '__main__':

@@ -128,8 +128,8 @@ def titles():
         told = [re.sub(r' milliseconds=\d+$', '', event[3]) for event in site.events('GATE') if event[2] == 'association' and not event[3].startswith('comes ')]
         want = []
         for tool in range(2):
-            for number, how in enumerate(('rejected session={} why="1 1 3"', 'rejected session={} why="1 1 7"', 'released session={}'), 3 * tool + 1):
-                want.append(how.format(number) + ' instances=0 refused=0')
+            for number, how in enumerate(('rejected session={} why="1 1 3"{}', 'rejected session={} why="1 1 7"{}', 'released session={}{} statuses="0000=1"'), 3 * tool + 1):
+                want.append(how.format(number, ' instances=0 refused=0'))
         same(sorted(want[:-1] + told[5:]), sorted(told))   # the last may not be logged yet
         same(site.listed(), [('node', 'GATE'), ('lines', '0')])
 

@@ -136,7 +136,7 @@ def events():
         said = [(*event[:2], re.sub(r'127\.0\.0\.1:\d+', '127.0.0.1:N', event[2])) for event in said]
         for event in [('INFO', 'node', 'serves node="GATE" ledger="GATE.db" associations=5'),
                       ('INFO', 'association', 'comes session=1 address="127.0.0.1:N"'), ('DEBUG', 'association', 'taken session=1'),
-                      ('DEBUG', 'instance', 'new session=1 caller="CT1" uid=1.2.3.0'), ('INFO', 'association', 'released session=5 instances=1 refused=0 milliseconds=N'),
+                      ('DEBUG', 'instance', 'new session=1 caller="CT1" uid=1.2.3.0'), ('INFO', 'association', 'released session=5 instances=1 refused=0 statuses="0000=1" milliseconds=N'),
                       ('INFO', 'contexts', f'asked session=1 caller="CT1" called="GATE" accepted="{CT.decode()}={EXPLICIT.decode()}" refused=""'),
                       ('INFO', 'visit', 'released dest="ARCH" settled=1'), ('INFO', 'node', 'has arrivals=0 kept=0 lines=0'),
                       ('INFO', 'node', 'has arrivals=5 kept=0 lines=10'), ('DEBUG', 'row', 'done dest="ARCH" uid=1.2.3.0 status="0000"'),

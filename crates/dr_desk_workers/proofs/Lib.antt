@@ -1,1 +1,2 @@
+mod Responses
 mod Waited

@@ -1,2 +1,3 @@
 pub mod Hearing
 pub mod Passes
+pub mod Said

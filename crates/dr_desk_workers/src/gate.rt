@@ -52,6 +52,9 @@ pub trait Gate {
     /// An association was asked for, and accepted by this answer, or not.
     fn asked(&self, _session: u64, _request: &AssociateRq, _answer: Option<&AssociateAc>) {}
 
+    /// A response of this status was sent. Where there was no memory to read it, nothing is told.
+    fn responded(&self, _session: u64, _status: u16) {}
+
     /// There is no room for the data set that comes: it is let go, and will be answered A700H.
     fn crowded(&self, _session: u64) {}
 

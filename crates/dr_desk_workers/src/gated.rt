@@ -10,6 +10,7 @@ use crate::counts::SessionCounts;
 use crate::door::Door;
 use crate::gate::{Gate, Point};
 use crate::room::Room;
+use crate::said::status_said;
 use crate::share::Share;
 use dr_pdu::AssociateRq;
 use dr_session::{Heard, Link};
@@ -136,6 +137,13 @@ impl<'a, R: Wait + time::Clock, K: Link + Drop, G: Gate> GatedLink<'a, R, K, G> 
         tell_answer(self.alloc, self.gate, self.session, request, bytes);
     }
 
+    /// Tells the status of the response that was sent, if these bytes are one.
+    fn tell_status(&self, bytes: &[u8]) {
+        if let Ok(Some(status)) = status_said(self.alloc, bytes) {
+            self.gate.responded(self.session, status);
+        }
+    }
+
     /// It has answered: what it held is free again.
     fn clear(&mut self)
         ensures { (self.new.link ≡ self.old.link)
@@ -227,6 +235,7 @@ impl<'a, R: Wait + time::Clock, K: Link + Drop, G: Gate> Link for GatedLink<'a, 
             self.gate.at(self.session, Point::Answered);
         }
         self.tell_answer(bytes);
+        self.tell_status(bytes);
         self.clear();
         true
     }

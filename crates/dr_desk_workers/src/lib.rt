@@ -3,7 +3,8 @@
 //! `workers` starts threads, as they are needed, that take connections from a channel until it is
 //! closed and empty, serve each with a session (`dr_session::receive`) over the shared desk, and
 //! give back their passes. A `Door` counts the associations that are open, and lets 256 in. A
-//! `Room` counts what all of them hold in memory of data sets.
+//! `Room` counts what all of them hold in memory of data sets. Of each response that is sent the
+//! gate is told the status (`said`).
 #![tactic(auto)]
 
 pub mod ahead;
@@ -14,8 +15,10 @@ mod counts;
 pub mod door;
 pub mod gate;
 mod gated;
+pub mod laws;
 mod port;
 pub mod room;
+mod said;
 pub mod serving;
 mod share;
 mod staff;

@@ -1,5 +1,7 @@
 pub mod Chained
 mod Counted
 mod Lines
+mod Responded
+mod Statuses
 mod Totals
 mod Tries

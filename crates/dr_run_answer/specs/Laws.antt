@@ -11,9 +11,11 @@ use Rattle.dr_run_answer.specs.Answers.{queue_line, recent_line, row_line, rows_
 use Rattle.dr_run_answer.specs.Answers.{visits_figure}
 use Rattle.dr_run_answer.specs.Intakes.{AreRecent, AreTotals, CountsMinute, CountsOne, KeepHours}
 use Rattle.dr_run_answer.specs.Intakes.{Notice, came_within, is_of_hour, is_refused, most, said_by}
+use Rattle.dr_run_answer.specs.Responses.{AreResponses, CountsStatus, Response, response_figure}
 use Rattle.dr_run_answer.specs.declared.intake.Brought.{Brought}
 use Rattle.dr_run_answer.specs.declared.intake.Recent.{Recent}
 use Rattle.dr_run_answer.specs.declared.noted.Minute.{Minute}
+use Rattle.dr_run_answer.specs.declared.responses.ResponseCount.{ResponseCount}
 
 -- so few instances came, and so few bytes, that each figure is within 64 bits
 abbrev pub AreCountable : List Notice → Type 0
@@ -61,6 +63,23 @@ RecentIsWhatCame =
     ≡ came_within (λ answer. not (is_refused answer)) caller modality now all)
     × (said_by (λ r. r.refused) caller modality lines
     ≡ came_within is_refused caller modality now all)
+
+-- Where no response was sent there is no line. One that is noted is lost neither for its caller nor
+-- for its status, and counts once: so the lines are those of all that were sent since the first.
+abbrev pub RespondedIsCounted : Type 0
+RespondedIsCounted =
+    AreResponses [] []
+    × ((all : List Response) (r : Response) (old new : List ResponseCount)
+    → length (r ∷ all) ≤ most
+    → AreResponses all old → CountsStatus r.caller r.status old new → AreResponses (r ∷ all) new)
+
+-- the figures of a status, and of all that have no line of their own
+abbrev pub ResponsesAreWrittenSo : Type 0
+ResponsesAreWrittenSo =
+    (response_figure (record { caller = codes "CT1"; status = Some 0xB007; count = 3 })
+    ≡ codes "dr_router_answers_total{caller=\"CT1\",status=\"B007\"} 3\n")
+    × (response_figure (record { caller = 34 ∷ 10 ∷ []; status = None; count = 1 })
+    ≡ codes "dr_router_answers_total{caller=\"\\\"\\n\",status=\"other\"} 1\n")
 
 -- what a try in vain leaves of a row tells when that was
 abbrev pub TriesAreTold : Type 0

@@ -1,7 +1,7 @@
 //! What holds of all answers. Nothing here runs: each function's contract is a law.
 ghost use Rattle.dr_run_answer.specs.Laws.{LinesAreWrittenSo, NotedIsCounted, NotedIsKept};
 ghost use Rattle.dr_run_answer.specs.Laws.{NothingIsCounted, OldIsLetGo, RecentIsWhatCame};
-ghost use Rattle.dr_run_answer.specs.Laws.{TriesAreTold};
+ghost use Rattle.dr_run_answer.specs.Laws.{RespondedIsCounted, ResponsesAreWrittenSo, TriesAreTold};
 
 /// Lines are written so.
 pub fn lines_are_written_so()
@@ -21,4 +21,10 @@ pub fn what_is_noted_counts()
     ensures minutes { NotedIsKept }
     ensures old { OldIsLetGo }
     ensures recent { RecentIsWhatCame }
+{}
+
+/// No response that is noted is lost, and each counts once.
+pub fn responses_are_counted()
+    ensures counted { RespondedIsCounted }
+    ensures written { ResponsesAreWrittenSo }
 {}

@@ -5,8 +5,9 @@
 //!   last hour (`put_recents`), an instance (`put_instance`), who brought it (`put_froms`), its
 //!   rows (`put_own_rows`), and rows (`put_rows`).
 //! - Figures in the text format of Prometheus: `put_figures`, `put_queues`, `put_visits`,
-//!   `put_callers`, `put_stored_bytes`, `put_open`.
-//! - What came is counted by `noted`: by caller, and of the last hour by caller and modality.
+//!   `put_callers`, `put_stored_bytes`, `put_responses`, `put_open`.
+//! - What came is counted by `noted`: by caller, and of the last hour by caller and modality. The
+//!   statuses of responses are counted by `note_status`.
 //!
 //! Whatever a peer sent, as a UID, stands in it escaped, so that it begins no line, no object and
 //! no label.
@@ -20,6 +21,11 @@ mod json;
 pub mod laws;
 pub mod noted;
 mod page;
+<<<<<<< HEAD
+=======
+mod quoted;
+mod responses;
+>>>>>>> 286d7a576d1d3ac103a249fd90136902b9ae86e5
 
 pub use association::{OpenAssociation, put_associations};
 pub use figures::{put_figures, put_open, put_queues, put_visits};
@@ -30,3 +36,8 @@ pub use json::{
     put_node, put_queue, put_row, put_well,
 };
 pub use page::put_rows;
+<<<<<<< HEAD
+=======
+pub use quoted::put_quoted;
+pub use responses::{ResponseCount, note_status, put_responses, response_copies};
+>>>>>>> 286d7a576d1d3ac103a249fd90136902b9ae86e5

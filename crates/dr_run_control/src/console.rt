@@ -18,7 +18,7 @@ use dr_base::Text;
 use dr_desk::{Pass, SharedDesk, Sharing};
 use dr_ledger::LedgerFault;
 use dr_ledger_views::Views;
-use dr_run_answer::{Brought, OpenAssociation, Recent, Visited, Visits, put_done};
+use dr_run_answer::{Brought, OpenAssociation, Recent, ResponseCount, Visited, Visits, put_done};
 use dr_run_open::NextHop;
 use dr_run_request::{
     Access, Browser, Order, Refused, Route, admit, is_of_page, order_of, reason_of,
@@ -30,12 +30,13 @@ use std::alloc::{AllocError, Global};
 use std::sync::Wait;
 
 /// What goes on around the desk: associations that are open, what each caller has brought since the
-/// node serves, and what came within the last hour.
+/// node serves, what came within the last hour, and which responses each caller was sent.
 #[derive(Debug, Drop)]
 pub struct Around {
     pub associations: Vec<OpenAssociation>,
     pub brought: Vec<Brought>,
     pub recents: Vec<Recent>,
+    pub responses: Vec<ResponseCount>,
 }
 
 /// The node around the desk: it is told of what is done there, and tells what the desk doesn't

@@ -10,6 +10,7 @@ ghost use Rattle.dr_run_answer.specs.Answers.{figures, from_line, instance_line,
 ghost use Rattle.dr_run_answer.specs.Answers.{line_of_queue, open_figure, own_row_line};
 ghost use Rattle.dr_run_answer.specs.Answers.{queues_figures, recent_line, row_line};
 ghost use Rattle.dr_run_answer.specs.Answers.{visits_figures};
+ghost use Rattle.dr_run_answer.specs.Responses.{response_figures};
 ghost use Rattle.dr_run_control.specs.Consoles.{AreParts, IsCounted, IsMissing, IsTold};
 ghost use Rattle.dr_run_control.specs.Consoles.{page_wanted, stage_named};
 
@@ -22,7 +23,7 @@ use dr_ledger_views::{HopTally, Stage, Views};
 use dr_run_answer::{
     Counts, Identity, Queue, Visited, Visits, put_associations, put_callers, put_figures,
     put_froms, put_instance, put_late, put_node, put_open, put_own_rows, put_queue, put_queues,
-    put_recents, put_rows, put_stored_bytes, put_visits, put_well,
+    put_recents, put_responses, put_rows, put_stored_bytes, put_visits, put_well,
 };
 use dr_run_open::NextHop;
 use dr_run_request::{Stage as Word, Wanted, instance_of, wanted_of};
@@ -132,6 +133,7 @@ fn figure_lines(
         text.items
         ≡ figures counts ++ queues_figures queues.now ++ visits_figures queues.now
         ++ brought_figures around.now.brought.items ++ bytes_figures around.now.brought.items
+        ++ response_figures around.now.responses.items
         ++ open_figure (length around.now.associations.items)) }
 {
     let mut out = Vec::new(alloc);
@@ -140,6 +142,7 @@ fn figure_lines(
     put_visits(&mut out, queues)?;
     put_callers(&mut out, around.brought.as_slice())?;
     put_stored_bytes(&mut out, around.brought.as_slice())?;
+    put_responses(&mut out, around.responses.as_slice())?;
     put_open(&mut out, around.associations.len() as u64)?;
     Ok(out)
 }

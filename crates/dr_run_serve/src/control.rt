@@ -132,6 +132,7 @@ impl<'a, R: Wait, G: Log> House for Home<'a, R, G> {
             associations: self.signal.open.shown(rt, alloc)?,
             brought: self.signal.intake.brought(rt, alloc)?,
             recents: self.signal.intake.recents(rt, alloc, now)?,
+            responses: self.signal.intake.responses(rt, alloc)?,
         })
     }
 

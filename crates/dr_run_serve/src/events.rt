@@ -9,6 +9,7 @@ use dr_base::Text;
 use dr_desk_workers::Tally;
 use dr_ledger::{Arrived, Instance, LedgerFault, Outcome, Progress};
 use dr_route::Key;
+use dr_run_answer::ResponseCount;
 use dr_run_control::name_of_refusal;
 use dr_run_open::code_of;
 use dr_run_request::{Order, Refused, RowName};
@@ -46,13 +47,49 @@ impl Display for Why {
     }
 }
 
-/// Tells how an association ended that another node asked for, and what came of it.
+/// How many responses of a status were sent, as `B007=1`, or `other=1`.
+#[derive(Drop)]
+struct StatusShown<'a>(&'a ResponseCount);
+
+impl<'a> Display for StatusShown<'a> {
+    fn fmt<W: fmt::Write>(&self, f: &mut Formatter<W>) -> fmt::Result {
+        let count = self.0.count;
+        match self.0.status {
+            Some(status) => write!(f, "{status:04X}={count}"),
+            None => write!(f, "other={count}"),
+        }
+    }
+}
+
+/// The statuses of the responses that were sent over an association, if any were.
+#[derive(Drop)]
+struct StatusesShown<'a>(&'a [ResponseCount]);
+
+impl<'a> Display for StatusesShown<'a> {
+    fn fmt<W: fmt::Write>(&self, f: &mut Formatter<W>) -> fmt::Result {
+        if self.0.is_empty() {
+            return Ok(());
+        }
+        f.write_str(" statuses=\"")?;
+        let mut between = "";
+        for one in self.0 {
+            write!(f, "{between}{}", StatusShown(one))?;
+            between = " ";
+        }
+        f.write_str("\"")
+    }
+}
+
+/// Tells how an association ended that another node asked for, what came of it, and the statuses of
+/// the responses that were sent over it.
 pub fn tell_association<G: Log>(
     log: &G,
     session: u64,
     ended: Result<Ended, SessionFault>,
     tally: Tally,
+    responses: &[ResponseCount],
 ) {
+    let statuses = StatusesShown(responses);
     let Tally {
         accepted,
         refused,
@@ -63,13 +100,13 @@ pub fn tell_association<G: Log>(
             let (word, why) = (word_of(ended), Why(ended));
             info!(
                 log; target: "association",
-                "{word} session={session}{why} instances={accepted} refused={refused} milliseconds={milliseconds}"
+                "{word} session={session}{why} instances={accepted} refused={refused}{statuses} milliseconds={milliseconds}"
             );
         }
         Err(fault) => {
             warn!(
                 log; target: "association",
-                "failed session={session} fault=\"{fault}\" instances={accepted} refused={refused} milliseconds={milliseconds}"
+                "failed session={session} fault=\"{fault}\" instances={accepted} refused={refused}{statuses} milliseconds={milliseconds}"
             );
         }
     }

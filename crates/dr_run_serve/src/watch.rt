@@ -72,8 +72,15 @@ impl<'a, R: Wait, C: Clock, G: Log> Gate for Watch<'a, R, C, G> {
             self.signal
                 .open
                 .begin(self.rt, self.alloc, session, caller, now);
+            self.signal
+                .intake
+                .begin(self.rt, self.alloc, session, caller);
         }
         tell_asked(self.log, session, request, answer);
+    }
+
+    fn responded(&self, session: u64, status: u16) {
+        self.signal.intake.respond(self.rt, session, status);
     }
 
     fn crowded(&self, session: u64) {
@@ -94,6 +101,7 @@ impl<'a, R: Wait, C: Clock, G: Log> Gate for Watch<'a, R, C, G> {
 
     fn ended(&self, session: u64, ended: Result<Ended, SessionFault>, tally: Tally) {
         self.signal.open.end(self.rt, session);
-        tell_association(self.log, session, ended, tally);
+        let responses = self.signal.intake.end(self.rt, self.alloc, session);
+        tell_association(self.log, session, ended, tally, responses.as_slice());
     }
 }
