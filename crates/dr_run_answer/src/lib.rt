@@ -21,11 +21,7 @@ mod json;
 pub mod laws;
 pub mod noted;
 mod page;
-<<<<<<< HEAD
-=======
-mod quoted;
 mod responses;
->>>>>>> 286d7a576d1d3ac103a249fd90136902b9ae86e5
 
 pub use association::{OpenAssociation, put_associations};
 pub use figures::{put_figures, put_open, put_queues, put_visits};
@@ -36,8 +32,4 @@ pub use json::{
     put_node, put_queue, put_row, put_well,
 };
 pub use page::put_rows;
-<<<<<<< HEAD
-=======
-pub use quoted::put_quoted;
 pub use responses::{ResponseCount, note_status, put_responses, response_copies};
->>>>>>> 286d7a576d1d3ac103a249fd90136902b9ae86e5
