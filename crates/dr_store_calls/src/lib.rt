@@ -9,6 +9,7 @@
 pub mod adopting;
 pub mod adoption_laws;
 pub mod arriving;
+pub mod bringing;
 pub mod dropping;
 pub mod forgetting;
 pub mod knowing;
@@ -21,6 +22,7 @@ mod writing;
 
 pub use adopting::adopt;
 pub use arriving::{bring_item, bring_new, repeat};
+pub use bringing::{Delivery, Queued};
 pub use dropping::give_up;
 pub use forgetting::{forget, is_over};
 pub use knowing::{Known, know};
