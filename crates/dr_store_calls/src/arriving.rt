@@ -13,11 +13,11 @@ ghost use Rattle.dr_store_changes.specs.Changes.{HasNeither};
 ghost use Rattle.dr_store_calls.specs.Calling.{Called, advanced};
 ghost use Rattle.dr_store_calls.specs.Knowing.{Fits, IsThere, taking_absent};
 
+use crate::bringing::{Delivery, Queued};
 use crate::writing::written;
 use dr_base::{Seq, Text};
-use dr_ledger::{Arrived, Instance, Job, LedgerFault};
+use dr_ledger::{Arrived, LedgerFault};
 use dr_route::Targets;
-use dr_site::Site;
 use dr_store_changes::{Arriving, Repeating, Taking};
 use sqlite::{Alter, Connection};
 use std::alloc::{AllocError, Global};
@@ -49,34 +49,30 @@ fn names_of(alloc: Global, targets: &Targets) -> Result<Seq<Text>, AllocError>
 /// Notes another arrival from a caller that brought the instance before.
 pub fn repeat<'x, S: Alter>(
     conn: &mut Connection<S>,
-    site: &Site,
-    n: u64,
-    caller: &'x Text,
-    item: &'x Job,
-    instance: &'x Instance,
+    came: &'x Delivery<'x>,
     whole: bool,
 ) -> Result<Arrived, LedgerFault>
     requires idle { conn.old.in_transaction ≡ false }
-    requires line { HasLineFor site.now caller.now item.now.key }
-    requires instance { instance.now ≡ instance_of item.now }
-    requires is_item { IsItem item.now }
-    ensures called { Called n (advanced result n) site.now result (state S.Store conn.old)
-        (state S.Store conn.new)
-        (λ base. IsThere base (instance_of item.now) whole
-        × (set.contains (arrivals_in (base 5)) (caller.now, item.now.uid) ≡ true))
-        (λ base db. Arrives (site_routing site.now) caller.now (instance_of item.now) (book_of base)
-        result (book_of db)
-        × OnlyTakes item.now (bodies_of base) (bodies_of db))
-        (λ base db. Arrives (site_routing site.now) caller.now (instance_of item.now) (book_of base)
-        (Ok Arrived.Again) (book_of db)) }
-    ensures number { OnOk result (n ≤ 2 ^ 62) }
+    requires line { HasLineFor came.now.site.now came.now.caller.now came.now.item.now.key }
+    requires instance { came.now.instance.now ≡ instance_of came.now.item.now }
+    requires is_item { IsItem came.now.item.now }
+    ensures called { Called came.now.n (advanced result came.now.n) came.now.site.now result
+        (state S.Store conn.old) (state S.Store conn.new)
+        (λ base. IsThere base (instance_of came.now.item.now) whole
+        × (set.contains (arrivals_in (base 5)) (came.now.caller.now, came.now.item.now.uid) ≡ true))
+        (λ base db. Arrives (site_routing came.now.site.now) came.now.caller.now
+        (instance_of came.now.item.now) (book_of base) result (book_of db)
+        × OnlyTakes came.now.item.now (bodies_of base) (bodies_of db))
+        (λ base db. Arrives (site_routing came.now.site.now) came.now.caller.now
+        (instance_of came.now.item.now) (book_of base) (Ok Arrived.Again) (book_of db)) }
+    ensures number { OnOk result (came.now.n ≤ 2 ^ 62) }
     ensures idle { conn.new.in_transaction ≡ false }
 {
     let change = Repeating {
-        caller,
-        item: instance,
+        caller: came.caller,
+        item: came.instance,
     };
-    match written(conn, n, &change) {
+    match written(conn, came.n, &change) {
         Ok(()) => Ok(Arrived::Again),
         Err(fault) => Err(fault),
     }
@@ -85,50 +81,48 @@ pub fn repeat<'x, S: Alter>(
 /// Takes a first arrival, all of which was found.
 fn bring<'x, S: Alter>(
     conn: &mut Connection<S>,
-    site: &Site,
-    n: u64,
-    caller: &'x Text,
-    item: &'x Job,
+    came: &'x Delivery<'x>,
     targets: &'x Targets,
     names: &'x [Text],
-    instance: &'x Instance,
     taking: Taking,
-    again: &'x [Text],
-    dests: &'x [Text],
+    queued: &'x Queued<'x>,
     keeps: bool,
 ) -> Result<Arrived, LedgerFault>
     requires idle { conn.old.in_transaction ≡ false }
-    requires line { HasLineFor site.now caller.now item.now.key }
-    requires to { targets.now.to ≡ (site_routing site.now).targets caller.now item.now.key }
-    requires keep { targets.now.keep ≡ (site_routing site.now).keeps caller.now item.now.key }
+    requires line { HasLineFor came.now.site.now came.now.caller.now came.now.item.now.key }
+    requires to { targets.now.to
+        ≡ (site_routing came.now.site.now).targets came.now.caller.now came.now.item.now.key }
+    requires keep { targets.now.keep
+        ≡ (site_routing came.now.site.now).keeps came.now.caller.now came.now.item.now.key }
     requires formed { AreNames targets.now.to }
     requires names { names.now ≡ names_for targets.now.keep targets.now.to }
-    requires instance { instance.now ≡ instance_of item.now }
-    requires is_item { IsItem item.now }
-    ensures called { Called n (advanced result n) site.now result (state S.Store conn.old)
-        (state S.Store conn.new)
-        (λ base.
-        Fits taking caller.now item.now targets.now.to targets.now.keep again.now dests.now keeps
-        base)
-        (λ base db. Arrives (site_routing site.now) caller.now (instance_of item.now) (book_of base)
-        result (book_of db)
-        × OnlyTakes item.now (bodies_of base) (bodies_of db))
-        (λ base db. Arrives (site_routing site.now) caller.now (instance_of item.now) (book_of base)
-        (Ok Arrived.New) (book_of db)) }
-    ensures number { OnOk result (n ≤ 2 ^ 62) }
+    requires instance { came.now.instance.now ≡ instance_of came.now.item.now }
+    requires is_item { IsItem came.now.item.now }
+    ensures called { Called came.now.n (advanced result came.now.n) came.now.site.now result
+        (state S.Store conn.old) (state S.Store conn.new)
+        (λ base. Fits taking came.now.caller.now came.now.item.now targets.now.to targets.now.keep
+        queued.now.again.now queued.now.dests.now keeps base)
+        (λ base db. Arrives (site_routing came.now.site.now) came.now.caller.now
+        (instance_of came.now.item.now) (book_of base) result (book_of db)
+        × OnlyTakes came.now.item.now (bodies_of base) (bodies_of db))
+        (λ base db. Arrives (site_routing came.now.site.now) came.now.caller.now
+        (instance_of came.now.item.now) (book_of base) (Ok Arrived.New) (book_of db)) }
+    ensures number { OnOk result (came.now.n ≤ 2 ^ 62) }
     ensures idle { conn.new.in_transaction ≡ false }
 {
+    let again = queued.again.as_slice();
+    let dests = queued.dests.as_slice();
     let change = Arriving {
-        caller,
-        item: instance,
-        body: item.body.as_bytes(),
+        caller: came.caller,
+        item: came.instance,
+        body: came.item.body.as_bytes(),
         taking,
         again,
         dests,
         keeps,
         names,
     };
-    match written(conn, n, &change) {
+    match written(conn, came.n, &change) {
         Ok(()) => Ok(Arrived::New),
         Err(fault) => Err(fault),
     }
@@ -138,52 +132,35 @@ fn bring<'x, S: Alter>(
 pub fn bring_item<'x, S: Alter>(
     conn: &mut Connection<S>,
     alloc: Global,
-    site: &Site,
-    n: u64,
-    caller: &'x Text,
-    item: &'x Job,
+    came: &'x Delivery<'x>,
     targets: &'x Targets,
-    instance: &'x Instance,
     taking: Taking,
-    again: &'x [Text],
-    dests: &'x [Text],
+    queued: &'x Queued<'x>,
     keeps: bool,
 ) -> Result<Arrived, LedgerFault>
     requires idle { conn.old.in_transaction ≡ false }
-    requires line { HasLineFor site.now caller.now item.now.key }
-    requires to { targets.now.to ≡ (site_routing site.now).targets caller.now item.now.key }
-    requires keep { targets.now.keep ≡ (site_routing site.now).keeps caller.now item.now.key }
+    requires line { HasLineFor came.now.site.now came.now.caller.now came.now.item.now.key }
+    requires to { targets.now.to
+        ≡ (site_routing came.now.site.now).targets came.now.caller.now came.now.item.now.key }
+    requires keep { targets.now.keep
+        ≡ (site_routing came.now.site.now).keeps came.now.caller.now came.now.item.now.key }
     requires formed { AreNames targets.now.to }
-    requires instance { instance.now ≡ instance_of item.now }
-    requires is_item { IsItem item.now }
-    ensures called { Called n (advanced result n) site.now result (state S.Store conn.old)
-        (state S.Store conn.new)
-        (λ base.
-        Fits taking caller.now item.now targets.now.to targets.now.keep again.now dests.now keeps
-        base)
-        (λ base db. Arrives (site_routing site.now) caller.now (instance_of item.now) (book_of base)
-        result (book_of db)
-        × OnlyTakes item.now (bodies_of base) (bodies_of db))
-        (λ base db. Arrives (site_routing site.now) caller.now (instance_of item.now) (book_of base)
-        (Ok Arrived.New) (book_of db)) }
-    ensures number { OnOk result (n ≤ 2 ^ 62) }
+    requires instance { came.now.instance.now ≡ instance_of came.now.item.now }
+    requires is_item { IsItem came.now.item.now }
+    ensures called { Called came.now.n (advanced result came.now.n) came.now.site.now result
+        (state S.Store conn.old) (state S.Store conn.new)
+        (λ base. Fits taking came.now.caller.now came.now.item.now targets.now.to targets.now.keep
+        queued.now.again.now queued.now.dests.now keeps base)
+        (λ base db. Arrives (site_routing came.now.site.now) came.now.caller.now
+        (instance_of came.now.item.now) (book_of base) result (book_of db)
+        × OnlyTakes came.now.item.now (bodies_of base) (bodies_of db))
+        (λ base db. Arrives (site_routing came.now.site.now) came.now.caller.now
+        (instance_of came.now.item.now) (book_of base) (Ok Arrived.New) (book_of db)) }
+    ensures number { OnOk result (came.now.n ≤ 2 ^ 62) }
     ensures idle { conn.new.in_transaction ≡ false }
 {
     match names_of(alloc, targets) {
-        Ok(names) => bring(
-            conn,
-            site,
-            n,
-            caller,
-            item,
-            targets,
-            names.as_slice(),
-            instance,
-            taking,
-            again,
-            dests,
-            keeps,
-        ),
+        Ok(names) => bring(conn, came, targets, names.as_slice(), taking, queued, keeps),
         Err(_) => Err(LedgerFault::Memory),
     }
 }
@@ -203,47 +180,34 @@ fn taking_of(keep: bool, none: bool) -> Taking
 pub fn bring_new<'x, S: Alter>(
     conn: &mut Connection<S>,
     alloc: Global,
-    site: &Site,
-    n: u64,
-    caller: &'x Text,
-    item: &'x Job,
+    came: &'x Delivery<'x>,
     targets: &'x Targets,
-    instance: &'x Instance,
 ) -> Result<Arrived, LedgerFault>
     requires idle { conn.old.in_transaction ≡ false }
-    requires line { HasLineFor site.now caller.now item.now.key }
-    requires to { targets.now.to ≡ (site_routing site.now).targets caller.now item.now.key }
-    requires keep { targets.now.keep ≡ (site_routing site.now).keeps caller.now item.now.key }
+    requires line { HasLineFor came.now.site.now came.now.caller.now came.now.item.now.key }
+    requires to { targets.now.to
+        ≡ (site_routing came.now.site.now).targets came.now.caller.now came.now.item.now.key }
+    requires keep { targets.now.keep
+        ≡ (site_routing came.now.site.now).keeps came.now.caller.now came.now.item.now.key }
     requires formed { AreNames targets.now.to }
-    requires instance { instance.now ≡ instance_of item.now }
-    requires is_item { IsItem item.now }
-    ensures called { Called n (advanced result n) site.now result (state S.Store conn.old)
-        (state S.Store conn.new)
-        (λ base. HasNeither item.now.uid base)
-        (λ base db. Arrives (site_routing site.now) caller.now (instance_of item.now) (book_of base)
-        result (book_of db)
-        × OnlyTakes item.now (bodies_of base) (bodies_of db))
-        (λ base db. Arrives (site_routing site.now) caller.now (instance_of item.now) (book_of base)
-        (Ok Arrived.New) (book_of db)) }
-    ensures number { OnOk result (n ≤ 2 ^ 62) }
+    requires instance { came.now.instance.now ≡ instance_of came.now.item.now }
+    requires is_item { IsItem came.now.item.now }
+    ensures called { Called came.now.n (advanced result came.now.n) came.now.site.now result
+        (state S.Store conn.old) (state S.Store conn.new)
+        (λ base. HasNeither came.now.item.now.uid base)
+        (λ base db. Arrives (site_routing came.now.site.now) came.now.caller.now
+        (instance_of came.now.item.now) (book_of base) result (book_of db)
+        × OnlyTakes came.now.item.now (bodies_of base) (bodies_of db))
+        (λ base db. Arrives (site_routing came.now.site.now) came.now.caller.now
+        (instance_of came.now.item.now) (book_of base) (Ok Arrived.New) (book_of db)) }
+    ensures number { OnOk result (came.now.n ≤ 2 ^ 62) }
     ensures idle { conn.new.in_transaction ≡ false }
 {
-    let to = targets.to.as_slice();
     let none = Seq::new(alloc);
-    let again = none.as_slice();
-    let taking = taking_of(targets.keep, to.is_empty());
-    bring_item(
-        conn,
-        alloc,
-        site,
-        n,
-        caller,
-        item,
-        targets,
-        instance,
-        taking,
-        again,
-        to,
-        targets.keep,
-    )
+    let taking = taking_of(targets.keep, targets.to.is_empty());
+    let queued = Queued {
+        again: &none,
+        dests: &targets.to,
+    };
+    bring_item(conn, alloc, came, targets, taking, &queued, targets.keep)
 }

@@ -9,6 +9,7 @@
 pub mod adopting;
 pub mod adoption_laws;
 pub mod arriving;
+pub mod bringing;
 pub mod dropping;
 pub mod forgetting;
 pub mod knowing;
@@ -20,6 +21,7 @@ pub mod settling;
 mod writing;
 
 pub use adopting::adopt;
+pub use bringing::{Delivery, Queued};
 pub use dropping::give_up;
 pub use forgetting::{forget, is_over};
 pub use knowing::{Known, know};

@@ -18,9 +18,10 @@ ghost use Rattle.dr_store_calls.specs.Knowing.{IsAccepted, IsKnown, IsThere, cho
 ghost use Rattle.dr_store_calls.specs.Knowing.{taking_there};
 
 use crate::arriving::{bring_item, bring_new, repeat};
+use crate::bringing::{Delivery, Queued};
 use crate::knowing::{Known, know};
 use dr_base::{Seq, Text};
-use dr_ledger::{Arrived, Instance, Item, Job, LedgerFault, Progress};
+use dr_ledger::{Arrived, Item, LedgerFault, Progress};
 use dr_route::{Key, Targets};
 use dr_site::Site;
 use dr_store_changes::Taking;
@@ -135,10 +136,11 @@ fn keeps_now(keep: bool, kept: bool) -> bool
 }
 
 /// Whether there is neither a destination of the one kind nor of the other.
-fn are_none(again: &[Text], dests: &[Text]) -> bool
-    ensures { result ≡ ((length again.now == 0) && (length dests.now == 0)) }
+fn are_none(queued: &Queued<'_>) -> bool
+    ensures { result
+        ≡ ((length queued.now.again.now == 0) && (length queued.now.dests.now == 0)) }
 {
-    again.is_empty() && dests.is_empty()
+    queued.again.is_empty() && queued.dests.is_empty()
 }
 
 /// How an instance that is there is taken in: where its data set isn't there, it comes again for an
@@ -156,88 +158,80 @@ fn taking_of(whole: bool, keep: bool, none: bool) -> Taking
 fn bring_kept<'x, S: Alter>(
     conn: &mut Connection<S>,
     alloc: Global,
-    site: &Site,
-    n: u64,
-    caller: &'x Text,
-    item: &'x Job,
-    instance: &'x Instance,
+    came: &'x Delivery<'x>,
     targets: &'x Targets,
     whole: bool,
-    again: &'x Seq<Text>,
-    dests: &'x Seq<Text>,
+    queued: &'x Queued<'x>,
     kept: bool,
 ) -> Result<Arrived, LedgerFault>
     requires idle { conn.old.in_transaction ≡ false }
-    requires line { HasLineFor site.now caller.now item.now.key }
-    requires instance { instance.now ≡ instance_of item.now }
-    requires is_item { IsItem item.now }
-    requires to { targets.now.to ≡ (site_routing site.now).targets caller.now item.now.key }
-    requires keep { targets.now.keep ≡ (site_routing site.now).keeps caller.now item.now.key }
+    requires line { HasLineFor came.now.site.now came.now.caller.now came.now.item.now.key }
+    requires instance { came.now.instance.now ≡ instance_of came.now.item.now }
+    requires is_item { IsItem came.now.item.now }
+    requires to { targets.now.to
+        ≡ (site_routing came.now.site.now).targets came.now.caller.now came.now.item.now.key }
+    requires keep { targets.now.keep
+        ≡ (site_routing came.now.site.now).keeps came.now.caller.now came.now.item.now.key }
     requires formed { AreNames targets.now.to }
-    ensures called { Called n (advanced result n) site.now result (state S.Store conn.old)
-        (state S.Store conn.new)
-        (λ base. IsThere base (instance_of item.now) whole
-        × (set.contains (arrivals_in (base 5)) (caller.now, item.now.uid) ≡ false)
-        × (again.now ≡ given_up (rows_of base) item.now.uid targets.now.to)
-        × (dests.now ≡ missing (rows_of base) item.now.uid targets.now.to)
-        × (kept ≡ set.contains (all_kept_in (base 7)) item.now.uid))
-        (λ base db. Arrives (site_routing site.now) caller.now (instance_of item.now) (book_of base)
-        result (book_of db)
-        × OnlyTakes item.now (bodies_of base) (bodies_of db))
-        (λ base db.
-        IsAccepted site.now caller.now (instance_of item.now) (book_of base) (book_of db)) }
-    ensures number { OnOk result (n ≤ 2 ^ 62) }
+    ensures called { Called came.now.n (advanced result came.now.n) came.now.site.now result
+        (state S.Store conn.old) (state S.Store conn.new)
+        (λ base. IsThere base (instance_of came.now.item.now) whole
+        × (set.contains (arrivals_in (base 5)) (came.now.caller.now, came.now.item.now.uid) ≡ false)
+        × (queued.now.again.now ≡ given_up (rows_of base) came.now.item.now.uid targets.now.to)
+        × (queued.now.dests.now ≡ missing (rows_of base) came.now.item.now.uid targets.now.to)
+        × (kept ≡ set.contains (all_kept_in (base 7)) came.now.item.now.uid))
+        (λ base db. Arrives (site_routing came.now.site.now) came.now.caller.now
+        (instance_of came.now.item.now) (book_of base) result (book_of db)
+        × OnlyTakes came.now.item.now (bodies_of base) (bodies_of db))
+        (λ base db. IsAccepted came.now.site.now came.now.caller.now (instance_of came.now.item.now)
+        (book_of base) (book_of db)) }
+    ensures number { OnOk result (came.now.n ≤ 2 ^ 62) }
     ensures idle { conn.new.in_transaction ≡ false }
 {
     let keeps = keeps_now(targets.keep, kept);
-    let anew = again.as_slice();
-    let all = dests.as_slice();
-    let none = are_none(anew, all);
+    let none = are_none(queued);
     let taking = taking_of(whole, targets.keep, none);
-    bring_item(
-        conn, alloc, site, n, caller, item, targets, instance, taking, anew, all, keeps,
-    )
+    bring_item(conn, alloc, came, targets, taking, queued, keeps)
 }
 
 /// The same; whether it is kept is looked up.
 fn bring_missing<'x, S: Alter>(
     conn: &mut Connection<S>,
     alloc: Global,
-    site: &Site,
-    n: u64,
-    caller: &'x Text,
-    item: &'x Job,
-    instance: &'x Instance,
+    came: &'x Delivery<'x>,
     targets: &'x Targets,
     whole: bool,
     again: &'x Seq<Text>,
     dests: &'x Seq<Text>,
 ) -> Result<Arrived, LedgerFault>
     requires idle { conn.old.in_transaction ≡ false }
-    requires line { HasLineFor site.now caller.now item.now.key }
-    requires instance { instance.now ≡ instance_of item.now }
-    requires is_item { IsItem item.now }
-    requires to { targets.now.to ≡ (site_routing site.now).targets caller.now item.now.key }
-    requires keep { targets.now.keep ≡ (site_routing site.now).keeps caller.now item.now.key }
+    requires line { HasLineFor came.now.site.now came.now.caller.now came.now.item.now.key }
+    requires instance { came.now.instance.now ≡ instance_of came.now.item.now }
+    requires is_item { IsItem came.now.item.now }
+    requires to { targets.now.to
+        ≡ (site_routing came.now.site.now).targets came.now.caller.now came.now.item.now.key }
+    requires keep { targets.now.keep
+        ≡ (site_routing came.now.site.now).keeps came.now.caller.now came.now.item.now.key }
     requires formed { AreNames targets.now.to }
-    ensures called { Called n (advanced result n) site.now result (state S.Store conn.old)
-        (state S.Store conn.new)
-        (λ base. IsThere base (instance_of item.now) whole
-        × (set.contains (arrivals_in (base 5)) (caller.now, item.now.uid) ≡ false)
-        × (again.now ≡ given_up (rows_of base) item.now.uid targets.now.to)
-        × (dests.now ≡ missing (rows_of base) item.now.uid targets.now.to))
-        (λ base db. Arrives (site_routing site.now) caller.now (instance_of item.now) (book_of base)
-        result (book_of db)
-        × OnlyTakes item.now (bodies_of base) (bodies_of db))
-        (λ base db.
-        IsAccepted site.now caller.now (instance_of item.now) (book_of base) (book_of db)) }
-    ensures number { OnOk result (n ≤ 2 ^ 62) }
+    ensures called { Called came.now.n (advanced result came.now.n) came.now.site.now result
+        (state S.Store conn.old) (state S.Store conn.new)
+        (λ base. IsThere base (instance_of came.now.item.now) whole
+        × (set.contains (arrivals_in (base 5)) (came.now.caller.now, came.now.item.now.uid) ≡ false)
+        × (again.now ≡ given_up (rows_of base) came.now.item.now.uid targets.now.to)
+        × (dests.now ≡ missing (rows_of base) came.now.item.now.uid targets.now.to))
+        (λ base db. Arrives (site_routing came.now.site.now) came.now.caller.now
+        (instance_of came.now.item.now) (book_of base) result (book_of db)
+        × OnlyTakes came.now.item.now (bodies_of base) (bodies_of db))
+        (λ base db. IsAccepted came.now.site.now came.now.caller.now (instance_of came.now.item.now)
+        (book_of base) (book_of db)) }
+    ensures number { OnOk result (came.now.n ≤ 2 ^ 62) }
     ensures idle { conn.new.in_transaction ≡ false }
 {
-    match find_kept(conn, &item.uid) {
-        Ok(kept) => bring_kept(
-            conn, alloc, site, n, caller, item, instance, targets, whole, again, dests, kept,
-        ),
+    match find_kept(conn, &came.item.uid) {
+        Ok(kept) => {
+            let queued = Queued { again, dests };
+            bring_kept(conn, alloc, came, targets, whole, &queued, kept)
+        }
         Err(fault) => Err(fault),
     }
 }
@@ -246,39 +240,35 @@ fn bring_missing<'x, S: Alter>(
 fn bring_lacking<'x, S: Alter>(
     conn: &mut Connection<S>,
     alloc: Global,
-    site: &Site,
-    n: u64,
-    caller: &'x Text,
-    item: &'x Job,
-    instance: &'x Instance,
+    came: &'x Delivery<'x>,
     targets: &'x Targets,
     whole: bool,
     dests: &'x Seq<Text>,
 ) -> Result<Arrived, LedgerFault>
     requires idle { conn.old.in_transaction ≡ false }
-    requires line { HasLineFor site.now caller.now item.now.key }
-    requires instance { instance.now ≡ instance_of item.now }
-    requires is_item { IsItem item.now }
-    requires to { targets.now.to ≡ (site_routing site.now).targets caller.now item.now.key }
-    requires keep { targets.now.keep ≡ (site_routing site.now).keeps caller.now item.now.key }
+    requires line { HasLineFor came.now.site.now came.now.caller.now came.now.item.now.key }
+    requires instance { came.now.instance.now ≡ instance_of came.now.item.now }
+    requires is_item { IsItem came.now.item.now }
+    requires to { targets.now.to
+        ≡ (site_routing came.now.site.now).targets came.now.caller.now came.now.item.now.key }
+    requires keep { targets.now.keep
+        ≡ (site_routing came.now.site.now).keeps came.now.caller.now came.now.item.now.key }
     requires formed { AreNames targets.now.to }
-    ensures called { Called n (advanced result n) site.now result (state S.Store conn.old)
-        (state S.Store conn.new)
-        (λ base. IsThere base (instance_of item.now) whole
-        × (set.contains (arrivals_in (base 5)) (caller.now, item.now.uid) ≡ false)
-        × (dests.now ≡ missing (rows_of base) item.now.uid targets.now.to))
-        (λ base db. Arrives (site_routing site.now) caller.now (instance_of item.now) (book_of base)
-        result (book_of db)
-        × OnlyTakes item.now (bodies_of base) (bodies_of db))
-        (λ base db.
-        IsAccepted site.now caller.now (instance_of item.now) (book_of base) (book_of db)) }
-    ensures number { OnOk result (n ≤ 2 ^ 62) }
+    ensures called { Called came.now.n (advanced result came.now.n) came.now.site.now result
+        (state S.Store conn.old) (state S.Store conn.new)
+        (λ base. IsThere base (instance_of came.now.item.now) whole
+        × (set.contains (arrivals_in (base 5)) (came.now.caller.now, came.now.item.now.uid) ≡ false)
+        × (dests.now ≡ missing (rows_of base) came.now.item.now.uid targets.now.to))
+        (λ base db. Arrives (site_routing came.now.site.now) came.now.caller.now
+        (instance_of came.now.item.now) (book_of base) result (book_of db)
+        × OnlyTakes came.now.item.now (bodies_of base) (bodies_of db))
+        (λ base db. IsAccepted came.now.site.now came.now.caller.now (instance_of came.now.item.now)
+        (book_of base) (book_of db)) }
+    ensures number { OnOk result (came.now.n ≤ 2 ^ 62) }
     ensures idle { conn.new.in_transaction ≡ false }
 {
-    match chosen_of(conn, alloc, &item.uid, targets, true) {
-        Ok(again) => bring_missing(
-            conn, alloc, site, n, caller, item, instance, targets, whole, &again, dests,
-        ),
+    match chosen_of(conn, alloc, &came.item.uid, targets, true) {
+        Ok(again) => bring_missing(conn, alloc, came, targets, whole, &again, dests),
         Err(fault) => Err(fault),
     }
 }
@@ -287,37 +277,34 @@ fn bring_lacking<'x, S: Alter>(
 fn bring_known<'x, S: Alter>(
     conn: &mut Connection<S>,
     alloc: Global,
-    site: &Site,
-    n: u64,
-    caller: &'x Text,
-    item: &'x Job,
-    instance: &'x Instance,
+    came: &'x Delivery<'x>,
     targets: &'x Targets,
     whole: bool,
 ) -> Result<Arrived, LedgerFault>
     requires idle { conn.old.in_transaction ≡ false }
-    requires line { HasLineFor site.now caller.now item.now.key }
-    requires instance { instance.now ≡ instance_of item.now }
-    requires is_item { IsItem item.now }
-    requires to { targets.now.to ≡ (site_routing site.now).targets caller.now item.now.key }
-    requires keep { targets.now.keep ≡ (site_routing site.now).keeps caller.now item.now.key }
+    requires line { HasLineFor came.now.site.now came.now.caller.now came.now.item.now.key }
+    requires instance { came.now.instance.now ≡ instance_of came.now.item.now }
+    requires is_item { IsItem came.now.item.now }
+    requires to { targets.now.to
+        ≡ (site_routing came.now.site.now).targets came.now.caller.now came.now.item.now.key }
+    requires keep { targets.now.keep
+        ≡ (site_routing came.now.site.now).keeps came.now.caller.now came.now.item.now.key }
     requires formed { AreNames targets.now.to }
-    ensures called { Called n (advanced result n) site.now result (state S.Store conn.old)
-        (state S.Store conn.new)
-        (λ base. IsThere base (instance_of item.now) whole
-        × (set.contains (arrivals_in (base 5)) (caller.now, item.now.uid) ≡ false))
-        (λ base db. Arrives (site_routing site.now) caller.now (instance_of item.now) (book_of base)
-        result (book_of db)
-        × OnlyTakes item.now (bodies_of base) (bodies_of db))
-        (λ base db.
-        IsAccepted site.now caller.now (instance_of item.now) (book_of base) (book_of db)) }
-    ensures number { OnOk result (n ≤ 2 ^ 62) }
+    ensures called { Called came.now.n (advanced result came.now.n) came.now.site.now result
+        (state S.Store conn.old) (state S.Store conn.new)
+        (λ base. IsThere base (instance_of came.now.item.now) whole
+        × (set.contains (arrivals_in (base 5)) (came.now.caller.now, came.now.item.now.uid)
+        ≡ false))
+        (λ base db. Arrives (site_routing came.now.site.now) came.now.caller.now
+        (instance_of came.now.item.now) (book_of base) result (book_of db)
+        × OnlyTakes came.now.item.now (bodies_of base) (bodies_of db))
+        (λ base db. IsAccepted came.now.site.now came.now.caller.now (instance_of came.now.item.now)
+        (book_of base) (book_of db)) }
+    ensures number { OnOk result (came.now.n ≤ 2 ^ 62) }
     ensures idle { conn.new.in_transaction ≡ false }
 {
-    match chosen_of(conn, alloc, &item.uid, targets, false) {
-        Ok(dests) => bring_lacking(
-            conn, alloc, site, n, caller, item, instance, targets, whole, &dests,
-        ),
+    match chosen_of(conn, alloc, &came.item.uid, targets, false) {
+        Ok(dests) => bring_lacking(conn, alloc, came, targets, whole, &dests),
         Err(fault) => Err(fault),
     }
 }
@@ -326,33 +313,28 @@ fn bring_known<'x, S: Alter>(
 fn arrive_first<'x, S: Alter>(
     conn: &mut Connection<S>,
     alloc: Global,
-    site: &Site,
-    n: u64,
-    caller: &'x Text,
-    item: &'x Job,
-    instance: &'x Instance,
+    came: &'x Delivery<'x>,
     whole: bool,
 ) -> Result<Arrived, LedgerFault>
     requires idle { conn.old.in_transaction ≡ false }
-    requires line { HasLineFor site.now caller.now item.now.key }
-    requires instance { instance.now ≡ instance_of item.now }
-    requires is_item { IsItem item.now }
-    ensures called { Called n (advanced result n) site.now result (state S.Store conn.old)
-        (state S.Store conn.new)
-        (λ base. IsThere base (instance_of item.now) whole
-        × (set.contains (arrivals_in (base 5)) (caller.now, item.now.uid) ≡ false))
-        (λ base db. Arrives (site_routing site.now) caller.now (instance_of item.now) (book_of base)
-        result (book_of db)
-        × OnlyTakes item.now (bodies_of base) (bodies_of db))
-        (λ base db.
-        IsAccepted site.now caller.now (instance_of item.now) (book_of base) (book_of db)) }
-    ensures number { OnOk result (n ≤ 2 ^ 62) }
+    requires line { HasLineFor came.now.site.now came.now.caller.now came.now.item.now.key }
+    requires instance { came.now.instance.now ≡ instance_of came.now.item.now }
+    requires is_item { IsItem came.now.item.now }
+    ensures called { Called came.now.n (advanced result came.now.n) came.now.site.now result
+        (state S.Store conn.old) (state S.Store conn.new)
+        (λ base. IsThere base (instance_of came.now.item.now) whole
+        × (set.contains (arrivals_in (base 5)) (came.now.caller.now, came.now.item.now.uid)
+        ≡ false))
+        (λ base db. Arrives (site_routing came.now.site.now) came.now.caller.now
+        (instance_of came.now.item.now) (book_of base) result (book_of db)
+        × OnlyTakes came.now.item.now (bodies_of base) (bodies_of db))
+        (λ base db. IsAccepted came.now.site.now came.now.caller.now (instance_of came.now.item.now)
+        (book_of base) (book_of db)) }
+    ensures number { OnOk result (came.now.n ≤ 2 ^ 62) }
     ensures idle { conn.new.in_transaction ≡ false }
 {
-    match targets_of(alloc, site, caller, &item.key) {
-        Ok(targets) => bring_known(
-            conn, alloc, site, n, caller, item, instance, &targets, whole,
-        ),
+    match targets_of(alloc, came.site, came.caller, &came.item.key) {
+        Ok(targets) => bring_known(conn, alloc, came, &targets, whole),
         Err(_) => Err(LedgerFault::Memory),
     }
 }
@@ -361,64 +343,57 @@ fn arrive_first<'x, S: Alter>(
 fn arrive_there<'x, S: Alter>(
     conn: &mut Connection<S>,
     alloc: Global,
-    site: &Site,
-    n: u64,
-    caller: &'x Text,
-    item: &'x Job,
-    instance: &'x Instance,
+    came: &'x Delivery<'x>,
     whole: bool,
     brought: bool,
 ) -> Result<Arrived, LedgerFault>
     requires idle { conn.old.in_transaction ≡ false }
-    requires line { HasLineFor site.now caller.now item.now.key }
-    requires instance { instance.now ≡ instance_of item.now }
-    requires is_item { IsItem item.now }
-    ensures called { Called n (advanced result n) site.now result (state S.Store conn.old)
-        (state S.Store conn.new)
-        (λ base. IsThere base (instance_of item.now) whole
-        × (brought ≡ set.contains (arrivals_in (base 5)) (caller.now, item.now.uid)))
-        (λ base db. Arrives (site_routing site.now) caller.now (instance_of item.now) (book_of base)
-        result (book_of db)
-        × OnlyTakes item.now (bodies_of base) (bodies_of db))
-        (λ base db.
-        IsAccepted site.now caller.now (instance_of item.now) (book_of base) (book_of db)) }
-    ensures number { OnOk result (n ≤ 2 ^ 62) }
+    requires line { HasLineFor came.now.site.now came.now.caller.now came.now.item.now.key }
+    requires instance { came.now.instance.now ≡ instance_of came.now.item.now }
+    requires is_item { IsItem came.now.item.now }
+    ensures called { Called came.now.n (advanced result came.now.n) came.now.site.now result
+        (state S.Store conn.old) (state S.Store conn.new)
+        (λ base. IsThere base (instance_of came.now.item.now) whole
+        × (brought
+        ≡ set.contains (arrivals_in (base 5)) (came.now.caller.now, came.now.item.now.uid)))
+        (λ base db. Arrives (site_routing came.now.site.now) came.now.caller.now
+        (instance_of came.now.item.now) (book_of base) result (book_of db)
+        × OnlyTakes came.now.item.now (bodies_of base) (bodies_of db))
+        (λ base db. IsAccepted came.now.site.now came.now.caller.now (instance_of came.now.item.now)
+        (book_of base) (book_of db)) }
+    ensures number { OnOk result (came.now.n ≤ 2 ^ 62) }
     ensures idle { conn.new.in_transaction ≡ false }
 {
     if brought {
-        return repeat(conn, site, n, caller, item, instance, whole);
+        return repeat(conn, came, whole);
     }
-    arrive_first(conn, alloc, site, n, caller, item, instance, whole)
+    arrive_first(conn, alloc, came, whole)
 }
 
 /// The same; whether the caller has brought it is looked up.
 fn arrive_known<'x, S: Alter>(
     conn: &mut Connection<S>,
     alloc: Global,
-    site: &Site,
-    n: u64,
-    caller: &'x Text,
-    item: &'x Job,
-    instance: &'x Instance,
+    came: &'x Delivery<'x>,
     whole: bool,
 ) -> Result<Arrived, LedgerFault>
     requires idle { conn.old.in_transaction ≡ false }
-    requires line { HasLineFor site.now caller.now item.now.key }
-    requires instance { instance.now ≡ instance_of item.now }
-    requires is_item { IsItem item.now }
-    ensures called { Called n (advanced result n) site.now result (state S.Store conn.old)
-        (state S.Store conn.new)
-        (λ base. IsThere base (instance_of item.now) whole)
-        (λ base db. Arrives (site_routing site.now) caller.now (instance_of item.now) (book_of base)
-        result (book_of db)
-        × OnlyTakes item.now (bodies_of base) (bodies_of db))
-        (λ base db.
-        IsAccepted site.now caller.now (instance_of item.now) (book_of base) (book_of db)) }
-    ensures number { OnOk result (n ≤ 2 ^ 62) }
+    requires line { HasLineFor came.now.site.now came.now.caller.now came.now.item.now.key }
+    requires instance { came.now.instance.now ≡ instance_of came.now.item.now }
+    requires is_item { IsItem came.now.item.now }
+    ensures called { Called came.now.n (advanced result came.now.n) came.now.site.now result
+        (state S.Store conn.old) (state S.Store conn.new)
+        (λ base. IsThere base (instance_of came.now.item.now) whole)
+        (λ base db. Arrives (site_routing came.now.site.now) came.now.caller.now
+        (instance_of came.now.item.now) (book_of base) result (book_of db)
+        × OnlyTakes came.now.item.now (bodies_of base) (bodies_of db))
+        (λ base db. IsAccepted came.now.site.now came.now.caller.now (instance_of came.now.item.now)
+        (book_of base) (book_of db)) }
+    ensures number { OnOk result (came.now.n ≤ 2 ^ 62) }
     ensures idle { conn.new.in_transaction ≡ false }
 {
-    match find_arrival(conn, caller, &item.uid) {
-        Ok(brought) => arrive_there(conn, alloc, site, n, caller, item, instance, whole, brought),
+    match find_arrival(conn, came.caller, &came.item.uid) {
+        Ok(brought) => arrive_there(conn, alloc, came, whole, brought),
         Err(fault) => Err(fault),
     }
 }
@@ -427,29 +402,25 @@ fn arrive_known<'x, S: Alter>(
 fn arrive_new<'x, S: Alter>(
     conn: &mut Connection<S>,
     alloc: Global,
-    site: &Site,
-    n: u64,
-    caller: &'x Text,
-    item: &'x Job,
-    instance: &'x Instance,
+    came: &'x Delivery<'x>,
 ) -> Result<Arrived, LedgerFault>
     requires idle { conn.old.in_transaction ≡ false }
-    requires line { HasLineFor site.now caller.now item.now.key }
-    requires instance { instance.now ≡ instance_of item.now }
-    requires is_item { IsItem item.now }
-    ensures called { Called n (advanced result n) site.now result (state S.Store conn.old)
-        (state S.Store conn.new)
-        (λ base. HasNeither item.now.uid base)
-        (λ base db. Arrives (site_routing site.now) caller.now (instance_of item.now) (book_of base)
-        result (book_of db)
-        × OnlyTakes item.now (bodies_of base) (bodies_of db))
-        (λ base db.
-        IsAccepted site.now caller.now (instance_of item.now) (book_of base) (book_of db)) }
-    ensures number { OnOk result (n ≤ 2 ^ 62) }
+    requires line { HasLineFor came.now.site.now came.now.caller.now came.now.item.now.key }
+    requires instance { came.now.instance.now ≡ instance_of came.now.item.now }
+    requires is_item { IsItem came.now.item.now }
+    ensures called { Called came.now.n (advanced result came.now.n) came.now.site.now result
+        (state S.Store conn.old) (state S.Store conn.new)
+        (λ base. HasNeither came.now.item.now.uid base)
+        (λ base db. Arrives (site_routing came.now.site.now) came.now.caller.now
+        (instance_of came.now.item.now) (book_of base) result (book_of db)
+        × OnlyTakes came.now.item.now (bodies_of base) (bodies_of db))
+        (λ base db. IsAccepted came.now.site.now came.now.caller.now (instance_of came.now.item.now)
+        (book_of base) (book_of db)) }
+    ensures number { OnOk result (came.now.n ≤ 2 ^ 62) }
     ensures idle { conn.new.in_transaction ≡ false }
 {
-    match targets_of(alloc, site, caller, &item.key) {
-        Ok(targets) => bring_new(conn, alloc, site, n, caller, item, &targets, instance),
+    match targets_of(alloc, came.site, came.caller, &came.item.key) {
+        Ok(targets) => bring_new(conn, alloc, came, &targets),
         Err(_) => Err(LedgerFault::Memory),
     }
 }
@@ -458,34 +429,28 @@ fn arrive_new<'x, S: Alter>(
 fn arrive_by<'x, S: Alter>(
     conn: &mut Connection<S>,
     alloc: Global,
-    site: &Site,
-    n: u64,
-    caller: &'x Text,
-    item: &'x Job,
-    instance: &'x Instance,
+    came: &'x Delivery<'x>,
     known: Known,
 ) -> Result<Arrived, LedgerFault>
     requires idle { conn.old.in_transaction ≡ false }
-    requires line { HasLineFor site.now caller.now item.now.key }
-    requires instance { instance.now ≡ instance_of item.now }
-    requires is_item { IsItem item.now }
-    ensures called { Called n (advanced result n) site.now result (state S.Store conn.old)
-        (state S.Store conn.new)
-        (λ base. IsKnown base (instance_of item.now) known)
-        (λ base db. Arrives (site_routing site.now) caller.now (instance_of item.now) (book_of base)
-        result (book_of db)
-        × OnlyTakes item.now (bodies_of base) (bodies_of db))
-        (λ base db.
-        IsAccepted site.now caller.now (instance_of item.now) (book_of base) (book_of db)) }
-    ensures number { OnOk result (n ≤ 2 ^ 62) }
+    requires line { HasLineFor came.now.site.now came.now.caller.now came.now.item.now.key }
+    requires instance { came.now.instance.now ≡ instance_of came.now.item.now }
+    requires is_item { IsItem came.now.item.now }
+    ensures called { Called came.now.n (advanced result came.now.n) came.now.site.now result
+        (state S.Store conn.old) (state S.Store conn.new)
+        (λ base. IsKnown base (instance_of came.now.item.now) known)
+        (λ base db. Arrives (site_routing came.now.site.now) came.now.caller.now
+        (instance_of came.now.item.now) (book_of base) result (book_of db)
+        × OnlyTakes came.now.item.now (bodies_of base) (bodies_of db))
+        (λ base db. IsAccepted came.now.site.now came.now.caller.now (instance_of came.now.item.now)
+        (book_of base) (book_of db)) }
+    ensures number { OnOk result (came.now.n ≤ 2 ^ 62) }
     ensures idle { conn.new.in_transaction ≡ false }
 {
     match known {
-        Known::No => arrive_new(conn, alloc, site, n, caller, item, instance),
+        Known::No => arrive_new(conn, alloc, came),
         Known::Other => Err(LedgerFault::Conflict),
-        Known::Same { whole } => {
-            arrive_known(conn, alloc, site, n, caller, item, instance, whole)
-        }
+        Known::Same { whole } => arrive_known(conn, alloc, came, whole),
     }
 }
 
@@ -496,28 +461,24 @@ fn arrive_by<'x, S: Alter>(
 pub fn receive<'x, S: Alter>(
     conn: &mut Connection<S>,
     alloc: Global,
-    site: &Site,
-    n: u64,
-    caller: &'x Text,
-    item: &'x Job,
-    instance: &'x Instance,
+    came: &'x Delivery<'x>,
 ) -> Result<Arrived, LedgerFault>
     requires idle { conn.old.in_transaction ≡ false }
-    requires line { HasLineFor site.now caller.now item.now.key }
-    requires instance { instance.now ≡ instance_of item.now }
-    requires is_item { IsItem item.now }
-    ensures called { Called n (advanced result n) site.now result (state S.Store conn.old)
-        (state S.Store conn.new) Nothing
-        (λ base db. Arrives (site_routing site.now) caller.now (instance_of item.now) (book_of base)
-        result (book_of db)
-        × OnlyTakes item.now (bodies_of base) (bodies_of db))
-        (λ base db.
-        IsAccepted site.now caller.now (instance_of item.now) (book_of base) (book_of db)) }
-    ensures number { OnOk result (n ≤ 2 ^ 62) }
+    requires line { HasLineFor came.now.site.now came.now.caller.now came.now.item.now.key }
+    requires instance { came.now.instance.now ≡ instance_of came.now.item.now }
+    requires is_item { IsItem came.now.item.now }
+    ensures called { Called came.now.n (advanced result came.now.n) came.now.site.now result
+        (state S.Store conn.old) (state S.Store conn.new) Nothing
+        (λ base db. Arrives (site_routing came.now.site.now) came.now.caller.now
+        (instance_of came.now.item.now) (book_of base) result (book_of db)
+        × OnlyTakes came.now.item.now (bodies_of base) (bodies_of db))
+        (λ base db. IsAccepted came.now.site.now came.now.caller.now (instance_of came.now.item.now)
+        (book_of base) (book_of db)) }
+    ensures number { OnOk result (came.now.n ≤ 2 ^ 62) }
     ensures idle { conn.new.in_transaction ≡ false }
 {
-    match know(conn, alloc, instance) {
-        Ok(known) => arrive_by(conn, alloc, site, n, caller, item, instance, known),
+    match know(conn, alloc, came.instance) {
+        Ok(known) => arrive_by(conn, alloc, came, known),
         Err(fault) => Err(fault),
     }
 }
@@ -550,7 +511,14 @@ pub fn arrive<'x, S: Alter>(
     match item.instance() {
         Ok(instance) => {
             let job = item.into_job();
-            receive(conn, alloc, site, n, caller, &job, &instance)
+            let came = Delivery {
+                site,
+                n,
+                caller,
+                item: &job,
+                instance: &instance,
+            };
+            receive(conn, alloc, &came)
         }
         Err(_) => Err(LedgerFault::Memory),
     }

@@ -25,56 +25,62 @@ invariant_of-change g c = record { size = let P : Instance → Type 0 = λ i. i.
 
 pub returns-in-Ok-clause-called : goal.returns-in-Ok-clause-called
 returns-in-Ok-clause-called g c =
-    let n = c.args.n in
-    let part = c.args.site.now in
-    let caller = c.args.caller.now in
-    let item = c.args.item.now in
+    let n = c.args.came.now.n in
+    let part = c.args.came.now.site.now in
+    let caller = c.args.came.now.caller.now in
+    let item = c.args.came.now.item.now in
     let how = c.args.taking in
     let to = c.args.targets.now.to in
     let keep = c.args.targets.now.keep in
-    let again = c.args.again.now in
-    let dests = c.args.dests.now in
+    let again = c.args.queued.now.again.now in
+    let dests = c.args.queued.now.dests.now in
     let keeps = c.args.keeps in
     let old = state g.S.Store c.args.conn.now in
     let new = state g.S.Store c.written.new.conn in
-    let Made : Instance → List ℕ → List Text → Trees → Trees → Type 0 = λ instance body names. Brings how caller instance body again dests keeps names n in
+    let Made : Instance → List ℕ → List Text → List Text → List Text → Trees → Trees → Type 0 = λ instance body ys ds names. Brings how caller instance body ys ds keeps names n in
     let Asks : Trees → Type 0 = λ base. Fits how caller item to keep again dests keeps base in
     let Makes : Trees → Trees → Type 0 = λ base db. Arrives (site_routing part) caller (instance_of item) (book_of base) (Ok New) (book_of db) in
     let Answers : Trees → Trees → Type 0 = λ base db. Arrives (site_routing part) caller (instance_of item) (book_of base) (Ok New) (book_of db) × OnlyTakes item (bodies_of base) (bodies_of db) in
-    let Wants : List ℕ → Trees → Type 0 = λ uid db. AsksToTake how uid db × HasRows uid again db in
-    let W : Instance → List ℕ → List Text → Type 0 = λ instance body names. Written {E = LedgerFault} n (Wants instance.uid) (Made instance body names) (Ok tt) old new in
-    made_called n part (Wants item.uid) Asks (Made (instance_of item) item.body (names_for keep to)) Answers Makes old new (λ h. c.written.ensures.idle) (λ ready l fits. (fits.asks, rows_there old.committed.trees item.uid to again fits.again_are)) New
-    (subst (λ names. W (instance_of item) item.body names) c.requires.names (subst (λ body. W (instance_of item) body c.args.names.now) c.as_bytes.ensures
-    (subst (λ i. W i c.as_bytes.result.now c.args.names.now) c.requires.instance c.in-Ok.ensures.written)))
+    let Wants : List ℕ → List Text → Trees → Type 0 = λ uid ys db. AsksToTake how uid db × HasRows uid ys db in
+    let W : Instance → List ℕ → List Text → List Text → List Text → Type 0 = λ instance body ys ds names. Written {E = LedgerFault} n (Wants instance.uid ys) (Made instance body ys ds names) (Ok tt) old new in
+    made_called n part (Wants item.uid again) Asks (Made (instance_of item) item.body again dests (names_for keep to)) Answers Makes old new (λ h. c.written.ensures.idle) (λ ready l fits. (fits.asks, rows_there old.committed.trees item.uid to again fits.again_are)) New
+    (subst (λ names. W (instance_of item) item.body again dests names) c.requires.names
+    (subst (λ body. W (instance_of item) body again dests c.args.names.now) c.as_bytes.ensures
+    (subst (λ ds. W (instance_of item) c.as_bytes.result.now again ds c.args.names.now) c.as_slice-dests.ensures
+    (subst (λ ys. W (instance_of item) c.as_bytes.result.now ys c.as_slice-dests.result.now c.args.names.now) c.as_slice-again.ensures
+    (subst (λ i. W i c.as_bytes.result.now c.as_slice-again.result.now c.as_slice-dests.result.now c.args.names.now) c.requires.instance c.in-Ok.ensures.written)))))
     (λ ready l fits db w.
     let it = arrives n part how caller item to keep again dests keeps old.committed.trees db c.requires.is_item c.requires.line c.requires.to c.requires.keep c.requires.formed (below_of n old ready) l fits w in
     (it.0, it.1, it.1.0))
 
 pub returns-in-Err-clause-called : goal.returns-in-Err-clause-called
 returns-in-Err-clause-called g c =
-    let n = c.args.n in
-    let part = c.args.site.now in
-    let caller = c.args.caller.now in
-    let item = c.args.item.now in
+    let n = c.args.came.now.n in
+    let part = c.args.came.now.site.now in
+    let caller = c.args.came.now.caller.now in
+    let item = c.args.came.now.item.now in
     let how = c.args.taking in
     let to = c.args.targets.now.to in
     let keep = c.args.targets.now.keep in
-    let again = c.args.again.now in
-    let dests = c.args.dests.now in
+    let again = c.args.queued.now.again.now in
+    let dests = c.args.queued.now.dests.now in
     let keeps = c.args.keeps in
     let old = state g.S.Store c.args.conn.now in
     let new = state g.S.Store c.written.new.conn in
-    let Made : Instance → List ℕ → List Text → Trees → Trees → Type 0 = λ instance body names. Brings how caller instance body again dests keeps names n in
+    let Made : Instance → List ℕ → List Text → List Text → List Text → Trees → Trees → Type 0 = λ instance body ys ds names. Brings how caller instance body ys ds keeps names n in
     let Asks : Trees → Type 0 = λ base. Fits how caller item to keep again dests keeps base in
     let Makes : Trees → Trees → Type 0 = λ base db. Arrives (site_routing part) caller (instance_of item) (book_of base) (Ok New) (book_of db) in
     let e = c.in-Err.fault in
     let Answers : Trees → Trees → Type 0 = λ base db. Arrives (site_routing part) caller (instance_of item) (book_of base) (Err e) (book_of db) × OnlyTakes item (bodies_of base) (bodies_of db) in
-    let Wants : List ℕ → Trees → Type 0 = λ uid db. AsksToTake how uid db × HasRows uid again db in
-    let W : Instance → List ℕ → List Text → Type 0 = λ instance body names. Written {E = LedgerFault} n (Wants instance.uid) (Made instance body names) (Err e) old new in
-    unmade_called {A = Arrived} n part (Wants item.uid) Asks (Made (instance_of item) item.body (names_for keep to)) Answers Makes old new (λ h. c.written.ensures.idle) (λ ready l fits. (fits.asks, rows_there old.committed.trees item.uid to again fits.again_are)) e
+    let Wants : List ℕ → List Text → Trees → Type 0 = λ uid ys db. AsksToTake how uid db × HasRows uid ys db in
+    let W : Instance → List ℕ → List Text → List Text → List Text → Type 0 = λ instance body ys ds names. Written {E = LedgerFault} n (Wants instance.uid ys) (Made instance body ys ds names) (Err e) old new in
+    unmade_called {A = Arrived} n part (Wants item.uid again) Asks (Made (instance_of item) item.body again dests (names_for keep to)) Answers Makes old new (λ h. c.written.ensures.idle) (λ ready l fits. (fits.asks, rows_there old.committed.trees item.uid to again fits.again_are)) e
     c.in-Err.ensures.fault
-    (subst (λ names. W (instance_of item) item.body names) c.requires.names (subst (λ body. W (instance_of item) body c.args.names.now) c.as_bytes.ensures
-    (subst (λ i. W i c.as_bytes.result.now c.args.names.now) c.requires.instance c.in-Err.ensures.written)))
+    (subst (λ names. W (instance_of item) item.body again dests names) c.requires.names
+    (subst (λ body. W (instance_of item) body again dests c.args.names.now) c.as_bytes.ensures
+    (subst (λ ds. W (instance_of item) c.as_bytes.result.now again ds c.args.names.now) c.as_slice-dests.ensures
+    (subst (λ ys. W (instance_of item) c.as_bytes.result.now ys c.as_slice-dests.result.now c.args.names.now) c.as_slice-again.ensures
+    (subst (λ i. W i c.as_bytes.result.now c.as_slice-again.result.now c.as_slice-dests.result.now c.args.names.now) c.requires.instance c.in-Err.ensures.written)))))
     (λ ready l fits db w.
     (arrives n part how caller item to keep again dests keeps old.committed.trees db c.requires.is_item c.requires.line c.requires.to c.requires.keep c.requires.formed (below_of n old ready) l fits w).1.0)
     (λ fits. (arrives_own part caller (instance_of item) (book_of old.committed.trees) e c.requires.line c.in-Err.ensures.fault, takes_none item (bodies_of old.committed.trees)))

@@ -18,22 +18,20 @@ use Rattle.dr_store_calls.proofs.arriving.bring_new.Goals as goal
 
 pub returns-clause-called : goal.returns-clause-called
 returns-clause-called g c =
-    let n = c.args.n in
-    let part = c.args.site.now in
-    let caller = c.args.caller.now in
-    let item = c.args.item.now in
+    let n = c.args.came.now.n in
+    let part = c.args.came.now.site.now in
+    let caller = c.args.came.now.caller.now in
+    let item = c.args.came.now.item.now in
     let to = c.args.targets.now.to in
     let keep = c.args.targets.now.keep in
     let t = c.taking_of-taking.result in
     let r = c.bring_item.result in
-    let anew = c.as_slice-again.result.now in
-    let all : c.as_slice-to.result.now ≡ to = c.as_slice-to.ensures in
-    let none : anew ≡ [] = c.as_slice-again.ensures ∙ c.new-none.ensures in
-    let how : t ≡ taking_absent keep (length to == 0) = c.taking_of-taking.ensures ∙ ap (λ none. taking_absent keep none) (c.is_empty.ensures ∙ ap (λ ds. length ds == 0) all) in
+    let anew = c.new-none.result in
+    let none : anew ≡ [] = c.new-none.ensures in
+    let how : t ≡ taking_absent keep (length to == 0) = c.taking_of-taking.ensures ∙ ap (λ none. taking_absent keep none) c.is_empty.ensures in
     let Answers : Trees → Trees → Type 0 = λ base db. Arrives (site_routing part) caller (instance_of item) (book_of base) r (book_of db) × OnlyTakes item (bodies_of base) (bodies_of db) in
     let Makes : Trees → Trees → Type 0 = λ base db. Arrives (site_routing part) caller (instance_of item) (book_of base) (Ok New) (book_of db) in
-    let Wants : Taking → List Text → List Text → Trees → Type 0 = λ how again dests base. Fits how caller item to keep again dests keep base in
-    asked_as n (advanced r n) part r (state g.S.Store c.args.conn.now) (state g.S.Store c.bring_item.new.conn) (Wants t anew c.as_slice-to.result.now) (HasNeither item.uid) Answers Makes
-    (λ base l neither. subst (λ x. Wants x anew c.as_slice-to.result.now base) (sym how) (subst (λ again. Wants (taking_absent keep (length to == 0)) again c.as_slice-to.result.now base) (sym none)
-    (subst (λ dests. Wants (taking_absent keep (length to == 0)) [] dests base) (sym all) (fits_absent n part caller item to keep base l neither))))
+    let Wants : Taking → List Text → Trees → Type 0 = λ how again base. Fits how caller item to keep again to keep base in
+    asked_as n (advanced r n) part r (state g.S.Store c.args.conn.now) (state g.S.Store c.bring_item.new.conn) (Wants t anew) (HasNeither item.uid) Answers Makes
+    (λ base l neither. subst (λ x. Wants x anew base) (sym how) (subst (λ again. Wants (taking_absent keep (length to == 0)) again base) (sym none) (fits_absent n part caller item to keep base l neither)))
     c.bring_item.ensures.called

@@ -24,10 +24,10 @@ invariant_of-change g c = record { size = let P : Instance → Type 0 = λ i. i.
 
 pub returns-in-Ok-clause-called : goal.returns-in-Ok-clause-called
 returns-in-Ok-clause-called g c =
-    let n = c.args.n in
-    let part = c.args.site.now in
-    let caller = c.args.caller.now in
-    let item = c.args.item.now in
+    let n = c.args.came.now.n in
+    let part = c.args.came.now.site.now in
+    let caller = c.args.came.now.caller.now in
+    let item = c.args.came.now.item.now in
     let old = state g.S.Store c.args.conn.now in
     let new = state g.S.Store c.written.new.conn in
     let Line : Instance → Trees → Trees → Type 0 = λ came. AddsOnlyLine (arrived_line n 1 caller came) in
@@ -40,10 +40,10 @@ returns-in-Ok-clause-called g c =
 
 pub returns-in-Err-clause-called : goal.returns-in-Err-clause-called
 returns-in-Err-clause-called g c =
-    let n = c.args.n in
-    let part = c.args.site.now in
-    let caller = c.args.caller.now in
-    let item = c.args.item.now in
+    let n = c.args.came.now.n in
+    let part = c.args.came.now.site.now in
+    let caller = c.args.came.now.caller.now in
+    let item = c.args.came.now.item.now in
     let e = c.in-Err.fault in
     let old = state g.S.Store c.args.conn.now in
     let new = state g.S.Store c.written.new.conn in

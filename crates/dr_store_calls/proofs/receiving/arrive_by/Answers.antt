@@ -13,10 +13,10 @@ use Rattle.dr_store_calls.proofs.receiving.arrive_by.Goals as goal
 
 pub returns-in-No-clause-called : goal.returns-in-No-clause-called
 returns-in-No-clause-called g c =
-    let n = c.args.n in
-    let part = c.args.site.now in
-    let caller = c.args.caller.now in
-    let item = c.args.item.now in
+    let n = c.args.came.now.n in
+    let part = c.args.came.now.site.now in
+    let caller = c.args.came.now.caller.now in
+    let item = c.args.came.now.item.now in
     let old = state g.S.Store c.args.conn.now in
     let r = c.arrive_new.result in
     let new = state g.S.Store c.arrive_new.new.conn in
@@ -25,10 +25,10 @@ returns-in-No-clause-called g c =
 
 pub returns-in-Other-clause-called : goal.returns-in-Other-clause-called
 returns-in-Other-clause-called g c =
-    let n = c.args.n in
-    let part = c.args.site.now in
-    let caller = c.args.caller.now in
-    let item = c.args.item.now in
+    let n = c.args.came.now.n in
+    let part = c.args.came.now.site.now in
+    let caller = c.args.came.now.caller.now in
+    let item = c.args.came.now.item.now in
     let old = state g.S.Store c.args.conn.now in
     let Knows : Known → Trees → Type 0 = λ what base. IsKnown base (instance_of item) what in
     still_called n part (Err fault.Conflict) old (Knows c.args.known) (AnswersTo part caller item (Err fault.Conflict)) (Accepts part caller item)
@@ -36,10 +36,10 @@ returns-in-Other-clause-called g c =
 
 pub returns-in-Same-clause-called : goal.returns-in-Same-clause-called
 returns-in-Same-clause-called g c =
-    let n = c.args.n in
-    let part = c.args.site.now in
-    let caller = c.args.caller.now in
-    let item = c.args.item.now in
+    let n = c.args.came.now.n in
+    let part = c.args.came.now.site.now in
+    let caller = c.args.came.now.caller.now in
+    let item = c.args.came.now.item.now in
     let old = state g.S.Store c.args.conn.now in
     let r = c.arrive_known.result in
     let new = state g.S.Store c.arrive_known.new.conn in

@@ -14,10 +14,10 @@ use Rattle.dr_store_calls.proofs.receiving.arrive_new.Goals as goal
 
 pub returns-in-Ok-clause-called : goal.returns-in-Ok-clause-called
 returns-in-Ok-clause-called g c =
-    let n = c.args.n in
-    let part = c.args.site.now in
-    let caller = c.args.caller.now in
-    let item = c.args.item.now in
+    let n = c.args.came.now.n in
+    let part = c.args.came.now.site.now in
+    let caller = c.args.came.now.caller.now in
+    let item = c.args.came.now.item.now in
     let old = state g.S.Store c.args.conn.now in
     let r = c.bring_new.result in
     let new = state g.S.Store c.bring_new.new.conn in
@@ -25,4 +25,4 @@ returns-in-Ok-clause-called g c =
     called_as n (advanced r n) part r old new (HasNeither item.uid) (HasNeither item.uid) (AnswersTo part caller item r) Makes (Accepts part caller item) (λ db l asks. asks) (λ base db is. (New, is)) c.bring_new.ensures.called
 
 pub returns-in-Err-clause-called : goal.returns-in-Err-clause-called
-returns-in-Err-clause-called g c = no_memory c.args.n c.args.site.now (state g.S.Store c.args.conn.now) _ c.args.caller.now c.args.item.now c.requires.line
+returns-in-Err-clause-called g c = no_memory c.args.came.now.n c.args.came.now.site.now (state g.S.Store c.args.conn.now) _ c.args.came.now.caller.now c.args.came.now.item.now c.requires.line

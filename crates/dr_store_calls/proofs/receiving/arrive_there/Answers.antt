@@ -15,10 +15,10 @@ use Rattle.dr_store_calls.proofs.receiving.arrive_there.Goals as goal
 
 pub returns-then-brought-clause-called : goal.returns-then-brought-clause-called
 returns-then-brought-clause-called g c =
-    let n = c.args.n in
-    let part = c.args.site.now in
-    let caller = c.args.caller.now in
-    let item = c.args.item.now in
+    let n = c.args.came.now.n in
+    let part = c.args.came.now.site.now in
+    let caller = c.args.came.now.caller.now in
+    let item = c.args.came.now.item.now in
     let old = state g.S.Store c.args.conn.now in
     let r = c.repeat.result in
     let new = state g.S.Store c.repeat.new.conn in
@@ -29,10 +29,10 @@ returns-then-brought-clause-called g c =
 
 pub returns-clause-called : goal.returns-clause-called
 returns-clause-called g c =
-    let n = c.args.n in
-    let part = c.args.site.now in
-    let caller = c.args.caller.now in
-    let item = c.args.item.now in
+    let n = c.args.came.now.n in
+    let part = c.args.came.now.site.now in
+    let caller = c.args.came.now.caller.now in
+    let item = c.args.came.now.item.now in
     let old = state g.S.Store c.args.conn.now in
     let r = c.arrive_first.result in
     let new = state g.S.Store c.arrive_first.new.conn in

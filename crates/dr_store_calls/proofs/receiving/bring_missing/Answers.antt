@@ -13,10 +13,10 @@ use Rattle.dr_store_calls.proofs.receiving.bring_missing.Goals as goal
 
 pub returns-in-Ok-clause-called : goal.returns-in-Ok-clause-called
 returns-in-Ok-clause-called g c =
-    let n = c.args.n in
-    let part = c.args.site.now in
-    let caller = c.args.caller.now in
-    let item = c.args.item.now in
+    let n = c.args.came.now.n in
+    let part = c.args.came.now.site.now in
+    let caller = c.args.came.now.caller.now in
+    let item = c.args.came.now.item.now in
     let old = state g.S.Store c.args.conn.now in
     let r = c.bring_kept.result in
     let mid = state g.S.Store c.find_kept.new.conn in
@@ -30,10 +30,10 @@ returns-in-Ok-clause-called g c =
 
 pub returns-in-Err-clause-called : goal.returns-in-Err-clause-called
 returns-in-Err-clause-called g c =
-    let n = c.args.n in
-    let part = c.args.site.now in
-    let caller = c.args.caller.now in
-    let item = c.args.item.now in
+    let n = c.args.came.now.n in
+    let part = c.args.came.now.site.now in
+    let caller = c.args.came.now.caller.now in
+    let item = c.args.came.now.item.now in
     let old = state g.S.Store c.args.conn.now in
     let mid = state g.S.Store c.find_kept.new.conn in
     let Shows : Trees → Bool → Type 0 = λ base kept. kept ≡ set.contains (all_kept_in (base 7)) item.uid in

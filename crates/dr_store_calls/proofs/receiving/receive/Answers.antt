@@ -12,15 +12,15 @@ use Rattle.dr_store_calls.proofs.receiving.receive.Goals as goal
 
 pub returns-in-Ok-clause-called : goal.returns-in-Ok-clause-called
 returns-in-Ok-clause-called g c =
-    let n = c.args.n in
-    let part = c.args.site.now in
-    let caller = c.args.caller.now in
-    let item = c.args.item.now in
+    let n = c.args.came.now.n in
+    let part = c.args.came.now.site.now in
+    let caller = c.args.came.now.caller.now in
+    let item = c.args.came.now.item.now in
     let old = state g.S.Store c.args.conn.now in
     let r = c.arrive_by.result in
     let mid = state g.S.Store c.know.new.conn in
     let new = state g.S.Store c.arrive_by.new.conn in
-    let Shows : Trees → Known → Type 0 = λ base known. IsKnown base c.args.instance.now known in
+    let Shows : Trees → Known → Type 0 = λ base known. IsKnown base c.args.came.now.instance.now known in
     let Asks : Trees → Type 0 = Nothing in
     let Given : Trees → Type 0 = λ base. IsKnown base (instance_of item) c.in-Ok.known in
     looked_then n (advanced r n) part old mid new Shows c.in-Ok.known r Asks Given (AnswersTo part caller item r) (Accepts part caller item) (AnswersTo part caller item r) (Accepts part caller item)
@@ -29,12 +29,12 @@ returns-in-Ok-clause-called g c =
 
 pub returns-in-Err-clause-called : goal.returns-in-Err-clause-called
 returns-in-Err-clause-called g c =
-    let n = c.args.n in
-    let part = c.args.site.now in
-    let caller = c.args.caller.now in
-    let item = c.args.item.now in
+    let n = c.args.came.now.n in
+    let part = c.args.came.now.site.now in
+    let caller = c.args.came.now.caller.now in
+    let item = c.args.came.now.item.now in
     let old = state g.S.Store c.args.conn.now in
     let mid = state g.S.Store c.know.new.conn in
-    let Shows : Trees → Known → Type 0 = λ base known. IsKnown base c.args.instance.now known in
+    let Shows : Trees → Known → Type 0 = λ base known. IsKnown base c.args.came.now.instance.now known in
     let Asks : Trees → Type 0 = Nothing in
     not_read n part old mid Shows c.in-Err.fault Asks caller item c.requires.line (c.in-Err.ensures.looked n part)

@@ -1,0 +1,28 @@
+//! What a site is brought, and the destinations for which it waits there.
+use dr_base::{Seq, Text};
+use dr_ledger::{Instance, Job};
+use dr_site::Site;
+
+/// What a caller brings to a site.
+#[derive(Clone, Copy)]
+pub struct Delivery<'x> {
+    /// The site to which it is brought.
+    pub site: &'x Site,
+    /// The number of the line by which the journal is to tell of it.
+    pub n: u64,
+    /// Who brings it, `-` for what enters at the node itself.
+    pub caller: &'x Text,
+    /// What it is, with its data set.
+    pub item: &'x Job,
+    /// The same, as the instance that it is.
+    pub instance: &'x Instance,
+}
+
+/// The destinations for which a first arrival makes an instance wait.
+#[derive(Clone, Copy)]
+pub struct Queued<'x> {
+    /// Those of its targets for which its row was dropped: it waits anew.
+    pub again: &'x Seq<Text>,
+    /// Those of its targets to which it has no row: it waits from now on.
+    pub dests: &'x Seq<Text>,
+}
