@@ -1,6 +1,7 @@
 //! The place of a field that is missing, unknown or ill-formed, in words.
+use crate::field_place::field_in;
 use crate::print::{add_index, add_quoted};
-use crate::{FieldPlace, Flaw, NodePart, Wrong, field_in};
+use crate::{FieldPlace, Flaw, NodePart, Wrong};
 use dr_base::Text;
 use std::alloc::{AllocError, Global};
 use std::str;
