@@ -15,6 +15,25 @@ use dr_store_lists::JournalRow;
 use dr_store_reads::Print;
 use std::alloc::Global;
 
+/// The lists of all tables but `site`.
+#[derive(Clone, Copy)]
+pub struct TableLists<'x> {
+    /// The key of each instance.
+    pub keys: &'x [(Text, Key)],
+    /// The print of each instance.
+    pub prints: &'x [(Text, Print)],
+    /// Who brought which instance.
+    pub arrivals: &'x [(Text, Text)],
+    /// The instances that are kept.
+    pub kept: &'x [Text],
+    /// How far each instance is on its way to each destination.
+    pub rows: &'x [((Text, Text), Progress)],
+    /// The lines of the journal, each with its number.
+    pub notes: &'x [(u64, JournalRow)],
+    /// Where first arrivals go on to, each with the number of its line.
+    pub goals: &'x [(u64, Text)],
+}
+
 /// Tests that the lists of all tables are those of a ledger of the site, whose next line has this
 /// number: that the journal is one of its ledger, that all else is what its lines make, and that
 /// just the data sets are there that are needed.
@@ -23,41 +42,36 @@ use std::alloc::Global;
 pub fn agree(
     alloc: Global,
     site: &Site,
-    keys: &[(Text, Key)],
-    prints: &[(Text, Print)],
-    arrivals: &[(Text, Text)],
-    kept: &[Text],
-    rows: &[((Text, Text), Progress)],
-    notes: &[(u64, JournalRow)],
-    goals: &[(u64, Text)],
+    lists: &TableLists<'_>,
     next: u64,
 ) -> Result<(), FindingFault>
     ensures { (db : Trees)
-        → AreListsOf db keys.now prints.now arrivals.now kept.now rows.now notes.now goals.now
-        → AgreesAs result (HoldTogether next site.now db notes.now) }
+        → AreListsOf db lists.now.keys.now lists.now.prints.now lists.now.arrivals.now
+        lists.now.kept.now lists.now.rows.now lists.now.notes.now lists.now.goals.now
+        → AgreesAs result (HoldTogether next site.now db lists.now.notes.now) }
 {
-    if !are_by_line(goals) {
+    if !are_by_line(lists.goals) {
         return Err(FindingFault::OtherSite);
     }
-    let items = match stock_all(alloc, keys, prints) {
+    let items = match stock_all(alloc, lists.keys, lists.prints) {
         Ok(items) => items,
         Err(fault) => return Err(fault),
     };
-    let history = match tell(alloc, site, goals, notes) {
+    let history = match tell(alloc, site, lists.goals, lists.notes) {
         Ok(history) => history,
         Err(fault) => return Err(fault),
     };
-    if !history.has_just(&items, arrivals, kept, rows) {
+    if !history.has_just(&items, lists.arrivals, lists.kept, lists.rows) {
         return Err(FindingFault::OtherSite);
     }
-    let uids = match needed(alloc, kept, rows) {
+    let uids = match needed(alloc, lists.kept, lists.rows) {
         Ok(uids) => uids,
         Err(fault) => return Err(fault),
     };
-    if !are_whole(prints, &uids) {
+    if !are_whole(lists.prints, &uids) {
         return Err(FindingFault::OtherSite);
     }
-    if !are_before(goals, next) || !count_up(notes) {
+    if !are_before(lists.goals, next) || !count_up(lists.notes) {
         return Err(FindingFault::OtherSite);
     }
     Ok(())

@@ -13,7 +13,7 @@ pub mod schema;
 pub mod stock;
 pub mod telling;
 
-pub use agreeing::agree;
+pub use agreeing::{TableLists, agree};
 pub use fault::FindingFault;
 pub use older::{Lacks, lacking};
 pub use schema::is_ours;

@@ -14,7 +14,7 @@ use crate::listed::{Journal, Moves, Stock, list_journal, list_moves, list_stock}
 use dr_base::Text;
 use dr_ledger::LedgerFault;
 use dr_site::Site;
-use dr_store_audit::{FindingFault, agree};
+use dr_store_audit::{FindingFault, TableLists, agree};
 use dr_store_lists::next_number;
 use dr_store_reads::{Owner, Print, find_owner};
 use sqlite::{Alter, Connection};
@@ -79,18 +79,16 @@ fn agree_all(
         → IsJournalOf db journal.now
         → AgreesAs result (HoldTogether next site.now db journal.now.notes.items) }
 {
-    agree(
-        alloc,
-        site,
-        stock.keys.as_slice(),
-        stock.prints.as_slice(),
-        stock.arrivals.as_slice(),
-        moves.kept.as_slice(),
-        moves.rows.as_slice(),
-        journal.notes.as_slice(),
-        journal.goals.as_slice(),
-        next,
-    )
+    let lists = TableLists {
+        keys: stock.keys.as_slice(),
+        prints: stock.prints.as_slice(),
+        arrivals: stock.arrivals.as_slice(),
+        kept: moves.kept.as_slice(),
+        rows: moves.rows.as_slice(),
+        notes: journal.notes.as_slice(),
+        goals: journal.goals.as_slice(),
+    };
+    agree(alloc, site, &lists, next)
 }
 
 /// Compares all lists with what the journal's lines make, and reads each data set again.

@@ -19,7 +19,7 @@ use dr_base::Text;
 use dr_ledger::Instance;
 use dr_site::Site;
 use dr_store_audit::stock::stock_all;
-use dr_store_audit::{Lacks, agree, lacking};
+use dr_store_audit::{Lacks, TableLists, agree, lacking};
 use dr_store_lists::JournalRow;
 use dr_store_reads::Print;
 use dr_store_writes::{add_print, add_target, set_body};
@@ -51,19 +51,16 @@ fn test(
     goals: &[(u64, Text)],
 ) -> Result<(), OpeningFault> {
     let next = notes.len() as u64 + 1;
-    let agreed = agree(
-        alloc,
-        site,
-        told.keys.as_slice(),
+    let lists = TableLists {
+        keys: told.keys.as_slice(),
         prints,
-        told.arrivals.as_slice(),
-        told.kept.as_slice(),
-        told.rows.as_slice(),
+        arrivals: told.arrivals.as_slice(),
+        kept: told.kept.as_slice(),
+        rows: told.rows.as_slice(),
         notes,
         goals,
-        next,
-    );
-    match agreed {
+    };
+    match agree(alloc, site, &lists, next) {
         Ok(()) => Ok(()),
         Err(fault) => Err(of_finding(fault)),
     }

@@ -10,32 +10,32 @@ use Rattle.dr_store_audit.proofs.agreeing.agree.Goals.{then-not-are_before-via-t
 
 pub returns : goal.returns
 returns c = λ db are.
-    agreed c.args.next c.args.site.now db c.args.keys.now c.args.prints.now c.args.arrivals.now c.args.kept.now c.args.rows.now c.args.notes.now c.args.goals.now are (as_map text_cmp c.in-Ok.items) c.in-Ok.ensures
+    agreed c.args.next c.args.site.now db c.args.lists.now.keys.now c.args.lists.now.prints.now c.args.lists.now.arrivals.now c.args.lists.now.kept.now c.args.lists.now.rows.now c.args.lists.now.notes.now c.args.lists.now.goals.now are (as_map text_cmp c.in-Ok.items) c.in-Ok.ensures
     (content c.in-Ok-tell.history.parts) c.in-Ok-tell.ensures (c.has_just.ensures.has c.if-not-has_just.false) (as_set text_cmp c.in-Ok-needed.uids) c.in-Ok-needed.ensures (c.are_whole.ensures.0 c.if-not-are_whole.false)
     (c.are_before.ensures.0 c.if-not-are_before.false) (c.count_up.ensures.0 c.if-not-count_up.false)
 
 pub returns-then-not-are_by_line : goal.returns-then-not-are_by_line
 returns-then-not-are_by_line c = λ db are held.
-    absurd (true≢false (sym (c.are_by_line.ensures.1 (goals_by_line c.args.next c.args.site.now db c.args.keys.now c.args.prints.now c.args.arrivals.now c.args.kept.now c.args.rows.now c.args.notes.now c.args.goals.now are held)) ∙ c.if-not-are_by_line.true))
+    absurd (true≢false (sym (c.are_by_line.ensures.1 (goals_by_line c.args.next c.args.site.now db c.args.lists.now.keys.now c.args.lists.now.prints.now c.args.lists.now.arrivals.now c.args.lists.now.kept.now c.args.lists.now.rows.now c.args.lists.now.notes.now c.args.lists.now.goals.now are held)) ∙ c.if-not-are_by_line.true))
 
 pub returns-in-Err : goal.returns-in-Err
 returns-in-Err c = λ db are.
-    refused c.in-Err.fault (HoldTogether c.args.next c.args.site.now db c.args.notes.now) (λ other held. c.in-Err.ensures other (one_order c.args.next c.args.site.now db c.args.keys.now c.args.prints.now c.args.arrivals.now c.args.kept.now c.args.rows.now c.args.notes.now c.args.goals.now are held))
+    refused c.in-Err.fault (HoldTogether c.args.next c.args.site.now db c.args.lists.now.notes.now) (λ other held. c.in-Err.ensures other (one_order c.args.next c.args.site.now db c.args.lists.now.keys.now c.args.lists.now.prints.now c.args.lists.now.arrivals.now c.args.lists.now.kept.now c.args.lists.now.rows.now c.args.lists.now.notes.now c.args.lists.now.goals.now are held))
 
 pub returns-in-Err-tell : goal.returns-in-Err-tell
 returns-in-Err-tell c = λ db are.
-    refused c.in-Err-tell.fault (HoldTogether c.args.next c.args.site.now db c.args.notes.now) (λ other held. is_a_journal c.args.next c.args.site.now db c.args.keys.now c.args.prints.now c.args.arrivals.now c.args.kept.now c.args.rows.now c.args.notes.now c.args.goals.now are held (c.in-Err-tell.ensures other))
+    refused c.in-Err-tell.fault (HoldTogether c.args.next c.args.site.now db c.args.lists.now.notes.now) (λ other held. is_a_journal c.args.next c.args.site.now db c.args.lists.now.keys.now c.args.lists.now.prints.now c.args.lists.now.arrivals.now c.args.lists.now.kept.now c.args.lists.now.rows.now c.args.lists.now.notes.now c.args.lists.now.goals.now are held (c.in-Err-tell.ensures other))
 
 pub returns-then-not-has_just : goal.returns-then-not-has_just
 returns-then-not-has_just c = λ db are held.
-    absurd (true≢false (sym (c.has_just.ensures.says (in_order c.args.next c.args.site.now db c.args.keys.now c.args.prints.now c.args.arrivals.now c.args.kept.now c.args.rows.now c.args.notes.now c.args.goals.now are held) (told_is_listed c.args.next c.args.site.now db c.args.keys.now c.args.prints.now c.args.arrivals.now c.args.kept.now c.args.rows.now c.args.notes.now c.args.goals.now are held (as_map text_cmp c.in-Ok.items) (content c.in-Ok-tell.history.parts) c.in-Ok.ensures c.in-Ok-tell.ensures)) ∙ c.if-not-has_just.true))
+    absurd (true≢false (sym (c.has_just.ensures.says (in_order c.args.next c.args.site.now db c.args.lists.now.keys.now c.args.lists.now.prints.now c.args.lists.now.arrivals.now c.args.lists.now.kept.now c.args.lists.now.rows.now c.args.lists.now.notes.now c.args.lists.now.goals.now are held) (told_is_listed c.args.next c.args.site.now db c.args.lists.now.keys.now c.args.lists.now.prints.now c.args.lists.now.arrivals.now c.args.lists.now.kept.now c.args.lists.now.rows.now c.args.lists.now.notes.now c.args.lists.now.goals.now are held (as_map text_cmp c.in-Ok.items) (content c.in-Ok-tell.history.parts) c.in-Ok.ensures c.in-Ok-tell.ensures)) ∙ c.if-not-has_just.true))
 
 pub returns-then-not-are_whole : goal.returns-then-not-are_whole
 returns-then-not-are_whole c = λ db are held.
-    absurd (true≢false (sym (c.are_whole.ensures.1 (just_the_needed c.args.next c.args.site.now db c.args.keys.now c.args.prints.now c.args.arrivals.now c.args.kept.now c.args.rows.now c.args.notes.now c.args.goals.now are held (as_set text_cmp c.in-Ok-needed.uids) c.in-Ok-needed.ensures)) ∙ c.if-not-are_whole.true))
+    absurd (true≢false (sym (c.are_whole.ensures.1 (just_the_needed c.args.next c.args.site.now db c.args.lists.now.keys.now c.args.lists.now.prints.now c.args.lists.now.arrivals.now c.args.lists.now.kept.now c.args.lists.now.rows.now c.args.lists.now.notes.now c.args.lists.now.goals.now are held (as_set text_cmp c.in-Ok-needed.uids) c.in-Ok-needed.ensures)) ∙ c.if-not-are_whole.true))
 
 pub returns-then-not-are_before : goal.returns-then-not-are_before
 returns-then-not-are_before c = λ db are held. elim c.then-not-are_before.branch [
-  | then-not-are_before-via-then-not-are_before w ↦ absurd (true≢false (sym (c.are_before.ensures.1 (lines_before c.args.next c.args.site.now db c.args.keys.now c.args.prints.now c.args.arrivals.now c.args.kept.now c.args.rows.now c.args.notes.now c.args.goals.now are held)) ∙ w.if-not-are_before.true))
+  | then-not-are_before-via-then-not-are_before w ↦ absurd (true≢false (sym (c.are_before.ensures.1 (lines_before c.args.next c.args.site.now db c.args.lists.now.keys.now c.args.lists.now.prints.now c.args.lists.now.arrivals.now c.args.lists.now.kept.now c.args.lists.now.rows.now c.args.lists.now.notes.now c.args.lists.now.goals.now are held)) ∙ w.if-not-are_before.true))
   | then-not-are_before-via-else-not-are_before+then-not-count_up w ↦ absurd (true≢false (sym (w.count_up.ensures.1 held.numbered) ∙ w.if-not-count_up.true))
 ]
