@@ -1,17 +1,15 @@
 -- What is written as a response is read as it.
-use Rattle.std.proofs.Common.{◌≡◌, ◌≢◌, ◌∙◌, ◌<◌, ◌+◌, ℕ, List, [], ◌∷◌, ◌++◌, Option, Some, None, Result, Ok, Err, refl, sym, ap, subst, append_assoc, append-nil, arith, flat_map, get_or, inl, length, take, true}
-use Rattle.std.specs.Prelude.{All}
+use Rattle.std.proofs.Common.{◌≡◌, ◌∙◌, ◌<◌, ◌+◌, ℕ, List, [], ◌∷◌, ◌++◌, Option, Some, None, Ok, Err, refl, sym, ap, subst, append_assoc, append-nil, arith, flat_map, get_or, inl, length, take, true}
 use Rattle.std.specs.List.{AllByRecursion}
 use Rattle.std.proofs.lemmas.Grind.{flat_map-append}
 use Rattle.std.proofs.lemmas.List.{take_more}
 use Rattle.std.proofs.lemmas.List.Elements.{recursion_from_All}
 use Rattle.dr_base.specs.Runs.{Run}
-use Rattle.dr_pdu.specs.declared.fault.PduFault.{PduFault}
-use Rattle.dr_pdu.specs.declared.fault.PduFault.TheVariants.{Memory, More}
+use Rattle.dr_pdu.specs.declared.fault.PduFault.TheVariants.{More}
 use Rattle.dr_pdu.specs.declared.pdu.Pdu.{Pdu}
 use Rattle.dr_pdu.specs.declared.pdu.Pdu.TheVariants as pdu
 use Rattle.dr_pdu.specs.Grammar.{Shows}
-use Rattle.dr_pdu.specs.Feeding.{Feeding, Feeds, StartsPdu, Units, fresh, given_by}
+use Rattle.dr_pdu.specs.Feeding.{StartsPdu, fresh, given_by}
 use Rattle.dr_pdu.specs.Written.{MeetsLimit, written}
 use Rattle.dr_pdu.specs.Written.{Fits as FitsPdu}
 use Rattle.dr_pdu.proofs.CutLemmas.{starts_nothing}
@@ -25,12 +23,11 @@ use Rattle.dr_dimse.specs.Written as command
 use Rattle.dr_dimse.specs.declared.command.Command.{Command}
 use Rattle.dr_dimse.proofs.OneCommand.{one_command}
 use Rattle.dr_dimse.proofs.WrittenLemmas.{written_reads}
-use Rattle.dr_nego.specs.Agreeing.{IsTooSmall}
 use Rattle.dr_nego.specs.Fragments.{piece_size, pieces, spellings, value_pdus}
 use Rattle.dr_nego.specs.declared.fragment.FragmentKind.TheVariants as kind
 use Rattle.dr_nego.proofs.Cutting.{fragments_fit, pieces_are_whole}
 use Rattle.dr_session.specs.Messages.{command_pdus}
-use Rattle.dr_desk_workers.specs.Said.{ComesOut, OneStatus, ResponsesSayTheirStatus, SaysStatus, TellsStatus, command_in, command_text}
+use Rattle.dr_desk_workers.specs.Said.{ComesOut, OneStatus, ResponsesSayTheirStatus, TellsStatus, command_text}
 
 -- the pieces of the first elements of a list, and that of the next one
 pub one_more : {X : Type 0} (f : X → List ℕ) (xs : List X) (i : ℕ) (d x : X) (o p q : List ℕ) → i < length xs → x ≡ get_or xs i d → p ≡ o ++ flat_map f (take i xs) → q ≡ p ++ f x → q ≡ o ++ flat_map f (take (i + 1) xs)
