@@ -34,6 +34,14 @@ struct EntrySweep<'a> {
     stations: Seq<OwnedStation>,
 }
 
+/// Where images enter a plan, and in which class and transfer syntax they do.
+#[derive(Clone, Copy)]
+struct Entrance<'a> {
+    site: &'a Text,
+    class: &'a Text,
+    syntax: Syntax,
+}
+
 /// The classes of the flows at these places, in byte order.
 fn classes_of(alloc: Global, flows: &[Flow], among: &[usize]) -> Result<Seq<Text>, AllocError>
     requires { AllBelow among.now flows.now }
@@ -118,9 +126,7 @@ impl<'a> EntrySweep<'a> {
     fn visit_station<V: EntryVisitor>(
         &self,
         visitor: &mut V,
-        site: &Text,
-        class: &Text,
-        syntax: Syntax,
+        entrance: &Entrance<'_>,
         modality: &OwnedField,
         station: &OwnedStation,
         among: &[usize],
@@ -131,19 +137,20 @@ impl<'a> EntrySweep<'a> {
         requires station_part { IsStationPart (literals_of self.now.plan.now).stations station.now }
         requires fit { (flow : FlowValue) → (k : ℕ) → Contains among.now k
             → slice_get self.now.plan.now.flows k ≡ Some flow
-            → FitsModality flow site.now class.now syntax modality.now }
+            → FitsModality flow entrance.now.site.now entrance.now.class.now entrance.now.syntax
+            modality.now }
         requires below { AllBelow among.now self.now.plan.now.flows }
         ensures { IfOk result
             (AfterVisits V.plan V.is_ready V.has_visited V.shows
-            (WantsStation self.now.plan.now site.now class.now syntax modality.now station.now
-            among.now) visitor.old visitor.new) }
+            (WantsStation self.now.plan.now entrance.now.site.now entrance.now.class.now
+            entrance.now.syntax modality.now station.now among.now) visitor.old visitor.new) }
     {
         let part = Part::Station(station);
         let Some(_) = first_that_speaks(self.plan.flows(), self.plan.listed(), among, &part) else {
             return Ok(None);
         };
-        let cell = cell_from(class, syntax, modality, station)?;
-        let found = visitor.visit(site, &cell)?;
+        let cell = cell_from(entrance.class, entrance.syntax, modality, station)?;
+        let found = visitor.visit(entrance.site, &cell)?;
         Ok(found)
     }
 
@@ -151,9 +158,7 @@ impl<'a> EntrySweep<'a> {
     fn visit_stations<V: EntryVisitor>(
         &self,
         visitor: &mut V,
-        site: &Text,
-        class: &Text,
-        syntax: Syntax,
+        entrance: &Entrance<'_>,
         modality: &OwnedField,
         row: &[OwnedStation],
         among: &[usize],
@@ -164,15 +169,16 @@ impl<'a> EntrySweep<'a> {
         requires row { IsStationRow self.now.plan.now among.now row.now }
         requires fit { (flow : FlowValue) → (k : ℕ) → Contains among.now k
             → slice_get self.now.plan.now.flows k ≡ Some flow
-            → FitsModality flow site.now class.now syntax modality.now }
+            → FitsModality flow entrance.now.site.now entrance.now.class.now entrance.now.syntax
+            modality.now }
         requires below { AllBelow among.now self.now.plan.now.flows }
         ensures { IfOk result
             (AfterVisits V.plan V.is_ready V.has_visited V.shows
-            (WantsModality self.now.plan.now site.now class.now syntax modality.now among.now)
-            visitor.old visitor.new) }
+            (WantsModality self.now.plan.now entrance.now.site.now entrance.now.class.now
+            entrance.now.syntax modality.now among.now) visitor.old visitor.new) }
     {
         for station in row {
-            let found = self.visit_station(visitor, site, class, syntax, modality, station, among)?;
+            let found = self.visit_station(visitor, entrance, modality, station, among)?;
             if found.is_some() {
                 return Ok(found);
             }
@@ -185,9 +191,7 @@ impl<'a> EntrySweep<'a> {
     fn visit_modality<V: EntryVisitor>(
         &self,
         visitor: &mut V,
-        site: &Text,
-        class: &Text,
-        syntax: Syntax,
+        entrance: &Entrance<'_>,
         modality: &OwnedField,
         among: &[usize],
     ) -> Result<Option<V::Finding>, AllocError>
@@ -197,12 +201,13 @@ impl<'a> EntrySweep<'a> {
         requires modality_part { IsPart (literals_of self.now.plan.now).modalities modality.now }
         requires fit { (flow : FlowValue) → (k : ℕ) → Contains among.now k
             → slice_get self.now.plan.now.flows k ≡ Some flow
-            → FitsModality flow site.now class.now syntax modality.now }
+            → FitsModality flow entrance.now.site.now entrance.now.class.now entrance.now.syntax
+            modality.now }
         requires below { AllBelow among.now self.now.plan.now.flows }
         ensures { IfOk result
             (AfterVisits V.plan V.is_ready V.has_visited V.shows
-            (WantsModality self.now.plan.now site.now class.now syntax modality.now among.now)
-            visitor.old visitor.new) }
+            (WantsModality self.now.plan.now entrance.now.site.now entrance.now.class.now
+            entrance.now.syntax modality.now among.now) visitor.old visitor.new) }
     {
         let named = names_in(
             self.alloc,
@@ -213,12 +218,12 @@ impl<'a> EntrySweep<'a> {
         )?;
         let Some(names) = named else {
             let all = self.stations.as_slice();
-            let found = self.visit_stations(visitor, site, class, syntax, modality, all, among)?;
+            let found = self.visit_stations(visitor, entrance, modality, all, among)?;
             return Ok(found);
         };
         let row = stations_from(self.alloc, names)?;
         let listed = row.as_slice();
-        let found = self.visit_stations(visitor, site, class, syntax, modality, listed, among)?;
+        let found = self.visit_stations(visitor, entrance, modality, listed, among)?;
         Ok(found)
     }
 
@@ -227,9 +232,7 @@ impl<'a> EntrySweep<'a> {
     fn visit_left<V: EntryVisitor>(
         &self,
         visitor: &mut V,
-        site: &Text,
-        class: &Text,
-        syntax: Syntax,
+        entrance: &Entrance<'_>,
         modality: &OwnedField,
         row: &[OwnedStation],
         among: &[usize],
@@ -242,18 +245,19 @@ impl<'a> EntrySweep<'a> {
         requires row { IsStationRow self.now.plan.now among.now row.now }
         requires fit { (flow : FlowValue) → (k : ℕ) → Contains among.now k
             → slice_get self.now.plan.now.flows k ≡ Some flow
-            → FitsModality flow site.now class.now syntax modality.now }
+            → FitsModality flow entrance.now.site.now entrance.now.class.now entrance.now.syntax
+            modality.now }
         requires below { AllBelow among.now self.now.plan.now.flows }
         ensures { IfOk result
             (AfterVisits V.plan V.is_ready V.has_visited V.shows
-            (WantsModality self.now.plan.now site.now class.now syntax modality.now among.now)
-            visitor.old visitor.new) }
+            (WantsModality self.now.plan.now entrance.now.site.now entrance.now.class.now
+            entrance.now.syntax modality.now among.now) visitor.old visitor.new) }
     {
         if are_all {
-            let found = self.visit_stations(visitor, site, class, syntax, modality, row, among)?;
+            let found = self.visit_stations(visitor, entrance, modality, row, among)?;
             return Ok(found);
         }
-        let later = self.visit_modality(visitor, site, class, syntax, modality, among)?;
+        let later = self.visit_modality(visitor, entrance, modality, among)?;
         Ok(later)
     }
 
@@ -262,9 +266,7 @@ impl<'a> EntrySweep<'a> {
     fn visit_modalities<V: EntryVisitor>(
         &self,
         visitor: &mut V,
-        site: &Text,
-        class: &Text,
-        syntax: Syntax,
+        entrance: &Entrance<'_>,
         row: &[OwnedField],
         stations: &[OwnedStation],
         among: &[usize],
@@ -276,12 +278,12 @@ impl<'a> EntrySweep<'a> {
         requires stations { IsStationRow self.now.plan.now among.now stations.now }
         requires fit { (flow : FlowValue) → (k : ℕ) → Contains among.now k
             → slice_get self.now.plan.now.flows k ≡ Some flow
-            → FitsSyntax flow site.now class.now syntax }
+            → FitsSyntax flow entrance.now.site.now entrance.now.class.now entrance.now.syntax }
         requires below { AllBelow among.now self.now.plan.now.flows }
         ensures { IfOk result
             (AfterVisits V.plan V.is_ready V.has_visited V.shows
-            (WantsSyntax self.now.plan.now site.now class.now syntax among.now) visitor.old
-            visitor.new) }
+            (WantsSyntax self.now.plan.now entrance.now.site.now entrance.now.class.now
+            entrance.now.syntax among.now) visitor.old visitor.new) }
     {
         for modality in row {
             let part = Part::Modality(modality);
@@ -294,9 +296,7 @@ impl<'a> EntrySweep<'a> {
             )?;
             let left = here.as_slice();
             let are_all = left.len() == among.len();
-            let found = self.visit_left(
-                visitor, site, class, syntax, modality, stations, left, are_all,
-            )?;
+            let found = self.visit_left(visitor, entrance, modality, stations, left, are_all)?;
             if found.is_some() {
                 return Ok(found);
             }
@@ -309,9 +309,7 @@ impl<'a> EntrySweep<'a> {
     fn visit_syntax<V: EntryVisitor>(
         &self,
         visitor: &mut V,
-        site: &Text,
-        class: &Text,
-        syntax: Syntax,
+        entrance: &Entrance<'_>,
         among: &[usize],
     ) -> Result<Option<V::Finding>, AllocError>
         requires plan { V.plan visitor.old ≡ self.now.plan.now }
@@ -319,12 +317,12 @@ impl<'a> EntrySweep<'a> {
         requires parts { HasParts self.now.plan.now self.now.modalities self.now.stations }
         requires fit { (flow : FlowValue) → (k : ℕ) → Contains among.now k
             → slice_get self.now.plan.now.flows k ≡ Some flow
-            → FitsSyntax flow site.now class.now syntax }
+            → FitsSyntax flow entrance.now.site.now entrance.now.class.now entrance.now.syntax }
         requires below { AllBelow among.now self.now.plan.now.flows }
         ensures { IfOk result
             (AfterVisits V.plan V.is_ready V.has_visited V.shows
-            (WantsSyntax self.now.plan.now site.now class.now syntax among.now) visitor.old
-            visitor.new) }
+            (WantsSyntax self.now.plan.now entrance.now.site.now entrance.now.class.now
+            entrance.now.syntax among.now) visitor.old visitor.new) }
     {
         let own = self.stations_for(among)?;
         let stations = own.as_slice();
@@ -337,12 +335,12 @@ impl<'a> EntrySweep<'a> {
         )?;
         let Some(names) = named else {
             let all = self.modalities.as_slice();
-            let found = self.visit_modalities(visitor, site, class, syntax, all, stations, among)?;
+            let found = self.visit_modalities(visitor, entrance, all, stations, among)?;
             return Ok(found);
         };
         let row = fields_from(self.alloc, names)?;
         let listed = row.as_slice();
-        let found = self.visit_modalities(visitor, site, class, syntax, listed, stations, among)?;
+        let found = self.visit_modalities(visitor, entrance, listed, stations, among)?;
         Ok(found)
     }
 
@@ -375,7 +373,12 @@ impl<'a> EntrySweep<'a> {
             among,
             &part,
         )?;
-        let found = self.visit_syntax(visitor, site, class, syntax, here.as_slice())?;
+        let entrance = Entrance {
+            site,
+            class,
+            syntax,
+        };
+        let found = self.visit_syntax(visitor, &entrance, here.as_slice())?;
         Ok(found)
     }
 

@@ -33,6 +33,15 @@ use dr_nego::{Agreed, Answer, Policy};
 use dr_pdu::{AssociateAc, AssociateRj, AssociateRq};
 use std::alloc::{AllocError, Global};
 
+/// The message that is responded to (PS3.7 9.3): its presentation context, the class of that
+/// context, and its message id.
+#[derive(Clone, Copy)]
+pub struct RespondedTo<'a> {
+    pub context: u8,
+    pub of: &'a Text,
+    pub id: u16,
+}
+
 /// The status of the response for a reply (PS3.4 B.2.3).
 fn status(reply: &Result<Arrived, LedgerFault>) -> u16
     ensures { result ≡ status_of reply.now }
@@ -85,24 +94,23 @@ fn limit_of(core: &Core) -> u32
 /// The response to a C-STORE-RQ.
 fn respond(
     alloc: Global,
-    context: u8,
-    id: u16,
+    to: &RespondedTo<'_>,
     class: Text,
     instance: Text,
     status: u16,
     core: BoxedCore,
 ) -> Result<Effect, AllocError>
-    requires { Fits (StoreRq id class instance) }
-    ensures { IfOk result (λ e. e ≡ stored core context id class instance status) }
+    requires { Fits (StoreRq to.now.id class instance) }
+    ensures { IfOk result (λ e. e ≡ stored core to.now.context to.now.id class instance status) }
 {
     let command = Command::StoreRsp {
-        to: id,
+        to: to.id,
         status,
         class,
         instance,
         has_data: false,
     };
-    reply(alloc, context, command, core)
+    reply(alloc, to.context, command, core)
 }
 
 /// Whether the command names the instance.
@@ -115,100 +123,100 @@ fn names(item: &Item, class: &Text, instance: &Text) -> bool
 /// An instance that the command names is brought to the desk.
 fn bring<P: DeskPort>(
     alloc: Global,
-    context: u8,
-    id: u16,
+    to: &RespondedTo<'_>,
     class: Text,
     instance: Text,
     item: Item,
     core: BoxedCore,
     port: &mut P,
 ) -> Result<Effect, AllocError>
-    requires { Fits (StoreRq id class instance) }
-    ensures done { IfOk result (λ e.
-        Turns P.step (brings core context id class instance item) port.old e port.new) }
+    requires { Fits (StoreRq to.now.id class instance) }
+    ensures done { IfOk result (λ e. Turns P.step
+        (brings core to.now.context to.now.id class instance item) port.old e port.new) }
     ensures broke { OnErr result
-        (Broke P.step (brings core context id class instance item) port.old port.new) }
+        (Broke P.step (brings core to.now.context to.now.id class instance item) port.old
+        port.new) }
 {
     if names(&item, &class, &instance) {
         let reply = port.arrive(core.peer(), item);
         let status = status(&reply);
-        let done = respond(alloc, context, id, class, instance, status, core)?;
+        let done = respond(alloc, to, class, instance, status, core)?;
         return Ok(done);
     }
-    respond(alloc, context, id, class, instance, 0xA900, core)
+    respond(alloc, to, class, instance, 0xA900, core)
 }
 
 /// An instance in a C-STORE-RQ of its own UIDs is brought to the desk; the response is written only
 /// then.
 fn store_found<P: DeskPort>(
     alloc: Global,
-    context: u8,
-    id: u16,
+    to: &RespondedTo<'_>,
     class: Text,
     instance: Text,
     found: Found,
     core: BoxedCore,
     port: &mut P,
 ) -> Result<Effect, AllocError>
-    requires { Fits (StoreRq id class instance) }
-    ensures done { IfOk result (λ e.
-        Turns P.step (arrives core context id class instance found) port.old e port.new) }
+    requires { Fits (StoreRq to.now.id class instance) }
+    ensures done { IfOk result (λ e. Turns P.step
+        (arrives core to.now.context to.now.id class instance found) port.old e port.new) }
     ensures broke { OnErr result
-        (Broke P.step (arrives core context id class instance found) port.old port.new) }
+        (Broke P.step (arrives core to.now.context to.now.id class instance found) port.old
+        port.new) }
 {
     match found {
-        Found::TooLarge => respond(alloc, context, id, class, instance, 0xA700, core),
-        Found::Unreadable => respond(alloc, context, id, class, instance, 0xC000, core),
-        Found::Read(item) => bring(alloc, context, id, class, instance, item, core, port),
+        Found::TooLarge => respond(alloc, to, class, instance, 0xA700, core),
+        Found::Unreadable => respond(alloc, to, class, instance, 0xC000, core),
+        Found::Read(item) => bring(alloc, to, class, instance, item, core, port),
     }
 }
 
 /// A C-STORE-RQ with its data set, in a context of that class.
 fn store_in<P: DeskPort>(
     alloc: Global,
-    context: u8,
-    of: Text,
-    id: u16,
+    to: &RespondedTo<'_>,
     class: Text,
     instance: Text,
     found: Found,
     core: BoxedCore,
     port: &mut P,
 ) -> Result<Effect, AllocError>
-    requires { Fits (StoreRq id class instance) }
-    ensures done { IfOk result (λ e.
-        Turns P.step (stores core context of id class instance found) port.old e port.new) }
+    requires { Fits (StoreRq to.now.id class instance) }
+    ensures done { IfOk result (λ e. Turns P.step
+        (stores core to.now.context to.now.of.now to.now.id class instance found) port.old e
+        port.new) }
     ensures broke { OnErr result
-        (Broke P.step (stores core context of id class instance found) port.old port.new) }
+        (Broke P.step (stores core to.now.context to.now.of.now to.now.id class instance found)
+        port.old port.new) }
 {
-    if class != of {
-        return respond(alloc, context, id, class, instance, 0x0122, core);
+    if class != *to.of {
+        return respond(alloc, to, class, instance, 0x0122, core);
     }
-    store_found(alloc, context, id, class, instance, found, core, port)
+    store_found(alloc, to, class, instance, found, core, port)
 }
 
 /// A C-STORE-RQ with its data set, in a context of that class. A success is written only behind an
 /// arrival that the port answered New or Again.
 pub fn store<P: DeskPort>(
     alloc: Global,
-    context: u8,
-    of: Text,
-    id: u16,
+    to: &RespondedTo<'_>,
     class: Text,
     instance: Text,
     found: Found,
     core: BoxedCore,
     port: &mut P,
 ) -> Result<Effect, AllocError>
-    requires { Fits (StoreRq id class instance) }
-    ensures done { IfOk result (λ e.
-        Turns P.step (stores core context of id class instance found) port.old e port.new) }
+    requires { Fits (StoreRq to.now.id class instance) }
+    ensures done { IfOk result (λ e. Turns P.step
+        (stores core to.now.context to.now.of.now to.now.id class instance found) port.old e
+        port.new) }
     ensures broke { OnErr result
-        (Broke P.step (stores core context of id class instance found) port.old port.new) }
-    ensures answered { IfOk result (λ e.
-        AnswersStore P.step core context id class instance found port.old e port.new) }
+        (Broke P.step (stores core to.now.context to.now.of.now to.now.id class instance found)
+        port.old port.new) }
+    ensures answered { IfOk result (λ e. AnswersStore P.step core to.now.context to.now.id class
+        instance found port.old e port.new) }
 {
-    let done = store_in(alloc, context, of, id, class, instance, found, core, port)?;
+    let done = store_in(alloc, to, class, instance, found, core, port)?;
     Ok(done)
 }
 

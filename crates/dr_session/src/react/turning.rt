@@ -17,7 +17,7 @@ use crate::boxed::BoxedCore;
 use crate::echoing::is_free;
 use crate::ends::{Core, Effect, Input, LinkAction, Moment, Told};
 use crate::port::DeskPort;
-use crate::react::acceptor::{answer_request, decide, store};
+use crate::react::acceptor::{RespondedTo, answer_request, decide, store};
 use crate::react::leaving::{abort, act_once, leave, leave_with, none, quiet};
 use crate::react::requestor::{agree, close, hear_response, push, refuse};
 use crate::writing::{write_abort, write_release_answer, write_release_request};
@@ -53,7 +53,14 @@ fn hear<P: DeskPort>(
             class,
             instance,
             found,
-        } => store(alloc, context, of, id, class, instance, found, core, port),
+        } => {
+            let to = RespondedTo {
+                context,
+                of: &of,
+                id,
+            };
+            store(alloc, &to, class, instance, found, core, port)
+        }
         Told::Whole {
             context,
             of,

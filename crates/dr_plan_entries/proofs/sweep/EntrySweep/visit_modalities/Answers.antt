@@ -52,9 +52,9 @@ loop-modality-preserved g c =
     let went = went_on g.V.EntryVisitor.plan g.V.EntryVisitor.is_ready g.V.EntryVisitor.has_visited g.V.EntryVisitor.shows _ c.loop-modality.visitor c.visit_left.new.visitor c.in_ok-found.found
     (sym c.if-is_some.ensures) c.in_ok-found.ensures in
     one_more g.V.EntryVisitor.plan g.V.EntryVisitor.is_ready g.V.EntryVisitor.has_visited g.V.EntryVisitor.shows
-    (λ s x. x.modality) (WantsSyntax plan c.args.site.now c.args.class.now c.args.syntax c.args.among.now) (WantsModality plan c.args.site.now c.args.class.now c.args.syntax c.modality-item.result c.as_slice-left.result.now)
+    (λ s x. x.modality) (WantsSyntax plan c.args.entrance.now.site.now c.args.entrance.now.class.now c.args.entrance.now.syntax c.args.among.now) (WantsModality plan c.args.entrance.now.site.now c.args.entrance.now.class.now c.args.entrance.now.syntax c.modality-item.result c.as_slice-left.result.now)
     (take c.loop-modality.modality-index items) (take (c.loop-modality.modality-index + 1) items) c.modality-item.result c.args.visitor.now c.loop-modality.visitor c.visit_left.new.visitor more
-    c.loop-modality.invariant went (modality_in plan c.args.site.now c.args.class.now c.args.syntax c.modality-item.result c.args.among.now c.as_slice-left.result.now picks)
+    c.loop-modality.invariant went (modality_in plan c.args.entrance.now.site.now c.args.entrance.now.class.now c.args.entrance.now.syntax c.modality-item.result c.args.among.now c.as_slice-left.result.now picks)
 
 pub returns-then-is_some : goal.returns-then-is_some
 returns-then-is_some g c =
@@ -65,13 +65,13 @@ returns-then-is_some g c =
     let H : List ℕ → Type 0 = λ ks. Picks plan.flows c.args.among.now S ks in
     let picks : H c.as_slice-left.result.now = subst H (sym c.as_slice-left.ensures.value) (subst Q c.flows.ensures.same c.in_ok-here.ensures) in
     found_in_row g.V.EntryVisitor.plan g.V.EntryVisitor.is_ready g.V.EntryVisitor.has_visited g.V.EntryVisitor.shows
-    printed_field (λ s x. x.modality) (WantsSyntax plan c.args.site.now c.args.class.now c.args.syntax c.args.among.now) (WantsModality plan c.args.site.now c.args.class.now c.args.syntax c.modality-item.result c.as_slice-left.result.now)
+    printed_field (λ s x. x.modality) (WantsSyntax plan c.args.entrance.now.site.now c.args.entrance.now.class.now c.args.entrance.now.syntax c.args.among.now) (WantsModality plan c.args.entrance.now.site.now c.args.entrance.now.class.now c.args.entrance.now.syntax c.modality-item.result c.as_slice-left.result.now)
     items c.loop-modality.modality-index c.modality-item.result c.args.visitor.now c.loop-modality.visitor c.visit_left.new.visitor c.in_ok-found.found (sym c.if-is_some.ensures)
     c.requires.row.ordered c.loop-modality-test.true (sym c.modality-item.is)
     c.loop-modality.invariant c.in_ok-found.ensures
     (λ s x w. let t = w.1.1.2 in c.requires.row.whole t.0 t.2.0 x.modality t.1 t.2.1 t.2.2.modality w.1.1.1.0)
-    (modality_in plan c.args.site.now c.args.class.now c.args.syntax c.modality-item.result c.args.among.now c.as_slice-left.result.now picks)
-    (modality_out plan c.args.site.now c.args.class.now c.args.syntax c.modality-item.result c.args.among.now c.as_slice-left.result.now picks)
+    (modality_in plan c.args.entrance.now.site.now c.args.entrance.now.class.now c.args.entrance.now.syntax c.modality-item.result c.args.among.now c.as_slice-left.result.now picks)
+    (modality_out plan c.args.entrance.now.site.now c.args.entrance.now.class.now c.args.entrance.now.syntax c.modality-item.result c.args.among.now c.as_slice-left.result.now picks)
     (λ s t x y w v before. by_modality s t x y (w.1.1.0 ∙ sym v.1.1.0) (w.1.0 ∙ sym v.1.0) (w.0 ∙ sym v.0) before)
 
 pub returns : goal.returns
@@ -79,7 +79,7 @@ returns g c =
     let items : List OwnedField = c.args.row.now in
     let all : take c.loop-modality.modality-index items ≡ items = take_all c.loop-modality.modality-index items (omega arith) in
     let P : List OwnedField → Type 0 = λ xs. GoesOn g.V.EntryVisitor.plan g.V.EntryVisitor.is_ready g.V.EntryVisitor.has_visited g.V.EntryVisitor.shows
-    (λ s x. WantsSyntax c.args.self.now.plan.now c.args.site.now c.args.class.now c.args.syntax c.args.among.now s x × Contains xs (x.modality)) c.args.visitor.now c.loop-modality.visitor in
-    all_of_them g.V.EntryVisitor.plan g.V.EntryVisitor.is_ready g.V.EntryVisitor.has_visited g.V.EntryVisitor.shows (λ s x. x.modality) (WantsSyntax c.args.self.now.plan.now c.args.site.now c.args.class.now c.args.syntax c.args.among.now)
+    (λ s x. WantsSyntax c.args.self.now.plan.now c.args.entrance.now.site.now c.args.entrance.now.class.now c.args.entrance.now.syntax c.args.among.now s x × Contains xs (x.modality)) c.args.visitor.now c.loop-modality.visitor in
+    all_of_them g.V.EntryVisitor.plan g.V.EntryVisitor.is_ready g.V.EntryVisitor.has_visited g.V.EntryVisitor.shows (λ s x. x.modality) (WantsSyntax c.args.self.now.plan.now c.args.entrance.now.site.now c.args.entrance.now.class.now c.args.entrance.now.syntax c.args.among.now)
     items c.args.visitor.now c.loop-modality.visitor (subst P all c.loop-modality.invariant)
     (λ s x w. let t = w.1.1.2 in c.requires.row.whole t.0 t.2.0 x.modality t.1 t.2.1 t.2.2.modality w.1.1.1.0)

@@ -16,7 +16,7 @@ loop-station-preserved g c =
     let went = went_on g.V.EntryVisitor.plan g.V.EntryVisitor.is_ready g.V.EntryVisitor.has_visited g.V.EntryVisitor.shows _ c.loop-station.visitor c.visit_station.new.visitor c.in_ok-found.found
     (sym c.if-is_some.ensures) c.in_ok-found.ensures in
     one_more g.V.EntryVisitor.plan g.V.EntryVisitor.is_ready g.V.EntryVisitor.has_visited g.V.EntryVisitor.shows
-    (λ s x. x.station) (WantsModality c.args.self.now.plan.now c.args.site.now c.args.class.now c.args.syntax c.args.modality.now c.args.among.now) (WantsStation c.args.self.now.plan.now c.args.site.now c.args.class.now c.args.syntax c.args.modality.now c.station-item.result c.args.among.now)
+    (λ s x. x.station) (WantsModality c.args.self.now.plan.now c.args.entrance.now.site.now c.args.entrance.now.class.now c.args.entrance.now.syntax c.args.modality.now c.args.among.now) (WantsStation c.args.self.now.plan.now c.args.entrance.now.site.now c.args.entrance.now.class.now c.args.entrance.now.syntax c.args.modality.now c.station-item.result c.args.among.now)
     (take c.loop-station.station-index items) (take (c.loop-station.station-index + 1) items) c.station-item.result c.args.visitor.now c.loop-station.visitor c.visit_station.new.visitor more
     c.loop-station.invariant went (λ s x w same. (sym same, w))
 
@@ -24,7 +24,7 @@ pub returns-then-is_some : goal.returns-then-is_some
 returns-then-is_some g c =
     let items : List OwnedStation = c.args.row.now in
     found_in_row g.V.EntryVisitor.plan g.V.EntryVisitor.is_ready g.V.EntryVisitor.has_visited g.V.EntryVisitor.shows
-    printed_station (λ s x. x.station) (WantsModality c.args.self.now.plan.now c.args.site.now c.args.class.now c.args.syntax c.args.modality.now c.args.among.now) (WantsStation c.args.self.now.plan.now c.args.site.now c.args.class.now c.args.syntax c.args.modality.now c.station-item.result c.args.among.now)
+    printed_station (λ s x. x.station) (WantsModality c.args.self.now.plan.now c.args.entrance.now.site.now c.args.entrance.now.class.now c.args.entrance.now.syntax c.args.modality.now c.args.among.now) (WantsStation c.args.self.now.plan.now c.args.entrance.now.site.now c.args.entrance.now.class.now c.args.entrance.now.syntax c.args.modality.now c.station-item.result c.args.among.now)
     items c.loop-station.station-index c.station-item.result c.args.visitor.now c.loop-station.visitor c.visit_station.new.visitor c.in_ok-found.found (sym c.if-is_some.ensures)
     c.requires.row.ordered c.loop-station-test.true (sym c.station-item.is)
     c.loop-station.invariant c.in_ok-found.ensures
@@ -37,7 +37,7 @@ returns g c =
     let items : List OwnedStation = c.args.row.now in
     let all : take c.loop-station.station-index items ≡ items = take_all c.loop-station.station-index items (omega arith) in
     let P : List OwnedStation → Type 0 = λ xs. GoesOn g.V.EntryVisitor.plan g.V.EntryVisitor.is_ready g.V.EntryVisitor.has_visited g.V.EntryVisitor.shows
-    (λ s x. WantsModality c.args.self.now.plan.now c.args.site.now c.args.class.now c.args.syntax c.args.modality.now c.args.among.now s x × Contains xs (x.station)) c.args.visitor.now c.loop-station.visitor in
-    all_of_them g.V.EntryVisitor.plan g.V.EntryVisitor.is_ready g.V.EntryVisitor.has_visited g.V.EntryVisitor.shows (λ s x. x.station) (WantsModality c.args.self.now.plan.now c.args.site.now c.args.class.now c.args.syntax c.args.modality.now c.args.among.now)
+    (λ s x. WantsModality c.args.self.now.plan.now c.args.entrance.now.site.now c.args.entrance.now.class.now c.args.entrance.now.syntax c.args.modality.now c.args.among.now s x × Contains xs (x.station)) c.args.visitor.now c.loop-station.visitor in
+    all_of_them g.V.EntryVisitor.plan g.V.EntryVisitor.is_ready g.V.EntryVisitor.has_visited g.V.EntryVisitor.shows (λ s x. x.station) (WantsModality c.args.self.now.plan.now c.args.entrance.now.site.now c.args.entrance.now.class.now c.args.entrance.now.syntax c.args.modality.now c.args.among.now)
     items c.args.visitor.now c.loop-station.visitor (subst P all c.loop-station.invariant)
     (λ s x w. let t = w.1.1.1.2 in c.requires.row.whole t.0 t.2.0 x.station t.1 t.2.1 t.2.2.station w.1.1.1.1.1)
