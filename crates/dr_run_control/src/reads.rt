@@ -122,6 +122,19 @@ fn status_lines(
     Ok(out)
 }
 
+/// Adds what each caller has brought, and which responses it was sent.
+fn put_callers_of(out: &mut Vec<u8>, around: &Around) -> Result<(), AllocError>
+    ensures { OnOk result (out.new.items
+        ≡ out.old.items
+        ++ (brought_figures around.now.brought.items ++ bytes_figures around.now.brought.items
+        ++ response_figures around.now.responses.items)) }
+{
+    put_callers(out, around.brought.as_slice())?;
+    put_stored_bytes(out, around.brought.as_slice())?;
+    put_responses(out, around.responses.as_slice())?;
+    Ok(())
+}
+
 /// Its figures.
 fn figure_lines(
     alloc: Global,
@@ -132,17 +145,15 @@ fn figure_lines(
     ensures { IfOk result (λ text.
         text.items
         ≡ figures counts ++ queues_figures queues.now ++ visits_figures queues.now
-        ++ brought_figures around.now.brought.items ++ bytes_figures around.now.brought.items
-        ++ response_figures around.now.responses.items
+        ++ (brought_figures around.now.brought.items ++ bytes_figures around.now.brought.items
+        ++ response_figures around.now.responses.items)
         ++ open_figure (length around.now.associations.items)) }
 {
     let mut out = Vec::new(alloc);
     put_figures(&mut out, counts)?;
     put_queues(&mut out, queues)?;
     put_visits(&mut out, queues)?;
-    put_callers(&mut out, around.brought.as_slice())?;
-    put_stored_bytes(&mut out, around.brought.as_slice())?;
-    put_responses(&mut out, around.responses.as_slice())?;
+    put_callers_of(&mut out, around)?;
     put_open(&mut out, around.associations.len() as u64)?;
     Ok(out)
 }
