@@ -2,6 +2,10 @@
 //! input, outputs, network, clock and log.
 #![tactic(auto)]
 
+ghost use Rattle.std.specs.Prelude.{◌≡◌};
+ghost use Rattle.std.specs.Process.{exit_status};
+ghost use Rattle.dr_run_open.specs.Statuses.{status_number};
+
 mod events;
 mod files;
 mod input;
@@ -10,7 +14,7 @@ mod over;
 use crate::events::EventLog;
 use crate::files::{Databases, SystemDisk, SystemFiles};
 use crate::input::InputEnd;
-use crate::over::run_stored;
+use crate::over::{StoredSystem, run_stored};
 use dr_run_files::Files;
 use dr_run_net::{Cut, Sockets, SystemClock};
 use dr_run_open::Status;
@@ -43,15 +47,17 @@ where
         &mut input,
         &mut output,
         &mut faults,
-        files,
-        databases,
-        &Sockets::new(rt, &clock, &cut),
-        &clock,
-        &EventLog { rt, clock: &clock },
-        &InputEnd {
-            rt: threads,
-            input: rt.stdin(),
-            system: rt,
+        StoredSystem {
+            files,
+            databases,
+            network: &Sockets::new(rt, &clock, &cut),
+            clock: &clock,
+            log: &EventLog { rt, clock: &clock },
+            ending: &InputEnd {
+                rt: threads,
+                input: rt.stdin(),
+                system: rt,
+            },
         },
     )
 }
@@ -71,10 +77,17 @@ fn run<'x, T: Threads + Wait + Sync + time::Clock>(
     Ok(run_over_files(rt, threads, words.as_slice(), &files, &databases))
 }
 
+/// What the process ends with.
+fn exit_code(status: Status) -> ExitCode
+    ensures { exit_status result ≡ status_number status }
+{
+    ExitCode::from(status.number())
+}
+
 fn main(rt: HostRuntime) -> ExitCode {
     let status = match run(&rt, &rt) {
         Ok(status) => status,
         Err(error) => tell_unread_words(&error, &mut rt.stderr()),
     };
-    ExitCode::from(status.number())
+    exit_code(status)
 }

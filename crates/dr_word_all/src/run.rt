@@ -35,15 +35,15 @@ use dr_run_serve::{Ending, OwnPort, Tallied};
 use dr_run_token::Tokens;
 use dr_session::{Clock, DeskPort};
 use dr_word_adopt::adopt_files;
-use dr_word_at::ask_files;
+use dr_word_at::{Way, ask_files};
 use dr_word_audit::audit_files;
 use dr_word_check::tell_failure;
-use dr_word_echo::echo_files;
+use dr_word_echo::{EchoNodes, echo_files};
 use dr_word_import::import_file;
 use dr_word_json::run_as_json;
 use dr_word_line::{Question, Task, read_words};
 use dr_word_rehearse::{Finds, rehearse_files};
-use dr_word_serve::work_files;
+use dr_word_serve::{System, work_files};
 use dr_word_simulate::run_offline;
 use log::Log;
 use std::alloc::{AllocError, Global};
@@ -118,12 +118,7 @@ fn run_any<
     input: &mut R,
     output: &mut W,
     faults: &mut E,
-    files: &F,
-    ledgers: &O,
-    network: &N,
-    clock: &C,
-    log: &G,
-    ending: &U,
+    system: System<'_, F, O, N, C, G, U>,
 ) -> Result<Status, Failure<'a>>
 where
     O::Ledger: Send + TellsJournal,
@@ -136,76 +131,91 @@ where
     ensures checked { (plan : Bor (List ℕ))
         → asked.entry ≡ asks.CheckFile plan
         → IfOk result (λ status. (text : Text)
-        × F.holds files.now plan.now text
+        × F.holds system.entry.files.now plan.now text
         × Answers text (W.contents output.old) (W.contents output.new) status) }
     ensures verified { (plan certificate : Bor (List ℕ))
         → asked.entry ≡ asks.Verify plan certificate
         → IfOk result (λ status. (text : Text)
-        × F.holds files.now plan.now text
-        × Verifies (F.holds files.now certificate.now) text (W.contents output.old)
+        × F.holds system.entry.files.now plan.now text
+        × Verifies (F.holds system.entry.files.now certificate.now) text (W.contents output.old)
         (W.contents output.new) status) }
     ensures responded { (plan certificate : Bor (List ℕ)) (question : QuestionValue)
         → asked.entry ≡ asks.Question plan certificate question
         → IfOk result
-        (Asks (F.holds files.now) plan certificate question (W.contents output.old)
+        (Asks (F.holds system.entry.files.now) plan certificate question (W.contents output.old)
         (W.contents output.new)) }
     ensures simulated { (plan certificate script : Bor (List ℕ))
         → asked.entry ≡ asks.Simulate plan certificate script
         → IfOk result (λ status. (text : Text)
-        × F.holds files.now plan.now text
-        × Simulates (F.holds files.now) certificate.now script.now text (W.contents output.old)
-        (W.contents output.new) status) }
+        × F.holds system.entry.files.now plan.now text
+        × Simulates (F.holds system.entry.files.now) certificate.now script.now text
+        (W.contents output.old) (W.contents output.new) status) }
     ensures echoed { (plan caller called : Bor (List ℕ))
         → asked.entry ≡ asks.Echo plan caller called
         → IfOk result (λ status. (text : Text)
-        × F.holds files.now plan.now text
-        × Echoes (N.reaches network.now) N.Socket.hears N.Socket.sends N.Socket.closes
-        (C.tells clock.now) caller.now called.now text (W.contents output.old)
+        × F.holds system.entry.files.now plan.now text
+        × Echoes (N.reaches system.entry.network.now) N.Socket.hears N.Socket.sends N.Socket.closes
+        (C.tells system.entry.clock.now) caller.now called.now text (W.contents output.old)
         (W.contents output.new) status) }
     ensures worked { (given : NodeFilesValue) (duty : DutyValue)
         → asked.entry ≡ asks.AtNode given duty
         → IfOk result
-        (Works (F.holds files.now) (O.opens ledgers.now) O.Ledger.site O.Ledger.book O.Ledger.stands
-        (VisitsBy (N.reaches network.now) N.Socket.hears N.Socket.sends N.Socket.closes
+        (Works (F.holds system.entry.files.now) (O.opens system.entry.ledgers.now) O.Ledger.site
+        O.Ledger.book O.Ledger.stands
+        (VisitsBy (N.reaches system.entry.network.now) N.Socket.hears N.Socket.sends N.Socket.closes
         ⟦<OwnPort<O::Ledger> as DeskPort>⟧.step ⟦<OwnPort<O::Ledger> as Tallied>⟧.finds
-        (C.tells clock.now)) (C.tells clock.now) given duty (W.contents output.old)
-        (W.contents output.new)) }
+        (C.tells system.entry.clock.now)) (C.tells system.entry.clock.now) given duty
+        (W.contents output.old) (W.contents output.new)) }
     ensures adopted { (change : PlanChangeValue)
         → asked.entry ≡ asks.Adopt change
         → IfOk result
-        (Adopts (F.holds files.now) (O.opens ledgers.now) O.Ledger.site O.Ledger.book
-        O.Ledger.stands change (W.contents output.old) (W.contents output.new)) }
+        (Adopts (F.holds system.entry.files.now) (O.opens system.entry.ledgers.now) O.Ledger.site
+        O.Ledger.book O.Ledger.stands change (W.contents output.old) (W.contents output.new)) }
     ensures rehearsed { (change : PlanChangeValue)
         → asked.entry ≡ asks.Rehearse change
         → IfOk result
-        (Rehearses (F.holds files.now) (O.opens ledgers.now) O.Ledger.site O.Ledger.book
-        O.Ledger.stands change (W.contents output.old) (W.contents output.new)) }
+        (Rehearses (F.holds system.entry.files.now) (O.opens system.entry.ledgers.now) O.Ledger.site
+        O.Ledger.book O.Ledger.stands change (W.contents output.old) (W.contents output.new)) }
     ensures imported { (table : Bor (List ℕ))
         → asked.entry ≡ asks.Import table
         → IfOk result (λ _. PrintsPlan (W.contents output.old) (W.contents output.new)) }
     ensures audited { (given : SiteFilesValue)
         → asked.entry ≡ asks.Audit given
         → IfOk result
-        (EndsAs (F.holds files.now) (O.opens ledgers.now) O.Ledger.site O.Ledger.book
-        O.Ledger.stands given [] (W.contents output.old) (W.contents output.new)) }
+        (EndsAs (F.holds system.entry.files.now) (O.opens system.entry.ledgers.now) O.Ledger.site
+        O.Ledger.book O.Ledger.stands given [] (W.contents output.old) (W.contents output.new)) }
     ensures audited_among { (given : SiteFilesValue) (others : Vec (Bor (List ℕ)) Global)
         → asked.entry ≡ asks.AuditAmong given others
         → IfOk result
-        (EndsAs (F.holds files.now) (O.opens ledgers.now) O.Ledger.site O.Ledger.book
-        O.Ledger.stands given (mapped text_of others.items) (W.contents output.old)
+        (EndsAs (F.holds system.entry.files.now) (O.opens system.entry.ledgers.now) O.Ledger.site
+        O.Ledger.book O.Ledger.stands given (mapped text_of others.items) (W.contents output.old)
         (W.contents output.new)) }
 {
+    let (files, ledgers) = (system.files, system.ledgers);
     match asked {
         Task::Echo(plan, caller, called) => {
+            let nodes = EchoNodes {
+                plan,
+                caller,
+                called,
+            };
             echo_files(
-                alloc, files, plan, caller, called, network, clock, output, faults,
+                alloc,
+                files,
+                nodes,
+                system.network,
+                system.clock,
+                output,
+                faults,
             )
         }
-        Task::AtNode(given, duty) => work_files(
-            rt, alloc, files, ledgers, given, duty, network, clock, log, ending, output, faults,
-        ),
+        Task::AtNode(given, duty) => work_files(rt, alloc, system, given, duty, output, faults),
         Task::AtRunning(given, errand) => {
-            ask_files(alloc, files, given, errand, network, clock, output, faults)
+            let way = Way {
+                network: system.network,
+                clock: system.clock,
+            };
+            ask_files(alloc, files, given, errand, way, output, faults)
         }
         Task::Adopt(change) => adopt_files(alloc, files, ledgers, change, output, faults),
         Task::Rehearse(change) => rehearse_files(alloc, files, ledgers, change, output, faults),
@@ -254,12 +264,7 @@ pub fn run_words<
     input: &mut R,
     output: &mut W,
     faults: &mut E,
-    files: &F,
-    ledgers: &O,
-    network: &N,
-    clock: &C,
-    log: &G,
-    ending: &U,
+    system: System<'_, F, O, N, C, G, U>,
 ) -> Status
 where
     O::Ledger: Send + TellsJournal,
@@ -273,49 +278,50 @@ where
     ensures checked { (plan : Bor (List ℕ)) → IsCheckOf words.now plan
         → (result ≡ Success) ⊎ (result ≡ Refused)
         → (text : Text)
-        × F.holds files.now plan.now text
+        × F.holds system.entry.files.now plan.now text
         × Answers text (W.contents output.old) (W.contents output.new) result }
     ensures verified { (plan certificate : Bor (List ℕ))
         → IsVerifyOf words.now plan certificate
         → (result ≡ Success) ⊎ (result ≡ Refused)
         → (text : Text)
-        × F.holds files.now plan.now text
-        × Verifies (F.holds files.now certificate.now) text (W.contents output.old)
+        × F.holds system.entry.files.now plan.now text
+        × Verifies (F.holds system.entry.files.now certificate.now) text (W.contents output.old)
         (W.contents output.new) result }
     ensures responded { (plan certificate : Bor (List ℕ)) (question : QuestionValue)
         → IsQuestionOf words.now plan certificate question
         → (result ≡ Success) ⊎ (result ≡ Refused)
-        → Asks (F.holds files.now) plan certificate question (W.contents output.old)
+        → Asks (F.holds system.entry.files.now) plan certificate question (W.contents output.old)
         (W.contents output.new) result }
     ensures simulated { (plan certificate script : Bor (List ℕ))
         → IsSimulateOf words.now plan certificate script
         → (result ≡ Success) ⊎ (result ≡ Refused)
         → (text : Text)
-        × F.holds files.now plan.now text
-        × Simulates (F.holds files.now) certificate.now script.now text (W.contents output.old)
-        (W.contents output.new) result }
+        × F.holds system.entry.files.now plan.now text
+        × Simulates (F.holds system.entry.files.now) certificate.now script.now text
+        (W.contents output.old) (W.contents output.new) result }
     ensures echoed { (plan caller called : Bor (List ℕ))
         → IsEchoOf words.now plan caller called
         → (result ≡ Success) ⊎ (result ≡ Refused)
         → (text : Text)
-        × F.holds files.now plan.now text
-        × Echoes (N.reaches network.now) N.Socket.hears N.Socket.sends N.Socket.closes
-        (C.tells clock.now) caller.now called.now text (W.contents output.old)
+        × F.holds system.entry.files.now plan.now text
+        × Echoes (N.reaches system.entry.network.now) N.Socket.hears N.Socket.sends N.Socket.closes
+        (C.tells system.entry.clock.now) caller.now called.now text (W.contents output.old)
         (W.contents output.new) result }
     ensures worked { (given : NodeFilesValue) (duty : DutyValue)
         → IsDutyOf words.now given duty
         → (result ≡ Success) ⊎ (result ≡ Refused)
-        → Works (F.holds files.now) (O.opens ledgers.now) O.Ledger.site O.Ledger.book
-        O.Ledger.stands
-        (VisitsBy (N.reaches network.now) N.Socket.hears N.Socket.sends N.Socket.closes
+        → Works (F.holds system.entry.files.now) (O.opens system.entry.ledgers.now) O.Ledger.site
+        O.Ledger.book O.Ledger.stands
+        (VisitsBy (N.reaches system.entry.network.now) N.Socket.hears N.Socket.sends N.Socket.closes
         ⟦<OwnPort<O::Ledger> as DeskPort>⟧.step ⟦<OwnPort<O::Ledger> as Tallied>⟧.finds
-        (C.tells clock.now)) (C.tells clock.now) given duty (W.contents output.old)
-        (W.contents output.new) result }
+        (C.tells system.entry.clock.now)) (C.tells system.entry.clock.now) given duty
+        (W.contents output.old) (W.contents output.new) result }
     ensures adopted { (change : PlanChangeValue)
         → IsAdoptOf words.now change
         → (result ≡ Success) ⊎ (result ≡ Refused)
-        → Adopts (F.holds files.now) (O.opens ledgers.now) O.Ledger.site O.Ledger.book
-        O.Ledger.stands change (W.contents output.old) (W.contents output.new) result }
+        → Adopts (F.holds system.entry.files.now) (O.opens system.entry.ledgers.now) O.Ledger.site
+        O.Ledger.book O.Ledger.stands change (W.contents output.old) (W.contents output.new)
+        result }
     ensures imported { (table : Bor (List ℕ))
         → IsImportOf words.now table
         → (result ≡ Success) ⊎ (result ≡ Refused)
@@ -323,8 +329,9 @@ where
     ensures audited { (given : SiteFilesValue)
         → IsAuditOf words.now given
         → (result ≡ Success) ⊎ (result ≡ Refused)
-        → EndsAs (F.holds files.now) (O.opens ledgers.now) O.Ledger.site O.Ledger.book
-        O.Ledger.stands given [] (W.contents output.old) (W.contents output.new) result }
+        → EndsAs (F.holds system.entry.files.now) (O.opens system.entry.ledgers.now) O.Ledger.site
+        O.Ledger.book O.Ledger.stands given [] (W.contents output.old) (W.contents output.new)
+        result }
 {
     let asked = match read_words(alloc, words) {
         Ok(asked) => asked,
@@ -333,9 +340,7 @@ where
             faults,
         ),
     };
-    match run_any(
-        rt, alloc, asked, input, output, faults, files, ledgers, network, clock, log, ending,
-    ) {
+    match run_any(rt, alloc, asked, input, output, faults, system) {
         Ok(status) => status,
         Err(failure) => tell_failure(&failure, faults),
     }

@@ -14,4 +14,4 @@ mod shown;
 
 pub use caller::Caller;
 pub use doing::{ErrandOutcome, run_errand};
-pub use running::ask_files;
+pub use running::{Way, ask_files};

@@ -38,6 +38,13 @@ fn status_of(fault: AskFault) -> Status
     }
 }
 
+/// The way to a node that runs: a network, and the clock by which its answer is awaited.
+#[derive_where(Clone, Copy)]
+pub struct Way<'a, N, C> {
+    pub network: &'a N,
+    pub clock: &'a C,
+}
+
 /// Why an errand comes to nothing.
 #[derive(Drop)]
 enum ErrandStopped<'a> {
@@ -156,8 +163,7 @@ fn token_of<'a, F: Tokens>(
 /// Errors: those of `run_errand`.
 fn ask_at<'x, N: Network, C: Clock>(
     alloc: Global,
-    network: &'x N,
-    clock: &'x C,
+    way: Way<'x, N, C>,
     at: &'x Text,
     token: Option<&'x Text>,
     place: &NodeMeant,
@@ -165,8 +171,8 @@ fn ask_at<'x, N: Network, C: Clock>(
 ) -> Result<ErrandOutcome, AskFault> {
     let mut caller = Caller {
         alloc,
-        network,
-        clock,
+        network: way.network,
+        clock: way.clock,
         at,
         token,
     };
@@ -185,13 +191,12 @@ fn come<'a, F: Files + Tokens, N: Network, C: Clock>(
     files: &F,
     given: RunningNode<'a>,
     errand: Errand<'a>,
-    network: &N,
-    clock: &C,
+    way: Way<'_, N, C>,
 ) -> Result<ErrandOutcome, ErrandStopped<'a>> {
     let place = place_of(alloc, files, given)?;
     let token = token_of(alloc, files, given.token)?;
     let at = Text::copy_of(alloc, given.at.as_bytes())?;
-    let outcome = ask_at(alloc, network, clock, &at, token.as_ref(), &place, errand)?;
+    let outcome = ask_at(alloc, way, &at, token.as_ref(), &place, errand)?;
     Ok(outcome)
 }
 
@@ -204,12 +209,11 @@ pub fn ask_files<'a, F: Files + Tokens, N: Network, C: Clock, W: Write, E: Write
     files: &F,
     given: RunningNode<'a>,
     errand: Errand<'a>,
-    network: &N,
-    clock: &C,
+    way: Way<'_, N, C>,
     output: &mut W,
     faults: &mut E,
 ) -> Result<Status, Failure<'a>> {
-    match come(alloc, files, given, errand, network, clock) {
+    match come(alloc, files, given, errand, way) {
         Ok(outcome) => {
             output.write_all(outcome.text.as_bytes())?;
             Ok(outcome.status)

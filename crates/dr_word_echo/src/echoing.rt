@@ -15,6 +15,15 @@ use std::alloc::Global;
 use std::io;
 use std::io::Write;
 
+/// What names two nodes of which one asks the other for an echo: the path of their plan's text, the
+/// name of the node that asks, and that of the node that is asked.
+#[derive(Clone, Copy, Debug, Drop)]
+pub struct EchoNodes<'a> {
+    pub plan: &'a str,
+    pub caller: &'a str,
+    pub called: &'a str,
+}
+
 /// Writes the outcome: the line of an echo to the output, and why there is none to the faults.
 fn tell_outcome<W: Write, E: Write>(
     alloc: Global,
@@ -42,8 +51,7 @@ fn tell_outcome<W: Write, E: Write>(
 fn echo_text<N: Network, C: Clock, W: Write, E: Write>(
     alloc: Global,
     text: &[u8],
-    caller: &str,
-    called: &str,
+    nodes: EchoNodes<'_>,
     network: &N,
     clock: &C,
     output: &mut W,
@@ -51,8 +59,8 @@ fn echo_text<N: Network, C: Clock, W: Write, E: Write>(
 ) -> io::Result<Status>
     ensures { IfOk result
         (Echoes (N.reaches network.now) N.Socket.hears N.Socket.sends N.Socket.closes
-        (C.tells clock.now) caller.now called.now text.now (W.contents output.old)
-        (W.contents output.new)) }
+        (C.tells clock.now) nodes.entry.caller.now nodes.entry.called.now text.now
+        (W.contents output.old) (W.contents output.new)) }
 {
     let plan = match plan_of(alloc, text) {
         Ok(plan) => plan,
@@ -61,8 +69,8 @@ fn echo_text<N: Network, C: Clock, W: Write, E: Write>(
             return Ok(answer.status());
         }
     };
-    let outcome = outcome_of(alloc, &plan, caller, called, network, clock);
-    tell_outcome(alloc, &outcome, called, output, faults)?;
+    let outcome = outcome_of(alloc, &plan, nodes.caller, nodes.called, network, clock);
+    tell_outcome(alloc, &outcome, nodes.called, output, faults)?;
     Ok(outcome.status())
 }
 
@@ -73,26 +81,23 @@ fn echo_text<N: Network, C: Clock, W: Write, E: Write>(
 pub fn echo_files<'a, F: Files, N: Network, C: Clock, W: Write, E: Write>(
     alloc: Global,
     files: &F,
-    plan: &'a str,
-    caller: &str,
-    called: &str,
+    nodes: EchoNodes<'a>,
     network: &N,
     clock: &C,
     output: &mut W,
     faults: &mut E,
 ) -> Result<Status, Failure<'a>>
     ensures { IfOk result (λ status. (text : Text)
-        × F.holds files.now plan.now text
+        × F.holds files.now nodes.entry.plan.now text
         × Echoes (N.reaches network.now) N.Socket.hears N.Socket.sends N.Socket.closes
-        (C.tells clock.now) caller.now called.now text (W.contents output.old)
-        (W.contents output.new) status) }
+        (C.tells clock.now) nodes.entry.caller.now nodes.entry.called.now text
+        (W.contents output.old) (W.contents output.new) status) }
 {
-    let text = read_file(alloc, files, plan)?;
+    let text = read_file(alloc, files, nodes.plan)?;
     let status = echo_text(
         alloc,
         text.as_slice(),
-        caller,
-        called,
+        nodes,
         network,
         clock,
         output,

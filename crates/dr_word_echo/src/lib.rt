@@ -6,4 +6,4 @@ mod echoing;
 mod outcome;
 mod print;
 
-pub use echoing::echo_files;
+pub use echoing::{EchoNodes, echo_files};

@@ -20,6 +20,6 @@ pub use dropping::{GivenUp, give_up_files};
 pub use forgetting::forget_files;
 pub use listing::list_files;
 pub use making::make_files;
-pub use requeuing::requeue_files;
+pub use requeuing::{HeldRow, requeue_files};
 pub use requeuing_all::requeue_all_files;
 pub use summary::summarize_files;

@@ -16,6 +16,13 @@ use std::io::Write;
 /// The line that is printed where a row is queued again.
 const REQUEUED: &[u8] = b"requeued\n";
 
+/// A held row by its instance's UID and the node to which it goes.
+#[derive(Clone, Copy, Debug, Drop)]
+pub struct HeldRow<'a> {
+    pub uid: &'a str,
+    pub dest: &'a str,
+}
+
 /// Queues a held row again. The line to be printed is made first, so that none is wanting once the
 /// row waits.
 ///
@@ -23,18 +30,19 @@ const REQUEUED: &[u8] = b"requeued\n";
 fn requeue_row<L: Ledger>(
     alloc: Global,
     ledger: &mut L,
-    uid: &str,
-    dest: &str,
+    row: HeldRow<'_>,
 ) -> Result<Text, LedgerFault>
     ensures { MatchResult result
         (λ line. (line ≡ requeued_line)
         × (L.stands ledger.new
-        → Requeues uid.now dest.now (L.book ledger.old) (Ok tt) (L.book ledger.new)))
+        → Requeues row.entry.uid.now row.entry.dest.now (L.book ledger.old) (Ok tt)
+        (L.book ledger.new)))
         (λ why. L.stands ledger.new
-        → Requeues uid.now dest.now (L.book ledger.old) (Err why) (L.book ledger.new)) }
+        → Requeues row.entry.uid.now row.entry.dest.now (L.book ledger.old) (Err why)
+        (L.book ledger.new)) }
 {
-    let uid = Text::copy_of(alloc, uid.as_bytes())?;
-    let dest = Text::copy_of(alloc, dest.as_bytes())?;
+    let uid = Text::copy_of(alloc, row.uid.as_bytes())?;
+    let dest = Text::copy_of(alloc, row.dest.as_bytes())?;
     let line = Text::copy_of(alloc, REQUEUED)?;
     ledger.requeue(&uid, &dest)?;
     Ok(line)
@@ -48,15 +56,15 @@ fn requeue_node<'a, F: Files, O: Ledgers>(
     files: &F,
     ledgers: &O,
     given: NodeFiles<'a>,
-    uid: &str,
-    dest: &str,
+    row: HeldRow<'_>,
 ) -> Result<Text, Halt<'a>>
     ensures { Requeued (F.holds files.now given.entry.plan.now)
         (F.holds files.now given.entry.certificate.now) (O.opens ledgers.now given.entry.ledger.now)
-        O.Ledger.site O.Ledger.book O.Ledger.stands given.entry.node.now uid.now dest.now result }
+        O.Ledger.site O.Ledger.book O.Ledger.stands given.entry.node.now row.entry.uid.now
+        row.entry.dest.now result }
 {
     let mut opened = open_node(alloc, files, ledgers, given, Making::Never)?;
-    let came = requeue_row(alloc, &mut opened.ledger, uid, dest);
+    let came = requeue_row(alloc, &mut opened.ledger, row);
     drop(opened);
     match came {
         Ok(line) => Ok(line),
@@ -73,17 +81,17 @@ pub fn requeue_files<'a, F: Files, O: Ledgers, W: Write, E: Write>(
     files: &F,
     ledgers: &O,
     given: NodeFiles<'a>,
-    uid: &str,
-    dest: &str,
+    row: HeldRow<'_>,
     output: &mut W,
     faults: &mut E,
 ) -> Result<Status, Failure<'a>>
     ensures { IfOk result (λ status. (came : Result Words HaltValue)
         × Requeued (F.holds files.now given.entry.plan.now)
         (F.holds files.now given.entry.certificate.now) (O.opens ledgers.now given.entry.ledger.now)
-        O.Ledger.site O.Ledger.book O.Ledger.stands given.entry.node.now uid.now dest.now came
+        O.Ledger.site O.Ledger.book O.Ledger.stands given.entry.node.now row.entry.uid.now
+        row.entry.dest.now came
         × Ends came (W.contents output.old) (W.contents output.new) status) }
 {
-    let came = requeue_node(alloc, files, ledgers, given, uid, dest);
+    let came = requeue_node(alloc, files, ledgers, given, row);
     finish(came, output, faults)
 }

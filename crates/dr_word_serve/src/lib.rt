@@ -7,10 +7,13 @@
 //!   the node's report is printed.
 //! - `serve_files`: a node serves associations at its address and sends what is due; after so many
 //!   connections its report is printed.
+//! - `System` is what these are given.
 #![tactic(auto)]
 
 mod running;
 mod submitting;
+mod surrounding;
 mod working;
 
+pub use surrounding::System;
 pub use working::work_files;

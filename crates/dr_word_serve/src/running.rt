@@ -7,6 +7,7 @@ ghost use Rattle.dr_run_open.specs.Ends.{Ends};
 ghost use Rattle.dr_run_open.specs.declared.halt.Halt.{Halt as HaltValue};
 ghost use Rattle.dr_word_serve.specs.Serving.{Grew, IsUnheard, IsUnserved, Serves};
 
+use crate::surrounding::System;
 use dr_base::Text;
 use dr_ledger::LedgerFault;
 use dr_ledger_report::report_of;
@@ -16,7 +17,8 @@ use dr_run_net::{Limits, Listening, Network};
 use dr_run_open::{Halt, Ledgers, Making, NextHop, Opened, Status, finish, hops_of, open_node};
 use dr_run_report::{OwnPaths, Paths, test_path};
 use dr_run_serve::{
-    ControlPlace, ControlPort, Ending, FileMonitor, Monitor, ServeFault, StopSign, Terms, serve,
+    ControlPlace, ControlPort, Ending, FileMonitor, Means, Monitor, ServeFault, StopSign, Terms,
+    serve,
 };
 use dr_run_shown::Escaped;
 use dr_session::{Clock, Link};
@@ -84,15 +86,11 @@ fn serve_ledger<
 >(
     rt: &R,
     alloc: Global,
-    name: &Text,
     ledger: L,
     site: Site,
     hops: Vec<NextHop>,
-    listener: &D,
     terms: Terms<'_>,
-    network: &N,
-    clock: &C,
-    log: &G,
+    means: Means<'_, D, N, C, G>,
 ) -> Result<Text, Halt<'a>>
 where
     N::Socket: Send,
@@ -100,23 +98,27 @@ where
     requires { L.site ledger ≡ site }
     ensures { MatchResult result
         (λ text.
-        (last : L) × (L.stands last → Grew site name.now (L.book ledger) (L.book last) text))
+        (last : L) × (L.stands last → Grew site site.name (L.book ledger) (L.book last) text))
         IsUnserved }
 {
-    let served = serve::<R, L, K, D, N, C, G>(
-        rt, alloc, ledger, site, hops, listener, terms, network, clock, log,
-    );
+    let Ok(name) = site.name().clone() else {
+        drop(ledger);
+        drop(site);
+        drop(hops);
+        return Err(Halt::Memory);
+    };
+    let served = serve::<R, L, K, D, N, C, G>(rt, alloc, ledger, site, hops, terms, means);
     let mut ledger = match served {
         Ok(ledger) => ledger,
         Err(fault) => return Err(unserved(fault)),
     };
-    match report_of(alloc, name, &mut ledger) {
+    match report_of(alloc, &name, &mut ledger) {
         Ok(report) => Ok(report),
         Err(fault) => Err(Halt::Refused(fault)),
     }
 }
 
-/// Serves at a listener on the ledger of a node that was opened; the report of what it then has.
+/// Serves by these means on the ledger of a node that was opened; the report of what it then has.
 ///
 /// Errors: Receipt, Refused with Store or Memory, Memory.
 fn serve_opened<
@@ -132,11 +134,8 @@ fn serve_opened<
     rt: &R,
     alloc: Global,
     opened: Opened<L>,
-    listener: &D,
     terms: Terms<'_>,
-    network: &N,
-    clock: &C,
-    log: &G,
+    means: Means<'_, D, N, C, G>,
 ) -> Result<Text, Halt<'a>>
 where
     N::Socket: Send,
@@ -151,19 +150,13 @@ where
         drop(opened);
         return Err(Halt::Memory);
     };
-    let Ok(name) = opened.site.name().clone() else {
-        drop(opened);
-        return Err(Halt::Memory);
-    };
     let Opened {
         sealed,
         site,
         ledger,
     } = opened;
     drop(sealed);
-    serve_ledger::<R, L, K, D, N, C, G>(
-        rt, alloc, &name, ledger, site, hops, listener, terms, network, clock, log,
-    )
+    serve_ledger::<R, L, K, D, N, C, G>(rt, alloc, ledger, site, hops, terms, means)
 }
 
 /// Tells that a node serves so many associations, by how many threads, with how many megabytes for
@@ -237,7 +230,24 @@ fn span_of(days: Option<u32>) -> Option<u64>
     }
 }
 
-/// Opens a node and serves at its address; the report of what it then has.
+/// On what terms a node serves that may be asked to end.
+fn terms_of<'x>(
+    serving: Serving<'_>,
+    stop: &'x StopSign,
+    control: Option<&'x ControlPort>,
+) -> Terms<'x> {
+    Terms::new(
+        u64::from(serving.links),
+        usize::from(serving.workers),
+        u64::from(serving.memory) * 1_000_000,
+        stop,
+        control,
+    )
+    .forgetting(span_of(serving.forget_after))
+    .awaiting(milliseconds(serving.waits.request))
+}
+
+/// Opens a node and serves at its address, seen by a monitor; the report of what it then has.
 ///
 /// Errors: those of `open_node`; Failed with the node's name where its address can't be listened
 /// at; those of `serve_opened`.
@@ -248,30 +258,35 @@ fn serve_node<
     O: Ledgers,
     N: Network + Sync,
     C: Clock + Sync,
-    G: Monitor + Sync,
+    G,
+    U,
+    M: Monitor + Sync,
 >(
     rt: &R,
     alloc: Global,
-    files: &F,
-    ledgers: &O,
+    system: System<'_, F, O, N, C, G, U>,
+    monitor: &M,
     given: NodeFiles<'a>,
     serving: Serving<'a>,
-    stop: &StopSign,
-    control: Option<&ControlPort>,
-    network: &N,
-    clock: &C,
-    log: &G,
+    terms: Terms<'_>,
 ) -> Result<Text, Halt<'a>>
 where
     O::Ledger: Send,
     N::Socket: Send,
     N::Listener: Sync,
-    ensures { Serves (F.holds files.now given.entry.plan.now)
-        (F.holds files.now given.entry.certificate.now) (O.opens ledgers.now given.entry.ledger.now)
-        O.Ledger.site O.Ledger.book O.Ledger.stands given.entry.node.now result }
+    ensures { Serves (F.holds system.entry.files.now given.entry.plan.now)
+        (F.holds system.entry.files.now given.entry.certificate.now)
+        (O.opens system.entry.ledgers.now given.entry.ledger.now) O.Ledger.site O.Ledger.book
+        O.Ledger.stands given.entry.node.now result }
 {
-    let opened = open_node(alloc, files, ledgers, given, making_of(serving))?;
-    let network = network.within(limits_of(serving.waits));
+    let opened = open_node(
+        alloc,
+        system.files,
+        system.ledgers,
+        given,
+        making_of(serving),
+    )?;
+    let network = system.network.within(limits_of(serving.waits));
     let listener = match listen_at(alloc, &opened, &network, given.node) {
         Ok(listener) => listener,
         Err(halt) => {
@@ -279,19 +294,14 @@ where
             return Err(halt);
         }
     };
-    let terms = Terms::new(
-        u64::from(serving.links),
-        usize::from(serving.workers),
-        u64::from(serving.memory) * 1_000_000,
-        stop,
-        control,
-    )
-    .forgetting(span_of(serving.forget_after))
-    .awaiting(milliseconds(serving.waits.request));
-    tell_serving(log, given, serving, terms.workers());
-    serve_opened::<R, O::Ledger, N::Socket, N::Listener, N, C, G>(
-        rt, alloc, opened, &listener, terms, &network, clock, log,
-    )
+    tell_serving(monitor, given, serving, terms.workers());
+    let means = Means {
+        listener: &listener,
+        network: &network,
+        clock: system.clock,
+        log: monitor,
+    };
+    serve_opened::<R, O::Ledger, N::Socket, N::Listener, N, C, M>(rt, alloc, opened, terms, means)
 }
 
 /// Tests, before anything is opened, that a report takes no place of the node's own files, nor that
@@ -376,43 +386,30 @@ fn serve_until_ended<
     O: Ledgers,
     N: Network + Sync,
     C: Clock + Sync,
-    G: Monitor + Sync,
+    G,
     U: Ending,
+    M: Monitor + Sync,
 >(
     rt: &R,
     alloc: Global,
-    files: &F,
-    ledgers: &O,
+    system: System<'_, F, O, N, C, G, U>,
+    monitor: &M,
     given: NodeFiles<'a>,
     serving: Serving<'a>,
-    network: &N,
-    clock: &C,
-    log: &G,
-    ending: &U,
 ) -> Result<Result<Text, Halt<'a>>, Failure<'a>>
 where
     O::Ledger: Send,
     N::Socket: Send,
     N::Listener: Sync,
-    ensures { IfOk result (Serves (F.holds files.now given.entry.plan.now)
-        (F.holds files.now given.entry.certificate.now) (O.opens ledgers.now given.entry.ledger.now)
-        O.Ledger.site O.Ledger.book O.Ledger.stands given.entry.node.now) }
+    ensures { IfOk result (Serves (F.holds system.entry.files.now given.entry.plan.now)
+        (F.holds system.entry.files.now given.entry.certificate.now)
+        (O.opens system.entry.ledgers.now given.entry.ledger.now) O.Ledger.site O.Ledger.book
+        O.Ledger.stands given.entry.node.now) }
 {
-    let stop = stop_of(alloc, serving, ending)?;
-    let control = control_of(alloc, serving, ending)?;
-    let came = serve_node(
-        rt,
-        alloc,
-        files,
-        ledgers,
-        given,
-        serving,
-        stop.as_ref(),
-        control.as_ref(),
-        network,
-        clock,
-        log,
-    );
+    let stop = stop_of(alloc, serving, system.ending)?;
+    let control = control_of(alloc, serving, system.ending)?;
+    let terms = terms_of(serving, stop.as_ref(), control.as_ref());
+    let came = serve_node(rt, alloc, system, monitor, given, serving, terms);
     drop(control);
     Ok(came)
 }
@@ -440,14 +437,9 @@ pub fn serve_files<
 >(
     rt: &R,
     alloc: Global,
-    files: &F,
-    ledgers: &O,
+    system: System<'_, F, O, N, C, G, U>,
     given: NodeFiles<'a>,
     serving: Serving<'a>,
-    network: &N,
-    clock: &C,
-    log: &G,
-    ending: &U,
     output: &mut W,
     faults: &mut E,
 ) -> Result<Status, Failure<'a>>
@@ -456,20 +448,19 @@ where
     N::Socket: Send,
     N::Listener: Sync,
     ensures { IfOk result (λ status. (came : Result Words HaltValue)
-        × Serves (F.holds files.now given.entry.plan.now)
-        (F.holds files.now given.entry.certificate.now) (O.opens ledgers.now given.entry.ledger.now)
-        O.Ledger.site O.Ledger.book O.Ledger.stands given.entry.node.now came
+        × Serves (F.holds system.entry.files.now given.entry.plan.now)
+        (F.holds system.entry.files.now given.entry.certificate.now)
+        (O.opens system.entry.ledgers.now given.entry.ledger.now) O.Ledger.site O.Ledger.book
+        O.Ledger.stands given.entry.node.now came
         × Ends came (W.contents output.old) (W.contents output.new) status) }
 {
-    test_report(alloc, files, given, serving.report)?;
-    let logged = Logged::new((), level_of(serving.verbosity), log);
+    test_report(alloc, system.files, given, serving.report)?;
+    let logged = Logged::new((), level_of(serving.verbosity), system.log);
     let monitor = FileMonitor {
         log: &logged,
-        files,
+        files: system.files,
         path: serving.report,
     };
-    let came = serve_until_ended(
-        rt, alloc, files, ledgers, given, serving, network, clock, &monitor, ending,
-    )?;
+    let came = serve_until_ended(rt, alloc, system, &monitor, given, serving)?;
     finish(came, output, faults)
 }

@@ -13,6 +13,7 @@ ghost use Rattle.dr_run_open.specs.declared.halt.Halt.{Halt as HaltValue};
 ghost use Rattle.dr_word_serve.specs.Sending.{IsUnsent, ReadsFrom, ReportsVisited, Sends, SentFrom};
 ghost use Rattle.dr_word_serve.specs.Sending.{VisitsBy, arrived_line, local_caller};
 
+use crate::surrounding::System;
 use dr_base::Text;
 use dr_ledger::{Arrived, Item, Ledger, LedgerFault};
 use dr_ledger_report::report_of;
@@ -26,6 +27,13 @@ use dr_session::{Clock, DeskPort};
 use dr_site::Site;
 use std::alloc::Global;
 use std::io::Write;
+
+/// A node that sends: its part of the plan, and where it sends.
+#[derive(Clone, Copy)]
+struct SendingNode<'a> {
+    site: &'a Site,
+    hops: &'a [NextHop],
+}
 
 /// What is printed of an arrival.
 fn word_of(arrived: Arrived) -> &'static [u8]
@@ -116,25 +124,24 @@ fn send_due<L: Ledger, N: Network, C: Clock>(
 /// Errors: Refused; Failed where the output failed.
 fn send_ledger<'a, L: Ledger + Drop, N: Network, C: Clock, W: Write>(
     alloc: Global,
-    site: &Site,
-    hops: &[NextHop],
+    node: SendingNode<'_>,
     ledger: L,
     item: Item,
     network: &N,
     clock: &C,
     output: &mut W,
 ) -> Result<Text, Halt<'a>>
-    requires { L.site ledger ≡ site.now }
+    requires { L.site ledger ≡ node.site.now }
     ensures { MatchResult result
         (λ report. SentFrom L.book L.stands
         (VisitsBy (N.reaches network.now) N.Socket.hears N.Socket.sends N.Socket.closes
         ⟦<OwnPort<L> as DeskPort>⟧.step ⟦<OwnPort<L> as Tallied>⟧.finds (C.tells clock.now))
-        site.now hops.now item ledger report (W.contents output.old) (W.contents output.new))
-        IsUnsent }
+        node.entry.site.now node.entry.hops.now item ledger report (W.contents output.old)
+        (W.contents output.new)) IsUnsent }
 {
     let mut port = OwnPort::new(ledger);
     take_in(alloc, &mut port.desk.ledger, item, output)?;
-    match send_due(alloc, site, hops, network, &mut port, clock) {
+    match send_due(alloc, node.site, node.hops, network, &mut port, clock) {
         Ok(report) => Ok(report),
         Err(fault) => Err(Halt::Refused(fault)),
     }
@@ -170,16 +177,11 @@ fn send_opened<'a, L: Ledger + Drop, N: Network, C: Clock, W: Write>(
         ledger,
     } = opened;
     drop(sealed);
-    let sent = send_ledger(
-        alloc,
-        &site,
-        hops.as_slice(),
-        ledger,
-        item,
-        network,
-        clock,
-        output,
-    );
+    let node = SendingNode {
+        site: &site,
+        hops: hops.as_slice(),
+    };
+    let sent = send_ledger(alloc, node, ledger, item, network, clock, output);
     drop(site);
     sent
 }
@@ -187,33 +189,32 @@ fn send_opened<'a, L: Ledger + Drop, N: Network, C: Clock, W: Write>(
 /// Opens a node, and sends the instance in a Part 10 file, which enters there.
 ///
 /// Errors: those of `open_node`, `read_instance` and `send_opened`.
-fn send_node<'a, F: Files, O: Ledgers, N: Network, C: Clock, W: Write>(
+fn send_node<'a, F: Files, O: Ledgers, N: Network, C: Clock, G, U, W: Write>(
     alloc: Global,
-    files: &F,
-    ledgers: &O,
+    system: System<'_, F, O, N, C, G, U>,
     given: NodeFiles<'a>,
     file: &'a str,
-    network: &N,
-    clock: &C,
     output: &mut W,
 ) -> Result<Text, Halt<'a>>
-    ensures { Sends (F.holds files.now given.entry.plan.now)
-        (F.holds files.now given.entry.certificate.now) (F.holds files.now file.now)
-        (O.opens ledgers.now given.entry.ledger.now) O.Ledger.site O.Ledger.book O.Ledger.stands
-        (VisitsBy (N.reaches network.now) N.Socket.hears N.Socket.sends N.Socket.closes
+    ensures { Sends (F.holds system.entry.files.now given.entry.plan.now)
+        (F.holds system.entry.files.now given.entry.certificate.now)
+        (F.holds system.entry.files.now file.now)
+        (O.opens system.entry.ledgers.now given.entry.ledger.now) O.Ledger.site O.Ledger.book
+        O.Ledger.stands
+        (VisitsBy (N.reaches system.entry.network.now) N.Socket.hears N.Socket.sends N.Socket.closes
         ⟦<OwnPort<O::Ledger> as DeskPort>⟧.step ⟦<OwnPort<O::Ledger> as Tallied>⟧.finds
-        (C.tells clock.now)) given.entry.node.now result (W.contents output.old)
+        (C.tells system.entry.clock.now)) given.entry.node.now result (W.contents output.old)
         (W.contents output.new) }
 {
-    let opened = open_node(alloc, files, ledgers, given, Making::Allowed)?;
-    let item = match read_instance(alloc, files, file) {
+    let opened = open_node(alloc, system.files, system.ledgers, given, Making::Allowed)?;
+    let item = match read_instance(alloc, system.files, file) {
         Ok(item) => item,
         Err(halt) => {
             drop(opened);
             return Err(halt);
         }
     };
-    send_opened(alloc, opened, item, network, clock, output)
+    send_opened(alloc, opened, item, system.network, system.clock, output)
 }
 
 /// Brings the instance in a Part 10 file to a node, whose plan, certificate and ledger are in these
@@ -221,27 +222,26 @@ fn send_node<'a, F: Files, O: Ledgers, N: Network, C: Clock, W: Write>(
 /// node then has.
 ///
 /// Errors: Stream, File.
-pub fn send_files<'a, F: Files, O: Ledgers, N: Network, C: Clock, W: Write, E: Write>(
+pub fn send_files<'a, F: Files, O: Ledgers, N: Network, C: Clock, G, U, W: Write, E: Write>(
     alloc: Global,
-    files: &F,
-    ledgers: &O,
+    system: System<'_, F, O, N, C, G, U>,
     given: NodeFiles<'a>,
     file: &'a str,
-    network: &N,
-    clock: &C,
     output: &mut W,
     faults: &mut E,
 ) -> Result<Status, Failure<'a>>
     ensures { IfOk result (λ status. (came : Result Words HaltValue)
         × (mid : Option Words)
-        × Sends (F.holds files.now given.entry.plan.now)
-        (F.holds files.now given.entry.certificate.now) (F.holds files.now file.now)
-        (O.opens ledgers.now given.entry.ledger.now) O.Ledger.site O.Ledger.book O.Ledger.stands
-        (VisitsBy (N.reaches network.now) N.Socket.hears N.Socket.sends N.Socket.closes
+        × Sends (F.holds system.entry.files.now given.entry.plan.now)
+        (F.holds system.entry.files.now given.entry.certificate.now)
+        (F.holds system.entry.files.now file.now)
+        (O.opens system.entry.ledgers.now given.entry.ledger.now) O.Ledger.site O.Ledger.book
+        O.Ledger.stands
+        (VisitsBy (N.reaches system.entry.network.now) N.Socket.hears N.Socket.sends N.Socket.closes
         ⟦<OwnPort<O::Ledger> as DeskPort>⟧.step ⟦<OwnPort<O::Ledger> as Tallied>⟧.finds
-        (C.tells clock.now)) given.entry.node.now came (W.contents output.old) mid
+        (C.tells system.entry.clock.now)) given.entry.node.now came (W.contents output.old) mid
         × Ends came mid (W.contents output.new) status) }
 {
-    let came = send_node(alloc, files, ledgers, given, file, network, clock, output);
+    let came = send_node(alloc, system, given, file, output);
     finish(came, output, faults)
 }

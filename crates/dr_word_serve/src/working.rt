@@ -5,6 +5,7 @@ ghost use Rattle.dr_word_serve.specs.Working.{Works};
 
 use crate::running::serve_files;
 use crate::submitting::send_files;
+use crate::surrounding::System;
 use dr_run_files::{Failure, Files, NodeFiles};
 use dr_run_net::Network;
 use dr_run_open::{Ledgers, Status};
@@ -13,8 +14,8 @@ use dr_run_serve::{Ending, OwnPort, Tallied};
 use dr_session::{Clock, DeskPort};
 use dr_word_line::Duty;
 use dr_word_list::{
-    GivenUp, forget_files, give_up_files, list_files, make_files, requeue_all_files, requeue_files,
-    summarize_files,
+    GivenUp, HeldRow, forget_files, give_up_files, list_files, make_files, requeue_all_files,
+    requeue_files, summarize_files,
 };
 use log::Log;
 use std::alloc::Global;
@@ -40,14 +41,9 @@ pub fn work_files<
 >(
     rt: &R,
     alloc: Global,
-    files: &F,
-    ledgers: &O,
+    system: System<'_, F, O, N, C, G, U>,
     given: NodeFiles<'a>,
     duty: Duty<'a>,
-    network: &N,
-    clock: &C,
-    log: &G,
-    ending: &U,
     output: &mut W,
     faults: &mut E,
 ) -> Result<Status, Failure<'a>>
@@ -56,12 +52,14 @@ where
     N::Socket: Send,
     N::Listener: Sync,
     ensures { IfOk result
-        (Works (F.holds files.now) (O.opens ledgers.now) O.Ledger.site O.Ledger.book O.Ledger.stands
-        (VisitsBy (N.reaches network.now) N.Socket.hears N.Socket.sends N.Socket.closes
+        (Works (F.holds system.entry.files.now) (O.opens system.entry.ledgers.now) O.Ledger.site
+        O.Ledger.book O.Ledger.stands
+        (VisitsBy (N.reaches system.entry.network.now) N.Socket.hears N.Socket.sends N.Socket.closes
         ⟦<OwnPort<O::Ledger> as DeskPort>⟧.step ⟦<OwnPort<O::Ledger> as Tallied>⟧.finds
-        (C.tells clock.now)) (C.tells clock.now) given.entry duty.entry (W.contents output.old)
-        (W.contents output.new)) }
+        (C.tells system.entry.clock.now)) (C.tells system.entry.clock.now) given.entry duty.entry
+        (W.contents output.old) (W.contents output.new)) }
 {
+    let (files, ledgers) = (system.files, system.ledgers);
     match duty {
         Duty::Make => make_files(alloc, files, ledgers, given, output, faults),
         Duty::List => list_files(alloc, files, ledgers, given, output, faults),
@@ -70,19 +68,16 @@ where
             requeue_all_files(alloc, files, ledgers, given, dest, output, faults)
         }
         Duty::Requeue(uid, dest) => {
-            requeue_files(alloc, files, ledgers, given, uid, dest, output, faults)
+            let row = HeldRow { uid, dest };
+            requeue_files(alloc, files, ledgers, given, row, output, faults)
         }
         Duty::GiveUp(uid, dest) => {
-            let now = clock.now();
+            let now = system.clock.now();
             let row = GivenUp { uid, dest, now };
             give_up_files(alloc, files, ledgers, given, row, output, faults)
         }
         Duty::Forget(uid) => forget_files(alloc, files, ledgers, given, uid, output, faults),
-        Duty::Send(file) => send_files(
-            alloc, files, ledgers, given, file, network, clock, output, faults,
-        ),
-        Duty::Serve(serving) => serve_files(
-            rt, alloc, files, ledgers, given, serving, network, clock, log, ending, output, faults,
-        ),
+        Duty::Send(file) => send_files(alloc, system, given, file, output, faults),
+        Duty::Serve(serving) => serve_files(rt, alloc, system, given, serving, output, faults),
     }
 }

@@ -32,8 +32,8 @@ pub returns-in-AtNode-clause-worked : goal.returns-in-AtNode-clause-worked
 unfolding duty_of given_of
 returns-in-AtNode-clause-worked g c = λ given duty asked.
     let same : asks.AtNode c.in-AtNode.given c.in-AtNode.duty ≡ asks.AtNode given duty = sym c.in-AtNode.is ∙ asked in
-    let P : NodeFiles → Duty → Type 0 = λ at what. IfOk c.work_files.result (Works (g.F.Files.holds c.args.files.now) (g.O.Ledgers.opens c.args.ledgers.now) g.O.Ledger.Ledger.site g.O.Ledger.Ledger.book g.O.Ledger.Ledger.stands
-    (VisitsBy (g.N.Network.reaches c.args.network.now) g.N.Socket.Link.hears g.N.Socket.Link.sends g.N.Socket.Link.closes (own.step-value g.row.O-Ledger g.O.Ledger.Ledger g.O.Ledger.Ledger-dict).it (tallied.finds-value g.row.O-Ledger g.O.Ledger.Ledger g.O.Ledger.Ledger-dict).it (g.C.Clock.tells c.args.clock.now)) (g.C.Clock.tells c.args.clock.now)
+    let P : NodeFiles → Duty → Type 0 = λ at what. IfOk c.work_files.result (Works (g.F.Files.holds c.args.system.files.now) (g.O.Ledgers.opens c.args.system.ledgers.now) g.O.Ledger.Ledger.site g.O.Ledger.Ledger.book g.O.Ledger.Ledger.stands
+    (VisitsBy (g.N.Network.reaches c.args.system.network.now) g.N.Socket.Link.hears g.N.Socket.Link.sends g.N.Socket.Link.closes (own.step-value g.row.O-Ledger g.O.Ledger.Ledger g.O.Ledger.Ledger-dict).it (tallied.finds-value g.row.O-Ledger g.O.Ledger.Ledger g.O.Ledger.Ledger-dict).it (g.C.Clock.tells c.args.system.clock.now)) (g.C.Clock.tells c.args.system.clock.now)
     at what (g.W.Write.contents c.args.output.now) (g.W.Write.contents c.work_files.new.output)) in
     subst (λ (at : NodeFiles). P at duty) (ap (given_of given) same)
     (subst (λ (what : Duty). P c.in-AtNode.given what) (ap (duty_of duty) same) c.work_files.ensures)
@@ -48,7 +48,7 @@ pub returns-in-Adopt-clause-adopted : goal.returns-in-Adopt-clause-adopted
 unfolding change_of
 returns-in-Adopt-clause-adopted g c = λ change asked.
     let same : asks.Adopt c.in-Adopt.change ≡ asks.Adopt change = sym c.in-Adopt.is ∙ asked in
-    let P : PlanChange → Type 0 = λ files. IfOk c.adopt_files.result (Adopts (g.F.Files.holds c.args.files.now) (g.O.Ledgers.opens c.args.ledgers.now) g.O.Ledger.Ledger.site g.O.Ledger.Ledger.book g.O.Ledger.Ledger.stands files
+    let P : PlanChange → Type 0 = λ files. IfOk c.adopt_files.result (Adopts (g.F.Files.holds c.args.system.files.now) (g.O.Ledgers.opens c.args.system.ledgers.now) g.O.Ledger.Ledger.site g.O.Ledger.Ledger.book g.O.Ledger.Ledger.stands files
     (g.W.Write.contents c.args.output.now) (g.W.Write.contents c.adopt_files.new.output)) in
     subst P (ap (change_of change) same) c.adopt_files.ensures
 
@@ -56,7 +56,7 @@ pub returns-in-Rehearse-clause-rehearsed : goal.returns-in-Rehearse-clause-rehea
 unfolding change_of
 returns-in-Rehearse-clause-rehearsed g c = λ change asked.
     let same : asks.Rehearse c.in-Rehearse.change ≡ asks.Rehearse change = sym c.in-Rehearse.is ∙ asked in
-    let P : PlanChange → Type 0 = λ files. IfOk c.rehearse_files.result (Rehearses (g.F.Files.holds c.args.files.now) (g.O.Ledgers.opens c.args.ledgers.now) g.O.Ledger.Ledger.site g.O.Ledger.Ledger.book g.O.Ledger.Ledger.stands files
+    let P : PlanChange → Type 0 = λ files. IfOk c.rehearse_files.result (Rehearses (g.F.Files.holds c.args.system.files.now) (g.O.Ledgers.opens c.args.system.ledgers.now) g.O.Ledger.Ledger.site g.O.Ledger.Ledger.book g.O.Ledger.Ledger.stands files
     (g.W.Write.contents c.args.output.now) (g.W.Write.contents c.rehearse_files.new.output)) in
     subst P (ap (change_of change) same) c.rehearse_files.ensures
 
@@ -73,7 +73,7 @@ pub returns-in-Audit-clause-audited : goal.returns-in-Audit-clause-audited
 unfolding site_of
 returns-in-Audit-clause-audited g c = λ given asked.
     let same : asks.Audit c.in-Audit.given ≡ asks.Audit given = sym c.in-Audit.is ∙ asked in
-    let P : SiteFiles → Type 0 = λ files. IfOk c.audit_files.result (EndsAs (g.F.Files.holds c.args.files.now) (g.O.Ledgers.opens c.args.ledgers.now) g.O.Ledger.Ledger.site g.O.Ledger.Ledger.book g.O.Ledger.Ledger.stands files []
+    let P : SiteFiles → Type 0 = λ files. IfOk c.audit_files.result (EndsAs (g.F.Files.holds c.args.system.files.now) (g.O.Ledgers.opens c.args.system.ledgers.now) g.O.Ledger.Ledger.site g.O.Ledger.Ledger.book g.O.Ledger.Ledger.stands files []
     (g.W.Write.contents c.args.output.now) (g.W.Write.contents c.audit_files.new.output)) in
     subst P (ap (site_of given) same) c.audit_files.ensures
 
@@ -86,7 +86,7 @@ pub returns-in-AuditAmong-clause-audited_among : goal.returns-in-AuditAmong-clau
 unfolding others_of site_of
 returns-in-AuditAmong-clause-audited_among g c = λ given others asked.
     let same : asks.AuditAmong c.in-AuditAmong.given c.in-AuditAmong.others ≡ asks.AuditAmong given others = sym c.in-AuditAmong.is ∙ asked in
-    let P : SiteFiles → List Text → Type 0 = λ files names. IfOk c.audit_files-in-AuditAmong.result (EndsAs (g.F.Files.holds c.args.files.now) (g.O.Ledgers.opens c.args.ledgers.now) g.O.Ledger.Ledger.site g.O.Ledger.Ledger.book g.O.Ledger.Ledger.stands files names
+    let P : SiteFiles → List Text → Type 0 = λ files names. IfOk c.audit_files-in-AuditAmong.result (EndsAs (g.F.Files.holds c.args.system.files.now) (g.O.Ledgers.opens c.args.system.ledgers.now) g.O.Ledger.Ledger.site g.O.Ledger.Ledger.book g.O.Ledger.Ledger.stands files names
     (g.W.Write.contents c.args.output.now) (g.W.Write.contents c.audit_files-in-AuditAmong.new.output)) in
     subst (λ (files : SiteFiles). P files (mapped text_of others.items)) (ap (site_of given) same)
     (subst (λ (names : Vec (Bor (List ℕ)) Global). P c.in-AuditAmong.given (mapped text_of names.items)) (ap (others_of others) same)

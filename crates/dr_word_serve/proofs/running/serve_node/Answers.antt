@@ -4,19 +4,19 @@ use Rattle.dr_word_serve.proofs.running.serve_node.Goals as goal
 
 pub returns-in_err-opened : goal.returns-in_err-opened
 returns-in_err-opened g c =
-    err_as (Serves (g.F.Files.holds c.args.files.now c.args.given.plan.now) (g.F.Files.holds c.args.files.now c.args.given.certificate.now) (g.O.Ledgers.opens c.args.ledgers.now c.args.given.ledger.now) g.O.Ledger.Ledger.site g.O.Ledger.Ledger.book g.O.Ledger.Ledger.stands c.args.given.node.now)
+    err_as (Serves (g.F.Files.holds c.args.system.files.now c.args.given.plan.now) (g.F.Files.holds c.args.system.files.now c.args.given.certificate.now) (g.O.Ledgers.opens c.args.system.ledgers.now c.args.given.ledger.now) g.O.Ledger.Ledger.site g.O.Ledger.Ledger.book g.O.Ledger.Ledger.stands c.args.given.node.now)
     c.in_err-opened.field-0.0 c.from_residual.result c.from_residual.ensures.0 c.from_residual.ensures.1
-    (unopened_serves (g.F.Files.holds c.args.files.now c.args.given.plan.now) (g.F.Files.holds c.args.files.now c.args.given.certificate.now) (g.O.Ledgers.opens c.args.ledgers.now c.args.given.ledger.now) g.O.Ledger.Ledger.site g.O.Ledger.Ledger.book g.O.Ledger.Ledger.stands c.args.given.node.now
+    (unopened_serves (g.F.Files.holds c.args.system.files.now c.args.given.plan.now) (g.F.Files.holds c.args.system.files.now c.args.given.certificate.now) (g.O.Ledgers.opens c.args.system.ledgers.now c.args.given.ledger.now) g.O.Ledger.Ledger.site g.O.Ledger.Ledger.book g.O.Ledger.Ledger.stands c.args.given.node.now
     c.in_err-opened.field-0.0 c.in_err-opened.ensures)
 
 pub returns-in-Err : goal.returns-in-Err
 returns-in-Err g c =
-    unheard_serves (g.F.Files.holds c.args.files.now c.args.given.plan.now) (g.F.Files.holds c.args.files.now c.args.given.certificate.now) (g.O.Ledgers.opens c.args.ledgers.now c.args.given.ledger.now) g.O.Ledger.Ledger.site g.O.Ledger.Ledger.book g.O.Ledger.Ledger.stands c.args.given.node.now
+    unheard_serves (g.F.Files.holds c.args.system.files.now c.args.given.plan.now) (g.F.Files.holds c.args.system.files.now c.args.given.certificate.now) (g.O.Ledgers.opens c.args.system.ledgers.now c.args.given.ledger.now) g.O.Ledger.Ledger.site g.O.Ledger.Ledger.book g.O.Ledger.Ledger.stands c.args.given.node.now
     c.in_ok-opened.opened.sealed c.in_ok-opened.opened.site c.in_ok-opened.opened.ledger c.in_ok-opened.ensures
     c.in-Err.halt c.in-Err.ensures
 
 pub returns : goal.returns
 returns g c =
-    opened_serves (g.F.Files.holds c.args.files.now c.args.given.plan.now) (g.F.Files.holds c.args.files.now c.args.given.certificate.now) (g.O.Ledgers.opens c.args.ledgers.now c.args.given.ledger.now) g.O.Ledger.Ledger.site g.O.Ledger.Ledger.book g.O.Ledger.Ledger.stands c.args.given.node.now
+    opened_serves (g.F.Files.holds c.args.system.files.now c.args.given.plan.now) (g.F.Files.holds c.args.system.files.now c.args.given.certificate.now) (g.O.Ledgers.opens c.args.system.ledgers.now c.args.given.ledger.now) g.O.Ledger.Ledger.site g.O.Ledger.Ledger.book g.O.Ledger.Ledger.stands c.args.given.node.now
     c.in_ok-opened.opened.sealed c.in_ok-opened.opened.site c.in_ok-opened.opened.ledger c.in_ok-opened.ensures
     c.serve_opened.result c.serve_opened.ensures

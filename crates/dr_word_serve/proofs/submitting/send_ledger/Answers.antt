@@ -12,7 +12,7 @@ returns-in-Ok g c =
     let taken = c.in_ok-take_in.ensures in
     let after = g.L.Ledger.book c.take_in.new.ledger in
     let P : Part → Type 0 = λ site. Arrives (site_routing site) local_caller (instance_of c.args.item) (g.L.Ledger.book c.new-port.result.desk.ledger) (Ok taken.0) after in
-    let Q : Book → Type 0 = λ book. Arrives (site_routing c.args.site.now) local_caller (instance_of c.args.item) book (Ok taken.0) after in
+    let Q : Book → Type 0 = λ book. Arrives (site_routing c.args.node.site.now) local_caller (instance_of c.args.item) book (Ok taken.0) after in
     let site = ap g.L.Ledger.site c.new-port.ensures ∙ c.requires in (
       taken.0,
       record { desk = record { ledger = c.take_in.new.ledger }; taken = c.new-port.result.taken },
