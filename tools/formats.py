@@ -3,7 +3,8 @@
 
 Each source is in the kit's layout; no line of src/ or specs/ is over 100 columns, but for a text that is alone on it;
 each wrong body and wrong definition can be applied to the sources as they are; each that wrong/gate names is there; no
-type's name stands in two crates but for one notion; and each file whose first line names what runs it may be run. What isn't so is printed, and the exit status is 1.
+type's name stands in two crates but for one notion; no function has over seven parameters; and each file whose first
+line names what runs it may be run. What isn't so is printed, and the exit status is 1.
 """
 import os
 import re
@@ -15,6 +16,8 @@ from wrap import sources, too_long
 from wrong import Bad, chosen, read_edit
 
 NAMED = re.compile(r"^(?:pub(?:\([^)]*\))? )?(?:struct|enum|trait|type)\s+(\w+)", re.MULTILINE)
+FUNCTION = re.compile(r"\bfn (\w+)(?=[<(])")
+MOST_PARAMETERS = 7
 # Names of one notion that crates have apart: a node of the plan and of the simulator; a row that a ledger lists, and how far one is;
 # tests of a name that tell the fault or not; and what compares values, since nobody may implement a trait for types that aren't his.
 SAME_NOTION = {"Node", "Row", "Stage", "WellFormed", "Same"}
@@ -65,6 +68,47 @@ def shared_names():
             for it, crates in sorted(found.items()) if len(crates) > 1 and it not in SAME_NOTION]
 
 
+def parameters_of(text, at):
+    """How many parameters a function has whose name ends at this place of a text."""
+    depth, count, is_begun = 0, 0, False
+    start = text.index("(", at) if text[at] != "<" else None
+    if start is None:
+        # the list of generics, whose bounds may have parentheses of their own
+        level = 0
+        for place in range(at, len(text)):
+            level += (text[place] == "<") - (text[place] == ">" and text[place - 1] not in "-=")
+            if level == 0:
+                start = text.index("(", place)
+                break
+    for place in range(start, len(text)):
+        char = text[place]
+        if char in "([{<":
+            depth += 1
+        elif char in ")]}" or char == ">" and text[place - 1] not in "-=":
+            depth -= 1
+            if depth == 0:
+                return count + is_begun
+        elif depth == 1 and char == ",":
+            count, is_begun = count + is_begun, False
+        if depth >= 1 and place > start and not char.isspace() and char != ",":
+            is_begun = True
+    return count
+
+
+def with_many_parameters():
+    """The functions with more than seven parameters."""
+    said = []
+    for crate in listed():
+        for path in (it for it in sources_of(crate) if "/src/" in it and it.endswith(".rt")):
+            with open(path, encoding="utf-8") as file:
+                text = file.read()
+            for it in FUNCTION.finditer(text):
+                count = parameters_of(text, it.end())
+                if count > MOST_PARAMETERS:
+                    said.append(f"{os.path.relpath(path, TOP)}: {it[1]} has {count} parameters")
+    return said
+
+
 def not_to_be_run():
     """The files that say what runs them, and that the system would not run: a test of the gate that can't be started fails at its end."""
     said = []
@@ -79,7 +123,7 @@ def not_to_be_run():
 
 
 def main():
-    said = out_of_layout() + over_long() + unapplied() + shared_names() + not_to_be_run()
+    said = out_of_layout() + over_long() + unapplied() + shared_names() + with_many_parameters() + not_to_be_run()
     print("\n".join(said), end="\n" * bool(said))
     print(f"formats: {len(said)} faults")
     return 1 if said else 0
