@@ -31,10 +31,11 @@ use std::{io, time};
 /// prover to compare.
 fn run_over_files<
     'x,
+    'y,
     T: Threads + Wait + Sync + time::Clock,
     F: Files + Paths + Tokens + Sync,
     D: Databases,
->(rt: &'x HostRuntime, threads: &'x T, words: &[&str], files: &F, databases: &D) -> Status
+>(rt: &'x HostRuntime, threads: &'x T, words: &[&str], files: &'y F, databases: &'y D) -> Status
 where
     D::Store: Send,
 {
