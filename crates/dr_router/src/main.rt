@@ -14,7 +14,7 @@ mod over;
 use crate::events::EventLog;
 use crate::files::{Databases, SystemDisk, SystemFiles};
 use crate::input::InputEnd;
-use crate::over::{StoredSystem, run_stored};
+use crate::over::run_stored;
 use dr_run_files::Files;
 use dr_run_net::{Cut, Sockets, SystemClock};
 use dr_run_open::Status;
@@ -31,7 +31,6 @@ use std::{io, time};
 /// prover to compare.
 fn run_over_files<
     'x,
-    'y,
     T: Threads + Wait + Sync + time::Clock,
     F: Files + Paths + Tokens + Sync,
     D: Databases,
@@ -48,17 +47,15 @@ where
         &mut input,
         &mut output,
         &mut faults,
-        StoredSystem {
-            files,
-            databases,
-            network: &Sockets::new(rt, &clock, &cut),
-            clock: &clock,
-            log: &EventLog { rt, clock: &clock },
-            ending: &InputEnd {
-                rt: threads,
-                input: rt.stdin(),
-                system: rt,
-            },
+        files,
+        databases,
+        &Sockets::new(rt, &clock, &cut),
+        &clock,
+        &EventLog { rt, clock: &clock },
+        &InputEnd {
+            rt: threads,
+            input: rt.stdin(),
+            system: rt,
         },
     )
 }

@@ -18,17 +18,6 @@ use std::sync::Wait;
 use std::thread::Threads;
 use std::time;
 
-/// What the program runs on where its ledgers are in databases.
-#[derive_where(Clone, Copy)]
-pub struct StoredSystem<'a, F, D, N, C, G, U> {
-    pub files: &'a F,
-    pub databases: &'a D,
-    pub network: &'a N,
-    pub clock: &'a C,
-    pub log: &'a G,
-    pub ending: &'a U,
-}
-
 /// `run_words`, without what it promises: said of the system's own files, ledgers and sockets, on
 /// which nothing is known, that is long, and no more than what it says of any.
 pub fn run_over<
@@ -59,8 +48,10 @@ where
     run_words(rt, alloc, words, input, output, faults, system)
 }
 
-/// The same, with ledgers in databases.
+/// The same, with ledgers in databases. A bundle of these references would have several lifetimes
+/// in its caller, of which the prover's borrow checker knows no struct.
 pub fn run_stored<
+    'a,
     T: Threads + Wait + Sync + time::Clock,
     R: Read,
     W: Write,
@@ -78,21 +69,26 @@ pub fn run_stored<
     input: &mut R,
     output: &mut W,
     faults: &mut E,
-    stored: StoredSystem<'_, F, D, N, C, G, U>,
+    files: &'a F,
+    databases: &'a D,
+    network: &'a N,
+    clock: &'a C,
+    log: &'a G,
+    ending: &'a U,
 ) -> Status
 where
     D::Store: Send,
     N::Socket: Send,
     N::Listener: Sync,
 {
-    let ledgers = StoredLedgers(stored.databases);
+    let ledgers = StoredLedgers(databases);
     let system = System {
-        files: stored.files,
+        files,
         ledgers: &ledgers,
-        network: stored.network,
-        clock: stored.clock,
-        log: stored.log,
-        ending: stored.ending,
+        network,
+        clock,
+        log,
+        ending,
     };
     run_over(rt, alloc, words, input, output, faults, system)
 }
