@@ -34,7 +34,7 @@ fn run_over_files<
     T: Threads + Wait + Sync + time::Clock,
     F: Files + Paths + Tokens + Sync,
     D: Databases,
->(rt: &'x HostRuntime, threads: &'x T, words: &[&str], files: &'y F, databases: &'y D) -> Status
+>(rt: &'x HostRuntime, threads: &'x T, words: &[&str], files: &F, databases: &D) -> Status
 where
     D::Store: Send,
 {
