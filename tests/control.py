@@ -138,11 +138,15 @@ def reads():
         same(node.read('/health'), [{'well': True}])
         code, figures = node.ask('GET', '/metrics')
         same(code, 200)
+        locked = re.findall(r'^dr_router_lock_[a-z_]+ .*$', figures, re.M)
+        assert [bool(re.fullmatch(form, line)) for form, line in zip(
+            ('dr_router_lock_calls_total [1-9][0-9]*', r'dr_router_lock_seconds_total [0-9]+\.[0-9]{6}',
+             r'dr_router_lock_longest_seconds [0-9]+\.[0-9]{6}'), locked, strict=True)] == 3 * [True], locked
         same([line for line in figures.splitlines() if not line.startswith('#')],
              ['dr_router_arrivals 1', 'dr_router_kept 0', 'dr_router_journal_lines 2', 'dr_router_store_failures 0',
               'dr_router_rows{dest="GATE",state="waiting"} 0', 'dr_router_rows{dest="GATE",state="held"} 1', 'dr_router_rows{dest="GATE",state="done"} 0',
               *(f'dr_router_visits_total{{dest="GATE",came="{came}"}} 0' for came in ('released', 'rejected', 'aborted', 'closed', 'unreached', 'failed')),
-              'dr_router_associations 0'])
+              'dr_router_associations 0', *locked])
         names = re.findall('^# TYPE ([a-z_]+) (?:gauge|counter)$', figures, re.M)
         same(sorted(set(names)), sorted(names))
         same({re.match('[a-z_]+', line)[0] for line in figures.splitlines() if line[0] != '#'} - set(names), set())
@@ -353,6 +357,7 @@ def associations():
             same(first.store(b'1.2.3.5', data_set(b'1.2.3.5')), 0)
             one = opened()[0]
             assert abs(time.time() * 1000 - one.pop('since')) < 60_000, one
+            assert re.fullmatch('127.0.0.1:[0-9]+', one.pop('address')), one
             same(one, {'caller': 'CT1', 'session': 1, 'stored': 2, 'again': 1, 'refused': 1})
             with Requestor(room.ports['GATE'], 'CT1', 'GATE'):
                 same([line['session'] for line in opened()], [1, 2])

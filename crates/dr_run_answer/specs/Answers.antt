@@ -18,6 +18,7 @@ use Rattle.dr_run_answer.specs.declared.json.Identity.{Identity}
 use Rattle.dr_run_answer.specs.declared.json.Queue.{Queue}
 use Rattle.dr_run_answer.specs.declared.json.Visited.{Visited}
 use Rattle.dr_base_quoted.specs.Quoting.{quoted}
+use Rattle.dr_ledger_timed.specs.declared.meter.Timing.{Timing}
 
 -- a member behind another: its name, then a number or a text
 abbrev pub member : Text → Text → Text
@@ -137,7 +138,8 @@ line_of_queue queue =
 -- the line of an association that is open
 abbrev pub association_line : OpenAssociation → Text
 association_line association =
-    begun (codes "caller") association.caller ++ number (codes "session") association.session
+    begun (codes "caller") association.caller ++ word (codes "address") association.address
+    ++ number (codes "session") association.session
     ++ number (codes "since") association.since ++ number (codes "stored") association.stored
     ++ number (codes "again") association.again ++ number (codes "refused") association.refused
     ++ ended
@@ -177,6 +179,30 @@ figures counts =
     ++ figure (codes "dr_router_kept") (codes "gauge") counts.kept
     ++ figure (codes "dr_router_journal_lines") (codes "counter") counts.lines
     ++ figure (codes "dr_router_store_failures") (codes "counter") counts.failures
+
+-- the last three digits of a number
+abbrev pub three_digits : ℕ → Text
+three_digits value =
+    decimal (value / 100 % 10) ++ decimal (value / 10 % 10) ++ decimal (value % 10)
+
+-- so many microseconds, in seconds
+abbrev pub in_seconds : ℕ → Text
+in_seconds time =
+    decimal (time / 1000000) ++ codes "." ++ three_digits (time / 1000 % 1000)
+    ++ three_digits (time % 1000)
+
+-- a time of the whole node, of that kind
+abbrev pub seconds_figure : Text → Text → ℕ → Text
+seconds_figure name kind time =
+    codes "# TYPE " ++ name ++ codes " " ++ kind ++ codes "\n" ++ name ++ codes " "
+    ++ in_seconds time ++ codes "\n"
+
+-- how many calls locked the ledger, for how long in all, and for how long the longest did
+abbrev pub lock_figures : Timing → Text
+lock_figures timing =
+    figure (codes "dr_router_lock_calls_total") (codes "counter") timing.calls
+    ++ seconds_figure (codes "dr_router_lock_seconds_total") (codes "counter") timing.total
+    ++ seconds_figure (codes "dr_router_lock_longest_seconds") (codes "gauge") timing.longest
 
 -- how many associations are open
 abbrev pub open_figure : ℕ → Text

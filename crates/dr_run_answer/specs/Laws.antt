@@ -6,6 +6,7 @@ use Rattle.dr_ledger.specs.declared.item.Cause.TheVariants as cause
 use Rattle.dr_ledger.specs.declared.item.Progress.TheVariants.{Waiting, Held, Done}
 use Rattle.dr_ledger.specs.Books.{retried}
 use Rattle.dr_run_answer.specs.Answers.{brought_figure, bytes_of, fault_line, from_line}
+use Rattle.dr_run_answer.specs.Answers.{in_seconds}
 use Rattle.dr_run_answer.specs.Answers.{instance_line, last_try, late_line, node_line, own_row_line}
 use Rattle.dr_run_answer.specs.Answers.{queue_line, recent_line, row_line, rows_figure}
 use Rattle.dr_run_answer.specs.Answers.{visits_figure}
@@ -80,6 +81,11 @@ ResponsesAreWrittenSo =
     ≡ codes "dr_router_answers_total{caller=\"CT1\",status=\"B007\"} 3\n")
     × (response_figure (record { caller = 34 ∷ 10 ∷ []; status = None; count = 1 })
     ≡ codes "dr_router_answers_total{caller=\"\\\"\\n\",status=\"other\"} 1\n")
+
+-- times in seconds
+abbrev pub TimesAreWrittenSo : Type 0
+TimesAreWrittenSo =
+    (in_seconds 12020304 ≡ codes "12.020304") × (in_seconds 999999 ≡ codes "0.999999")
 
 -- what a try in vain leaves of a row tells when that was
 abbrev pub TriesAreTold : Type 0

@@ -2,17 +2,19 @@
 ghost use Rattle.std.specs.Prelude.{◌≡◌, ◌++◌, OnOk, flat_map};
 ghost use Rattle.dr_run_answer.specs.Answers.{association_line};
 
-use crate::json::put_number;
+use crate::json::{put_named, put_number};
 use dr_base::Text;
 use dr_base_quoted::put_text;
 use std::alloc::AllocError;
 
-/// An association that is open: who asked for it, the number of its session, since when it is open
+/// An association that is open: who asked for it, from which address its connection comes (empty
+/// where the system didn't tell it), the number of its session, since when it is open
 /// (milliseconds), and how many instances came over it that are new, were there already, or were
 /// refused.
 #[derive(Debug, Drop)]
 pub struct OpenAssociation {
     pub caller: Text,
+    pub address: Text,
     pub session: u64,
     pub since: u64,
     pub stored: u64,
@@ -26,6 +28,7 @@ fn put_association(out: &mut Vec<u8>, association: &OpenAssociation) -> Result<(
 {
     out.extend_from_slice(b"{\"caller\":")?;
     put_text(out, &association.caller)?;
+    put_named(out, "address", &association.address)?;
     put_number(out, "session", association.session)?;
     put_number(out, "since", association.since)?;
     put_number(out, "stored", association.stored)?;

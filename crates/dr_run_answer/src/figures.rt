@@ -11,7 +11,12 @@ use dr_base_quoted::{put_text, put_words};
 use std::alloc::AllocError;
 
 /// Adds a figure of the whole node.
-fn put_figure(out: &mut Vec<u8>, name: &str, kind: &str, value: u64) -> Result<(), AllocError>
+pub(crate) fn put_figure(
+    out: &mut Vec<u8>,
+    name: &str,
+    kind: &str,
+    value: u64,
+) -> Result<(), AllocError>
     ensures { OnOk result (out.new.items ≡ out.old.items ++ figure name.now kind.now value) }
 {
     out.extend_from_slice(b"# TYPE ")?;

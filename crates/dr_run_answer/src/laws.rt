@@ -1,11 +1,17 @@
 //! What holds of all answers. Nothing here runs: each function's contract is a law.
 ghost use Rattle.dr_run_answer.specs.Laws.{LinesAreWrittenSo, NotedIsCounted, NotedIsKept};
 ghost use Rattle.dr_run_answer.specs.Laws.{NothingIsCounted, OldIsLetGo, RecentIsWhatCame};
-ghost use Rattle.dr_run_answer.specs.Laws.{RespondedIsCounted, ResponsesAreWrittenSo, TriesAreTold};
+ghost use Rattle.dr_run_answer.specs.Laws.{RespondedIsCounted, ResponsesAreWrittenSo};
+ghost use Rattle.dr_run_answer.specs.Laws.{TimesAreWrittenSo, TriesAreTold};
 
 /// Lines are written so.
 pub fn lines_are_written_so()
     ensures { LinesAreWrittenSo }
+{}
+
+/// Times are written so.
+pub fn times_are_written_so()
+    ensures { TimesAreWrittenSo }
 {}
 
 /// What a try in vain leaves of a row tells when that was.

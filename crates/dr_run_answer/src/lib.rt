@@ -5,7 +5,7 @@
 //!   last hour (`put_recents`), an instance (`put_instance`), who brought it (`put_froms`), its
 //!   rows (`put_own_rows`), and rows (`put_rows`).
 //! - Figures in the text format of Prometheus: `put_figures`, `put_queues`, `put_visits`,
-//!   `put_callers`, `put_stored_bytes`, `put_responses`, `put_open`.
+//!   `put_callers`, `put_stored_bytes`, `put_responses`, `put_open`, `put_lock`.
 //! - What came is counted by `noted`: by caller, and of the last hour by caller and modality. The
 //!   statuses of responses are counted by `note_status`.
 //!
@@ -22,6 +22,7 @@ pub mod laws;
 pub mod noted;
 mod page;
 mod responses;
+mod timing;
 
 pub use association::{OpenAssociation, put_associations};
 pub use figures::{put_figures, put_open, put_queues, put_visits};
@@ -33,3 +34,4 @@ pub use json::{
 };
 pub use page::put_rows;
 pub use responses::{ResponseCount, note_status, put_responses, response_copies};
+pub use timing::put_lock;

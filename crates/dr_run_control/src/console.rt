@@ -8,15 +8,14 @@ ghost use Rattle.dr_run_control.specs.Replies.{IsToldIn, line_of_answer, status_
 ghost use Rattle.dr_run_request.specs.declared.route.Route.TheVariants as RouteValue;
 
 use crate::acts::act;
-use crate::page::{Times, read_page};
-use crate::reads::{
-    ServingSince, read_figures, read_health, read_instance, read_rows, read_status,
-};
+use crate::page::read_page;
+use crate::reads::{DeskReader, NodeReader, ServingSince};
 use crate::reply::{HttpReply, Media, misread, refusal, refused_by_ledger, respond};
 use bytes::Bytes;
 use dr_base::Text;
 use dr_desk::{Pass, SharedDesk, Sharing};
 use dr_ledger::LedgerFault;
+use dr_ledger_timed::Timing;
 use dr_ledger_views::Views;
 use dr_run_answer::{Brought, OpenAssociation, Recent, ResponseCount, Visited, Visits, put_done};
 use dr_run_open::NextHop;
@@ -30,13 +29,15 @@ use std::alloc::{AllocError, Global};
 use std::sync::Wait;
 
 /// What goes on around the desk: associations that are open, what each caller has brought since the
-/// node serves, what came within the last hour, and which responses each caller was sent.
+/// node serves, what came within the last hour, which responses each caller was sent, and for how
+/// long the ledger was locked.
 #[derive(Debug, Drop)]
 pub struct Around {
     pub associations: Vec<OpenAssociation>,
     pub brought: Vec<Brought>,
     pub recents: Vec<Recent>,
     pub responses: Vec<ResponseCount>,
+    pub lock: Timing,
 }
 
 /// The node around the desk: it is told of what is done there, and tells what the desk doesn't
@@ -170,29 +171,39 @@ fn query_of(request: &Request<Bytes>) -> &[u8] {
 }
 
 impl<'a, R: Wait, L: Views, B: Sharing, C: Clock, H: House> Console<'a, R, L, B, C, H> {
+    /// Who looks after the node at this moment.
+    fn reader(&self) -> NodeReader<'a, R, L, B, H> {
+        NodeReader {
+            reader: DeskReader {
+                rt: self.rt,
+                alloc: self.alloc,
+                desk: self.desk,
+            },
+            hops: self.hops,
+            house: self.house,
+            moment: self.clock.now(),
+        }
+    }
+
     /// The reply to what changes no row.
     fn look(&self, route: Route, request: &Request<Bytes>) -> HttpReply
         ensures { route ≡ RouteValue.Stop
             → (result.status ≡ 200) × IsToldIn done_line result.text.items }
     {
-        let (rt, alloc, desk) = (self.rt, self.alloc, self.desk);
-        let (hops, house, now) = (self.hops, self.house, self.clock.now());
         let (version, since) = (self.version, self.since);
-        let (serving, times) = (ServingSince { version, since }, Times { since, now });
+        let node = self.reader();
         match route {
-            Route::Page => read_page(rt, alloc, desk, hops, house, times, self.browser),
-            Route::Rows => read_rows(rt, alloc, desk, query_of(request)),
-            Route::Instance => read_instance(rt, alloc, desk, request.uri().path()),
-            Route::Status => read_status(rt, alloc, desk, hops, house, serving, now),
-            Route::Metrics => read_figures(rt, alloc, desk, hops, house, now),
+            Route::Page => read_page(&node, since, self.browser),
+            Route::Rows => node.reader.read_rows(query_of(request)),
+            Route::Instance => node.reader.read_instance(request.uri().path()),
+            Route::Status => node.read_status(ServingSince { version, since }),
+            Route::Metrics => node.read_figures(),
             Route::Stop => {
-                house.stop();
-                done(alloc)
+                self.house.stop();
+                done(self.alloc)
             }
-            Route::Health => read_health(rt, alloc, desk, hops, house, now),
-            Route::Requeue | Route::GiveUp | Route::Forget | Route::Visit => read_health(
-                rt, alloc, desk, hops, house, now,
-            ),
+            Route::Health => node.read_health(),
+            Route::Requeue | Route::GiveUp | Route::Forget | Route::Visit => node.read_health(),
         }
     }
 }

@@ -3,10 +3,10 @@ ghost use Rattle.std.specs.Prelude.{◌≡◌, IfOk, option_copied};
 ghost use Rattle.dr_run_page.specs.Documents.{document};
 
 use crate::console::House;
-use crate::reads::{count_all, reply_with};
+use crate::reads::{DeskReader, NodeReader, reply_with};
 use crate::reply::{HttpReply, Media, refused_by_ledger};
 use dr_base::Text;
-use dr_desk::{SharedDesk, Sharing};
+use dr_desk::Sharing;
 use dr_ledger::{LedgerFault, Progress};
 use dr_ledger_views::{Stage, Views};
 use dr_run_answer::{OpenAssociation, Queue, Recent};
@@ -24,19 +24,14 @@ type Row = ((Text, Text), Progress);
 ///
 /// Errors: Store, Memory.
 fn add_held<R: Wait, L: Views, B: Sharing>(
-    rt: &R,
-    alloc: Global,
-    desk: &SharedDesk<L, B>,
+    reader: &DeskReader<'_, R, L, B>,
     dest: &Text,
     rows: &mut Vec<Row>,
 ) -> Result<(), LedgerFault> {
-    let page = desk.page(
-        rt,
-        dest,
-        Some(Stage::Held),
-        &Text::empty(alloc),
-        SHOWN as u32,
-    )?;
+    let (first, most) = (Text::empty(reader.alloc), SHOWN as u32);
+    let page = reader
+        .desk
+        .page(reader.rt, dest, Some(Stage::Held), &first, most)?;
     for row in page.into_vec() {
         rows.push(row)?;
     }
@@ -47,14 +42,12 @@ fn add_held<R: Wait, L: Views, B: Sharing>(
 ///
 /// Errors: Store, Memory.
 fn held_rows<R: Wait, L: Views, B: Sharing>(
-    rt: &R,
-    alloc: Global,
-    desk: &SharedDesk<L, B>,
+    reader: &DeskReader<'_, R, L, B>,
     hops: &[NextHop],
 ) -> Result<Vec<Row>, LedgerFault> {
-    let mut rows = Vec::new(alloc);
+    let mut rows = Vec::new(reader.alloc);
     for hop in hops {
-        add_held(rt, alloc, desk, &hop.dest, &mut rows)?;
+        add_held(reader, &hop.dest, &mut rows)?;
     }
     Ok(rows)
 }
@@ -85,38 +78,28 @@ fn key_of(browser: &Option<Browser>) -> Option<&Text> {
     }
 }
 
-/// Since when a node has served, and the moment now (milliseconds).
-#[derive(Clone, Copy, Debug)]
-pub(crate) struct Times {
-    pub since: u64,
-    pub now: u64,
-}
-
 /// The page of a node that has served since that moment, as it is now: how much it has, each next
 /// node with its queue, associations that are open, what came within the last hour, and rows that
 /// are held. The lock is given back between one look and the next, so each figure is of a moment of
 /// its own.
 pub(crate) fn read_page<R: Wait, L: Views, B: Sharing, H: House>(
-    rt: &R,
-    alloc: Global,
-    desk: &SharedDesk<L, B>,
-    hops: &[NextHop],
-    house: &H,
-    times: Times,
+    node: &NodeReader<'_, R, L, B, H>,
+    since: u64,
     browser: &Option<Browser>,
 ) -> HttpReply {
-    let (counts, queues, around) = match count_all(rt, alloc, desk, hops, house, times.now) {
+    let alloc = node.reader.alloc;
+    let (counts, queues, around) = match node.count_all() {
         Ok(all) => all,
         Err(fault) => return refused_by_ledger(alloc, fault),
     };
-    let rows = match held_rows(rt, alloc, desk, hops) {
+    let rows = match held_rows(&node.reader, node.hops) {
         Ok(rows) => rows,
         Err(fault) => return refused_by_ledger(alloc, fault),
     };
     let shown = NodeShown {
-        name: desk.site().name(),
-        since: times.since,
-        moment: times.now,
+        name: node.reader.desk.site().name(),
+        since,
+        moment: node.moment,
         counts,
         key: key_of(browser),
     };

@@ -7,7 +7,8 @@ ghost use Rattle.dr_desk.specs.Reading.{Reading};
 ghost use Rattle.dr_ledger.specs.Replies.{Reads};
 ghost use Rattle.dr_run_answer.specs.Answers.{association_line, brought_figures, bytes_figures};
 ghost use Rattle.dr_run_answer.specs.Answers.{figures, from_line, instance_line, line_of_node};
-ghost use Rattle.dr_run_answer.specs.Answers.{line_of_queue, open_figure, own_row_line};
+ghost use Rattle.dr_run_answer.specs.Answers.{line_of_queue, lock_figures, open_figure};
+ghost use Rattle.dr_run_answer.specs.Answers.{own_row_line};
 ghost use Rattle.dr_run_answer.specs.Answers.{queues_figures, recent_line, row_line};
 ghost use Rattle.dr_run_answer.specs.Answers.{visits_figures};
 ghost use Rattle.dr_run_answer.specs.Responses.{response_figures};
@@ -22,8 +23,8 @@ use dr_ledger::{LedgerFault, Progress};
 use dr_ledger_views::{HopTally, Stage, Views};
 use dr_run_answer::{
     Counts, Identity, Queue, Visited, Visits, put_associations, put_callers, put_figures,
-    put_froms, put_instance, put_late, put_node, put_open, put_own_rows, put_queue, put_queues,
-    put_recents, put_responses, put_rows, put_stored_bytes, put_visits, put_well,
+    put_froms, put_instance, put_late, put_lock, put_node, put_open, put_own_rows, put_queue,
+    put_queues, put_recents, put_responses, put_rows, put_stored_bytes, put_visits, put_well,
 };
 use dr_run_open::NextHop;
 use dr_run_request::{Stage as Word, Wanted, instance_of, wanted_of};
@@ -31,6 +32,24 @@ use dr_site::Site;
 use http::StatusCode;
 use std::alloc::{AllocError, Global};
 use std::sync::Wait;
+
+/// Who reads at a node's desk: by what it waits for the lock, and where what it reads lies.
+#[derive(Drop)]
+pub(crate) struct DeskReader<'a, R: Wait, L: Views, B: Sharing> {
+    pub rt: &'a R,
+    pub alloc: Global,
+    pub desk: &'a SharedDesk<L, B>,
+}
+
+/// Who looks after a whole node: at its desk, at the hops to which it sends, and at what goes on
+/// around it, at a moment (milliseconds).
+#[derive(Drop)]
+pub(crate) struct NodeReader<'a, R: Wait, L: Views, B: Sharing, H: House> {
+    pub reader: DeskReader<'a, R, L, B>,
+    pub hops: &'a [NextHop],
+    pub house: &'a H,
+    pub moment: u64,
+}
 
 /// How many rows are on their way to a node, as they were counted.
 fn queue_of(dest: &Text, tally: HopTally, visit: Option<Visited>, visits: Visits) -> Queue<'_>
@@ -45,28 +64,6 @@ fn queue_of(dest: &Text, tally: HopTally, visit: Option<Visited>, visits: Visits
         visit,
         visits,
     }
-}
-
-/// The same for each hop. The lock is taken once for each.
-///
-/// Errors: Store, Memory.
-fn queues_of<'a, R: Wait, L: Views, B: Sharing, H: House>(
-    rt: &R,
-    alloc: Global,
-    desk: &SharedDesk<L, B>,
-    hops: &'a [NextHop],
-    house: &H,
-) -> Result<Vec<Queue<'a>>, LedgerFault>
-    ensures { IfOk result (λ queues.
-        mapped (λ q. q.dest.now) queues.items ≡ mapped (λ hop. hop.dest) hops.now) }
-{
-    let mut queues = Vec::with_capacity(alloc, hops.len())?;
-    for hop in hops {
-        let tally = desk.tally(rt, &hop.dest)?;
-        let (visit, visits) = (house.visited(&hop.dest), house.visits(&hop.dest));
-        queues.push(queue_of(&hop.dest, tally, visit, visits))?;
-    }
-    Ok(queues)
 }
 
 /// Adds a line for each queue.
@@ -135,6 +132,16 @@ fn put_callers_of(out: &mut Vec<u8>, around: &Around) -> Result<(), AllocError>
     Ok(())
 }
 
+/// Adds how many associations are open, and for how long the ledger was locked.
+fn put_rest(out: &mut Vec<u8>, around: &Around) -> Result<(), AllocError>
+    ensures { OnOk result (out.new.items
+        ≡ out.old.items
+        ++ (open_figure (length around.now.associations.items) ++ lock_figures around.now.lock)) }
+{
+    put_open(out, around.associations.len() as u64)?;
+    put_lock(out, around.lock)
+}
+
 /// Its figures.
 fn figure_lines(
     alloc: Global,
@@ -147,14 +154,14 @@ fn figure_lines(
         ≡ figures counts ++ queues_figures queues.now ++ visits_figures queues.now
         ++ (brought_figures around.now.brought.items ++ bytes_figures around.now.brought.items
         ++ response_figures around.now.responses.items)
-        ++ open_figure (length around.now.associations.items)) }
+        ++ (open_figure (length around.now.associations.items) ++ lock_figures around.now.lock)) }
 {
     let mut out = Vec::new(alloc);
     put_figures(&mut out, counts)?;
     put_queues(&mut out, queues)?;
     put_visits(&mut out, queues)?;
     put_callers_of(&mut out, around)?;
-    put_open(&mut out, around.associations.len() as u64)?;
+    put_rest(&mut out, around)?;
     Ok(out)
 }
 
@@ -202,27 +209,6 @@ pub(crate) fn reply_with(
     }
 }
 
-/// What a node has, its queues, and what goes on around it. The lock is held while it is counted,
-/// and given back between one hop and the next.
-///
-/// Errors: Store, Memory.
-pub(crate) fn count_all<'a, R: Wait, L: Views, B: Sharing, H: House>(
-    rt: &R,
-    alloc: Global,
-    desk: &SharedDesk<L, B>,
-    hops: &'a [NextHop],
-    house: &H,
-    now: u64,
-) -> Result<(Counts, Vec<Queue<'a>>, Around), LedgerFault>
-    ensures { IfOk result (λ all.
-        mapped (λ q. q.dest.now) all.1.items ≡ mapped (λ hop. hop.dest) hops.now) }
-{
-    let counts = counts_of(desk.totals(rt)?);
-    let queues = queues_of(rt, alloc, desk, hops, house)?;
-    let around = house.around(now)?;
-    Ok((counts, queues, around))
-}
-
 /// The program of a node: its version, and since when it serves (milliseconds).
 #[derive(Clone, Copy, Debug, Drop)]
 pub(crate) struct ServingSince<'a> {
@@ -256,48 +242,6 @@ fn status_of(
     status_lines(alloc, &node, counts, queues, around)
 }
 
-/// What a node is, has, and what goes on around it, as lines.
-pub(crate) fn read_status<R: Wait, L: Views, B: Sharing, H: House>(
-    rt: &R,
-    alloc: Global,
-    desk: &SharedDesk<L, B>,
-    hops: &[NextHop],
-    house: &H,
-    serving: ServingSince<'_>,
-    now: u64,
-) -> HttpReply {
-    let (counts, queues, around) = match count_all(rt, alloc, desk, hops, house, now) {
-        Ok(all) => all,
-        Err(fault) => return refused_by_ledger(alloc, fault),
-    };
-    let text = status_of(
-        alloc,
-        desk.site(),
-        serving,
-        counts,
-        queues.as_slice(),
-        &around,
-    );
-    reply_with(alloc, text, Media::Lines)
-}
-
-/// The same as figures.
-pub(crate) fn read_figures<R: Wait, L: Views, B: Sharing, H: House>(
-    rt: &R,
-    alloc: Global,
-    desk: &SharedDesk<L, B>,
-    hops: &[NextHop],
-    house: &H,
-    now: u64,
-) -> HttpReply {
-    let (counts, queues, around) = match count_all(rt, alloc, desk, hops, house, now) {
-        Ok(all) => all,
-        Err(fault) => return refused_by_ledger(alloc, fault),
-    };
-    let text = figure_lines(alloc, counts, queues.as_slice(), &around);
-    reply_with(alloc, text, Media::Figures)
-}
-
 /// The stage of the rows that are wanted, if one is named.
 fn stage_in(wanted: &Wanted) -> Option<Stage>
     ensures { result ≡ option_map stage_named wanted.now.stage }
@@ -305,43 +249,6 @@ fn stage_in(wanted: &Wanted) -> Option<Stage>
     match wanted.stage {
         Some(word) => Some(stage_of(word)),
         None => None,
-    }
-}
-
-/// The rows that are wanted, as many as are asked for: those that the book has at one moment.
-///
-/// Errors: Store, Memory.
-fn page_of<R: Wait, L: Views, B: Sharing>(
-    rt: &R,
-    alloc: Global,
-    desk: &SharedDesk<L, B>,
-    wanted: &Wanted,
-) -> Result<Seq<((Text, Text), Progress)>, LedgerFault>
-    ensures { Reading L.site L.book L.bodies L.stands L.failed B.site B.first
-        (λ l answer. Reads answer (λ all.
-        all ≡ page_wanted (map.entries (L.book l).rows) wanted.now)) result }
-{
-    let stage = stage_in(wanted);
-    match &wanted.after {
-        Some(after) => desk.page(rt, &wanted.dest, stage, after, wanted.limit),
-        None => desk.page(rt, &wanted.dest, stage, &Text::empty(alloc), wanted.limit),
-    }
-}
-
-/// A page of the rows that the form asks for.
-pub(crate) fn read_rows<R: Wait, L: Views, B: Sharing>(
-    rt: &R,
-    alloc: Global,
-    desk: &SharedDesk<L, B>,
-    form: &[u8],
-) -> HttpReply {
-    let wanted = match wanted_of(alloc, form) {
-        Ok(wanted) => wanted,
-        Err(fault) => return misread(alloc, fault),
-    };
-    match page_of(rt, alloc, desk, &wanted) {
-        Ok(rows) => reply_with(alloc, row_lines(alloc, rows.as_slice()), Media::Lines),
-        Err(fault) => refused_by_ledger(alloc, fault),
     }
 }
 
@@ -367,107 +274,12 @@ fn instance_lines(
     Ok(out)
 }
 
-/// What is told of an instance: whether its data set is there, whether its rows are over, who
-/// brought it, and its rows. The lock is given back between one and the next.
-///
-/// Errors: Store, Memory.
-fn parts_of<R: Wait, L: Views, B: Sharing>(
-    rt: &R,
-    desk: &SharedDesk<L, B>,
-    uid: &Text,
-) -> Result<(bool, bool, Seq<Text>, Seq<((Text, Text), Progress)>), LedgerFault>
-    ensures { IfOk result (λ parts. AreParts L.site L.book L.bodies L.stands L.failed B.site
-        B.first uid.now parts.0 parts.1 parts.2 parts.3) }
-{
-    let body = desk.has_body(rt, uid)?;
-    let over = desk.is_over(rt, uid)?;
-    let callers = desk.callers_of(rt, uid)?;
-    let rows = desk.rows_of(rt, uid)?;
-    Ok((body, over, callers, rows))
-}
-
-/// The lines of an instance that is there.
-///
-/// Errors: Store, Memory.
-fn lines_of<R: Wait, L: Views, B: Sharing>(
-    rt: &R,
-    alloc: Global,
-    desk: &SharedDesk<L, B>,
-    uid: &Text,
-) -> Result<Vec<u8>, LedgerFault>
-    ensures { IfOk result (λ text. IsTold L.site L.book L.bodies L.stands L.failed B.site B.first
-        uid.now text.items) }
-{
-    let (body, over, callers, rows) = parts_of(rt, desk, uid)?;
-    let text = instance_lines(alloc, uid, body, over, callers.as_slice(), rows.as_slice())?;
-    Ok(text)
-}
-
-/// What the node has of an instance; None where it has none of that UID.
-///
-/// Errors: Store, Memory.
-fn instance_text<R: Wait, L: Views, B: Sharing>(
-    rt: &R,
-    alloc: Global,
-    desk: &SharedDesk<L, B>,
-    uid: &Text,
-) -> Result<Option<Vec<u8>>, LedgerFault>
-    ensures { IfOk result (λ found. MatchOption found
-        (IsMissing L.site L.book L.bodies L.stands L.failed B.site B.first uid.now)
-        (λ text. IsTold L.site L.book L.bodies L.stands L.failed B.site B.first uid.now
-        text.items)) }
-{
-    if !desk.has(rt, uid)? {
-        return Ok(None);
-    }
-    match lines_of(rt, alloc, desk, uid) {
-        Ok(text) => Ok(Some(text)),
-        Err(fault) => Err(fault),
-    }
-}
-
-/// What the node has of the instance that a path names.
-pub(crate) fn read_instance<R: Wait, L: Views, B: Sharing>(
-    rt: &R,
-    alloc: Global,
-    desk: &SharedDesk<L, B>,
-    path: &str,
-) -> HttpReply {
-    let uid = match instance_of(alloc, path) {
-        Ok(uid) => uid,
-        Err(fault) => return misread(alloc, fault),
-    };
-    match instance_text(rt, alloc, desk, &uid) {
-        Ok(Some(text)) => reply_with(alloc, Ok(text), Media::Lines),
-        Ok(None) => HttpReply::of_fault(alloc, StatusCode::NOT_FOUND, "Instance"),
-        Err(fault) => refused_by_ledger(alloc, fault),
-    }
-}
-
 /// Whether a row is due at that moment.
 fn is_due(first: Option<u64>, now: u64) -> bool {
     match first {
         Some(due) => due <= now,
         None => false,
     }
-}
-
-/// The first node to which a row is due, and which wasn't visited for long.
-///
-/// Errors: Store, Memory.
-fn late_hop<'a, R: Wait, L: Views, B: Sharing, H: House>(
-    rt: &R,
-    desk: &SharedDesk<L, B>,
-    hops: &'a [NextHop],
-    house: &H,
-    now: u64,
-) -> Result<Option<&'a Text>, LedgerFault> {
-    for hop in hops {
-        if house.is_quiet(&hop.dest, now) && is_due(desk.first_due(rt, &hop.dest)?, now) {
-            return Ok(Some(&hop.dest));
-        }
-    }
-    Ok(None)
 }
 
 /// That a node isn't well, since one wasn't visited for long.
@@ -484,25 +296,197 @@ fn late(alloc: Global, dest: &Text) -> HttpReply {
     }
 }
 
-/// Whether the node is well: its ledger can be read, it could be written to last, and no node to
-/// which a row is due is left alone.
-pub(crate) fn read_health<R: Wait, L: Views, B: Sharing, H: House>(
-    rt: &R,
-    alloc: Global,
-    desk: &SharedDesk<L, B>,
-    hops: &[NextHop],
-    house: &H,
-    now: u64,
-) -> HttpReply {
-    if house.is_failing() {
-        return refused_by_ledger(alloc, LedgerFault::Store);
+impl<'a, R: Wait, L: Views, B: Sharing> DeskReader<'a, R, L, B> {
+    /// The rows that are wanted, as many as are asked for: those that the book has at one moment.
+    ///
+    /// Errors: Store, Memory.
+    fn page_of(&self, wanted: &Wanted) -> Result<Seq<((Text, Text), Progress)>, LedgerFault>
+        ensures { Reading L.site L.book L.bodies L.stands L.failed B.site B.first
+            (λ l answer. Reads answer (λ all.
+            all ≡ page_wanted (map.entries (L.book l).rows) wanted.now)) result }
+    {
+        let (rt, alloc, desk) = (self.rt, self.alloc, self.desk);
+        let stage = stage_in(wanted);
+        match &wanted.after {
+            Some(after) => desk.page(rt, &wanted.dest, stage, after, wanted.limit),
+            None => desk.page(rt, &wanted.dest, stage, &Text::empty(alloc), wanted.limit),
+        }
     }
-    if let Err(fault) = desk.has(rt, desk.site().name()) {
-        return refused_by_ledger(alloc, fault);
+
+    /// A page of the rows that the form asks for.
+    pub(crate) fn read_rows(&self, form: &[u8]) -> HttpReply {
+        let alloc = self.alloc;
+        let wanted = match wanted_of(alloc, form) {
+            Ok(wanted) => wanted,
+            Err(fault) => return misread(alloc, fault),
+        };
+        match self.page_of(&wanted) {
+            Ok(rows) => reply_with(alloc, row_lines(alloc, rows.as_slice()), Media::Lines),
+            Err(fault) => refused_by_ledger(alloc, fault),
+        }
     }
-    match late_hop(rt, desk, hops, house, now) {
-        Ok(None) => reply_with(alloc, well_line(alloc), Media::Lines),
-        Ok(Some(dest)) => late(alloc, dest),
-        Err(fault) => refused_by_ledger(alloc, fault),
+
+    /// What is told of an instance: whether its data set is there, whether its rows are over, who
+    /// brought it, and its rows. The lock is given back between one and the next.
+    ///
+    /// Errors: Store, Memory.
+    fn parts_of(
+        &self,
+        uid: &Text,
+    ) -> Result<(bool, bool, Seq<Text>, Seq<((Text, Text), Progress)>), LedgerFault>
+        ensures { IfOk result (λ parts. AreParts L.site L.book L.bodies L.stands L.failed B.site
+            B.first uid.now parts.0 parts.1 parts.2 parts.3) }
+    {
+        let (rt, desk) = (self.rt, self.desk);
+        let body = desk.has_body(rt, uid)?;
+        let over = desk.is_over(rt, uid)?;
+        let callers = desk.callers_of(rt, uid)?;
+        let rows = desk.rows_of(rt, uid)?;
+        Ok((body, over, callers, rows))
+    }
+
+    /// The lines of an instance that is there.
+    ///
+    /// Errors: Store, Memory.
+    fn lines_of(&self, uid: &Text) -> Result<Vec<u8>, LedgerFault>
+        ensures { IfOk result (λ text.
+            IsTold L.site L.book L.bodies L.stands L.failed B.site B.first uid.now text.items) }
+    {
+        let (body, over, callers, rows) = self.parts_of(uid)?;
+        let text = instance_lines(
+            self.alloc,
+            uid,
+            body,
+            over,
+            callers.as_slice(),
+            rows.as_slice(),
+        )?;
+        Ok(text)
+    }
+
+    /// What the node has of an instance; None where it has none of that UID.
+    ///
+    /// Errors: Store, Memory.
+    fn instance_text(&self, uid: &Text) -> Result<Option<Vec<u8>>, LedgerFault>
+        ensures { IfOk result (λ found. MatchOption found
+            (IsMissing L.site L.book L.bodies L.stands L.failed B.site B.first uid.now)
+            (λ text. IsTold L.site L.book L.bodies L.stands L.failed B.site B.first uid.now
+            text.items)) }
+    {
+        let (rt, desk) = (self.rt, self.desk);
+        if !desk.has(rt, uid)? {
+            return Ok(None);
+        }
+        match self.lines_of(uid) {
+            Ok(text) => Ok(Some(text)),
+            Err(fault) => Err(fault),
+        }
+    }
+
+    /// What the node has of the instance that a path names.
+    pub(crate) fn read_instance(&self, path: &str) -> HttpReply {
+        let alloc = self.alloc;
+        let uid = match instance_of(alloc, path) {
+            Ok(uid) => uid,
+            Err(fault) => return misread(alloc, fault),
+        };
+        match self.instance_text(&uid) {
+            Ok(Some(text)) => reply_with(alloc, Ok(text), Media::Lines),
+            Ok(None) => HttpReply::of_fault(alloc, StatusCode::NOT_FOUND, "Instance"),
+            Err(fault) => refused_by_ledger(alloc, fault),
+        }
+    }
+}
+
+impl<'a, R: Wait, L: Views, B: Sharing, H: House> NodeReader<'a, R, L, B, H> {
+    /// How many rows are on their way to each hop. The lock is taken once for each.
+    ///
+    /// Errors: Store, Memory.
+    fn queues_of(&self) -> Result<Vec<Queue<'a>>, LedgerFault>
+        ensures { IfOk result (λ queues.
+            mapped (λ q. q.dest.now) queues.items ≡ mapped (λ hop. hop.dest) self.now.hops.now) }
+    {
+        let (rt, desk, hops, house) = (self.reader.rt, self.reader.desk, self.hops, self.house);
+        let mut queues = Vec::with_capacity(self.reader.alloc, hops.len())?;
+        for hop in hops {
+            let tally = desk.tally(rt, &hop.dest)?;
+            let (visit, visits) = (house.visited(&hop.dest), house.visits(&hop.dest));
+            queues.push(queue_of(&hop.dest, tally, visit, visits))?;
+        }
+        Ok(queues)
+    }
+
+    /// What a node has, its queues, and what goes on around it. The lock is held while it is
+    /// counted, and given back between one hop and the next.
+    ///
+    /// Errors: Store, Memory.
+    pub(crate) fn count_all(&self) -> Result<(Counts, Vec<Queue<'a>>, Around), LedgerFault>
+        ensures { IfOk result (λ all.
+            mapped (λ q. q.dest.now) all.1.items ≡ mapped (λ hop. hop.dest) self.now.hops.now) }
+    {
+        let counts = counts_of(self.reader.desk.totals(self.reader.rt)?);
+        let queues = self.queues_of()?;
+        let around = self.house.around(self.moment)?;
+        Ok((counts, queues, around))
+    }
+
+    /// What a node is, has, and what goes on around it, as lines.
+    pub(crate) fn read_status(&self, serving: ServingSince<'_>) -> HttpReply {
+        let alloc = self.reader.alloc;
+        let (counts, queues, around) = match self.count_all() {
+            Ok(all) => all,
+            Err(fault) => return refused_by_ledger(alloc, fault),
+        };
+        let text = status_of(
+            alloc,
+            self.reader.desk.site(),
+            serving,
+            counts,
+            queues.as_slice(),
+            &around,
+        );
+        reply_with(alloc, text, Media::Lines)
+    }
+
+    /// What a node has, and what goes on around it, as figures.
+    pub(crate) fn read_figures(&self) -> HttpReply {
+        let alloc = self.reader.alloc;
+        let (counts, queues, around) = match self.count_all() {
+            Ok(all) => all,
+            Err(fault) => return refused_by_ledger(alloc, fault),
+        };
+        let text = figure_lines(alloc, counts, queues.as_slice(), &around);
+        reply_with(alloc, text, Media::Figures)
+    }
+
+    /// The first node to which a row is due, and which wasn't visited for long.
+    ///
+    /// Errors: Store, Memory.
+    fn late_hop(&self) -> Result<Option<&'a Text>, LedgerFault> {
+        let (rt, desk, hops) = (self.reader.rt, self.reader.desk, self.hops);
+        let (house, now) = (self.house, self.moment);
+        for hop in hops {
+            if house.is_quiet(&hop.dest, now) && is_due(desk.first_due(rt, &hop.dest)?, now) {
+                return Ok(Some(&hop.dest));
+            }
+        }
+        Ok(None)
+    }
+
+    /// Whether the node is well: its ledger can be read, it could be written to last, and no node
+    /// to which a row is due is left alone.
+    pub(crate) fn read_health(&self) -> HttpReply {
+        let (rt, alloc, desk) = (self.reader.rt, self.reader.alloc, self.reader.desk);
+        if self.house.is_failing() {
+            return refused_by_ledger(alloc, LedgerFault::Store);
+        }
+        if let Err(fault) = desk.has(rt, desk.site().name()) {
+            return refused_by_ledger(alloc, fault);
+        }
+        match self.late_hop() {
+            Ok(None) => reply_with(alloc, well_line(alloc), Media::Lines),
+            Ok(Some(dest)) => late(alloc, dest),
+            Err(fault) => refused_by_ledger(alloc, fault),
+        }
     }
 }

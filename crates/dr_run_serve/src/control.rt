@@ -9,6 +9,7 @@ use dr_base::Text;
 use dr_desk::{Pass, SharedDesk, Sharing};
 use dr_desk_workers::WorkersFault;
 use dr_ledger::LedgerFault;
+use dr_ledger_timed::Meter;
 use dr_ledger_views::Views;
 use dr_run_answer::{Visited, Visits};
 use dr_run_control::{Around, Console, House, talk};
@@ -82,6 +83,7 @@ struct Home<'a, R: Wait, G: Log> {
     rt: &'a R,
     alloc: Global,
     signal: &'a Signal,
+    meter: &'a Meter,
     stop: &'a StopSign,
     log: &'a G,
     since: u64,
@@ -133,6 +135,7 @@ impl<'a, R: Wait, G: Log> House for Home<'a, R, G> {
             brought: self.signal.intake.brought(rt, alloc)?,
             recents: self.signal.intake.recents(rt, alloc, now)?,
             responses: self.signal.intake.responses(rt, alloc)?,
+            lock: self.meter.read(),
         })
     }
 
@@ -263,6 +266,7 @@ pub fn answer_all<
         rt: node.rt,
         alloc: node.alloc,
         signal: node.signal,
+        meter: node.meter,
         stop: terms.stop,
         log: node.log,
         since,

@@ -3,6 +3,7 @@ use crate::signal::Signal;
 use crate::stop::Terms;
 use dr_desk::{SharedDesk, Sharing};
 use dr_ledger::Ledger;
+use dr_ledger_timed::Meter;
 use dr_run_open::NextHop;
 use dr_session::Clock;
 use log::Log;
@@ -25,16 +26,18 @@ impl<'a, D, N, C, G> Clone for Means<'a, D, N, C, G> {
 
 impl<'a, D, N, C, G> Copy for Means<'a, D, N, C, G> {}
 
-/// How a node is to serve: to which hops it sends, on what terms it serves, and by what means.
+/// How a node is to serve: to which hops it sends, on what terms it serves, by what means, and what
+/// times the calls of its ledger.
 #[derive(Drop)]
 pub struct Deployment<'a, D, N, C, G> {
     pub hops: Vec<NextHop>,
     pub terms: Terms<'a>,
     pub means: Means<'a, D, N, C, G>,
+    pub meter: &'a Meter,
 }
 
 /// A node that runs, as all of its threads share it: its desk, the hops to which it sends, what
-/// wakes them, and by what they tell the time and what happens.
+/// wakes them, what times the calls of its ledger, and by what they tell the time and what happens.
 #[derive(Drop)]
 pub struct LiveNode<'a, R: Wait, L: Ledger, B: Sharing, C: Clock, G: Log> {
     pub rt: &'a R,
@@ -42,6 +45,7 @@ pub struct LiveNode<'a, R: Wait, L: Ledger, B: Sharing, C: Clock, G: Log> {
     pub desk: &'a SharedDesk<L, B>,
     pub hops: &'a [NextHop],
     pub signal: &'a Signal,
+    pub meter: &'a Meter,
     pub clock: &'a C,
     pub log: &'a G,
 }

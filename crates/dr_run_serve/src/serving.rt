@@ -20,6 +20,7 @@ use crossbeam_channel::{Receiver, Sender, bounded};
 use dr_desk::{CloseFault, Desk, Pass, SharedDesk, Sharing};
 use dr_desk_workers::{Connection, WorkersFault, workers};
 use dr_ledger::LedgerFault;
+use dr_ledger_timed::{Meter, Timed};
 use dr_ledger_views::Views;
 use dr_run_net::{Listening, Network};
 use dr_run_open::NextHop;
@@ -123,7 +124,9 @@ fn accept_links<
         };
         is_failing = false;
         count = count.saturating_add(1);
-        tell_came(log, count, listener.peer(&link));
+        let peer = listener.peer(&link);
+        signal.open.came(rt, count, peer);
+        tell_came(log, count, peer);
         let connection = Connection {
             session: count,
             link,
@@ -492,6 +495,7 @@ where
         desk,
         hops,
         signal: &signal,
+        meter: deployment.meter,
         clock: means.clock,
         log: means.log,
     };
@@ -640,6 +644,18 @@ where
         L.stands l → ∥ IsJournalled (site_routing site) (L.book l) ∥₁) }
     ensures of { IfOk result (λ l. L.site l ≡ site) }
 {
-    let deployment = Deployment { hops, terms, means };
-    share::<R, L, Brand, K, D, N, C, G>(rt, alloc, ledger, site, Blank::new(65_536), deployment)
+    let meter = Meter::new();
+    let deployment = Deployment {
+        hops,
+        terms,
+        means,
+        meter: &meter,
+    };
+    let (timed, blank) = (Timed::new(ledger, rt, &meter), Blank::new(65_536));
+    match share::<R, Timed<'_, L, R>, Brand, K, D, N, C, G>(
+        rt, alloc, timed, site, blank, deployment,
+    ) {
+        Ok(timed) => Ok(timed.into_ledger()),
+        Err(fault) => Err(fault),
+    }
 }

@@ -69,9 +69,7 @@ impl<'a, R: Wait, C: Clock, G: Log> Gate for Watch<'a, R, C, G> {
         if answer.is_some() {
             let caller = request.front.calling.as_bytes();
             let now = self.clock.now();
-            self.signal
-                .open
-                .begin(self.rt, self.alloc, session, caller, now);
+            self.signal.open.begin(self.rt, session, caller, now);
             self.signal
                 .intake
                 .begin(self.rt, self.alloc, session, caller);
