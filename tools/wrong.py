@@ -1,7 +1,7 @@
 #!/usr/bin/env python3
 """Tries wrong bodies and wrong definitions, each of which the prover must refuse: `tools/wrong.py --gate` tries those
-that wrong/gate names, `--all` those of all crates, `CRATE..` those of these crates, `--itself` the tester. With
-`--table` a table of the crates is printed at the end.
+that wrong/gate names, `--all` those of all crates, `CRATE..` those of these crates, `--stale` those of crates that docs/STRENGTH.md doesn't tell of as they are now,
+`--itself` the tester. With `--table` the rows of these crates in docs/STRENGTH.md are written anew, each as soon as it is known.
 
 wrong/CRATE/NAME.edit changes places of a crate's source: lines 'file: ', 'old: ' (a text that is there once, on a line
 or on several) and 'new: '. Each text is on one line of the edit, where a blank stands for any blanks and line breaks;
@@ -14,11 +14,14 @@ what isn't there is proved first.
 """
 import concurrent.futures
 import dataclasses
+import datetime
+import hashlib
 import os
 import re
 import subprocess
 import sys
 import tempfile
+import threading
 import time
 
 from crates import TOP, copy_sources, lanes, listed, prover, words_of, work_of
@@ -359,6 +362,9 @@ def chosen(words):
         with open(f"{TOP}/wrong/gate", encoding="utf-8") as file:
             names = [line.split()[0] for line in file if line.strip() and not line.startswith("#")]
         every = [f"{TOP}/wrong/{name}.edit" for name in names]
+    elif words == ["--stale"]:
+        rows = rows_told()
+        every = [it for it in every if rows.get(it.split("/")[-2], [""])[-1] != files_of(it.split("/")[-2])]
     elif words != ["--all"]:
         unknown = [it for it in words if not os.path.isdir(f"{TOP}/wrong/{it}")]
         if unknown or not words:
@@ -370,8 +376,8 @@ def chosen(words):
     return found
 
 
-def try_all(edits):
-    """Tries the edits of these crates, side by side; what each came to."""
+def try_all(edits, tell=lambda crate, results: None):
+    """Tries the edits of these crates, side by side; what each came to. Each crate's results are told as soon as they are known."""
     unknown = [it for it in edits if it not in listed()]
     results = {path: Answer(False, "crates.txt has no such crate") for it in unknown for path in edits[it]}
     crates = sorted((it for it in edits if it not in unknown), key=lambda it: -work_of(it) * (2 + len(edits[it])))
@@ -379,7 +385,11 @@ def try_all(edits):
         if not made_for(crates, log):
             sys.exit("wrong: a library isn't proved, so nothing was tried")
     with concurrent.futures.ThreadPoolExecutor(lanes()) as pool:
-        for found in pool.map(lambda it: try_crate(it, edits[it]), crates):
+        def one(crate):
+            found = try_crate(crate, edits[crate])
+            tell(crate, [found[it] for it in edits[crate]])
+            return found
+        for found in pool.map(one, crates):
             results.update(found)
     return results
 
@@ -396,13 +406,48 @@ def try_itself():
     return not wrong
 
 
-def table(edits, results):
-    """What each crate's edits came to, and the seconds that they took on the clock, as rows of a page."""
-    lines = ["| crate | refused | tried | seconds |", "|---|---|---|---|"]
-    for crate in sorted(edits):
-        tried = [results[it] for it in edits[crate]]
-        lines.append(f"| `{crate}` | {sum(it.refused for it in tried)} | {len(tried)} | {sum(it.seconds for it in tried):.0f} |")
-    return lines
+PAGE = f"{TOP}/docs/STRENGTH.md"
+ROW = re.compile(r"\| `(\w+)` \| (\d+) \| (\d+) \| (\d+) \| ([0-9-]+) \| `(\w+)` \|")
+WRITING = threading.Lock()
+
+
+def files_of(crate):
+    """The digest of a crate's own files and of its edits."""
+    digest = hashlib.sha256()
+    for top in (f"{TOP}/crates/{crate}", f"{TOP}/wrong/{crate}"):
+        for folder, inner, names in sorted(os.walk(top)):
+            inner[:] = [it for it in inner if it != "out"]
+            for name in sorted(names):
+                path = os.path.join(folder, name)
+                with open(path, "rb") as file:
+                    digest.update(os.path.relpath(path, TOP).encode() + b"\0" + hashlib.sha256(file.read()).digest())
+    return digest.hexdigest()[:12]
+
+
+def rows_told():
+    """What the page tells of each crate: how many edits were refused, how many tried, the seconds, the day, and the digest of the files."""
+    try:
+        with open(PAGE, encoding="utf-8") as file:
+            return {row[1]: list(row.groups()[1:]) for row in map(ROW.match, file) if row}
+    except FileNotFoundError:
+        return {}
+
+
+def tell_page(crate, results):
+    """Writes a crate's row anew, and the sums."""
+    refused = sum(it.refused for it in results)
+    row = [str(refused), str(len(results)), f"{sum(it.seconds for it in results):.0f}", datetime.date.today().isoformat(), files_of(crate)]
+    with WRITING:
+        rows = rows_told() | {crate: row}
+        with open(PAGE, encoding="utf-8") as file:
+            text = file.read()
+        lines = [f"| `{name}` | {' | '.join(its[:4])} | `{its[4]}` |" for name, its in sorted(rows.items())]
+        sums = [sum(int(its[at]) for its in rows.values()) for at in range(3)]
+        head = text.partition("| crate |")[0]
+        table = ["| crate | refused | tried | seconds | day | files |", "|---|---|---|---|---|---|", *lines,
+                 f"| all | {sums[0]} | {sums[1]} | {sums[2]} | | |"]
+        with open(PAGE, "w", encoding="utf-8") as file:
+            file.write(head + "\n".join(table) + "\n")
 
 
 def main(words):
@@ -411,12 +456,10 @@ def main(words):
         return 0 if try_itself() else 1
     is_shown = "--table" in words
     edits = chosen([it for it in words if it != "--table"])
-    results = try_all(edits)
+    results = try_all(edits, tell_page) if is_shown else try_all(edits)
     missed = {path: answer for path, answer in results.items() if not answer.refused}
     for path, answer in sorted(missed.items()):
         print(f"NOT REFUSED: {'/'.join(path.split('/')[-2:])}: {answer.said}")
-    if is_shown:
-        print("\n".join(table(edits, results)))
     print(f"wrong bodies: {len(results) - len(missed)} refused, {len(missed)} not, in {(time.monotonic() - began) / 60:.0f} minutes")
     return 1 if missed else 0
 
