@@ -270,7 +270,7 @@ def main():
     associations(8 if tiny else 400)
     storing_at_once(64 if tiny else 3200)
     memory(sizes[2][1])
-    crowd(*(4, 1 << 20) if tiny else (64, 60 << 20))
+    crowd(*(4, 1 << 20) if tiny else (64, (64 << 20) - 4096))
     starting(10 if tiny else 5000)
 
 

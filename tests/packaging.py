@@ -122,9 +122,9 @@ def releases_of_a_checkout():
     """The script runs a release's program where it is made from the checkout's sources, and says so; else it runs nothing."""
     program = release.content(PROGRAM)
     with tempfile.TemporaryDirectory() as folder:
-        same(build(folder, 'made', gate_log(program)).returncode, 0)
+        same(build(folder, 'dist', gate_log(program)).returncode, 0)
         number = release.version()
-        subprocess.run(['tar', 'xzf', f'made/bitrusset-{number}.tar.gz'], cwd=folder, check=True)
+        subprocess.run(['tar', 'xzf', f'dist/bitrusset-{number}.tar.gz'], cwd=folder, check=True)
         os.mkdir(f'{folder}/here')
         checkout(f'{folder}/here')
         unpacked = f'{folder}/bitrusset-{number}'
@@ -323,8 +323,8 @@ def installation():
     """A package is installed over an older one, whose ledgers it has then; its nodes take an image to the archive; its removal leaves the ledgers."""
     program = release.content(PROGRAM)
     with tempfile.TemporaryDirectory() as folder, Root() as root:
-        same(build(folder, 'made', gate_log(program)).returncode, 0)
-        package = release.content(f'{folder}/made/bitrusset_{release.version()}_amd64.deb')
+        same(build(folder, 'dist', gate_log(program)).returncode, 0)
+        package = release.content(f'{folder}/dist/bitrusset_{release.version()}_amd64.deb')
         root.install(older_package(program))
         home = os.stat(f'{root.folder}/var/lib/dr_router')
         same((home.st_uid, home.st_gid, stat.S_IMODE(home.st_mode)), (*root.owner(), 0o750))
@@ -338,7 +338,7 @@ def installation():
         root.install(package)
         same(root.owner(), owner)
         same(root.run('--version').stdout.decode(), f'dr_router {release.version()}\n')
-        same(root.text('usr/share/doc/bitrusset/STATEMENT'), release.content(f'{folder}/made/STATEMENT').decode())
+        same(root.text('usr/share/doc/bitrusset/STATEMENT'), release.content(f'{folder}/dist/STATEMENT').decode())
         same(root.lists(), before)
         root.send(b'1.2.3.5')
         after = root.lists()

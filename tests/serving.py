@@ -447,7 +447,7 @@ def slow_peers():
                 try:
                     for at in range(60):
                         slow.link.sendall(whole[at:at + 1])
-                        time.sleep(0.25)
+                        time.sleep(1)
                 except OSError:
                     pass
             drips = threading.Thread(target=drip)
@@ -603,7 +603,7 @@ def peak_of(process):
 
 def many_transfers():
     """Of 64 data sets of 64 MiB that come at once those for which there is no room come again, and in the end each is kept. The node stays
-    below what the unit lets it have. That is more than the budget, which doesn't count what is copied on its way into the ledger."""
+    below its budget (1,024 MB) and 200 MB."""
     with Room() as room:
         arch = room.serve('ARCH', 0, env={**os.environ, **LETS_GO})
         size = 64 << 20
@@ -639,7 +639,7 @@ def many_transfers():
             caller.join()
         peak, spent = peak_of(arch), time.monotonic() - begun
         print(f'greatest memory {peak / 1e6:.0f} MB, {len(refused)} times refused, {64 * size / spent / 1e6:.0f} MB a second')
-        assert peak < 3 << 30, peak
+        assert peak < 1_224_000_000, peak
         same(len([event for event in room.events('ARCH') if event[3].startswith('crowded ')]), len(refused))
         stop(arch)
         # four gigabytes: `list` reads all of it first, which takes minutes

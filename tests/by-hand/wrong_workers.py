@@ -16,22 +16,22 @@ sys.dont_write_bytecode = True
 sys.path.insert(0, os.path.dirname(os.path.dirname(os.path.abspath(__file__))))
 from played import TOP, play
 
-SERVING, SHARED = "dr_desk_workers/src/serving.rt", "dr_desk/src/shared.rt"
+SERVING, BOUNDS = "dr_desk_workers/src/serving.rt", "dr_desk_workers/src/bounds.rt"
 
 # of each wrong body: the file, a text that stands in it once, and what takes its place
 WRONG = {
     "sessions_in_turn": [
-        (SERVING, "        n,\n        &|_, pass|", "        1,\n        &|_, pass|"),
+        (SERVING, "if !workshop.bounds.staff.admit(workshop.rt) {", "if begun > 0 || !workshop.bounds.staff.admit(workshop.rt) {"),
     ],
     "one_lock_over_a_whole_session": [
-        (SHARED, "    held: Mutex<Held<L, B>>,\n}", "    held: Mutex<Held<L, B>>,\n    pub whole: Mutex<u64>,\n}"),
-        (SHARED, "            held: Mutex::new(held),", "            held: Mutex::new(held),\n            whole: Mutex::new(0),"),
-        (SHARED, "let SharedDesk { site: _, held } = self;", "let SharedDesk { site: _, held, whole: _ } = self;"),
-        (SERVING, "    gate.at(session, Point::Taken);", "    let _whole = desk.whole.lock(rt);\n    gate.at(session, Point::Taken);"),
+        (BOUNDS, "    pub staff: Staff,\n}", "    pub staff: Staff,\n    pub whole: Mutex<u64>,\n}"),
+        (BOUNDS, "            staff: Staff::new(),", "            staff: Staff::new(),\n            whole: Mutex::new(0),"),
+        (SERVING, "    workshop.gate.at(session, Point::Taken);",
+         "    let _whole = workshop.bounds.whole.lock(workshop.rt);\n    workshop.gate.at(session, Point::Taken);"),
     ],
     "each_second_connection_dropped": [
-        (SERVING, "        serve(rt, alloc, desk, gate, connection, door, pass);",
-         "        if connection.session % 2 == 1 {\n            serve(rt, alloc, desk, gate, connection, door, pass);\n        }"),
+        (SERVING, "        serve(workshop, connection, pass);",
+         "        if connection.session % 2 == 1 {\n            serve(workshop, connection, pass);\n        }"),
     ],
 }
 
