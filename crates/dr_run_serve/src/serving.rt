@@ -6,7 +6,7 @@ ghost use Rattle.dr_ledger.specs.Histories.{IsJournalled};
 ghost use Rattle.dr_ledger.specs.SiteRoutes.{site_routing};
 
 use crate::control::{answer_all, passes_of};
-use crate::events::{tell_came, tell_unaccepted};
+use crate::events::{tell_came, tell_threads, tell_unaccepted};
 use crate::keeper::keep;
 use crate::live::{Deployment, LiveNode, Means};
 use crate::monitor::Monitor;
@@ -100,6 +100,7 @@ fn accept_links<
     log: &G,
 ) -> bool {
     if !signal.has_begun(rt, BEGIN) {
+        tell_threads(log, "serve", 1, 0);
         return false;
     }
     let (mut count, mut is_failing) = (0u64, false);
