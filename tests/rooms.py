@@ -2,8 +2,8 @@
 """Looks at the rooms of crates.txt: `tests/rooms.py`.
 
 Each crate is in the section of its room, behind those of the room that it stands on; no arrow goes up to a later room;
-each folder of crates/ has its line; the picture in docs/ is that of crates.txt; and docs/ARCHITECTURE.md has the table of
-`tools/rename --table`, in which each crate or program that has got a new name is there.
+each folder of crates/ has its line; the picture in docs/ is that of crates.txt; and docs/ARCHITECTURE.md has the table
+of `tools/rename --table`, whose old names are no crates, and whose new ones are there.
 """
 import os
 import re
