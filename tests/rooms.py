@@ -2,9 +2,12 @@
 """Looks at the rooms of crates.txt: `tests/rooms.py`.
 
 Each crate is in the section of its room, behind those of the room that it stands on; no arrow goes up to a later room;
-each folder of crates/ has its line; and the picture in docs/ is that of crates.txt.
+each folder of crates/ has its line; the picture in docs/ is that of crates.txt; and docs/ARCHITECTURE.md has the table
+of `tools/rename --table`, whose old names are no crates, and whose new ones are there.
 """
 import os
+import re
+import subprocess
 import sys
 
 TOP = os.path.dirname(os.path.dirname(os.path.abspath(__file__)))
@@ -20,6 +23,18 @@ OTHER_NAMES = {
     "dr_nego": "run", "dr_session": "run", "dr_desk": "run", "dr_desk_workers": "run", "dr_node": "world",
     "dr_certifier": "program", "dr_checker": "program", "dr_router": "program",
 }
+
+
+def old_names():
+    """What isn't right in the table of old names, a line each."""
+    ran = subprocess.run([f"{TOP}/tools/rename", "--table"], check=True, capture_output=True, text=True)
+    with open(f"{TOP}/docs/ARCHITECTURE.md", encoding="utf-8") as file:
+        found = re.search(r"^\| old \| new \|\n(?:\|.*\n)*", file.read(), re.MULTILINE)
+    if found is None or found[0] != ran.stdout:
+        yield "the table of old names in docs/ARCHITECTURE.md isn't that of tools/rename --table"
+    for old, new in re.findall(r"^\| `(\w+)` \| `([\w/]+)` \|$", ran.stdout, re.MULTILINE):
+        if old in listed() or new not in listed() and not os.path.isdir(f"{TOP}/{new}"):
+            yield f"tools/rename --table has {old}, which is {new} now"
 
 
 def faults():
@@ -46,6 +61,7 @@ def faults():
     for crate in listed():
         if f">{crate}<" not in drawn:
             yield f"docs/rooms.svg lacks {crate}: draw it by dot -Tsvg docs/rooms.dot"
+    yield from old_names()
 
 
 def main():
