@@ -14,8 +14,8 @@ use dr_ledger::{Ledger, LedgerFault, Row};
 use dr_ledger_report::{put_field, put_name, put_number};
 use dr_run_files::{Failure, Files, NodeFiles};
 use dr_run_open::{
-    Halt, Ledgers, Making, NextHop, Opened, RowStage, Status, finish, hops_of, how_many,
-    oldest, open_node,
+    Halt, Ledgers, Making, NextHop, Opened, RowStage, Status, finish, hops_of, how_many, oldest,
+    open_node,
 };
 use std::alloc::{AllocError, Global};
 use std::io::Write;
