@@ -20,9 +20,9 @@ FUNCTION = re.compile(r"\bfn (\w+)(?=[<(])")
 MOST_PARAMETERS = 7
 # The one function with more: its caller's references have several lifetimes, of which the prover's borrow checker knows no struct.
 UNBUNDLED = {"crates/dr_router/src/over.rt: run_stored"}
-# Names of one notion that crates have apart: a node of the plan and of the simulator; a row that a ledger lists, and how far one is;
-# tests of a name that tell the fault or not; and what compares values, since nobody may implement a trait for types that aren't his.
-SAME_NOTION = {"Node", "Row", "Stage", "WellFormed", "Same"}
+# Names of one notion that crates have apart: a node of the plan and of the simulator; and tests of a
+# name that tell the fault or not.
+SAME_NOTION = {"Node", "WellFormed"}
 
 
 def out_of_layout():

@@ -4,6 +4,7 @@
 
 pub mod laws;
 pub mod padding;
+pub mod same;
 pub mod seq;
 pub mod syntax;
 pub mod text;

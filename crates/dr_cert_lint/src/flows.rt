@@ -2,7 +2,7 @@
 ghost use Rattle.std.specs.Prelude.{◌≡◌, ◌↔◌, IsTrue, Contains};
 ghost use Rattle.dr_cert_lint.specs.Bringing.{Brings, BringsIn, EntersAt, IsAgain};
 
-use crate::same::Same;
+use dr_base::same::Same;
 use dr_base::{Syntax, Text};
 use dr_plan_model::Flow;
 

@@ -7,7 +7,6 @@ mod flows;
 mod graph;
 mod lint;
 mod print;
-mod same;
 mod uses;
 
 pub use graph::graph_text;

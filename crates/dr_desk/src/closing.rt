@@ -7,8 +7,8 @@ ghost use Rattle.dr_desk.specs.Agreeing.{AreApart, Fails, IsOfLine, Rises, numbe
 use crate::desk::Desk;
 use crate::pass::{Made, Pass};
 use crate::receipt::{Receipt, records};
-use crate::same::are_same;
 use crate::sharing::Sharing;
+use dr_base::same::are_same;
 use dr_ledger::{Entry, LedgerFault};
 use std::alloc::{AllocError, Global};
 use std::collections::{BTreeSet, VecDeque};

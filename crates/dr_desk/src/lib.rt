@@ -18,7 +18,6 @@ pub mod holdings;
 pub mod laws;
 pub mod pass;
 pub mod receipt;
-mod same;
 pub mod shared;
 pub mod sharing;
 mod views;

@@ -7,6 +7,7 @@ ghost use Rattle.dr_ledger_history.specs.Takings.{IsBy};
 
 use crate::line::JournalLine;
 use dr_base::Text;
+use dr_base::same::are_same;
 use dr_route::Key;
 use dr_site::Site;
 use std::alloc::{AllocError, Global};
@@ -54,26 +55,4 @@ fn is_arrival_by(
         return Ok(false);
     }
     Ok(are_same(to, targets.to.as_slice()))
-}
-
-/// Whether they are the same names in the same order.
-fn are_same(these: &[Text], those: &[Text]) -> bool
-    ensures { IsTrue result ↔ (these.now ≡ those.now) }
-{
-    if these.len() != those.len() {
-        return false;
-    }
-    for (i, this) in these.iter().enumerate() {
-        if !is_name(this, &those[i]) {
-            return false;
-        }
-    }
-    true
-}
-
-/// Whether the name is that one.
-fn is_name(name: &Text, other: &Text) -> bool
-    ensures { IsTrue result ↔ (name.now ≡ other.now) }
-{
-    name == other
 }

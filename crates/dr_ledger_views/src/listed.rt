@@ -7,11 +7,8 @@ ghost use Rattle.dr_ledger_views.specs.Views.{is_wanted, page_of, rows_of};
 
 use crate::stage::Stage;
 use dr_base::{Seq, Text};
-use dr_ledger::Progress;
+use dr_ledger::{Progress, Row};
 use std::alloc::{AllocError, Global};
-
-/// A row, as a ledger lists it: which instance, where to, and how far it is.
-pub type Row = ((Text, Text), Progress);
 
 /// Whether a row is at the stage, if one is named.
 fn is_at(stage: Option<Stage>, progress: Progress) -> bool

@@ -10,6 +10,7 @@ ghost use Rattle.dr_plan_entries.specs.Entering.{AllBelow};
 ghost use Rattle.dr_plan_entries.specs.Listing.{TakesListed, TakesListedStations, TakesJust};
 ghost use Rattle.dr_plan_entries.specs.Listing.{AreNamed};
 
+use dr_base::same::are_same;
 use dr_base::{Seq, Text};
 use dr_plan_model::{Flow, Listed, Stations, Values};
 use dr_route::names::{add_names, names_in_order};
@@ -63,13 +64,6 @@ fn listed_alone<'a>(flow: &Flow, listed: &'a Listed, side: FlowSide) -> Option<&
             None
         }
     }
-}
-
-/// Whether both are the same texts.
-fn are_same(texts: &[Text], others: &[Text]) -> bool
-    ensures { IsTrue result → texts.now ≡ others.now }
-{
-    texts == others
 }
 
 /// Adds the texts to the names, unless they are the last ones, which are there already.

@@ -7,6 +7,7 @@ pub mod laws;
 pub mod listed;
 pub mod literals;
 pub mod plan;
+mod same;
 pub mod sending;
 
 pub use listed::Listed;

@@ -4,5 +4,6 @@
 
 pub mod certificate;
 pub mod laws;
+mod same;
 
 pub use certificate::{Certificate, Hop, Line, Stop};

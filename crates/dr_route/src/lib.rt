@@ -12,6 +12,7 @@ pub mod laws;
 pub mod names;
 pub mod routing;
 pub mod rule;
+mod same;
 mod search;
 
 pub use accept::{AcceptRow, Callers, accepts};

@@ -3,7 +3,7 @@ use Rattle.std.specs.List.{list_any}
 use Rattle.std.specs.FinMap as map
 use Rattle.std.specs.Prelude.{◌≡◌, ◌↔◌, ◌⊎◌, ◌++◌, ℕ, Bool, true, false, IsTrue, List, [], ◌∷◌}
 use Rattle.std.specs.Prelude.{bytes_eq, flat_map}
-use Rattle.std.specs.Prelude.{Option, None, Some, option_map, Ok, Err, Result, MatchResult, codes}
+use Rattle.std.specs.Prelude.{Option, None, Some, Ok, Err, Result, MatchResult, codes}
 use Rattle.http.specs.declared.request.Request.{Request}
 use Rattle.http.specs.Request.{head_of, body_of}
 use Rattle.dr_base.specs.Texts.{Text}
@@ -14,8 +14,6 @@ use Rattle.dr_desk.specs.declared.receipt.Call.{Call}
 use Rattle.dr_desk.specs.declared.receipt.Call.TheVariants.{Requeuing, Dropping, Forgetting}
 use Rattle.dr_desk.specs.declared.receipt.Receipt.{Receipt}
 use Rattle.dr_desk.specs.declared.receipt.Reply.TheVariants.{Done}
-use Rattle.dr_ledger_views.specs.declared.stage.Stage.{Stage}
-use Rattle.dr_ledger_views.specs.declared.stage.Stage.TheVariants as stage
 use Rattle.dr_ledger_views.specs.declared.stage.HopTally.{HopTally}
 use Rattle.dr_ledger_views.specs.Views.{AreCallers, Row, page_of, rows_of}
 use Rattle.dr_ledger.specs.Bodies.{Bodies}
@@ -42,8 +40,6 @@ use Rattle.dr_run_request.specs.declared.route.Route.{Route}
 use Rattle.dr_run_request.specs.declared.route.Route.TheVariants as route
 use Rattle.dr_run_request.specs.declared.wanted.FormFault.{FormFault}
 use Rattle.dr_run_request.specs.declared.wanted.FormFault.TheVariants as fault
-use Rattle.dr_run_request.specs.declared.wanted.Stage.{Stage as Word}
-use Rattle.dr_run_request.specs.declared.wanted.Stage.TheVariants as word
 use Rattle.dr_run_request.specs.declared.wanted.Wanted.{Wanted}
 use Rattle.dr_site.specs.Parts.{Part}
 
@@ -224,13 +220,6 @@ IsCounted dest tally visit visits queue =
     × (queue.visit ≡ visit)
     × (queue.visits ≡ visits)
 
--- the stage of a word that a form may have
-abbrev pub stage_named : Word → Stage
-stage_named word.Waiting = stage.Waiting
-stage_named word.Held = stage.Held
-stage_named word.Done = stage.Done
-stage_named word.Dropped = stage.Dropped
-
 -- behind which uid the rows of a page stand: behind none, where none is named
 abbrev pub after_named : Option Text → Text
 after_named None = []
@@ -240,7 +229,7 @@ after_named (Some uid) = uid
 -- behind the uid that is named, and as many as are asked for
 abbrev pub page_wanted : List Row → Wanted → List Row
 page_wanted rows wanted =
-    page_of rows wanted.dest (option_map stage_named wanted.stage) (after_named wanted.after)
+    page_of rows wanted.dest wanted.stage (after_named wanted.after)
     wanted.limit
 
 module _ {L : Type 0} (site_of : L → Part) (book : L → Book) (bodies : L → Bodies)

@@ -4,14 +4,11 @@ ghost use Rattle.dr_run_control.specs.Consoles.{Acts, Again, AgainEach, passed};
 
 use dr_base::{Seq, Text};
 use dr_desk::{Pass, SharedDesk, Sharing};
-use dr_ledger::{LedgerFault, Progress};
+use dr_ledger::{LedgerFault, Row};
 use dr_ledger_views::{Stage, Views};
 use dr_run_request::Order;
 use std::alloc::{AllocError, Global};
 use std::sync::Wait;
-
-/// A row, of which instance and where to, and how far it is.
-type Row = ((Text, Text), Progress);
 
 /// So many rows are read at a time.
 const PAGE: u32 = 1_000;

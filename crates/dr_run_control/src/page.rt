@@ -7,7 +7,7 @@ use crate::reads::{DeskReader, NodeReader, reply_with};
 use crate::reply::{HttpReply, Media, refused_by_ledger};
 use dr_base::Text;
 use dr_desk::Sharing;
-use dr_ledger::{LedgerFault, Progress};
+use dr_ledger::{LedgerFault, Row};
 use dr_ledger_views::{Stage, Views};
 use dr_run_answer::{OpenAssociation, Queue, Recent};
 use dr_run_open::NextHop;
@@ -15,9 +15,6 @@ use dr_run_page::{NodeShown, SHOWN, put_document};
 use dr_run_request::Browser;
 use std::alloc::{AllocError, Global};
 use std::sync::Wait;
-
-/// A row, of which instance and where to, and how far it is.
-type Row = ((Text, Text), Progress);
 
 /// Adds the first rows to a node that are held, in the order of their UIDs, as many as a page
 /// shows. The lock is taken once.

@@ -2,7 +2,7 @@
 ghost use Rattle.hex.specs.Hex.{encode_lower};
 ghost use Rattle.std.specs.FinMap as map;
 ghost use Rattle.std.specs.Prelude.{◌≡◌, ◌++◌, IfOk, MatchOption, OnOk, flat_map, length};
-ghost use Rattle.std.specs.Prelude.{map as mapped, option_map, string_bytes};
+ghost use Rattle.std.specs.Prelude.{map as mapped, string_bytes};
 ghost use Rattle.dr_desk.specs.Reading.{Reading};
 ghost use Rattle.dr_ledger.specs.Replies.{Reads};
 ghost use Rattle.dr_run_answer.specs.Answers.{association_line, brought_figures, bytes_figures};
@@ -13,21 +13,21 @@ ghost use Rattle.dr_run_answer.specs.Answers.{queues_figures, recent_line, row_l
 ghost use Rattle.dr_run_answer.specs.Answers.{visits_figures};
 ghost use Rattle.dr_run_answer.specs.Responses.{response_figures};
 ghost use Rattle.dr_run_control.specs.Consoles.{AreParts, IsCounted, IsMissing, IsTold};
-ghost use Rattle.dr_run_control.specs.Consoles.{page_wanted, stage_named};
+ghost use Rattle.dr_run_control.specs.Consoles.{page_wanted};
 
 use crate::console::{Around, House};
 use crate::reply::{HttpReply, Media, misread, refused_by_ledger};
 use dr_base::{Seq, Text};
 use dr_desk::{SharedDesk, Sharing, Totals};
 use dr_ledger::{LedgerFault, Progress};
-use dr_ledger_views::{HopTally, Stage, Views};
+use dr_ledger_views::{HopTally, Views};
 use dr_run_answer::{
     Counts, Identity, Queue, Visited, Visits, put_associations, put_callers, put_figures,
     put_froms, put_instance, put_late, put_lock, put_node, put_open, put_own_rows, put_queue,
     put_queues, put_recents, put_responses, put_rows, put_stored_bytes, put_visits, put_well,
 };
 use dr_run_open::NextHop;
-use dr_run_request::{Stage as Word, Wanted, instance_of, wanted_of};
+use dr_run_request::{Wanted, instance_of, wanted_of};
 use dr_site::Site;
 use http::StatusCode;
 use std::alloc::{AllocError, Global};
@@ -174,18 +174,6 @@ fn row_lines(alloc: Global, rows: &[((Text, Text), Progress)]) -> Result<Vec<u8>
     Ok(out)
 }
 
-/// The stage that a form names.
-fn stage_of(word: Word) -> Stage
-    ensures { result ≡ stage_named word }
-{
-    match word {
-        Word::Waiting => Stage::Waiting,
-        Word::Held => Stage::Held,
-        Word::Done => Stage::Done,
-        Word::Dropped => Stage::Dropped,
-    }
-}
-
 /// That a node is well.
 fn well_line(alloc: Global) -> Result<Vec<u8>, AllocError> {
     let mut out = Vec::new(alloc);
@@ -242,16 +230,6 @@ fn status_of(
     status_lines(alloc, &node, counts, queues, around)
 }
 
-/// The stage of the rows that are wanted, if one is named.
-fn stage_in(wanted: &Wanted) -> Option<Stage>
-    ensures { result ≡ option_map stage_named wanted.now.stage }
-{
-    match wanted.stage {
-        Some(word) => Some(stage_of(word)),
-        None => None,
-    }
-}
-
 /// The lines of an instance: one of it, one for each caller who brought it, and one for each of its
 /// rows.
 fn instance_lines(
@@ -306,7 +284,7 @@ impl<'a, R: Wait, L: Views, B: Sharing> DeskReader<'a, R, L, B> {
             all ≡ page_wanted (map.entries (L.book l).rows) wanted.now)) result }
     {
         let (rt, alloc, desk) = (self.rt, self.alloc, self.desk);
-        let stage = stage_in(wanted);
+        let stage = wanted.stage;
         match &wanted.after {
             Some(after) => desk.page(rt, &wanted.dest, stage, after, wanted.limit),
             None => desk.page(rt, &wanted.dest, stage, &Text::empty(alloc), wanted.limit),

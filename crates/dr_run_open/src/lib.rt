@@ -31,6 +31,6 @@ pub use hops::{NextHop, hops_of};
 pub use instance::item_of;
 pub use ledgers::{Ledgers, Making, OpenFault};
 pub use opening::{Opened, ledger_of, open_node, seal_files};
-pub use queues::{Row, RowStage, how_many, is_queued, oldest};
+pub use queues::{RowStage, how_many, is_queued, oldest};
 pub use sealing::{plan_of, seal_text};
 pub use status::Status;

@@ -4,10 +4,7 @@ ghost use Rattle.dr_run_open.specs.Queues.{IsLeast, due_for, due_of, dues, earli
 ghost use Rattle.dr_run_open.specs.Queues.{is_queued, is_so};
 
 use dr_base::Text;
-use dr_ledger::Progress;
-
-/// A row, as a ledger lists it: which instance, where to, and how far it is.
-pub type Row = ((Text, Text), Progress);
+use dr_ledger::{Progress, Row};
 
 /// How far a row is, without more about it.
 #[derive(Clone, Copy, Debug)]

@@ -7,8 +7,8 @@ use Rattle.std.proofs.lemmas.Fmt.{decimal_injective, decimal_nonempty, first_dec
 use Rattle.dr_base.specs.Texts.{Text}
 use Rattle.dr_run_request.specs.Forms.{IsLimit, LimitOf, StageOf, Wants, word_of}
 use Rattle.dr_run_request.specs.Laws.{LimitsAreRight, PagesAreBounded, WantsDiffer}
-use Rattle.dr_run_request.specs.declared.wanted.Stage.{Stage}
-use Rattle.dr_run_request.specs.declared.wanted.Stage.TheVariants.{Waiting, Held, Done, Dropped}
+use Rattle.dr_ledger_views.specs.declared.stage.Stage.{Stage}
+use Rattle.dr_ledger_views.specs.declared.stage.Stage.TheVariants.{Waiting, Held, Done, Dropped}
 use Rattle.dr_run_request.specs.declared.wanted.Wanted.{Wanted}
 use Rattle.dr_run_request.proofs.Numerals.{one_number}
 

@@ -5,8 +5,8 @@ use Rattle.form_urlencoded.specs.Form.{decode, raw_pairs}
 use Rattle.percent_encoding.specs.Percent.{percent_decode}
 use Rattle.dr_base.specs.Texts.{Text}
 use Rattle.dr_run_request.specs.declared.wanted.RowName.{RowName}
-use Rattle.dr_run_request.specs.declared.wanted.Stage.{Stage}
-use Rattle.dr_run_request.specs.declared.wanted.Stage.TheVariants.{Waiting, Held, Done, Dropped}
+use Rattle.dr_ledger_views.specs.declared.stage.Stage.{Stage}
+use Rattle.dr_ledger_views.specs.declared.stage.Stage.TheVariants.{Waiting, Held, Done, Dropped}
 use Rattle.dr_run_request.specs.declared.wanted.Wanted.{Wanted}
 
 -- the value of the first pair of that name

@@ -21,5 +21,5 @@ pub use browser::Browser;
 pub use order::{Order, order_of};
 pub use route::Route;
 pub use wanted::{
-    FormFault, RowName, Stage, Wanted, instance_of, is_of_page, reason_of, row_of, wanted_of,
+    FormFault, RowName, Wanted, instance_of, is_of_page, reason_of, row_of, wanted_of,
 };

@@ -7,11 +7,12 @@ ghost use Rattle.dr_run_request.specs.Forms.{Wants, value_in, word_of};
 ghost use Rattle.dr_base.specs.Texts.{Text as TextValue};
 ghost use Rattle.dr_run_request.specs.declared.wanted.FormFault.TheVariants as fault;
 ghost use Rattle.dr_run_request.specs.declared.wanted.RowName.{RowName as RowNameValue};
-ghost use Rattle.dr_run_request.specs.declared.wanted.Stage.{Stage as StageValue};
+ghost use Rattle.dr_ledger_views.specs.declared.stage.Stage.{Stage as StageValue};
 ghost use Rattle.dr_run_request.specs.declared.wanted.Wanted.{Wanted as WantedValue};
 
 use crate::form::{raw_value, value_in};
 use dr_base::Text;
+use dr_ledger_views::Stage;
 use percent_encoding::percent_decode;
 use std::alloc::{AllocError, Global};
 use std::str;
@@ -24,15 +25,6 @@ const MOST_ROWS: u32 = 1_000;
 pub struct RowName {
     pub uid: Text,
     pub dest: Text,
-}
-
-/// How far a row is.
-#[derive(Clone, Copy, PartialEq, Eq, Debug)]
-pub enum Stage {
-    Waiting,
-    Held,
-    Done,
-    Dropped,
 }
 
 /// Which rows are wanted: those to a node, at a stage if one is named, behind a UID if one is

@@ -4,7 +4,6 @@
 mod copies;
 pub mod laws;
 mod rows;
-mod same;
 pub mod site;
 
 pub use site::{Site, SiteFault};

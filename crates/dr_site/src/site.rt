@@ -9,7 +9,7 @@ use crate::copies::{
     copy_accepts, copy_flows, copy_hops, copy_lines, copy_literals, copy_name, copy_rules,
 };
 use crate::rows::{flows_at, hops_ending_at, hops_from, lines_of};
-use crate::same::{Same, are_same};
+use dr_base::same::{Same, are_same};
 use dr_base::{Seq, Text};
 use dr_cert::Sealed;
 use dr_cert::index::{find, index_of};

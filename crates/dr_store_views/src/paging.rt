@@ -16,9 +16,8 @@ ghost use Rattle.dr_store_views.specs.Answers.{greatest_state, least_state};
 
 use crate::counting::state_cell;
 use dr_base::{Seq, Text};
-use dr_ledger::{LedgerFault, Progress};
+use dr_ledger::{LedgerFault, Progress, Row as Entry};
 use dr_ledger_views::Stage;
-use dr_ledger_views::listed::Row as Entry;
 use dr_store_lists::listing::{row_entries, text_keys};
 use dr_store_reads::queries::ask;
 use sqlite::types::ValueRef;

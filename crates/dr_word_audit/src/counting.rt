@@ -10,9 +10,9 @@ ghost use Rattle.dr_word_audit.specs.Telling.{is_told, number_told};
 
 use crate::naming::is_among;
 use dr_base::Text;
-use dr_ledger::{Outcome, Progress};
+use dr_ledger::{Outcome, Progress, Row};
 use dr_ledger_history::JournalLine;
-use dr_run_open::{Row, RowStage};
+use dr_run_open::RowStage;
 use dr_world_audit::replay::count_past;
 
 /// Of which lines there may be how many.

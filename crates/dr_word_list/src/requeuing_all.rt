@@ -7,9 +7,9 @@ ghost use Rattle.dr_word_list.specs.Requeuings.{RequeuesFirst, RequeuesFirstOf, 
 ghost use Rattle.dr_run_open.specs.declared.halt.Halt.{Halt as HaltValue};
 
 use dr_base::Text;
-use dr_ledger::{Ledger, LedgerFault};
+use dr_ledger::{Ledger, LedgerFault, Row};
 use dr_run_files::{Failure, Files, NodeFiles};
-use dr_run_open::{Halt, Ledgers, Making, Row, RowStage, Status, finish, is_queued, open_node};
+use dr_run_open::{Halt, Ledgers, Making, RowStage, Status, finish, is_queued, open_node};
 use std::alloc::{AllocError, Global};
 use std::io::Write;
 

@@ -10,12 +10,12 @@ ghost use Rattle.dr_word_list.specs.Summaries.{Summarizes, count_line, moment_fi
 ghost use Rattle.dr_run_open.specs.declared.halt.Halt.{Halt as HaltValue};
 
 use dr_base::Text;
-use dr_ledger::{Ledger, LedgerFault};
+use dr_ledger::{Ledger, LedgerFault, Row};
 use dr_ledger_report::{put_field, put_name, put_number};
 use dr_run_files::{Failure, Files, NodeFiles};
 use dr_run_open::{
-    Halt, Ledgers, Making, NextHop, Opened, Row, RowStage, Status, finish, hops_of, how_many,
-    oldest, open_node,
+    Halt, Ledgers, Making, NextHop, Opened, RowStage, Status, finish, hops_of, how_many, oldest,
+    open_node,
 };
 use std::alloc::{AllocError, Global};
 use std::io::Write;

@@ -2,37 +2,10 @@
 ghost use Rattle.std.specs.Prelude.{◌≡◌, ◌↔◌, IsTrue};
 ghost use Rattle.dr_ledger.specs.declared.item.Entry.TheVariants as entry;
 
+use crate::item::{Entry, Outcome};
+use dr_base::same::{Same, are_same};
 use dr_base::{Seq, Text};
-use dr_ledger::{Entry, Outcome};
 use dr_route::Key;
-
-/// Values that can be compared as contracts see them.
-pub trait Same {
-    /// Whether the other is this value.
-    fn is_same(&self, other: &Self) -> bool
-        ensures { IsTrue result ↔ (self.now ≡ other.now) };
-}
-
-/// Whether two lists have the same values in the same order.
-pub fn are_same<T: Same>(these: &[T], those: &[T]) -> bool
-    ensures { IsTrue result ↔ (these.now ≡ those.now) }
-{
-    if these.len() != those.len() {
-        return false;
-    }
-    for (i, this) in these.iter().enumerate() {
-        if !this.is_same(&those[i]) {
-            return false;
-        }
-    }
-    true
-}
-
-impl Same for Text {
-    fn is_same(&self, other: &Text) -> bool {
-        self == other
-    }
-}
 
 /// Whether the line is this arrival.
 fn is_arrival(

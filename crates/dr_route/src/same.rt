@@ -1,0 +1,74 @@
+//! Whether two values are the same, part by part.
+use crate::accept::{AcceptRow, Callers};
+use crate::cell::{Literals, StationValues};
+use crate::rule::{Pattern, Rule, StationPattern};
+use dr_base::same::{Same, are_same};
+
+impl Same for Pattern {
+    fn is_same(&self, other: &Pattern) -> bool {
+        match (self, other) {
+            (Pattern::Any, Pattern::Any) => true,
+            (Pattern::Literal(one), Pattern::Literal(two)) => one.is_same(two),
+            _ => false,
+        }
+    }
+}
+
+impl Same for StationPattern {
+    fn is_same(&self, other: &StationPattern) -> bool {
+        match (self, other) {
+            (StationPattern::Any, StationPattern::Any) => true,
+            (StationPattern::Literal(one), StationPattern::Literal(two)) => one.is_same(two),
+            (StationPattern::Prefix(one), StationPattern::Prefix(two)) => one.is_same(two),
+            _ => false,
+        }
+    }
+}
+
+impl Same for StationValues {
+    fn is_same(&self, other: &StationValues) -> bool {
+        are_same(self.literals.as_slice(), other.literals.as_slice())
+            && are_same(self.prefixes.as_slice(), other.prefixes.as_slice())
+    }
+}
+
+impl Same for Callers {
+    fn is_same(&self, other: &Callers) -> bool {
+        match (self, other) {
+            (Callers::Any, Callers::Any) => true,
+            (Callers::Listed(one), Callers::Listed(two)) => are_same(
+                one.as_slice(),
+                two.as_slice(),
+            ),
+            _ => false,
+        }
+    }
+}
+
+impl Same for Rule {
+    fn is_same(&self, other: &Rule) -> bool {
+        self.keep == other.keep
+            && self.from.is_same(&other.from)
+            && self.class.is_same(&other.class)
+            && self.modality.is_same(&other.modality)
+            && self.station.is_same(&other.station)
+            && are_same(self.to.as_slice(), other.to.as_slice())
+    }
+}
+
+impl Same for AcceptRow {
+    fn is_same(&self, other: &AcceptRow) -> bool {
+        self.from.is_same(&other.from)
+            && self.class.is_same(&other.class)
+            && are_same(self.syntaxes.as_slice(), other.syntaxes.as_slice())
+    }
+}
+
+impl Same for Literals {
+    fn is_same(&self, other: &Literals) -> bool {
+        are_same(
+            self.modalities.literals.as_slice(),
+            other.modalities.literals.as_slice(),
+        ) && self.stations.is_same(&other.stations)
+    }
+}
