@@ -2,8 +2,9 @@
 """Looks at the rooms of crates.txt: `tests/rooms.py`.
 
 Each crate is in the section of its room, behind those of the room that it stands on; no arrow goes up to a later room;
-each folder of crates/ has its line; the picture in docs/ is that of crates.txt; and docs/ARCHITECTURE.md has the table
-of `tools/rename --table`, whose old names are no crates, and whose new ones are there.
+each folder of crates/ has its line, and each library of a line is named by the crate; the picture in docs/ is that of
+crates.txt; and docs/ARCHITECTURE.md has the table of `tools/rename --table`, whose old names are no crates, and whose
+new ones are there.
 """
 import os
 import re
@@ -14,7 +15,7 @@ TOP = os.path.dirname(os.path.dirname(os.path.abspath(__file__)))
 sys.dont_write_bytecode = True
 sys.path.insert(0, f"{TOP}/tools")
 import picture
-from crates import listed
+from crates import listed, sources_of
 
 # Crates whose names don't have their room's stem, with their rooms: the names are those of the program and of the field.
 OTHER_NAMES = {
@@ -37,6 +38,15 @@ def old_names():
             yield f"tools/rename --table has {old}, which is {new} now"
 
 
+def unnamed(crate):
+    """The libraries of a crate's line that it doesn't name."""
+    text = ""
+    for path in sources_of(crate):
+        with open(path, encoding="utf-8") as file:
+            text += file.read()
+    return [it for part in listed()[crate] for it in part if not re.search(rf"\b{it}\b", text)]
+
+
 def faults():
     """What isn't as it is to be, a line each."""
     places, names = picture.room_of(), [name for name, _, _ in picture.rooms()]
@@ -45,6 +55,7 @@ def faults():
         own = OTHER_NAMES.get(crate)
         if names[places[crate]] != own and not (own is None and f"{crate}_".startswith(f"dr_{names[places[crate]]}_")):
             yield f"{crate} is in the room {names[places[crate]]}"
+        yield from (f"{crate} has {library} in its line, and doesn't name it" for library in unnamed(crate))
         for library in listed()[crate][0]:
             if places[library] > places[crate]:
                 yield f"{crate} stands on {library}, of a later room"
