@@ -7,7 +7,7 @@ use dr_route::OwnedCell;
 
 /// What changes for the keys of a cell that enter at a node: the nodes that kept them and don't any
 /// more, and those that keep them and didn't, each in byte order.
-#[derive(Debug, Drop)]
+#[derive(Drop)]
 pub struct RouteChange {
     pub site: Text,
     pub cell: OwnedCell,

@@ -3,14 +3,14 @@ use dr_base::Text;
 use dr_route::Key;
 
 /// A key, and the node where it enters.
-#[derive(Debug, Drop)]
+#[derive(Drop)]
 pub struct Case {
     pub site: Text,
     pub key: Key,
 }
 
 /// What a row lacks.
-#[derive(Debug, Drop)]
+#[derive(Drop)]
 pub enum Lack {
     /// No key of which it speaks enters anywhere.
     Nothing,
@@ -21,7 +21,7 @@ pub enum Lack {
 }
 
 /// A row that doesn't hold.
-#[derive(Debug, Drop)]
+#[derive(Drop)]
 pub struct Miss {
     /// The row's number; rows count from 1.
     pub row: usize,

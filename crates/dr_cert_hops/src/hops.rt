@@ -16,7 +16,7 @@ use std::collections::{BTreeMap, BTreeSet};
 pub const MOST_CONTEXTS: u8 = 128;
 
 /// The hops of a plan, or the first that has too many pairs.
-#[derive(Debug, Drop)]
+#[derive(Drop)]
 pub enum Numbered {
     Hops(Vec<Hop>),
     TooMany { from: Text, to: Text },
@@ -32,7 +32,7 @@ pub struct Passage {
 }
 
 /// The two ends of a hop.
-#[derive(Clone, PartialEq, Eq, PartialOrd, Ord, Debug, Drop)]
+#[derive(Clone, PartialEq, Eq, PartialOrd, Ord, Drop)]
 pub struct Ends {
     pub from: Text,
     pub to: Text,

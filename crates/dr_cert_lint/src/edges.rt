@@ -7,7 +7,7 @@ use dr_plan_sound::Hop;
 use std::alloc::{AllocError, Global};
 
 /// A hop, and how many presentation contexts it has.
-#[derive(Debug, Drop)]
+#[derive(Drop)]
 pub struct Edge {
     pub from: Text,
     pub to: Text,

@@ -20,7 +20,7 @@ use std::collections::BTreeSet;
 use std::slice;
 
 /// To which nodes an instance comes.
-#[derive(Debug, Drop)]
+#[derive(Drop)]
 pub struct Reach {
     /// The titles of all nodes to which it comes, with that of where it enters, in byte order.
     pub nodes: Seq<Text>,

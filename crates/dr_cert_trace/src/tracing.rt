@@ -18,7 +18,7 @@ use dr_route::names::names_in_order;
 use std::alloc::{AllocError, Global};
 
 /// Where an instance goes.
-#[derive(Debug, Drop)]
+#[derive(Drop)]
 pub struct Journey {
     /// How many hops it makes at most.
     pub rank: u32,

@@ -16,7 +16,7 @@ use std::io;
 use std::io::{Read, Write};
 
 /// Why a plan has no certificate.
-#[derive(Debug, Drop)]
+#[derive(Drop)]
 pub enum Refusal {
     /// The plan isn't sound, and this shows it.
     Unsound(Fault),

@@ -8,7 +8,7 @@ use dr_plan_places::first::{Look, first};
 use dr_route::{AcceptRow, Callers};
 
 /// What makes a node accept a class in a transfer syntax from a caller; indices count from 0.
-#[derive(Clone, Copy, Debug, PartialEq, Eq)]
+#[derive(Clone, Copy, PartialEq, Eq)]
 pub enum Remedy {
     /// The transfer syntax is added to this accept row.
     AddSyntax(usize),

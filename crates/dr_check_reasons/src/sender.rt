@@ -11,7 +11,7 @@ use dr_plan_places::first::{Look, first};
 use dr_route::{Key, Rule, holds, is_local};
 
 /// By what a node sends a key on; indices count from 0.
-#[derive(Clone, Copy, Debug, PartialEq, Eq)]
+#[derive(Clone, Copy, PartialEq, Eq)]
 pub enum Sender {
     /// By a flow of the plan.
     Flow(usize),

@@ -5,7 +5,7 @@ use std::alloc::{AllocError, AllocFailed};
 use thiserror::Error;
 
 /// A line of a journal: an accepted call, with the instance that an arrival was of.
-#[derive(Debug, Drop)]
+#[derive(Drop)]
 pub enum JournalLine {
     /// The first arrival of this instance from this caller, with the nodes that it went on to, in
     /// byte order, and whether it was kept.

@@ -4,7 +4,7 @@ use std::time::Clock;
 
 /// How many calls were made, how long all of them took together, and how long the longest did
 /// (microseconds).
-#[derive(Clone, Copy, PartialEq, Eq, Debug)]
+#[derive(Clone, Copy, PartialEq, Eq)]
 pub struct Timing {
     pub calls: u64,
     pub total: u64,

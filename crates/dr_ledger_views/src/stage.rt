@@ -41,7 +41,7 @@ impl Stage {
 
 /// How many rows to a destination are at which stage, and from which moment on (milliseconds) the
 /// first that waits is due.
-#[derive(Clone, Copy, PartialEq, Eq, Debug)]
+#[derive(Clone, Copy, PartialEq, Eq)]
 pub struct HopTally {
     pub waiting: u64,
     pub held: u64,

@@ -5,7 +5,7 @@ use dr_route::{Callers, Pattern, StationPattern};
 
 /// A name that the plan defines, and the words that it stands for: of a set classes, of a group
 /// nodes.
-#[derive(Debug, Drop)]
+#[derive(Drop)]
 pub struct Definition {
     pub name: Text,
     pub words: Seq<Text>,
@@ -13,7 +13,7 @@ pub struct Definition {
 
 /// A row of a node's accept list: its callers may be groups, and its classes are any words. There
 /// is one class or more, and one syntax or more, none twice.
-#[derive(Debug, Drop)]
+#[derive(Drop)]
 pub struct ShortRow {
     pub from: Callers,
     pub classes: Seq<Text>,
@@ -22,7 +22,7 @@ pub struct ShortRow {
 
 /// A rule: its callers, classes and targets are any words, and modality and station have their
 /// forms.
-#[derive(Debug, Drop)]
+#[derive(Drop)]
 pub struct ShortRule {
     pub from: Values,
     pub classes: Values,
@@ -34,7 +34,7 @@ pub struct ShortRule {
 
 /// A node: its name doesn't begin with `@`, its address has its form, and `max_pdu` (bytes) is any
 /// integer.
-#[derive(Debug, Drop)]
+#[derive(Drop)]
 pub struct ShortNode {
     pub name: Text,
     pub address: Text,
@@ -45,7 +45,7 @@ pub struct ShortNode {
 
 /// A flow: its nodes, classes and transfer syntaxes are any words, one or more of each, and
 /// modalities and stations have their forms.
-#[derive(Debug, Drop)]
+#[derive(Drop)]
 pub struct ShortFlow {
     pub at: Seq<Text>,
     pub to: Seq<Text>,
@@ -57,7 +57,7 @@ pub struct ShortFlow {
 
 /// The sets, groups, nodes and flows of a text of format 3, in its order; the sets and the groups
 /// each in the order of their names.
-#[derive(Debug, Drop)]
+#[derive(Drop)]
 pub struct ShortPlan {
     pub sets: Seq<Definition>,
     pub groups: Seq<Definition>,

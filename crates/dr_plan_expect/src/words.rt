@@ -4,7 +4,7 @@ use dr_route::{Pattern, StationPattern};
 
 /// One row of what is expected: of which instances it speaks, which nodes have to keep each of
 /// them, and to which nodes none of them may come.
-#[derive(Debug, Drop)]
+#[derive(Drop)]
 pub struct Expectation {
     /// The node where they enter.
     pub at: Pattern,

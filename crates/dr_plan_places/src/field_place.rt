@@ -16,7 +16,7 @@ use std::alloc::{AllocError, Global};
 use toml::Table;
 
 /// A part of a node; indices count from 0.
-#[derive(Clone, Copy, PartialEq, Eq, Debug)]
+#[derive(Clone, Copy, PartialEq, Eq)]
 pub enum NodePart {
     /// Its own table.
     Own,
@@ -27,7 +27,7 @@ pub enum NodePart {
 }
 
 /// A table of a plan's text; indices count from 0.
-#[derive(Clone, Copy, PartialEq, Eq, Debug)]
+#[derive(Clone, Copy, PartialEq, Eq)]
 pub enum FieldPlace {
     /// That of the whole text.
     Root,

@@ -12,7 +12,7 @@ use std::alloc::{AllocError, Global};
 use toml::Table;
 
 /// What is wrong with a field.
-#[derive(Clone, Copy, PartialEq, Eq, Debug)]
+#[derive(Clone, Copy, PartialEq, Eq)]
 pub enum Wrong {
     /// It has to stand there.
     Missing,
@@ -23,7 +23,7 @@ pub enum Wrong {
 }
 
 /// The key of a field, and what is wrong with it.
-#[derive(Debug, Drop)]
+#[derive(Drop)]
 pub struct Flaw {
     pub key: Text,
     pub wrong: Wrong,

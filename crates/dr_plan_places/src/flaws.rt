@@ -8,7 +8,7 @@ use crate::first::{Look, first};
 use dr_plan_text::forms::is_trimmed;
 
 /// Why a text isn't a name: the first of these that it shows.
-#[derive(Clone, Copy, Debug, PartialEq, Eq)]
+#[derive(Clone, Copy, PartialEq, Eq)]
 pub enum NameFlaw {
     /// It has no byte.
     Empty,

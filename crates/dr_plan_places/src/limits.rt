@@ -7,7 +7,7 @@ use crate::first::{Look, first};
 use dr_plan_text::{NodeText, PlanText};
 
 /// Which limit a plan doesn't keep.
-#[derive(Clone, Copy, Debug, PartialEq, Eq)]
+#[derive(Clone, Copy, PartialEq, Eq)]
 pub enum LimitPlace {
     /// It has more than 64 nodes.
     Nodes,

@@ -11,7 +11,7 @@ use dr_plan_text::{AcceptText, FlowText, NodeText, PlanText};
 use dr_route::{Callers, Pattern, Rule};
 
 /// Which name of a rule; all indices count from 0.
-#[derive(Clone, Copy, Debug, PartialEq, Eq)]
+#[derive(Clone, Copy, PartialEq, Eq)]
 pub enum RuleName {
     /// Its caller, `from`.
     From,
@@ -20,7 +20,7 @@ pub enum RuleName {
 }
 
 /// Which name of a node.
-#[derive(Clone, Copy, Debug, PartialEq, Eq)]
+#[derive(Clone, Copy, PartialEq, Eq)]
 pub enum NodeName {
     /// Its own.
     Own,
@@ -31,7 +31,7 @@ pub enum NodeName {
 }
 
 /// Which name of a flow.
-#[derive(Clone, Copy, Debug, PartialEq, Eq)]
+#[derive(Clone, Copy, PartialEq, Eq)]
 pub enum FlowName {
     /// Where it is.
     At,
@@ -40,7 +40,7 @@ pub enum FlowName {
 }
 
 /// Where a name stands in a plan.
-#[derive(Clone, Copy, Debug, PartialEq, Eq)]
+#[derive(Clone, Copy, PartialEq, Eq)]
 pub enum NamePlace {
     /// In a node.
     Node(usize, NodeName),

@@ -10,7 +10,7 @@ use dr_plan_text::{FlowText, NodeText, PlanText};
 use dr_route::Rule;
 
 /// What goes to its own node; all indices count from 0.
-#[derive(Clone, Copy, Debug, PartialEq, Eq)]
+#[derive(Clone, Copy, PartialEq, Eq)]
 pub enum OwnPlace {
     /// Of a node, a rule, by one of its targets.
     Rule(usize, usize, usize),

@@ -17,7 +17,7 @@ use dr_plan::PlanFault;
 use dr_plan_text::PlanText;
 
 /// Where a fault stands in a plan; all indices count from 0.
-#[derive(Clone, Copy, Debug, PartialEq, Eq)]
+#[derive(Clone, Copy, PartialEq, Eq)]
 pub enum Place {
     /// A transfer syntax that isn't routed.
     Syntax(SyntaxPlace),

@@ -20,7 +20,7 @@ use dr_route::Callers;
 use std::alloc::{AllocError, Global};
 
 /// A field whose values are words.
-#[derive(Clone, Copy, PartialEq, Eq, Debug)]
+#[derive(Clone, Copy, PartialEq, Eq)]
 pub enum WordKey {
     /// `from`.
     From,
@@ -33,7 +33,7 @@ pub enum WordKey {
 }
 
 /// A word that stands for nothing, and the field where it stands.
-#[derive(Debug, Drop)]
+#[derive(Drop)]
 pub struct Stranger {
     pub key: WordKey,
     pub word: Text,

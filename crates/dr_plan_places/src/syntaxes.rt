@@ -9,7 +9,7 @@ use dr_base::{Syntax, Text};
 use dr_plan_text::{AcceptText, FlowText, NodeText, PlanText};
 
 /// Where a transfer syntax stands in a plan; all indices count from 0.
-#[derive(Clone, Copy, Debug, PartialEq, Eq)]
+#[derive(Clone, Copy, PartialEq, Eq)]
 pub enum SyntaxPlace {
     /// In a node, an accept row, one of its syntaxes.
     Row(usize, usize, usize),

@@ -11,7 +11,7 @@ use std::alloc::AllocError;
 /// where the system didn't tell it), the number of its session, since when it is open
 /// (milliseconds), and how many instances came over it that are new, were there already, or were
 /// refused.
-#[derive(Debug, Drop)]
+#[derive(Drop)]
 pub struct OpenAssociation {
     pub caller: Text,
     pub address: Text,

@@ -11,7 +11,7 @@ use std::alloc::AllocError;
 
 /// What a caller has brought since the node serves: how many instances that were new, were there
 /// already, or were refused, and how many bytes the data sets of the new ones have.
-#[derive(Debug, Drop)]
+#[derive(Drop)]
 pub struct Brought {
     pub caller: Text,
     pub stored: u64,
@@ -22,7 +22,7 @@ pub struct Brought {
 
 /// What came within the last hour from a caller, of a modality (0008,0060): how many instances were
 /// taken, and how many refused.
-#[derive(Debug, Drop)]
+#[derive(Drop)]
 pub struct Recent {
     pub caller: Text,
     pub modality: Text,

@@ -12,7 +12,7 @@ use std::alloc::AllocError;
 
 /// Which node it is: its name, the digest of its plan in lower-case hexadecimal digits, the version
 /// of its program, and since when it serves (milliseconds).
-#[derive(Clone, Copy, Debug, Drop)]
+#[derive(Clone, Copy, Drop)]
 pub struct Identity<'a> {
     pub name: &'a Text,
     pub plan: &'a str,
@@ -22,7 +22,7 @@ pub struct Identity<'a> {
 
 /// How much a node has: accepted arrivals, kept instances, lines of the journal, and how often the
 /// store has failed.
-#[derive(Clone, Copy, PartialEq, Eq, Debug)]
+#[derive(Clone, Copy, PartialEq, Eq)]
 pub struct Counts {
     pub arrivals: u64,
     pub kept: u64,
@@ -31,14 +31,14 @@ pub struct Counts {
 }
 
 /// A visit to a node: when it ended (milliseconds), and what it came to, in a word.
-#[derive(Clone, Copy, Debug)]
+#[derive(Clone, Copy)]
 pub struct Visited {
     pub at: u64,
     pub came: &'static str,
 }
 
 /// How many visits to a node ended in each way, since this one serves.
-#[derive(Clone, Copy, PartialEq, Eq, Debug)]
+#[derive(Clone, Copy, PartialEq, Eq)]
 pub struct Visits {
     pub released: u64,
     pub rejected: u64,
@@ -50,7 +50,7 @@ pub struct Visits {
 
 /// How many rows to a node wait, are held and are done, from which moment on the first one that
 /// waits is due (milliseconds), the last visit to it, if it is known, and how its visits ended.
-#[derive(Debug, Drop)]
+#[derive(Drop)]
 pub struct Queue<'a> {
     pub dest: &'a Text,
     pub waiting: u64,

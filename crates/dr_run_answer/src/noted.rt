@@ -12,14 +12,14 @@ use dr_ledger::{Arrived, LedgerFault};
 use std::alloc::{AllocError, Global};
 
 /// What came within a minute (since 1970) from a caller, of a modality.
-#[derive(Debug, Drop)]
+#[derive(Drop)]
 pub struct Minute {
     pub minute: u64,
     pub recent: Recent,
 }
 
 /// By how much an instance raises the figures of its caller.
-#[derive(Clone, Copy, Debug)]
+#[derive(Clone, Copy)]
 struct CallerShare {
     stored: u64,
     again: u64,

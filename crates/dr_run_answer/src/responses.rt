@@ -14,7 +14,7 @@ use std::alloc::{AllocError, Global};
 
 /// How many responses of a status a caller was sent; None stands for all statuses that have no line
 /// of their own.
-#[derive(Debug, Drop)]
+#[derive(Drop)]
 pub struct ResponseCount {
     pub caller: Text,
     pub status: Option<u16>,

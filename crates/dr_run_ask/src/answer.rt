@@ -24,7 +24,7 @@ const PIECES: usize = MOST + 1;
 const FIELDS: usize = 32;
 
 /// An answer: its status, and its body.
-#[derive(Debug, Drop)]
+#[derive(Drop)]
 pub struct HttpAnswer {
     pub status: u16,
     pub body: Vec<u8>,

@@ -8,7 +8,7 @@ use std::alloc::{AllocError, Global};
 
 /// What a node that runs is asked, and what it is told, each with its form
 /// (application/x-www-form-urlencoded).
-#[derive(Clone, Copy, Debug, Drop)]
+#[derive(Clone, Copy, Drop)]
 pub enum HttpCall<'a> {
     /// What it is, and how much it has.
     Status,

@@ -31,7 +31,7 @@ use std::sync::Wait;
 /// What goes on around the desk: associations that are open, what each caller has brought since the
 /// node serves, what came within the last hour, which responses each caller was sent, and for how
 /// long the ledger was locked.
-#[derive(Debug, Drop)]
+#[derive(Drop)]
 pub struct Around {
     pub associations: Vec<OpenAssociation>,
     pub brought: Vec<Brought>,

@@ -198,7 +198,7 @@ pub(crate) fn reply_with(
 }
 
 /// The program of a node: its version, and since when it serves (milliseconds).
-#[derive(Clone, Copy, Debug, Drop)]
+#[derive(Clone, Copy, Drop)]
 pub(crate) struct ServingSince<'a> {
     pub version: &'a str,
     pub since: u64,

@@ -17,7 +17,7 @@ use http_server::Response;
 use std::alloc::{AllocError, Global};
 
 /// What the text of a reply is.
-#[derive(Clone, Copy, PartialEq, Eq, Debug)]
+#[derive(Clone, Copy, PartialEq, Eq)]
 pub(crate) enum Media {
     /// Lines of JSON.
     Lines,
@@ -30,7 +30,7 @@ pub(crate) enum Media {
 }
 
 /// A reply: its status, and its text, of which it is said what it is.
-#[derive(Debug, Drop)]
+#[derive(Drop)]
 pub(crate) struct HttpReply {
     pub status: StatusCode,
     pub text: Vec<u8>,

@@ -5,7 +5,7 @@ use std::sync::atomic::{AtomicBool, Ordering};
 
 /// Limits of a link, in milliseconds: for a connect; for the system to take a PDU that is written;
 /// for 64 kB of a message that has begun, or its end; and for silence between two messages.
-#[derive(Clone, Copy, PartialEq, Eq, Debug)]
+#[derive(Clone, Copy, PartialEq, Eq)]
 pub struct Limits {
     pub connect: u64,
     pub write: u64,

@@ -11,7 +11,7 @@ use std::io::Write;
 const MOST_CALLS: u64 = 1 << 40;
 
 /// The PDU that is being written: where it ends among the bytes, and since when it is written.
-#[derive(Clone, Copy, PartialEq, Eq, Debug)]
+#[derive(Clone, Copy, PartialEq, Eq)]
 struct Current {
     end: usize,
     since: u64,

@@ -10,7 +10,7 @@ use dr_run_answer::Visited;
 use std::alloc::AllocError;
 
 /// A piece of a document.
-#[derive(Clone, Copy, Debug)]
+#[derive(Clone, Copy)]
 pub(crate) enum Piece<'a> {
     /// Markup of this crate.
     Markup(&'a str),

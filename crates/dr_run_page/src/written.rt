@@ -23,7 +23,7 @@ const STYLE: &str =
 
 /// What is shown of a node beside its rows: since when it has served, and the moment now
 /// (milliseconds), how much it has, and the key that the forms of this run have, if there are any.
-#[derive(Debug, Drop)]
+#[derive(Drop)]
 pub struct NodeShown<'a> {
     pub name: &'a Text,
     pub since: u64,

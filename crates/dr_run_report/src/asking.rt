@@ -17,7 +17,7 @@ pub trait Paths {
 }
 
 /// The paths of a node's own files.
-#[derive(Clone, Copy, Debug, Drop)]
+#[derive(Clone, Copy, Drop)]
 pub struct OwnPaths<'a> {
     pub plan: &'a str,
     pub certificate: &'a str,

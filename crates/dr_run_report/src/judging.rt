@@ -9,14 +9,14 @@ use thiserror::Error;
 
 /// What tells a file from all others of the machine: its device, and its number there. A hard link
 /// has the same one.
-#[derive(PartialEq, Eq, Debug, Drop)]
+#[derive(PartialEq, Eq, Drop)]
 pub struct FileId {
     pub device: u64,
     pub inode: u64,
 }
 
 /// What a path leads to.
-#[derive(PartialEq, Eq, Debug, Drop)]
+#[derive(PartialEq, Eq, Drop)]
 pub enum PathTarget {
     /// No file.
     Nothing,
@@ -27,14 +27,14 @@ pub enum PathTarget {
 }
 
 /// A name in a folder, whose own path has no link and no dots in it: no folder has two of them.
-#[derive(Debug, Drop)]
+#[derive(Drop)]
 pub struct Spot {
     pub folder: Text,
     pub name: Text,
 }
 
 /// Where a path stands, and what it leads to.
-#[derive(Debug, Drop)]
+#[derive(Drop)]
 pub struct ReportPlace {
     pub spot: Spot,
     pub found: PathTarget,

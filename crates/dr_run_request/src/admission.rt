@@ -15,7 +15,7 @@ use dr_base::{Seq, Text};
 use http::Request;
 
 /// Who may ask: by which names the node is called, and by which token an act is allowed.
-#[derive(Debug, Drop)]
+#[derive(Drop)]
 pub struct Access {
     /// What a request may name as its host.
     pub hosts: Seq<Text>,

@@ -8,7 +8,7 @@ use std::alloc::{AllocError, Global};
 
 /// What a browser gives: the credentials of the token, and the key that the forms of this run's
 /// page have.
-#[derive(Debug, Drop)]
+#[derive(Drop)]
 pub struct Browser {
     pub credentials: Text,
     pub key: Text,

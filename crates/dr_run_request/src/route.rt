@@ -5,7 +5,7 @@ ghost use Rattle.dr_run_request.specs.declared.route.Route.{Route as RouteValue}
 ghost use Rattle.dr_run_request.specs.declared.route.Route.TheVariants as RouteValues;
 
 /// What may be asked of a running node: six things to read, and five acts.
-#[derive(Clone, Copy, PartialEq, Eq, Debug)]
+#[derive(Clone, Copy, PartialEq, Eq)]
 pub enum Route {
     /// The page for people.
     Page,

@@ -38,7 +38,7 @@ pub struct Wanted {
 }
 
 /// Why a form says nothing that is understood.
-#[derive(Clone, Copy, PartialEq, Eq, Debug)]
+#[derive(Clone, Copy, PartialEq, Eq)]
 pub enum FormFault {
     /// A field is lacking, or says what none may.
     Field,

@@ -10,7 +10,7 @@ use std::sync::{Mutex, Wait};
 const MINUTE: u64 = 60_000;
 
 /// What each caller has brought since the node serves, and what came lately, by minutes.
-#[derive(Debug, Drop)]
+#[derive(Drop)]
 struct Noted {
     callers: Vec<Brought>,
     minutes: Vec<Minute>,
@@ -18,7 +18,7 @@ struct Noted {
 
 /// An association that is open: the number of its session, who asked for it, and which responses
 /// were sent over it.
-#[derive(Debug, Drop)]
+#[derive(Drop)]
 struct Answering {
     session: u64,
     caller: Text,
@@ -27,7 +27,7 @@ struct Answering {
 
 /// Which responses each caller was sent since the node serves, and those of the associations that
 /// are open.
-#[derive(Debug, Drop)]
+#[derive(Drop)]
 struct Responded {
     callers: Vec<ResponseCount>,
     open: Vec<Answering>,

@@ -22,7 +22,7 @@ const MINUTE: u64 = 60_000;
 
 /// How many lines the journal had when the node was told of last, if it was; and from which moment
 /// on it may be told of again.
-#[derive(Clone, Copy, PartialEq, Eq, Debug)]
+#[derive(Clone, Copy, PartialEq, Eq)]
 struct Telling {
     lines: Option<u64>,
     next: u64,
@@ -44,7 +44,7 @@ impl Telling {
 }
 
 /// When the node was told of last, by reports and by summaries.
-#[derive(Clone, Copy, PartialEq, Eq, Debug)]
+#[derive(Clone, Copy, PartialEq, Eq)]
 pub struct LastTold {
     report: Telling,
     summary: Telling,

@@ -15,7 +15,7 @@ use std::sync::Wait;
 const LEFT: u64 = 10_000;
 
 /// How far the orderly end of a node is.
-#[derive(Clone, Copy, PartialEq, Eq, Debug)]
+#[derive(Clone, Copy, PartialEq, Eq)]
 pub enum EndStage {
     Serving,
     /// Nothing is begun since that moment.

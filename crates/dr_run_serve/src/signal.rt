@@ -15,7 +15,7 @@ use std::time::{Clock, Duration};
 pub const BEGIN: u64 = 60_000;
 
 /// How far the node is.
-#[derive(Clone, Copy, PartialEq, Eq, Debug)]
+#[derive(Clone, Copy, PartialEq, Eq)]
 pub struct News {
     /// How many of the threads that send have begun.
     pub senders: usize,
@@ -34,7 +34,7 @@ pub struct News {
 const QUIET: u64 = 600_000;
 
 /// What the one who sends to a hop is woken by.
-#[derive(Clone, Copy, PartialEq, Eq, Debug)]
+#[derive(Clone, Copy, PartialEq, Eq)]
 pub struct WakeUp {
     /// A row may have been made.
     pub rows: bool,
@@ -45,7 +45,7 @@ pub struct WakeUp {
 }
 
 /// What is known of the visits to a hop.
-#[derive(Clone, Copy, Debug)]
+#[derive(Clone, Copy)]
 struct KnownVisits {
     /// When its sender looked last whether it is to be visited (milliseconds); 0 for never.
     looked: u64,

@@ -45,7 +45,7 @@ impl StopSign {
 }
 
 /// Where a node may be asked what it has, and told to act.
-#[derive(Clone, Copy, Debug, Drop)]
+#[derive(Clone, Copy, Drop)]
 pub struct ControlPlace<'a> {
     /// The address, as `host:port`.
     pub at: &'a str,

@@ -15,7 +15,7 @@ const BACKSLASH: u8 = 92;
 const MOST: usize = 128;
 
 /// Bytes that another node sent, or that a person gave, as a line shows them, also between quotes.
-#[derive(Clone, Copy, Debug, Drop)]
+#[derive(Clone, Copy, Drop)]
 pub struct Escaped<'a>(pub &'a [u8]);
 
 /// Whether a byte is shown as it stands.

@@ -16,7 +16,7 @@ use sqlite_schema::schema::{Index, Schema, Table};
 /// What a ledger's file from before lacks, besides the instances in its journal and the index of
 /// arrivals by their uids, which each lacks: the table of prints, that of targets, or the index of
 /// the rows that are due.
-#[derive(Clone, Copy, PartialEq, Eq, Debug)]
+#[derive(Clone, Copy, PartialEq, Eq)]
 pub struct Lacks {
     pub print: bool,
     pub target: bool,

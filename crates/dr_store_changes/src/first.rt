@@ -15,7 +15,7 @@ use dr_store_writes::add_arrived;
 use sqlite::{Alter, Error, Transaction};
 
 /// What a first arrival does with the instance and its data set.
-#[derive(Clone, Copy, PartialEq, Eq, Debug)]
+#[derive(Clone, Copy, PartialEq, Eq)]
 pub enum Taking {
     /// The instance wasn't there: it is stored with its data set.
     New,

@@ -6,7 +6,7 @@ use dr_run_open::Halt;
 use std::alloc::AllocError;
 
 /// What a change of the plan at all nodes comes to.
-#[derive(Debug, Drop)]
+#[derive(Drop)]
 pub enum Changeover {
     /// All ledgers are of the next plan.
     Made,
@@ -16,7 +16,7 @@ pub enum Changeover {
 }
 
 /// A row with which the next plan doesn't go on: at which node, of which instance, and where to.
-#[derive(Debug, Drop)]
+#[derive(Drop)]
 pub struct UnfitRow {
     pub node: Text,
     pub uid: Text,

@@ -2,7 +2,7 @@
 use dr_base::Text;
 
 /// What an audit comes to, as it is printed.
-#[derive(Debug, Drop)]
+#[derive(Drop)]
 pub enum Audited {
     /// All holds: how much each node has.
     Holds(Text),

@@ -16,7 +16,7 @@ use dr_run_open::RowStage;
 use dr_world_audit::replay::count_past;
 
 /// Of which lines there may be how many.
-#[derive(Clone, Copy, Debug)]
+#[derive(Clone, Copy)]
 pub enum LineKind {
     /// First arrivals.
     First,
@@ -29,7 +29,7 @@ pub enum LineKind {
 /// How much a node has: first arrivals under the plan in force, kept instances, rows that wait and
 /// rows that are held; and under the plan in force rows that were given up, and successes of nodes
 /// that aren't ours.
-#[derive(Clone, Copy, Debug, Drop)]
+#[derive(Clone, Copy, Drop)]
 pub struct Figures {
     pub arrivals: usize,
     pub kept: usize,

@@ -17,7 +17,7 @@ use std::io::Write;
 
 /// What names two nodes of which one asks the other for an echo: the path of their plan's text, the
 /// name of the node that asks, and that of the node that is asked.
-#[derive(Clone, Copy, Debug, Drop)]
+#[derive(Clone, Copy, Drop)]
 pub struct EchoNodes<'a> {
     pub plan: &'a str,
     pub caller: &'a str,

@@ -14,7 +14,7 @@ use std::alloc::{AllocError, Global};
 use std::io;
 
 /// What comes of an echo from one node of a plan to another.
-#[derive(Debug, Drop)]
+#[derive(Drop)]
 pub enum EchoOutcome {
     /// How the association ended, with the status of the response, if one came.
     Answered(Echoed),

@@ -16,7 +16,7 @@ pub enum Role {
 }
 
 /// What devices of a modality usually send.
-#[derive(Clone, Copy, PartialEq, Eq, Debug)]
+#[derive(Clone, Copy, PartialEq, Eq)]
 pub enum Usual {
     Ct,
     Mr,
@@ -28,7 +28,7 @@ pub enum Usual {
 }
 
 /// A device of the table: its AE title, where it listens, what it is for, and what it sends.
-#[derive(Debug, Drop)]
+#[derive(Drop)]
 pub struct Device {
     pub name: Text,
     pub address: Text,

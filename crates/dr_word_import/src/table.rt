@@ -37,7 +37,7 @@ impl<T: Drop> From<AllocFailed<T>> for RowFault {
 }
 
 /// Where the columns stand.
-#[derive(Clone, Copy, Debug)]
+#[derive(Clone, Copy)]
 struct Columns {
     title: usize,
     host: usize,
@@ -47,7 +47,7 @@ struct Columns {
 }
 
 /// The devices of a table, and whether each of its rows is one.
-#[derive(Debug, Drop)]
+#[derive(Drop)]
 pub struct DeviceTable {
     pub devices: Vec<Device>,
     pub is_whole: bool,

@@ -46,7 +46,7 @@ pub enum Question<'a> {
 /// What names two plans and where the nodes' ledgers are: the paths of the plan in force, of its
 /// certificate, of the next plan, of that one's certificate, and of the folder that holds each
 /// node's ledger.
-#[derive(Clone, Copy, Debug, Drop)]
+#[derive(Clone, Copy, Drop)]
 pub struct PlanChange<'a> {
     pub plan: &'a str,
     pub certificate: &'a str,
@@ -57,7 +57,7 @@ pub struct PlanChange<'a> {
 
 /// What names a plan and where its nodes' ledgers are: the paths of the plan, of its certificate,
 /// and of the folder that holds each node's ledger.
-#[derive(Clone, Copy, Debug, Drop)]
+#[derive(Clone, Copy, Drop)]
 pub struct SiteFiles<'a> {
     pub plan: &'a str,
     pub certificate: &'a str,
@@ -65,7 +65,7 @@ pub struct SiteFiles<'a> {
 }
 
 /// Which events a node that serves logs.
-#[derive(Clone, Copy, PartialEq, Eq, Debug, Drop)]
+#[derive(Clone, Copy, PartialEq, Eq, Drop)]
 pub enum Verbosity {
     /// Those that need somebody's care alone.
     Errors,
@@ -77,7 +77,7 @@ pub enum Verbosity {
 
 /// How long a node that serves waits for its peers, in seconds: for a connect, for a caller's whole
 /// request, for a PDU to be taken, for 64 kB of a message or its end, and for the next message.
-#[derive(Clone, Copy, PartialEq, Eq, Debug, Drop)]
+#[derive(Clone, Copy, PartialEq, Eq, Drop)]
 pub struct Waits {
     pub connect: u32,
     pub request: u32,
@@ -105,7 +105,7 @@ pub(crate) const USUAL_MEMORY: u32 = 1024;
 pub(crate) const USUAL_DAYS: u32 = 30;
 
 /// Where a node that serves may be asked what it has, and told to act.
-#[derive(Clone, Copy, Debug, Drop)]
+#[derive(Clone, Copy, Drop)]
 pub struct Controlled<'a> {
     /// The address, as `host:port`.
     pub at: &'a str,
@@ -118,7 +118,7 @@ pub struct Controlled<'a> {
 }
 
 /// How a node is to serve.
-#[derive(Clone, Copy, Debug, Drop)]
+#[derive(Clone, Copy, Drop)]
 pub struct Serving<'a> {
     /// After how many associations it ends; for 0 never.
     pub links: u32,
@@ -168,7 +168,7 @@ pub enum Duty<'a> {
 /// What names a node that runs: the paths of its plan and of that one's certificate, its name, the
 /// address (`host:port`) at which it may be asked, and the path of the file with the token that an
 /// act needs, where one is given.
-#[derive(Clone, Copy, Debug, Drop)]
+#[derive(Clone, Copy, Drop)]
 pub struct RunningNode<'a> {
     pub plan: &'a str,
     pub certificate: &'a str,

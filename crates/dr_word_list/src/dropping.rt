@@ -18,7 +18,7 @@ const DROPPED: &[u8] = b"dropped\n";
 
 /// A row by its instance's UID and the node to which it goes, and the moment at which it is given
 /// up (milliseconds since 1970).
-#[derive(Clone, Copy, Debug, Drop)]
+#[derive(Clone, Copy, Drop)]
 pub struct GivenUp<'a> {
     pub uid: &'a str,
     pub dest: &'a str,

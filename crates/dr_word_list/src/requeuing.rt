@@ -17,7 +17,7 @@ use std::io::Write;
 const REQUEUED: &[u8] = b"requeued\n";
 
 /// A held row by its instance's UID and the node to which it goes.
-#[derive(Clone, Copy, Debug, Drop)]
+#[derive(Clone, Copy, Drop)]
 pub struct HeldRow<'a> {
     pub uid: &'a str,
     pub dest: &'a str,

@@ -18,7 +18,7 @@ use dr_word_adopt::{Halted, parts_of, path_of};
 use std::alloc::{AllocError, Global};
 
 /// What a look at a node's ledger shows.
-#[derive(Debug, Drop)]
+#[derive(Drop)]
 pub enum LedgerLook {
     /// There is no file.
     Nothing,
@@ -30,7 +30,7 @@ pub enum LedgerLook {
 }
 
 /// What a look shows of the node of that name.
-#[derive(Debug, Drop)]
+#[derive(Drop)]
 pub struct Looked {
     pub node: Text,
     pub look: LedgerLook,

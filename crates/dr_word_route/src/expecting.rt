@@ -18,7 +18,7 @@ use std::io;
 use std::io::Write;
 
 /// What is answered to a file of expectations.
-#[derive(Debug, Drop)]
+#[derive(Drop)]
 pub enum ExpectVerdict {
     /// All rows hold.
     Yes,

@@ -29,7 +29,7 @@ pub enum Unanswered {
 }
 
 /// What is answered to a question.
-#[derive(Debug, Drop)]
+#[derive(Drop)]
 pub enum Response {
     /// What was asked for.
     Printed(Text),

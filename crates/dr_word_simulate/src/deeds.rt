@@ -17,7 +17,7 @@ use std::io::ErrorKind;
 use std::{io, str};
 
 /// Why a line of a script can't be done.
-#[derive(Debug, Drop)]
+#[derive(Drop)]
 pub enum ActFault {
     /// A file has no sound plan, or the other one isn't its certificate.
     Unsealed,
@@ -28,7 +28,7 @@ pub enum ActFault {
 }
 
 /// Why a script isn't done, and the place in it of what can't be, counted from 0.
-#[derive(Debug, Drop)]
+#[derive(Drop)]
 pub struct ScriptStop {
     pub place: usize,
     pub fault: ActFault,

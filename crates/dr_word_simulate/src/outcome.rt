@@ -16,7 +16,7 @@ use std::alloc::Global;
 use std::io;
 
 /// What comes of a script, played in a world of a sealed plan's nodes.
-#[derive(Debug, Drop)]
+#[derive(Drop)]
 pub enum PlayOutcome {
     /// What came of the changes of plan that weren't made, and the report of all nodes after what
     /// the script tells.

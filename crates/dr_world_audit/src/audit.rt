@@ -25,14 +25,14 @@ use std::collections::BTreeSet;
 use thiserror::Error;
 
 /// The journal of one of ours: all its lines, in order.
-#[derive(Debug, Drop)]
+#[derive(Drop)]
 pub struct NodeJournal {
     pub name: Text,
     pub lines: Seq<JournalLine>,
 }
 
 /// What doesn't match.
-#[derive(Debug, Drop)]
+#[derive(Drop)]
 pub enum Mismatch {
     /// The node's lines are no history under the plan.
     NoHistory { node: Text },
@@ -47,7 +47,7 @@ pub enum Mismatch {
 }
 
 /// What an audit comes to.
-#[derive(Debug, Drop)]
+#[derive(Drop)]
 pub enum AuditVerdict {
     Holds,
     No(Mismatch),
@@ -155,7 +155,7 @@ fn first_unfair<'a>(ours: &BTreeSet<Text>, lines: &'a [JournalLine]) -> Option<&
 }
 
 /// Why the reading of all journals ends.
-#[derive(Debug, Drop)]
+#[derive(Drop)]
 enum AuditStop {
     No(Mismatch),
     Fault(AuditFault),

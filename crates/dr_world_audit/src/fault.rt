@@ -7,7 +7,7 @@ use dr_ledger_history::HistoryFault;
 use std::alloc::{AllocError, AllocFailed};
 
 /// Why a journal isn't read to its end.
-#[derive(Debug, Drop)]
+#[derive(Drop)]
 pub enum JournalFault {
     /// The lines are no history of the node.
     NoCall,

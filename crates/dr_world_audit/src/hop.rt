@@ -8,7 +8,7 @@ use dr_route::Key;
 use std::alloc::{AllocError, Global};
 
 /// An instance on its way from the one node to the other.
-#[derive(PartialEq, Eq, PartialOrd, Ord, Debug, Drop)]
+#[derive(PartialEq, Eq, PartialOrd, Ord, Drop)]
 pub struct AuditHop {
     pub from: Text,
     pub to: Text,
