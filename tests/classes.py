@@ -19,7 +19,7 @@ def rows_of(name):
     """The rows of a file of tables, each as a tuple of its texts."""
     with open(f"{SOURCES}/{name}.rt", encoding="utf-8") as file:
         text = file.read()
-    tables = re.findall(r"pub static \w+: \[\w+; \d+\] = \[\n(.*?)\n\];", text, re.S)
+    tables = re.findall(r"(?:pub )?static \w+: \[\w+; \d+\] = \[\n(.*?)\n\];", text, re.S)
     rows = re.findall(r"\(([^()]*)\)", "\n".join(re.sub(r'"[^"]*"', lambda m: m[0].replace("(", "\0").replace(")", "\1"), t) for t in tables))
     return [tuple(it.replace("\0", "(").replace("\1", ")") for it in re.findall(r'"([^"]*)"', row)) for row in rows]
 

@@ -13,7 +13,7 @@ use std::collections::{BTreeMap, BTreeSet};
 
 /// How many presentation contexts an association has at most: their ids are odd, 1 to 255 (PS3.8
 /// 7.1.1.13).
-pub const MOST_CONTEXTS: u8 = 128;
+const MOST_CONTEXTS: u8 = 128;
 
 /// The hops of a plan, or the first that has too many pairs.
 #[derive(Drop)]

@@ -7,11 +7,11 @@ mod fields;
 mod hops;
 pub mod laws;
 mod lines;
-pub mod order;
+mod order;
 mod printed;
-pub mod reader;
-pub mod sorted;
-pub mod writer;
+mod reader;
+mod sorted;
+mod writer;
 
 pub use fault::CertificateFault;
 pub use order::{order_hops, order_lines};

@@ -15,4 +15,3 @@ mod walking;
 
 pub use reaching::{Reach, reach_of};
 pub use routes::route_text;
-pub use tracing::{Journey, trace};

@@ -9,17 +9,17 @@
 //! ends the sharing where the plan is taken.
 #![tactic(auto)]
 
-pub mod adopting;
-pub mod changing;
-pub mod closing;
-pub mod desk;
+mod adopting;
+mod changing;
+mod closing;
+mod desk;
 mod held;
-pub mod holdings;
+mod holdings;
 pub mod laws;
-pub mod pass;
+mod pass;
 pub mod receipt;
-pub mod shared;
-pub mod sharing;
+mod shared;
+mod sharing;
 mod views;
 
 pub use adopting::AdoptFault;

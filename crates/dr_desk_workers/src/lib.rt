@@ -7,19 +7,19 @@
 //! gate is told the status (`said`).
 #![tactic(auto)]
 
-pub mod ahead;
+mod ahead;
 mod asked;
 mod bounds;
-pub mod connection;
+mod connection;
 mod counts;
-pub mod door;
-pub mod gate;
+mod door;
+mod gate;
 mod gated;
 pub mod laws;
 mod port;
-pub mod room;
+mod room;
 mod said;
-pub mod serving;
+mod serving;
 mod share;
 mod staff;
 

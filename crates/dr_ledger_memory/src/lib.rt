@@ -4,7 +4,7 @@
 mod bringing;
 mod held;
 mod holding;
-pub mod ledger;
+mod ledger;
 mod note;
 mod parts;
 mod table;

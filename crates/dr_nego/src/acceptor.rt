@@ -16,7 +16,7 @@ use dr_site::Site;
 use std::alloc::{AllocError, Global};
 
 /// The application context name of DICOM (PS3.7 A.2.1).
-pub const APPLICATION_CONTEXT: &[u8] = b"1.2.840.10008.3.1.1.1";
+pub(crate) const APPLICATION_CONTEXT: &[u8] = b"1.2.840.10008.3.1.1.1";
 
 /// How many associations a node has open at once.
 const MOST_ASSOCIATIONS: usize = 256;

@@ -2,13 +2,13 @@
 //! them: by node, class, transfer syntax, modality and station, each as it is printed.
 #![tactic(auto)]
 
-pub mod fields;
+mod fields;
 pub mod laws;
-pub mod narrow;
-pub mod rows;
-pub mod stations;
-pub mod sweep;
-pub mod visit;
+mod narrow;
+mod rows;
+mod stations;
+mod sweep;
+mod visit;
 
 pub use sweep::visit_entries;
 pub use visit::EntryVisitor;

@@ -365,7 +365,7 @@ pub fn spend_definitions(definitions: &[Definition], room: usize) -> Option<usiz
 }
 
 /// What a plan leaves of the room, with these tables; None where there isn't room for it.
-pub fn spend_plan(tables: Tables<'_>, short: &ShortPlan, room: usize) -> Option<usize>
+fn spend_plan(tables: Tables<'_>, short: &ShortPlan, room: usize) -> Option<usize>
     ensures { MatchOption result (room < plan_size (seen tables.entry) short.now)
         (λ left. plan_size (seen tables.entry) short.now + left ≡ room) }
 {

@@ -9,7 +9,7 @@ ghost use Rattle.dr_plan_expand.specs.Standard.{classes_4, classes_5};
 use crate::known::KnownUid;
 
 /// The storage classes, part 1 of 5.
-pub static CLASSES_1: [KnownUid; 33] = [
+static CLASSES_1: [KnownUid; 33] = [
     (
         "ComputedRadiographyImageStorage",
         "Computed Radiography Image Storage",
@@ -178,7 +178,7 @@ pub static CLASSES_1: [KnownUid; 33] = [
 ];
 
 /// The storage classes, part 2 of 5.
-pub static CLASSES_2: [KnownUid; 33] = [
+static CLASSES_2: [KnownUid; 33] = [
     (
         "RoutineScalpElectroencephalogramWaveformStorage",
         "Routine Scalp Electroencephalogram Waveform Storage",
@@ -347,7 +347,7 @@ pub static CLASSES_2: [KnownUid; 33] = [
 ];
 
 /// The storage classes, part 3 of 5.
-pub static CLASSES_3: [KnownUid; 33] = [
+static CLASSES_3: [KnownUid; 33] = [
     (
         "SegmentationStorage",
         "Segmentation Storage",
@@ -516,7 +516,7 @@ pub static CLASSES_3: [KnownUid; 33] = [
 ];
 
 /// The storage classes, part 4 of 5.
-pub static CLASSES_4: [KnownUid; 33] = [
+static CLASSES_4: [KnownUid; 33] = [
     (
         "OphthalmicThicknessMapStorage",
         "Ophthalmic Thickness Map Storage",
@@ -685,7 +685,7 @@ pub static CLASSES_4: [KnownUid; 33] = [
 ];
 
 /// The storage classes, part 5 of 5.
-pub static CLASSES_5: [KnownUid; 33] = [
+static CLASSES_5: [KnownUid; 33] = [
     (
         "CTPerformedProcedureProtocolStorage",
         "CT Performed Procedure Protocol Storage",

@@ -14,7 +14,7 @@ pub mod laws;
 pub mod meant;
 mod pieces;
 pub mod short;
-pub mod spell;
+mod spell;
 pub mod syntaxes;
 pub mod tables;
 pub mod usual;

@@ -7,7 +7,7 @@ ghost use Rattle.dr_plan_expand.specs.Standard.{syntaxes_1};
 use crate::known::KnownUid;
 
 /// The transfer syntaxes, part 1 of 1.
-pub static SYNTAXES_1: [KnownUid; 2] = [
+static SYNTAXES_1: [KnownUid; 2] = [
     (
         "ImplicitVRLittleEndian",
         "Implicit VR Little Endian",

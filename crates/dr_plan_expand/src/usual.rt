@@ -10,7 +10,7 @@ ghost use Rattle.dr_plan_expand.specs.Standard.{usual_sets_4, usual_sets_5};
 use crate::known::OfSet;
 
 /// The classes of sets, part 1 of 5.
-pub static USUAL_SETS_1: [OfSet; 52] = [
+static USUAL_SETS_1: [OfSet; 52] = [
     ("ct", "1.2.840.10008.5.1.4.1.1.2"),
     ("ct", "1.2.840.10008.5.1.4.1.1.2.1"),
     ("ct", "1.2.840.10008.5.1.4.1.1.2.2"),
@@ -66,7 +66,7 @@ pub static USUAL_SETS_1: [OfSet; 52] = [
 ];
 
 /// The classes of sets, part 2 of 5.
-pub static USUAL_SETS_2: [OfSet; 52] = [
+static USUAL_SETS_2: [OfSet; 52] = [
     ("all-images", "1.2.840.10008.5.1.4.1.1.7.1"),
     ("all-images", "1.2.840.10008.5.1.4.1.1.7.2"),
     ("all-images", "1.2.840.10008.5.1.4.1.1.7.3"),
@@ -122,7 +122,7 @@ pub static USUAL_SETS_2: [OfSet; 52] = [
 ];
 
 /// The classes of sets, part 3 of 5.
-pub static USUAL_SETS_3: [OfSet; 52] = [
+static USUAL_SETS_3: [OfSet; 52] = [
     ("all-storage", "1.2.840.10008.5.1.4.1.1.6.2"),
     ("all-storage", "1.2.840.10008.5.1.4.1.1.7"),
     ("all-storage", "1.2.840.10008.5.1.4.1.1.7.1"),
@@ -178,7 +178,7 @@ pub static USUAL_SETS_3: [OfSet; 52] = [
 ];
 
 /// The classes of sets, part 4 of 5.
-pub static USUAL_SETS_4: [OfSet; 52] = [
+static USUAL_SETS_4: [OfSet; 52] = [
     ("all-storage", "1.2.840.10008.5.1.4.1.1.67"),
     ("all-storage", "1.2.840.10008.5.1.4.1.1.68.1"),
     ("all-storage", "1.2.840.10008.5.1.4.1.1.68.2"),
@@ -234,7 +234,7 @@ pub static USUAL_SETS_4: [OfSet; 52] = [
 ];
 
 /// The classes of sets, part 5 of 5.
-pub static USUAL_SETS_5: [OfSet; 44] = [
+static USUAL_SETS_5: [OfSet; 44] = [
     ("all-storage", "1.2.840.10008.5.1.4.1.1.91.1"),
     ("all-storage", "1.2.840.10008.5.1.4.1.1.104.1"),
     ("all-storage", "1.2.840.10008.5.1.4.1.1.104.2"),

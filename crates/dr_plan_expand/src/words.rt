@@ -18,7 +18,7 @@ use dr_plan_text::forms::is_class;
 use std::alloc::{AllocError, Global};
 
 /// What follows an `@` at the front of a word.
-pub fn after_mark(word: &[u8]) -> Option<&[u8]>
+pub(crate) fn after_mark(word: &[u8]) -> Option<&[u8]>
     ensures { MatchOption result ((rest : Words) → word.now ≡ 64 ∷ rest → ⊥)
         (λ rest. word.now ≡ 64 ∷ rest.now) }
 {

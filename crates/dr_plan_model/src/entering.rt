@@ -101,7 +101,7 @@ fn targets_by(
 
 /// The nodes that the plan's flows send the key to that enters at the site, in byte order and each
 /// once.
-pub fn first_targets(
+pub(crate) fn first_targets(
     alloc: Global,
     plan: &Plan,
     site: &Text,

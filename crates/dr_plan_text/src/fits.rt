@@ -73,7 +73,7 @@ fn flows_fit(format: Format, flows: &[FlowText]) -> bool
 }
 
 /// Whether the plan's format has what its rules and flows name for station.
-pub fn fits_format(plan: &PlanText) -> bool
+pub(crate) fn fits_format(plan: &PlanText) -> bool
     ensures { IsTrue result ↔ FitsFormat plan.now }
 {
     nodes_fit(plan.format, plan.nodes.as_slice()) && flows_fit(plan.format, plan.flows.as_slice())

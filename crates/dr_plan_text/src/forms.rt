@@ -33,7 +33,7 @@ fn is_plain(text: &[u8]) -> bool
 }
 
 /// Whether it is up to 64 printable bytes without an asterisk, and with no space at an end.
-pub fn is_literal(text: &[u8]) -> bool
+pub(crate) fn is_literal(text: &[u8]) -> bool
     ensures { IsTrue result ↔ IsLiteral text.now }
 {
     if text.len() > 64 {
@@ -43,7 +43,7 @@ pub fn is_literal(text: &[u8]) -> bool
 }
 
 /// Whether it is a literal of one byte or more, by which stations are named that begin with it.
-pub fn is_prefix(text: &[u8]) -> bool
+pub(crate) fn is_prefix(text: &[u8]) -> bool
     ensures { IsTrue result ↔ IsPrefix text.now }
 {
     !text.is_empty() && is_literal(text)
@@ -91,7 +91,7 @@ fn is_visible(text: &[u8]) -> bool
 
 /// Whether it is a host and a port, `host:port`: up to 255 printable bytes without a blank, the
 /// port one to five digits and at most 65,535.
-pub fn is_address(text: &[u8]) -> bool
+pub(crate) fn is_address(text: &[u8]) -> bool
     ensures { IsTrue result ↔ IsAddress text.now }
 {
     let Some((host, digits)) = split_at_last(text, b':') else {

@@ -59,7 +59,7 @@ fn named_in(alloc: Global, text: &[u8]) -> Result<StationPattern, ReadFault>
 }
 
 /// A station that is named: a literal, or a prefix with `*` behind it.
-pub struct NamedStation;
+struct NamedStation;
 
 impl Form for NamedStation {
     type Output = StationPattern;

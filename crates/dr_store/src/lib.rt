@@ -9,7 +9,7 @@
 
 mod counting;
 mod journal;
-pub mod ledger;
+mod ledger;
 mod listing;
 mod lookup;
 mod reading;

@@ -61,7 +61,7 @@ pub fn targets_of(alloc: Global, goals: &[(u64, Text)], n: u64) -> Result<Target
 }
 
 /// Whether no goal is of a line with that number or a higher one.
-pub fn are_before(goals: &[(u64, Text)], next: u64) -> bool
+pub(crate) fn are_before(goals: &[(u64, Text)], next: u64) -> bool
     ensures { IsTrue result ↔ All (λ goal. goal.0 < next) goals.now }
 {
     goals.iter().all(|goal| goal.0 < next)

@@ -2,16 +2,16 @@
 //! lists that they show, each with what it says of the ledger. No database is called here.
 #![tactic(auto)]
 
-pub mod agreeing;
+mod agreeing;
 pub mod fault;
 pub mod goals;
 pub mod laws;
 pub mod lines;
 pub mod needs;
-pub mod older;
-pub mod schema;
+mod older;
+mod schema;
 pub mod stock;
-pub mod telling;
+mod telling;
 
 pub use agreeing::{TableLists, agree};
 pub use fault::FindingFault;

@@ -93,7 +93,7 @@ fn is_as_needed(print: &(Text, Print), uids: &BTreeSet<Text>) -> bool
 }
 
 /// Whether just the data sets of these uids are there.
-pub fn are_whole(prints: &[(Text, Print)], uids: &BTreeSet<Text>) -> bool
+pub(crate) fn are_whole(prints: &[(Text, Print)], uids: &BTreeSet<Text>) -> bool
     ensures { IsTrue result
         ↔ AllByRecursion (λ p. p.1.whole ≡ set.contains (as_set text_cmp uids.now) p.0) prints.now }
 {

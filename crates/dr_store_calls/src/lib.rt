@@ -6,18 +6,18 @@
 //! returned what was written so far, and that the store is open.
 #![tactic(auto)]
 
-pub mod adopting;
+mod adopting;
 pub mod adoption_laws;
-pub mod arriving;
-pub mod bringing;
-pub mod dropping;
-pub mod forgetting;
+mod arriving;
+mod bringing;
+mod dropping;
+mod forgetting;
 pub mod knowing;
 pub mod laws;
 mod needs;
-pub mod plan;
-pub mod receiving;
-pub mod settling;
+mod plan;
+mod receiving;
+mod settling;
 mod writing;
 
 pub use adopting::adopt;

@@ -1,14 +1,14 @@
 //! The calls of a ledger in tables that write, each as one transaction.
 #![tactic(auto)]
 
-pub mod arriving;
-pub mod bodies;
-pub mod dropping;
+mod arriving;
+mod bodies;
+mod dropping;
 pub mod first;
-pub mod forgetting;
+mod forgetting;
 pub mod laws;
-pub mod moving;
-pub mod writing;
+mod moving;
+mod writing;
 
 pub use arriving::Repeating;
 pub use dropping::Dropping;

@@ -7,7 +7,7 @@
 
 pub mod laws;
 pub mod listing;
-pub mod rowids;
+mod rowids;
 
 pub use listing::{
     JournalRow, all_arrivals, all_kept, all_keys, all_notes, all_prints, all_rows, all_targets,

@@ -6,13 +6,13 @@
 
 mod alike;
 mod asking;
-pub mod bodies;
+mod bodies;
 mod fault;
-pub mod finding;
+mod finding;
 pub mod laws;
 mod ledger;
 mod lines;
-pub mod listed;
+mod listed;
 pub mod making;
 mod older;
 pub mod opening;

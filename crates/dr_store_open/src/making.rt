@@ -21,7 +21,7 @@ const FIRST: [&str; 2] = [
 ];
 
 /// The other tables, and the indexes of the rows that are due and of an instance's arrivals.
-pub const LATER: [&str; 8] = [
+pub(crate) const LATER: [&str; 8] = [
     "CREATE TABLE print (uid TEXT NOT NULL PRIMARY KEY REFERENCES item (uid), length INTEGER NOT NULL, sha256 BLOB NOT NULL, whole INTEGER NOT NULL) STRICT",
     "CREATE TABLE arrival (caller TEXT NOT NULL, uid TEXT NOT NULL REFERENCES item (uid), PRIMARY KEY (caller, uid)) STRICT",
     "CREATE TABLE kept (uid TEXT NOT NULL PRIMARY KEY REFERENCES item (uid)) STRICT",

@@ -13,7 +13,7 @@ mod in_row;
 pub mod laws;
 mod shelf;
 
-pub use cell::{blank_cell, extent_of, passes, placed_cell};
+pub use cell::passes;
 pub use fault::ShelfFault;
 pub use in_file::InFile;
 pub use in_row::InRow;

@@ -7,8 +7,8 @@
 //! the first of them.
 #![tactic(auto)]
 
-pub mod counting;
-pub mod paging;
+mod counting;
+mod paging;
 
 pub use counting::{count_arrivals, count_kept, count_rows, first_moment};
 pub use paging::{callers_of, page, rows_of};

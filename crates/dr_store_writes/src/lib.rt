@@ -4,10 +4,10 @@
 //! so far.
 #![tactic(auto)]
 
-pub mod adding;
+mod adding;
 mod cells;
-pub mod changing;
-pub mod dropping;
+mod changing;
+mod dropping;
 mod running;
 
 pub use adding::{

@@ -42,7 +42,10 @@ fn is_on<L: Ledger>(nodes: &BTreeMap<Text, Node<L>>, link: u64, wires: Option<&W
 }
 
 /// Whether an end of some link isn't over.
-pub fn some_is_on<L: Ledger>(nodes: &BTreeMap<Text, Node<L>>, wires: &BTreeMap<u64, Wires>) -> bool
+pub(crate) fn some_is_on<L: Ledger>(
+    nodes: &BTreeMap<Text, Node<L>>,
+    wires: &BTreeMap<u64, Wires>,
+) -> bool
     ensures { result ≡ some_is_on nodes.now wires.now }
 {
     for link in wires.keys() {
@@ -54,7 +57,7 @@ pub fn some_is_on<L: Ledger>(nodes: &BTreeMap<Text, Node<L>>, wires: &BTreeMap<u
 }
 
 /// Whether each of these names is that of a node of the plan.
-pub fn are_nodes(plan: &Plan, names: &[Text]) -> bool
+pub(crate) fn are_nodes(plan: &Plan, names: &[Text]) -> bool
     ensures { IsTrue result ↔ AreNodes plan.now names.now }
 {
     for name in names {

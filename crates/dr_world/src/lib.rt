@@ -13,17 +13,17 @@
 mod calls;
 pub mod changing;
 pub mod deed;
-pub mod fault;
+mod fault;
 mod forgetting;
-pub mod founding;
-pub mod fronts;
+mod founding;
+mod fronts;
 pub mod laws;
-pub mod listing;
-pub mod playing;
+mod listing;
+mod playing;
 mod restarts;
-pub mod steps;
-pub mod time;
-pub mod wires;
+mod steps;
+mod time;
+mod wires;
 pub mod world;
 
 pub use changing::Change;

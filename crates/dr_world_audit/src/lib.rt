@@ -3,11 +3,11 @@
 #![tactic(auto)]
 
 pub mod audit;
-pub mod comparing;
-pub mod fault;
-pub mod hop;
-pub mod line;
-pub mod reading;
+mod comparing;
+mod fault;
+mod hop;
+mod line;
+mod reading;
 pub mod replay;
-pub mod standing;
-pub mod trail;
+mod standing;
+mod trail;

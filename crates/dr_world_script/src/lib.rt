@@ -3,11 +3,11 @@
 #![tactic(auto)]
 
 pub mod act;
-pub mod fault;
+mod fault;
 mod fields;
 pub mod laws;
 mod reading;
-pub mod script;
+mod script;
 pub mod step;
 
 pub use act::Act;
