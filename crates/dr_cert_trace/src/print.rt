@@ -2,7 +2,7 @@
 ghost use Rattle.std.specs.Prelude.{◌≡◌, ◌++◌, IfOk, OnOk, flat_map};
 ghost use Rattle.dr_cert_trace.specs.Rows.{cell_row, hop_row, journey_text, keep_row, rank_row};
 
-use crate::Journey;
+use crate::tracing::Journey;
 use dr_base::Text;
 use dr_cert_text::{add_field, add_station, field_bytes};
 use dr_plan_sound::Hop;

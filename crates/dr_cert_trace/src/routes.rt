@@ -4,7 +4,7 @@ ghost use Rattle.dr_plan_model.specs.Plans.{LiesIn};
 ghost use Rattle.dr_cert_trace.specs.Routes.{IsRoute};
 
 use crate::print::text_of;
-use crate::trace;
+use crate::tracing::trace;
 use dr_base::Text;
 use dr_cert::Sealed;
 use dr_plan_model::Plan;
