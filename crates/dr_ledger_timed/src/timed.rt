@@ -27,7 +27,7 @@ impl<'a, L, R: Clock> Timed<'a, L, R> {
 
     /// The ledger, given back.
     pub fn into_ledger(self) -> L
-        ensures { result ≡ self.ledger }
+        ensures { result ≡ self.entry.ledger }
     {
         self.ledger
     }
