@@ -605,6 +605,43 @@ where
     serve_shared(rt, alloc, desk, deployment)
 }
 
+/// Serves and sends on a ledger whose calls are timed. All that it borrows is of one lifetime: the
+/// ledger that is shared names it.
+fn serve_timed<
+    't,
+    R: Threads + Wait + Sync + time::Clock,
+    L: Views + Drop + Send,
+    K: Link + Drop + Send,
+    D: Listening<Socket = K> + Sync,
+    N: Network + Sync,
+    C: Clock + Sync,
+    G: Monitor + Sync,
+>(
+    rt: &'t R,
+    alloc: Global,
+    ledger: L,
+    site: Site,
+    deployment: Deployment<'t, D, N, C, G>,
+) -> Result<L, ServeFault>
+where
+    N::Socket: Send,
+    N::Listener: Sync,
+    requires { L.site ledger ≡ site }
+    ensures begins { IfOk result (λ l.
+        L.stands l → BeginWith (L.book ledger).lines (L.book l).lines) }
+    ensures history { IfOk result (λ l.
+        L.stands l → ∥ IsJournalled (site_routing site) (L.book l) ∥₁) }
+    ensures of { IfOk result (λ l. L.site l ≡ site) }
+{
+    let (timed, blank) = (Timed::new(ledger, rt, deployment.meter), Blank::new(65_536));
+    match share::<R, Timed<'t, L, R>, Brand, K, D, N, C, G>(
+        rt, alloc, timed, site, blank, deployment,
+    ) {
+        Ok(timed) => Ok(timed.into_ledger()),
+        Err(fault) => Err(fault),
+    }
+}
+
 /// Serves the associations that are asked for at a listener, each in a thread of its own, 256 at a
 /// time if the terms give 264 threads, and sends what is due, in a thread for each hop: a hop that
 /// fails or hangs delays no other. A hop at which a visit failed is left alone, 1 s at first and
@@ -652,11 +689,5 @@ where
         means,
         meter: &meter,
     };
-    let (timed, blank) = (Timed::new(ledger, rt, &meter), Blank::new(65_536));
-    match share::<R, Timed<'_, L, R>, Brand, K, D, N, C, G>(
-        rt, alloc, timed, site, blank, deployment,
-    ) {
-        Ok(timed) => Ok(timed.into_ledger()),
-        Err(fault) => Err(fault),
-    }
+    serve_timed::<R, L, K, D, N, C, G>(rt, alloc, ledger, site, deployment)
 }
