@@ -61,7 +61,8 @@ impl<'a, T: Threads> Ending for InputEnd<'a, T> {
             token,
             is_guarded: place.is_for_anyone,
         };
-        Ok(ControlPort::new(listener, keys, access, VERSION))
+        let version = format!(in alloc; "{VERSION}")?;
+        Ok(ControlPort::new(listener, keys, access, version))
     }
 }
 

@@ -42,7 +42,7 @@ pub struct ControlPort {
     listener: TcpListener,
     keys: RandomState,
     access: Access,
-    version: &'static str,
+    version: String,
     closed: AtomicBool,
 }
 
@@ -52,7 +52,7 @@ impl ControlPort {
         listener: TcpListener,
         keys: RandomState,
         access: Access,
-        version: &'static str,
+        version: String,
     ) -> ControlPort {
         ControlPort {
             listener,
@@ -201,7 +201,7 @@ fn answer_caller<R: Wait, L: Views, B: Sharing, C: Clock, G: Log>(
         access: &port.access,
         browser,
         hops: node.hops,
-        version: port.version,
+        version: port.version.as_str(),
         since: house.since,
         clock,
         house,
