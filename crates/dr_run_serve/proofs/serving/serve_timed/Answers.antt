@@ -6,5 +6,5 @@ use Rattle.dr_run_serve.proofs.serving.serve_timed.Goals as goal
 pub returns-in-Ok-clause-history : goal.returns-in-Ok-clause-history
 returns-in-Ok-clause-history g c =
     let P : g.row.L.Denot → Type 0 = λ l. g.L.Ledger.stands l
-        → ∥ IsJournalled (site_routing c.args.site) (g.L.Ledger.book l) ∥₁ in
+    → ∥ IsJournalled (site_routing c.args.site) (g.L.Ledger.book l) ∥₁ in
     subst P (sym c.into_ledger.ensures) c.in-Ok.ensures.history
