@@ -18,8 +18,6 @@ from wrong import Bad, chosen, read_edit
 NAMED = re.compile(r"^(?:pub(?:\([^)]*\))? )?(?:struct|enum|trait|type)\s+(\w+)", re.MULTILINE)
 FUNCTION = re.compile(r"\bfn (\w+)(?=[<(])")
 MOST_PARAMETERS = 7
-# The one function with more: its caller's references have several lifetimes, of which the prover's borrow checker knows no struct.
-UNBUNDLED = {"crates/dr_router/src/over.rt: run_stored"}
 # Names of one notion that crates have apart: a node of the plan and of the simulator; and tests of a
 # name that tell the fault or not.
 SAME_NOTION = {"Node", "WellFormed"}
@@ -106,7 +104,7 @@ def with_many_parameters():
                 text = file.read()
             for it in FUNCTION.finditer(text):
                 count, name = parameters_of(text, it.end()), f"{os.path.relpath(path, TOP)}: {it[1]}"
-                if count > MOST_PARAMETERS and name not in UNBUNDLED:
+                if count > MOST_PARAMETERS:
                     said.append(f"{name} has {count} parameters")
     return said
 

@@ -136,10 +136,10 @@ fn ledger_over<S: Alter + Drop>(
 
 /// Ledgers, each in a database of its own.
 #[derive(Drop)]
-pub struct StoredLedgers<'a, D: Databases>(pub &'a D);
+pub struct StoredLedgers<D: Databases + Drop>(pub D);
 
 /// What a database holds is claimed by no contract.
-impl<'a, D: Databases> Ledgers for StoredLedgers<'a, D> {
+impl<D: Databases + Drop> Ledgers for StoredLedgers<D> {
     type Ledger = SqlLedger<D::Store>;
 
     ghost opens = { λ files path ledger. Unit {0} };
@@ -183,7 +183,7 @@ fn found_over<S: Alter + Drop>(
     }
 }
 
-impl<'a, D: Databases> Finds for StoredLedgers<'a, D> {
+impl<D: Databases + Drop> Finds for StoredLedgers<D> {
     fn find(
         &self,
         alloc: Global,

@@ -12,9 +12,9 @@ mod input;
 mod over;
 
 use crate::events::EventLog;
-use crate::files::{Databases, SystemDisk, SystemFiles};
+use crate::files::{Databases, StoredLedgers, SystemDisk, SystemFiles};
 use crate::input::InputEnd;
-use crate::over::run_stored;
+use crate::over::{ClockAt, Machine, run_on};
 use dr_run_files::Files;
 use dr_run_net::{Cut, Sockets, SystemClock};
 use dr_run_open::Status;
@@ -32,31 +32,41 @@ use std::{io, time};
 fn run_over_files<
     'x,
     T: Threads + Wait + Sync + time::Clock,
-    F: Files + Paths + Tokens + Sync,
-    D: Databases,
->(rt: &'x HostRuntime, threads: &'x T, words: &[&str], files: &F, databases: &D) -> Status
+    F: Files + Paths + Tokens + Sync + Drop,
+    D: Databases + Drop,
+>(
+    rt: &'x HostRuntime,
+    threads: &'x T,
+    words: &[&str],
+    clock: &'x SystemClock<'x, HostRuntime>,
+    cut: &'x Cut,
+    files: F,
+    databases: D,
+) -> Status
 where
     D::Store: Send,
 {
+    let machine = Machine {
+        files,
+        ledgers: StoredLedgers(databases),
+        network: Sockets::new(rt, clock, cut),
+        clock: ClockAt(clock),
+        log: EventLog { rt, clock },
+        ending: InputEnd {
+            rt: threads,
+            input: rt.stdin(),
+            system: rt,
+        },
+    };
     let (mut input, mut output, mut faults) = (rt.stdin(), rt.stdout(), rt.stderr());
-    let (clock, cut) = (SystemClock::start(rt), Cut::new());
-    run_stored(
+    run_on(
         threads,
         rt.alloc(),
         words,
         &mut input,
         &mut output,
         &mut faults,
-        files,
-        databases,
-        &Sockets::new(rt, &clock, &cut),
-        &clock,
-        &EventLog { rt, clock: &clock },
-        &InputEnd {
-            rt: threads,
-            input: rt.stdin(),
-            system: rt,
-        },
+        &machine,
     )
 }
 
@@ -65,6 +75,8 @@ where
 fn run<'x, T: Threads + Wait + Sync + time::Clock>(
     rt: &'x HostRuntime,
     threads: &'x T,
+    clock: &'x SystemClock<'x, HostRuntime>,
+    cut: &'x Cut,
 ) -> io::Result<Status> {
     let given = given_words(rt)?;
     let mut words = Vec::new(rt.alloc());
@@ -72,7 +84,7 @@ fn run<'x, T: Threads + Wait + Sync + time::Clock>(
         words.push(word.as_str())?;
     }
     let (files, databases) = (SystemDisk::new(rt), SystemFiles(rt));
-    Ok(run_over_files(rt, threads, words.as_slice(), &files, &databases))
+    Ok(run_over_files(rt, threads, words.as_slice(), clock, cut, files, databases))
 }
 
 /// What the process ends with.
@@ -83,7 +95,8 @@ fn exit_code(status: Status) -> ExitCode
 }
 
 fn main(rt: HostRuntime) -> ExitCode {
-    let status = match run(&rt, &rt) {
+    let (clock, cut) = (SystemClock::start(&rt), Cut::new());
+    let status = match run(&rt, &rt, &clock, &cut) {
         Ok(status) => status,
         Err(error) => tell_unread_words(&error, &mut rt.stderr()),
     };

@@ -18,9 +18,33 @@ use std::sync::Wait;
 use std::thread::Threads;
 use std::time;
 
+/// A clock that others go by, too.
+#[derive(Drop)]
+pub struct ClockAt<'a, C: Clock>(pub &'a C);
+
+impl<'a, C: Clock> Clock for ClockAt<'a, C> {
+    ghost tells = { λ clock now. C.tells clock.0.now now };
+
+    fn now(&self) -> u64 {
+        self.0.now()
+    }
+}
+
+/// What the program runs on: files, databases in which its ledgers are, a network, a clock, a log,
+/// and what may end a node from without.
+#[derive(Drop)]
+pub struct Machine<F: Drop, D: Databases + Drop, N: Drop, C: Drop, G: Drop, U: Drop> {
+    pub files: F,
+    pub ledgers: StoredLedgers<D>,
+    pub network: N,
+    pub clock: C,
+    pub log: G,
+    pub ending: U,
+}
+
 /// `run_words`, without what it promises: said of the system's own files, ledgers and sockets, on
 /// which nothing is known, that is long, and no more than what it says of any.
-pub fn run_over<
+fn run_over<
     T: Threads + Wait + Sync + time::Clock,
     R: Read,
     W: Write,
@@ -48,20 +72,18 @@ where
     run_words(rt, alloc, words, input, output, faults, system)
 }
 
-/// The same, with ledgers in databases. A bundle of these references would have several lifetimes
-/// in its caller, of which the prover's borrow checker knows no struct.
-pub fn run_stored<
-    'a,
+/// The same on a machine, whose ledgers are in databases.
+pub fn run_on<
     T: Threads + Wait + Sync + time::Clock,
     R: Read,
     W: Write,
     E: Write,
-    F: Files + Paths + Tokens + Sync,
-    D: Databases,
-    N: Network + Sync,
-    C: Clock + Sync,
-    G: Log + Sync,
-    U: Ending,
+    F: Files + Paths + Tokens + Sync + Drop,
+    D: Databases + Drop,
+    N: Network + Sync + Drop,
+    C: Clock + Sync + Drop,
+    G: Log + Sync + Drop,
+    U: Ending + Drop,
 >(
     rt: &T,
     alloc: Global,
@@ -69,26 +91,20 @@ pub fn run_stored<
     input: &mut R,
     output: &mut W,
     faults: &mut E,
-    files: &'a F,
-    databases: &'a D,
-    network: &'a N,
-    clock: &'a C,
-    log: &'a G,
-    ending: &'a U,
+    machine: &Machine<F, D, N, C, G, U>,
 ) -> Status
 where
     D::Store: Send,
     N::Socket: Send,
     N::Listener: Sync,
 {
-    let ledgers = StoredLedgers(databases);
     let system = System {
-        files,
-        ledgers: &ledgers,
-        network,
-        clock,
-        log,
-        ending,
+        files: &machine.files,
+        ledgers: &machine.ledgers,
+        network: &machine.network,
+        clock: &machine.clock,
+        log: &machine.log,
+        ending: &machine.ending,
     };
     run_over(rt, alloc, words, input, output, faults, system)
 }
