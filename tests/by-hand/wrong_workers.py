@@ -21,17 +21,17 @@ SERVING, BOUNDS = "dr_desk_workers/src/serving.rt", "dr_desk_workers/src/bounds.
 # of each wrong body: the file, a text that stands in it once, and what takes its place
 WRONG = {
     "sessions_in_turn": [
-        (SERVING, "if !workshop.bounds.staff.admit(workshop.rt) {", "if begun > 0 || !workshop.bounds.staff.admit(workshop.rt) {"),
+        (SERVING, "if !bounds.staff.admit(workshop.rt) {", "if begun > 0 || !bounds.staff.admit(workshop.rt) {"),
     ],
     "one_lock_over_a_whole_session": [
         (BOUNDS, "    pub staff: Staff,\n}", "    pub staff: Staff,\n    pub whole: Mutex<u64>,\n}"),
         (BOUNDS, "            staff: Staff::new(),", "            staff: Staff::new(),\n            whole: Mutex::new(0),"),
         (SERVING, "    workshop.gate.at(session, Point::Taken);",
-         "    let _whole = workshop.bounds.whole.lock(workshop.rt);\n    workshop.gate.at(session, Point::Taken);"),
+         "    let _whole = bounds.whole.lock(workshop.rt);\n    workshop.gate.at(session, Point::Taken);"),
     ],
     "each_second_connection_dropped": [
-        (SERVING, "        serve(workshop, connection, pass);",
-         "        if connection.session % 2 == 1 {\n            serve(workshop, connection, pass);\n        }"),
+        (SERVING, "        guest = serve(workshop, bounds, connection, guest, pass);",
+         "        if connection.session % 2 == 1 {\n            guest = serve(workshop, bounds, connection, guest, pass);\n        }"),
     ],
 }
 

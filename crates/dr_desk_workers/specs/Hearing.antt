@@ -20,6 +20,12 @@ HearsBehind hears ahead k came after l =
     ⊎ ((came ≡ Fault) × (after ≡ ahead) × (l ≡ k))
     ⊎ ((came ≡ Crowded) × (after ≡ ahead) × (l ≡ k))
 
+-- The same, of an association that is open or not: hearing lets nobody in, and nobody out.
+abbrev pub HearsInside : {K : Type 0} → (K → Heard → K → Type 0)
+    → Ahead → K → Bool → Heard → Ahead → K → Bool → Type 0
+HearsInside hears ahead k inside came after l now =
+    HearsBehind hears ahead k came after l × (now ≡ inside)
+
 -- the link heard these, one after the other
 abbrev pub HearsAll : {K : Type 0} → (K → Heard → K → Type 0) → K → List Heard → K → Type 0
 HearsAll hears k [] l = l ≡ k
@@ -86,9 +92,10 @@ IsAcceptance (kind ∷ rest) = kind ≡ 2
 IsAcceptance [] = ⊥
 
 -- What is written: the link writes it, or nothing is and that is a failure. An acceptance is
--- written of who was let in alone.
+-- written of who was let in alone, and writing lets nobody out.
 abbrev pub SendsInside : {K : Type 0} → (K → List ℕ → Bool → K → Type 0)
-    → K → List ℕ → Bool → K → Bool → Type 0
-SendsInside sends k bytes sent l inside =
+    → K → Bool → List ℕ → Bool → K → Bool → Type 0
+SendsInside sends k inside bytes sent l now =
     (sends k bytes sent l ⊎ ((sent ≡ false) × (l ≡ k)))
-    × (IsAcceptance bytes → sent ≡ true → inside ≡ true)
+    × (IsAcceptance bytes → sent ≡ true → now ≡ true)
+    × (inside ≡ true → now ≡ true)

@@ -2,18 +2,21 @@
 use crate::gate::Tally;
 use std::cell::Cell;
 
-/// The arrivals that the desk answered, taken or refused, and those of them whose reply isn't sent
-/// yet.
+/// The arrivals that the desk answered in the session of this number, taken or refused, and those
+/// of them whose reply isn't sent yet.
 #[derive(Drop)]
 pub struct SessionCounts {
+    pub session: u64,
     unanswered: Cell<u64>,
     accepted: Cell<u64>,
     refused: Cell<u64>,
 }
 
 impl SessionCounts {
-    pub fn new() -> SessionCounts {
+    /// Nothing was answered yet.
+    pub fn new(session: u64) -> SessionCounts {
         SessionCounts {
+            session,
             unanswered: Cell::new(0),
             accepted: Cell::new(0),
             refused: Cell::new(0),

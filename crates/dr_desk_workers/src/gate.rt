@@ -1,8 +1,12 @@
 //! What a session's worker tells of it, and points at which the session may be held.
+ghost use Rattle.std.specs.Prelude.{◌≡◌};
+
+use crate::door::Door;
 use dr_base::Text;
 use dr_ledger::{Arrived, Instance, LedgerFault};
 use dr_pdu::{AssociateAc, AssociateRq};
 use dr_session::{Ended, SessionFault};
+use std::sync::ledger::Ledger;
 
 /// A connection on which no association is asked for has so many milliseconds, where nothing else
 /// is said: those of a session's own timer.
@@ -33,6 +37,14 @@ pub trait Gate {
     /// So many workers have begun, and the system gives no thread for one more that is needed. The
     /// thread that starts them serves in its place, and no other is started.
     fn lacks(&self, _begun: usize) {}
+
+    /// An association may be asked for, and so many others are open: those that the door counts,
+    /// whose lock is held from now until the request is answered. The session is told this number.
+    fn counted<D: Ledger>(&self, _session: u64, others: usize, door: &Door<D>)
+        requires { others ≡ door.now.open.total }
+    {
+        let _ = (others, door);
+    }
 
     fn at(&self, session: u64, point: Point);
 

@@ -1,13 +1,15 @@
 //! A link that passes a gate when a reply was sent, and a door before an association is accepted,
 //! and that asks for room before it reads.
-ghost use Rattle.std.specs.Prelude.{◌≡◌, ◌⊎◌, ◌≤◌, ◌^◌, ◌↔◌, IsTrue, true, false};
+ghost use Rattle.std.specs.Prelude.{◌≡◌, ◌⊎◌, ◌≤◌, ◌^◌, ◌↔◌, ℕ, IsTrue, true, false};
+ghost use Rattle.std.specs.Option.{ForSome};
+ghost use Rattle.std.specs.Sync.Mutex.{mutex_guard_value};
 ghost use Rattle.dr_session.specs.Links.{Counts, HasRisen, IsLinkFault};
-ghost use Rattle.dr_desk_workers.specs.Hearing.{HearsBehind, IsAcceptance};
+ghost use Rattle.dr_desk_workers.specs.Hearing.{HearsInside, IsAcceptance};
 
 use crate::ahead::Ahead;
 use crate::asked::tell_answer;
 use crate::counts::SessionCounts;
-use crate::door::Door;
+use crate::door::{Door, Guest, Outside};
 use crate::gate::{Gate, Point};
 use crate::room::Room;
 use crate::said::status_said;
@@ -15,7 +17,8 @@ use crate::share::Share;
 use dr_pdu::AssociateRq;
 use dr_session::{Heard, Link};
 use std::alloc::Global;
-use std::sync::{MutexGuard, Wait};
+use std::sync::ledger::Ledger;
+use std::sync::{Mutex, MutexGuard, Wait};
 use std::{mem, time};
 
 /// A connection's link. After a write that was done the gate is passed once for each arrival that
@@ -23,19 +26,21 @@ use std::{mem, time};
 /// worker took it, however long it waited for one. Where the gate is over, a fault is heard.
 ///
 /// While it has its turn at the door no other connection has: from when the open associations are
-/// counted, until the request is answered. An acceptance is written only after its association was
-/// let in. Where there is no room for what comes, this is heard before each read, until it is
-/// answered.
+/// counted, until the request is answered; so the others that it counted are those that are open.
+/// An acceptance is written only after its association was let in, and who is in stays so until
+/// the link is left. Where there is no room for what comes, this is heard before each read, until
+/// it is answered.
 #[derive(Drop)]
-pub struct GatedLink<'a, R: Wait + time::Clock, K: Link + Drop, G: Gate> {
+pub struct GatedLink<'a, R: Wait + time::Clock, K: Link + Drop, G: Gate, D: Ledger> {
     pub rt: &'a R,
     pub alloc: Global,
     pub link: K,
     pub ahead: Ahead,
     pub request: Option<AssociateRq>,
-    pub turn: Option<MutexGuard<'a, Door>>,
+    pub turn: Option<MutexGuard<'a, Door<D>>>,
     pub asked: bool,
-    pub inside: bool,
+    pub guest: Guest<D>,
+    pub others: usize,
     pub gate: &'a G,
     pub session: u64,
     pub counts: &'a SessionCounts,
@@ -45,6 +50,16 @@ pub struct GatedLink<'a, R: Wait + time::Clock, K: Link + Drop, G: Gate> {
     pub taken: u64,
     pub failures: u64,
     pub ghost early: { taken ≤ 2 ^ 62 },
+    pub ghost counted: { ForSome turn (λ door. (mutex_guard_value door).open.total ≡ others) },
+    pub ghost outside: { ForSome turn (λ door. guest.inside ≡ false) },
+}
+
+/// A link whose session is told how many other associations are open.
+pub trait CountingLink: Link {
+    ghost counted: { Self → ℕ };
+
+    fn others(&self) -> usize
+        ensures { result ≡ counted self.now };
 }
 
 /// Whether the link has failed.
@@ -64,31 +79,37 @@ fn is_acceptance(bytes: &[u8]) -> bool
     }
 }
 
-/// Lets an association in, if it is its turn and there is room.
-fn let_in(turn: Option<MutexGuard<'_, Door>>) -> bool {
+/// Lets an association in, if it is its turn and there is room; says whether it did.
+fn let_in<D: Ledger>(turn: Option<MutexGuard<'_, Door<D>>>, guest: &mut Guest<D>) -> bool
+    requires { ForSome turn (λ door. guest.old.inside ≡ false) }
+    ensures enters { result ≡ true → guest.new.inside ≡ true }
+    ensures stays { guest.old.inside ≡ true → guest.new.inside ≡ true }
+{
     match turn {
         Some(turn) => {
             let mut turn = turn;
-            turn.enter()
+            turn.enter(guest)
         }
         None => false,
     }
 }
 
-impl<'a, R: Wait + time::Clock, K: Link + Drop, G: Gate> GatedLink<'a, R, K, G> {
+impl<'a, R: Wait + time::Clock, K: Link + Drop, G: Gate, D: Ledger> GatedLink<'a, R, K, G, D> {
     /// One failure more.
     fn fail(&mut self)
         ensures counted { HasRisen self.old.failures self.new.failures }
         ensures grows { self.old.failures ≤ self.new.failures }
-        ensures link { (self.new.link ≡ self.old.link) × (self.new.ahead ≡ self.old.ahead) }
+        ensures link { (self.new.link ≡ self.old.link)
+            × (self.new.ahead ≡ self.old.ahead)
+            × (self.new.guest.inside ≡ self.old.guest.inside) }
     {
         self.failures = self.failures.saturating_add(1);
     }
 
     /// What comes next: what was heard ahead, or what the link hears.
     fn hear(&mut self) -> Heard
-        ensures hears { HearsBehind K.hears self.old.ahead self.old.link result self.new.ahead
-            self.new.link }
+        ensures hears { HearsInside K.hears self.old.ahead self.old.link self.old.guest.inside
+            result self.new.ahead self.new.link self.new.guest.inside }
         ensures counts { Counts (IsLinkFault result) self.old.failures self.new.failures }
     {
         let heard = match self.ahead.take() {
@@ -106,7 +127,8 @@ impl<'a, R: Wait + time::Clock, K: Link + Drop, G: Gate> GatedLink<'a, R, K, G> 
     fn note(&mut self, heard: &Heard)
         ensures { (self.new.link ≡ self.old.link)
             × (self.new.ahead ≡ self.old.ahead)
-            × (self.new.failures ≡ self.old.failures) }
+            × (self.new.failures ≡ self.old.failures)
+            × (self.new.guest.inside ≡ self.old.guest.inside) }
     {
         if let Heard::Bytes(bytes) = heard {
             self.share.note(bytes.as_bytes().len());
@@ -117,7 +139,8 @@ impl<'a, R: Wait + time::Clock, K: Link + Drop, G: Gate> GatedLink<'a, R, K, G> 
     fn is_crowded(&mut self) -> bool
         ensures { (self.new.link ≡ self.old.link)
             × (self.new.ahead ≡ self.old.ahead)
-            × (self.new.failures ≡ self.old.failures) }
+            × (self.new.failures ≡ self.old.failures)
+            × (self.new.guest.inside ≡ self.old.guest.inside) }
     {
         let (known, warned) = (self.share.is_crowded(), self.warned);
         self.warned = !warned && !self.share.has_room(self.rt, self.room);
@@ -131,7 +154,7 @@ impl<'a, R: Wait + time::Clock, K: Link + Drop, G: Gate> GatedLink<'a, R, K, G> 
     fn tell_answer(&mut self, bytes: &[u8])
         ensures { (self.new.link ≡ self.old.link)
             × (self.new.failures ≡ self.old.failures)
-            × (self.new.inside ≡ self.old.inside) }
+            × (self.new.guest.inside ≡ self.old.guest.inside) }
     {
         let request = mem::replace(&mut self.request, None);
         tell_answer(self.alloc, self.gate, self.session, request, bytes);
@@ -148,7 +171,7 @@ impl<'a, R: Wait + time::Clock, K: Link + Drop, G: Gate> GatedLink<'a, R, K, G> 
     fn clear(&mut self)
         ensures { (self.new.link ≡ self.old.link)
             × (self.new.failures ≡ self.old.failures)
-            × (self.new.inside ≡ self.old.inside) }
+            × (self.new.guest.inside ≡ self.old.guest.inside) }
     {
         self.share.clear(self.rt, self.room);
         self.warned = false;
@@ -158,7 +181,8 @@ impl<'a, R: Wait + time::Clock, K: Link + Drop, G: Gate> GatedLink<'a, R, K, G> 
     fn wait_turn(&mut self)
         ensures { (self.new.link ≡ self.old.link)
             × (self.new.ahead ≡ self.old.ahead)
-            × (self.new.failures ≡ self.old.failures) }
+            × (self.new.failures ≡ self.old.failures)
+            × (self.new.guest.inside ≡ self.old.guest.inside) }
     {
         if self.asked {
             drop(mem::replace(&mut self.turn, None));
@@ -169,8 +193,9 @@ impl<'a, R: Wait + time::Clock, K: Link + Drop, G: Gate> GatedLink<'a, R, K, G> 
     /// Ends its turn at the door, and lets the association in, if these bytes accept it; says
     /// whether they may be written.
     fn passes_door(&mut self, bytes: &[u8]) -> bool
-        ensures { (result ≡ true → IsAcceptance bytes.now → self.new.inside ≡ true)
-            × (self.new.link ≡ self.old.link)
+        ensures enters { result ≡ true → IsAcceptance bytes.now → self.new.guest.inside ≡ true }
+        ensures stays { self.old.guest.inside ≡ true → self.new.guest.inside ≡ true }
+        ensures link { (self.new.link ≡ self.old.link)
             × (self.new.failures ≡ self.old.failures) }
     {
         let turn = mem::replace(&mut self.turn, None);
@@ -178,28 +203,30 @@ impl<'a, R: Wait + time::Clock, K: Link + Drop, G: Gate> GatedLink<'a, R, K, G> 
             drop(turn);
             return true;
         }
-        self.inside = let_in(turn);
-        self.inside
+        let_in(turn, &mut self.guest)
     }
 
-    /// It is over: all that it held is free again. Whether its association was let in.
-    pub fn leave(self) -> bool
-        ensures { result ≡ self.entry.inside }
-    {
+    /// It is over: all that it held is free again, and its association isn't open any more.
+    pub fn leave(self, door: &Mutex<Door<D>>) -> Outside<D> {
         let mut link = self;
         link.clear();
-        link.inside
+        drop(mem::replace(&mut link.turn, None));
+        door.lock(link.rt).leave(link.guest)
     }
 }
 
-impl<'a, R: Wait + time::Clock, K: Link + Drop, G: Gate> Link for GatedLink<'a, R, K, G> {
-    ghost use Rattle.dr_desk_workers.specs.Hearing.{HearsBehind, SendsInside};
+impl<'a, R: Wait + time::Clock, K: Link + Drop, G: Gate, D: Ledger> Link
+    for GatedLink<'a, R, K, G, D> {
+    ghost use Rattle.std.specs.Prelude.{◌≡◌};
+    ghost use Rattle.dr_desk_workers.specs.Hearing.{HearsInside, SendsInside};
 
-    ghost hears = { λ s heard t. HearsBehind K.hears s.ahead s.link heard t.ahead t.link };
+    ghost hears = { λ s heard t. HearsInside K.hears s.ahead s.link s.guest.inside heard t.ahead
+        t.link t.guest.inside };
 
-    ghost sends = { λ s bytes sent t. SendsInside K.sends s.link bytes sent t.link t.inside };
+    ghost sends = { λ s bytes sent t. SendsInside K.sends s.link s.guest.inside bytes sent t.link
+        t.guest.inside };
 
-    ghost closes = { λ s t. K.closes s.link t.link };
+    ghost closes = { λ s t. K.closes s.link t.link × (t.guest.inside ≡ s.guest.inside) };
 
     ghost failed = { λ s. s.failures };
 
@@ -246,5 +273,14 @@ impl<'a, R: Wait + time::Clock, K: Link + Drop, G: Gate> Link for GatedLink<'a, 
 
     fn failures(&self) -> u64 {
         self.failures
+    }
+}
+
+impl<'a, R: Wait + time::Clock, K: Link + Drop, G: Gate, D: Ledger> CountingLink
+    for GatedLink<'a, R, K, G, D> {
+    ghost counted = { λ s. s.others };
+
+    fn others(&self) -> usize {
+        self.others
     }
 }

@@ -24,5 +24,6 @@ mod share;
 mod staff;
 
 pub use connection::Connection;
+pub use door::Door;
 pub use gate::{Gate, Point, Tally};
 pub use serving::{WorkersFault, workers};

@@ -1,22 +1,30 @@
 //! Threads that serve connections, each with a pass of its own.
 ghost use denote.Param.Send.{IsSend, IsSync};
-ghost use Rattle.std.specs.Prelude.{◌≤◌, ◌<◌, ◌≡◌, ◌+◌, ◌-◌, ◌^◌, IfOk, vec_len};
+ghost use Rattle.std.specs.Prelude.{◌≤◌, ◌<◌, ◌≡◌, ◌+◌, ◌-◌, ◌^◌, IfOk, length, vec_len};
+ghost use Rattle.dr_session.specs.Ends.{accepting, begins};
+ghost use Rattle.dr_session.specs.Links.{EndsAs, place};
+ghost use Rattle.dr_session.specs.declared.wishes.Kind.TheVariants as kinds;
+ghost use Rattle.dr_desk_workers.specs.Hearing.{IsAhead};
 
 use crate::ahead::ahead_of;
 use crate::asked::request_in;
 use crate::bounds::Bounds;
 use crate::connection::Connection;
 use crate::counts::SessionCounts;
+use crate::door::{Outside, PARTS};
 use crate::gate::{Gate, Point, REQUEST};
-use crate::gated::GatedLink;
+use crate::gated::{CountingLink, GatedLink};
 use crate::port::SessionPort;
 use crate::share::Share;
 use crossbeam_channel::Receiver;
 use dr_desk::{Pass, SharedDesk, Sharing, TooManyPasses};
 use dr_ledger::Ledger;
-use dr_session::{Clock, Ended, Link, SessionFault, receive};
+use dr_session::{Clock, DeskPort, Ended, Link, SessionFault, receive};
+use dr_site::Site;
 use std::alloc::{AllocError, Global};
-use std::sync::Wait;
+use std::marker::Brand;
+use std::sync::ledger::Blank;
+use std::sync::{Wait, ledger};
 use std::thread::Threads;
 use std::{thread, time};
 use thiserror::Error;
@@ -42,15 +50,13 @@ impl From<TooManyPasses> for WorkersFault {
     }
 }
 
-/// What the workers share: the desk, who is told of what they do, and how much there is of each
-/// thing that they have to share.
+/// What the workers share of the node: its desk, and who is told of what they do.
 #[derive(Drop)]
 struct Workshop<'a, R: Wait, L: Ledger, B: Sharing, G: Gate> {
     rt: &'a R,
     alloc: Global,
     desk: &'a SharedDesk<L, B>,
     gate: &'a G,
-    bounds: &'a Bounds,
 }
 
 /// Runs up to n workers, 1 to 264, on the connections of a channel until it is closed and empty,
@@ -61,8 +67,10 @@ struct Workshop<'a, R: Wait, L: Ledger, B: Sharing, G: Gate> {
 ///
 /// At most 256 associations are open at a time. A request is answered once it is there whole. The
 /// others that are open are counted, the request is answered, and its association is counted in, in
-/// one step under the lock of a `Door`; it is counted out when its session has ended. So with more
-/// than 256 workers one is left that rejects what is too much.
+/// one step under the lock of a `Door`; it is counted out when its session has ended, after its
+/// last write. The number that a session is told is that of the others: the door's, which is the
+/// sum of what each worker counts, one while its association is open and none else
+/// (`Gate::counted`). So with more than 256 workers one is left that rejects what is too much.
 ///
 /// All associations together hold at most `memory` bytes of data sets. One for which there is no
 /// room waits for it for a second; then what it brought is let go, and it is answered A700H.
@@ -92,16 +100,40 @@ pub fn workers<
         let pass = desk.pass(rt, alloc)?;
         passes.push_reserved(pass);
     }
-    let bounds = Bounds::new(memory);
     let workshop = Workshop {
         rt,
         alloc,
         desk,
         gate,
-        bounds: &bounds,
     };
-    start_as_needed(&workshop, connections, passes.as_mut_slice());
+    let (blank, room) = (Blank::new(PARTS), passes.as_mut_slice());
+    serve_all::<R, L, B, K, C, G, Brand>(&workshop, memory, connections, room, blank)?;
     Ok(passes)
+}
+
+/// The same, with a pass for each worker: behind a door of the brand D, so that no guest of another
+/// door can be handed in.
+fn serve_all<
+    R: Threads + Wait + Sync + time::Clock,
+    L: Ledger + Send,
+    B: Sharing + Send + Sync,
+    K: Link + Drop + Send,
+    C: Clock + Drop + Send,
+    G: Gate + Sync,
+    D: ledger::Ledger + Send,
+>(
+    workshop: &Workshop<'_, R, L, B, G>,
+    memory: u64,
+    connections: &Receiver<Connection<K, C>>,
+    passes: &mut [Pass<B>],
+    blank: Blank,
+) -> Result<(), AllocError>
+    requires blank { (blank.name ≡ D.name) × (blank.parts ≡ D.parts) × (D.parts ≡ 265) }
+    requires few { length passes.old ≤ 264 }
+{
+    let (bounds, guests) = Bounds::<D>::new(workshop.alloc, blank, passes.len(), memory)?;
+    start_as_needed(workshop, &bounds, connections, passes, guests);
+    Ok(())
 }
 
 /// Starts a worker, in a thread of its own, whenever no other waits for a connection, one for each
@@ -113,24 +145,27 @@ fn start_as_needed<
     K: Link + Drop + Send,
     C: Clock + Drop + Send,
     G: Gate + Sync,
+    D: ledger::Ledger + Send,
 >(
     workshop: &Workshop<'_, R, L, B, G>,
+    bounds: &Bounds<D>,
     connections: &Receiver<Connection<K, C>>,
     passes: &mut [Pass<B>],
+    guests: Vec<Outside<D>>,
 ) {
     thread::scope(
         thread::scope_env(),
         workshop.rt,
         move |scope|
             requires { IsSync R.row × IsSend L.row × IsSend B.row × IsSync B.row × IsSend K.row
-                × IsSend C.row × IsSync G.row }
+                × IsSend C.row × IsSync G.row × IsSend D.row }
         {
             let mut begun = 0usize;
-            for pass in passes {
-                if !workshop.bounds.staff.admit(workshop.rt) {
+            for (pass, guest) in passes.iter_mut().zip(guests) {
+                if !bounds.staff.admit(workshop.rt) {
                     return;
                 }
-                let started = scope.spawn(move || work(workshop, connections, pass));
+                let started = scope.spawn(move || work(workshop, bounds, connections, guest, pass));
                 if let Err(refused) = started {
                     workshop.gate.lacks(begun);
                     (refused.value)();
@@ -143,41 +178,62 @@ fn start_as_needed<
 }
 
 /// Serves until the channel is closed and empty.
-fn work<R: Wait + time::Clock, L: Ledger, B: Sharing, K: Link + Drop, C: Clock + Drop, G: Gate>(
+fn work<
+    R: Wait + time::Clock,
+    L: Ledger,
+    B: Sharing,
+    K: Link + Drop,
+    C: Clock + Drop,
+    G: Gate,
+    D: ledger::Ledger,
+>(
     workshop: &Workshop<'_, R, L, B, G>,
+    bounds: &Bounds<D>,
     connections: &Receiver<Connection<K, C>>,
+    guest: Outside<D>,
     pass: &mut Pass<B>,
 ) {
-    let (rt, staff) = (workshop.rt, &workshop.bounds.staff);
+    let (rt, staff, mut guest) = (workshop.rt, &bounds.staff, guest);
     for connection in connections.iter(rt) {
         staff.take(rt);
-        serve(workshop, connection, pass);
+        guest = serve(workshop, bounds, connection, guest, pass);
         staff.give_back(rt);
     }
     staff.end(rt);
 }
 
 /// Serves one connection to its end, however the session ends. The session counts from this moment,
-/// and its length from that at which the connection came.
-fn serve<R: Wait + time::Clock, L: Ledger, B: Sharing, K: Link + Drop, C: Clock + Drop, G: Gate>(
+/// and its length from that at which the connection came. The guest is outside again.
+fn serve<
+    R: Wait + time::Clock,
+    L: Ledger,
+    B: Sharing,
+    K: Link + Drop,
+    C: Clock + Drop,
+    G: Gate,
+    D: ledger::Ledger,
+>(
     workshop: &Workshop<'_, R, L, B, G>,
+    bounds: &Bounds<D>,
     connection: Connection<K, C>,
+    guest: Outside<D>,
     pass: &mut Pass<B>,
-) {
+) -> Outside<D> {
     let Connection {
         session,
         link,
         clock,
     } = connection;
     workshop.gate.at(session, Point::Taken);
-    let counts = SessionCounts::new();
+    let counts = SessionCounts::new(session);
     let opened = link.opened();
-    let ended = receive_gated(workshop, session, link, &clock, &counts, pass);
+    let (ended, guest) = receive_gated(workshop, bounds, link, &clock, &counts, guest, pass);
     workshop.gate.ended(
         session,
         ended,
         counts.tally(clock.now().saturating_sub(opened)),
     );
+    guest
 }
 
 /// The last moment that a clock tells, in milliseconds.
@@ -195,25 +251,53 @@ fn counted_from(taken: u64, awaits: u64) -> u64
         .min(LAST)
 }
 
-/// A session behind a gate. What came first is answered in its turn at the door; who was let in is
-/// counted out when the session has ended.
-fn receive_gated<R: Wait + time::Clock, L: Ledger, B: Sharing, K: Link + Drop, C: Clock, G: Gate>(
-    workshop: &Workshop<'_, R, L, B, G>,
-    session: u64,
+/// A session on a link that has counted the other associations: it is told just their number.
+fn receive_counted<K: CountingLink, P: DeskPort, C: Clock>(
+    alloc: Global,
+    link: &mut K,
+    site: &Site,
+    port: &mut P,
+    clock: &C,
+) -> Result<Ended, SessionFault>
+    ensures { EndsAs K.hears K.sends K.closes P.step (C.tells clock.now) (K.counted link.old)
+        kinds.Receive result
+        (place link.old port.old
+        (begins site.now.max_pdu (accepting site.now (K.opened_at link.old)))) link.new port.new }
+{
+    let others = link.others();
+    receive(alloc, link, site, port, clock, others)
+}
+
+/// A link behind a gate, once what comes first is there, and it is its turn at the door: what is
+/// ahead of its session is what its own connection brought.
+fn at_the_door<
+    'a,
+    R: Wait + time::Clock,
+    L: Ledger,
+    B: Sharing,
+    K: Link + Drop,
+    C: Clock,
+    G: Gate,
+    D: ledger::Ledger,
+>(
+    workshop: &'a Workshop<'a, R, L, B, G>,
+    bounds: &'a Bounds<D>,
     link: K,
     clock: &C,
-    counts: &SessionCounts,
-    pass: &mut Pass<B>,
-) -> Result<Ended, SessionFault> {
-    let (rt, alloc, desk) = (workshop.rt, workshop.alloc, workshop.desk);
-    let (gate, bounds) = (workshop.gate, workshop.bounds);
+    counts: &'a SessionCounts,
+    guest: Outside<D>,
+) -> GatedLink<'a, R, K, G, D>
+    ensures { IsAhead K.hears link result.ahead result.link }
+{
+    let (rt, alloc, gate, session) = (workshop.rt, workshop.alloc, workshop.gate, counts.session);
     let (mut link, taken) = (link, clock.now());
     let ahead = ahead_of(alloc, &mut link, gate, clock, taken);
     let request = request_in(alloc, &ahead);
     let taken = counted_from(taken, gate.awaits());
     let turn = bounds.door.lock(rt);
     let others = turn.count();
-    let mut link = GatedLink {
+    gate.counted(session, others, &turn);
+    GatedLink {
         rt,
         alloc,
         link,
@@ -221,7 +305,8 @@ fn receive_gated<R: Wait + time::Clock, L: Ledger, B: Sharing, K: Link + Drop, C
         request,
         turn: Some(turn),
         asked: false,
-        inside: false,
+        guest: guest.into_guest(),
+        others,
         gate,
         session,
         counts,
@@ -230,7 +315,31 @@ fn receive_gated<R: Wait + time::Clock, L: Ledger, B: Sharing, K: Link + Drop, C
         warned: false,
         taken,
         failures: 0,
-    };
+    }
+}
+
+/// A session behind a gate. What came first is answered in its turn at the door; who was let in is
+/// counted out when the session has ended.
+fn receive_gated<
+    R: Wait + time::Clock,
+    L: Ledger,
+    B: Sharing,
+    K: Link + Drop,
+    C: Clock,
+    G: Gate,
+    D: ledger::Ledger,
+>(
+    workshop: &Workshop<'_, R, L, B, G>,
+    bounds: &Bounds<D>,
+    link: K,
+    clock: &C,
+    counts: &SessionCounts,
+    guest: Outside<D>,
+    pass: &mut Pass<B>,
+) -> (Result<Ended, SessionFault>, Outside<D>) {
+    let (rt, alloc, desk) = (workshop.rt, workshop.alloc, workshop.desk);
+    let (gate, session) = (workshop.gate, counts.session);
+    let mut link = at_the_door(workshop, bounds, link, clock, counts, guest);
     let mut port = SessionPort {
         rt,
         alloc,
@@ -240,9 +349,6 @@ fn receive_gated<R: Wait + time::Clock, L: Ledger, B: Sharing, K: Link + Drop, C
         session,
         counts,
     };
-    let ended = receive(alloc, &mut link, desk.site(), &mut port, clock, others);
-    if link.leave() {
-        bounds.door.lock(rt).leave();
-    }
-    ended
+    let ended = receive_counted(alloc, &mut link, desk.site(), &mut port, clock);
+    (ended, link.leave(&bounds.door))
 }
