@@ -21,7 +21,7 @@ start-requires-clause-is g c = c.moment-at.ensures.is
 pub returns-in-Ok-clause-ends : goal.returns-in-Ok-clause-ends
 returns-in-Ok-clause-ends g c =
     delivers_started g.L.Link.hears g.L.Link.sends g.L.Link.closes g.P.DeskPort.step (g.C.Clock.tells c.args.clock.now) c.args.site.now c.args.dest.now c.in_ok-site.site c.request.result c.start.result
-    c.in-Ok.end c.in-Ok.actions c.moment-at.result.now c.args.link.now c.start.new.link c.args.port.now c.start.new.port c.in_ok-site.ensures c.in-Ok.is c.request.ensures c.moment-at.ensures.is.0 c.start.ensures.starts
+    c.in-Ok.end c.in-Ok.actions c.moment-at.result.now c.args.link.now c.start.new.self.link.now c.args.port.now c.start.new.self.port.now c.in_ok-site.ensures c.in-Ok.is c.request.ensures c.moment-at.ensures.is.0 c.start.ensures.starts
 
 pub returns-in-Ok-clause-counts : goal.returns-in-Ok-clause-counts
 returns-in-Ok-clause-counts g c = c.start.ensures.counts

@@ -16,10 +16,10 @@ returns-in_err-end-clause-counts g c = memory_counts c.from_residual.result _ _ 
 
 pub returns-in_err-ended-clause-echoes : goal.returns-in_err-ended-clause-echoes
 returns-in_err-ended-clause-echoes g c =
-    echoes_stopped g.L.Link.hears g.L.Link.sends g.L.Link.closes (g.C.Clock.tells c.args.clock.now) c.args.caller.now c.args.called.now c.in_err-ended.field-0.0 c.from_residual-in_err-ended.result c.args.link.now c.start.new.link c.start.new.port
+    echoes_stopped g.L.Link.hears g.L.Link.sends g.L.Link.closes (g.C.Clock.tells c.args.clock.now) c.args.caller.now c.args.called.now c.in_err-ended.field-0.0 c.from_residual-in_err-ended.result c.args.link.now c.start.new.self.link.now c.start.new.self.port.now
     c.from_residual-in_err-ended.ensures.0 c.from_residual-in_err-ended.ensures.1
     (echo_session g.L.Link.hears g.L.Link.sends g.L.Link.closes (g.C.Clock.tells c.args.clock.now) c.args.caller.now c.args.called.now (Err c.in_err-ended.field-0.0) c.in_ok-end.end c.in_ok-end.actions c.moment-at.result.now
-    c.args.link.now c.start.new.link _ c.start.new.port c.in_ok-end.ensures.end c.in_ok-end.ensures.actions refl c.moment-at.ensures.is.0 c.in_err-ended.ensures.starts)
+    c.args.link.now c.start.new.self.link.now _ c.start.new.self.port.now c.in_ok-end.ensures.end c.in_ok-end.ensures.actions refl c.moment-at.ensures.is.0 c.in_err-ended.ensures.starts)
 
 pub returns-in_err-ended-clause-counts : goal.returns-in_err-ended-clause-counts
 returns-in_err-ended-clause-counts g c =
@@ -31,7 +31,7 @@ start-requires-clause-is g c = c.moment-at.ensures.is
 pub returns-clause-echoes : goal.returns-clause-echoes
 returns-clause-echoes g c =
     echo_session g.L.Link.hears g.L.Link.sends g.L.Link.closes (g.C.Clock.tells c.args.clock.now) c.args.caller.now c.args.called.now (Ok c.in_ok-ended.ended) c.in_ok-end.end c.in_ok-end.actions c.moment-at.result.now
-    c.args.link.now c.start.new.link _ c.start.new.port c.in_ok-end.ensures.end c.in_ok-end.ensures.actions refl c.moment-at.ensures.is.0 c.in_ok-ended.ensures.starts
+    c.args.link.now c.start.new.self.link.now _ c.start.new.self.port.now c.in_ok-end.ensures.end c.in_ok-end.ensures.actions refl c.moment-at.ensures.is.0 c.in_ok-ended.ensures.starts
 
 pub returns-clause-counts : goal.returns-clause-counts
 returns-clause-counts g c = (c.in_ok-ended.ensures.counts.0, λ f. absurd f)

@@ -9,7 +9,7 @@ use Rattle.dr_session.proofs.sessions.receive.Goals as goal
 pub returns-clause-ends : goal.returns-clause-ends
 returns-clause-ends g c =
     let E : Terminal → Type 0 = λ x. EndsAs g.L.Link.hears g.L.Link.sends g.L.Link.closes g.P.DeskPort.step (g.C.Clock.tells c.args.clock.now) c.args.others Receive c.run.result (place c.args.link.now c.args.port.now x)
-    c.run.new.link c.run.new.port in
+    c.run.new.self.link.now c.run.new.self.port.now in
     subst E (c.in_ok-end.ensures ∙ (ap (λ (s : Part). begins s.max_pdu (accepting s c.opened.result)) c.in_ok-site.ensures
     ∙ ap (λ (n : ℕ). begins c.args.site.now.max_pdu (accepting c.args.site.now n)) c.opened.ensures.at)) c.run.ensures.ends
 
