@@ -7,6 +7,7 @@ pub mod Handing
 pub mod Idle
 pub mod InTurn
 pub mod Joining
+pub mod Keeping
 pub mod Named
 pub mod Owning
 pub mod Pieces

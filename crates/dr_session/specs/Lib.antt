@@ -14,5 +14,6 @@ pub mod Telling
 pub mod Turns
 pub mod Waits
 pub mod Links
+pub mod Sessions
 pub mod Spellings
 pub mod Ways

@@ -5,6 +5,7 @@ ghost use Rattle.dr_session.specs.Links.{Counts, PerformsOne, PerformsOr, Carrie
 ghost use Rattle.dr_session.specs.Links.{EndsAs, DeliversAs, EchoesAs, StartsAs, Finishes};
 ghost use Rattle.dr_session.specs.Links.{IsFaultBy, IsLinkFailure, IsMoment, IsWished, asked_by};
 ghost use Rattle.dr_session.specs.Links.{place, reads_by, refusal_of};
+ghost use Rattle.dr_session.specs.Sessions.{KeepsParts, place_of};
 ghost use Rattle.dr_plan_model.specs.Formed.{IsName};
 ghost use Rattle.dr_session.specs.declared.wishes.Kind.TheVariants as kinds;
 ghost use Rattle.dr_session.specs.declared.wishes.Wish.TheVariants as wishes;
@@ -98,129 +99,11 @@ fn moment<C: Clock>(clock: &C, others: usize) -> Moment
     }
 }
 
-/// The actions of an end. Where a write fails the end hears that the link is gone.
-fn carry_out<L: Link, P: DeskPort>(
-    actions: Seq<LinkAction>,
-    end: &mut End,
-    link: &mut L,
-    port: &mut P,
-    at: Moment,
-) -> Result<(), SessionFault>
-    requires { at.now ≤ 2 ^ 62 }
-    ensures does { CarriesOut L.sends L.closes P.step at actions (place link.old port.old end.old)
-        result (place link.new port.new end.new) }
-    ensures counts { Counts (IsLinkFailure result) (L.failed link.old) (L.failed link.new) }
-{
-    if perform(actions.as_slice(), link) {
-        return Ok(());
-    }
-    let _dropped = end.hear(Heard::Fault, port, at)?;
-    Err(SessionFault::Write)
-}
-
 /// Whether it is the link's fault.
 fn is_fault(heard: &Heard) -> bool
     ensures { IsFaultBy result heard.now }
 {
     matches!(heard, Heard::Fault)
-}
-
-/// One read, and what it does.
-fn hear_next<L: Link, P: DeskPort, C: Clock>(
-    end: &mut End,
-    link: &mut L,
-    port: &mut P,
-    clock: &C,
-    others: usize,
-) -> Result<(), SessionFault>
-    ensures does { GoesOn L.hears L.sends L.closes P.step (C.tells clock.now) others
-        (IsWished wishes.Listen) result (place link.old port.old end.old)
-        (place link.new port.new end.new) }
-    ensures counts { Counts (IsLinkFailure result) (L.failed link.old) (L.failed link.new) }
-{
-    let heard = link.recv();
-    let is_fault = is_fault(&heard);
-    let at = moment(clock, others);
-    let actions = end.hear(heard, port, at)?;
-    if is_fault {
-        return Err(SessionFault::Read);
-    }
-    carry_out(actions, end, link, port, at)
-}
-
-/// The first row that is due goes out.
-fn push_next<L: Link, P: DeskPort, C: Clock>(
-    end: &mut End,
-    link: &mut L,
-    port: &mut P,
-    clock: &C,
-    others: usize,
-) -> Result<(), SessionFault>
-    ensures does { GoesOn L.hears L.sends L.closes P.step (C.tells clock.now) others
-        (IsWished wishes.Push) result (place link.old port.old end.old)
-        (place link.new port.new end.new) }
-    ensures counts { Counts (IsLinkFailure result) (L.failed link.old) (L.failed link.new) }
-{
-    let at = moment(clock, others);
-    let actions = end.push(port, at)?;
-    carry_out(actions, end, link, port, at)
-}
-
-/// The release is asked for.
-fn ask_release<L: Link, P: DeskPort, C: Clock>(
-    end: &mut End,
-    link: &mut L,
-    port: &mut P,
-    clock: &C,
-    others: usize,
-) -> Result<(), SessionFault>
-    ensures does { GoesOn L.hears L.sends L.closes P.step (C.tells clock.now) others
-        (IsWished wishes.Release) result (place link.old port.old end.old)
-        (place link.new port.new end.new) }
-    ensures counts { Counts (IsLinkFailure result) (L.failed link.old) (L.failed link.new) }
-{
-    let at = moment(clock, others);
-    let actions = end.release(port, at)?;
-    carry_out(actions, end, link, port, at)
-}
-
-/// An echo is asked for.
-fn ask_echo<L: Link, P: DeskPort, C: Clock>(
-    end: &mut End,
-    link: &mut L,
-    port: &mut P,
-    clock: &C,
-    others: usize,
-) -> Result<(), SessionFault>
-    ensures does { GoesOn L.hears L.sends L.closes P.step (C.tells clock.now) others
-        (IsWished wishes.Echo) result (place link.old port.old end.old)
-        (place link.new port.new end.new) }
-    ensures counts { Counts (IsLinkFailure result) (L.failed link.old) (L.failed link.new) }
-{
-    let at = moment(clock, others);
-    let actions = end.echo(at.now)?;
-    carry_out(actions, end, link, port, at)
-}
-
-/// What is wished.
-fn go_on<L: Link, P: DeskPort, C: Clock>(
-    wish: Wish,
-    end: &mut End,
-    link: &mut L,
-    port: &mut P,
-    clock: &C,
-    others: usize,
-) -> Result<(), SessionFault>
-    ensures does { GoesOn L.hears L.sends L.closes P.step (C.tells clock.now) others (IsWished wish)
-        result (place link.old port.old end.old) (place link.new port.new end.new) }
-    ensures counts { Counts (IsLinkFailure result) (L.failed link.old) (L.failed link.new) }
-{
-    match wish {
-        Wish::Listen => hear_next(end, link, port, clock, others),
-        Wish::Push => push_next(end, link, port, clock, others),
-        Wish::Release => ask_release(end, link, port, clock, others),
-        Wish::Echo => ask_echo(end, link, port, clock, others),
-    }
 }
 
 /// How many reads were made.
@@ -256,34 +139,163 @@ fn finish(over: Over) -> Result<Ended, SessionFault>
     }
 }
 
-/// A session, until its end is over.
-fn run<L: Link, P: DeskPort, C: Clock>(
-    kind: Kind,
-    end: &mut End,
-    link: &mut L,
-    port: &mut P,
-    clock: &C,
+/// What a session works with: its link, its desk and its clock, and how many other associations its
+/// node has accepted.
+#[derive(Drop)]
+struct Session<'link, 'port, 'clock, L, P, C> {
+    link: &'link mut L,
+    port: &'port mut P,
+    clock: &'clock C,
     others: usize,
-) -> Result<Ended, SessionFault>
-    ensures ends { EndsAs L.hears L.sends L.closes P.step (C.tells clock.now) others kind result
-        (place link.old port.old end.old) link.new port.new }
-    ensures counts { Counts (IsLinkFailure result) (L.failed link.old) (L.failed link.new) }
-{
-    let mut reads = 0;
-    let mut asked = 0;
-    for _done in 0..MOST_DOINGS {
-        if let Some(over) = end.over() {
-            return finish(over);
+}
+
+impl<'link, 'port, 'clock, L: Link, P: DeskPort, C: Clock> Session<'link, 'port, 'clock, L, P, C> {
+    /// The actions of an end. Where a write fails the end hears that the link is gone.
+    fn carry_out(
+        &mut self,
+        actions: Seq<LinkAction>,
+        end: &mut End,
+        at: Moment,
+    ) -> Result<(), SessionFault>
+        requires { at.now ≤ 2 ^ 62 }
+        ensures does { CarriesOut L.sends L.closes P.step at actions (place_of self.old end.old)
+            result (place_of self.new end.new) }
+        ensures counts { Counts (IsLinkFailure result) (L.failed self.old.link.now)
+            (L.failed self.new.link.now) }
+        ensures keeps { KeepsParts self.old self.new }
+    {
+        if perform(actions.as_slice(), self.link) {
+            return Ok(());
         }
-        if reads == MOST_READS {
-            return Err(SessionFault::TooManyReads);
-        }
-        let wish = next_wish(kind, asked, end);
-        go_on(wish, end, link, port, clock, others)?;
-        reads = count_reads(wish, reads);
-        asked = count_asked(wish, asked);
+        let _dropped = end.hear(Heard::Fault, self.port, at)?;
+        Err(SessionFault::Write)
     }
-    Err(SessionFault::TooManyReads)
+
+    /// One read, and what it does.
+    fn hear_next(&mut self, end: &mut End) -> Result<(), SessionFault>
+        ensures does { GoesOn L.hears L.sends L.closes P.step (C.tells self.old.clock.now)
+            self.old.others (IsWished wishes.Listen) result (place_of self.old end.old)
+            (place_of self.new end.new) }
+        ensures counts { Counts (IsLinkFailure result) (L.failed self.old.link.now)
+            (L.failed self.new.link.now) }
+        ensures keeps { KeepsParts self.old self.new }
+    {
+        let heard = self.link.recv();
+        let is_fault = is_fault(&heard);
+        let at = moment(self.clock, self.others);
+        let actions = end.hear(heard, self.port, at)?;
+        if is_fault {
+            return Err(SessionFault::Read);
+        }
+        self.carry_out(actions, end, at)
+    }
+
+    /// The first row that is due goes out.
+    fn push_next(&mut self, end: &mut End) -> Result<(), SessionFault>
+        ensures does { GoesOn L.hears L.sends L.closes P.step (C.tells self.old.clock.now)
+            self.old.others (IsWished wishes.Push) result (place_of self.old end.old)
+            (place_of self.new end.new) }
+        ensures counts { Counts (IsLinkFailure result) (L.failed self.old.link.now)
+            (L.failed self.new.link.now) }
+        ensures keeps { KeepsParts self.old self.new }
+    {
+        let at = moment(self.clock, self.others);
+        let actions = end.push(self.port, at)?;
+        self.carry_out(actions, end, at)
+    }
+
+    /// The release is asked for.
+    fn ask_release(&mut self, end: &mut End) -> Result<(), SessionFault>
+        ensures does { GoesOn L.hears L.sends L.closes P.step (C.tells self.old.clock.now)
+            self.old.others (IsWished wishes.Release) result (place_of self.old end.old)
+            (place_of self.new end.new) }
+        ensures counts { Counts (IsLinkFailure result) (L.failed self.old.link.now)
+            (L.failed self.new.link.now) }
+        ensures keeps { KeepsParts self.old self.new }
+    {
+        let at = moment(self.clock, self.others);
+        let actions = end.release(self.port, at)?;
+        self.carry_out(actions, end, at)
+    }
+
+    /// An echo is asked for.
+    fn ask_echo(&mut self, end: &mut End) -> Result<(), SessionFault>
+        ensures does { GoesOn L.hears L.sends L.closes P.step (C.tells self.old.clock.now)
+            self.old.others (IsWished wishes.Echo) result (place_of self.old end.old)
+            (place_of self.new end.new) }
+        ensures counts { Counts (IsLinkFailure result) (L.failed self.old.link.now)
+            (L.failed self.new.link.now) }
+        ensures keeps { KeepsParts self.old self.new }
+    {
+        let at = moment(self.clock, self.others);
+        let actions = end.echo(at.now)?;
+        self.carry_out(actions, end, at)
+    }
+
+    /// What is wished.
+    fn go_on(&mut self, wish: Wish, end: &mut End) -> Result<(), SessionFault>
+        ensures does { GoesOn L.hears L.sends L.closes P.step (C.tells self.old.clock.now)
+            self.old.others (IsWished wish) result (place_of self.old end.old)
+            (place_of self.new end.new) }
+        ensures counts { Counts (IsLinkFailure result) (L.failed self.old.link.now)
+            (L.failed self.new.link.now) }
+        ensures keeps { KeepsParts self.old self.new }
+    {
+        match wish {
+            Wish::Listen => self.hear_next(end),
+            Wish::Push => self.push_next(end),
+            Wish::Release => self.ask_release(end),
+            Wish::Echo => self.ask_echo(end),
+        }
+    }
+
+    /// A session, until its end is over.
+    fn run(&mut self, kind: Kind, end: &mut End) -> Result<Ended, SessionFault>
+        ensures ends { EndsAs L.hears L.sends L.closes P.step (C.tells self.old.clock.now)
+            self.old.others kind result (place_of self.old end.old) self.new.link.now
+            self.new.port.now }
+        ensures counts { Counts (IsLinkFailure result) (L.failed self.old.link.now)
+            (L.failed self.new.link.now) }
+        ensures keeps { KeepsParts self.old self.new }
+    {
+        let mut reads = 0;
+        let mut asked = 0;
+        for _done in 0..MOST_DOINGS {
+            if let Some(over) = end.over() {
+                return finish(over);
+            }
+            if reads == MOST_READS {
+                return Err(SessionFault::TooManyReads);
+            }
+            let wish = next_wish(kind, asked, end);
+            self.go_on(wish, end)?;
+            reads = count_reads(wish, reads);
+            asked = count_asked(wish, asked);
+        }
+        Err(SessionFault::TooManyReads)
+    }
+
+    /// A requestor's session, from its request on.
+    fn start(
+        &mut self,
+        kind: Kind,
+        end: End,
+        actions: Seq<LinkAction>,
+        at: Moment,
+    ) -> Result<Ended, SessionFault>
+        requires is { IsMoment (C.tells self.now.clock.now) self.now.others at }
+        requires early { at.now ≤ 2 ^ 62 }
+        ensures starts { StartsAs L.hears L.sends L.closes P.step (C.tells self.old.clock.now)
+            self.old.others kind result self.old.link.now actions self.old.port.now end
+            self.new.link.now self.new.port.now }
+        ensures counts { Counts (IsLinkFailure result) (L.failed self.old.link.now)
+            (L.failed self.new.link.now) }
+        ensures keeps { KeepsParts self.old self.new }
+    {
+        let mut end = end;
+        self.carry_out(actions, &mut end, at)?;
+        self.run(kind, &mut end)
+    }
 }
 
 /// Serves an association that the other side asks for, to its end, while the node has accepted so
@@ -308,28 +320,13 @@ pub fn receive<L: Link, P: DeskPort, C: Clock>(
 {
     let site = site.copy()?;
     let mut end = End::accept(alloc, site, link.opened())?;
-    run(Kind::Receive, &mut end, link, port, clock, others)
-}
-
-/// A requestor's session, from its request on.
-fn start<L: Link, P: DeskPort, C: Clock>(
-    kind: Kind,
-    end: End,
-    actions: Seq<LinkAction>,
-    link: &mut L,
-    port: &mut P,
-    clock: &C,
-    at: Moment,
-) -> Result<Ended, SessionFault>
-    requires is { IsMoment (C.tells clock.now) 0 at }
-    requires early { at.now ≤ 2 ^ 62 }
-    ensures starts { StartsAs L.hears L.sends L.closes P.step (C.tells clock.now) 0 kind result
-        link.old actions port.old end link.new port.new }
-    ensures counts { Counts (IsLinkFailure result) (L.failed link.old) (L.failed link.new) }
-{
-    let mut end = end;
-    carry_out(actions, &mut end, link, port, at)?;
-    run(kind, &mut end, link, port, clock, 0)
+    let mut session = Session {
+        link,
+        port,
+        clock,
+        others,
+    };
+    session.run(Kind::Receive, &mut end)
 }
 
 /// Why there is no requestor's end.
@@ -361,7 +358,15 @@ pub fn deliver<L: Link, P: DeskPort, C: Clock>(
     let site = site.copy()?;
     let at = moment(clock, 0);
     match End::request(alloc, site, dest, at.now) {
-        Ok((end, actions)) => start(Kind::Deliver, end, actions, link, port, clock, at),
+        Ok((end, actions)) => {
+            let mut session = Session {
+                link,
+                port,
+                clock,
+                others: 0,
+            };
+            session.start(Kind::Deliver, end, actions, at)
+        }
         Err(fault) => Err(refusal(fault)),
     }
 }
@@ -386,7 +391,13 @@ pub fn echo<L: Link, C: Clock>(
     let at = moment(clock, 0);
     let (end, actions) = End::request_echo(alloc, caller, called, at.now)?;
     let mut desk = EchoDesk { status: None };
-    let ended = start(Kind::EchoOnce, end, actions, link, &mut desk, clock, at)?;
+    let mut session = Session {
+        link,
+        port: &mut desk,
+        clock,
+        others: 0,
+    };
+    let ended = session.start(Kind::EchoOnce, end, actions, at)?;
     Ok(Echoed {
         ended,
         status: desk.status,

@@ -1,8 +1,10 @@
-use Rattle.std.proofs.Common.{◌≡◌, List, Result, Ok, Err, subst, arith}
+use Rattle.std.proofs.Common.{◌≡◌, List, Result, Ok, Err, subst, arith, rules}
 use Rattle.dr_nego.specs.declared.fault.NegoFault.{NegoFault}
 use Rattle.dr_session.specs.declared.ends.Ended.{Ended}
 use Rattle.dr_session.specs.declared.ends.LinkAction.{LinkAction}
 use Rattle.dr_session.specs.Ends.{Terminal, OpensTo}
+use Rattle.dr_session.specs.Links.{DeliversAs, IsLinkFailure}
+use Rattle.dr_session.proofs.Keeping.{handed_back, counts_back}
 use Rattle.dr_session.proofs.Serving.{memory_counts}
 use Rattle.dr_session.proofs.Asking.{delivers_unbegun, delivers_refused, delivers_started, refusal_counts}
 use Rattle.dr_session.proofs.sessions.deliver.Goals as goal
@@ -20,11 +22,17 @@ start-requires-clause-is g c = c.moment-at.ensures.is
 
 pub returns-in-Ok-clause-ends : goal.returns-in-Ok-clause-ends
 returns-in-Ok-clause-ends g c =
-    delivers_started g.L.Link.hears g.L.Link.sends g.L.Link.closes g.P.DeskPort.step (g.C.Clock.tells c.args.clock.now) c.args.site.now c.args.dest.now c.in_ok-site.site c.request.result c.start.result
-    c.in-Ok.end c.in-Ok.actions c.moment-at.result.now c.args.link.now c.start.new.link c.args.port.now c.start.new.port c.in_ok-site.ensures c.in-Ok.is c.request.ensures c.moment-at.ensures.is.0 c.start.ensures.starts
+    let link : c.start.new.self.link.now ≡ c.link-1.given.0 = search rules in
+    let port : c.start.new.self.port.now ≡ c.port-1.given.0 = search rules in
+    handed_back (λ l t. DeliversAs g.L.Link.hears g.L.Link.sends g.L.Link.closes g.P.DeskPort.step (g.C.Clock.tells c.args.clock.now) 0 c.args.site.now c.args.dest.now c.start.result c.args.link.now c.args.port.now l t)
+    c.start.new.self.link.now c.link-1.given.0 c.start.new.self.port.now c.port-1.given.0 link port
+    (delivers_started g.L.Link.hears g.L.Link.sends g.L.Link.closes g.P.DeskPort.step (g.C.Clock.tells c.args.clock.now) c.args.site.now c.args.dest.now c.in_ok-site.site c.request.result c.start.result
+    c.in-Ok.end c.in-Ok.actions c.moment-at.result.now c.args.link.now c.start.new.self.link.now c.args.port.now c.start.new.self.port.now c.in_ok-site.ensures c.in-Ok.is c.request.ensures c.moment-at.ensures.is.0 c.start.ensures.starts)
 
 pub returns-in-Ok-clause-counts : goal.returns-in-Ok-clause-counts
-returns-in-Ok-clause-counts g c = c.start.ensures.counts
+returns-in-Ok-clause-counts g c =
+    let link : c.start.new.self.link.now ≡ c.link-1.given.0 = search rules in
+    counts_back g.L.Link.failed (IsLinkFailure c.start.result) (g.L.Link.failed c.args.link.now) c.start.new.self.link.now c.link-1.given.0 link c.start.ensures.counts
 
 pub returns-in-Err-clause-ends : goal.returns-in-Err-clause-ends
 returns-in-Err-clause-ends g c =
