@@ -1,5 +1,6 @@
 mod Just
 pub mod Leaving
+pub mod Listed
 pub mod Mapped
 pub mod Ordered
 pub mod Planned

@@ -12,4 +12,4 @@ mod site;
 mod trees;
 
 pub use history::History;
-pub use line::{HistoryFault, JournalLine};
+pub use line::{HistoryFault, JournalLine, entries_of};

@@ -1,7 +1,12 @@
-//! Lines of a journal, as a store keeps them.
+//! Lines of a journal, as a ledger keeps them.
+ghost use Rattle.std.specs.Prelude.{◌≡◌, IfOk, map as mapped};
+ghost use Rattle.dr_ledger.specs.Replies.{entry_of};
+ghost use Rattle.dr_ledger_history.specs.Lines.{line_of, lines_of};
+
 use dr_base::{Seq, Text};
-use dr_ledger::{Instance, Outcome};
-use std::alloc::{AllocError, AllocFailed};
+use dr_ledger::{Entry, Instance, Outcome};
+use dr_route::Key;
+use std::alloc::{AllocError, AllocFailed, Global};
 use thiserror::Error;
 
 /// A line of a journal: an accepted call, with the instance that an arrival was of.
@@ -41,6 +46,151 @@ pub enum JournalLine {
         uid: Text,
     },
     Adoption,
+}
+
+impl JournalLine {
+    /// What is shown of it.
+    pub fn entry(&self) -> Result<Entry, AllocError>
+        ensures { IfOk result (λ e. e ≡ entry_of (line_of self.now)) }
+    {
+        match self {
+            JournalLine::Arrival {
+                caller,
+                instance,
+                to,
+                keep,
+            } => {
+                let entry = arrival_entry(caller, instance, to, *keep)?;
+                Ok(entry)
+            }
+            JournalLine::Repeat { caller, instance } => {
+                let entry = repeat_entry(caller, instance)?;
+                Ok(entry)
+            }
+            JournalLine::Settling {
+                uid,
+                dest,
+                outcome,
+                now,
+            } => {
+                let entry = settling_entry(uid, dest, *outcome, *now)?;
+                Ok(entry)
+            }
+            JournalLine::Requeuing { uid, dest } => {
+                let entry = requeuing_entry(uid, dest)?;
+                Ok(entry)
+            }
+            JournalLine::Dropping { uid, dest, now } => {
+                let entry = dropping_entry(uid, dest, *now)?;
+                Ok(entry)
+            }
+            JournalLine::Forgetting { uid } => {
+                let entry = forgetting_entry(uid)?;
+                Ok(entry)
+            }
+            JournalLine::Adoption => Ok(Entry::Adoption),
+        }
+    }
+}
+
+/// What is shown of these, in order.
+pub fn entries_of(alloc: Global, lines: &[JournalLine]) -> Result<Seq<Entry>, AllocError>
+    ensures { IfOk result (λ all. all ≡ mapped entry_of (lines_of lines.now)) }
+{
+    let mut all = Seq::new(alloc);
+    for line in lines {
+        all.push(line.entry()?)?;
+    }
+    Ok(all)
+}
+
+fn arrival_entry(
+    caller: &Text,
+    instance: &Instance,
+    to: &Seq<Text>,
+    keep: bool,
+) -> Result<Entry, AllocError>
+    ensures { IfOk result (λ e.
+        e ≡ entry_of (line_of (JournalLine.Arrival caller.now instance.now to.now keep))) }
+{
+    let entry = Entry::Arrival {
+        caller: caller.clone()?,
+        uid: instance.uid.clone()?,
+        key: key_of(instance)?,
+        length: instance.size,
+        to: names_of(to)?,
+        keep,
+    };
+    Ok(entry)
+}
+
+fn repeat_entry(caller: &Text, instance: &Instance) -> Result<Entry, AllocError>
+    ensures { IfOk result (λ e.
+        e ≡ entry_of (line_of (JournalLine.Repeat caller.now instance.now))) }
+{
+    let entry = Entry::Repeat {
+        caller: caller.clone()?,
+        uid: instance.uid.clone()?,
+        key: key_of(instance)?,
+        length: instance.size,
+    };
+    Ok(entry)
+}
+
+fn settling_entry(uid: &Text, dest: &Text, outcome: Outcome, now: u64) -> Result<Entry, AllocError>
+    ensures { IfOk result (λ e.
+        e ≡ entry_of (line_of (JournalLine.Settling uid.now dest.now outcome now))) }
+{
+    let entry = Entry::Settling {
+        uid: uid.clone()?,
+        dest: dest.clone()?,
+        outcome,
+        now,
+    };
+    Ok(entry)
+}
+
+fn requeuing_entry(uid: &Text, dest: &Text) -> Result<Entry, AllocError>
+    ensures { IfOk result (λ e. e ≡ entry_of (line_of (JournalLine.Requeuing uid.now dest.now))) }
+{
+    let entry = Entry::Requeuing {
+        uid: uid.clone()?,
+        dest: dest.clone()?,
+    };
+    Ok(entry)
+}
+
+fn dropping_entry(uid: &Text, dest: &Text, now: u64) -> Result<Entry, AllocError>
+    ensures { IfOk result (λ e.
+        e ≡ entry_of (line_of (JournalLine.Dropping uid.now dest.now now))) }
+{
+    let entry = Entry::Dropping {
+        uid: uid.clone()?,
+        dest: dest.clone()?,
+        now,
+    };
+    Ok(entry)
+}
+
+fn forgetting_entry(uid: &Text) -> Result<Entry, AllocError>
+    ensures { IfOk result (λ e. e ≡ entry_of (line_of (JournalLine.Forgetting uid.now))) }
+{
+    let uid = uid.clone()?;
+    Ok(Entry::Forgetting { uid })
+}
+
+fn key_of(instance: &Instance) -> Result<Key, AllocError>
+    ensures { IfOk result (λ k. k ≡ instance.now.key) }
+{
+    let key = instance.key.clone()?;
+    Ok(key)
+}
+
+fn names_of(names: &Seq<Text>) -> Result<Seq<Text>, AllocError>
+    ensures { IfOk result (λ s. s ≡ names.now) }
+{
+    let copy = names.clone()?;
+    Ok(copy)
 }
 
 /// Why a line isn't taken.

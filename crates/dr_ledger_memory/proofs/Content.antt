@@ -22,22 +22,22 @@ use Rattle.dr_ledger.proofs.Forgotten.{arrival_is, item_is, row_is}
 use Rattle.std.specs.Cmp.{eq_by_cmp_equiv}
 use Rattle.dr_ledger.proofs.Growing.{dropped_is, not_over_is, requeued_is, settled_is}
 use Rattle.dr_ledger.proofs.Maps.{texts, text_pairs, ties_itself}
+use Rattle.dr_ledger_history.specs.declared.line.JournalLine.{JournalLine}
+use Rattle.dr_ledger_history.specs.declared.line.JournalLine.TheVariants as note
+use Rattle.dr_ledger_history.specs.Lines.{line_of, lines_of}
 use Rattle.dr_ledger_memory.specs.declared.held.Held.{Held as Entry}
-use Rattle.dr_ledger_memory.specs.declared.note.Note.{Note}
-use Rattle.dr_ledger_memory.specs.declared.note.Note.TheVariants as note
 use Rattle.dr_ledger_memory.specs.declared.parts.Parts.{Parts}
 use Rattle.dr_ledger_memory.specs.Changes.{IsAdopted, IsDropped, IsForgotten, IsMoved, IsNoted, IsPrunedIn, IsPutAt, IsSame, MovesAt, at}
 use Rattle.dr_ledger_memory.specs.Contents.{all_rows, collected, content, data_sets, kept_mark, keys}
 use Rattle.dr_ledger_memory.specs.Entries.{Row, filled, filled_at, instance_in, is_kept_in, is_open, row_in, rows_in}
-use Rattle.dr_ledger_memory.specs.Notes.{line_of, lines_of}
 use Rattle.dr_ledger_memory.proofs.Lookups.{arrival_at, item_at, kept_at, pair_ties, row_at}
 use Rattle.dr_ledger_memory.proofs.Whole.{above, nothing_found, no_both, t_left, t_right}
 
-pub pushed : (notes : List Note) (note : Note) → lines_of (notes ++ note ∷ []) ≡ lines_of notes ++ line_of note ∷ []
+pub pushed : (notes : List JournalLine) (note : JournalLine) → lines_of (notes ++ note ∷ []) ≡ lines_of notes ++ line_of note ∷ []
 pushed [] note = refl
 pushed (first ∷ notes) note = ap (λ ls. line_of first ∷ ls) (pushed notes note)
 
-lines_with : (p q : Parts) (note : Note) (line : Line) → q.notes.items ≡ p.notes.items ++ note ∷ [] → line_of note ≡ line → (content q).lines ≡ (content p).lines ++ line ∷ []
+lines_with : (p q : Parts) (note : JournalLine) (line : Line) → q.notes.items ≡ p.notes.items ++ note ∷ [] → line_of note ≡ line → (content q).lines ≡ (content p).lines ++ line ∷ []
 lines_with p q note line notes is = ap lines_of notes ∙ (pushed p.notes.items note ∙ ap (λ x. lines_of p.notes.items ++ x ∷ []) is)
 
 arrivals_alike : (p q : Parts) → ((key : Pair) → sorted.contains pair_cmp q.arrivals key ≡ sorted.contains pair_cmp p.arrivals key) → (content q).arrivals ≡ (content p).arrivals
@@ -57,7 +57,7 @@ pub same_data_sets : (p q : Parts) → q.held.entries ≡ p.held.entries → dat
 same_data_sets p q same = ap (λ es. map.from_entries (collected (λ entry. entry.body) es)) same
 
 -- ---- a line alone
-pub repeated_is : (p q : Parts) (caller : Text) (item : Instance) (note : Note) → IsNoted p note q → line_of note ≡ Repeat caller item → content q ≡ after (Repeat caller item) (content p)
+pub repeated_is : (p q : Parts) (caller : Text) (item : Instance) (note : JournalLine) → IsNoted p note q → line_of note ≡ Repeat caller item → content q ≡ after (Repeat caller item) (content p)
 repeated_is p q caller item note n is = λ j. record {
   items = map.from_entries (collected (λ entry. Some entry.instance) (n.held j));
   arrivals = arrivals_alike p q n.arrivals j;
@@ -127,7 +127,7 @@ rows_fill (to ∷ tos) m rows g uid has u d =
 
 module _ (p q : Parts) (sp : tree.IsOrdered text_cmp p.held) (sq : tree.IsOrdered text_cmp q.held) where
   -- the item's entry is put in, the rest stays
-  pub brought_is : (caller : Text) (item : Instance) (to : List Text) (keep : Bool) (note : Note) (entry : Entry) →
+  pub brought_is : (caller : Text) (item : Instance) (to : List Text) (keep : Bool) (note : JournalLine) (entry : Entry) →
       entry.instance ≡ unwrap_or (instance_in (at p.held item.uid)) item → entry.is_kept ≡ (is_kept_in (at p.held item.uid) || keep) →
       entry.rows.items ≡ filled (rows_in (at p.held item.uid)) to → IsPutAt p.held item.uid entry q.held →
       ((key : Pair) → sorted.contains pair_cmp q.arrivals key ≡ (eq_by_cmp pair_cmp key (caller, item.uid) || sorted.contains pair_cmp p.arrivals key)) →
@@ -214,7 +214,7 @@ module _ (p q : Parts) (sp : tree.IsOrdered text_cmp p.held) (sq : tree.IsOrdere
       was true e = ap (λ o. row_in o d) (sym m.2) ∙ ap (λ x. row_in (at p.held x) d) (sym (tells_apart texts.exact u uid e))
       was false e = refl
 
-  moved_as : (arrivals : FinSet pair_cmp) (note : Note) (line : Line) → (content q).arrivals ≡ arrivals → q.notes.items ≡ p.notes.items ++ note ∷ [] → line_of note ≡ line →
+  moved_as : (arrivals : FinSet pair_cmp) (note : JournalLine) (line : Line) → (content q).arrivals ≡ arrivals → q.notes.items ≡ p.notes.items ++ note ∷ [] → line_of note ≡ line →
       content q ≡ record { items = (content p).items; arrivals = arrivals; kept = (content p).kept; rows = map.insert (content p).rows (uid, dest) progress; lines = (content p).lines ++ line ∷ [] }
   moved_as arrivals note line alike notes is = λ j. record {
     items = map.same_map texts.total texts.exact (content q).items (content p).items (λ u.
@@ -227,7 +227,7 @@ module _ (p q : Parts) (sp : tree.IsOrdered text_cmp p.held) (sq : tree.IsOrdere
     lines = lines_with p q note line notes is j;
   }
 
-module _ (p q : Parts) (sp : tree.IsOrdered text_cmp p.held) (sq : tree.IsOrdered text_cmp q.held) (uid dest : Text) (progress : Progress) (note : Note) (m : IsMoved p uid dest progress note q) where
+module _ (p q : Parts) (sp : tree.IsOrdered text_cmp p.held) (sq : tree.IsOrdered text_cmp q.held) (uid dest : Text) (progress : Progress) (note : JournalLine) (m : IsMoved p uid dest progress note q) where
   moved_is : (line : Line) → line_of note ≡ line →
       content q ≡ record { items = (content p).items; arrivals = (content p).arrivals; kept = (content p).kept; rows = map.insert (content p).rows (uid, dest) progress; lines = (content p).lines ++ line ∷ [] }
   moved_is line is = moved_as p q sp sq uid dest progress m.held (content p).arrivals note line (arrivals_alike p q m.arrivals) m.notes is
@@ -247,7 +247,7 @@ module _ (p q : Parts) (sp : tree.IsOrdered text_cmp p.held) (sq : tree.IsOrdere
       ∙ sym (requeued_is uid dest why (content p) held))
 
 -- ---- a dropping
-pub dropped_so : (p q : Parts) (sp : tree.IsOrdered text_cmp p.held) (sq : tree.IsOrdered text_cmp q.held) (uid dest : Text) (note : Note) → IsDropped p uid dest note q → (now : ℕ) (why : Cause) →
+pub dropped_so : (p q : Parts) (sp : tree.IsOrdered text_cmp p.held) (sq : tree.IsOrdered text_cmp q.held) (uid dest : Text) (note : JournalLine) → IsDropped p uid dest note q → (now : ℕ) (why : Cause) →
     map.get (content p).rows (uid, dest) ≡ Some (Held why) → line_of note ≡ Dropping uid dest now → content q ≡ after (Dropping uid dest now) (content p)
 dropped_so p q sp sq uid dest note d now why held line =
     let left : FinSet pair_cmp = set.retain (content p).arrivals (λ at. is_other uid at.1) in
@@ -342,7 +342,7 @@ no_mark : (b m : Bool) → (b ≡ true → m ≡ false) → cond b false m ≡ m
 no_mark true m h = sym (h refl)
 no_mark false m h = refl
 
-module _ (p q : Parts) (sp : tree.IsOrdered text_cmp p.held) (sq : tree.IsOrdered text_cmp q.held) (uid : Text) (note : Note) (f : IsForgotten p uid note q) where
+module _ (p q : Parts) (sp : tree.IsOrdered text_cmp p.held) (sq : tree.IsOrdered text_cmp q.held) (uid : Text) (note : JournalLine) (f : IsForgotten p uid note q) where
   pub left_at : (u : Text) → at q.held u ≡ cond (eq_by_cmp text_cmp u uid) None (at p.held u)
   left_at u = f.held u ∙ ap (λ b. cond b None (at p.held u)) ((eq_by_cmp_equiv texts.total).symm uid u)
 

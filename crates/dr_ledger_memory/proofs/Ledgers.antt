@@ -37,8 +37,9 @@ use Rattle.dr_ledger.proofs.Folding.{adoptions_are_journalled, arrivals_are_jour
 use Rattle.dr_ledger.proofs.Growing.{inside}
 use Rattle.dr_ledger.proofs.Maps.{texts, cases_of}
 use Rattle.dr_ledger.proofs.PlanRouting.{keeps_by_where_kept, one_list, targets_by_are_in_order, targets_by_are_sent_to}
+use Rattle.dr_ledger_history.specs.declared.line.JournalLine.{JournalLine}
+use Rattle.dr_ledger_history.specs.Lines.{line_of, lines_of}
 use Rattle.dr_ledger_memory.specs.declared.held.Held.{Held as Entry}
-use Rattle.dr_ledger_memory.specs.declared.note.Note.{Note}
 use Rattle.dr_ledger_memory.specs.declared.parts.Bringing.{Bringing}
 use Rattle.dr_ledger_memory.specs.declared.parts.Parts.{Parts}
 use Rattle.dr_ledger_memory.specs.Bringings.{IsFor}
@@ -46,7 +47,6 @@ use Rattle.dr_ledger_memory.specs.Changes.{IsAdopted, IsBrought, IsDropped, IsFo
 use Rattle.dr_ledger_memory.specs.Contents.{all_rows, collected, content, data_sets, kept_mark, keys}
 use Rattle.dr_ledger_memory.specs.Dues.{Covers, Due, due_cmp}
 use Rattle.dr_ledger_memory.specs.Entries.{IsTaken, body_in, instance_in, is_kept_in, needs, let_go, row_in, rows_in}
-use Rattle.dr_ledger_memory.specs.Notes.{line_of, lines_of}
 use Rattle.dr_ledger_memory.specs.Sound.{AreWhole, IsSound}
 use Rattle.dr_ledger_memory.proofs.Content.{adopted_is, dropped_so, forgotten_is, left_at, brought_is, opened_some, pruned_row, repeated_is, requeued_so, same_content, same_data_sets, settled_so}
 use Rattle.dr_ledger_memory.proofs.Lookups.{body_at, item_at, row_at}
@@ -88,7 +88,7 @@ same_sound part p q s covers h = record {
 }
 
 -- ---- another arrival
-pub repeat_sound : (part : Part) (p q : Parts) (caller : Text) (item : Instance) (note : Note) → IsNoted p note q → line_of note ≡ Repeat caller item → IsAdmitted (site_routing part) caller item (content p) →
+pub repeat_sound : (part : Part) (p q : Parts) (caller : Text) (item : Instance) (note : JournalLine) → IsNoted p note q → line_of note ≡ Repeat caller item → IsAdmitted (site_routing part) caller item (content p) →
     set.contains (content p).arrivals (caller, item.uid) ≡ true → q.held ≡ p.held → q.waiting ≡ p.waiting → IsSound part p → IsSound part q
 repeat_sound part p q caller item note n line admitted again held waiting h = record {
   journalled = journal_on (site_routing part) (content p) (content q) (λ past j. arrivals_are_journalled (site_routing part) past caller item (content p) (content q) (Ok Again) j
@@ -193,7 +193,7 @@ module _ (part : Part) (p q : Parts) (sp : tree.IsOrdered text_cmp p.held) (sq :
 pub same_lets_go : (p q : Parts) → q.held.entries ≡ p.held.entries → OnlyLetsGo (data_sets p) (data_sets q)
 same_lets_go p q same u body h = ap (λ (b : Bodies). map.get b u) (sym (same_data_sets p q same)) ∙ h
 
-pub settled_sound : (part : Part) (p q : Parts) (sp : tree.IsOrdered text_cmp p.held) (sq : tree.IsOrdered text_cmp q.held) (uid dest : Text) (progress : Progress) (note : Note) (outcome : Outcome) (now tries due : ℕ) →
+pub settled_sound : (part : Part) (p q : Parts) (sp : tree.IsOrdered text_cmp p.held) (sq : tree.IsOrdered text_cmp q.held) (uid dest : Text) (progress : Progress) (note : JournalLine) (outcome : Outcome) (now tries due : ℕ) →
     map.get (content p).rows (uid, dest) ≡ Some (Waiting tries due) → now ≤ 2 ^ 62 → progress ≡ row_after tries outcome now → line_of note ≡ Settling uid dest outcome now → IsMoved p uid dest progress note q →
     (Covers p.waiting p.held → Covers q.waiting q.held) → IsSound part p → IsSound part q
 settled_sound part p q sp sq uid dest progress note outcome now tries due row early is line m covers h = record {
@@ -203,7 +203,7 @@ settled_sound part p q sp sq uid dest progress note outcome now tries due row ea
   covered = covers h.covered;
 }
 
-pub requeued_sound : (part : Part) (p q : Parts) (sp : tree.IsOrdered text_cmp p.held) (sq : tree.IsOrdered text_cmp q.held) (uid dest : Text) (progress : Progress) (note : Note) (why : Cause) →
+pub requeued_sound : (part : Part) (p q : Parts) (sp : tree.IsOrdered text_cmp p.held) (sq : tree.IsOrdered text_cmp q.held) (uid dest : Text) (progress : Progress) (note : JournalLine) (why : Cause) →
     map.get (content p).rows (uid, dest) ≡ Some (Held why) → progress ≡ Waiting 0 0 → line_of note ≡ Requeuing uid dest → IsMoved p uid dest progress note q →
     (Covers p.waiting p.held → Covers q.waiting q.held) → IsSound part p → IsSound part q
 requeued_sound part p q sp sq uid dest progress note why row is line m covers h = record {
@@ -213,7 +213,7 @@ requeued_sound part p q sp sq uid dest progress note why row is line m covers h 
   covered = covers h.covered;
 }
 
-pub dropped_sound : (part : Part) (p q : Parts) (sp : tree.IsOrdered text_cmp p.held) (sq : tree.IsOrdered text_cmp q.held) (uid dest : Text) (note : Note) (now : ℕ) (why : Cause) →
+pub dropped_sound : (part : Part) (p q : Parts) (sp : tree.IsOrdered text_cmp p.held) (sq : tree.IsOrdered text_cmp q.held) (uid dest : Text) (note : JournalLine) (now : ℕ) (why : Cause) →
     map.get (content p).rows (uid, dest) ≡ Some (Held why) → now ≤ 2 ^ 62 → line_of note ≡ Dropping uid dest now → IsDropped p uid dest note q →
     (Covers p.waiting p.held → Covers q.waiting q.held) → IsSound part p → IsSound part q
 dropped_sound part p q sp sq uid dest note now why row early line d covers h = record {
@@ -257,7 +257,7 @@ module _ (routing : Routing) (p : Parts) (sp : tree.IsOrdered text_cmp p.held) (
   conflicting entry there differ = (entry.instance, item_at p sp item.uid ∙ ap instance_in there, differ)
 
 -- ---- a call that went through, or for which there was no memory
-pub repeat_kept : (part : Part) (p q : Parts) (caller : Text) (item : Instance) (note : Note) → IsNoted p note q ⊎ IsSame p q → line_of note ≡ Repeat caller item → IsAdmitted (site_routing part) caller item (content p) →
+pub repeat_kept : (part : Part) (p q : Parts) (caller : Text) (item : Instance) (note : JournalLine) → IsNoted p note q ⊎ IsSame p q → line_of note ≡ Repeat caller item → IsAdmitted (site_routing part) caller item (content p) →
     set.contains (content p).arrivals (caller, item.uid) ≡ true → q.held ≡ p.held → q.waiting ≡ p.waiting → ∥ IsSound part p ∥₁ → ∥ IsSound part q ∥₁
 repeat_kept part p q caller item note change line admitted again held waiting h = elim change [
   | inl n ↦ ∥∥₁_map h (repeat_sound part p q caller item note n line admitted again held waiting)
@@ -274,7 +274,7 @@ bring_kept part p q sp sq caller job targets new sends ordered keeps f admitted 
   | inr s ↦ ∥∥₁_map h (same_sound part p q s covers)
 ]
 
-pub settle_kept : (part : Part) (p q : Parts) (sp : tree.IsOrdered text_cmp p.held) (sq : tree.IsOrdered text_cmp q.held) (uid dest : Text) (progress : Progress) (note : Note) (outcome : Outcome) (now tries due : ℕ) →
+pub settle_kept : (part : Part) (p q : Parts) (sp : tree.IsOrdered text_cmp p.held) (sq : tree.IsOrdered text_cmp q.held) (uid dest : Text) (progress : Progress) (note : JournalLine) (outcome : Outcome) (now tries due : ℕ) →
     map.get (content p).rows (uid, dest) ≡ Some (Waiting tries due) → now ≤ 2 ^ 62 → progress ≡ row_after tries outcome now → line_of note ≡ Settling uid dest outcome now →
     IsMoved p uid dest progress note q ⊎ IsSame p q → (Covers p.waiting p.held → Covers q.waiting q.held) → ∥ IsSound part p ∥₁ → ∥ IsSound part q ∥₁
 settle_kept part p q sp sq uid dest progress note outcome now tries due row early is line change covers h = elim change [
@@ -282,7 +282,7 @@ settle_kept part p q sp sq uid dest progress note outcome now tries due row earl
   | inr s ↦ ∥∥₁_map h (same_sound part p q s covers)
 ]
 
-pub requeue_kept : (part : Part) (p q : Parts) (sp : tree.IsOrdered text_cmp p.held) (sq : tree.IsOrdered text_cmp q.held) (uid dest : Text) (progress : Progress) (note : Note) (why : Cause) →
+pub requeue_kept : (part : Part) (p q : Parts) (sp : tree.IsOrdered text_cmp p.held) (sq : tree.IsOrdered text_cmp q.held) (uid dest : Text) (progress : Progress) (note : JournalLine) (why : Cause) →
     map.get (content p).rows (uid, dest) ≡ Some (Held why) → progress ≡ Waiting 0 0 → line_of note ≡ Requeuing uid dest →
     IsMoved p uid dest progress note q ⊎ IsSame p q → (Covers p.waiting p.held → Covers q.waiting q.held) → ∥ IsSound part p ∥₁ → ∥ IsSound part q ∥₁
 requeue_kept part p q sp sq uid dest progress note why row is line change covers h = elim change [
@@ -290,7 +290,7 @@ requeue_kept part p q sp sq uid dest progress note why row is line change covers
   | inr s ↦ ∥∥₁_map h (same_sound part p q s covers)
 ]
 
-pub drop_kept : (part : Part) (p q : Parts) (sp : tree.IsOrdered text_cmp p.held) (sq : tree.IsOrdered text_cmp q.held) (uid dest : Text) (note : Note) (now : ℕ) (why : Cause) →
+pub drop_kept : (part : Part) (p q : Parts) (sp : tree.IsOrdered text_cmp p.held) (sq : tree.IsOrdered text_cmp q.held) (uid dest : Text) (note : JournalLine) (now : ℕ) (why : Cause) →
     map.get (content p).rows (uid, dest) ≡ Some (Held why) → now ≤ 2 ^ 62 → line_of note ≡ Dropping uid dest now →
     IsDropped p uid dest note q ⊎ IsSame p q → (Covers p.waiting p.held → Covers q.waiting q.held) → ∥ IsSound part p ∥₁ → ∥ IsSound part q ∥₁
 drop_kept part p q sp sq uid dest note now why row early line change covers h = elim change [
@@ -316,7 +316,7 @@ adopt_either part p q sp sq change waiting h = elim change [
 ]
 
 -- ---- a forgetting
-module _ (p q : Parts) (sp : tree.IsOrdered text_cmp p.held) (sq : tree.IsOrdered text_cmp q.held) (uid : Text) (note : Note) (f : IsForgotten p uid note q) where
+module _ (p q : Parts) (sp : tree.IsOrdered text_cmp p.held) (sq : tree.IsOrdered text_cmp q.held) (uid : Text) (note : JournalLine) (f : IsForgotten p uid note q) where
   was_there : {X : Type 0} (b : Bool) (o : Option X) (x : X) → cond b None o ≡ Some x → o ≡ Some x
   was_there true o x h = absurd (nothing_found x h)
   was_there false o x h = h
@@ -342,7 +342,7 @@ module _ (p q : Parts) (sp : tree.IsOrdered text_cmp p.held) (sq : tree.IsOrdere
         (h.covered u dest tries due (was_row (eq_by_cmp text_cmp u uid) (at p.held u) dest (Waiting tries due) (sym (ap (λ o. row_in o dest) (left_at p q sp sq uid note f u)) ∙ r)));
   }
 
-pub forget_kept : (part : Part) (p q : Parts) (sp : tree.IsOrdered text_cmp p.held) (sq : tree.IsOrdered text_cmp q.held) (uid : Text) (note : Note) → IsOver (content p) uid → line_of note ≡ Forgetting uid →
+pub forget_kept : (part : Part) (p q : Parts) (sp : tree.IsOrdered text_cmp p.held) (sq : tree.IsOrdered text_cmp q.held) (uid : Text) (note : JournalLine) → IsOver (content p) uid → line_of note ≡ Forgetting uid →
     IsForgotten p uid note q ⊎ IsSame p q → q.waiting ≡ p.waiting → ∥ IsSound part p ∥₁ → ∥ IsSound part q ∥₁
 forget_kept part p q sp sq uid note over line change waiting h = elim change [
   | inl f ↦ ∥∥₁_map h (forgotten_sound p q sp sq uid note f part over line waiting)

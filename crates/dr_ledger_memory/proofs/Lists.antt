@@ -19,15 +19,13 @@ use Rattle.dr_base.specs.Texts.{Text, text_cmp}
 use Rattle.dr_ledger.specs.declared.item.Instance.{Instance}
 use Rattle.dr_ledger.specs.declared.item.Progress.{Progress}
 use Rattle.dr_ledger.specs.Pairs.{Pair, pair_cmp}
-use Rattle.dr_ledger.specs.Replies.{AreKept, Lists, entry_of}
+use Rattle.dr_ledger.specs.Replies.{AreKept, Lists}
 use Rattle.dr_ledger.proofs.Maps.{texts, text_pairs, ties_itself}
 use Rattle.dr_ledger_memory.specs.declared.held.Held.{Held as Entry}
 use Rattle.dr_ledger_memory.specs.declared.parts.Parts.{Parts}
 use Rattle.dr_ledger_memory.specs.Contents.{all_rows, collected, content, kept_list, kept_mark, keys, one_more, own_rows}
 use Rattle.dr_ledger_memory.specs.Entries.{Row, instance_in}
 use Rattle.dr_ledger_memory.specs.Changes.{at}
-use Rattle.dr_ledger_memory.specs.declared.note.Note.{Note}
-use Rattle.dr_ledger_memory.specs.Notes.{line_of, lines_of}
 use Rattle.dr_ledger_memory.proofs.Lookups.{arrival_at, head_of, item_at, rest_of}
 use Rattle.dr_ledger_memory.proofs.Whole.{t_left, t_right}
 
@@ -157,11 +155,6 @@ module _ (p : Parts) (order : tree.IsOrdered text_cmp p.held) where
         );
       } in
       subst P (sym is) (subst Q (sym (kept_keys p.held.entries)) listed, measured p.held.entries (All-found texts.total p.held order))
-
--- ---- the journal
-pub listed_lines : (notes : List Note) → mapped (λ (n : Note). entry_of (line_of n)) notes ≡ mapped entry_of (lines_of notes)
-listed_lines [] = refl
-listed_lines (n ∷ notes) = ap (λ es. entry_of (line_of n) ∷ es) (listed_lines notes)
 
 pub append_nil : {X : Type 0} (xs : List X) → xs ++ [] ≡ xs
 append_nil [] = refl

@@ -8,9 +8,9 @@ use Rattle.dr_route.specs.declared.rule.Targets.{Targets}
 use Rattle.dr_ledger.specs.declared.content.Job.{Job}
 use Rattle.dr_ledger.specs.declared.item.Progress.{Progress}
 use Rattle.dr_ledger.specs.Pairs.{Pair, pair_cmp}
+use Rattle.dr_ledger_history.specs.declared.line.JournalLine.{JournalLine}
+use Rattle.dr_ledger_history.specs.declared.line.JournalLine.TheVariants as note
 use Rattle.dr_ledger_memory.specs.declared.bringing.Copies.{Copies}
-use Rattle.dr_ledger_memory.specs.declared.note.Note.{Note}
-use Rattle.dr_ledger_memory.specs.declared.note.Note.TheVariants as note
 use Rattle.dr_ledger_memory.specs.declared.parts.Bringing.{Bringing}
 use Rattle.dr_ledger_memory.specs.declared.parts.Parts.{Parts}
 use Rattle.dr_ledger_memory.specs.declared.parts.FurtherArrival.{FurtherArrival}
@@ -61,10 +61,10 @@ module _ (p m q : Parts) (held : m.held ≡ p.held) (arrivals : m.arrivals ≡ p
       let K : Tree → Type 0 = λ x. IsTaken (at x new.uid) new.instance new.rows.items new.keep new.body b.after in
       let P : Tree → Type 0 = λ x. IsPutAt x new.uid b.after q.held in
       let A : sorted.BTreeSet Pair → Type 0 = λ x. IsOneMore x new.arrival q.arrivals in
-      record { after = b.after; taken = subst K held b.taken; held = subst P held b.held; arrivals = subst A arrivals b.arrivals; notes = b.notes ∙ ap (λ (ns : List Note). ns ++ new.note ∷ []) notes }
+      record { after = b.after; taken = subst K held b.taken; held = subst P held b.held; arrivals = subst A arrivals b.arrivals; notes = b.notes ∙ ap (λ (ns : List JournalLine). ns ++ new.note ∷ []) notes }
 
-  pub moved_from : (uid dest : Text) (progress : Progress) (note : Note) → IsMoved m uid dest progress note q → IsMoved p uid dest progress note q
+  pub moved_from : (uid dest : Text) (progress : Progress) (note : JournalLine) → IsMoved m uid dest progress note q → IsMoved p uid dest progress note q
   moved_from uid dest progress note h =
       let M : Tree → Type 0 = λ x. MovesAt x uid dest progress q.held in
       let A : sorted.BTreeSet Pair → Type 0 = λ x. AreAlike x q.arrivals in
-      record { held = subst M held h.held; arrivals = subst A arrivals h.arrivals; notes = h.notes ∙ ap (λ (ns : List Note). ns ++ note ∷ []) notes }
+      record { held = subst M held h.held; arrivals = subst A arrivals h.arrivals; notes = h.notes ∙ ap (λ (ns : List JournalLine). ns ++ note ∷ []) notes }

@@ -5,15 +5,15 @@ use Rattle.dr_base.specs.Texts.{Text, text_cmp}
 use Rattle.dr_route.specs.declared.rule.Targets.{Targets}
 use Rattle.dr_ledger.specs.declared.content.Job.{Job}
 use Rattle.dr_ledger.specs.Items.{IsItem, instance_of}
+use Rattle.dr_ledger_history.specs.declared.line.JournalLine.{JournalLine}
+use Rattle.dr_ledger_history.specs.declared.line.JournalLine.TheVariants as note
 use Rattle.dr_ledger_memory.specs.declared.bringing.Copies.{Copies}
 use Rattle.dr_ledger_memory.specs.declared.bringing.CopiedLine.{CopiedLine}
-use Rattle.dr_ledger_memory.specs.declared.note.Note.{Note}
-use Rattle.dr_ledger_memory.specs.declared.note.Note.TheVariants as note
 use Rattle.dr_ledger_memory.specs.declared.parts.Bringing.{Bringing}
 use Rattle.dr_ledger_memory.specs.Entries.{Row, filled}
 
 -- the line of the arrival
-abbrev pub note_for : Text → Job → Targets → Note
+abbrev pub note_for : Text → Job → Targets → JournalLine
 note_for caller item targets = note.Arrival caller (instance_of item) targets.to targets.keep
 
 -- all that the item's first arrival from the caller puts in, where the uid has these rows

@@ -9,9 +9,9 @@ use Rattle.dr_base.specs.Texts.{Text, text_cmp}
 use Rattle.dr_ledger.specs.declared.item.Progress.{Progress}
 use Rattle.dr_ledger.specs.declared.item.Progress.TheVariants.{Dropped}
 use Rattle.dr_ledger.specs.Pairs.{Pair, pair_cmp}
+use Rattle.dr_ledger_history.specs.declared.line.JournalLine.{JournalLine}
+use Rattle.dr_ledger_history.specs.declared.line.JournalLine.TheVariants as note
 use Rattle.dr_ledger_memory.specs.declared.held.Held.{Held as Entry}
-use Rattle.dr_ledger_memory.specs.declared.note.Note.{Note}
-use Rattle.dr_ledger_memory.specs.declared.note.Note.TheVariants as note
 use Rattle.dr_ledger_memory.specs.declared.parts.Bringing.{Bringing}
 use Rattle.dr_ledger_memory.specs.declared.parts.Parts.{Parts}
 use Rattle.dr_ledger_memory.specs.declared.parts.FurtherArrival.{FurtherArrival}
@@ -85,7 +85,7 @@ pub record IsSame (p q : Parts) : Type 0 where
   pub notes : q.notes.items ≡ p.notes.items
 
 -- a line more, and nothing else
-pub record IsNoted (p : Parts) (note : Note) (q : Parts) : Type 0 where
+pub record IsNoted (p : Parts) (note : JournalLine) (q : Parts) : Type 0 where
   pub held : q.held.entries ≡ p.held.entries
   pub arrivals : AreAlike p.arrivals q.arrivals
   pub notes : q.notes.items ≡ p.notes.items ++ note ∷ []
@@ -101,7 +101,7 @@ pub record IsBrought (p : Parts) (new : Bringing) (q : Parts) : Type 0 where
   pub notes : q.notes.items ≡ p.notes.items ++ new.note ∷ []
 
 -- an arrival is noted, and what stands at each uid stays
-pub record HasArrived (p : Parts) (arrival : Pair) (note : Note) (q : Parts) : Type 0 where
+pub record HasArrived (p : Parts) (arrival : Pair) (note : JournalLine) (q : Parts) : Type 0 where
   pub held : q.held ≡ p.held
   pub arrivals : IsOneMore p.arrivals arrival q.arrivals
   pub notes : q.notes.items ≡ p.notes.items ++ note ∷ []
@@ -113,7 +113,7 @@ pub record IsTakenOut (p : Parts) (uid : Text) (q : Parts) : Type 0 where
   pub notes : q.notes.items ≡ p.notes.items
 
 -- one row moves on
-pub record IsMoved (p : Parts) (uid dest : Text) (progress : Progress) (note : Note)
+pub record IsMoved (p : Parts) (uid dest : Text) (progress : Progress) (note : JournalLine)
     (q : Parts) : Type 0 where
   pub held : MovesAt p.held uid dest progress q.held
   pub arrivals : AreAlike p.arrivals q.arrivals
@@ -126,7 +126,7 @@ pub record IsAdopted (p q : Parts) : Type 0 where
   pub notes : q.notes.items ≡ p.notes.items ++ note.Adoption ∷ []
 
 -- one row is dropped, those who brought the uid have left, and there is a line more
-pub record IsDropped (p : Parts) (uid dest : Text) (note : Note) (q : Parts) : Type 0 where
+pub record IsDropped (p : Parts) (uid dest : Text) (note : JournalLine) (q : Parts) : Type 0 where
   pub held : MovesAt p.held uid dest Dropped q.held
   pub arrivals : (key : Pair)
       → sorted.contains pair_cmp q.arrivals key
@@ -134,7 +134,7 @@ pub record IsDropped (p : Parts) (uid dest : Text) (note : Note) (q : Parts) : T
   pub notes : q.notes.items ≡ p.notes.items ++ note ∷ []
 
 -- what stood at the uid has left with those who brought it, and there is a line more
-pub record IsForgotten (p : Parts) (uid : Text) (note : Note) (q : Parts) : Type 0 where
+pub record IsForgotten (p : Parts) (uid : Text) (note : JournalLine) (q : Parts) : Type 0 where
   pub held : IsSetAt p.held uid None q.held
   pub arrivals : (key : Pair)
       → sorted.contains pair_cmp q.arrivals key

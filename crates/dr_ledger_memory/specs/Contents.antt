@@ -7,10 +7,10 @@ use Rattle.dr_ledger.specs.Bodies.{Bodies}
 use Rattle.dr_ledger.specs.Books.{Book}
 use Rattle.dr_ledger.specs.declared.item.Progress.{Progress}
 use Rattle.dr_ledger.specs.Pairs.{Pair}
+use Rattle.dr_ledger_history.specs.Lines.{lines_of}
 use Rattle.dr_ledger_memory.specs.declared.held.Held.{Held as Entry}
 use Rattle.dr_ledger_memory.specs.declared.parts.Parts.{Parts}
 use Rattle.dr_ledger_memory.specs.Entries.{Row}
-use Rattle.dr_ledger_memory.specs.Notes.{lines_of}
 
 -- each uid with what f finds in its entry
 abbrev pub one_more : {X : Type 0} → Text → Option X → List (Text × X) → List (Text × X)

@@ -4,7 +4,6 @@ pub mod Contents
 pub mod Dues
 pub mod Entries
 pub mod Jobs
-pub mod Notes
 pub mod Sound
 pub mod Tables
 pub mod Unfits

@@ -5,10 +5,10 @@ ghost use Rattle.dr_base.specs.Texts.{text_cmp};
 ghost use Rattle.dr_ledger_memory.specs.Bringings.{AreCopies, IsFor, IsJoined, IsLine};
 
 use crate::holding::filled;
-use crate::note::Note;
 use crate::parts::Bringing;
 use dr_base::Text;
 use dr_ledger::{Instance, Item, Progress};
+use dr_ledger_history::JournalLine;
 use dr_route::Targets;
 use std::alloc::{AllocError, Global};
 
@@ -82,7 +82,7 @@ fn joined(item: Item, targets: Targets, copies: Copies) -> Bringing
     ensures { IsJoined item targets copies result }
 {
     let job = item.into_job();
-    let note = Note::Arrival {
+    let note = JournalLine::Arrival {
         caller: copies.line.caller,
         instance: copies.line.instance,
         to: targets.to,

@@ -26,7 +26,6 @@ ghost use Rattle.dr_ledger_memory.specs.Unfits.{Fits, IsUnfitRow, UnfitsIn};
 use crate::bringing::{arrival_of, bringing};
 use crate::held::Held;
 use crate::holding::is_open;
-use crate::note::{Note, key_of};
 use crate::parts::Parts;
 use crate::waiting::first_due;
 use dr_base::{Seq, Text};
@@ -35,11 +34,13 @@ use dr_ledger::{
     Arrived, Cause, Entry, Instance, Item, Job, Ledger, LedgerFault, LetsGo, Outcome, Progress,
     moved,
 };
+use dr_ledger_history::{JournalLine, entries_of};
 use dr_ledger_views::listing::{
     callers_of_all, count_all_arrivals, count_all_kept, count_all_rows, first_of_all, own_of_all,
     page_of_all,
 };
 use dr_ledger_views::{Stage, Views};
+use dr_route::Key;
 use dr_site::Site;
 use std::alloc::{AllocError, Global};
 
@@ -98,7 +99,7 @@ impl MemoryLedger {
         ensures site { self.new.site ≡ self.old.site }
         ensures never { NeverFails result }
     {
-        let note = Note::Repeat {
+        let note = JournalLine::Repeat {
             caller: caller.clone()?,
             instance: item.instance()?,
         };
@@ -449,10 +450,7 @@ impl MemoryLedger {
     fn all_lines(&self) -> Result<Seq<Entry>, LedgerFault>
         ensures { Shows result (λ all. all ≡ mapped entry_of (content self.now.parts).lines) }
     {
-        let mut all = Seq::new(self.alloc);
-        for note in &self.parts.notes {
-            all.push(note.entry()?)?;
-        }
+        let all = entries_of(self.alloc, self.parts.notes.as_slice())?;
         Ok(all)
     }
 
@@ -536,12 +534,12 @@ fn is_unfit(next: &Sealed, name: &Text, entry: &Held, row: &(Text, Progress)) ->
     }
 }
 
-fn settling(uid: &Text, dest: &Text, outcome: Outcome, now: u64) -> Result<Note, AllocError>
-    ensures { IfOk result (λ note. note ≡ Note.Settling uid.now dest.now outcome now) }
+fn settling(uid: &Text, dest: &Text, outcome: Outcome, now: u64) -> Result<JournalLine, AllocError>
+    ensures { IfOk result (λ note. note ≡ JournalLine.Settling uid.now dest.now outcome now) }
 {
     let uid = uid.clone()?;
     let dest = dest.clone()?;
-    Ok(Note::Settling {
+    Ok(JournalLine::Settling {
         uid,
         dest,
         outcome,
@@ -549,27 +547,34 @@ fn settling(uid: &Text, dest: &Text, outcome: Outcome, now: u64) -> Result<Note,
     })
 }
 
-fn requeuing(uid: &Text, dest: &Text) -> Result<Note, AllocError>
-    ensures { IfOk result (λ note. note ≡ Note.Requeuing uid.now dest.now) }
+fn requeuing(uid: &Text, dest: &Text) -> Result<JournalLine, AllocError>
+    ensures { IfOk result (λ note. note ≡ JournalLine.Requeuing uid.now dest.now) }
 {
     let uid = uid.clone()?;
     let dest = dest.clone()?;
-    Ok(Note::Requeuing { uid, dest })
+    Ok(JournalLine::Requeuing { uid, dest })
 }
 
-fn dropping(uid: &Text, dest: &Text, now: u64) -> Result<Note, AllocError>
-    ensures { IfOk result (λ note. note ≡ Note.Dropping uid.now dest.now now) }
+fn dropping(uid: &Text, dest: &Text, now: u64) -> Result<JournalLine, AllocError>
+    ensures { IfOk result (λ note. note ≡ JournalLine.Dropping uid.now dest.now now) }
 {
     let uid = uid.clone()?;
     let dest = dest.clone()?;
-    Ok(Note::Dropping { uid, dest, now })
+    Ok(JournalLine::Dropping { uid, dest, now })
 }
 
-fn forgetting(uid: &Text) -> Result<Note, AllocError>
-    ensures { IfOk result (λ note. note ≡ Note.Forgetting uid.now) }
+fn forgetting(uid: &Text) -> Result<JournalLine, AllocError>
+    ensures { IfOk result (λ note. note ≡ JournalLine.Forgetting uid.now) }
 {
     let uid = uid.clone()?;
-    Ok(Note::Forgetting { uid })
+    Ok(JournalLine::Forgetting { uid })
+}
+
+fn key_of(instance: &Instance) -> Result<Key, AllocError>
+    ensures { IfOk result (λ k. k ≡ instance.now.key) }
+{
+    let key = instance.key.clone()?;
+    Ok(key)
 }
 
 /// Whether what is known is this item.

@@ -5,7 +5,6 @@ mod bringing;
 mod held;
 mod holding;
 mod ledger;
-mod note;
 mod parts;
 mod table;
 mod waiting;

@@ -14,10 +14,10 @@ ghost use Rattle.dr_ledger_memory.specs.Changes.{PrunesAll, TakesAt};
 
 use crate::held::Held;
 use crate::holding::first;
-use crate::note::Note;
 use crate::waiting::{Due, due_of, expect, expect_one, forget};
 use dr_base::{Octets, Text};
 use dr_ledger::{Instance, Progress};
+use dr_ledger_history::JournalLine;
 use std::alloc::{AllocError, Global};
 use std::collections::{BTreeMap, BTreeSet};
 
@@ -28,7 +28,7 @@ pub struct Parts {
     pub held: BTreeMap<Text, Held>,
     pub arrivals: BTreeSet<(Text, Text)>,
     pub waiting: BTreeSet<Due>,
-    pub notes: Vec<Note>,
+    pub notes: Vec<JournalLine>,
 }
 
 /// What a first arrival puts in, all made before anything changes.
@@ -40,7 +40,7 @@ pub struct Bringing {
     pub rows: Vec<(Text, Progress)>,
     pub keep: bool,
     pub body: Octets,
-    pub note: Note,
+    pub note: JournalLine,
 }
 
 /// What a further arrival of a uid brings, but for who brought it.
@@ -50,7 +50,7 @@ struct FurtherArrival {
     rows: Vec<(Text, Progress)>,
     keep: bool,
     body: Octets,
-    note: Note,
+    note: JournalLine,
 }
 
 impl Parts {
@@ -73,7 +73,7 @@ impl Parts {
     }
 
     /// Adds a line alone; without memory nothing changes.
-    pub fn try_note(&mut self, note: Note) -> Result<(), AllocError>
+    pub fn try_note(&mut self, note: JournalLine) -> Result<(), AllocError>
         ensures ok { OnOk result (IsNoted self.old note self.new) }
         ensures err { OnErr result (IsSame self.old self.new) }
         ensures held { self.new.held ≡ self.old.held }
@@ -196,7 +196,7 @@ impl Parts {
 
     /// The arrival of an entry that was just put in, which is taken out again where the arrival has
     /// no room.
-    fn arrive(&mut self, arrival: (Text, Text), note: Note) -> Result<(), AllocError>
+    fn arrive(&mut self, arrival: (Text, Text), note: JournalLine) -> Result<(), AllocError>
         requires room { vec_len self.old.notes < vec_capacity self.old.notes }
         ensures ok { OnOk result (HasArrived self.old arrival note self.new) }
         ensures err { OnErr result (IsTakenOut self.old arrival.1 self.new) }
@@ -224,7 +224,7 @@ impl Parts {
         dest: &Text,
         due: u64,
         progress: Progress,
-        note: Note,
+        note: JournalLine,
     ) -> Result<(), AllocError>
         requires there { IsSome (row_in (tree.get text_cmp self.old.held uid.now) dest.now) }
         ensures ok { OnOk result (IsMoved self.old uid.now dest.now progress note self.new) }
@@ -266,7 +266,14 @@ impl Parts {
     }
 
     /// Moves the row on, where its key is there and there is room for the line.
-    fn move_on(&mut self, uid: &Text, dest: &Text, progress: Progress, gone: &Due, note: Note)
+    fn move_on(
+        &mut self,
+        uid: &Text,
+        dest: &Text,
+        progress: Progress,
+        gone: &Due,
+        note: JournalLine,
+    )
         requires there { IsSome (row_in (tree.get text_cmp self.old.held uid.now) dest.now) }
         requires room { vec_len self.old.notes < vec_capacity self.old.notes }
         requires expected { IsExpected uid.now dest.now progress self.old.waiting }
@@ -282,7 +289,7 @@ impl Parts {
 
     /// Drops a row that is there, with a line, and lets those go who brought the uid; without
     /// memory nothing changes, but for keys that nobody misses.
-    pub fn try_drop(&mut self, uid: &Text, dest: &Text, note: Note) -> Result<(), AllocError>
+    pub fn try_drop(&mut self, uid: &Text, dest: &Text, note: JournalLine) -> Result<(), AllocError>
         requires there { IsSome (row_in (tree.get text_cmp self.old.held uid.now) dest.now) }
         ensures ok { OnOk result (IsDropped self.old uid.now dest.now note self.new) }
         ensures err { OnErr result (IsSame self.old self.new) }
@@ -301,7 +308,7 @@ impl Parts {
     }
 
     /// Lets all that a uid has go, with a line; without memory nothing changes.
-    pub fn try_forget(&mut self, uid: &Text, note: Note) -> Result<(), AllocError>
+    pub fn try_forget(&mut self, uid: &Text, note: JournalLine) -> Result<(), AllocError>
         ensures ok { OnOk result (IsForgotten self.old uid.now note self.new) }
         ensures err { OnErr result (IsSame self.old self.new) }
         ensures ordered { tree.IsOrdered text_cmp self.old.held
@@ -327,7 +334,7 @@ impl Parts {
         self.notes.reserve(1)?;
         prune_all(&mut self.held);
         self.arrivals.clear();
-        write(&mut self.notes, Note::Adoption);
+        write(&mut self.notes, JournalLine::Adoption);
         Ok(())
     }
 }
@@ -366,7 +373,7 @@ fn parted(new: Bringing) -> ((Text, Text), FurtherArrival)
 }
 
 /// The arrival, the uid, its entry and the line, where the uid is new.
-fn first_of(new: Bringing) -> ((Text, Text), Text, Held, Note)
+fn first_of(new: Bringing) -> ((Text, Text), Text, Held, JournalLine)
     requires { T (is_sorted text_cmp new.rows.items) }
     ensures arrival { result.0 ≡ new.arrival }
     ensures uid { result.1 ≡ new.uid }

@@ -1,5 +1,5 @@
 use Rattle.std.proofs.Common.{ap}
-use Rattle.dr_ledger_memory.specs.Notes.{line_of}
+use Rattle.dr_ledger_history.specs.Lines.{line_of}
 use Rattle.dr_ledger_memory.proofs.Content.{forgotten_is, same_content}
 use Rattle.dr_ledger_memory.proofs.Ledgers.{forget_kept, forgotten_lets_go}
 use Rattle.dr_ledger_memory.proofs.Trees.{either_way}

@@ -3,10 +3,10 @@ use Rattle.std.specs.BTreeMap as tree
 use Rattle.dr_base.specs.Texts.{text_cmp}
 use Rattle.dr_ledger.specs.Books.{Repeat}
 use Rattle.dr_ledger.specs.Items.{instance_of}
+use Rattle.dr_ledger_history.specs.declared.line.JournalLine.{JournalLine}
+use Rattle.dr_ledger_history.specs.declared.line.JournalLine.TheVariants as note
+use Rattle.dr_ledger_history.specs.Lines.{line_of}
 use Rattle.dr_ledger_memory.specs.Changes.{Tree}
-use Rattle.dr_ledger_memory.specs.declared.note.Note.{Note}
-use Rattle.dr_ledger_memory.specs.declared.note.Note.TheVariants as note
-use Rattle.dr_ledger_memory.specs.Notes.{line_of}
 use Rattle.dr_ledger_memory.proofs.Content.{repeated_is, same_content}
 use Rattle.dr_ledger_memory.proofs.Ledgers.{repeat_kept}
 use Rattle.dr_ledger_memory.proofs.Trees.{either_way}
@@ -18,7 +18,7 @@ invariant_of-self c =
     let l = c.args.self.now in
     let e = c.try_note.ensures in
     let q = c.try_note.new.self in
-    let noted : Note = note.Repeat c.in_ok-clone.field-0 c.in_ok-instance.field-0 in
+    let noted : JournalLine = note.Repeat c.in_ok-clone.field-0 c.in_ok-instance.field-0 in
     let line : line_of noted ≡ Repeat c.args.caller.now (instance_of c.args.item.now) = λ j. Repeat (c.in_ok-clone.ensures j) (c.in_ok-instance.ensures j) in
     let P : Tree → Type 0 = λ t. tree.IsOrdered text_cmp t in
     let order = subst P (sym e.held) l.ordered in
@@ -27,7 +27,7 @@ invariant_of-self c =
 
 pub returns-in-Ok-clause-reply : goal.returns-in-Ok-clause-reply
 returns-in-Ok-clause-reply c =
-    let noted : Note = note.Repeat c.in_ok-clone.field-0 c.in_ok-instance.field-0 in
+    let noted : JournalLine = note.Repeat c.in_ok-clone.field-0 c.in_ok-instance.field-0 in
     let line : line_of noted ≡ Repeat c.args.caller.now (instance_of c.args.item.now) = λ j. Repeat (c.in_ok-clone.ensures j) (c.in_ok-instance.ensures j) in
     (c.requires.admitted, c.requires.again, repeated_is c.args.self.now.parts c.try_note.new.self c.args.caller.now (instance_of c.args.item.now) noted c.in-Ok.ensures.ok line)
 

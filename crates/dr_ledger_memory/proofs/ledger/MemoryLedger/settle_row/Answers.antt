@@ -1,6 +1,6 @@
 use Rattle.std.proofs.Common.{ap, refl}
 use Rattle.dr_ledger.specs.declared.item.Progress.TheVariants.{Waiting}
-use Rattle.dr_ledger_memory.specs.Notes.{line_of}
+use Rattle.dr_ledger_history.specs.Lines.{line_of}
 use Rattle.dr_ledger_memory.proofs.Content.{same_content, settled_so}
 use Rattle.dr_ledger_memory.proofs.Ledgers.{only_lets_go, row_there, settle_kept}
 use Rattle.dr_ledger_memory.proofs.Trees.{either_way}

@@ -3,10 +3,10 @@ use Rattle.std.specs.Prelude.{IsSome, T}
 use Rattle.std.specs.BTreeMap as tree
 use Rattle.std.specs.FinMap.{is_sorted}
 use Rattle.dr_base.specs.Texts.{Text, text_cmp}
+use Rattle.dr_ledger_history.specs.declared.line.JournalLine.{JournalLine}
 use Rattle.dr_ledger_memory.specs.Changes.{IsOneMore, at}
 use Rattle.dr_ledger_memory.specs.Entries.{Row}
 use Rattle.dr_ledger.specs.Pairs.{Pair}
-use Rattle.dr_ledger_memory.specs.declared.note.Note.{Note}
 use Rattle.dr_ledger_memory.proofs.Steps.{rested}
 use Rattle.dr_ledger_memory.proofs.Trees.{known_taken}
 use Rattle.dr_ledger_memory.proofs.parts.Parts.bring_known.Goals as goal
@@ -36,7 +36,7 @@ returns-in-Ok-clause-ok c =
       taken = known_taken (at p.held new.uid) t.0 new.instance new.rows.items new.keep new.body t.1 t.2 t.3;
       held = t.4;
       arrivals = subst S (sym c.take_rest.ensures.arrivals) (subst A c.parted-arrival.ensures.arrival c.in-Ok.ensures.ok);
-      notes = c.take_rest.ensures.notes ∙ ap (λ (n : Note). p.notes.items ++ n ∷ []) is.note;
+      notes = c.take_rest.ensures.notes ∙ ap (λ (n : JournalLine). p.notes.items ++ n ∷ []) is.note;
     }
 
 pub returns-in-Err-clause-err : goal.returns-in-Err-clause-err

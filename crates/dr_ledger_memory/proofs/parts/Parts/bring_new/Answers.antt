@@ -1,8 +1,8 @@
 use Rattle.std.proofs.Common.{◌∙◌, ◌++◌, ◌∷◌, [], Option, Some, ap, subst, sym}
 use Rattle.dr_base.specs.Texts.{Text}
 use Rattle.dr_ledger.specs.Pairs.{Pair}
+use Rattle.dr_ledger_history.specs.declared.line.JournalLine.{JournalLine}
 use Rattle.dr_ledger_memory.specs.declared.held.Held.{Held as Entry}
-use Rattle.dr_ledger_memory.specs.declared.note.Note.{Note}
 use Rattle.dr_ledger_memory.specs.Changes.{IsOneMore, IsPutAt, IsSetAt, Tree}
 use Rattle.dr_ledger_memory.specs.Entries.{IsTaken}
 use Rattle.dr_ledger_memory.proofs.Steps.{on_err}
@@ -27,7 +27,7 @@ returns-in-Ok-clause-ok c =
       taken = subst K (sym c.requires.unknown) e.entry;
       held = subst H (sym a.held) (put_at p.held n new.uid r.2 (subst U e.uid c.in-Ok.ensures.ok));
       arrivals = subst A e.arrival a.arrivals;
-      notes = a.notes ∙ ap (λ (l : Note). p.notes.items ++ l ∷ []) e.note;
+      notes = a.notes ∙ ap (λ (l : JournalLine). p.notes.items ++ l ∷ []) e.note;
     })
     c.arrive.ensures.ok
 
