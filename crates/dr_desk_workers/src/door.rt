@@ -16,9 +16,9 @@ pub const PARTS: u64 = 265;
 #[derive(Drop)]
 pub struct Door<D: Ledger> {
     count: usize,
-    open: Book<D>,
+    tally: Book<D>,
     ghost few: { count ≤ 256 },
-    ghost counted: { open.total ≡ count },
+    ghost counted: { tally.total ≡ count },
 }
 
 /// A worker's guest: it counts one while the association that the worker serves is open.
@@ -55,10 +55,10 @@ impl<D: Ledger> Door<D> {
     ) -> Result<(Door<D>, Vec<Outside<D>>), AllocError>
         requires blank { (blank.name ≡ D.name) × (blank.parts ≡ D.parts) × (D.parts ≡ 265) }
         requires workers { workers ≤ 264 }
-        ensures { IfOk result (λ made. (made.0.open.total ≡ 0) × (vec_len made.1 ≡ workers)) }
+        ensures { IfOk result (λ made. (made.0.tally.total ≡ 0) × (vec_len made.1 ≡ workers)) }
     {
         let mut guests = Vec::with_capacity(alloc, workers)?;
-        let (open, mut rest) = blank.open::<D>();
+        let (tally, mut rest) = blank.open::<D>();
         for _i in 0..workers {
             let share = rest.split_off(1, 0);
             let guest = Guest {
@@ -67,12 +67,12 @@ impl<D: Ledger> Door<D> {
             };
             guests.push_reserved(Outside { guest });
         }
-        Ok((Door { count: 0, open }, guests))
+        Ok((Door { count: 0, tally }, guests))
     }
 
     /// How many are open.
     pub fn count(&self) -> usize
-        ensures { result ≡ self.now.open.total }
+        ensures { result ≡ self.now.tally.total }
     {
         self.count
     }
@@ -80,17 +80,17 @@ impl<D: Ledger> Door<D> {
     /// Lets one in, where fewer than 256 are; says whether it did.
     pub fn enter(&mut self, guest: &mut Guest<D>) -> bool
         requires { guest.old.inside ≡ false }
-        ensures open { MatchBool result
-            ((self.old.open.total < 256) × (self.new.open.total ≡ self.old.open.total + 1))
-            ((self.old.open.total ≡ 256) × (self.new.open.total ≡ self.old.open.total)) }
+        ensures sum { MatchBool result
+            ((self.old.tally.total < 256) × (self.new.tally.total ≡ self.old.tally.total + 1))
+            ((self.old.tally.total ≡ 256) × (self.new.tally.total ≡ self.old.tally.total)) }
         ensures guest { guest.new.inside ≡ result }
     {
         if self.count >= MOST_OPEN {
             return false;
         }
-        let Door { count, open } = self;
+        let Door { count, tally } = self;
         let Guest { inside, share } = guest;
-        open.add(share, 1);
+        tally.add(share, 1);
         *count += 1;
         *inside = true;
         true
@@ -98,14 +98,14 @@ impl<D: Ledger> Door<D> {
 
     /// The association of this guest is over: one fewer is open, if it was let in.
     pub fn leave(&mut self, guest: Guest<D>) -> Outside<D>
-        ensures { self.new.open.total + cond guest.inside 1 0 ≡ self.old.open.total }
+        ensures { self.new.tally.total + cond guest.inside 1 0 ≡ self.old.tally.total }
     {
         let mut guest = guest;
         if guest.inside {
-            let Door { count, open } = self;
+            let Door { count, tally } = self;
             let Guest { inside, share } = &mut guest;
-            open.audit(share);
-            open.sub(share, 1);
+            tally.audit(share);
+            tally.sub(share, 1);
             *count -= 1;
             *inside = false;
         }

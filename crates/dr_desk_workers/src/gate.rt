@@ -41,7 +41,7 @@ pub trait Gate {
     /// An association may be asked for, and so many others are open: those that the door counts,
     /// whose lock is held from now until the request is answered. The session is told this number.
     fn counted<D: Ledger>(&self, _session: u64, others: usize, door: &Door<D>)
-        requires { others ≡ door.now.open.total }
+        requires { others ≡ door.now.tally.total }
     {
         let _ = (others, door);
     }

@@ -50,7 +50,7 @@ pub struct GatedLink<'a, R: Wait + time::Clock, K: Link + Drop, G: Gate, D: Ledg
     pub taken: u64,
     pub failures: u64,
     pub ghost early: { taken ≤ 2 ^ 62 },
-    pub ghost counted: { ForSome turn (λ door. (mutex_guard_value door).open.total ≡ others) },
+    pub ghost counted: { ForSome turn (λ door. (mutex_guard_value door).tally.total ≡ others) },
     pub ghost outside: { ForSome turn (λ door. guest.inside ≡ false) },
 }
 
