@@ -2,11 +2,9 @@ pub mod Admits
 pub mod Adopts
 pub mod Among
 pub mod Found
-pub mod Lines
 pub mod Looks
 pub mod Nexts
 pub mod Replies
-pub mod Runs
 pub mod Sets
 pub mod Shown
 pub mod Sizes

@@ -14,10 +14,9 @@ ghost use Rattle.dr_store.specs.Counting.{failures_after};
 ghost use Rattle.dr_store.specs.Surviving.{Wrote};
 
 use crate::counting::{counted, next_after};
-use crate::journal::list_lines;
 use crate::listing::{first_unfit, list_arrivals, list_kept, list_rows, list_rows_and_keys};
 use crate::reading::{admit, due_row, has_data_set, has_item, next_job};
-use crate::telling::tell_journal;
+use crate::telling::{list_lines, tell_journal};
 use dr_base::{Seq, Text};
 use dr_cert::Sealed;
 use dr_ledger::{Arrived, Entry, Item, Job, Ledger, LedgerFault, LetsGo, Outcome, Progress};

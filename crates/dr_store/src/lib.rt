@@ -8,7 +8,6 @@
 #![tactic(auto)]
 
 mod counting;
-mod journal;
 mod ledger;
 mod listing;
 mod lookup;

@@ -1,8 +1,8 @@
-//! The whole journal, each line with the instance that it is of.
+//! The whole journal, each line with the instance that it is of, and as it is shown.
 ghost use Rattle.std.specs.Prelude.{◌≡◌, ℕ, false, IfOk, map as mapped};
 ghost use Rattle.sqlite.specs.Held.{state};
 ghost use Rattle.dr_site.specs.Parts.{Part};
-ghost use Rattle.dr_ledger.specs.Replies.{Reads};
+ghost use Rattle.dr_ledger.specs.Replies.{Reads, entry_of};
 ghost use Rattle.dr_ledger_history.specs.Lines.{line_of};
 ghost use Rattle.dr_store_schema.specs.Books.{lines_of};
 ghost use Rattle.dr_store_lists.specs.Lists.{IsJournal};
@@ -11,8 +11,8 @@ ghost use Rattle.dr_store_audit.specs.Journal.{lines_told};
 ghost use Rattle.dr_store_calls.specs.Calling.{Looked};
 
 use dr_base::{Seq, Text};
-use dr_ledger::LedgerFault;
-use dr_ledger_history::JournalLine;
+use dr_ledger::{Entry, LedgerFault};
+use dr_ledger_history::{JournalLine, entries_of};
 use dr_store_audit::goals::are_by_line;
 use dr_store_audit::lines::line_for;
 use dr_store_lists::{JournalRow, all_notes, all_targets};
@@ -80,6 +80,30 @@ pub fn tell_journal<S: Alter>(
 {
     match all_notes(conn, alloc) {
         Ok(notes) => tell_notes(conn, alloc, notes.as_slice()),
+        Err(fault) => Err(fault),
+    }
+}
+
+/// What is shown of these lines.
+fn shown(alloc: Global, lines: &[JournalLine]) -> Result<Seq<Entry>, LedgerFault>
+    ensures { Reads result (λ all. all ≡ mapped entry_of (mapped line_of lines.now)) }
+{
+    let all = entries_of(alloc, lines)?;
+    Ok(all)
+}
+
+/// The journal as it is shown, in order.
+pub fn list_lines<S: Alter>(
+    conn: &mut Connection<S>,
+    alloc: Global,
+) -> Result<Seq<Entry>, LedgerFault>
+    ensures looked { (n : ℕ) (part : Part)
+        → Looked n part result (state S.Store conn.old) (state S.Store conn.new) (λ base all.
+        all ≡ mapped entry_of (lines_of base)) }
+    ensures idle { conn.old.in_transaction ≡ false → conn.new.in_transaction ≡ false }
+{
+    match tell_journal(conn, alloc) {
+        Ok(lines) => shown(alloc, lines.as_slice()),
         Err(fault) => Err(fault),
     }
 }
