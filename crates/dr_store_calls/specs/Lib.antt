@@ -3,3 +3,4 @@ pub mod Adoptions
 pub mod Calling
 pub mod Knowing
 pub mod Needs
+pub mod Receiving

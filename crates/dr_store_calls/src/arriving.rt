@@ -1,17 +1,10 @@
 //! Arrivals.
-ghost use Rattle.std.specs.Prelude.{◌≡◌, ◌≤◌, ◌^◌, ◌++◌, IfOk, OnOk, Ok, true, false};
-ghost use Rattle.std.specs.FinSet as set;
+ghost use Rattle.std.specs.Prelude.{◌≡◌, ◌≤◌, ◌^◌, ◌++◌, IfOk, OnOk, false, true};
 ghost use Rattle.sqlite.specs.Held.{state};
-ghost use Rattle.dr_ledger.specs.Bodies.{OnlyTakes};
-ghost use Rattle.dr_ledger.specs.Items.{IsItem, instance_of};
-ghost use Rattle.dr_ledger.specs.Replies.{Arrives};
-ghost use Rattle.dr_ledger.specs.SiteRoutes.{site_routing};
-ghost use Rattle.dr_site.specs.Routing.{HasLineFor};
-ghost use Rattle.dr_store_schema.specs.Books.{arrivals_in, bodies_of, book_of};
-ghost use Rattle.dr_store_changes.specs.Bringing.{AreNames, names_for};
+ghost use Rattle.dr_store_changes.specs.Bringing.{names_for};
 ghost use Rattle.dr_store_changes.specs.Changes.{HasNeither};
-ghost use Rattle.dr_store_calls.specs.Calling.{Called, advanced};
-ghost use Rattle.dr_store_calls.specs.Knowing.{Fits, IsThere, taking_absent};
+ghost use Rattle.dr_store_calls.specs.Knowing.{Fits, taking_absent};
+ghost use Rattle.dr_store_calls.specs.Receiving.{AreTargetsOf, IsDelivered, IsThereFor, ReceivesAs};
 
 use crate::bringing::{Delivery, Queued};
 use crate::writing::written;
@@ -53,18 +46,9 @@ pub fn repeat<'x, S: Alter>(
     whole: bool,
 ) -> Result<Arrived, LedgerFault>
     requires idle { conn.old.in_transaction ≡ false }
-    requires line { HasLineFor came.now.site.now came.now.caller.now came.now.item.now.key }
-    requires instance { came.now.instance.now ≡ instance_of came.now.item.now }
-    requires is_item { IsItem came.now.item.now }
-    ensures called { Called came.now.n (advanced result came.now.n) came.now.site.now result
-        (state S.Store conn.old) (state S.Store conn.new)
-        (λ base. IsThere base (instance_of came.now.item.now) whole
-        × (set.contains (arrivals_in (base 5)) (came.now.caller.now, came.now.item.now.uid) ≡ true))
-        (λ base db. Arrives (site_routing came.now.site.now) came.now.caller.now
-        (instance_of came.now.item.now) (book_of base) result (book_of db)
-        × OnlyTakes came.now.item.now (bodies_of base) (bodies_of db))
-        (λ base db. Arrives (site_routing came.now.site.now) came.now.caller.now
-        (instance_of came.now.item.now) (book_of base) (Ok Arrived.Again) (book_of db)) }
+    requires delivered { IsDelivered came.now }
+    ensures called { ReceivesAs Arrived.Again came.now result (state S.Store conn.old)
+        (state S.Store conn.new) (IsThereFor came.now whole true) }
     ensures number { OnOk result (came.now.n ≤ 2 ^ 62) }
     ensures idle { conn.new.in_transaction ≡ false }
 {
@@ -89,24 +73,13 @@ fn bring<'x, S: Alter>(
     keeps: bool,
 ) -> Result<Arrived, LedgerFault>
     requires idle { conn.old.in_transaction ≡ false }
-    requires line { HasLineFor came.now.site.now came.now.caller.now came.now.item.now.key }
-    requires to { targets.now.to
-        ≡ (site_routing came.now.site.now).targets came.now.caller.now came.now.item.now.key }
-    requires keep { targets.now.keep
-        ≡ (site_routing came.now.site.now).keeps came.now.caller.now came.now.item.now.key }
-    requires formed { AreNames targets.now.to }
+    requires delivered { IsDelivered came.now }
+    requires targets { AreTargetsOf came.now targets.now }
     requires names { names.now ≡ names_for targets.now.keep targets.now.to }
-    requires instance { came.now.instance.now ≡ instance_of came.now.item.now }
-    requires is_item { IsItem came.now.item.now }
-    ensures called { Called came.now.n (advanced result came.now.n) came.now.site.now result
-        (state S.Store conn.old) (state S.Store conn.new)
-        (λ base. Fits taking came.now.caller.now came.now.item.now targets.now.to targets.now.keep
-        queued.now.again.now queued.now.dests.now keeps base)
-        (λ base db. Arrives (site_routing came.now.site.now) came.now.caller.now
-        (instance_of came.now.item.now) (book_of base) result (book_of db)
-        × OnlyTakes came.now.item.now (bodies_of base) (bodies_of db))
-        (λ base db. Arrives (site_routing came.now.site.now) came.now.caller.now
-        (instance_of came.now.item.now) (book_of base) (Ok Arrived.New) (book_of db)) }
+    ensures called { ReceivesAs Arrived.New came.now result (state S.Store conn.old)
+        (state S.Store conn.new)
+        (Fits taking came.now.caller.now came.now.item.now targets.now.to targets.now.keep
+        queued.now.again.now queued.now.dests.now keeps) }
     ensures number { OnOk result (came.now.n ≤ 2 ^ 62) }
     ensures idle { conn.new.in_transaction ≡ false }
 {
@@ -139,23 +112,12 @@ pub fn bring_item<'x, S: Alter>(
     keeps: bool,
 ) -> Result<Arrived, LedgerFault>
     requires idle { conn.old.in_transaction ≡ false }
-    requires line { HasLineFor came.now.site.now came.now.caller.now came.now.item.now.key }
-    requires to { targets.now.to
-        ≡ (site_routing came.now.site.now).targets came.now.caller.now came.now.item.now.key }
-    requires keep { targets.now.keep
-        ≡ (site_routing came.now.site.now).keeps came.now.caller.now came.now.item.now.key }
-    requires formed { AreNames targets.now.to }
-    requires instance { came.now.instance.now ≡ instance_of came.now.item.now }
-    requires is_item { IsItem came.now.item.now }
-    ensures called { Called came.now.n (advanced result came.now.n) came.now.site.now result
-        (state S.Store conn.old) (state S.Store conn.new)
-        (λ base. Fits taking came.now.caller.now came.now.item.now targets.now.to targets.now.keep
-        queued.now.again.now queued.now.dests.now keeps base)
-        (λ base db. Arrives (site_routing came.now.site.now) came.now.caller.now
-        (instance_of came.now.item.now) (book_of base) result (book_of db)
-        × OnlyTakes came.now.item.now (bodies_of base) (bodies_of db))
-        (λ base db. Arrives (site_routing came.now.site.now) came.now.caller.now
-        (instance_of came.now.item.now) (book_of base) (Ok Arrived.New) (book_of db)) }
+    requires delivered { IsDelivered came.now }
+    requires targets { AreTargetsOf came.now targets.now }
+    ensures called { ReceivesAs Arrived.New came.now result (state S.Store conn.old)
+        (state S.Store conn.new)
+        (Fits taking came.now.caller.now came.now.item.now targets.now.to targets.now.keep
+        queued.now.again.now queued.now.dests.now keeps) }
     ensures number { OnOk result (came.now.n ≤ 2 ^ 62) }
     ensures idle { conn.new.in_transaction ≡ false }
 {
@@ -184,22 +146,10 @@ pub fn bring_new<'x, S: Alter>(
     targets: &'x Targets,
 ) -> Result<Arrived, LedgerFault>
     requires idle { conn.old.in_transaction ≡ false }
-    requires line { HasLineFor came.now.site.now came.now.caller.now came.now.item.now.key }
-    requires to { targets.now.to
-        ≡ (site_routing came.now.site.now).targets came.now.caller.now came.now.item.now.key }
-    requires keep { targets.now.keep
-        ≡ (site_routing came.now.site.now).keeps came.now.caller.now came.now.item.now.key }
-    requires formed { AreNames targets.now.to }
-    requires instance { came.now.instance.now ≡ instance_of came.now.item.now }
-    requires is_item { IsItem came.now.item.now }
-    ensures called { Called came.now.n (advanced result came.now.n) came.now.site.now result
-        (state S.Store conn.old) (state S.Store conn.new)
-        (λ base. HasNeither came.now.item.now.uid base)
-        (λ base db. Arrives (site_routing came.now.site.now) came.now.caller.now
-        (instance_of came.now.item.now) (book_of base) result (book_of db)
-        × OnlyTakes came.now.item.now (bodies_of base) (bodies_of db))
-        (λ base db. Arrives (site_routing came.now.site.now) came.now.caller.now
-        (instance_of came.now.item.now) (book_of base) (Ok Arrived.New) (book_of db)) }
+    requires delivered { IsDelivered came.now }
+    requires targets { AreTargetsOf came.now targets.now }
+    ensures called { ReceivesAs Arrived.New came.now result (state S.Store conn.old)
+        (state S.Store conn.new) (HasNeither came.now.item.now.uid) }
     ensures number { OnOk result (came.now.n ≤ 2 ^ 62) }
     ensures idle { conn.new.in_transaction ≡ false }
 {

@@ -1,6 +1,7 @@
 //! What a site is brought, and the destinations for which it waits there.
 use dr_base::{Seq, Text};
 use dr_ledger::{Instance, Job};
+use dr_route::Targets;
 use dr_site::Site;
 
 /// What a caller brings to a site.
@@ -25,4 +26,18 @@ pub struct Queued<'x> {
     pub again: &'x Seq<Text>,
     /// Those of its targets to which it has no row: it waits from now on.
     pub dests: &'x Seq<Text>,
+}
+
+/// What a first arrival of an instance that is there needs: what the site does with its key, and
+/// what the tables have of its targets.
+#[derive(Drop)]
+pub struct FirstArrival {
+    /// Where it goes to, and whether it is to be kept.
+    pub targets: Targets,
+    /// Those of its targets for which its row was dropped.
+    pub again: Seq<Text>,
+    /// Those of its targets to which it has no row.
+    pub dests: Seq<Text>,
+    /// Whether it is kept already.
+    pub kept: bool,
 }

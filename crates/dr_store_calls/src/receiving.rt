@@ -1,43 +1,36 @@
 //! Arrivals, whatever the tables have of them.
 ghost use Rattle.std.specs.Prelude.{◌≡◌, ◌≤◌, ◌==◌, ◌^◌, ◌++◌, ◌∷◌, [], ◌&&◌, cond, length, not};
-ghost use Rattle.std.specs.Prelude.{IfOk, OnOk, ℕ, false, true};
-ghost use Rattle.std.specs.FinSet as set;
+ghost use Rattle.std.specs.Prelude.{IfOk, OnOk, ℕ, false};
 ghost use Rattle.sqlite.specs.Held.{state};
-ghost use Rattle.dr_ledger.specs.Bodies.{OnlyTakes};
-ghost use Rattle.dr_ledger.specs.Items.{IsItem, instance_of};
-ghost use Rattle.dr_ledger.specs.Replies.{Arrives, Reads};
-ghost use Rattle.dr_ledger.specs.SiteRoutes.{site_routing};
+ghost use Rattle.dr_ledger.specs.Items.{instance_of};
+ghost use Rattle.dr_ledger.specs.Replies.{Reads};
 ghost use Rattle.dr_site.specs.Parts.{Part};
-ghost use Rattle.dr_site.specs.Routing.{HasLineFor};
-ghost use Rattle.dr_store_schema.specs.Books.{all_kept_in, arrivals_in, bodies_of, book_of};
 ghost use Rattle.dr_store_schema.specs.Books.{rows_of};
-ghost use Rattle.dr_store_changes.specs.Bringing.{AreNames, given_up, missing};
 ghost use Rattle.dr_store_changes.specs.Changes.{HasNeither};
 ghost use Rattle.dr_store_calls.specs.Calling.{Called, Looked, Nothing, advanced};
-ghost use Rattle.dr_store_calls.specs.Knowing.{IsAccepted, IsKnown, IsThere, chosen, is_chosen};
-ghost use Rattle.dr_store_calls.specs.Knowing.{taking_there};
+ghost use Rattle.dr_store_calls.specs.Knowing.{IsKnown, IsThere, chosen, is_chosen, taking_there};
+ghost use Rattle.dr_store_calls.specs.Receiving.{Accepts, AnswersTo, AreTargetsOf, IsDelivered};
+ghost use Rattle.dr_store_calls.specs.Receiving.{IsFoundFor, IsThereFor, Receives};
 
 use crate::arriving::{bring_item, bring_new, repeat};
-use crate::bringing::{Delivery, Queued};
+use crate::bringing::{Delivery, FirstArrival, Queued};
 use crate::knowing::{Known, know};
 use dr_base::{Seq, Text};
 use dr_ledger::{Arrived, Item, LedgerFault, Progress};
-use dr_route::{Key, Targets};
+use dr_route::Targets;
 use dr_site::Site;
 use dr_store_changes::Taking;
 use dr_store_reads::{find_arrival, find_kept, find_row};
 use sqlite::{Alter, Connection};
 use std::alloc::{AllocError, Global};
 
-/// What the site does with a key that the caller brings.
-fn targets_of(alloc: Global, site: &Site, caller: &Text, key: &Key) -> Result<Targets, AllocError>
-    ensures to { IfOk result (λ t. t.to ≡ (site_routing site.now).targets caller.now key.now) }
-    ensures keep { IfOk result (λ t. t.keep ≡ (site_routing site.now).keeps caller.now key.now) }
-    ensures formed { IfOk result (λ t. AreNames t.to) }
+/// What the site does with what is brought.
+fn targets_of(alloc: Global, came: &Delivery<'_>) -> Result<Targets, AllocError>
+    ensures { IfOk result (AreTargetsOf came.now) }
 {
     // What a site accepts tells that it is one; so it sends nothing to the local caller.
-    let _accepts = site.accepts();
-    match site.targets(alloc, caller, key) {
+    let _accepts = came.site.accepts();
+    match came.site.targets(alloc, came.caller, &came.item.key) {
         Ok(targets) => Ok(targets),
         Err(error) => Err(error),
     }
@@ -69,7 +62,7 @@ fn with_chosen(dests: Seq<Text>, dest: &Text, is_one: bool) -> Result<Seq<Text>,
     Ok(all)
 }
 
-/// The same, where the row is looked up.
+/// The same, where the row of the destination is looked up.
 fn chosen_one<'x, S: Alter>(
     conn: &mut Connection<S>,
     uid: &'x Text,
@@ -112,22 +105,6 @@ fn chosen_from<'x, S: Alter>(
     Ok(dests)
 }
 
-/// The same, of a site's targets.
-fn chosen_of<'x, S: Alter>(
-    conn: &mut Connection<S>,
-    alloc: Global,
-    uid: &'x Text,
-    targets: &'x Targets,
-    dropped: bool,
-) -> Result<Seq<Text>, LedgerFault>
-    ensures looked { (n : ℕ) (part : Part)
-        → Looked n part result (state S.Store conn.old) (state S.Store conn.new)
-        (λ base dests. dests ≡ chosen dropped (rows_of base) uid.now targets.now.to) }
-    ensures idle { conn.old.in_transaction ≡ false → conn.new.in_transaction ≡ false }
-{
-    chosen_from(conn, alloc, uid, targets.to.as_slice(), dropped)
-}
-
 /// Whether what is to be kept is kept from now on: it is, where it wasn't before.
 fn keeps_now(keep: bool, kept: bool) -> bool
     ensures { result ≡ (keep && not kept) }
@@ -154,162 +131,64 @@ fn taking_of(whole: bool, keep: bool, none: bool) -> Taking
     Taking::Again
 }
 
-/// Takes the first arrival of an instance that is there, from a caller that has not brought it.
-fn bring_kept<'x, S: Alter>(
+/// What a first arrival of an instance that is there needs: what the site does with it, and what is
+/// looked up of its targets.
+fn find_first<'x, S: Alter>(
     conn: &mut Connection<S>,
     alloc: Global,
     came: &'x Delivery<'x>,
-    targets: &'x Targets,
+) -> Result<FirstArrival, LedgerFault>
+    ensures targets { IfOk result (λ first. AreTargetsOf came.now first.targets) }
+    ensures looked { (n : ℕ) (part : Part)
+        → Looked n part result (state S.Store conn.old) (state S.Store conn.new)
+        (IsFoundFor came.now.item.now.uid) }
+    ensures idle { conn.old.in_transaction ≡ false → conn.new.in_transaction ≡ false }
+{
+    let Ok(targets) = targets_of(alloc, came) else {
+        return Err(LedgerFault::Memory);
+    };
+    let uid = &came.item.uid;
+    let dests = chosen_from(conn, alloc, uid, targets.to.as_slice(), false)?;
+    let again = chosen_from(conn, alloc, uid, targets.to.as_slice(), true)?;
+    let kept = find_kept(conn, uid)?;
+    Ok(FirstArrival {
+        targets,
+        again,
+        dests,
+        kept,
+    })
+}
+
+/// Takes the first arrival of an instance that is there, from a caller that has not brought it, all
+/// of which was found.
+fn bring_there<'x, S: Alter>(
+    conn: &mut Connection<S>,
+    alloc: Global,
+    came: &'x Delivery<'x>,
     whole: bool,
-    queued: &'x Queued<'x>,
-    kept: bool,
+    first: &'x FirstArrival,
 ) -> Result<Arrived, LedgerFault>
     requires idle { conn.old.in_transaction ≡ false }
-    requires line { HasLineFor came.now.site.now came.now.caller.now came.now.item.now.key }
-    requires instance { came.now.instance.now ≡ instance_of came.now.item.now }
-    requires is_item { IsItem came.now.item.now }
-    requires to { targets.now.to
-        ≡ (site_routing came.now.site.now).targets came.now.caller.now came.now.item.now.key }
-    requires keep { targets.now.keep
-        ≡ (site_routing came.now.site.now).keeps came.now.caller.now came.now.item.now.key }
-    requires formed { AreNames targets.now.to }
-    ensures called { Called came.now.n (advanced result came.now.n) came.now.site.now result
-        (state S.Store conn.old) (state S.Store conn.new)
-        (λ base. IsThere base (instance_of came.now.item.now) whole
-        × (set.contains (arrivals_in (base 5)) (came.now.caller.now, came.now.item.now.uid) ≡ false)
-        × (queued.now.again.now ≡ given_up (rows_of base) came.now.item.now.uid targets.now.to)
-        × (queued.now.dests.now ≡ missing (rows_of base) came.now.item.now.uid targets.now.to)
-        × (kept ≡ set.contains (all_kept_in (base 7)) came.now.item.now.uid))
-        (λ base db. Arrives (site_routing came.now.site.now) came.now.caller.now
-        (instance_of came.now.item.now) (book_of base) result (book_of db)
-        × OnlyTakes came.now.item.now (bodies_of base) (bodies_of db))
-        (λ base db. IsAccepted came.now.site.now came.now.caller.now (instance_of came.now.item.now)
-        (book_of base) (book_of db)) }
+    requires delivered { IsDelivered came.now }
+    requires targets { AreTargetsOf came.now first.now.targets }
+    ensures called { Receives came.now result (state S.Store conn.old) (state S.Store conn.new)
+        (λ base. IsThereFor came.now whole false base
+        × IsFoundFor came.now.item.now.uid base first.now) }
     ensures number { OnOk result (came.now.n ≤ 2 ^ 62) }
     ensures idle { conn.new.in_transaction ≡ false }
 {
-    let keeps = keeps_now(targets.keep, kept);
-    let none = are_none(queued);
+    let queued = Queued {
+        again: &first.again,
+        dests: &first.dests,
+    };
+    let targets = &first.targets;
+    let keeps = keeps_now(targets.keep, first.kept);
+    let none = are_none(&queued);
     let taking = taking_of(whole, targets.keep, none);
-    bring_item(conn, alloc, came, targets, taking, queued, keeps)
+    bring_item(conn, alloc, came, targets, taking, &queued, keeps)
 }
 
-/// The same; whether it is kept is looked up.
-fn bring_missing<'x, S: Alter>(
-    conn: &mut Connection<S>,
-    alloc: Global,
-    came: &'x Delivery<'x>,
-    targets: &'x Targets,
-    whole: bool,
-    again: &'x Seq<Text>,
-    dests: &'x Seq<Text>,
-) -> Result<Arrived, LedgerFault>
-    requires idle { conn.old.in_transaction ≡ false }
-    requires line { HasLineFor came.now.site.now came.now.caller.now came.now.item.now.key }
-    requires instance { came.now.instance.now ≡ instance_of came.now.item.now }
-    requires is_item { IsItem came.now.item.now }
-    requires to { targets.now.to
-        ≡ (site_routing came.now.site.now).targets came.now.caller.now came.now.item.now.key }
-    requires keep { targets.now.keep
-        ≡ (site_routing came.now.site.now).keeps came.now.caller.now came.now.item.now.key }
-    requires formed { AreNames targets.now.to }
-    ensures called { Called came.now.n (advanced result came.now.n) came.now.site.now result
-        (state S.Store conn.old) (state S.Store conn.new)
-        (λ base. IsThere base (instance_of came.now.item.now) whole
-        × (set.contains (arrivals_in (base 5)) (came.now.caller.now, came.now.item.now.uid) ≡ false)
-        × (again.now ≡ given_up (rows_of base) came.now.item.now.uid targets.now.to)
-        × (dests.now ≡ missing (rows_of base) came.now.item.now.uid targets.now.to))
-        (λ base db. Arrives (site_routing came.now.site.now) came.now.caller.now
-        (instance_of came.now.item.now) (book_of base) result (book_of db)
-        × OnlyTakes came.now.item.now (bodies_of base) (bodies_of db))
-        (λ base db. IsAccepted came.now.site.now came.now.caller.now (instance_of came.now.item.now)
-        (book_of base) (book_of db)) }
-    ensures number { OnOk result (came.now.n ≤ 2 ^ 62) }
-    ensures idle { conn.new.in_transaction ≡ false }
-{
-    match find_kept(conn, &came.item.uid) {
-        Ok(kept) => {
-            let queued = Queued { again, dests };
-            bring_kept(conn, alloc, came, targets, whole, &queued, kept)
-        }
-        Err(fault) => Err(fault),
-    }
-}
-
-/// The same; the rows that were dropped are looked up.
-fn bring_lacking<'x, S: Alter>(
-    conn: &mut Connection<S>,
-    alloc: Global,
-    came: &'x Delivery<'x>,
-    targets: &'x Targets,
-    whole: bool,
-    dests: &'x Seq<Text>,
-) -> Result<Arrived, LedgerFault>
-    requires idle { conn.old.in_transaction ≡ false }
-    requires line { HasLineFor came.now.site.now came.now.caller.now came.now.item.now.key }
-    requires instance { came.now.instance.now ≡ instance_of came.now.item.now }
-    requires is_item { IsItem came.now.item.now }
-    requires to { targets.now.to
-        ≡ (site_routing came.now.site.now).targets came.now.caller.now came.now.item.now.key }
-    requires keep { targets.now.keep
-        ≡ (site_routing came.now.site.now).keeps came.now.caller.now came.now.item.now.key }
-    requires formed { AreNames targets.now.to }
-    ensures called { Called came.now.n (advanced result came.now.n) came.now.site.now result
-        (state S.Store conn.old) (state S.Store conn.new)
-        (λ base. IsThere base (instance_of came.now.item.now) whole
-        × (set.contains (arrivals_in (base 5)) (came.now.caller.now, came.now.item.now.uid) ≡ false)
-        × (dests.now ≡ missing (rows_of base) came.now.item.now.uid targets.now.to))
-        (λ base db. Arrives (site_routing came.now.site.now) came.now.caller.now
-        (instance_of came.now.item.now) (book_of base) result (book_of db)
-        × OnlyTakes came.now.item.now (bodies_of base) (bodies_of db))
-        (λ base db. IsAccepted came.now.site.now came.now.caller.now (instance_of came.now.item.now)
-        (book_of base) (book_of db)) }
-    ensures number { OnOk result (came.now.n ≤ 2 ^ 62) }
-    ensures idle { conn.new.in_transaction ≡ false }
-{
-    match chosen_of(conn, alloc, &came.item.uid, targets, true) {
-        Ok(again) => bring_missing(conn, alloc, came, targets, whole, &again, dests),
-        Err(fault) => Err(fault),
-    }
-}
-
-/// The same; the rows that it has are looked up.
-fn bring_known<'x, S: Alter>(
-    conn: &mut Connection<S>,
-    alloc: Global,
-    came: &'x Delivery<'x>,
-    targets: &'x Targets,
-    whole: bool,
-) -> Result<Arrived, LedgerFault>
-    requires idle { conn.old.in_transaction ≡ false }
-    requires line { HasLineFor came.now.site.now came.now.caller.now came.now.item.now.key }
-    requires instance { came.now.instance.now ≡ instance_of came.now.item.now }
-    requires is_item { IsItem came.now.item.now }
-    requires to { targets.now.to
-        ≡ (site_routing came.now.site.now).targets came.now.caller.now came.now.item.now.key }
-    requires keep { targets.now.keep
-        ≡ (site_routing came.now.site.now).keeps came.now.caller.now came.now.item.now.key }
-    requires formed { AreNames targets.now.to }
-    ensures called { Called came.now.n (advanced result came.now.n) came.now.site.now result
-        (state S.Store conn.old) (state S.Store conn.new)
-        (λ base. IsThere base (instance_of came.now.item.now) whole
-        × (set.contains (arrivals_in (base 5)) (came.now.caller.now, came.now.item.now.uid)
-        ≡ false))
-        (λ base db. Arrives (site_routing came.now.site.now) came.now.caller.now
-        (instance_of came.now.item.now) (book_of base) result (book_of db)
-        × OnlyTakes came.now.item.now (bodies_of base) (bodies_of db))
-        (λ base db. IsAccepted came.now.site.now came.now.caller.now (instance_of came.now.item.now)
-        (book_of base) (book_of db)) }
-    ensures number { OnOk result (came.now.n ≤ 2 ^ 62) }
-    ensures idle { conn.new.in_transaction ≡ false }
-{
-    match chosen_of(conn, alloc, &came.item.uid, targets, false) {
-        Ok(dests) => bring_lacking(conn, alloc, came, targets, whole, &dests),
-        Err(fault) => Err(fault),
-    }
-}
-
-/// The same, by what the site does with it.
+/// Takes the first arrival of an instance that is there, from a caller that has not brought it.
 fn arrive_first<'x, S: Alter>(
     conn: &mut Connection<S>,
     alloc: Global,
@@ -317,83 +196,39 @@ fn arrive_first<'x, S: Alter>(
     whole: bool,
 ) -> Result<Arrived, LedgerFault>
     requires idle { conn.old.in_transaction ≡ false }
-    requires line { HasLineFor came.now.site.now came.now.caller.now came.now.item.now.key }
-    requires instance { came.now.instance.now ≡ instance_of came.now.item.now }
-    requires is_item { IsItem came.now.item.now }
-    ensures called { Called came.now.n (advanced result came.now.n) came.now.site.now result
-        (state S.Store conn.old) (state S.Store conn.new)
-        (λ base. IsThere base (instance_of came.now.item.now) whole
-        × (set.contains (arrivals_in (base 5)) (came.now.caller.now, came.now.item.now.uid)
-        ≡ false))
-        (λ base db. Arrives (site_routing came.now.site.now) came.now.caller.now
-        (instance_of came.now.item.now) (book_of base) result (book_of db)
-        × OnlyTakes came.now.item.now (bodies_of base) (bodies_of db))
-        (λ base db. IsAccepted came.now.site.now came.now.caller.now (instance_of came.now.item.now)
-        (book_of base) (book_of db)) }
+    requires delivered { IsDelivered came.now }
+    ensures called { Receives came.now result (state S.Store conn.old) (state S.Store conn.new)
+        (IsThereFor came.now whole false) }
     ensures number { OnOk result (came.now.n ≤ 2 ^ 62) }
     ensures idle { conn.new.in_transaction ≡ false }
 {
-    match targets_of(alloc, came.site, came.caller, &came.item.key) {
-        Ok(targets) => bring_known(conn, alloc, came, &targets, whole),
-        Err(_) => Err(LedgerFault::Memory),
+    match find_first(conn, alloc, came) {
+        Ok(first) => bring_there(conn, alloc, came, whole, &first),
+        Err(fault) => Err(fault),
     }
 }
 
-/// Takes the arrival of an instance that is there, whether or not the caller has brought it.
+/// Takes the arrival of an instance that is there; whether the caller has brought it is looked up.
 fn arrive_there<'x, S: Alter>(
     conn: &mut Connection<S>,
     alloc: Global,
     came: &'x Delivery<'x>,
     whole: bool,
-    brought: bool,
 ) -> Result<Arrived, LedgerFault>
     requires idle { conn.old.in_transaction ≡ false }
-    requires line { HasLineFor came.now.site.now came.now.caller.now came.now.item.now.key }
-    requires instance { came.now.instance.now ≡ instance_of came.now.item.now }
-    requires is_item { IsItem came.now.item.now }
-    ensures called { Called came.now.n (advanced result came.now.n) came.now.site.now result
-        (state S.Store conn.old) (state S.Store conn.new)
-        (λ base. IsThere base (instance_of came.now.item.now) whole
-        × (brought
-        ≡ set.contains (arrivals_in (base 5)) (came.now.caller.now, came.now.item.now.uid)))
-        (λ base db. Arrives (site_routing came.now.site.now) came.now.caller.now
-        (instance_of came.now.item.now) (book_of base) result (book_of db)
-        × OnlyTakes came.now.item.now (bodies_of base) (bodies_of db))
-        (λ base db. IsAccepted came.now.site.now came.now.caller.now (instance_of came.now.item.now)
-        (book_of base) (book_of db)) }
-    ensures number { OnOk result (came.now.n ≤ 2 ^ 62) }
-    ensures idle { conn.new.in_transaction ≡ false }
-{
-    if brought {
-        return repeat(conn, came, whole);
-    }
-    arrive_first(conn, alloc, came, whole)
-}
-
-/// The same; whether the caller has brought it is looked up.
-fn arrive_known<'x, S: Alter>(
-    conn: &mut Connection<S>,
-    alloc: Global,
-    came: &'x Delivery<'x>,
-    whole: bool,
-) -> Result<Arrived, LedgerFault>
-    requires idle { conn.old.in_transaction ≡ false }
-    requires line { HasLineFor came.now.site.now came.now.caller.now came.now.item.now.key }
-    requires instance { came.now.instance.now ≡ instance_of came.now.item.now }
-    requires is_item { IsItem came.now.item.now }
-    ensures called { Called came.now.n (advanced result came.now.n) came.now.site.now result
-        (state S.Store conn.old) (state S.Store conn.new)
-        (λ base. IsThere base (instance_of came.now.item.now) whole)
-        (λ base db. Arrives (site_routing came.now.site.now) came.now.caller.now
-        (instance_of came.now.item.now) (book_of base) result (book_of db)
-        × OnlyTakes came.now.item.now (bodies_of base) (bodies_of db))
-        (λ base db. IsAccepted came.now.site.now came.now.caller.now (instance_of came.now.item.now)
-        (book_of base) (book_of db)) }
+    requires delivered { IsDelivered came.now }
+    ensures called { Receives came.now result (state S.Store conn.old) (state S.Store conn.new)
+        (λ base. IsThere base (instance_of came.now.item.now) whole) }
     ensures number { OnOk result (came.now.n ≤ 2 ^ 62) }
     ensures idle { conn.new.in_transaction ≡ false }
 {
     match find_arrival(conn, came.caller, &came.item.uid) {
-        Ok(brought) => arrive_there(conn, alloc, came, whole, brought),
+        Ok(brought) => {
+            if brought {
+                return repeat(conn, came, whole);
+            }
+            arrive_first(conn, alloc, came, whole)
+        }
         Err(fault) => Err(fault),
     }
 }
@@ -405,21 +240,13 @@ fn arrive_new<'x, S: Alter>(
     came: &'x Delivery<'x>,
 ) -> Result<Arrived, LedgerFault>
     requires idle { conn.old.in_transaction ≡ false }
-    requires line { HasLineFor came.now.site.now came.now.caller.now came.now.item.now.key }
-    requires instance { came.now.instance.now ≡ instance_of came.now.item.now }
-    requires is_item { IsItem came.now.item.now }
-    ensures called { Called came.now.n (advanced result came.now.n) came.now.site.now result
-        (state S.Store conn.old) (state S.Store conn.new)
-        (λ base. HasNeither came.now.item.now.uid base)
-        (λ base db. Arrives (site_routing came.now.site.now) came.now.caller.now
-        (instance_of came.now.item.now) (book_of base) result (book_of db)
-        × OnlyTakes came.now.item.now (bodies_of base) (bodies_of db))
-        (λ base db. IsAccepted came.now.site.now came.now.caller.now (instance_of came.now.item.now)
-        (book_of base) (book_of db)) }
+    requires delivered { IsDelivered came.now }
+    ensures called { Receives came.now result (state S.Store conn.old) (state S.Store conn.new)
+        (HasNeither came.now.item.now.uid) }
     ensures number { OnOk result (came.now.n ≤ 2 ^ 62) }
     ensures idle { conn.new.in_transaction ≡ false }
 {
-    match targets_of(alloc, came.site, came.caller, &came.item.key) {
+    match targets_of(alloc, came) {
         Ok(targets) => bring_new(conn, alloc, came, &targets),
         Err(_) => Err(LedgerFault::Memory),
     }
@@ -433,24 +260,16 @@ fn arrive_by<'x, S: Alter>(
     known: Known,
 ) -> Result<Arrived, LedgerFault>
     requires idle { conn.old.in_transaction ≡ false }
-    requires line { HasLineFor came.now.site.now came.now.caller.now came.now.item.now.key }
-    requires instance { came.now.instance.now ≡ instance_of came.now.item.now }
-    requires is_item { IsItem came.now.item.now }
-    ensures called { Called came.now.n (advanced result came.now.n) came.now.site.now result
-        (state S.Store conn.old) (state S.Store conn.new)
-        (λ base. IsKnown base (instance_of came.now.item.now) known)
-        (λ base db. Arrives (site_routing came.now.site.now) came.now.caller.now
-        (instance_of came.now.item.now) (book_of base) result (book_of db)
-        × OnlyTakes came.now.item.now (bodies_of base) (bodies_of db))
-        (λ base db. IsAccepted came.now.site.now came.now.caller.now (instance_of came.now.item.now)
-        (book_of base) (book_of db)) }
+    requires delivered { IsDelivered came.now }
+    ensures called { Receives came.now result (state S.Store conn.old) (state S.Store conn.new)
+        (λ base. IsKnown base (instance_of came.now.item.now) known) }
     ensures number { OnOk result (came.now.n ≤ 2 ^ 62) }
     ensures idle { conn.new.in_transaction ≡ false }
 {
     match known {
         Known::No => arrive_new(conn, alloc, came),
         Known::Other => Err(LedgerFault::Conflict),
-        Known::Same { whole } => arrive_known(conn, alloc, came, whole),
+        Known::Same { whole } => arrive_there(conn, alloc, came, whole),
     }
 }
 
@@ -464,16 +283,9 @@ pub fn receive<'x, S: Alter>(
     came: &'x Delivery<'x>,
 ) -> Result<Arrived, LedgerFault>
     requires idle { conn.old.in_transaction ≡ false }
-    requires line { HasLineFor came.now.site.now came.now.caller.now came.now.item.now.key }
-    requires instance { came.now.instance.now ≡ instance_of came.now.item.now }
-    requires is_item { IsItem came.now.item.now }
-    ensures called { Called came.now.n (advanced result came.now.n) came.now.site.now result
-        (state S.Store conn.old) (state S.Store conn.new) Nothing
-        (λ base db. Arrives (site_routing came.now.site.now) came.now.caller.now
-        (instance_of came.now.item.now) (book_of base) result (book_of db)
-        × OnlyTakes came.now.item.now (bodies_of base) (bodies_of db))
-        (λ base db. IsAccepted came.now.site.now came.now.caller.now (instance_of came.now.item.now)
-        (book_of base) (book_of db)) }
+    requires delivered { IsDelivered came.now }
+    ensures called { Receives came.now result (state S.Store conn.old) (state S.Store conn.new)
+        Nothing }
     ensures number { OnOk result (came.now.n ≤ 2 ^ 62) }
     ensures idle { conn.new.in_transaction ≡ false }
 {
@@ -497,11 +309,8 @@ pub fn arrive<'x, S: Alter>(
 ) -> Result<Arrived, LedgerFault>
     requires idle { conn.old.in_transaction ≡ false }
     ensures called { Called n (advanced result n) site.now result (state S.Store conn.old)
-        (state S.Store conn.new) Nothing
-        (λ base db. Arrives (site_routing site.now) caller.now (instance_of item) (book_of base)
-        result (book_of db)
-        × OnlyTakes item (bodies_of base) (bodies_of db))
-        (λ base db. IsAccepted site.now caller.now (instance_of item) (book_of base) (book_of db)) }
+        (state S.Store conn.new) Nothing (AnswersTo site.now caller.now item result)
+        (Accepts site.now caller.now item) }
     ensures number { OnOk result (n ≤ 2 ^ 62) }
     ensures idle { conn.new.in_transaction ≡ false }
 {

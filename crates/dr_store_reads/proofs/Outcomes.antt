@@ -46,6 +46,19 @@ decoded {old = old} r asks reads it = record {
   idle = it.idle;
 }
 
+-- a query answered, or failed, and what it shows says more
+pub shown_as : {A : Type 0} {Asks Wants : Database → Type 0} {old new : State} {P Q : A → Type 0} (r : Result A LedgerFault)
+    → (Wants old.now → Asks old.now) → (Wants old.now → (x : A) → P x → Q x) → Asked Asks r old new P → Asked Wants r old new Q
+shown_as r asks says it = record {
+  shown = λ clean wants. reads_map r (says wants) (it.shown clean (asks wants));
+  same = λ clean wants. it.same clean (asks wants);
+  stays = λ clean is_open wants. it.stays clean is_open (asks wants);
+  leaves = λ clean wants. it.leaves clean (asks wants);
+  was_open = it.was_open;
+  clean = it.clean;
+  idle = it.idle;
+}
+
 -- a query failed
 refused_so : {A B : Type 0} {Asks Wants : Database → Type 0} {old new : State} {P : A → Type 0} {Q : B → Type 0} (why : LedgerFault)
     → (Wants old.now → Asks old.now) → Asked {A = A} Asks (Err why) old new P → Asked {A = B} Wants (Err why) old new Q

@@ -1,13 +1,13 @@
 -- What queries answer, and what they leave.
 use Rattle.std.specs.Prelude.{◌≡◌, ◌≢◌, ◌≤◌, ◌<◌, ◌^◌, ◌⊎◌, ℕ, pos, true, false, not, ◌==◌, IsTrue}
-use Rattle.std.specs.Prelude.{List}
+use Rattle.std.specs.Prelude.{Bool, List, length}
 use Rattle.std.specs.Prelude.{[], ◌∷◌, Option, Some, None, option_map, unwrap_or, Result, OnOk}
 use Rattle.std.specs.FinMap as map
 use Rattle.sqlite.specs.declared.types.Value.TheVariants.{Blob, Int, Text as TextCell}
 use Rattle.sqlite.specs.declared.types.Value.{Value}
 use Rattle.sqlite.specs.Effect.{Database}
 use Rattle.sqlite.specs.Order.{Row, column}
-use Rattle.sqlite.specs.State.{State, HasCleanDisk}
+use Rattle.sqlite.specs.State.{State, HasCleanDisk, Shown}
 use Rattle.sqlite.specs.Tree.{Trees}
 use Rattle.sqlite_trees.specs.View.{doubt}
 use Rattle.dr_base.specs.Texts.{Text}
@@ -115,6 +115,11 @@ IsOwnerOf db None = (node : Text) (plan : List ℕ) → IsSiteOf node plan db �
 IsOwnerOf db (Some owner) = IsSiteOf owner.node owner.plan db
 
 -- ---- rows as queries show them
+
+-- the query's answer has a row, or it has none
+abbrev pub IsAnyShown : Text → Row → State → State → Bool → Type 0
+IsAnyShown sql params old new any =
+    (rows : List Row) × Shown sql params old new rows × (any ≡ not (length rows == 0))
 
 -- what the first row says
 abbrev pub first_of : {A : Type 0} → (Row → A) → List Row → Option A

@@ -4,12 +4,16 @@ ghost use Rattle.std.specs.FinMap as map;
 ghost use Rattle.std.specs.FinSet as set;
 ghost use Rattle.sqlite.specs.Held.{state};
 ghost use Rattle.sqlite.specs.Order.{column};
+ghost use Rattle.sqlite.specs.Values.{bound};
+ghost use Rattle.sqlite.specs.Listing.{understood};
+ghost use Rattle.sqlite.specs.Given.{IsPlain};
 ghost use Rattle.sqlite_value.specs.Value.{owned};
 ghost use Rattle.sqlite.specs.declared.types.Value.TheVariants.{Int};
 ghost use Rattle.dr_ledger.specs.Replies.{Reads};
 ghost use Rattle.dr_store_schema.specs.Books.{all_kept_in, arrivals_in, rows_of};
 ghost use Rattle.dr_store_schema.specs.Ledgers.{IsLedger};
-ghost use Rattle.dr_store_reads.specs.Queries.{Asked, IsFirstDue, IsJobOf, IsKeyOf, IsBlobIn};
+ghost use Rattle.dr_store_reads.specs.Queries.{Asked, IsAnyShown, IsFirstDue, IsJobOf, IsKeyOf};
+ghost use Rattle.dr_store_reads.specs.Queries.{IsBlobIn};
 ghost use Rattle.dr_store_reads.specs.Queries.{IsOpenElsewhere, IsOwnerAsShown, IsOwnerIn};
 ghost use Rattle.dr_store_reads.specs.Queries.{IsOwnerOf, IsPrintOf, IsTextIn, IsStored};
 ghost use Rattle.dr_store_reads.specs.Queries.{HasOpen, first_of, shown_job, shown_key};
@@ -162,6 +166,21 @@ fn as_stored(uid: &Text, key: Key, print: Print) -> Result<Option<Stored>, Ledge
 
 // ---- queries
 
+/// Whether the answer of a query has a row.
+fn ask_any<S: Alter>(
+    conn: &mut Connection<S>,
+    sql: &str,
+    params: &[ValueRef<'_>],
+) -> Result<bool, LedgerFault>
+    ensures asked { Asked
+        (λ db. IsPlain (understood db.schema sql.now)) result (state S.Store conn.old)
+        (state S.Store conn.new)
+        (IsAnyShown sql.now (bound params.now) (state S.Store conn.old) (state S.Store conn.new)) }
+{
+    let rows = ask(conn, sql, params)?;
+    Ok(!rows.as_slice().is_empty())
+}
+
 /// What rules read of the instance of this uid, if it is there.
 pub fn find_key<'x, S: Alter>(
     conn: &mut Connection<S>,
@@ -241,15 +260,14 @@ pub fn find_arrival<'x, S: Alter>(
         (λ there. there
         ≡ set.contains (arrivals_in ((state S.Store conn.old).now.trees 5)) (caller.now, uid.now)) }
 {
-    let rows = ask(
+    ask_any(
         conn,
         "SELECT uid FROM arrival WHERE caller = ?1 AND uid = ?2",
         &[
             ValueRef::Text(caller.as_bytes()),
             ValueRef::Text(uid.as_bytes()),
         ],
-    )?;
-    Ok(!rows.as_slice().is_empty())
+    )
 }
 
 /// Whether the instance of this uid is kept.
@@ -258,12 +276,11 @@ pub fn find_kept<'x, S: Alter>(conn: &mut Connection<S>, uid: &'x Text) -> Resul
         (λ there.
         there ≡ set.contains (all_kept_in ((state S.Store conn.old).now.trees 7)) uid.now) }
 {
-    let rows = ask(
+    ask_any(
         conn,
         "SELECT uid FROM kept WHERE uid = ?1",
         &[ValueRef::Text(uid.as_bytes())],
-    )?;
-    Ok(!rows.as_slice().is_empty())
+    )
 }
 
 /// How far an instance is on its way to a destination, if it has such a row.
@@ -297,15 +314,14 @@ pub fn is_open_elsewhere<'x, S: Alter>(
         (λ needed.
         IsTrue needed ↔ IsOpenElsewhere (state S.Store conn.old).now.trees uid.now dest.now) }
 {
-    let rows = ask(
+    ask_any(
         conn,
         "SELECT dest FROM queue WHERE uid = ?1 AND dest <> ?2 AND state < 2",
         &[
             ValueRef::Text(uid.as_bytes()),
             ValueRef::Text(dest.as_bytes()),
         ],
-    )?;
-    Ok(!rows.as_slice().is_empty())
+    )
 }
 
 /// Whether an instance waits or is held for any destination, so that it isn't over.
@@ -313,12 +329,11 @@ pub fn has_open<'x, S: Alter>(conn: &mut Connection<S>, uid: &'x Text) -> Result
     ensures asked { Asked IsLedger result (state S.Store conn.old) (state S.Store conn.new)
         (λ open_row. IsTrue open_row ↔ HasOpen (state S.Store conn.old).now.trees uid.now) }
 {
-    let rows = ask(
+    ask_any(
         conn,
         "SELECT dest FROM queue WHERE uid = ?1 AND state < 2",
         &[ValueRef::Text(uid.as_bytes())],
-    )?;
-    Ok(!rows.as_slice().is_empty())
+    )
 }
 
 /// The uid of the first row for a destination, by (due, uid), that waits and is due at the moment

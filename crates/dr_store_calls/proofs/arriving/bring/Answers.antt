@@ -21,7 +21,7 @@ use Rattle.dr_store_calls.proofs.Takings.{arrives, arrives_own, takes_none}
 use Rattle.dr_store_calls.proofs.arriving.bring.Goals as goal
 
 pub invariant_of-change : goal.invariant_of-change
-invariant_of-change g c = record { size = let P : Instance → Type 0 = λ i. i.size ≤ 2 ^ 62 in let fits = c.requires.is_item.fits in subst P (sym c.requires.instance) (omega (arith, fits)) }
+invariant_of-change g c = record { size = let P : Instance → Type 0 = λ i. i.size ≤ 2 ^ 62 in let fits = c.requires.delivered.is_item.fits in subst P (sym c.requires.delivered.instance) (omega (arith, fits)) }
 
 pub returns-in-Ok-clause-called : goal.returns-in-Ok-clause-called
 returns-in-Ok-clause-called g c =
@@ -48,9 +48,9 @@ returns-in-Ok-clause-called g c =
     (subst (λ body. W (instance_of item) body again dests c.args.names.now) c.as_bytes.ensures
     (subst (λ ds. W (instance_of item) c.as_bytes.result.now again ds c.args.names.now) c.as_slice-dests.ensures
     (subst (λ ys. W (instance_of item) c.as_bytes.result.now ys c.as_slice-dests.result.now c.args.names.now) c.as_slice-again.ensures
-    (subst (λ i. W i c.as_bytes.result.now c.as_slice-again.result.now c.as_slice-dests.result.now c.args.names.now) c.requires.instance c.in-Ok.ensures.written)))))
+    (subst (λ i. W i c.as_bytes.result.now c.as_slice-again.result.now c.as_slice-dests.result.now c.args.names.now) c.requires.delivered.instance c.in-Ok.ensures.written)))))
     (λ ready l fits db w.
-    let it = arrives n part how caller item to keep again dests keeps old.committed.trees db c.requires.is_item c.requires.line c.requires.to c.requires.keep c.requires.formed (below_of n old ready) l fits w in
+    let it = arrives n part how caller item to keep again dests keeps old.committed.trees db c.requires.delivered.is_item c.requires.delivered.line c.requires.targets.to c.requires.targets.keep c.requires.targets.formed (below_of n old ready) l fits w in
     (it.0, it.1, it.1.0))
 
 pub returns-in-Err-clause-called : goal.returns-in-Err-clause-called
@@ -80,7 +80,7 @@ returns-in-Err-clause-called g c =
     (subst (λ body. W (instance_of item) body again dests c.args.names.now) c.as_bytes.ensures
     (subst (λ ds. W (instance_of item) c.as_bytes.result.now again ds c.args.names.now) c.as_slice-dests.ensures
     (subst (λ ys. W (instance_of item) c.as_bytes.result.now ys c.as_slice-dests.result.now c.args.names.now) c.as_slice-again.ensures
-    (subst (λ i. W i c.as_bytes.result.now c.as_slice-again.result.now c.as_slice-dests.result.now c.args.names.now) c.requires.instance c.in-Err.ensures.written)))))
+    (subst (λ i. W i c.as_bytes.result.now c.as_slice-again.result.now c.as_slice-dests.result.now c.args.names.now) c.requires.delivered.instance c.in-Err.ensures.written)))))
     (λ ready l fits db w.
-    (arrives n part how caller item to keep again dests keeps old.committed.trees db c.requires.is_item c.requires.line c.requires.to c.requires.keep c.requires.formed (below_of n old ready) l fits w).1.0)
-    (λ fits. (arrives_own part caller (instance_of item) (book_of old.committed.trees) e c.requires.line c.in-Err.ensures.fault, takes_none item (bodies_of old.committed.trees)))
+    (arrives n part how caller item to keep again dests keeps old.committed.trees db c.requires.delivered.is_item c.requires.delivered.line c.requires.targets.to c.requires.targets.keep c.requires.targets.formed (below_of n old ready) l fits w).1.0)
+    (λ fits. (arrives_own part caller (instance_of item) (book_of old.committed.trees) e c.requires.delivered.line c.in-Err.ensures.fault, takes_none item (bodies_of old.committed.trees)))

@@ -26,4 +26,4 @@ returns-in-Err-clause-called g c =
     let Answers : Trees → Trees → Type 0 = λ base db. Arrives (site_routing part) caller (instance_of item) (book_of base) (Err fault.Memory) (book_of db) × OnlyTakes item (bodies_of base) (bodies_of db) in
     let Makes : Trees → Trees → Type 0 = λ base db. Arrives (site_routing part) caller (instance_of item) (book_of base) (Ok New) (book_of db) in
     still_called {A = Arrived} c.args.came.now.n part (Err fault.Memory) (state g.S.Store c.args.conn.now) (λ base. Fits c.args.taking caller item c.args.targets.now.to c.args.targets.now.keep c.args.queued.now.again.now c.args.queued.now.dests.now c.args.keeps base) Answers Makes
-    (λ db fits. (arrives_own part caller (instance_of item) (book_of db) fault.Memory c.requires.line (inr refl), takes_none item (bodies_of db))) (λ P h. tt)
+    (λ db fits. (arrives_own part caller (instance_of item) (book_of db) fault.Memory c.requires.delivered.line (inr refl), takes_none item (bodies_of db))) (λ P h. tt)

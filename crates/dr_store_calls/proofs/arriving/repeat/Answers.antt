@@ -20,7 +20,7 @@ use Rattle.dr_store_calls.proofs.Takings.{arrives_own, repeats, takes_none}
 use Rattle.dr_store_calls.proofs.arriving.repeat.Goals as goal
 
 pub invariant_of-change : goal.invariant_of-change
-invariant_of-change g c = record { size = let P : Instance → Type 0 = λ i. i.size ≤ 2 ^ 62 in let fits = c.requires.is_item.fits in subst P (sym c.requires.instance) (omega (arith, fits)) }
+invariant_of-change g c = record { size = let P : Instance → Type 0 = λ i. i.size ≤ 2 ^ 62 in let fits = c.requires.delivered.is_item.fits in subst P (sym c.requires.delivered.instance) (omega (arith, fits)) }
 
 pub returns-in-Ok-clause-called : goal.returns-in-Ok-clause-called
 returns-in-Ok-clause-called g c =
@@ -35,8 +35,8 @@ returns-in-Ok-clause-called g c =
     let Answers : Trees → Trees → Type 0 = λ base db. Arrives (site_routing part) caller (instance_of item) (book_of base) (Ok Again) (book_of db) × OnlyTakes item (bodies_of base) (bodies_of db) in
     let Makes : Trees → Trees → Type 0 = λ base db. Arrives (site_routing part) caller (instance_of item) (book_of base) (Ok Again) (book_of db) in
     made_called n part (λ db. Unit {0}) Asks (Line (instance_of item)) Answers Makes old new (λ h. c.written.ensures.idle) (λ ready l asks. tt) Again
-    (let W : Instance → Type 0 = λ came. Written {E = LedgerFault} n (λ db. Unit {0}) (Line came) (Ok tt) old new in subst W c.requires.instance c.in-Ok.ensures.written)
-    (λ ready l asks db w. let it = repeats n part caller item c.args.whole old.committed.trees db c.requires.line (below_of n old ready) l asks.0 asks.1 w in (it.0, it.1, it.1.0))
+    (let W : Instance → Type 0 = λ came. Written {E = LedgerFault} n (λ db. Unit {0}) (Line came) (Ok tt) old new in subst W c.requires.delivered.instance c.in-Ok.ensures.written)
+    (λ ready l asks db w. let it = repeats n part caller item c.args.whole old.committed.trees db c.requires.delivered.line (below_of n old ready) l asks.0 asks.1 w in (it.0, it.1, it.1.0))
 
 pub returns-in-Err-clause-called : goal.returns-in-Err-clause-called
 returns-in-Err-clause-called g c =
@@ -52,6 +52,6 @@ returns-in-Err-clause-called g c =
     let Answers : Trees → Trees → Type 0 = λ base db. Arrives (site_routing part) caller (instance_of item) (book_of base) (Err e) (book_of db) × OnlyTakes item (bodies_of base) (bodies_of db) in
     let Makes : Trees → Trees → Type 0 = λ base db. Arrives (site_routing part) caller (instance_of item) (book_of base) (Ok Again) (book_of db) in
     unmade_called {A = Arrived} n part (λ db. Unit {0}) Asks (Line (instance_of item)) Answers Makes old new (λ h. c.written.ensures.idle) (λ ready l asks. tt) e c.in-Err.ensures.fault
-    (let W : Instance → Type 0 = λ came. Written {E = LedgerFault} n (λ db. Unit {0}) (Line came) (Err e) old new in subst W c.requires.instance c.in-Err.ensures.written)
-    (λ ready l asks db w. (repeats n part caller item c.args.whole old.committed.trees db c.requires.line (below_of n old ready) l asks.0 asks.1 w).1.0)
-    (λ asks. (arrives_own part caller (instance_of item) (book_of old.committed.trees) e c.requires.line c.in-Err.ensures.fault, takes_none item (bodies_of old.committed.trees)))
+    (let W : Instance → Type 0 = λ came. Written {E = LedgerFault} n (λ db. Unit {0}) (Line came) (Err e) old new in subst W c.requires.delivered.instance c.in-Err.ensures.written)
+    (λ ready l asks db w. (repeats n part caller item c.args.whole old.committed.trees db c.requires.delivered.line (below_of n old ready) l asks.0 asks.1 w).1.0)
+    (λ asks. (arrives_own part caller (instance_of item) (book_of old.committed.trees) e c.requires.delivered.line c.in-Err.ensures.fault, takes_none item (bodies_of old.committed.trees)))

@@ -2,7 +2,7 @@ use Rattle.std.proofs.Common.{subst}
 use Rattle.sqlite.specs.Held.{state}
 use Rattle.dr_ledger.specs.declared.content.Job.{Job}
 use Rattle.dr_store_calls.specs.Calling.{Called, Nothing, advanced}
-use Rattle.dr_store_calls.proofs.Takings.{Accepts, AnswersTo}
+use Rattle.dr_store_calls.specs.Receiving.{Accepts, AnswersTo}
 use Rattle.dr_store_calls.proofs.receiving.arrive.Goals as goal
 
 pub returns-in-Ok-clause-called : goal.returns-in-Ok-clause-called

@@ -1,22 +1,19 @@
-use Rattle.std.proofs.Common.{ap, length, not, subst, sym, ◌==◌, ◌∙◌}
-use Rattle.dr_store_reads.proofs.Found.{kept_found}
+use Rattle.std.proofs.Common.{◌∙◌, subst, sym}
 use Rattle.sqlite.specs.Held.{state}
 use Rattle.sqlite.specs.Listing.{understood}
 use Rattle.sqlite.proofs.Callers.{IsPlain}
 use Rattle.dr_store_schema.specs.Statements as text
-use Rattle.dr_store_reads.proofs.Outcomes.{decoded, refused}
+use Rattle.dr_store_reads.proofs.Found.{kept_found}
+use Rattle.dr_store_reads.proofs.Outcomes.{shown_as}
 use Rattle.dr_store_reads.proofs.Selects as select
 use Rattle.dr_store_reads.proofs.finding.find_kept.Goals as goal
-
-pub returns-in_err-rows : goal.returns-in_err-rows
-returns-in_err-rows g c =
-    record { asked = refused c.from_residual.ensures (λ has. subst (λ s. IsPlain (understood s text.find_kept)) (sym has.schema) select.find_kept.plain) c.in_err-rows.ensures.asked }
 
 pub returns : goal.returns
 returns g c =
     let old = state g.S.Store c.args.conn.now in
-    let new = state g.S.Store c.ask.new.conn in
+    let new = state g.S.Store c.ask_any.new.conn in
     record {
-      asked = decoded _ (λ has. subst (λ s. IsPlain (understood s text.find_kept)) (sym has.schema) select.find_kept.plain)
-          (λ has shown. ap not c.is_empty.ensures ∙ ap (λ rows. not (length rows == 0)) c.as_slice.ensures.value ∙ kept_found old new c.args.uid.now c.in_ok-rows.rows.items has (rw (c.as_bytes.ensures) at shown)) c.in_ok-rows.ensures.asked;
+      asked = shown_as c.ask_any.result (λ has. subst (λ s. IsPlain (understood s text.find_kept)) (sym has.schema) select.find_kept.plain)
+          (λ has any it. let shown = it.1 in it.2 ∙ kept_found old new c.args.uid.now it.0 has (rw (c.as_bytes.ensures) at shown))
+          c.ask_any.ensures.asked;
     }
