@@ -10,6 +10,8 @@ use Rattle.dr_store_lists.specs.Lists.{IsJournal, goal_cmp, goals_of, keys_of, w
 use Rattle.dr_store_open.specs.declared.listed.Journal.{Journal}
 use Rattle.dr_store_open.specs.declared.listed.Moves.{Moves}
 use Rattle.dr_store_open.specs.declared.listed.Stock.{Stock}
+use Rattle.dr_store_open.specs.declared.listed.WholeLists.{WholeLists}
+use Rattle.dr_store_open.specs.Opening.{HasNumbers}
 
 -- what is known of the instances, and who brought them
 pub record IsStockOf (db : Trees) (stock : Stock) : Type 0 where
@@ -26,3 +28,10 @@ pub record IsMovesOf (db : Trees) (moves : Moves) : Type 0 where
 pub record IsJournalOf (db : Trees) (journal : Journal) : Type 0 where
   pub notes : IsJournal db journal.notes.items
   pub goals : Lists goal_cmp (goals_of db) journal.goals.items
+
+-- all of them, and each line has a number
+pub record AreListsOf (db : Trees) (lists : WholeLists) : Type 0 where
+  pub stock : IsStockOf db lists.stock
+  pub moves : IsMovesOf db lists.moves
+  pub journal : IsJournalOf db lists.journal
+  pub numbers : HasNumbers db

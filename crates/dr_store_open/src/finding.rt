@@ -6,16 +6,15 @@ ghost use Rattle.dr_store_schema.specs.Ledgers.{IsLedger};
 ghost use Rattle.dr_store_reads.specs.Queries.{Asked};
 ghost use Rattle.dr_store_audit.specs.Found.{AgreesAs, HoldTogether};
 ghost use Rattle.dr_store_writes.specs.Effects.{IsSiteOf};
-ghost use Rattle.dr_store_open.specs.Listed.{IsJournalOf, IsMovesOf, IsStockOf};
-ghost use Rattle.dr_store_open.specs.Opening.{AreReadIf, HasNumbers, IsAgreedIf, IsWholeIf, Seen};
+ghost use Rattle.dr_store_open.specs.Listed.{AreListsOf};
+ghost use Rattle.dr_store_open.specs.Opening.{AreReadIf, IsAgreedIf, IsWholeIf, Seen};
 
 use crate::bodies::test_bodies;
-use crate::listed::{Journal, Moves, Stock, list_journal, list_moves, list_stock};
+use crate::listed::{Journal, WholeLists, list_all};
 use dr_base::Text;
 use dr_ledger::LedgerFault;
 use dr_site::Site;
 use dr_store_audit::{FindingFault, TableLists, agree};
-use dr_store_lists::next_number;
 use dr_store_reads::{Owner, Print, find_owner};
 use sqlite::{Alter, Connection};
 use std::alloc::Global;
@@ -65,30 +64,21 @@ fn read_bodies<'x, S: Alter>(
 }
 
 /// Compares all lists with what the journal's lines make.
-fn agree_all(
-    alloc: Global,
-    site: &Site,
-    stock: &Stock,
-    moves: &Moves,
-    journal: &Journal,
-    next: u64,
-) -> Result<(), FindingFault>
+fn agree_all(alloc: Global, site: &Site, lists: &WholeLists, next: u64) -> Result<(), FindingFault>
     ensures { (db : Trees)
-        → IsStockOf db stock.now
-        → IsMovesOf db moves.now
-        → IsJournalOf db journal.now
-        → AgreesAs result (HoldTogether next site.now db journal.now.notes.items) }
+        → AreListsOf db lists.now
+        → AgreesAs result (HoldTogether next site.now db lists.now.journal.notes.items) }
 {
-    let lists = TableLists {
-        keys: stock.keys.as_slice(),
-        prints: stock.prints.as_slice(),
-        arrivals: stock.arrivals.as_slice(),
-        kept: moves.kept.as_slice(),
-        rows: moves.rows.as_slice(),
-        notes: journal.notes.as_slice(),
-        goals: journal.goals.as_slice(),
+    let tables = TableLists {
+        keys: lists.stock.keys.as_slice(),
+        prints: lists.stock.prints.as_slice(),
+        arrivals: lists.stock.arrivals.as_slice(),
+        kept: lists.moves.kept.as_slice(),
+        rows: lists.moves.rows.as_slice(),
+        notes: lists.journal.notes.as_slice(),
+        goals: lists.journal.goals.as_slice(),
     };
-    agree(alloc, site, &lists, next)
+    agree(alloc, site, &tables, next)
 }
 
 /// Compares all lists with what the journal's lines make, and reads each data set again.
@@ -96,79 +86,17 @@ fn compare<'x, S: Alter>(
     conn: &mut Connection<S>,
     alloc: Global,
     site: &'x Site,
-    stock: &'x Stock,
-    moves: &'x Moves,
-    journal: &'x Journal,
+    lists: &'x WholeLists,
 ) -> Result<Option<u64>, LedgerFault>
     ensures seen { Seen IsLedger result (state S.Store conn.old) (state S.Store conn.new)
-        (λ found. IsStockOf (state S.Store conn.old).now.trees stock.now
-        → IsMovesOf (state S.Store conn.old).now.trees moves.now
-        → IsJournalOf (state S.Store conn.old).now.trees journal.now
-        → HasNumbers (state S.Store conn.old).now.trees
+        (λ found. AreListsOf (state S.Store conn.old).now.trees lists.now
         → IsAgreedIf site.now (state S.Store conn.old).now.trees found) }
 {
-    let next = number_after(journal);
-    match agree_all(alloc, site, stock, moves, journal, next) {
-        Ok(()) => read_bodies(conn, alloc, stock.prints.as_slice(), next),
+    let next = number_after(&lists.journal);
+    match agree_all(alloc, site, lists, next) {
+        Ok(()) => read_bodies(conn, alloc, lists.stock.prints.as_slice(), next),
         Err(FindingFault::OtherSite) => Ok(None),
         Err(FindingFault::Memory) => Err(LedgerFault::Memory),
-    }
-}
-
-/// The same, where each line has a number.
-fn with_journal<'x, S: Alter>(
-    conn: &mut Connection<S>,
-    alloc: Global,
-    site: &'x Site,
-    stock: &'x Stock,
-    moves: &'x Moves,
-    journal: &'x Journal,
-) -> Result<Option<u64>, LedgerFault>
-    ensures asked { Asked IsLedger result (state S.Store conn.old) (state S.Store conn.new)
-        (λ found. IsStockOf (state S.Store conn.old).now.trees stock.now
-        → IsMovesOf (state S.Store conn.old).now.trees moves.now
-        → IsJournalOf (state S.Store conn.old).now.trees journal.now
-        → IsAgreedIf site.now (state S.Store conn.old).now.trees found) }
-{
-    match next_number(conn) {
-        Ok(_) => compare(conn, alloc, site, stock, moves, journal),
-        Err(fault) => Err(fault),
-    }
-}
-
-/// The same, with the journal.
-fn with_moves<'x, S: Alter>(
-    conn: &mut Connection<S>,
-    alloc: Global,
-    site: &'x Site,
-    stock: &'x Stock,
-    moves: &'x Moves,
-) -> Result<Option<u64>, LedgerFault>
-    ensures asked { Asked IsLedger result (state S.Store conn.old) (state S.Store conn.new)
-        (λ found. IsStockOf (state S.Store conn.old).now.trees stock.now
-        → IsMovesOf (state S.Store conn.old).now.trees moves.now
-        → IsAgreedIf site.now (state S.Store conn.old).now.trees found) }
-{
-    match list_journal(conn, alloc) {
-        Ok(journal) => with_journal(conn, alloc, site, stock, moves, &journal),
-        Err(fault) => Err(fault),
-    }
-}
-
-/// The same, with what is kept and the rows.
-fn with_stock<'x, S: Alter>(
-    conn: &mut Connection<S>,
-    alloc: Global,
-    site: &'x Site,
-    stock: &'x Stock,
-) -> Result<Option<u64>, LedgerFault>
-    ensures asked { Asked IsLedger result (state S.Store conn.old) (state S.Store conn.new)
-        (λ found. IsStockOf (state S.Store conn.old).now.trees stock.now
-        → IsAgreedIf site.now (state S.Store conn.old).now.trees found) }
-{
-    match list_moves(conn, alloc) {
-        Ok(moves) => with_moves(conn, alloc, site, stock, &moves),
-        Err(fault) => Err(fault),
     }
 }
 
@@ -181,8 +109,8 @@ pub fn find_lists<'x, S: Alter>(
     ensures asked { Asked IsLedger result (state S.Store conn.old) (state S.Store conn.new)
         (λ found. IsAgreedIf site.now (state S.Store conn.old).now.trees found) }
 {
-    match list_stock(conn, alloc) {
-        Ok(stock) => with_stock(conn, alloc, site, &stock),
+    match list_all(conn, alloc) {
+        Ok(lists) => compare(conn, alloc, site, &lists),
         Err(fault) => Err(fault),
     }
 }

@@ -2,13 +2,14 @@
 ghost use Rattle.sqlite.specs.Held.{state};
 ghost use Rattle.dr_store_schema.specs.Ledgers.{IsLedger};
 ghost use Rattle.dr_store_reads.specs.Queries.{Asked};
-ghost use Rattle.dr_store_open.specs.Listed.{IsJournalOf, IsMovesOf, IsStockOf};
+ghost use Rattle.dr_store_open.specs.Listed.{AreListsOf, IsJournalOf, IsMovesOf, IsStockOf};
 
 use dr_base::Text;
 use dr_ledger::{LedgerFault, Progress};
 use dr_route::Key;
 use dr_store_lists::{
     JournalRow, all_arrivals, all_kept, all_keys, all_notes, all_prints, all_rows, all_targets,
+    next_number,
 };
 use dr_store_reads::Print;
 use sqlite::{Alter, Connection};
@@ -36,7 +37,15 @@ pub struct Journal {
     pub goals: Vec<(u64, Text)>,
 }
 
-pub fn list_stock<S: Alter>(conn: &mut Connection<S>, alloc: Global) -> Result<Stock, LedgerFault>
+/// The lists of all tables but site.
+#[derive(Drop)]
+pub struct WholeLists {
+    pub stock: Stock,
+    pub moves: Moves,
+    pub journal: Journal,
+}
+
+fn list_stock<S: Alter>(conn: &mut Connection<S>, alloc: Global) -> Result<Stock, LedgerFault>
     ensures asked { Asked IsLedger result (state S.Store conn.old) (state S.Store conn.new)
         (IsStockOf (state S.Store conn.old).now.trees) }
 {
@@ -50,7 +59,7 @@ pub fn list_stock<S: Alter>(conn: &mut Connection<S>, alloc: Global) -> Result<S
     })
 }
 
-pub fn list_moves<S: Alter>(conn: &mut Connection<S>, alloc: Global) -> Result<Moves, LedgerFault>
+fn list_moves<S: Alter>(conn: &mut Connection<S>, alloc: Global) -> Result<Moves, LedgerFault>
     ensures asked { Asked IsLedger result (state S.Store conn.old) (state S.Store conn.new)
         (IsMovesOf (state S.Store conn.old).now.trees) }
 {
@@ -59,14 +68,30 @@ pub fn list_moves<S: Alter>(conn: &mut Connection<S>, alloc: Global) -> Result<M
     Ok(Moves { kept, rows })
 }
 
-pub fn list_journal<S: Alter>(
-    conn: &mut Connection<S>,
-    alloc: Global,
-) -> Result<Journal, LedgerFault>
+fn list_journal<S: Alter>(conn: &mut Connection<S>, alloc: Global) -> Result<Journal, LedgerFault>
     ensures asked { Asked IsLedger result (state S.Store conn.old) (state S.Store conn.new)
         (IsJournalOf (state S.Store conn.old).now.trees) }
 {
     let notes = all_notes(conn, alloc)?;
     let goals = all_targets(conn, alloc)?;
     Ok(Journal { notes, goals })
+}
+
+/// All lists, where each line of the journal has a number.
+pub fn list_all<S: Alter>(
+    conn: &mut Connection<S>,
+    alloc: Global,
+) -> Result<WholeLists, LedgerFault>
+    ensures asked { Asked IsLedger result (state S.Store conn.old) (state S.Store conn.new)
+        (AreListsOf (state S.Store conn.old).now.trees) }
+{
+    let stock = list_stock(conn, alloc)?;
+    let moves = list_moves(conn, alloc)?;
+    let journal = list_journal(conn, alloc)?;
+    let _next = next_number(conn)?;
+    Ok(WholeLists {
+        stock,
+        moves,
+        journal,
+    })
 }
