@@ -52,31 +52,31 @@ fn tell_changes<W: Write>(text: &Text, output: &mut W) -> io::Result<()>
     output.write_all(text.as_bytes())
 }
 
-impl<F: Files, W: Write, E: Write> Asker<'_, F, W, E> {
-    /// Tells what changes from one sealed plan to the next.
-    fn tell_difference(
-        self,
-        alloc: Global,
-        sealed: &Sealed,
-        next: &Sealed,
-        fails: bool,
-    ) -> io::Result<Status>
-        ensures { IfOk result (Differs sealed.now.plan next.now.plan fails
-            (W.contents self.entry.output.now) (W.contents self.exit.0.now)) }
-    {
-        let Asker { output, faults, .. } = self;
-        match difference(alloc, sealed, next) {
-            Ok((text, lost)) => {
-                tell_changes(&text, output)?;
-                Ok(status_behind(fails, lost))
-            }
-            Err(AllocError) => {
-                faults.write_all(b"dr_router: Memory\n")?;
-                Ok(Status::Memory)
-            }
+/// Tells what changes from one sealed plan to the next.
+fn tell_difference<W: Write, E: Write>(
+    alloc: Global,
+    sealed: &Sealed,
+    next: &Sealed,
+    fails: bool,
+    output: &mut W,
+    faults: &mut E,
+) -> io::Result<Status>
+    ensures { IfOk result (Differs sealed.now.plan next.now.plan fails
+        (W.contents output.old) (W.contents output.new)) }
+{
+    match difference(alloc, sealed, next) {
+        Ok((text, lost)) => {
+            tell_changes(&text, output)?;
+            Ok(status_behind(fails, lost))
+        }
+        Err(AllocError) => {
+            faults.write_all(b"dr_router: Memory\n")?;
+            Ok(Status::Memory)
         }
     }
+}
 
+impl<F: Files, W: Write, E: Write> Asker<'_, F, W, E> {
     /// Tells what changes to a plan, which the text of its certificate seals.
     fn diff_sealed(
         self,
@@ -99,7 +99,8 @@ impl<F: Files, W: Write, E: Write> Asker<'_, F, W, E> {
                 return Ok(status);
             }
         };
-        let status = self.tell_difference(alloc, sealed, &next, fails);
+        let Asker { output, faults, .. } = self;
+        let status = tell_difference(alloc, sealed, &next, fails, output, faults);
         drop(next);
         status
     }
