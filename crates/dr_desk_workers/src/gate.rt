@@ -40,11 +40,9 @@ pub trait Gate {
 
     /// An association may be asked for, and so many others are open: those that the door counts,
     /// whose lock is held from now until the request is answered. The session is told this number.
-    fn counted<D: Ledger>(&self, _session: u64, others: usize, door: &Door<D>)
-        requires { others ≡ door.now.tally.total }
-    {
-        let _ = (others, door);
-    }
+    fn counted<D: Ledger>(&self, _session: u64, _others: usize, _door: &Door<D>)
+        requires { _others ≡ _door.now.tally.total }
+    {}
 
     fn at(&self, session: u64, point: Point);
 

@@ -1,13 +1,13 @@
 //! The words of the program that only look into a node's ledger, queue a row again, or let go.
 //!
-//! - `list_files`, `requeue_files`: the words `list` and `requeue`; `summarize_files`,
-//!   `requeue_all_files`: with the options that count what there is, and that take all held rows to
-//!   a node.
-//! - `give_up_files`, `forget_files`: the words `drop` and `forget`. `make_files`: the word `new`.
+//! `LedgerClerk` does them: `make` the word `new`; `list` and `requeue` the words of these names;
+//! `summarize` and `requeue_all` these with the options that count what there is, and that take all
+//! held rows to a node; `give_up` and `forget` the words `drop` and `forget`.
 //!
-//! Each comes to its ledger by `open_node` of `dr_run_open`.
+//! By a `Registry` it comes to a ledger, as `open_node` of `dr_run_open` does.
 #![tactic(auto)]
 
+mod clerk;
 mod dropping;
 mod forgetting;
 mod listing;
@@ -15,11 +15,9 @@ mod making;
 mod requeuing;
 mod requeuing_all;
 mod summary;
+mod texts;
 
-pub use dropping::{GivenUp, give_up_files};
-pub use forgetting::forget_files;
-pub use listing::list_files;
-pub use making::make_files;
-pub use requeuing::{HeldRow, requeue_files};
-pub use requeuing_all::requeue_all_files;
-pub use summary::summarize_files;
+pub use clerk::LedgerClerk;
+pub use dropping::GivenUp;
+pub use requeuing::HeldRow;
+pub use texts::Registry;

@@ -1,17 +1,12 @@
 //! The option `--all-held` of the word `requeue`.
-ghost use Rattle.std.specs.Prelude.{◌≡◌, ◌++◌, IfOk, MatchResult, OnOk, Result, flat_map};
-ghost use Rattle.dr_base.specs.Texts.{Text as Words};
-ghost use Rattle.dr_run_open.specs.Ends.{Ends};
-ghost use Rattle.dr_word_list.specs.Requeuings.{RequeuedAll, RequeuesAll, RequeuesEach};
+ghost use Rattle.std.specs.Prelude.{◌≡◌, ◌++◌, IfOk, MatchResult, OnOk, flat_map};
+ghost use Rattle.dr_word_list.specs.Requeuings.{RequeuesAll, RequeuesEach};
 ghost use Rattle.dr_word_list.specs.Requeuings.{RequeuesFirst, RequeuesFirstOf, held_in, uid_line};
-ghost use Rattle.dr_run_open.specs.declared.halt.Halt.{Halt as HaltValue};
 
 use dr_base::Text;
 use dr_ledger::{Ledger, LedgerFault, Row};
-use dr_run_files::{Failure, Files, NodeFiles};
-use dr_run_open::{Halt, Ledgers, Making, RowStage, Status, finish, is_queued, open_node};
+use dr_run_open::{RowStage, is_queued};
 use std::alloc::{AllocError, Global};
-use std::io::Write;
 
 const TAB: u8 = 9;
 
@@ -74,7 +69,11 @@ fn requeue_each<L: Ledger>(ledger: &mut L, uids: &[Text], dest: &Text) -> Result
 /// wanting once a row waits.
 ///
 /// Errors: NotHeld, Store, Memory.
-fn requeue_held<L: Ledger>(alloc: Global, ledger: &mut L, dest: &str) -> Result<Text, LedgerFault>
+pub(crate) fn requeue_held<L: Ledger>(
+    alloc: Global,
+    ledger: &mut L,
+    dest: &str,
+) -> Result<Text, LedgerFault>
     ensures { MatchResult result
         (λ text.
         L.stands ledger.new → RequeuesAll dest.now (L.book ledger.old) text (L.book ledger.new))
@@ -87,50 +86,4 @@ fn requeue_held<L: Ledger>(alloc: Global, ledger: &mut L, dest: &str) -> Result<
     let text = lines_of(alloc, uids.as_slice())?;
     requeue_each(ledger, uids.as_slice(), &dest)?;
     Ok(text)
-}
-
-/// Queues all held rows of a node to that one again.
-///
-/// Errors: those of `open_node`; Refused with NotHeld, Store or Memory.
-fn requeue_all_node<'a, F: Files, O: Ledgers>(
-    alloc: Global,
-    files: &F,
-    ledgers: &O,
-    given: NodeFiles<'a>,
-    dest: &str,
-) -> Result<Text, Halt<'a>>
-    ensures { RequeuedAll (F.holds files.now given.entry.plan.now)
-        (F.holds files.now given.entry.certificate.now) (O.opens ledgers.now given.entry.ledger.now)
-        O.Ledger.site O.Ledger.book O.Ledger.stands given.entry.node.now dest.now result }
-{
-    let mut opened = open_node(alloc, files, ledgers, given, Making::Never)?;
-    let came = requeue_held(alloc, &mut opened.ledger, dest);
-    drop(opened);
-    match came {
-        Ok(text) => Ok(text),
-        Err(fault) => Err(Halt::Refused(fault)),
-    }
-}
-
-/// Queues all held rows to that node again, and prints a line for each. The node's plan,
-/// certificate and ledger are in these files.
-///
-/// Errors: Stream, File.
-pub fn requeue_all_files<'a, F: Files, O: Ledgers, W: Write, E: Write>(
-    alloc: Global,
-    files: &F,
-    ledgers: &O,
-    given: NodeFiles<'a>,
-    dest: &str,
-    output: &mut W,
-    faults: &mut E,
-) -> Result<Status, Failure<'a>>
-    ensures { IfOk result (λ status. (came : Result Words HaltValue)
-        × RequeuedAll (F.holds files.now given.entry.plan.now)
-        (F.holds files.now given.entry.certificate.now) (O.opens ledgers.now given.entry.ledger.now)
-        O.Ledger.site O.Ledger.book O.Ledger.stands given.entry.node.now dest.now came
-        × Ends came (W.contents output.old) (W.contents output.new) status) }
-{
-    let came = requeue_all_node(alloc, files, ledgers, given, dest);
-    finish(came, output, faults)
 }

@@ -1,24 +1,17 @@
 //! The option `--summary` of the word `list`.
-ghost use Rattle.std.specs.Prelude.{◌≡◌, ◌++◌, IfOk, OnOk, Result, decimal};
+ghost use Rattle.std.specs.Prelude.{◌≡◌, ◌++◌, IfOk, OnOk, decimal};
 ghost use Rattle.dr_base.specs.Texts.{Text as Words};
 ghost use Rattle.dr_ledger_report.specs.Reports.{next_field};
-ghost use Rattle.dr_run_open.specs.Ends.{Ends};
 ghost use Rattle.dr_run_open.specs.Hops.{hops_from};
 ghost use Rattle.dr_run_open.specs.Queues.{how_many as number_of};
 ghost use Rattle.dr_word_list.specs.Summaries.{AreQueueLines, IsQueueLine, IsSummary, IsSummaryOf};
-ghost use Rattle.dr_word_list.specs.Summaries.{Summarizes, count_line, moment_field, queue_line};
-ghost use Rattle.dr_run_open.specs.declared.halt.Halt.{Halt as HaltValue};
+ghost use Rattle.dr_word_list.specs.Summaries.{count_line, moment_field, queue_line};
 
 use dr_base::Text;
 use dr_ledger::{Ledger, LedgerFault, Row};
 use dr_ledger_report::{put_field, put_name, put_number};
-use dr_run_files::{Failure, Files, NodeFiles};
-use dr_run_open::{
-    Halt, Ledgers, Making, NextHop, Opened, RowStage, Status, finish, hops_of, how_many, oldest,
-    open_node,
-};
+use dr_run_open::{NextHop, Opened, RowStage, hops_of, how_many, oldest};
 use std::alloc::{AllocError, Global};
-use std::io::Write;
 
 const LF: u8 = 10;
 
@@ -159,7 +152,7 @@ fn summary_of<L: Ledger>(
 /// How much a node that was opened has.
 ///
 /// Errors: Store, Memory.
-fn summarize_opened<L: Ledger + Drop>(
+pub(crate) fn summarize_opened<L: Ledger + Drop>(
     alloc: Global,
     opened: &mut Opened<L>,
 ) -> Result<Text, LedgerFault>
@@ -176,47 +169,4 @@ fn summarize_opened<L: Ledger + Drop>(
         hops.as_slice(),
         &mut opened.ledger,
     )
-}
-
-/// How much a node has.
-///
-/// Errors: those of `open_node`; Refused with Store or Memory.
-fn summarize_node<'a, F: Files, O: Ledgers>(
-    alloc: Global,
-    files: &F,
-    ledgers: &O,
-    given: NodeFiles<'a>,
-) -> Result<Text, Halt<'a>>
-    ensures { Summarizes (F.holds files.now given.entry.plan.now)
-        (F.holds files.now given.entry.certificate.now) (O.opens ledgers.now given.entry.ledger.now)
-        O.Ledger.site O.Ledger.book O.Ledger.stands given.entry.node.now result }
-{
-    let mut opened = open_node(alloc, files, ledgers, given, Making::Never)?;
-    let came = summarize_opened(alloc, &mut opened);
-    drop(opened);
-    match came {
-        Ok(summary) => Ok(summary),
-        Err(fault) => Err(Halt::Refused(fault)),
-    }
-}
-
-/// Prints how much a node has, whose plan, certificate and ledger are in these files.
-///
-/// Errors: Stream, File.
-pub fn summarize_files<'a, F: Files, O: Ledgers, W: Write, E: Write>(
-    alloc: Global,
-    files: &F,
-    ledgers: &O,
-    given: NodeFiles<'a>,
-    output: &mut W,
-    faults: &mut E,
-) -> Result<Status, Failure<'a>>
-    ensures { IfOk result (λ status. (came : Result Words HaltValue)
-        × Summarizes (F.holds files.now given.entry.plan.now)
-        (F.holds files.now given.entry.certificate.now) (O.opens ledgers.now given.entry.ledger.now)
-        O.Ledger.site O.Ledger.book O.Ledger.stands given.entry.node.now came
-        × Ends came (W.contents output.old) (W.contents output.new) status) }
-{
-    let came = summarize_node(alloc, files, ledgers, given);
-    finish(came, output, faults)
 }

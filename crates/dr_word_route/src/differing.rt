@@ -9,7 +9,7 @@ ghost use Rattle.dr_cert_diff.specs.declared.change.RouteChange.{RouteChange as 
 ghost use Rattle.dr_word_route.specs.Differing.{Compares, Differs, JudgesNext, SealsNext};
 ghost use Rattle.dr_word_route.specs.Unsealing.{Unseals};
 
-use crate::asking::tell_refusal;
+use crate::asking::{Asker, tell_refusal};
 use dr_base::Text;
 use dr_cert::Sealed;
 use dr_cert_diff::{changes, changes_text, has_lost};
@@ -76,91 +76,84 @@ fn tell_difference<W: Write, E: Write>(
     }
 }
 
-/// Tells what changes to a plan, which the text of its certificate seals.
-fn diff_sealed<W: Write, E: Write>(
-    alloc: Global,
-    sealed: &Sealed,
-    plan: Plan,
-    text: &[u8],
-    fails: bool,
-    output: &mut W,
-    faults: &mut E,
-) -> io::Result<Status>
-    ensures { IfOk result
-        (λ status. Unseals plan text.now (W.contents output.old) (W.contents output.new) status
-        ⊎ SealsNext sealed.now.plan plan text.now fails (W.contents output.old)
-        (W.contents output.new) status) }
-{
-    let next = match seal_text(alloc, plan, text) {
-        Ok(next) => next,
-        Err(fault) => {
-            let status = tell_refusal(fault, faults)?;
-            return Ok(status);
-        }
-    };
-    let status = tell_difference(alloc, sealed, &next, fails, output, faults);
-    drop(next);
-    status
-}
+impl<F: Files, W: Write, E: Write> Asker<'_, F, W, E> {
+    /// Tells what changes to a plan, which the text of its certificate seals.
+    fn diff_sealed(
+        self,
+        alloc: Global,
+        sealed: &Sealed,
+        plan: Plan,
+        text: &[u8],
+        fails: bool,
+    ) -> io::Result<Status>
+        ensures { IfOk result
+            (λ status. Unseals plan text.now (W.contents self.entry.output.now)
+            (W.contents self.exit.0.now) status
+            ⊎ SealsNext sealed.now.plan plan text.now fails (W.contents self.entry.output.now)
+            (W.contents self.exit.0.now) status) }
+    {
+        let next = match seal_text(alloc, plan, text) {
+            Ok(next) => next,
+            Err(fault) => {
+                let status = tell_refusal(fault, self.faults)?;
+                return Ok(status);
+            }
+        };
+        let Asker { output, faults, .. } = self;
+        let status = tell_difference(alloc, sealed, &next, fails, output, faults);
+        drop(next);
+        status
+    }
 
-/// Tells what changes to the plan of a text, whose certificate is in a file, which is read only
-/// where the text has a plan.
-fn diff_text<'a, F: Files, W: Write, E: Write>(
-    alloc: Global,
-    sealed: &Sealed,
-    text: &[u8],
-    paths: NextPlan<'a>,
-    files: &F,
-    output: &mut W,
-    faults: &mut E,
-) -> Result<Status, Failure<'a>>
-    ensures { IfOk result
-        (λ status. Refuses text.now (W.contents output.old) (W.contents output.new) status
-        ⊎ JudgesNext (F.holds files.now) sealed.now.plan paths.entry text.now
-        (W.contents output.old) (W.contents output.new) status) }
-{
-    let plan = match plan_of(alloc, text) {
-        Ok(plan) => plan,
-        Err(answer) => {
-            tell_answer(&answer, output, faults)?;
-            return Ok(answer.status());
-        }
-    };
-    match read_file(alloc, files, paths.certificate) {
-        Ok(second) => {
-            let fails = paths.fails_on_lost;
-            let status = diff_sealed(
-                alloc,
-                sealed,
-                plan,
-                second.as_slice(),
-                fails,
-                output,
-                faults,
-            )?;
-            Ok(status)
-        }
-        Err(failure) => {
-            drop(plan);
-            Err(failure)
+    /// Tells what changes to the plan of a text, whose certificate is in a file, which is read only
+    /// where the text has a plan.
+    fn diff_text<'a>(
+        self,
+        alloc: Global,
+        sealed: &Sealed,
+        text: &[u8],
+        paths: NextPlan<'a>,
+    ) -> Result<Status, Failure<'a>>
+        ensures { IfOk result
+            (λ status. Refuses text.now (W.contents self.entry.output.now)
+            (W.contents self.exit.0.now) status
+            ⊎ JudgesNext (F.holds self.entry.files.now) sealed.now.plan paths.entry text.now
+            (W.contents self.entry.output.now) (W.contents self.exit.0.now) status) }
+    {
+        let plan = match plan_of(alloc, text) {
+            Ok(plan) => plan,
+            Err(answer) => {
+                let Asker { output, faults, .. } = self;
+                tell_answer(&answer, output, faults)?;
+                return Ok(answer.status());
+            }
+        };
+        match read_file(alloc, self.files, paths.certificate) {
+            Ok(second) => {
+                let fails = paths.fails_on_lost;
+                let status = self.diff_sealed(alloc, sealed, plan, second.as_slice(), fails)?;
+                Ok(status)
+            }
+            Err(failure) => {
+                drop(plan);
+                Err(failure)
+            }
         }
     }
-}
 
-/// Tells what changes from the sealed plan to the plan in a file.
-///
-/// Errors: Stream, File.
-pub fn ask_diff<'a, F: Files, W: Write, E: Write>(
-    alloc: Global,
-    sealed: &Sealed,
-    paths: NextPlan<'a>,
-    files: &F,
-    output: &mut W,
-    faults: &mut E,
-) -> Result<Status, Failure<'a>>
-    ensures { IfOk result (Compares (F.holds files.now) sealed.now.plan paths.entry
-        (W.contents output.old) (W.contents output.new)) }
-{
-    let text = read_file(alloc, files, paths.plan)?;
-    diff_text(alloc, sealed, text.as_slice(), paths, files, output, faults)
+    /// Tells what changes from the sealed plan to the plan in a file.
+    ///
+    /// Errors: Stream, File.
+    pub(crate) fn ask_diff<'a>(
+        self,
+        alloc: Global,
+        sealed: &Sealed,
+        paths: NextPlan<'a>,
+    ) -> Result<Status, Failure<'a>>
+        ensures { IfOk result (Compares (F.holds self.entry.files.now) sealed.now.plan paths.entry
+            (W.contents self.entry.output.now) (W.contents self.exit.0.now)) }
+    {
+        let text = read_file(alloc, self.files, paths.plan)?;
+        self.diff_text(alloc, sealed, text.as_slice(), paths)
+    }
 }

@@ -7,6 +7,7 @@ ghost use Rattle.dr_cert_expect.specs.Rows.{miss_line};
 ghost use Rattle.dr_word_route.specs.Expecting.{Expects, IsTold, IsVerdict, IsVerdictOn, MayMiss};
 ghost use Rattle.dr_word_route.specs.Expecting.{printed_verdict, verdict_status};
 
+use crate::asking::Asker;
 use dr_base::Text;
 use dr_cert::Sealed;
 use dr_cert_expect::{Miss, first_miss, miss_text};
@@ -101,23 +102,29 @@ fn tell_verdict<W: Write, E: Write>(
     Ok(verdict.status())
 }
 
-/// Tells whether the sealed plan does what the file expects of it.
-///
-/// Errors: Stream, File.
-pub fn ask_expect<'a, F: Files, W: Write, E: Write>(
-    alloc: Global,
-    sealed: &Sealed,
-    files: &F,
-    path: &'a str,
-    output: &mut W,
-    faults: &mut E,
-) -> Result<Status, Failure<'a>>
-    ensures { IfOk result (λ status. (text : Words)
-        × F.holds files.now path.now text
-        × Expects sealed.now.plan text (W.contents output.old) (W.contents output.new) status) }
-{
-    let text = read_file(alloc, files, path)?;
-    let verdict = verdict_for(alloc, sealed, text.as_slice());
-    let status = tell_verdict(&verdict, output, faults)?;
-    Ok(status)
+impl<F: Files, W: Write, E: Write> Asker<'_, F, W, E> {
+    /// Tells whether the sealed plan does what the file expects of it.
+    ///
+    /// Errors: Stream, File.
+    pub(crate) fn ask_expect<'a>(
+        self,
+        alloc: Global,
+        sealed: &Sealed,
+        path: &'a str,
+    ) -> Result<Status, Failure<'a>>
+        ensures { IfOk result (λ status. (text : Words)
+            × F.holds self.entry.files.now path.now text
+            × Expects sealed.now.plan text (W.contents self.entry.output.now)
+            (W.contents self.exit.0.now) status) }
+    {
+        let Asker {
+            output,
+            faults,
+            files,
+        } = self;
+        let text = read_file(alloc, files, path)?;
+        let verdict = verdict_for(alloc, sealed, text.as_slice());
+        let status = tell_verdict(&verdict, output, faults)?;
+        Ok(status)
+    }
 }

@@ -11,7 +11,7 @@ ghost use Rattle.dr_word_line.specs.declared.words.Question.{Question as Questio
 ghost use Rattle.dr_run_open.specs.declared.status.Status.TheVariants.{Success, Refused, Usage};
 ghost use Rattle.dr_word_route.specs.Runs.{Asks};
 
-use crate::asking::ask_files;
+use crate::asking::Asker;
 use dr_run_files::{Failure, Files};
 use dr_run_open::Status;
 use dr_word_check::tell_failure;
@@ -59,7 +59,12 @@ pub fn run_asked<'a, R: Read, W: Write, E: Write, F: Files>(
 {
     match asked {
         Task::Question(plan, certificate, question) => {
-            ask_files(alloc, plan, certificate, question, files, output, faults)
+            let asker = Asker {
+                output,
+                faults,
+                files,
+            };
+            asker.ask_files(alloc, plan, certificate, question)
         }
         other => dr_word_check::run_asked(alloc, other, input, output, faults, files),
     }

@@ -13,10 +13,7 @@ use dr_run_report::Paths;
 use dr_run_serve::{Ending, OwnPort, Tallied};
 use dr_session::{Clock, DeskPort};
 use dr_word_line::Duty;
-use dr_word_list::{
-    GivenUp, HeldRow, forget_files, give_up_files, list_files, make_files, requeue_all_files,
-    requeue_files, summarize_files,
-};
+use dr_word_list::{GivenUp, HeldRow, LedgerClerk, Registry};
 use log::Log;
 use std::alloc::Global;
 use std::io::Write;
@@ -60,24 +57,30 @@ where
         (W.contents output.old) (W.contents output.new)) }
 {
     let (files, ledgers) = (system.files, system.ledgers);
+    let registry = Registry { files, ledgers };
+    let clerk = LedgerClerk {
+        output,
+        faults,
+        registry,
+    };
     match duty {
-        Duty::Make => make_files(alloc, files, ledgers, given, output, faults),
-        Duty::List => list_files(alloc, files, ledgers, given, output, faults),
-        Duty::Summary => summarize_files(alloc, files, ledgers, given, output, faults),
-        Duty::RequeueAll(dest) => {
-            requeue_all_files(alloc, files, ledgers, given, dest, output, faults)
-        }
-        Duty::Requeue(uid, dest) => {
-            let row = HeldRow { uid, dest };
-            requeue_files(alloc, files, ledgers, given, row, output, faults)
-        }
+        Duty::Make => clerk.make(alloc, given),
+        Duty::List => clerk.list(alloc, given),
+        Duty::Summary => clerk.summarize(alloc, given),
+        Duty::RequeueAll(dest) => clerk.requeue_all(alloc, given, dest),
+        Duty::Requeue(uid, dest) => clerk.requeue(alloc, given, HeldRow { uid, dest }),
         Duty::GiveUp(uid, dest) => {
             let now = system.clock.now();
-            let row = GivenUp { uid, dest, now };
-            give_up_files(alloc, files, ledgers, given, row, output, faults)
+            clerk.give_up(alloc, given, GivenUp { uid, dest, now })
         }
-        Duty::Forget(uid) => forget_files(alloc, files, ledgers, given, uid, output, faults),
-        Duty::Send(file) => send_files(alloc, system, given, file, output, faults),
-        Duty::Serve(serving) => serve_files(rt, alloc, system, given, serving, output, faults),
+        Duty::Forget(uid) => clerk.forget(alloc, given, uid),
+        Duty::Send(file) => {
+            let LedgerClerk { output, faults, .. } = clerk;
+            send_files(alloc, system, given, file, output, faults)
+        }
+        Duty::Serve(serving) => {
+            let LedgerClerk { output, faults, .. } = clerk;
+            serve_files(rt, alloc, system, given, serving, output, faults)
+        }
     }
 }

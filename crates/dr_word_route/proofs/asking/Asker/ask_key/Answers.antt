@@ -3,7 +3,7 @@ use Rattle.dr_plan_model.specs.Networks.{Network}
 use Rattle.dr_word_route.specs.Keys.{ReadsSite, ReadsWords}
 use Rattle.dr_word_route.specs.declared.reply.Response.TheVariants.{Refused}
 use Rattle.dr_word_route.proofs.Told.{route_reply, stranger_reply}
-use Rattle.dr_word_route.proofs.asking.ask_key.Goals as goal
+use Rattle.dr_word_route.proofs.asking.Asker.ask_key.Goals as goal
 
 pub returns-in-Err : goal.returns-in-Err
 returns-in-Err g c =

@@ -2,7 +2,7 @@ use Rattle.std.proofs.Common.{ℕ, List, inr, subst, Ok}
 use Rattle.dr_plan_model.specs.Networks.{Network}
 use Rattle.dr_word_route.specs.Keys.{ReadsFileKey, ReadsSite}
 use Rattle.dr_word_route.proofs.Told.{route_reply}
-use Rattle.dr_word_route.proofs.asking.ask_file.Goals as goal
+use Rattle.dr_word_route.proofs.asking.Asker.ask_file.Goals as goal
 
 pub returns : goal.returns
 returns g c =
