@@ -58,8 +58,8 @@ returns-in_err-journal g c =
           c.in_err-journal.ensures.asked);
     }
 
-pub returns-in_err-next : goal.returns-in_err-next
-returns-in_err-next g c =
+pub returns-in_err-_next : goal.returns-in_err-_next
+returns-in_err-_next g c =
     let old = state g.S.Store c.args.conn.now in
     let one = state g.S.Store c.list_stock.new.conn in
     let two = state g.S.Store c.list_moves.new.conn in
@@ -69,12 +69,12 @@ returns-in_err-next g c =
     let moves = c.in_ok-moves.moves in
     let journal = c.in_ok-journal.journal in
     record {
-      asked = refused c.from_residual-in_err-next.ensures (λ has. has)
+      asked = refused c.from_residual-in_err-_next.ensures (λ has. has)
           (then_failed old three new tt (Three stock moves journal) Numbers
           (two_asked old two three tt journal tt (Two stock moves) JournalIn (Three stock moves journal) (λ db a b. (a.0, a.1, b))
           (two_asked old one two stock moves tt StockIn MovesIn (Two stock moves) (λ db a b. (a, b)) c.in_ok-stock.ensures.asked c.in_ok-moves.ensures.asked)
           c.in_ok-journal.ensures.asked)
-          (of_ledger three new _ _ c.in_err-next.ensures.asked));
+          (of_ledger three new _ _ c.in_err-_next.ensures.asked));
     }
 
 pub returns : goal.returns
@@ -87,7 +87,7 @@ returns g c =
     let stock = c.in_ok-stock.stock in
     let moves = c.in_ok-moves.moves in
     let journal = c.in_ok-journal.journal in
-    let n = c.in_ok-next.next in
+    let n = c.in_ok-_next._next in
     let all : WholeLists = record { stock = stock; moves = moves; journal = journal } in
     record {
       asked = two_asked old three new tt n all (Three stock moves journal) Numbers (λ db lists. AreListsOf db.trees lists)
@@ -95,5 +95,5 @@ returns g c =
           (two_asked old two three tt journal tt (Two stock moves) JournalIn (Three stock moves journal) (λ db a b. (a.0, a.1, b))
           (two_asked old one two stock moves tt StockIn MovesIn (Two stock moves) (λ db a b. (a, b)) c.in_ok-stock.ensures.asked c.in_ok-moves.ensures.asked)
           c.in_ok-journal.ensures.asked)
-          (of_ledger three new _ _ c.in_ok-next.ensures.asked);
+          (of_ledger three new _ _ c.in_ok-_next.ensures.asked);
     }
