@@ -1,16 +1,17 @@
 #!/usr/bin/env python3
-"""Measures for how long a running node's ledger is held by what is asked of it, call by call, by how long a peer that
-stores has to wait meanwhile: on the built program, on loopback and this machine's disk.
+"""Measures for how long a running node's ledger is held by what is asked of it, by the node's own meter, and how long a
+peer that stores has to wait meanwhile: on the built program, on loopback and this machine's disk.
 
     bench/held_up.py             # 100,000 rows that wait, and eight images of 32 MB; some minutes, on a machine that
                                  does nothing else
     bench/held_up.py 5000 2      # as many rows and images
 
-A node's ledger has one lock. Whoever stores waits while another call has it; so the longest wait of a store beside a
-call, less the longest without one, says how long the call held the lock at least. The rows wait for a node that is
-down; the images go to another one.
+A node's ledger has one lock. Its meter says how long the longest call of the ledger was within that lock since the node
+began to serve; so the node is started anew for each thing that is measured, and somebody stores small images all the
+while. The rows wait for a node that is down; the images go to another one.
 """
 import os
+import re
 import statistics
 import sys
 import threading
@@ -120,20 +121,30 @@ def milliseconds(seconds):
     return f'{1000 * seconds:.1f} ms'
 
 
+def longest_lock(node):
+    """How long the ledger was locked at the most since the node serves, in seconds."""
+    status, text = node.ask('GET', '/metrics')
+    assert status == 200, status
+    return float(re.search(r'^dr_router_lock_longest_seconds ([0-9.e-]+)$', text, re.MULTILINE)[1])
+
+
 class Measuring:
-    """Measures what goes on beside somebody who stores, one thing after another."""
+    """Measures one thing after another, each on a node that was started for it, beside somebody who stores."""
 
     def __init__(self, room):
         self.room, self.count = room, 0
 
-    def beside(self, what, doing):
-        """How long the doing took, each time, and how long the stores beside it."""
+    def beside(self, what, doing, *words):
+        """How long the doing took, each time, how long the stores beside it, and how long the ledger was locked at the most."""
         self.count += 1
+        node = Asked(self.room, 'GATE', 0, *words, token=False)
         storing = Storing(self.room, self.count)
-        answers = doing()
+        answers = doing(node)
         spent = storing.end()
         figures = (statistics.median(answers), max(answers)) if answers else ()
-        row(f'  {what}', *([milliseconds(it) for it in figures] or ['-', '-']), milliseconds(statistics.median(spent)), milliseconds(max(spent)))
+        row(f'  {what}', *([milliseconds(it) for it in figures] or ['-', '-']), milliseconds(statistics.median(spent)), milliseconds(max(spent)),
+            milliseconds(longest_lock(node)))
+        stop(node.process)
 
 
 def asking(node, path):
@@ -173,16 +184,14 @@ def main():
     with Room(two_ways()) as room:
         node, measuring = Asked(room, 'GATE', 0, token=False), Measuring(room)
         fill(room, rows)
-        row(f'{rows} rows of 1 kB wait', 'call: median', 'longest', 'store: median', 'longest')
+        stop(node.process)
+        row(f'{rows} rows of 1 kB wait', 'call: median', 'longest', 'store: median', 'longest', 'lock: longest')
         for path in (None, *PATHS):
-            measuring.beside(path or 'nothing', lambda path=path: asking(node, path))
+            measuring.beside(path or 'nothing', lambda node, path=path: asking(node, path))
         uids = [b'1.2.2.%d' % number for number in range(images)]
-        measuring.beside(f'{images} images of 32 MB come', lambda: bring(room, 'CT2', uids, 32 << 20))
-        measuring.beside(f'{images} images of 32 MB are sent on', lambda: taking(room, images))
-        stop(node.process)
-        node = Asked(room, 'GATE', 0, '--report', 'report', token=False)
-        measuring.beside('a report is written, each ten seconds', waiting)
-        stop(node.process)
+        measuring.beside(f'{images} images of 32 MB come', lambda node: bring(room, 'CT2', uids, 32 << 20))
+        measuring.beside(f'{images} images of 32 MB are sent on', lambda node: taking(room, images))
+        measuring.beside('a report is written, each ten seconds', lambda node: waiting(), '--report', 'report')
 
 
 if __name__ == '__main__':

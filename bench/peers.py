@@ -11,7 +11,9 @@ association.
 """
 import os
 import random
+import sqlite3
 import statistics
+import struct
 import subprocess
 import sys
 import tempfile
@@ -21,8 +23,8 @@ import time
 sys.dont_write_bytecode = True
 HERE = os.path.dirname(os.path.abspath(__file__))
 sys.path.insert(0, f'{os.path.dirname(HERE)}/tests')
-from lib.requestor import ACCEPTED, RELEASED, Requestor
-from lib.nodes import LETS_GO, PROGRAM, Room, data_set, element, part10, stop
+from lib.requestor import ACCEPTED, DATA, RELEASED, Requestor, command, pdu, values
+from lib.nodes import CT, LETS_GO, PROGRAM, Room, data_set, element, part10, stop
 
 LONG = 600
 SIZES = (('1 kB', 1 << 10, 1000), ('512 kB', 512 << 10, 200), ('32 MB', 32 << 20, 8))
@@ -182,28 +184,39 @@ def storing_at_once(count):
 
 
 def crowd(at_once, size):
-    """So many associations that bring an image of that size at the same time, each again until it is taken: the greatest memory."""
+    """So many associations that bring a data set of that size at the same time, each again until it is taken: the greatest memory."""
     with Room() as room:
-        arch, pixels, tries = ours(room), image(size), []
+        arch, tries = ours(room), []
+        head = len(data_set(b'1.2.3.10', element(0x7FE0, 0x10, b'OW', b'')))
+        # what they have in common is made once: this process has all of them at a time
+        rest = values(3, 0, bytes(size - head))
+        def bring(caller, uid):
+            caller.last += 1
+            asked = command((2, CT), (0x100, 1), (0x110, caller.last), (0x700, 0), (0x800, 1), (0x1000, uid))
+            begun = data_set(uid) + b'\xe0\x7f\x10\0OW\0\0' + struct.pack('<I', size - head)
+            caller.link.sendall(values(3, 1, asked) + pdu(DATA, struct.pack('>IBB', len(begun) + 2, 3, 0) + begun))
+            caller.link.sendall(rest)
+            return caller.response()
         def store_until_taken(number):
-            uid = b'1.2.3.%d' % number
-            body = data_set(uid, pixels)
-            while True:
-                with Requestor(room.ports['ARCH'], 'GATE', 'ARCH') as caller:
-                    status = caller.store(uid, body)
+            with Requestor(room.ports['ARCH'], 'GATE', 'ARCH') as caller:
+                caller.link.settimeout(LONG)
+                while True:
+                    status = bring(caller, b'1.2.3.%d' % number)
                     tries.append(status)
-                    caller.release()
-                if status == 0:
-                    return
-                assert status == 0xA700, status
-                time.sleep(1)
-        spent = timed([lambda number=number: store_until_taken(number) for number in range(at_once)])
+                    if status == 0:
+                        assert caller.release() == RELEASED
+                        return
+                    assert status == 0xA700, status
+                    time.sleep(1)
+        spent = timed([lambda number=number: store_until_taken(number) for number in range(10, 10 + at_once)])
         peak = most_memory(arch)
         stop(arch)
-        kept = room.at('list', 'ARCH').stdout.decode().count('kept\t')
-        assert kept == at_once, kept
-        row(f'{at_once} x {size >> 20} MB at once: greatest memory, A700H, kept', f'{peak:.0f} MB', len(tries) - at_once, kept)
-        row('  megabytes a second', f'{at_once * size / spent / 1e6:.0f} MB/s')
+        row(f'{at_once} x {size / 1e6:.0f} MB at once: greatest memory, A700H, a second', f'{peak:.0f} MB', len(tries) - at_once,
+            f'{at_once * size / spent / 1e6:.0f} MB')
+        # `list` would read all of it first, which takes minutes
+        with sqlite3.connect(f'{room.folder}/ARCH.db') as ledger:
+            assert ledger.execute('SELECT count(*) FROM kept').fetchone() == (at_once,)
+        ledger.close()
 
 
 def timed(tasks):
@@ -225,8 +238,9 @@ def timed(tasks):
 
 
 def most_memory(process):
+    """The greatest memory that a process has had, in MB."""
     with open(f'/proc/{process.pid}/status', encoding='ascii') as file:
-        return next(int(line.split()[1]) / 1024 for line in file if line.startswith('VmHWM'))
+        return next(int(line.split()[1]) * 1024 / 1e6 for line in file if line.startswith('VmHWM'))
 
 
 def memory(size):

@@ -1,7 +1,7 @@
 #!/usr/bin/env python3
 """Runs a node of the built program between programs of another make, dcmtk's: SENDER is echoscu, storescu or dcmsend,
-GATE is ours, ARCH is storescp. Then peers that mean harm, and ledgers' files that can't be used. Where dcmtk isn't here
-and can't be had, nothing is tried.
+GATE is ours, ARCH is storescp. Then peers that mean harm, and ledgers' files that can't be used. Where dcmtk isn't here,
+it says so, and tries nothing.
 
     tests/interop.py [ROUNDS [SILENT]]    # so many rounds with kill -9 (5), and so many connections that say nothing
                                           (500)

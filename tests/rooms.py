@@ -3,8 +3,8 @@
 
 Each crate is in the section of its room, behind those of the room that it stands on; no arrow goes up to a later room;
 each folder of crates/ has its line, and each library of a line is named by the crate; the picture in docs/ is that of
-crates.txt; and docs/ARCHITECTURE.md has the table of `tools/rename --table`, whose old names are no crates, and whose
-new ones are there.
+crates.txt; docs/ARCHITECTURE.md has the table of `tools/rename --table`, whose old names are no crates, and whose new
+ones are there; and its lists of crates and docs/PROVED.md have them in the order of crates.txt.
 """
 import os
 import re
@@ -47,8 +47,24 @@ def unnamed(crate):
     return [it for part in listed()[crate] for it in part if not re.search(rf"\b{it}\b", text)]
 
 
+def out_of_order(page, pattern):
+    """The crates of a page's lines of that pattern that stand behind one of crates.txt's later ones, room by room, a line each."""
+    order, last = list(listed()), -1
+    with open(f"{TOP}/{page}", encoding="utf-8") as file:
+        for line in file:
+            found = re.match(pattern, line)
+            if line.startswith("#") and not found:
+                last = -1
+            elif found and found[1] in order:
+                if order.index(found[1]) < last:
+                    yield f"{page} has {found[1]} behind a crate that stands above it in crates.txt"
+                last = order.index(found[1])
+
+
 def faults():
     """What isn't as it is to be, a line each."""
+    yield from out_of_order("docs/ARCHITECTURE.md", r"- `(dr_\w+)`:")
+    yield from out_of_order("docs/PROVED.md", r"### `(dr_\w+)`")
     places, names = picture.room_of(), [name for name, _, _ in picture.rooms()]
     order = list(places)
     for crate in order:
