@@ -345,7 +345,7 @@ def silent_associations():
             same(caller.answer[0], ACCEPTED)
             same(caller.store(b'1.2.3.4', data_set(b'1.2.3.4')), 0)
             same(caller.release(), RELEASED)
-        assert time.monotonic() - begun < 2, time.monotonic() - begun
+        assert time.monotonic() - begun < 5, time.monotonic() - begun
         for link in held:
             link.close()
         stop(arch)
