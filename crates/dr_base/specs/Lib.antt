@@ -4,3 +4,4 @@ pub mod Padding
 pub mod Runs
 pub mod Syntaxes
 pub mod Texts
+pub mod Uids

@@ -8,6 +8,7 @@ pub mod same;
 pub mod seq;
 pub mod syntax;
 pub mod text;
+pub mod uid;
 
 pub use seq::Seq;
 pub use syntax::Syntax;

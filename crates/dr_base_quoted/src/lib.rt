@@ -7,4 +7,4 @@
 pub mod laws;
 mod quoted;
 
-pub use quoted::{put_quoted, put_quoted_byte, put_text, put_words};
+pub use quoted::{hex_digit, is_plain, put_quoted, put_quoted_byte, put_text, put_words};

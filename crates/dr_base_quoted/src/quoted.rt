@@ -9,17 +9,19 @@ const QUOTE: u8 = 34;
 
 const BACKSLASH: u8 = 92;
 
-/// Whether a byte stands as it is.
-fn is_plain(byte: u8) -> bool
+/// Whether a byte stands as it is: it prints, or is a blank, and is neither a quote nor a
+/// backslash.
+pub fn is_plain(byte: u8) -> bool
     ensures { result ≡ is_plain byte }
 {
     byte >= 32 && byte <= 126 && byte != QUOTE && byte != BACKSLASH
 }
 
-/// The digit of a hexadecimal number.
-fn hex_digit(number: u8) -> u8
+/// The digit, 0 to 9 or a to f, of a number below sixteen.
+pub fn hex_digit(number: u8) -> u8
     requires { number < 16 }
-    ensures { result ≡ hex_digit number }
+    ensures value { result ≡ hex_digit number }
+    ensures small { result < 128 }
 {
     if number < 10 {
         return 48 + number;

@@ -88,14 +88,6 @@ fn keepers(alloc: Global, sealed: &Sealed, site: &Text, key: &Key) -> Result<Seq
     }
 }
 
-/// A copy of a name.
-fn copy_name(name: &Text) -> Result<Text, AllocError>
-    ensures { IfOk result (λ copy. copy ≡ name.now) }
-{
-    let copy = name.clone()?;
-    Ok(copy)
-}
-
 /// A copy of a cell.
 fn copy_cell(cell: &OwnedCell) -> Result<OwnedCell, AllocError>
     ensures { IfOk result (λ copy. copy ≡ cell.now) }
@@ -134,7 +126,7 @@ pub fn compare(
     if are_none(lost.as_slice(), gained.as_slice()) {
         return Ok(None);
     }
-    let site = copy_name(site)?;
+    let site = site.clone()?;
     let cell = copy_cell(cell)?;
     Ok(Some(RouteChange {
         site,

@@ -26,14 +26,6 @@ fn merged(alloc: Global, one: &[Text], other: &[Text]) -> Result<Seq<Text>, Allo
     Ok(all)
 }
 
-/// A copy of a name.
-fn copy_name(name: &Text) -> Result<Text, AllocError>
-    ensures { IfOk result (λ copy. copy ≡ name.now) }
-{
-    let copy = name.clone()?;
-    Ok(copy)
-}
-
 /// The parts of the modalities: each of these values, and all others.
 fn modality_parts(alloc: Global, values: &[Text]) -> Result<Vec<OwnedField>, AllocError>
     ensures { IfOk result (λ v.
@@ -41,7 +33,7 @@ fn modality_parts(alloc: Global, values: &[Text]) -> Result<Vec<OwnedField>, All
 {
     let mut parts = Vec::new(alloc);
     for value in values {
-        parts.push(OwnedField::Literal(copy_name(value)?))?;
+        parts.push(OwnedField::Literal(value.clone()?))?;
     }
     parts.push(OwnedField::Rest)?;
     Ok(parts)
@@ -53,7 +45,7 @@ fn single_parts(alloc: Global, values: &[Text]) -> Result<Vec<OwnedStation>, All
 {
     let mut parts = Vec::new(alloc);
     for value in values {
-        parts.push(OwnedStation::Literal(copy_name(value)?))?;
+        parts.push(OwnedStation::Literal(value.clone()?))?;
     }
     Ok(parts)
 }
@@ -71,7 +63,7 @@ fn station_parts(
 {
     let mut parts = single_parts(alloc, values)?;
     for prefix in prefixes {
-        parts.push(OwnedStation::Prefix(copy_name(prefix)?))?;
+        parts.push(OwnedStation::Prefix(prefix.clone()?))?;
     }
     parts.push(OwnedStation::Rest)?;
     Ok(parts)

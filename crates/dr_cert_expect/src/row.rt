@@ -29,28 +29,12 @@ pub enum Finding {
     Lacks(Lack),
 }
 
-/// A copy of a name.
-fn copy_name(name: &Text) -> Result<Text, AllocError>
-    ensures { IfOk result (λ copy. copy ≡ name.now) }
-{
-    let copy = name.clone()?;
-    Ok(copy)
-}
-
-/// A copy of a key.
-fn copy_key(key: &Key) -> Result<Key, AllocError>
-    ensures { IfOk result (λ copy. copy ≡ key.now) }
-{
-    let copy = key.clone()?;
-    Ok(copy)
-}
-
 /// The case of the key that enters at the site.
 fn case_of(site: &Text, key: &Key) -> Result<Case, AllocError>
     ensures { IfOk result (λ case. (case.site ≡ site.now) × (case.key ≡ key.now)) }
 {
-    let site = copy_name(site)?;
-    let key = copy_key(key)?;
+    let site = site.clone()?;
+    let key = key.clone()?;
     Ok(Case { site, key })
 }
 
@@ -60,7 +44,7 @@ fn lacks_keep(name: &Text, site: &Text, key: &Key) -> Result<Finding, AllocError
         × (finding ≡ Lacks (lacks.Keep name.now case))
         × (case.site ≡ site.now) × (case.key ≡ key.now)) }
 {
-    let name = copy_name(name)?;
+    let name = name.clone()?;
     let case = case_of(site, key)?;
     Ok(Finding::Lacks(Lack::Keep(name, case)))
 }
@@ -71,7 +55,7 @@ fn lacks_never(name: &Text, site: &Text, key: &Key) -> Result<Finding, AllocErro
         × (finding ≡ Lacks (lacks.Never name.now case))
         × (case.site ≡ site.now) × (case.key ≡ key.now)) }
 {
-    let name = copy_name(name)?;
+    let name = name.clone()?;
     let case = case_of(site, key)?;
     Ok(Finding::Lacks(Lack::Never(name, case)))
 }

@@ -7,14 +7,6 @@ use dr_route::is_local;
 use std::alloc::AllocError;
 use std::collections::BTreeSet;
 
-/// A copy of a name.
-fn copy_name(name: &Text) -> Result<Text, AllocError>
-    ensures { IfOk result (λ copy. copy ≡ name.now) }
-{
-    let copy = name.clone()?;
-    Ok(copy)
-}
-
 /// Whether the pair is in the set.
 pub fn has_pair(pairs: &BTreeSet<(Text, Text)>, pair: &(Text, Text)) -> bool
     ensures { IsTrue result ↔ HasPair pairs.now pair.now }
@@ -37,7 +29,7 @@ pub fn is_known(pairs: &BTreeSet<(Text, Text)>, site: &Text, place: &(Text, Text
 fn add_pair(pairs: &mut BTreeSet<(Text, Text)>, from: &Text, to: &Text) -> Result<(), AllocError>
     ensures { OnOk result (AddsPairs pairs.old pairs.new from.now (λ name. name ≡ to.now)) }
 {
-    let pair = (copy_name(from)?, copy_name(to)?);
+    let pair = (from.clone()?, to.clone()?);
     if has_pair(pairs, &pair) {
         return Ok(());
     }

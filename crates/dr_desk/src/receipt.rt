@@ -59,7 +59,7 @@ pub(crate) fn arrival(caller: &Text, item: &Item) -> Result<Call, AllocError>
 {
     let caller = caller.clone()?;
     let uid = item.uid().clone()?;
-    let key = copy_key(item.key())?;
+    let key = item.key().clone()?;
     let length = item.body().len() as u64;
     let call = Call::Arrival {
         caller,
@@ -113,13 +113,6 @@ pub(crate) fn forgetting(uid: &Text) -> Result<Call, AllocError>
 {
     let uid = uid.clone()?;
     Ok(Call::Forgetting { uid })
-}
-
-fn copy_key(key: &Key) -> Result<Key, AllocError>
-    ensures { IfOk result (λ copy. copy ≡ key.now) }
-{
-    let copy = key.clone()?;
-    Ok(copy)
 }
 
 /// Whether a line of the journal is of that call, with that reply.

@@ -5,7 +5,8 @@ use Rattle.std.proofs.lemmas.Bool.{ne_eqb}
 use Rattle.std.proofs.lemmas.List.{length-append}
 use Rattle.dr_base.specs.Padding.{onto, unpadded}
 use Rattle.dr_pdu.proofs.Trimming.{unpadded_short, unpadded_twice}
-use Rattle.dr_dimse.specs.Commands.{IsUid, text_of}
+use Rattle.dr_base.specs.Uids.{IsUid}
+use Rattle.dr_dimse.specs.Commands.{text_of}
 use Rattle.dr_dimse.specs.Written.{even, IsText}
 
 unpadded_nul : (t : List ℕ) → unpadded (t ++ 0 ∷ []) ≡ unpadded t

@@ -6,9 +6,9 @@ use Rattle.std.specs.Prelude.{◌≡◌, ◌≢◌, ◌⊎◌, ℕ, ◌^◌, ◌
 use Rattle.std.specs.Prelude.{length, map, filter, ◌==◌, Option, Some, None, IfSome, slice_get}
 use Rattle.std.specs.Prelude.{Result, Ok, Err}
 use Rattle.std.specs.Int.{w16, w32, to_le_bytes}
-use Rattle.std.specs.List.{AllByRecursion}
 use Rattle.dr_base.specs.Runs.{Run}
 use Rattle.dr_base.specs.Padding.{unpadded}
+use Rattle.dr_base.specs.Uids.{IsUid}
 use Rattle.dr_dimse.specs.declared.fault.DimseFault.{DimseFault}
 use Rattle.dr_dimse.specs.declared.fault.DimseFault.TheVariants.{BadCommand, Memory}
 use Rattle.dr_dimse.specs.declared.command.Command.{Command}
@@ -65,11 +65,6 @@ abbrev pub AreNumbers : List Element → Type 0
 AreNumbers es =
     IsShort es 0x0100 × IsShort es 0x0110 × IsShort es 0x0120 × IsShort es 0x0700
     × IsShort es 0x0800 × IsShort es 0x0900 × IsShort es 0x1031
-
--- a UID as it is taken here: 1 to 64 bytes, each from 21H to 7EH; PS3.5 9.1 has digits and dots
--- alone
-abbrev pub IsUid : List ℕ → Type 0
-IsUid uid = (1 ≤ length uid) × (length uid ≤ 64) × AllByRecursion (λ b. (0x21 ≤ b) × (b ≤ 0x7E)) uid
 
 -- ---- what the elements say
 

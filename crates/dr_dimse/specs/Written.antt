@@ -8,7 +8,8 @@ use Rattle.dr_base.specs.Padding.{unpadded}
 use Rattle.dr_dimse.specs.declared.command.Command.{Command}
 use Rattle.dr_dimse.specs.declared.command.Command.TheVariants.{StoreRq, StoreRsp, EchoRq, EchoRsp}
 use Rattle.dr_dimse.specs.declared.command.Command.TheVariants.{Other}
-use Rattle.dr_dimse.specs.Commands.{Element, element_text, IsUid, HasNoName}
+use Rattle.dr_base.specs.Uids.{IsUid}
+use Rattle.dr_dimse.specs.Commands.{Element, element_text, HasNoName}
 
 -- a text of even length: a NUL is put behind one of odd length (PS3.5 9.1)
 abbrev pub even : List ℕ → List ℕ

@@ -1,7 +1,6 @@
 //! The command of a text.
 ghost use Rattle.std.specs.Prelude.{◌≡◌, ◌≢◌, ◌<◌, ◌≤◌, IsTrue, ◌↔◌, IfOk};
-ghost use Rattle.std.specs.List.{AllByRecursion};
-ghost use Rattle.dr_dimse.specs.Commands.{ReadsCommand, Says, IsUid, text_at};
+ghost use Rattle.dr_dimse.specs.Commands.{ReadsCommand, Says, text_at};
 ghost use Rattle.dr_dimse.specs.Reads.{Reads, IsOf, elements};
 
 use crate::command::Command;
@@ -9,6 +8,7 @@ use crate::elements::{Element, are_numbers, elements_of, first, number_of};
 use crate::fault::DimseFault;
 use dr_base::Text;
 use dr_base::padding::unpadded;
+use dr_base::uid::is_uid;
 use std::alloc::{AllocError, Global};
 
 /// C-CANCEL-RQ, which alone has neither id nor status.
@@ -168,20 +168,4 @@ fn text_of(alloc: Global, found: &[Element<'_>], number: u16) -> Result<Text, Al
     };
     let text = Text::copy_of(alloc, unpadded(value))?;
     Ok(text)
-}
-
-/// Whether it is 1 to 64 bytes from 21H to 7EH.
-pub fn is_uid(text: &[u8]) -> bool
-    ensures { IsTrue result ↔ IsUid text.now }
-{
-    if text.is_empty() || text.len() > 64 {
-        return false;
-    }
-    are_graphic(text)
-}
-
-fn are_graphic(text: &[u8]) -> bool
-    ensures { IsTrue result ↔ AllByRecursion (λ b. (0x21 ≤ b) × (b ≤ 0x7E)) text.now }
-{
-    text.iter().all(|byte| byte.is_ascii_graphic())
 }

@@ -10,9 +10,9 @@ ghost use Rattle.dr_dimse.specs.Written.{elements_of, joined, written, Fits, Fie
 
 use crate::assembly::GREATEST_COMMAND;
 use crate::command::Command;
-use crate::reader::is_uid;
 use dr_base::Text;
 use dr_base::padding::unpadded;
+use dr_base::uid::is_uid;
 use std::alloc::{AllocError, Global};
 
 /// The spelling of a command: the group length, and then its elements in the order of their tags,

@@ -6,15 +6,9 @@ ghost use Rattle.dr_base.specs.Texts.{text_cmp};
 ghost use Rattle.dr_ledger.specs.Pairs.{pair_cmp};
 
 use dr_base::Text;
+use dr_base::same::Same;
 use dr_ledger::{Instance, Progress};
 use std::collections::{BTreeMap, BTreeSet};
-
-/// Whether the uid is that one.
-fn is_uid(uid: &Text, other: &Text) -> bool
-    ensures { IsTrue result ↔ (uid.now ≡ other.now) }
-{
-    uid == other
-}
 
 /// Whether they are one instance.
 pub fn is_same(instance: &Instance, other: &Instance) -> bool
@@ -36,7 +30,7 @@ pub fn are_items(items: &BTreeMap<Text, Instance>, others: &BTreeMap<Text, Insta
         let Some((other_uid, other)) = rest.next() else {
             return false;
         };
-        if !is_uid(uid, other_uid) || !is_same(instance, other) {
+        if !uid.is_same(other_uid) || !is_same(instance, other) {
             return false;
         }
     }
@@ -78,7 +72,7 @@ pub fn are_kept(kept: &BTreeSet<Text>, list: &[Text]) -> bool
         let [first, more @ ..] = rest else {
             return false;
         };
-        if !is_uid(uid, first) {
+        if !uid.is_same(first) {
             return false;
         }
         rest = more;

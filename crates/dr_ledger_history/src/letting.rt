@@ -9,7 +9,6 @@ ghost use Rattle.dr_ledger.specs.Pairs.{pair_cmp};
 ghost use Rattle.dr_ledger_history.specs.Leaving.{AreLetGo, IsCallerFrom, IsRowOf};
 ghost use Rattle.dr_ledger_history.specs.Trees.{as_map, as_set};
 
-use crate::trees::is_open;
 use dr_base::Text;
 use dr_ledger::{Instance, Progress};
 use std::alloc::{AllocError, Global};
@@ -56,7 +55,7 @@ pub fn let_rows_go(
         let Some((at, row)) = row_of(alloc, rows, uid)? else {
             return Ok(true);
         };
-        if is_open(row) {
+        if row.is_queued() {
             return Ok(false);
         }
         rows.remove(&at);

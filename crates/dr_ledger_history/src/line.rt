@@ -116,7 +116,7 @@ fn arrival_entry(
     let entry = Entry::Arrival {
         caller: caller.clone()?,
         uid: instance.uid.clone()?,
-        key: key_of(instance)?,
+        key: instance.key.clone()?,
         length: instance.size,
         to: names_of(to)?,
         keep,
@@ -131,7 +131,7 @@ fn repeat_entry(caller: &Text, instance: &Instance) -> Result<Entry, AllocError>
     let entry = Entry::Repeat {
         caller: caller.clone()?,
         uid: instance.uid.clone()?,
-        key: key_of(instance)?,
+        key: instance.key.clone()?,
         length: instance.size,
     };
     Ok(entry)
@@ -177,13 +177,6 @@ fn forgetting_entry(uid: &Text) -> Result<Entry, AllocError>
 {
     let uid = uid.clone()?;
     Ok(Entry::Forgetting { uid })
-}
-
-fn key_of(instance: &Instance) -> Result<Key, AllocError>
-    ensures { IfOk result (λ k. k ≡ instance.now.key) }
-{
-    let key = instance.key.clone()?;
-    Ok(key)
 }
 
 fn names_of(names: &Seq<Text>) -> Result<Seq<Text>, AllocError>

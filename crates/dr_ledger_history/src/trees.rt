@@ -111,23 +111,11 @@ pub fn fill(
     Ok(())
 }
 
-/// Whether the row waits or is held.
-pub fn is_open(row: Progress) -> bool
-    ensures { result ≡ is_queued row }
-{
-    match row {
-        Progress::Waiting { .. } => true,
-        Progress::Held(_) => true,
-        Progress::Done => false,
-        Progress::Dropped => false,
-    }
-}
-
 /// Lets rows go that are done or dropped.
 pub fn prune(rows: &mut BTreeMap<(Text, Text), Progress>)
     ensures { as_map pair_cmp rows.new ≡ not_over (as_map pair_cmp rows.old) }
 {
-    rows.retain(|_, row| is_open(*row));
+    rows.retain(|_, row| row.is_queued());
 }
 
 /// Lets all arrivals go.

@@ -99,12 +99,7 @@ pub fn first(instance: Instance, rows: Vec<(Text, Progress)>, keep: bool, body: 
 pub fn is_open(row: &(Text, Progress)) -> bool
     ensures { result ≡ is_open_row row.now }
 {
-    match row.1 {
-        Progress::Waiting { .. } => true,
-        Progress::Held(_) => true,
-        Progress::Done => false,
-        Progress::Dropped => false,
-    }
+    row.1.is_queued()
 }
 
 /// Whether some row waits or is held.

@@ -406,7 +406,7 @@ impl MemoryLedger {
         let Some(body) = &entry.body else {
             return Err(AllocError);
         };
-        let key = key_of(&entry.instance)?;
+        let key = entry.instance.key.clone()?;
         let body = body.clone()?;
         Ok(Job { uid, key, body })
     }
@@ -568,13 +568,6 @@ fn forgetting(uid: &Text) -> Result<JournalLine, AllocError>
 {
     let uid = uid.clone()?;
     Ok(JournalLine::Forgetting { uid })
-}
-
-fn key_of(instance: &Instance) -> Result<Key, AllocError>
-    ensures { IfOk result (λ k. k ≡ instance.now.key) }
-{
-    let key = instance.key.clone()?;
-    Ok(key)
 }
 
 /// Whether what is known is this item.

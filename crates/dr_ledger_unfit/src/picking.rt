@@ -11,18 +11,6 @@ use dr_ledger::{LedgerFault, Progress};
 use dr_ledger_history::History;
 use std::alloc::{AllocError, Global};
 
-/// Whether the instance has still to go on.
-fn is_open(progress: Progress) -> bool
-    ensures { result ≡ is_queued progress }
-{
-    match progress {
-        Progress::Waiting { .. } => true,
-        Progress::Held(_) => true,
-        Progress::Done => false,
-        Progress::Dropped => false,
-    }
-}
-
 /// Whether a row waits or is held, and the next plan doesn't go on with it.
 ///
 /// Errors: Store, where the row is of no instance.
@@ -36,7 +24,7 @@ fn is_unfit(
         (IsUnfitRow next.now.plan name.now (content history.now.parts).items row.now)
         (IsFitRow next.now.plan name.now (content history.now.parts).items row.now)) }
 {
-    if !is_open(row.1) {
+    if !row.1.is_queued() {
         return Ok(false);
     }
     let Some(item) = history.item(&row.0.0) else {

@@ -5,7 +5,8 @@ use Rattle.std.specs.Prelude.{◌/◌, ◌%◌, nat_lt}
 use Rattle.std.proofs.lemmas.Bool.{cases_Bool, cond-true, cond-false}
 use Rattle.std.proofs.lemmas.Bool.Decides.{nat_tests}
 use Rattle.std.proofs.lemmas.List.Elements.{All-nil, All-cons}
-use Rattle.dr_run_page.specs.Markup.{IsHarmless, hex_digit, is_plain, shown_byte}
+use Rattle.dr_base_quoted.specs.Quoting.{hex_digit}
+use Rattle.dr_run_page.specs.Markup.{IsHarmless, is_plain, shown_byte}
 
 -- a digit is harmless
 digit : (n : ℕ) → n < 16 → IsHarmless (hex_digit n)

@@ -1,7 +1,8 @@
 -- Bytes that a peer sent, as characters of a document (HTML, "Syntax", 13.1).
-use Rattle.std.specs.Prelude.{ℕ, ◌≡◌, false, ◌≤◌, ◌<◌, Bool, [], ◌∷◌, ◌==◌, ◌&&◌, ◌||◌, ◌+◌}
-use Rattle.std.specs.Prelude.{◌/◌, ◌%◌, not, nat_le, nat_lt, flat_map, if◌then◌else◌}
+use Rattle.std.specs.Prelude.{ℕ, ◌≡◌, false, ◌≤◌, ◌<◌, Bool, [], ◌∷◌, ◌==◌, ◌&&◌, ◌||◌}
+use Rattle.std.specs.Prelude.{◌/◌, ◌%◌, not, nat_le, flat_map, if◌then◌else◌}
 use Rattle.dr_base.specs.Texts.{Text}
+use Rattle.dr_base_quoted.specs.Quoting.{hex_digit}
 
 -- `<` (60), `>` (62), `&` (38) and both quotes (34, 39): what markup is made of
 abbrev pub is_markup : ℕ → Bool
@@ -11,10 +12,6 @@ is_markup b = (b == 60) || (b == 62) || (b == 38) || (b == 34) || (b == 39)
 -- backslash (92).
 abbrev pub is_plain : ℕ → Bool
 is_plain b = nat_le 32 b && nat_le b 126 && not (is_markup b) && not (b == 92)
-
--- 0 to 9, then a to f
-abbrev pub hex_digit : ℕ → ℕ
-hex_digit n = if nat_lt n 10 then 48 + n else 87 + n
 
 -- what stands for a byte: itself, or a backslash, `x` and both digits
 abbrev pub shown_byte : ℕ → Text

@@ -1,7 +1,8 @@
 //! Bytes that a peer sent, as characters of a document.
 ghost use Rattle.std.specs.Prelude.{◌≡◌, ◌<◌, ◌∷◌, [], ◌++◌, ◌/◌, ◌%◌, OnOk};
-ghost use Rattle.dr_run_page.specs.Markup.{hex_digit, is_markup, is_plain, shown, shown_byte};
+ghost use Rattle.dr_run_page.specs.Markup.{is_markup, is_plain, shown, shown_byte};
 
+use dr_base_quoted::hex_digit;
 use std::alloc::AllocError;
 
 /// Whether markup is made of the byte.
@@ -16,17 +17,6 @@ fn is_plain(byte: u8) -> bool
     ensures { result ≡ is_plain byte }
 {
     32 <= byte && byte <= 126 && !is_markup(byte) && byte != b'\\'
-}
-
-/// A number below sixteen as a digit.
-fn hex_digit(number: u8) -> u8
-    requires { number < 16 }
-    ensures { result ≡ hex_digit number }
-{
-    if number < 10 {
-        return 48 + number;
-    }
-    87 + number
 }
 
 /// Adds what stands for a byte.

@@ -4,7 +4,8 @@ use Rattle.std.specs.Prelude.{◌+◌, ◌-◌, ◌*◌, ◌/◌, ◌%◌, ◌==
 use Rattle.std.proofs.lemmas.Bool.{cases_Bool, cond-true, cond-false}
 use Rattle.std.proofs.lemmas.Bool.Decides.{nat_tests}
 use Rattle.std.proofs.lemmas.List.Elements.{All-head, All-tail}
-use Rattle.dr_run_shown.specs.Showing.{IsByte, escaped, hex_digit, hex_escape, is_plain, shown_byte}
+use Rattle.dr_base_quoted.specs.Quoting.{IsByte, hex_digit, is_plain}
+use Rattle.dr_run_shown.specs.Showing.{escaped, hex_escape, shown_byte}
 use Rattle.dr_run_shown.proofs.Forms.{form}
 
 -- the number of a digit

@@ -4,7 +4,8 @@ use Rattle.std.specs.Prelude.{◌+◌, ◌*◌, ◌/◌, ◌%◌, ◌==◌, ◌&
 use Rattle.std.proofs.lemmas.Bool.{cases_Bool, cond-true, cond-false}
 use Rattle.std.proofs.lemmas.Bool.Decides.{nat_tests}
 use Rattle.std.proofs.lemmas.List.Elements.{All-nil, All-cons, All-append, All-head, All-tail, All-take}
-use Rattle.dr_run_shown.specs.Showing.{IsByte, escaped, hex_digit, hex_escape, is_plain, shown, shown_byte}
+use Rattle.dr_base_quoted.specs.Quoting.{IsByte, hex_digit, is_plain}
+use Rattle.dr_run_shown.specs.Showing.{escaped, hex_escape, shown, shown_byte}
 use Rattle.dr_run_shown.specs.Laws.{IsPrintable}
 
 -- what a byte is, and how it is shown

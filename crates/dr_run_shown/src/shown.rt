@@ -1,9 +1,10 @@
 //! Bytes as a line shows them.
 ghost use Rattle.std.specs.Prelude.{◌≡◌, ◌<◌, ◌≤◌, ◌/◌, ◌%◌, ◌∷◌, ◌++◌, [], codes, length, take};
 ghost use Rattle.std.specs.Fmt.{WritesOnOk};
-ghost use Rattle.dr_run_shown.specs.Showing.{escaped, hex_digit, hex_escape};
-ghost use Rattle.dr_run_shown.specs.Showing.{is_plain, shown, shown_byte};
+ghost use Rattle.dr_base_quoted.specs.Quoting.{hex_digit};
+ghost use Rattle.dr_run_shown.specs.Showing.{escaped, hex_escape, shown, shown_byte};
 
+use dr_base_quoted::{hex_digit, is_plain};
 use std::fmt;
 use std::fmt::{Display, Formatter};
 
@@ -17,25 +18,6 @@ const MOST: usize = 128;
 /// Bytes that another node sent, or that a person gave, as a line shows them, also between quotes.
 #[derive(Clone, Copy, Drop)]
 pub struct Escaped<'a>(pub &'a [u8]);
-
-/// Whether a byte is shown as it stands.
-fn is_plain(byte: u8) -> bool
-    ensures { result ≡ is_plain byte }
-{
-    byte >= 32 && byte <= 126 && byte != QUOTE && byte != BACKSLASH
-}
-
-/// The digit of a hexadecimal number.
-fn hex_digit(number: u8) -> u8
-    requires { number < 16 }
-    ensures value { result ≡ hex_digit number }
-    ensures small { result < 128 }
-{
-    if number < 10 {
-        return 48 + number;
-    }
-    87 + number
-}
 
 fn write_byte<W: fmt::Write>(f: &mut Formatter<W>, byte: u8) -> fmt::Result
     requires { byte < 128 }

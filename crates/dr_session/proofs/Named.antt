@@ -3,7 +3,7 @@ use Rattle.std.proofs.Common.{◌≡◌, ℕ, ◌≤◌, ◌&&◌, Bool, true, L
 use Rattle.std.specs.List.{AllByRecursion, list_all}
 use Rattle.std.proofs.lemmas.Bool.{and_parts, and_from, leb-true, le-leb}
 use Rattle.dr_base.specs.Texts.{Text}
-use Rattle.dr_dimse.specs.Commands.{IsUid}
+use Rattle.dr_base.specs.Uids.{IsUid}
 use Rattle.dr_ledger.specs.declared.content.Job.{Job}
 use Rattle.dr_ledger.specs.Items.{IsItem}
 use Rattle.dr_session.specs.Reactions.{can_be_named, is_graphic, is_uid}

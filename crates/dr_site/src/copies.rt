@@ -7,14 +7,6 @@ use dr_plan_sound::{Hop, Line};
 use dr_route::{AcceptRow, Literals, Rule};
 use std::alloc::AllocError;
 
-/// A copy of a title. It fails for want of memory alone.
-pub fn copy_name(name: &Text) -> Result<Text, AllocError>
-    ensures { IfOk result (λ t. t ≡ name.now) }
-{
-    let copy = name.clone()?;
-    Ok(copy)
-}
-
 /// A copy of a flow. It fails for want of memory alone.
 pub fn copy_flow(flow: &Flow) -> Result<Flow, AllocError>
     ensures { IfOk result (λ f. f ≡ flow.now) }

@@ -5,9 +5,7 @@ ghost use Rattle.dr_site.specs.Routing.{HasLineFor, SendsFrom, KeepsAt};
 ghost use Rattle.dr_site.specs.Parts.{Part, IsPartOf, hops_to};
 ghost use Rattle.dr_site.specs.Sites.{IsCertified, IsSite, IsSiteOf};
 
-use crate::copies::{
-    copy_accepts, copy_flows, copy_hops, copy_lines, copy_literals, copy_name, copy_rules,
-};
+use crate::copies::{copy_accepts, copy_flows, copy_hops, copy_lines, copy_literals, copy_rules};
 use crate::rows::{flows_at, hops_ending_at, hops_from, lines_of};
 use dr_base::same::{Same, are_same};
 use dr_base::{Seq, Text};
@@ -140,7 +138,7 @@ impl Site {
         let hops = hops_from(alloc, certificate.hops.as_slice(), name)?;
         let literals = literals(alloc, plan)?;
         let parts = SiteParts {
-            name: copy_name(name)?,
+            name: name.clone()?,
             max_pdu: node.max_pdu,
             digest: *plan.digest(),
             rules,
@@ -307,7 +305,7 @@ impl Site {
     {
         let own = self.parts.as_ref();
         let parts = SiteParts {
-            name: copy_name(&own.name)?,
+            name: own.name.clone()?,
             max_pdu: own.max_pdu,
             digest: own.digest,
             rules: copy_rules(&own.rules)?,

@@ -156,18 +156,6 @@ pub fn list_rows_and_keys<S: Alter>(
     }
 }
 
-/// Whether the instance has still to go on.
-fn is_open(progress: Progress) -> bool
-    ensures { result ≡ is_queued progress }
-{
-    match progress {
-        Progress::Waiting { .. } => true,
-        Progress::Held(_) => true,
-        Progress::Done => false,
-        Progress::Dropped => false,
-    }
-}
-
 /// Whether a row waits or is held, and the next plan doesn't go on with it.
 fn is_unfit(
     next: &Sealed,
@@ -177,7 +165,7 @@ fn is_unfit(
 ) -> Result<bool, LedgerFault>
     ensures { Reads result (IsUnfitAmong next.now.plan name.now keys.now row.now) }
 {
-    if !is_open(row.1) {
+    if !row.1.is_queued() {
         return Ok(false);
     }
     let Some(key) = get(keys, &row.0.0) else {

@@ -16,18 +16,6 @@ use dr_store_reads::Print;
 use std::alloc::{AllocError, Global};
 use std::collections::BTreeSet;
 
-/// Whether the instance has still to go on.
-fn is_open(row: Progress) -> bool
-    ensures { IsTrue result ↔ (is_queued row ≡ true) }
-{
-    match row {
-        Progress::Waiting { .. } => true,
-        Progress::Held(_) => true,
-        Progress::Done => false,
-        Progress::Dropped => false,
-    }
-}
-
 /// Adds a uid.
 fn add(uids: &mut BTreeSet<Text>, uid: &Text) -> Result<(), AllocError>
     ensures { OnOk result
@@ -45,7 +33,7 @@ fn add_open(uids: &mut BTreeSet<Text>, row: &((Text, Text), Progress)) -> Result
         ↔ ((set.contains (as_set text_cmp uids.old) uid ≡ true)
         ⊎ ((uid ≡ row.now.0.0) × (is_queued row.now.1 ≡ true)))) }
 {
-    if is_open(row.1) {
+    if row.1.is_queued() {
         return add(uids, &row.0.0);
     }
     Ok(())

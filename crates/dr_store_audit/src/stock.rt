@@ -9,33 +9,15 @@ ghost use Rattle.dr_store_audit.specs.declared.fault.FindingFault.TheVariants.{O
 
 use crate::fault::FindingFault;
 use dr_base::Text;
+use dr_base::same::Same;
 use dr_ledger::Instance;
 use dr_route::Key;
 use dr_store_reads::Print;
 use std::alloc::{AllocError, Global};
 use std::collections::BTreeMap;
 
-/// Whether the uid is that one.
-fn is_uid(uid: &Text, other: &Text) -> bool
-    ensures { IsTrue result ↔ (uid.now ≡ other.now) }
-{
-    uid == other
-}
-
 /// The value that a key had before is nobody's concern.
 fn let_go<T: Drop>(_value: T) {}
-
-/// A copy of a key.
-fn copy_key(key: &Key) -> Result<Key, AllocError>
-    ensures { IfOk result (λ k. k ≡ key.now) }
-{
-    Ok(Key {
-        class: key.class.clone()?,
-        syntax: key.syntax,
-        modality: key.modality.clone()?,
-        station: key.station.clone()?,
-    })
-}
 
 /// The instance of that uid with this key and this print.
 fn instance_of(uid: &Text, key: &Key, print: &Print) -> Result<Instance, AllocError>
@@ -43,7 +25,7 @@ fn instance_of(uid: &Text, key: &Key, print: &Print) -> Result<Instance, AllocEr
 {
     Ok(Instance {
         uid: uid.clone()?,
-        key: copy_key(key)?,
+        key: key.clone()?,
         size: print.size,
         digest: print.digest,
     })
@@ -77,7 +59,7 @@ fn stock(
         (instance_with key.now.0 key.now.1 print.now.1)))
         (λ fault. fault ≡ OtherSite → print.now.0 ≢ key.now.0) }
 {
-    if !is_uid(&print.0, &key.0) {
+    if !print.0.is_same(&key.0) {
         return Err(FindingFault::OtherSite);
     }
     let instance = instance_of(&key.0, &key.1, &print.1)?;

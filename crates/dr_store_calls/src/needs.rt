@@ -11,18 +11,6 @@ use dr_ledger::{LedgerFault, Progress};
 use dr_store_reads::{find_kept, is_open_elsewhere};
 use sqlite::{Alter, Connection};
 
-/// Whether the instance has still to go on.
-fn is_open(to: Progress) -> bool
-    ensures { IsTrue result ↔ (is_queued to ≡ true) }
-{
-    match to {
-        Progress::Waiting { .. } => true,
-        Progress::Held(_) => true,
-        Progress::Done => false,
-        Progress::Dropped => false,
-    }
-}
-
 /// Whether the instance is needed elsewhere, or is kept.
 fn or_kept<'x, S: Alter>(
     conn: &mut Connection<S>,
@@ -52,7 +40,7 @@ pub fn is_needed<'x, S: Alter>(
         (λ base needed. IsTrue needed ↔ IsNeededStill base uid.now dest.now to) }
     ensures idle { conn.old.in_transaction ≡ false → conn.new.in_transaction ≡ false }
 {
-    if is_open(to) {
+    if to.is_queued() {
         return Ok(true);
     }
     match is_open_elsewhere(conn, uid, dest) {

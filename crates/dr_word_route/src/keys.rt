@@ -83,14 +83,6 @@ fn data_set_of(alloc: Global, bytes: &[u8]) -> Result<(Syntax, Text), Unanswered
     Ok((part.syntax, body))
 }
 
-/// A copy of a key.
-fn copy_key(key: &Key) -> Result<Key, AllocError>
-    ensures { IfOk result (λ copy. copy ≡ key.now) }
-{
-    let copy = key.clone()?;
-    Ok(copy)
-}
-
 /// The key of a data set's item.
 ///
 /// Errors: Item, Memory.
@@ -102,7 +94,7 @@ fn key_of_data_set(alloc: Global, syntax: Syntax, body: Text) -> Result<Key, Una
         Err(ItemFault::Memory) => return Err(Unanswered::Memory),
         Err(fault) => return Err(Unanswered::Item(fault)),
     };
-    let Ok(key) = copy_key(item.key()) else {
+    let Ok(key) = item.key().clone() else {
         return Err(Unanswered::Memory);
     };
     Ok(key)

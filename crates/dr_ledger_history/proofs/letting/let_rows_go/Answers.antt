@@ -25,6 +25,6 @@ pub rows-preserved : goal.rows-preserved
 rows-preserved c =
     let m = c.rows.rows in
     let found = subst (IsRowOf c.args.uid.now (as_map pair_cmp m)) c.in-Some.is c.in_ok-at.ensures in
-    let over = sym c.is_open.ensures ∙ c.if-is_open.false in
+    let over = sym c.is_queued.ensures ∙ c.if-is_queued.false in
     one_more_leaves c.args.uid.now (as_map pair_cmp c.args.rows.now) m c.remove.new.self c.in-Some.at c.in-Some.row
     c.rows.invariant found.0 found.1 over c.remove.ensures.updates.0

@@ -1,6 +1,6 @@
 use Rattle.std.proofs.Common.{◌≡◌, ◌++◌, ap, sym, refl, subst, ◌∙◌, arith}
 use Rattle.dr_base.specs.Texts.{Text}
-use Rattle.dr_dimse.specs.Commands.{IsUid}
+use Rattle.dr_base.specs.Uids.{IsUid}
 use Rattle.dr_session.proofs.Named.{named}
 use Rattle.std.proofs.lemmas.List.Concat.{flat_map-append}
 use Rattle.dr_dimse.specs.Written as command
