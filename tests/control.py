@@ -15,9 +15,11 @@ import os
 import random
 import re
 import socket
+import subprocess
 import sys
 import threading
 import time
+import types
 import urllib.parse
 
 sys.dont_write_bytecode = True
@@ -604,40 +606,51 @@ def memory(process):
         return int(re.search(r'VmHWM:\s+(\d+) kB', file.read())[1]) // 1024
 
 
+def attack(port, count):
+    """Sends so many malformed requests, from eight at a time; how many had which answer, as JSON on the standard output."""
+    node, answers, lock = types.SimpleNamespace(port=port, at=f'127.0.0.1:{port}'), {}, threading.Lock()
+
+    def send(sender):
+        chance = random.Random(sender)
+        for _ in range(count // 8):
+            try:
+                status = Asked.raw(node, malformed(node, chance))[9:12].decode()
+            except OSError:
+                status = 'cut'
+            with lock:
+                answers[status] = answers.get(status, 0) + 1
+    senders = [threading.Thread(target=send, args=(sender,)) for sender in range(8)]
+    for sender in senders:
+        sender.start()
+    for sender in senders:
+        sender.join()
+    json.dump(answers, sys.stdout)
+
+
 def flood(count=1_000):
-    """Malformed requests, from eight at a time, while two peers store: nothing is lost, nothing is done, and memory stays bounded."""
+    """Malformed requests, from eight at a time, while two peers store: nothing is lost, nothing is done, and memory stays bounded. The
+    requests come from a process of their own: in this one Python's own lock would hold up the peers, and not the node."""
     with Room() as room:
         node = Asked(room, 'GATE', 0)
         alone, rate = storing(room, 2, 2)
         before = memory(node.process)
-        answers, lock = {}, threading.Lock()
+        answers, took = {}, []
 
-        def send(sender):
-            chance = random.Random(sender)
-            for _ in range(count // 8):
-                try:
-                    status = node.raw(malformed(node, chance))[9:12]
-                except OSError:
-                    status = b'cut'
-                with lock:
-                    answers[status] = answers.get(status, 0) + 1
-
-        def attack():
-            senders = [threading.Thread(target=send, args=(sender,)) for sender in range(8)]
-            for sender in senders:
-                sender.start()
-            for sender in senders:
-                sender.join()
-        meanwhile, slower = storing(room, 2, 10 * LIMIT, attack)
-        same(answers.get(b'200', 0), 0)
+        def be_attacked():
+            begun = time.monotonic()
+            attacker = [sys.executable, __file__, '--attack', str(node.port), str(count)]
+            answers.update(json.loads(subprocess.run(attacker, stdout=subprocess.PIPE, check=True).stdout))
+            took.append(time.monotonic() - begun)
+        meanwhile, slower = storing(room, 2, 10 * LIMIT, be_attacked)
+        same(answers.get('200', 0), 0)
         same(sum(answers.values()), count // 8 * 8)
         grown = memory(node.process) - before
         assert grown < 200, grown
         same(node.read('/status')[0]['arrivals'], alone + meanwhile)
         same(node.read('/rows?dest=ARCH&state=dropped'), [])
         same(node.process.poll(), None)
-        print(f'control: {count} malformed requests while two peers store: {rate:.0f} images a second alone, {slower:.0f} meanwhile; '
-              f'{grown} MB more memory; answers {sorted(answers.items())}', flush=True)
+        print(f'control: {count} malformed requests in {took[0]:.1f} s while two peers store: {rate:.0f} images a second alone, '
+              f'{slower:.0f} meanwhile; {grown} MB more memory; answers {sorted(answers.items())}', flush=True)
         same(node.act('/stop')[0], 200)
         ended(node.process)
 
@@ -649,6 +662,8 @@ def flood_of_20_000():
 def main():
     if not os.path.exists(PROGRAM):
         sys.exit(f'{PROGRAM} is not built')
+    if sys.argv[1:2] == ['--attack']:
+        return attack(*map(int, sys.argv[2:]))
     if sys.argv[1:] == ['--more']:
         return run_cases('control --more', flood_of_20_000)
     return run_cases('control', reads, page, acts, orders, hurried, forms, associations, responses, refusals, places, hostile, flood)
