@@ -26,7 +26,7 @@ fn answered(tries: u32, status: u16, now: u64) -> Progress
     requires { now ≤ 2 ^ 62 }
     ensures { result ≡ row_after tries (Outcome.Status status) now }
 {
-    if is_done(status) {
+    if is_success(status) {
         return Progress::Done;
     }
     if is_for_now(status) {
@@ -35,8 +35,9 @@ fn answered(tries: u32, status: u16, now: u64) -> Progress
     Progress::Held(Cause::Status(status))
 }
 
-/// Success, or a warning: the receiver has the instance (PS3.7 C.4).
-fn is_done(status: u16) -> bool
+/// Whether the status of a C-STORE-RSP says that the receiver has the instance: success, or a
+/// warning (PS3.4 B.2.3, PS3.7 C.4).
+pub fn is_success(status: u16) -> bool
     ensures { result ≡ is_success status }
 {
     status == 0 || (status >= 0xB000 && status <= 0xBFFF)
@@ -61,8 +62,9 @@ fn tried_again(tries: u32, now: u64) -> Progress
     }
 }
 
-/// How long a row waits after so many tries in vain, in seconds.
-fn seconds(tries: u32) -> u64
+/// How long a row waits after so many tries in vain, one at least: in seconds, twice as long after
+/// each, and never over 300.
+pub fn seconds(tries: u32) -> u64
     requires { 1 ≤ tries }
     ensures wait { result ≡ min 300 (2 ^ (tries - 1)) }
     ensures bound { result ≤ 300 }

@@ -84,13 +84,6 @@ impl History {
         self.parts.item(uid)
     }
 
-    /// Whether the caller brought the uid.
-    pub fn has_arrival(&self, arrival: &(Text, Text)) -> bool
-        ensures { result ≡ set.contains (content self.now.parts).arrivals arrival.now }
-    {
-        self.parts.has_arrival(arrival)
-    }
-
     /// Whether the uid is kept.
     pub fn is_kept(&self, uid: &Text) -> bool
         ensures { result ≡ set.contains (content self.now.parts).kept uid.now }

@@ -13,3 +13,4 @@ mod trees;
 
 pub use history::History;
 pub use line::{HistoryFault, JournalLine, entries_of};
+pub use trees::stands;

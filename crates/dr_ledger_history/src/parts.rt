@@ -257,7 +257,7 @@ impl HistoryParts {
     }
 
     /// Whether the caller brought the uid.
-    pub fn has_arrival(&self, arrival: &(Text, Text)) -> bool
+    fn has_arrival(&self, arrival: &(Text, Text)) -> bool
         ensures { result ≡ set.contains (content self.now).arrivals arrival.now }
     {
         self.arrivals.contains(arrival)

@@ -64,8 +64,8 @@ pub fn put_row(
     Ok(())
 }
 
-/// Whether a row is there that an arrival leaves as it is.
-fn stands(found: Option<Progress>) -> bool
+/// Whether a row was found that an arrival leaves as it is: any but one that was dropped.
+pub fn stands(found: Option<Progress>) -> bool
     ensures { result ≡ does_stand found }
 {
     match found {

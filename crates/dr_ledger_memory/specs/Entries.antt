@@ -1,13 +1,14 @@
 -- What a uid has, and how that changes.
-use Rattle.std.specs.Prelude.{◌≡◌, ℕ, Bool, true, false, cond, ◌||◌, List, [], ◌∷◌, Option}
+use Rattle.std.specs.Prelude.{◌≡◌, ℕ, Bool, false, cond, ◌||◌, List, [], ◌∷◌, Option}
 use Rattle.std.specs.Prelude.{None, Some, unwrap_or}
 use Rattle.std.specs.List.{filter, list_any}
 use Rattle.std.specs.FinMap.{find, put}
 use Rattle.dr_base.specs.Texts.{Text, text_cmp}
 use Rattle.dr_ledger.specs.declared.item.Instance.{Instance}
 use Rattle.dr_ledger.specs.declared.item.Progress.{Progress}
-use Rattle.dr_ledger.specs.declared.item.Progress.TheVariants.{Waiting, Held, Done, Dropped}
+use Rattle.dr_ledger.specs.declared.item.Progress.TheVariants.{Waiting}
 use Rattle.dr_ledger.specs.Books.{is_queued}
+use Rattle.dr_ledger_history.specs.Trees.{stands}
 use Rattle.dr_ledger_memory.specs.declared.held.Held.{Held as Entry}
 
 -- a destination, and how far the instance is on its way to it
@@ -46,14 +47,6 @@ body_in (Some entry) = entry.body
 abbrev pub rows_in : Option Entry → List Row
 rows_in None = []
 rows_in (Some entry) = entry.rows.items
-
--- a row is there that an arrival leaves as it is
-abbrev pub stands : Option Progress → Bool
-stands None = false
-stands (Some Dropped) = false
-stands (Some Done) = true
-stands (Some (Held why)) = true
-stands (Some (Waiting tries due)) = true
 
 -- a waiting row, where the destination has none, or one that was dropped
 abbrev pub filled_at : List Row → Text → Option Progress → List Row

@@ -6,12 +6,12 @@ ghost use Rattle.dr_base.specs.Texts.{text_cmp};
 ghost use Rattle.dr_ledger_memory.specs.Entries.{IsMovedOn, IsPruned, IsTaken, let_go};
 ghost use Rattle.dr_ledger_memory.specs.Entries.{filled as filled_rows, filled_at};
 ghost use Rattle.dr_ledger_memory.specs.Entries.{is_open as is_open_row, needs, row_in};
-ghost use Rattle.dr_ledger_memory.specs.Entries.{stands as does_stand};
 
 use crate::held::Held;
 use crate::table::{get, put, set};
 use dr_base::{Octets, Text};
 use dr_ledger::{Instance, Progress};
+use dr_ledger_history::stands;
 use std::alloc::{AllocError, Global};
 
 impl Held {
@@ -118,19 +118,6 @@ fn copies(alloc: Global, rows: &[(Text, Progress)]) -> Result<Vec<(Text, Progres
         copy.push((row.0.clone()?, row.1))?;
     }
     Ok(copy)
-}
-
-/// Whether a row is there that an arrival leaves as it is.
-fn stands(found: Option<Progress>) -> bool
-    ensures { result ≡ does_stand found }
-{
-    match found {
-        None => false,
-        Some(Progress::Dropped) => false,
-        Some(Progress::Done) => true,
-        Some(Progress::Held(_)) => true,
-        Some(Progress::Waiting { .. }) => true,
-    }
 }
 
 /// A waiting row, where the destination has none, or one that was dropped.

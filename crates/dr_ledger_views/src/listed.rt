@@ -11,7 +11,7 @@ use dr_ledger::{Progress, Row};
 use std::alloc::{AllocError, Global};
 
 /// Whether a row is at the stage, if one is named.
-fn is_at(stage: Option<Stage>, progress: Progress) -> bool
+pub fn is_at(stage: Option<Stage>, progress: Progress) -> bool
     ensures { result ≡ is_at stage progress }
 {
     match stage {
@@ -21,7 +21,7 @@ fn is_at(stage: Option<Stage>, progress: Progress) -> bool
 }
 
 /// Whether the row goes to the destination, and is at the stage, if one is named.
-fn is_to(row: &Row, dest: &Text, stage: Option<Stage>) -> bool
+pub fn is_to(row: &Row, dest: &Text, stage: Option<Stage>) -> bool
     ensures { result ≡ is_to dest.now stage row.now }
 {
     row.0.1 == *dest && is_at(stage, row.1)
