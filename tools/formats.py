@@ -4,13 +4,15 @@
 Each source is in the kit's layout; no line of src/ or specs/ is over 100 columns, but for a text that is alone on it;
 each wrong body and wrong definition can be applied to the sources as they are; each that wrong/gate names is there; no
 type's name stands in two crates but for one notion; no function has over seven parameters; and each file whose first
-line names what runs it may be run. What isn't so is printed, and the exit status is 1.
+line names what runs it may be run; and the sources tell the number of VERSION. What isn't so is printed, and the exit
+status is 1.
 """
 import os
 import re
 import subprocess
 import sys
 
+import version
 from crates import TOP, listed, prover, sources_of
 from wrap import sources, too_long
 from wrong import Bad, chosen, read_edit
@@ -123,7 +125,7 @@ def not_to_be_run():
 
 
 def main():
-    said = out_of_layout() + over_long() + unapplied() + shared_names() + with_many_parameters() + not_to_be_run()
+    said = out_of_layout() + over_long() + unapplied() + shared_names() + with_many_parameters() + not_to_be_run() + list(version.faults())
     print("\n".join(said), end="\n" * bool(said))
     print(f"formats: {len(said)} faults")
     return 1 if said else 0
