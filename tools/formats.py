@@ -3,10 +3,10 @@
 
 Each source is in the kit's layout; no line of src/ or specs/ is over 100 columns, but for a text that is alone on it;
 each wrong body and wrong definition can be applied to the sources as they are; each that wrong/gate names is there; no
-type's name stands in two crates but for one notion; no function has over seven parameters, and no list of generics with two or more bounds is that of over
-six functions of a crate; each file whose first line names what runs it may be run; the sources tell the number of
-VERSION; and no sentence of a page has over 30 words (tools/prose.py). What isn't so is printed, and the exit status is
-1.
+type's name is in two crates but for one notion; no function has over seven parameters, and over six functions of a
+crate spell out no list of generics with two or more bounds; each file whose first line names what runs it may be run;
+the sources tell the number of VERSION; no sentence of a page has over 30 words, and no example of docs/PROVING.md is
+lost (tools/prose.py). What isn't so is printed, and the exit status is 1.
 """
 import os
 import re
@@ -71,7 +71,7 @@ def shared_names():
             with open(path, encoding="utf-8") as file:
                 for it in NAMED.findall(file.read()):
                     found.setdefault(it, set()).add(crate)
-    return [f"the type {it} stands in {' and '.join(sorted(crates))}"
+    return [f"the type {it} is in {' and '.join(sorted(crates))}"
             for it, crates in sorted(found.items()) if len(crates) > 1 and it not in SAME_NOTION]
 
 

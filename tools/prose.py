@@ -3,7 +3,8 @@
 
 No sentence has more than 30 words, and no line more than 120 columns. A text in code style is one word. Blocks of code,
 tables and headings aren't looked at, and two things aren't counted: the bold words that begin an item, and references
-in parentheses that are code alone. What is longer is printed, and the exit status is 1.
+in parentheses that are code alone. Each example of docs/PROVING.md, which is code with a file in parentheses behind it,
+is in that file. What isn't so is printed, and the exit status is 1.
 """
 import glob
 import os
@@ -21,6 +22,9 @@ NO_TEXT = re.compile(r"$|\||#")
 CODE = re.compile(r"`[^`]*`")
 REFERENCE = re.compile(r"\(CODE(?:(?:,|;| and| of) CODE)*\)")
 LABEL = re.compile(r"\*\*.*?\*\*(?: CODE)*:?")
+# An example with its file; what is shorter is a name.
+EXAMPLE = re.compile(r"`([^`]+)`(?: of `[^`]+`)? \(`((?:dr_\w+|tests|tools|bench)/[\w./+-]+)`\)")
+SHORTEST = 12
 # A sentence ends before a capital, a digit or a text in code style.
 END = re.compile(r"(?<=[.?!])[\"')*]*\s+(?=[\"'(*]*[A-Z0-9])")
 
@@ -66,12 +70,33 @@ def long_sentences(text):
                 yield number, f"{count} words: {it}"
 
 
+def is_in(code, path):
+    """Whether an example is in a file, blanks and line breaks aside; `..` in it is anything."""
+    with open(path, encoding="utf-8") as file:
+        text = "".join(file.read().split())
+    return re.search(".*?".join(re.escape("".join(part.split())) for part in code.split("..")), text) is not None
+
+
+def lost_examples(text):
+    """The examples that aren't in the files that they name, each with the line of its paragraph."""
+    for number, paragraph in paragraphs(text):
+        for code, path in EXAMPLE.findall(paragraph):
+            path = next((it for it in (f"{TOP}/crates/{path}", f"{TOP}/{path}") if os.path.exists(it)), path)
+            if not os.path.exists(path):
+                yield number, f"no file {path}"
+            elif os.path.isfile(path) and " " in code and len(code) >= SHORTEST and not is_in(code, path):
+                yield number, f"{os.path.relpath(path, TOP)} has no `{code}`"
+
+
 def faults(pages):
-    """What is too long in pages, a line each."""
+    """What is too long in pages, and what is no example any more, a line each."""
     for page in pages:
         with open(f"{TOP}/{page}", encoding="utf-8") as file:
             text = file.read()
-        yield from (f"{page}:{number}: {said}" for number, said in [*long_lines(text), *long_sentences(text)])
+        found = [*long_lines(text), *long_sentences(text)]
+        if page == "docs/PROVING.md":
+            found += lost_examples(text)
+        yield from (f"{page}:{number}: {said}" for number, said in found)
 
 
 def all_pages():
