@@ -104,16 +104,26 @@ def part(name):
     return content(f"{TOP}/packaging/{name}")
 
 
+def manual(number):
+    """The manual page with the version, which its source leaves out."""
+    text = part("dr_router.1")
+    if text.count(b'"dr_router"') != 1:
+        raise Refused("X7 Manual: the manual page doesn't name the program once")
+    return text.replace(b'"dr_router"', f'"dr_router {number}"'.encode())
+
+
 def archive(program, says, at):
     """The archive: the program with its statement beside it, and all that goes with it."""
+    number = told(says.decode())["version"]
     files = {
         "dr_router": (program, 0o755),
         "STATEMENT": (says, 0o644),
         "dr_router-backup": (part("dr_router-backup"), 0o755),
-        **{it: (part(it), 0o644) for it in ("dr_router@.service", "dr_router.1", "dr_router.bash", "alerts.yml")},
+        "dr_router.1": (manual(number), 0o644),
+        **{it: (part(it), 0o644) for it in ("dr_router@.service", "dr_router.bash", "alerts.yml")},
         **guide(),
     }
-    front = f"{NAME}-{told(says.decode())['version']}"
+    front = f"{NAME}-{number}"
     return packed(tar({f"{front}/{path}": it for path, it in files.items()}, at))
 
 
@@ -127,11 +137,12 @@ def unit():
 
 def installed(program, says):
     """What the package puts where."""
+    number = told(says.decode())["version"]
     files = {
         "usr/bin/dr_router": (program, 0o755),
         "usr/bin/dr_router-backup": (part("dr_router-backup"), 0o755),
         "usr/lib/systemd/system/dr_router@.service": (unit(), 0o644),
-        "usr/share/man/man1/dr_router.1.gz": (packed(part("dr_router.1")), 0o644),
+        "usr/share/man/man1/dr_router.1.gz": (packed(manual(number)), 0o644),
         "usr/share/bash-completion/completions/dr_router": (part("dr_router.bash"), 0o644),
         f"usr/share/doc/{NAME}/STATEMENT": (says, 0o644),
         f"usr/share/doc/{NAME}/alerts.yml": (part("alerts.yml"), 0o644),

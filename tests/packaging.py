@@ -54,11 +54,10 @@ def contents(folder):
 # ---- without a root
 
 def versions():
-    """The version is the same wherever it is told."""
+    """The sources and the changes tell the number of VERSION, and a release's manual page has it once."""
     number = release.version()
-    for path, told in (('crates/dr_word_line/src/words.rt', rf'VERSION: &str = "{re.escape(number)}";'), ('packaging/dr_router.1', f'"dr_router {number}"'),
-                       ('docs/USAGE.md', f'^dr_router {number}$'), ('CHANGELOG.md', rf'\A# [^\n]*\n\n(?:[^#\n][^\n]*\n|\n)*## {number}\b')):
-        assert re.search(told, release.content(f'{TOP}/{path}').decode(), re.M), f'{path} has another version than VERSION'
+    same(release.printed('tools/version.py'), number)
+    same(release.manual(number).count(f'"dr_router {number}"'.encode()), 1)
 
 
 def sources():

@@ -13,19 +13,17 @@ import tempfile
 sys.dont_write_bytecode = True
 from lib.nodes import LIMIT, PROGRAM, TOP, free_port, same
 
-PAGES = 'README.md', 'docs/README.new.md'
+PAGE = f'{TOP}/README.md'
 
 
 def commands():
     """The blocks of README that play the sample plan."""
-    for page in PAGES:
-        if os.path.exists(f'{TOP}/{page}'):
-            with open(f'{TOP}/{page}', encoding='utf-8') as file:
-                blocks = re.findall(r'^```\n(.*?)^```$', file.read(), re.M | re.S)
-            found = [it for it in blocks if 'plans/make-image' in it or 'simulate plans/' in it]
-            if len(found) == 2:
-                return found
-    sys.exit('sample: README has no block that plays the sample plan')
+    with open(PAGE, encoding='utf-8') as file:
+        blocks = re.findall(r'^```\n(.*?)^```$', file.read(), re.M | re.S)
+    found = [it for it in blocks if 'plans/make-image' in it or 'simulate plans/' in it]
+    if len(found) != 2:
+        sys.exit('sample: README has no block that plays the sample plan')
+    return found
 
 
 def main():

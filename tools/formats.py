@@ -3,14 +3,18 @@
 
 Each source is in the kit's layout; no line of src/ or specs/ is over 100 columns, but for a text that is alone on it;
 each wrong body and wrong definition can be applied to the sources as they are; each that wrong/gate names is there; no
-type's name stands in two crates but for one notion; no function has over seven parameters; and each file whose first
-line names what runs it may be run. What isn't so is printed, and the exit status is 1.
+type's name is in two crates but for one notion; no function has over seven parameters, and over six functions of a
+crate spell out no list of generics with two or more bounds; each file whose first line names what runs it may be run;
+the sources tell the number of VERSION; no sentence of a page has over 30 words, and no example of docs/PROVING.md is
+lost (tools/prose.py). What isn't so is printed, and the exit status is 1.
 """
 import os
 import re
 import subprocess
 import sys
 
+import prose
+import version
 from crates import TOP, listed, prover, sources_of
 from wrap import sources, too_long
 from wrong import Bad, chosen, read_edit
@@ -18,6 +22,9 @@ from wrong import Bad, chosen, read_edit
 NAMED = re.compile(r"^(?:pub(?:\([^)]*\))? )?(?:struct|enum|trait|type)\s+(\w+)", re.MULTILINE)
 FUNCTION = re.compile(r"\bfn (\w+)(?=[<(])")
 MOST_PARAMETERS = 7
+# A list of generics, of a function or of an impl.
+GENERIC = re.compile(r"\b(?:fn \w+|impl)(?=<)")
+MOST_ALIKE = 6
 # Names of one notion that crates have apart: a node of the plan and of the simulator; and tests of a
 # name that tell the fault or not.
 SAME_NOTION = {"Node", "WellFormed"}
@@ -64,7 +71,7 @@ def shared_names():
             with open(path, encoding="utf-8") as file:
                 for it in NAMED.findall(file.read()):
                     found.setdefault(it, set()).add(crate)
-    return [f"the type {it} stands in {' and '.join(sorted(crates))}"
+    return [f"the type {it} is in {' and '.join(sorted(crates))}"
             for it, crates in sorted(found.items()) if len(crates) > 1 and it not in SAME_NOTION]
 
 
@@ -109,6 +116,42 @@ def with_many_parameters():
     return said
 
 
+def generics_of(text, at):
+    """The list of generics that begins at this place of a text, in one line."""
+    level = 0
+    for place in range(at, len(text)):
+        level += (text[place] == "<") - (text[place] == ">" and text[place - 1] not in "-=")
+        if level == 0:
+            return " ".join(text[at:place + 1].split()).replace("< ", "<").replace(", >", ">")
+    return text[at:]
+
+
+def bounds_in(generics):
+    """How many bounds a list of generics has: one for each colon, and one for each plus; those of a bound's own types aren't counted."""
+    level, count = 0, 0
+    for place, char in enumerate(generics):
+        level += (char == "<") - (char == ">" and generics[place - 1] not in "-=")
+        count += level == 1 and (char == "+" or char == ":" and ":" not in generics[place - 1:place] + generics[place + 1:place + 2])
+    return count
+
+
+def with_same_generics():
+    """The lists of generics that over six functions and impls of a crate spell out: a trait, a struct or an impl is to have them once. A list
+    with one bound is no such list, since a function that is generic has to name a trait."""
+    said = []
+    for crate in listed():
+        found = {}
+        for path in (it for it in sources_of(crate) if "/src/" in it and it.endswith(".rt")):
+            with open(path, encoding="utf-8") as file:
+                text = re.sub(r"//[^\n]*", "", file.read())
+            for it in GENERIC.finditer(text):
+                generics = generics_of(text, it.end())
+                found[generics] = found.get(generics, 0) + 1
+        said += [f"{crate} has {count} functions and impls with {it}" for it, count in found.items()
+                 if count > MOST_ALIKE and bounds_in(it) > 1]
+    return said
+
+
 def not_to_be_run():
     """The files that say what runs them, and that the system would not run: a test of the gate that can't be started fails at its end."""
     said = []
@@ -123,7 +166,8 @@ def not_to_be_run():
 
 
 def main():
-    said = out_of_layout() + over_long() + unapplied() + shared_names() + with_many_parameters() + not_to_be_run()
+    said = out_of_layout() + over_long() + unapplied() + shared_names() + with_many_parameters() + with_same_generics() + not_to_be_run()
+    said += [*version.faults(), *prose.faults(prose.all_pages())]
     print("\n".join(said), end="\n" * bool(said))
     print(f"formats: {len(said)} faults")
     return 1 if said else 0
