@@ -675,6 +675,54 @@ def cut_short():
         assert len(acknowledged) > 10 and set(acknowledged) <= kept, (len(acknowledged), set(acknowledged) - kept)
 
 
+# A disk of which each sync fails from when on a file is there.
+FAILING = rb"""
+#include <errno.h>
+#include <stdlib.h>
+#include <sys/syscall.h>
+#include <unistd.h>
+
+static int sync_by(long call, int file) {
+    const char *sign = getenv("FAILS");
+    if (sign && access(sign, F_OK) == 0) {
+        errno = EIO;
+        return -1;
+    }
+    return (int)syscall(call, file);
+}
+
+int fsync(int file) { return sync_by(SYS_fsync, file); }
+int fdatasync(int file) { return sync_by(SYS_fdatasync, file); }
+"""
+
+
+def shut():
+    """After a sync that failed nothing is acknowledged, and the node ends with status 3 after one line, so that a service manager starts
+    it anew: what was acknowledged before is there, and what wasn't is taken."""
+    with Room() as room:
+        room.put('failing.c', FAILING)
+        subprocess.run(['gcc', '-shared', '-fPIC', '-o', 'failing.so', 'failing.c'], cwd=room.folder, check=True)
+        disk = {**os.environ, 'LD_PRELOAD': f'{room.folder}/failing.so', 'FAILS': f'{room.folder}/fails'}
+        arch = room.serve('ARCH', 0, env=disk)
+        caller = asked_at(room)
+        same(caller.store(b'1.2.3.4', data_set(b'1.2.3.4')), 0)
+        room.put('fails', b'')
+        try:
+            status = caller.store(b'1.2.3.5', data_set(b'1.2.3.5'))
+            assert 0xa700 <= status <= 0xa7ff, status
+        except (OSError, EOFError, AssertionError) as end:
+            assert not isinstance(end, AssertionError) or 'instead of' in str(end), end
+        arch.communicate(timeout=LIMIT)
+        same(arch.returncode, 3)
+        same([event[1:] for event in room.events('ARCH') if event[1] == 'ERROR'], [('ERROR', 'node', 'shut fault="G3 Store"')])
+        os.remove(f'{room.folder}/fails')
+        arch = room.serve('ARCH', 1, env=disk)
+        with asked_at(room) as caller:
+            same(caller.store(b'1.2.3.5', data_set(b'1.2.3.5')), 0)
+            caller.release()
+        same([line.split('\t')[1] for line in ended(arch) if line.startswith('kept')], ['1.2.3.4', '1.2.3.5'])
+
+
 def stopped():
     """At the end of its input a node ends in order: what it has acknowledged is there, and what is open has ten seconds."""
     with Room() as room:
@@ -817,7 +865,7 @@ def main():
     if sys.argv[1:] == ['--more']:
         return run_cases('serving --more', rates_alone, many_transfers)
     run_cases('serving', three_nodes, refusals, dead_hop, held_rows, events, reports, report_paths, forged, refused_contexts, few_workers, unasked, silent_associations,
-              rejected_callers, hops_alone, slow_peers, deaf_peer, crowded, stopped, cut_short, forgotten, killed)
+              rejected_callers, hops_alone, slow_peers, deaf_peer, crowded, shut, stopped, cut_short, forgotten, killed)
 
 
 if __name__ == '__main__':
