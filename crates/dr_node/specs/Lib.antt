@@ -1,3 +1,4 @@
 pub mod Sides
 pub mod Desks
 pub mod Laws
+pub mod Calls

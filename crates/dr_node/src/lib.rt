@@ -3,7 +3,6 @@
 //! site.
 #![tactic(auto)]
 
-mod away;
 pub mod event;
 pub mod fault;
 pub mod laws;
@@ -12,5 +11,5 @@ pub mod node;
 
 pub use event::LinkEvent;
 pub use fault::NodeFault;
-pub use links::{LinkSide, Links};
+pub use links::{LinkSide, has_hop};
 pub use node::Node;

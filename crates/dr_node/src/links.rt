@@ -289,7 +289,7 @@ impl Links {
 }
 
 /// Whether one of the hops goes to that node.
-fn has_hop(hops: &[Hop], dest: &Text) -> bool
+pub fn has_hop(hops: &[Hop], dest: &Text) -> bool
     ensures { result ≡ list_any (ends_at dest.now) hops.now }
 {
     hops.iter().any(|hop| hop.to == *dest)

@@ -819,15 +819,6 @@ nodes_all plan names i all h =
 
 module _ {L : Type 0} {l : Ghosts L} where
   -- a node's answer to a look at its rows
-  pub same_node : (n m : Node L l)
-      → (l.stands m.desk.ledger → l.stands n.desk.ledger)
-      → (l.stands m.desk.ledger → l.book m.desk.ledger ≡ l.book n.desk.ledger)
-      → l.armed m.desk.ledger ≡ l.armed n.desk.ledger
-      → l.site m.desk.ledger ≡ l.site n.desk.ledger
-      → m.links ≡ n.links → IsSameNode n m
-  same_node n m stood book armed of links =
-      record { stood = stood; book = book; armed = armed; of = of; links = links }
-
   module _ (next : Network) (old new : BTreeMap Text (Node L l)) (name : Text) (n after : Node L l)
       (has : Some n ≡ tree.get text_cmp old name)
       (updates : (q : Text)
@@ -847,6 +838,16 @@ module _ {L : Type 0} {l : Ghosts L} where
       are_same old new name n after has updates same,
       λ all. (seat_of n, sym (ap (option_map seat_of) has), h (all name after now_is)),
     )
+
+  -- what fits a node as it was read fits it after the reading
+  pub fits_still : (next : Network) (n m : Node L l) → IsSameNode n m
+      → (l.stands m.desk.ledger → IsFit next (l.site n.desk.ledger).name (l.book n.desk.ledger))
+      → l.stands m.desk.ledger
+      → IsFit next (l.site m.desk.ledger).name (l.book m.desk.ledger)
+  fits_still next n m same fit s =
+      let of = sym same.of in
+      let book = sym (same.book s) in
+      subst (λ (p : Text × Book). IsFit next p.0 p.1) (λ j. ((of j).name, book j)) (fit s)
 
   pub takes_if : (next : Network) (own : Certificate) (old new : BTreeMap Text (Node L l))
       (name : Text) (n after : Node L l) (r : Result (Unit {0}) WorldFault)

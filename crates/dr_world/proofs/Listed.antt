@@ -1,5 +1,5 @@
 -- What is read of nodes, and their reports.
-use Rattle.std.proofs.Common.{◌≡◌, ℕ, ◌+◌, ◌<◌, ◌≤◌, Bool, true, false, cond, List, [], ◌∷◌, ◌++◌, length, take, get_or, append_assoc, map as mapped, Option, None, Some, refl, sym, ap, subst, ◌∙◌, inl, inr}
+use Rattle.std.proofs.Common.{◌≡◌, ℕ, ◌+◌, ◌<◌, ◌≤◌, Bool, true, false, cond, List, [], ◌∷◌, ◌++◌, length, take, get_or, append_assoc, map as mapped, Option, None, Some, Result, refl, sym, ap, subst, ◌∙◌, inl, inr}
 use Rattle.std.specs.Option.{option_map, IsSome}
 use Rattle.std.specs.Ordering.{eq_by_cmp}
 use Rattle.std.specs.Cmp.{eq_by_cmp_equiv}
@@ -9,6 +9,7 @@ use Rattle.std.specs.BTreeMap.{BTreeMap, is_at}
 use Rattle.std.proofs.lemmas.List.{append-nil, take_more, take_all, length-map}
 use Rattle.std.proofs.lemmas.Map.Views.{tells_apart, Contains-keys_from_lookup, IsSome-lookup_from_Contains}
 use Rattle.dr_base.specs.Texts.{Text, text_cmp}
+use Rattle.dr_ledger.specs.declared.fault.LedgerFault.{LedgerFault}
 use Rattle.dr_ledger.specs.declared.ledger.Ledger.{Ghosts}
 use Rattle.dr_ledger.specs.Books.{Book}
 use Rattle.dr_ledger.specs.Pairs.{pair_cmp}
@@ -16,6 +17,7 @@ use Rattle.dr_ledger.specs.Replies.{AreKept, Lists, entry_of}
 use Rattle.dr_ledger.proofs.Maps.{texts, same_or_not, ties_itself}
 use Rattle.dr_session.specs.Ledgers.{desk}
 use Rattle.dr_node.specs.declared.node.Node.{Node}
+use Rattle.dr_node.specs.Calls.{KeepsRest, OnlyReads}
 use Rattle.dr_world_model.specs.Worlds.{same_text}
 use Rattle.dr_ledger_report.specs.Reports.{IsReportOf, name_line, report_of}
 use Rattle.dr_world.specs.declared.listing.Listing.{Listing}
@@ -28,6 +30,16 @@ use Rattle.dr_world.specs.Whole.{AllStand, IsSameWorld, contents}
 -- ---- one node
 
 module _ {L : Type 0} {l : Ghosts L} where
+  -- a call that only reads leaves a node as it was
+  pub same_node : {A : Type 0} {result : Result A LedgerFault} (n m : Node L l) → OnlyReads result n m → KeepsRest n m → IsSameNode n m
+  same_node n m reads rest = record {
+    stood = reads.premise.stood;
+    book = λ s. (reads.same s).0;
+    armed = reads.armed;
+    of = rest.of;
+    links = rest.links;
+  }
+
   pub same_then : (a b c : Node L l) → IsSameNode a b → IsSameNode b c → IsSameNode a c
   same_then a b c f g = record {
     stood = λ s. f.stood (g.stood s);

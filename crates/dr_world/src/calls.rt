@@ -1,17 +1,14 @@
 //! Calls on one of several nodes, by its name.
 ghost use Rattle.std.specs.Prelude.{◌≡◌, ◌≤◌, ◌^◌, IfOk, OnOk, true};
-ghost use Rattle.std.specs.List.{list_any};
 ghost use Rattle.std.specs.Option.{option_map_or};
 ghost use Rattle.std.specs.BTreeMap as tree;
 ghost use Rattle.dr_base.specs.Texts.{text_cmp};
 ghost use Rattle.dr_session.specs.Ends.{is_gone};
-ghost use Rattle.dr_site.specs.Parts.{ends_at};
 ghost use Rattle.dr_world.specs.Nodes.{AcceptsAt, IsDoneAt, OpensAt, event_at, over_at, push_at};
 
 use dr_base::{Seq, Text};
 use dr_ledger::Ledger;
-use dr_node::{LinkEvent, Node, NodeFault};
-use dr_plan_sound::Hop;
+use dr_node::{LinkEvent, Node, NodeFault, has_hop};
 use dr_session::LinkAction;
 use dr_ulstate::State;
 use std::collections::BTreeMap;
@@ -74,13 +71,6 @@ fn is_over(state: Option<State>) -> bool
         Some(state) => state == State::Sta1,
         None => true,
     }
-}
-
-/// Whether one of the hops goes to that node.
-fn has_hop(hops: &[Hop], dest: &Text) -> bool
-    ensures { result ≡ list_any (ends_at dest.now) hops.now }
-{
-    hops.iter().any(|hop| hop.to == *dest)
 }
 
 /// The node of that name asks another for an association, at a moment in milliseconds; gives what

@@ -33,6 +33,4 @@ pub use fault::WorldFault;
 pub use listing::Listing;
 pub use playing::{PlayedWorld, run};
 pub use steps::StepNote;
-pub use time::Time;
-pub use wires::Wires;
 pub use world::World;

@@ -24,4 +24,4 @@ returns-in-Ok-adopt g c =
     let e = c.in-Ok-adopt.ensures in
     gone_over c.args.next.now.plan c.args.next.now.certificate c.args.node.now c.test_fit.new.node
     c.adopt.new.self c.in-Ok.own c.in_ok-test_fit.ensures.same c.in_ok-test_fit.ensures.fit named
-    (c.in-Ok.ensures).1 e.reply e.armed e.stood e.of e.links
+    (c.in-Ok.ensures).1 e.reply e.armed e.premise.stood e.rest.of e.rest.links

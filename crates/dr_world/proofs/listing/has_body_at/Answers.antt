@@ -1,7 +1,7 @@
 use Rattle.std.specs.BTreeMap as tree
 use Rattle.dr_base.specs.Texts.{text_cmp}
 use Rattle.dr_world.proofs.Called.{there}
-use Rattle.dr_world.proofs.Listed.{are_same, has_there, nodes_same, no_bodies}
+use Rattle.dr_world.proofs.Listed.{are_same, has_there, nodes_same, no_bodies, same_node}
 use Rattle.dr_world.proofs.listing.has_body_at.Goals as goal
 
 pub returns-in_default-clause-has : goal.returns-in_default-clause-has
@@ -18,9 +18,9 @@ returns-in-Ok-clause-has g c =
 pub returns-in-Ok-clause-same : goal.returns-in-Ok-clause-same
 returns-in-Ok-clause-same g c =
     are_same c.args.nodes.now (c.get_mut.follows.lender c.has_body.new.self) c.args.name.now c.in-Some.node.now c.has_body.new.self c.in-Some.ensures.value
-    ((c.get_mut.follows.holds c.has_body.new.self).3 (there (tree.get text_cmp c.args.nodes.now c.args.name.now) c.in-Some.node.now c.in-Some.ensures.value)).0 (record { stood = c.has_body.ensures.stood; book = λ s. (c.has_body.ensures.same s).0; armed = c.has_body.ensures.armed; of = c.has_body.ensures.of; links = c.has_body.ensures.links })
+    ((c.get_mut.follows.holds c.has_body.new.self).3 (there (tree.get text_cmp c.args.nodes.now c.args.name.now) c.in-Some.node.now c.in-Some.ensures.value)).0 (same_node c.in-Some.node.now c.has_body.new.self c.has_body.ensures.reads c.has_body.ensures.rest)
 
 pub returns-in-Err-clause-same : goal.returns-in-Err-clause-same
 returns-in-Err-clause-same g c =
     are_same c.args.nodes.now (c.get_mut.follows.lender c.has_body.new.self) c.args.name.now c.in-Some.node.now c.has_body.new.self c.in-Some.ensures.value
-    ((c.get_mut.follows.holds c.has_body.new.self).3 (there (tree.get text_cmp c.args.nodes.now c.args.name.now) c.in-Some.node.now c.in-Some.ensures.value)).0 (record { stood = c.has_body.ensures.stood; book = λ s. (c.has_body.ensures.same s).0; armed = c.has_body.ensures.armed; of = c.has_body.ensures.of; links = c.has_body.ensures.links })
+    ((c.get_mut.follows.holds c.has_body.new.self).3 (there (tree.get text_cmp c.args.nodes.now c.args.name.now) c.in-Some.node.now c.in-Some.ensures.value)).0 (same_node c.in-Some.node.now c.has_body.new.self c.has_body.ensures.reads c.has_body.ensures.rest)

@@ -32,7 +32,7 @@ returns-clause-calls g c =
     let note = c.note_of_away.result in
     (timely_away old (record { alloc = old.alloc; time = old.time; opened = old.opened; nodes = nodes; wires = old.wires; lost = old.lost }) note name to c.moment-now.result c.moment-now.ensures.same
     (called (StaysAwayFrom to c.moment-now.result) old nodes name node new note at
-    ((c.get_mut.follows.holds new).3 has).0 did.links did.of did.stood
+    ((c.get_mut.follows.holds new).3 has).0 did.rest.links did.rest.of did.premise.stood
     (λ s. (c.stay_away.result, did.reply s, c.note_of_away.ensures))))
 
 pub returns-clause-step : goal.returns-clause-step
@@ -50,5 +50,5 @@ returns-clause-step g c =
     stayed_away old (record { alloc = old.alloc; time = old.time; opened = old.opened; nodes = nodes; wires = old.wires; lost = old.lost }) note name to
     (timely_away old (record { alloc = old.alloc; time = old.time; opened = old.opened; nodes = nodes; wires = old.wires; lost = old.lost }) note name to c.moment-now.result c.moment-now.ensures.same
     (called (StaysAwayFrom to c.moment-now.result) old nodes name node new note at
-    ((c.get_mut.follows.holds new).3 has).0 did.links did.of did.stood
+    ((c.get_mut.follows.holds new).3 has).0 did.rest.links did.rest.of did.premise.stood
     (λ s. (c.stay_away.result, did.reply s, c.note_of_away.ensures))))

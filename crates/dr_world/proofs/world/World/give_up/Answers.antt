@@ -32,7 +32,7 @@ returns-in-Ok-clause-calls g c =
     let did = c.give_up.ensures in
     timely old (record { alloc = old.alloc; time = old.time; opened = old.opened; nodes = nodes; wires = old.wires; lost = old.lost }) Done name c.args.uid.now c.args.dest.now c.moment-now.result c.moment-now.ensures.same
     (called (GivesUp c.args.uid.now c.args.dest.now c.moment-now.result) old nodes name node new Done at
-    ((c.get_mut.follows.holds new).3 has).0 did.links did.of did.stood
+    ((c.get_mut.follows.holds new).3 has).0 did.rest.links did.rest.of did.premise.stood
     (λ s. (c.give_up.result, did.reply s, did.armed s, sym (ap note_of c.in-Ok.is))))
 
 pub returns-in-Ok-clause-step : goal.returns-in-Ok-clause-step
@@ -48,7 +48,7 @@ returns-in-Ok-clause-step g c =
     given_up old (record { alloc = old.alloc; time = old.time; opened = old.opened; nodes = nodes; wires = old.wires; lost = old.lost }) Done name c.args.uid.now c.args.dest.now
     (timely old (record { alloc = old.alloc; time = old.time; opened = old.opened; nodes = nodes; wires = old.wires; lost = old.lost }) Done name c.args.uid.now c.args.dest.now c.moment-now.result c.moment-now.ensures.same
     (called (GivesUp c.args.uid.now c.args.dest.now c.moment-now.result) old nodes name node new Done at
-    ((c.get_mut.follows.holds new).3 has).0 did.links did.of did.stood
+    ((c.get_mut.follows.holds new).3 has).0 did.rest.links did.rest.of did.premise.stood
     (λ s. (c.give_up.result, did.reply s, did.armed s, sym (ap note_of c.in-Ok.is)))))
 
 pub returns-in-Err-clause-calls : goal.returns-in-Err-clause-calls
@@ -63,7 +63,7 @@ returns-in-Err-clause-calls g c =
     let did = c.give_up.ensures in
     timely old (record { alloc = old.alloc; time = old.time; opened = old.opened; nodes = nodes; wires = old.wires; lost = old.lost }) (Refused c.in-Err.fault) name c.args.uid.now c.args.dest.now c.moment-now.result c.moment-now.ensures.same
     (called (GivesUp c.args.uid.now c.args.dest.now c.moment-now.result) old nodes name node new (Refused c.in-Err.fault) at
-    ((c.get_mut.follows.holds new).3 has).0 did.links did.of did.stood
+    ((c.get_mut.follows.holds new).3 has).0 did.rest.links did.rest.of did.premise.stood
     (λ s. (c.give_up.result, did.reply s, did.armed s, sym (ap note_of c.in-Err.is))))
 
 pub returns-in-Err-clause-step : goal.returns-in-Err-clause-step
@@ -79,5 +79,5 @@ returns-in-Err-clause-step g c =
     given_up old (record { alloc = old.alloc; time = old.time; opened = old.opened; nodes = nodes; wires = old.wires; lost = old.lost }) (Refused c.in-Err.fault) name c.args.uid.now c.args.dest.now
     (timely old (record { alloc = old.alloc; time = old.time; opened = old.opened; nodes = nodes; wires = old.wires; lost = old.lost }) (Refused c.in-Err.fault) name c.args.uid.now c.args.dest.now c.moment-now.result c.moment-now.ensures.same
     (called (GivesUp c.args.uid.now c.args.dest.now c.moment-now.result) old nodes name node new (Refused c.in-Err.fault) at
-    ((c.get_mut.follows.holds new).3 has).0 did.links did.of did.stood
+    ((c.get_mut.follows.holds new).3 has).0 did.rest.links did.rest.of did.premise.stood
     (λ s. (c.give_up.result, did.reply s, did.armed s, sym (ap note_of c.in-Err.is)))))

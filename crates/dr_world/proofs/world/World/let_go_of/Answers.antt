@@ -25,7 +25,7 @@ returns-in-Ok g c =
     let nodes = c.get_mut.follows.lender new in
     let did = c.forget.ensures in
     called (LetsGoOf c.args.uid.now) old nodes name node new Done at
-    ((c.get_mut.follows.holds new).3 has).0 did.links did.of did.stood
+    ((c.get_mut.follows.holds new).3 has).0 did.rest.links did.rest.of did.premise.stood
     (λ s. (c.forget.result, did.reply s, did.armed s, sym (ap note_of c.in-Ok.is)))
 
 pub returns-in-Err : goal.returns-in-Err
@@ -39,5 +39,5 @@ returns-in-Err g c =
     let nodes = c.get_mut.follows.lender new in
     let did = c.forget.ensures in
     called (LetsGoOf c.args.uid.now) old nodes name node new (Refused c.in-Err.fault) at
-    ((c.get_mut.follows.holds new).3 has).0 did.links did.of did.stood
+    ((c.get_mut.follows.holds new).3 has).0 did.rest.links did.rest.of did.premise.stood
     (λ s. (c.forget.result, did.reply s, did.armed s, sym (ap note_of c.in-Err.is)))

@@ -20,7 +20,7 @@ returns-in-Ok-clause-calls g c =
     let new = c.requeue.new.self in
     called (Puts c.args.uid.now c.args.dest.now) c.args.self.now (c.get_mut.follows.lender new) c.args.name.now c.in-Some.node.now new Done c.in-Some.ensures.value
     ((c.get_mut.follows.holds new).3 (there (tree.get text_cmp c.args.self.now.nodes c.args.name.now) c.in-Some.node.now c.in-Some.ensures.value)).0
-    c.requeue.ensures.links c.requeue.ensures.of c.requeue.ensures.stood
+    c.requeue.ensures.rest.links c.requeue.ensures.rest.of c.requeue.ensures.premise.stood
     (λ s. (c.requeue.result, c.requeue.ensures.reply s, c.requeue.ensures.armed s, sym (ap note_of c.in-Ok.is)))
 
 pub returns-in-Ok-clause-step : goal.returns-in-Ok-clause-step
@@ -29,7 +29,7 @@ returns-in-Ok-clause-step g c =
     requeued c.args.self.now (record { alloc = c.args.self.now.alloc; time = c.args.self.now.time; opened = c.args.self.now.opened; nodes = (c.get_mut.follows.lender new); wires = c.args.self.now.wires; lost = c.args.self.now.lost }) Done c.args.name.now c.args.uid.now c.args.dest.now
     (called (Puts c.args.uid.now c.args.dest.now) c.args.self.now (c.get_mut.follows.lender new) c.args.name.now c.in-Some.node.now new Done c.in-Some.ensures.value
     ((c.get_mut.follows.holds new).3 (there (tree.get text_cmp c.args.self.now.nodes c.args.name.now) c.in-Some.node.now c.in-Some.ensures.value)).0
-    c.requeue.ensures.links c.requeue.ensures.of c.requeue.ensures.stood
+    c.requeue.ensures.rest.links c.requeue.ensures.rest.of c.requeue.ensures.premise.stood
     (λ s. (c.requeue.result, c.requeue.ensures.reply s, c.requeue.ensures.armed s, sym (ap note_of c.in-Ok.is))))
 
 pub returns-in-Err-clause-calls : goal.returns-in-Err-clause-calls
@@ -37,7 +37,7 @@ returns-in-Err-clause-calls g c =
     let new = c.requeue.new.self in
     called (Puts c.args.uid.now c.args.dest.now) c.args.self.now (c.get_mut.follows.lender new) c.args.name.now c.in-Some.node.now new (Refused c.in-Err.fault) c.in-Some.ensures.value
     ((c.get_mut.follows.holds new).3 (there (tree.get text_cmp c.args.self.now.nodes c.args.name.now) c.in-Some.node.now c.in-Some.ensures.value)).0
-    c.requeue.ensures.links c.requeue.ensures.of c.requeue.ensures.stood
+    c.requeue.ensures.rest.links c.requeue.ensures.rest.of c.requeue.ensures.premise.stood
     (λ s. (c.requeue.result, c.requeue.ensures.reply s, c.requeue.ensures.armed s, sym (ap note_of c.in-Err.is)))
 
 pub returns-in-Err-clause-step : goal.returns-in-Err-clause-step
@@ -46,5 +46,5 @@ returns-in-Err-clause-step g c =
     requeued c.args.self.now (record { alloc = c.args.self.now.alloc; time = c.args.self.now.time; opened = c.args.self.now.opened; nodes = (c.get_mut.follows.lender new); wires = c.args.self.now.wires; lost = c.args.self.now.lost }) (Refused c.in-Err.fault) c.args.name.now c.args.uid.now c.args.dest.now
     (called (Puts c.args.uid.now c.args.dest.now) c.args.self.now (c.get_mut.follows.lender new) c.args.name.now c.in-Some.node.now new (Refused c.in-Err.fault) c.in-Some.ensures.value
     ((c.get_mut.follows.holds new).3 (there (tree.get text_cmp c.args.self.now.nodes c.args.name.now) c.in-Some.node.now c.in-Some.ensures.value)).0
-    c.requeue.ensures.links c.requeue.ensures.of c.requeue.ensures.stood
+    c.requeue.ensures.rest.links c.requeue.ensures.rest.of c.requeue.ensures.premise.stood
     (λ s. (c.requeue.result, c.requeue.ensures.reply s, c.requeue.ensures.armed s, sym (ap note_of c.in-Err.is))))
