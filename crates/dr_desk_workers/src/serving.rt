@@ -4,7 +4,7 @@ ghost use Rattle.std.specs.Prelude.{◌≤◌, ◌<◌, ◌≡◌, ◌+◌, ◌-
 ghost use Rattle.dr_session.specs.Ends.{accepting, begins};
 ghost use Rattle.dr_session.specs.Links.{EndsAs, place};
 ghost use Rattle.dr_session.specs.declared.wishes.Kind.TheVariants as kinds;
-ghost use Rattle.dr_desk_workers.specs.Turns.{HasTurn};
+ghost use Rattle.dr_desk_workers.specs.Turns.{HasTurn, RunsInTurn};
 
 use crate::ahead::ahead_of;
 use crate::asked::request_in;
@@ -319,9 +319,10 @@ fn at_the_door<
     }
 }
 
-/// A session behind a gate. What came first is answered in its turn at the door; who was let in is
-/// counted out when the session has ended.
+/// A session behind a gate, on a link of the connection that has its turn at the door, and beside
+/// as many others as that link counted. Who was let in is counted out when the session has ended.
 fn receive_gated<
+    'a,
     R: Wait + time::Clock,
     L: Ledger,
     B: Sharing,
@@ -330,14 +331,20 @@ fn receive_gated<
     G: Gate,
     D: ledger::Ledger,
 >(
-    workshop: &Workshop<'_, R, L, B, G>,
-    bounds: &Bounds<D>,
+    workshop: &'a Workshop<'a, R, L, B, G>,
+    bounds: &'a Bounds<D>,
     link: K,
     clock: &C,
     counts: &SessionCounts,
     guest: Outside<D>,
     pass: &mut Pass<B>,
-) -> (Result<Ended, SessionFault>, Outside<D>) {
+) -> (Result<Ended, SessionFault>, Outside<D>)
+    ensures { RunsInTurn K.hears ⟦<GatedLink<'a, R, K, G, D> as Link>⟧.hears
+        ⟦<GatedLink<'a, R, K, G, D> as Link>⟧.sends
+        ⟦<GatedLink<'a, R, K, G, D> as Link>⟧.closes
+        ⟦<SessionPort<'a, R, L, B, G> as DeskPort>⟧.step (C.tells clock.now)
+        (λ port. port.pass.now) workshop.now.desk.now.site link pass.old result.0 }
+{
     let (rt, alloc, desk) = (workshop.rt, workshop.alloc, workshop.desk);
     let (gate, session) = (workshop.gate, counts.session);
     let mut link = at_the_door(workshop, bounds, link, clock, counts, guest);
