@@ -26,6 +26,12 @@ abbrev pub HearsInside : {K : Type 0} → (K → Heard → K → Type 0)
 HearsInside hears ahead k inside came after l now =
     HearsBehind hears ahead k came after l × (now ≡ inside)
 
+-- What hearing makes of a turn at the door, by whether the request was asked for before: it stays
+-- for what is heard first, and ends where more is waited for.
+abbrev pub KeepsTurn : {T : Type 0} → Bool → Option T → Option T → Type 0
+KeepsTurn false before now = now ≡ before
+KeepsTurn true before now = now ≡ None
+
 -- the link heard these, one after the other
 abbrev pub HearsAll : {K : Type 0} → (K → Heard → K → Type 0) → K → List Heard → K → Type 0
 HearsAll hears k [] l = l ≡ k

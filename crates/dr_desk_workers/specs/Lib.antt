@@ -1,3 +1,4 @@
 pub mod Hearing
 pub mod Passes
 pub mod Said
+pub mod Turns

@@ -38,8 +38,9 @@ pub trait Gate {
     /// thread that starts them serves in its place, and no other is started.
     fn lacks(&self, _begun: usize) {}
 
-    /// An association may be asked for, and so many others are open: those that the door counts,
-    /// whose lock is held from now until the request is answered. The session is told this number.
+    /// An association may be asked for, and so many others are open: those that the door counts.
+    /// The door is locked now, and stays so until the request is answered or more is waited for. So
+    /// who waits here holds up all who ask for an association. The session is told this number.
     fn counted<D: Ledger>(&self, _session: u64, _others: usize, _door: &Door<D>)
         requires { _others ≡ _door.now.tally.total }
     {}

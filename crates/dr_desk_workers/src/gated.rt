@@ -1,10 +1,10 @@
 //! A link that passes a gate when a reply was sent, and a door before an association is accepted,
 //! and that asks for room before it reads.
-ghost use Rattle.std.specs.Prelude.{◌≡◌, ◌⊎◌, ◌≤◌, ◌^◌, ◌↔◌, ℕ, IsTrue, true, false};
+ghost use Rattle.std.specs.Prelude.{◌≡◌, ◌⊎◌, ◌≤◌, ◌^◌, ◌↔◌, ℕ, IsTrue, None, true, false};
 ghost use Rattle.std.specs.Option.{ForSome};
 ghost use Rattle.std.specs.Sync.Mutex.{mutex_guard_value};
 ghost use Rattle.dr_session.specs.Links.{Counts, HasRisen, IsLinkFault};
-ghost use Rattle.dr_desk_workers.specs.Hearing.{HearsInside, IsAcceptance};
+ghost use Rattle.dr_desk_workers.specs.Hearing.{HearsInside, IsAcceptance, KeepsTurn};
 
 use crate::ahead::Ahead;
 use crate::asked::tell_answer;
@@ -25,11 +25,11 @@ use std::{mem, time};
 /// was answered and whose reply wasn't sent before. It counts as open from the moment at which a
 /// worker took it, however long it waited for one. Where the gate is over, a fault is heard.
 ///
-/// While it has its turn at the door no other connection has: from when the open associations are
-/// counted, until the request is answered; so the others that it counted are those that are open.
-/// An acceptance is written only after its association was let in, and who is in stays so until
-/// the link is left. Where there is no room for what comes, this is heard before each read, until
-/// it is answered.
+/// While it has its turn at the door no other connection has, and the others that it counted are
+/// those that are open. It has it from when these are counted. What is heard first leaves the turn;
+/// to wait for more ends it, and so does what is written, whatever it is. An acceptance is written
+/// only after its association was let in, and who is in stays so until the link is left. Where
+/// there is no room for what comes, this is heard before each read, until it is answered.
 #[derive(Drop)]
 pub struct GatedLink<'a, R: Wait + time::Clock, K: Link + Drop, G: Gate, D: Ledger> {
     pub rt: &'a R,
@@ -102,6 +102,7 @@ impl<'a, R: Wait + time::Clock, K: Link + Drop, G: Gate, D: Ledger> GatedLink<'a
         ensures link { (self.new.link ≡ self.old.link)
             × (self.new.ahead ≡ self.old.ahead)
             × (self.new.guest.inside ≡ self.old.guest.inside) }
+        ensures turn { (self.new.turn ≡ self.old.turn) × (self.new.asked ≡ self.old.asked) }
     {
         self.failures = self.failures.saturating_add(1);
     }
@@ -111,6 +112,7 @@ impl<'a, R: Wait + time::Clock, K: Link + Drop, G: Gate, D: Ledger> GatedLink<'a
         ensures hears { HearsInside K.hears self.old.ahead self.old.link self.old.guest.inside
             result self.new.ahead self.new.link self.new.guest.inside }
         ensures counts { Counts (IsLinkFault result) self.old.failures self.new.failures }
+        ensures turn { (self.new.turn ≡ self.old.turn) × (self.new.asked ≡ self.old.asked) }
     {
         let heard = match self.ahead.take() {
             Some(heard) => heard,
@@ -125,10 +127,11 @@ impl<'a, R: Wait + time::Clock, K: Link + Drop, G: Gate, D: Ledger> GatedLink<'a
 
     /// Counts the bytes that were heard.
     fn note(&mut self, heard: &Heard)
-        ensures { (self.new.link ≡ self.old.link)
+        ensures same { (self.new.link ≡ self.old.link)
             × (self.new.ahead ≡ self.old.ahead)
             × (self.new.failures ≡ self.old.failures)
             × (self.new.guest.inside ≡ self.old.guest.inside) }
+        ensures turn { (self.new.turn ≡ self.old.turn) × (self.new.asked ≡ self.old.asked) }
     {
         if let Heard::Bytes(bytes) = heard {
             self.share.note(bytes.as_bytes().len());
@@ -137,10 +140,11 @@ impl<'a, R: Wait + time::Clock, K: Link + Drop, G: Gate, D: Ledger> GatedLink<'a
 
     /// Whether it has to be told, before the next read, that there is no room for it.
     fn is_crowded(&mut self) -> bool
-        ensures { (self.new.link ≡ self.old.link)
+        ensures same { (self.new.link ≡ self.old.link)
             × (self.new.ahead ≡ self.old.ahead)
             × (self.new.failures ≡ self.old.failures)
             × (self.new.guest.inside ≡ self.old.guest.inside) }
+        ensures turn { (self.new.turn ≡ self.old.turn) × (self.new.asked ≡ self.old.asked) }
     {
         let (known, warned) = (self.share.is_crowded(), self.warned);
         self.warned = !warned && !self.share.has_room(self.rt, self.room);
@@ -152,9 +156,10 @@ impl<'a, R: Wait + time::Clock, K: Link + Drop, G: Gate, D: Ledger> GatedLink<'a
 
     /// Tells, once, how the association was answered that was asked for.
     fn tell_answer(&mut self, bytes: &[u8])
-        ensures { (self.new.link ≡ self.old.link)
+        ensures same { (self.new.link ≡ self.old.link)
             × (self.new.failures ≡ self.old.failures)
             × (self.new.guest.inside ≡ self.old.guest.inside) }
+        ensures turn { (self.new.turn ≡ self.old.turn) × (self.new.asked ≡ self.old.asked) }
     {
         let request = mem::replace(&mut self.request, None);
         tell_answer(self.alloc, self.gate, self.session, request, bytes);
@@ -169,9 +174,10 @@ impl<'a, R: Wait + time::Clock, K: Link + Drop, G: Gate, D: Ledger> GatedLink<'a
 
     /// It has answered: what it held is free again.
     fn clear(&mut self)
-        ensures { (self.new.link ≡ self.old.link)
+        ensures same { (self.new.link ≡ self.old.link)
             × (self.new.failures ≡ self.old.failures)
             × (self.new.guest.inside ≡ self.old.guest.inside) }
+        ensures turn { (self.new.turn ≡ self.old.turn) × (self.new.asked ≡ self.old.asked) }
     {
         self.share.clear(self.rt, self.room);
         self.warned = false;
@@ -179,10 +185,12 @@ impl<'a, R: Wait + time::Clock, K: Link + Drop, G: Gate, D: Ledger> GatedLink<'a
 
     /// Its turn at the door ends where more is waited for than the request.
     fn wait_turn(&mut self)
-        ensures { (self.new.link ≡ self.old.link)
+        ensures same { (self.new.link ≡ self.old.link)
             × (self.new.ahead ≡ self.old.ahead)
             × (self.new.failures ≡ self.old.failures)
             × (self.new.guest.inside ≡ self.old.guest.inside) }
+        ensures turn { KeepsTurn self.old.asked self.old.turn self.new.turn }
+        ensures asked { self.new.asked ≡ true }
     {
         if self.asked {
             drop(mem::replace(&mut self.turn, None));
@@ -197,6 +205,7 @@ impl<'a, R: Wait + time::Clock, K: Link + Drop, G: Gate, D: Ledger> GatedLink<'a
         ensures stays { self.old.guest.inside ≡ true → self.new.guest.inside ≡ true }
         ensures link { (self.new.link ≡ self.old.link)
             × (self.new.failures ≡ self.old.failures) }
+        ensures turn { (self.new.turn ≡ None) × (self.new.asked ≡ self.old.asked) }
     {
         let turn = mem::replace(&mut self.turn, None);
         if !is_acceptance(bytes) {
@@ -217,16 +226,19 @@ impl<'a, R: Wait + time::Clock, K: Link + Drop, G: Gate, D: Ledger> GatedLink<'a
 
 impl<'a, R: Wait + time::Clock, K: Link + Drop, G: Gate, D: Ledger> Link
     for GatedLink<'a, R, K, G, D> {
-    ghost use Rattle.std.specs.Prelude.{◌≡◌};
-    ghost use Rattle.dr_desk_workers.specs.Hearing.{HearsInside, SendsInside};
+    ghost use Rattle.std.specs.Prelude.{◌≡◌, None, true};
+    ghost use Rattle.dr_desk_workers.specs.Hearing.{HearsInside, KeepsTurn, SendsInside};
 
     ghost hears = { λ s heard t. HearsInside K.hears s.ahead s.link s.guest.inside heard t.ahead
-        t.link t.guest.inside };
+        t.link t.guest.inside
+        × KeepsTurn s.asked s.turn t.turn × (t.asked ≡ true) };
 
     ghost sends = { λ s bytes sent t. SendsInside K.sends s.link s.guest.inside bytes sent t.link
-        t.guest.inside };
+        t.guest.inside
+        × (t.turn ≡ None) × (t.asked ≡ s.asked) };
 
-    ghost closes = { λ s t. K.closes s.link t.link × (t.guest.inside ≡ s.guest.inside) };
+    ghost closes = { λ s t. K.closes s.link t.link × (t.guest.inside ≡ s.guest.inside)
+        × (t.turn ≡ s.turn) × (t.asked ≡ s.asked) };
 
     ghost failed = { λ s. s.failures };
 
@@ -237,11 +249,11 @@ impl<'a, R: Wait + time::Clock, K: Link + Drop, G: Gate, D: Ledger> Link
     }
 
     fn recv(&mut self) -> Heard {
+        self.wait_turn();
         if self.gate.is_over() {
             self.fail();
             return Heard::Fault;
         }
-        self.wait_turn();
         if self.is_crowded() {
             return Heard::Crowded;
         }

@@ -4,7 +4,7 @@ ghost use Rattle.std.specs.Prelude.{◌≤◌, ◌<◌, ◌≡◌, ◌+◌, ◌-
 ghost use Rattle.dr_session.specs.Ends.{accepting, begins};
 ghost use Rattle.dr_session.specs.Links.{EndsAs, place};
 ghost use Rattle.dr_session.specs.declared.wishes.Kind.TheVariants as kinds;
-ghost use Rattle.dr_desk_workers.specs.Hearing.{IsAhead};
+ghost use Rattle.dr_desk_workers.specs.Turns.{HasTurn, RunsInTurn};
 
 use crate::ahead::ahead_of;
 use crate::asked::request_in;
@@ -68,8 +68,9 @@ struct Workshop<'a, R: Wait, L: Ledger, B: Sharing, G: Gate> {
 /// At most 256 associations are open at a time. A request is answered once it is there whole. The
 /// others that are open are counted, the request is answered, and its association is counted in, in
 /// one step under the lock of a `Door`; it is counted out when its session has ended, after its
-/// last write. The number that a session is told is that of the others: the door's, which is the
-/// sum of what each worker counts, one while its association is open and none else
+/// last write. Where more is waited for than the request, the lock is let go first, and nothing is
+/// accepted any more. The number that a session is told is that of the others: the door's, which is
+/// the sum of what each worker counts, one while its association is open and none else
 /// (`Gate::counted`). So with more than 256 workers one is left that rejects what is too much.
 ///
 /// All associations together hold at most `memory` bytes of data sets. One for which there is no
@@ -268,8 +269,8 @@ fn receive_counted<K: CountingLink, P: DeskPort, C: Clock>(
     receive(alloc, link, site, port, clock, others)
 }
 
-/// A link behind a gate, once what comes first is there, and it is its turn at the door: what is
-/// ahead of its session is what its own connection brought.
+/// A link behind a gate, once what comes first is there, and it is its turn at the door: it has the
+/// turn, and what is ahead of its session is what its own connection brought.
 fn at_the_door<
     'a,
     R: Wait + time::Clock,
@@ -287,7 +288,7 @@ fn at_the_door<
     counts: &'a SessionCounts,
     guest: Outside<D>,
 ) -> GatedLink<'a, R, K, G, D>
-    ensures { IsAhead K.hears link result.ahead result.link }
+    ensures { HasTurn K.hears link result }
 {
     let (rt, alloc, gate, session) = (workshop.rt, workshop.alloc, workshop.gate, counts.session);
     let (mut link, taken) = (link, clock.now());
@@ -318,9 +319,10 @@ fn at_the_door<
     }
 }
 
-/// A session behind a gate. What came first is answered in its turn at the door; who was let in is
-/// counted out when the session has ended.
+/// A session behind a gate, on a link of the connection that has its turn at the door, and beside
+/// as many others as that link counted. Who was let in is counted out when the session has ended.
 fn receive_gated<
+    'a,
     R: Wait + time::Clock,
     L: Ledger,
     B: Sharing,
@@ -329,14 +331,20 @@ fn receive_gated<
     G: Gate,
     D: ledger::Ledger,
 >(
-    workshop: &Workshop<'_, R, L, B, G>,
-    bounds: &Bounds<D>,
+    workshop: &'a Workshop<'a, R, L, B, G>,
+    bounds: &'a Bounds<D>,
     link: K,
     clock: &C,
     counts: &SessionCounts,
     guest: Outside<D>,
     pass: &mut Pass<B>,
-) -> (Result<Ended, SessionFault>, Outside<D>) {
+) -> (Result<Ended, SessionFault>, Outside<D>)
+    ensures { RunsInTurn K.hears ⟦<GatedLink<'a, R, K, G, D> as Link>⟧.hears
+        ⟦<GatedLink<'a, R, K, G, D> as Link>⟧.sends
+        ⟦<GatedLink<'a, R, K, G, D> as Link>⟧.closes
+        ⟦<SessionPort<'a, R, L, B, G> as DeskPort>⟧.step (C.tells clock.now)
+        (λ port. port.pass.now) workshop.now.desk.now.site link pass.old result.0 }
+{
     let (rt, alloc, desk) = (workshop.rt, workshop.alloc, workshop.desk);
     let (gate, session) = (workshop.gate, counts.session);
     let mut link = at_the_door(workshop, bounds, link, clock, counts, guest);
