@@ -10,9 +10,9 @@ ghost use Rattle.dr_plan_expand.specs.Seen.{seen};
 ghost use Rattle.dr_plan_expand.specs.Words.{of_set, of_sets};
 
 use crate::known::{OfSet, SetTable};
+use crate::lookup::{standard_tables, tables_of};
 use crate::meant::Tables;
 use crate::short::{Definition, ShortFlow, ShortNode, ShortPlan, ShortRow, ShortRule};
-use crate::usual::{usual_sets_1, usual_sets_2, usual_sets_3, usual_sets_4, usual_sets_5};
 use crate::words::{after_mark, defined};
 use dr_base::Text;
 use dr_plan_model::{Stations, Values};
@@ -379,20 +379,8 @@ fn spend_plan(tables: Tables<'_>, short: &ShortPlan, room: usize) -> Option<usiz
 pub fn is_within(short: &ShortPlan) -> bool
     ensures { IsTrue result ↔ IsWithin short.now }
 {
-    let usual = [
-        usual_sets_1(),
-        usual_sets_2(),
-        usual_sets_3(),
-        usual_sets_4(),
-        usual_sets_5(),
-    ];
-    let tables = Tables {
-        classes: &[],
-        usual: &usual,
-        syntaxes: &[],
-        sets: short.sets.as_slice(),
-        groups: short.groups.as_slice(),
-    };
+    let known = standard_tables();
+    let tables = tables_of(&known, short);
     match spend_plan(tables, short, MOST) {
         Some(_) => true,
         None => false,

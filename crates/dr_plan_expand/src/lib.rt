@@ -11,6 +11,7 @@ pub mod fields;
 mod find;
 pub mod known;
 pub mod laws;
+pub mod lookup;
 pub mod meant;
 mod pieces;
 pub mod short;

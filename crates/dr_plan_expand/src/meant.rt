@@ -10,12 +10,10 @@ ghost use Rattle.dr_plan_expand.specs.Meanings.{Means, flow_of};
 ghost use Rattle.dr_plan_expand.specs.Seen.{seen};
 ghost use Rattle.dr_plan_expand.specs.declared.fault.WordFault.TheVariants.{Unknown};
 
-use crate::classes::{classes_1, classes_2, classes_3, classes_4, classes_5};
 use crate::fault::WordFault;
 use crate::known::{SetTable, Table};
+use crate::lookup::{standard_tables, tables_of};
 use crate::short::{Definition, ShortFlow, ShortNode, ShortPlan, ShortRow, ShortRule};
-use crate::syntaxes::syntaxes_1;
-use crate::usual::{usual_sets_1, usual_sets_2, usual_sets_3, usual_sets_4, usual_sets_5};
 use crate::words::{Classes, Nodes, Syntaxes, copy_of};
 use crate::yields::{Yielding, all};
 use dr_base::{Seq, Text};
@@ -417,28 +415,8 @@ pub fn meant(alloc: Global, short: &ShortPlan) -> Result<PlanText, WordFault>
     ensures unknown { IfErr result (λ e.
         e ≡ Unknown → (plan : Written) → Means short.now plan → ⊥) }
 {
-    let classes = [
-        classes_1(),
-        classes_2(),
-        classes_3(),
-        classes_4(),
-        classes_5(),
-    ];
-    let usual = [
-        usual_sets_1(),
-        usual_sets_2(),
-        usual_sets_3(),
-        usual_sets_4(),
-        usual_sets_5(),
-    ];
-    let syntaxes = [syntaxes_1()];
-    let tables = Tables {
-        classes: &classes,
-        usual: &usual,
-        syntaxes: &syntaxes,
-        sets: short.sets.as_slice(),
-        groups: short.groups.as_slice(),
-    };
+    let known = standard_tables();
+    let tables = tables_of(&known, short);
     let nodes = all(&WholeNodes(tables), alloc, short.nodes.as_slice())?;
     let flows = all(&Flows(tables), alloc, short.flows.as_slice())?;
     Ok(PlanText {

@@ -8,10 +8,8 @@ ghost use Rattle.dr_plan_places.specs.Excess.{IsOverAt, IsExcessAt};
 use crate::field_place::{FieldPlace, NodePart};
 use dr_plan_expand::ShortPlan;
 use dr_plan_expand::amount::{Amounting, Flows, MOST, WholeNodes, spend_definitions};
-use dr_plan_expand::classes::{classes_1, classes_2, classes_3, classes_4, classes_5};
+use dr_plan_expand::lookup::{standard_tables, tables_of};
 use dr_plan_expand::meant::Tables;
-use dr_plan_expand::syntaxes::syntaxes_1;
-use dr_plan_expand::usual::{usual_sets_1, usual_sets_2, usual_sets_3, usual_sets_4, usual_sets_5};
 
 /// What the elements leave of the room, or the index of the one for which there is none.
 fn over_in<A: Amounting>(way: &A, elements: &[A::Element], room: usize) -> Result<usize, usize>
@@ -55,27 +53,7 @@ pub fn excess_in(short: &ShortPlan) -> Option<FieldPlace>
     ensures { MatchOption result (IsWithin short.now)
         (IsExcessAt (lookups_of short.now) short.now) }
 {
-    let classes = [
-        classes_1(),
-        classes_2(),
-        classes_3(),
-        classes_4(),
-        classes_5(),
-    ];
-    let usual = [
-        usual_sets_1(),
-        usual_sets_2(),
-        usual_sets_3(),
-        usual_sets_4(),
-        usual_sets_5(),
-    ];
-    let syntaxes = [syntaxes_1()];
-    let tables = Tables {
-        classes: &classes,
-        usual: &usual,
-        syntaxes: &syntaxes,
-        sets: short.sets.as_slice(),
-        groups: short.groups.as_slice(),
-    };
+    let known = standard_tables();
+    let tables = tables_of(&known, short);
     excess_by(tables, short)
 }

@@ -54,7 +54,7 @@ fn flaw_of<T: TextTest>(test: &T, text: &Text) -> Option<()>
 }
 
 /// The first of the texts that hasn't the property, by its index.
-pub fn first_bad<T: TextTest>(test: &T, texts: &[Text]) -> Option<usize>
+pub(crate) fn first_bad<T: TextTest>(test: &T, texts: &[Text]) -> Option<usize>
     ensures { MatchOption result (All (T.holds test.now) texts.now)
         (IsFirstBad (T.holds test.now) texts.now) }
 {

@@ -8,10 +8,8 @@ ghost use Rattle.dr_plan_places.specs.Strangers.{IsStrangerAt, IsStranger};
 
 use crate::field_place::{FieldPlace, NodePart};
 use dr_base::Text;
-use dr_plan_expand::classes::{classes_1, classes_2, classes_3, classes_4, classes_5};
+use dr_plan_expand::lookup::{standard_tables, tables_of};
 use dr_plan_expand::meant::Tables;
-use dr_plan_expand::syntaxes::syntaxes_1;
-use dr_plan_expand::usual::{usual_sets_1, usual_sets_2, usual_sets_3, usual_sets_4, usual_sets_5};
 use dr_plan_expand::words::{Classes, Nodes};
 use dr_plan_expand::yields::Yielding;
 use dr_plan_expand::{ShortFlow, ShortNode, ShortPlan, ShortRow, ShortRule, WordFault};
@@ -281,28 +279,8 @@ pub fn stranger_in(
     ensures { IfOk result (λ found. IfSome found (λ f.
         IsStranger short.now f.0 f.1.key f.1.word)) }
 {
-    let classes = [
-        classes_1(),
-        classes_2(),
-        classes_3(),
-        classes_4(),
-        classes_5(),
-    ];
-    let usual = [
-        usual_sets_1(),
-        usual_sets_2(),
-        usual_sets_3(),
-        usual_sets_4(),
-        usual_sets_5(),
-    ];
-    let syntaxes = [syntaxes_1()];
-    let tables = Tables {
-        classes: &classes,
-        usual: &usual,
-        syntaxes: &syntaxes,
-        sets: short.sets.as_slice(),
-        groups: short.groups.as_slice(),
-    };
+    let known = standard_tables();
+    let tables = tables_of(&known, short);
     let found = stranger_by(alloc, tables, short)?;
     Ok(found)
 }

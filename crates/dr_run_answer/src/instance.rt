@@ -1,34 +1,14 @@
 //! An instance: who brought it, and its rows, with the moment of their last try where that is
 //! known.
-ghost use Rattle.std.specs.Prelude.{◌≡◌, ◌≤◌, ◌-◌, ◌^◌, ◌++◌, OnOk, flat_map, min};
+ghost use Rattle.std.specs.Prelude.{◌≡◌, ◌++◌, OnOk, flat_map};
 ghost use Rattle.dr_run_answer.specs.Answers.{from_line, last_try, own_row_line, tried_at};
 ghost use Rattle.dr_run_answer.specs.Answers.{tried_part};
 
 use crate::json::{put_named, put_number, put_progress};
 use dr_base::Text;
 use dr_base_quoted::put_text;
-use dr_ledger::Progress;
+use dr_ledger::{Progress, seconds};
 use std::alloc::AllocError;
-
-/// How long a row waits after so many tries in vain, in seconds.
-fn seconds(tries: u32) -> u64
-    requires { 1 ≤ tries }
-    ensures wait { result ≡ min 300 (2 ^ (tries - 1)) }
-    ensures bound { result ≤ 300 }
-{
-    match tries {
-        1 => 1,
-        2 => 2,
-        3 => 4,
-        4 => 8,
-        5 => 16,
-        6 => 32,
-        7 => 64,
-        8 => 128,
-        9 => 256,
-        _ => 300,
-    }
-}
 
 /// When a row was tried last that waits until that moment (milliseconds) after so many tries; None
 /// where it wasn't tried.

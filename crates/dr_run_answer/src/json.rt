@@ -61,8 +61,8 @@ pub struct Queue<'a> {
     pub visits: Visits,
 }
 
-/// Adds a number.
-pub(crate) fn put_decimal(out: &mut Vec<u8>, value: u64) -> Result<(), AllocError>
+/// Adds the digits of a number, in base ten.
+pub fn put_decimal(out: &mut Vec<u8>, value: u64) -> Result<(), AllocError>
     ensures { OnOk result (out.new.items ≡ out.old.items ++ decimal value) }
 {
     let mut digits = itoa::Buffer::new();

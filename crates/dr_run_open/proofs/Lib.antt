@@ -1,2 +1,1 @@
-mod Least
 pub mod Sealed

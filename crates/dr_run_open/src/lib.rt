@@ -7,7 +7,6 @@
 //! - `plan_of`, `seal_text`: the plan of a text, or the `PlanAnswer` to a text that is none; a plan
 //!   sealed by the text of its certificate.
 //! - `hops_of`, `item_of`: where a node sends; the instance in a Part 10 file.
-//! - `how_many`, `oldest`: of the rows for a node.
 //!
 //! Ledgers are opened by a `Ledgers`, as files are read by a `Files`: what is proved here holds for
 //! any of them.
@@ -20,7 +19,6 @@ mod hops;
 mod instance;
 mod ledgers;
 mod opening;
-mod queues;
 mod sealing;
 mod status;
 
@@ -31,6 +29,5 @@ pub use hops::{NextHop, hops_of};
 pub use instance::item_of;
 pub use ledgers::{Ledgers, Making, OpenFault};
 pub use opening::{Opened, ledger_of, open_node, seal_files};
-pub use queues::{RowStage, how_many, is_queued, oldest};
 pub use sealing::{plan_of, seal_text};
 pub use status::Status;

@@ -6,7 +6,7 @@ ghost use Rattle.dr_run_page.specs.Pieces.{text_of};
 
 use crate::shown::put_shown;
 use dr_ledger::Cause;
-use dr_run_answer::Visited;
+use dr_run_answer::{Visited, put_decimal};
 use std::alloc::AllocError;
 
 /// A piece of a document.
@@ -25,14 +25,6 @@ pub(crate) enum Piece<'a> {
     Visit(u64, Option<Visited>),
     /// Now, and a moment.
     Ago(u64, u64),
-}
-
-/// Adds a number.
-fn put_decimal(out: &mut Vec<u8>, value: u64) -> Result<(), AllocError>
-    ensures { OnOk result (out.new.items ≡ out.old.items ++ decimal value) }
-{
-    let mut digits = itoa::Buffer::new();
-    out.extend_from_slice(digits.format(value).as_bytes())
 }
 
 /// Adds why a row is held.

@@ -13,7 +13,7 @@ use Rattle.dr_ledger.specs.Replies.{AreKept}
 use Rattle.dr_ledger_history.specs.Lines.{line_of}
 use Rattle.dr_ledger_history.specs.declared.line.JournalLine.{JournalLine}
 use Rattle.dr_run_open.specs.Openings.{IsUnopened, Sites}
-use Rattle.dr_run_open.specs.Queues.{Row}
+use Rattle.dr_ledger_views.specs.Views.{Row}
 use Rattle.dr_run_open.specs.declared.halt.Halt.{Halt}
 use Rattle.dr_run_open.specs.declared.halt.Halt.TheVariants.{NoPlan, NoCertificate, NoNode, NotOpened, NoInstance, Refused, Receipt, Failed, Memory}
 use Rattle.dr_run_open.specs.declared.ledgers.OpenFault.{OpenFault}

@@ -1,15 +1,15 @@
 -- How much a node has, as it is printed where all holds.
 use Rattle.std.specs.Prelude.{ℕ, Bool, true, false, ◌&&◌, List, [], ◌∷◌, ◌++◌, codes, decimal}
-use Rattle.std.specs.Prelude.{filter, length}
+use Rattle.std.specs.Prelude.{Some, filter, length}
 use Rattle.dr_base.specs.Texts.{Text}
 use Rattle.dr_ledger.specs.declared.item.Outcome.{Outcome}
 use Rattle.dr_ledger.specs.declared.item.Outcome.TheVariants.{Status, Broken, NoContext}
 use Rattle.dr_ledger.specs.Books.{Line, Arrival, Repeat, Settling, Requeuing, Dropping}
 use Rattle.dr_ledger.specs.Books.{Forgetting, Adoption, is_success, since_adoption}
 use Rattle.dr_ledger_report.specs.Reports.{next_field}
-use Rattle.dr_run_open.specs.Queues.{Row, is_so}
-use Rattle.dr_run_open.specs.declared.queues.RowStage.{RowStage}
-use Rattle.dr_run_open.specs.declared.queues.RowStage.TheVariants as stages
+use Rattle.dr_ledger_views.specs.Views.{Row, is_at as is_at_stage}
+use Rattle.dr_ledger_views.specs.declared.stage.Stage.{Stage}
+use Rattle.dr_ledger_views.specs.declared.stage.Stage.TheVariants as stages
 use Rattle.dr_word_audit.specs.Names.{is_among}
 use Rattle.dr_word_audit.specs.declared.counting.Figures.{Figures}
 use Rattle.dr_word_audit.specs.declared.counting.LineKind.{LineKind}
@@ -62,11 +62,11 @@ abbrev pub how_many : LineKind → List Text → List Line → ℕ
 how_many sort others lines = length (filter (is_of sort others) lines)
 
 -- the row is at this stage
-abbrev pub is_at : RowStage → Row → Bool
-is_at stage row = is_so stage row.1
+abbrev pub is_at : Stage → Row → Bool
+is_at stage row = is_at_stage (Some stage) row.1
 
 -- how many of these rows are at this stage
-abbrev pub how_many_at : RowStage → List Row → ℕ
+abbrev pub how_many_at : Stage → List Row → ℕ
 how_many_at stage rows = length (filter (is_at stage) rows)
 
 -- of a journal's lines under the plan in force, of so many kept instances, and of rows

@@ -7,6 +7,7 @@ use Rattle.dr_base.specs.Texts.{Text}
 use Rattle.dr_plan_model.specs.Networks.{Network}
 use Rattle.dr_plan_model.specs.Plans.{NamesNoNode}
 use Rattle.dr_plan_model.specs.declared.plan.Node.{Node}
+use Rattle.dr_word_adopt.specs.Changes.{name_of}
 
 -- the other name is this one
 abbrev pub is_name : Text → Text → Bool
@@ -19,9 +20,6 @@ is_among names name = list_any (is_name name) names
 -- the node is ours
 abbrev pub is_ours : List Text → Node → Bool
 is_ours others node = not (is_among others node.name)
-
-abbrev pub name_of : Node → Text
-name_of node = node.name
 
 -- the names of those of these nodes that are ours, in their order
 abbrev pub our_names : List Text → List Node → List Text

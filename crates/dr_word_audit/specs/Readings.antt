@@ -8,7 +8,7 @@ use Rattle.dr_site.specs.Parts.{Part}
 use Rattle.dr_ledger.specs.Books.{Book}
 use Rattle.dr_ledger_history.specs.Lines.{line_of}
 use Rattle.dr_ledger_history.specs.declared.line.JournalLine.{JournalLine}
-use Rattle.dr_run_open.specs.Queues.{Row}
+use Rattle.dr_ledger_views.specs.Views.{Row}
 use Rattle.dr_run_open.specs.declared.halt.Halt.{Halt}
 use Rattle.dr_run_open.specs.declared.halt.Halt.TheVariants.{NoPlan, NoCertificate, NoNode}
 use Rattle.dr_run_open.specs.declared.halt.Halt.TheVariants.{NotOpened, NoInstance, Refused}

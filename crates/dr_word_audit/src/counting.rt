@@ -1,8 +1,7 @@
 //! How many lines and rows there are of a kind.
 ghost use Rattle.std.specs.Prelude.{◌≡◌, map as mapped};
-ghost use Rattle.dr_ledger.specs.Books.{is_success as is_a_success, since_adoption};
+ghost use Rattle.dr_ledger.specs.Books.{since_adoption};
 ghost use Rattle.dr_ledger_history.specs.Lines.{line_of};
-ghost use Rattle.dr_run_open.specs.Queues.{is_so as is_at_stage};
 ghost use Rattle.dr_word_audit.specs.Figures.{figures, how_many_at, is_answer as is_an_answer};
 ghost use Rattle.dr_word_audit.specs.Figures.{is_dropping as is_a_dropping, is_first as is_a_first};
 ghost use Rattle.dr_word_audit.specs.Figures.{is_taken as is_a_taking};
@@ -10,9 +9,10 @@ ghost use Rattle.dr_word_audit.specs.Telling.{is_told, number_told};
 
 use crate::naming::is_among;
 use dr_base::Text;
-use dr_ledger::{Outcome, Progress, Row};
+use dr_ledger::{Outcome, Row, is_success};
 use dr_ledger_history::JournalLine;
-use dr_run_open::RowStage;
+use dr_ledger_views::Stage;
+use dr_ledger_views::listed::is_at;
 use dr_world_audit::replay::count_past;
 
 /// Of which lines there may be how many.
@@ -37,14 +37,6 @@ pub struct Figures {
     pub held: usize,
     pub dropped: usize,
     pub others: usize,
-}
-
-/// Whether the status says that the receiver has the instance: success, or a warning (PS3.4 B.2.3,
-/// PS3.7 C.4).
-fn is_success(status: u16) -> bool
-    ensures { result ≡ is_a_success status }
-{
-    status == 0 || (0xB000 <= status && status <= 0xBFFF)
 }
 
 /// Whether the receiver has the instance.
@@ -116,24 +108,13 @@ fn how_many(sort: LineKind, others: &[Text], lines: &[JournalLine]) -> usize
     count
 }
 
-/// Whether so far a row at this stage is.
-fn is_so(stage: RowStage, progress: Progress) -> bool
-    ensures { result ≡ is_at_stage stage progress }
-{
-    match stage {
-        RowStage::Waiting => matches!(progress, Progress::Waiting { .. }),
-        RowStage::Held => matches!(progress, Progress::Held(_)),
-        RowStage::Done => matches!(progress, Progress::Done),
-    }
-}
-
 /// How many of the rows are at this stage.
-fn how_many_rows(stage: RowStage, rows: &[Row]) -> usize
+fn how_many_rows(stage: Stage, rows: &[Row]) -> usize
     ensures { result ≡ how_many_at stage rows.now }
 {
     let mut count = 0;
     for row in rows {
-        if is_so(stage, row.1) {
+        if is_at(Some(stage), row.1) {
             count += 1;
         }
     }
@@ -156,8 +137,8 @@ pub fn figures_of(others: &[Text], lines: &[JournalLine], kept: usize, rows: &[R
     Figures {
         arrivals: how_many(LineKind::First, others, since),
         kept,
-        waiting: how_many_rows(RowStage::Waiting, rows),
-        held: how_many_rows(RowStage::Held, rows),
+        waiting: how_many_rows(Stage::Waiting, rows),
+        held: how_many_rows(Stage::Held, rows),
         dropped: how_many(LineKind::Dropped, others, since),
         others: how_many(LineKind::Answered, others, since),
     }

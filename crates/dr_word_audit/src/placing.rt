@@ -1,7 +1,6 @@
 //! The line of a journal that a mismatch speaks of.
 ghost use Rattle.std.specs.Prelude.{◌≡◌, Some, cond, map as mapped};
 ghost use Rattle.dr_ledger_history.specs.Lines.{line_of};
-ghost use Rattle.dr_world_audit.specs.Sites.{is_fair as is_fair_outcome};
 ghost use Rattle.dr_word_audit.specs.Places.{IsLast, came_from as is_from, goes_on as is_to};
 ghost use Rattle.dr_word_audit.specs.Places.{is_brought as is_brought_by, lines_named, node_of};
 ghost use Rattle.dr_word_audit.specs.Places.{says as is_said, was_taken as is_a_success};
@@ -10,20 +9,9 @@ ghost use Rattle.dr_word_audit.specs.Places.{was_unfair as is_not_fair};
 use crate::counting::is_taken;
 use crate::naming::is_among;
 use dr_base::Text;
-use dr_ledger::{Instance, Outcome};
+use dr_ledger::Instance;
 use dr_ledger_history::JournalLine;
-use dr_world_audit::audit::{Mismatch, NodeJournal};
-
-/// Whether the outcome is one that a sound plan leaves room for.
-fn is_fair(outcome: Outcome) -> bool
-    ensures { result ≡ is_fair_outcome outcome }
-{
-    match outcome {
-        Outcome::Status(status) => status == 0 || status == 0xA700 || status == 0xC0F1,
-        Outcome::Broken => true,
-        Outcome::NoContext => false,
-    }
-}
+use dr_world_audit::audit::{Mismatch, NodeJournal, is_fair};
 
 /// Whether the line is of an arrival of the UID that goes on to there.
 fn goes_on(uid: &Text, to: &Text, line: &JournalLine) -> bool

@@ -7,7 +7,7 @@ use Rattle.dr_ledger.specs.Books.{Book}
 use Rattle.dr_ledger.specs.Pairs.{Pair, pair_cmp}
 use Rattle.dr_ledger.specs.Replies.{AreKept, Lists, entry_of}
 use Rattle.dr_ledger.specs.declared.item.Entry.{Entry}
-use Rattle.dr_run_open.specs.Queues.{Row}
+use Rattle.dr_ledger_views.specs.Views.{Row}
 use Rattle.dr_word_list.specs.Summaries.{IsSummary, IsSummaryOf}
 use Rattle.dr_run_open.specs.declared.hops.NextHop.{NextHop}
 

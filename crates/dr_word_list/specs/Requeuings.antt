@@ -1,18 +1,18 @@
 -- All held rows to a node, queued again.
 use Rattle.std.specs.Prelude.{◌≡◌, ℕ, List, [], ◌∷◌, codes, filter, flat_map, map as mapped, take}
-use Rattle.std.specs.Prelude.{Result, Ok, Err}
+use Rattle.std.specs.Prelude.{Result, Ok, Err, Some}
 use Rattle.std.specs.FinMap as map
 use Rattle.dr_base.specs.Texts.{Text}
 use Rattle.dr_ledger.specs.Books.{Book}
 use Rattle.dr_ledger.specs.Replies.{Requeues}
 use Rattle.dr_ledger_report.specs.Reports.{line_of}
+use Rattle.dr_ledger_views.specs.Views.{Row, is_to}
 use Rattle.dr_site.specs.Parts.{Part}
 use Rattle.dr_run_open.specs.Openings.{HaltsAs}
-use Rattle.dr_run_open.specs.Queues.{Row, is_queued}
 use Rattle.dr_word_list.specs.Works.{AtNode}
+use Rattle.dr_ledger_views.specs.declared.stage.Stage.TheVariants as stages
 use Rattle.dr_run_open.specs.declared.halt.Halt.{Halt}
 use Rattle.dr_run_open.specs.declared.halt.Halt.TheVariants.{Refused}
-use Rattle.dr_run_open.specs.declared.queues.RowStage.TheVariants as stages
 
 -- which instance the row is about
 abbrev pub uid_of : Row → Text
@@ -20,7 +20,7 @@ uid_of row = row.0.0
 
 -- the uids of the rows that are held and for that node, in the order of the rows
 abbrev pub held_in : List Row → Text → List Text
-held_in rows dest = mapped uid_of (filter (is_queued dest stages.Held) rows)
+held_in rows dest = mapped uid_of (filter (is_to dest (Some stages.Held)) rows)
 
 -- the same, of a book
 abbrev pub held_for : Book → Text → List Text

@@ -8,15 +8,15 @@ use Rattle.dr_ledger.specs.Books.{Book}
 use Rattle.dr_ledger.specs.Pairs.{Pair, pair_cmp}
 use Rattle.dr_ledger.specs.Replies.{AreKept, Lists}
 use Rattle.dr_ledger_report.specs.Reports.{line_of, name_line}
+use Rattle.dr_ledger_views.specs.Views.{IsLeast, Row, dues, how_many}
 use Rattle.dr_site.specs.Parts.{Part}
 use Rattle.dr_run_open.specs.Hops.{hops_from}
 use Rattle.dr_run_open.specs.Openings.{HaltsAs}
-use Rattle.dr_run_open.specs.Queues.{IsLeast, Row, dues, how_many}
 use Rattle.dr_word_list.specs.Works.{AtNode, AtSite}
+use Rattle.dr_ledger_views.specs.declared.stage.Stage.TheVariants as stages
 use Rattle.dr_run_open.specs.declared.halt.Halt.{Halt}
 use Rattle.dr_run_open.specs.declared.halt.Halt.TheVariants.{Refused}
 use Rattle.dr_run_open.specs.declared.hops.NextHop.{NextHop}
-use Rattle.dr_run_open.specs.declared.queues.RowStage.TheVariants as stages
 
 -- the line of a kind, with how many there are
 abbrev pub count_line : Text → ℕ → Text
@@ -31,9 +31,9 @@ moment_field (Some moment) = decimal moment
 -- that moment
 abbrev pub queue_line : List Row → Text → Option ℕ → Text
 queue_line rows dest oldest = line_of (codes "queue") (dest
-    ∷ codes "waiting" ∷ decimal (how_many rows dest stages.Waiting)
-    ∷ codes "held" ∷ decimal (how_many rows dest stages.Held)
-    ∷ codes "done" ∷ decimal (how_many rows dest stages.Done)
+    ∷ codes "waiting" ∷ decimal (how_many rows dest (Some stages.Waiting))
+    ∷ codes "held" ∷ decimal (how_many rows dest (Some stages.Held))
+    ∷ codes "done" ∷ decimal (how_many rows dest (Some stages.Done))
     ∷ codes "oldest" ∷ moment_field oldest ∷ [])
 
 -- the line of that node, with the earliest moment from which on a row is due that waits for it

@@ -5,7 +5,8 @@ ghost use Rattle.dr_word_list.specs.Requeuings.{RequeuesFirst, RequeuesFirstOf, 
 
 use dr_base::Text;
 use dr_ledger::{Ledger, LedgerFault, Row};
-use dr_run_open::{RowStage, is_queued};
+use dr_ledger_views::Stage;
+use dr_ledger_views::listed::is_to;
 use std::alloc::{AllocError, Global};
 
 const TAB: u8 = 9;
@@ -18,7 +19,7 @@ fn held_in(alloc: Global, rows: &[Row], dest: &Text) -> Result<Vec<Text>, AllocE
 {
     let mut uids = Vec::new(alloc);
     for row in rows {
-        if is_queued(row, dest, RowStage::Held) {
+        if is_to(row, dest, Some(Stage::Held)) {
             uids.push(row.0.0.clone()?)?;
         }
     }

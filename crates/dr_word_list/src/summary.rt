@@ -1,16 +1,18 @@
 //! The option `--summary` of the word `list`.
-ghost use Rattle.std.specs.Prelude.{◌≡◌, ◌++◌, IfOk, OnOk, decimal};
+ghost use Rattle.std.specs.Prelude.{◌≡◌, ◌++◌, IfOk, OnOk, Some, decimal};
 ghost use Rattle.dr_base.specs.Texts.{Text as Words};
 ghost use Rattle.dr_ledger_report.specs.Reports.{next_field};
+ghost use Rattle.dr_ledger_views.specs.Views.{how_many as number_of};
 ghost use Rattle.dr_run_open.specs.Hops.{hops_from};
-ghost use Rattle.dr_run_open.specs.Queues.{how_many as number_of};
 ghost use Rattle.dr_word_list.specs.Summaries.{AreQueueLines, IsQueueLine, IsSummary, IsSummaryOf};
 ghost use Rattle.dr_word_list.specs.Summaries.{count_line, moment_field, queue_line};
 
 use dr_base::Text;
 use dr_ledger::{Ledger, LedgerFault, Row};
 use dr_ledger_report::{put_field, put_name, put_number};
-use dr_run_open::{NextHop, Opened, RowStage, hops_of, how_many, oldest};
+use dr_ledger_views::Stage;
+use dr_ledger_views::listed::{first_due, how_many};
+use dr_run_open::{NextHop, Opened, hops_of};
 use std::alloc::{AllocError, Global};
 
 const LF: u8 = 10;
@@ -31,15 +33,16 @@ fn put_stage(
     word: &[u8],
     rows: &[Row],
     dest: &Text,
-    stage: RowStage,
+    stage: Stage,
 ) -> Result<(), AllocError>
     ensures { OnOk result
         (out.new.items
         ≡ out.old.items
-        ++ (next_field word.now ++ next_field (decimal (number_of rows.now dest.now stage)))) }
+        ++ (next_field word.now
+        ++ next_field (decimal (number_of rows.now dest.now (Some stage))))) }
 {
     put_field(out, word)?;
-    put_number(out, how_many(rows, dest, stage) as u64)
+    put_number(out, how_many(rows, dest, stage))
 }
 
 /// Adds a moment, where there is one.
@@ -63,9 +66,9 @@ fn put_queue_line(
 {
     out.extend_from_slice(b"queue")?;
     put_field(out, dest.as_bytes())?;
-    put_stage(out, b"waiting", rows, dest, RowStage::Waiting)?;
-    put_stage(out, b"held", rows, dest, RowStage::Held)?;
-    put_stage(out, b"done", rows, dest, RowStage::Done)?;
+    put_stage(out, b"waiting", rows, dest, Stage::Waiting)?;
+    put_stage(out, b"held", rows, dest, Stage::Held)?;
+    put_stage(out, b"done", rows, dest, Stage::Done)?;
     put_field(out, b"oldest")?;
     put_moment(out, oldest)?;
     out.push(LF)?;
@@ -79,7 +82,7 @@ fn put_queue(out: &mut Vec<u8>, rows: &[Row], dest: &Text) -> Result<(), AllocEr
         × IsQueueLine rows.now dest.now line
         × (out.new.items ≡ out.old.items ++ line)) }
 {
-    let moment = oldest(rows, dest);
+    let moment = first_due(rows, dest);
     put_queue_line(out, rows, dest, moment)?;
     Ok(())
 }

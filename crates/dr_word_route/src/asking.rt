@@ -49,7 +49,8 @@ fn write_reply<W: Write, E: Write>(
     }
 }
 
-/// Writes why a certificate isn't the plan's.
+/// Writes why a certificate isn't the plan's, as a line to the faults, and says how the word ends:
+/// refused, or for want of memory.
 pub fn tell_refusal<E: Write>(fault: CertFault, faults: &mut E) -> io::Result<Status>
     ensures refused { fault ≢ NoMemory → IfOk result (λ status. status ≡ Refused) }
     ensures memory { fault ≡ NoMemory → IfOk result (λ status. status ≡ Memory) }

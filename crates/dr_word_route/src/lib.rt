@@ -11,4 +11,5 @@ mod reply;
 mod replying;
 mod run;
 
+pub use asking::tell_refusal;
 pub use run::{run_asked, run_words};

@@ -1,17 +1,16 @@
 //! The word `simulate`.
-ghost use Rattle.std.specs.Prelude.{◌≡◌, ◌≢◌, ◌⊎◌, IfOk, OnOk};
+ghost use Rattle.std.specs.Prelude.{◌⊎◌, IfOk, OnOk};
 ghost use Rattle.std.specs.Io.KnownBytes.{Appends};
 ghost use Rattle.dr_base.specs.Texts.{Text};
-ghost use Rattle.dr_cert.specs.declared.fault.CertFault.TheVariants.{Memory as NoMemory};
-ghost use Rattle.dr_run_open.specs.declared.status.Status.TheVariants.{Refused, Memory};
 ghost use Rattle.dr_word_simulate.specs.Outcomes.{printed_for};
 ghost use Rattle.dr_word_simulate.specs.Runs.{Plays, Seals, Simulates, Unseals};
 
 use crate::outcome::{PlayOutcome, outcome_of};
-use dr_cert::{CertFault, Sealed};
+use dr_cert::Sealed;
 use dr_plan::Plan;
 use dr_run_files::{Failure, Files, read_file};
 use dr_run_open::{Status, plan_of, seal_text, tell_answer};
+use dr_word_route::tell_refusal;
 use dr_world::WorldFault;
 use dr_world_script::ScriptFault;
 use std::alloc::Global;
@@ -36,18 +35,6 @@ fn tell_outcome<W: Write, E: Write>(
         PlayOutcome::Store => writeln!(faults, "dr_router: {}", WorldFault::Store),
         PlayOutcome::HalfAdopted => writeln!(faults, "dr_router: {}", WorldFault::HalfAdopted),
         PlayOutcome::Memory => writeln!(faults, "dr_router: Memory"),
-    }
-}
-
-/// Writes why a certificate isn't the plan's.
-fn tell_refusal<E: Write>(fault: CertFault, faults: &mut E) -> io::Result<Status>
-    ensures refused { fault ≢ NoMemory → IfOk result (λ status. status ≡ Refused) }
-    ensures memory { fault ≡ NoMemory → IfOk result (λ status. status ≡ Memory) }
-{
-    writeln!(faults, "dr_router: {fault}")?;
-    match fault {
-        CertFault::Memory => Ok(Status::Memory),
-        _ => Ok(Status::Refused),
     }
 }
 

@@ -105,8 +105,9 @@ fn names_of(alloc: Global, nodes: &[NodeJournal]) -> Result<BTreeSet<Text>, Audi
     Ok(ours)
 }
 
-/// Whether the outcome is one that a sound plan leaves room for.
-fn is_fair(outcome: Outcome) -> bool
+/// Whether the outcome of a try is one that a sound plan leaves room for between two of its nodes:
+/// success, out of resources (`A700H`), a conflict (`C0F1H`), or no answer.
+pub fn is_fair(outcome: Outcome) -> bool
     ensures { result ≡ is_fair_outcome outcome }
 {
     match outcome {

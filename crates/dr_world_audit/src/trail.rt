@@ -1,6 +1,5 @@
 //! What the lines of journals say of instances between nodes.
 ghost use Rattle.std.specs.Prelude.{◌≡◌, ◌∷◌, [], IfOk, OnOk, option_copied};
-ghost use Rattle.dr_ledger.specs.Books.{is_success as is_a_success};
 ghost use Rattle.dr_ledger.specs.SiteRoutes.{site_routing};
 ghost use Rattle.dr_ledger_history.specs.Contents.{book_of, content};
 ghost use Rattle.dr_ledger_history.specs.Lines.{line_of};
@@ -10,7 +9,7 @@ ghost use Rattle.dr_world_journals.specs.Hops.{to_each, went_by};
 
 use crate::hop::{AuditHop, hop_of};
 use dr_base::{Seq, Text};
-use dr_ledger::{Instance, Outcome};
+use dr_ledger::{Instance, Outcome, is_success};
 use dr_ledger_history::{History, JournalLine};
 use dr_route::Key;
 use dr_site::Site;
@@ -72,14 +71,6 @@ fn push_done(
         push_hop(alloc, hops, name, dest, instance)?;
     }
     Ok(())
-}
-
-/// Whether the status says that the receiver has the instance: success, or a warning (PS3.4 B.2.3,
-/// PS3.7 C.4).
-fn is_success(status: u16) -> bool
-    ensures { result ≡ is_a_success status }
-{
-    status == 0 || (0xB000 <= status && status <= 0xBFFF)
 }
 
 /// Notes an outcome, where it is a success, of the instance that the history has now.

@@ -7,7 +7,7 @@ use Rattle.dr_plan_expand.proofs.amount.is_within.Goals as goal
 pub returns-in-Some : goal.returns-in-Some
 returns-in-Some c = (
   λ h. (let all : plan_size (lookups_of c.args.short.now) c.args.short.now + c.in-Some.field-0 ≡ most =
-      rw (c.usual_sets_1.ensures, c.usual_sets_2.ensures, c.usual_sets_3.ensures, c.usual_sets_4.ensures, c.usual_sets_5.ensures, c.as_slice.ensures, c.as_slice-2.ensures) at c.in-Some.ensures in
+      rw c.tables_of-tables.ensures at c.in-Some.ensures in
       omega arith),
   λ within. refl,
 )
@@ -16,6 +16,6 @@ pub returns-in-None : goal.returns-in-None
 returns-in-None c = (
   λ h. absurd (false≢true h),
   λ within. absurd (let over : most < plan_size (lookups_of c.args.short.now) c.args.short.now =
-      rw (c.usual_sets_1.ensures, c.usual_sets_2.ensures, c.usual_sets_3.ensures, c.usual_sets_4.ensures, c.usual_sets_5.ensures, c.as_slice.ensures, c.as_slice-2.ensures) at c.in-None.ensures in
+      rw c.tables_of-tables.ensures at c.in-None.ensures in
       omega arith),
 )

@@ -1,10 +1,10 @@
-use Rattle.std.proofs.Common.{◌∙◌, ◌++◌, ◌∷◌, [], ℕ, List, ap}
+use Rattle.std.proofs.Common.{◌∙◌, ◌++◌, ◌∷◌, [], ℕ, List, Some, ap}
 use Rattle.std.specs.Prelude.{codes, decimal}
 use Rattle.dr_base.specs.Texts.{Text}
 use Rattle.dr_ledger_report.specs.Reports.{next_field}
-use Rattle.dr_run_open.specs.Queues.{how_many}
+use Rattle.dr_ledger_views.specs.Views.{how_many}
 use Rattle.dr_word_list.specs.Summaries.{moment_field}
-use Rattle.dr_run_open.specs.declared.queues.RowStage.TheVariants as stages
+use Rattle.dr_ledger_views.specs.declared.stage.Stage.TheVariants as stages
 use Rattle.dr_word_list.proofs.Pieces.{as_fields, chained}
 use Rattle.dr_word_list.proofs.summary.put_queue_line.Goals as goal
 
@@ -16,11 +16,11 @@ returns c =
     let word : Text = codes "queue" in
     let name : Text = next_field dest in
     let a : Text = next_field (codes "waiting") in
-    let b : Text = next_field (decimal (how_many rows dest stages.Waiting)) in
+    let b : Text = next_field (decimal (how_many rows dest (Some stages.Waiting))) in
     let e : Text = next_field (codes "held") in
-    let f : Text = next_field (decimal (how_many rows dest stages.Held)) in
+    let f : Text = next_field (decimal (how_many rows dest (Some stages.Held))) in
     let g : Text = next_field (codes "done") in
-    let h : Text = next_field (decimal (how_many rows dest stages.Done)) in
+    let h : Text = next_field (decimal (how_many rows dest (Some stages.Done))) in
     let o : Text = next_field (codes "oldest") in
     let m : Text = next_field (moment_field c.args.oldest) in
     let l : Text = 10 ∷ [] in
