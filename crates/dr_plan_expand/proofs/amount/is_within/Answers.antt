@@ -1,13 +1,14 @@
-use Rattle.std.proofs.Common.{◌≡◌, ◌+◌, ◌<◌, refl, arith}
+use Rattle.std.proofs.Common.{◌≡◌, ◌+◌, ◌<◌, arith, refl, subst}
 use Rattle.std.proofs.lemmas.Bool.{false≢true}
-use Rattle.dr_plan_expand.specs.Meanings.{lookups_of}
+use Rattle.dr_plan_expand.specs.Meanings.{Lookups, lookups_of}
 use Rattle.dr_plan_expand.specs.Amounts.{plan_size, most}
 use Rattle.dr_plan_expand.proofs.amount.is_within.Goals as goal
 
 pub returns-in-Some : goal.returns-in-Some
 returns-in-Some c = (
-  λ h. (let all : plan_size (lookups_of c.args.short.now) c.args.short.now + c.in-Some.field-0 ≡ most =
-      rw c.tables_of-tables.ensures at c.in-Some.ensures in
+  λ h. (
+      let P : Lookups → Type 0 = λ l. plan_size l c.args.short.now + c.in-Some.field-0 ≡ most in
+      let all : P (lookups_of c.args.short.now) = subst P c.tables_of-tables.ensures c.in-Some.ensures in
       omega arith),
   λ within. refl,
 )
@@ -15,7 +16,8 @@ returns-in-Some c = (
 pub returns-in-None : goal.returns-in-None
 returns-in-None c = (
   λ h. absurd (false≢true h),
-  λ within. absurd (let over : most < plan_size (lookups_of c.args.short.now) c.args.short.now =
-      rw c.tables_of-tables.ensures at c.in-None.ensures in
+  λ within. absurd (
+      let P : Lookups → Type 0 = λ l. most < plan_size l c.args.short.now in
+      let over : P (lookups_of c.args.short.now) = subst P c.tables_of-tables.ensures c.in-None.ensures in
       omega arith),
 )
