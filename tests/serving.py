@@ -481,6 +481,30 @@ def deaf_peer():
             stop(gate)
 
 
+def slow_reader():
+    """A next node that always reads a little ends a visit in time, too: a PDU has its time as a whole, and not each part of it."""
+    with Room() as room:
+        body = data_set(b'1.2.3.4', element(0x7fe0, 0x10, b'OW', bytes(8 << 20)))
+        is_over = threading.Event()
+
+        def read_a_little(link):
+            hear_request(slow, link)
+            while not is_over.wait(0.1) and link.recv(1000):
+                pass
+        with Acceptor(room.ports['ARCH'], None) as slow:
+            slow.listener.setsockopt(socket.SOL_SOCKET, socket.SO_RCVBUF, 2048)
+            slow.listener.setsockopt(socket.IPPROTO_TCP, socket.TCP_MAXSEG, 500)
+            slow.serve = read_a_little
+            gate = room.serve('GATE', 0, '--write', '2')
+            with Requestor(room.ports['GATE'], 'CT1', 'GATE') as caller:
+                same(caller.store(b'1.2.3.4', body), 0)
+                begun = time.monotonic()
+                room.wait_for_event('GATE', 'failed dest="ARCH" settled=1 fault="Y2 Write"')
+                assert 1.5 < time.monotonic() - begun < 20, time.monotonic() - begun
+            is_over.set()
+            stop(gate)
+
+
 def drip_from(acceptor, link, is_over):
     """Takes the association that is asked for, and reads a byte a second until that is over."""
     hear_request(acceptor, link)
@@ -699,19 +723,22 @@ int fdatasync(int file) { return sync_by(SYS_fdatasync, file); }
 def shut():
     """After a sync that failed nothing is acknowledged, and the node ends with status 3 after one line, so that a service manager starts
     it anew: what was acknowledged before is there, and what wasn't is taken."""
+    if not shutil.which('cc'):
+        print('serving: cc is missing, so no sync was made to fail', flush=True)
+        return
     with Room() as room:
         room.put('failing.c', FAILING)
-        subprocess.run(['gcc', '-shared', '-fPIC', '-o', 'failing.so', 'failing.c'], cwd=room.folder, check=True)
+        subprocess.run(['cc', '-shared', '-fPIC', '-o', 'failing.so', 'failing.c'], cwd=room.folder, check=True)
         disk = {**os.environ, 'LD_PRELOAD': f'{room.folder}/failing.so', 'FAILS': f'{room.folder}/fails'}
         arch = room.serve('ARCH', 0, env=disk)
         caller = asked_at(room)
         same(caller.store(b'1.2.3.4', data_set(b'1.2.3.4')), 0)
         room.put('fails', b'')
-        try:
+        status = None
+        # an A-ABORT, or the end of the connection, acknowledges nothing either
+        with contextlib.suppress(OSError, EOFError, AssertionError):
             status = caller.store(b'1.2.3.5', data_set(b'1.2.3.5'))
-            assert 0xa700 <= status <= 0xa7ff, status
-        except (OSError, EOFError, AssertionError) as end:
-            assert not isinstance(end, AssertionError) or 'instead of' in str(end), end
+        assert status is None or 0xa700 <= status <= 0xa7ff, status
         arch.communicate(timeout=LIMIT)
         same(arch.returncode, 3)
         same([event[1:] for event in room.events('ARCH') if event[1] == 'ERROR'], [('ERROR', 'node', 'shut fault="G3 Store"')])
@@ -865,7 +892,7 @@ def main():
     if sys.argv[1:] == ['--more']:
         return run_cases('serving --more', rates_alone, many_transfers)
     run_cases('serving', three_nodes, refusals, dead_hop, held_rows, events, reports, report_paths, forged, refused_contexts, few_workers, unasked, silent_associations,
-              rejected_callers, hops_alone, slow_peers, deaf_peer, crowded, shut, stopped, cut_short, forgotten, killed)
+              rejected_callers, hops_alone, slow_peers, deaf_peer, slow_reader, crowded, shut, stopped, cut_short, forgotten, killed)
 
 
 if __name__ == '__main__':

@@ -1,5 +1,5 @@
 //! Writes that the peer has to take in time.
-ghost use Rattle.std.specs.Prelude.{◌≡◌, ◌≤◌, length, take, true, IfSome};
+ghost use Rattle.std.specs.Prelude.{◌≡◌, ◌≤◌, ◌<◌, ◌↔◌, length, take, true, false, IfSome, IsTrue};
 ghost use Rattle.std.specs.Io.KnownBytes.{Appends};
 
 use crate::limits::Cut;
@@ -51,35 +51,29 @@ impl Current {
     }
 }
 
-/// One call of the system: how many bytes it took; none where it has time left. None where the
-/// write has failed, or took so many milliseconds already; where all links are cut nothing waits.
-fn write_some<S: Write, C: Clock>(
-    stream: &mut S,
-    bytes: &[u8],
-    since: u64,
-    limit: u64,
-    cut: &Cut,
-    clock: &C,
-) -> Option<usize>
+/// One call of the system: how many bytes it took, none where it has to be asked again. None where
+/// the write has failed.
+fn write_some<S: Write>(stream: &mut S, bytes: &[u8]) -> Option<usize>
     ensures { IfSome result (λ count. (count ≤ length bytes.now)
         × Appends (S.contents stream.old) (S.contents stream.new) (take count bytes.now)) }
 {
     match stream.write(bytes) {
         Ok(0) => None,
         Ok(count) => Some(count),
-        Err(error) => {
-            let has_time = clock.now().saturating_sub(since) < limit && !cut.is_made();
-            if is_quiet(&error) && has_time {
-                Some(0)
-            } else {
-                None
-            }
-        }
+        Err(error) => { if is_quiet(&error) { Some(0) } else { None } }
     }
 }
 
+/// Whether the rest of a PDU that has been written for so many milliseconds may still be written.
+/// Where all links are cut nothing waits.
+fn may_go_on(spent: u64, limit: u64, is_cut: bool) -> bool
+    ensures { IsTrue result ↔ (spent < limit) × (is_cut ≡ false) }
+{
+    spent < limit && !is_cut
+}
+
 /// Writes all bytes, which are whole PDUs; each has so many milliseconds until the system has taken
-/// it. Says whether it did.
+/// it, however often it takes a part. Says whether it did.
 pub fn write_in_time<S: Write, C: Clock>(
     stream: &mut S,
     bytes: &[u8],
@@ -99,11 +93,16 @@ pub fn write_in_time<S: Write, C: Clock>(
         if at >= bytes.len() {
             return true;
         }
-        match write_some(stream, &bytes[at..], current.since, limit, cut, clock) {
+        match write_some(stream, &bytes[at..]) {
             Some(count) => at += count,
             None => return false,
         }
-        current = current.at(bytes, at, clock.now());
+        let now = clock.now();
+        current = current.at(bytes, at, now);
+        let spent = now.saturating_sub(current.since);
+        if at < bytes.len() && !may_go_on(spent, limit, cut.is_made()) {
+            return false;
+        }
     }
     false
 }
