@@ -7,8 +7,9 @@ peer that stores has to wait meanwhile: on the built program, on loopback and th
     bench/held_up.py 5000 2      # as many rows and images
 
 A node's ledger has one lock. Its meter says how long the longest call of the ledger was within that lock since the node
-began to serve; so the node is started anew for each thing that is measured, and somebody stores small images all the
-while. The rows wait for a node that is down; the images go to another one.
+began to serve; so the node is started anew for each thing that is measured. First each is measured alone, so that the
+longest call is its own; then somebody stores small images all the while. The rows wait for a node that is down; the
+images go to another one.
 """
 import os
 import re
@@ -134,16 +135,15 @@ class Measuring:
     def __init__(self, room):
         self.room, self.count = room, 0
 
-    def beside(self, what, doing, *words):
+    def measure(self, what, doing, *words, is_alone=False):
         """How long the doing took, each time, how long the stores beside it, and how long the ledger was locked at the most."""
         self.count += 1
         node = Asked(self.room, 'GATE', 0, *words, token=False)
-        storing = Storing(self.room, self.count)
+        storing = None if is_alone else Storing(self.room, self.count)
         answers = doing(node)
-        spent = storing.end()
-        figures = (statistics.median(answers), max(answers)) if answers else ()
-        row(f'  {what}', *([milliseconds(it) for it in figures] or ['-', '-']), milliseconds(statistics.median(spent)), milliseconds(max(spent)),
-            milliseconds(longest_lock(node)))
+        spent = storing.end() if storing else []
+        figures = [milliseconds(it) for all_of in (answers, spent) for it in ((statistics.median(all_of), max(all_of)) if all_of else ())]
+        row(f'  {what}', *(figures if answers else ['-', '-', *figures]), *([] if spent else ['-', '-']), milliseconds(longest_lock(node)))
         stop(node.process)
 
 
@@ -186,12 +186,14 @@ def main():
         fill(room, rows)
         stop(node.process)
         row(f'{rows} rows of 1 kB wait', 'call: median', 'longest', 'store: median', 'longest', 'lock: longest')
-        for path in (None, *PATHS):
-            measuring.beside(path or 'nothing', lambda node, path=path: asking(node, path))
-        uids = [b'1.2.2.%d' % number for number in range(images)]
-        measuring.beside(f'{images} images of 32 MB come', lambda node: bring(room, 'CT2', uids, 32 << 20))
-        measuring.beside(f'{images} images of 32 MB are sent on', lambda node: taking(room, images))
-        measuring.beside('a report is written, each ten seconds', lambda node: waiting(), '--report', 'report')
+        for is_alone in (True, False):
+            print('alone' if is_alone else 'beside somebody who stores', flush=True)
+            for path in PATHS if is_alone else (None, *PATHS):
+                measuring.measure(path or 'nothing', lambda node, path=path: asking(node, path), is_alone=is_alone)
+            uids = [b'1.2.%d.%d' % (2 + is_alone, number) for number in range(images)]
+            measuring.measure(f'{images} images of 32 MB come', lambda node, uids=uids: bring(room, 'CT2', uids, 32 << 20), is_alone=is_alone)
+            measuring.measure(f'{images} images of 32 MB are sent on', lambda node: taking(room, images), is_alone=is_alone)
+        measuring.measure('a report is written, each ten seconds', lambda node: waiting(), '--report', 'report')
 
 
 if __name__ == '__main__':
