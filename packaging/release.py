@@ -39,7 +39,7 @@ def printed(*words):
 
 
 def version():
-    return content(f"{TOP}/VERSION").decode().strip()
+    return printed(f"{TOP}/tools/version.py")
 
 
 def moment():

@@ -124,8 +124,8 @@ def reads():
         assert abs(time.time() * 1000 - since) < 60_000, since
         with open(f'{room.folder}/{PLAN[0]}', 'rb') as file:
             same(status[0].pop('plan'), hashlib.sha256(file.read()).hexdigest())
-        with open(f'{TOP}/VERSION', encoding='ascii') as file:
-            same(status[0].pop('version'), file.read().strip())
+        version = subprocess.run([f'{TOP}/tools/version.py'], stdout=subprocess.PIPE, check=True, text=True).stdout
+        same(status[0].pop('version'), version.strip())
         same(status, [{'node': 'CT1', 'arrivals': 1, 'kept': 0, 'lines': 2, 'failures': 0}, {'dest': 'GATE', 'waiting': 0, 'held': 1, 'done': 0}])
         row = {'uid': '1.2.3.4', 'dest': 'GATE', 'state': 'held', 'cause': 'C0F1'}
         same(node.read('/rows?dest=GATE'), [row])

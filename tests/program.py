@@ -269,7 +269,8 @@ def words():
     is_answer('help of diff', run(['diff', '--help']), 0, (b'Usage: dr_router diff [OPTIONS] <PLAN> <CERT> <NEXTPLAN> <NEXTCERT>\n',), b'')
     is_answer('help of simulate', run(['simulate', '--help']), 0, (b'Usage: dr_router simulate <PLAN> <CERT> <SCRIPT>\n',), b'')
     is_answer('help of echo', run(['echo', '--help']), 0, (b'Usage: dr_router echo <PLAN> <FROM> <TO>\n',), b'')
-    is_answer('version', run(['--version']), 0, b'dr_router ' + content(f'{TOP}/VERSION'), b'')
+    version = subprocess.run([f'{TOP}/tools/version.py'], stdout=subprocess.PIPE, check=True).stdout
+    is_answer('version', run(['--version']), 0, b'dr_router ' + version, b'')
 
 
 def failures(room, large):

@@ -5,7 +5,7 @@ Each source is in the kit's layout; no line of src/ or specs/ is over 100 column
 each wrong body and wrong definition can be applied to the sources as they are; each that wrong/gate names is there; no
 type's name is in two crates but for one notion; no function has over seven parameters, and over six functions of a
 crate spell out no list of generics with two or more bounds; each file whose first line names what runs it may be run;
-the sources tell the number of VERSION; no sentence of a page has over 30 words, and no example of docs/PROVING.md is
+the changes tell the version of the sources; no sentence of a page has over 30 words, and no example of docs/PROVING.md is
 lost (tools/prose.py). What isn't so is printed, and the exit status is 1.
 """
 import os
