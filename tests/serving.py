@@ -488,7 +488,8 @@ def slow_reader():
         is_over = threading.Event()
 
         def read_a_little(link):
-            hear_request(slow, link)
+            # PDUs have no limit, so one of 1 MiB would take more than a minute
+            link.sendall(slow.accepted(hear(link)[1], limit=0))
             while not is_over.wait(0.1) and link.recv(1000):
                 pass
         with Acceptor(room.ports['ARCH'], None) as slow:
@@ -741,7 +742,9 @@ def shut():
         assert status is None or 0xa700 <= status <= 0xa7ff, status
         arch.communicate(timeout=LIMIT)
         same(arch.returncode, 3)
-        same([event[1:] for event in room.events('ARCH') if event[1] == 'ERROR'], [('ERROR', 'node', 'shut fault="G3 Store"')])
+        logged = room.text('ARCH.log').splitlines()
+        same([line.partition('[')[2] for line in logged if '[ERROR ' in line], ['ERROR node] shut fault="G3 Store"'])
+        same(logged[-1], 'dr_router: G3 Store')
         os.remove(f'{room.folder}/fails')
         arch = room.serve('ARCH', 1, env=disk)
         with asked_at(room) as caller:

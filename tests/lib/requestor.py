@@ -184,13 +184,13 @@ class Acceptor(threading.Thread):
                 except (EOFError, OSError):
                     pass
 
-    def accepted(self, body):
+    def accepted(self, body, limit=16384):
         taken = b''
         for kind, part in parts(body[68:]):
             if kind == 0x20:
                 syntax = next(text for of, text in parts(part[4:]) if of == 0x40)
                 taken += item(0x21, bytes([part[0], 0, self.result, 0]) + item(0x40, syntax))
-        return associate(2, body[4:20].decode(), body[20:36].decode(), taken)
+        return associate(2, body[4:20].decode(), body[20:36].decode(), taken, limit)
 
     def serve(self, link):
         _, body = hear(link)
