@@ -415,8 +415,9 @@ def files_of(crate):
     """The digest of a crate's own files and of its edits."""
     digest = hashlib.sha256()
     for top in (f"{TOP}/crates/{crate}", f"{TOP}/wrong/{crate}"):
-        for folder, inner, names in sorted(os.walk(top)):
-            inner[:] = [it for it in inner if it != "out"]
+        for folder, inner, names in os.walk(top):
+            # What is made from them differs from clone to clone.
+            inner[:] = sorted(it for it in inner if it != "out")
             for name in sorted(names):
                 path = os.path.join(folder, name)
                 with open(path, "rb") as file:
