@@ -2,6 +2,8 @@
 //! that contracts see as plain lists, and texts that are made of parts, one after the other.
 #![tactic(auto)]
 
+pub mod fields;
+pub mod heap;
 pub mod laws;
 pub mod padding;
 pub mod same;

@@ -1,7 +1,12 @@
 //! Laws of texts between quotes. Nothing here runs: each function's contract is a law.
-ghost use Rattle.dr_base_quoted.specs.Laws.{FiguresAreRight};
+ghost use Rattle.dr_base_quoted.specs.Laws.{EscapesAreRight, FiguresAreRight};
 
 /// Figures of texts between quotes.
 pub fn figures_are_right()
     ensures { FiguresAreRight }
+{}
+
+/// Figures of texts of which a quote and a backslash alone are told apart.
+pub fn escapes_are_right()
+    ensures { EscapesAreRight }
 {}

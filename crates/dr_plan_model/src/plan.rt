@@ -22,14 +22,16 @@ pub struct Node {
     pub rules: Seq<Rule>,
 }
 
-fn copy_accepts(accepts: &Seq<AcceptRow>) -> Result<Seq<AcceptRow>, AllocError>
+/// A copy of a node's accept rows, in order. It fails for want of memory alone.
+pub fn copy_accepts(accepts: &Seq<AcceptRow>) -> Result<Seq<AcceptRow>, AllocError>
     ensures { IfOk result (λ copy. copy ≡ accepts.now) }
 {
     let copy = accepts.clone()?;
     Ok(copy)
 }
 
-fn copy_rules(rules: &Seq<Rule>) -> Result<Seq<Rule>, AllocError>
+/// A copy of a node's rules, in order. It fails for want of memory alone.
+pub fn copy_rules(rules: &Seq<Rule>) -> Result<Seq<Rule>, AllocError>
     ensures { IfOk result (λ copy. copy ≡ rules.now) }
 {
     let copy = rules.clone()?;

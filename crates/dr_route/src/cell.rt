@@ -270,8 +270,8 @@ fn value_in(alloc: Global, field: &OwnedField) -> Result<Text, AllocError>
     }
 }
 
-/// The text and the byte 128 behind it.
-fn value_under(alloc: Global, prefix: &Text) -> Result<Text, AllocError>
+/// The text and the byte 128, which no value of a plan has, behind it.
+pub fn value_under(alloc: Global, prefix: &Text) -> Result<Text, AllocError>
     ensures { IfOk result (λ t. t ≡ prefix.now ++ (128 ∷ [])) }
 {
     let mut bytes = Vec::from_slice(alloc, prefix.as_bytes())?;
