@@ -3,6 +3,7 @@
 ghost use Rattle.std.specs.Prelude.{◌≡◌, ◌++◌, ◌∷◌, [], OnOk};
 ghost use Rattle.dr_base_quoted.specs.Escaping.{escaped, escaped_byte, in_quotes};
 
+use dr_base::Text;
 use std::alloc::AllocError;
 
 const QUOTE: u8 = 34;
@@ -22,8 +23,8 @@ fn put_escaped_byte(out: &mut Vec<u8>, byte: u8) -> Result<(), AllocError>
     out.extend_from_slice(&[byte])
 }
 
-/// Adds a text as it stands between quotes.
-pub fn put_escaped(out: &mut Vec<u8>, bytes: &[u8]) -> Result<(), AllocError>
+/// Adds bytes as they stand between quotes.
+fn put_escaped_bytes(out: &mut Vec<u8>, bytes: &[u8]) -> Result<(), AllocError>
     ensures { OnOk result (out.new.items ≡ out.old.items ++ escaped bytes.now) }
 {
     for byte in bytes {
@@ -32,11 +33,18 @@ pub fn put_escaped(out: &mut Vec<u8>, bytes: &[u8]) -> Result<(), AllocError>
     Ok(())
 }
 
+/// Adds a text as it stands between quotes.
+pub fn put_escaped(out: &mut Vec<u8>, text: &Text) -> Result<(), AllocError>
+    ensures { OnOk result (out.new.items ≡ out.old.items ++ escaped text.now) }
+{
+    put_escaped_bytes(out, text.as_bytes())
+}
+
 /// Adds a text in quotes.
-pub fn put_in_quotes(out: &mut Vec<u8>, bytes: &[u8]) -> Result<(), AllocError>
-    ensures { OnOk result (out.new.items ≡ out.old.items ++ in_quotes bytes.now) }
+pub fn put_in_quotes(out: &mut Vec<u8>, text: &Text) -> Result<(), AllocError>
+    ensures { OnOk result (out.new.items ≡ out.old.items ++ in_quotes text.now) }
 {
     out.extend_from_slice(b"\"")?;
-    put_escaped(out, bytes)?;
+    put_escaped(out, text)?;
     out.extend_from_slice(b"\"")
 }

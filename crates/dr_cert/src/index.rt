@@ -7,6 +7,7 @@ ghost use Rattle.dr_cert.specs.Indexing.{IsIndexOf, AreSorted, StandsAt, HasNoLi
 ghost use Rattle.dr_cert.specs.Indexing.{AreRanksOf, line_of};
 
 use crate::place::StopPlace;
+use dr_plan_sound::copies::copy_stop;
 use dr_plan_sound::{Line, Stop};
 use std::alloc::{AllocError, Global};
 use std::collections::BTreeMap;
@@ -33,21 +34,13 @@ pub fn rank_of(lines: &[Line], stop: &StopPlace<'_>) -> Option<u32>
     Some(lines[place].rank)
 }
 
-/// A copy of the stop.
-fn copy_of(stop: &Stop) -> Result<Stop, AllocError>
-    ensures { IfOk result (λ s. s ≡ stop.now) }
-{
-    let copy = stop.clone()?;
-    Ok(copy)
-}
-
 /// A rank for each stop of a line.
 fn ranks_of(alloc: Global, lines: &[Line]) -> Result<BTreeMap<Stop, u32>, AllocError>
     ensures { IfOk result (AreRanksOf lines.now) }
 {
     let mut ranks = BTreeMap::new(alloc);
     for line in lines {
-        ranks.insert(copy_of(&line.stop)?, line.rank)?;
+        ranks.insert(copy_stop(&line.stop)?, line.rank)?;
     }
     Ok(ranks)
 }

@@ -33,7 +33,7 @@ impl<'a> StopPlace<'a> {
     }
 
     /// The same of a cell that has texts of its own.
-    pub fn of_cell(caller: &'a Text, node: &'a Text, cell: &'a OwnedCell) -> StopPlace<'a>
+    pub(crate) fn of_cell(caller: &'a Text, node: &'a Text, cell: &'a OwnedCell) -> StopPlace<'a>
         ensures { result ≡ record { caller = caller.now; node = node.now; cell = cell.now } }
     {
         StopPlace::new(caller, node, cell.borrowed())

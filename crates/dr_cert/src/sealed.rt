@@ -9,9 +9,12 @@ use crate::index::{index_of, rank_of};
 use crate::place::StopPlace;
 use crate::verify::{test_lines, test_order};
 use dr_base::Text;
+use dr_base::heap::boxed;
 use dr_plan_model::Plan;
 use dr_plan_model::literals::literals;
+use dr_plan_sound::copies::{copy_certificate, copy_lines};
 use dr_plan_sound::{Certificate, Line};
+use dr_route::copies::copy_literals;
 use dr_route::{Key, Literals, cell_of};
 use std::alloc::{AllocError, Global};
 use std::marker::Model;
@@ -43,35 +46,6 @@ impl Model for Sealed {
 
     ghost invariant = { λ s. IsSealed s.parts.value.plan s.parts.value.certificate
         s.parts.value.literals s.parts.value.index.items };
-}
-
-/// Puts the parts of a sealed plan on the heap.
-fn boxed(alloc: Global, parts: SealedParts) -> Result<Box<SealedParts>, AllocError>
-    ensures { IfOk result (λ b. b.value ≡ parts) }
-{
-    let boxed = Box::new(alloc, parts)?;
-    Ok(boxed)
-}
-
-fn copy_certificate(certificate: &Certificate) -> Result<Certificate, AllocError>
-    ensures { IfOk result (λ copy. copy ≡ certificate.now) }
-{
-    let copy = certificate.clone()?;
-    Ok(copy)
-}
-
-fn copy_literals(literals: &Literals) -> Result<Literals, AllocError>
-    ensures { IfOk result (λ copy. copy ≡ literals.now) }
-{
-    let copy = literals.clone()?;
-    Ok(copy)
-}
-
-fn copy_lines(lines: &Vec<Line>) -> Result<Vec<Line>, AllocError>
-    ensures { IfOk result (λ copy. copy.items ≡ lines.now.items) }
-{
-    let copy = lines.clone()?;
-    Ok(copy)
 }
 
 impl Sealed {

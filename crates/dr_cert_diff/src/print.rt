@@ -4,7 +4,9 @@ ghost use Rattle.dr_cert_diff.specs.Rows.{change_rows, dest_field, entry_fields,
 
 use crate::change::RouteChange;
 use dr_base::Text;
-use dr_cert_text::{add_field, add_station, field_bytes};
+use dr_base::fields::add_field;
+use dr_cert_text::add_station;
+use dr_plan_sound::field_bytes;
 use dr_route::OwnedCell;
 use std::alloc::{AllocError, Global};
 

@@ -5,7 +5,7 @@ ghost use Rattle.dr_cert_expect.specs.Rows.{shown_byte as shown_code};
 
 use crate::answer::{Case, Lack, Miss};
 use dr_base::Text;
-use dr_cert_text::add_field;
+use dr_base::fields::add_field;
 use std::alloc::{AllocError, Global};
 
 const LF: u8 = 10;

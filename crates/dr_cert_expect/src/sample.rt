@@ -1,10 +1,10 @@
 //! One key of a cell, of which a row speaks if it speaks of any.
-ghost use Rattle.std.specs.Prelude.{◌≡◌, ◌++◌, ◌∷◌, [], IfOk};
+ghost use Rattle.std.specs.Prelude.{◌≡◌, IfOk};
 ghost use Rattle.dr_cert_expect.specs.Samples.{IsSample, IsSampleStation, sample_value};
 
 use dr_base::Text;
 use dr_plan_expect::Expectation;
-use dr_route::cell::key_in;
+use dr_route::cell::{key_in, value_under};
 use dr_route::rule::begins;
 use dr_route::{Key, OwnedCell, Pattern, StationPattern};
 use std::alloc::{AllocError, Global};
@@ -19,15 +19,6 @@ fn sample_modality(pattern: &Pattern, own: &Text) -> Result<Text, AllocError>
     }
 }
 
-/// The prefix and the byte 128, which no value of a plan has.
-fn under(alloc: Global, prefix: &Text) -> Result<Text, AllocError>
-    ensures { IfOk result (λ t. t ≡ prefix.now ++ (128 ∷ [])) }
-{
-    let mut bytes = Vec::from_slice(alloc, prefix.as_bytes())?;
-    bytes.push(128)?;
-    Ok(Text::from_vec(bytes))
-}
-
 /// The station that the pattern asks for, and else the cell's own; of a prefix the cell's own where
 /// it begins so.
 fn sample_station(alloc: Global, pattern: &StationPattern, own: &Text) -> Result<Text, AllocError>
@@ -40,7 +31,7 @@ fn sample_station(alloc: Global, pattern: &StationPattern, own: &Text) -> Result
             if begins(prefix, own) {
                 return own.clone();
             }
-            under(alloc, prefix)
+            value_under(alloc, prefix)
         }
     }
 }

@@ -11,7 +11,7 @@ use Rattle.dr_plan_model.specs.declared.plan.Node.{Node}
 use Rattle.dr_plan_sound.specs.declared.certificate.Certificate.{Certificate}
 use Rattle.dr_cert_lint.specs.Bringing.{EntersAt}
 use Rattle.dr_cert_lint.specs.Edges.{AreEdges}
-use Rattle.dr_cert_lint.specs.Quoting.{escaped, quoted}
+use Rattle.dr_base_quoted.specs.Escaping.{escaped, in_quotes}
 use Rattle.dr_cert_lint.specs.Texts.{Rows}
 use Rattle.dr_cert_lint.specs.declared.edges.Edge.{Edge}
 
@@ -34,7 +34,7 @@ row_end = codes "];" ++ (10 ∷ [])
 -- where they are kept
 abbrev pub vertex_row : Node → Bool → Bool → Text
 vertex_row node enters keeps =
-    codes "  " ++ quoted node.name ++ label_start ++ escaped node.name ++ (92 ∷ codes "n")
+    codes "  " ++ in_quotes node.name ++ label_start ++ escaped node.name ++ (92 ∷ codes "n")
     ++ escaped node.address ++ (34 ∷ []) ++ (if enters then codes ", style=rounded" else [])
     ++ (if keeps then codes ", peripheries=2" else []) ++ row_end
 
@@ -49,7 +49,7 @@ IsVertexRow plan node row =
 -- the row of an edge: from where to where, with the number of its contexts
 abbrev pub edge_row : Edge → Text
 edge_row edge =
-    codes "  " ++ quoted edge.from ++ codes " -> " ++ quoted edge.to ++ label_start
+    codes "  " ++ in_quotes edge.from ++ codes " -> " ++ in_quotes edge.to ++ label_start
     ++ decimal edge.contexts ++ (34 ∷ row_end)
 
 -- the first rows

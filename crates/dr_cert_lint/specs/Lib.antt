@@ -2,6 +2,5 @@ pub mod Bringing
 pub mod Edges
 pub mod Findings
 pub mod Graphs
-pub mod Quoting
 pub mod Texts
 pub mod Uses

@@ -1,5 +1,5 @@
 //! The graph of a network, in the language of Graphviz.
-ghost use Rattle.std.specs.Prelude.{◌≡◌, ◌++◌, IfOk, OnOk, Contains, flat_map};
+ghost use Rattle.std.specs.Prelude.{◌≡◌, ◌++◌, [], IfOk, OnOk, Contains, flat_map, if◌then◌else◌};
 ghost use Rattle.dr_base.specs.Texts.{Text as Words};
 ghost use Rattle.dr_cert_lint.specs.Edges.{AreEdges};
 ghost use Rattle.dr_cert_lint.specs.Graphs.{IsGraphText, IsVertexRow, edge_row, vertex_row};
@@ -7,9 +7,10 @@ ghost use Rattle.dr_cert_lint.specs.Texts.{Rows};
 
 use crate::edges::{Edge, edges_of};
 use crate::flows::is_entry;
-use crate::print::{add_decimal, add_escaped, add_if, add_quoted};
 use crate::uses::{PartInUse, is_used};
 use dr_base::Text;
+use dr_base::fields::add_decimal;
+use dr_base_quoted::{put_escaped, put_in_quotes};
 use dr_cert::Sealed;
 use dr_plan_model::Node;
 use std::alloc::{AllocError, Global};
@@ -17,6 +18,16 @@ use std::alloc::{AllocError, Global};
 const HEAD: &[u8] = b"digraph network {\n  rankdir=LR;\n  node [shape=box];\n";
 
 const FOOT: &[u8] = b"}\n";
+
+/// Adds a text where that is so.
+fn add_if(out: &mut Vec<u8>, is_so: bool, text: &[u8]) -> Result<(), AllocError>
+    ensures { OnOk result (out.new.items ≡ out.old.items ++ (if is_so then text.now else [])) }
+{
+    if is_so {
+        return out.extend_from_slice(text);
+    }
+    Ok(())
+}
 
 /// Adds the row of a node: one where instances enter has round corners, one that keeps them a
 /// double line.
@@ -29,11 +40,11 @@ fn add_vertex_row(
     ensures { OnOk result (out.new.items ≡ out.old.items ++ vertex_row node.now enters keeps) }
 {
     out.extend_from_slice(b"  ")?;
-    add_quoted(out, &node.name)?;
+    put_in_quotes(out, &node.name)?;
     out.extend_from_slice(b" [label=\"")?;
-    add_escaped(out, &node.name)?;
+    put_escaped(out, &node.name)?;
     out.extend_from_slice(b"\\n")?;
-    add_escaped(out, &node.address)?;
+    put_escaped(out, &node.address)?;
     out.extend_from_slice(b"\"")?;
     add_if(out, enters, b", style=rounded")?;
     add_if(out, keeps, b", peripheries=2")?;
@@ -83,11 +94,11 @@ fn add_edge_row(out: &mut Vec<u8>, edge: &Edge) -> Result<(), AllocError>
     ensures { OnOk result (out.new.items ≡ out.old.items ++ edge_row edge.now) }
 {
     out.extend_from_slice(b"  ")?;
-    add_quoted(out, &edge.from)?;
+    put_in_quotes(out, &edge.from)?;
     out.extend_from_slice(b" -> ")?;
-    add_quoted(out, &edge.to)?;
+    put_in_quotes(out, &edge.to)?;
     out.extend_from_slice(b" [label=\"")?;
-    add_decimal(out, edge.contexts)?;
+    add_decimal(out, edge.contexts as u64)?;
     out.extend_from_slice(b"\"];\n")?;
     Ok(())
 }

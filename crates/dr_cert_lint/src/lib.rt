@@ -6,7 +6,6 @@ mod edges;
 mod flows;
 mod graph;
 mod lint;
-mod print;
 mod uses;
 
 pub use graph::graph_text;

@@ -9,8 +9,8 @@ ghost use Rattle.dr_cert_lint.specs.Findings.{whole_row};
 ghost use Rattle.dr_cert_lint.specs.Texts.{Rows};
 
 use crate::flows::{brings, brings_in, is_among};
-use crate::print::{add_field, add_number};
 use crate::uses::{PartInUse, is_used};
+use dr_base::fields::{add_field, add_number};
 use dr_base::{Syntax, Text};
 use dr_cert::Sealed;
 use dr_plan_model::{Flow, Node};
@@ -58,7 +58,7 @@ fn add_unused_row(
 {
     out.extend_from_slice(b"accept")?;
     add_field(out, node.name.as_bytes())?;
-    add_number(out, number)?;
+    add_number(out, number as u64)?;
     add_field(out, row.class.as_bytes())?;
     out.extend_from_slice(LF)
 }
@@ -97,7 +97,7 @@ fn add_syntax_row(
 {
     out.extend_from_slice(b"syntax")?;
     add_field(out, node.name.as_bytes())?;
-    add_number(out, number)?;
+    add_number(out, number as u64)?;
     add_field(out, row.class.as_bytes())?;
     add_field(out, syntax.uid())?;
     out.extend_from_slice(LF)
@@ -182,7 +182,7 @@ fn add_rule_row(out: &mut Vec<u8>, node: &Node, number: usize) -> Result<(), All
 {
     out.extend_from_slice(b"rule")?;
     add_field(out, node.name.as_bytes())?;
-    add_number(out, number)?;
+    add_number(out, number as u64)?;
     out.extend_from_slice(LF)
 }
 
@@ -267,7 +267,7 @@ fn add_flow_row(out: &mut Vec<u8>, number: usize, flow: &Flow) -> Result<(), All
     ensures { OnOk result (out.new.items ≡ out.old.items ++ flow_row number flow.now) }
 {
     out.extend_from_slice(b"flow")?;
-    add_number(out, number)?;
+    add_number(out, number as u64)?;
     add_field(out, flow.at.as_bytes())?;
     add_field(out, flow.to.as_bytes())?;
     out.extend_from_slice(LF)

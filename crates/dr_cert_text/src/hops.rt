@@ -8,7 +8,8 @@ ghost use Rattle.dr_cert_text.specs.Reading.{HasNone};
 
 use crate::fault::CertificateFault;
 use crate::fields::{field_before_tab, read_number};
-use crate::printed::{Printed, add_field};
+use crate::printed::Printed;
+use dr_base::fields::add_field;
 use dr_base::{Syntax, Text};
 use dr_plan_sound::Hop;
 use std::alloc::{AllocError, Global};

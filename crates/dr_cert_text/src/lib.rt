@@ -15,7 +15,7 @@ mod writer;
 
 pub use fault::CertificateFault;
 pub use order::{order_hops, order_lines};
-pub use printed::{add_field, add_station, field_bytes};
+pub use printed::add_station;
 pub use reader::read_certificate;
 pub use sorted::{are_hops_in_order, are_lines_in_order};
 pub use writer::write_certificate;

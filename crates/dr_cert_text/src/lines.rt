@@ -8,7 +8,8 @@ ghost use Rattle.dr_cert_text.specs.Reading.{HasNone};
 
 use crate::fault::CertificateFault;
 use crate::fields::{field_before_tab, read_field, read_number, read_station};
-use crate::printed::{Printed, add_field, add_station, field_bytes};
+use crate::printed::{Printed, add_station};
+use dr_base::fields::add_field;
 use dr_base::{Syntax, Text};
 use dr_plan_sound::{Line, Stop};
 use dr_route::OwnedCell;

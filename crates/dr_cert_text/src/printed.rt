@@ -1,14 +1,13 @@
 //! What a certificate's text has a row for.
 ghost use Rattle.std.specs.Prelude.{◌≡◌, [], ◌∷◌, ◌++◌, List, ℕ, OnOk};
-ghost use Rattle.dr_plan_sound.specs.Printed.{printed_field, printed_station};
+ghost use Rattle.dr_plan_sound.specs.Printed.{printed_station};
 ghost use Rattle.dr_cert_text.specs.Cuts.{Lacks};
 ghost use Rattle.dr_cert_text.specs.Reading.{Reads};
 
 use crate::fault::CertificateFault;
-use dr_route::{OwnedField, OwnedStation};
+use dr_base::fields::add_field;
+use dr_route::OwnedStation;
 use std::alloc::{AllocError, Global};
-
-const TAB: u8 = 9;
 
 /// What a certificate's text has a row for.
 pub trait Printed: Sized + Drop {
@@ -33,24 +32,6 @@ pub trait Printed: Sized + Drop {
     fn read(alloc: Global, fields: &[u8]) -> Result<Self, CertificateFault>
         requires { Lacks 10 fields.now }
         ensures { Reads printed printable fields.now result };
-}
-
-/// The bytes of a part of the modalities.
-pub fn field_bytes(field: &OwnedField) -> &[u8]
-    ensures { result.now ≡ printed_field field.now }
-{
-    match field {
-        OwnedField::Literal(literal) => literal.as_bytes(),
-        OwnedField::Rest => b"*",
-    }
-}
-
-/// Adds a tab and a field.
-pub fn add_field(out: &mut Vec<u8>, field: &[u8]) -> Result<(), AllocError>
-    ensures { OnOk result (out.new.items ≡ out.old.items ++ 9 ∷ field.now) }
-{
-    out.push(TAB)?;
-    out.extend_from_slice(field)
 }
 
 /// Adds a tab and a part of the stations: a prefix has `*` behind it.

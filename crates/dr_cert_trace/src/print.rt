@@ -4,8 +4,9 @@ ghost use Rattle.dr_cert_trace.specs.Rows.{cell_row, hop_row, journey_text, keep
 
 use crate::tracing::Journey;
 use dr_base::Text;
-use dr_cert_text::{add_field, add_station, field_bytes};
-use dr_plan_sound::Hop;
+use dr_base::fields::add_field;
+use dr_cert_text::add_station;
+use dr_plan_sound::{Hop, field_bytes};
 use dr_route::OwnedCell;
 use std::alloc::{AllocError, Global};
 

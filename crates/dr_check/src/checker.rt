@@ -15,6 +15,7 @@ use dr_plan_model::Plan;
 use dr_plan_sound::Line;
 use dr_route::OwnedCell;
 use dr_route::cell::key_in;
+use dr_route::copies::copy_cell;
 use std::alloc::{AllocError, Global};
 use std::collections::BTreeMap;
 use std::mem;
@@ -65,14 +66,6 @@ impl<'a> Checker<'a> {
     }
 }
 
-/// A copy of the cell.
-fn copy_of(cell: &OwnedCell) -> Result<OwnedCell, AllocError>
-    ensures { IfOk result (λ c. c ≡ cell.now) }
-{
-    let copy = cell.clone()?;
-    Ok(copy)
-}
-
 /// Why the checker stops where the search ended, at the end of this walk of the cell's keys.
 fn stopped_by(end: WalkEnd, walk: Vec<Text>, cell: OwnedCell) -> Stopped
     ensures { (plan : Network) (site : Words) (over : List Words)
@@ -110,7 +103,7 @@ impl<'a> EntryVisitor for Checker<'a> {
             WalkFound::Rank(_) => Ok(None),
             WalkFound::End(end) => {
                 let walk = mem::replace(&mut self.search.path, Vec::new(alloc));
-                Ok(Some(stopped_by(end, walk, copy_of(cell)?)))
+                Ok(Some(stopped_by(end, walk, copy_cell(cell)?)))
             }
         }
     }

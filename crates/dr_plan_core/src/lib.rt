@@ -12,4 +12,6 @@ mod syntaxes;
 mod typed;
 
 pub use fault::PlanFault;
+pub use names::is_reserved;
 pub use read::read_core;
+pub use syntaxes::is_syntax;

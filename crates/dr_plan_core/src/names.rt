@@ -34,7 +34,7 @@ fn is_printable(text: &[u8]) -> bool
 }
 
 /// Whether it is `*` or `-`, which stand for any caller and for the local one.
-fn is_star_or_dash(text: &[u8]) -> bool
+pub fn is_reserved(text: &[u8]) -> bool
     ensures { IsTrue result ↔ ((text.now ≡ codes "*") ⊎ (text.now ≡ codes "-")) }
 {
     text == b"*".as_slice() || text == b"-".as_slice()
@@ -48,7 +48,7 @@ pub fn is_name(text: &[u8]) -> bool
     if text.is_empty() || text.len() > 16 {
         return false;
     }
-    if is_star_or_dash(text) {
+    if is_reserved(text) {
         return false;
     }
     is_printable(text) && is_trimmed(text)

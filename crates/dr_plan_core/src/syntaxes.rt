@@ -6,7 +6,7 @@ use dr_base::{Syntax, Text};
 use dr_plan_text::{AcceptText, FlowText, NodeText, PlanText};
 
 /// Whether it is the UID of one of the two transfer syntaxes.
-fn is_syntax(uid: &Text) -> bool
+pub fn is_syntax(uid: &Text) -> bool
     ensures { IsTrue result ↔ IsSyntax uid.now }
 {
     Syntax::of_uid(uid.as_bytes()).is_some()

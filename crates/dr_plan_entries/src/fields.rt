@@ -1,5 +1,5 @@
 //! The parts of a field of a plan, in the order in which they are printed.
-ghost use Rattle.std.specs.Prelude.{◌≡◌, ◌↔◌, ◌⊎◌, IfOk, OnOk, Contains};
+ghost use Rattle.std.specs.Prelude.{◌↔◌, ◌⊎◌, IfOk, OnOk, Contains};
 ghost use Rattle.dr_base.specs.Texts.{Text as Words};
 ghost use Rattle.dr_route.specs.declared.cell.OwnedField.{OwnedField as FieldValue};
 ghost use Rattle.dr_plan_sound.specs.Printed.{printed_field};
@@ -7,6 +7,7 @@ ghost use Rattle.dr_plan_entries.specs.Entering.{AreParts, IsLiteralOf};
 ghost use Rattle.dr_plan_entries.specs.InOrder.{IsInPrintedOrder};
 
 use dr_base::{Seq, Text};
+use dr_plan_sound::field_bytes;
 use dr_route::{FieldValues, OwnedField};
 use std::alloc::{AllocError, Global};
 
@@ -23,16 +24,6 @@ fn add_literals(fields: &mut Vec<OwnedField>, literals: &[Text]) -> Result<(), A
     Ok(())
 }
 
-/// The bytes by which the part is printed.
-fn shown(field: &OwnedField) -> &[u8]
-    ensures { result.now ≡ printed_field field.now }
-{
-    match field {
-        OwnedField::Literal(literal) => literal.as_bytes(),
-        OwnedField::Rest => b"*",
-    }
-}
-
 /// The parts of the field in the byte order in which they are printed: its literals, and the rest
 /// as `*`.
 pub fn parts_of(alloc: Global, values: &FieldValues) -> Result<Seq<OwnedField>, AllocError>
@@ -42,6 +33,6 @@ pub fn parts_of(alloc: Global, values: &FieldValues) -> Result<Seq<OwnedField>, 
     let mut fields = Vec::new(alloc);
     add_literals(&mut fields, values.literals.as_slice())?;
     fields.push(OwnedField::Rest)?;
-    fields.sort_unstable_by(|a, b| shown(a).cmp(shown(b)));
+    fields.sort_unstable_by(|a, b| field_bytes(a).cmp(field_bytes(b)));
     Ok(Seq::from_vec(fields))
 }

@@ -1,8 +1,9 @@
 -- The one spelling of a plan of format 3 without names, sets, groups and lists.
-use Rattle.std.specs.Prelude.{◌==◌, ℕ, Bool, if◌then◌else◌, List, [], ◌∷◌, ◌++◌, codes}
+use Rattle.std.specs.Prelude.{Bool, if◌then◌else◌, List, [], ◌∷◌, ◌++◌, codes}
 use Rattle.std.specs.Prelude.{map, flat_map}
 use Rattle.std.specs.Fmt.{signed_decimal}
 use Rattle.dr_base.specs.Texts.{Text}
+use Rattle.dr_base_quoted.specs.Escaping.{in_quotes}
 use Rattle.dr_route.specs.declared.rule.Pattern.{Pattern}
 use Rattle.dr_route.specs.declared.rule.Pattern.TheVariants.{Any, Literal}
 use Rattle.dr_route.specs.declared.rule.StationPattern.{StationPattern}
@@ -19,23 +20,14 @@ use Rattle.dr_plan_text.specs.declared.words.NodeText.{NodeText}
 use Rattle.dr_plan_text.specs.declared.words.FlowText.{FlowText}
 use Rattle.dr_plan_text.specs.declared.words.PlanText.{PlanText}
 
--- a byte between quotes: a backslash stands before a quote and before a backslash
-abbrev pub escaped_byte : ℕ → Text
-escaped_byte byte =
-    if byte == 34 then 92 ∷ 34 ∷ [] else (if byte == 92 then 92 ∷ 92 ∷ [] else byte ∷ [])
-
--- a text in quotes
-abbrev pub quoted : Text → Text
-quoted text = (34 ∷ []) ++ flat_map escaped_byte text ++ (34 ∷ [])
-
 -- a text of a list that isn't its first
 abbrev pub further : Text → Text
-further text = codes ", " ++ quoted text
+further text = codes ", " ++ in_quotes text
 
 -- a list of texts in brackets
 abbrev pub list_text : List Text → Text
 list_text [] = codes "[]"
-list_text (text ∷ texts) = codes "[" ++ quoted text ++ flat_map further texts ++ codes "]"
+list_text (text ∷ texts) = codes "[" ++ in_quotes text ++ flat_map further texts ++ codes "]"
 
 -- the text of any value
 abbrev pub star_text : Text
@@ -44,7 +36,7 @@ star_text = codes "\"*\""
 -- a pattern
 abbrev pub pattern_text : Pattern → Text
 pattern_text Any = star_text
-pattern_text (Literal literal) = quoted literal
+pattern_text (Literal literal) = in_quotes literal
 
 -- a prefix with the asterisk behind it
 abbrev pub starred : Text → Text
@@ -53,8 +45,8 @@ starred prefix = prefix ++ 42 ∷ []
 -- the station of a rule
 abbrev pub station_text : StationPattern → Text
 station_text station.Any = star_text
-station_text (station.Literal literal) = quoted literal
-station_text (station.Prefix prefix) = quoted (starred prefix)
+station_text (station.Literal literal) = in_quotes literal
+station_text (station.Prefix prefix) = in_quotes (starred prefix)
 
 -- the callers of an accept row
 abbrev pub callers_text : Callers → Text
@@ -79,7 +71,7 @@ flag_text flag = if flag then codes "true" else codes "false"
 abbrev pub row_text : AcceptText → Text
 row_text row =
     codes "\n[[node.accept]]\nfrom = " ++ callers_text row.from
-    ++ codes "\nclass = " ++ quoted row.class
+    ++ codes "\nclass = " ++ in_quotes row.class
     ++ codes "\nsyntax = " ++ list_text row.syntaxes ++ codes "\n"
 
 -- a rule
@@ -95,16 +87,16 @@ rule_text rule =
 -- a node, with its accept rows and its rules
 abbrev pub node_text : NodeText → Text
 node_text node =
-    codes "\n[[node]]\nname = " ++ quoted node.name
-    ++ codes "\naddress = " ++ quoted node.address
+    codes "\n[[node]]\nname = " ++ in_quotes node.name
+    ++ codes "\naddress = " ++ in_quotes node.address
     ++ codes "\nmax_pdu = " ++ signed_decimal node.max_pdu ++ codes "\n"
     ++ flat_map row_text node.accepts ++ flat_map rule_text node.rules
 
 -- a flow
 abbrev pub flow_text : FlowText → Text
 flow_text flow =
-    codes "\n[[flow]]\nat = " ++ quoted flow.at
-    ++ codes "\nto = " ++ quoted flow.to
+    codes "\n[[flow]]\nat = " ++ in_quotes flow.at
+    ++ codes "\nto = " ++ in_quotes flow.to
     ++ codes "\nclass = " ++ list_text flow.classes
     ++ codes "\nsyntax = " ++ list_text flow.syntaxes
     ++ codes "\nmodality = " ++ values_text flow.modalities

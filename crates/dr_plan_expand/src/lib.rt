@@ -4,7 +4,7 @@
 #![tactic(auto)]
 
 pub mod amount;
-pub mod classes;
+mod classes;
 pub mod expand;
 pub mod fault;
 pub mod fields;
@@ -16,9 +16,9 @@ pub mod meant;
 mod pieces;
 pub mod short;
 mod spell;
-pub mod syntaxes;
+mod syntaxes;
 pub mod tables;
-pub mod usual;
+mod usual;
 pub mod words;
 pub mod yields;
 

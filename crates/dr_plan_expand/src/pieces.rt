@@ -1,72 +1,28 @@
 //! The pieces of a spelling: texts in quotes, lists of them, and other values.
-ghost use Rattle.std.specs.Prelude.{◌≡◌, ◌++◌, ◌∷◌, [], OnOk, IfOk, map, flat_map};
+ghost use Rattle.std.specs.Prelude.{◌≡◌, ◌++◌, OnOk, IfOk, map, flat_map};
 ghost use Rattle.std.specs.Fmt.{signed_decimal};
-ghost use Rattle.dr_plan_expand.specs.Spelling.{escaped_byte, quoted, further, list_text, starred};
+ghost use Rattle.dr_plan_expand.specs.Spelling.{further, list_text, starred};
 ghost use Rattle.dr_plan_expand.specs.Spelling.{pattern_text, station_text, callers_text};
 ghost use Rattle.dr_plan_expand.specs.Spelling.{values_text, stations_text, flag_text};
 
 use crate::words::copy_of;
 use dr_base::{Seq, Text};
+use dr_base_quoted::put_in_quotes;
 use dr_plan_model::{Stations, Values};
 use dr_route::{Callers, Pattern, StationPattern, StationValues};
 use std::alloc::{AllocError, Global};
-
-const QUOTE: u8 = 34;
-
-const BACKSLASH: u8 = 92;
 
 const STAR: u8 = 42;
 
 /// The text of any value.
 const ANY: &[u8] = b"\"*\"";
 
-/// Adds a byte as it stands between quotes.
-fn add_escaped(out: &mut Vec<u8>, byte: u8) -> Result<(), AllocError>
-    ensures { OnOk result (out.new.items ≡ out.old.items ++ escaped_byte byte) }
-{
-    if byte == QUOTE {
-        return out.extend_from_slice(&[BACKSLASH, QUOTE]);
-    }
-    if byte == BACKSLASH {
-        return out.extend_from_slice(&[BACKSLASH, BACKSLASH]);
-    }
-    out.extend_from_slice(&[byte])
-}
-
-/// Adds bytes as they stand between quotes.
-fn add_bytes(out: &mut Vec<u8>, bytes: &[u8]) -> Result<(), AllocError>
-    ensures { OnOk result (out.new.items ≡ out.old.items ++ flat_map escaped_byte bytes.now) }
-{
-    for byte in bytes {
-        add_escaped(out, *byte)?;
-    }
-    Ok(())
-}
-
-/// A text in quotes.
-fn quote(alloc: Global, text: &Text) -> Result<Vec<u8>, AllocError>
-    ensures { IfOk result (λ out. out.items ≡ quoted text.now) }
-{
-    let mut out = Vec::from_slice(alloc, &[QUOTE])?;
-    add_bytes(&mut out, text.as_bytes())?;
-    out.push(QUOTE)?;
-    Ok(out)
-}
-
-/// Adds a text in quotes.
-pub fn add_quoted(alloc: Global, out: &mut Vec<u8>, text: &Text) -> Result<(), AllocError>
-    ensures { OnOk result (out.new.items ≡ out.old.items ++ quoted text.now) }
-{
-    let quoted = quote(alloc, text)?;
-    out.extend_from_slice(quoted.as_slice())
-}
-
 /// A text of a list that isn't its first.
 fn next(alloc: Global, text: &Text) -> Result<Vec<u8>, AllocError>
     ensures { IfOk result (λ out. out.items ≡ further text.now) }
 {
     let mut out = Vec::from_slice(alloc, b", ")?;
-    add_quoted(alloc, &mut out, text)?;
+    put_in_quotes(&mut out, text)?;
     Ok(out)
 }
 
@@ -89,7 +45,7 @@ fn list(alloc: Global, texts: &[Text]) -> Result<Vec<u8>, AllocError>
         return Vec::from_slice(alloc, b"[]");
     };
     let mut out = Vec::from_slice(alloc, b"[")?;
-    add_quoted(alloc, &mut out, first)?;
+    put_in_quotes(&mut out, first)?;
     add_further(alloc, &mut out, more)?;
     out.extend_from_slice(b"]")?;
     Ok(out)
@@ -104,12 +60,12 @@ pub fn add_list(alloc: Global, out: &mut Vec<u8>, texts: &[Text]) -> Result<(), 
 }
 
 /// Adds a pattern.
-pub fn add_pattern(alloc: Global, out: &mut Vec<u8>, pattern: &Pattern) -> Result<(), AllocError>
+pub fn add_pattern(out: &mut Vec<u8>, pattern: &Pattern) -> Result<(), AllocError>
     ensures { OnOk result (out.new.items ≡ out.old.items ++ pattern_text pattern.now) }
 {
     match pattern {
         Pattern::Any => out.extend_from_slice(ANY),
-        Pattern::Literal(literal) => add_quoted(alloc, out, literal),
+        Pattern::Literal(literal) => put_in_quotes(out, literal),
     }
 }
 
@@ -132,10 +88,10 @@ pub fn add_station(
 {
     match pattern {
         StationPattern::Any => out.extend_from_slice(ANY),
-        StationPattern::Literal(literal) => add_quoted(alloc, out, literal),
+        StationPattern::Literal(literal) => put_in_quotes(out, literal),
         StationPattern::Prefix(prefix) => {
             let text = with_star(alloc, prefix)?;
-            add_quoted(alloc, out, &text)
+            put_in_quotes(out, &text)
         }
     }
 }
@@ -192,8 +148,8 @@ pub fn add_stations(alloc: Global, out: &mut Vec<u8>, stations: &Stations) -> Re
     }
 }
 
-/// Adds a number.
-pub fn add_number(out: &mut Vec<u8>, number: i64) -> Result<(), AllocError>
+/// Adds a number, with its sign.
+pub fn add_signed(out: &mut Vec<u8>, number: i64) -> Result<(), AllocError>
     ensures { OnOk result (out.new.items ≡ out.old.items ++ signed_decimal number) }
 {
     let mut digits = itoa::Buffer::new();

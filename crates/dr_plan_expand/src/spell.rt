@@ -4,10 +4,10 @@ ghost use Rattle.dr_plan_expand.specs.Spelling.{row_text, rule_text, node_text, 
 ghost use Rattle.dr_plan_expand.specs.Spelling.{plan_text};
 
 use crate::pieces::{
-    add_callers, add_flag, add_list, add_number, add_pattern, add_quoted, add_station,
-    add_stations, add_values,
+    add_callers, add_flag, add_list, add_pattern, add_signed, add_station, add_stations, add_values,
 };
 use dr_base::Text;
+use dr_base_quoted::put_in_quotes;
 use dr_plan_text::{AcceptText, FlowText, NodeText, PlanText};
 use dr_route::Rule;
 use std::alloc::{AllocError, Global};
@@ -19,7 +19,7 @@ fn spell_row(alloc: Global, row: &AcceptText) -> Result<Vec<u8>, AllocError>
     let mut out = Vec::from_slice(alloc, b"\n[[node.accept]]\nfrom = ")?;
     add_callers(alloc, &mut out, &row.from)?;
     out.extend_from_slice(b"\nclass = ")?;
-    add_quoted(alloc, &mut out, &row.class)?;
+    put_in_quotes(&mut out, &row.class)?;
     out.extend_from_slice(b"\nsyntax = ")?;
     add_list(alloc, &mut out, row.syntaxes.as_slice())?;
     out.extend_from_slice(b"\n")?;
@@ -42,11 +42,11 @@ fn spell_rule(alloc: Global, rule: &Rule) -> Result<Vec<u8>, AllocError>
     ensures { IfOk result (λ out. out.items ≡ rule_text rule.now) }
 {
     let mut out = Vec::from_slice(alloc, b"\n[[node.rule]]\nfrom = ")?;
-    add_pattern(alloc, &mut out, &rule.from)?;
+    add_pattern(&mut out, &rule.from)?;
     out.extend_from_slice(b"\nclass = ")?;
-    add_pattern(alloc, &mut out, &rule.class)?;
+    add_pattern(&mut out, &rule.class)?;
     out.extend_from_slice(b"\nmodality = ")?;
-    add_pattern(alloc, &mut out, &rule.modality)?;
+    add_pattern(&mut out, &rule.modality)?;
     out.extend_from_slice(b"\nstation = ")?;
     add_station(alloc, &mut out, &rule.station)?;
     out.extend_from_slice(b"\nto = ")?;
@@ -73,11 +73,11 @@ fn spell_node(alloc: Global, node: &NodeText) -> Result<Vec<u8>, AllocError>
     ensures { IfOk result (λ out. out.items ≡ node_text node.now) }
 {
     let mut out = Vec::from_slice(alloc, b"\n[[node]]\nname = ")?;
-    add_quoted(alloc, &mut out, &node.name)?;
+    put_in_quotes(&mut out, &node.name)?;
     out.extend_from_slice(b"\naddress = ")?;
-    add_quoted(alloc, &mut out, &node.address)?;
+    put_in_quotes(&mut out, &node.address)?;
     out.extend_from_slice(b"\nmax_pdu = ")?;
-    add_number(&mut out, node.max_pdu)?;
+    add_signed(&mut out, node.max_pdu)?;
     out.extend_from_slice(b"\n")?;
     add_rows(alloc, &mut out, node.accepts.as_slice())?;
     add_rules(alloc, &mut out, node.rules.as_slice())?;
@@ -100,9 +100,9 @@ fn spell_flow(alloc: Global, flow: &FlowText) -> Result<Vec<u8>, AllocError>
     ensures { IfOk result (λ out. out.items ≡ flow_text flow.now) }
 {
     let mut out = Vec::from_slice(alloc, b"\n[[flow]]\nat = ")?;
-    add_quoted(alloc, &mut out, &flow.at)?;
+    put_in_quotes(&mut out, &flow.at)?;
     out.extend_from_slice(b"\nto = ")?;
-    add_quoted(alloc, &mut out, &flow.to)?;
+    put_in_quotes(&mut out, &flow.to)?;
     out.extend_from_slice(b"\nclass = ")?;
     add_list(alloc, &mut out, flow.classes.as_slice())?;
     out.extend_from_slice(b"\nsyntax = ")?;

@@ -2,6 +2,7 @@
 //! accepts, and the walks of instances through it.
 #![tactic(auto)]
 
+pub mod copies;
 pub mod entering;
 pub mod laws;
 pub mod listed;

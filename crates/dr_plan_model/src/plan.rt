@@ -5,6 +5,7 @@ ghost use Rattle.dr_plan_model.specs.Listings.{AreListedBy};
 ghost use Rattle.dr_plan_model.specs.Plans.{IsWellFormed, IsTheNode, NamesNoNode};
 ghost use Rattle.std.specs.Prelude.{IfOk, MatchOption};
 
+use crate::copies::{copy_accepts, copy_rules};
 use crate::listed::{Listed, all_listed};
 use dr_base::{Seq, Syntax, Text};
 use dr_route::{AcceptRow, Rule, StationValues};
@@ -20,22 +21,6 @@ pub struct Node {
     pub max_pdu: u32,
     pub accepts: Seq<AcceptRow>,
     pub rules: Seq<Rule>,
-}
-
-/// A copy of a node's accept rows, in order. It fails for want of memory alone.
-pub fn copy_accepts(accepts: &Seq<AcceptRow>) -> Result<Seq<AcceptRow>, AllocError>
-    ensures { IfOk result (λ copy. copy ≡ accepts.now) }
-{
-    let copy = accepts.clone()?;
-    Ok(copy)
-}
-
-/// A copy of a node's rules, in order. It fails for want of memory alone.
-pub fn copy_rules(rules: &Seq<Rule>) -> Result<Seq<Rule>, AllocError>
-    ensures { IfOk result (λ copy. copy ≡ rules.now) }
-{
-    let copy = rules.clone()?;
-    Ok(copy)
 }
 
 impl Clone for Node {

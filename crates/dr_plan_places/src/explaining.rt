@@ -8,10 +8,10 @@ ghost use Rattle.dr_plan_text.specs.declared.words.PlanText.{PlanText as Written
 
 use crate::fields::describe_field;
 use crate::place::place_of;
-use crate::print::add_number;
 use crate::short_fields::{describe_excess, describe_short_field, describe_unknown_word};
 use crate::wording::describe;
 use dr_base::Text;
+use dr_base::fields::add_decimal;
 use dr_plan::{PlanFault, core_of};
 use dr_plan_expand::ExpandFault;
 use dr_plan_text::read_text;
@@ -38,9 +38,9 @@ fn position_behind(before: &[u8]) -> (usize, usize) {
 fn stopped_at(alloc: Global, before: &[u8], error: &Error) -> Result<Text, AllocError> {
     let (line, column) = position_behind(before);
     let mut out = Vec::from_slice(alloc, b"  line ")?;
-    add_number(&mut out, line)?;
+    add_decimal(&mut out, line as u64)?;
     out.extend_from_slice(b", column ")?;
-    add_number(&mut out, column)?;
+    add_decimal(&mut out, column as u64)?;
     out.extend_from_slice(b": ")?;
     out.extend_from_slice(error.message().as_bytes())?;
     out.extend_from_slice(b"\n")?;

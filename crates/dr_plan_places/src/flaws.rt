@@ -1,10 +1,11 @@
 //! What is wrong with a name.
-ghost use Rattle.std.specs.Prelude.{◌≡◌, ◌≢◌, ◌⊎◌, ◌≤◌, ◌<◌, ◌↔◌, IsTrue, All, MatchOption, codes};
+ghost use Rattle.std.specs.Prelude.{◌≢◌, ◌≤◌, ◌<◌, All, MatchOption};
 ghost use Rattle.dr_plan_model.specs.Formed.{IsName};
 ghost use Rattle.dr_plan_places.specs.Flaws.{IsNoNameByte, HasNameFlaw};
 ghost use Rattle.dr_plan_places.specs.Firsts.{IsFirstAt};
 
 use crate::first::{Look, first};
+use dr_plan_core::is_reserved;
 use dr_plan_text::forms::is_trimmed;
 
 /// Why a text isn't a name: the first of these that it shows.
@@ -47,13 +48,6 @@ impl Look for NameBytes {
         }
         None
     }
-}
-
-/// Whether it is `*` or `-`.
-fn is_reserved(text: &[u8]) -> bool
-    ensures { IsTrue result ↔ ((text.now ≡ codes "*") ⊎ (text.now ≡ codes "-")) }
-{
-    text == b"*".as_slice() || text == b"-".as_slice()
 }
 
 /// Why the text isn't a name, and None where it is one.

@@ -2,17 +2,12 @@
 ghost use Rattle.std.specs.Prelude.{◌<◌};
 
 use dr_base::Text;
+use dr_base::fields::add_decimal;
 use std::alloc::AllocError;
-
-/// Adds a number.
-pub fn add_number(out: &mut Vec<u8>, number: usize) -> Result<(), AllocError> {
-    let mut digits = itoa::Buffer::new();
-    out.extend_from_slice(digits.format(number).as_bytes())
-}
 
 /// Adds the number of what stands at this index, which counts from 0, while numbers count from 1.
 pub fn add_index(out: &mut Vec<u8>, index: usize) -> Result<(), AllocError> {
-    add_number(out, index.saturating_add(1))
+    add_decimal(out, index.saturating_add(1) as u64)
 }
 
 /// The digit in hexadecimal.

@@ -1,11 +1,12 @@
 //! The first transfer syntax of a plan that isn't routed.
-ghost use Rattle.std.specs.Prelude.{◌≡◌, ◌↔◌, IsTrue, All, MatchOption};
+ghost use Rattle.std.specs.Prelude.{◌↔◌, IsTrue, All, MatchOption};
 ghost use Rattle.dr_plan_core.specs.Reading.{IsSyntax, KnowsSyntaxes};
 ghost use Rattle.dr_plan_places.specs.Placed.{KnowsRow, KnowsNode, KnowsFlow, IsRowSyntaxAt};
 ghost use Rattle.dr_plan_places.specs.Placed.{IsNodeSyntaxAt, IsFlowSyntaxAt, IsSyntaxAt};
 
 use crate::first::{Look, TextTest, first, first_bad};
-use dr_base::{Syntax, Text};
+use dr_base::Text;
+use dr_plan_core::is_syntax;
 use dr_plan_text::{AcceptText, FlowText, NodeText, PlanText};
 
 /// Where a transfer syntax stands in a plan; all indices count from 0.
@@ -25,7 +26,7 @@ impl TextTest for IsRouted {
     ghost holds = { λ _ uid. IsSyntax uid };
 
     fn test(&self, uid: &Text) -> bool {
-        Syntax::of_uid(uid.as_bytes()).is_some()
+        is_syntax(uid)
     }
 }
 

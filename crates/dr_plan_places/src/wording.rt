@@ -4,9 +4,10 @@ use crate::limits::LimitPlace;
 use crate::names::{FlowName, NamePlace, NodeName, RuleName};
 use crate::own::OwnPlace;
 use crate::place::Place;
-use crate::print::{add_index, add_name, add_number, add_quoted};
+use crate::print::{add_index, add_name, add_quoted};
 use crate::syntaxes::SyntaxPlace;
 use dr_base::Text;
+use dr_base::fields::add_decimal;
 use dr_plan_text::{FlowText, NodeText, PlanText};
 use dr_route::{Callers, Pattern};
 use std::alloc::{AllocError, Global};
@@ -125,7 +126,7 @@ fn add_flaw(out: &mut Vec<u8>, name: &Text) -> Result<(), AllocError> {
         Some(NameFlaw::Empty) => out.extend_from_slice(b"it is empty"),
         Some(NameFlaw::Long) => {
             out.extend_from_slice(b"it has ")?;
-            add_number(out, name.len())?;
+            add_decimal(out, name.len() as u64)?;
             out.extend_from_slice(b" bytes, and a name has 16 at most")
         }
         Some(NameFlaw::Reserved) => {
@@ -210,11 +211,11 @@ fn rules_and_flows(plan: &PlanText) -> usize {
 fn add_limit(out: &mut Vec<u8>, plan: &PlanText, place: LimitPlace) -> Result<(), AllocError> {
     match place {
         LimitPlace::Nodes => {
-            add_number(out, plan.nodes.len())?;
+            add_decimal(out, plan.nodes.len() as u64)?;
             out.extend_from_slice(b" nodes, and a plan has 64 at most")
         }
         LimitPlace::Rules => {
-            add_number(out, rules_and_flows(plan))?;
+            add_decimal(out, rules_and_flows(plan) as u64)?;
             out.extend_from_slice(b" rules and flows, and a plan has 1024 at most")
         }
         LimitPlace::MaxPdu(node) => {

@@ -3,7 +3,10 @@
 #![tactic(auto)]
 
 pub mod certificate;
+pub mod copies;
 pub mod laws;
+mod printed;
 mod same;
 
 pub use certificate::{Certificate, Hop, Line, Stop};
+pub use printed::field_bytes;

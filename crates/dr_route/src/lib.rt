@@ -7,6 +7,7 @@
 
 pub mod accept;
 pub mod cell;
+pub mod copies;
 pub mod key;
 pub mod laws;
 pub mod names;

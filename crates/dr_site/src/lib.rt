@@ -1,7 +1,6 @@
 //! Sites: what one node knows of a sealed plan.
 #![tactic(auto)]
 
-mod copies;
 pub mod laws;
 mod rows;
 pub mod site;

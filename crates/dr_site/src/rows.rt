@@ -2,9 +2,10 @@
 ghost use Rattle.std.specs.Prelude.{◌≡◌, IfOk, filter};
 ghost use Rattle.dr_site.specs.Parts.{is_at, is_of, begins_at, ends_at, AreHopsFrom};
 
-use crate::copies::{copy_flow, copy_hop, copy_line};
 use dr_base::{Seq, Text};
 use dr_plan_model::Flow;
+use dr_plan_model::copies::copy_flow;
+use dr_plan_sound::copies::{copy_hop, copy_line};
 use dr_plan_sound::{Hop, Line};
 use std::alloc::{AllocError, Global};
 

@@ -5,17 +5,20 @@ ghost use Rattle.dr_site.specs.Routing.{HasLineFor, SendsFrom, KeepsAt};
 ghost use Rattle.dr_site.specs.Parts.{Part, IsPartOf, hops_to};
 ghost use Rattle.dr_site.specs.Sites.{IsCertified, IsSite, IsSiteOf};
 
-use crate::copies::{copy_accepts, copy_flows, copy_hops, copy_lines, copy_literals, copy_rules};
 use crate::rows::{flows_at, hops_ending_at, hops_from, lines_of};
+use dr_base::heap::boxed;
 use dr_base::same::{Same, are_same};
 use dr_base::{Seq, Text};
 use dr_cert::Sealed;
 use dr_cert::index::{find, index_of};
 use dr_cert::place::StopPlace;
+use dr_plan_model::copies::{copy_accepts, copy_flows, copy_rules};
 use dr_plan_model::literals::literals;
 use dr_plan_model::sending::flow_targets;
 use dr_plan_model::{Flow, Plan};
+use dr_plan_sound::copies::{copy_hops, copy_lines};
 use dr_plan_sound::{Certificate, Hop, Line};
+use dr_route::copies::copy_literals;
 use dr_route::routing::targets;
 use dr_route::{AcceptRow, Key, Literals, Rule, Targets, cell_of, is_local};
 use std::alloc::{AllocError, Global};
@@ -97,14 +100,6 @@ impl Model for Site {
           hops = s.parts.value.hops;
           literals = s.parts.value.literals;
         }) };
-}
-
-/// Puts the parts of a site on the heap.
-fn boxed(alloc: Global, parts: SiteParts) -> Result<Box<SiteParts>, AllocError>
-    ensures { IfOk result (λ b. b.value ≡ parts) }
-{
-    let boxed = Box::new(alloc, parts)?;
-    Ok(boxed)
 }
 
 impl Site {

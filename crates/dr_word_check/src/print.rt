@@ -3,8 +3,10 @@ ghost use Rattle.std.specs.Prelude.{◌≡◌, ◌++◌, ◌∷◌, IfOk, OnOk};
 ghost use Rattle.dr_word_check.specs.Faults.{tabbed, walk_fields, fault_fields, no_line};
 
 use dr_base::Text;
-use dr_cert_text::{add_field, add_station, field_bytes};
+use dr_base::fields::add_field;
+use dr_cert_text::add_station;
 use dr_check::Fault;
+use dr_plan_sound::field_bytes;
 use dr_route::OwnedCell;
 use std::alloc::{AllocError, Global};
 

@@ -1,21 +1,13 @@
 //! The line that is printed of an echo.
-ghost use Rattle.std.specs.Prelude.{◌≡◌, ◌++◌, ◌∷◌, IfOk, OnOk, decimal};
+ghost use Rattle.std.specs.Prelude.{◌≡◌, ◌++◌, ◌∷◌, IfOk, OnOk};
 ghost use Rattle.dr_word_echo.specs.Lines.{echo_fields, echo_line, ended_fields, status_digits};
 
 use dr_base::Text;
-use dr_cert_text::add_field;
+use dr_base::fields::{add_field, add_number};
 use dr_session::{Echoed, Ended};
 use std::alloc::{AllocError, Global};
 
 const LF: u8 = 10;
-
-/// Adds a small number behind a tab.
-fn add_number(line: &mut Vec<u8>, number: u8) -> Result<(), AllocError>
-    ensures { OnOk result (line.new.items ≡ line.old.items ++ (9 ∷ decimal number)) }
-{
-    let mut digits = itoa::Buffer::new();
-    add_field(line, digits.format(number).as_bytes())
-}
 
 /// Adds a status behind a tab.
 fn add_status(alloc: Global, line: &mut Vec<u8>, status: u16) -> Result<(), AllocError>
@@ -33,9 +25,9 @@ fn add_ended(line: &mut Vec<u8>, ended: Ended) -> Result<(), AllocError>
     match ended {
         Ended::Rejected(rejection) => {
             line.extend_from_slice(b"rejected")?;
-            add_number(line, rejection.result)?;
-            add_number(line, rejection.source)?;
-            add_number(line, rejection.reason)
+            add_number(line, rejection.result as u64)?;
+            add_number(line, rejection.source as u64)?;
+            add_number(line, rejection.reason as u64)
         }
         Ended::Aborted => line.extend_from_slice(b"aborted"),
         Ended::Released => line.extend_from_slice(b"no-context"),

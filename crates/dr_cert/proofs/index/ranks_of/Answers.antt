@@ -14,4 +14,4 @@ loop-line-preserved c =
     let more : take (c.loop-line.line-index + 1) c.args.lines.now ≡ take c.loop-line.line-index c.args.lines.now ++ c.line-item.result ∷ [] = rw (← c.line-item.is) at e in
     let P : Stop → Type 0 = λ k. Updates stop_cmp c.loop-line.ranks c.insert.new.self k (Some c.line-item.result.rank) in
     let Q : List Line → Type 0 = λ ls. AreRanksOf ls c.insert.new.self in
-    subst Q (sym more) (ranks_more (take c.loop-line.line-index c.args.lines.now) c.line-item.result c.loop-line.ranks c.insert.new.self c.loop-line.invariant (subst P c.in_ok-copy_of.ensures c.in_ok-insert.ensures.updates))
+    subst Q (sym more) (ranks_more (take c.loop-line.line-index c.args.lines.now) c.line-item.result c.loop-line.ranks c.insert.new.self c.loop-line.invariant (subst P c.in_ok-copy_stop.ensures c.in_ok-insert.ensures.updates))

@@ -14,8 +14,8 @@ returns c = rw (
   c.in_ok-add_list.ensures,
   c.as_slice.ensures,
   c.in_ok-extend_from_slice-2.ensures.items,
-  c.in_ok-add_quoted-2.ensures,
+  c.in_ok-put_in_quotes-2.ensures,
   c.in_ok-extend_from_slice.ensures.items,
-  c.in_ok-add_quoted.ensures,
+  c.in_ok-put_in_quotes.ensures,
   c.in_ok-out.ensures.items,
 ) refl

@@ -58,5 +58,5 @@ returns c =
     let begins : c.replace-walk.result.items ≡ site ∷ ended.1.0 = same ∙ (ended.1.1 ∙ ap (λ (ns : List Text). ns ++ site ∷ ended.1.0) c.requires.ready.no_walk) in
     let P : OwnedCell → Type 0 = λ x. IsFirstEnd plan x c.replace-walk.result.items c.in-End.end in
     let Q : OwnedCell → Type 0 = λ x. IsStoppedAt plan c.stopped_by.result site x in
-    subst Q c.in_ok-copy_of-in-End.ensures (c.stopped_by.ensures plan site ended.1.0 begins
-    (subst P (sym c.in_ok-copy_of-in-End.ensures) (subst T (sym same) ended.0)))
+    subst Q c.in_ok-copy_cell-in-End.ensures (c.stopped_by.ensures plan site ended.1.0 begins
+    (subst P (sym c.in_ok-copy_cell-in-End.ensures) (subst T (sym same) ended.0)))
