@@ -17,7 +17,7 @@ use dr_world_audit::replay::count_past;
 
 /// Of which lines there may be how many.
 #[derive(Clone, Copy)]
-pub enum LineKind {
+enum LineKind {
     /// First arrivals.
     First,
     /// Rows that a person gave up.
