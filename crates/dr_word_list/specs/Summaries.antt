@@ -4,11 +4,11 @@ use Rattle.std.specs.Prelude.{◌≡◌, ℕ, List, [], ◌∷◌, ◌++◌, len
 use Rattle.std.specs.Prelude.{Some, Result, Ok, Err}
 use Rattle.std.specs.FinMap as map
 use Rattle.dr_base.specs.Texts.{Text}
-use Rattle.dr_ledger.specs.Books.{Book}
+use Rattle.dr_ledger.specs.Books.{Book, Row}
 use Rattle.dr_ledger.specs.Pairs.{Pair, pair_cmp}
 use Rattle.dr_ledger.specs.Replies.{AreKept, Lists}
 use Rattle.dr_ledger_report.specs.Reports.{line_of, name_line}
-use Rattle.dr_ledger_views.specs.Views.{IsLeast, Row, dues, how_many}
+use Rattle.dr_ledger_views.specs.Views.{IsLeast, dues, how_many}
 use Rattle.dr_site.specs.Parts.{Part}
 use Rattle.dr_run_open.specs.Hops.{hops_from}
 use Rattle.dr_run_open.specs.Openings.{HaltsAs}
