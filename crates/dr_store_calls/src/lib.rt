@@ -21,10 +21,8 @@ mod settling;
 mod writing;
 
 pub use adopting::adopt;
-pub use bringing::{Delivery, Queued};
 pub use dropping::give_up;
 pub use forgetting::{forget, is_over};
 pub use knowing::{Known, know};
-pub use plan::NewPlan;
 pub use receiving::arrive;
 pub use settling::{requeue, settle};
