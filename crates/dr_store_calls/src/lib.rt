@@ -12,7 +12,7 @@ mod arriving;
 mod bringing;
 mod dropping;
 mod forgetting;
-pub mod knowing;
+mod knowing;
 pub mod laws;
 mod needs;
 mod plan;
