@@ -1,11 +1,11 @@
-//! The program for plans alone: `run_words` of `dr_word_route`, on the system's words, files, input
-//! and outputs. It has the words about plans alone, from `check` to `diff`, and stands on no node
-//! and no link, so it is built long before the whole one.
+//! The program for plans alone: `run_plan_words` of `dr_word_route`, on the system's words, files,
+//! input and outputs. It has the words about plans alone, from `check` to `diff`, and stands on no
+//! node and no link, so it is built long before the whole one.
 #![tactic(auto)]
 
 use dr_run_open::Status;
 use dr_word_check::{Disk, given_words, tell_unread_words};
-use dr_word_route::run_words;
+use dr_word_route::run_plan_words;
 use std::io;
 use std::process::ExitCode;
 
@@ -17,7 +17,7 @@ fn run(rt: &HostRuntime) -> io::Result<Status> {
         words.push(word.as_str())?;
     }
     let (mut input, mut output, mut faults) = (rt.stdin(), rt.stdout(), rt.stderr());
-    let status = run_words(
+    let status = run_plan_words(
         rt.alloc(),
         words.as_slice(),
         &mut input,

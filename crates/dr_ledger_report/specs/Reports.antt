@@ -1,6 +1,6 @@
 -- The report of a node: what its book has, a line each, its fields joined by tabs.
 use Rattle.std.specs.Prelude.{◌≡◌, ℕ, ◌/◌, ◌%◌, List, [], ◌∷◌, ◌++◌, flat_map, length, codes}
-use Rattle.std.specs.Prelude.{decimal}
+use Rattle.std.specs.Prelude.{decimal, Option, None, Some}
 use Rattle.std.specs.FinMap as map
 use Rattle.hex.specs.Hex.{encode_upper}
 use Rattle.dr_base.specs.Texts.{Text}
@@ -15,6 +15,11 @@ use Rattle.dr_ledger.specs.declared.item.Progress.TheVariants.{Waiting, Held, Do
 -- a field behind the one before it
 abbrev pub next_field : Text → Text
 next_field field = 9 ∷ field
+
+-- a moment in milliseconds, and a hyphen where there is none
+abbrev pub moment_field : Option ℕ → Text
+moment_field None = codes "-"
+moment_field (Some moment) = decimal moment
 
 -- a line: its word, its fields and the LF that ends it
 abbrev pub line_of : Text → List Text → Text

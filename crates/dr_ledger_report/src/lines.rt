@@ -1,7 +1,8 @@
 //! The lines of a report.
 ghost use Rattle.std.specs.Prelude.{◌≡◌, ◌++◌, ◌∷◌, [], OnOk, flat_map, decimal};
 ghost use Rattle.dr_ledger_report.specs.Reports.{arrival_line, cause_field, kept_line, name_line};
-ghost use Rattle.dr_ledger_report.specs.Reports.{next_field, progress_fields, report_of, row_line};
+ghost use Rattle.dr_ledger_report.specs.Reports.{moment_field, next_field, progress_fields};
+ghost use Rattle.dr_ledger_report.specs.Reports.{report_of, row_line};
 
 use dr_base::Text;
 use dr_ledger::{Cause, Progress};
@@ -25,6 +26,16 @@ pub fn put_number(out: &mut Vec<u8>, number: u64) -> Result<(), AllocError>
 {
     let mut digits = itoa::Buffer::new();
     put_field(out, digits.format(number).as_bytes())
+}
+
+/// Adds a moment as a field (milliseconds), and a hyphen where there is none.
+pub fn put_moment(out: &mut Vec<u8>, moment: Option<u64>) -> Result<(), AllocError>
+    ensures { OnOk result (out.new.items ≡ out.old.items ++ next_field (moment_field moment)) }
+{
+    match moment {
+        Some(moment) => put_number(out, moment),
+        None => put_field(out, b"-"),
+    }
 }
 
 /// Adds why a row is held.

@@ -2,8 +2,9 @@
 use Rattle.std.proofs.Common.{◌≡◌, ◌∙◌, ◌+◌, ◌<◌, ◌++◌, ◌∷◌, [], ℕ, Bool, true, false, List, get_or, inl, inr, length, take, refl, sym, ap, subst}
 use Rattle.std.specs.Prelude.{MatchBool}
 use Rattle.std.proofs.lemmas.List.{take_more}
+use Rattle.dr_ledger.specs.Books.{Row}
 use Rattle.dr_ledger.specs.Pairs.{Pair}
-use Rattle.dr_ledger_unfit.specs.Unfit.{ArePicked, Row}
+use Rattle.dr_ledger_unfit.specs.Unfit.{ArePicked}
 
 module _ (Holds Else : Row → Type 0) where
   picked_push : (rows : List Row) (row : Row) (found : List Pair) → ArePicked Holds Else rows found → Holds row → ArePicked Holds Else (rows ++ row ∷ []) (found ++ row.0 ∷ [])

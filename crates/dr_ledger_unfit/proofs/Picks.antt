@@ -12,12 +12,12 @@ use Rattle.dr_plan_model.specs.Walks.{IsReached}
 use Rattle.dr_ledger.proofs.Growing.{inside}
 use Rattle.dr_ledger.proofs.Maps.{text_pairs}
 use Rattle.dr_ledger.specs.Adopting.{IsFit, IsUnfit}
-use Rattle.dr_ledger.specs.Books.{Book, is_queued}
+use Rattle.dr_ledger.specs.Books.{Book, Row, is_queued}
 use Rattle.dr_ledger.specs.Pairs.{Pair, pair_cmp}
 use Rattle.dr_ledger.specs.declared.item.Instance.{Instance}
 use Rattle.dr_ledger.specs.declared.item.Progress.{Progress}
 use Rattle.dr_ledger_unfit.specs.Laws.{NoneIsFit, UnfitAreOne}
-use Rattle.dr_ledger_unfit.specs.Unfit.{ArePicked, AreUnfit, IsFitRow, IsUnfitRow, Row}
+use Rattle.dr_ledger_unfit.specs.Unfit.{ArePicked, AreUnfit, IsFitRow, IsUnfitRow}
 
 -- of a row that isn't both the same is picked
 one_picked : (Holds Else : Row → Type 0) → ((row : Row) → Holds row → Else row → ⊥) → (rows : List Row) (one other : List Pair) → ArePicked Holds Else rows one → ArePicked Holds Else rows other → one ≡ other

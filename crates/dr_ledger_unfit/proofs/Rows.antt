@@ -5,7 +5,7 @@ use Rattle.std.specs.FinMap.{FinMap}
 use Rattle.std.proofs.Math.Logic.{∥∥₁_map}
 use Rattle.dr_base.specs.Texts.{Text, text_cmp}
 use Rattle.dr_plan_model.specs.Networks.{Network}
-use Rattle.dr_ledger.specs.Books.{Book, Fold, Line}
+use Rattle.dr_ledger.specs.Books.{Book, Fold, Line, Row}
 use Rattle.dr_ledger.specs.Pairs.{Pair}
 use Rattle.dr_ledger.specs.Replies.{Reads}
 use Rattle.dr_ledger.specs.declared.fault.LedgerFault.{LedgerFault}
@@ -13,7 +13,7 @@ use Rattle.dr_ledger.specs.declared.fault.LedgerFault.TheVariants as fault
 use Rattle.dr_ledger.specs.declared.item.Instance.{Instance}
 use Rattle.dr_ledger_history.specs.Contents.{Content, content_of}
 use Rattle.dr_ledger_history.specs.Told.{IsTold}
-use Rattle.dr_ledger_unfit.specs.Unfit.{ArePicked, AreUnfit, IsFitRow, IsUnfitRow, Row}
+use Rattle.dr_ledger_unfit.specs.Unfit.{ArePicked, AreUnfit, IsFitRow, IsUnfitRow}
 
 module _ (next : Network) (name : Text) where
   -- those that are picked by a history's instances, of the rows of a later book that is the same

@@ -5,14 +5,9 @@ use Rattle.std.specs.FinMap.{FinMap}
 use Rattle.dr_base.specs.Texts.{Text, text_cmp}
 use Rattle.dr_plan_model.specs.Networks.{Network}
 use Rattle.dr_plan_model.specs.Walks.{IsReached}
-use Rattle.dr_ledger.specs.Books.{Book, is_queued}
+use Rattle.dr_ledger.specs.Books.{Book, Row, is_queued}
 use Rattle.dr_ledger.specs.Pairs.{Pair}
 use Rattle.dr_ledger.specs.declared.item.Instance.{Instance}
-use Rattle.dr_ledger.specs.declared.item.Progress.{Progress}
-
--- a row: which instance, where to, and how far it is
-abbrev pub Row : Type 0
-Row = Pair × Progress
 
 -- the row is over: done or dropped
 abbrev pub IsOverRow : Row → Type 0

@@ -15,11 +15,11 @@ use Rattle.std.proofs.lemmas.Slice.Eq.{bytes_eq-Decides}
 use Rattle.dr_base.specs.Texts.{Text}
 use Rattle.dr_ledger.specs.declared.item.Progress.{Progress}
 use Rattle.dr_ledger.specs.declared.item.Progress.TheVariants.{Waiting, Held, Done, Dropped}
-use Rattle.dr_ledger.specs.Books.{Book}
+use Rattle.dr_ledger.specs.Books.{Book, Row}
 use Rattle.dr_ledger.specs.Pairs.{Pair, pair_cmp}
 use Rattle.dr_ledger_views.specs.declared.stage.Stage.TheVariants as stage
 use Rattle.dr_ledger_views.specs.Laws.{CountsAddUp, FirstsAreDue, LeastIsOne, NoneIsNeverDue}
-use Rattle.dr_ledger_views.specs.Views.{Row, due_for, due_of, dues, is_at, is_to}
+use Rattle.dr_ledger_views.specs.Views.{due_for, due_of, dues, is_at, is_to}
 use Rattle.dr_ledger_views.proofs.Pairs.{pairs_exact, pairs_total}
 
 -- ---- counts

@@ -7,7 +7,8 @@ use Rattle.std.proofs.lemmas.Bool.{cases_lt}
 use Rattle.std.proofs.lemmas.List.{append-nil, take_more}
 use Rattle.std.proofs.lemmas.List.Elements.{All-nil, All-push, Contains-append_left, Contains-push, filter_map-append}
 use Rattle.dr_base.specs.Texts.{Text}
-use Rattle.dr_ledger_views.specs.Views.{IsLeast, Row, due_for, dues}
+use Rattle.dr_ledger.specs.Books.{Row}
+use Rattle.dr_ledger_views.specs.Views.{IsLeast, due_for, dues}
 use Rattle.dr_ledger_views.specs.Earlier.{earlier}
 
 lesser_is_there : (moments : List ℕ) (a b : ℕ) → Contains moments a → (a < b) ⊎ (b ≤ a) → Contains (moments ++ b ∷ []) (min a b)

@@ -9,10 +9,11 @@ use Rattle.std.specs.Str.{bytes_eq}
 use Rattle.std.proofs.lemmas.Cmp.{nat_list_cmp_total, tied_itself}
 use Rattle.std.proofs.lemmas.Slice.Eq.{bytes_eq-Decides}
 use Rattle.dr_base.specs.Texts.{Text, text_cmp}
+use Rattle.dr_ledger.specs.Books.{Row}
 use Rattle.dr_ledger.specs.Pairs.{pair_cmp}
 use Rattle.dr_ledger_views.specs.declared.stage.Stage.{Stage}
 use Rattle.dr_ledger_views.specs.Laws.{EmptyPagesAreTheEnd, PagesAreTheWhole, last_uid}
-use Rattle.dr_ledger_views.specs.Views.{Row, all_behind, is_at, is_behind, is_to, is_wanted}
+use Rattle.dr_ledger_views.specs.Views.{all_behind, is_at, is_behind, is_to, is_wanted}
 
 first_of : (a b : Bool) → T (a && b) → T a
 first_of true b h = tt

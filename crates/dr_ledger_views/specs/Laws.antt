@@ -5,14 +5,14 @@ use Rattle.std.specs.FinMap as map
 use Rattle.std.specs.FinSet as set
 use Rattle.std.specs.FinSet.{FinSet}
 use Rattle.dr_base.specs.Texts.{Text}
-use Rattle.dr_ledger.specs.Books.{Book}
+use Rattle.dr_ledger.specs.Books.{Book, Row}
 use Rattle.dr_ledger.specs.Pairs.{Pair, pair_cmp}
 use Rattle.dr_ledger.specs.Replies.{Dues}
 use Rattle.dr_ledger.specs.declared.item.Cause.TheVariants as cause
 use Rattle.dr_ledger.specs.declared.item.Progress.TheVariants as progress
 use Rattle.dr_ledger_views.specs.declared.stage.Stage.{Stage}
 use Rattle.dr_ledger_views.specs.declared.stage.Stage.TheVariants as stage
-use Rattle.dr_ledger_views.specs.Views.{AreCallers, IsLeast, Row, all_behind, dues, how_many}
+use Rattle.dr_ledger_views.specs.Views.{AreCallers, IsLeast, all_behind, dues, how_many}
 use Rattle.dr_ledger_views.specs.Views.{page_of}
 
 -- Each row to a destination is at one stage: the four counts add up to all of them.

@@ -10,16 +10,13 @@ use Rattle.std.specs.List.Sorted.{IsStrictlySortedBy}
 use Rattle.std.specs.Ordering.{is_lt}
 use Rattle.std.specs.Str.{bytes_eq}
 use Rattle.dr_base.specs.Texts.{Text, text_cmp}
+use Rattle.dr_ledger.specs.Books.{Row}
 use Rattle.dr_ledger.specs.Pairs.{Pair, pair_cmp}
 use Rattle.dr_ledger.specs.declared.item.Progress.{Progress}
 use Rattle.dr_ledger.specs.declared.item.Progress.TheVariants as progress
 use Rattle.dr_ledger_views.specs.declared.stage.Stage.{Stage}
 use Rattle.dr_ledger_views.specs.declared.stage.Stage.TheVariants as stage
 use Rattle.dr_ledger_views.specs.declared.stage.HopTally.{HopTally}
-
--- a row, as a book lists it: which instance, where to, and how far it is
-abbrev pub Row : Type 0
-Row = Pair × Progress
 
 -- ---- stages
 

@@ -5,9 +5,8 @@ use Rattle.std.specs.Result.{IsErr, IsErrAnd}
 use Rattle.std.proofs.lemmas.Bool.{false≢true}
 use Rattle.std.proofs.Math.ListN.{drop_of_length-le}
 use Rattle.dr_base.specs.Texts.{Text}
-use Rattle.dr_ledger.specs.Books.{Book, Line}
+use Rattle.dr_ledger.specs.Books.{Book, Line, Row}
 use Rattle.dr_ledger.specs.declared.fault.LedgerFault.{LedgerFault}
-use Rattle.dr_ledger_views.specs.Views.{Row}
 use Rattle.dr_run_control.specs.Consoles.{Again, AgainEach, State}
 use Rattle.dr_site.specs.Parts.{Part}
 

@@ -15,9 +15,9 @@ use Rattle.dr_desk.specs.declared.receipt.Call.TheVariants.{Requeuing, Dropping,
 use Rattle.dr_desk.specs.declared.receipt.Receipt.{Receipt}
 use Rattle.dr_desk.specs.declared.receipt.Reply.TheVariants.{Done}
 use Rattle.dr_ledger_views.specs.declared.stage.HopTally.{HopTally}
-use Rattle.dr_ledger_views.specs.Views.{AreCallers, Row, page_of, rows_of}
+use Rattle.dr_ledger_views.specs.Views.{AreCallers, page_of, rows_of}
 use Rattle.dr_ledger.specs.Bodies.{Bodies}
-use Rattle.dr_ledger.specs.Books.{Book, Line}
+use Rattle.dr_ledger.specs.Books.{Book, Line, Row}
 use Rattle.dr_ledger.specs.Replies.{Drops, Forgets, IsOver, Reads, Requeues}
 use Rattle.dr_ledger.specs.declared.fault.LedgerFault.{LedgerFault}
 use Rattle.dr_ledger.specs.declared.fault.LedgerFault.TheVariants as ledger

@@ -5,8 +5,7 @@ use Rattle.dr_desk.specs.Receipts.{Leaves, Notes}
 use Rattle.dr_desk.specs.declared.receipt.Call.TheVariants.{Requeuing, Dropping, Forgetting}
 use Rattle.dr_desk.specs.declared.receipt.Receipt.{Receipt}
 use Rattle.dr_desk.specs.declared.receipt.Reply.TheVariants.{Done}
-use Rattle.dr_ledger_views.specs.Views.{Row}
-use Rattle.dr_ledger.specs.Books.{Book, Line}
+use Rattle.dr_ledger.specs.Books.{Book, Line, Row}
 use Rattle.dr_run_control.specs.Consoles.{AgainEach, Goes, Tells}
 use Rattle.dr_run_open.specs.declared.hops.NextHop.{NextHop}
 use Rattle.dr_run_request.specs.Orders.{IsAsked}

@@ -79,7 +79,7 @@ impl<S: Alter> SqlLedger<S> {
     }
 
     /// Takes an item from a caller, as `Ledger::arrive` says, and survives a crash at any moment.
-    pub fn arrive_in(&mut self, caller: &Text, item: Item) -> Result<Arrived, LedgerFault>
+    fn arrive_in(&mut self, caller: &Text, item: Item) -> Result<Arrived, LedgerFault>
         ensures wrote { Wrote result (state S.Store self.old.conn) (state S.Store self.new.conn)
             (λ base db. Arrives (site_routing self.old.site) caller.now (instance_of item)
             (book_of base) result (book_of db)
@@ -103,7 +103,7 @@ impl<S: Alter> SqlLedger<S> {
     }
 
     /// Notes what came of a try, as `Ledger::settle` says, and survives a crash at any moment.
-    pub fn settle_in(
+    fn settle_in(
         &mut self,
         uid: &Text,
         dest: &Text,
@@ -126,7 +126,7 @@ impl<S: Alter> SqlLedger<S> {
     }
 
     /// Queues a held row again, as `Ledger::requeue` says, and survives a crash at any moment.
-    pub fn requeue_in(&mut self, uid: &Text, dest: &Text) -> Result<(), LedgerFault>
+    fn requeue_in(&mut self, uid: &Text, dest: &Text) -> Result<(), LedgerFault>
         ensures wrote { Wrote result (state S.Store self.old.conn) (state S.Store self.new.conn)
             (λ base db. Requeues uid.now dest.now (book_of base) result (book_of db)
             × OnlyLetsGo (bodies_of base) (bodies_of db))
@@ -142,7 +142,7 @@ impl<S: Alter> SqlLedger<S> {
     }
 
     /// Drops a held row, as `LetsGo::give_up` says, and survives a crash at any moment.
-    pub fn give_up_in(&mut self, uid: &Text, dest: &Text, now: u64) -> Result<(), LedgerFault>
+    fn give_up_in(&mut self, uid: &Text, dest: &Text, now: u64) -> Result<(), LedgerFault>
         requires { now ≤ 2 ^ 62 }
         ensures wrote { Wrote result (state S.Store self.old.conn) (state S.Store self.new.conn)
             (λ base db. Drops uid.now dest.now now (book_of base) result (book_of db)
@@ -160,7 +160,7 @@ impl<S: Alter> SqlLedger<S> {
 
     /// Forgets an instance that is over, as `LetsGo::forget` says, and survives a crash at any
     /// moment.
-    pub fn forget_in(&mut self, uid: &Text) -> Result<(), LedgerFault>
+    fn forget_in(&mut self, uid: &Text) -> Result<(), LedgerFault>
         ensures wrote { Wrote result (state S.Store self.old.conn) (state S.Store self.new.conn)
             (λ base db. Forgets uid.now (book_of base) result (book_of db)
             × OnlyLetsGo (bodies_of base) (bodies_of db))
@@ -177,7 +177,7 @@ impl<S: Alter> SqlLedger<S> {
 
     /// Adopts the plan of the next site of its node, as `Ledger::adopt` says, and survives a crash
     /// at any moment.
-    pub fn adopt_in(&mut self, own: Site) -> Result<(), LedgerFault>
+    fn adopt_in(&mut self, own: Site) -> Result<(), LedgerFault>
         ensures wrote { Wrote result (state S.Store self.old.conn) (state S.Store self.new.conn)
             (λ base db. Adopting (book_of base) result (book_of db)
             × OnlyLetsGo (bodies_of base) (bodies_of db))

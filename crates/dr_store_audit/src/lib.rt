@@ -3,7 +3,7 @@
 #![tactic(auto)]
 
 mod agreeing;
-pub mod fault;
+mod fault;
 pub mod goals;
 pub mod laws;
 pub mod lines;

@@ -12,19 +12,6 @@ use dr_ledger_history::JournalLine;
 use dr_store_lists::JournalRow;
 use std::alloc::{AllocError, Global};
 
-/// A copy of an instance.
-fn copy_of(instance: &Instance) -> Result<Instance, AllocError>
-    ensures { IfOk result (λ i. i ≡ instance.now) }
-{
-    let key = instance.key.clone()?;
-    Ok(Instance {
-        uid: instance.uid.clone()?,
-        key,
-        size: instance.size,
-        digest: instance.digest,
-    })
-}
-
 /// The line of a first arrival.
 fn arrival_of(
     alloc: Global,
@@ -38,7 +25,7 @@ fn arrival_of(
         line_of line ≡ line_told goals.now n (noted.Arrival caller.now instance.now)) }
 {
     let targets = targets_of(alloc, goals, n)?;
-    let instance = copy_of(instance)?;
+    let instance = instance.copy()?;
     let caller = caller.clone()?;
     Ok(JournalLine::Arrival {
         caller,
@@ -63,7 +50,7 @@ pub fn line_for(
         JournalRow::Arrival { caller, instance } => arrival_of(alloc, goals, n, caller, instance),
         JournalRow::Repeat { caller, instance } => Ok(JournalLine::Repeat {
             caller: caller.clone()?,
-            instance: copy_of(instance)?,
+            instance: instance.copy()?,
         }),
         JournalRow::Settling {
             uid,

@@ -4,7 +4,7 @@
 mod arriving;
 mod bodies;
 mod dropping;
-pub mod first;
+mod first;
 mod forgetting;
 pub mod laws;
 mod moving;

@@ -24,6 +24,7 @@ use Rattle.dr_ledger.specs.declared.item.Instance.{Instance}
 use Rattle.dr_store_changes.proofs.LettingGo.{body_at}
 use Rattle.dr_store_reads.specs.declared.finding.Print.{Print}
 use Rattle.dr_store_reads.specs.Queries.{Asked, HasTables, IsJobOf}
+use Rattle.dr_store_calls.specs.Adoptions.{IsOwnedBy}
 use Rattle.dr_store_calls.specs.Calling.{IsKept, IsLedgerOf}
 use Rattle.dr_store_lists.specs.Lists.{IsJournal, keys_of, line_of, note_in, whole_prints_of}
 use Rattle.dr_store_lists.specs.declared.listing.JournalRow.{JournalRow}
@@ -33,7 +34,7 @@ use Rattle.dr_store_audit.specs.Journal.{CountUp}
 use Rattle.dr_store_audit.proofs.Needed.{both_parts, content_there, found_listed, listed_found, value_of, whole_is, whole_print}
 use Rattle.dr_store_schema.specs.Tables.{tables}
 use Rattle.dr_store_open.specs.Renewing.{KeepsRows}
-use Rattle.dr_store_open.specs.Opening.{AreOwnUnder, AreReadIf, AreTested, HasLedgerOf, HasNewLedger, HasNoLedgerOf, IfFound, IfNotFound, IsAgreed, IsAgreedIf, IsBroughtOver, IsLedgerFound, IsNext, IsOpened, IsOwn, IsOwnedBy, IsReadAs, IsSpelled, IsWholeIf, LeavesFile, LeavesOldOrCommitted, StaysAsFound}
+use Rattle.dr_store_open.specs.Opening.{AreOwnUnder, AreReadIf, AreTested, HasLedgerOf, HasNewLedger, HasNoLedgerOf, IfFound, IfNotFound, IsAgreed, IsAgreedIf, IsBroughtOver, IsLedgerFound, IsNext, IsOpened, IsOwn, IsReadAs, IsSpelled, IsWholeIf, LeavesFile, LeavesOldOrCommitted, StaysAsFound}
 
 inside : {X : Type 0} (x y : X) → Some x ≡ Some y → x ≡ y
 inside x y e = cc

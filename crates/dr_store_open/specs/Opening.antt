@@ -19,12 +19,13 @@ use Rattle.dr_ledger.specs.Replies.{Reads}
 use Rattle.dr_store_schema.specs.Books.{AreBelow, bodies_of, book_of, items_of, lines_of}
 use Rattle.dr_store_schema.specs.Ledgers.{AreRows, IsCounted}
 use Rattle.dr_store_schema.specs.Tables.{tables}
-use Rattle.dr_store_writes.specs.Effects.{IsSiteOf, site_row}
+use Rattle.dr_store_writes.specs.Effects.{site_row}
 use Rattle.std.specs.List.{AllByRecursion}
 use Rattle.dr_store_reads.specs.Queries.{IsJobOf, Stays}
 use Rattle.dr_store_reads.specs.declared.finding.Print.{Print}
 use Rattle.dr_store_lists.specs.Lists.{notes_of}
 use Rattle.dr_store_lists.specs.declared.listing.JournalRow.{JournalRow}
+use Rattle.dr_store_calls.specs.Adoptions.{IsOwnedBy}
 use Rattle.dr_store_calls.specs.Calling.{IsKept}
 use Rattle.dr_store_audit.specs.Found.{HoldTogether}
 use Rattle.dr_store_audit.specs.Older.{IsOlder}
@@ -83,10 +84,6 @@ pub record IsAgreed (n : ℕ) (part : Part) (db : Trees) : Type 0 where
 abbrev pub IsAgreedIf : Part → Trees → Option ℕ → Type 0
 IsAgreedIf part db None = (n : ℕ) → IsAgreed n part db → ⊥
 IsAgreedIf part db (Some n) = IsAgreed n part db
-
--- the tables are owned by the site: by its node, under its plan
-abbrev pub IsOwnedBy : Part → Trees → Type 0
-IsOwnedBy part db = IsSiteOf part.name part.digest db
 
 -- the tables are those of a ledger of that site, and it owns them; or they aren't, or it doesn't
 abbrev pub IsWholeIf : Part → Trees → Option ℕ → Type 0

@@ -5,11 +5,12 @@ ghost use Rattle.sqlite.specs.State.{Survives};
 
 use crate::asking::{ask_within, cells_of, run_within};
 use crate::fault::{OpeningFault, opening_fault};
-use dr_base::{Syntax, Text};
+use dr_base::Text;
 use dr_ledger::Instance;
 use dr_store_lists::JournalRow;
 use dr_store_lists::listing::note_entries;
 use dr_store_reads::reading::{read_number, read_text};
+use dr_store_writes::syntax_cell;
 use sqlite::types::ValueRef;
 use sqlite::{Alter, Row, Transaction};
 use std::alloc::Global;
@@ -61,20 +62,12 @@ fn add_cells<'x>(
         return Err(OpeningFault::Store);
     };
     cells.push(ValueRef::Text(instance.key.class.as_bytes()))?;
-    cells.push(mark_of(instance.key.syntax))?;
+    cells.push(syntax_cell(instance.key.syntax))?;
     cells.push(ValueRef::Blob(instance.key.modality.as_bytes()))?;
     cells.push(ValueRef::Blob(instance.key.station.as_bytes()))?;
     cells.push(ValueRef::Int(size))?;
     cells.push(ValueRef::Blob(&instance.digest))?;
     Ok(())
-}
-
-/// A transfer syntax as its mark.
-fn mark_of(syntax: Syntax) -> ValueRef<'static> {
-    match syntax {
-        Syntax::Implicit => ValueRef::Text(b"I"),
-        Syntax::Explicit => ValueRef::Text(b"E"),
-    }
 }
 
 /// Puts a line back, with its instance.

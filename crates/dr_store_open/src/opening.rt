@@ -5,13 +5,14 @@ ghost use Rattle.sqlite.specs.Held.{state};
 ghost use Rattle.sqlite.specs.State.{HasCleanDisk, IsLive};
 ghost use Rattle.dr_store_schema.specs.Tables.{tables};
 ghost use Rattle.sqlite_trees.specs.View.{doubt};
+ghost use Rattle.dr_store_calls.specs.Adoptions.{IsOwnedBy};
 ghost use Rattle.dr_store_calls.specs.Calling.{IsKept};
 ghost use Rattle.dr_store_audit.specs.Older.{IsOlder};
 ghost use Rattle.dr_store_open.specs.Renewing.{KeepsRows};
 ghost use Rattle.dr_store_open.specs.declared.fault.OpeningFault.TheVariants as opening;
 ghost use Rattle.dr_store_open.specs.Opening.{HasLedgerOf, HasNewLedger, HasNoLedgerOf, IsBlank};
 ghost use Rattle.dr_store_open.specs.Opening.{IsBroughtOver, IsNext};
-ghost use Rattle.dr_store_open.specs.Opening.{IsOpened, IsOwnedBy, LeavesFile};
+ghost use Rattle.dr_store_open.specs.Opening.{IsOpened, LeavesFile};
 ghost use Rattle.dr_store_open.specs.Opening.{LeavesOldOrCommitted};
 ghost use Rattle.dr_store_open.specs.Opening.{StaysAsFound};
 

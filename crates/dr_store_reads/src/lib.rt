@@ -5,7 +5,7 @@
 //! could leave before (`Asked`).
 #![tactic(auto)]
 
-pub mod finding;
+mod finding;
 pub mod queries;
 pub mod reading;
 

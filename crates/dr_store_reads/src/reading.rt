@@ -54,7 +54,7 @@ pub fn read_digest(row: &Row, at: usize) -> Result<[u8; 32], LedgerFault>
 }
 
 /// A transfer syntax, of its mark.
-pub fn read_syntax(row: &Row, at: usize) -> Result<Syntax, LedgerFault>
+fn read_syntax(row: &Row, at: usize) -> Result<Syntax, LedgerFault>
     ensures { Reads result (λ s. s ≡ syntax_marked (text_in (column row.now at))) }
 {
     match row.get_ref(at) {

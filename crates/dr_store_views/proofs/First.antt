@@ -23,9 +23,10 @@ use Rattle.sqlite_sql.proofs.QueryLemmas.{output_cmp_total}
 use Rattle.sqlite_trees.proofs.TreeLemmas.{above, not_true}
 use Rattle.sqlite_value.proofs.OrderLemmas.{value_cmp-Int, then-Equal}
 use Rattle.dr_base.specs.Texts.{Text}
+use Rattle.dr_ledger.specs.Books.{Row as Entry}
 use Rattle.dr_ledger.specs.declared.item.Cause.{Cause}
 use Rattle.dr_ledger.specs.Pairs.{Pair}
-use Rattle.dr_ledger_views.specs.Views.{IsLeast, Row as Entry, due_for, due_of, dues}
+use Rattle.dr_ledger_views.specs.Views.{IsLeast, due_for, due_of, dues}
 use Rattle.dr_ledger_views.proofs.Asked.{Has, of_row, to_moment}
 use Rattle.dr_ledger_views.proofs.Ordered.{filtered_has, has_contains, has_filtered, has_permuted}
 use Rattle.dr_store_schema.specs.Books.{entry_in, rows_of}

@@ -26,10 +26,11 @@ use Rattle.sqlite_trees.proofs.ListLemmas.{all_weaker}
 use Rattle.sqlite_value.proofs.OrderLemmas.{value_cmp-Text, then-Equal}
 use Rattle.sqlite_value.specs.Keys.{ascending}
 use Rattle.dr_base.specs.Texts.{Text, text_cmp}
+use Rattle.dr_ledger.specs.Books.{Row as Entry}
 use Rattle.dr_ledger.specs.Pairs.{Pair, pair_cmp}
 use Rattle.dr_ledger_views.specs.declared.stage.Stage.{Stage}
 use Rattle.dr_ledger_views.specs.Views as views
-use Rattle.dr_ledger_views.specs.Views.{Row as Entry, is_at, is_of, is_wanted, page_of}
+use Rattle.dr_ledger_views.specs.Views.{is_at, is_of, is_wanted, page_of}
 use Rattle.dr_ledger_views.proofs.Ordered.{in_order}
 use Rattle.dr_store_schema.specs.Books.{entry_in, rows_of}
 use Rattle.dr_store_schema.specs.Ledgers.{IsLedger}

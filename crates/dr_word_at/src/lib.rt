@@ -1,9 +1,8 @@
 //! The words `list`, `requeue`, `drop`, `forget` and `stop` at a node that runs: clients of its
 //! control connection (`serve --control`).
 //!
-//! - `run_errand`: what a node is asked and told by a word, over anything that asks (`dr_run_ask`).
-//! - `Caller` asks over a network.
-//! - `ask_files`: the words, over files, tokens and a network.
+//! `ask_files` does them over files, tokens and a network. What a node is asked and told by a word,
+//! over anything that asks (`dr_run_ask`), is said by `run_errand` in `doing`.
 #![tactic(auto)]
 
 mod caller;
@@ -12,6 +11,4 @@ mod listing;
 mod running;
 mod shown;
 
-pub use caller::Caller;
-pub use doing::{ErrandOutcome, run_errand};
 pub use running::{Way, ask_files};

@@ -6,9 +6,9 @@ ghost use Rattle.dr_base.specs.Texts.{Text as Words};
 ghost use Rattle.dr_ledger_report.specs.Reports.{next_field};
 ghost use Rattle.dr_run_ask.specs.Lines.{number_at, text_at};
 ghost use Rattle.dr_word_at.specs.Printing.{IsHeld, IsStage, IsWaiting, ShowsProgress};
-ghost use Rattle.dr_word_at.specs.Printing.{ShowsQueue, ShowsRow, moment_of, queue_line};
+ghost use Rattle.dr_word_at.specs.Printing.{ShowsQueue, ShowsRow, queue_line};
 
-use dr_ledger_report::{put_field, put_number};
+use dr_ledger_report::{put_field, put_moment, put_number};
 use dr_run_ask::{AskFault, number_at, text_at};
 use serde_json::Value;
 use std::alloc::AllocError;
@@ -44,16 +44,6 @@ fn put_text(out: &mut Vec<u8>, text: &str) -> Result<(), AllocError>
     ensures { OnOk result (out.new.items ≡ out.old.items ++ next_field text.now) }
 {
     put_field(out, text.as_bytes())
-}
-
-/// Adds a moment, where there is one.
-fn put_moment(out: &mut Vec<u8>, moment: Option<u64>) -> Result<(), AllocError>
-    ensures { OnOk result (out.new.items ≡ out.old.items ++ next_field (moment_of moment)) }
-{
-    match moment {
-        Some(moment) => put_number(out, moment),
-        None => put_field(out, b"-"),
-    }
 }
 
 /// How many rows to a node wait, are held and are done, and from when on the first one is due.

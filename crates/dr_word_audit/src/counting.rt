@@ -13,11 +13,11 @@ use dr_ledger::{Outcome, Row, is_success};
 use dr_ledger_history::JournalLine;
 use dr_ledger_views::Stage;
 use dr_ledger_views::listed::is_at;
-use dr_world_audit::replay::count_past;
+use dr_world_audit::count_past;
 
 /// Of which lines there may be how many.
 #[derive(Clone, Copy)]
-pub enum LineKind {
+enum LineKind {
     /// First arrivals.
     First,
     /// Rows that a person gave up.

@@ -19,4 +19,3 @@ mod reading;
 
 pub use audited::Audited;
 pub use auditing::audit_files;
-pub use counting::{Figures, LineKind};

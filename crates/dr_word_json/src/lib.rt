@@ -8,5 +8,4 @@ mod document;
 pub mod laws;
 mod run;
 
-pub use document::document_of;
 pub use run::run_as_json;

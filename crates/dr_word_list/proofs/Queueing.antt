@@ -2,7 +2,7 @@
 use Rattle.std.proofs.Common.{◌≡◌, ◌∙◌, ◌<◌, ◌+◌, ◌++◌, ◌∷◌, [], ℕ, List, take, get_or, length, refl, sym, ap, subst, append_assoc}
 use Rattle.std.proofs.lemmas.List.{append-nil, take_more}
 use Rattle.dr_base.specs.Texts.{Text}
-use Rattle.dr_ledger_views.specs.Views.{Row}
+use Rattle.dr_ledger.specs.Books.{Row}
 use Rattle.dr_word_list.specs.Summaries.{AreQueueLines, IsQueueLine}
 use Rattle.dr_run_open.specs.declared.hops.NextHop.{NextHop}
 

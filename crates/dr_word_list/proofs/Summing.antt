@@ -3,11 +3,10 @@ use Rattle.std.proofs.Common.{◌≡◌, ℕ, List, length, map as mapped, sym, 
 use Rattle.std.specs.FinMap as map
 use Rattle.std.proofs.lemmas.List.{length-map}
 use Rattle.dr_base.specs.Texts.{Text}
-use Rattle.dr_ledger.specs.Books.{Book}
+use Rattle.dr_ledger.specs.Books.{Book, Row}
 use Rattle.dr_ledger.specs.Pairs.{Pair, pair_cmp}
 use Rattle.dr_ledger.specs.Replies.{AreKept, Lists, entry_of}
 use Rattle.dr_ledger.specs.declared.item.Entry.{Entry}
-use Rattle.dr_ledger_views.specs.Views.{Row}
 use Rattle.dr_word_list.specs.Summaries.{IsSummary, IsSummaryOf}
 use Rattle.dr_run_open.specs.declared.hops.NextHop.{NextHop}
 

@@ -3,10 +3,10 @@ use Rattle.std.specs.Prelude.{◌≡◌, ℕ, List, [], ◌∷◌, codes, filter
 use Rattle.std.specs.Prelude.{Result, Ok, Err, Some}
 use Rattle.std.specs.FinMap as map
 use Rattle.dr_base.specs.Texts.{Text}
-use Rattle.dr_ledger.specs.Books.{Book}
+use Rattle.dr_ledger.specs.Books.{Book, Row}
 use Rattle.dr_ledger.specs.Replies.{Requeues}
 use Rattle.dr_ledger_report.specs.Reports.{line_of}
-use Rattle.dr_ledger_views.specs.Views.{Row, is_to}
+use Rattle.dr_ledger_views.specs.Views.{is_to}
 use Rattle.dr_site.specs.Parts.{Part}
 use Rattle.dr_run_open.specs.Openings.{HaltsAs}
 use Rattle.dr_word_list.specs.Works.{AtNode}

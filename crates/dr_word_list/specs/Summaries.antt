@@ -1,14 +1,14 @@
 -- How much a node has, as it is printed: a number for each kind, and for each node to which it
 -- sends how the rows for that are.
-use Rattle.std.specs.Prelude.{◌≡◌, ℕ, List, [], ◌∷◌, ◌++◌, length, codes, decimal, Option, None}
+use Rattle.std.specs.Prelude.{◌≡◌, ℕ, List, [], ◌∷◌, ◌++◌, length, codes, decimal, Option}
 use Rattle.std.specs.Prelude.{Some, Result, Ok, Err}
 use Rattle.std.specs.FinMap as map
 use Rattle.dr_base.specs.Texts.{Text}
-use Rattle.dr_ledger.specs.Books.{Book}
+use Rattle.dr_ledger.specs.Books.{Book, Row}
 use Rattle.dr_ledger.specs.Pairs.{Pair, pair_cmp}
 use Rattle.dr_ledger.specs.Replies.{AreKept, Lists}
-use Rattle.dr_ledger_report.specs.Reports.{line_of, name_line}
-use Rattle.dr_ledger_views.specs.Views.{IsLeast, Row, dues, how_many}
+use Rattle.dr_ledger_report.specs.Reports.{line_of, moment_field, name_line}
+use Rattle.dr_ledger_views.specs.Views.{IsLeast, dues, how_many}
 use Rattle.dr_site.specs.Parts.{Part}
 use Rattle.dr_run_open.specs.Hops.{hops_from}
 use Rattle.dr_run_open.specs.Openings.{HaltsAs}
@@ -21,11 +21,6 @@ use Rattle.dr_run_open.specs.declared.hops.NextHop.{NextHop}
 -- the line of a kind, with how many there are
 abbrev pub count_line : Text → ℕ → Text
 count_line word count = line_of word (decimal count ∷ [])
-
--- a moment in milliseconds, and a hyphen where there is none
-abbrev pub moment_field : Option ℕ → Text
-moment_field None = codes "-"
-moment_field (Some moment) = decimal moment
 
 -- the line of a node to which this one sends: how many rows for it wait, are held and are done, and
 -- that moment

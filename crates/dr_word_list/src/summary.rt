@@ -5,11 +5,11 @@ ghost use Rattle.dr_ledger_report.specs.Reports.{next_field};
 ghost use Rattle.dr_ledger_views.specs.Views.{how_many as number_of};
 ghost use Rattle.dr_run_open.specs.Hops.{hops_from};
 ghost use Rattle.dr_word_list.specs.Summaries.{AreQueueLines, IsQueueLine, IsSummary, IsSummaryOf};
-ghost use Rattle.dr_word_list.specs.Summaries.{count_line, moment_field, queue_line};
+ghost use Rattle.dr_word_list.specs.Summaries.{count_line, queue_line};
 
 use dr_base::Text;
 use dr_ledger::{Ledger, LedgerFault, Row};
-use dr_ledger_report::{put_field, put_name, put_number};
+use dr_ledger_report::{put_field, put_moment, put_name, put_number};
 use dr_ledger_views::Stage;
 use dr_ledger_views::listed::{first_due, how_many};
 use dr_run_open::{NextHop, Opened, hops_of};
@@ -43,16 +43,6 @@ fn put_stage(
 {
     put_field(out, word)?;
     put_number(out, how_many(rows, dest, stage))
-}
-
-/// Adds a moment, where there is one.
-fn put_moment(out: &mut Vec<u8>, moment: Option<u64>) -> Result<(), AllocError>
-    ensures { OnOk result (out.new.items ≡ out.old.items ++ next_field (moment_field moment)) }
-{
-    match moment {
-        Some(moment) => put_number(out, moment),
-        None => put_field(out, b"-"),
-    }
 }
 
 /// Adds the line of a node to which this one sends, with this moment.

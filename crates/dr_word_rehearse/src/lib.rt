@@ -13,5 +13,5 @@ mod rehearsing;
 mod telling;
 
 pub use finds::{Finds, LedgerFound};
-pub use looking::{LedgerLook, Looked};
+pub use looking::LedgerLook;
 pub use rehearsing::rehearse_files;

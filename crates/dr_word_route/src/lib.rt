@@ -12,4 +12,4 @@ mod replying;
 mod run;
 
 pub use asking::tell_refusal;
-pub use run::{run_asked, run_words};
+pub use run::{run_asked, run_plan_words};

@@ -72,7 +72,7 @@ pub fn run_asked<'a, R: Read, W: Write, E: Write, F: Files>(
 
 /// Runs the program for plans on the words of its command line, without the program's own name, and
 /// answers how it ends.
-pub fn run_words<R: Read, W: Write, E: Write, F: Files>(
+pub fn run_plan_words<R: Read, W: Write, E: Write, F: Files>(
     alloc: Global,
     words: &[&str],
     input: &mut R,

@@ -8,6 +8,8 @@ mod fault;
 mod hop;
 mod line;
 mod reading;
-pub mod replay;
+mod replay;
 mod standing;
 mod trail;
+
+pub use replay::count_past;

@@ -1,22 +1,8 @@
 //! Copies of lines.
 ghost use Rattle.std.specs.Prelude.{◌≡◌, IfOk};
 
-use dr_ledger::Instance;
 use dr_ledger_history::JournalLine;
 use std::alloc::AllocError;
-
-/// A copy of an instance.
-fn copy_instance(instance: &Instance) -> Result<Instance, AllocError>
-    ensures { IfOk result (λ i. i ≡ instance.now) }
-{
-    let key = instance.key.clone()?;
-    Ok(Instance {
-        uid: instance.uid.clone()?,
-        key,
-        size: instance.size,
-        digest: instance.digest,
-    })
-}
 
 /// A copy of a line.
 pub fn copy_line(line: &JournalLine) -> Result<JournalLine, AllocError>
@@ -30,13 +16,13 @@ pub fn copy_line(line: &JournalLine) -> Result<JournalLine, AllocError>
             keep,
         } => Ok(JournalLine::Arrival {
             caller: caller.clone()?,
-            instance: copy_instance(instance)?,
+            instance: instance.copy()?,
             to: to.clone()?,
             keep: *keep,
         }),
         JournalLine::Repeat { caller, instance } => Ok(JournalLine::Repeat {
             caller: caller.clone()?,
-            instance: copy_instance(instance)?,
+            instance: instance.copy()?,
         }),
         JournalLine::Settling {
             uid,

@@ -1,7 +1,8 @@
 use Rattle.std.proofs.Common.{List, arith, subst}
 use Rattle.std.proofs.lemmas.List.{take_all}
+use Rattle.dr_ledger.specs.Books.{Row}
 use Rattle.dr_ledger_history.specs.Contents.{content}
-use Rattle.dr_ledger_unfit.specs.Unfit.{ArePicked, IsFitRow, IsUnfitRow, Row}
+use Rattle.dr_ledger_unfit.specs.Unfit.{ArePicked, IsFitRow, IsUnfitRow}
 use Rattle.dr_ledger_unfit.proofs.Picked.{picked_more}
 use Rattle.dr_ledger_unfit.proofs.picking.pick_unfit.Goals as goal
 

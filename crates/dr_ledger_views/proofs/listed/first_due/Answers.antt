@@ -1,6 +1,7 @@
 use Rattle.std.proofs.Common.{◌≡◌, List, take, refl, subst, arith}
 use Rattle.std.proofs.lemmas.List.{take_all}
-use Rattle.dr_ledger_views.specs.Views.{IsLeast, Row, dues}
+use Rattle.dr_ledger.specs.Books.{Row}
+use Rattle.dr_ledger_views.specs.Views.{IsLeast, dues}
 use Rattle.dr_ledger_views.proofs.Least.{due_more}
 use Rattle.dr_ledger_views.proofs.listed.first_due.Goals as goal
 

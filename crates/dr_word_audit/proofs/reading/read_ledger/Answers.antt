@@ -1,6 +1,6 @@
 use Rattle.std.proofs.Common.{List, subst}
 use Rattle.std.proofs.Math.Logic.{∥∥₁_map}
-use Rattle.dr_ledger_views.specs.Views.{Row}
+use Rattle.dr_ledger.specs.Books.{Row}
 use Rattle.dr_word_audit.specs.Readings.{IsListed}
 use Rattle.dr_word_audit.proofs.Looks.{shows}
 use Rattle.dr_word_audit.proofs.reading.read_ledger.Goals as goal

@@ -1,9 +1,8 @@
 use Rattle.std.proofs.Common.{◌∙◌, ◌++◌, ◌∷◌, [], ℕ, List, Some, ap}
 use Rattle.std.specs.Prelude.{codes, decimal}
 use Rattle.dr_base.specs.Texts.{Text}
-use Rattle.dr_ledger_report.specs.Reports.{next_field}
+use Rattle.dr_ledger_report.specs.Reports.{moment_field, next_field}
 use Rattle.dr_ledger_views.specs.Views.{how_many}
-use Rattle.dr_word_list.specs.Summaries.{moment_field}
 use Rattle.dr_ledger_views.specs.declared.stage.Stage.TheVariants as stages
 use Rattle.dr_word_list.proofs.Pieces.{as_fields, chained}
 use Rattle.dr_word_list.proofs.summary.put_queue_line.Goals as goal

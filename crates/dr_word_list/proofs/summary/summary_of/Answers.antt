@@ -1,5 +1,5 @@
 use Rattle.std.proofs.Common.{List, subst}
-use Rattle.dr_ledger_views.specs.Views.{Row}
+use Rattle.dr_ledger.specs.Books.{Row}
 use Rattle.dr_word_list.specs.Summaries.{IsSummary}
 use Rattle.dr_word_list.proofs.Summing.{summed}
 use Rattle.dr_word_list.proofs.summary.summary_of.Goals as goal

@@ -1,4 +1,4 @@
-use Rattle.dr_word_check.proofs.run.run_words.Goals as goal
+use Rattle.dr_word_check.proofs.run.run_check_words.Goals as goal
 
 pub returns-in-Ok-run_asked-clause-checked : goal.returns-in-Ok-run_asked-clause-checked
 returns-in-Ok-run_asked-clause-checked g c = λ plan asks ends. c.in-Ok-run_asked.ensures.checked plan (c.in-Ok.ensures.file plan asks)
