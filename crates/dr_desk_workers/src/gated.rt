@@ -3,7 +3,8 @@
 ghost use Rattle.std.specs.Prelude.{◌≡◌, ◌⊎◌, ◌≤◌, ◌^◌, ◌↔◌, ℕ, IsTrue, None, true, false};
 ghost use Rattle.std.specs.Option.{ForSome};
 ghost use Rattle.std.specs.Sync.Mutex.{mutex_guard_value};
-ghost use Rattle.dr_session.specs.Links.{Counts, HasRisen, IsLinkFault};
+ghost use Rattle.dr_ledger.specs.Replies.{HasRisen};
+ghost use Rattle.dr_session.specs.Links.{Counts, IsLinkFault};
 ghost use Rattle.dr_desk_workers.specs.Hearing.{HearsInside, IsAcceptance, KeepsTurn};
 
 use crate::ahead::Ahead;
@@ -15,7 +16,7 @@ use crate::room::Room;
 use crate::said::status_said;
 use crate::share::Share;
 use dr_pdu::AssociateRq;
-use dr_session::{Heard, Link};
+use dr_session::{Heard, Link, is_fault};
 use std::alloc::Global;
 use std::sync::ledger::Ledger;
 use std::sync::{Mutex, MutexGuard, Wait};
@@ -60,13 +61,6 @@ pub trait CountingLink: Link {
 
     fn others(&self) -> usize
         ensures { result ≡ counted self.now };
-}
-
-/// Whether the link has failed.
-fn is_fault(heard: &Heard) -> bool
-    ensures { IsTrue result ↔ IsLinkFault heard.now }
-{
-    matches!(heard, Heard::Fault)
 }
 
 /// Whether the bytes are an A-ASSOCIATE-AC, by their type.
@@ -193,9 +187,20 @@ impl<'a, R: Wait + time::Clock, K: Link + Drop, G: Gate, D: Ledger> GatedLink<'a
         ensures asked { self.new.asked ≡ true }
     {
         if self.asked {
-            drop(mem::replace(&mut self.turn, None));
+            self.end_turn();
         }
         self.asked = true;
+    }
+
+    /// Its turn at the door is over.
+    fn end_turn(&mut self)
+        ensures same { (self.new.link ≡ self.old.link)
+            × (self.new.ahead ≡ self.old.ahead)
+            × (self.new.failures ≡ self.old.failures)
+            × (self.new.guest.inside ≡ self.old.guest.inside) }
+        ensures turn { (self.new.turn ≡ None) × (self.new.asked ≡ self.old.asked) }
+    {
+        drop(mem::replace(&mut self.turn, None));
     }
 
     /// Ends its turn at the door, and lets the association in, if these bytes accept it; says
@@ -215,11 +220,14 @@ impl<'a, R: Wait + time::Clock, K: Link + Drop, G: Gate, D: Ledger> GatedLink<'a
         let_in(turn, &mut self.guest)
     }
 
-    /// It is over: all that it held is free again, and its association isn't open any more.
-    pub fn leave(self, door: &Mutex<Door<D>>) -> Outside<D> {
+    /// It is over: all that it held is free again, its turn too, and its association isn't open any
+    /// more. Its guest counts none at the door.
+    pub fn leave(self, door: &Mutex<Door<D>>) -> Outside<D>
+        ensures { (result.guest.inside ≡ false) × (result.guest.share.amount ≡ 0) }
+    {
         let mut link = self;
         link.clear();
-        drop(mem::replace(&mut link.turn, None));
+        link.end_turn();
         door.lock(link.rt).leave(link.guest)
     }
 }

@@ -1,34 +1,35 @@
 -- What a node that runs is asked and told, and the bytes of the requests.
-use Rattle.std.specs.Prelude.{Bool, true, false, List, [], ◌∷◌, ◌++◌, codes, decimal}
+use Rattle.std.specs.Prelude.{Bool, List, [], ◌∷◌, ◌++◌, codes, decimal}
 use Rattle.std.specs.Prelude.{length}
 use Rattle.std.specs.Prelude.{Option, None, Some, option_map, if◌then◌else◌}
 use Rattle.form_urlencoded.specs.Form.{extend_pairs}
 use Rattle.http1.specs.Fields.{Header}
 use Rattle.http1.specs.Head.{request_text}
 use Rattle.dr_base.specs.Texts.{Text}
+use Rattle.dr_run_request.specs.Asking as asked
+use Rattle.dr_run_request.specs.declared.route.Route.{Route}
+use Rattle.dr_run_request.specs.declared.route.Route.TheVariants as routes
 use Rattle.dr_run_ask.specs.declared.call.HttpCall.{HttpCall}
 use Rattle.dr_run_ask.specs.declared.call.HttpCall.TheVariants.{Status, Rows, Requeue, GiveUp}
 use Rattle.dr_run_ask.specs.declared.call.HttpCall.TheVariants.{Forget}
 use Rattle.dr_run_ask.specs.declared.call.HttpCall.TheVariants.{Visit, Stop}
 
+-- what it means at the node
+abbrev pub route_of : HttpCall → Route
+route_of Status = routes.Status
+route_of (Rows form) = routes.Rows
+route_of (Requeue form) = routes.Requeue
+route_of (GiveUp form) = routes.GiveUp
+route_of (Forget form) = routes.Forget
+route_of (Visit form) = routes.Visit
+route_of Stop = routes.Stop
+
 abbrev pub path_of : HttpCall → Text
-path_of Status = codes "/status"
-path_of (Rows form) = codes "/rows"
-path_of (Requeue form) = codes "/requeue"
-path_of (GiveUp form) = codes "/drop"
-path_of (Forget form) = codes "/forget"
-path_of (Visit form) = codes "/visit"
-path_of Stop = codes "/stop"
+path_of call = asked.path_of (route_of call)
 
 -- it changes something
 abbrev pub is_act : HttpCall → Bool
-is_act Status = false
-is_act (Rows form) = false
-is_act (Requeue form) = true
-is_act (GiveUp form) = true
-is_act (Forget form) = true
-is_act (Visit form) = true
-is_act Stop = true
+is_act call = asked.is_act (route_of call)
 
 -- what it is about
 abbrev pub form_of : HttpCall → Text
@@ -42,7 +43,7 @@ form_of Stop = []
 
 -- an act is told by POST, and all else is asked by GET
 abbrev pub method_of : HttpCall → Text
-method_of call = if is_act call then codes "POST" else codes "GET"
+method_of call = asked.method_of (route_of call)
 
 -- the forms of a row, of a row with a reason, of a node, of an instance, and of the rows to a node
 -- behind a UID

@@ -1,8 +1,9 @@
 //! What a node that runs is asked and told.
 ghost use Rattle.std.specs.Prelude.{◌≡◌, IfOk, string_bytes};
 ghost use Rattle.dr_run_ask.specs.Calls.{dest_form, form_of, is_act, method_of, path_of};
-ghost use Rattle.dr_run_ask.specs.Calls.{reason_form, row_form, rows_form, uid_form};
+ghost use Rattle.dr_run_ask.specs.Calls.{reason_form, route_of, row_form, rows_form, uid_form};
 
+use dr_run_request::Route;
 use form_urlencoded::Serializer;
 use std::alloc::{AllocError, Global};
 
@@ -27,30 +28,33 @@ pub enum HttpCall<'a> {
 }
 
 impl<'a> HttpCall<'a> {
+    /// What it means at the node.
+    fn route(self) -> Route
+        ensures { result ≡ route_of self.entry }
+    {
+        match self {
+            HttpCall::Status => Route::Status,
+            HttpCall::Rows(_) => Route::Rows,
+            HttpCall::Requeue(_) => Route::Requeue,
+            HttpCall::GiveUp(_) => Route::GiveUp,
+            HttpCall::Forget(_) => Route::Forget,
+            HttpCall::Visit(_) => Route::Visit,
+            HttpCall::Stop => Route::Stop,
+        }
+    }
+
     /// Its path.
     pub fn path(self) -> &'static str
         ensures { result.now ≡ path_of self.entry }
     {
-        match self {
-            HttpCall::Status => "/status",
-            HttpCall::Rows(_) => "/rows",
-            HttpCall::Requeue(_) => "/requeue",
-            HttpCall::GiveUp(_) => "/drop",
-            HttpCall::Forget(_) => "/forget",
-            HttpCall::Visit(_) => "/visit",
-            HttpCall::Stop => "/stop",
-        }
+        self.route().path()
     }
 
     /// Whether it changes anything.
     pub fn is_act(self) -> bool
         ensures { result ≡ is_act self.entry }
     {
-        match self {
-            HttpCall::Status | HttpCall::Rows(_) => false,
-            HttpCall::Requeue(_) | HttpCall::GiveUp(_) | HttpCall::Forget(_) => true,
-            HttpCall::Visit(_) | HttpCall::Stop => true,
-        }
+        self.route().is_act()
     }
 
     /// What it is about.
@@ -68,10 +72,7 @@ impl<'a> HttpCall<'a> {
     pub fn method(self) -> &'static str
         ensures { result.now ≡ method_of self.entry }
     {
-        if self.is_act() {
-            return "POST";
-        }
-        "GET"
+        self.route().method()
     }
 }
 

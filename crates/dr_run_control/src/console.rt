@@ -7,9 +7,7 @@ ghost use Rattle.dr_run_control.specs.Consoles.{goes_to};
 ghost use Rattle.dr_run_control.specs.Replies.{IsToldIn, line_of_answer, status_of_answer};
 ghost use Rattle.dr_run_request.specs.declared.route.Route.TheVariants as RouteValue;
 
-use crate::acts::act;
-use crate::page::read_page;
-use crate::reads::{DeskReader, NodeReader, ServingSince};
+use crate::reads::{DeskClerk, NodeReader, ServingSince};
 use crate::reply::{HttpReply, Media, misread, refusal, refused_by_ledger, respond};
 use bytes::Bytes;
 use dr_base::Text;
@@ -171,14 +169,19 @@ fn query_of(request: &Request<Bytes>) -> &[u8] {
 }
 
 impl<'a, R: Wait, L: Views, B: Sharing, C: Clock, H: House> Console<'a, R, L, B, C, H> {
+    /// Who works at its desk.
+    fn clerk(&self) -> DeskClerk<'a, R, L, B> {
+        DeskClerk {
+            rt: self.rt,
+            alloc: self.alloc,
+            desk: self.desk,
+        }
+    }
+
     /// Who looks after the node at this moment.
     fn reader(&self) -> NodeReader<'a, R, L, B, H> {
         NodeReader {
-            reader: DeskReader {
-                rt: self.rt,
-                alloc: self.alloc,
-                desk: self.desk,
-            },
+            clerk: self.clerk(),
             hops: self.hops,
             house: self.house,
             moment: self.clock.now(),
@@ -193,9 +196,9 @@ impl<'a, R: Wait, L: Views, B: Sharing, C: Clock, H: House> Console<'a, R, L, B,
         let (version, since) = (self.version, self.since);
         let node = self.reader();
         match route {
-            Route::Page => read_page(&node, since, self.browser),
-            Route::Rows => node.reader.read_rows(query_of(request)),
-            Route::Instance => node.reader.read_instance(request.uri().path()),
+            Route::Page => node.read_page(since, self.browser),
+            Route::Rows => node.clerk.read_rows(query_of(request)),
+            Route::Instance => node.clerk.read_instance(request.uri().path()),
             Route::Status => node.read_status(ServingSince { version, since }),
             Route::Metrics => node.read_figures(),
             Route::Stop => {
@@ -206,9 +209,7 @@ impl<'a, R: Wait, L: Views, B: Sharing, C: Clock, H: House> Console<'a, R, L, B,
             Route::Requeue | Route::GiveUp | Route::Forget | Route::Visit => node.read_health(),
         }
     }
-}
 
-impl<'a, R: Wait, L: Views, B: Sharing, C: Clock, H: House> Console<'a, R, L, B, C, H> {
     /// Does what is ordered.
     fn do_order(&mut self, order: &Order, reason: Option<&Text>) -> HttpReply
         ensures comes { Comes L.site L.book L.stands L.failed B.site B.first
@@ -220,8 +221,8 @@ impl<'a, R: Wait, L: Views, B: Sharing, C: Clock, H: House> Console<'a, R, L, B,
             × (self.new.hops.now ≡ self.old.hops.now) }
     {
         if goes(self.hops, order) {
-            let (rt, desk, now) = (self.rt, self.desk, self.clock.now());
-            let answer = act(rt, self.alloc, desk, self.pass, order, now);
+            let (clerk, now) = (self.clerk(), self.clock.now());
+            let answer = clerk.act(self.pass, order, now);
             self.house.acted(order, reason, answer.err());
             return answered(self.alloc, answer);
         }

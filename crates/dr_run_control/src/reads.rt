@@ -33,9 +33,10 @@ use http::StatusCode;
 use std::alloc::{AllocError, Global};
 use std::sync::Wait;
 
-/// Who reads at a node's desk: by what it waits for the lock, and where what it reads lies.
+/// Who reads and acts at a node's desk: by what it waits for the lock, and where what it reads
+/// lies.
 #[derive(Drop)]
-pub(crate) struct DeskReader<'a, R: Wait, L: Views, B: Sharing> {
+pub(crate) struct DeskClerk<'a, R: Wait, L: Views, B: Sharing> {
     pub rt: &'a R,
     pub alloc: Global,
     pub desk: &'a SharedDesk<L, B>,
@@ -45,7 +46,7 @@ pub(crate) struct DeskReader<'a, R: Wait, L: Views, B: Sharing> {
 /// around it, at a moment (milliseconds).
 #[derive(Drop)]
 pub(crate) struct NodeReader<'a, R: Wait, L: Views, B: Sharing, H: House> {
-    pub reader: DeskReader<'a, R, L, B>,
+    pub clerk: DeskClerk<'a, R, L, B>,
     pub hops: &'a [NextHop],
     pub house: &'a H,
     pub moment: u64,
@@ -274,7 +275,7 @@ fn late(alloc: Global, dest: &Text) -> HttpReply {
     }
 }
 
-impl<'a, R: Wait, L: Views, B: Sharing> DeskReader<'a, R, L, B> {
+impl<'a, R: Wait, L: Views, B: Sharing> DeskClerk<'a, R, L, B> {
     /// The rows that are wanted, as many as are asked for: those that the book has at one moment.
     ///
     /// Errors: Store, Memory.
@@ -384,8 +385,8 @@ impl<'a, R: Wait, L: Views, B: Sharing, H: House> NodeReader<'a, R, L, B, H> {
         ensures { IfOk result (λ queues.
             mapped (λ q. q.dest.now) queues.items ≡ mapped (λ hop. hop.dest) self.now.hops.now) }
     {
-        let (rt, desk, hops, house) = (self.reader.rt, self.reader.desk, self.hops, self.house);
-        let mut queues = Vec::with_capacity(self.reader.alloc, hops.len())?;
+        let (rt, desk, hops, house) = (self.clerk.rt, self.clerk.desk, self.hops, self.house);
+        let mut queues = Vec::with_capacity(self.clerk.alloc, hops.len())?;
         for hop in hops {
             let tally = desk.tally(rt, &hop.dest)?;
             let (visit, visits) = (house.visited(&hop.dest), house.visits(&hop.dest));
@@ -402,7 +403,7 @@ impl<'a, R: Wait, L: Views, B: Sharing, H: House> NodeReader<'a, R, L, B, H> {
         ensures { IfOk result (λ all.
             mapped (λ q. q.dest.now) all.1.items ≡ mapped (λ hop. hop.dest) self.now.hops.now) }
     {
-        let counts = counts_of(self.reader.desk.totals(self.reader.rt)?);
+        let counts = counts_of(self.clerk.desk.totals(self.clerk.rt)?);
         let queues = self.queues_of()?;
         let around = self.house.around(self.moment)?;
         Ok((counts, queues, around))
@@ -410,14 +411,14 @@ impl<'a, R: Wait, L: Views, B: Sharing, H: House> NodeReader<'a, R, L, B, H> {
 
     /// What a node is, has, and what goes on around it, as lines.
     pub(crate) fn read_status(&self, serving: ServingSince<'_>) -> HttpReply {
-        let alloc = self.reader.alloc;
+        let alloc = self.clerk.alloc;
         let (counts, queues, around) = match self.count_all() {
             Ok(all) => all,
             Err(fault) => return refused_by_ledger(alloc, fault),
         };
         let text = status_of(
             alloc,
-            self.reader.desk.site(),
+            self.clerk.desk.site(),
             serving,
             counts,
             queues.as_slice(),
@@ -428,7 +429,7 @@ impl<'a, R: Wait, L: Views, B: Sharing, H: House> NodeReader<'a, R, L, B, H> {
 
     /// What a node has, and what goes on around it, as figures.
     pub(crate) fn read_figures(&self) -> HttpReply {
-        let alloc = self.reader.alloc;
+        let alloc = self.clerk.alloc;
         let (counts, queues, around) = match self.count_all() {
             Ok(all) => all,
             Err(fault) => return refused_by_ledger(alloc, fault),
@@ -441,7 +442,7 @@ impl<'a, R: Wait, L: Views, B: Sharing, H: House> NodeReader<'a, R, L, B, H> {
     ///
     /// Errors: Store, Memory.
     fn late_hop(&self) -> Result<Option<&'a Text>, LedgerFault> {
-        let (rt, desk, hops) = (self.reader.rt, self.reader.desk, self.hops);
+        let (rt, desk, hops) = (self.clerk.rt, self.clerk.desk, self.hops);
         let (house, now) = (self.house, self.moment);
         for hop in hops {
             if house.is_quiet(&hop.dest, now) && is_due(desk.first_due(rt, &hop.dest)?, now) {
@@ -454,7 +455,7 @@ impl<'a, R: Wait, L: Views, B: Sharing, H: House> NodeReader<'a, R, L, B, H> {
     /// Whether the node is well: its ledger can be read, it could be written to last, and no node
     /// to which a row is due is left alone.
     pub(crate) fn read_health(&self) -> HttpReply {
-        let (rt, alloc, desk) = (self.reader.rt, self.reader.alloc, self.reader.desk);
+        let (rt, alloc, desk) = (self.clerk.rt, self.clerk.alloc, self.clerk.desk);
         if self.house.is_failing() {
             return refused_by_ledger(alloc, LedgerFault::Store);
         }

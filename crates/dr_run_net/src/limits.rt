@@ -53,7 +53,7 @@ impl Cut {
     }
 
     /// Whether they are.
-    pub fn is_made(&self) -> bool {
+    pub(crate) fn is_made(&self) -> bool {
         self.is_done.load(Ordering::SeqCst)
     }
 }

@@ -2,7 +2,8 @@
 ghost use Rattle.std.specs.Prelude.{◌≡◌, ◌⊎◌, ◌≤◌, ◌<◌, ◌+◌, ◌^◌, false, IfOk, None, Some, length};
 ghost use Rattle.std.specs.Prelude.{MatchBool, take};
 ghost use Rattle.std.specs.Io.KnownBytes.{ReadConsumes};
-ghost use Rattle.dr_session.specs.Links.{Counts, HasRisen, IsLinkFault};
+ghost use Rattle.dr_ledger.specs.Replies.{HasRisen};
+ghost use Rattle.dr_session.specs.Links.{Counts, IsLinkFault};
 ghost use Rattle.dr_session.specs.declared.ends.Heard.TheVariants as came;
 ghost use Rattle.dr_run_net.specs.Hearing.{Hears, IsAwaited, IsSilent, IsSwift, IsWidened, ear};
 ghost use Rattle.dr_run_net.specs.declared.window.Window.{Window as WindowValue};

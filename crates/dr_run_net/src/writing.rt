@@ -60,7 +60,12 @@ fn write_some<S: Write>(stream: &mut S, bytes: &[u8]) -> Option<usize>
     match stream.write(bytes) {
         Ok(0) => None,
         Ok(count) => Some(count),
-        Err(error) => { if is_quiet(&error) { Some(0) } else { None } }
+        Err(error) => {
+            if is_quiet(&error) {
+                return Some(0);
+            }
+            None
+        }
     }
 }
 

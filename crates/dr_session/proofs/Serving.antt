@@ -21,7 +21,18 @@ use Rattle.dr_session.specs.declared.wishes.Wish.{Wish}
 use Rattle.dr_session.specs.declared.wishes.Wish.TheVariants.{Listen, Push, Release, Echo}
 use Rattle.dr_session.specs.Desks.{DeskCall, DeskAnswer}
 use Rattle.dr_session.specs.Ends.{Terminal, HearsOf, over_of, is_free_in, is_dry_in}
-use Rattle.dr_session.specs.Links.{HasRisen, Counts, Performs, FailsToPerform, PerformsOne, Doing, Hears, Asks, Echoes, wants, IsWished, asked_after, reads, Finishes, Place, place, IsMoment, Does, Performed, Did, CarriesOut, Leaves, Stops, GoesOn, Served, StopsAt, EndsAs, Begins, StartsAs, IsLinkFailure, reads_by, asked_by}
+use Rattle.dr_ledger.specs.Replies.{HasRisen}
+use Rattle.dr_session.specs.Links.{Counts, IsLinkFault, Performs, FailsToPerform, PerformsOne, Doing, Hears, Asks, Echoes, wants, IsWished, asked_after, reads, Finishes, Place, place, IsMoment, Does, Performed, Did, CarriesOut, Leaves, Stops, GoesOn, Served, StopsAt, EndsAs, Begins, StartsAs, IsLinkFailure, reads_by, asked_by}
+
+-- what is the link's fault is the one value that says so
+pub fault_is : (came : Heard) → IsLinkFault came → came ≡ heard.Fault
+fault_is heard.Fault h = refl
+fault_is heard.End h = absurd h
+fault_is heard.Late h = absurd h
+fault_is heard.Crowded h = absurd h
+fault_is heard.Idle h = absurd h
+fault_is heard.Memory h = absurd h
+fault_is (heard.Bytes piece) h = absurd h
 
 -- ---- actions
 

@@ -1,6 +1,6 @@
 -- Sessions over a link: what is heard or asked, what it does, and all that is written, sent.
-use Rattle.std.specs.Prelude.{◌≡◌, ◌⊎◌, ◌<◌, ◌≤◌, ◌^◌, ◌-◌, ◌+◌, ◌||◌, not, nat_le, ℕ, Bool, true}
-use Rattle.std.specs.Prelude.{false, List, [], ◌∷◌, if◌then◌else◌, Some, None, Result, Ok, Err}
+use Rattle.std.specs.Prelude.{◌≡◌, ◌⊎◌, ◌≤◌, ◌^◌, ◌+◌, ◌||◌, not, nat_le, ℕ, Bool, true, false}
+use Rattle.std.specs.Prelude.{List, [], ◌∷◌, if◌then◌else◌, Some, None, Result, Ok, Err}
 use Rattle.std.specs.declared.alloc.AllocError.{AllocError}
 use Rattle.dr_base.specs.Texts.{Text}
 use Rattle.dr_plan_sound.specs.declared.certificate.Hop.{Hop}
@@ -31,16 +31,13 @@ use Rattle.dr_nego.specs.declared.fault.NegoFault.{NegoFault}
 use Rattle.dr_nego.specs.declared.fault.NegoFault.TheVariants as negofault
 use Rattle.dr_ledger.specs.declared.item.Outcome.TheVariants.{Status}
 use Rattle.dr_ledger.specs.declared.fault.LedgerFault.TheVariants as ledger
+use Rattle.dr_ledger.specs.Replies.{HasRisen}
 use Rattle.dr_session.specs.declared.echo_desk.EchoDesk.{EchoDesk}
 use Rattle.dr_session.specs.declared.echo_desk.Echoed.{Echoed}
 use Rattle.dr_session.specs.Ends.{Terminal, HearsOf, Meets, EchoesIn, over_of, is_free_in}
 use Rattle.dr_session.specs.Ends.{is_dry_in, begins, requesting, requesting_echo}
 
 -- ---- the count of failures
-
--- it rose, or it stands at its greatest value
-abbrev pub HasRisen : ℕ → ℕ → Type 0
-HasRisen before now = (before < now) ⊎ (now ≡ 2 ^ 64 - 1)
 
 -- it never falls, and where the call failed it has risen
 abbrev pub Counts : Type 0 → ℕ → ℕ → Type 0
@@ -351,11 +348,6 @@ module _ {L : Type 0} (hears : L → Heard → L → Type 0) (sends : L → List
   EchoesAs caller called (Err fault.Memory) k l =
       (l ≡ k) ⊎ ((t : EchoDesk) × EchoSession caller called (Err fault.Memory) k l t)
   EchoesAs caller called (Err why) k l = (t : EchoDesk) × EchoSession caller called (Err why) k l t
-
--- whether it is the link's fault
-abbrev pub IsFaultBy : Bool → Heard → Type 0
-IsFaultBy true came = came ≡ heard.Fault
-IsFaultBy false came = came ≡ heard.Fault → ⊥
 
 -- the counts of reads and of what was asked, behind a wish
 abbrev pub reads_by : Wish → ℕ → ℕ

@@ -27,29 +27,22 @@ impl Model for BoxedCore {
 
 impl BoxedCore {
     /// Puts a core on the heap.
-    pub fn new(alloc: Global, core: Core) -> Result<BoxedCore, AllocError>
+    pub(crate) fn new(alloc: Global, core: Core) -> Result<BoxedCore, AllocError>
         ensures { IfOk result (λ b. b ≡ core) }
     {
         let core = Box::new(alloc, core)?;
         Ok(BoxedCore { core })
     }
 
-    /// The core itself.
-    pub fn into_core(self) -> Core
-        ensures { result ≡ self }
-    {
-        Box::into_inner(self.core)
-    }
-
     /// The other end's title.
-    pub fn peer(&self) -> &Text
+    pub(crate) fn peer(&self) -> &Text
         ensures { result.now ≡ self.now.peer }
     {
         &self.core.as_ref().peer
     }
 
     /// The core by reference.
-    pub fn as_core(&self) -> &Core
+    pub(crate) fn as_core(&self) -> &Core
         ensures { result.now ≡ self.now }
     {
         self.core.as_ref()

@@ -98,7 +98,7 @@ impl End {
 
     /// The requestor of an echo between nodes of those names. It proposes Verification in context
     /// 1, in the implicit syntax alone, and takes P-DATA-TF PDUs of at most 16,384 bytes.
-    pub fn request_echo(
+    pub(crate) fn request_echo(
         alloc: Global,
         caller: &Text,
         called: &Text,
@@ -133,7 +133,7 @@ impl End {
     }
 
     /// How it is over, if it is; it takes no memory.
-    pub fn over(&self) -> Option<Over>
+    pub(crate) fn over(&self) -> Option<Over>
         ensures { result ≡ over_of self.now.core }
     {
         let Some(core) = &self.core else {
@@ -151,7 +151,7 @@ impl End {
 
     /// Whether it is a requestor's end that may send: established, with nothing pending. It takes
     /// no memory.
-    pub fn is_free(&self) -> bool
+    pub(crate) fn is_free(&self) -> bool
         ensures { result ≡ is_free_in self.now.core }
     {
         match &self.core {
@@ -161,7 +161,7 @@ impl End {
     }
 
     /// Whether a push has found no row due. It takes no memory.
-    pub fn is_dry(&self) -> bool
+    pub(crate) fn is_dry(&self) -> bool
         ensures { result ≡ is_dry_in self.now.core }
     {
         match &self.core {
@@ -185,7 +185,7 @@ impl End {
 
     /// A C-ECHO-RQ is sent, where it is a requestor's end that may send and has a context of
     /// Verification.
-    pub fn echo(&mut self, now: u64) -> Result<Seq<LinkAction>, AllocError>
+    pub(crate) fn echo(&mut self, now: u64) -> Result<Seq<LinkAction>, AllocError>
         ensures { EchoesIn self.old.core now self.old result self.new }
     {
         let Some(core) = self.take_free() else {

@@ -30,4 +30,4 @@ pub use ends::{
 };
 pub use link::{Clock, Link};
 pub use port::DeskPort;
-pub use sessions::{SessionFault, deliver, echo, receive};
+pub use sessions::{SessionFault, deliver, echo, is_fault, receive};

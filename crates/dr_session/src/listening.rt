@@ -32,7 +32,7 @@ impl Model for Listener {
 
 impl Listener {
     /// Nothing is under way; it takes no memory.
-    pub fn new(alloc: Global, awaited: Awaited) -> Listener
+    pub(crate) fn new(alloc: Global, awaited: Awaited) -> Listener
         ensures { result ≡ record { awaited = awaited; stage = Idle } }
     {
         Listener {
@@ -41,14 +41,14 @@ impl Listener {
     }
 
     /// Other commands are awaited from now on.
-    pub fn await_other(&mut self, awaited: Awaited)
+    pub(crate) fn await_other(&mut self, awaited: Awaited)
         ensures { self.new ≡ record { awaited = awaited; stage = self.old.stage } }
     {
         self.hearing.set_awaited(awaited);
     }
 
     /// Lets the bytes of the data set that is under way go, if one is.
-    pub fn let_data_go(&mut self)
+    pub(crate) fn let_data_go(&mut self)
         ensures { self.new
             ≡ record { awaited = self.old.awaited; stage = let_go self.old.stage } }
     {
@@ -58,7 +58,7 @@ impl Listener {
     /// One more value, as the assembly takes it, of a context with that transfer syntax. The
     /// command of a message that it ends can be written, and the scan that comes with it has heard
     /// its data set.
-    pub fn take(
+    pub(crate) fn take(
         &mut self,
         pdv: Pdv,
         syntax: Option<Syntax>,

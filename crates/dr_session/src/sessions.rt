@@ -1,9 +1,9 @@
 //! Sessions over any link.
-ghost use Rattle.std.specs.Prelude.{◌≡◌, ◌≤◌, ◌<◌, ◌^◌, ◌+◌, false};
+ghost use Rattle.std.specs.Prelude.{◌≡◌, ◌≤◌, ◌<◌, ◌^◌, ◌+◌, ◌↔◌, IsTrue, false};
 ghost use Rattle.dr_session.specs.Ends.{accepting, begins};
 ghost use Rattle.dr_session.specs.Links.{Counts, PerformsOne, PerformsOr, CarriesOut, GoesOn};
 ghost use Rattle.dr_session.specs.Links.{EndsAs, DeliversAs, EchoesAs, StartsAs, Finishes};
-ghost use Rattle.dr_session.specs.Links.{IsFaultBy, IsLinkFailure, IsMoment, IsWished, asked_by};
+ghost use Rattle.dr_session.specs.Links.{IsLinkFailure, IsLinkFault, IsMoment, IsWished, asked_by};
 ghost use Rattle.dr_session.specs.Links.{place, reads_by, refusal_of};
 ghost use Rattle.dr_session.specs.Sessions.{KeepsParts, place_of};
 ghost use Rattle.dr_plan_model.specs.Formed.{IsName};
@@ -100,8 +100,8 @@ fn moment<C: Clock>(clock: &C, others: usize) -> Moment
 }
 
 /// Whether it is the link's fault.
-fn is_fault(heard: &Heard) -> bool
-    ensures { IsFaultBy result heard.now }
+pub fn is_fault(heard: &Heard) -> bool
+    ensures { IsTrue result ↔ IsLinkFault heard.now }
 {
     matches!(heard, Heard::Fault)
 }

@@ -27,7 +27,7 @@ pub enum Wish {
 }
 
 /// What a session wants next that has asked its end for something so many times.
-pub fn next_wish(kind: Kind, asked: u32, end: &End) -> Wish
+pub(crate) fn next_wish(kind: Kind, asked: u32, end: &End) -> Wish
     ensures { result ≡ wants kind asked end.now }
 {
     match kind {

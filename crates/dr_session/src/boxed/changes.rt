@@ -13,7 +13,7 @@ use dr_pdu::AssociateRj;
 
 impl BoxedCore {
     /// Nothing is pending any more.
-    pub fn leave_pending(self) -> BoxedCore
+    pub(crate) fn leave_pending(self) -> BoxedCore
         ensures { result ≡ left self }
     {
         let mut core = self.core;
@@ -22,7 +22,7 @@ impl BoxedCore {
     }
 
     /// A response has come: nothing is pending, and nothing is awaited.
-    pub fn settle(self) -> BoxedCore
+    pub(crate) fn settle(self) -> BoxedCore
         ensures { result ≡ settled_with self }
     {
         let mut core = self.core;
@@ -32,7 +32,7 @@ impl BoxedCore {
     }
 
     /// A request is under way, and its response is awaited.
-    pub fn await_response(self, asked: Pending, now: u64) -> BoxedCore
+    pub(crate) fn await_response(self, asked: Pending, now: u64) -> BoxedCore
         ensures { result ≡ awaiting asked now self }
     {
         let mut core = self.core;
@@ -43,7 +43,7 @@ impl BoxedCore {
     }
 
     /// An answer is awaited since that moment, in milliseconds.
-    pub fn await_since(self, now: u64) -> BoxedCore
+    pub(crate) fn await_since(self, now: u64) -> BoxedCore
         ensures { result ≡ record self { awaits = Some now } }
     {
         let mut core = self.core;
@@ -52,7 +52,7 @@ impl BoxedCore {
     }
 
     /// No row is due.
-    pub fn run_dry(self) -> BoxedCore
+    pub(crate) fn run_dry(self) -> BoxedCore
         ensures { result ≡ dried self }
     {
         let mut core = self.core;
@@ -61,7 +61,7 @@ impl BoxedCore {
     }
 
     /// The bytes of the data set that is under way are let go.
-    pub fn let_data_go(self) -> BoxedCore
+    pub(crate) fn let_data_go(self) -> BoxedCore
         ensures { result ≡ without_data self }
     {
         let mut core = self.core;
@@ -70,7 +70,7 @@ impl BoxedCore {
     }
 
     /// What a requestor agreed on.
-    pub fn agree(self, agreed: Agreed) -> BoxedCore
+    pub(crate) fn agree(self, agreed: Agreed) -> BoxedCore
         ensures { result ≡ record self { agreed = Some agreed; awaits = None } }
     {
         let mut core = self.core;
@@ -79,7 +79,7 @@ impl BoxedCore {
     }
 
     /// What an acceptor agreed on, and with whom.
-    pub fn agree_with(self, peer: Text, agreed: Agreed) -> BoxedCore
+    pub(crate) fn agree_with(self, peer: Text, agreed: Agreed) -> BoxedCore
         ensures { result ≡ record self { peer = peer; agreed = Some agreed } }
     {
         let mut core = self.core;
@@ -88,7 +88,7 @@ impl BoxedCore {
     }
 
     /// The mark of a failed desk.
-    pub fn fail_desk(self) -> BoxedCore
+    pub(crate) fn fail_desk(self) -> BoxedCore
         ensures { result ≡ desk_failed self }
     {
         let marks = Marks {
@@ -99,7 +99,7 @@ impl BoxedCore {
     }
 
     /// The mark of an A-ABORT.
-    pub fn mark_aborted(self) -> BoxedCore
+    pub(crate) fn mark_aborted(self) -> BoxedCore
         ensures { result ≡ aborted self }
     {
         let marks = Marks {
@@ -110,7 +110,7 @@ impl BoxedCore {
     }
 
     /// The mark of an A-RELEASE-RP.
-    pub fn mark_released(self) -> BoxedCore
+    pub(crate) fn mark_released(self) -> BoxedCore
         ensures { result ≡ released self }
     {
         let marks = Marks {
@@ -121,7 +121,7 @@ impl BoxedCore {
     }
 
     /// The mark of an A-ASSOCIATE-RJ.
-    pub fn mark_rejected(self, rejection: AssociateRj) -> BoxedCore
+    pub(crate) fn mark_rejected(self, rejection: AssociateRj) -> BoxedCore
         ensures { result ≡ rejected_with rejection self }
     {
         let marks = Marks {

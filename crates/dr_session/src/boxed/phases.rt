@@ -17,14 +17,14 @@ use std::mem;
 
 impl BoxedCore {
     /// The state (PS3.8 9.2.1).
-    pub fn state(&self) -> State
+    pub(crate) fn state(&self) -> State
         ensures { result ≡ state_at self.now }
     {
         self.core.as_ref().phase.state()
     }
 
     /// Whether it is the end that asked for the association.
-    pub fn is_requestor(&self) -> bool
+    pub(crate) fn is_requestor(&self) -> bool
         ensures { result ≡ is_requestor self.now }
     {
         self.core.as_ref().phase.is_requestor()
@@ -32,7 +32,7 @@ impl BoxedCore {
 
     /// What comes from outside is an event of the table: its action and the end in the phase that
     /// follows; where it has no cell the end as it was.
-    pub fn step(self, incoming: Incoming, now: u64) -> Result<(Action, BoxedCore), BoxedCore>
+    pub(crate) fn step(self, incoming: Incoming, now: u64) -> Result<(Action, BoxedCore), BoxedCore>
         ensures { result
             ≡ after_step self
             (next_stepped (event_of incoming) (is_acceptable incoming) self.phase now) }
@@ -42,7 +42,7 @@ impl BoxedCore {
     }
 
     /// The table's timer, where it has expired.
-    pub fn step_late(self, now: u64) -> Result<(Action, BoxedCore), BoxedCore>
+    pub(crate) fn step_late(self, now: u64) -> Result<(Action, BoxedCore), BoxedCore>
         ensures { result ≡ after_step self (next_late self.phase now) }
     {
         let (phase, core) = self.take_phase();
@@ -50,7 +50,7 @@ impl BoxedCore {
     }
 
     /// The local user's abort.
-    pub fn step_abort(self, now: u64) -> Result<(Action, BoxedCore), BoxedCore>
+    pub(crate) fn step_abort(self, now: u64) -> Result<(Action, BoxedCore), BoxedCore>
         ensures { result ≡ after_step self (next_stepped AbortRequest true self.phase now) }
     {
         let (phase, core) = self.take_phase();
@@ -58,7 +58,7 @@ impl BoxedCore {
     }
 
     /// The local user's request for a release.
-    pub fn step_release(self, now: u64) -> Result<(Action, BoxedCore), BoxedCore>
+    pub(crate) fn step_release(self, now: u64) -> Result<(Action, BoxedCore), BoxedCore>
         ensures { result ≡ after_step self (next_stepped ReleaseRequest true self.phase now) }
     {
         let (phase, core) = self.take_phase();
@@ -66,7 +66,7 @@ impl BoxedCore {
     }
 
     /// The local user's data.
-    pub fn step_data(self, now: u64) -> Result<(Action, BoxedCore), BoxedCore>
+    pub(crate) fn step_data(self, now: u64) -> Result<(Action, BoxedCore), BoxedCore>
         ensures { result ≡ after_step self (next_sent self.phase now) }
     {
         let (phase, core) = self.take_phase();
@@ -74,7 +74,7 @@ impl BoxedCore {
     }
 
     /// The phase after the local user's abort (PS3.8 9.2.2, AA-1).
-    pub fn abort(self, now: u64) -> BoxedCore
+    pub(crate) fn abort(self, now: u64) -> BoxedCore
         ensures { result ≡ stepped_by AbortRequest now self }
     {
         let (phase, core) = self.take_phase();
@@ -82,7 +82,7 @@ impl BoxedCore {
     }
 
     /// The phase after the answer to a release (PS3.8 9.2.2, AR-4 and AR-9).
-    pub fn respond(self, now: u64) -> BoxedCore
+    pub(crate) fn respond(self, now: u64) -> BoxedCore
         ensures { result ≡ stepped_by ReleaseResponse now self }
     {
         let (phase, core) = self.take_phase();
@@ -90,7 +90,7 @@ impl BoxedCore {
     }
 
     /// The phase after a request was accepted (PS3.8 9.2.2, AE-7).
-    pub fn accept(self, now: u64) -> BoxedCore
+    pub(crate) fn accept(self, now: u64) -> BoxedCore
         ensures { result ≡ stepped_by AcceptResponse now self }
     {
         let (phase, core) = self.take_phase();
@@ -98,7 +98,7 @@ impl BoxedCore {
     }
 
     /// The phase after a request was rejected (PS3.8 9.2.2, AE-8).
-    pub fn reject(self, now: u64) -> BoxedCore
+    pub(crate) fn reject(self, now: u64) -> BoxedCore
         ensures { result ≡ stepped_by RejectResponse now self }
     {
         let (phase, core) = self.take_phase();

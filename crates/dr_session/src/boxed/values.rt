@@ -11,7 +11,7 @@ use std::alloc::{AllocError, Global};
 
 impl BoxedCore {
     /// What a value comes to where data is taken, and the end after it.
-    pub fn tell_value(self, alloc: Global, pdv: Pdv) -> Result<(Told, BoxedCore), AllocError>
+    pub(crate) fn tell_value(self, alloc: Global, pdv: Pdv) -> Result<(Told, BoxedCore), AllocError>
         ensures tells { IfOk result (λ r. TellsValueTo self pdv r.0 r.1) }
         ensures fits { IfOk result (λ r. ToldFits r.0) }
     {

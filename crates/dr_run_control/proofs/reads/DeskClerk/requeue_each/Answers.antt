@@ -1,5 +1,5 @@
 use Rattle.dr_run_control.proofs.InTurn.{toward_next, toward_fault, toward_end}
-use Rattle.dr_run_control.proofs.acts.requeue_each.Goals as goal
+use Rattle.dr_run_control.proofs.reads.DeskClerk.requeue_each.Goals as goal
 
 pub loop-row-init : goal.loop-row-init
 loop-row-init g c = λ result t h. h
