@@ -4,8 +4,11 @@
 Each crate is in the section of its room, behind those of the room that it stands on; no arrow goes up to a later room;
 each folder of crates/ has its line, and each library of a line is named by the crate; the picture in docs/ is that of
 crates.txt; docs/ARCHITECTURE.md has the table of `tools/rename --table`, whose old names are no crates, and whose new
-ones are there; and its lists of crates and docs/PROVED.md have them in the order of crates.txt.
+ones are there; and its lists of crates and docs/PROVED.md have them in the order of crates.txt. No two crates define a
+record or a data type of one name in their specs, or anything of one name alike. A relation of two crates may have one
+name, where each is the crate's own instance of one idea: `Reads`, `Opens`, `IsAt`.
 """
+import glob
 import os
 import re
 import subprocess
@@ -24,6 +27,38 @@ OTHER_NAMES = {
     "dr_nego": "run", "dr_session": "run", "dr_desk": "run", "dr_desk_workers": "run", "dr_node": "world",
     "dr_certifier": "program", "dr_checker": "program", "dr_router": "program",
 }
+
+# A definition of a specs file that others can use: its words, and its name.
+DEFINED = re.compile(r"((?:abbrev|unfoldable|opaque|pub|record|data) (?:(?:abbrev|unfoldable|opaque|pub|record|data) )*)"
+                     r"([^\s:({]+)")
+
+
+def definitions(crate):
+    """The name of each definition of a crate's specs, whether it makes a type, and its text without comments."""
+    for path in sorted(glob.glob(f"{TOP}/crates/{crate}/specs/*.antt")):
+        with open(path, encoding="utf-8") as file:
+            lines = [line for line in file.read().split("\n") if not line.startswith("--")]
+        for number, line in enumerate(lines):
+            found = DEFINED.match(line)
+            if found and "pub " in found[1] and found[2] not in ("mod", "use"):
+                end = next((at for at in range(number, len(lines)) if not lines[at].strip()), len(lines))
+                words = found[1].split()
+                yield found[2], "record" in words or "data" in words, " ".join(" ".join(lines[number:end]).split())
+
+
+def shared_names():
+    """The names that two crates define in their specs as types, or alike, a line each."""
+    places = {}
+    for crate in listed():
+        for name, is_type, text in definitions(crate):
+            for which in (("type", name), ("text", text)) if is_type else (("text", text),):
+                places.setdefault((which, name), {})[crate] = True
+    told = {}
+    for (_, name), crates in places.items():
+        if len(crates) > 1:
+            told.setdefault(name, {}).update(crates)
+    for name, crates in told.items():
+        yield f"{name} is defined in the specs of {', '.join(crates)}"
 
 
 def old_names():
@@ -88,6 +123,7 @@ def faults():
     for crate in listed():
         if f">{crate}<" not in drawn:
             yield f"docs/rooms.svg lacks {crate}: draw it by dot -Tsvg docs/rooms.dot"
+    yield from shared_names()
     yield from old_names()
 
 

@@ -8,8 +8,8 @@ use Rattle.dr_route.specs.Routes.{local}
 use Rattle.dr_route.specs.declared.cell.OwnedCell.{OwnedCell}
 use Rattle.dr_plan_sound.specs.declared.certificate.Stop.{Stop}
 use Rattle.dr_plan_sound.specs.declared.certificate.Line.{Line}
-use Rattle.dr_plan_entries.specs.Visiting.{GoesOn, IsThis}
-use Rattle.dr_cert.specs.Walking.{IsWalking, IsMarked, HasVisited, Shows, AfterMark}
+use Rattle.dr_plan_entries.specs.Visiting.{VisitorGoesOn, IsThis}
+use Rattle.dr_cert.specs.Walking.{IsWalking, IsMarked, HasVisited, ShowsMissing, AfterMark}
 use Rattle.dr_cert.specs.declared.walker.Walker.{Walker}
 use Rattle.dr_cert.proofs.Following.{marked_still}
 use Rattle.dr_cert.proofs.Walked.{missing_before}
@@ -18,7 +18,7 @@ abbrev pub entry_stop : Text → Text → OwnedCell → Stop
 entry_stop caller site cell = record { caller = caller; node = site; cell = cell }
 
 pub visited : (old new : Walker) (site : Text) (cell : OwnedCell) (place : ℕ) → AfterMark old new (entry_stop local site cell) (Some place) →
-    GoesOn (λ (w : Walker). w.plan.now) IsWalking HasVisited Shows (IsThis site cell) old new
+    VisitorGoesOn (λ (w : Walker). w.plan.now) IsWalking HasVisited ShowsMissing (IsThis site cell) old new
 visited old new site cell place after =
     let L : List Line → Type 0 = λ ls. IsMarked ls new.reached.items (entry_stop local site cell) in
     let here : HasVisited new site cell = subst L (sym after.1.lines) (place, after.2, after.3) in

@@ -10,11 +10,11 @@ use Rattle.dr_route.specs.declared.cell.OwnedStation.TheVariants as station
 use Rattle.dr_plan_model.specs.Networks.{Network}
 use Rattle.dr_plan_model.specs.Plans.{IsWellFormed}
 use Rattle.dr_plan_sound.specs.declared.certificate.Line.{Line}
-use Rattle.dr_plan_entries.specs.Visiting.{GoesOn, IsEntryCell}
+use Rattle.dr_plan_entries.specs.Visiting.{VisitorGoesOn, IsEntryCell}
 use Rattle.dr_cert.specs.Conditions.{HasEachLine}
 use Rattle.dr_cert.specs.Indexing.{AreSorted}
 use Rattle.dr_cert.specs.Surveying.{EachAt, IsSurveyOf}
-use Rattle.dr_cert.specs.Walking.{IsWalking, IsComeTo, IsMarked, HasVisited, Shows, AfterWalk}
+use Rattle.dr_cert.specs.Walking.{IsWalking, IsComeTo, IsMarked, HasVisited, ShowsMissing, AfterWalk}
 use Rattle.dr_cert.specs.Finding.{AreWalked}
 use Rattle.dr_cert.specs.declared.survey.Survey.{Survey}
 use Rattle.dr_cert.specs.declared.walk.Walked.{Walked}
@@ -26,7 +26,7 @@ use Rattle.dr_route.specs.Routes.{local}
 
 -- the visits of all entries of the walker's plan
 abbrev pub Visits : Walker → Walker → Type 0
-Visits start mid = GoesOn (λ (w : Walker). w.plan.now) IsWalking HasVisited Shows (IsEntryCell start.plan.now) start mid
+Visits start mid = VisitorGoesOn (λ (w : Walker). w.plan.now) IsWalking HasVisited ShowsMissing (IsEntryCell start.plan.now) start mid
 
 -- some cell, for what holds whatever the cell
 any : OwnedCell

@@ -111,8 +111,8 @@ HasVisited w site cell =
 -- The lines are the walker's, and some stop to which a walk comes has none of them, whatever the
 -- entry. A count that no usize has stands for no finding: so the visits say by what they show that
 -- the lines stay the same.
-abbrev pub Shows : Walker → Missing → Text → OwnedCell → Type 0
-Shows w missing site cell =
+abbrev pub ShowsMissing : Walker → Missing → Text → OwnedCell → Type 0
+ShowsMissing w missing site cell =
     (missing.lines.now ≡ w.lines.now)
     × (missing.count < 18446744073709551616 → HasEachLine w.plan.now w.lines.now → ⊥)
 

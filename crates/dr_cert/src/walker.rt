@@ -180,7 +180,7 @@ impl<'a> Walker<'a> {
 impl<'a> EntryVisitor for Walker<'a> {
     type Finding = Missing<'a>;
 
-    ghost use Rattle.dr_cert.specs.Walking.{IsWalking, HasVisited, Shows};
+    ghost use Rattle.dr_cert.specs.Walking.{IsWalking, HasVisited, ShowsMissing};
 
     ghost plan = { λ w. w.plan.now };
 
@@ -188,7 +188,7 @@ impl<'a> EntryVisitor for Walker<'a> {
 
     ghost has_visited = { HasVisited };
 
-    ghost shows = { Shows };
+    ghost shows = { ShowsMissing };
 
     fn visit(&mut self, site: &Text, cell: &OwnedCell) -> Result<Option<Missing<'a>>, AllocError> {
         let lines = self.lines;

@@ -9,12 +9,12 @@ use Rattle.dr_plan_model.specs.Networks.{Network}
 use Rattle.dr_plan_model.proofs.Gathered.{nothing_in_nil}
 use Rattle.dr_cert_diff.specs.declared.change.RouteChange.{RouteChange}
 use Rattle.dr_cert_diff.specs.Comparing.{Compares}
-use Rattle.dr_cert_diff.specs.Differing.{IsLost, IsRight, IsTold, LiesInBoth}
+use Rattle.dr_cert_diff.specs.Differing.{IsLost, IsRight, IsInAChange, LiesInBoth}
 use Rattle.dr_cert_diff.specs.Going.{Adds, At, Over}
 
 module _ (old new : Network) where
   -- what is told stays told
-  told_still : (before after : List RouteChange) → ((c : RouteChange) → Contains before c → Contains after c) → (site : Text) (key : Key) → IsTold old new before site key → IsTold old new after site key
+  told_still : (before after : List RouteChange) → ((c : RouteChange) → Contains before c → Contains after c) → (site : Text) (key : Key) → IsInAChange old new before site key → IsInAChange old new after site key
   told_still before after kept site key told dest differs = let t = told dest differs in (t.0, kept t.0 t.1, t.2, t.3)
 
   pub adds_none : {X : Type 0} (Q : X → Text → Key → Type 0) (before : List RouteChange) → Adds old new (Over [] Q) before before

@@ -43,8 +43,8 @@ pub record IsRight (old new : Network) (change : RouteChange) : Type 0 where
   pub some : (change.lost ≢ []) ⊎ (change.gained ≢ [])
 
 -- what changes for the key that enters at the site is in some change
-abbrev pub IsTold : Network → Network → List RouteChange → Text → Key → Type 0
-IsTold old new changes site key =
+abbrev pub IsInAChange : Network → Network → List RouteChange → Text → Key → Type 0
+IsInAChange old new changes site key =
     (dest : Text) → IsLost old new site key dest ⊎ IsLost new old site key dest
     → (change : RouteChange)
     × Contains changes change
@@ -54,7 +54,7 @@ IsTold old new changes site key =
 -- just what changes, for all keys and wherever they enter
 pub record IsDiff (old new : Network) (changes : List RouteChange) : Type 0 where
   pub right : (change : RouteChange) → Contains changes change → IsRight old new change
-  pub whole : (site : Text) (key : Key) → IsTold old new changes site key
+  pub whole : (site : Text) (key : Key) → IsInAChange old new changes site key
 
 -- some change loses a node that kept
 abbrev pub LosesSome : List RouteChange → Type 0

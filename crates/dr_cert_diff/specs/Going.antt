@@ -12,7 +12,7 @@ use Rattle.dr_plan_model.specs.Networks.{Network}
 use Rattle.dr_plan_model.specs.Walks.{IsEntry}
 use Rattle.dr_cert_diff.specs.declared.change.RouteChange.{RouteChange}
 use Rattle.dr_cert_diff.specs.declared.parts.FieldParts.{FieldParts}
-use Rattle.dr_cert_diff.specs.Differing.{IsRight, IsTold, LiesInBoth, literals_of_both}
+use Rattle.dr_cert_diff.specs.Differing.{IsRight, IsInAChange, LiesInBoth, literals_of_both}
 
 -- what is added is right, nothing is taken away, and what changes for the keys of which `P` speaks
 -- is there
@@ -21,7 +21,7 @@ pub record Adds (old new : Network) (P : Text → Key → Type 0)
   pub right : ((change : RouteChange) → Contains before change → IsRight old new change)
       → (change : RouteChange) → Contains after change → IsRight old new change
   pub kept : (change : RouteChange) → Contains before change → Contains after change
-  pub whole : (site : Text) (key : Key) → P site key → IsTold old new after site key
+  pub whole : (site : Text) (key : Key) → P site key → IsInAChange old new after site key
 
 -- what one of the elements says
 abbrev pub Over : {X : Type 0} → List X → (X → Text → Key → Type 0) → Text → Key → Type 0

@@ -6,7 +6,7 @@ use Rattle.dr_base.specs.declared.syntax.Syntax.TheVariants.{Explicit}
 use Rattle.dr_route.specs.declared.key.Key.{Key}
 use Rattle.dr_plan_model.specs.Networks.{Network}
 use Rattle.dr_route.specs.Routes.{local}
-use Rattle.dr_plan_model.specs.Walks.{Fits, IsDestination, IsEntry}
+use Rattle.dr_plan_model.specs.Walks.{FlowBrings, IsDestination, IsEntry}
 use Rattle.dr_plan_model.specs.declared.plan.Flow.{Flow}
 use Rattle.dr_plan_model.proofs.Gathered.{nothing_in_nil, only_one, Contains-here}
 use Rattle.dr_plan_sound.specs.Samples.{archive, image, keep_all, scanner, the_flow, two_nodes}
@@ -39,7 +39,7 @@ each_kept site key entry =
     let flow = entry.1.0 in
     let same : the_flow ≡ flow = only_one the_flow flow entry.1.1 in
     let at : scanner ≡ site = subst (λ (f : Flow). f.at ≡ site) (sym same) entry.1.2 in
-    let fits : Fits the_flow key = subst (λ (f : Flow). Fits f key) (sym same) entry.1.4 in
+    let fits : FlowBrings the_flow key = subst (λ (f : Flow). FlowBrings f key) (sym same) entry.1.4 in
     let class : image ≡ key.class = only_one image key.class fits.class in
     let syntax : Explicit ≡ key.syntax = only_one Explicit key.syntax fits.syntax in
     let mk : Text → Syntax → Key = λ c s. record { class = c; syntax = s; modality = key.modality; station = key.station } in

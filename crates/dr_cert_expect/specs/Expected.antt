@@ -41,13 +41,13 @@ pub record Holds (plan : Network) (row : Expectation) : Type 0 where
 
 -- what is lacking shows that the row doesn't hold: it has no case; or a case isn't kept where it
 -- has to be, or comes where it must not
-abbrev pub Shows : Network → Expectation → Lack → Type 0
-Shows plan row Nothing = HasCase plan row → ⊥
-Shows plan row (Keep name case) =
+abbrev pub ShowsLack : Network → Expectation → Lack → Type 0
+ShowsLack plan row Nothing = HasCase plan row → ⊥
+ShowsLack plan row (Keep name case) =
     IsCase plan row case.site case.key
     × Contains row.keep name
     × (IsDestination plan local case.site case.key name → ⊥)
-Shows plan row (Never name case) =
+ShowsLack plan row (Never name case) =
     IsCase plan row case.site case.key
     × Contains row.never name
     × ComesToNode plan case.site case.key name
@@ -59,7 +59,7 @@ pub record IsFirstMiss (plan : Network) (rows : List Expectation) (miss : Miss) 
   pub is : slice_get rows index ≡ Some row
   pub number : miss.row ≡ index + 1
   pub before : All (Holds plan) (take index rows)
-  pub shows : Shows plan row miss.lack
+  pub shows : ShowsLack plan row miss.lack
 
 -- what comes of the rows: all hold, or the first miss
 abbrev pub Decides : Network → List Expectation → Option Miss → Type 0

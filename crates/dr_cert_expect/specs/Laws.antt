@@ -8,12 +8,13 @@ use Rattle.dr_plan_sound.specs.Samples.{archive, keep_all, two_nodes}
 use Rattle.dr_plan_expect.specs.declared.words.Expectation.{Expectation}
 use Rattle.dr_cert_expect.specs.declared.answer.Lack.{Lack}
 use Rattle.dr_cert_expect.specs.declared.answer.Miss.{Miss}
-use Rattle.dr_cert_expect.specs.Expected.{Holds, IsFirstMiss, Shows}
+use Rattle.dr_cert_expect.specs.Expected.{Holds, IsFirstMiss, ShowsLack}
 
 -- a row that lacks something doesn't hold
 abbrev pub WhatIsLackingRefutes : Type 0
 WhatIsLackingRefutes =
-    (plan : Network) (row : Expectation) (lack : Lack) → Shows plan row lack → Holds plan row → ⊥
+    (plan : Network) (row : Expectation) (lack : Lack)
+    → ShowsLack plan row lack → Holds plan row → ⊥
 
 -- of rows that don't all hold, one row is the first that doesn't
 abbrev pub OneFirstMiss : Type 0

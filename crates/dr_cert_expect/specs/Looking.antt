@@ -11,14 +11,14 @@ use Rattle.dr_plan_expect.specs.declared.words.Expectation.{Expectation}
 use Rattle.dr_cert_expect.specs.declared.answer.Lack.{Lack}
 use Rattle.dr_cert_expect.specs.declared.row.Finding.{Finding}
 use Rattle.dr_cert_expect.specs.declared.row.Finding.TheVariants.{Other, Met, Lacks}
-use Rattle.dr_cert_expect.specs.Expected.{HasCase, Holds, IsCase, IsMet, Shows}
+use Rattle.dr_cert_expect.specs.Expected.{HasCase, Holds, IsCase, IsMet, ShowsLack}
 
 -- what comes of a key of which the row speaks: it doesn't enter there, it meets the row, or what is
 -- lacking shows that the row doesn't hold
 abbrev pub Finds : Network → Expectation → Text → Key → Finding → Type 0
 Finds plan row site key Other = IsEntry plan site key → ⊥
 Finds plan row site key Met = IsEntry plan site key × IsMet plan row site key
-Finds plan row site key (Lacks lack) = Shows plan row lack
+Finds plan row site key (Lacks lack) = ShowsLack plan row lack
 
 -- a case of the row enters by the line: its key is of the line's cell, and enters at its node
 pub record EntersBy (plan : Network) (row : Expectation) (line : Line) (key : Key) : Type 0 where
@@ -33,9 +33,9 @@ LooksAt plan row line old new None =
     (IsTrue old → IsTrue new)
     × (IsTrue new → IsTrue old ⊎ HasCase plan row)
     × ((key : Key) → EntersBy plan row line key → IsTrue new × IsMet plan row line.stop.node key)
-LooksAt plan row line old new (Some lack) = Shows plan row lack
+LooksAt plan row line old new (Some lack) = ShowsLack plan row lack
 
 -- what is found over all lines
 abbrev pub LooksOver : Network → Expectation → Option Lack → Type 0
 LooksOver plan row None = Holds plan row
-LooksOver plan row (Some lack) = Shows plan row lack
+LooksOver plan row (Some lack) = ShowsLack plan row lack

@@ -11,13 +11,14 @@ use Rattle.dr_plan_sound.specs.declared.certificate.Certificate.{Certificate}
 use Rattle.dr_plan_sound.specs.declared.certificate.Hop.{Hop}
 use Rattle.dr_plan_sound.specs.Certificates.{IsCertificateOf}
 use Rattle.dr_plan_sound.specs.Soundness.{IsRank}
-use Rattle.dr_cert_trace.specs.Found.{AreFound, AreInOrder, Carries}
+use Rattle.dr_cert.specs.Conditions.{AreHopsInOrder}
+use Rattle.dr_cert_trace.specs.Found.{AreFound, Carries}
 use Rattle.dr_cert_trace.specs.Traces.{IsJourney}
 
 module _ (plan : Network) (certificate : Certificate) (site : Text) (key : Key) (own : IsCertificateOf plan certificate) where
   pub is_journey : (pairs : BTreeSet (Text × Text)) (found_keeps : BTreeSet Text) → AreFound plan site key pairs found_keeps → (rank : ℕ) (hops : List Hop) (keeps : List Text) →
       IsEntry plan site key → IsRank plan key local site rank →
-      ((hop : Hop) → Contains hops hop ↔ (Contains certificate.hops hop × Carries key pairs hop)) → AreInOrder hops →
+      ((hop : Hop) → Contains hops hop ↔ (Contains certificate.hops hop × Carries key pairs hop)) → AreHopsInOrder hops →
       ((name : Text) → Contains keeps name ↔ HasName found_keeps name) → IsInByteOrder keeps →
       IsJourney plan site key (record { rank = rank; hops = hops; keeps = keeps })
   is_journey pairs found_keeps found rank hops keeps entry is_rank each ordered kept kept_ordered = record {

@@ -12,7 +12,7 @@ use Rattle.dr_plan_model.specs.Walks.{Sends, Keeps, IsEntry, IsWalk, IsDestinati
 use Rattle.dr_plan_model.proofs.Gathered.{nothing_in_nil, only_one, Contains-here}
 use Rattle.dr_plan_sound.specs.Soundness.{IsRank}
 use Rattle.dr_plan_sound.proofs.Hopping.{walk_push, last_push, last_hop}
-use Rattle.dr_cert_trace.specs.Found.{HasPair, GoesOn}
+use Rattle.dr_cert_trace.specs.Found.{HasPair, FindsOnward}
 use Rattle.dr_cert_trace.specs.Reaches.{Gathers, SendsFrom, IsAt, KeepsAt, PassesAll, AreWithin, ComesToNode}
 
 -- ---- what is gathered from a list, one element after another

@@ -1,15 +1,13 @@
 -- What is found on the way: pairs of a node and of one to which it sends, and nodes that keep.
-use Rattle.std.specs.Prelude.{◌≡◌, ◌⊎◌, ◌↔◌, ◌++◌, ◌∷◌, List, [], AllPairs, Contains}
-use Rattle.std.specs.declared.cmp.Ordering.TheVariants.{Less}
+use Rattle.std.specs.Prelude.{◌≡◌, ◌⊎◌, ◌↔◌, ◌++◌, ◌∷◌, List, [], Contains}
 use Rattle.std.specs.BTreeSet.{BTreeSet}
-use Rattle.dr_base.specs.Texts.{Text, text_cmp}
+use Rattle.dr_base.specs.Texts.{Text}
 use Rattle.dr_route.specs.Names.{HasName}
 use Rattle.dr_route.specs.Routes.{local}
 use Rattle.dr_route.specs.declared.key.Key.{Key}
 use Rattle.dr_plan_model.specs.Networks.{Network}
 use Rattle.dr_plan_model.specs.Walks.{Sends, Keeps, IsDestination}
 use Rattle.dr_plan_sound.specs.declared.certificate.Hop.{Hop}
-use Rattle.dr_plan_sound.specs.Printed.{printed_hop}
 use Rattle.dr_cert_trace.specs.Traces.{GoesOnTo}
 
 -- the set has the pair
@@ -27,7 +25,7 @@ AddsPairs old new from To =
     (pair : Text × Text) → HasPair new pair ↔ (HasPair old pair ⊎ ((pair.0 ≡ from) × To pair.1))
 
 -- from that place the key goes on to these, and the node keeps it or not
-pub record GoesOn (plan : Network) (key : Key) (place : Text × Text)
+pub record FindsOnward (plan : Network) (key : Key) (place : Text × Text)
     (old new : BTreeSet (Text × Text)) (kept now_kept : BTreeSet Text) : Type 0 where
   pub pairs : AddsPairs old new place.1 (λ to. Sends plan place.1 place.0 key to)
   pub keeps : (name : Text)
@@ -39,7 +37,7 @@ abbrev pub Passes : Network → Text → Key → Text × Text → BTreeSet (Text
     → BTreeSet (Text × Text) → BTreeSet Text → BTreeSet Text → Type 0
 Passes plan site key place old new kept now_kept =
     ((IsKnown old site place → ⊥) × (new.keys ≡ old.keys) × (now_kept.keys ≡ kept.keys))
-    ⊎ (IsKnown old site place × GoesOn plan key place old new kept now_kept)
+    ⊎ (IsKnown old site place × FindsOnward plan key place old new kept now_kept)
 
 -- exactly the hops of the key's walks, and exactly the nodes that keep it
 pub record AreFound (plan : Network) (site : Text) (key : Key) (pairs : BTreeSet (Text × Text))
@@ -55,7 +53,3 @@ Carries key pairs hop =
 -- one more, if that is so; else the same
 abbrev pub AddsIf : {X : Type 0} → Type 0 → X → List X → List X → Type 0
 AddsIf P x old new = (P × (new ≡ old ++ x ∷ [])) ⊎ ((P → ⊥) × (new ≡ old))
-
--- hops in the byte order of their printed lines
-abbrev pub AreInOrder : List Hop → Type 0
-AreInOrder hops = AllPairs (λ a b. text_cmp (printed_hop a) (printed_hop b) ≡ Less) hops

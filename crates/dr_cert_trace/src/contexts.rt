@@ -1,7 +1,8 @@
 //! The contexts of a certificate for a key.
 ghost use Rattle.std.specs.Prelude.{◌≡◌, ◌↔◌, IfOk, IsTrue, OnOk, Contains};
 ghost use Rattle.dr_plan_sound.specs.declared.certificate.Hop.{Hop as PlannedHop};
-ghost use Rattle.dr_cert_trace.specs.Found.{AddsIf, AreInOrder, Carries};
+ghost use Rattle.dr_cert.specs.Conditions.{AreHopsInOrder};
+ghost use Rattle.dr_cert_trace.specs.Found.{AddsIf, Carries};
 
 use crate::pairs::has_pair;
 use dr_base::{Seq, Text};
@@ -58,7 +59,7 @@ pub fn contexts_of(
 ) -> Result<Seq<Hop>, AllocError>
     ensures each { IfOk result (λ all. (hop : PlannedHop)
         → Contains all hop ↔ (Contains hops.now hop × Carries key.now pairs.now hop)) }
-    ensures ordered { AreInOrder hops.now → IfOk result AreInOrder }
+    ensures ordered { AreHopsInOrder hops.now → IfOk result AreHopsInOrder }
 {
     let mut own = Vec::new(alloc);
     for hop in hops {

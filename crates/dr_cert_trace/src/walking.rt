@@ -5,7 +5,7 @@ ghost use Rattle.dr_route.specs.Names.{HasName};
 ghost use Rattle.dr_plan_model.specs.Plans.{IsWellFormed};
 ghost use Rattle.dr_plan_model.specs.Walks.{IsEntry};
 ghost use Rattle.dr_plan_sound.specs.Soundness.{IsSound};
-ghost use Rattle.dr_cert_trace.specs.Found.{AreFound, GoesOn, Passes};
+ghost use Rattle.dr_cert_trace.specs.Found.{AreFound, FindsOnward, Passes};
 ghost use Rattle.dr_cert_trace.specs.Stages.{AreOrdered};
 
 use crate::pairs::{add_pairs, is_known};
@@ -43,7 +43,7 @@ pub fn go_on(
     keeps: &mut BTreeSet<Text>,
 ) -> Result<(), AllocError>
     ensures { OnOk result
-        (GoesOn plan.now key.now place.now pairs.old pairs.new keeps.old keeps.new) }
+        (FindsOnward plan.now key.now place.now pairs.old pairs.new keeps.old keeps.new) }
 {
     let targets = sends(alloc, plan, &place.1, &place.0, key)?;
     add_pairs(pairs, &place.1, targets.to.as_slice())?;

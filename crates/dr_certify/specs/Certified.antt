@@ -46,7 +46,7 @@ FindsOf plan None = (plan.format ≡ Three) ⊎ IsRefused plan
 
 -- the text writes, as it stands, a sound plan of format 1 or 2, and this is the text of the plan's
 -- certificate
-pub record IsCertified (text output : Text) : Type 0 where
+pub record IsCertifiedCore (text output : Text) : Type 0 where
   pub plan : Network
   pub reads : ReadsCore text (Ok plan)
   pub format : plan.format ≢ Three
@@ -61,9 +61,9 @@ HasNoCertificate text =
 
 -- what a text comes to: its certificate, or that it has none
 abbrev pub Finds : Text → Option Text → Type 0
-Finds text (Some output) = IsCertified text output
+Finds text (Some output) = IsCertifiedCore text output
 Finds text None = HasNoCertificate text
 
 -- the text's certificate is printed after what the output held
 abbrev pub Prints : Text → Option (List ℕ) → Option (List ℕ) → Type 0
-Prints text old new = (output : Text) × IsCertified text output × Appends old new output
+Prints text old new = (output : Text) × IsCertifiedCore text output × Appends old new output

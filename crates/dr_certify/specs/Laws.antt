@@ -2,7 +2,7 @@
 use Rattle.std.specs.Prelude.{◌≡◌}
 use Rattle.dr_base.specs.Texts.{Text}
 use Rattle.dr_plan_model.specs.Networks.{Network}
-use Rattle.dr_certify.specs.Certified.{HasCertificate, IsRefused, IsCertified, HasNoCertificate}
+use Rattle.dr_certify.specs.Certified.{HasCertificate, IsRefused, IsCertifiedCore, HasNoCertificate}
 
 -- no plan has a certificate and is refused
 abbrev pub NoPlanHasBoth : Type 0
@@ -10,7 +10,7 @@ NoPlanHasBoth = (plan : Network) (output : Text) → HasCertificate plan output 
 
 -- no text has a certificate and none
 abbrev pub NoTextHasBoth : Type 0
-NoTextHasBoth = (text output : Text) → IsCertified text output → HasNoCertificate text → ⊥
+NoTextHasBoth = (text output : Text) → IsCertifiedCore text output → HasNoCertificate text → ⊥
 
 -- plans for which the same is printed have the same certificate
 abbrev pub OneCertificateIsPrinted : Type 0

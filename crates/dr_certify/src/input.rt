@@ -2,7 +2,7 @@
 ghost use Rattle.std.specs.Prelude.{◌≡◌, ◌<◌, ℕ, List, IfOk, OnOk, IfSome, length, true, Ok};
 ghost use Rattle.std.specs.Prelude.{vec_len};
 ghost use Rattle.std.specs.Io.KnownBytes.{IsAtEnd};
-ghost use Rattle.dr_certify.specs.Inputs.{TakesIn};
+ghost use Rattle.dr_certify.specs.Inputs.{TakesBytes};
 
 use std::alloc::{AllocError, Global};
 use std::io;
@@ -27,7 +27,7 @@ fn empty_piece(alloc: Global, count: usize) -> Result<Vec<u8>, AllocError>
 fn read_piece<R: Read>(input: &mut R, piece: &mut [u8], text: &mut Vec<u8>) -> io::Result<bool>
     requires { 0 < length piece.old }
     ensures taken { OnOk result
-        (TakesIn (R.remaining input.old) (R.remaining input.new) text.old.items text.new.items) }
+        (TakesBytes (R.remaining input.old) (R.remaining input.new) text.old.items text.new.items) }
     ensures end { result ≡ Ok true → IsAtEnd (R.remaining input.new) }
 {
     let count = match input.read(piece) {

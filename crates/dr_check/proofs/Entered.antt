@@ -15,7 +15,7 @@ use Rattle.dr_plan_entries.specs.Visiting.{FindsAt, IsEntryCell}
 use Rattle.dr_plan_entries.proofs.Entries.{cell_that_lies}
 use Rattle.dr_check.specs.declared.checker.Checker.{Checker}
 use Rattle.dr_check.specs.declared.checker.Stopped.{Stopped}
-use Rattle.dr_check.specs.Checking.{IsReady, HasVisited, ShowsStopped}
+use Rattle.dr_check.specs.Checking.{CheckerIsReady, HasVisited, ShowsStopped}
 use Rattle.dr_check.specs.Firsts.{IsHarmlessEntry, IsFirstEntry}
 use Rattle.dr_check.proofs.Firsts.{harmless_from}
 use Rattle.dr_check.proofs.Marking.{finished_same}
@@ -37,10 +37,10 @@ no_entry_shows plan formed lines all site cell entry =
 
 -- where a checker stops, the entries before have been visited
 pub stops_first : (plan : Network) (start : Checker) (stopped : Stopped) → start.plan.now ≡ plan →
-    (at : FindsAt (λ (v : Checker). v.plan.now) IsReady HasVisited ShowsStopped (IsEntryCell plan) start stopped) → IsFirstEntry plan at.site at.cell
+    (at : FindsAt (λ (v : Checker). v.plan.now) CheckerIsReady HasVisited ShowsStopped (IsEntryCell plan) start stopped) → IsFirstEntry plan at.site at.cell
 stops_first plan start stopped same at = λ s c entry before.
     let there : Checker = at.there in
-    let ready : IsReady there = at.earlier.is_ready in
+    let ready : CheckerIsReady there = at.earlier.is_ready in
     let here : there.plan.now ≡ plan = at.earlier.same_plan ∙ same in
     let visited : HasVisited there s c = at.earlier.wanted s c (entry, before) in
     let C : Network → Type 0 = λ p. IsCellOf p c in

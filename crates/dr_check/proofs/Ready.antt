@@ -36,12 +36,12 @@ use Rattle.dr_plan_sound.proofs.Hopping.{last_hop, reached_is_known, hop_pairs, 
 use Rattle.dr_cert_text.specs.Printable.{IsPlain, IsPlainField, IsPlainStation, IsPrintableLine, IsPrintableHop}
 use Rattle.dr_plan_entries.specs.Visiting.{IsEntryCell}
 use Rattle.dr_check.specs.declared.checker.Checker.{Checker}
-use Rattle.dr_check.specs.Checking.{IsReady, HasVisited}
+use Rattle.dr_check.specs.Checking.{CheckerIsReady, HasVisited}
 use Rattle.dr_check.specs.Answering.{AreFew}
 use Rattle.dr_check.proofs.Marking.{finished_same}
 
 -- ---- the lines
-pub are_ranked : (c : Checker) → IsReady c → ((site : Text) (cell : _) → IsEntryCell c.plan.now site cell → HasVisited c site cell) → AreRanked c.plan.now c.search.lines.items
+pub are_ranked : (c : Checker) → CheckerIsReady c → ((site : Text) (cell : _) → IsEntryCell c.plan.now site cell → HasVisited c site cell) → AreRanked c.plan.now c.search.lines.items
 are_ranked c ready visited = record {
   each = λ stop r line. (ready.searching stop.cell).ranked stop r line;
   cells = λ stop r line. ((ready.searching stop.cell).known stop _ ((ready.searching stop.cell).listed stop r line)).0;
@@ -54,23 +54,23 @@ are_ranked c ready visited = record {
 any : OwnedCell
 any = record { class = []; syntax = Implicit; modality = Rest; station = station.Rest }
 
-at_most : (c : Checker) → IsReady c → length c.search.lines.items ≤ 65536
+at_most : (c : Checker) → CheckerIsReady c → length c.search.lines.items ≤ 65536
 at_most c ready =
     let s = ready.searching any in
     let room = s.room in
     let within = s.within in
     omega arith
 
-rank_below : (c : Checker) → IsReady c → (line : Line) → Contains c.search.lines.items line → line.rank ≤ 65536
+rank_below : (c : Checker) → CheckerIsReady c → (line : Line) → Contains c.search.lines.items line → line.rank ≤ 65536
 rank_below c ready line among =
     let below : line.rank < length c.search.lines.items = (ready.searching line.stop.cell).counted line.stop line.rank among in
     let most : length c.search.lines.items ≤ 65536 = at_most c ready in
     omega arith
 
-pub are_few : (c : Checker) → IsReady c → AreFew c.search.lines.items
+pub are_few : (c : Checker) → CheckerIsReady c → AreFew c.search.lines.items
 are_few c ready = (at_most c ready, rank_below c ready)
 
-pub are_apart : (c : Checker) → IsReady c → AllPairs (λ a b. a ≢ b) c.search.lines.items
+pub are_apart : (c : Checker) → CheckerIsReady c → AllPairs (λ a b. a ≢ b) c.search.lines.items
 are_apart c ready = (ready.searching any).apart
 
 -- ---- printing

@@ -16,8 +16,8 @@ use Rattle.dr_check.specs.declared.search.Frame.{Frame}
 use Rattle.dr_check.specs.declared.search.WalkFound.{WalkFound}
 use Rattle.dr_check.specs.declared.search.WalkFound.TheVariants as found
 use Rattle.dr_check.specs.declared.search.Mark.TheVariants.{Open, Finished}
-use Rattle.dr_check.specs.Searching.{IsSearching, IsTrail, IsInside, IsDone, IsNew, IsRankedBy, IsTaken, IsFirstYet, EndsWell, IsAllOpen, GoesOnFrom, AfterReach, mark_at, stop_at, pairs_from}
-use Rattle.dr_check.specs.Stacks.{IsTop, IsStack, IsSameFrame, Enters, Leaves, Steps, stop_of_frame}
+use Rattle.dr_check.specs.Searching.{IsSearching, IsTrail, IsInside, IsSearchedThrough, IsNew, IsRankedBy, IsTaken, IsFirstYet, EndsWell, IsAllOpen, GoesOnFrom, AfterReach, mark_at, stop_at, pairs_from}
+use Rattle.dr_check.specs.Stacks.{IsTop, IsStack, IsSameFrame, Enters, LeavesStop, Steps, stop_of_frame}
 use Rattle.dr_check.proofs.Marking.{marking}
 use Rattle.dr_check.proofs.Named.{stop_ends_well}
 use Rattle.dr_check.proofs.Trails.{trail_pairs, trail_reaches}
@@ -85,7 +85,7 @@ target_counts plan formed cell f s to r top below at marked taken =
 
 -- ---- all targets have been searched
 pub top_finished : (plan : Network) (cell : OwnedCell) (f : Frame) (start s new : Search) → IsTop plan cell f s → f.searched ≡ length f.targets →
-    IsInside plan cell f.caller f.node start s → Leaves s new (stop_of_frame cell f) f.rank → IsDone plan cell f.caller f.node f.rank start new
+    IsInside plan cell f.caller f.node start s → LeavesStop s new (stop_of_frame cell f) f.rank → IsSearchedThrough plan cell f.caller f.node f.rank start new
 top_finished plan cell f start s new top all inside leaves =
     let T : List Text → Type 0 = λ ns. IsTrail plan (key_of cell) ns f.caller f.node in
     let R : ℕ → Type 0 = λ n. IsRankedBy plan cell f.node s.lines.items f.targets n f.rank in
@@ -104,7 +104,7 @@ top_finished plan cell f start s new top all inside leaves =
     (popped f.node start.path.items s.path.items new.path.items (length s.path.items) inside.path refl leaves.path) leaves.lines (leaves.same_size top.here) (marking leaves.put)
 
 -- ---- the search goes on at the frame below
-pub top_resumed : (plan : Network) (cell : OwnedCell) (g : Frame) (old new : Search) (from to : Text) (r : ℕ) → IsTop plan cell g old → IsDone plan cell from to r old new →
+pub top_resumed : (plan : Network) (cell : OwnedCell) (g : Frame) (old new : Search) (from to : Text) (r : ℕ) → IsTop plan cell g old → IsSearchedThrough plan cell from to r old new →
     IsTop plan cell g new
 top_resumed plan cell g old new from to r top done =
     let T : List Text → Type 0 = λ ns. IsTrail plan (key_of cell) ns g.caller g.node in
@@ -128,7 +128,7 @@ top_resumed plan cell g old new from to r top done =
     }
 
 pub stack_resumed : (plan : Network) (cell : OwnedCell) (start : Search) (caller node : Text) (below : List Frame) (g : Frame) (old new : Search) (from to : Text) (r : ℕ) →
-    IsStack plan cell start caller node below g old → IsDone plan cell from to r old new → IsStack plan cell start caller node below g new
+    IsStack plan cell start caller node below g old → IsSearchedThrough plan cell from to r old new → IsStack plan cell start caller node below g new
 stack_resumed plan cell start caller node [] g old new from to r stack done =
     (stack.0, stack.1, inside_later plan cell g.caller g.node start old new from to r stack.2 done)
 stack_resumed plan cell start caller node (h ∷ below) g old new from to r stack done =

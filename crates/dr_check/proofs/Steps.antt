@@ -29,7 +29,7 @@ use Rattle.dr_check.specs.declared.search.Search.{Search}
 use Rattle.dr_check.specs.declared.search.Mark.{Mark}
 use Rattle.dr_check.specs.declared.search.Mark.TheVariants.{Open, Finished}
 use Rattle.dr_plan_sound.specs.Stops.{stop_cmp}
-use Rattle.dr_check.specs.Searching.{mark_at, stop_at, pairs_from, IsTrail, IsSearching, IsTaken, IsDone, IsNew, IsInside, IsRankedBy}
+use Rattle.dr_check.specs.Searching.{mark_at, stop_at, pairs_from, IsTrail, IsSearching, IsTaken, IsSearchedThrough, IsNew, IsInside, IsRankedBy}
 use Rattle.dr_plan_sound.proofs.SameStops.{same_stop_or_not}
 use Rattle.dr_check.proofs.Marking.{Marks-set, open_is_not_finished, none_is_not_some, finished_same, unmarked, keys_apart, keys_marked}
 use Rattle.dr_check.proofs.Trails.{trail_pairs, trail_reaches}
@@ -152,7 +152,7 @@ ranked_later plan cell node old new targets i rank grows ranked = record {
 }
 
 pub inside_later : (plan : Network) (cell : OwnedCell) (caller node : Text) (start old new : Search) (from to : Text) (rank : ℕ) →
-    IsInside plan cell caller node start old → IsDone plan cell from to rank old new → IsInside plan cell caller node start new
+    IsInside plan cell caller node start old → IsSearchedThrough plan cell from to rank old new → IsInside plan cell caller node start new
 inside_later plan cell caller node start old new from to rank inside done = record {
   searching = done.searching;
   later = record {
@@ -172,7 +172,7 @@ pub finished : (plan : Network) (cell : OwnedCell) (old s new : Search) (caller 
     IsInside plan cell caller node old s → IsNew plan cell caller node stop targets old → IsRankedBy plan cell node s.lines.items targets (length targets) rank →
     new.path.items ≡ old.path.items → new.lines.items ≡ s.lines.items ++ (line_at caller node cell rank) ∷ [] →
     btree_map_len new.marks ≡ btree_map_len s.marks → Marks-set s.marks new.marks (stop_at caller node cell) (Finished rank) →
-    IsDone plan cell caller node rank old new
+    IsSearchedThrough plan cell caller node rank old new
 finished plan cell old s new caller node stop targets rank trail inside fresh ranked path lines len put =
     let here : Stop = stop_at caller node cell in
     let line : Line = line_at caller node cell rank in

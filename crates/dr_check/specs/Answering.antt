@@ -26,10 +26,10 @@ Judges plan (No fault) = IsShown plan fault × IsNamedFirst plan fault × IsFirs
 
 -- what the checker answers: a verdict, or that there are more lines than a certificate may have, or
 -- want of memory
-abbrev pub Answers : Network → Result Verdict CheckFault → Type 0
-Answers plan (Ok verdict) = Judges plan verdict
-Answers plan (Err TooLarge) = IsTooLarge plan
-Answers plan (Err Memory) = Unit {0}
+abbrev pub AnswersCheck : Network → Result Verdict CheckFault → Type 0
+AnswersCheck plan (Ok verdict) = Judges plan verdict
+AnswersCheck plan (Err TooLarge) = IsTooLarge plan
+AnswersCheck plan (Err Memory) = Unit {0}
 
 -- at most 65,536 lines, and no rank above that number
 abbrev pub AreFew : List Line → Type 0

@@ -11,7 +11,7 @@ use Rattle.dr_check.specs.Searching.{IsSearching}
 use Rattle.dr_check.specs.Stopping.{IsStoppedAt}
 
 -- the checker stands on no walk, and can search any cell
-pub record IsReady (c : Checker) : Type 0 where
+pub record CheckerIsReady (c : Checker) : Type 0 where
   pub formed : IsWellFormed c.plan.now
   pub local_caller : c.local ≡ local
   pub no_walk : c.search.path.items ≡ []

@@ -94,7 +94,7 @@ abbrev pub IsTaken : Network → OwnedCell → Text → Text → Type 0
 IsTaken plan cell caller node = (caller ≡ local) ⊎ Accepts plan node caller cell.class cell.syntax
 
 -- all walks from the stop have been searched, and it is finished with this rank
-pub record IsDone (plan : Network) (cell : OwnedCell) (caller node : Text) (r : ℕ)
+pub record IsSearchedThrough (plan : Network) (cell : OwnedCell) (caller node : Text) (r : ℕ)
     (old new : Search) : Type 0 where
   pub searching : IsSearching plan cell new
   pub later : IsLater old new
@@ -154,7 +154,8 @@ GoesOnFrom old node new = (rest : List Text) × (new.path.items ≡ old.path.ite
 -- what the whole search from a stop comes to: its rank, or an end that is right, on a walk over
 -- that stop
 abbrev pub AfterReach : Network → OwnedCell → Text → Text → Search → Search → WalkFound → Type 0
-AfterReach plan cell caller node old new (found.Rank r) = IsDone plan cell caller node r old new
+AfterReach plan cell caller node old new (found.Rank r) =
+    IsSearchedThrough plan cell caller node r old new
 AfterReach plan cell caller node old new (found.End e) =
     IsFirstEnd plan cell new.path.items e × GoesOnFrom old node new
 

@@ -17,7 +17,8 @@ use Rattle.dr_check.specs.declared.search.NextTarget.{NextTarget}
 use Rattle.dr_check.specs.declared.search.NextTarget.TheVariants as next
 use Rattle.dr_check.specs.declared.search.WalkFound.{WalkFound}
 use Rattle.dr_check.specs.declared.search.WalkFound.TheVariants as found
-use Rattle.dr_check.specs.Searching.{IsSearching, IsTrail, IsInside, IsDone, IsNew, IsRankedBy}
+use Rattle.dr_check.specs.Searching.{IsSearching, IsTrail, IsInside, IsSearchedThrough, IsNew}
+use Rattle.dr_check.specs.Searching.{IsRankedBy}
 use Rattle.dr_check.specs.Searching.{IsFirstEnd, IsFirstYet, EndsWell, IsAllOpen, IsTaken}
 use Rattle.dr_check.specs.Searching.{GoesOnFrom, mark_at, stop_at}
 
@@ -63,7 +64,7 @@ pub record Enters (old new : Search) (node : Text) (stop : Stop) : Type 0 where
   pub grown : mark_at old.marks stop ≡ None → btree_map_len new.marks ≡ btree_map_len old.marks + 1
 
 -- the stop at the end of the walk is finished, and nothing else
-pub record Leaves (old new : Search) (stop : Stop) (rank : ℕ) : Type 0 where
+pub record LeavesStop (old new : Search) (stop : Stop) (rank : ℕ) : Type 0 where
   pub path : new.path.items ≡ take (length old.path.items - 1) old.path.items
   pub lines : new.lines.items ≡ old.lines.items ++ record { stop = stop; rank = rank } ∷ []
   pub put : Updates stop_cmp old.marks new.marks stop (Some (Finished rank))
@@ -77,11 +78,12 @@ pub record IsSameFrame (f g : Frame) : Type 0 where
 
 -- what is found among the targets of a frame: nothing more, an end of the search, or a stop that is
 -- new
-abbrev pub GoesOn : Network → OwnedCell → Search → Frame → Frame → NextTarget → Type 0
-GoesOn plan cell s f g next.Nothing =
+abbrev pub FindsNextTarget : Network → OwnedCell → Search → Frame → Frame → NextTarget → Type 0
+FindsNextTarget plan cell s f g next.Nothing =
     IsSameFrame f g × IsTop plan cell g s × (g.searched ≡ length g.targets)
-GoesOn plan cell s f g (next.End node e) = IsFirstEnd plan cell (s.path.items ++ node ∷ []) e
-GoesOn plan cell s f g (next.New node stop targets) =
+FindsNextTarget plan cell s f g (next.End node e) =
+    IsFirstEnd plan cell (s.path.items ++ node ∷ []) e
+FindsNextTarget plan cell s f g (next.New node stop targets) =
     IsSameFrame f g × IsTop plan cell g s
     × IsNew plan cell g.node node stop targets s
     × SendsOn plan (stop_of_frame cell g) node
@@ -102,7 +104,7 @@ Steps plan cell old f below new g after None =
 Steps plan cell old f below new g after (Some (found.Rank r)) =
     (start : Search) (caller node : Text)
     → IsStack plan cell start caller node (reverse below) f old
-    → IsDone plan cell caller node r start new
+    → IsSearchedThrough plan cell caller node r start new
 Steps plan cell old f below new g after (Some (found.End e)) =
     IsFirstEnd plan cell new.path.items e
     × ((start : Search) (caller node : Text)

@@ -3,7 +3,7 @@ ghost use Rattle.std.specs.Prelude.{◌≡◌, ◌∷◌, List, IfOk};
 ghost use Rattle.dr_base.specs.Texts.{Text as Words};
 ghost use Rattle.dr_route.specs.Routes.{local};
 ghost use Rattle.dr_plan_model.specs.Networks.{Network};
-ghost use Rattle.dr_check.specs.Checking.{IsReady};
+ghost use Rattle.dr_check.specs.Checking.{CheckerIsReady};
 ghost use Rattle.dr_check.specs.Searching.{IsFirstEnd};
 ghost use Rattle.dr_check.specs.Stopping.{IsStoppedAt};
 
@@ -39,7 +39,7 @@ impl<'a> Checker<'a> {
     /// A checker that has visited nothing.
     pub fn new(alloc: Global, plan: &'a Plan) -> Result<Checker<'a>, AllocError>
         ensures plan { IfOk result (λ c. c.plan.now ≡ plan.now) }
-        ensures ready { IfOk result (λ c. IsReady c) }
+        ensures ready { IfOk result (λ c. CheckerIsReady c) }
     {
         let path = Vec::with_capacity(alloc, plan.nodes().len())?;
         let local = Text::copy_of(alloc, b"-")?;
@@ -85,11 +85,11 @@ fn stopped_by(end: WalkEnd, walk: Vec<Text>, cell: OwnedCell) -> Stopped
 impl<'a> EntryVisitor for Checker<'a> {
     type Finding = Stopped;
 
-    ghost use Rattle.dr_check.specs.Checking.{IsReady, HasVisited, ShowsStopped};
+    ghost use Rattle.dr_check.specs.Checking.{CheckerIsReady, HasVisited, ShowsStopped};
 
     ghost plan = { λ c. c.plan.now };
 
-    ghost is_ready = { IsReady };
+    ghost is_ready = { CheckerIsReady };
 
     ghost has_visited = { HasVisited };
 

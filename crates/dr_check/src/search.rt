@@ -10,7 +10,7 @@ ghost use Rattle.dr_plan_model.specs.Walks.{Accepts};
 ghost use Rattle.dr_plan_model.specs.Laws.{IsCellOf};
 ghost use Rattle.dr_check.specs.Searching.{IsSearching, IsTrail, Finds, AfterReach, stop_at};
 ghost use Rattle.dr_check.specs.Searching.{mark_at};
-ghost use Rattle.dr_check.specs.Stacks.{IsTop, Enters, Leaves, GoesOn, Steps};
+ghost use Rattle.dr_check.specs.Stacks.{IsTop, Enters, LeavesStop, FindsNextTarget, Steps};
 ghost use Rattle.dr_check.specs.declared.search.Frame.{Frame as FrameValue};
 
 use dr_base::{Seq, Text};
@@ -254,7 +254,7 @@ fn begin(
 /// line from here on.
 fn leave(search: &mut Search, cell: &OwnedCell, frame: &Frame) -> Result<(), AllocError>
     ensures { OnOk result
-        (Leaves search.old search.new (stop_at frame.now.caller frame.now.node cell.now)
+        (LeavesStop search.old search.new (stop_at frame.now.caller frame.now.node cell.now)
         frame.now.rank) }
 {
     search.marks.insert(
@@ -282,7 +282,7 @@ fn go_on(
     requires cell { IsCellOf plan.now cell.now }
     requires key { key.now ≡ key_of cell.now }
     requires top { IsTop plan.now cell.now frame.old search.now }
-    ensures { IfOk result (GoesOn plan.now cell.now search.now frame.old frame.new) }
+    ensures { IfOk result (FindsNextTarget plan.now cell.now search.now frame.old frame.new) }
 {
     while frame.searched < frame.targets.len() {
         let node = &frame.targets.as_slice()[frame.searched];

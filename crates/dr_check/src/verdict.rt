@@ -5,7 +5,7 @@ ghost use Rattle.dr_route.specs.declared.cell.OwnedCell.{OwnedCell as CellValue}
 ghost use Rattle.dr_plan_model.specs.Networks.{Network};
 ghost use Rattle.dr_plan_model.specs.Plans.{IsWellFormed};
 ghost use Rattle.dr_plan_sound.specs.Ranked.{AreRanked};
-ghost use Rattle.dr_check.specs.Answering.{Answers, Judges, AreFew};
+ghost use Rattle.dr_check.specs.Answering.{AnswersCheck, Judges, AreFew};
 ghost use Rattle.dr_check.specs.Firsts.{IsFirstEntry};
 ghost use Rattle.dr_check.specs.Stopping.{IsStoppedAt};
 
@@ -73,7 +73,7 @@ fn answer_to(stopped: Stopped) -> Result<Verdict, CheckFault>
     ensures { (plan : Network) (site : Words) (cell : CellValue)
         → IsStoppedAt plan stopped site cell
         → IsFirstEntry plan site cell
-        → Answers plan result }
+        → AnswersCheck plan result }
 {
     match stopped {
         Stopped::Fault(fault) => Ok(Verdict::No(fault)),
@@ -85,7 +85,7 @@ fn answer_to(stopped: Stopped) -> Result<Verdict, CheckFault>
 /// yes with the plan's certificate, or no with what is wrong: at the first entry from which a walk
 /// shows a fault, on the first such walk.
 pub fn check(alloc: Global, plan: &Plan) -> Result<Verdict, CheckFault>
-    ensures { Answers plan.now result }
+    ensures { AnswersCheck plan.now result }
 {
     let mut checker = Checker::new(alloc, plan)?;
     match visit_entries(alloc, plan, &mut checker)? {

@@ -8,7 +8,7 @@ use Rattle.dr_route.specs.declared.key.Key.{Key}
 use Rattle.dr_route.specs.declared.rule.Rule.{Rule}
 use Rattle.dr_plan_model.specs.Networks.{Network}
 use Rattle.dr_plan_model.specs.Plans.{IsTheNode}
-use Rattle.dr_plan_model.specs.Walks.{Fits}
+use Rattle.dr_plan_model.specs.Walks.{FlowBrings}
 use Rattle.dr_plan_model.specs.declared.plan.Flow.{Flow}
 use Rattle.dr_plan_model.specs.declared.plan.Node.{Node}
 use Rattle.dr_plan_places.specs.Firsts.{IsFirstAt}
@@ -19,7 +19,7 @@ use Rattle.dr_check_reasons.specs.declared.remedy.Remedy.TheVariants.{AddSyntax,
 
 -- the flow brings the key in at the site, and to that node
 abbrev pub BringsTo : Text → Key → Text → Flow → Type 0
-BringsTo site key to flow = (flow.at ≡ site) × (flow.to ≡ to) × Fits flow key
+BringsTo site key to flow = (flow.at ≡ site) × (flow.to ≡ to) × FlowBrings flow key
 
 -- the rule sends the key, which the node has from the caller, to that node
 abbrev pub SendsTo : Text → Key → Text → Rule → Type 0

@@ -12,7 +12,7 @@ use Rattle.dr_dataset.specs.declared.frame.OpenSequence.TheVariants.{InSequence,
 use Rattle.dr_dataset.specs.declared.token.Token.{Token}
 use Rattle.dr_dataset.specs.declared.token.Token.TheVariants.{Value, Sequence, PlainItem, Item, ItemEnd, SequenceEnd}
 use Rattle.dr_dataset.specs.Elements.{Element, EndsSequence, EndsItem}
-use Rattle.dr_dataset.specs.DataSet.{Opens, Shows, StartsTop, in_force}
+use Rattle.dr_dataset.specs.DataSet.{Opens, ShowsFault, StartsTop, in_force}
 use Rattle.dr_dataset.specs.Tokens.{is_nested, token_of, open_behind, without_first}
 use Rattle.dr_dataset.specs.Wholes.{whole, elements_of, element_of}
 use Rattle.dr_dataset.specs.declared.whole.Whole.{Whole}
@@ -21,7 +21,7 @@ use Rattle.dr_dataset.proofs.OpensLemmas.{Has, shows, cut_shows, after_value, af
 
 -- a fault but for memory, which shows
 abbrev pub IsShown : Syntax → List OpenSequence → List ℕ → DataFault → Type 0
-IsShown s fs text fault = (fault ≢ Memory) × ((text ≡ [] → fs ≢ []) → Shows s fs text fault)
+IsShown s fs text fault = (fault ≢ Memory) × ((text ≡ [] → fs ≢ []) → ShowsFault s fs text fault)
 
 pub err_shows : (s : Syntax) (fs : List OpenSequence) (text : List ℕ) (fault : DataFault) → token_of s fs text ≡ Err fault → IsShown s fs text fault
 err_shows s fs text fault e = (λ m. token_tells s fs text Memory (e ∙ ap (λ (f : DataFault). Err f) m), λ more. shows s fs text fault more e)

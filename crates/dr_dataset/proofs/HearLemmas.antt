@@ -25,7 +25,7 @@ use Rattle.dr_dataset.specs.DataSet.{has_tag, is_key, first_value, Opens, FirstF
 use Rattle.dr_base.specs.Padding.{trimmed}
 use Rattle.dr_dataset.specs.Tokens.{token_of, open_behind, is_nested}
 use Rattle.dr_dataset.specs.Wholes.{whole, elements_of}
-use Rattle.dr_dataset.specs.Hearing.{bytes_of_slot, AreCaught, IsShort, IsShortKey, value_header, is_kept, AreBytes, HearsAt, Hears, HearsAlike, HasFailed, Finishes, GoesOn, GoesOnBy, Begun, AreSlots}
+use Rattle.dr_dataset.specs.Hearing.{bytes_of_slot, AreCaught, IsShort, IsShortKey, value_header, is_kept, AreBytes, HearsAt, Hears, HearsAlike, HasFailed, Finishes, HearsMore, GoesOnBy, Begun, AreSlots}
 use Rattle.dr_dataset.proofs.FoundLemmas.{first_value_more, found_more}
 use Rattle.dr_dataset.proofs.TokenLemmas.{token_sound, token_tells}
 use Rattle.dr_dataset.proofs.OpensLemmas.{Has, shows, cut_shows, after_value, after_plain_item}
@@ -349,7 +349,7 @@ finishes_failed old new BadLength alike is = is
 finishes_failed old new TooDeep alike is = is
 
 -- the pieces, one after the other, are heard as what they join to
-pub goes_on_joined : (old : Scan) (pieces : List (List ℕ)) (new : Scan) → GoesOnBy old pieces new → GoesOn old (flat_map (λ (piece : List ℕ). piece) pieces) new
+pub goes_on_joined : (old : Scan) (pieces : List (List ℕ)) (new : Scan) → GoesOnBy old pieces new → HearsMore old (flat_map (λ (piece : List ℕ). piece) pieces) new
 goes_on_joined old [] new h = λ s text heard. subst (λ (t : List ℕ). Hears s t new) (sym (append-nil text)) (subst (λ (x : Scan). Hears s text x) h heard)
 goes_on_joined old (piece ∷ pieces) new h = λ s text heard.
     let later = flat_map (λ (x : List ℕ). x) pieces in

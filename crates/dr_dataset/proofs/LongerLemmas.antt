@@ -12,7 +12,7 @@ use Rattle.dr_dataset.specs.declared.frame.OpenSequence.TheVariants.{InSequence,
 use Rattle.dr_dataset.specs.declared.token.Token.{Token}
 use Rattle.dr_dataset.specs.declared.token.Token.TheVariants.{Value, Sequence, PlainItem, Item, ItemEnd, SequenceEnd}
 use Rattle.dr_dataset.specs.Elements.{Element, StartsTag, StartsForm, StartsHeader, StartsMark, StartsPlain, StartsItem, OpensSequence, StartsElement}
-use Rattle.dr_dataset.specs.DataSet.{in_force, levels_left, StartsTop, Opens, MayOpenItem, ShowsVr, ShowsLength, ShowsDepth, Shows, FirstFault}
+use Rattle.dr_dataset.specs.DataSet.{in_force, levels_left, StartsTop, Opens, MayOpenItem, ShowsVr, ShowsLength, ShowsDepth, ShowsFault, FirstFault}
 use Rattle.dr_dataset.specs.Tokens.{token_of}
 use Rattle.dr_dataset.proofs.TokenLemmas.{IsNext, token_sound, token_whole}
 
@@ -107,7 +107,7 @@ depth_longer : (s : Syntax) (fs : List OpenSequence) (text more : List ℕ) → 
 depth_longer s fs text more (t, w, rest, wants, opens, deep) = (t, w, rest ++ more, wants, opens_sequence_longer (in_force s fs) text t w rest more opens, deep)
 
 -- a fault that shows stays, unless more bytes may mend it
-pub shows_longer : (s : Syntax) (fs : List OpenSequence) (text more : List ℕ) (f : DataFault) → f ≢ Truncated → f ≢ Memory → Shows s fs text f → Shows s fs (text ++ more) f
+pub shows_longer : (s : Syntax) (fs : List OpenSequence) (text more : List ℕ) (f : DataFault) → f ≢ Truncated → f ≢ Memory → ShowsFault s fs text f → ShowsFault s fs (text ++ more) f
 shows_longer s fs text more BadVr cut memory h = vr_longer s fs text more h
 shows_longer s fs text more BadLength cut memory h = length_longer s fs text more h
 shows_longer s fs text more TooDeep cut memory h = depth_longer s fs text more h

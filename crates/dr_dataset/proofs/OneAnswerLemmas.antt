@@ -12,7 +12,7 @@ use Rattle.dr_dataset.specs.declared.frame.OpenSequence.TheVariants.{InSequence,
 use Rattle.dr_dataset.specs.declared.token.Token.{Token}
 use Rattle.dr_dataset.specs.declared.token.Token.TheVariants.{Value, Sequence, PlainItem, Item, ItemEnd, SequenceEnd}
 use Rattle.dr_dataset.specs.Elements.{Element, undefined, StartsMark}
-use Rattle.dr_dataset.specs.DataSet.{open_sequences, Opens, StartsToken, Shows, FirstFault, IsDataSet, Scans, value_at}
+use Rattle.dr_dataset.specs.DataSet.{open_sequences, Opens, StartsToken, ShowsFault, FirstFault, IsDataSet, Scans, value_at}
 use Rattle.dr_dataset.specs.Tokens.{is_full, token_of}
 use Rattle.dr_dataset.proofs.TokenLemmas.{IsNext, token_sound, vr_fault, length_fault, depth_fault}
 use Rattle.dr_dataset.proofs.OpensLemmas.{Has, plain_of}
@@ -101,7 +101,7 @@ cut_is_stuck s fs es text (Err f) most e none = refl
 cut_is_stuck s fs es text (Ok p) most e none =
     no_move s fs es p.0 p.1 (λ has. let t = token_then s fs text p.0 p.1 most (token_sound s fs text p.0 p.1 e) has in none t.0 t.1)
 
-pub fault_is_stuck : (s : Syntax) (fs : List OpenSequence) (es : List Element) (text : List ℕ) (f : DataFault) → open_sequences fs ≤ 32 → f ≢ Memory → Shows s fs text f → move s (at fs text es) ≡ None
+pub fault_is_stuck : (s : Syntax) (fs : List OpenSequence) (es : List Element) (text : List ℕ) (f : DataFault) → open_sequences fs ≤ 32 → f ≢ Memory → ShowsFault s fs text f → move s (at fs text es) ≡ None
 fault_is_stuck s fs es text BadVr most ne h = ap (move_by s fs es) (vr_fault s fs text h)
 fault_is_stuck s fs es text BadLength most ne h = ap (move_by s fs es) (length_fault s fs text h)
 fault_is_stuck s fs es text TooDeep most ne h = ap (move_by s fs es) (depth_fault s fs text h)
@@ -127,7 +127,7 @@ vr_not_depth e = cc
 length_not_depth : ◌≡◌ {A = Answer} (Err BadLength) (Err TooDeep) → ⊥
 length_not_depth e = cc
 
-pub one_fault : (s : Syntax) (fs : List OpenSequence) (text : List ℕ) (f g : DataFault) → f ≢ Memory → g ≢ Memory → Shows s fs text f → Shows s fs text g → f ≡ g
+pub one_fault : (s : Syntax) (fs : List OpenSequence) (text : List ℕ) (f g : DataFault) → f ≢ Memory → g ≢ Memory → ShowsFault s fs text f → ShowsFault s fs text g → f ≡ g
 one_fault s fs text Memory g mf mg a b = absurd (mf refl)
 one_fault s fs text Truncated Memory mf mg a b = absurd (mg refl)
 one_fault s fs text BadVr Memory mf mg a b = absurd (mg refl)
@@ -151,10 +151,10 @@ one_fault s fs text TooDeep BadLength mf mg a b = absurd (length_not_depth (sym 
 one_fault s fs text TooDeep TooDeep mf mg a b = refl
 
 -- nothing shows at the end of a data set
-no_fault_at_end : (s : Syntax) (fs : List OpenSequence) (text : List ℕ) (f : DataFault) → f ≢ Memory → fs ≡ [] → text ≡ [] → Shows s fs text f → ⊥
-no_fault_at_end s fs text f ne none end h = at_end f ne (subst (λ (x : List OpenSequence). Shows s x [] f) none (subst (λ (x : List ℕ). Shows s fs x f) end h))
+no_fault_at_end : (s : Syntax) (fs : List OpenSequence) (text : List ℕ) (f : DataFault) → f ≢ Memory → fs ≡ [] → text ≡ [] → ShowsFault s fs text f → ⊥
+no_fault_at_end s fs text f ne none end h = at_end f ne (subst (λ (x : List OpenSequence). ShowsFault s x [] f) none (subst (λ (x : List ℕ). ShowsFault s fs x f) end h))
   where
-    at_end : (f : DataFault) → f ≢ Memory → Shows s [] [] f → ⊥
+    at_end : (f : DataFault) → f ≢ Memory → ShowsFault s [] [] f → ⊥
     at_end Truncated ne h = h.0 refl refl
     at_end BadVr ne h = cc (vr_fault s [] [] h)
     at_end BadLength ne h = cc (length_fault s [] [] h)
@@ -184,7 +184,7 @@ pub one_first_fault : (s : Syntax) (text : List ℕ) (f g : DataFault) → f ≢
 one_first_fault s text f g mf mg (fs, es, rest, o, h) (gs, xs, more, p, k) =
     let same = one_place s (at [] text []) (at fs rest es) (at gs more xs) (opens_walk s fs text es rest o) (opens_walk s gs text xs more p)
     (fault_is_stuck s fs es rest f (open_at_most s fs text es rest o) mf h) (fault_is_stuck s gs xs more g (open_at_most s gs text xs more p) mg k) in
-    let there : Shows s fs rest g = subst (λ (x : List ℕ). Shows s fs x g) (rest_of (at gs more xs) (at fs rest es) same) (subst (λ (x : List OpenSequence). Shows s x more g) (frames_of (at gs more xs) (at fs rest es) same) k) in
+    let there : ShowsFault s fs rest g = subst (λ (x : List ℕ). ShowsFault s fs x g) (rest_of (at gs more xs) (at fs rest es) same) (subst (λ (x : List OpenSequence). ShowsFault s x more g) (frames_of (at gs more xs) (at fs rest es) same) k) in
     one_fault s fs rest f g mf mg h there
 
 err_of : (f : DataFault) → ◌≢◌ {A = Result Attributes DataFault} (Err f) (Err Memory) → f ≢ Memory

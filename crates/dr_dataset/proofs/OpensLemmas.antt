@@ -16,7 +16,7 @@ use Rattle.dr_dataset.specs.declared.frame.OpenSequence.TheVariants.{InSequence,
 use Rattle.dr_dataset.specs.declared.token.Token.{Token}
 use Rattle.dr_dataset.specs.declared.token.Token.TheVariants.{Value, Sequence, PlainItem, Item, ItemEnd, SequenceEnd}
 use Rattle.dr_dataset.specs.Elements.{Element, undefined, item_group, StartsTag, StartsForm, StartsHeader, StartsMark, StartsPlain, StartsPlainItem, StartsItem, EndsItem, EndsSequence, StartsElement}
-use Rattle.dr_dataset.specs.DataSet.{is_key, in_force, open_sequences, levels_left, wants_elements, StartsTop, Opens, MayOpen, StartsToken, Shows}
+use Rattle.dr_dataset.specs.DataSet.{is_key, in_force, open_sequences, levels_left, wants_elements, StartsTop, Opens, MayOpen, StartsToken, ShowsFault}
 use Rattle.dr_dataset.specs.Tokens.{is_full, is_nested, token_of}
 use Rattle.dr_dataset.specs.Wholes.{whole}
 use Rattle.dr_dataset.proofs.TokenLemmas.{IsNext, token_sound, token_whole, token_tells, vr_fault, length_fault, depth_fault}
@@ -177,11 +177,11 @@ token_stands s (InSequence t u ∷ fs) text rest (inr (inr end)) = (SequenceEnd 
 
 -- an answer that is no fault of the three, and leaves no whole token, is a cut
 cut_if : (s : Syntax) (fs : List OpenSequence) (text : List ℕ) → (text ≡ [] → fs ≢ []) → ((rest : List ℕ) → Stands s fs text rest → ⊥) → (token_of s fs text ≡ Err BadVr → ⊥) → (token_of s fs text ≡ Err BadLength → ⊥) → (token_of s fs text ≡ Err TooDeep → ⊥)
-    → Shows s fs text Truncated
+    → ShowsFault s fs text Truncated
 cut_if s fs text more none vr len deep =
     (more, λ rest h. none rest (token_stands s fs text rest h), λ h. vr (vr_fault s fs text h), λ h. len (length_fault s fs text h), λ h. deep (depth_fault s fs text h))
 
-pub shows : (s : Syntax) (fs : List OpenSequence) (text : List ℕ) (fault : DataFault) → (text ≡ [] → fs ≢ []) → token_of s fs text ≡ Err fault → Shows s fs text fault
+pub shows : (s : Syntax) (fs : List OpenSequence) (text : List ℕ) (fault : DataFault) → (text ≡ [] → fs ≢ []) → token_of s fs text ≡ Err fault → ShowsFault s fs text fault
 shows s fs text BadVr more e = token_tells s fs text BadVr e
 shows s fs text BadLength more e = token_tells s fs text BadLength e
 shows s fs text TooDeep more e = token_tells s fs text TooDeep e
@@ -190,7 +190,7 @@ shows s fs text Truncated more e =
     cut_if s fs text more (λ rest (token, behind, is, has). ok_not_err (sym is ∙ e)) (λ f. vr_not_cut (sym f ∙ e)) (λ f. length_not_cut (sym f ∙ e)) (λ f. depth_not_cut (sym f ∙ e))
 
 -- a header whose bytes aren't all there
-pub cut_shows : (s : Syntax) (fs : List OpenSequence) (text : List ℕ) (token : Token) (behind : List ℕ) → token_of s fs text ≡ Ok (token, behind) → (Has token behind → ⊥) → Shows s fs text Truncated
+pub cut_shows : (s : Syntax) (fs : List OpenSequence) (text : List ℕ) (token : Token) (behind : List ℕ) → token_of s fs text ≡ Ok (token, behind) → (Has token behind → ⊥) → ShowsFault s fs text Truncated
 cut_shows s fs text token behind e cut =
     cut_if s fs text (λ none. absurd (ok_not_err (sym e ∙ ap (token_of s fs) none)))
     (λ rest (other, after, is, has). cut (same other after (sym is ∙ e) has))

@@ -153,26 +153,26 @@ ShowsDepth s fs text =
     × (open_sequences fs ≡ 32)
 
 -- the text shows this fault, where these sequences and items are open
-abbrev pub Shows : Syntax → List OpenSequence → List ℕ → DataFault → Type 0
-Shows s fs text BadVr = ShowsVr s fs text
-Shows s fs text BadLength = ShowsLength s fs text
-Shows s fs text TooDeep = ShowsDepth s fs text
+abbrev pub ShowsFault : Syntax → List OpenSequence → List ℕ → DataFault → Type 0
+ShowsFault s fs text BadVr = ShowsVr s fs text
+ShowsFault s fs text BadLength = ShowsLength s fs text
+ShowsFault s fs text TooDeep = ShowsDepth s fs text
 -- more should come: something is open or begun, no whole token stands there, and nothing else is
 -- wrong
-Shows s fs text Truncated =
+ShowsFault s fs text Truncated =
     (text ≡ [] → fs ≢ [])
     × ((rest : List ℕ) → StartsToken s fs text rest → ⊥)
     × (ShowsVr s fs text → ⊥)
     × (ShowsLength s fs text → ⊥)
     × (ShowsDepth s fs text → ⊥)
 -- nothing is wrong: the text ends here, and there was no memory for its values
-Shows s fs text Memory = (fs ≡ []) × (text ≡ [])
+ShowsFault s fs text Memory = (fs ≡ []) × (text ≡ [])
 
 -- Behind a front that is in order the fault shows, so it is the one at the least offset.
 abbrev pub FirstFault : Syntax → List ℕ → DataFault → Type 0
 FirstFault s text fault =
     (fs : List OpenSequence) × (es : List Element) × (rest : List ℕ) × Opens s fs text es rest
-    × Shows s fs rest fault
+    × ShowsFault s fs rest fault
 
 -- the four attributes, or the first fault
 abbrev pub Scans : Syntax → List ℕ → Result Attributes DataFault → Type 0

@@ -92,12 +92,13 @@ abbrev pub HasFailed : Scan → DataFault → Type 0
 HasFailed scan fault = scan.place ≡ Failed fault
 
 -- whatever text the old scan had heard, the new one has heard with these bytes behind it
-abbrev pub GoesOn : Scan → List ℕ → Scan → Type 0
-GoesOn old bytes new = (s : Syntax) (text : List ℕ) → Hears s text old → Hears s (text ++ bytes) new
+abbrev pub HearsMore : Scan → List ℕ → Scan → Type 0
+HearsMore old bytes new =
+    (s : Syntax) (text : List ℕ) → Hears s text old → Hears s (text ++ bytes) new
 
 -- the pieces, one after the other, take the old scan to the new one
 abbrev pub GoesOnBy : Scan → List (List ℕ) → Scan → Type 0
-GoesOnBy old pieces new = Calls GoesOn old pieces new
+GoesOnBy old pieces new = Calls HearsMore old pieces new
 
 -- the new scan has heard what the old one had
 abbrev pub HearsAlike : Scan → Scan → Type 0

@@ -11,7 +11,7 @@ use Rattle.dr_dataset.specs.declared.found.ElementsFound.{ElementsFound}
 use Rattle.dr_dataset.specs.declared.values.Attributes.{Attributes}
 use Rattle.dr_dataset.specs.Elements.{Element}
 use Rattle.dr_base.specs.Padding.{trimmed}
-use Rattle.dr_dataset.specs.DataSet.{first_value, Opens, Shows}
+use Rattle.dr_dataset.specs.DataSet.{first_value, Opens, ShowsFault}
 
 -- an element, as the one element of the top level that it is where nothing is open behind it, and
 -- none else
@@ -47,7 +47,8 @@ AreValues f a =
 -- a fault shows before one element of the top level is whole
 abbrev pub FailsAtOnce : Syntax → List ℕ → DataFault → Type 0
 FailsAtOnce s text fault =
-    (fs : List OpenSequence) × (rest : List ℕ) × Opens s fs text [] rest × Shows s fs rest fault
+    (fs : List OpenSequence) × (rest : List ℕ) × Opens s fs text [] rest
+    × ShowsFault s fs rest fault
 
 -- an element that was found whole, as the grammar sees it
 abbrev pub element_of : Whole → Element

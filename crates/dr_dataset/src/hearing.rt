@@ -7,7 +7,7 @@ ghost use Rattle.dr_dataset.specs.declared.fault.DataFault.{DataFault as FaultNa
 ghost use Rattle.dr_dataset.specs.declared.header.Tag.{Tag as TagName};
 ghost use Rattle.std.specs.Prelude.{Option as OptionName};
 ghost use Rattle.dr_dataset.specs.DataSet.{Scans, FirstFault};
-ghost use Rattle.dr_dataset.specs.Hearing.{Hears, HasFailed, Finishes, IsInOrderSoFar, GoesOn};
+ghost use Rattle.dr_dataset.specs.Hearing.{Hears, HasFailed, Finishes, IsInOrderSoFar, HearsMore};
 ghost use Rattle.dr_dataset.specs.Hearing.{Begun, is_kept, text_of_slot, AreSlots};
 
 use crate::caught::{Caught, Kept};
@@ -61,7 +61,7 @@ impl Scan {
     /// Hears the next piece. The first fault is answered as soon as it shows, and by each later
     /// call too; it takes no memory.
     pub fn feed(&mut self, piece: &[u8]) -> Result<(), DataFault>
-        ensures hears { GoesOn self.old piece.now self.new }
+        ensures hears { HearsMore self.old piece.now self.new }
         ensures first { (s : SyntaxName) (text : List ℕ)
             → Hears s text self.old
             → MatchResult result
@@ -107,7 +107,7 @@ impl Scan {
     fn take<'a>(&mut self, piece: &'a [u8]) -> &'a [u8]
         requires { piece.now ≢ [] }
         ensures { (taken : List ℕ) × (piece.now ≡ taken ++ result.now) × (taken ≢ [])
-            × GoesOn self.old taken self.new
+            × HearsMore self.old taken self.new
             × ((f : FaultName) → HasFailed self.old f → HasFailed self.new f) }
     {
         self.settle();
@@ -145,7 +145,7 @@ impl Scan {
         requires some { piece.now ≢ [] }
         requires awaited { 0 < missing }
         ensures { (taken : List ℕ) × (piece.now ≡ taken ++ result.now) × (taken ≢ [])
-            × (self.old.place ≡ ScanPlace.InValue tag missing → GoesOn self.old taken self.new) }
+            × (self.old.place ≡ ScanPlace.InValue tag missing → HearsMore self.old taken self.new) }
     {
         let count = piece.len().min(missing as usize);
         let (bytes, rest) = piece.split_at(count);
@@ -169,7 +169,7 @@ impl Scan {
     fn take_header<'a>(&mut self, piece: &'a [u8]) -> &'a [u8]
         requires { piece.now ≢ [] }
         ensures { (taken : List ℕ) × (piece.now ≡ taken ++ result.now) × (taken ≢ [])
-            × (self.old.place ≡ ScanPlace.InHeader → GoesOn self.old taken self.new) }
+            × (self.old.place ≡ ScanPlace.InHeader → HearsMore self.old taken self.new) }
     {
         if self.header.is_empty() {
             return self.take_first(piece);
@@ -182,7 +182,7 @@ impl Scan {
         requires some { piece.now ≢ [] }
         requires fresh { self.old.header.items ≡ [] }
         ensures { (taken : List ℕ) × (piece.now ≡ taken ++ result.now) × (taken ≢ [])
-            × (self.old.place ≡ ScanPlace.InHeader → GoesOn self.old taken self.new) }
+            × (self.old.place ≡ ScanPlace.InHeader → HearsMore self.old taken self.new) }
     {
         let Ok((token, rest)) = self.scanner.step(piece) else {
             return self.take_one(piece);
@@ -195,7 +195,7 @@ impl Scan {
     fn take_one<'a>(&mut self, piece: &'a [u8]) -> &'a [u8]
         requires { piece.now ≢ [] }
         ensures { (taken : List ℕ) × (piece.now ≡ taken ++ result.now) × (taken ≢ [])
-            × (self.old.place ≡ ScanPlace.InHeader → GoesOn self.old taken self.new) }
+            × (self.old.place ≡ ScanPlace.InHeader → HearsMore self.old taken self.new) }
     {
         let [byte, rest @ ..] = piece else {
             return piece;
@@ -205,7 +205,7 @@ impl Scan {
     }
 
     fn take_byte(&mut self, byte: u8)
-        ensures { self.old.place ≡ ScanPlace.InHeader → GoesOn self.old (byte ∷ []) self.new }
+        ensures { self.old.place ≡ ScanPlace.InHeader → HearsMore self.old (byte ∷ []) self.new }
     {
         if self.header.is_full() {
             return;

@@ -6,7 +6,7 @@ ghost use Rattle.dr_dataset.specs.Worked.{ModalityIsRead, NothingIsRead, ItemIsB
 ghost use Rattle.dr_dataset.specs.Worked.{SmallLettersAreBad};
 ghost use Rattle.dr_dataset.specs.OneAnswer.{OneAnswer, SomeAnswer, OneFileAnswer};
 ghost use Rattle.dr_dataset.specs.Fronts.{FrontsStay, FaultsStay};
-ghost use Rattle.dr_dataset.specs.Hearing.{GoesOn, GoesOnBy};
+ghost use Rattle.dr_dataset.specs.Hearing.{HearsMore, GoesOnBy};
 ghost use Rattle.dr_dataset.specs.declared.hearing.Scan.{Scan as ScanValue};
 
 /// A text has one answer: one list of elements, so one value for each of the four attributes, or
@@ -27,7 +27,7 @@ pub fn a_front_stays_as_it_was_read()
 pub fn cuts_do_not_matter()
     ensures { (old : ScanValue) (pieces : List (List ℕ)) (new : ScanValue)
         → GoesOnBy old pieces new
-        → GoesOn old (flat_map (λ piece. piece) pieces) new }
+        → HearsMore old (flat_map (λ piece. piece) pieces) new }
 {}
 
 /// A file has one answer.

@@ -4,7 +4,7 @@ ghost use Rattle.std.specs.Prelude.{MatchOption, IfOk, IfErr};
 ghost use Rattle.std.specs.Bool.{MatchBool};
 ghost use Rattle.std.specs.Option.{option_copied};
 ghost use Rattle.dr_dataset.specs.Elements.{Element};
-ghost use Rattle.dr_dataset.specs.DataSet.{is_key, in_force, Opens, Shows, StartsTop};
+ghost use Rattle.dr_dataset.specs.DataSet.{is_key, in_force, Opens, ShowsFault, StartsTop};
 ghost use Rattle.dr_dataset.specs.Wholes.{whole, elements_of, element_of, FailsAtOnce};
 ghost use Rattle.dr_dataset.specs.Reading.{Gives, long_of};
 ghost use Rattle.dr_dataset.specs.Tokens.{is_nested, is_full, element_token, item_token, end_token};
@@ -180,7 +180,7 @@ impl Scanner {
         ensures shorter { IfOk result (λ r. length r.1.now < length text.now) }
         ensures err { IfErr result (λ fault. (fault ≢ DataFault.Memory)
             × ((text.now ≡ [] → self.old.stack ≢ [])
-            → Shows self.old.syntax self.old.stack text.now fault)) }
+            → ShowsFault self.old.syntax self.old.stack text.now fault)) }
     {
         let (token, rest) = self.step(text)?;
         match token {

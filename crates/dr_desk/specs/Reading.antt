@@ -21,7 +21,7 @@ pub record AreHoldings (b : Book) (held : Holdings) : Type 0 where
   pub lines : held.lines ≡ length b.lines
 
 -- the counts are those of the book; of the failures another clause speaks
-pub record AreTotals (b : Book) (totals : Totals) : Type 0 where
+pub record AreBookTotals (b : Book) (totals : Totals) : Type 0 where
   pub arrivals : totals.arrivals ≡ set.len b.arrivals
   pub kept : totals.kept ≡ set.len b.kept
   pub lines : totals.lines ≡ length b.lines

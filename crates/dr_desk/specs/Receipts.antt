@@ -47,5 +47,5 @@ Notes call reply count receipts now kept =
     × ((number : ℕ) × (kept ≡ newest (receipts ++ receipt number call reply ∷ [])))
 
 -- a pass after a call that was refused: its count and its receipts are as they were
-abbrev pub Leaves : ℕ → List Receipt → ℕ → List Receipt → Type 0
-Leaves count receipts now kept = (now ≡ count) × (kept ≡ receipts)
+abbrev pub LeavesReceipts : ℕ → List Receipt → ℕ → List Receipt → Type 0
+LeavesReceipts count receipts now kept = (now ≡ count) × (kept ≡ receipts)

@@ -15,7 +15,7 @@ ghost use Rattle.dr_desk.specs.Agreeing.{AreApart, Fails, IsOfLine, Rises, numbe
 ghost use Rattle.dr_desk.specs.Answering.{Answers};
 ghost use Rattle.dr_desk.specs.Growing.{BeginWith};
 ghost use Rattle.dr_desk.specs.Reading.{AreHoldings, Failing, HasLines, Reading};
-ghost use Rattle.dr_desk.specs.Receipts.{Leaves, Notes, arrival_of};
+ghost use Rattle.dr_desk.specs.Receipts.{LeavesReceipts, Notes, arrival_of};
 
 use crate::closing::{Closed, NotClosed};
 use crate::desk::Desk;
@@ -116,7 +116,7 @@ impl<L: Ledger, B: Sharing> SharedDesk<L, B> {
         ensures pass { MatchResult result
             (λ r. Notes (arrival_of caller.now item) (Reply.Arrived r) pass.old.made.count
             pass.old.receipts.items pass.new.made.count pass.new.receipts.items)
-            (λ why. Leaves pass.old.made.count pass.old.receipts.items pass.new.made.count
+            (λ why. LeavesReceipts pass.old.made.count pass.old.receipts.items pass.new.made.count
             pass.new.receipts.items) }
         ensures answer { Answers L.site L.book L.stands L.failed B.site B.first
             (Arrives (site_routing B.site) caller.now (instance_of item))
@@ -165,7 +165,7 @@ impl<L: Ledger, B: Sharing> SharedDesk<L, B> {
         ensures pass { MatchResult result
             (λ r. Notes (Call.Settling uid.now dest.now outcome now) Reply.Done pass.old.made.count
             pass.old.receipts.items pass.new.made.count pass.new.receipts.items)
-            (λ why. Leaves pass.old.made.count pass.old.receipts.items pass.new.made.count
+            (λ why. LeavesReceipts pass.old.made.count pass.old.receipts.items pass.new.made.count
             pass.new.receipts.items) }
         ensures answer { Answers L.site L.book L.stands L.failed B.site B.first
             (Settles uid.now dest.now outcome now)
@@ -207,7 +207,7 @@ impl<L: Ledger, B: Sharing> SharedDesk<L, B> {
         ensures pass { MatchResult result
             (λ r. Notes (Call.Requeuing uid.now dest.now) Reply.Done pass.old.made.count
             pass.old.receipts.items pass.new.made.count pass.new.receipts.items)
-            (λ why. Leaves pass.old.made.count pass.old.receipts.items pass.new.made.count
+            (λ why. LeavesReceipts pass.old.made.count pass.old.receipts.items pass.new.made.count
             pass.new.receipts.items) }
         ensures answer { Answers L.site L.book L.stands L.failed B.site B.first
             (Requeues uid.now dest.now)
@@ -416,7 +416,7 @@ impl<L: LetsGo, B: Sharing> SharedDesk<L, B> {
             (λ r. Notes (Call.Dropping uid.now dest.now now) Reply.Done
             pass.old.made.count pass.old.receipts.items
             pass.new.made.count pass.new.receipts.items)
-            (λ why. Leaves pass.old.made.count pass.old.receipts.items
+            (λ why. LeavesReceipts pass.old.made.count pass.old.receipts.items
             pass.new.made.count pass.new.receipts.items) }
         ensures answer { Answers L.site L.book L.stands L.failed B.site B.first
             (Drops uid.now dest.now now)
@@ -450,7 +450,7 @@ impl<L: LetsGo, B: Sharing> SharedDesk<L, B> {
             (λ r. Notes (Call.Forgetting uid.now) Reply.Done
             pass.old.made.count pass.old.receipts.items
             pass.new.made.count pass.new.receipts.items)
-            (λ why. Leaves pass.old.made.count pass.old.receipts.items
+            (λ why. LeavesReceipts pass.old.made.count pass.old.receipts.items
             pass.new.made.count pass.new.receipts.items) }
         ensures answer { Answers L.site L.book L.stands L.failed B.site B.first
             (Forgets uid.now)

@@ -4,7 +4,7 @@ ghost use Rattle.std.specs.FinMap as map;
 ghost use Rattle.dr_ledger.specs.Replies.{Reads};
 ghost use Rattle.dr_ledger_views.specs.Views.{AreCallers, IsLeast, IsTally, dues, page_of};
 ghost use Rattle.dr_ledger_views.specs.Views.{rows_of};
-ghost use Rattle.dr_desk.specs.Reading.{Answered, AreTotals, Failing, HasFailed, Reading};
+ghost use Rattle.dr_desk.specs.Reading.{Answered, AreBookTotals, Failing, HasFailed, Reading};
 
 use crate::held::HeldDesk;
 use crate::holdings::Totals;
@@ -19,7 +19,7 @@ impl<L: Views, B: Sharing> HeldDesk<L, B> {
     /// How much there is. The journal's lines are counted as they are added.
     fn totals(&mut self) -> Result<Totals, LedgerFault>
         ensures reply { Answered L.site L.book L.bodies L.stands L.failed B.site B.first
-            (λ l answer. Reads answer (AreTotals (L.book l)))
+            (λ l answer. Reads answer (AreBookTotals (L.book l)))
             result self.old.desk.ledger self.new.desk.ledger }
         ensures failures { IfOk result (λ t. HasFailed L.site L.book L.bodies L.stands L.failed
             B.site B.first self.new.full t.failures self.new.desk.ledger) }
@@ -93,7 +93,7 @@ impl<L: Views, B: Sharing> SharedDesk<L, B> {
     /// Errors: Store, Memory.
     pub fn totals<R: Wait>(&self, rt: &R) -> Result<Totals, LedgerFault>
         ensures reply { Reading L.site L.book L.bodies L.stands L.failed B.site B.first
-            (λ l answer. Reads answer (AreTotals (L.book l))) result }
+            (λ l answer. Reads answer (AreBookTotals (L.book l))) result }
         ensures failures { IfOk result (λ t. Failing L.site L.book L.bodies L.stands L.failed
             B.site B.first t.failures) }
     {

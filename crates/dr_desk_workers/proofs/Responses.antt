@@ -18,7 +18,7 @@ use Rattle.dr_pdu.proofs.WrittenLemmas.{written_spells}
 use Rattle.dr_dimse.specs.Commands.{IsCommand, ReadsCommand, status_of}
 use Rattle.dr_dimse.specs.declared.fault.DimseFault.{DimseFault}
 use Rattle.dr_dimse.specs.declared.fault.DimseFault.TheVariants.{BadCommand}
-use Rattle.dr_dimse.specs.Written.{Fits}
+use Rattle.dr_dimse.specs.Written.{CommandFits}
 use Rattle.dr_dimse.specs.Written as command
 use Rattle.dr_dimse.specs.declared.command.Command.{Command}
 use Rattle.dr_dimse.proofs.OneCommand.{one_command}

@@ -5,7 +5,7 @@ use Rattle.std.proofs.lemmas.List.{append-nil, take-append-drop}
 use Rattle.dr_session.specs.declared.ends.Heard.{Heard}
 use Rattle.dr_session.specs.declared.ends.Heard.TheVariants.{Bytes, End, Late, Idle, Crowded, Fault, Memory}
 use Rattle.dr_desk_workers.specs.declared.ahead.Ahead.{Ahead}
-use Rattle.dr_desk_workers.specs.Hearing.{HearsAll, IsAhead, IsHeard, IsWaited, Puts, TakesIn, listed, spoken}
+use Rattle.dr_desk_workers.specs.Hearing.{HearsAll, IsAhead, IsHeard, IsWaited, Puts, TakesHeard, listed, spoken}
 
 -- the link heard these, of which none ended the waiting, and this is what they say
 pub record Waited {K : Type 0} (hears : K → Heard → K → Type 0) (k : K) (text : List ℕ) (l : K) : Type 0 where
@@ -37,7 +37,7 @@ spoken_on (Fault ∷ rest) more = spoken_on rest more
 spoken_on (Memory ∷ rest) more = spoken_on rest more
 
 pub one_more : {K : Type 0} (hears : K → Heard → K → Type 0) (k m l : K) (text new : List ℕ) (came : Heard) → Waited hears k text m → hears m came l
-    → TakesIn came text None new → Waited hears k new l
+    → TakesHeard came text None new → Waited hears k new l
 one_more hears k m l text new came w h (is, same) = record {
   heard = w.heard ++ (came ∷ []);
   all = hears_on hears w.heard (came ∷ []) k m l w.all (l, h, refl);
@@ -66,7 +66,7 @@ heard_last hears k m l text came ahead w h puts = record {
 }
 
 pub is_ahead : {K : Type 0} (hears : K → Heard → K → Type 0) (k m l : K) (text new : List ℕ) (came : Heard) (ahead : Ahead) → Waited hears k text m → hears m came l
-    → TakesIn came text (Some ahead) new → IsAhead hears k ahead l
+    → TakesHeard came text (Some ahead) new → IsAhead hears k ahead l
 is_ahead hears k m l text new came ahead w h (inl (is, puts)) = inl (heard_more hears k m l text came ahead w h is puts)
 is_ahead hears k m l text new came ahead w h (inr puts) = inl (heard_last hears k m l text came ahead w h puts)
 

@@ -86,9 +86,9 @@ IsAhead hears k ahead l =
     ⊎ (told ahead ≡ Memory ∷ [])
 
 -- one thing more that was heard ends the waiting, or is one of those that don't
-abbrev pub TakesIn : Heard → List ℕ → Option Ahead → List ℕ → Type 0
-TakesIn came text None new = IsWaited came × (new ≡ text ++ spoken (came ∷ []))
-TakesIn came text (Some ahead) new =
+abbrev pub TakesHeard : Heard → List ℕ → Option Ahead → List ℕ → Type 0
+TakesHeard came text None new = IsWaited came × (new ≡ text ++ spoken (came ∷ []))
+TakesHeard came text (Some ahead) new =
     (IsWaited came × Puts (text ++ spoken (came ∷ [])) None ahead)
     ⊎ Puts text (Some came) ahead
 

@@ -9,7 +9,7 @@ use Rattle.dr_pdu.specs.declared.pdu.Pdv.{Pdv}
 use Rattle.dr_pdu.specs.Feeding.{Feeding, Feeds, fresh, given_by}
 use Rattle.dr_dimse.specs.Commands.{IsCommand, status_of}
 use Rattle.dr_dimse.specs.Messages.{is_command}
-use Rattle.dr_dimse.specs.Written.{Fits}
+use Rattle.dr_dimse.specs.Written.{CommandFits}
 use Rattle.dr_dimse.specs.declared.command.Command.{Command}
 use Rattle.dr_nego.specs.Agreeing.{IsTooSmall}
 use Rattle.dr_nego.specs.Fragments.{spellings}
@@ -57,6 +57,6 @@ abbrev pub ResponsesSayTheirStatus : Type 0
 ResponsesSayTheirStatus =
     (limit context : ℕ) (c : Command) (said : Option ℕ)
     → (IsTooSmall limit → ⊥)
-    → Fits c
+    → CommandFits c
     → SaysStatus (spellings (command_pdus limit context c)) said
     → said ≡ status_of c

@@ -1,7 +1,7 @@
 //! What was heard of a connection before its session begins.
 ghost use Rattle.std.specs.Prelude.{◌≡◌, ◌∷◌, [], None, IfOk, false};
 ghost use Rattle.dr_session.specs.declared.ends.Heard.TheVariants.{Bytes, Late};
-ghost use Rattle.dr_desk_workers.specs.Hearing.{IsAhead, Puts, TakesIn, later, listed, told};
+ghost use Rattle.dr_desk_workers.specs.Hearing.{IsAhead, Puts, TakesHeard, later, listed, told};
 
 use crate::gate::Gate;
 use dr_base::Text;
@@ -117,7 +117,7 @@ fn is_over<C: Clock>(heard: &Heard, until: u64, clock: &C) -> bool
 /// Errors: want of memory.
 fn take_bytes(alloc: Global, piece: &[u8], text: &mut Vec<u8>) -> Result<Option<Ahead>, AllocError>
     ensures { IfOk result (λ ahead.
-        TakesIn (Bytes piece.now) text.old.items ahead text.new.items) }
+        TakesHeard (Bytes piece.now) text.old.items ahead text.new.items) }
 {
     text.extend_from_slice(piece)?;
     let whole = whole_length(text.as_slice()).unwrap_or(usize::MAX);
@@ -138,7 +138,7 @@ fn take_in<C: Clock>(
     clock: &C,
     until: u64,
 ) -> Result<Option<Ahead>, AllocError>
-    ensures { IfOk result (λ ahead. TakesIn heard text.old.items ahead text.new.items) }
+    ensures { IfOk result (λ ahead. TakesHeard heard text.old.items ahead text.new.items) }
 {
     if let Heard::Bytes(piece) = &heard {
         return take_bytes(alloc, piece.as_bytes(), text);

@@ -10,52 +10,52 @@ use Rattle.dr_dimse.specs.declared.message.Awaited.{Awaited}
 use Rattle.dr_dimse.specs.declared.command.Command.{Command}
 use Rattle.dr_dimse.specs.declared.fault.DimseFault.{DimseFault}
 use Rattle.dr_dimse.specs.Messages.{is_last, joined, IsOfKind, AreInner, body_of, IsMessage}
-use Rattle.dr_dimse.specs.Taking.{Stage, Idle, InCommand, InData, Leaves, wants_command, text_so_far, kept, IsAwaited, InContext, InPlace, EndsCommand, TakesData, Takes, Call, Took, given_by, given, Waits, Gives}
+use Rattle.dr_dimse.specs.Taking.{MessageStage, Idle, InCommand, InData, LeavesStage, wants_command, text_so_far, kept, IsAwaited, InContext, InPlace, EndsCommand, TakesData, Takes, Call, Took, given_by, given, Waits, Gives}
 use Rattle.dr_dimse.proofs.MessageLemmas.{leaves_more, message_ends, kept_is, fault_stays}
 
 -- ---- what is given is the message
 
 -- the command before a data set was awaited
-abbrev pub IsKnown : Awaited → Stage → Type 0
+abbrev pub IsKnown : Awaited → MessageStage → Type 0
 IsKnown a (InData id c body) = IsAwaited a c
 IsKnown a s = Unit {0}
 
-data_known : (a : Awaited) (s : Stage) (p : Pdv) (new : Stage) → IsKnown a s → TakesData s p None new → IsKnown a new
+data_known : (a : Awaited) (s : MessageStage) (p : Pdv) (new : MessageStage) → IsKnown a s → TakesData s p None new → IsKnown a new
 data_known a Idle p new k takes = absurd takes
 data_known a (InCommand id text) p new k takes = absurd takes
-data_known a (InData id c body) p new k takes = subst (λ (u : Stage). IsKnown a u) (sym takes.1) k
+data_known a (InData id c body) p new k takes = subst (λ (u : MessageStage). IsKnown a u) (sym takes.1) k
 
-known_more : (a : Awaited) (s : Stage) (p : Pdv) (new : Stage) → IsKnown a s → Takes a s p (Ok None) new → IsKnown a new
+known_more : (a : Awaited) (s : MessageStage) (p : Pdv) (new : MessageStage) → IsKnown a s → Takes a s p (Ok None) new → IsKnown a new
 known_more a s p new k (inl h) = data_known a s p new k h.2
-known_more a s p new k (inr (inl h)) = subst (λ (u : Stage). IsKnown a u) (sym h.3) tt
-known_more a s p new k (inr (inr h)) = subst (λ (u : Stage). IsKnown a u) (sym h.5.1) h.4
+known_more a s p new k (inr (inl h)) = subst (λ (u : MessageStage). IsKnown a u) (sym h.3) tt
+known_more a s p new k (inr (inr h)) = subst (λ (u : MessageStage). IsKnown a u) (sym h.5.1) h.4
 
-data_known_ends : (a : Awaited) (s : Stage) (p : Pdv) (m : Message) (new : Stage) → IsKnown a s → TakesData s p (Some m) new → IsAwaited a m.command
+data_known_ends : (a : Awaited) (s : MessageStage) (p : Pdv) (m : Message) (new : MessageStage) → IsKnown a s → TakesData s p (Some m) new → IsAwaited a m.command
 data_known_ends a Idle p m new k takes = absurd takes
 data_known_ends a (InCommand id text) p m new k takes = absurd takes
 data_known_ends a (InData id c body) p m new k takes = subst (λ (d : Command). IsAwaited a d) (ap (λ (n : Message). n.command) (sym takes.1)) k
 
-known_ends : (a : Awaited) (s : Stage) (p : Pdv) (m : Message) (new : Stage) → IsKnown a s → Takes a s p (Ok (Some m)) new → IsAwaited a m.command
+known_ends : (a : Awaited) (s : MessageStage) (p : Pdv) (m : Message) (new : MessageStage) → IsKnown a s → Takes a s p (Ok (Some m)) new → IsAwaited a m.command
 known_ends a s p m new k (inl h) = data_known_ends a s p m new k h.2
 known_ends a s p m new k (inr (inl h)) = let e = h.2 in absurd (cc)
 known_ends a s p m new k (inr (inr h)) = subst (λ (d : Command). IsAwaited a d) (ap (λ (n : Message). n.command) (sym h.5.1)) h.4
 
-data_idle : (s : Stage) (p : Pdv) (m : Message) (new : Stage) → TakesData s p (Some m) new → new ≡ Idle
+data_idle : (s : MessageStage) (p : Pdv) (m : Message) (new : MessageStage) → TakesData s p (Some m) new → new ≡ Idle
 data_idle Idle p m new takes = absurd takes
 data_idle (InCommand id text) p m new takes = absurd takes
 data_idle (InData id c body) p m new takes = takes.2
 
 -- nothing is under way behind a message
-idle_then : (a : Awaited) (s : Stage) (p : Pdv) (m : Message) (new : Stage) → Takes a s p (Ok (Some m)) new → new ≡ Idle
+idle_then : (a : Awaited) (s : MessageStage) (p : Pdv) (m : Message) (new : MessageStage) → Takes a s p (Ok (Some m)) new → new ≡ Idle
 idle_then a s p m new (inl h) = data_idle s p m new h.2
 idle_then a s p m new (inr (inl h)) = let e = h.2 in absurd (cc)
 idle_then a s p m new (inr (inr h)) = h.5.2
 
-pub waits_leave : (a : Awaited) (qs ps : List Pdv) (s new : Stage) → Leaves ps s → IsKnown a s → Waits a s qs new → Leaves (ps ++ qs) new × IsKnown a new
-waits_leave a [] ps s new l k w = subst (λ (u : Stage). Leaves (ps ++ []) u × IsKnown a u) w (subst (λ (qs : List Pdv). Leaves qs s) (sym (append-nil ps)) l, k)
+pub waits_leave : (a : Awaited) (qs ps : List Pdv) (s new : MessageStage) → LeavesStage ps s → IsKnown a s → Waits a s qs new → LeavesStage (ps ++ qs) new × IsKnown a new
+waits_leave a [] ps s new l k w = subst (λ (u : MessageStage). LeavesStage (ps ++ []) u × IsKnown a u) w (subst (λ (qs : List Pdv). LeavesStage qs s) (sym (append-nil ps)) l, k)
 waits_leave a (q ∷ qs) ps s new l k w =
     let it = waits_leave a qs (ps ++ q ∷ []) w.0 new (leaves_more a ps s q w.0 l w.1) (known_more a s q w.0 k w.1) w.2 in
-    (subst (λ (all : List Pdv). Leaves all new) (append_assoc ps (q ∷ []) qs) it.0, it.1)
+    (subst (λ (all : List Pdv). LeavesStage all new) (append_assoc ps (q ∷ []) qs) it.0, it.1)
 
 pub given_is : (a : Awaited) (ps : List Pdv) (m : Message) → Gives a ps m → IsMessage ps m × IsAwaited a m.command
 given_is a ps m (front, final, mid, split, waits, takes) =
@@ -65,12 +65,12 @@ given_is a ps m (front, final, mid, split, waits, takes) =
 
 -- ---- the message is given
 
-waits_append : (a : Awaited) (xs ys : List Pdv) (s mid new : Stage) → Waits a s xs mid → Waits a mid ys new → Waits a s (xs ++ ys) new
-waits_append a [] ys s mid new w v = subst (λ (u : Stage). Waits a u ys new) (sym w) v
+waits_append : (a : Awaited) (xs ys : List Pdv) (s mid new : MessageStage) → Waits a s xs mid → Waits a mid ys new → Waits a s (xs ++ ys) new
+waits_append a [] ys s mid new w v = subst (λ (u : MessageStage). Waits a u ys new) (sym w) v
 waits_append a (x ∷ xs) ys s mid new w v = (w.0, w.1, waits_append a xs ys w.0 mid new w.2 v)
 
 -- the stage takes fragments of a command in this context
-record IsReady (id : ℕ) (s : Stage) (text : List ℕ) : Type 0 where
+record IsReady (id : ℕ) (s : MessageStage) (text : List ℕ) : Type 0 where
   inside : (p : Pdv) → p.id ≡ id → InContext s p
   wants : wants_command s ≡ true
   so_far : text_so_far s ≡ text
@@ -81,8 +81,8 @@ command_ready id text = record { inside = λ p same. same; wants = refl; so_far 
 short_front : (x y z : List ℕ) → length (x ++ (y ++ z)) ≤ 16384 → length (x ++ y) ≤ 16384
 short_front x y z h = omega (arith, h, length-append x (y ++ z), length-append y z, length-append x y)
 
-command_waits : (a : Awaited) (id : ℕ) (front : List Pdv) (s : Stage) (text more : List ℕ) → IsReady id s text → AreInner true id front → length (text ++ (joined front ++ more)) ≤ 16384
-    → (mid : Stage) × Waits a s front mid × IsReady id mid (text ++ joined front)
+command_waits : (a : Awaited) (id : ℕ) (front : List Pdv) (s : MessageStage) (text more : List ℕ) → IsReady id s text → AreInner true id front → length (text ++ (joined front ++ more)) ≤ 16384
+    → (mid : MessageStage) × Waits a s front mid × IsReady id mid (text ++ joined front)
 command_waits a id [] s text more r inner short = (s, refl, record { inside = r.inside; wants = r.wants; so_far = r.so_far ∙ sym (append-nil text) })
 command_waits a id (p ∷ ps) s text more r (here, inner) short =
     let place : InPlace s p = (r.inside p here.0.0, here.0.1 ∙ sym r.wants) in
@@ -114,7 +114,7 @@ data_waits a id c (p ∷ ps) text (here, inner) =
 
 -- the command up to its last value
 record AtEnd (a : Awaited) (id : ℕ) (front : List Pdv) (final : Pdv) (text : List ℕ) : Type 0 where
-  mid : Stage
+  mid : MessageStage
   waits : Waits a Idle front mid
   ends : EndsCommand mid final text
 
@@ -164,13 +164,13 @@ is_given a ps m (cs, ds, text, split, (front, final, parts, inner, kind, last, i
 
 -- ---- what is given was awaited
 
-known_on : (a : Awaited) (p : Pdv) (r : Result (Option Message) DimseFault) (ms : List Message) (s mid : Stage) → IsKnown a s → Takes a s p r mid → (IsKnown a mid → AllByRecursion (λ (m : Message). IsAwaited a m.command) ms)
+known_on : (a : Awaited) (p : Pdv) (r : Result (Option Message) DimseFault) (ms : List Message) (s mid : MessageStage) → IsKnown a s → Takes a s p r mid → (IsKnown a mid → AllByRecursion (λ (m : Message). IsAwaited a m.command) ms)
     → AllByRecursion (λ (m : Message). IsAwaited a m.command) (given_by r ++ ms)
-known_on a p (Err f) ms s mid k t on = on (subst (λ (u : Stage). IsKnown a u) (sym (fault_stays a s p f mid t)) k)
+known_on a p (Err f) ms s mid k t on = on (subst (λ (u : MessageStage). IsKnown a u) (sym (fault_stays a s p f mid t)) k)
 known_on a p (Ok None) ms s mid k t on = on (known_more a s p mid k t)
-known_on a p (Ok (Some m)) ms s mid k t on = (known_ends a s p m mid k t, on (subst (λ (u : Stage). IsKnown a u) (sym (idle_then a s p m mid t)) tt))
+known_on a p (Ok (Some m)) ms s mid k t on = (known_ends a s p m mid k t, on (subst (λ (u : MessageStage). IsKnown a u) (sym (idle_then a s p m mid t)) tt))
 
-pub given_awaited : (a : Awaited) (calls : List Call) (s new : Stage) → IsKnown a s → AllByRecursion (λ (x : Call). x.awaited ≡ a) calls → Took s calls new → AllByRecursion (λ (m : Message). IsAwaited a m.command) (given calls)
+pub given_awaited : (a : Awaited) (calls : List Call) (s new : MessageStage) → IsKnown a s → AllByRecursion (λ (x : Call). x.awaited ≡ a) calls → Took s calls new → AllByRecursion (λ (m : Message). IsAwaited a m.command) (given calls)
 given_awaited a [] s new k all t = tt
 given_awaited a (x ∷ xs) s new k all t =
     known_on a x.value x.answer (given xs) s t.0 k (subst (λ (b : Awaited). Takes b s x.value x.answer t.0) all.0 t.1) (λ known. given_awaited a xs t.0 new known all.1 t.2)

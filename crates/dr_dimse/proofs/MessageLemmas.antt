@@ -10,7 +10,7 @@ use Rattle.dr_dimse.specs.declared.message.Awaited.{Awaited}
 use Rattle.dr_dimse.specs.declared.fault.DimseFault.{DimseFault}
 use Rattle.dr_dimse.specs.declared.fault.DimseFault.TheVariants.{OutOfPlace, MixedContext, BadCommand, TooLong, Memory}
 use Rattle.dr_dimse.specs.Messages.{is_last, joined, IsOfKind, AreInner, IsWhole, body_of, IsMessage, AreMessages}
-use Rattle.dr_dimse.specs.Taking.{Stage, Idle, InCommand, InData, Leaves, wants_command, text_so_far, kept, InContext, InPlace, IsShortEnough, EndsCommand, TakesData, Takes, Call, Took, taken_by, given_by, taken, given}
+use Rattle.dr_dimse.specs.Taking.{MessageStage, Idle, InCommand, InData, LeavesStage, wants_command, text_so_far, kept, InContext, InPlace, IsShortEnough, EndsCommand, TakesData, Takes, Call, Took, taken_by, given_by, taken, given}
 
 -- ---- lists of values
 
@@ -37,11 +37,11 @@ kept_is t more = by_test (ltb 67108864 (length t)) refl
 
 -- ---- what is under way is the values since the last message
 
-record Front (ps : List Pdv) (s : Stage) (p : Pdv) : Type 0 where
+record Front (ps : List Pdv) (s : MessageStage) (p : Pdv) : Type 0 where
   inner : AreInner true p.id ps
   text : text_so_far s ≡ joined ps
 
-front_of : (ps : List Pdv) (s : Stage) (p : Pdv) → Leaves ps s → wants_command s ≡ true → InContext s p → Front ps s p
+front_of : (ps : List Pdv) (s : MessageStage) (p : Pdv) → LeavesStage ps s → wants_command s ≡ true → InContext s p → Front ps s p
 front_of ps Idle p l wants inside = record {
   inner = subst (λ (qs : List Pdv). AreInner true p.id qs) (sym l) tt;
   text = ap joined (sym l);
@@ -52,12 +52,12 @@ front_of ps (InCommand id text) p l wants inside = record {
 }
 front_of ps (InData id c body) p l wants inside = absurd (cc)
 
-command_goes_on : (ps : List Pdv) (s : Stage) (p : Pdv) → Leaves ps s → IsShortEnough s p → is_last p ≡ false → Leaves (ps ++ p ∷ []) (InCommand p.id (text_so_far s ++ p.fragment))
+command_goes_on : (ps : List Pdv) (s : MessageStage) (p : Pdv) → LeavesStage ps s → IsShortEnough s p → is_last p ≡ false → LeavesStage (ps ++ p ∷ []) (InCommand p.id (text_so_far s ++ p.fragment))
 command_goes_on ps s p l (place, wants, short) last =
     let f = front_of ps s p l wants place.0 in
     (some_more ps p, inner_more true p.id ps p f.inner (refl, place.1 ∙ wants) last, ap (λ (t : List ℕ). t ++ p.fragment) f.text ∙ sym (joined_more ps p), short)
 
-command_ends : (ps : List Pdv) (s : Stage) (p : Pdv) (text : List ℕ) → Leaves ps s → EndsCommand s p text → IsWhole true p.id (ps ++ p ∷ []) text × (length text ≤ 16384)
+command_ends : (ps : List Pdv) (s : MessageStage) (p : Pdv) (text : List ℕ) → LeavesStage ps s → EndsCommand s p text → IsWhole true p.id (ps ++ p ∷ []) text × (length text ≤ 16384)
 command_ends ps s p text l ((place, wants, short), last, is) =
     let f = front_of ps s p l wants place.0 in (
       (ps, p, refl, f.inner, (refl, place.1 ∙ wants), last, is ∙ ap (λ (t : List ℕ). t ++ p.fragment) f.text ∙ sym (joined_more ps p)),
@@ -65,17 +65,17 @@ command_ends ps s p text l ((place, wants, short), last, is) =
     )
 
 -- a fragment of a data set
-data_goes_on : (ps : List Pdv) (s : Stage) (p : Pdv) (new : Stage) → Leaves ps s → InPlace s p → TakesData s p None new → Leaves (ps ++ p ∷ []) new
+data_goes_on : (ps : List Pdv) (s : MessageStage) (p : Pdv) (new : MessageStage) → LeavesStage ps s → InPlace s p → TakesData s p None new → LeavesStage (ps ++ p ∷ []) new
 data_goes_on ps Idle p new l place takes = absurd takes
 data_goes_on ps (InCommand id text) p new l place takes = absurd takes
 data_goes_on ps (InData id c body) p new (cs, ds, text, split, whole, short, is, follows, inner, so_far) place (last, then) =
     let all : ps ++ p ∷ [] ≡ cs ++ (ds ++ p ∷ []) = ap (λ (qs : List Pdv). qs ++ p ∷ []) split ∙ append_assoc cs ds (p ∷ []) in
     let more : kept body p.fragment ≡ body_of (joined (ds ++ p ∷ [])) =
     ap (λ (b : Body). kept b p.fragment) so_far ∙ kept_is (joined ds) p.fragment ∙ ap body_of (sym (joined_more ds p)) in
-    subst (λ (u : Stage). Leaves (ps ++ p ∷ []) u) (sym then)
+    subst (λ (u : MessageStage). LeavesStage (ps ++ p ∷ []) u) (sym then)
     (cs, ds ++ p ∷ [], text, all, whole, short, is, follows, inner_more false id ds p inner (place.0, place.1) last, more)
 
-data_ends : (ps : List Pdv) (s : Stage) (p : Pdv) (m : Message) (new : Stage) → Leaves ps s → InPlace s p → TakesData s p (Some m) new → IsMessage (ps ++ p ∷ []) m × (new ≡ Idle)
+data_ends : (ps : List Pdv) (s : MessageStage) (p : Pdv) (m : Message) (new : MessageStage) → LeavesStage ps s → InPlace s p → TakesData s p (Some m) new → IsMessage (ps ++ p ∷ []) m × (new ≡ Idle)
 data_ends ps Idle p m new l place takes = absurd takes
 data_ends ps (InCommand id text) p m new l place takes = absurd takes
 data_ends ps (InData id c body) p m new (cs, ds, text, split, whole, short, is, follows, inner, so_far) place (last, made, then) =
@@ -87,16 +87,16 @@ data_ends ps (InData id c body) p m new (cs, ds, text, split, whole, short, is, 
     (subst (λ (n : Message). IsMessage (ps ++ p ∷ []) n) (sym made) it, then)
 
 -- a value that ends no message
-pub leaves_more : (a : Awaited) (ps : List Pdv) (s : Stage) (p : Pdv) (new : Stage) → Leaves ps s → Takes a s p (Ok None) new → Leaves (ps ++ p ∷ []) new
+pub leaves_more : (a : Awaited) (ps : List Pdv) (s : MessageStage) (p : Pdv) (new : MessageStage) → LeavesStage ps s → Takes a s p (Ok None) new → LeavesStage (ps ++ p ∷ []) new
 leaves_more a ps s p new l (inl (place, wants, takes)) = data_goes_on ps s p new l place takes
-leaves_more a ps s p new l (inr (inl (short, last, none, is))) = subst (λ (u : Stage). Leaves (ps ++ p ∷ []) u) (sym is) (command_goes_on ps s p l short last)
+leaves_more a ps s p new l (inr (inl (short, last, none, is))) = subst (λ (u : MessageStage). LeavesStage (ps ++ p ∷ []) u) (sym is) (command_goes_on ps s p l short last)
 leaves_more a ps s p new l (inr (inr (text, c, ends, is, awaited, (follows, then)))) =
     let e = command_ends ps s p text l ends in
-    subst (λ (u : Stage). Leaves (ps ++ p ∷ []) u) (sym then)
+    subst (λ (u : MessageStage). LeavesStage (ps ++ p ∷ []) u) (sym then)
     (ps ++ p ∷ [], [], text, sym (append-nil (ps ++ p ∷ [])), e.0, e.1, is, follows, tt, refl)
 
 -- a value that ends one
-pub message_ends : (a : Awaited) (ps : List Pdv) (s : Stage) (p : Pdv) (m : Message) (new : Stage) → Leaves ps s → Takes a s p (Ok (Some m)) new → IsMessage (ps ++ p ∷ []) m × (new ≡ Idle)
+pub message_ends : (a : Awaited) (ps : List Pdv) (s : MessageStage) (p : Pdv) (m : Message) (new : MessageStage) → LeavesStage ps s → Takes a s p (Ok (Some m)) new → IsMessage (ps ++ p ∷ []) m × (new ≡ Idle)
 message_ends a ps s p m new l (inl (place, wants, takes)) = data_ends ps s p m new l place takes
 message_ends a ps s p m new l (inr (inl (short, last, none, is))) = absurd (cc)
 message_ends a ps s p m new l (inr (inr (text, c, ends, is, awaited, (follows, made, then)))) =
@@ -106,7 +106,7 @@ message_ends a ps s p m new l (inr (inr (text, c, ends, is, awaited, (follows, m
     (subst (λ (n : Message). IsMessage (ps ++ p ∷ []) n) (sym made) it, then)
 
 -- a fault leaves the stage
-pub fault_stays : (a : Awaited) (s : Stage) (p : Pdv) (f : DimseFault) (new : Stage) → Takes a s p (Err f) new → new ≡ s
+pub fault_stays : (a : Awaited) (s : MessageStage) (p : Pdv) (f : DimseFault) (new : MessageStage) → Takes a s p (Err f) new → new ≡ s
 fault_stays a s p MixedContext new h = h.0
 fault_stays a s p OutOfPlace new h = h.0
 fault_stays a s p TooLong new h = h.0
@@ -115,19 +115,19 @@ fault_stays a s p Memory new h = h
 
 -- ---- many calls
 
-abbrev Told : List Pdv → List Message → Stage → Type 0
-Told ps ms new = (rest : List Pdv) × AreMessages ps ms rest × Leaves rest new
+abbrev Told : List Pdv → List Message → MessageStage → Type 0
+Told ps ms new = (rest : List Pdv) × AreMessages ps ms rest × LeavesStage rest new
 
-told_one : (a : Awaited) (p : Pdv) (r : Result (Option Message) DimseFault) (ps qs : List Pdv) (ms : List Message) (s mid new : Stage) → Leaves ps s → Takes a s p r mid
-    → ((before : List Pdv) → Leaves before mid → Told (before ++ qs) ms new) → Told (ps ++ (taken_by p r ++ qs)) (given_by r ++ ms) new
-told_one a p (Err f) ps qs ms s mid new l t on = on ps (subst (λ (u : Stage). Leaves ps u) (sym (fault_stays a s p f mid t)) l)
+told_one : (a : Awaited) (p : Pdv) (r : Result (Option Message) DimseFault) (ps qs : List Pdv) (ms : List Message) (s mid new : MessageStage) → LeavesStage ps s → Takes a s p r mid
+    → ((before : List Pdv) → LeavesStage before mid → Told (before ++ qs) ms new) → Told (ps ++ (taken_by p r ++ qs)) (given_by r ++ ms) new
+told_one a p (Err f) ps qs ms s mid new l t on = on ps (subst (λ (u : MessageStage). LeavesStage ps u) (sym (fault_stays a s p f mid t)) l)
 told_one a p (Ok None) ps qs ms s mid new l t on =
     subst (λ (all : List Pdv). Told all ms new) (append_assoc ps (p ∷ []) qs) (on (ps ++ p ∷ []) (leaves_more a ps s p mid l t))
 told_one a p (Ok (Some m)) ps qs ms s mid new l t on =
     let e = message_ends a ps s p m mid l t in
-    let it = on [] (subst (λ (u : Stage). Leaves [] u) (sym e.1) refl) in
+    let it = on [] (subst (λ (u : MessageStage). LeavesStage [] u) (sym e.1) refl) in
     (it.0, (ps ++ p ∷ [], qs, sym (append_assoc ps (p ∷ []) qs), e.0, it.1), it.2)
 
-pub told : (calls : List Call) (ps : List Pdv) (s new : Stage) → Leaves ps s → Took s calls new → Told (ps ++ taken calls) (given calls) new
-told [] ps s new l t = (ps, append-nil ps, subst (λ (u : Stage). Leaves ps u) t l)
+pub told : (calls : List Call) (ps : List Pdv) (s new : MessageStage) → LeavesStage ps s → Took s calls new → Told (ps ++ taken calls) (given calls) new
+told [] ps s new l t = (ps, append-nil ps, subst (λ (u : MessageStage). LeavesStage ps u) t l)
 told (x ∷ xs) ps s new l t = told_one x.awaited x.value x.answer ps (taken xs) (given xs) s t.0 new l t.1 (λ before here. told xs before t.0 new here t.2)

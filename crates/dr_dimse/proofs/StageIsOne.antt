@@ -7,7 +7,7 @@ use Rattle.dr_dimse.specs.declared.message.Body.{Body}
 use Rattle.dr_dimse.specs.declared.message.Message.{Message}
 use Rattle.dr_dimse.specs.Commands.{IsCommand}
 use Rattle.dr_dimse.specs.Messages.{is_last, joined, AreInner, body_of, IsMessage}
-use Rattle.dr_dimse.specs.Taking.{Stage, Idle, InCommand, InData, Leaves, IsAwaited, Takes, Waits, ended_by, since}
+use Rattle.dr_dimse.specs.Taking.{MessageStage, Idle, InCommand, InData, LeavesStage, IsAwaited, Takes, Waits, ended_by, since}
 use Rattle.dr_dimse.proofs.OneCommand.{one_command}
 use Rattle.dr_dimse.proofs.MessageLemmas.{leaves_more}
 use Rattle.dr_dimse.proofs.GivenLemmas.{is_given, waits_leave}
@@ -63,7 +63,7 @@ same_context i j (p ∷ ps) some a b = sym a.0.0.0 ∙ b.0.0.0
 same_data : (i j : ℕ) (c d : Command) (a b : Body) → i ≡ j → c ≡ d → a ≡ b → InData i c a ≡ InData j d b
 same_data i j c d a b p q r = ap (λ (x : ℕ). InData x c a) p ∙ ap (λ (x : Command). InData j x a) q ∙ ap (λ (x : Body). InData j d x) r
 
-pub stage_is_one : (ps : List Pdv) (s t : Stage) → Leaves ps s → Leaves ps t → s ≡ t
+pub stage_is_one : (ps : List Pdv) (s t : MessageStage) → LeavesStage ps s → LeavesStage ps t → s ≡ t
 stage_is_one ps Idle Idle h k = refl
 stage_is_one ps Idle (InCommand i x) h k = absurd (k.0 h)
 stage_is_one ps Idle (InData i c b) h (cs, ds, x, split, (front, final, is, inner, kind, last, text), short, command, follows, data_inner, body) = absurd (none_there front final ds (sym (joined_up ps cs ds front final split is) ∙ h))
@@ -100,23 +100,23 @@ unsnoc : (p : Pdv) (later : List Pdv) → (front : List Pdv) × (final : Pdv) ×
 unsnoc p [] = ([], p, refl)
 unsnoc p (q ∷ qs) = let u = unsnoc q qs in (p ∷ u.0, u.1, ap (λ (rs : List Pdv). p ∷ rs) u.2)
 
-waits_split : (a : Awaited) (xs ys : List Pdv) (s new : Stage) → Waits a s (xs ++ ys) new → (mid : Stage) × Waits a s xs mid × Waits a mid ys new
+waits_split : (a : Awaited) (xs ys : List Pdv) (s new : MessageStage) → Waits a s (xs ++ ys) new → (mid : MessageStage) × Waits a s xs mid × Waits a mid ys new
 waits_split a [] ys s new w = (s, refl, w)
 waits_split a (x ∷ xs) ys s new w = let on = waits_split a xs ys w.0 new w.2 in (on.0, (w.0, w.1, on.1), on.2)
 
-abbrev GoesOn : Awaited → List Pdv → Pdv → List Pdv → Message → Stage → Type 0
-GoesOn a before p later m s = (new : Stage) × Takes a s p (Ok (ended_by later m)) new × Leaves (since (before ++ p ∷ []) later) new
+abbrev GoesOn : Awaited → List Pdv → Pdv → List Pdv → Message → MessageStage → Type 0
+GoesOn a before p later m s = (new : MessageStage) × Takes a s p (Ok (ended_by later m)) new × LeavesStage (since (before ++ p ∷ []) later) new
 
 -- what leads to the values so far leads to the stage that they leave
-reached : (a : Awaited) (before : List Pdv) (s mid : Stage) → Leaves before s → Waits a Idle before mid → mid ≡ s
+reached : (a : Awaited) (before : List Pdv) (s mid : MessageStage) → LeavesStage before s → Waits a Idle before mid → mid ≡ s
 reached a before s mid l w = stage_is_one before mid s (waits_leave a before [] Idle mid refl tt w).0 l
 
-pub goes_on_by : (a : Awaited) (before : List Pdv) (p : Pdv) (later : List Pdv) (m : Message) (s : Stage) → Leaves before s → IsMessage (before ++ p ∷ later) m → IsAwaited a m.command → GoesOn a before p later m s
+pub goes_on_by : (a : Awaited) (before : List Pdv) (p : Pdv) (later : List Pdv) (m : Message) (s : MessageStage) → LeavesStage before s → IsMessage (before ++ p ∷ later) m → IsAwaited a m.command → GoesOn a before p later m s
 goes_on_by a before p [] m s l is awaited =
     let (front, final, mid, split, waits, takes) = is_given a (before ++ p ∷ []) m is awaited in
     let e = ends before front p final split in
     let here : mid ≡ s = reached a before s mid l (subst (λ (xs : List Pdv). Waits a Idle xs mid) (sym e.0) waits) in
-    (Idle, subst (λ (u : Stage). Takes a u p (Ok (Some m)) Idle) here (subst (λ (q : Pdv). Takes a mid q (Ok (Some m)) Idle) (sym e.1) takes), refl)
+    (Idle, subst (λ (u : MessageStage). Takes a u p (Ok (Some m)) Idle) here (subst (λ (q : Pdv). Takes a mid q (Ok (Some m)) Idle) (sym e.1) takes), refl)
 goes_on_by a before p (q ∷ qs) m s l is awaited =
     let (front, final, mid, split, waits, takes) = is_given a (before ++ p ∷ q ∷ qs) m is awaited in
     let u = unsnoc q qs in
@@ -124,5 +124,5 @@ goes_on_by a before p (q ∷ qs) m s l is awaited =
     append_assoc before (p ∷ u.0) (u.1 ∷ []) ∙ ap (λ (rs : List Pdv). before ++ p ∷ rs) (sym u.2) ∙ split in
     let e = ends (before ++ p ∷ u.0) front u.1 final all in
     let w = waits_split a before (p ∷ u.0) Idle mid (subst (λ (xs : List Pdv). Waits a Idle xs mid) (sym e.0) waits) in
-    let step : Takes a s p (Ok None) w.2.0 = subst (λ (t : Stage). Takes a t p (Ok None) w.2.0) (reached a before s w.0 l w.1) w.2.1 in
+    let step : Takes a s p (Ok None) w.2.0 = subst (λ (t : MessageStage). Takes a t p (Ok None) w.2.0) (reached a before s w.0 l w.1) w.2.1 in
     (w.2.0, step, leaves_more a before s p w.2.0 l step)

@@ -1,13 +1,13 @@
 -- Elements that are written one after the other.
 use Rattle.std.proofs.Common.{◌≡◌, ℕ, List, [], ◌∷◌, ◌++◌, sym, ap, ◌∙◌, append_assoc}
 use Rattle.std.proofs.lemmas.List.{append-nil}
-use Rattle.dr_dimse.specs.Commands.{Element, element_text}
+use Rattle.dr_dimse.specs.Commands.{CommandElement, element_text}
 use Rattle.dr_dimse.specs.Written.{joined}
 
-pub joined_more : (es : List Element) (e : Element) → joined (es ++ e ∷ []) ≡ joined es ++ element_text e
+pub joined_more : (es : List CommandElement) (e : CommandElement) → joined (es ++ e ∷ []) ≡ joined es ++ element_text e
 joined_more [] e = append-nil (element_text e)
 joined_more (x ∷ xs) e = ap (λ (t : List ℕ). element_text x ++ t) (joined_more xs e) ∙ sym (append_assoc (element_text x) (joined xs) (element_text e))
 
 -- one element more
-pub next : (out old : List ℕ) (es : List Element) (e : Element) → old ≡ joined es → out ≡ old ++ element_text e → out ≡ joined (es ++ e ∷ [])
+pub next : (out old : List ℕ) (es : List CommandElement) (e : CommandElement) → old ≡ joined es → out ≡ old ++ element_text e → out ≡ joined (es ++ e ∷ [])
 next out old es e before here = here ∙ ap (λ (t : List ℕ). t ++ element_text e) before ∙ sym (joined_more es e)

@@ -6,14 +6,14 @@ use Rattle.std.proofs.lemmas.Bool.{le-leb, lt-leb}
 use Rattle.dr_base.specs.Runs.{Run}
 use Rattle.dr_dimse.specs.declared.command.Command.{Command}
 use Rattle.dr_dimse.specs.declared.command.Command.TheVariants.{StoreRq, StoreRsp, EchoRq, EchoRsp, Other}
-use Rattle.dr_dimse.specs.Commands.{Element, StartsElement, first_value, HasNoName, Announces, IsCommand}
-use Rattle.dr_dimse.specs.Written.{even, number_element, data_element, if_some, elements_of, joined, group_length, written, IsNumber, FieldFits, Fits}
+use Rattle.dr_dimse.specs.Commands.{CommandElement, StartsElement, first_value, HasNoName, Announces, IsCommand}
+use Rattle.dr_dimse.specs.Written.{even, number_element, data_element, if_some, elements_of, joined, group_length, written, IsNumber, FieldFits, CommandFits}
 use Rattle.dr_dimse.proofs.TextLemmas.{unpadded_even, even_short, uid_unpadded}
 
-abbrev IsElement : Element → Type 0
+abbrev IsElement : CommandElement → Type 0
 IsElement e = (e.number < 2 ^ 16) × (length e.value < 0xFFFFFFFF)
 
-run_elements : (es : List Element) → AllByRecursion IsElement es → Run StartsElement es (joined es) []
+run_elements : (es : List CommandElement) → AllByRecursion IsElement es → Run StartsElement es (joined es) []
 run_elements [] h = refl
 run_elements (e ∷ es) h = (joined es, (h.0.0, h.0.1, refl), run_elements es h.1)
 
@@ -21,14 +21,14 @@ run_elements (e ∷ es) h = (joined es, (h.0.0, h.0.1, refl), run_elements es h.
 text_small : (t : List ℕ) → length t ≤ 16384 → length (even t) < 0xFFFFFFFF
 text_small t h = omega (arith, h, even_short t)
 
-follows : (es : List Element) (b : Bool) → first_value 0x0800 es ≡ Some (to_le_bytes w16 (cond b 0x0001 0x0101)) → Announces es b
+follows : (es : List CommandElement) (b : Bool) → first_value 0x0800 es ≡ Some (to_le_bytes w16 (cond b 0x0001 0x0101)) → Announces es b
 follows es true e = (0x0001, (omega arith, e), refl)
 follows es false e = (0x0101, (omega arith, e), refl)
 
-abbrev whole : List Element → List Element
+abbrev whole : List CommandElement → List CommandElement
 whole es = group_length es ∷ es
 
-store_request : (id : ℕ) (class instance : List ℕ) → Fits (StoreRq id class instance) → IsCommand (written (StoreRq id class instance)) (StoreRq id class instance)
+store_request : (id : ℕ) (class instance : List ℕ) → CommandFits (StoreRq id class instance) → IsCommand (written (StoreRq id class instance)) (StoreRq id class instance)
 store_request id class instance (n, u, v) =
     let es = whole (elements_of (StoreRq id class instance)) in
     let run = run_elements es ((omega arith, omega arith), ((omega arith, text_small class (omega (arith, u.1))), ((omega arith, omega arith), ((omega arith, omega arith), ((omega arith, omega arith), ((omega arith, omega arith), ((omega arith, text_small instance (omega (arith, v.1))), tt))))))) in (
@@ -43,7 +43,7 @@ store_request id class instance (n, u, v) =
       ),
     )
 
-store_answer : (to status : ℕ) (class instance : List ℕ) (d : Bool) → Fits (StoreRsp to status class instance d) → IsCommand (written (StoreRsp to status class instance d)) (StoreRsp to status class instance d)
+store_answer : (to status : ℕ) (class instance : List ℕ) (d : Bool) → CommandFits (StoreRsp to status class instance d) → IsCommand (written (StoreRsp to status class instance d)) (StoreRsp to status class instance d)
 store_answer to status class instance d (n, m, u, v) =
     let es = whole (elements_of (StoreRsp to status class instance d)) in
     let run = run_elements es ((omega arith, omega arith), ((omega arith, text_small class u.1), ((omega arith, omega arith), ((omega arith, omega arith), ((omega arith, omega arith), ((omega arith, omega arith), ((omega arith, text_small instance v.1), tt))))))) in (
@@ -58,20 +58,20 @@ store_answer to status class instance d (n, m, u, v) =
       ),
     )
 
-echo_request : (id : ℕ) (class : List ℕ) (d : Bool) → Fits (EchoRq id class d) → IsCommand (written (EchoRq id class d)) (EchoRq id class d)
+echo_request : (id : ℕ) (class : List ℕ) (d : Bool) → CommandFits (EchoRq id class d) → IsCommand (written (EchoRq id class d)) (EchoRq id class d)
 echo_request id class d (n, u) =
     let es = whole (elements_of (EchoRq id class d)) in
     let run = run_elements es ((omega arith, omega arith), ((omega arith, text_small class u.1), ((omega arith, omega arith), ((omega arith, omega arith), ((omega arith, omega arith), tt))))) in
     (es, run, (refl, refl, tt, tt, refl, tt, tt), ((omega arith, refl), follows es d refl, inr (inl ((λ e. omega (arith, e)), omega arith, (id, refl, (n, refl)), refl)), sym (unpadded_even class u.0)))
 
-echo_answer : (to status : ℕ) (class : List ℕ) (d : Bool) → Fits (EchoRsp to status class d) → IsCommand (written (EchoRsp to status class d)) (EchoRsp to status class d)
+echo_answer : (to status : ℕ) (class : List ℕ) (d : Bool) → CommandFits (EchoRsp to status class d) → IsCommand (written (EchoRsp to status class d)) (EchoRsp to status class d)
 echo_answer to status class d (n, m, u) =
     let es = whole (elements_of (EchoRsp to status class d)) in
     let run = run_elements es ((omega arith, omega arith), ((omega arith, text_small class u.1), ((omega arith, omega arith), ((omega arith, omega arith), ((omega arith, omega arith), ((omega arith, omega arith), tt)))))) in
     (es, run, (refl, tt, refl, tt, refl, refl, tt), ((omega arith, refl), follows es d refl, inr (inr (omega arith, (to, refl, (n, refl)), (status, refl, (m, refl)))), sym (unpadded_even class u.0)))
 
 -- the elements of another command, whose kind decides the number of its id
-abbrev others : Bool → ℕ → Option ℕ → Option ℕ → Bool → List Element
+abbrev others : Bool → ℕ → Option ℕ → Option ℕ → Bool → List CommandElement
 others b field id status d = number_element 0x0100 field ∷ (if_some (cond b 0x0120 0x0110) id ++ (data_element d ∷ if_some 0x0900 status))
 
 other : (field : ℕ) (id status : Option ℕ) (d : Bool) → IsNumber field → HasNoName field → FieldFits field id status → IsCommand (written (Other field id status d)) (Other field id status d)
@@ -107,7 +107,7 @@ other field (Some i) (Some q) d n names (inr (inl h)) = let e = h.3 in absurd (c
 other field None status d n names (inr (inr h)) = let e = h.1.1 in absurd (cc)
 other field (Some i) None d n names (inr (inr h)) = let e = h.2.1 in absurd (cc)
 
-pub written_reads : (c : Command) → Fits c → IsCommand (written c) c
+pub written_reads : (c : Command) → CommandFits c → IsCommand (written c) c
 written_reads (StoreRq id class instance) f = store_request id class instance f
 written_reads (StoreRsp to status class instance d) f = store_answer to status class instance d f
 written_reads (EchoRq id class d) f = echo_request id class d f

@@ -18,26 +18,26 @@ use Rattle.dr_dimse.specs.declared.command.Command.TheVariants.{Other}
 -- ---- elements
 
 -- an element of group 0000: its number in the group, and its value
-pub record Element : Type 0 where
+pub record CommandElement : Type 0 where
   pub number : ℕ
   pub value : List ℕ
 
 -- an element as it is written, in the implicit syntax: tag (4), length (4), value (PS3.7 6.3.1,
 -- PS3.5 7.1.3)
-abbrev pub element_text : Element → List ℕ
+abbrev pub element_text : CommandElement → List ℕ
 element_text e = 0 ∷ 0 ∷ (to_le_bytes w16 e.number ++ (to_le_bytes w32 (length e.value) ++ e.value))
 
 -- the text begins with the element, whose length isn't the undefined one, FFFFFFFFH
-abbrev pub StartsElement : List ℕ → Element → List ℕ → Type 0
+abbrev pub StartsElement : List ℕ → CommandElement → List ℕ → Type 0
 StartsElement text e rest =
     (e.number < 2 ^ 16) × (length e.value < 0xFFFFFFFF) × (text ≡ element_text e ++ rest)
 
 -- the values of the elements of one number, in order
-abbrev pub values : ℕ → List Element → List (List ℕ)
+abbrev pub values : ℕ → List CommandElement → List (List ℕ)
 values number es = map (λ e. e.value) (filter (λ e. e.number == number) es)
 
 -- the value of the first element of a number: a later one of it counts for nothing
-abbrev pub first_value : ℕ → List Element → Option (List ℕ)
+abbrev pub first_value : ℕ → List CommandElement → Option (List ℕ)
 first_value number es = slice_get (values number es) 0
 
 -- ---- values
@@ -48,20 +48,20 @@ text_of None = []
 text_of (Some value) = unpadded value
 
 -- the text of the first element of a number, empty where there is none
-abbrev pub text_at : ℕ → List Element → List ℕ
+abbrev pub text_at : ℕ → List CommandElement → List ℕ
 text_at number es = text_of (first_value number es)
 
 -- the element is there, and is the number n of two bytes
-abbrev pub HasNumber : List Element → ℕ → ℕ → Type 0
+abbrev pub HasNumber : List CommandElement → ℕ → ℕ → Type 0
 HasNumber es number n = (n < 2 ^ 16) × (first_value number es ≡ Some (to_le_bytes w16 n))
 
 -- if the element is there, it has two bytes
-abbrev pub IsShort : List Element → ℕ → Type 0
+abbrev pub IsShort : List CommandElement → ℕ → Type 0
 IsShort es number = IfSome (first_value number es) (λ value. length value ≡ 2)
 
 -- each number of a command but the group length has two bytes; a later element of its tag counts
 -- for nothing
-abbrev pub AreNumbers : List Element → Type 0
+abbrev pub AreNumbers : List CommandElement → Type 0
 AreNumbers es =
     IsShort es 0x0100 × IsShort es 0x0110 × IsShort es 0x0120 × IsShort es 0x0700
     × IsShort es 0x0800 × IsShort es 0x0900 × IsShort es 0x1031
@@ -104,12 +104,12 @@ abbrev pub HasNoName : ℕ → Type 0
 HasNoName field = (field ≢ 0x0001) × (field ≢ 0x8001) × (field ≢ 0x0030) × (field ≢ 0x8030)
 
 -- the data set type 0800: 0101H says that none follows
-abbrev pub Announces : List Element → Bool → Type 0
+abbrev pub Announces : List CommandElement → Bool → Type 0
 Announces es has_data = (n : ℕ) × HasNumber es 0x0800 n × (has_data ≡ not (n == 0x0101))
 
 -- A cancel needs neither id nor status. Any other request has the message id 0110, an answer the id
 -- 0120 of what it answers, and the status 0900.
-abbrev pub HasIds : List Element → ℕ → Option ℕ → Option ℕ → Type 0
+abbrev pub HasIds : List CommandElement → ℕ → Option ℕ → Option ℕ → Type 0
 HasIds es field id status =
     (field ≡ 0x0FFF) × (id ≡ None) × (status ≡ None)
     ⊎ ((field ≢ 0x0FFF) × (field < 0x8000)
@@ -120,7 +120,7 @@ HasIds es field id status =
     × ((n : ℕ) × (status ≡ Some n) × HasNumber es 0x0900 n))
 
 -- the affected SOP class 0002 and SOP instance 1000, which must be UIDs in a C-STORE-RQ
-abbrev pub HasTexts : List Element → Command → Type 0
+abbrev pub HasTexts : List CommandElement → Command → Type 0
 HasTexts es (StoreRq id class instance) =
     (class ≡ text_at 0x0002 es) × (instance ≡ text_at 0x1000 es) × IsUid class × IsUid instance
 HasTexts es (StoreRsp to status class instance has_data) =
@@ -130,7 +130,7 @@ HasTexts es (EchoRsp to status class has_data) = class ≡ text_at 0x0002 es
 HasTexts es (Other field id status has_data) = HasNoName field
 
 -- the elements say this command: its field, ids, status and texts, and whether a data set follows
-abbrev pub Says : List Element → Command → Type 0
+abbrev pub Says : List CommandElement → Command → Type 0
 Says es c =
     HasNumber es 0x0100 (field_of c)
     × Announces es (announces c)
@@ -139,7 +139,8 @@ Says es c =
 
 -- the text, all of it, is a spelling of the command
 abbrev pub IsCommand : List ℕ → Command → Type 0
-IsCommand text c = (es : List Element) × Run StartsElement es text [] × AreNumbers es × Says es c
+IsCommand text c =
+    (es : List CommandElement) × Run StartsElement es text [] × AreNumbers es × Says es c
 
 -- what reading a text answers: its command, or that it is none; or memory ran out
 abbrev pub ReadsCommand : List ℕ → Result Command DimseFault → Type 0

@@ -10,7 +10,7 @@ use Rattle.dr_dimse.specs.declared.message.Awaited.{Awaited}
 use Rattle.dr_dimse.specs.declared.message.Body.{Body}
 use Rattle.dr_dimse.specs.declared.message.Body.TheVariants.{Whole, TooLarge}
 use Rattle.dr_dimse.specs.Commands.{IsCommand}
-use Rattle.dr_dimse.specs.Taking.{Stage, Idle, InCommand, InData, IsAwaited}
+use Rattle.dr_dimse.specs.Taking.{MessageStage, Idle, InCommand, InData, IsAwaited}
 
 -- the data set that is under way, by whether it is too large and its bytes so far
 abbrev pub so_far : Bool → List ℕ → Body
@@ -18,7 +18,7 @@ so_far true bytes = TooLarge
 so_far false bytes = Whole bytes
 
 -- buffers that nothing is under way for hold nothing that counts
-abbrev pub stage_of : UnderWay → List ℕ → Body → Stage
+abbrev pub stage_of : UnderWay → List ℕ → Body → MessageStage
 stage_of Nothing text body = Idle
 stage_of (ACommand id) text body = InCommand id text
 stage_of (ADataSet id c) text body = InData id c body

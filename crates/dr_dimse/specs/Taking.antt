@@ -18,28 +18,28 @@ use Rattle.dr_dimse.specs.Messages.{is_command, is_last, joined, body_of, AreInn
 
 -- what is under way: nothing, a command of which this much is there, or the data set behind a
 -- command
-pub data Stage : Type 0 where
-  Idle : Stage
-  InCommand : ℕ → List ℕ → Stage
-  InData : ℕ → Command → Body → Stage
+pub data MessageStage : Type 0 where
+  Idle : MessageStage
+  InCommand : ℕ → List ℕ → MessageStage
+  InData : ℕ → Command → Body → MessageStage
 
 -- an assembly: what it awaits, and what is under way
 pub record Assembling : Type 0 where
   pub awaited : Awaited
-  pub stage : Stage
+  pub stage : MessageStage
 
 -- the values since the last message that leave this stage
-abbrev pub Leaves : List Pdv → Stage → Type 0
-Leaves ps Idle = ps ≡ []
-Leaves ps (InCommand id text) =
+abbrev pub LeavesStage : List Pdv → MessageStage → Type 0
+LeavesStage ps Idle = ps ≡ []
+LeavesStage ps (InCommand id text) =
     (ps ≢ []) × AreInner true id ps × (text ≡ joined ps) × (length text ≤ 16384)
-Leaves ps (InData id c body) =
+LeavesStage ps (InData id c body) =
     (cs ds : List Pdv) × (text : List ℕ) × (ps ≡ cs ++ ds) × IsWhole true id cs text
     × (length text ≤ 16384) × IsCommand text c × (announces c ≡ true) × AreInner false id ds
     × (body ≡ body_of (joined ds))
 
 -- the command whose data set is under way, and its context
-abbrev pub data_of : Stage → Option (ℕ × Command)
+abbrev pub data_of : MessageStage → Option (ℕ × Command)
 data_of (InData id c body) = Some (id, c)
 data_of s = None
 
@@ -49,25 +49,25 @@ bytes_of (Whole text) = text
 bytes_of TooLarge = []
 
 -- the bytes so far of the data set that is under way, none where there is none
-abbrev pub data_so_far : Stage → List ℕ
+abbrev pub data_so_far : MessageStage → List ℕ
 data_so_far (InData id c body) = bytes_of body
 data_so_far s = []
 
 -- ---- one value
 
 -- the presentation context of the message that is under way
-abbrev pub context_of : Stage → Option ℕ
+abbrev pub context_of : MessageStage → Option ℕ
 context_of Idle = None
 context_of (InCommand id text) = Some id
 context_of (InData id c body) = Some id
 
 -- whether a fragment of a command comes next
-abbrev pub wants_command : Stage → Bool
+abbrev pub wants_command : MessageStage → Bool
 wants_command (InData id c body) = false
 wants_command s = true
 
 -- the bytes so far of the command that is under way, none where there is none
-abbrev pub text_so_far : Stage → List ℕ
+abbrev pub text_so_far : MessageStage → List ℕ
 text_so_far (InCommand id text) = text
 text_so_far s = []
 
@@ -77,7 +77,7 @@ kept (Whole text) more = body_of (text ++ more)
 kept TooLarge more = TooLarge
 
 -- The bytes of the data set that is under way are let go: from now on it counts as too large.
-abbrev pub let_go : Stage → Stage
+abbrev pub let_go : MessageStage → MessageStage
 let_go (InData id c body) = InData id c TooLarge
 let_go s = s
 
@@ -89,31 +89,31 @@ IsAwaited (AnswerTo id) c = (0x8000 ≤ field_of c) × (id_of c ≡ Some id)
 IsAwaited Nothing c = ⊥
 
 -- the value is in the context of the message that is under way, if there is one
-abbrev pub InContext : Stage → Pdv → Type 0
+abbrev pub InContext : MessageStage → Pdv → Type 0
 InContext s p = IfSome (context_of s) (λ id. p.id ≡ id)
 
 -- the value is in the context of what is under way, and of the kind that comes next: a command, or
 -- its data set
-abbrev pub InPlace : Stage → Pdv → Type 0
+abbrev pub InPlace : MessageStage → Pdv → Type 0
 InPlace s p = InContext s p × (is_command p ≡ wants_command s)
 
 -- the value is in place, and with it the command has at most 16,384 bytes
-abbrev pub IsShortEnough : Stage → Pdv → Type 0
+abbrev pub IsShortEnough : MessageStage → Pdv → Type 0
 IsShortEnough s p =
     InPlace s p × (wants_command s ≡ true) × (length (text_so_far s ++ p.fragment) ≤ 16384)
 
 -- the fragment ends a command of this text
-abbrev pub EndsCommand : Stage → Pdv → List ℕ → Type 0
+abbrev pub EndsCommand : MessageStage → Pdv → List ℕ → Type 0
 EndsCommand s p text = IsShortEnough s p × (is_last p ≡ true) × (text ≡ text_so_far s ++ p.fragment)
 
 -- a whole command makes a message, or waits for its data set
-abbrev pub Begins : ℕ → Command → Option Message → Stage → Type 0
+abbrev pub Begins : ℕ → Command → Option Message → MessageStage → Type 0
 Begins id c None new = (announces c ≡ true) × (new ≡ InData id c (Whole []))
 Begins id c (Some m) new =
     (announces c ≡ false) × (m ≡ record { id = id; command = c; body = None }) × (new ≡ Idle)
 
 -- a fragment of a data set is there
-abbrev pub TakesData : Stage → Pdv → Option Message → Stage → Type 0
+abbrev pub TakesData : MessageStage → Pdv → Option Message → MessageStage → Type 0
 TakesData (InData id c body) p None new =
     (is_last p ≡ false) × (new ≡ InData id c (kept body p.fragment))
 TakesData (InData id c body) p (Some m) new =
@@ -125,7 +125,9 @@ TakesData s p m new = ⊥
 -- What one value does. A fault leaves what is under way. Of several faults the first counts:
 -- another context, out of place by its kind, a command too long, one that can't be read, one that
 -- isn't awaited.
-abbrev pub Takes : Awaited → Stage → Pdv → Result (Option Message) DimseFault → Stage → Type 0
+abbrev pub Takes : Awaited → MessageStage → Pdv
+    → Result (Option Message) DimseFault
+    → MessageStage → Type 0
 Takes awaited s p (Ok m) new =
     InPlace s p × (wants_command s ≡ false) × TakesData s p m new
     ⊎ (IsShortEnough s p × (is_last p ≡ false) × (m ≡ None)
@@ -154,7 +156,7 @@ pub record Call : Type 0 where
   pub answer : Result (Option Message) DimseFault
 
 -- what the calls make of a stage, one after the other
-abbrev pub Took : Stage → List Call → Stage → Type 0
+abbrev pub Took : MessageStage → List Call → MessageStage → Type 0
 Took old calls new = Calls
     (λ before call after. Takes call.awaited before call.value call.answer after) old calls new
 
@@ -177,15 +179,15 @@ abbrev pub given : List Call → List Message
 given xs = flat_map (λ (x : Call). given_by x.answer) xs
 
 -- each of the values is taken, one after the other, and none ends a message
-abbrev pub Waits : Awaited → Stage → List Pdv → Stage → Type 0
+abbrev pub Waits : Awaited → MessageStage → List Pdv → MessageStage → Type 0
 Waits awaited old [] new = old ≡ new
 Waits awaited old (p ∷ ps) new =
-    (mid : Stage) × Takes awaited old p (Ok None) mid × Waits awaited mid ps new
+    (mid : MessageStage) × Takes awaited old p (Ok None) mid × Waits awaited mid ps new
 
 -- from a fresh assembly on, the last of the values ends the message, and none before it ends one
 abbrev pub Gives : Awaited → List Pdv → Message → Type 0
 Gives awaited ps m =
-    (front : List Pdv) × (final : Pdv) × (mid : Stage)
+    (front : List Pdv) × (final : Pdv) × (mid : MessageStage)
     × (ps ≡ front ++ final ∷ [])
     × Waits awaited Idle front mid
     × Takes awaited mid final (Ok (Some m)) Idle

@@ -4,10 +4,7 @@ use Rattle.dr_dimse.specs.declared.command.Command.{Command}
 use Rattle.dr_dimse.specs.declared.command.Command.TheVariants.{StoreRq, StoreRsp, EchoRq, EchoRsp}
 use Rattle.dr_dimse.specs.declared.command.Command.TheVariants.{Other}
 use Rattle.dr_dimse.specs.Written.{joined, elements_of}
-
--- the Verification SOP class (PS3.4 annex A)
-abbrev pub verification : List ℕ
-verification = codes "1.2.840.10008.1.1"
+use Rattle.dr_pdu.specs.Vectors.{ct, verification}
 
 -- a C-ECHO-RQ with message id 1 (PS3.7 9.3.5.1)
 abbrev pub echo_request : Command
@@ -28,10 +25,6 @@ echo_text =
     ∷ (verification
     ++ 0 ∷ 0 ∷ 0 ∷ 0 ∷ 1 ∷ 2 ∷ 0 ∷ 0 ∷ 0 ∷ 0x30 ∷ 0 ∷ 0 ∷ 0 ∷ 0x10 ∷ 1 ∷ 2 ∷ 0 ∷ 0 ∷ 0 ∷ 1 ∷ 0 ∷ 0
     ∷ 0 ∷ 0 ∷ 8 ∷ 2 ∷ 0 ∷ 0 ∷ 0 ∷ 1 ∷ 1 ∷ [])
-
--- the CT Image Storage SOP class (PS3.4 B.5)
-abbrev pub ct : List ℕ
-ct = codes "1.2.840.10008.5.1.4.1.1.2"
 
 -- a C-STORE-RQ of the CT image 1.2.3, with message id 7 (PS3.7 9.3.1.1)
 abbrev pub store_request : Command

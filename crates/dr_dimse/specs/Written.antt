@@ -9,32 +9,32 @@ use Rattle.dr_dimse.specs.declared.command.Command.{Command}
 use Rattle.dr_dimse.specs.declared.command.Command.TheVariants.{StoreRq, StoreRsp, EchoRq, EchoRsp}
 use Rattle.dr_dimse.specs.declared.command.Command.TheVariants.{Other}
 use Rattle.dr_base.specs.Uids.{IsUid}
-use Rattle.dr_dimse.specs.Commands.{Element, element_text, HasNoName}
+use Rattle.dr_dimse.specs.Commands.{CommandElement, element_text, HasNoName}
 
 -- a text of even length: a NUL is put behind one of odd length (PS3.5 9.1)
 abbrev pub even : List ℕ → List ℕ
 even text = if length text % 2 == 0 then text else text ++ 0 ∷ []
 
 -- the element of a text, padded to even length
-abbrev pub text_element : ℕ → List ℕ → Element
+abbrev pub text_element : ℕ → List ℕ → CommandElement
 text_element number text = record { number = number; value = even text }
 
 -- the element of a number of two bytes, the least significant first
-abbrev pub number_element : ℕ → ℕ → Element
+abbrev pub number_element : ℕ → ℕ → CommandElement
 number_element number n = record { number = number; value = to_le_bytes w16 n }
 
 -- the data set type: 0001H where one follows, 0101H where none does
-abbrev pub data_element : Bool → Element
+abbrev pub data_element : Bool → CommandElement
 data_element has_data = number_element 0x0800 (if has_data then 0x0001 else 0x0101)
 
 -- the element of a number that only some commands have, such as the status; none where it is
 -- missing
-abbrev pub if_some : ℕ → Option ℕ → List Element
+abbrev pub if_some : ℕ → Option ℕ → List CommandElement
 if_some number None = []
 if_some number (Some n) = number_element number n ∷ []
 
 -- the elements of a command behind its group length, in the order of their tags
-abbrev pub elements_of : Command → List Element
+abbrev pub elements_of : Command → List CommandElement
 elements_of (StoreRq id class instance) =
     text_element 0x0002 class ∷ number_element 0x0100 0x0001 ∷ number_element 0x0110 id
     ∷ number_element 0x0700 0 ∷ data_element true ∷ text_element 0x1000 instance ∷ []
@@ -53,11 +53,11 @@ elements_of (Other field id status has_data) =
     ++ (data_element has_data ∷ if_some 0x0900 status))
 
 -- what elements are written as, one after the other
-abbrev pub joined : List Element → List ℕ
+abbrev pub joined : List CommandElement → List ℕ
 joined es = flat_map element_text es
 
 -- the group length 0000, which counts the bytes behind its element
-abbrev pub group_length : List Element → Element
+abbrev pub group_length : List CommandElement → CommandElement
 group_length es = record { number = 0; value = to_le_bytes w32 (length (joined es)) }
 
 -- the spelling of a command: the group length, and then its other elements
@@ -86,10 +86,11 @@ FieldFits field id status =
     × ((n : ℕ) × (status ≡ Some n) × IsNumber n))
 
 -- the command can be written so that it is read again
-abbrev pub Fits : Command → Type 0
-Fits (StoreRq id class instance) = IsNumber id × IsUid class × IsUid instance
-Fits (StoreRsp to status class instance has_data) =
+abbrev pub CommandFits : Command → Type 0
+CommandFits (StoreRq id class instance) = IsNumber id × IsUid class × IsUid instance
+CommandFits (StoreRsp to status class instance has_data) =
     IsNumber to × IsNumber status × IsText class × IsText instance
-Fits (EchoRq id class has_data) = IsNumber id × IsText class
-Fits (EchoRsp to status class has_data) = IsNumber to × IsNumber status × IsText class
-Fits (Other field id status has_data) = IsNumber field × HasNoName field × FieldFits field id status
+CommandFits (EchoRq id class has_data) = IsNumber id × IsText class
+CommandFits (EchoRsp to status class has_data) = IsNumber to × IsNumber status × IsText class
+CommandFits (Other field id status has_data) =
+    IsNumber field × HasNoName field × FieldFits field id status

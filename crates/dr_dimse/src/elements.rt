@@ -3,7 +3,8 @@
 ghost use Rattle.std.specs.Prelude.{◌≡◌, [], IsTrue, ◌↔◌, ℕ, List, MatchOption};
 ghost use Rattle.std.specs.Option.{option_copied};
 ghost use Rattle.dr_base.specs.Runs.{Run};
-ghost use Rattle.dr_dimse.specs.Commands.{Element as ElementText, StartsElement, first_value};
+ghost use Rattle.dr_dimse.specs.Commands.{CommandElement as ElementText, StartsElement};
+ghost use Rattle.dr_dimse.specs.Commands.{first_value};
 ghost use Rattle.dr_dimse.specs.Commands.{HasNumber, IsShort, AreNumbers};
 ghost use Rattle.dr_dimse.specs.Reads.{Reads, element, elements};
 

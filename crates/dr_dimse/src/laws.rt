@@ -5,14 +5,15 @@ ghost use Rattle.std.specs.List.{AllByRecursion};
 ghost use Rattle.dr_pdu.specs.declared.pdu.Pdv.{Pdv as Value};
 ghost use Rattle.dr_dimse.specs.Commands.{IsCommand};
 ghost use Rattle.dr_dimse.specs.Messages.{IsMessage, AreMessages};
-ghost use Rattle.dr_dimse.specs.Taking.{Stage, Idle, Leaves, IsAwaited, Takes, Call, Took, taken};
+ghost use Rattle.dr_dimse.specs.Taking.{MessageStage, Idle, LeavesStage, IsAwaited, Takes, Call};
+ghost use Rattle.dr_dimse.specs.Taking.{Took, taken};
 ghost use Rattle.dr_dimse.specs.Taking.{given, Waits, Gives, ended_by, since};
 ghost use Rattle.dr_dimse.specs.Taking.{InCommand, InData, TakesData, let_go};
 ghost use Rattle.dr_dimse.specs.declared.message.Body.{Body as Data};
 ghost use Rattle.dr_dimse.specs.declared.message.Body.TheVariants.{TooLarge};
 ghost use Rattle.dr_dimse.specs.declared.message.Awaited.{Awaited as Waiting};
 ghost use Rattle.dr_dimse.specs.declared.message.Message.{Message as MessageValue};
-ghost use Rattle.dr_dimse.specs.Written.{written, Fits};
+ghost use Rattle.dr_dimse.specs.Written.{written, CommandFits};
 ghost use Rattle.dr_dimse.specs.declared.command.Command.{Command as CommandValue};
 ghost use Rattle.dr_dimse.specs.declared.command.Command.TheVariants.{StoreRq, StoreRsp, EchoRq};
 ghost use Rattle.dr_dimse.specs.declared.command.Command.TheVariants.{EchoRsp, Other};
@@ -39,23 +40,25 @@ pub fn a_message_is_given_at_its_last_value()
 /// Whatever the calls, the messages that were given are those of the values that were taken, in
 /// order, and what is under way is made of the values behind them.
 pub fn an_assembly_gives_the_messages()
-    ensures fresh { (calls : List Call) (new : Stage)
+    ensures fresh { (calls : List Call) (new : MessageStage)
         → Took Idle calls new
-        → (rest : List Value) × AreMessages (taken calls) (given calls) rest × Leaves rest new }
-    ensures awaited { (awaited : Waiting) (calls : List Call) (new : Stage)
+        → (rest : List Value)
+        × AreMessages (taken calls) (given calls) rest
+        × LeavesStage rest new }
+    ensures awaited { (awaited : Waiting) (calls : List Call) (new : MessageStage)
         → AllByRecursion (λ (x : Call). x.awaited ≡ awaited) calls
         → Took Idle calls new
         → AllByRecursion (λ (m : MessageValue). IsAwaited awaited m.command) (given calls) }
-    ensures later { (calls : List Call) (before : List Value) (old new : Stage)
-        → Leaves before old → Took old calls new
+    ensures later { (calls : List Call) (before : List Value) (old new : MessageStage)
+        → LeavesStage before old → Took old calls new
         → (rest : List Value)
         × AreMessages (before ++ taken calls) (given calls) rest
-        × Leaves rest new }
+        × LeavesStage rest new }
 {}
 
 /// The values since the last message leave one stage at most: it is fixed by them.
 pub fn a_stage_is_one()
-    ensures { (ps : List Value) (s t : Stage) → Leaves ps s → Leaves ps t → s ≡ t }
+    ensures { (ps : List Value) (s t : MessageStage) → LeavesStage ps s → LeavesStage ps t → s ≡ t }
 {}
 
 /// From any stage on: where the values since the last message, one more, and those that are still
@@ -63,19 +66,19 @@ pub fn a_stage_is_one()
 /// more are to come.
 pub fn a_message_comes_value_by_value()
     ensures { (awaited : Waiting) (before : List Value) (p : Value) (later : List Value)
-        (m : MessageValue) (s : Stage)
-        → Leaves before s
+        (m : MessageValue) (s : MessageStage)
+        → LeavesStage before s
         → IsMessage (before ++ p ∷ later) m
         → IsAwaited awaited m.command
-        → (new : Stage)
+        → (new : MessageStage)
         × Takes awaited s p (Ok (ended_by later m)) new
-        × Leaves (since (before ++ p ∷ []) later) new }
+        × LeavesStage (since (before ++ p ∷ []) later) new }
 {}
 
 /// A value has one answer, but for want of memory.
 pub fn a_value_has_one_answer()
-    ensures { (awaited : Waiting) (old : Stage) (p : Value)
-        (r s : Result (Option MessageValue) Fault) (new new' : Stage)
+    ensures { (awaited : Waiting) (old : MessageStage) (p : Value)
+        (r s : Result (Option MessageValue) Fault) (new new' : MessageStage)
         → r ≢ Err Memory → s ≢ Err Memory
         → Takes awaited old p r new
         → Takes awaited old p s new'
@@ -86,8 +89,8 @@ pub fn a_value_has_one_answer()
 /// is absurd. (That says that there is one without saying which, as long as nobody has tried to
 /// read the command.)
 pub fn a_value_has_an_answer()
-    ensures { (awaited : Waiting) (old : Stage) (p : Value)
-        → ((r : Result (Option MessageValue) Fault) (new : Stage)
+    ensures { (awaited : Waiting) (old : MessageStage) (p : Value)
+        → ((r : Result (Option MessageValue) Fault) (new : MessageStage)
         → r ≢ Err Memory
         → Takes awaited old p r new
         → ⊥)
@@ -98,7 +101,8 @@ pub fn a_value_has_an_answer()
 /// message and the one that was refused begin no message that is awaited. (It may be told later
 /// than at the first value with which that is so.)
 pub fn after_a_fault_there_is_no_message()
-    ensures { (awaited : Waiting) (ps : List Value) (p : Value) (fault : Fault) (old new : Stage)
+    ensures { (awaited : Waiting) (ps : List Value) (p : Value) (fault : Fault)
+        (old new : MessageStage)
         → fault ≢ Memory
         → Waits awaited Idle ps old
         → Takes awaited old p (Err fault) new
@@ -112,10 +116,10 @@ pub fn after_a_fault_there_is_no_message()
 /// command stays. Between messages, and within a command, nothing is let go.
 pub fn what_was_let_go_is_too_large()
     ensures told { (id : ℕ) (c : CommandValue) (body : Data) (p : Value) (m : MessageValue)
-        (new : Stage)
+        (new : MessageStage)
         → TakesData (let_go (InData id c body)) p (Some m) new
         → (m.command ≡ c) × (m.body ≡ Some TooLarge) }
-    ensures stays { (id : ℕ) (c : CommandValue) (body : Data) (p : Value) (new : Stage)
+    ensures stays { (id : ℕ) (c : CommandValue) (body : Data) (p : Value) (new : MessageStage)
         → TakesData (let_go (InData id c body)) p None new
         → new ≡ let_go (InData id c body) }
     ensures idle { let_go Idle ≡ Idle }
@@ -124,26 +128,27 @@ pub fn what_was_let_go_is_too_large()
 
 /// What is written is a spelling of its command.
 pub fn what_is_written_is_read()
-    ensures { (c : CommandValue) → Fits c → IsCommand (written c) c }
+    ensures { (c : CommandValue) → CommandFits c → IsCommand (written c) c }
 {}
 
 /// A command that was read from at most 16,384 bytes can be written.
 pub fn what_is_read_can_be_written()
-    ensures { (text : List ℕ) (c : CommandValue) → IsCommand text c → length text ≤ 16384 → Fits c }
+    ensures { (text : List ℕ) (c : CommandValue)
+        → IsCommand text c → length text ≤ 16384 → CommandFits c }
 {}
 
 /// The answer to a request that can be written can be written, with the same UIDs.
 pub fn a_request_can_be_answered()
     ensures store { (id status : ℕ) (class instance : List ℕ) (has_data : Bool)
-        → Fits (StoreRq id class instance)
+        → CommandFits (StoreRq id class instance)
         → status < 2 ^ 16
-        → Fits (StoreRsp id status class instance has_data) }
+        → CommandFits (StoreRsp id status class instance has_data) }
     ensures echo { (id status : ℕ) (class : List ℕ) (had_data has_data : Bool)
-        → Fits (EchoRq id class had_data)
+        → CommandFits (EchoRq id class had_data)
         → status < 2 ^ 16
-        → Fits (EchoRsp id status class has_data) }
+        → CommandFits (EchoRsp id status class has_data) }
     ensures other { (field id status : ℕ) (none : Option ℕ) (had_data has_data : Bool)
-        → Fits (Other field (Some id) none had_data)
+        → CommandFits (Other field (Some id) none had_data)
         → field < 0x8000 → status < 2 ^ 16
-        → Fits (Other (0x8000 + field) (Some id) (Some status) has_data) }
+        → CommandFits (Other (0x8000 + field) (Some id) (Some status) has_data) }
 {}

@@ -6,7 +6,8 @@ ghost use Rattle.dr_dimse.specs.Commands.{element_text, HasNoName};
 ghost use Rattle.dr_dimse.specs.declared.command.Command.TheVariants.{StoreRq, StoreRsp, EchoRq};
 ghost use Rattle.dr_dimse.specs.declared.command.Command.TheVariants.{EchoRsp, Other};
 ghost use Rattle.dr_dimse.specs.Written.{number_element, text_element, data_element, if_some};
-ghost use Rattle.dr_dimse.specs.Written.{elements_of, joined, written, Fits, FieldFits, IsText};
+ghost use Rattle.dr_dimse.specs.Written.{elements_of, joined, written, CommandFits, FieldFits};
+ghost use Rattle.dr_dimse.specs.Written.{IsText};
 
 use crate::assembly::GREATEST_COMMAND;
 use crate::command::Command;
@@ -18,7 +19,7 @@ use std::alloc::{AllocError, Global};
 /// The spelling of a command: the group length, and then its elements in the order of their tags,
 /// texts padded by one NUL to even length.
 pub fn write_command(alloc: Global, command: &Command) -> Result<Vec<u8>, AllocError>
-    requires { Fits command.now }
+    requires { CommandFits command.now }
     ensures { IfOk result (λ bytes. bytes.items ≡ written command.now) }
 {
     let body = elements_text(alloc, command)?;
@@ -30,7 +31,7 @@ pub fn write_command(alloc: Global, command: &Command) -> Result<Vec<u8>, AllocE
 
 /// The elements behind the group length.
 fn elements_text(alloc: Global, command: &Command) -> Result<Vec<u8>, AllocError>
-    requires { Fits command.now }
+    requires { CommandFits command.now }
     ensures { IfOk result (λ bytes. bytes.items ≡ joined (elements_of command.now)) }
 {
     match command {
@@ -236,7 +237,7 @@ fn put_header(out: &mut Vec<u8>, number: u16, len: u32) -> Result<(), AllocError
 /// that reading drops, and have at most 16,384 bytes; those of a C-STORE-RQ are UIDs; another
 /// command has no field of a C-STORE or C-ECHO, and the id and the status that its field needs.
 pub fn fits(command: &Command) -> bool
-    ensures { IsTrue result ↔ Fits command.now }
+    ensures { IsTrue result ↔ CommandFits command.now }
 {
     match command {
         Command::StoreRq {

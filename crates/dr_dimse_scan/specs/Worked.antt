@@ -4,7 +4,8 @@ use Rattle.dr_pdu.specs.declared.pdu.Pdv.{Pdv}
 use Rattle.dr_dimse.specs.declared.command.Command.TheVariants.{StoreRsp, Other}
 use Rattle.dr_dimse.specs.declared.message.Body.TheVariants.{Whole, TooLarge}
 use Rattle.dr_dimse.specs.declared.message.Message.{Message}
-use Rattle.dr_dimse.specs.Vectors.{ct, store_request, moved_text}
+use Rattle.dr_pdu.specs.Vectors.{ct}
+use Rattle.dr_dimse.specs.Vectors.{store_request, moved_text}
 use Rattle.dr_dataset.specs.declared.values.Attributes.{Attributes}
 use Rattle.dr_dataset.specs.Worked.{modality_text}
 

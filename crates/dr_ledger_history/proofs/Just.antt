@@ -10,7 +10,7 @@ use Rattle.dr_ledger.specs.declared.item.Instance.{Instance}
 use Rattle.dr_ledger.specs.declared.item.Progress.{Progress}
 use Rattle.dr_ledger.specs.Pairs.{Pair, pair_cmp}
 use Rattle.dr_ledger.proofs.Maps.{text_pairs, texts}
-use Rattle.dr_ledger_history.specs.Contents.{AreInOrder, Content, all_of, content}
+use Rattle.dr_ledger_history.specs.Contents.{AreListsInOrder, Content, all_of, content}
 use Rattle.dr_ledger_history.specs.declared.parts.HistoryParts.{HistoryParts}
 use Rattle.dr_ledger_history.specs.Trees.{as_map}
 use Rattle.dr_ledger_history.proofs.Ordered.{one_map, one_set}
@@ -28,7 +28,7 @@ module _ (parts : HistoryParts) (items : tree.BTreeMap Text Instance) (arrivals 
     rows = map.from_entries (r j);
   }
 
-  module _ (order : AreInOrder arrivals kept rows) (same : content parts ≡ all) where
+  module _ (order : AreListsInOrder arrivals kept rows) (same : content parts ≡ all) where
     pub items_alike : tree.IsOrdered text_cmp parts.items → tree.IsOrdered text_cmp items → parts.items.entries ≡ items.entries
     items_alike o p = one_map texts parts.items.entries items.entries o p (ap (λ (c : Content). c.items) same)
 

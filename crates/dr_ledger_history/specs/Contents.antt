@@ -51,7 +51,7 @@ all_of items arrivals kept rows = record {
 }
 
 -- the lists are in the order of their keys, each key once
-pub record AreInOrder (arrivals : List Pair) (kept : List Text)
+pub record AreListsInOrder (arrivals : List Pair) (kept : List Text)
     (rows : List (Pair × Progress)) : Type 0 where
   pub arrivals_rise : IsStrictlySortedBy pair_cmp arrivals
   pub kept_rise : IsStrictlySortedBy text_cmp kept
@@ -62,4 +62,4 @@ pub record AreInOrder (arrivals : List Pair) (kept : List Text)
 pub record HasJust (c : Content) (items : FinMap text_cmp Instance) (arrivals : List Pair)
     (kept : List Text) (rows : List (Pair × Progress)) (said : Bool) : Type 0 where
   pub has : IsTrue said → c ≡ all_of items arrivals kept rows
-  pub says : AreInOrder arrivals kept rows → c ≡ all_of items arrivals kept rows → IsTrue said
+  pub says : AreListsInOrder arrivals kept rows → c ≡ all_of items arrivals kept rows → IsTrue said

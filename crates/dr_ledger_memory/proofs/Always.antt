@@ -7,8 +7,8 @@ use Rattle.dr_ledger.specs.declared.item.Instance.{Instance}
 use Rattle.dr_ledger.specs.Books.{Book}
 use Rattle.dr_ledger.specs.Routings.{Routing}
 use Rattle.dr_ledger.specs.Refusals.{Arms}
-use Rattle.dr_ledger.specs.Replies.{Admits, Arrives, Counts, Lasts, LastsAfter, Reads}
-use Rattle.dr_ledger_memory.specs.Sound.{NeverFails, Shows}
+use Rattle.dr_ledger.specs.Replies.{Admits, Arrives, Counts, PremiseLasts, LastsAfter, Reads}
+use Rattle.dr_ledger_memory.specs.Sound.{NeverFails, ShowsOrFails}
 
 pub counts : {A : Type 0} (r : Result A LedgerFault) → NeverFails r → Counts r 0 0
 counts {A = A} r never = record { never_falls = omega arith; has_cause = λ e. absurd (let P : Result A LedgerFault → Type 0 = λ x. NeverFails x in subst P e never) }
@@ -33,10 +33,10 @@ after (Err fault.NotHeld) = λ t s. tt
 after (Err fault.NotOver) = λ t s. tt
 after (Err fault.Memory) = tt
 
-pub lasts : {A : Type 0} (r : Result A LedgerFault) → Lasts r (Unit {0}) (Unit {0}) (Unit {0}) (Unit {0})
+pub lasts : {A : Type 0} (r : Result A LedgerFault) → PremiseLasts r (Unit {0}) (Unit {0}) (Unit {0}) (Unit {0})
 lasts r = record { trusted = λ t. t; lasts = after r }
 
-pub reads : {A : Type 0} (r : Result A LedgerFault) (Is : A → Type 0) → Shows r Is → Reads r Is
+pub reads : {A : Type 0} (r : Result A LedgerFault) (Is : A → Type 0) → ShowsOrFails r Is → Reads r Is
 reads (Ok value) Is h = h
 reads (Err fault.Memory) Is h = tt
 reads (Err fault.Store) Is h = absurd h
@@ -46,7 +46,7 @@ reads (Err fault.NotWaiting) Is h = absurd h
 reads (Err fault.NotHeld) Is h = absurd h
 reads (Err fault.NotOver) Is h = absurd h
 
-pub shown_never : {A : Type 0} (r : Result A LedgerFault) (Is : A → Type 0) → Shows r Is → NeverFails r
+pub shown_never : {A : Type 0} (r : Result A LedgerFault) (Is : A → Type 0) → ShowsOrFails r Is → NeverFails r
 shown_never (Ok value) Is h = tt
 shown_never (Err fault.Memory) Is h = tt
 shown_never (Err fault.Store) Is h = absurd h

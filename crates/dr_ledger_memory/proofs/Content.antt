@@ -27,7 +27,7 @@ use Rattle.dr_ledger_history.specs.declared.line.JournalLine.TheVariants as note
 use Rattle.dr_ledger_history.specs.Lines.{line_of, lines_of}
 use Rattle.dr_ledger_memory.specs.declared.held.Held.{Held as Entry}
 use Rattle.dr_ledger_memory.specs.declared.parts.Parts.{Parts}
-use Rattle.dr_ledger_memory.specs.Changes.{IsAdopted, IsDropped, IsForgotten, IsMoved, IsNoted, IsPrunedIn, IsPutAt, IsSame, MovesAt, at}
+use Rattle.dr_ledger_memory.specs.Changes.{IsAdoptedInParts, IsDroppedInParts, IsForgottenInParts, IsMoved, IsNoted, IsPrunedIn, IsPutAt, IsSame, MovesAt, at}
 use Rattle.dr_ledger_memory.specs.Contents.{all_rows, collected, content, data_sets, kept_mark, keys}
 use Rattle.dr_ledger_memory.specs.Entries.{Row, filled, filled_at, instance_in, is_kept_in, is_open, row_in, rows_in}
 use Rattle.dr_ledger_memory.proofs.Lookups.{arrival_at, item_at, kept_at, pair_ties, row_at}
@@ -247,7 +247,7 @@ module _ (p q : Parts) (sp : tree.IsOrdered text_cmp p.held) (sq : tree.IsOrdere
       ∙ sym (requeued_is uid dest why (content p) held))
 
 -- ---- a dropping
-pub dropped_so : (p q : Parts) (sp : tree.IsOrdered text_cmp p.held) (sq : tree.IsOrdered text_cmp q.held) (uid dest : Text) (note : JournalLine) → IsDropped p uid dest note q → (now : ℕ) (why : Cause) →
+pub dropped_so : (p q : Parts) (sp : tree.IsOrdered text_cmp p.held) (sq : tree.IsOrdered text_cmp q.held) (uid dest : Text) (note : JournalLine) → IsDroppedInParts p uid dest note q → (now : ℕ) (why : Cause) →
     map.get (content p).rows (uid, dest) ≡ Some (Held why) → line_of note ≡ Dropping uid dest now → content q ≡ after (Dropping uid dest now) (content p)
 dropped_so p q sp sq uid dest note d now why held line =
     let left : FinSet pair_cmp = set.retain (content p).arrivals (λ at. is_other uid at.1) in
@@ -315,7 +315,7 @@ pruned_kept : (old new : Option Entry) → IsPrunedIn old new → is_kept_in new
 pruned_kept None new h = ap is_kept_in h
 pruned_kept (Some before) new h = ap is_kept_in h.1 ∙ h.2.kept
 
-pub adopted_is : (p q : Parts) → tree.IsOrdered text_cmp p.held → tree.IsOrdered text_cmp q.held → IsAdopted p q → content q ≡ after Adoption (content p)
+pub adopted_is : (p q : Parts) → tree.IsOrdered text_cmp p.held → tree.IsOrdered text_cmp q.held → IsAdoptedInParts p q → content q ≡ after Adoption (content p)
 adopted_is p q sp sq a = λ j. record {
   items = map.same_map texts.total texts.exact (content q).items (content p).items (λ u. item_at q sq u ∙ (pruned_instance (at p.held u) (at q.held u) (a.held u) ∙ sym (item_at p sp u))) j;
   arrivals = set.same_set text_pairs.total text_pairs.exact (content q).arrivals set.empty (λ k. set.contains-from_list text_pairs.total q.arrivals.keys k ∙ (ap (list_any (eq_by_cmp pair_cmp k)) a.arrivals ∙ sym (set.contains-empty pair_cmp k))) j;
@@ -342,7 +342,7 @@ no_mark : (b m : Bool) → (b ≡ true → m ≡ false) → cond b false m ≡ m
 no_mark true m h = sym (h refl)
 no_mark false m h = refl
 
-module _ (p q : Parts) (sp : tree.IsOrdered text_cmp p.held) (sq : tree.IsOrdered text_cmp q.held) (uid : Text) (note : JournalLine) (f : IsForgotten p uid note q) where
+module _ (p q : Parts) (sp : tree.IsOrdered text_cmp p.held) (sq : tree.IsOrdered text_cmp q.held) (uid : Text) (note : JournalLine) (f : IsForgottenInParts p uid note q) where
   pub left_at : (u : Text) → at q.held u ≡ cond (eq_by_cmp text_cmp u uid) None (at p.held u)
   left_at u = f.held u ∙ ap (λ b. cond b None (at p.held u)) ((eq_by_cmp_equiv texts.total).symm uid u)
 

@@ -24,7 +24,7 @@ use Rattle.dr_ledger_memory.specs.declared.parts.Parts.{Parts}
 use Rattle.dr_ledger_memory.specs.Changes.{at}
 use Rattle.dr_ledger_memory.specs.Contents.{content}
 use Rattle.dr_ledger_memory.specs.Entries.{Row, instance_in, row_in}
-use Rattle.dr_ledger_memory.specs.Unfits.{AllFit, Fits, IsUnfitRow, UnfitsIn}
+use Rattle.dr_ledger_memory.specs.Unfits.{AllFit, RowFits, IsUnfitRow, UnfitsIn}
 use Rattle.dr_ledger_memory.proofs.Lookups.{Es, In, IsInOrder, head_of, item_at, rest_of, row_at}
 use Rattle.dr_ledger_memory.proofs.Whole.{above, nothing_found, t_left, t_right}
 
@@ -60,7 +60,7 @@ module _ (next : Network) (name : Text) (entry : Entry) where
   -- those that are still to be looked at
   pub record IsLeft (rest : List Row) : Type 0 where
     pub sorted : T (is_sorted text_cmp rest)
-    pub seen : (dest : Text) (row : Progress) → find text_cmp dest entry.rows.items ≡ Some row → Fits next name entry dest row ⊎ (find text_cmp dest rest ≡ Some row)
+    pub seen : (dest : Text) (row : Progress) → find text_cmp dest entry.rows.items ≡ Some row → RowFits next name entry dest row ⊎ (find text_cmp dest rest ≡ Some row)
     pub own : (dest : Text) (row : Progress) → find text_cmp dest rest ≡ Some row → find text_cmp dest entry.rows.items ≡ Some row
 
   pub all_left : IsLeft entry.rows.items
@@ -69,16 +69,16 @@ module _ (next : Network) (name : Text) (entry : Entry) where
   apart : (r : Row) (rest : List Row) → T (is_sorted text_cmp (r ∷ rest)) → (dest : Text) (row : Progress) → find text_cmp dest rest ≡ Some row → find text_cmp dest (r ∷ rest) ≡ Some row
   apart r rest s dest row h = ap (λ b. cond b (Some r.1) (find text_cmp dest rest)) (above r.0 dest row rest (t_left _ _ s) h) ∙ h
 
-  pub less_left : (r : Row) (rest : List Row) → IsLeft (r ∷ rest) → Fits next name entry r.0 r.1 → IsLeft rest
+  pub less_left : (r : Row) (rest : List Row) → IsLeft (r ∷ rest) → RowFits next name entry r.0 r.1 → IsLeft rest
   less_left r rest l fits = record {
     sorted = t_right _ _ l.sorted;
     seen = λ dest row h. elim (l.seen dest row h) [ inl f ↦ inl f | inr there ↦ by_case dest row (eq_by_cmp text_cmp dest r.0) refl there ];
     own = λ dest row h. l.own dest row (apart r rest l.sorted dest row h);
   }
     where
-      by_case : (dest : Text) (row : Progress) (b : Bool) → eq_by_cmp text_cmp dest r.0 ≡ b → cond b (Some r.1) (find text_cmp dest rest) ≡ Some row → Fits next name entry dest row ⊎ (find text_cmp dest rest ≡ Some row)
+      by_case : (dest : Text) (row : Progress) (b : Bool) → eq_by_cmp text_cmp dest r.0 ≡ b → cond b (Some r.1) (find text_cmp dest rest) ≡ Some row → RowFits next name entry dest row ⊎ (find text_cmp dest rest ≡ Some row)
       by_case dest row true t h =
-          (let P : Row → Type 0 = λ x. Fits next name entry x.0 x.1 in
+          (let P : Row → Type 0 = λ x. RowFits next name entry x.0 x.1 in
           let d : r.0 ≡ dest = sym (tells_apart texts.exact dest r.0 t) in
           let e : r.1 ≡ row = inside r.1 row h in
           inl (subst P (λ j. (d j, e j)) fits))

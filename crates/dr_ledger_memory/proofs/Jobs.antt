@@ -31,7 +31,7 @@ use Rattle.dr_ledger_memory.specs.Contents.{content, data_sets}
 use Rattle.dr_ledger_memory.specs.Dues.{Due, due_cmp, first_waiting, is_waiting, waits_since}
 use Rattle.dr_ledger_memory.specs.Entries.{body_in, instance_in, row_in}
 use Rattle.dr_ledger_memory.specs.Jobs.{IsJobOf}
-use Rattle.dr_ledger_memory.specs.Sound.{IsSound}
+use Rattle.dr_ledger_memory.specs.Sound.{PartsAreSound}
 use Rattle.dr_ledger_memory.proofs.Lookups.{body_at, item_at, row_at}
 use Rattle.dr_ledger_memory.proofs.NextDue.{IsFirst, first_of_all, found_is, left, passes, right, start, ties, waits_so}
 
@@ -51,12 +51,12 @@ later_too key dest other uid goes h =
     let P : Text → Type 0 = λ d. text_cmp d dest ≡ Equal in
     ap (λ r. ordering_then r (ordering_then (nat_cmp key.1.0 other) (text_cmp key.1.1 uid))) (subst P (sym goes) (ties dest)) ∙ h
 
-module _ (part : Part) (p : Parts) (sp : tree.IsOrdered text_cmp p.held) (sound : ∥ IsSound part p ∥₁) (ordered : sorted.IsOrdered due_cmp p.waiting) (dest : Text) (now : ℕ) where
+module _ (part : Part) (p : Parts) (sp : tree.IsOrdered text_cmp p.held) (sound : ∥ PartsAreSound part p ∥₁) (ordered : sorted.IsOrdered due_cmp p.waiting) (dest : Text) (now : ℕ) where
   abbrev pub found : Option Due
   found = first_waiting p.held dest now (sorted.keys_between due_cmp (Included (start dest)) Unbounded p.waiting)
 
   -- a row that is due has its key, and what is found comes first
-  pub first_for : IsSound part p → (uid : Text) (due : ℕ) → IsDue (content p) dest now uid due → IsFirst found (dest, (due, uid))
+  pub first_for : PartsAreSound part p → (uid : Text) (due : ℕ) → IsDue (content p) dest now uid due → IsFirst found (dest, (due, uid))
   first_for s uid due h =
       let row : row_in (at p.held uid) dest ≡ Some (Waiting h.0.0 due) = sym (row_at p sp uid dest) ∙ h.0.1 in
       first_of_all p.held dest now (dest, (due, uid)) refl h.1 (waits_so p.held uid dest h.0.0 due row) p.waiting ordered (s.covered uid dest h.0.0 due row)
@@ -74,7 +74,7 @@ module _ (part : Part) (p : Parts) (sp : tree.IsOrdered text_cmp p.held) (sound 
     known : map.get (content p).items key.1.1 ≡ Some j.entry.instance
     known = item_at p sp key.1.1 ∙ ap instance_in j.there
 
-    is_it : IsSound part p → j.entry.instance ≡ instance_of job
+    is_it : PartsAreSound part p → j.entry.instance ≡ instance_of job
     is_it s =
         let own = (s.whole key.1.1 j.entry j.there).own job.body j.body in
         let named : j.entry.instance.uid ≡ key.1.1 = (journals_are_solid (site_routing part) s.journalled.0 (content p) s.journalled.1).named key.1.1 j.entry.instance known in

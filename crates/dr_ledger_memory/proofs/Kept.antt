@@ -12,13 +12,13 @@ use Rattle.dr_ledger.specs.SiteRoutes.{site_routing}
 use Rattle.dr_ledger_memory.specs.declared.held.Held.{Held as Entry}
 use Rattle.dr_ledger_memory.specs.declared.parts.Parts.{Parts}
 use Rattle.dr_ledger_memory.specs.Contents.{content, data_sets}
-use Rattle.dr_ledger_memory.specs.Sound.{IsSound}
+use Rattle.dr_ledger_memory.specs.Sound.{PartsAreSound}
 use Rattle.dr_ledger_memory.proofs.Whole.{has_bodies}
 
-pub journal_of : (part : Part) (p : Parts) → ∥ IsSound part p ∥₁ → ∥ IsJournalled (site_routing part) (content p) ∥₁
+pub journal_of : (part : Part) (p : Parts) → ∥ PartsAreSound part p ∥₁ → ∥ IsJournalled (site_routing part) (content p) ∥₁
 journal_of part p h = ∥∥₁_map h (λ s. s.journalled)
 
-pub bodies_of : (part : Part) (p : Parts) → tree.IsOrdered text_cmp p.held → ∥ IsSound part p ∥₁ → ∥ HasBodies (content p) (data_sets p) ∥₁
+pub bodies_of : (part : Part) (p : Parts) → tree.IsOrdered text_cmp p.held → ∥ PartsAreSound part p ∥₁ → ∥ HasBodies (content p) (data_sets p) ∥₁
 bodies_of part p order h = ∥∥₁_map h (λ s. has_bodies p order s.whole)
 
 -- nothing is in order

@@ -43,11 +43,11 @@ use Rattle.dr_ledger_memory.specs.declared.held.Held.{Held as Entry}
 use Rattle.dr_ledger_memory.specs.declared.parts.Bringing.{Bringing}
 use Rattle.dr_ledger_memory.specs.declared.parts.Parts.{Parts}
 use Rattle.dr_ledger_memory.specs.Bringings.{IsFor}
-use Rattle.dr_ledger_memory.specs.Changes.{IsAdopted, IsBrought, IsDropped, IsForgotten, IsMoved, IsNoted, IsPrunedIn, IsPutAt, IsSame, MovesAt, PrunesAll, Tree, at}
+use Rattle.dr_ledger_memory.specs.Changes.{IsAdoptedInParts, IsBrought, IsDroppedInParts, IsForgottenInParts, IsMoved, IsNoted, IsPrunedIn, IsPutAt, IsSame, MovesAt, PrunesAll, Tree, at}
 use Rattle.dr_ledger_memory.specs.Contents.{all_rows, collected, content, data_sets, kept_mark, keys}
 use Rattle.dr_ledger_memory.specs.Dues.{Covers, Due, due_cmp}
 use Rattle.dr_ledger_memory.specs.Entries.{IsTaken, body_in, instance_in, is_kept_in, needs, let_go, row_in, rows_in}
-use Rattle.dr_ledger_memory.specs.Sound.{AreWhole, IsSound}
+use Rattle.dr_ledger_memory.specs.Sound.{AreWhole, PartsAreSound}
 use Rattle.dr_ledger_memory.proofs.Content.{adopted_is, dropped_so, forgotten_is, left_at, brought_is, opened_some, pruned_row, repeated_is, requeued_so, same_content, same_data_sets, settled_so}
 use Rattle.dr_ledger_memory.proofs.Lookups.{body_at, item_at, row_at}
 use Rattle.dr_ledger_memory.proofs.Whole.{all_pruned_whole, moved_whole, needed_so, needs_in, nothing_found, of_book, put_whole, so_needed, taken_whole, to_book}
@@ -72,7 +72,7 @@ module _ (p : Parts) (held : p.held.entries ≡ []) (arrivals : p.arrivals.keys 
     lines = lines_of (notes j);
   }
 
-  pub new_sound : (part : Part) → IsSound part p
+  pub new_sound : (part : Part) → PartsAreSound part p
   new_sound part = record {
     journalled = subst (λ (b : Book). IsJournalled (site_routing part) b) (sym nothing_in) ([], empty_is_journalled (site_routing part));
     whole = λ uid entry is. absurd (nothing_found entry (sym (ap (lookup (is_at (text_cmp uid))) held) ∙ is));
@@ -80,7 +80,7 @@ module _ (p : Parts) (held : p.held.entries ≡ []) (arrivals : p.arrivals.keys 
   }
 
 -- ---- where nothing but the keys and the room has changed
-pub same_sound : (part : Part) (p q : Parts) → IsSame p q → (Covers p.waiting p.held → Covers q.waiting q.held) → IsSound part p → IsSound part q
+pub same_sound : (part : Part) (p q : Parts) → IsSame p q → (Covers p.waiting p.held → Covers q.waiting q.held) → PartsAreSound part p → PartsAreSound part q
 same_sound part p q s covers h = record {
   journalled = journal_same (site_routing part) (content p) (content q) (same_content p q s) h.journalled;
   whole = whole_same p.held q.held s.held h.whole;
@@ -89,7 +89,7 @@ same_sound part p q s covers h = record {
 
 -- ---- another arrival
 pub repeat_sound : (part : Part) (p q : Parts) (caller : Text) (item : Instance) (note : JournalLine) → IsNoted p note q → line_of note ≡ Repeat caller item → IsAdmitted (site_routing part) caller item (content p) →
-    set.contains (content p).arrivals (caller, item.uid) ≡ true → q.held ≡ p.held → q.waiting ≡ p.waiting → IsSound part p → IsSound part q
+    set.contains (content p).arrivals (caller, item.uid) ≡ true → q.held ≡ p.held → q.waiting ≡ p.waiting → PartsAreSound part p → PartsAreSound part q
 repeat_sound part p q caller item note n line admitted again held waiting h = record {
   journalled = journal_on (site_routing part) (content p) (content q) (λ past j. arrivals_are_journalled (site_routing part) past caller item (content p) (content q) (Ok Again) j
       (admitted, again, repeated_is p q caller item note n line)) h.journalled;
@@ -142,7 +142,7 @@ module _ (part : Part) (p q : Parts) (sp : tree.IsOrdered text_cmp p.held) (sq :
     body_is = b.taken.body_is ∙ (λ j. let_go (needs b.after.is_kept b.after.rows.items) (Some (unwrap_or (body_in (at p.held (f.uid j))) (f.body j))));
   }
 
-  pub taken_sound : (Covers p.waiting p.held → Covers q.waiting q.held) → IsSound part p → IsSound part q
+  pub taken_sound : (Covers p.waiting p.held → Covers q.waiting q.held) → PartsAreSound part p → PartsAreSound part q
   taken_sound covers h = record {
     journalled = journal_on (site_routing part) (content p) (content q) (λ past j. arrivals_are_journalled (site_routing part) past caller (instance_of job) (content p) (content q) (Ok New) j taken) h.journalled;
     whole = put_whole p.held q.held job.uid b.after put
@@ -195,7 +195,7 @@ same_lets_go p q same u body h = ap (λ (b : Bodies). map.get b u) (sym (same_da
 
 pub settled_sound : (part : Part) (p q : Parts) (sp : tree.IsOrdered text_cmp p.held) (sq : tree.IsOrdered text_cmp q.held) (uid dest : Text) (progress : Progress) (note : JournalLine) (outcome : Outcome) (now tries due : ℕ) →
     map.get (content p).rows (uid, dest) ≡ Some (Waiting tries due) → now ≤ 2 ^ 62 → progress ≡ row_after tries outcome now → line_of note ≡ Settling uid dest outcome now → IsMoved p uid dest progress note q →
-    (Covers p.waiting p.held → Covers q.waiting q.held) → IsSound part p → IsSound part q
+    (Covers p.waiting p.held → Covers q.waiting q.held) → PartsAreSound part p → PartsAreSound part q
 settled_sound part p q sp sq uid dest progress note outcome now tries due row early is line m covers h = record {
   journalled = journal_on (site_routing part) (content p) (content q) (λ past j. settlings_are_journalled (site_routing part) past uid dest outcome now (content p) (content q) (Ok tt) early j
       ((tries, due, row), settled_so p q sp sq uid dest progress note m outcome now tries due row is line)) h.journalled;
@@ -205,7 +205,7 @@ settled_sound part p q sp sq uid dest progress note outcome now tries due row ea
 
 pub requeued_sound : (part : Part) (p q : Parts) (sp : tree.IsOrdered text_cmp p.held) (sq : tree.IsOrdered text_cmp q.held) (uid dest : Text) (progress : Progress) (note : JournalLine) (why : Cause) →
     map.get (content p).rows (uid, dest) ≡ Some (Held why) → progress ≡ Waiting 0 0 → line_of note ≡ Requeuing uid dest → IsMoved p uid dest progress note q →
-    (Covers p.waiting p.held → Covers q.waiting q.held) → IsSound part p → IsSound part q
+    (Covers p.waiting p.held → Covers q.waiting q.held) → PartsAreSound part p → PartsAreSound part q
 requeued_sound part p q sp sq uid dest progress note why row is line m covers h = record {
   journalled = journal_on (site_routing part) (content p) (content q) (λ past j. requeuings_are_journalled (site_routing part) past uid dest (content p) (content q) (Ok tt) j
       ((why, row), requeued_so p q sp sq uid dest progress note m why row is line)) h.journalled;
@@ -214,8 +214,8 @@ requeued_sound part p q sp sq uid dest progress note why row is line m covers h 
 }
 
 pub dropped_sound : (part : Part) (p q : Parts) (sp : tree.IsOrdered text_cmp p.held) (sq : tree.IsOrdered text_cmp q.held) (uid dest : Text) (note : JournalLine) (now : ℕ) (why : Cause) →
-    map.get (content p).rows (uid, dest) ≡ Some (Held why) → now ≤ 2 ^ 62 → line_of note ≡ Dropping uid dest now → IsDropped p uid dest note q →
-    (Covers p.waiting p.held → Covers q.waiting q.held) → IsSound part p → IsSound part q
+    map.get (content p).rows (uid, dest) ≡ Some (Held why) → now ≤ 2 ^ 62 → line_of note ≡ Dropping uid dest now → IsDroppedInParts p uid dest note q →
+    (Covers p.waiting p.held → Covers q.waiting q.held) → PartsAreSound part p → PartsAreSound part q
 dropped_sound part p q sp sq uid dest note now why row early line d covers h = record {
   journalled = journal_on (site_routing part) (content p) (content q) (λ past j. droppings_are_journalled (site_routing part) past uid dest now (content p) (content q) (Ok tt) early j
       ((why, row), dropped_so p q sp sq uid dest note d now why row line)) h.journalled;
@@ -230,7 +230,7 @@ pruned_covers p q w prunes covers uid dest tries due h = covers uid dest tries d
     still : (old new : Option Entry) → IsPrunedIn old new → row_in new dest ≡ Some (Waiting tries due) → row_in old dest ≡ Some (Waiting tries due)
     still old new r is = opened_some (row_in old dest) (Waiting tries due) (sym (pruned_row old new dest r) ∙ is)
 
-pub adopted_sound : (part next : Part) (p q : Parts) (sp : tree.IsOrdered text_cmp p.held) (sq : tree.IsOrdered text_cmp q.held) → IsAdopted p q → q.waiting ≡ p.waiting → IsSound part p → IsSound next q
+pub adopted_sound : (part next : Part) (p q : Parts) (sp : tree.IsOrdered text_cmp p.held) (sq : tree.IsOrdered text_cmp q.held) → IsAdoptedInParts p q → q.waiting ≡ p.waiting → PartsAreSound part p → PartsAreSound next q
 adopted_sound part next p q sp sq a waiting h = record {
   journalled = subst (λ (b : Book). IsJournalled (site_routing next) b) (sym (adopted_is p q sp sq a))
       ((content p).lines ++ Adoption ∷ [], adoptions_are_journalled (site_routing part) (site_routing next) h.journalled.0 (content p) h.journalled.1);
@@ -238,7 +238,7 @@ adopted_sound part next p q sp sq a waiting h = record {
   covered = (let P : sorted.BTreeSet Due → Type 0 = λ w. Covers w q.held in subst P (sym waiting) (pruned_covers p.held q.held p.waiting a.held h.covered));
 }
 
-pub adopted_lets_go : (p q : Parts) (sp : tree.IsOrdered text_cmp p.held) (sq : tree.IsOrdered text_cmp q.held) → IsAdopted p q → OnlyLetsGo (data_sets p) (data_sets q)
+pub adopted_lets_go : (p q : Parts) (sp : tree.IsOrdered text_cmp p.held) (sq : tree.IsOrdered text_cmp q.held) → IsAdoptedInParts p q → OnlyLetsGo (data_sets p) (data_sets q)
 adopted_lets_go p q sp sq a u body h = body_at p sp u ∙ (sym (pruned_body (at p.held u) (at q.held u) (a.held u)) ∙ (sym (body_at q sq u) ∙ h))
   where
     pruned_body : (old new : Option Entry) → IsPrunedIn old new → body_in new ≡ body_in old
@@ -258,7 +258,7 @@ module _ (routing : Routing) (p : Parts) (sp : tree.IsOrdered text_cmp p.held) (
 
 -- ---- a call that went through, or for which there was no memory
 pub repeat_kept : (part : Part) (p q : Parts) (caller : Text) (item : Instance) (note : JournalLine) → IsNoted p note q ⊎ IsSame p q → line_of note ≡ Repeat caller item → IsAdmitted (site_routing part) caller item (content p) →
-    set.contains (content p).arrivals (caller, item.uid) ≡ true → q.held ≡ p.held → q.waiting ≡ p.waiting → ∥ IsSound part p ∥₁ → ∥ IsSound part q ∥₁
+    set.contains (content p).arrivals (caller, item.uid) ≡ true → q.held ≡ p.held → q.waiting ≡ p.waiting → ∥ PartsAreSound part p ∥₁ → ∥ PartsAreSound part q ∥₁
 repeat_kept part p q caller item note change line admitted again held waiting h = elim change [
   | inl n ↦ ∥∥₁_map h (repeat_sound part p q caller item note n line admitted again held waiting)
   | inr s ↦ ∥∥₁_map h (same_sound part p q s (λ covers uid dest tries due r.
@@ -268,7 +268,7 @@ repeat_kept part p q caller item note change line admitted again held waiting h 
 pub bring_kept : (part : Part) (p q : Parts) (sp : tree.IsOrdered text_cmp p.held) (sq : tree.IsOrdered text_cmp q.held) (caller : Text) (job : Job) (targets : Targets) (new : Bringing)
     (sends : (to : Text) → Contains targets.to to ↔ SendsFrom part caller job.key to) (ordered : IsInByteOrder targets.to) (keeps : IsTrue targets.keep ↔ KeepsAt part caller job.key)
     (f : IsFor caller job targets (rows_in (at p.held job.uid)) new) (admitted : IsAdmitted (site_routing part) caller (instance_of job) (content p))
-    (first : set.contains (content p).arrivals (caller, job.uid) ≡ false) → IsBrought p new q ⊎ IsSame p q → (Covers p.waiting p.held → Covers q.waiting q.held) → ∥ IsSound part p ∥₁ → ∥ IsSound part q ∥₁
+    (first : set.contains (content p).arrivals (caller, job.uid) ≡ false) → IsBrought p new q ⊎ IsSame p q → (Covers p.waiting p.held → Covers q.waiting q.held) → ∥ PartsAreSound part p ∥₁ → ∥ PartsAreSound part q ∥₁
 bring_kept part p q sp sq caller job targets new sends ordered keeps f admitted first change covers h = elim change [
   | inl b ↦ ∥∥₁_map h (taken_sound part p q sp sq caller job targets new sends ordered keeps f admitted first b covers)
   | inr s ↦ ∥∥₁_map h (same_sound part p q s covers)
@@ -276,7 +276,7 @@ bring_kept part p q sp sq caller job targets new sends ordered keeps f admitted 
 
 pub settle_kept : (part : Part) (p q : Parts) (sp : tree.IsOrdered text_cmp p.held) (sq : tree.IsOrdered text_cmp q.held) (uid dest : Text) (progress : Progress) (note : JournalLine) (outcome : Outcome) (now tries due : ℕ) →
     map.get (content p).rows (uid, dest) ≡ Some (Waiting tries due) → now ≤ 2 ^ 62 → progress ≡ row_after tries outcome now → line_of note ≡ Settling uid dest outcome now →
-    IsMoved p uid dest progress note q ⊎ IsSame p q → (Covers p.waiting p.held → Covers q.waiting q.held) → ∥ IsSound part p ∥₁ → ∥ IsSound part q ∥₁
+    IsMoved p uid dest progress note q ⊎ IsSame p q → (Covers p.waiting p.held → Covers q.waiting q.held) → ∥ PartsAreSound part p ∥₁ → ∥ PartsAreSound part q ∥₁
 settle_kept part p q sp sq uid dest progress note outcome now tries due row early is line change covers h = elim change [
   | inl m ↦ ∥∥₁_map h (settled_sound part p q sp sq uid dest progress note outcome now tries due row early is line m covers)
   | inr s ↦ ∥∥₁_map h (same_sound part p q s covers)
@@ -284,7 +284,7 @@ settle_kept part p q sp sq uid dest progress note outcome now tries due row earl
 
 pub requeue_kept : (part : Part) (p q : Parts) (sp : tree.IsOrdered text_cmp p.held) (sq : tree.IsOrdered text_cmp q.held) (uid dest : Text) (progress : Progress) (note : JournalLine) (why : Cause) →
     map.get (content p).rows (uid, dest) ≡ Some (Held why) → progress ≡ Waiting 0 0 → line_of note ≡ Requeuing uid dest →
-    IsMoved p uid dest progress note q ⊎ IsSame p q → (Covers p.waiting p.held → Covers q.waiting q.held) → ∥ IsSound part p ∥₁ → ∥ IsSound part q ∥₁
+    IsMoved p uid dest progress note q ⊎ IsSame p q → (Covers p.waiting p.held → Covers q.waiting q.held) → ∥ PartsAreSound part p ∥₁ → ∥ PartsAreSound part q ∥₁
 requeue_kept part p q sp sq uid dest progress note why row is line change covers h = elim change [
   | inl m ↦ ∥∥₁_map h (requeued_sound part p q sp sq uid dest progress note why row is line m covers)
   | inr s ↦ ∥∥₁_map h (same_sound part p q s covers)
@@ -292,16 +292,16 @@ requeue_kept part p q sp sq uid dest progress note why row is line change covers
 
 pub drop_kept : (part : Part) (p q : Parts) (sp : tree.IsOrdered text_cmp p.held) (sq : tree.IsOrdered text_cmp q.held) (uid dest : Text) (note : JournalLine) (now : ℕ) (why : Cause) →
     map.get (content p).rows (uid, dest) ≡ Some (Held why) → now ≤ 2 ^ 62 → line_of note ≡ Dropping uid dest now →
-    IsDropped p uid dest note q ⊎ IsSame p q → (Covers p.waiting p.held → Covers q.waiting q.held) → ∥ IsSound part p ∥₁ → ∥ IsSound part q ∥₁
+    IsDroppedInParts p uid dest note q ⊎ IsSame p q → (Covers p.waiting p.held → Covers q.waiting q.held) → ∥ PartsAreSound part p ∥₁ → ∥ PartsAreSound part q ∥₁
 drop_kept part p q sp sq uid dest note now why row early line change covers h = elim change [
   | inl d ↦ ∥∥₁_map h (dropped_sound part p q sp sq uid dest note now why row early line d covers)
   | inr s ↦ ∥∥₁_map h (same_sound part p q s covers)
 ]
 
-pub adopt_kept : (part next : Part) (p q : Parts) (sp : tree.IsOrdered text_cmp p.held) (sq : tree.IsOrdered text_cmp q.held) → IsAdopted p q → q.waiting ≡ p.waiting → ∥ IsSound part p ∥₁ → ∥ IsSound next q ∥₁
+pub adopt_kept : (part next : Part) (p q : Parts) (sp : tree.IsOrdered text_cmp p.held) (sq : tree.IsOrdered text_cmp q.held) → IsAdoptedInParts p q → q.waiting ≡ p.waiting → ∥ PartsAreSound part p ∥₁ → ∥ PartsAreSound next q ∥₁
 adopt_kept part next p q sp sq a waiting h = ∥∥₁_map h (adopted_sound part next p q sp sq a waiting)
 
-pub unadopted_kept : (part : Part) (p q : Parts) → IsSame p q → q.waiting ≡ p.waiting → ∥ IsSound part p ∥₁ → ∥ IsSound part q ∥₁
+pub unadopted_kept : (part : Part) (p q : Parts) → IsSame p q → q.waiting ≡ p.waiting → ∥ PartsAreSound part p ∥₁ → ∥ PartsAreSound part q ∥₁
 unadopted_kept part p q s waiting h = ∥∥₁_map h (same_sound part p q s (λ covers uid dest tries due r.
     subst (λ w. sorted.contains due_cmp w (dest, (due, uid)) ≡ true) (sym waiting) (covers uid dest tries due (ap (λ es. row_in (lookup (is_at (text_cmp uid)) es) dest) (sym s.held) ∙ r))))
 
@@ -309,14 +309,14 @@ unadopted_kept part p q s waiting h = ∥∥₁_map h (same_sound part p q s (λ
 pub row_there : (p : Parts) (sp : tree.IsOrdered text_cmp p.held) (uid dest : Text) (row : Progress) → map.get (content p).rows (uid, dest) ≡ Some row → IsSome (row_in (at p.held uid) dest)
 row_there p sp uid dest row h = subst IsSome (sym (sym (row_at p sp uid dest) ∙ h)) refl
 
-pub adopt_either : (part : Part) (p q : Parts) (sp : tree.IsOrdered text_cmp p.held) (sq : tree.IsOrdered text_cmp q.held) → IsAdopted p q ⊎ IsSame p q → q.waiting ≡ p.waiting → ∥ IsSound part p ∥₁ → ∥ IsSound part q ∥₁
+pub adopt_either : (part : Part) (p q : Parts) (sp : tree.IsOrdered text_cmp p.held) (sq : tree.IsOrdered text_cmp q.held) → IsAdoptedInParts p q ⊎ IsSame p q → q.waiting ≡ p.waiting → ∥ PartsAreSound part p ∥₁ → ∥ PartsAreSound part q ∥₁
 adopt_either part p q sp sq change waiting h = elim change [
   | inl a ↦ adopt_kept part part p q sp sq a waiting h
   | inr s ↦ unadopted_kept part p q s waiting h
 ]
 
 -- ---- a forgetting
-module _ (p q : Parts) (sp : tree.IsOrdered text_cmp p.held) (sq : tree.IsOrdered text_cmp q.held) (uid : Text) (note : JournalLine) (f : IsForgotten p uid note q) where
+module _ (p q : Parts) (sp : tree.IsOrdered text_cmp p.held) (sq : tree.IsOrdered text_cmp q.held) (uid : Text) (note : JournalLine) (f : IsForgottenInParts p uid note q) where
   was_there : {X : Type 0} (b : Bool) (o : Option X) (x : X) → cond b None o ≡ Some x → o ≡ Some x
   was_there true o x h = absurd (nothing_found x h)
   was_there false o x h = h
@@ -333,7 +333,7 @@ module _ (p q : Parts) (sp : tree.IsOrdered text_cmp p.held) (sq : tree.IsOrdere
   forgotten_lets_go u body h =
       body_at p sp u ∙ was_body (eq_by_cmp text_cmp u uid) (at p.held u) body (sym (ap body_in (left_at p q sp sq uid note f u)) ∙ (sym (body_at q sq u) ∙ h))
 
-  pub forgotten_sound : (part : Part) → IsOver (content p) uid → line_of note ≡ Forgetting uid → q.waiting ≡ p.waiting → IsSound part p → IsSound part q
+  pub forgotten_sound : (part : Part) → IsOver (content p) uid → line_of note ≡ Forgetting uid → q.waiting ≡ p.waiting → PartsAreSound part p → PartsAreSound part q
   forgotten_sound part over line waiting h = record {
     journalled = journal_on (site_routing part) (content p) (content q) (λ past j. forgettings_are_journalled (site_routing part) past uid (content p) (content q) (Ok tt) j
         (over, forgotten_is p q sp sq uid note f over.unkept line)) h.journalled;
@@ -343,7 +343,7 @@ module _ (p q : Parts) (sp : tree.IsOrdered text_cmp p.held) (sq : tree.IsOrdere
   }
 
 pub forget_kept : (part : Part) (p q : Parts) (sp : tree.IsOrdered text_cmp p.held) (sq : tree.IsOrdered text_cmp q.held) (uid : Text) (note : JournalLine) → IsOver (content p) uid → line_of note ≡ Forgetting uid →
-    IsForgotten p uid note q ⊎ IsSame p q → q.waiting ≡ p.waiting → ∥ IsSound part p ∥₁ → ∥ IsSound part q ∥₁
+    IsForgottenInParts p uid note q ⊎ IsSame p q → q.waiting ≡ p.waiting → ∥ PartsAreSound part p ∥₁ → ∥ PartsAreSound part q ∥₁
 forget_kept part p q sp sq uid note over line change waiting h = elim change [
   | inl f ↦ ∥∥₁_map h (forgotten_sound p q sp sq uid note f part over line waiting)
   | inr s ↦ unadopted_kept part p q s waiting h

@@ -19,12 +19,12 @@ use Rattle.dr_ledger_memory.specs.Changes.{at}
 use Rattle.dr_ledger_memory.specs.Contents.{content}
 use Rattle.dr_ledger_memory.specs.Dues.{Due, due_cmp, is_waiting}
 use Rattle.dr_ledger_memory.specs.Entries.{row_in}
-use Rattle.dr_ledger_memory.specs.Sound.{IsSound}
+use Rattle.dr_ledger_memory.specs.Sound.{PartsAreSound}
 use Rattle.dr_ledger_memory.proofs.Jobs.{first_for, found, key_of, later_too, no_key, none_next, waits_from}
 use Rattle.dr_ledger_memory.proofs.Lookups.{row_at}
 use Rattle.dr_ledger_memory.proofs.NextDue.{IsFirst, found_is, left, passes, right, start}
 
-module _ (part : Part) (p : Parts) (sp : tree.IsOrdered text_cmp p.held) (sound : ∥ IsSound part p ∥₁)
+module _ (part : Part) (p : Parts) (sp : tree.IsOrdered text_cmp p.held) (sound : ∥ PartsAreSound part p ∥₁)
     (ordered : sorted.IsOrdered due_cmp p.waiting) (dest : Text) (now : ℕ) where
   abbrev its_found : Option Due
   its_found = found part p sp sound ordered dest now

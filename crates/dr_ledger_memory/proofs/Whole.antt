@@ -21,7 +21,7 @@ use Rattle.dr_ledger_memory.specs.declared.parts.Parts.{Parts}
 use Rattle.dr_ledger_memory.specs.Changes.{IsPrunedIn, IsPutAt, PrunesAll, Tree, at}
 use Rattle.dr_ledger_memory.specs.Contents.{content, data_sets}
 use Rattle.dr_ledger_memory.specs.Entries.{IsMovedOn, IsPruned, IsTaken, Row, body_in, instance_in, is_kept_in, is_open, let_go, needs, row_in}
-use Rattle.dr_ledger_memory.specs.Sound.{AreWhole, IsWhole}
+use Rattle.dr_ledger_memory.specs.Sound.{AreWhole, EntryIsWhole}
 use Rattle.dr_ledger_memory.proofs.Lookups.{body_at, item_at, kept_at, row_at}
 
 -- ---- booleans
@@ -145,9 +145,9 @@ module _ (p : Parts) (order : tree.IsOrdered text_cmp p.held) (whole : AreWhole 
   }
 
 -- ---- changes
-pub put_whole : (p q : Tree) (uid : Text) (after : Entry) → IsPutAt p uid after q → IsWhole after → AreWhole p → AreWhole q
+pub put_whole : (p q : Tree) (uid : Text) (after : Entry) → IsPutAt p uid after q → EntryIsWhole after → AreWhole p → AreWhole q
 put_whole p q uid after put own whole u entry is = elim (cases_of (eq_by_cmp text_cmp u uid)) [
-  | inl t ↦ subst IsWhole (inside after entry (sym (put u ∙ ap (λ b. cond b (Some after) (at p u)) t) ∙ is)) own
+  | inl t ↦ subst EntryIsWhole (inside after entry (sym (put u ∙ ap (λ b. cond b (Some after) (at p u)) t) ∙ is)) own
   | inr n ↦ whole u entry (sym (put u ∙ ap (λ b. cond b (Some after) (at p u)) n) ∙ is)
 ]
 
@@ -160,7 +160,7 @@ taken_body true x body h = inside x body h
 taken_body false x body h = absurd (nothing_found body h)
 
 pub taken_whole : (o : Option Entry) (item : Job) (rows : List Row) (keep : Bool) (after : Entry) → IsTaken o (instance_of item) rows keep item.body after → IsItem item →
-    ((entry : Entry) → o ≡ Some entry → IsWhole entry) → ((entry : Entry) → o ≡ Some entry → entry.instance ≡ instance_of item) → IsWhole after
+    ((entry : Entry) → o ≡ Some entry → EntryIsWhole entry) → ((entry : Entry) → o ≡ Some entry → entry.instance ≡ instance_of item) → EntryIsWhole after
 taken_whole None item rows keep after t is whole same = record {
   there = ap is_some t.body_is ∙ taken_there (needs after.is_kept after.rows.items) item.body;
   own = λ body h. (item, is, taken_body (needs after.is_kept after.rows.items) item.body body (sym t.body_is ∙ h), t.instance_is);
@@ -182,7 +182,7 @@ moved_body : (n : Bool) (o : Option (List ℕ)) (body : List ℕ) → let_go n o
 moved_body true o body h = h
 moved_body false o body h = absurd (nothing_found body h)
 
-pub moved_whole : (before after : Entry) (dest : Text) (progress was : Progress) → IsMovedOn before dest progress after → find text_cmp dest before.rows.items ≡ Some was → is_queued was ≡ true → IsWhole before → IsWhole after
+pub moved_whole : (before after : Entry) (dest : Text) (progress was : Progress) → IsMovedOn before dest progress after → find text_cmp dest before.rows.items ≡ Some was → is_queued was ≡ true → EntryIsWhole before → EntryIsWhole after
 moved_whole before after dest progress was m is isnt w = record {
   there = ap is_some m.body_is ∙ moved_there (needs after.is_kept after.rows.items) before.body (w.there ∙ or_later before.is_kept _ (row_some dest was before.rows.items is isnt));
   own = λ body h. (let i = w.own body (moved_body (needs after.is_kept after.rows.items) before.body body (sym m.body_is ∙ h)) in (i.0, i.1, i.2, m.instance_is ∙ i.3));
@@ -195,7 +195,7 @@ still_open (row ∷ rows) = elim (cases_of (is_open row)) [
   | inr f ↦ ap (λ b. list_any is_open (cond b (row ∷ filter is_open rows) (filter is_open rows))) f ∙ (still_open rows ∙ sym (ap (λ b. b || list_any is_open rows) f))
 ]
 
-pub pruned_whole : (before after : Entry) → IsPruned before after → IsWhole before → IsWhole after
+pub pruned_whole : (before after : Entry) → IsPruned before after → EntryIsWhole before → EntryIsWhole after
 pruned_whole before after r w = record {
   there = ap is_some r.body_is ∙ (w.there ∙ (λ j. sym r.kept j || sym (ap (list_any is_open) r.rows_are ∙ still_open before.rows.items) j));
   own = λ body h. (let i = w.own body (sym r.body_is ∙ h) in (i.0, i.1, i.2, r.instance_is ∙ i.3));
@@ -204,9 +204,9 @@ pruned_whole before after r w = record {
 pub all_pruned_whole : (p q : Tree) → PrunesAll p q → AreWhole p → AreWhole q
 all_pruned_whole p q prunes whole uid entry is = at_uid (at p uid) refl (prunes uid)
   where
-    at_uid : (o : Option Entry) → at p uid ≡ o → IsPrunedIn o (at q uid) → IsWhole entry
+    at_uid : (o : Option Entry) → at p uid ≡ o → IsPrunedIn o (at q uid) → EntryIsWhole entry
     at_uid None e r = absurd (nothing_found entry (sym r ∙ is))
-    at_uid (Some before) e r = subst IsWhole (inside r.0 entry (sym r.1 ∙ is)) (pruned_whole before r.0 r.2 (whole uid before e))
+    at_uid (Some before) e r = subst EntryIsWhole (inside r.0 entry (sym r.1 ∙ is)) (pruned_whole before r.0 r.2 (whole uid before e))
 
 -- ---- rows in order
 both_so : (a b : Bool) → T a → T b → T (a && b)

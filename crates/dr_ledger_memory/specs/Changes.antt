@@ -120,13 +120,14 @@ pub record IsMoved (p : Parts) (uid dest : Text) (progress : Progress) (note : J
   pub notes : q.notes.items ≡ p.notes.items ++ note ∷ []
 
 -- arrivals and the rows that are done or dropped leave
-pub record IsAdopted (p q : Parts) : Type 0 where
+pub record IsAdoptedInParts (p q : Parts) : Type 0 where
   pub held : PrunesAll p.held q.held
   pub arrivals : q.arrivals.keys ≡ []
   pub notes : q.notes.items ≡ p.notes.items ++ note.Adoption ∷ []
 
 -- one row is dropped, those who brought the uid have left, and there is a line more
-pub record IsDropped (p : Parts) (uid dest : Text) (note : JournalLine) (q : Parts) : Type 0 where
+pub record IsDroppedInParts (p : Parts) (uid dest : Text) (note : JournalLine)
+    (q : Parts) : Type 0 where
   pub held : MovesAt p.held uid dest Dropped q.held
   pub arrivals : (key : Pair)
       → sorted.contains pair_cmp q.arrivals key
@@ -134,7 +135,8 @@ pub record IsDropped (p : Parts) (uid dest : Text) (note : JournalLine) (q : Par
   pub notes : q.notes.items ≡ p.notes.items ++ note ∷ []
 
 -- what stood at the uid has left with those who brought it, and there is a line more
-pub record IsForgotten (p : Parts) (uid : Text) (note : JournalLine) (q : Parts) : Type 0 where
+pub record IsForgottenInParts (p : Parts) (uid : Text) (note : JournalLine)
+    (q : Parts) : Type 0 where
   pub held : IsSetAt p.held uid None q.held
   pub arrivals : (key : Pair)
       → sorted.contains pair_cmp q.arrivals key

@@ -17,17 +17,17 @@ use Rattle.dr_ledger_memory.specs.Entries.{needs}
 
 -- The data set is there exactly where it is needed, and it is that of an item, which is this
 -- instance.
-pub record IsWhole (entry : Entry) : Type 0 where
+pub record EntryIsWhole (entry : Entry) : Type 0 where
   pub there : is_some entry.body ≡ needs entry.is_kept entry.rows.items
   pub own : (body : List ℕ) → entry.body ≡ Some body
       → (item : Job) × IsItem item × (item.body ≡ body) × (entry.instance ≡ instance_of item)
 
 abbrev pub AreWhole : Tree → Type 0
-AreWhole held = (uid : Text) (entry : Entry) → at held uid ≡ Some entry → IsWhole entry
+AreWhole held = (uid : Text) (entry : Entry) → at held uid ≡ Some entry → EntryIsWhole entry
 
 -- the journal is a history of which the book is made, each entry is whole, and each waiting row has
 -- its key
-pub record IsSound (part : Part) (p : Parts) : Type 0 where
+pub record PartsAreSound (part : Part) (p : Parts) : Type 0 where
   pub journalled : IsJournalled (site_routing part) (content p)
   pub whole : AreWhole p.held
   pub covered : Covers p.waiting p.held
@@ -45,12 +45,12 @@ NeverFails (Err fault.NotOver) = Unit {0}
 NeverFails (Err fault.Memory) = Unit {0}
 
 -- a reading call: what it shows, or that there is no memory for it
-abbrev pub Shows : {A : Type 0} → Result A LedgerFault → (A → Type 0) → Type 0
-Shows (Ok value) Is = Is value
-Shows (Err fault.Memory) Is = Unit {0}
-Shows (Err fault.Store) Is = ⊥
-Shows (Err fault.NoLine) Is = ⊥
-Shows (Err fault.Conflict) Is = ⊥
-Shows (Err fault.NotWaiting) Is = ⊥
-Shows (Err fault.NotHeld) Is = ⊥
-Shows (Err fault.NotOver) Is = ⊥
+abbrev pub ShowsOrFails : {A : Type 0} → Result A LedgerFault → (A → Type 0) → Type 0
+ShowsOrFails (Ok value) Is = Is value
+ShowsOrFails (Err fault.Memory) Is = Unit {0}
+ShowsOrFails (Err fault.Store) Is = ⊥
+ShowsOrFails (Err fault.NoLine) Is = ⊥
+ShowsOrFails (Err fault.Conflict) Is = ⊥
+ShowsOrFails (Err fault.NotWaiting) Is = ⊥
+ShowsOrFails (Err fault.NotHeld) Is = ⊥
+ShowsOrFails (Err fault.NotOver) Is = ⊥

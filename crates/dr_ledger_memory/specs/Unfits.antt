@@ -10,8 +10,8 @@ use Rattle.dr_ledger.specs.Books.{is_queued}
 use Rattle.dr_ledger_memory.specs.declared.held.Held.{Held as Entry}
 
 -- the row is done or dropped, or the plan goes on with it
-abbrev pub Fits : Network → Text → Entry → Text → Progress → Type 0
-Fits next name entry dest row =
+abbrev pub RowFits : Network → Text → Entry → Text → Progress → Type 0
+RowFits next name entry dest row =
     is_queued row ≡ true → IsReached next entry.instance.key name dest
 
 -- the row waits or is held, and the plan doesn't go on with it
@@ -24,7 +24,7 @@ abbrev pub AllFit : Network → Text → Entry → Type 0
 AllFit next name entry =
     (dest : Text) (row : Progress)
     → find text_cmp dest entry.rows.items ≡ Some row
-    → Fits next name entry dest row
+    → RowFits next name entry dest row
 
 -- the first destination of a row that doesn't, or none
 abbrev pub UnfitsIn : Network → Text → Entry → Option Text → Type 0

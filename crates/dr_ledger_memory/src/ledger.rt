@@ -20,8 +20,8 @@ ghost use Rattle.dr_ledger_memory.specs.Changes.{at};
 ghost use Rattle.dr_ledger_memory.specs.Contents.{content, data_sets, own_rows};
 ghost use Rattle.dr_ledger_memory.specs.Entries.{rows_in};
 ghost use Rattle.dr_ledger_memory.specs.Jobs.{IsJobOf};
-ghost use Rattle.dr_ledger_memory.specs.Sound.{IsSound, NeverFails, Shows};
-ghost use Rattle.dr_ledger_memory.specs.Unfits.{Fits, IsUnfitRow, UnfitsIn};
+ghost use Rattle.dr_ledger_memory.specs.Sound.{PartsAreSound, NeverFails, ShowsOrFails};
+ghost use Rattle.dr_ledger_memory.specs.Unfits.{RowFits, IsUnfitRow, UnfitsIn};
 
 use crate::bringing::{arrival_of, bringing};
 use crate::held::Held;
@@ -52,7 +52,7 @@ pub struct MemoryLedger {
     site: Site,
     parts: Parts,
     ghost ordered: { IsOrdered text_cmp parts.held } by { Prim.hlevel props },
-    ghost sound: { ∥ IsSound site parts ∥₁ },
+    ghost sound: { ∥ PartsAreSound site parts ∥₁ },
     ghost journalled: { ∥ IsJournalled (site_routing site) (content parts) ∥₁ },
     ghost bodied: { ∥ HasBodies (content parts) (data_sets parts) ∥₁ },
 }
@@ -375,7 +375,7 @@ impl MemoryLedger {
 
     /// What the first row that is due is about, with its data set.
     fn next_job(&self, dest: &Text, now: u64) -> Result<Option<Job>, LedgerFault>
-        ensures { Shows result
+        ensures { ShowsOrFails result
             (NextsWith (content self.now.parts) (data_sets self.now.parts) dest.now now) }
     {
         let Some(uid) = first_due(self.alloc, &self.parts.held, &self.parts.waiting, dest, now)?
@@ -390,7 +390,7 @@ impl MemoryLedger {
 
     /// The uid of the first row that is due.
     fn due_row(&self, dest: &Text, now: u64) -> Result<Option<Text>, LedgerFault>
-        ensures { Shows result (Dues (content self.now.parts) dest.now now) }
+        ensures { ShowsOrFails result (Dues (content self.now.parts) dest.now now) }
     {
         let uid = first_due(self.alloc, &self.parts.held, &self.parts.waiting, dest, now)?;
         Ok(uid)
@@ -413,7 +413,7 @@ impl MemoryLedger {
 
     /// The arrivals in order.
     fn all_arrivals(&self) -> Result<Seq<(Text, Text)>, LedgerFault>
-        ensures { Shows result (Lists pair_cmp (content self.now.parts).arrivals) }
+        ensures { ShowsOrFails result (Lists pair_cmp (content self.now.parts).arrivals) }
     {
         let mut all = Seq::new(self.alloc);
         for key in &self.parts.arrivals {
@@ -424,7 +424,7 @@ impl MemoryLedger {
 
     /// The kept uids in order.
     fn all_kept(&self) -> Result<Seq<(Text, u64)>, LedgerFault>
-        ensures { Shows result (AreKept (content self.now.parts)) }
+        ensures { ShowsOrFails result (AreKept (content self.now.parts)) }
     {
         let mut all = Seq::new(self.alloc);
         for (uid, entry) in &self.parts.held {
@@ -437,7 +437,7 @@ impl MemoryLedger {
 
     /// All rows in order.
     fn all_rows(&self) -> Result<Seq<((Text, Text), Progress)>, LedgerFault>
-        ensures { Shows result (λ all. all ≡ map.entries (content self.now.parts).rows) }
+        ensures { ShowsOrFails result (λ all. all ≡ map.entries (content self.now.parts).rows) }
     {
         let mut all = Seq::new(self.alloc);
         for (uid, entry) in &self.parts.held {
@@ -448,7 +448,8 @@ impl MemoryLedger {
 
     /// The journal as it is shown.
     fn all_lines(&self) -> Result<Seq<Entry>, LedgerFault>
-        ensures { Shows result (λ all. all ≡ mapped entry_of (content self.now.parts).lines) }
+        ensures { ShowsOrFails result (λ all.
+            all ≡ mapped entry_of (content self.now.parts).lines) }
     {
         let all = entries_of(self.alloc, self.parts.notes.as_slice())?;
         Ok(all)
@@ -456,7 +457,8 @@ impl MemoryLedger {
 
     /// The first row that waits or is held and that the next plan doesn't go on with.
     fn first_unfit(&self, next: &Sealed) -> Result<Option<(Text, Text)>, LedgerFault>
-        ensures { Shows result (Unfits next.now.plan self.now.site.name (content self.now.parts)) }
+        ensures { ShowsOrFails result
+            (Unfits next.now.plan self.now.site.name (content self.now.parts)) }
     {
         for (uid, entry) in &self.parts.held {
             if let Some(dest) = unfit_row(next, self.site.name(), entry) {
@@ -523,7 +525,7 @@ fn unfit_row<'a>(next: &Sealed, name: &Text, entry: &'a Held) -> Option<&'a Text
 fn is_unfit(next: &Sealed, name: &Text, entry: &Held, row: &(Text, Progress)) -> bool
     ensures unfit { IsTrue result
         → IsUnfitRow next.now.plan name.now entry.now row.now.0 row.now.1 }
-    ensures fit { result ≡ false → Fits next.now.plan name.now entry.now row.now.0 row.now.1 }
+    ensures fit { result ≡ false → RowFits next.now.plan name.now entry.now row.now.0 row.now.1 }
 {
     if !is_open(row) {
         return false;

@@ -54,8 +54,9 @@ struct FurtherArrival {
 }
 
 impl Parts {
-    ghost use Rattle.dr_ledger_memory.specs.Changes.{HasArrived, IsAdopted, IsBrought, IsDropped};
-    ghost use Rattle.dr_ledger_memory.specs.Changes.{IsForgotten, IsMoved, IsNoted, IsSame};
+    ghost use Rattle.dr_ledger_memory.specs.Changes.{HasArrived, IsAdoptedInParts, IsBrought};
+    ghost use Rattle.dr_ledger_memory.specs.Changes.{IsDroppedInParts};
+    ghost use Rattle.dr_ledger_memory.specs.Changes.{IsForgottenInParts, IsMoved, IsNoted, IsSame};
     ghost use Rattle.dr_ledger_memory.specs.Changes.{IsTakenOut};
 
     /// An empty book.
@@ -291,7 +292,7 @@ impl Parts {
     /// memory nothing changes, but for keys that nobody misses.
     pub fn try_drop(&mut self, uid: &Text, dest: &Text, note: JournalLine) -> Result<(), AllocError>
         requires there { IsSome (row_in (tree.get text_cmp self.old.held uid.now) dest.now) }
-        ensures ok { OnOk result (IsDropped self.old uid.now dest.now note self.new) }
+        ensures ok { OnOk result (IsDroppedInParts self.old uid.now dest.now note self.new) }
         ensures err { OnErr result (IsSame self.old self.new) }
         ensures ordered { tree.IsOrdered text_cmp self.old.held
             → tree.IsOrdered text_cmp self.new.held }
@@ -309,7 +310,7 @@ impl Parts {
 
     /// Lets all that a uid has go, with a line; without memory nothing changes.
     pub fn try_forget(&mut self, uid: &Text, note: JournalLine) -> Result<(), AllocError>
-        ensures ok { OnOk result (IsForgotten self.old uid.now note self.new) }
+        ensures ok { OnOk result (IsForgottenInParts self.old uid.now note self.new) }
         ensures err { OnErr result (IsSame self.old self.new) }
         ensures ordered { tree.IsOrdered text_cmp self.old.held
             → tree.IsOrdered text_cmp self.new.held }
@@ -325,7 +326,7 @@ impl Parts {
     /// Lets arrivals and rows that are done or dropped go, with a line; without memory nothing
     /// changes.
     pub fn try_adopt(&mut self) -> Result<(), AllocError>
-        ensures ok { OnOk result (IsAdopted self.old self.new) }
+        ensures ok { OnOk result (IsAdoptedInParts self.old self.new) }
         ensures err { OnErr result (IsSame self.old self.new) }
         ensures ordered { tree.IsOrdered text_cmp self.old.held
             → tree.IsOrdered text_cmp self.new.held }

@@ -2,7 +2,7 @@
 ghost use Rattle.std.specs.Prelude.{◌≡◌};
 ghost use Rattle.std.specs.FinMap as map;
 ghost use Rattle.std.specs.FinSet as set;
-ghost use Rattle.dr_ledger.specs.Replies.{Counts, Lasts, Reads};
+ghost use Rattle.dr_ledger.specs.Replies.{Counts, PremiseLasts, Reads};
 ghost use Rattle.dr_ledger_views.specs.Views.{AreCallers, IsLeast, IsTally, dues, how_many};
 ghost use Rattle.dr_ledger_views.specs.Views.{page_of, rows_of};
 ghost use Rattle.std.specs.Prelude.{Some};
@@ -24,7 +24,7 @@ pub trait Views: LetsGo {
         ensures counts { Counts result (Self.failed self.old) (Self.failed self.new) }
         ensures armed { Self.armed self.new ≡ Self.armed self.old }
         ensures stood { Self.stands self.new → Self.stands self.old }
-        ensures lasts { Lasts result (Self.trusts self.old) (Self.trusts self.new)
+        ensures lasts { PremiseLasts result (Self.trusts self.old) (Self.trusts self.new)
             (Self.stands self.old) (Self.stands self.new) }
         ensures site { Self.site self.new ≡ Self.site self.old };
 
@@ -38,7 +38,7 @@ pub trait Views: LetsGo {
         ensures counts { Counts result (Self.failed self.old) (Self.failed self.new) }
         ensures armed { Self.armed self.new ≡ Self.armed self.old }
         ensures stood { Self.stands self.new → Self.stands self.old }
-        ensures lasts { Lasts result (Self.trusts self.old) (Self.trusts self.new)
+        ensures lasts { PremiseLasts result (Self.trusts self.old) (Self.trusts self.new)
             (Self.stands self.old) (Self.stands self.new) }
         ensures site { Self.site self.new ≡ Self.site self.old };
 
@@ -53,7 +53,7 @@ pub trait Views: LetsGo {
         ensures counts { Counts result (Self.failed self.old) (Self.failed self.new) }
         ensures armed { Self.armed self.new ≡ Self.armed self.old }
         ensures stood { Self.stands self.new → Self.stands self.old }
-        ensures lasts { Lasts result (Self.trusts self.old) (Self.trusts self.new)
+        ensures lasts { PremiseLasts result (Self.trusts self.old) (Self.trusts self.new)
             (Self.stands self.old) (Self.stands self.new) }
         ensures site { Self.site self.new ≡ Self.site self.old };
 
@@ -69,7 +69,7 @@ pub trait Views: LetsGo {
         ensures counts { Counts result (Self.failed self.old) (Self.failed self.new) }
         ensures armed { Self.armed self.new ≡ Self.armed self.old }
         ensures stood { Self.stands self.new → Self.stands self.old }
-        ensures lasts { Lasts result (Self.trusts self.old) (Self.trusts self.new)
+        ensures lasts { PremiseLasts result (Self.trusts self.old) (Self.trusts self.new)
             (Self.stands self.old) (Self.stands self.new) }
         ensures site { Self.site self.new ≡ Self.site self.old };
 
@@ -84,7 +84,7 @@ pub trait Views: LetsGo {
         ensures counts { Counts result (Self.failed self.old) (Self.failed self.new) }
         ensures armed { Self.armed self.new ≡ Self.armed self.old }
         ensures stood { Self.stands self.new → Self.stands self.old }
-        ensures lasts { Lasts result (Self.trusts self.old) (Self.trusts self.new)
+        ensures lasts { PremiseLasts result (Self.trusts self.old) (Self.trusts self.new)
             (Self.stands self.old) (Self.stands self.new) }
         ensures site { Self.site self.new ≡ Self.site self.old };
 
@@ -108,7 +108,7 @@ pub trait Views: LetsGo {
         ensures counts { Counts result (Self.failed self.old) (Self.failed self.new) }
         ensures armed { Self.armed self.new ≡ Self.armed self.old }
         ensures stood { Self.stands self.new → Self.stands self.old }
-        ensures lasts { Lasts result (Self.trusts self.old) (Self.trusts self.new)
+        ensures lasts { PremiseLasts result (Self.trusts self.old) (Self.trusts self.new)
             (Self.stands self.old) (Self.stands self.new) }
         ensures site { Self.site self.new ≡ Self.site self.old };
 
@@ -122,7 +122,7 @@ pub trait Views: LetsGo {
         ensures counts { Counts result (Self.failed self.old) (Self.failed self.new) }
         ensures armed { Self.armed self.new ≡ Self.armed self.old }
         ensures stood { Self.stands self.new → Self.stands self.old }
-        ensures lasts { Lasts result (Self.trusts self.old) (Self.trusts self.new)
+        ensures lasts { PremiseLasts result (Self.trusts self.old) (Self.trusts self.new)
             (Self.stands self.old) (Self.stands self.new) }
         ensures site { Self.site self.new ≡ Self.site self.old };
 }
@@ -137,7 +137,7 @@ pub fn tally<L: Views>(ledger: &mut L, dest: &Text) -> Result<HopTally, LedgerFa
     ensures counts { Counts result (L.failed ledger.old) (L.failed ledger.new) }
     ensures armed { L.armed ledger.new ≡ L.armed ledger.old }
     ensures stood { L.stands ledger.new → L.stands ledger.old }
-    ensures lasts { Lasts result (L.trusts ledger.old) (L.trusts ledger.new)
+    ensures lasts { PremiseLasts result (L.trusts ledger.old) (L.trusts ledger.new)
         (L.stands ledger.old) (L.stands ledger.new) }
     ensures site { L.site ledger.new ≡ L.site ledger.old }
 {

@@ -18,6 +18,7 @@ use Rattle.dr_nego.specs.Answering.{answer, answer_of, acceptance_of, applicatio
 use Rattle.dr_nego.specs.Answering.{verification}
 use Rattle.dr_nego.specs.Proposing.{echo_proposal}
 use Rattle.dr_nego.specs.Fragments.{piece_size, pieces}
+use Rattle.dr_plan_sound.specs.Samples.{image}
 
 -- the title of the gateway, which calls
 abbrev pub gate : Text
@@ -26,10 +27,6 @@ gate = codes "GATE"
 -- the title of the archive, which is called
 abbrev pub arch : Text
 arch = codes "ARCH"
-
--- the CT Image Storage SOP class (PS3.4 B.5)
-abbrev pub image : Text
-image = codes "1.2.840.10008.5.1.4.1.1.2"
 
 -- the archive's site: it takes images from the gateway in both syntaxes, explicit first, and from
 -- anybody in the implicit

@@ -7,7 +7,7 @@ use Rattle.dr_ledger.specs.Bodies.{Bodies}
 use Rattle.dr_ledger.specs.Books.{Book}
 use Rattle.dr_ledger.specs.declared.item.Outcome.TheVariants.{Broken}
 use Rattle.dr_ledger.specs.Refusals.{Arms}
-use Rattle.dr_ledger.specs.Replies.{Counts, Dues, IsWaiting, Lasts, Reads, Settles}
+use Rattle.dr_ledger.specs.Replies.{Counts, Dues, IsWaiting, PremiseLasts, Reads, Settles}
 use Rattle.dr_ledger.specs.SiteRoutes.{site_routing}
 use Rattle.dr_session.specs.declared.desk.LedgerDesk.{LedgerDesk}
 use Rattle.dr_session.specs.Desks.{DeskCall, DeskAnswer}

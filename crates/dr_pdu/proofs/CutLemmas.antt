@@ -6,8 +6,8 @@ use Rattle.dr_base.proofs.RunLemmas.{run_append, run_longer}
 use Rattle.dr_pdu.specs.declared.pdu.Pdu.{Pdu}
 use Rattle.dr_pdu.specs.declared.fault.PduFault.{PduFault}
 use Rattle.dr_pdu.specs.declared.fault.PduFault.TheVariants.{More, UnknownType, TooLong, BadItem, BadContextId, Memory, Failed}
-use Rattle.dr_pdu.specs.Grammar.{Begins, IsWhole, Shows}
-use Rattle.dr_pdu.specs.Feeding.{StartsPdu, Units, Feeding, Feeds, Call, Fed, taken_by, taken, given_by, given, shown_by, shown, KeepsNoPdu, Leaves, fresh}
+use Rattle.dr_pdu.specs.Grammar.{Begins, HasWholeBody, Shows}
+use Rattle.dr_pdu.specs.Feeding.{StartsPdu, Units, Feeding, Feeds, Call, Fed, taken_by, taken, given_by, given, shown_by, shown, KeepsNoPdu, LeavesStream, fresh}
 use Rattle.dr_pdu.proofs.FrontLemmas.{one_spelling, length_of}
 use Rattle.dr_pdu.proofs.FeedLemmas.{excludes}
 
@@ -42,7 +42,7 @@ one_longest limit text (p ∷ ps) (q ∷ qs) a b u v =
 begins_on : (text : List ℕ) (kind len : ℕ) (rest more : List ℕ) → Begins text kind len rest → Begins (text ++ more) kind len (rest ++ more)
 begins_on text kind len rest more b = (b.0, b.1, ap (λ (t : List ℕ). t ++ more) b.2)
 
-whole_on : (limit : ℕ) (text : List ℕ) (kind : ℕ) (body rest more : List ℕ) → IsWhole limit text kind body rest → IsWhole limit (text ++ more) kind body (rest ++ more)
+whole_on : (limit : ℕ) (text : List ℕ) (kind : ℕ) (body rest more : List ℕ) → HasWholeBody limit text kind body rest → HasWholeBody limit (text ++ more) kind body (rest ++ more)
 whole_on limit text kind body rest more w =
     (subst (λ (t : List ℕ). Begins (text ++ more) kind (length body) t) (append_assoc body rest more) (begins_on text kind (length body) (body ++ rest) more w.0), w.1)
 
@@ -78,7 +78,7 @@ abbrev Nothing : ℕ → List ℕ → Type 0
 Nothing limit text = (p : Pdu) (after : List ℕ) → StartsPdu limit text p after → ⊥
 
 abbrev Cut : ℕ → List ℕ → List Pdu → List PduFault → Feeding → Type 0
-Cut limit text pdus faults new = (rest : List ℕ) × Units limit text pdus rest × Leaves limit faults new rest
+Cut limit text pdus faults new = (rest : List ℕ) × Units limit text pdus rest × LeavesStream limit faults new rest
 
 -- a fault that the feeder answers ends the list
 ended : (limit : ℕ) (kept piece : List ℕ) (mid : Feeding) (xs : List Call) (new : Feeding) (fault : PduFault) → fault ≢ More → fault ≢ Memory → Shows limit (kept ++ piece) fault → mid.failed ≡ true → Fed mid xs new
@@ -115,10 +115,10 @@ cuts limit old (x ∷ xs) new l f none h = by_answer (λ old' l' f' none' h'. cu
     by_answer later piece (Err BadItem) s = failing piece BadItem (λ e. cc) (λ e. cc) s.1 s.2
     by_answer later piece (Err BadContextId) s = failing piece BadContextId (λ e. cc) (λ e. cc) s.1 s.2
 
-pub cuts_of_a_stream : (limit : ℕ) (xs : List Call) (new : Feeding) → Fed (fresh limit) xs new → (rest : List ℕ) × Units limit (taken xs) (given xs) rest × Leaves limit (shown xs) new rest
+pub cuts_of_a_stream : (limit : ℕ) (xs : List Call) (new : Feeding) → Fed (fresh limit) xs new → (rest : List ℕ) × Units limit (taken xs) (given xs) rest × LeavesStream limit (shown xs) new rest
 cuts_of_a_stream limit xs new h = cuts limit (fresh limit) xs new refl refl (starts_nothing limit) h
 
-pub cuts_midstream : (old : Feeding) (xs : List Call) (new : Feeding) → old.failed ≡ false → KeepsNoPdu old → Fed old xs new → (rest : List ℕ) × Units old.limit (old.kept ++ taken xs) (given xs) rest × Leaves old.limit (shown xs) new rest
+pub cuts_midstream : (old : Feeding) (xs : List Call) (new : Feeding) → old.failed ≡ false → KeepsNoPdu old → Fed old xs new → (rest : List ℕ) × Units old.limit (old.kept ++ taken xs) (given xs) rest × LeavesStream old.limit (shown xs) new rest
 cuts_midstream old xs new f none h = cuts old.limit old xs new refl f none h
 
 -- ---- what no call changes

@@ -10,7 +10,7 @@ use Rattle.dr_pdu.specs.declared.pdu.ContextAnswer.{ContextAnswer}
 use Rattle.dr_pdu.specs.declared.fault.PduFault.{PduFault}
 use Rattle.dr_pdu.specs.declared.fault.PduFault.TheVariants.{More, UnknownType, TooLong, BadItem, BadContextId, Memory, Failed}
 use Rattle.dr_pdu.specs.Reads.{Refuses}
-use Rattle.dr_pdu.specs.Grammar.{Begins, header_fault, IsWhole, IsBody, IsAssociation, IsProposal, IsAnswer, HasContextIds, Spells, Shows}
+use Rattle.dr_pdu.specs.Grammar.{Begins, header_fault, HasWholeBody, IsBody, IsAssociation, IsProposal, IsAnswer, HasContextIds, Spells, Shows}
 use Rattle.dr_pdu.proofs.Bytes.{IsBytes, four_bytes}
 
 pub front6 : (text : List ℕ) → 6 ≤ length text → text ≡ get_or text 0 0 ∷ get_or text 1 0 ∷ get_or text 2 0 ∷ get_or text 3 0 ∷ get_or text 4 0 ∷ get_or text 5 0 ∷ drop 6 text
@@ -45,13 +45,13 @@ header_shows limit text kind len rest b BadContextId e = absurd (grind arith)
 header_shows limit text kind len rest b Failed e = absurd (grind arith)
 
 -- a header with its body
-pub whole : (limit : ℕ) (text : List ℕ) (kind len : ℕ) (rest : List ℕ) → Begins text kind len rest → header_fault limit kind len ≡ None → len ≤ length rest → IsWhole limit text kind (take len rest) (drop len rest)
+pub whole : (limit : ℕ) (text : List ℕ) (kind len : ℕ) (rest : List ℕ) → Begins text kind len rest → header_fault limit kind len ≡ None → len ≤ length rest → HasWholeBody limit text kind (take len rest) (drop len rest)
 whole limit text kind len rest b ok fits =
     let n : length (take len rest) ≡ len = length-take-le len rest fits in
     let onward : Begins text kind (length (take len rest)) (take len rest ++ drop len rest) = (b.0, omega (arith, n, b.1), b.2 ∙ ap (λ (m : ℕ). kind ∷ b.0 ∷ (to_be_bytes w32 m ++ rest)) (sym n) ∙ ap (λ (t : List ℕ). kind ∷ b.0 ∷ (to_be_bytes w32 (length (take len rest)) ++ t)) (sym (take-append-drop len rest))) in
     (onward, ap (header_fault limit kind) n ∙ ok)
 
-pub body_refused : (limit : ℕ) (text : List ℕ) (kind : ℕ) (body rest : List ℕ) → IsWhole limit text kind body rest → (fault : PduFault) → Refuses fault (IsBody kind body) → Shows limit text fault
+pub body_refused : (limit : ℕ) (text : List ℕ) (kind : ℕ) (body rest : List ℕ) → HasWholeBody limit text kind body rest → (fault : PduFault) → Refuses fault (IsBody kind body) → Shows limit text fault
 body_refused limit text kind body rest w BadItem none = inr (kind, body, rest, w, none)
 body_refused limit text kind body rest w Memory none = tt
 body_refused limit text kind body rest w More none = absurd none
@@ -61,7 +61,7 @@ body_refused limit text kind body rest w BadContextId none = absurd none
 body_refused limit text kind body rest w Failed none = absurd none
 
 -- a whole PDU in front of a text is a spelling, and then the rest
-pub spelled : (limit : ℕ) (text : List ℕ) (kind : ℕ) (body rest : List ℕ) (p : Pdu) → IsWhole limit text kind body rest → IsBody kind body p → HasContextIds p
+pub spelled : (limit : ℕ) (text : List ℕ) (kind : ℕ) (body rest : List ℕ) (p : Pdu) → HasWholeBody limit text kind body rest → IsBody kind body p → HasContextIds p
     → (spelling after : List ℕ) × (text ≡ spelling ++ after) × (length spelling ≡ length body + 6) × Spells limit spelling p
 spelled limit text kind body rest p w is ids =
     let front = kind ∷ w.0.0 ∷ (to_be_bytes w32 (length body) ++ body) in

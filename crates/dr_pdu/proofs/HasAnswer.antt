@@ -17,7 +17,7 @@ use Rattle.dr_pdu.specs.declared.fault.PduFault.{PduFault}
 use Rattle.dr_pdu.specs.declared.fault.PduFault.TheVariants.{More, BadItem, BadContextId, Memory}
 use Rattle.dr_base.specs.Padding.{unpadded, trimmed}
 use Rattle.dr_pdu.specs.Items.{Item, AreItems, StartsPdv, bodies, first_body}
-use Rattle.dr_pdu.specs.Grammar.{Each, IsProposal, IsAnswer, IsFront, IsGreatestLength, IsAssociation, IsBody, AreContextIds, HasContextIds, header_fault, Begins, IsWhole, Decodes}
+use Rattle.dr_pdu.specs.Grammar.{Each, IsProposal, IsAnswer, IsFront, IsGreatestLength, IsAssociation, IsBody, AreContextIds, HasContextIds, header_fault, Begins, HasWholeBody, Decodes}
 use Rattle.dr_pdu.proofs.Bytes.{IsBytes, four_bytes, front4}
 use Rattle.dr_pdu.proofs.DecodeLemmas.{begins, header_shows, whole, spelled, request_of, acceptance_of}
 use Rattle.dr_pdu.proofs.FrontTexts.{front_read, front_is_long}
@@ -257,11 +257,11 @@ Answered limit text = (r : Result (Pdu × ℕ) PduFault) × (r ≢ Err Memory) �
 pub has_answer : (limit : ℕ) (text : List ℕ) → AllByRecursion (λ (b : ℕ). b < 256) text → Answered limit text
 has_answer limit text h = by_length (bytes_of text h) (cases_lt (length text) 6)
   where
-    by_ids : (kind : ℕ) (body after : List ℕ) → IsWhole limit text kind body after → (p : Pdu) → IsBody kind body p → HasContextIds p ⊎ (HasContextIds p → ⊥) → Answered limit text
+    by_ids : (kind : ℕ) (body after : List ℕ) → HasWholeBody limit text kind body after → (p : Pdu) → IsBody kind body p → HasContextIds p ⊎ (HasContextIds p → ⊥) → Answered limit text
     by_ids kind body after w p is (inl ids) = let s = spelled limit text kind body after p w is ids in (Ok (p, length body + 6), (λ e. cc), (s.0, s.1, s.2, s.3, s.4))
     by_ids kind body after w p is (inr bad) = (Err BadContextId, (λ e. cc), (kind, body, after, p, w, is, bad))
 
-    by_body : (kind : ℕ) (body after : List ℕ) → IsWhole limit text kind body after → Found (IsBody kind body) → Answered limit text
+    by_body : (kind : ℕ) (body after : List ℕ) → HasWholeBody limit text kind body after → Found (IsBody kind body) → Answered limit text
     by_body kind body after w (inl (p, is)) = by_ids kind body after w p is (context_ids_found p)
     by_body kind body after w (inr none) = (Err BadItem, (λ e. cc), inr (kind, body, after, w, none))
 

@@ -104,8 +104,8 @@ KeepsNoPdu old = (p : Pdu) (after : List ℕ) → StartsPdu old.limit old.kept p
 
 -- Where calls that answered these faults left the stream. Without one, the rest behind the last
 -- whole PDU is kept; else there was one, which the rest shows, and the feeder has failed.
-abbrev pub Leaves : ℕ → List PduFault → Feeding → List ℕ → Type 0
-Leaves limit faults new rest =
+abbrev pub LeavesStream : ℕ → List PduFault → Feeding → List ℕ → Type 0
+LeavesStream limit faults new rest =
     (faults ≡ []) × (new.failed ≡ false) × (rest ≡ new.kept)
     ⊎ ((fault : PduFault) × (faults ≡ fault ∷ []) × (new.failed ≡ true) × (fault ≢ More)
     × (fault ≢ Memory) × Shows limit rest fault)

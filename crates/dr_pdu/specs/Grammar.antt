@@ -122,15 +122,15 @@ header_fault limit kind len =
     else Some UnknownType
 
 -- the text begins with a header that shows no fault, and with its whole body
-abbrev pub IsWhole : ℕ → List ℕ → ℕ → List ℕ → List ℕ → Type 0
-IsWhole limit text kind body rest =
+abbrev pub HasWholeBody : ℕ → List ℕ → ℕ → List ℕ → List ℕ → Type 0
+HasWholeBody limit text kind body rest =
     Begins text kind (length body) (body ++ rest) × (header_fault limit kind (length body) ≡ None)
 
 -- the text, all of it, is a spelling of the PDU
 abbrev pub Spells : ℕ → List ℕ → Pdu → Type 0
 Spells limit text p =
     (kind : ℕ) × (body : List ℕ)
-    × IsWhole limit text kind body []
+    × HasWholeBody limit text kind body []
     × IsBody kind body p × HasContextIds p
 
 -- The fault that the front of a text shows. Faults of the header show at once, those of the body
@@ -155,11 +155,11 @@ Shows limit text BadItem =
     × Begins text kind len rest
     × (header_fault limit kind len ≡ Some BadItem))
     ⊎ ((kind : ℕ) × (body rest : List ℕ)
-    × IsWhole limit text kind body rest
+    × HasWholeBody limit text kind body rest
     × ((p : Pdu) → IsBody kind body p → ⊥))
 Shows limit text BadContextId =
     (kind : ℕ) × (body rest : List ℕ) × (p : Pdu)
-    × IsWhole limit text kind body rest
+    × HasWholeBody limit text kind body rest
     × IsBody kind body p × (HasContextIds p → ⊥)
 Shows limit text Memory = Unit {0}
 Shows limit text Failed = ⊥

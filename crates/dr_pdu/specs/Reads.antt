@@ -25,5 +25,5 @@ abbrev pub items : List Found → List Item
 items is = map item is
 
 -- the new bytes are the old ones, with more behind them
-abbrev pub GoesOn : List ℕ → List ℕ → Type 0
-GoesOn old new = (more : List ℕ) × (new ≡ old ++ more)
+abbrev pub HasMoreBehind : List ℕ → List ℕ → Type 0
+HasMoreBehind old new = (more : List ℕ) × (new ≡ old ++ more)

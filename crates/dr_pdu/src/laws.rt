@@ -5,7 +5,7 @@ ghost use Rattle.std.specs.Prelude.{length};
 ghost use Rattle.std.specs.List.{flat_map, AllByRecursion};
 ghost use Rattle.dr_pdu.specs.Grammar.{Spells, IsBody, Decodes, Shows};
 ghost use Rattle.dr_pdu.specs.Feeding.{Units, Feeding, Feeds, Call, Fed, taken, given, shown};
-ghost use Rattle.dr_pdu.specs.Feeding.{KeepsNoPdu, Leaves, fresh};
+ghost use Rattle.dr_pdu.specs.Feeding.{KeepsNoPdu, LeavesStream, fresh};
 ghost use Rattle.dr_pdu.specs.Written.{Fits, MeetsLimit, written};
 ghost use Rattle.dr_pdu.specs.declared.fault.PduFault.{PduFault as Fault};
 ghost use Rattle.dr_pdu.specs.declared.fault.PduFault.TheVariants.{More, Memory};
@@ -39,12 +39,12 @@ pub fn cuts_do_not_matter()
         → Fed (fresh limit) calls new
         → (rest : List ℕ)
         × Units limit (taken calls) (given calls) rest
-        × Leaves limit (shown calls) new rest }
+        × LeavesStream limit (shown calls) new rest }
     ensures midstream { (old : Feeding) (calls : List Call) (new : Feeding)
         → old.failed ≡ false → KeepsNoPdu old → Fed old calls new
         → (rest : List ℕ)
         × Units old.limit (old.kept ++ taken calls) (given calls) rest
-        × Leaves old.limit (shown calls) new rest }
+        × LeavesStream old.limit (shown calls) new rest }
     ensures kept { (old : Feeding) (piece : List ℕ) (r : Result (List PduValue) Fault)
         (new : Feeding)
         → Feeds old piece r new → KeepsNoPdu old → KeepsNoPdu new }

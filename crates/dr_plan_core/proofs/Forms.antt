@@ -17,7 +17,7 @@ use Rattle.dr_plan_text.specs.declared.words.AcceptText.{AcceptText}
 use Rattle.dr_plan_text.specs.declared.words.NodeText.{NodeText}
 use Rattle.dr_plan_text.specs.declared.words.FlowText.{FlowText}
 use Rattle.dr_plan_text.specs.declared.words.PlanText.{PlanText}
-use Rattle.dr_plan_text.specs.Fields.{SaysFormed, SaysPattern, SaysNamed, SaysStation, SaysValues, SaysStations, SaysTable, SaysTextsOnce, Lists, IsListOf, IsSomeOf, Given, GivenOr}
+use Rattle.dr_plan_text.specs.Fields.{SaysFormed, SaysPattern, SaysNamed, SaysStation, SaysValues, SaysStations, SaysTable, SaysTextsOnce, ListsValues, IsListOf, IsSomeOf, Given, GivenOr}
 use Rattle.dr_plan_text.specs.Tables.{IsAcceptTable, IsRuleTable, IsNodeTable, IsFlowTable, IsRoot}
 
 pub record RowForm (row : AcceptText) : Type 0 where
@@ -45,7 +45,7 @@ pub record FlowForm (flow : FlowText) : Type 0 where
 abbrev SaysFormedAs : {X : Type 0} → (Data → X → Type 0) → (X → Type 0) → Type 0
 SaysFormedAs {X} Says P = (d : Data) (x : X) → Says d x → P x
 
-each_listed : {X : Type 0} (Says : Data → X → Type 0) (P : X → Type 0) → SaysFormedAs Says P → (items : Items) (xs : List X) → Lists Says items xs → All P xs
+each_listed : {X : Type 0} (Says : Data → X → Type 0) (P : X → Type 0) → SaysFormedAs Says P → (items : Items) (xs : List X) → ListsValues Says items xs → All P xs
 each_listed Says P formed no_items [] h = All-nil P
 each_listed Says P formed no_items (x ∷ xs) h = absurd h
 each_listed Says P formed (item d items) [] h = absurd h

@@ -23,7 +23,7 @@ use Rattle.dr_plan_model.specs.declared.plan.Values.TheVariants as values
 use Rattle.dr_plan_model.specs.declared.plan.Stations.{Stations}
 use Rattle.dr_plan_model.specs.declared.plan.Stations.TheVariants as stations
 use Rattle.dr_plan_model.specs.Networks.{Network}
-use Rattle.dr_plan_model.specs.Walks.{IsListed, IsStationListed, BeginsOne, Fits, IsEntry}
+use Rattle.dr_plan_model.specs.Walks.{IsListed, IsStationListed, BeginsOne, FlowBrings, IsEntry}
 use Rattle.dr_plan_model.specs.declared.literals.Attribute.TheVariants.{Modality, Station, StationPrefix}
 use Rattle.dr_plan_model.specs.Laws.{IsCellOf}
 use Rattle.dr_plan_model.specs.Naming.{listed, listed_stations, listed_prefixes}
@@ -117,7 +117,7 @@ admits_station_from values (station.Prefix prefix) (stations.Listed own) value k
 admits_station_from values station.Rest (stations.Listed own) value known each is (inl one) = absurd (is.0 (known value one))
 admits_station_from values station.Rest (stations.Listed own) value known each is (inr begun) = absurd (is.1 begun.0 (each begun.0 begun.1) begun.2)
 
-pub takes_in : (plan : Network) (flow : Flow) (cell : OwnedCell) (key : Key) → Contains plan.flows flow → LiesIn plan cell key → Fits flow key → TakesIn flow cell
+pub takes_in : (plan : Network) (flow : Flow) (cell : OwnedCell) (key : Key) → Contains plan.flows flow → LiesIn plan cell key → FlowBrings flow key → TakesIn flow cell
 takes_in plan flow cell key has lies fit = record {
   class = let P : Text → Type 0 = λ t. Contains flow.classes t in subst P (sym lies.class) fit.class;
   syntax = let P : Syntax → Type 0 = λ s. Contains flow.syntaxes s in subst P (sym lies.syntax) fit.syntax;

@@ -12,7 +12,7 @@ use Rattle.dr_plan_model.proofs.WalksAlike.{all_from_each}
 use Rattle.dr_plan_entries.specs.Entering.{AllBelow, SomeTakes, TakesIn}
 use Rattle.dr_plan_entries.specs.InOrder.{IsLess, ComesBefore, IsInPrintedOrder}
 use Rattle.dr_plan_entries.proofs.Orders.{stands_before}
-use Rattle.dr_plan_entries.specs.Visiting.{GoesOn, AfterVisits, AfterVisit, IsThis}
+use Rattle.dr_plan_entries.specs.Visiting.{VisitorGoesOn, AfterVisits, AfterVisit, IsThis}
 
 -- where no flow is left, nothing is wanted
 pub none_takes : (flows : List Flow) (among : List ℕ) (cell : OwnedCell) → among ≡ [] → SomeTakes flows among cell → ⊥
@@ -46,7 +46,7 @@ picked_below flows among found S picks below = all_from_each (λ k. k < length f
 
 module _ {V F : Type 0} (plan : V → Network) (ready : V → Type 0) (visited : V → Text → OwnedCell → Type 0) (shows : V → F → Text → OwnedCell → Type 0) where
   abbrev Went : (Text → OwnedCell → Type 0) → V → V → Type 0
-  Went Wanted old new = GoesOn plan ready visited shows Wanted old new
+  Went Wanted old new = VisitorGoesOn plan ready visited shows Wanted old new
 
   abbrev After : (Text → OwnedCell → Type 0) → V → V → Option F → Type 0
   After Wanted old new found = AfterVisits plan ready visited shows Wanted old new found

@@ -10,7 +10,7 @@ use Rattle.dr_plan_entries.specs.InOrder.{ComesBefore}
 
 -- A visitor that goes on has the same plan, can go on, has forgotten no visit, and has visited what
 -- was wanted; what it will show would have been shown before.
-pub record GoesOn {V F : Type 0} (plan : V → Network) (ready : V → Type 0)
+pub record VisitorGoesOn {V F : Type 0} (plan : V → Network) (ready : V → Type 0)
     (visited : V → Text → OwnedCell → Type 0) (shows : V → F → Text → OwnedCell → Type 0)
     (Wanted : Text → OwnedCell → Type 0) (old new : V) : Type 0 where
   pub same_plan : plan new ≡ plan old
@@ -30,8 +30,8 @@ pub record FindsAt {V F : Type 0} (plan : V → Network) (ready : V → Type 0)
   pub cell : OwnedCell
   pub wanted : Wanted site cell
   pub there : V
-  pub earlier :
-      GoesOn plan ready visited shows (λ s c. Wanted s c × ComesBefore s c site cell) old there
+  pub earlier : VisitorGoesOn plan ready visited shows
+      (λ s c. Wanted s c × ComesBefore s c site cell) old there
   pub shown : shows there finding site cell
 
 -- after visits: all entries that were wanted have been visited, or something is found at the first
@@ -42,7 +42,7 @@ abbrev pub AfterVisits : {V F : Type 0} → (V → Network) → (V → Type 0)
     → (Text → OwnedCell → Type 0)
     → V → V → Option F → Type 0
 AfterVisits plan ready visited shows Wanted old new None =
-    GoesOn plan ready visited shows Wanted old new
+    VisitorGoesOn plan ready visited shows Wanted old new
 AfterVisits plan ready visited shows Wanted old new (Some finding) =
     FindsAt plan ready visited shows Wanted old finding
 
@@ -56,7 +56,7 @@ abbrev pub AfterVisit : {V F : Type 0} → (V → Network) → (V → Type 0)
     → (V → F → Text → OwnedCell → Type 0)
     → Text → OwnedCell → V → V → Option F → Type 0
 AfterVisit plan ready visited shows site cell old new None =
-    GoesOn plan ready visited shows (IsThis site cell) old new
+    VisitorGoesOn plan ready visited shows (IsThis site cell) old new
 AfterVisit plan ready visited shows site cell old new (Some finding) = shows old finding site cell
 
 -- an entry of a plan by its cell: some key of the cell enters at the site

@@ -5,14 +5,14 @@ use Rattle.std.proofs.lemmas.List.Elements.{Contains-push, Contains-push_cases, 
 use Rattle.dr_base.specs.Texts.{Text}
 use Rattle.dr_route.specs.declared.key.Key.{Key}
 use Rattle.dr_plan_model.specs.declared.plan.Flow.{Flow}
-use Rattle.dr_plan_model.specs.Walks.{FlowsAmong, Fits}
+use Rattle.dr_plan_model.specs.Walks.{FlowsAmong, FlowBrings}
 use Rattle.dr_plan_model.proofs.Gathered.{only_one}
 
 later : (flows : List Flow) (flow : Flow) (site : Text) (key : Key) (name : Text) → FlowsAmong flows site key name → FlowsAmong (flows ++ flow ∷ []) site key name
 later flows flow site key name f = (f.0, Contains-append_left flows (flow ∷ []) f.0 f.1, f.2, f.3, f.4)
 
 -- a flow that enters names its node
-pub flow_added : (flows : List Flow) (flow : Flow) (site : Text) (key : Key) (s n : Text → Type 0) → (flow.at ≡ site) × Fits flow key →
+pub flow_added : (flows : List Flow) (flow : Flow) (site : Text) (key : Key) (s n : Text → Type 0) → (flow.at ≡ site) × FlowBrings flow key →
     ((name : Text) → s name ↔ FlowsAmong flows site key name) → ((name : Text) → n name ↔ (s name ⊎ Contains (flow.to ∷ []) name)) →
     (name : Text) → n name ↔ FlowsAmong (flows ++ flow ∷ []) site key name
 flow_added flows flow site key s n enters so_far added name = (
@@ -27,7 +27,7 @@ flow_added flows flow site key s n enters so_far added name = (
 )
 
 -- a flow that doesn't enter names none
-pub flow_passed_over : (flows : List Flow) (flow : Flow) (site : Text) (key : Key) (s : Text → Type 0) → ((flow.at ≡ site) × Fits flow key → ⊥) →
+pub flow_passed_over : (flows : List Flow) (flow : Flow) (site : Text) (key : Key) (s : Text → Type 0) → ((flow.at ≡ site) × FlowBrings flow key → ⊥) →
     ((name : Text) → s name ↔ FlowsAmong flows site key name) → (name : Text) → s name ↔ FlowsAmong (flows ++ flow ∷ []) site key name
 flow_passed_over flows flow site key s fails so_far name = (
   λ had. later flows flow site key name ((so_far name).0 had),

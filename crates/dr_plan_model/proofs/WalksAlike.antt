@@ -36,7 +36,7 @@ use Rattle.dr_plan_model.specs.Networks.{Network}
 use Rattle.dr_plan_model.specs.Formed.{IsLiteral, IsPrefix, HasStationForm, AreStations, IsInFormat, IsKnownName, IsWellFormedNode, IsWellFormedFlow, IsRuleOf, AreLiterals, HasForm}
 use Rattle.dr_plan_model.specs.Naming.{literal_of, station_of, prefix_of, listed, listed_stations, listed_prefixes, named_by_rule, named_by_flow, named_by_rules, named_by_flows}
 use Rattle.dr_plan_model.specs.Plans.{IsWellFormed, IsNode, named_in, stations_of, prefixes_of, literals_of, LiesIn}
-use Rattle.dr_plan_model.specs.Walks.{IsListed, IsStationListed, Fits, Flows, Sends, Keeps, IsWalk, IsEntry, IsReached}
+use Rattle.dr_plan_model.specs.Walks.{IsListed, IsStationListed, FlowBrings, Flows, Sends, Keeps, IsWalk, IsEntry, IsReached}
 use Rattle.dr_plan_model.specs.Laws.{IsCellOf, InPlainField}
 use Rattle.dr_plan_model.proofs.Gathered.{Contains-flat_map, Contains-here, Contains-there, Contains-flat_map_from, nothing_in_nil, only_one}
 
@@ -113,7 +113,7 @@ stations_listed_alike values part (stations.Listed own) v w known each a b (inl 
 stations_listed_alike values part (stations.Listed own) v w known each a b (inr begun) =
     inr (begun.0, begun.1, prefix_agrees values part begun.0 v w (each begun.0 begun.1) a b begun.2)
 
-pub fits_alike : (plan : Network) (cell : OwnedCell) (k l : Key) → LiesIn plan cell k → LiesIn plan cell l → (flow : Flow) → Contains plan.flows flow → Fits flow k → Fits flow l
+pub fits_alike : (plan : Network) (cell : OwnedCell) (k l : Key) → LiesIn plan cell k → LiesIn plan cell l → (flow : Flow) → Contains plan.flows flow → FlowBrings flow k → FlowBrings flow l
 fits_alike plan cell k l a b flow has_flow fit = record {
   class = let P : Text → Type 0 = λ t. Contains flow.classes t in subst P (sym a.class ∙ b.class) fit.class;
   syntax = let P : Syntax → Type 0 = λ t. Contains flow.syntaxes t in subst P (sym a.syntax ∙ b.syntax) fit.syntax;

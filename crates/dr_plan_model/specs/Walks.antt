@@ -31,7 +31,7 @@ IsStationListed (stations.Listed values) value =
 
 -- the flow brings the key: its class, transfer syntax, modality and station are ones that the flow
 -- speaks of
-pub record Fits (flow : Flow) (key : Key) : Type 0 where
+pub record FlowBrings (flow : Flow) (key : Key) : Type 0 where
   pub class : Contains flow.classes key.class
   pub syntax : Contains flow.syntaxes key.syntax
   pub modality : IsListed flow.modalities key.modality
@@ -40,7 +40,7 @@ pub record Fits (flow : Flow) (key : Key) : Type 0 where
 -- some flow of the list, at the site and to that node, fits the key
 abbrev pub FlowsAmong : List Flow → Text → Key → Text → Type 0
 FlowsAmong flows site key to =
-    (flow : Flow) × Contains flows flow × (flow.at ≡ site) × (flow.to ≡ to) × Fits flow key
+    (flow : Flow) × Contains flows flow × (flow.at ≡ site) × (flow.to ≡ to) × FlowBrings flow key
 
 -- some flow of the plan, at the site and to that node, fits the key
 abbrev pub Flows : Network → Text → Key → Text → Type 0

@@ -5,7 +5,8 @@ ghost use Rattle.dr_base.specs.Texts.{Text as Words, IsInByteOrder};
 ghost use Rattle.dr_route.specs.Names.{HasName};
 ghost use Rattle.dr_plan_model.specs.Naming.{listed, listed_stations};
 ghost use Rattle.dr_plan_model.specs.Listings.{IsListedBy, AreListedBy};
-ghost use Rattle.dr_plan_model.specs.Walks.{Fits, IsListed, IsStationListed, Flows, FlowsAmong};
+ghost use Rattle.dr_plan_model.specs.Walks.{FlowBrings, IsListed, IsStationListed, Flows};
+ghost use Rattle.dr_plan_model.specs.Walks.{FlowsAmong};
 
 use crate::listed::Listed;
 use crate::plan::{Flow, Plan, Stations, Values};
@@ -46,7 +47,7 @@ fn is_station_listed_in(stations: &Stations, set: &[Text], value: &Text) -> bool
 /// Whether the flow fits the key, as `sending::fits` says it, by what the flow lists.
 fn fits_by(flow: &Flow, listed: &Listed, key: &Key) -> bool
     requires { IsListedBy flow.now listed.now }
-    ensures { IsTrue result ↔ Fits flow.now key.now }
+    ensures { IsTrue result ↔ FlowBrings flow.now key.now }
 {
     flow.syntaxes.as_slice().contains(&key.syntax)
         && flow.classes.as_slice().contains(&key.class)
@@ -67,9 +68,10 @@ fn brings_to_another(
     key: &Key,
 ) -> bool
     requires { IsListedBy flow.now listed.now }
-    ensures another { IsTrue result → (flow.now.at ≡ site.now) × Fits flow.now key.now }
+    ensures another { IsTrue result → (flow.now.at ≡ site.now) × FlowBrings flow.now key.now }
     ensures none { result ≡ false
-        → HasName names.now flow.now.to ⊎ ((flow.now.at ≡ site.now) × Fits flow.now key.now → ⊥) }
+        → HasName names.now flow.now.to
+        ⊎ ((flow.now.at ≡ site.now) × FlowBrings flow.now key.now → ⊥) }
 {
     !has_name(names, &flow.to) && flow.at == *site && fits_by(flow, listed, key)
 }

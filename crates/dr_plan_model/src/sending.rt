@@ -2,7 +2,8 @@
 ghost use Rattle.std.specs.Prelude.{◌≡◌, ◌↔◌, ◌⊎◌, IsTrue, IfOk, OnOk, Contains, false};
 ghost use Rattle.dr_base.specs.Texts.{Text as Words, IsInByteOrder};
 ghost use Rattle.dr_route.specs.Names.{HasName};
-ghost use Rattle.dr_plan_model.specs.Walks.{Fits, IsListed, IsStationListed, BeginsOne, FlowsAmong};
+ghost use Rattle.dr_plan_model.specs.Walks.{FlowBrings, IsListed, IsStationListed, BeginsOne};
+ghost use Rattle.dr_plan_model.specs.Walks.{FlowsAmong};
 ghost use Rattle.dr_plan_model.specs.Walks.{Sends, Keeps, Accepts};
 
 use crate::entering::first_targets;
@@ -53,7 +54,7 @@ fn is_station_listed(stations: &Stations, value: &Text) -> bool
 /// Whether the flow fits the key: its class and transfer syntax are in the flow's lists, and so are
 /// its modality and station where the flow has lists for them.
 pub fn fits(flow: &Flow, key: &Key) -> bool
-    ensures { IsTrue result ↔ Fits flow.now key.now }
+    ensures { IsTrue result ↔ FlowBrings flow.now key.now }
 {
     flow.syntaxes.as_slice().contains(&key.syntax)
         && flow.classes.as_slice().contains(&key.class)
@@ -63,16 +64,17 @@ pub fn fits(flow: &Flow, key: &Key) -> bool
 
 /// Whether the flow brings the key in at the site.
 fn enters(flow: &Flow, site: &Text, key: &Key) -> bool
-    ensures { IsTrue result ↔ ((flow.now.at ≡ site.now) × Fits flow.now key.now) }
+    ensures { IsTrue result ↔ ((flow.now.at ≡ site.now) × FlowBrings flow.now key.now) }
 {
     flow.at == *site && fits(flow, key)
 }
 
 /// Whether the flow brings the key in at the site, and to a node that isn't among the names.
 fn names_another(names: &BTreeSet<Text>, flow: &Flow, site: &Text, key: &Key) -> bool
-    ensures another { IsTrue result → (flow.now.at ≡ site.now) × Fits flow.now key.now }
+    ensures another { IsTrue result → (flow.now.at ≡ site.now) × FlowBrings flow.now key.now }
     ensures none { result ≡ false
-        → HasName names.now flow.now.to ⊎ ((flow.now.at ≡ site.now) × Fits flow.now key.now → ⊥) }
+        → HasName names.now flow.now.to
+        ⊎ ((flow.now.at ≡ site.now) × FlowBrings flow.now key.now → ⊥) }
 {
     !has_name(names, &flow.to) && enters(flow, site, key)
 }

@@ -14,7 +14,7 @@ use Rattle.std.proofs.lemmas.Bool.{false≢true}
 use Rattle.std.proofs.lemmas.Option.{none-some, same_Some}
 use Rattle.toml.specs.Data.{Data, Items, no_items, item, Members, get_item, get_member, table, as_table}
 use Rattle.dr_base.specs.Texts.{Text}
-use Rattle.dr_plan_text.specs.Fields.{GivenOr, IsListOf, Lists, SaysTable}
+use Rattle.dr_plan_text.specs.Fields.{GivenOr, IsListOf, ListsValues, SaysTable}
 use Rattle.dr_plan_text.specs.Tables.{IsAcceptTable, IsFlowTable, IsNodeTable, IsRoot, IsRuleTable, IsFormat}
 use Rattle.dr_plan_text.specs.declared.words.NodeText.{NodeText}
 use Rattle.dr_plan_text.specs.declared.words.PlanText.{PlanText}
@@ -43,7 +43,7 @@ module _ {X : Type 0} (IsTable : Members → X → Type 0) where
       subst (λ (m : Members). IsTable m x) (same_Some members row here) is
 
   -- each table of an array of tables of the form says one of the values
-  listed : (items : Items) (xs : List X) (i : ℕ) (row : Members) → Lists (SaysTable IsTable) items xs → table_in (get_item i items) ≡ Some row → (x : X) × IsTable row x × Contains xs x
+  listed : (items : Items) (xs : List X) (i : ℕ) (row : Members) → ListsValues (SaysTable IsTable) items xs → table_in (get_item i items) ≡ Some row → (x : X) × IsTable row x × Contains xs x
   listed no_items xs i row lists at = absurd (none-some row at)
   listed (item d items) [] i row lists at = absurd lists
   listed (item d items) (x ∷ xs) zero row lists at = (x, said d x row lists.0 at, Contains-here x xs)

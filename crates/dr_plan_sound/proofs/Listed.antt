@@ -23,7 +23,7 @@ use Rattle.dr_plan_model.specs.declared.plan.Values.TheVariants as values
 use Rattle.dr_plan_model.specs.declared.plan.Stations.{Stations}
 use Rattle.dr_plan_model.specs.declared.plan.Stations.TheVariants as stations
 use Rattle.dr_plan_model.specs.Networks.{Network}
-use Rattle.dr_plan_model.specs.Walks.{IsListed, IsStationListed, BeginsOne, Fits, FlowsAmong, Sends}
+use Rattle.dr_plan_model.specs.Walks.{IsListed, IsStationListed, BeginsOne, FlowBrings, FlowsAmong, Sends}
 use Rattle.dr_plan_model.proofs.Gathered.{nothing_in_nil, only_one, Contains-cons_cases, Contains-there, Contains-here}
 
 -- it holds or it doesn't
@@ -114,7 +114,7 @@ is_station_listed : (list : Stations) (value : Text) → Decided (IsStationListe
 is_station_listed stations.Any value = inl tt
 is_station_listed (stations.Listed values) value = either (among same_text values.literals value) (begins_one values.prefixes value)
 
-fits : (flow : Flow) (key : Key) → Decided (Fits flow key)
+fits : (flow : Flow) (key : Key) → Decided (FlowBrings flow key)
 fits flow key = decided_by
     (λ h. record { class = h.0; syntax = h.1.0; modality = h.1.1.0; station = h.1.1.1 })
     (λ h. (h.class, (h.syntax, (h.modality, h.station))))
@@ -166,14 +166,14 @@ by_rules : (rules : List Rule) (caller : Text) (key : Key) → Listing (SendsBy 
 by_rules [] caller key = none_listed (λ t h. h)
 by_rules (rule ∷ rules) caller key = either_listed (where_listed (holds rule caller key) (members rule.to)) (by_rules rules caller key)
 
-by_flow : (site : Text) (key : Key) (flow : Flow) → Listing (λ to. (flow.at ≡ site) × (flow.to ≡ to) × Fits flow key)
+by_flow : (site : Text) (key : Key) (flow : Flow) → Listing (λ to. (flow.at ≡ site) × (flow.to ≡ to) × FlowBrings flow key)
 by_flow site key flow =
     let listed = where_listed (both (same_text flow.at site) (fits flow key)) (one flow.to) in
     (listed.0, λ t. (λ h. (listed.1 t).0 ((h.0, h.2), h.1), λ h. let x = (listed.1 t).1 h in (x.0.0, x.1, x.0.1)))
 
 by_flows : (flows : List Flow) (site : Text) (key : Key) → Listing (FlowsAmong flows site key)
 by_flows flows site key =
-    let all = some_listed (λ (flow : Flow) (to : Text). (flow.at ≡ site) × (flow.to ≡ to) × Fits flow key) (by_flow site key) flows in
+    let all = some_listed (λ (flow : Flow) (to : Text). (flow.at ≡ site) × (flow.to ≡ to) × FlowBrings flow key) (by_flow site key) flows in
     (all.0, λ t. (λ h. (all.1 t).0 (h.0, h.1, (h.2, h.3, h.4)), λ h. let x = (all.1 t).1 h in (x.0, x.1, x.2.0, x.2.1, x.2.2)))
 
 by_node : (name caller : Text) (key : Key) (node : Node) → Listing (λ to. (node.name ≡ name) × SendsBy node.rules caller key to)

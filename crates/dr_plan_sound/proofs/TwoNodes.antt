@@ -12,7 +12,7 @@ use Rattle.dr_route.specs.declared.rule.Rule.{Rule}
 use Rattle.dr_plan_model.specs.declared.plan.Node.{Node}
 use Rattle.dr_plan_model.specs.declared.plan.Flow.{Flow}
 use Rattle.dr_plan_model.specs.Plans.{IsNode}
-use Rattle.dr_plan_model.specs.Walks.{Fits, Flows, Sends, Keeps, Accepts, IsWalk, places, last_place, IsEntry, IsReached, Goes}
+use Rattle.dr_plan_model.specs.Walks.{FlowBrings, Flows, Sends, Keeps, Accepts, IsWalk, places, last_place, IsEntry, IsReached, Goes}
 use Rattle.dr_plan_model.proofs.Gathered.{only_one, nothing_in_nil, Contains-here, Contains-there, Contains-cons_cases}
 use Rattle.dr_plan_sound.specs.Soundness.{IsSound}
 use Rattle.dr_plan_sound.specs.Samples.{scanner, archive, image, keep_all, the_scanner, the_archive, the_flow, two_nodes}
@@ -25,7 +25,7 @@ IsImage key = (key.class ≡ image) × (key.syntax ≡ Explicit)
 flow_only : (site : Text) (key : Key) (to : Text) → Flows (two_nodes []) site key to → (site ≡ scanner) × (to ≡ archive) × IsImage key
 flow_only site key to f =
     let same : the_flow ≡ f.0 = only_one the_flow f.0 f.1 in
-    let Q : Flow → Type 0 = λ x. (x.at ≡ site) × (x.to ≡ to) × Fits x key in
+    let Q : Flow → Type 0 = λ x. (x.at ≡ site) × (x.to ≡ to) × FlowBrings x key in
     let g : Q the_flow = subst Q (sym same) (f.2, f.3, f.4) in
     (sym g.0, sym g.1, (sym (only_one image key.class g.2.class), sym (only_one Explicit key.syntax g.2.syntax)))
 

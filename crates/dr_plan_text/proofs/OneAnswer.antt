@@ -8,7 +8,7 @@ use Rattle.dr_route.specs.declared.accept.Callers.TheVariants as callers
 use Rattle.dr_plan_model.specs.declared.plan.Values.{Values}
 use Rattle.dr_plan_model.specs.declared.plan.Values.TheVariants as values
 use Rattle.dr_plan_model.specs.Formed.{IsLiteral}
-use Rattle.dr_plan_text.specs.Fields.{SaysText, SaysFormed, SaysValues, SaysCallers, Lists, IsListOf, IsSomeOf, Given, star}
+use Rattle.dr_plan_text.specs.Fields.{SaysText, SaysFormed, SaysValues, SaysCallers, ListsValues, IsListOf, IsSomeOf, Given, star}
 
 -- what a value says, it alone says
 abbrev pub SaysOne : {X : Type 0} → (Data → X → Type 0) → Type 0
@@ -20,7 +20,7 @@ SaysText-one d x y a b = let same : string x ≡ string y = sym a ∙ b in cc
 pub SaysFormed-one : (IsFormed : Text → Type 0) → SaysOne (SaysFormed IsFormed)
 SaysFormed-one IsFormed d x y a b = SaysText-one d x y a.0 b.0
 
-pub Lists-one : {X : Type 0} (Says : Data → X → Type 0) → SaysOne Says → (items : Items) (xs ys : List X) → Lists Says items xs → Lists Says items ys → xs ≡ ys
+pub Lists-one : {X : Type 0} (Says : Data → X → Type 0) → SaysOne Says → (items : Items) (xs ys : List X) → ListsValues Says items xs → ListsValues Says items ys → xs ≡ ys
 Lists-one Says one no_items [] [] a b = refl
 Lists-one Says one no_items [] (y ∷ ys) a b = absurd b
 Lists-one Says one no_items (x ∷ xs) ys a b = absurd a
@@ -55,7 +55,7 @@ is_nil [] e = refl
 is_nil (x ∷ xs) e = absurd (let n : length (x ∷ xs) ≡ 0 = grind (arith, nat_tests) in omega arith)
 
 -- an array that says no values says none in any way
-none_listed : {X : Type 0} (Says : Data → X → Type 0) (items : Items) (xs : List X) → Lists Says items [] → Lists Says items xs → xs ≡ []
+none_listed : {X : Type 0} (Says : Data → X → Type 0) (items : Items) (xs : List X) → ListsValues Says items [] → ListsValues Says items xs → xs ≡ []
 none_listed Says no_items [] a b = refl
 none_listed Says no_items (x ∷ xs) a b = absurd b
 none_listed Says (item d items) xs a b = absurd a
@@ -64,7 +64,7 @@ pub none_said : {X : Type 0} (Says : Data → X → Type 0) (d : Data) (xs ys : 
 none_said Says d xs ys a e b =
     let same : array a.0 ≡ array b.0.0 = sym a.1 ∙ b.0.1 in
     let items : a.0 ≡ b.0.0 = cc in
-    let none : Lists Says b.0.0 [] = rw (items, is_nil xs e) at a.2 in
+    let none : ListsValues Says b.0.0 [] = rw (items, is_nil xs e) at a.2 in
     b.1 (none_listed Says b.0.0 ys none b.0.2)
 
 pub IsSomeOf-one : {X : Type 0} (Says : Data → X → Type 0) → SaysOne Says → SaysOne (IsSomeOf Says)

@@ -11,7 +11,7 @@ use Rattle.std.proofs.lemmas.List.Elements.{Contains-push_cases, Contains-push, 
 use Rattle.std.proofs.lemmas.List.Quantifiers.{all_pairs_push}
 use Rattle.dr_base.specs.Texts.{Text}
 use Rattle.dr_route.specs.Names.{HasName}
-use Rattle.dr_route.specs.Names.{Adds}
+use Rattle.dr_route.specs.Names.{AddsName}
 use Rattle.dr_route.proofs.NameSets.{adds}
 
 -- the set has these texts, and none of them stands there twice
@@ -39,7 +39,7 @@ is_true false e = cc
 pub seen_more : (seen new : BTreeSet Text) (done : List Text) (t : Text) → Seen seen done → Updates (slice_cmp nat_cmp) seen new t true →
     true ≡ not (contains (slice_cmp nat_cmp) seen t) → Seen new (done ++ t ∷ [])
 seen_more seen new done t so_far updates fresh =
-    let a : Adds seen new t = adds seen new t updates in
+    let a : AddsName seen new t = adds seen new t updates in
     record {
       same = λ s. (
         λ had. elim (a.only s had) [

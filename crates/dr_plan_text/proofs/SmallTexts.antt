@@ -16,7 +16,7 @@ use Rattle.dr_plan_model.proofs.Gathered.{Contains-cons_cases, only_one}
 use Rattle.dr_plan_text.specs.declared.words.NodeText.{NodeText}
 use Rattle.dr_plan_text.specs.declared.words.FlowText.{FlowText}
 use Rattle.dr_plan_text.specs.declared.words.PlanText.{PlanText}
-use Rattle.dr_plan_text.specs.Fields.{SaysTable, Lists, IsListOf, GivenOr, HasOnly, PatternFits, StationsFit}
+use Rattle.dr_plan_text.specs.Fields.{SaysTable, ListsValues, IsListOf, GivenOr, HasOnly, PatternFits, StationsFit}
 use Rattle.dr_plan_text.proofs.OfStations.{no_format}
 use Rattle.dr_plan_text.proofs.Refusals.{nothing_parsed}
 use Rattle.dr_plan_text.proofs.Ports.{small_port, no_colon}
@@ -125,9 +125,9 @@ other_format = λ plan w.
 
 -- the one node of a text that says one node, if it says any
 the_node : (fields : Members) (nodes : List NodeText) → IsListOf (SaysTable IsNodeTable) (array (item (table fields) no_items)) nodes → (node : NodeText) × IsNodeTable fields node
-the_node fields nodes says = first nodes (let same : item (table fields) no_items ≡ says.0 = (let e = says.1 in cc) in let P : Items → Type 0 = λ items. Lists (SaysTable IsNodeTable) items nodes in subst P (sym same) says.2)
+the_node fields nodes says = first nodes (let same : item (table fields) no_items ≡ says.0 = (let e = says.1 in cc) in let P : Items → Type 0 = λ items. ListsValues (SaysTable IsNodeTable) items nodes in subst P (sym same) says.2)
   where
-    first : (nodes : List NodeText) → Lists (SaysTable IsNodeTable) (item (table fields) no_items) nodes → (node : NodeText) × IsNodeTable fields node
+    first : (nodes : List NodeText) → ListsValues (SaysTable IsNodeTable) (item (table fields) no_items) nodes → (node : NodeText) × IsNodeTable fields node
     first [] h = absurd h
     first (node ∷ nodes) h = (node, (let same : fields ≡ h.0.0 = (let e = h.0.1 in cc) in rw same h.0.2))
 

@@ -42,15 +42,15 @@ SaysFormat d Two = d ≡ integer (pos 2)
 SaysFormat d Three = d ≡ integer (pos 3)
 
 -- the items say these values, one each
-abbrev pub Lists : {X : Type 0} → (Data → X → Type 0) → Items → List X → Type 0
-Lists Says no_items [] = Unit {0}
-Lists Says no_items (x ∷ xs) = ⊥
-Lists Says (item d items) [] = ⊥
-Lists Says (item d items) (x ∷ xs) = Says d x × Lists Says items xs
+abbrev pub ListsValues : {X : Type 0} → (Data → X → Type 0) → Items → List X → Type 0
+ListsValues Says no_items [] = Unit {0}
+ListsValues Says no_items (x ∷ xs) = ⊥
+ListsValues Says (item d items) [] = ⊥
+ListsValues Says (item d items) (x ∷ xs) = Says d x × ListsValues Says items xs
 
 -- an array says what its items say
 abbrev pub IsListOf : {X : Type 0} → (Data → X → Type 0) → Data → List X → Type 0
-IsListOf Says d xs = (items : Items) × (d ≡ array items) × Lists Says items xs
+IsListOf Says d xs = (items : Items) × (d ≡ array items) × ListsValues Says items xs
 
 -- an array of one item or more
 abbrev pub IsSomeOf : {X : Type 0} → (Data → X → Type 0) → Data → List X → Type 0

@@ -3,7 +3,8 @@ ghost use Rattle.std.specs.Prelude.{◌≡◌, option_map, IsSome, IfOk, IfErr, 
 ghost use Rattle.std.specs.Prelude.{Contains, map};
 ghost use Rattle.toml.specs.Data.{Data, Members, get_member};
 ghost use Rattle.toml.specs.View.{view, items_view, table_view};
-ghost use Rattle.dr_plan_text.specs.Fields.{Lists, IsListOf, IsSomeOf, SaysTable, Given, GivenOr};
+ghost use Rattle.dr_plan_text.specs.Fields.{ListsValues, IsListOf, IsSomeOf, SaysTable, Given};
+ghost use Rattle.dr_plan_text.specs.Fields.{GivenOr};
 ghost use Rattle.dr_plan_text.specs.Fields.{HasOnly};
 ghost use Rattle.dr_plan_text.specs.declared.fault.ReadFault.TheVariants.{Field, Memory};
 
@@ -28,9 +29,9 @@ pub trait Form {
 
 /// What the values of an array say, in order.
 fn read_items<F: Form>(alloc: Global, items: &[Value]) -> Result<Seq<F::Output>, ReadFault>
-    ensures ok { IfOk result (Lists F.says (items_view items.now)) }
+    ensures ok { IfOk result (ListsValues F.says (items_view items.now)) }
     ensures field { IfErr result (λ e.
-        e ≡ Field → (xs : List F.Output) → Lists F.says (items_view items.now) xs → ⊥) }
+        e ≡ Field → (xs : List F.Output) → ListsValues F.says (items_view items.now) xs → ⊥) }
 {
     let mut read = Vec::new(alloc);
     for item in items {

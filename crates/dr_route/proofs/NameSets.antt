@@ -11,7 +11,7 @@ use Rattle.std.proofs.lemmas.Bool.{cases_Bool}
 use Rattle.std.proofs.lemmas.List.{get_or_default, take_more}
 use Rattle.std.proofs.lemmas.List.Elements.{Contains-push_cases, Contains-push, Contains-append_left}
 use Rattle.dr_base.specs.Texts.{Text}
-use Rattle.dr_route.specs.Names.{HasName, Adds}
+use Rattle.dr_route.specs.Names.{HasName, AddsName}
 
 pub none_of_them : (xs : List Text) (v : Text) (n : ℕ) → n ≡ length xs → ((k : ℕ) → k < n → get_or xs k [] ≡ v → ⊥) → Contains xs v → ⊥
 none_of_them xs v n all none among =
@@ -24,10 +24,10 @@ members s m = btree_set_contains_iff nat_list_cmp_total exact_bytes s m
 at_same : (k m : Text) → is_at (slice_cmp nat_cmp k) m ≡ true → k ≡ m
 at_same k m e = (bytes_eq-Decides k m).0 (sym (is_eq-slice_cmp k m) ∙ e)
 
-pub has_already : (s : BTreeSet Text) (k : Text) → HasName s k → Adds s s k
+pub has_already : (s : BTreeSet Text) (k : Text) → HasName s k → AddsName s s k
 has_already s k has = record { kept = λ m had. had; added = has; only = λ m had. inl had }
 
-pub adds : (s n : BTreeSet Text) (k : Text) → Updates (slice_cmp nat_cmp) s n k true → Adds s n k
+pub adds : (s n : BTreeSet Text) (k : Text) → Updates (slice_cmp nat_cmp) s n k true → AddsName s n k
 adds s n k h = record {
   kept = λ m had. (members n m).0 (h.0 m ∙ elim (cases_Bool (is_at (slice_cmp nat_cmp k) m)) [
     | inl here ↦ rw here refl
@@ -41,7 +41,7 @@ adds s n k h = record {
 }
 
 -- the names so far, and one more
-pub one_more : (first s n : BTreeSet Text) (more : List Text) (i : ℕ) (k : Text) → i < length more → k ≡ get_or more i k → Adds s n k →
+pub one_more : (first s n : BTreeSet Text) (more : List Text) (i : ℕ) (k : Text) → i < length more → k ≡ get_or more i k → AddsName s n k →
     ((m : Text) → HasName s m ↔ (HasName first m ⊎ Contains (take i more) m)) → (m : Text) → HasName n m ↔ (HasName first m ⊎ Contains (take (i + 1) more) m)
 one_more first s n more i k h at a so_far m =
     let pushed : take (i + 1) more ≡ take i more ++ k ∷ [] = let e = take_more more i k h in rw (← at) at e in (

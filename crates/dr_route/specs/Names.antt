@@ -8,7 +8,7 @@ abbrev pub HasName : BTreeSet Text → Text → Type 0
 HasName names name = Contains names.keys name
 
 -- the set has one more name, or had it before
-pub record Adds (old new : BTreeSet Text) (name : Text) : Type 0 where
+pub record AddsName (old new : BTreeSet Text) (name : Text) : Type 0 where
   pub kept : (other : Text) → HasName old other → HasName new other
   pub added : HasName new name
   pub only : (other : Text) → HasName new other → HasName old other ⊎ (name ≡ other)

@@ -1,7 +1,7 @@
 //! Sets of names while they are gathered, and the rows that they end as.
 ghost use Rattle.std.specs.Prelude.{◌↔◌, ◌⊎◌, IsTrue, IfOk, OnOk, Contains};
 ghost use Rattle.dr_base.specs.Texts.{Text as Words, IsInByteOrder};
-ghost use Rattle.dr_route.specs.Names.{HasName, Adds};
+ghost use Rattle.dr_route.specs.Names.{HasName, AddsName};
 
 use crate::search::find;
 use dr_base::{Seq, Text};
@@ -17,7 +17,7 @@ pub fn has_name(names: &BTreeSet<Text>, name: &Text) -> bool
 
 /// Adds a copy of the name to the set, unless it is there already.
 fn add_name(names: &mut BTreeSet<Text>, name: &Text) -> Result<(), AllocError>
-    ensures { OnOk result (Adds names.old names.new name.now) }
+    ensures { OnOk result (AddsName names.old names.new name.now) }
 {
     if has_name(names, name) {
         return Ok(());

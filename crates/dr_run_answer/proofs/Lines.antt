@@ -12,7 +12,7 @@ use Rattle.std.proofs.lemmas.List.Sums.{sum_by-append, sum_by-cons, sum_by_more_
 use Rattle.std.proofs.lemmas.Map.Keys.{IsDistinct-push}
 use Rattle.std.proofs.lemmas.Slice.Eq.{bytes_eq-Decides}
 use Rattle.dr_base.specs.Texts.{Text}
-use Rattle.dr_run_answer.specs.Intakes.{AddsAt, AddsLine, AddsRecent, AreRecent, GrowsAt, SumsUp, if_so, is_by, is_of_hour, is_within, most, names_of, said_by, said_within, same_names}
+use Rattle.dr_run_answer.specs.Intakes.{AddsAt, AddsRecentLine, AddsRecent, AreRecent, GrowsAt, SumsUp, if_so, is_by, is_of_hour, is_within, most, names_of, said_by, said_within, same_names}
 use Rattle.dr_run_answer.specs.declared.intake.Recent.{Recent}
 use Rattle.dr_run_answer.specs.declared.noted.Minute.{Minute}
 use Rattle.dr_run_answer.proofs.Totals.{added_sum, is_none, none_before, raised_sum}
@@ -37,7 +37,7 @@ module _ (line : Recent) where
   abbrev here : Recent → Bool
   here = is_by line.caller line.modality
 
-  pub by_line : (xs : List Recent) (i : ℕ) (y d : Recent) → position here xs ≡ Some i → y ≡ raised_line (get_or xs i d) line.stored line.refused → AddsLine line xs (set xs i y)
+  pub by_line : (xs : List Recent) (i : ℕ) (y d : Recent) → position here xs ≡ Some i → y ≡ raised_line (get_or xs i d) line.stored line.refused → AddsRecentLine line xs (set xs i y)
   by_line xs i y d found same =
       let at = position-Some here xs i d found in
       let x = get_or xs i d in
@@ -61,9 +61,9 @@ module _ (line : Recent) where
   same_any [] = refl
   same_any (x ∷ xs) = λ i. names_equal.symm (x.caller, x.modality) (line.caller, line.modality) i || same_any xs i
 
-  pub new_line : (xs ys : List Recent) (y : Recent) → position here xs ≡ None → y ≡ line → ys ≡ xs ++ y ∷ [] → AddsLine line xs ys
+  pub new_line : (xs ys : List Recent) (y : Recent) → position here xs ≡ None → y ≡ line → ys ≡ xs ++ y ∷ [] → AddsRecentLine line xs ys
   new_line xs ys y none same all =
-      let Adds : List Recent → Type 0 = λ zs. AddsLine line xs zs in
+      let Adds : List Recent → Type 0 = λ zs. AddsRecentLine line xs zs in
       let whole : ys ≡ xs ++ line ∷ [] = all ∙ ap (λ (z : Recent). xs ++ z ∷ []) same in
       let names : names_of (xs ++ line ∷ []) ≡ names_of xs ++ (line.caller, line.modality) ∷ [] = map-append (λ (r : Recent). (r.caller, r.modality)) xs (line ∷ []) in
       let absent : list_any (same_names (line.caller, line.modality)) (names_of xs) ≡ false = sym (same_any xs) ∙ none_before here xs (is_none _ _ none) in

@@ -181,7 +181,7 @@ GrowsBy figure line old new =
     → said_by figure caller modality new
     ≡ said_by figure caller modality old + if_so (is_by caller modality line) (figure line)
 
-pub record AddsLine (line : Recent) (old new : List Recent) : Type 0 where
+pub record AddsRecentLine (line : Recent) (old new : List Recent) : Type 0 where
   pub apart : IsDistinct same_names (names_of old) → IsDistinct same_names (names_of new)
   pub stored : GrowsBy (λ r. r.stored) line old new
   pub refused : GrowsBy (λ r. r.refused) line old new

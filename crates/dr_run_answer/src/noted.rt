@@ -2,7 +2,7 @@
 //! amount to is said in `specs/Intakes.antt`, and what follows from it in `laws`.
 ghost use Rattle.std.specs.Prelude.{◌≡◌, ◌+◌, ◌&&◌, ◌++◌, ◌∷◌, [], IfOk, MatchBool, MatchResult};
 ghost use Rattle.std.specs.Prelude.{OnOk, bytes_eq, filter, min, nat_eq, not, position};
-ghost use Rattle.dr_run_answer.specs.Intakes.{AddsAt, AddsLine, AddsRecent, AreRecent};
+ghost use Rattle.dr_run_answer.specs.Intakes.{AddsAt, AddsRecentLine, AddsRecent, AreRecent};
 ghost use Rattle.dr_run_answer.specs.Intakes.{CountsMinute, CountsOne, IsShare, if_so, is_by};
 ghost use Rattle.dr_run_answer.specs.Intakes.{is_of_hour, most};
 
@@ -336,7 +336,7 @@ fn place_by(lines: &[Recent], line: &Recent) -> Option<usize>
 ///
 /// Errors: want of memory.
 fn add_line(lines: &mut Vec<Recent>, line: &Recent) -> Result<(), AllocError>
-    ensures { OnOk result (AddsLine line.now lines.old.items lines.new.items) }
+    ensures { OnOk result (AddsRecentLine line.now lines.old.items lines.new.items) }
 {
     match place_by(lines.as_slice(), line) {
         Some(place) => {

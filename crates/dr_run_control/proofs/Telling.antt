@@ -2,7 +2,7 @@
 use Rattle.std.proofs.Common.{◌≡◌, inl, inr, ℕ, List, refl, sym, ◌∙◌, ap, arith, Result, Ok, Err}
 use Rattle.http.specs.declared.request.Request.{Request}
 use Rattle.dr_base.specs.Texts.{Text}
-use Rattle.dr_desk.specs.Receipts.{Leaves, Notes}
+use Rattle.dr_desk.specs.Receipts.{LeavesReceipts, Notes}
 use Rattle.dr_desk.specs.declared.receipt.Call.{Call}
 use Rattle.dr_desk.specs.declared.receipt.Receipt.{Receipt}
 use Rattle.dr_desk.specs.declared.receipt.Reply.TheVariants.{Done}
@@ -55,7 +55,7 @@ noted call (Ok done) status count now receipts kept n s e = n
 noted call (Err why) status count now receipts kept n s e = absurd (no_fault_is_200 why (sym s ∙ e))
 
 left : (call : Call) (answer : Result (Unit {0}) LedgerFault) (status count now : ℕ) (receipts kept : List Receipt) → NotesIf call answer count receipts now kept → status ≡ status_of_answer answer → (status ≡ 200 → ⊥)
-    → Leaves count receipts now kept
+    → LeavesReceipts count receipts now kept
 left call (Ok done) status count now receipts kept n s e = absurd (e s)
 left call (Err why) status count now receipts kept n s e = n
 
@@ -96,7 +96,7 @@ module _ {L : Type 0} (site_of : L → Part) (book : L → Book) (stands : L →
 
   nothing : (one : Order) (asked : Route) (given : Text) (answer : Result (Unit {0}) LedgerFault) (status count now : ℕ) (receipts kept : List Receipt) → ((dest : Text) → IsAsked (order.RequeueAll dest) asked given → ⊥) → IsAsked one asked given
       → Acts site_of book stands failed own first one answer count receipts now kept → status ≡ status_of_answer answer → (status ≡ 200 → ⊥)
-      → Leaves count receipts now kept
+      → LeavesReceipts count receipts now kept
   nothing (order.Requeue row) asked given answer status count now receipts kept many is acts s e = left _ answer status count now receipts kept acts.1 s e
   nothing (order.RequeueAll dest) asked given answer status count now receipts kept many is acts s e = absurd (many dest is)
   nothing (order.GiveUp row) asked given answer status count now receipts kept many is acts s e = left _ answer status count now receipts kept acts.1.1 s e

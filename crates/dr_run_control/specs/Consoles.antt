@@ -9,7 +9,7 @@ use Rattle.http.specs.Request.{head_of, body_of}
 use Rattle.dr_base.specs.Texts.{Text}
 use Rattle.dr_desk.specs.Answering.{Answers as DeskAnswers}
 use Rattle.dr_desk.specs.Reading.{Reading}
-use Rattle.dr_desk.specs.Receipts.{Leaves, Notes}
+use Rattle.dr_desk.specs.Receipts.{LeavesReceipts, Notes}
 use Rattle.dr_desk.specs.declared.receipt.Call.{Call}
 use Rattle.dr_desk.specs.declared.receipt.Call.TheVariants.{Requeuing, Dropping, Forgetting}
 use Rattle.dr_desk.specs.declared.receipt.Receipt.{Receipt}
@@ -80,7 +80,7 @@ abbrev pub NotesIf : Call → Result (Unit {0}) LedgerFault
 NotesIf call answer count receipts now kept =
     MatchResult answer
     (λ done. Notes call Done count receipts now kept)
-    (λ why. Leaves count receipts now kept)
+    (λ why. LeavesReceipts count receipts now kept)
 
 -- of all rows that are queued again, one that isn't held any more is no fault
 abbrev pub passed : Result (Unit {0}) LedgerFault → Result (Unit {0}) LedgerFault
@@ -100,7 +100,7 @@ pub record IsMisread (asked : Route) (form : Text) (status : ℕ) (text : Text)
   pub misreads : Misreads asked form why
   pub status_is : status ≡ status_of_form why
   pub told : IsToldIn (fault_line (name_of_form why)) text
-  pub leaves : Leaves count receipts now kept
+  pub leaves : LeavesReceipts count receipts now kept
 
 -- The request mayn't be asked: nothing is done, and the answer names the refusal.
 pub record IsRefused (access : Access) (browser : Option Browser) (request : Request (List ℕ))
@@ -110,7 +110,7 @@ pub record IsRefused (access : Access) (browser : Option Browser) (request : Req
   pub admits : Admits access browser (head_of request) (body_of request) (Err why)
   pub status_is : status ≡ status_of_refusal why
   pub told : IsToldIn (fault_line (name_of_refusal why)) text
-  pub leaves : Leaves count receipts now kept
+  pub leaves : LeavesReceipts count receipts now kept
 
 -- No order is given: to no row anything is done. Where the node is told to end, the answer says
 -- that this is done.
@@ -121,7 +121,7 @@ pub record IsLooked (access : Access) (browser : Option Browser) (request : Requ
   pub admits : Admits access browser (head_of request) (body_of request) (Ok asked)
   pub other : gives_order asked ≡ false
   pub stops : asked ≡ route.Stop → (status ≡ 200) × IsToldIn done_line text
-  pub leaves : Leaves count receipts now kept
+  pub leaves : LeavesReceipts count receipts now kept
 
 -- Who is to be visited is none to whom this node sends: nothing is done.
 pub record IsNowhere (hops : List NextHop) (one : Order) (status : ℕ) (text : Text)
@@ -129,7 +129,7 @@ pub record IsNowhere (hops : List NextHop) (one : Order) (status : ℕ) (text : 
   pub unknown : Goes hops one → ⊥
   pub status_is : status ≡ 404
   pub told : IsToldIn (fault_line (codes "Hop")) text
-  pub leaves : Leaves count receipts now kept
+  pub leaves : LeavesReceipts count receipts now kept
 
 -- a pass's count with its receipts
 abbrev pub State : Type 0
@@ -165,7 +165,7 @@ module _ {L : Type 0} (site_of : L → Part) (book : L → Book) (stands : L →
   Acts (order.Requeue row) answer count receipts now kept =
       Calls (Requeues row.uid row.dest) (Requeuing row.uid row.dest) answer count receipts now kept
   Acts (order.RequeueAll dest) answer count receipts now kept =
-      ((why : LedgerFault) × (answer ≡ Err why) × Leaves count receipts now kept)
+      ((why : LedgerFault) × (answer ≡ Err why) × LeavesReceipts count receipts now kept)
       ⊎ ((rows : List Row) × AgainEach dest rows (count, receipts) answer (now, kept))
   Acts (order.GiveUp row) answer count receipts now kept =
       (moment : ℕ)
@@ -174,7 +174,7 @@ module _ {L : Type 0} (site_of : L → Part) (book : L → Book) (stands : L →
   Acts (order.Forget uid) answer count receipts now kept =
       Calls (Forgets uid) (Forgetting uid) answer count receipts now kept
   Acts (order.Visit dest) answer count receipts now kept =
-      (answer ≡ Ok tt) × Leaves count receipts now kept
+      (answer ≡ Ok tt) × LeavesReceipts count receipts now kept
 
   -- The order is done, or the ledger refuses it: the status and the text are those of what came of
   -- it at the desk.

@@ -1,7 +1,7 @@
 -- Laws of orders that are given over the control connection.
 use Rattle.std.specs.Prelude.{◌≡◌, ℕ, List, Ok}
 use Rattle.dr_base.specs.Texts.{Text}
-use Rattle.dr_desk.specs.Receipts.{Leaves, Notes}
+use Rattle.dr_desk.specs.Receipts.{LeavesReceipts, Notes}
 use Rattle.dr_desk.specs.declared.receipt.Call.TheVariants.{Requeuing, Dropping, Forgetting}
 use Rattle.dr_desk.specs.declared.receipt.Receipt.{Receipt}
 use Rattle.dr_desk.specs.declared.receipt.Reply.TheVariants.{Done}
@@ -28,7 +28,7 @@ module _ {L : Type 0} (site_of : L → Part) (book : L → Book) (stands : L →
       (moment : ℕ) × Notes (Dropping row.uid row.dest moment) Done count receipts now kept
   Does (order.Forget uid) count receipts now kept =
       Notes (Forgetting uid) Done count receipts now kept
-  Does (order.Visit dest) count receipts now kept = Leaves count receipts now kept
+  Does (order.Visit dest) count receipts now kept = LeavesReceipts count receipts now kept
 
   -- where the answer says that an order was done, it was, and it is the one that the form gives
   abbrev pub DoneWasDone : Type 0
@@ -49,4 +49,4 @@ module _ {L : Type 0} (site_of : L → Part) (book : L → Book) (stands : L →
       → Tells site_of book stands failed own first hops asked form status text
       count receipts now kept
       → (status ≡ 200 → ⊥)
-      → Leaves count receipts now kept
+      → LeavesReceipts count receipts now kept

@@ -8,12 +8,12 @@ use Rattle.dr_plan_sound.specs.Soundness.{IsSound}
 use Rattle.dr_plan.specs.Reading.{Reads}
 use Rattle.dr_cert.specs.Sealing.{Certified}
 use Rattle.dr_site.specs.Parts.{Part, IsPartOf}
-use Rattle.dr_run_open.specs.Openings.{Seals, SealsFiles, IsSealedBy, IsAt, IsNotThere, HaltsAs}
+use Rattle.dr_run_open.specs.Openings.{SealsSecond, SealsFiles, IsSealedBy, IsAt, IsNotThere, HaltsAs}
 use Rattle.dr_run_open.specs.declared.halt.Halt.{Halt}
 use Rattle.dr_run_open.specs.declared.halt.Halt.TheVariants as halts
 
 -- a plan that is read of a text, and is sealed or not, is so of two files
-pub sealed_so : (HP HC : Text → Type 0) (text : Text) (plan : Network) (r : Result Certified Halt) → HP text → Reads text (Ok plan) → Seals HC plan r → SealsFiles HP HC r
+pub sealed_so : (HP HC : Text → Type 0) (text : Text) (plan : Network) (r : Result Certified Halt) → HP text → Reads text (Ok plan) → SealsSecond HC plan r → SealsFiles HP HC r
 sealed_so HP HC text plan (Ok sealed) held reads h =
     let P : Network → Type 0 = λ p. Reads text (Ok p) in
     let Q : Network → Type 0 = λ p. IsCertificateOf p sealed.certificate in

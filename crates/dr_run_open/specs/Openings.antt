@@ -40,16 +40,16 @@ Unseals plan second fault = fault ≢ NoMemory → IsFaultOf plan second fault
 
 -- what comes of a plan and a second text, of which this holds: the plan is sealed, or the text
 -- isn't its certificate's
-abbrev pub Seals : (Text → Type 0) → Network → Result Certified Halt → Type 0
-Seals HoldsCertificate plan (Ok sealed) =
+abbrev pub SealsSecond : (Text → Type 0) → Network → Result Certified Halt → Type 0
+SealsSecond HoldsCertificate plan (Ok sealed) =
     (second : Text) × HoldsCertificate second × (sealed.plan ≡ plan)
     × IsTextOf second sealed.certificate
     × IsSound plan
     × IsCertificateOf plan sealed.certificate
-Seals HoldsCertificate plan (Err (NoCertificate fault)) =
+SealsSecond HoldsCertificate plan (Err (NoCertificate fault)) =
     (second : Text) × HoldsCertificate second × Unseals plan second fault
-Seals HoldsCertificate plan (Err (Failed failure)) = Unit {0}
-Seals HoldsCertificate plan (Err halt) = ⊥
+SealsSecond HoldsCertificate plan (Err (Failed failure)) = Unit {0}
+SealsSecond HoldsCertificate plan (Err halt) = ⊥
 
 -- what comes of two files: a sealed plan, or why there is none
 abbrev pub SealsFiles : (Text → Type 0) → (Text → Type 0) → Result Certified Halt → Type 0

@@ -1,7 +1,7 @@
 //! A node's plan, certificate, site and ledger, opened one after the other.
 ghost use Rattle.std.specs.Prelude.{◌≡◌, MatchResult};
 ghost use Rattle.dr_site.specs.Parts.{IsPartOf};
-ghost use Rattle.dr_run_open.specs.Openings.{HaltsAs, IsAt, IsNotThere, IsUnopened, Seals};
+ghost use Rattle.dr_run_open.specs.Openings.{HaltsAs, IsAt, IsNotThere, IsUnopened, SealsSecond};
 ghost use Rattle.dr_run_open.specs.Openings.{SealsFiles, Sites};
 
 use crate::halt::Halt;
@@ -31,7 +31,7 @@ fn seal_plan<'a, F: Files>(
     plan: Plan,
     path: &'a str,
 ) -> Result<Sealed, Halt<'a>>
-    ensures { Seals (F.holds files.now path.now) plan result }
+    ensures { SealsSecond (F.holds files.now path.now) plan result }
 {
     let second = match read_file(alloc, files, path) {
         Ok(second) => second,

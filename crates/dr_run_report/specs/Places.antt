@@ -41,8 +41,10 @@ HasRoom (Other id) = ⊥
 -- What is answered of a place: a report may be written there just where it isn't the node's own and
 -- has room. That it is the node's own
 -- comes first.
-abbrev pub Judges : List Spot → List FileId → ReportPlace → Result (Unit {0}) ReportFault → Type 0
-Judges ledgers files place (Ok done) = (IsOwn ledgers files place → ⊥) × HasRoom place.found
-Judges ledgers files place (Err OwnFile) = IsOwn ledgers files place
-Judges ledgers files place (Err NoReport) =
+abbrev pub JudgesPlace : List Spot → List FileId → ReportPlace
+    → Result (Unit {0}) ReportFault
+    → Type 0
+JudgesPlace ledgers files place (Ok done) = (IsOwn ledgers files place → ⊥) × HasRoom place.found
+JudgesPlace ledgers files place (Err OwnFile) = IsOwn ledgers files place
+JudgesPlace ledgers files place (Err NoReport) =
     (IsOwn ledgers files place → ⊥) × (HasRoom place.found → ⊥)

@@ -1,7 +1,7 @@
 //! Whether a report may take the place of what is at a path.
 ghost use Rattle.std.specs.Prelude.{◌≡◌, ◌↔◌, IsTrue};
 ghost use Rattle.dr_run_report.specs.Places.{HasRoom, IsAmong, IsFileOf, IsOwn, IsTakenBy};
-ghost use Rattle.dr_run_report.specs.Places.{Judges, Takes};
+ghost use Rattle.dr_run_report.specs.Places.{JudgesPlace, Takes};
 
 use crate::names::is_ledger_name;
 use dr_base::Text;
@@ -131,7 +131,7 @@ fn has_room(found: &PathTarget) -> bool
 ///
 /// Errors: OwnFile, NoReport.
 pub fn judge(ledgers: &[Spot], files: &[FileId], place: &ReportPlace) -> Result<(), ReportFault>
-    ensures { Judges ledgers.now files.now place.now result }
+    ensures { JudgesPlace ledgers.now files.now place.now result }
 {
     if is_own(ledgers, files, place) {
         return Err(ReportFault::OwnFile);

@@ -1,6 +1,6 @@
 //! Desks that count what they took.
 ghost use Rattle.std.specs.Prelude.{◌≡◌};
-ghost use Rattle.dr_desk.specs.Receipts.{Leaves};
+ghost use Rattle.dr_desk.specs.Receipts.{LeavesReceipts};
 ghost use Rattle.dr_desk_workers.specs.Passes.{PassStep};
 ghost use Rattle.dr_run_serve.specs.Dues.{FindsIn};
 
@@ -166,8 +166,8 @@ impl<'a, R: Wait, L: Ledger, B: Sharing, G: Log> DeskPort for SharedPort<'a, R, 
 }
 
 impl<'a, R: Wait, L: Ledger, B: Sharing, G: Log> Tallied for SharedPort<'a, R, L, B, G> {
-    ghost finds = { λ s dest now answer t. Leaves s.pass.now.made.count s.pass.now.receipts.items
-        t.pass.now.made.count t.pass.now.receipts.items };
+    ghost finds = { λ s dest now answer t. LeavesReceipts s.pass.now.made.count
+        s.pass.now.receipts.items t.pass.now.made.count t.pass.now.receipts.items };
 
     fn tally(&self) -> u64 {
         self.pass.count()

@@ -10,8 +10,8 @@ use Rattle.dr_dimse.specs.declared.message.Message.{Message}
 use Rattle.dr_dimse.specs.declared.fault.DimseFault.{DimseFault}
 use Rattle.dr_dimse.specs.declared.fault.DimseFault.TheVariants.{OutOfPlace, MixedContext, BadCommand, TooLong, Memory}
 use Rattle.dr_dimse.specs.Commands.{IsCommand}
-use Rattle.dr_dimse.specs.Taking.{Stage, Idle, InCommand, InData, Takes, TakesData, EndsCommand, Begins, kept, text_so_far}
-use Rattle.dr_dimse.specs.Written.{Fits, FieldFits}
+use Rattle.dr_dimse.specs.Taking.{MessageStage, Idle, InCommand, InData, Takes, TakesData, EndsCommand, Begins, kept, text_so_far}
+use Rattle.dr_dimse.specs.Written.{CommandFits, FieldFits}
 use Rattle.dr_dimse.proofs.FitLemmas.{read_fits}
 use Rattle.dr_dimse_scan.specs.declared.heard.HeardMessage.{HeardMessage}
 use Rattle.dr_dimse_scan.specs.Stores.{message_of}
@@ -30,40 +30,40 @@ use Rattle.dr_session.specs.Fits.{StageFits}
 
 -- the command of a message, if there is one, can be written
 abbrev pub EndsFit : Option Message → Type 0
-EndsFit ended = IfSome ended (λ (m : Message). Fits m.command)
+EndsFit ended = IfSome ended (λ (m : Message). CommandFits m.command)
 
-data_fits : (s : Stage) (p : Pdv) (ended : Option Message) (new : Stage) → StageFits s → TakesData s p ended new → StageFits new × EndsFit ended
+data_fits : (s : MessageStage) (p : Pdv) (ended : Option Message) (new : MessageStage) → StageFits s → TakesData s p ended new → StageFits new × EndsFit ended
 data_fits Idle p ended new fits h = absurd h
 data_fits (InCommand id text) p ended new fits h = absurd h
-data_fits (InData id c body) p None new fits h = (subst (λ (t : Stage). StageFits t) (sym h.1) fits, tt)
+data_fits (InData id c body) p None new fits h = (subst (λ (t : MessageStage). StageFits t) (sym h.1) fits, tt)
 data_fits (InData id c body) p (Some m) new fits h =
-    (subst (λ (t : Stage). StageFits t) (sym h.2) tt, subst (λ (d : Command). Fits d) (sym (ap (λ (x : Message). x.command) h.1)) fits)
+    (subst (λ (t : MessageStage). StageFits t) (sym h.2) tt, subst (λ (d : Command). CommandFits d) (sym (ap (λ (x : Message). x.command) h.1)) fits)
 
-begin_fits : (id : ℕ) (c : Command) (ended : Option Message) (new : Stage) → Fits c → Begins id c ended new → StageFits new × EndsFit ended
-begin_fits id c None new fits h = (subst (λ (t : Stage). StageFits t) (sym h.1) fits, tt)
+begin_fits : (id : ℕ) (c : Command) (ended : Option Message) (new : MessageStage) → CommandFits c → Begins id c ended new → StageFits new × EndsFit ended
+begin_fits id c None new fits h = (subst (λ (t : MessageStage). StageFits t) (sym h.1) fits, tt)
 begin_fits id c (Some m) new fits h =
-    (subst (λ (t : Stage). StageFits t) (sym h.2) tt, subst (λ (d : Command). Fits d) (sym (ap (λ (x : Message). x.command) h.1)) fits)
+    (subst (λ (t : MessageStage). StageFits t) (sym h.2) tt, subst (λ (d : Command). CommandFits d) (sym (ap (λ (x : Message). x.command) h.1)) fits)
 
-ok_fits : (awaited : Awaited) (s : Stage) (p : Pdv) (ended : Option Message) (new : Stage) → StageFits s → Takes awaited s p (Ok ended) new → StageFits new × EndsFit ended
+ok_fits : (awaited : Awaited) (s : MessageStage) (p : Pdv) (ended : Option Message) (new : MessageStage) → StageFits s → Takes awaited s p (Ok ended) new → StageFits new × EndsFit ended
 ok_fits awaited s p ended new fits (inl (place, kind, takes)) = data_fits s p ended new fits takes
 ok_fits awaited s p ended new fits (inr (inl (short, last, none, same))) =
-    (subst (λ (t : Stage). StageFits t) (sym same) tt, subst (λ (e : Option Message). EndsFit e) (sym none) tt)
+    (subst (λ (t : MessageStage). StageFits t) (sym same) tt, subst (λ (e : Option Message). EndsFit e) (sym none) tt)
 ok_fits awaited s p ended new fits (inr (inr (text, c, ends, is, waits, begins))) =
     let short : length text ≤ 16384 = subst (λ (t : List ℕ). length t ≤ 16384) (sym ends.2) ends.0.2 in
     begin_fits p.id c ended new (read_fits text c is short) begins
 
 -- one more value
-pub takes_fits : (awaited : Awaited) (s : Stage) (p : Pdv) (r : Result (Option Message) DimseFault) (new : Stage) → StageFits s → Takes awaited s p r new
+pub takes_fits : (awaited : Awaited) (s : MessageStage) (p : Pdv) (r : Result (Option Message) DimseFault) (new : MessageStage) → StageFits s → Takes awaited s p r new
     → StageFits new × IfOk r EndsFit
 takes_fits awaited s p (Ok ended) new fits h = ok_fits awaited s p ended new fits h
-takes_fits awaited s p (Err OutOfPlace) new fits h = (subst (λ (t : Stage). StageFits t) (sym h.0) fits, tt)
-takes_fits awaited s p (Err MixedContext) new fits h = (subst (λ (t : Stage). StageFits t) (sym h.0) fits, tt)
-takes_fits awaited s p (Err BadCommand) new fits h = (subst (λ (t : Stage). StageFits t) (sym h.0) fits, tt)
-takes_fits awaited s p (Err TooLong) new fits h = (subst (λ (t : Stage). StageFits t) (sym h.0) fits, tt)
-takes_fits awaited s p (Err Memory) new fits h = (subst (λ (t : Stage). StageFits t) (sym h) fits, tt)
+takes_fits awaited s p (Err OutOfPlace) new fits h = (subst (λ (t : MessageStage). StageFits t) (sym h.0) fits, tt)
+takes_fits awaited s p (Err MixedContext) new fits h = (subst (λ (t : MessageStage). StageFits t) (sym h.0) fits, tt)
+takes_fits awaited s p (Err BadCommand) new fits h = (subst (λ (t : MessageStage). StageFits t) (sym h.0) fits, tt)
+takes_fits awaited s p (Err TooLong) new fits h = (subst (λ (t : MessageStage). StageFits t) (sym h.0) fits, tt)
+takes_fits awaited s p (Err Memory) new fits h = (subst (λ (t : MessageStage). StageFits t) (sym h) fits, tt)
 
 -- so can that of a message that comes with its scan
-pub heard_fits : (r : Result (Option HeardMessage) DimseFault) → IfOk (message_of r) EndsFit → IfOk r (λ (ended : Option HeardMessage). IfSome ended (λ (h : HeardMessage). Fits h.message.command))
+pub heard_fits : (r : Result (Option HeardMessage) DimseFault) → IfOk (message_of r) EndsFit → IfOk r (λ (ended : Option HeardMessage). IfSome ended (λ (h : HeardMessage). CommandFits h.message.command))
 heard_fits (Ok None) h = tt
 heard_fits (Ok (Some heard)) h = h
 heard_fits (Err fault) h = tt

@@ -3,7 +3,7 @@ use Rattle.std.proofs.Common.{◌≡◌, ℕ, ◌≤◌, ◌<◌, ◌+◌, Bool,
 use Rattle.std.specs.Prelude.{nat_le, if◌then◌else◌}
 use Rattle.std.proofs.lemmas.Bool.{leb-true, leb-false}
 use Rattle.dr_ulstate.specs.declared.table.Event.TheVariants.{ArtimExpired}
-use Rattle.dr_dimse.specs.Taking.{Stage, Idle}
+use Rattle.dr_dimse.specs.Taking.{MessageStage, Idle}
 use Rattle.dr_site.specs.Parts.{Part}
 use Rattle.dr_session.specs.declared.ends.Effect.{Effect}
 use Rattle.dr_session.specs.declared.ends.Input.TheVariants.{Late}
@@ -35,5 +35,5 @@ module _ {S : Type 0} (step : S → DeskCall → DeskAnswer → S → Type 0) wh
   closes site opened at s t x h =
       let turns : Turns step (turn at (with_stage Idle (accepting site opened)) (Plain Late)) s x t =
       subst (λ (y : Told). Turns step (turn at (with_stage Idle (accepting site opened)) y) s x t) h.tells.0
-      (subst (λ (z : Stage). Turns step (turn at (with_stage z (accepting site opened)) h.told) s x t) h.tells.1 h.turns) in
+      (subst (λ (z : MessageStage). Turns step (turn at (with_stage z (accepting site opened)) h.told) s x t) h.tells.1 h.turns) in
       by_test (nat_le (opened + 30000) at.now) site opened at s t x refl turns

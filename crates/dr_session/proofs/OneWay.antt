@@ -29,7 +29,7 @@ use Rattle.dr_dimse.specs.declared.fault.DimseFault.TheVariants as dimse
 use Rattle.dr_dimse.specs.declared.message.Body.{Body}
 use Rattle.dr_dimse.specs.declared.message.Body.TheVariants as body
 use Rattle.dr_dimse.specs.declared.message.Message.{Message}
-use Rattle.dr_dimse.specs.Taking.{Stage}
+use Rattle.dr_dimse.specs.Taking.{MessageStage}
 use Rattle.dr_dimse.proofs.OneTake.{one_take}
 use Rattle.dr_ledger.specs.declared.content.Job.{Job}
 use Rattle.dr_ledger.specs.declared.content.ItemFault.{ItemFault}
@@ -59,7 +59,7 @@ use Rattle.dr_session.specs.declared.ends.Told.TheVariants.{Store, Agreement}
 use Rattle.dr_session.specs.declared.wishes.Kind.{Kind}
 use Rattle.dr_session.specs.Desks.{DeskCall, DeskAnswer}
 use Rattle.dr_session.specs.Ends.{Terminal, MeetsBy, MeetsIn, Meets, HearsPiece, HearsBytes, HearsOf, LosesBy, LosesIn, CrowdsBy, CrowdsIn, EchoesBy, EchoesIn, is_gone, is_free, idle_in, state_in}
-use Rattle.dr_session.specs.Links.{Doing, Hears as Heeds, Asks as Wants, Echoes, Place, Does, Performs, Performed, Did, Served, asked_after, IsMoment}
+use Rattle.dr_session.specs.Links.{EndDoing, Hears as Heeds, Asks as Wants, Echoes, Place, Does, Performs, Performed, Did, Served, asked_after, IsMoment}
 use Rattle.dr_session.specs.Plays.{At, Reacts, Plays, PlaysBytes, IsFault, HearsLast, HearsOn, HearsBy, Hears, inputs_of, input_of, at_moment, with_stage}
 use Rattle.dr_session.specs.Reactions.{Reaction, turn, moves, effect}
 use Rattle.dr_session.specs.Telling.{Finds, FindsIn, Says, SaysOf, TellsIn, TellsValue, TellsAcceptance, Tells, Looks, action_at}
@@ -111,17 +111,17 @@ says_one x (Err dimse.TooLong) t u h k = h ∙ sym k
 no_want_here : (x : Pair) (r : Result (Option Message) DimseFault) (t : Told) → Says x r t → r ≢ Err dimse.Memory
 no_want_here x r t h e = subst (λ (z : Result (Option Message) DimseFault). Says x z t) e h
 
-tells_in_one : (o : Option Pair) (c : Core) (p : Pdv) (t u : Told) (st su : Stage) → TellsIn o c p t st → TellsIn o c p u su → (t ≡ u) × (st ≡ su)
+tells_in_one : (o : Option Pair) (c : Core) (p : Pdv) (t u : Told) (st su : MessageStage) → TellsIn o c p t st → TellsIn o c p u su → (t ≡ u) × (st ≡ su)
 tells_in_one None c p t u st su h k = (h.0 ∙ sym k.0, h.1 ∙ sym k.1)
 tells_in_one (Some x) c p t u st su (r, takes, says) (q, takes_too, says_too) =
     let both = one_take c.assembly.awaited c.assembly.stage p r q st su (no_want_here x r t says) (no_want_here x q u says_too) takes takes_too in
     (says_one x r t u says (subst (λ (z : Result (Option Message) DimseFault). Says x z u) (sym both.0) says_too), both.1)
 
-value_one : (o : Option Agreed) (c : Core) (p : Pdv) (t u : Told) (st su : Stage) → TellsValue o c p t st → TellsValue o c p u su → (t ≡ u) × (st ≡ su)
+value_one : (o : Option Agreed) (c : Core) (p : Pdv) (t u : Told) (st su : MessageStage) → TellsValue o c p t st → TellsValue o c p u su → (t ≡ u) × (st ≡ su)
 value_one None c p t u st su h k = (h.0 ∙ sym k.0, h.1 ∙ sym k.1)
 value_one (Some agreed) c p t u st su h k = tells_in_one (pair_at agreed p.id) c p t u st su h k
 
-looks_value : (o : Option Action) (c : Core) (p : Pdv) (t u : Told) (st su : Stage) → Looks o c (input.Value p) t st → Looks o c (input.Value p) u su → (t ≡ u) × (st ≡ su)
+looks_value : (o : Option Action) (c : Core) (p : Pdv) (t u : Told) (st su : MessageStage) → Looks o c (input.Value p) t st → Looks o c (input.Value p) u su → (t ≡ u) × (st ≡ su)
 looks_value None c p t u st su h k = (h.0 ∙ sym k.0, h.1 ∙ sym k.1)
 looks_value (Some Ae1) c p t u st su h k = (h.0 ∙ sym k.0, h.1 ∙ sym k.1)
 looks_value (Some Ae2) c p t u st su h k = (h.0 ∙ sym k.0, h.1 ∙ sym k.1)
@@ -164,7 +164,7 @@ acceptance_one (Some rq) ac t u a b (r, concludes, is) (q, concludes_too, other)
     let same : r ≡ q = one_conclusion rq ac r q (λ e. a (is ∙ ap said e)) (λ e. b (other ∙ ap said e)) concludes concludes_too in
     is ∙ (ap said same ∙ sym other)
 
-looks_acceptance : (o : Option Action) (c : Core) (ac : AssociateAc) (t u : Told) (st su : Stage) → (o ≡ Some Ae3 → (t ≢ lost) × (u ≢ lost))
+looks_acceptance : (o : Option Action) (c : Core) (ac : AssociateAc) (t u : Told) (st su : MessageStage) → (o ≡ Some Ae3 → (t ≢ lost) × (u ≢ lost))
     → Looks o c (input.Acceptance ac) t st → Looks o c (input.Acceptance ac) u su → (t ≡ u) × (st ≡ su)
 looks_acceptance None c ac t u st su live h k = (h.0 ∙ sym k.0, h.1 ∙ sym k.1)
 looks_acceptance (Some Ae1) c ac t u st su live h k = (h.0 ∙ sym k.0, h.1 ∙ sym k.1)
@@ -196,7 +196,7 @@ looks_acceptance (Some Aa6) c ac t u st su live h k = (h.0 ∙ sym k.0, h.1 ∙ 
 looks_acceptance (Some Aa7) c ac t u st su live h k = (h.0 ∙ sym k.0, h.1 ∙ sym k.1)
 looks_acceptance (Some Aa8) c ac t u st su live h k = (h.0 ∙ sym k.0, h.1 ∙ sym k.1)
 
-tells_one : (c : Core) (i : Input) (t u : Told) (st su : Stage) → (action_at c (Some AssociateAcPdu) ≡ Some Ae3 → (t ≢ lost) × (u ≢ lost)) → Tells c i t st → Tells c i u su → (t ≡ u) × (st ≡ su)
+tells_one : (c : Core) (i : Input) (t u : Told) (st su : MessageStage) → (action_at c (Some AssociateAcPdu) ≡ Some Ae3 → (t ≢ lost) × (u ≢ lost)) → Tells c i t st → Tells c i u su → (t ≡ u) × (st ≡ su)
 tells_one c (input.Value p) t u st su live h k = looks_value (action_at c (Some DataPdu)) c p t u st su h k
 tells_one c (input.Acceptance ac) t u st su live h k = looks_acceptance (action_at c (Some AssociateAcPdu)) c ac t u st su live h k
 tells_one c (input.Request rq) t u st su live h k = (h.0 ∙ sym k.0, h.1 ∙ sym k.1)
@@ -244,7 +244,7 @@ module _ {S : Type 0} (step : S → DeskCall → DeskAnswer → S → Type 0) wh
         let same = tells_one c i.input h.told k.told h.stage k.stage
         (λ is. (not_lost i.moment (with_stage h.stage c) h.told s t x h.turns is, not_lost i.moment (with_stage k.stage c) k.told s u z k.turns is)) h.tells k.tells in
         turn_one (turn i.moment (with_stage h.stage c) h.told) s t u x z h.turns
-        (subst (λ (y : Stage). Turns step (turn i.moment (with_stage y c) h.told) s z u) (sym same.1)
+        (subst (λ (y : MessageStage). Turns step (turn i.moment (with_stage y c) h.told) s z u) (sym same.1)
         (subst (λ (y : Told). Turns step (turn i.moment (with_stage k.stage c) y) s z u) (sym same.0) k.turns))
 
     plays_one : (is : List At) (c d e : Core) (s t u : S) (xs ys : List LinkAction) → Plays step c is s xs d t → Plays step c is s ys e u → (xs ≡ ys) × (d ≡ e) × (t ≡ u)
@@ -395,7 +395,7 @@ module _ {L S : Type 0} (hears : L → Heard → L → Type 0) (sends : L → Li
   same_place a b e f g =
       ap (λ (l : L). placed l a.port a.terminal) e ∙ (ap (λ (p : S). placed b.link p a.terminal) f ∙ ap (λ (t : Terminal). placed b.link b.port t) g)
 
-  does_one : (x : Doing) (old mid other : Place L S) (xs ys : List LinkAction) → Does hears sends closes step tells others x old (Ok xs) mid → Does hears sends closes step tells others x old (Ok ys) other
+  does_one : (x : EndDoing) (old mid other : Place L S) (xs ys : List LinkAction) → Does hears sends closes step tells others x old (Ok xs) mid → Does hears sends closes step tells others x old (Ok ys) other
       → (xs ≡ ys) × (mid ≡ other)
   does_one (Heeds at came) old mid other xs ys (when, came_so, does) (when_too, came_too, does_too) =
       let all = hears_of_one step one came at old.terminal mid.terminal other.terminal old.port mid.port other.port xs ys does does_too in
@@ -418,7 +418,7 @@ module _ {L S : Type 0} (hears : L → Heard → L → Type 0) (sends : L → Li
   AllPerformed mid xs new = Performs sends closes mid.link xs new.link × (new.port ≡ mid.port) × (new.terminal ≡ mid.terminal)
 
   -- but for a fault of the link, the actions were performed
-  all_performed : (x : Doing) (mid new : Place L S) (xs : List LinkAction) → Performed hears sends closes step tells others x mid xs new → AllPerformed mid xs new
+  all_performed : (x : EndDoing) (mid new : Place L S) (xs : List LinkAction) → Performed hears sends closes step tells others x mid xs new → AllPerformed mid xs new
   all_performed (Heeds at (heard.Bytes piece)) mid new xs h = h
   all_performed (Heeds at heard.End) mid new xs h = h
   all_performed (Heeds at heard.Late) mid new xs h = h
@@ -432,13 +432,13 @@ module _ {L S : Type 0} (hears : L → Heard → L → Type 0) (sends : L → Li
   performed_one : (mid new other : Place L S) (xs : List LinkAction) → AllPerformed mid xs new → AllPerformed mid xs other → new ≡ other
   performed_one mid new other xs h k = same_place new other (performs_one xs mid.link new.link other.link h.0 k.0) (h.1 ∙ sym k.1) (h.2 ∙ sym k.2)
 
-  did_one : (x : Doing) (old new other : Place L S) → Did hears sends closes step tells others old x new → Did hears sends closes step tells others old x other → new ≡ other
+  did_one : (x : EndDoing) (old new other : Place L S) → Did hears sends closes step tells others old x new → Did hears sends closes step tells others old x other → new ≡ other
   did_one x old new other (xs, mid, does, done) (ys, mid_too, does_too, done_too) =
       let both = does_one x old mid mid_too xs ys does does_too in
       performed_one mid new other xs (all_performed x mid new xs done)
       (subst (λ (p : Place L S). AllPerformed p xs other) (sym both.1) (subst (λ (l : List LinkAction). AllPerformed mid_too l other) (sym both.0) (all_performed x mid_too other ys done_too)))
 
-  served_one : (xs : List Doing) (kind : Kind) (asked told again : ℕ) (old new other : Place L S)
+  served_one : (xs : List EndDoing) (kind : Kind) (asked told again : ℕ) (old new other : Place L S)
       → Served hears sends closes step tells others kind asked old xs told new
       → Served hears sends closes step tells others kind asked old xs again other → (told ≡ again) × (new ≡ other)
   served_one [] kind asked told again old new other h k = (h.0 ∙ sym k.0, h.1 ∙ sym k.1)

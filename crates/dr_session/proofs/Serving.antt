@@ -22,7 +22,7 @@ use Rattle.dr_session.specs.declared.wishes.Wish.TheVariants.{Listen, Push, Rele
 use Rattle.dr_session.specs.Desks.{DeskCall, DeskAnswer}
 use Rattle.dr_session.specs.Ends.{Terminal, HearsOf, over_of, is_free_in, is_dry_in}
 use Rattle.dr_ledger.specs.Replies.{HasRisen}
-use Rattle.dr_session.specs.Links.{Counts, IsLinkFault, Performs, FailsToPerform, PerformsOne, Doing, Hears, Asks, Echoes, wants, IsWished, asked_after, reads, Finishes, Place, place, IsMoment, Does, Performed, Did, CarriesOut, Leaves, Stops, GoesOn, Served, StopsAt, EndsAs, Begins, StartsAs, IsLinkFailure, reads_by, asked_by}
+use Rattle.dr_session.specs.Links.{Counts, IsLinkFault, Performs, FailsToPerform, PerformsOne, EndDoing, Hears, Asks, Echoes, wants, IsWished, asked_after, reads, Finishes, Place, place, IsMoment, Does, Performed, Did, CarriesOut, Leaves, Stops, GoesOn, Served, StopsAt, EndsAs, Begins, StartsAs, IsLinkFailure, reads_by, asked_by}
 
 -- what is the link's fault is the one value that says so
 pub fault_is : (came : Heard) → IsLinkFault came → came ≡ heard.Fault
@@ -116,7 +116,7 @@ module _ {L S : Type 0} (hears : L → Heard → L → Type 0) (sends : L → Li
   performed_hears at heard.Memory mid new acts other h = h
   performed_hears at (heard.Bytes piece) mid new acts other h = h
 
-  pub goes_on : (Is : Doing → Type 0) (x : Doing) (at : Moment) (acts : List LinkAction) (old mid new : Place L S) (r : Result (Unit {0}) SessionFault)
+  pub goes_on : (Is : EndDoing → Type 0) (x : EndDoing) (at : Moment) (acts : List LinkAction) (old mid new : Place L S) (r : Result (Unit {0}) SessionFault)
       → Is x → Does hears sends closes step tells others x old (Ok acts) mid → IsMoment tells others at
       → (IsPerformed acts mid new → Performed hears sends closes step tells others x mid acts new)
       → CarriesOut sends closes step at acts mid r new → GoesOn hears sends closes step tells others Is r old new
@@ -128,11 +128,11 @@ module _ {L S : Type 0} (hears : L → Heard → L → Type 0) (sends : L → Li
   goes_on Is x at acts old mid new (Err fault.TooManyReads) is does moment performed h = absurd h
   goes_on Is x at acts old mid new (Err fault.Desk) is does moment performed h = absurd h
 
-  memory_as : (Is : Doing → Type 0) (old new : Place L S) (e : SessionFault) → e ≡ fault.Memory → Stops hears sends closes step tells others Is fault.Memory old new.link new.port
+  memory_as : (Is : EndDoing → Type 0) (old new : Place L S) (e : SessionFault) → e ≡ fault.Memory → Stops hears sends closes step tells others Is fault.Memory old new.link new.port
       → GoesOn hears sends closes step tells others Is (Err e) old new
   memory_as Is old new e is h = subst (λ (w : SessionFault). GoesOn hears sends closes step tells others Is (Err w) old new) (sym is) h
 
-  pub memory_ends : (Is : Doing → Type 0) (x : Doing) (e : AllocError) (old new : Place L S) (r : Result (Unit {0}) SessionFault) → IsErr r → IsErrAnd r (λ (w : SessionFault). w ≡ fault.Memory)
+  pub memory_ends : (Is : EndDoing → Type 0) (x : EndDoing) (e : AllocError) (old new : Place L S) (r : Result (Unit {0}) SessionFault) → IsErr r → IsErrAnd r (λ (w : SessionFault). w ≡ fault.Memory)
       → Is x → Does hears sends closes step tells others x old (Err e) new → GoesOn hears sends closes step tells others Is r old new
   memory_ends Is x e old new (Ok done) no_err gives is does = absurd (false≢true no_err)
   memory_ends Is x e old new (Err w) err gives is does = memory_as Is old new w gives (inl (x, e, new.terminal, is, does))
@@ -155,17 +155,17 @@ module _ {L S : Type 0} (hears : L → Heard → L → Type 0) (step : S → Des
 
 -- ---- counts of reads, and of what was asked
 
-abbrev pub reads_after : Doing → ℕ → ℕ
+abbrev pub reads_after : EndDoing → ℕ → ℕ
 reads_after (Hears at came) n = n + 1
 reads_after (Asks at input) n = n
 reads_after (Echoes at) n = n
 
-after_suc : (x : Doing) (n : ℕ) → reads_after x n + 1 ≡ reads_after x (n + 1)
+after_suc : (x : EndDoing) (n : ℕ) → reads_after x n + 1 ≡ reads_after x (n + 1)
 after_suc (Hears at came) n = refl
 after_suc (Asks at input) n = refl
 after_suc (Echoes at) n = refl
 
-reads_more : (xs : List Doing) (x : Doing) → reads (xs ++ x ∷ []) ≡ reads_after x (reads xs)
+reads_more : (xs : List EndDoing) (x : EndDoing) → reads (xs ++ x ∷ []) ≡ reads_after x (reads xs)
 reads_more [] (Hears at came) = refl
 reads_more [] (Asks at input) = refl
 reads_more [] (Echoes at) = refl
@@ -173,7 +173,7 @@ reads_more (Hears at came ∷ xs) x = ap (λ (n : ℕ). n + 1) (reads_more xs x)
 reads_more (Asks at input ∷ xs) x = reads_more xs x
 reads_more (Echoes at ∷ xs) x = reads_more xs x
 
-read_as : (w : Wish) (x : Doing) (n : ℕ) → IsWished w x → reads_after x n ≡ reads_by w n
+read_as : (w : Wish) (x : EndDoing) (n : ℕ) → IsWished w x → reads_after x n ≡ reads_by w n
 read_as Listen (Hears at came) n is = refl
 read_as Listen (Asks at input) n is = absurd is
 read_as Listen (Echoes at) n is = absurd is
@@ -187,7 +187,7 @@ read_as Echo (Hears at came) n is = absurd is
 read_as Echo (Asks at input) n is = absurd is
 read_as Echo (Echoes at) n is = refl
 
-asked_as : (w : Wish) (x : Doing) (n : ℕ) → IsWished w x → asked_after x n ≡ asked_by w n
+asked_as : (w : Wish) (x : EndDoing) (n : ℕ) → IsWished w x → asked_after x n ≡ asked_by w n
 asked_as Listen (Hears at came) n is = refl
 asked_as Listen (Asks at input) n is = absurd is
 asked_as Listen (Echoes at) n is = absurd is
@@ -235,7 +235,7 @@ asked_below EchoOnce n t h = echo_by_test (is_free_in t.core) (nat_le 2 n) (nat_
 
 module _ {L S : Type 0} (hears : L → Heard → L → Type 0) (sends : L → List ℕ → Bool → L → Type 0) (closes : L → L → Type 0) (step : S → DeskCall → DeskAnswer → S → Type 0)
     (tells : ℕ → Type 0) (others : ℕ) (kind : Kind) where
-  served_more : (xs : List Doing) (x : Doing) (asked told : ℕ) (old mid new : Place L S) → Served hears sends closes step tells others kind asked old xs told mid
+  served_more : (xs : List EndDoing) (x : EndDoing) (asked told : ℕ) (old mid new : Place L S) → Served hears sends closes step tells others kind asked old xs told mid
       → over_of mid.terminal.core ≡ None → IsWished (wants kind told mid.terminal) x → Did hears sends closes step tells others mid x new
       → Served hears sends closes step tells others kind asked old (xs ++ x ∷ []) (asked_after x told) new
   served_more [] x asked told old mid new (t, same) going is did = (
@@ -248,7 +248,7 @@ module _ {L S : Type 0} (hears : L → Heard → L → Type 0) (sends : L → Li
 
   -- what has been done so far, with its counts
   pub record SoFar (old : Place L S) (done reads_made asked : ℕ) (now : Place L S) : Type 0 where
-    pub doings : List Doing
+    pub doings : List EndDoing
     pub served : Served hears sends closes step tells others kind 0 old doings asked now
     pub reads_are : reads doings ≡ reads_made
     pub few : asked ≤ 65536

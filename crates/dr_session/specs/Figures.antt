@@ -18,7 +18,8 @@ use Rattle.dr_nego.specs.declared.agreed.Agreed.{Agreed}
 use Rattle.dr_nego.specs.declared.fault.NegoFault.TheVariants.{StrangeId}
 use Rattle.dr_nego.specs.Agreeing.{AssociateRq, AssociateAc}
 use Rattle.dr_nego.specs.Answering.{application_context}
-use Rattle.dr_nego.specs.Figures.{archive, arch, gate, image, context, request, proposal}
+use Rattle.dr_plan_sound.specs.Samples.{image}
+use Rattle.dr_nego.specs.Figures.{archive, arch, gate, context, request, proposal}
 use Rattle.dr_nego.specs.Answering.{acceptance_of}
 use Rattle.dr_base.specs.declared.syntax.Syntax.TheVariants.{Explicit}
 use Rattle.dr_pdu.specs.declared.pdu.Pdu.TheVariants as pdu

@@ -2,8 +2,8 @@
 use Rattle.dr_pdu.specs.Written as pdus
 use Rattle.dr_pdu.specs.declared.pdu.Pdu.{Pdu}
 use Rattle.dr_pdu.specs.declared.pdu.Pdu.TheVariants as pdu
-use Rattle.dr_dimse.specs.Taking.{Stage, Idle, InCommand, InData}
-use Rattle.dr_dimse.specs.Written.{Fits}
+use Rattle.dr_dimse.specs.Taking.{MessageStage, Idle, InCommand, InData}
+use Rattle.dr_dimse.specs.Written.{CommandFits}
 use Rattle.dr_dimse.specs.declared.command.Command.TheVariants.{StoreRq}
 use Rattle.dr_ulstate.specs.declared.step.Incoming.{Incoming}
 use Rattle.dr_ulstate.specs.declared.step.Incoming.TheVariants.{AssociateAc, AssociateRj, DataTf}
@@ -20,10 +20,10 @@ use Rattle.dr_session.specs.declared.ends.Told.{Told}
 use Rattle.dr_session.specs.declared.ends.Told.TheVariants.{Plain, Strange, Store, Whole, Agreement}
 
 -- the command whose data set is under way can be written again
-abbrev pub StageFits : Stage → Type 0
+abbrev pub StageFits : MessageStage → Type 0
 StageFits Idle = Unit {0}
 StageFits (InCommand id text) = Unit {0}
-StageFits (InData id c body) = Fits c
+StageFits (InData id c body) = CommandFits c
 
 -- a request for an association can be written again
 abbrev pub InputFits : Input → Type 0
@@ -37,8 +37,8 @@ PduFits p = Unit {0}
 -- a command can be written again, and so can a request for an association
 abbrev pub ToldFits : Told → Type 0
 ToldFits (Plain i) = InputFits i
-ToldFits (Store context of id class instance found) = Fits (StoreRq id class instance)
-ToldFits (Whole context of command) = Fits command
+ToldFits (Store context of id class instance found) = CommandFits (StoreRq id class instance)
+ToldFits (Whole context of command) = CommandFits command
 ToldFits told = Unit {0}
 
 -- it came over the link, and is no request for an association

@@ -83,10 +83,10 @@ PerformsOne sends closes ok k Close l = (ok ≡ true) × closes k l
 -- ---- what a session wants of its end
 
 -- what is done at the end, at a moment: something came over the link, or something was asked of it
-pub data Doing : Type 0 where
-  Hears : (moment : Moment) → (came : Heard) → Doing
-  Asks : (moment : Moment) → (input : Input) → Doing
-  Echoes : (moment : Moment) → Doing
+pub data EndDoing : Type 0 where
+  Hears : (moment : Moment) → (came : Heard) → EndDoing
+  Asks : (moment : Moment) → (input : Input) → EndDoing
+  Echoes : (moment : Moment) → EndDoing
 
 -- An acceptor listens.
 abbrev pub receives : ℕ → Terminal → Wish
@@ -112,7 +112,7 @@ wants Receive asked terminal = receives asked terminal
 wants Deliver asked terminal = delivers asked terminal
 wants EchoOnce asked terminal = echoes asked terminal
 
-abbrev pub IsWished : Wish → Doing → Type 0
+abbrev pub IsWished : Wish → EndDoing → Type 0
 IsWished Listen (Hears at came) = Unit {0}
 IsWished Push (Asks at input) = input ≡ PushAsked
 IsWished Release (Asks at input) = input ≡ ReleaseAsked
@@ -120,12 +120,12 @@ IsWished Echo (Echoes at) = Unit {0}
 IsWished wish x = ⊥
 
 -- how often something was asked
-abbrev pub asked_after : Doing → ℕ → ℕ
+abbrev pub asked_after : EndDoing → ℕ → ℕ
 asked_after (Hears at came) asked = asked
 asked_after x asked = asked + 1
 
 -- how many reads of the link are among them
-abbrev pub reads : List Doing → ℕ
+abbrev pub reads : List EndDoing → ℕ
 reads [] = 0
 reads (Hears moment came ∷ xs) = reads xs + 1
 reads (x ∷ xs) = reads xs
@@ -178,7 +178,7 @@ module _ {L S : Type 0} (hears : L → Heard → L → Type 0) (sends : L → Li
     (closes : L → L → Type 0) (step : S → DeskCall → DeskAnswer → S → Type 0) (tells : ℕ → Type 0)
     (others : ℕ) where
   -- the doing, before the end's actions are performed
-  abbrev pub Does : Doing → Place L S → Result (List LinkAction) AllocError → Place L S → Type 0
+  abbrev pub Does : EndDoing → Place L S → Result (List LinkAction) AllocError → Place L S → Type 0
   Does (Hears at came) old result new =
       IsMoment tells others at
       × hears old.link came new.link
@@ -191,7 +191,7 @@ module _ {L S : Type 0} (hears : L → Heard → L → Type 0) (sends : L → Li
       × EchoesIn old.terminal.core at.now old.terminal result new.terminal
 
   -- the end's actions, in order; a fault of the link is none of them
-  abbrev pub Performed : Doing → Place L S → List LinkAction → Place L S → Type 0
+  abbrev pub Performed : EndDoing → Place L S → List LinkAction → Place L S → Type 0
   Performed (Hears at heard.Fault) mid acts new = ⊥
   Performed x mid acts new =
       Performs sends closes mid.link acts new.link
@@ -199,7 +199,7 @@ module _ {L S : Type 0} (hears : L → Heard → L → Type 0) (sends : L → Li
       × (new.terminal ≡ mid.terminal)
 
   -- the doing, with all of its actions
-  abbrev pub Did : Place L S → Doing → Place L S → Type 0
+  abbrev pub Did : Place L S → EndDoing → Place L S → Type 0
   Did old x new =
       (acts : List LinkAction) × (mid : Place L S) × Does x old (Ok acts) mid
       × Performed x mid acts new
@@ -213,36 +213,36 @@ module _ {L S : Type 0} (hears : L → Heard → L → Type 0) (sends : L → Li
 
   -- Why a session stops in the midst of such a doing. A fault of the link is heard as its end, so
   -- that what is pending is settled. Memory ends in the doing, or while leaving.
-  abbrev pub Stops : (Doing → Type 0) → SessionFault → Place L S → L → S → Type 0
+  abbrev pub Stops : (EndDoing → Type 0) → SessionFault → Place L S → L → S → Type 0
   Stops Is fault.Read old l t =
       (at : Moment) × (acts : List LinkAction) × (new : Terminal)
       × Is (Hears at heard.Fault)
       × Does (Hears at heard.Fault) old (Ok acts) (place l t new)
   Stops Is fault.Write old l t =
-      (x : Doing)
+      (x : EndDoing)
       × (acts dropped : List LinkAction)
       × (mid : Place L S) × Is x × Does x old (Ok acts) mid
       × FailsToPerform sends closes mid.link acts l
       × Leaves mid.terminal mid.port (Ok dropped) t
   Stops Is fault.Memory old l t =
-      ((x : Doing) × (e : AllocError) × (new : Terminal) × Is x
+      ((x : EndDoing) × (e : AllocError) × (new : Terminal) × Is x
       × Does x old (Err e) (place l t new))
-      ⊎ ((x : Doing) × (acts : List LinkAction) × (e : AllocError) × (mid : Place L S) × Is x
+      ⊎ ((x : EndDoing) × (acts : List LinkAction) × (e : AllocError) × (mid : Place L S) × Is x
       × Does x old (Ok acts) mid
       × FailsToPerform sends closes mid.link acts l
       × Leaves mid.terminal mid.port (Err e) t)
   Stops Is why old l t = ⊥
 
   -- one such doing, or why the session stops
-  abbrev pub GoesOn : (Doing → Type 0)
+  abbrev pub GoesOn : (EndDoing → Type 0)
       → Result (Unit {0}) SessionFault
       → Place L S → Place L S → Type 0
-  GoesOn Is (Ok done) old new = (x : Doing) × Is x × Did old x new
+  GoesOn Is (Ok done) old new = (x : EndDoing) × Is x × Did old x new
   GoesOn Is (Err why) old new = Stops Is why old new.link new.port
 
   -- What was done, one after the other, each as it was wished of an end that wasn't over. The
   -- number says how often something had been asked before.
-  abbrev pub Served : Kind → ℕ → Place L S → List Doing → ℕ → Place L S → Type 0
+  abbrev pub Served : Kind → ℕ → Place L S → List EndDoing → ℕ → Place L S → Type 0
   Served kind asked old [] told new = (told ≡ asked) × (new ≡ old)
   Served kind asked old (x ∷ xs) told new =
       (over_of old.terminal.core ≡ None)
@@ -259,19 +259,19 @@ module _ {L S : Type 0} (hears : L → Heard → L → Type 0) (sends : L → Li
   -- a session from there on: how it ended
   abbrev pub EndsAs : Kind → Result Ended SessionFault → Place L S → L → S → Type 0
   EndsAs kind (Ok ended) old l t =
-      (xs : List Doing) × (asked : ℕ) × (new : Terminal)
+      (xs : List EndDoing) × (asked : ℕ) × (new : Terminal)
       × Served kind 0 old xs asked (place l t new)
       × (over_of new.core ≡ Some (over.Ended ended))
   EndsAs kind (Err fault.Desk) old l t =
-      (xs : List Doing) × (asked : ℕ) × (new : Terminal)
+      (xs : List EndDoing) × (asked : ℕ) × (new : Terminal)
       × Served kind 0 old xs asked (place l t new)
       × (over_of new.core ≡ Some over.Desk)
   EndsAs kind (Err fault.TooManyReads) old l t =
-      (xs : List Doing) × (asked : ℕ) × (new : Terminal)
+      (xs : List EndDoing) × (asked : ℕ) × (new : Terminal)
       × Served kind 0 old xs asked (place l t new)
       × (reads xs ≡ 2 ^ 40)
   EndsAs kind (Err why) old l t =
-      (xs : List Doing) × (asked : ℕ) × (mid : Place L S)
+      (xs : List EndDoing) × (asked : ℕ) × (mid : Place L S)
       × Served kind 0 old xs asked mid
       × StopsAt kind why asked mid l t
 

@@ -10,7 +10,7 @@ use Rattle.dr_pdu.specs.declared.fault.PduFault.TheVariants.{More, UnknownType, 
 use Rattle.dr_pdu.specs.declared.fault.PduFault.TheVariants.{BadContextId, Memory, Failed}
 use Rattle.dr_pdu.specs.Grammar.{Shows}
 use Rattle.dr_pdu.specs.Feeding.{StartsPdu, Feeding}
-use Rattle.dr_dimse.specs.Taking.{Stage, Assembling, let_go}
+use Rattle.dr_dimse.specs.Taking.{MessageStage, Assembling, let_go}
 use Rattle.dr_session.specs.declared.ends.Input.{Input}
 use Rattle.dr_session.specs.declared.ends.Input.TheVariants.{Request, Acceptance, Rejection, Value}
 use Rattle.dr_session.specs.declared.ends.Input.TheVariants.{NoValue, ReleaseRq, ReleaseRp, Abort}
@@ -30,7 +30,7 @@ pub record At : Type 0 where
   pub moment : Moment
   pub input : Input
 
-abbrev pub with_stage : Stage → Core → Core
+abbrev pub with_stage : MessageStage → Core → Core
 with_stage stage c = record c { assembly = assembling c.assembly.awaited stage }
 
 -- the bytes of the data set that an end is hearing are let go, as those of one that is too large
@@ -39,17 +39,18 @@ without_data c = with_stage (let_go c.assembly.stage) c
 
 -- what an input comes to, and the end after it
 abbrev pub TellsTo : Core → Input → Told → Core → Type 0
-TellsTo c i told after = (stage : Stage) × Tells c i told stage × (after ≡ with_stage stage c)
+TellsTo c i told after =
+    (stage : MessageStage) × Tells c i told stage × (after ≡ with_stage stage c)
 
 abbrev pub TellsValueTo : Core → Pdv → Told → Core → Type 0
 TellsValueTo c p told after =
-    (stage : Stage) × TellsValue c.agreed c p told stage × (after ≡ with_stage stage c)
+    (stage : MessageStage) × TellsValue c.agreed c p told stage × (after ≡ with_stage stage c)
 
 -- one input: what it comes to, and what is done
 pub record Reacts {S : Type 0} (step : S → DeskCall → DeskAnswer → S → Type 0) (c : Core) (i : At)
     (s : S) (x : Effect) (t : S) : Type 0 where
   pub told : Told
-  pub stage : Stage
+  pub stage : MessageStage
   pub tells : Tells c i.input told stage
   pub turns : Turns step (turn i.moment (with_stage stage c) told) s x t
 
@@ -57,7 +58,7 @@ pub record Reacts {S : Type 0} (step : S → DeskCall → DeskAnswer → S → T
 pub record Stops {S : Type 0} (step : S → DeskCall → DeskAnswer → S → Type 0) (c : Core) (i : At)
     (s t : S) : Type 0 where
   pub by : (t ≡ s)
-      ⊎ ((told : Told) × (stage : Stage)
+      ⊎ ((told : Told) × (stage : MessageStage)
       × Tells c i.input told stage
       × Broke step (turn i.moment (with_stage stage c) told) s t)
 

@@ -32,7 +32,7 @@ use Rattle.dr_dimse.specs.declared.command.Command.TheVariants.{StoreRq, StoreRs
 use Rattle.dr_dimse.specs.declared.command.Command.TheVariants.{Other}
 use Rattle.dr_dimse.specs.declared.message.Awaited.{Awaited}
 use Rattle.dr_dimse.specs.declared.message.Awaited.TheVariants.{AnswerTo, Nothing}
-use Rattle.dr_dimse.specs.Taking.{Stage, Assembling}
+use Rattle.dr_dimse.specs.Taking.{MessageStage, Assembling}
 use Rattle.dr_ledger.specs.declared.content.Job.{Job}
 use Rattle.dr_ledger.specs.declared.item.Arrived.{Arrived}
 use Rattle.dr_ledger.specs.declared.item.Outcome.TheVariants.{Status, Broken, NoContext}
@@ -93,7 +93,7 @@ stepped_by e now c = record c { phase = phase_after (next_stepped e true c.phase
 abbrev pub is_requestor : Core → Bool
 is_requestor c = side_of c.phase
 
-abbrev pub assembling : Awaited → Stage → Assembling
+abbrev pub assembling : Awaited → MessageStage → Assembling
 assembling awaited stage = record { awaited = awaited; stage = stage }
 
 -- a requestor awaits the response to this store, or nothing

@@ -10,7 +10,8 @@ use Rattle.dr_dimse.specs.declared.command.Command.TheVariants.{EchoRq}
 use Rattle.dr_nego.specs.declared.agreed.Agreed.{Agreed}
 use Rattle.dr_nego.specs.Agreeing.{AssociateRq}
 use Rattle.dr_nego.specs.Answering.{acceptance_of, verification}
-use Rattle.dr_nego.specs.Figures.{arch, archive, gate, image, proposal}
+use Rattle.dr_plan_sound.specs.Samples.{image}
+use Rattle.dr_nego.specs.Figures.{arch, archive, gate, proposal, other}
 use Rattle.dr_nego.specs.Fragments.{spellings}
 use Rattle.dr_nego.specs.Proposing.{echo_proposal}
 use Rattle.dr_session.specs.declared.ends.Core.{Core}
@@ -21,7 +22,7 @@ use Rattle.dr_session.specs.declared.ends.Told.{Told}
 use Rattle.dr_session.specs.declared.ends.Told.TheVariants.{Store, Whole}
 use Rattle.dr_session.specs.Figures.{acceptor, placed, sends, shows}
 use Rattle.dr_session.specs.Reactions.{awaiting, effect, gives_in, id_after, storing, turn}
-use Rattle.dr_session.specs.Statuses.{an_image, other, uid}
+use Rattle.dr_session.specs.Statuses.{an_image, uid}
 use Rattle.dr_session.specs.Turns.{Ends}
 
 -- the other side takes PDUs of at most that length
@@ -29,8 +30,8 @@ abbrev pub within : ℕ → Agreed
 within limit = record { pairs = []; limit = limit }
 
 -- an established acceptor writes just this
-abbrev pub Answers : ℕ → Core → Moment → Told → List ℕ → Type 0
-Answers limit c at told bytes =
+abbrev pub AcceptorWrites : ℕ → Core → Moment → Told → List ℕ → Type 0
+AcceptorWrites limit c at told bytes =
     shows (turn at (record (placed (acceptor Sta6) c) { agreed = Some (within limit) }) told)
     ≡ Some (record { state = 6; acts = sends bytes; ended = Closed })
 
@@ -57,13 +58,15 @@ echo_in context of = Whole context of (EchoRq 0x0203 verification false)
 
 pub record EchoAnswers (c : Core) (at : Moment) : Type 0 where
   pub success :
-      Answers 16384 c at (echo_in 5 verification) (transfer 84 80 5 3 (echo_answer 0 0))
+      AcceptorWrites 16384 c at (echo_in 5 verification) (transfer 84 80 5 3 (echo_answer 0 0))
   -- another class than the context's: 0122H
-  pub misplaced : Answers 16384 c at (echo_in 255 image) (transfer 84 80 255 3 (echo_answer 0x22 1))
+  pub misplaced :
+      AcceptorWrites 16384 c at (echo_in 255 image) (transfer 84 80 255 3 (echo_answer 0x22 1))
   -- no limit
-  pub unlimited : Answers 0 c at (echo_in 5 verification) (transfer 84 80 5 3 (echo_answer 0 0))
+  pub unlimited :
+      AcceptorWrites 0 c at (echo_in 5 verification) (transfer 84 80 5 3 (echo_answer 0 0))
   -- PDUs of at most 32 bytes: three, each with 26 bytes of the response, and the last one marked
-  pub short : Answers 32 c at (echo_in 5 verification)
+  pub short : AcceptorWrites 32 c at (echo_in 5 verification)
       (transfer 32 28 5 1 (take 26 (echo_answer 0 0))
       ++ (transfer 32 28 5 1 (take 26 (drop 26 (echo_answer 0 0)))
       ++ transfer 32 28 5 3 (drop 52 (echo_answer 0 0))))
@@ -82,16 +85,17 @@ store_answer low high =
 
 pub record StoreAnswers (c : Core) (at : Moment) : Type 0 where
   -- too large: A700H
-  pub large : Answers 16384 c at (Store 7 image 0x0203 image uid TooLarge)
+  pub large : AcceptorWrites 16384 c at (Store 7 image 0x0203 image uid TooLarge)
       (transfer 108 104 7 3 (store_answer 0 0xA7))
   -- no instance: C000H
-  pub unreadable : Answers 16384 c at (Store 7 image 0x0203 image uid Unreadable)
+  pub unreadable : AcceptorWrites 16384 c at (Store 7 image 0x0203 image uid Unreadable)
       (transfer 108 104 7 3 (store_answer 0 0xC0))
   -- another class than the context's: 0122H
-  pub misplaced : Answers 16384 c at (Store 3 other 0x0203 image uid Unreadable)
+  pub misplaced : AcceptorWrites 16384 c at (Store 3 other 0x0203 image uid Unreadable)
       (transfer 108 104 3 3 (store_answer 0x22 1))
   -- another instance than the command names: A900H
-  pub another : Answers 16384 c at (Store 7 image 0x0203 image uid (Read (an_image image other)))
+  pub another : AcceptorWrites 16384 c at
+      (Store 7 image 0x0203 image uid (Read (an_image image other)))
       (transfer 108 104 7 3 (store_answer 0 0xA9))
 
 -- ---- message ids (PS3.7 9.1.1.1.1: a number of two bytes)

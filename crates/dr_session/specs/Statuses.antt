@@ -8,7 +8,7 @@ use Rattle.dr_ledger.specs.declared.content.Job.{Job}
 use Rattle.dr_ledger.specs.declared.content.ItemFault.TheVariants as items
 use Rattle.dr_ledger.specs.declared.item.Arrived.TheVariants.{New, Again}
 use Rattle.dr_ledger.specs.declared.fault.LedgerFault.TheVariants as fault
-use Rattle.dr_nego.specs.Figures.{image}
+use Rattle.dr_plan_sound.specs.Samples.{image}
 use Rattle.dr_session.specs.declared.ends.Core.{Core}
 use Rattle.dr_session.specs.declared.ends.Effect.{Effect}
 use Rattle.dr_session.specs.declared.ends.Found.{Found}
@@ -17,9 +17,7 @@ use Rattle.dr_session.specs.Desks.{DeskCall, DeskAnswer, Arrive, Arrival}
 use Rattle.dr_session.specs.Reactions.{Reaction, stored, stores}
 use Rattle.dr_session.specs.Telling.{Finds, FindsIn}
 use Rattle.dr_session.specs.Turns.{Ends, Makes}
-
-abbrev pub other : Text
-other = codes "1.2.3"
+use Rattle.dr_nego.specs.Figures.{other}
 
 abbrev pub uid : Text
 uid = codes "1.2.3.4"

@@ -19,7 +19,7 @@ use Rattle.dr_dimse.specs.declared.fault.DimseFault.TheVariants as dimse
 use Rattle.dr_dimse.specs.declared.message.Body.{Body}
 use Rattle.dr_dimse.specs.declared.message.Body.TheVariants as body
 use Rattle.dr_dimse.specs.declared.message.Message.{Message}
-use Rattle.dr_dimse.specs.Taking.{Stage, Takes}
+use Rattle.dr_dimse.specs.Taking.{MessageStage, Takes}
 use Rattle.dr_ledger.specs.declared.content.Job.{Job}
 use Rattle.dr_ledger.specs.declared.content.ItemFault.{ItemFault}
 use Rattle.dr_ledger.specs.declared.content.ItemFault.TheVariants as items
@@ -85,14 +85,14 @@ Says x (Err dimse.Memory) told = ⊥
 Says x (Err fault) told = told ≡ Fault
 
 -- a value in an accepted context goes to the assembly
-abbrev pub TellsIn : Option Pair → Core → Pdv → Told → Stage → Type 0
+abbrev pub TellsIn : Option Pair → Core → Pdv → Told → MessageStage → Type 0
 TellsIn None c p told stage = (told ≡ Strange) × (stage ≡ c.assembly.stage)
 TellsIn (Some x) c p told stage =
     (answer : Result (Option Message) DimseFault)
     × Takes c.assembly.awaited c.assembly.stage p answer stage
     × Says x answer told
 
-abbrev pub TellsValue : Option Agreed → Core → Pdv → Told → Stage → Type 0
+abbrev pub TellsValue : Option Agreed → Core → Pdv → Told → MessageStage → Type 0
 TellsValue None c p told stage = (told ≡ Strange) × (stage ≡ c.assembly.stage)
 TellsValue (Some agreed) c p told stage = TellsIn (pair_at agreed p.id) c p told stage
 
@@ -112,7 +112,7 @@ TellsAcceptance (Some rq) ac told =
 -- ---- any input
 
 -- a value is looked into where the table takes data, an acceptance where it awaits one
-abbrev pub Looks : Option Action → Core → Input → Told → Stage → Type 0
+abbrev pub Looks : Option Action → Core → Input → Told → MessageStage → Type 0
 Looks (Some Dt2) c (Value p) told stage = TellsValue c.agreed c p told stage
 Looks (Some Ar6) c (Value p) told stage = TellsValue c.agreed c p told stage
 Looks (Some Ae3) c (Acceptance ac) told stage =
@@ -128,5 +128,5 @@ abbrev pub action_at : Core → Option Event → Option Action
 action_at c None = None
 action_at c (Some e) = action_of e (state_at c)
 
-abbrev pub Tells : Core → Input → Told → Stage → Type 0
+abbrev pub Tells : Core → Input → Told → MessageStage → Type 0
 Tells c i told stage = Looks (action_at c (event_of_input i)) c i told stage

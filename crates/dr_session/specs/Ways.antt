@@ -3,7 +3,7 @@ use Rattle.std.specs.Prelude.{◌≡◌, ℕ, Bool, true, List}
 use Rattle.dr_session.specs.declared.ends.Heard.{Heard}
 use Rattle.dr_session.specs.declared.wishes.Kind.{Kind}
 use Rattle.dr_session.specs.Desks.{DeskCall, DeskAnswer}
-use Rattle.dr_session.specs.Links.{Doing, Place, Served}
+use Rattle.dr_session.specs.Links.{EndDoing, Place, Served}
 
 -- a call of the desk has one answer, and leaves one desk
 abbrev pub AnswersOneWay : {S : Type 0} → (S → DeskCall → DeskAnswer → S → Type 0) → Type 0
@@ -38,7 +38,7 @@ SessionsGoOneWay {L} {S} {C} hears sends closes step tells =
     → ClosesOneWay closes
     → AnswersOneWay step
     → (clock : C) (others : ℕ) (kind : Kind) (asked told again : ℕ) (old new other : Place L S)
-    (xs : List Doing)
+    (xs : List EndDoing)
     → Served hears sends closes step (tells clock) others kind asked old xs told new
     → Served hears sends closes step (tells clock) others kind asked old xs again other
     → (told ≡ again) × (new ≡ other)

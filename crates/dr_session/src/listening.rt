@@ -1,7 +1,7 @@
 //! The messages that an end is hearing, with the scans of their data sets.
 ghost use Rattle.std.specs.Prelude.{◌≡◌, IfOk, IfSome};
 ghost use Rattle.dr_dimse.specs.Taking.{Idle, Takes, let_go};
-ghost use Rattle.dr_dimse.specs.Written.{Fits};
+ghost use Rattle.dr_dimse.specs.Written.{CommandFits};
 ghost use Rattle.dr_dimse_scan.specs.Stores.{HasScan, message_of};
 
 use dr_base::Syntax;
@@ -66,7 +66,7 @@ impl Listener {
         ensures awaited { self.new.awaited ≡ self.old.awaited }
         ensures takes { Takes self.old.awaited self.old.stage pdv (message_of result)
             self.new.stage }
-        ensures fits { IfOk result (λ ended. IfSome ended (λ h. Fits h.message.command)) }
+        ensures fits { IfOk result (λ ended. IfSome ended (λ h. CommandFits h.message.command)) }
         ensures scans { IfOk result (λ ended. IfSome ended (λ h. HasScan syntax h)) }
     {
         self.hearing.take(pdv, syntax)

@@ -1,6 +1,6 @@
 //! What an input comes to, for an end that knows what it agreed on and what is under way.
 ghost use Rattle.std.specs.Prelude.{◌≡◌, IfOk, IsTrue, ◌↔◌};
-ghost use Rattle.dr_dimse.specs.Written.{Fits};
+ghost use Rattle.dr_dimse.specs.Written.{CommandFits};
 ghost use Rattle.dr_dimse_scan.specs.Stores.{HasScan};
 ghost use Rattle.dr_session.specs.Fits.{InputFits, ToldFits};
 ghost use Rattle.dr_session.specs.Plays.{TellsTo, TellsValueTo};
@@ -92,7 +92,7 @@ fn tell_message(
     syntax: Option<Syntax>,
     heard: HeardMessage,
 ) -> Result<Told, AllocError>
-    requires fits { Fits heard.message.command }
+    requires fits { CommandFits heard.message.command }
     requires names { NamesSyntax pair.now.syntax syntax }
     requires scan { HasScan syntax heard }
     ensures tells { IfOk result (λ told.

@@ -1,6 +1,6 @@
 //! What an end writes: the spellings of PDUs, and messages in fragments (PS3.8 annex E).
 ghost use Rattle.std.specs.Prelude.{◌≡◌, ◌∷◌, [], IfOk, true};
-ghost use Rattle.dr_dimse.specs.Written.{Fits as IsFit};
+ghost use Rattle.dr_dimse.specs.Written.{CommandFits as IsFit};
 ghost use Rattle.dr_pdu.specs.Written.{Fits};
 ghost use Rattle.dr_pdu.specs.declared.pdu.Pdu.TheVariants as pdu;
 ghost use Rattle.dr_session.specs.Messages.{command_pdus};

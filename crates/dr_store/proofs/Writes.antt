@@ -12,7 +12,7 @@ use Rattle.dr_ledger.specs.declared.fault.LedgerFault.{LedgerFault}
 use Rattle.dr_ledger.specs.declared.fault.LedgerFault.TheVariants as fault
 use Rattle.dr_ledger.specs.Books.{Book}
 use Rattle.dr_ledger.specs.Refusals.{Arms}
-use Rattle.dr_ledger.specs.Replies.{Counts, HasRisen, IsLastingFault, Lasts, LastsAfter, Reads}
+use Rattle.dr_ledger.specs.Replies.{Counts, HasRisen, IsLastingFault, PremiseLasts, LastsAfter, Reads}
 use Rattle.dr_store_schema.specs.Books.{bodies_of, book_of}
 use Rattle.dr_store_calls.specs.Calling.{Called, IsKept, IsSafe, Looked, Nothing}
 use Rattle.dr_store.specs.Counting.{failures_after}
@@ -95,7 +95,7 @@ module _ {A : Type 0} (n m : ℕ) (part next : Part) (r : Result A LedgerFault) 
   pub answered : Stable (Answers old.committed.trees new.committed.trees) → IsSafe new → Answers old.committed.trees new.committed.trees
   answered stable safe = stable (∥∥₁_map (kept (was_safe safe)) (λ k. c.answers safe.0 safe.1 k))
 
-  pub lasting : Lasts r (HasCleanDisk old) (HasCleanDisk new) (IsSafe old) (IsSafe new)
+  pub lasting : PremiseLasts r (HasCleanDisk old) (HasCleanDisk new) (IsSafe old) (IsSafe new)
   lasting = record { trusted = λ clean. omega (arith, c.clean, clean); lasts = go r (λ clean safe. ∥∥₁_map (kept safe) (λ k. c.lasts clean k)) }
     where
       go : (q : Result A LedgerFault) → (HasCleanDisk new → IsSafe old → ∥ LastsAfter q (IsTrue new.is_open) ∥₁) → LastsAfter q (HasCleanDisk new → IsSafe old → IsSafe new)
@@ -152,7 +152,7 @@ module _ {A : Type 0} (n : ℕ) (part : Part) (r : Result A LedgerFault) (old ne
   pub looked_kept : IsSafe new → ∥ IsKept n part new ∥₁
   looked_kept = still_kept n n part part r old new Same (λ base db. ⊥) kept done
 
-  pub looked_lasting : Lasts r (HasCleanDisk old) (HasCleanDisk new) (IsSafe old) (IsSafe new)
+  pub looked_lasting : PremiseLasts r (HasCleanDisk old) (HasCleanDisk new) (IsSafe old) (IsSafe new)
   looked_lasting = lasting n n part part r old new Same (λ base db. ⊥) kept done
 
   pub looked_same : IsSafe new → new.committed.trees ≡ old.committed.trees

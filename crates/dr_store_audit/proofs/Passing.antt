@@ -25,7 +25,7 @@ use Rattle.dr_ledger.specs.Books.{Fold}
 use Rattle.dr_ledger.specs.Pairs.{Pair, pair_cmp}
 use Rattle.dr_ledger.specs.SiteRoutes.{site_routing}
 use Rattle.dr_ledger.proofs.Maps.{IsExact, text_pairs, texts}
-use Rattle.dr_ledger_history.specs.Contents.{AreInOrder, Content, all_of, content_of}
+use Rattle.dr_ledger_history.specs.Contents.{AreListsInOrder, Content, all_of, content_of}
 use Rattle.dr_store_schema.specs.Books.{book_of, contents_in, is_whole, names_in, rows_of, wholes_in}
 use Rattle.dr_store_changes.proofs.LettingGo.{body_at}
 use Rattle.dr_store_reads.specs.declared.finding.Print.{Print}
@@ -141,7 +141,7 @@ module _ (n : ℕ) (part : Part) (db : Trees) (keys : List (Text × Key)) (print
   pub is_a_journal : IsNoJournal (site_routing part) (lines_told goals notes) → ⊥
   is_a_journal none = none (book_of db) agreed.found.journalled (lines_are db goals are.goals_are notes are.notes_are)
 
-  pub in_order : AreInOrder arrivals kept rows
+  pub in_order : AreListsInOrder arrivals kept rows
   in_order = record {
     arrivals_rise = are.arrivals_are.ordered;
     kept_rise = are.kept_are.ordered;

@@ -17,7 +17,7 @@ use Rattle.dr_store_changes.specs.Writing.{IsMade, IsReady, Written}
 use Rattle.dr_store_changes.proofs.Movements.{goes_over}
 use Rattle.dr_store_calls.specs.Calling.{Called, IsKept, IsLedgerOf, IsOwnFault, Looked, Nothing}
 use Rattle.dr_store_calls.proofs.Calls.{below_of, looked_failed, still_called, unmade_called}
-use Rattle.dr_store_calls.specs.Adoptions.{Adopted, Adopts, Answers, Clears, IsAdopted, NotesPlan}
+use Rattle.dr_store_calls.specs.Adoptions.{Adopted, AdoptsPlan, AnswersAdoption, Clears, IsAdopted, NotesPlan}
 use Rattle.dr_store_calls.proofs.Adoptions.{adopted_ledgers_are_of_the_next, adoptions_adopt}
 
 -- ---- the statements
@@ -60,7 +60,7 @@ noted plan n old mid new s a =
 pub owned_still : (old mid : State) → HasSite old.now.trees → GoesOn old mid × Clears old.now.trees mid.now.trees → GoesOn old mid × HasSite mid.now.trees
 owned_still old mid owned c = (c.0, (owned.0, owned.1, c.1.site ∙ owned.2))
 
-pub adopts : (plan : List ℕ) (n : ℕ) (old mid new : State) → GoesOn old mid × Clears old.now.trees mid.now.trees → GoesOn mid new × NotesPlan plan n mid.now.trees new.now.trees → IsMade n (Adopts plan n) old new
+pub adopts : (plan : List ℕ) (n : ℕ) (old mid new : State) → GoesOn old mid × Clears old.now.trees mid.now.trees → GoesOn mid new × NotesPlan plan n mid.now.trees new.now.trees → IsMade n (AdoptsPlan plan n) old new
 adopts plan n old mid new one two =
     let c = one.1 in
     let p = two.1 in
@@ -118,12 +118,12 @@ module _ (n : ℕ) (part next : Part) (old new : State) (still : old.in_transact
   owned : IsReady n old → IsLedgerOf n part old.committed.trees → OwnedBy node old.committed.trees → HasSite old.committed.trees
   owned ready l asks = (node, asks.0, asks.1)
 
-  adopted_so : IsReady n old → IsLedgerOf n part old.committed.trees → OwnedBy node old.committed.trees → (db : Trees) → Adopts next.digest n old.committed.trees db → IsAdopted next old.committed.trees db
+  adopted_so : IsReady n old → IsLedgerOf n part old.committed.trees → OwnedBy node old.committed.trees → (db : Trees) → AdoptsPlan next.digest n old.committed.trees db → IsAdopted next old.committed.trees db
   adopted_so ready l asks db w =
       let it = adoptions_adopt old.committed.trees db next.digest n (below_of n old ready) w in
       record { book = it.0; bodies = it.1; owner = subst (λ name. IsSiteOf name next.digest db) named (w.site node asks.0 asks.1) }
 
-  pub written_adopted : (r : Result (Unit {0}) LedgerFault) → IfErr r IsOwnFault → Written {E = LedgerFault} n HasSite (Adopts next.digest n) r old new → Adopted n part next r old new (OwnedBy node)
+  pub written_adopted : (r : Result (Unit {0}) LedgerFault) → IfErr r IsOwnFault → Written {E = LedgerFault} n HasSite (AdoptsPlan next.digest n) r old new → Adopted n part next r old new (OwnedBy node)
   written_adopted (Ok done) own w = record {
     clean = w.clean;
     was_open = w.was_open;
@@ -144,7 +144,7 @@ module _ (n : ℕ) (part next : Part) (old new : State) (still : old.in_transact
       before : IsKept n part old → OwnedBy node old.committed.trees → HasSite old.now.trees
       before k asks = subst (λ (d : Database). HasSite d.trees) (sym k.ready.settled) (node, asks.0, asks.1)
   written_adopted (Err e) own w = refused_adopted n part next old new (OwnedBy node) e (λ clean is_open k. own)
-      (unmade_called {A = Unit {0}} n part HasSite (OwnedBy node) (Adopts next.digest n) Stood (IsAdopted next) old new still owned e own w adopted_so (λ asks. refl))
+      (unmade_called {A = Unit {0}} n part HasSite (OwnedBy node) (AdoptsPlan next.digest n) Stood (IsAdopted next) old new still owned e own w adopted_so (λ asks. refl))
 
 -- where nothing is tried
 pub not_adopted : (n : ℕ) (part next : Part) (s : State) (Asks : Trees → Type 0) → Adopted n part next (Err fault.Store) s s Asks
@@ -161,7 +161,7 @@ module _ {A : Type 0} (n : ℕ) (part next : Part) (old mid new : State) (Shows 
     idle = λ h. c.idle (l.idle h);
     lasts = λ clean k any. c.lasts clean (middle clean k) (given clean k);
     kept = λ clean is_open k any. c.kept clean is_open (middle clean k) (given clean k);
-    answers = λ clean is_open k any. subst (λ base. Answers next r base new.committed.trees) (shown clean k).0 (c.answers clean is_open (middle clean k) (given clean k));
+    answers = λ clean is_open k any. subst (λ base. AnswersAdoption next r base new.committed.trees) (shown clean k).0 (c.answers clean is_open (middle clean k) (given clean k));
     crash = λ clean k any db left. elim (c.crash clean (middle clean k) (given clean k) db left) [
       | inl before ↦ elim (l.crash (early clean) k tt db before) [ inl h ↦ inl h | inr none ↦ absurd none ]
       | inr made ↦ inr (subst (λ base. IsAdopted next base db) (shown clean k).0 made)

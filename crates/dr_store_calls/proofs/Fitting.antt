@@ -31,7 +31,7 @@ use Rattle.dr_store_changes.specs.Bringing.{given_up, is_dropped, missing}
 use Rattle.dr_store_changes.specs.Changes.{HasBoth, HasNeither, HasRows}
 use Rattle.dr_store_changes.proofs.Fresh.{ended_stays, row_came, waits_anew}
 use Rattle.dr_store_calls.specs.Calling.{IsLedgerOf}
-use Rattle.dr_store_calls.specs.Knowing.{Fits, IsThere, chosen, is_chosen, taking_absent, taking_there}
+use Rattle.dr_store_calls.specs.Knowing.{FitsTables, IsThere, chosen, is_chosen, taking_absent, taking_there}
 use Rattle.dr_store_calls.proofs.Knows.{no_item_there}
 
 -- ---- what a site's targets are
@@ -147,10 +147,10 @@ module _ (n : ℕ) (part : Part) (caller : Text) (item : Job) (to : List Text) (
   new_needed (inl kept) = inl (now_kept keep (all_kept_in (base 7)) item.uid kept)
   new_needed (inr some) = inr (some.0, Waiting 0 0, waits_anew to (rows_of base) item.uid some.0 some.1 (inl (no_rows some.0)), refl)
 
-  fits_new : (keep ≡ true) ⊎ ((dest : Text) × Contains to dest) → Fits taking.New caller item to keep [] to keep base
+  fits_new : (keep ≡ true) ⊎ ((dest : Text) × Contains to dest) → FitsTables taking.New caller item to keep [] to keep base
   fits_new some = record { asks = neither; known = no_item; comes = new_needed some; again_are = sym (none_dropped (rows_of base) item.uid to no_rows); missing_are = sym (missing_all (rows_of base) item.uid to no_rows); keeps_is = keeps_new; first = not_brought }
 
-  fits_bare : keep ≡ false → ((dest : Text) → Contains to dest → ⊥) → Fits taking.Bare caller item to keep [] to keep base
+  fits_bare : keep ≡ false → ((dest : Text) → Contains to dest → ⊥) → FitsTables taking.Bare caller item to keep [] to keep base
   fits_bare unkept none = record {
     asks = neither;
     known = no_item;
@@ -170,10 +170,10 @@ module _ (n : ℕ) (part : Part) (caller : Text) (item : Job) (to : List Text) (
     first = not_brought;
   }
 
-  pub fits_absent : Fits (taking_absent keep (length to == 0)) caller item to keep [] to keep base
+  pub fits_absent : FitsTables (taking_absent keep (length to == 0)) caller item to keep [] to keep base
   fits_absent = go keep (length to == 0) refl refl
     where
-      go : (k none : Bool) → keep ≡ k → (length to == 0) ≡ none → Fits (taking_absent k none) caller item to keep [] to keep base
+      go : (k none : Bool) → keep ≡ k → (length to == 0) ≡ none → FitsTables (taking_absent k none) caller item to keep [] to keep base
       go true none kept is = fits_new (inl kept)
       go false true unkept is = fits_bare unkept (none_among to is)
       go false false unkept is = fits_new (inr (some_among to is))
@@ -205,16 +205,16 @@ module _ (n : ℕ) (part : Part) (caller : Text) (item : Job) (to : List Text) (
       let from = missing_from (rows_of base) item.uid some.0 to (subst (λ ds. Contains ds some.0) dests_are some.1) in
       inr (some.0, Waiting 0 0, waits_anew to (rows_of base) item.uid some.0 from.0 (inl from.1), refl)
 
-  fits_again : (keep ≡ true) ⊎ WaitsSomewhere → Fits taking.Again caller item to keep again dests (keep && not kept) base
+  fits_again : (keep ≡ true) ⊎ WaitsSomewhere → FitsTables taking.Again caller item to keep again dests (keep && not kept) base
   fits_again some = record { asks = there.both; known = there.same; comes = again_needed some; again_are = again_are; missing_are = dests_are; keeps_is = keeps_more; first = first }
 
-  fits_whole : whole ≡ true → Fits taking.Nothing caller item to keep again dests (keep && not kept) base
+  fits_whole : whole ≡ true → FitsTables taking.Nothing caller item to keep again dests (keep && not kept) base
   fits_whole is = record { asks = tt; known = there.same; comes = λ needed. some_of (map.get (bodies_of base) item.uid) (there.body ∙ is); again_are = again_are; missing_are = dests_are; keeps_is = keeps_more; first = first }
 
   not_needed : whole ≡ false → IsNeeded (book_of base) item.uid → ⊥
   not_needed is needed = let body = (l.bodied.there item.uid).1 needed in true≢false (sym (ap is_some body.1) ∙ there.body ∙ is)
 
-  fits_nothing : whole ≡ false → keep ≡ false → again ≡ [] → dests ≡ [] → Fits taking.Nothing caller item to keep again dests (keep && not kept) base
+  fits_nothing : whole ≡ false → keep ≡ false → again ≡ [] → dests ≡ [] → FitsTables taking.Nothing caller item to keep again dests (keep && not kept) base
   fits_nothing bare unkept unchanged none = record {
     asks = tt;
     known = there.same;
@@ -259,10 +259,10 @@ module _ (n : ℕ) (part : Part) (caller : Text) (item : Job) (to : List Text) (
   waits_so true false are is h = inr (some_among dests is)
   waits_so false d are is h = inl (some_among again are)
 
-  pub fits_there : Fits (taking_there whole keep ((length again == 0) && (length dests == 0))) caller item to keep again dests (keep && not kept) base
+  pub fits_there : FitsTables (taking_there whole keep ((length again == 0) && (length dests == 0))) caller item to keep again dests (keep && not kept) base
   fits_there = go whole keep ((length again == 0) && (length dests == 0)) refl refl refl
     where
-      go : (w k none : Bool) → whole ≡ w → keep ≡ k → ((length again == 0) && (length dests == 0)) ≡ none → Fits (taking_there w k none) caller item to keep again dests (keep && not kept) base
+      go : (w k none : Bool) → whole ≡ w → keep ≡ k → ((length again == 0) && (length dests == 0)) ≡ none → FitsTables (taking_there w k none) caller item to keep again dests (keep && not kept) base
       go true k none is kept one = fits_whole is
       go false true none bare is one = fits_again (inl is)
       go false false true bare unkept is =

@@ -36,7 +36,7 @@ use Rattle.dr_store_changes.proofs.Joins.{arrivals_arrive, data_sets_come}
 use Rattle.sqlite.specs.State.{State}
 use Rattle.dr_store_calls.specs.declared.bringing.Delivery.{Delivery}
 use Rattle.dr_store_calls.specs.Calling.{IsLedgerOf, IsOwnFault, Looked, advanced}
-use Rattle.dr_store_calls.specs.Knowing.{Fits, IsThere}
+use Rattle.dr_store_calls.specs.Knowing.{FitsTables, IsThere}
 use Rattle.dr_store_calls.specs.Receiving.{Accepts, AnswersTo, IsDelivered, Receives, ReceivesAs}
 use Rattle.dr_store_calls.proofs.Calls.{asked_as, called_as, looked_failed, looked_then, still_called}
 
@@ -56,7 +56,7 @@ known_same taking.Nothing item found known held is = sym (inside item held (sym 
 
 module _ (n : ℕ) (part : Part) (how : Taking) (caller : Text) (item : Job) (to : List Text) (keep : Bool) (again dests : List Text) (keeps : Bool) (base db : Trees) (is_item : IsItem item)
     (line : HasLineFor part caller item.key) (to_is : to ≡ (site_routing part).targets caller item.key) (keep_is : keep ≡ (site_routing part).keeps caller item.key) (names : AreNames to)
-    (below : AreBelow n (base 11)) (l : IsLedgerOf n part base) (f : Fits how caller item to keep again dests keeps base)
+    (below : AreBelow n (base 11)) (l : IsLedgerOf n part base) (f : FitsTables how caller item to keep again dests keeps base)
     (w : Brings how caller (instance_of item) item.body again dests keeps (names_for keep to) n base db) where
   abbrev instance : Instance
   instance = instance_of item

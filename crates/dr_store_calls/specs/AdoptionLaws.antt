@@ -5,13 +5,13 @@ use Rattle.dr_site.specs.Parts.{Part}
 use Rattle.dr_ledger.specs.Books.{Adoption, after}
 use Rattle.dr_store_schema.specs.Books.{AreBelow, bodies_of, book_of}
 use Rattle.dr_store_calls.specs.Calling.{IsLedgerOf}
-use Rattle.dr_store_calls.specs.Adoptions.{Adopts}
+use Rattle.dr_store_calls.specs.Adoptions.{AdoptsPlan}
 
 -- What an adoption makes of the tables is what it makes of the book; the data sets are the same.
 abbrev pub AdoptionsAdopt : Type 0
 AdoptionsAdopt =
     (old new : Trees) (plan : List ℕ) (n : ℕ)
-    → AreBelow n (old 11) → Adopts plan n old new
+    → AreBelow n (old 11) → AdoptsPlan plan n old new
     → (book_of new ≡ after Adoption (book_of old)) × (bodies_of new ≡ bodies_of old)
 
 -- An adoption makes of the tables of a ledger, of whatever site, those of a ledger of the next
@@ -19,5 +19,5 @@ AdoptionsAdopt =
 abbrev pub AdoptedLedgersAreOfTheNext : Type 0
 AdoptedLedgersAreOfTheNext =
     (part next : Part) (old new : Trees) (plan : List ℕ) (n : ℕ)
-    → AreBelow n (old 11) → IsLedgerOf n part old → Adopts plan n old new
+    → AreBelow n (old 11) → IsLedgerOf n part old → AdoptsPlan plan n old new
     → IsLedgerOf (n + 1) next new

@@ -40,7 +40,7 @@ pub record NotesPlan (plan : List ℕ) (n : ℕ) (old new : Trees) : Type 0 wher
 
 -- An adoption of the plan with this SHA-256 as line n: arrivals and rows that are over have left,
 -- the line stands in the journal, and the plan is in force for the same node. All else stays.
-pub record Adopts (plan : List ℕ) (n : ℕ) (old new : Trees) : Type 0 where
+pub record AdoptsPlan (plan : List ℕ) (n : ℕ) (old new : Trees) : Type 0 where
   pub site : (node : Text) (was : List ℕ) → IsSiteOf node was old → IsSiteOf node plan new
   pub items : new 1 ≡ old 1
   pub prints : new 3 ≡ old 3
@@ -64,7 +64,7 @@ pub record IsAdopted (next : Part) (base db : Trees) : Type 0 where
   pub owner : IsOwnedBy next db
 
 -- Book, data sets and tables after an adoption with this answer.
-pub record Answers (next : Part) (result : Result (Unit {0}) LedgerFault)
+pub record AnswersAdoption (next : Part) (result : Result (Unit {0}) LedgerFault)
     (base db : Trees) : Type 0 where
   pub reply : Adopting (book_of base) result (book_of db)
   pub bodies : bodies_of db ≡ bodies_of base
@@ -85,7 +85,7 @@ pub record Adopted (n : ℕ) (part next : Part) (result : Result (Unit {0}) Ledg
   pub kept : HasCleanDisk new → IsTrue new.is_open → IsKept n part old → Asks old.committed.trees
       → IsKept (advanced result n) (site_after result next part) new
   pub answers : HasCleanDisk new → IsTrue new.is_open → IsKept n part old → Asks old.committed.trees
-      → Answers next result old.committed.trees new.committed.trees
+      → AnswersAdoption next result old.committed.trees new.committed.trees
   pub crash : HasCleanDisk new → IsKept n part old → Asks old.committed.trees → (db : Trees)
       → new.may_leave db
       → old.may_leave db ⊎ IsAdopted next old.committed.trees db

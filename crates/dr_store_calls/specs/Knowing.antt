@@ -51,7 +51,7 @@ chosen dropped rows uid to = filter (λ dest. is_chosen dropped (map.get rows (u
 -- A first arrival, of an item that is taken so, fits the tables: `again` are the destinations for
 -- which its row was dropped, `dests` those to which it has none, and it is to be kept from now on
 -- just if it wasn't.
-pub record Fits (how : Taking) (caller : Text) (item : Job) (to : List Text) (keep : Bool)
+pub record FitsTables (how : Taking) (caller : Text) (item : Job) (to : List Text) (keep : Bool)
     (again dests : List Text) (keeps : Bool) (db : Trees) : Type 0 where
   pub asks : AsksToTake how item.uid db
   pub known : IsKnownFor how (instance_of item) (map.get (items_of db) item.uid)

@@ -5,7 +5,7 @@ ghost use Rattle.dr_site.specs.Parts.{Part};
 ghost use Rattle.dr_store_writes.specs.Effects.{HasSite, IsSiteOf};
 ghost use Rattle.dr_store_changes.specs.Writing.{Written};
 ghost use Rattle.dr_store_calls.specs.Calling.{IsOwnFault, Nothing};
-ghost use Rattle.dr_store_calls.specs.Adoptions.{Adopted, Adopts};
+ghost use Rattle.dr_store_calls.specs.Adoptions.{Adopted, AdoptsPlan};
 
 use crate::plan::NewPlan;
 use dr_base::Text;
@@ -25,7 +25,7 @@ fn write_plan<S: Alter>(conn: &mut Connection<S>, n: u64, digest: &[u8]) -> Resu
     ensures idle { conn.new.in_transaction ≡ false }
     ensures number { OnOk result (n ≤ 2 ^ 62) }
     ensures fault { IfErr result IsOwnFault }
-    ensures written { Written n HasSite (Adopts digest.now n) result (state S.Store conn.old)
+    ensures written { Written n HasSite (AdoptsPlan digest.now n) result (state S.Store conn.old)
         (state S.Store conn.new) }
 {
     if n > MOST_LINES {

@@ -3,7 +3,7 @@ ghost use Rattle.std.specs.Prelude.{◌≡◌, ◌≤◌, ◌^◌, ◌++◌, IfO
 ghost use Rattle.sqlite.specs.Held.{state};
 ghost use Rattle.dr_store_changes.specs.Bringing.{names_for};
 ghost use Rattle.dr_store_changes.specs.Changes.{HasNeither};
-ghost use Rattle.dr_store_calls.specs.Knowing.{Fits, taking_absent};
+ghost use Rattle.dr_store_calls.specs.Knowing.{FitsTables, taking_absent};
 ghost use Rattle.dr_store_calls.specs.Receiving.{AreTargetsOf, IsDelivered, IsThereFor, ReceivesAs};
 
 use crate::bringing::{Delivery, Queued};
@@ -78,7 +78,7 @@ fn bring<'x, S: Alter>(
     requires names { names.now ≡ names_for targets.now.keep targets.now.to }
     ensures called { ReceivesAs Arrived.New came.now result (state S.Store conn.old)
         (state S.Store conn.new)
-        (Fits taking came.now.caller.now came.now.item.now targets.now.to targets.now.keep
+        (FitsTables taking came.now.caller.now came.now.item.now targets.now.to targets.now.keep
         queued.now.again.now queued.now.dests.now keeps) }
     ensures number { OnOk result (came.now.n ≤ 2 ^ 62) }
     ensures idle { conn.new.in_transaction ≡ false }
@@ -116,7 +116,7 @@ pub fn bring_item<'x, S: Alter>(
     requires targets { AreTargetsOf came.now targets.now }
     ensures called { ReceivesAs Arrived.New came.now result (state S.Store conn.old)
         (state S.Store conn.new)
-        (Fits taking came.now.caller.now came.now.item.now targets.now.to targets.now.keep
+        (FitsTables taking came.now.caller.now came.now.item.now targets.now.to targets.now.keep
         queued.now.again.now queued.now.dests.now keeps) }
     ensures number { OnOk result (came.now.n ≤ 2 ^ 62) }
     ensures idle { conn.new.in_transaction ≡ false }

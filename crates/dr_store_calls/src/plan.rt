@@ -46,11 +46,11 @@ pub struct NewPlan<'x> {
 
 impl TableChange for NewPlan<'_> {
     ghost use Rattle.dr_store_writes.specs.Effects.{HasSite};
-    ghost use Rattle.dr_store_calls.specs.Adoptions.{Adopts};
+    ghost use Rattle.dr_store_calls.specs.Adoptions.{AdoptsPlan};
 
     ghost asks = { λ s. HasSite };
 
-    ghost makes = { λ s n. Adopts s.digest.now n };
+    ghost makes = { λ s n. AdoptsPlan s.digest.now n };
 
     fn run<S: Alter>(&self, tx: &mut Transaction<'_, S>, n: u64) -> Result<(), Error> {
         clear(tx)?;

@@ -20,7 +20,7 @@ use Rattle.dr_store_writes.specs.Effects.{AddsRow, GoesOn, Step, arrived_line}
 use Rattle.dr_store_writes.proofs.Maps.{equal}
 use Rattle.dr_store_changes.specs.declared.first.Taking.{Taking}
 use Rattle.dr_store_changes.specs.declared.first.Taking.TheVariants as taking
-use Rattle.dr_store_changes.specs.Bringing.{AsksToTake, Brings, KeepsIf, TakesIn, Then}
+use Rattle.dr_store_changes.specs.Bringing.{AsksToTake, Brings, KeepsIf, TakesInItem, Then}
 use Rattle.dr_store_changes.specs.Changes.{AddsOnlyLine, AddsRows, AddsTargets, HasBoth, HasNeither, HasRows, KeepsOne, NotesArrival, Renews, Stores, TakesBack, with_names, with_waiting}
 use Rattle.dr_store_changes.specs.Writing.{IsMade}
 use Rattle.dr_store_changes.proofs.Arrivals.{only_line}
@@ -57,7 +57,7 @@ none_left bodies uid none = map.same_map nat_list_cmp_total exact_bytes _ _ (λ 
 no_body : (uid : Text) (db : Trees) → HasNeither uid db → map.get (bodies_of db) uid ≡ None
 no_body uid db neither = body_at (contents_in (db 1)) (wholes_in (db 3)) uid ∙ ap (λ w. cond (is_whole w) (map.get (contents_in (db 1)) uid) None) neither.1
 
-pub new_taken : (item : Instance) (body : List ℕ) (old new : Trees) → Stores item body 1 old new → TakesIn taking.New item body old new
+pub new_taken : (item : Instance) (body : List ℕ) (old new : Trees) → Stores item body 1 old new → TakesInItem taking.New item body old new
 new_taken item body old new s = record {
   items = s.items;
   bodies = (λ i. bodies_by (s.contents i) (s.wholes i)) ∙ back_body (contents_in (old 1)) (wholes_in (old 3)) item.uid body;
@@ -69,7 +69,7 @@ new_taken item body old new s = record {
   targets = s.targets;
 }
 
-pub bare_taken : (item : Instance) (body : List ℕ) (old new : Trees) → HasNeither item.uid old → Stores item [] 0 old new → TakesIn taking.Bare item body old new
+pub bare_taken : (item : Instance) (body : List ℕ) (old new : Trees) → HasNeither item.uid old → Stores item [] 0 old new → TakesInItem taking.Bare item body old new
 bare_taken item body old new neither s = record {
   items = s.items;
   bodies = (λ i. bodies_by (s.contents i) (s.wholes i)) ∙ gone_body (contents_in (old 1)) (wholes_in (old 3)) item.uid ∙ none_left (bodies_of old) item.uid (no_body item.uid old neither);
@@ -81,7 +81,7 @@ bare_taken item body old new neither s = record {
   targets = s.targets;
 }
 
-pub again_taken : (item : Instance) (body : List ℕ) (old new : Trees) → TakesBack item.uid body old new → TakesIn taking.Again item body old new
+pub again_taken : (item : Instance) (body : List ℕ) (old new : Trees) → TakesBack item.uid body old new → TakesInItem taking.Again item body old new
 again_taken item body old new t = record {
   items = t.items;
   bodies = t.bodies;
@@ -93,7 +93,7 @@ again_taken item body old new t = record {
   targets = t.targets;
 }
 
-pub nothing_taken : (item : Instance) (body : List ℕ) (db : Trees) → TakesIn taking.Nothing item body db db
+pub nothing_taken : (item : Instance) (body : List ℕ) (db : Trees) → TakesInItem taking.Nothing item body db db
 nothing_taken item body db = record { items = refl; bodies = refl; site = refl; arrivals = refl; kept = refl; queue = refl; journal = refl; targets = refl }
 
 -- ---- kept, if it is to be
@@ -113,10 +113,10 @@ line_added n caller item old new adds = let m = only_line n (arrived_line n 0 ca
 
 -- all but the line
 abbrev pub Filled : Taking → Text → Instance → List ℕ → List Text → List Text → Bool → Trees → Trees → Type 0
-Filled how caller item body again dests keeps = Then (Then (TakesIn how item body) (NotesArrival (caller, item.uid))) (Then (Then (Renews item.uid again) (AddsRows item.uid dests)) (KeepsIf item.uid keeps))
+Filled how caller item body again dests keeps = Then (Then (TakesInItem how item body) (NotesArrival (caller, item.uid))) (Then (Then (Renews item.uid again) (AddsRows item.uid dests)) (KeepsIf item.uid keeps))
 
 -- what is taken in changes no row
-pub rows_untouched : (how : Taking) (caller : Text) (item : Instance) (body : List ℕ) (again : List Text) (old new : Trees) → Then (TakesIn how item body) (NotesArrival (caller, item.uid)) old new → HasRows item.uid again old → HasRows item.uid again new
+pub rows_untouched : (how : Taking) (caller : Text) (item : Instance) (body : List ℕ) (again : List Text) (old new : Trees) → Then (TakesInItem how item body) (NotesArrival (caller, item.uid)) old new → HasRows item.uid again old → HasRows item.uid again new
 rows_untouched how caller item body again old new taken has dest goes =
     let t = taken.1 in
     let a = taken.2 in

@@ -47,7 +47,8 @@ bodies_taken taking.Again bodies uid body = map.insert bodies uid body
 bodies_taken taking.Nothing bodies uid body = bodies
 
 -- The item is there, and its data set if it comes. All other tables stay.
-pub record TakesIn (how : Taking) (item : Instance) (body : List ℕ) (old new : Trees) : Type 0 where
+pub record TakesInItem (how : Taking) (item : Instance) (body : List ℕ)
+    (old new : Trees) : Type 0 where
   pub items : items_of new ≡ items_taken how (items_of old) item
   pub bodies : bodies_of new ≡ bodies_taken how (bodies_of old) item.uid body
   pub site : new 0 ≡ old 0

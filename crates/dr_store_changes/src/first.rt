@@ -2,7 +2,7 @@
 ghost use Rattle.std.specs.Prelude.{◌≡◌, ◌≤◌, ◌^◌};
 ghost use Rattle.sqlite.specs.Held.{state};
 ghost use Rattle.dr_store_writes.specs.Effects.{GoesOn, Step, arrived_line};
-ghost use Rattle.dr_store_changes.specs.Bringing.{AsksToTake, KeepsIf, TakesIn, Then};
+ghost use Rattle.dr_store_changes.specs.Bringing.{AsksToTake, KeepsIf, TakesInItem, Then};
 ghost use Rattle.dr_store_changes.specs.Changes.{AddsOnlyLine, AddsRows, AddsTargets, HasRows};
 ghost use Rattle.dr_store_changes.specs.Changes.{NotesArrival, Renews};
 
@@ -41,7 +41,7 @@ fn take<'x, S: Alter>(
     ensures step { Step result (state S.Store tx.old.conn.now) (state S.Store tx.new.conn.now)
         (AsksToTake taking item.now.uid (state S.Store tx.old.conn.now).now.trees
         → GoesOn (state S.Store tx.old.conn.now) (state S.Store tx.new.conn.now)
-        × TakesIn taking item.now body.now (state S.Store tx.old.conn.now).now.trees
+        × TakesInItem taking item.now body.now (state S.Store tx.old.conn.now).now.trees
         (state S.Store tx.new.conn.now).now.trees) }
 {
     match taking {
@@ -67,7 +67,7 @@ fn take_from<'x, S: Alter>(
     ensures step { Step result (state S.Store tx.old.conn.now) (state S.Store tx.new.conn.now)
         (AsksToTake taking item.now.uid (state S.Store tx.old.conn.now).now.trees
         → GoesOn (state S.Store tx.old.conn.now) (state S.Store tx.new.conn.now)
-        × Then (TakesIn taking item.now body.now) (NotesArrival (caller.now, item.now.uid))
+        × Then (TakesInItem taking item.now body.now) (NotesArrival (caller.now, item.now.uid))
         (state S.Store tx.old.conn.now).now.trees (state S.Store tx.new.conn.now).now.trees) }
 {
     take(tx, n, item, body, taking)?;
@@ -209,7 +209,7 @@ impl Arriving<'_> {
             (state S.Store tx.old.conn.now).now.trees
             → GoesOn (state S.Store tx.old.conn.now) (state S.Store tx.new.conn.now)
             × Then
-            (Then (TakesIn self.now.taking self.now.item.now self.now.body.now)
+            (Then (TakesInItem self.now.taking self.now.item.now self.now.body.now)
             (NotesArrival (self.now.caller.now, self.now.item.now.uid)))
             (Then
             (Then (Renews self.now.item.now.uid self.now.again.now)

@@ -16,7 +16,7 @@ use Rattle.sqlite_schema.specs.declared.command.Returning.{Returning}
 use Rattle.dr_store_schema.specs.Statements as text
 use Rattle.dr_store_reads.proofs.Asking.{shown_same}
 use Rattle.dr_store_open.specs.declared.sheets.Sheets.{Sheets}
-use Rattle.dr_store_open.specs.Renewing.{AreQueries, IsAnswer, IsQuery, IsTold, KeepsRows, all_calls}
+use Rattle.dr_store_open.specs.Renewing.{AreQueries, IsAnswer, IsQuery, AreSheetsOf, KeepsRows, all_calls}
 
 pub if_ok_map : {A E : Type 0} {P Q : A → Type 0} (r : Result A E) → ((x : A) → P x → Q x) → IfOk r P → IfOk r Q
 if_ok_map (Ok x) f h = f x h
@@ -80,7 +80,7 @@ shown_schema sql params old new rows h = go h.0.returning h.2
 
 -- ---- all of it
 
-pub both_keep : (old new : Database) (sheets : Sheets) → IsTold old sheets → IsTold new sheets → KeepsRows old new
+pub both_keep : (old new : Database) (sheets : Sheets) → AreSheetsOf old sheets → AreSheetsOf new sheets → KeepsRows old new
 both_keep old new sheets one two = record {
   site = (sheets.site.items, one.site, two.site);
   items = (sheets.items.items, one.items, two.items);
@@ -91,8 +91,8 @@ both_keep old new sheets one two = record {
 }
 
 -- what was told before, and is told after
-pub told_again : {A E : Type 0} (r : Result A E) (old mid new : Database) (sheets : Sheets) → IsTold old sheets → AreQueries new.schema → OnOk r (new.schema ≡ mid.schema)
-    → (AreQueries mid.schema → OnOk r (IsTold new sheets)) → OnOk r (KeepsRows old new)
+pub told_again : {A E : Type 0} (r : Result A E) (old mid new : Database) (sheets : Sheets) → AreSheetsOf old sheets → AreQueries new.schema → OnOk r (new.schema ≡ mid.schema)
+    → (AreQueries mid.schema → OnOk r (AreSheetsOf new sheets)) → OnOk r (KeepsRows old new)
 told_again (Err e) old mid new sheets one queries same two = tt
 told_again (Ok x) old mid new sheets one queries same two = both_keep old new sheets one (two (subst AreQueries same queries))
 
@@ -132,7 +132,7 @@ StockAnswers old new sheets = ThreeAnswers text.the_site text.all_items text.all
 abbrev pub MovesAnswers : Database → Database → Sheets → Type 0
 MovesAnswers old new sheets = ThreeAnswers text.all_kept text.all_rows all_calls old new sheets.kept.items sheets.rows.items sheets.lines.items
 
-told_before : (old mid new : Database) (sheets : Sheets) → StockAnswers old mid sheets → MovesAnswers mid new sheets → IsTold old sheets
+told_before : (old mid new : Database) (sheets : Sheets) → StockAnswers old mid sheets → MovesAnswers mid new sheets → AreSheetsOf old sheets
 told_before old mid new sheets stock moves = record {
   site = stock.0;
   items = stock.1;
@@ -145,15 +145,15 @@ told_before old mid new sheets stock moves = record {
 still_queries : (old mid : Database) → mid ≡ old → AreQueries old.schema → AreQueries mid.schema
 still_queries old mid same queries = subst (λ (d : Database). AreQueries d.schema) (sym same) queries
 
-pub both_asked : (old mid new : Database) (sheets : Sheets) → AreQueries old.schema → StockAnswers old mid sheets → (AreQueries mid.schema → MovesAnswers mid new sheets) → IsTold old sheets
+pub both_asked : (old mid new : Database) (sheets : Sheets) → AreQueries old.schema → StockAnswers old mid sheets → (AreQueries mid.schema → MovesAnswers mid new sheets) → AreSheetsOf old sheets
 both_asked old mid new sheets queries stock moves = told_before old mid new sheets stock (moves (still_queries old mid stock.3 queries))
 
 pub both_tested : {A E : Type 0} (r : Result A E) (old mid new : Database) (sheets : Sheets) → AreQueries old.schema → StockAnswers old mid sheets
-    → (AreQueries mid.schema → OnOk r (MovesAnswers mid new sheets)) → OnOk r (IsTold new sheets)
+    → (AreQueries mid.schema → OnOk r (MovesAnswers mid new sheets)) → OnOk r (AreSheetsOf new sheets)
 both_tested (Err e) old mid new sheets queries stock moves = tt
 both_tested (Ok x) old mid new sheets queries stock moves =
     let then_moves = moves (still_queries old mid stock.3 queries) in
-    subst (λ d. IsTold d sheets) (sym (then_moves.3 ∙ stock.3)) (told_before old mid new sheets stock then_moves)
+    subst (λ d. AreSheetsOf d sheets) (sym (then_moves.3 ∙ stock.3)) (told_before old mid new sheets stock then_moves)
 
 -- what is said of a file that isn't from before
 pub if_older : {A E B : Type 0} (C : Type 0) (r : Result A E) → B → OnOk r ((B → ⊥) → C)

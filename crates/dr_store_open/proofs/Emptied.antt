@@ -3,10 +3,10 @@ use Rattle.std.proofs.Common.{◌≡◌, [], sym, subst}
 use Rattle.sqlite.specs.Effect.{Database}
 use Rattle.dr_store_schema.specs.Statements as text
 use Rattle.dr_store_open.specs.declared.sheets.Sheets.{Sheets}
-use Rattle.dr_store_open.specs.Renewing.{HasNoRows, IsAnswer, IsTold, all_calls}
+use Rattle.dr_store_open.specs.Renewing.{HasNoRows, IsAnswer, AreSheetsOf, all_calls}
 
 -- what is told of them, where none of it has a row
-pub emptied : (old new : Database) (sheets : Sheets) → IsTold old sheets → new ≡ old
+pub emptied : (old new : Database) (sheets : Sheets) → AreSheetsOf old sheets → new ≡ old
     → (sheets.items.items ≡ []) × (sheets.arrivals.items ≡ []) × (sheets.kept.items ≡ [])
     × (sheets.rows.items ≡ []) × (sheets.lines.items ≡ []) → HasNoRows new
 emptied old new sheets told same none = subst HasNoRows (sym same) (record {

@@ -34,7 +34,7 @@ use Rattle.dr_store_audit.specs.Journal.{CountUp}
 use Rattle.dr_store_audit.proofs.Needed.{both_parts, content_there, found_listed, listed_found, value_of, whole_is, whole_print}
 use Rattle.dr_store_schema.specs.Tables.{tables}
 use Rattle.dr_store_open.specs.Renewing.{KeepsRows}
-use Rattle.dr_store_open.specs.Opening.{AreOwnUnder, AreReadIf, AreTested, HasLedgerOf, HasNewLedger, HasNoLedgerOf, IfFound, IfNotFound, IsAgreed, IsAgreedIf, IsBroughtOver, IsLedgerFound, IsNext, IsOpened, IsOwn, IsReadAs, IsSpelled, IsWholeIf, LeavesFile, LeavesOldOrCommitted, StaysAsFound}
+use Rattle.dr_store_open.specs.Opening.{AreOwnUnder, AreReadIf, AreTested, HasLedgerOf, HasNewLedger, HasNoLedgerOf, IfFound, IfNotFound, IsAgreed, IsAgreedIf, IsBroughtOver, IsLedgerFound, IsNext, IsLedgerOpened, IsOwn, IsReadAs, IsSpelled, IsWholeIf, LeavesFile, LeavesOldOrCommitted, StaysAsFound}
 
 inside : {X : Type 0} (x y : X) → Some x ≡ Some y → x ≡ y
 inside x y e = cc
@@ -203,7 +203,7 @@ one_owner db node other plan last one two =
 -- ---- an opening
 
 pub none_opened : (part : Part) (s : State) → HasNoLedgerOf part s.now
-    → IsOpened part (Ok None) s s
+    → IsLedgerOpened part (Ok None) s s
 none_opened part s none = record { has = tt; is_not = λ clean. none; kept = λ clean. tt; stays = λ clean is_open. (is_open, refl); leaves = λ clean db left. left; clean = omega arith; idle = λ h. h }
 
 module _ (part : Part) (old new : State) (has : HasTables old.now) (live : IsLive old) (settled : IsTrue old.is_open → old.now ≡ old.committed) where
@@ -211,7 +211,7 @@ module _ (part : Part) (old new : State) (has : HasTables old.now) (live : IsLiv
   abbrev pub ShowsAll : Database → Option ℕ → Type 0
   ShowsAll db found = AreTested db.trees × IsWholeIf part db.trees found
 
-  pub opened : (r : Result (Option ℕ) LedgerFault) → Asked HasTables r old new (ShowsAll old.now) → IsOpened part r old new
+  pub opened : (r : Result (Option ℕ) LedgerFault) → Asked HasTables r old new (ShowsAll old.now) → IsLedgerOpened part r old new
   opened r a = record { has = named r; is_not = λ clean. none clean r a; kept = λ clean. found clean r a; stays = λ clean is_open. (a.was_open clean is_open, (a.stays clean is_open has).committed); leaves = λ clean db left. a.leaves clean has db left; clean = a.clean; idle = a.idle }
     where
       named : (r : Result (Option ℕ) LedgerFault) → IfFound r (λ n. HasTables old.now)
@@ -289,7 +289,7 @@ brought_over n part old mid new is leaves left kept = record {
 
 -- whatever was found, nothing was done to the file since
 pub file_found : (part : Part) (r : Result (Option ℕ) LedgerFault) (old mid new : State)
-    → (HasCleanDisk mid → LeavesFile old mid) → IsOpened part r mid new
+    → (HasCleanDisk mid → LeavesFile old mid) → IsLedgerOpened part r mid new
     → HasCleanDisk new → LeavesFile old new
 file_found part r old mid new left is clean =
     let early : HasCleanDisk mid = omega (arith, is.clean, clean) in

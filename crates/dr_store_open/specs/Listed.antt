@@ -30,7 +30,7 @@ pub record IsJournalOf (db : Trees) (journal : Journal) : Type 0 where
   pub goals : Lists goal_cmp (goals_of db) journal.goals.items
 
 -- all of them, and each line has a number
-pub record AreListsOf (db : Trees) (lists : WholeLists) : Type 0 where
+pub record AreWholeListsOf (db : Trees) (lists : WholeLists) : Type 0 where
   pub stock : IsStockOf db lists.stock
   pub moves : IsMovesOf db lists.moves
   pub journal : IsJournalOf db lists.journal

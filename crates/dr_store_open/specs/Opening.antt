@@ -153,7 +153,7 @@ pub record IsLedgerFound (n : ℕ) (part : Part) (old new : State) : Type 0 wher
 -- What tells whether a file has a ledger of this site does. Where it says the number n of the next
 -- line, that ledger is found; where it says none, the file has no ledger of this site. Whatever it
 -- answers, nothing is committed, and a crash leaves only what it could leave before.
-pub record IsOpened (part : Part) (result : Result (Option ℕ) LedgerFault)
+pub record IsLedgerOpened (part : Part) (result : Result (Option ℕ) LedgerFault)
     (old new : State) : Type 0 where
   pub has : IfFound result (λ n. old.now.schema ≡ tables)
   pub is_not : HasCleanDisk new → IfNotFound result (HasNoLedgerOf part old.now)

@@ -58,7 +58,7 @@ pub record AreQueries (schema : Schema) : Type 0 where
   pub lines : IsQuery schema all_calls
 
 -- the sheets have what it has
-pub record IsTold (db : Database) (sheets : Sheets) : Type 0 where
+pub record AreSheetsOf (db : Database) (sheets : Sheets) : Type 0 where
   pub site : IsAnswer text.the_site db sheets.site.items
   pub items : IsAnswer text.all_items db sheets.items.items
   pub arrivals : IsAnswer text.all_arrivals db sheets.arrivals.items

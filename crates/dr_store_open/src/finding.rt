@@ -6,7 +6,7 @@ ghost use Rattle.dr_store_schema.specs.Ledgers.{IsLedger};
 ghost use Rattle.dr_store_reads.specs.Queries.{Asked};
 ghost use Rattle.dr_store_audit.specs.Found.{AgreesAs, HoldTogether};
 ghost use Rattle.dr_store_writes.specs.Effects.{IsSiteOf};
-ghost use Rattle.dr_store_open.specs.Listed.{AreListsOf};
+ghost use Rattle.dr_store_open.specs.Listed.{AreWholeListsOf};
 ghost use Rattle.dr_store_open.specs.Opening.{AreReadIf, IsAgreedIf, IsWholeIf, Seen};
 
 use crate::bodies::test_bodies;
@@ -66,7 +66,7 @@ fn read_bodies<'x, S: Alter>(
 /// Compares all lists with what the journal's lines make.
 fn agree_all(alloc: Global, site: &Site, lists: &WholeLists, next: u64) -> Result<(), FindingFault>
     ensures { (db : Trees)
-        → AreListsOf db lists.now
+        → AreWholeListsOf db lists.now
         → AgreesAs result (HoldTogether next site.now db lists.now.journal.notes.items) }
 {
     let tables = TableLists {
@@ -89,7 +89,7 @@ fn compare<'x, S: Alter>(
     lists: &'x WholeLists,
 ) -> Result<Option<u64>, LedgerFault>
     ensures seen { Seen IsLedger result (state S.Store conn.old) (state S.Store conn.new)
-        (λ found. AreListsOf (state S.Store conn.old).now.trees lists.now
+        (λ found. AreWholeListsOf (state S.Store conn.old).now.trees lists.now
         → IsAgreedIf site.now (state S.Store conn.old).now.trees found) }
 {
     let next = number_after(&lists.journal);

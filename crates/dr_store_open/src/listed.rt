@@ -2,7 +2,7 @@
 ghost use Rattle.sqlite.specs.Held.{state};
 ghost use Rattle.dr_store_schema.specs.Ledgers.{IsLedger};
 ghost use Rattle.dr_store_reads.specs.Queries.{Asked};
-ghost use Rattle.dr_store_open.specs.Listed.{AreListsOf, IsJournalOf, IsMovesOf, IsStockOf};
+ghost use Rattle.dr_store_open.specs.Listed.{AreWholeListsOf, IsJournalOf, IsMovesOf, IsStockOf};
 
 use dr_base::Text;
 use dr_ledger::{LedgerFault, Progress};
@@ -83,7 +83,7 @@ pub fn list_all<S: Alter>(
     alloc: Global,
 ) -> Result<WholeLists, LedgerFault>
     ensures asked { Asked IsLedger result (state S.Store conn.old) (state S.Store conn.new)
-        (AreListsOf (state S.Store conn.old).now.trees) }
+        (AreWholeListsOf (state S.Store conn.old).now.trees) }
 {
     let stock = list_stock(conn, alloc)?;
     let moves = list_moves(conn, alloc)?;

@@ -12,7 +12,7 @@ ghost use Rattle.dr_store_open.specs.Renewing.{KeepsRows};
 ghost use Rattle.dr_store_open.specs.declared.fault.OpeningFault.TheVariants as opening;
 ghost use Rattle.dr_store_open.specs.Opening.{HasLedgerOf, HasNewLedger, HasNoLedgerOf, IsBlank};
 ghost use Rattle.dr_store_open.specs.Opening.{IsBroughtOver, IsNext};
-ghost use Rattle.dr_store_open.specs.Opening.{IsOpened, LeavesFile};
+ghost use Rattle.dr_store_open.specs.Opening.{IsLedgerOpened, LeavesFile};
 ghost use Rattle.dr_store_open.specs.Opening.{LeavesOldOrCommitted};
 ghost use Rattle.dr_store_open.specs.Opening.{StaysAsFound};
 
@@ -51,7 +51,7 @@ fn find_tested<S: Alter>(
     requires live { IsLive (state S.Store conn.old) }
     requires settled { IsTrue (state S.Store conn.old).is_open
         → (state S.Store conn.old).now ≡ (state S.Store conn.old).committed }
-    ensures { IsOpened site.now result (state S.Store conn.old) (state S.Store conn.new) }
+    ensures { IsLedgerOpened site.now result (state S.Store conn.old) (state S.Store conn.new) }
 {
     match test_tables(conn, alloc) {
         Ok(()) => find_owned(conn, alloc, site),
@@ -70,7 +70,7 @@ pub fn find<S: Alter>(
     site: &Site,
 ) -> Result<Option<u64>, LedgerFault>
     requires { conn.old.in_transaction ≡ false }
-    ensures { IsOpened site.now result (state S.Store conn.old) (state S.Store conn.new) }
+    ensures { IsLedgerOpened site.now result (state S.Store conn.old) (state S.Store conn.new) }
 {
     if !is_ours(conn.schema()) {
         return Ok(None);

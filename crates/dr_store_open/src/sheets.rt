@@ -5,7 +5,7 @@ ghost use Rattle.sqlite.specs.Held.{state};
 ghost use Rattle.sqlite.specs.State.{HasCleanDisk, Survives};
 ghost use Rattle.dr_store_schema.specs.Statements.{all_arrivals, all_items, all_kept, all_rows};
 ghost use Rattle.dr_store_schema.specs.Statements.{the_site};
-ghost use Rattle.dr_store_open.specs.Renewing.{AreQueries, IsAnswer, IsTold, all_calls};
+ghost use Rattle.dr_store_open.specs.Renewing.{AreQueries, IsAnswer, AreSheetsOf, all_calls};
 
 use crate::asking::{ask_rows, test_rows};
 use crate::fault::OpeningFault;
@@ -88,7 +88,7 @@ pub fn ask_sheets<S: Alter>(tx: &mut Transaction<'_, S>) -> Result<Sheets, Openi
         (state S.Store tx.new.conn.now).now.schema ≡ (state S.Store tx.old.conn.now).now.schema) }
     ensures answers { HasCleanDisk (state S.Store tx.new.conn.now)
         → AreQueries (state S.Store tx.old.conn.now).now.schema
-        → IfOk result (λ sheets. IsTold (state S.Store tx.old.conn.now).now sheets
+        → IfOk result (λ sheets. AreSheetsOf (state S.Store tx.old.conn.now).now sheets
         × ((state S.Store tx.new.conn.now).now ≡ (state S.Store tx.old.conn.now).now)) }
 {
     let (site, items, arrivals) = ask_stock(tx)?;
@@ -188,7 +188,7 @@ pub fn test_sheets<'x, S: Alter>(
         ((state S.Store tx.new.conn.now).now.schema ≡ (state S.Store tx.old.conn.now).now.schema) }
     ensures answers { HasCleanDisk (state S.Store tx.new.conn.now)
         → AreQueries (state S.Store tx.old.conn.now).now.schema
-        → OnOk result (IsTold (state S.Store tx.new.conn.now).now sheets.now) }
+        → OnOk result (AreSheetsOf (state S.Store tx.new.conn.now).now sheets.now) }
 {
     test_stock(tx, sheets)?;
     test_moves(tx, sheets)

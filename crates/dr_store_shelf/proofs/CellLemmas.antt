@@ -10,7 +10,7 @@ use Rattle.dr_store_bodies.specs.declared.extent.Extent.{Extent}
 use Rattle.dr_store_bodies.specs.Sums.{AreSums, piece_of}
 use Rattle.dr_store_shelf.specs.Cells.{Fit, Passes, extent_in, number_at}
 use Rattle.dr_store_shelf.specs.Cells.{piece, written}
-use Rattle.dr_store_shelf.specs.Cells.{IsBlank}
+use Rattle.dr_store_shelf.specs.Cells.{IsBlankCell}
 use Rattle.dr_store_shelf.specs.Laws.{Says, placed}
 
 pub length_written : (numbers : List ℕ) → length (written numbers) ≡ length numbers * 8
@@ -79,7 +79,7 @@ fit_all at size sums one two fit (suc (suc i)) low = fit i (omega (arith, low))
 
 -- a blank cell in which the place was written
 pub says_at :
-    (key at : ℕ) (body cell : List ℕ) → IsBlank key body cell → at < 2 ^ 64
+    (key at : ℕ) (body cell : List ℕ) → IsBlankCell key body cell → at < 2 ^ 64
     → length body < 2 ^ 64
     → (extent_in (to_le_bytes w64 at ++ drop 8 cell) ≡ placed at (length body))
     × Passes key (to_le_bytes w64 at ++ drop 8 cell) body
@@ -96,7 +96,7 @@ says_at key at body cell blank one two =
 
 -- a blank cell in which an extent's place was written names the extent
 pub extent_named :
-    (key : ℕ) (e : Extent) (body cell named : List ℕ) → IsBlank key body cell
+    (key : ℕ) (e : Extent) (body cell named : List ℕ) → IsBlankCell key body cell
     → length body ≡ e.size → e.at < 2 ^ 64 → length body < 2 ^ 64
     → named ≡ to_le_bytes w64 e.at ++ drop 8 cell
     → (extent_in named ≡ e) × Passes key named body

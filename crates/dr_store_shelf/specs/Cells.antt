@@ -44,7 +44,7 @@ pub record Passes (key : ℕ) (cell bytes : List ℕ) : Type 0 where
   pub each : HaveDigests key cell bytes
 
 -- the cell of a data set, but for its place, which is 0
-pub record IsBlank (key : ℕ) (body cell : List ℕ) : Type 0 where
+pub record IsBlankCell (key : ℕ) (body cell : List ℕ) : Type 0 where
   pub sums : List ℕ
   pub are : AreSums key piece body sums
   pub fit : Fit sums

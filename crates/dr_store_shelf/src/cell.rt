@@ -3,7 +3,7 @@ ghost use Rattle.std.specs.Prelude.{◌≡◌, ◌≤◌, ◌<◌, ◌+◌, ◌*
 ghost use Rattle.std.specs.Prelude.{IfOk, IsTrue, MatchOption, OnOk, drop, length, slice_index};
 ghost use Rattle.std.specs.Int.{w64, to_le_bytes};
 ghost use Rattle.sqlite_disk.specs.Digest.{digest};
-ghost use Rattle.dr_store_shelf.specs.Cells.{Fit, HaveDigests, IsBlank, Passes, extent_in};
+ghost use Rattle.dr_store_shelf.specs.Cells.{Fit, HaveDigests, IsBlankCell, Passes, extent_in};
 ghost use Rattle.dr_store_shelf.specs.Cells.{number_at, sum_in, written};
 
 use dr_store_bodies::{Extent, PIECE, sums_of};
@@ -48,7 +48,7 @@ fn write_all(cell: &mut Vec<u8>, numbers: &[u64]) -> Result<(), AllocError>
 
 /// The cell of a data set whose place isn't known yet: it says place 0.
 pub fn blank_cell(alloc: Global, key: u64, body: &[u8]) -> Result<Vec<u8>, AllocError>
-    ensures { IfOk result (λ cell. IsBlank key body.now cell.items) }
+    ensures { IfOk result (λ cell. IsBlankCell key body.now cell.items) }
 {
     let sums = sums_of(alloc, key, body)?;
     let mut cell = Vec::new(alloc);

@@ -34,10 +34,10 @@ EndsChange (Err halt) old new status = Appends old new (printed_by halt) × (sta
 
 -- The word `adopt`: what comes of the change from the plan in the first file to that in the third,
 -- of the ledgers in the folder, what is printed of it, and the exit status.
-abbrev pub Adopts : {L : Type 0} (holds : Text → Text → Type 0) (opens : Text → L → Type 0)
+abbrev pub AdoptsFiles : {L : Type 0} (holds : Text → Text → Type 0) (opens : Text → L → Type 0)
     (site_of : L → Part) (book : L → Book) (stands : L → Type 0)
     → PlanChange → Option Text → Option Text → Status → Type 0
-Adopts holds opens site_of book stands files old new status =
+AdoptsFiles holds opens site_of book stands files old new status =
     (came : Result Changeover Halt)
     × Changes holds opens site_of book stands files came
     × EndsChange came old new status

@@ -4,7 +4,7 @@ ghost use Rattle.dr_word_adopt.specs.Changes.{AreNames, AreSealed, AreUnsealed, 
 ghost use Rattle.dr_word_adopt.specs.Changes.{ChangesBetween, came_of};
 ghost use Rattle.dr_word_adopt.specs.Changings.{Each, IsChanged, IsUnchanged, MayChange};
 ghost use Rattle.dr_word_adopt.specs.Changings.{OnlyFirstAreChanged};
-ghost use Rattle.dr_word_adopt.specs.Endings.{Adopts, EndsChange, unfit_line};
+ghost use Rattle.dr_word_adopt.specs.Endings.{AdoptsFiles, EndsChange, unfit_line};
 
 use crate::change::{Changeover, Halted};
 use crate::changing::change_all;
@@ -225,7 +225,7 @@ pub fn adopt_files<'a, F: Files, O: Ledgers, W: Write, E: Write>(
     faults: &mut E,
 ) -> Result<Status, Failure<'a>>
     ensures { IfOk result
-        (Adopts (F.holds files.now) (O.opens ledgers.now) O.Ledger.site O.Ledger.book
+        (AdoptsFiles (F.holds files.now) (O.opens ledgers.now) O.Ledger.site O.Ledger.book
         O.Ledger.stands given.entry (W.contents output.old) (W.contents output.new)) }
 {
     match change_files(alloc, files, ledgers, given) {

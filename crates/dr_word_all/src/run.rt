@@ -4,7 +4,7 @@ ghost use Rattle.std.specs.Global.{Global};
 ghost use Rattle.std.specs.Prelude.{Vec};
 ghost use Rattle.std.specs.Borrow.{Bor};
 ghost use Rattle.dr_base.specs.Texts.{Text};
-ghost use Rattle.dr_word_adopt.specs.Endings.{Adopts};
+ghost use Rattle.dr_word_adopt.specs.Endings.{AdoptsFiles};
 ghost use Rattle.dr_word_audit.specs.Endings.{EndsAs};
 ghost use Rattle.dr_word_audit.specs.Names.{text_of};
 ghost use Rattle.dr_word_check.specs.Runs.{Answers, Verifies};
@@ -169,8 +169,9 @@ where
     ensures adopted { (change : PlanChangeValue)
         → asked.entry ≡ asks.Adopt change
         → IfOk result
-        (Adopts (F.holds system.entry.files.now) (O.opens system.entry.ledgers.now) O.Ledger.site
-        O.Ledger.book O.Ledger.stands change (W.contents output.old) (W.contents output.new)) }
+        (AdoptsFiles (F.holds system.entry.files.now) (O.opens system.entry.ledgers.now)
+        O.Ledger.site O.Ledger.book O.Ledger.stands change (W.contents output.old)
+        (W.contents output.new)) }
     ensures rehearsed { (change : PlanChangeValue)
         → asked.entry ≡ asks.Rehearse change
         → IfOk result
@@ -319,9 +320,9 @@ where
     ensures adopted { (change : PlanChangeValue)
         → IsAdoptOf words.now change
         → (result ≡ Success) ⊎ (result ≡ Refused)
-        → Adopts (F.holds system.entry.files.now) (O.opens system.entry.ledgers.now) O.Ledger.site
-        O.Ledger.book O.Ledger.stands change (W.contents output.old) (W.contents output.new)
-        result }
+        → AdoptsFiles (F.holds system.entry.files.now) (O.opens system.entry.ledgers.now)
+        O.Ledger.site O.Ledger.book O.Ledger.stands change (W.contents output.old)
+        (W.contents output.new) result }
     ensures imported { (table : Bor (List ℕ))
         → IsImportOf words.now table
         → (result ≡ Success) ⊎ (result ≡ Refused)

@@ -22,7 +22,7 @@ use Rattle.dr_world_audit.specs.Sites.{lines_at}
 use Rattle.dr_world_audit.specs.declared.audit.NodeJournal.{NodeJournal}
 use Rattle.dr_word_audit.specs.Audits.{IsMissing, IsSeen, IsShown, IsStop, is_missing}
 use Rattle.dr_word_audit.specs.Figures.{figures, node_line}
-use Rattle.dr_word_audit.specs.Readings.{AreGathered, IsListed, IsRead, IsUnread, LooksAs}
+use Rattle.dr_word_audit.specs.Readings.{AreGathered, IsListed, IsOnlyRead, IsUnread, LooksAs}
 use Rattle.dr_word_adopt.specs.declared.change.Halted.{Halted}
 use Rattle.dr_word_audit.specs.declared.reading.Gathering.{Gathering}
 use Rattle.dr_word_audit.specs.declared.reading.Gathering.TheVariants.{Missing}
@@ -80,7 +80,7 @@ module _ (sealed : Certified) (name : Text) where
     opened_at site path at way (Err halt) h = unopened_unread halt h
 
     -- what a ledger that was opened for the node shows is what a look at the node shows
-    pub looked : (others : List Text) (first : L) → IsOpenedFor opens site_of book stands folder sealed name first → (seen : Seen L) → IsRead site_of book stands others name first seen
+    pub looked : (others : List Text) (first : L) → IsOpenedFor opens site_of book stands folder sealed name first → (seen : Seen L) → IsOnlyRead site_of book stands others name first seen
         → LooksAs opens site_of book stands folder sealed others name seen
     looked others first opened seen read =
         let P : Text → Type 0 = λ n. IsOpenedFor opens site_of book stands folder sealed n first in

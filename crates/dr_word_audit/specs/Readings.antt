@@ -42,7 +42,7 @@ pub record IsListed (others : List Text) (name : Text) (lines : List JournalLine
   pub told : shown.line ≡ node_line name (figures others (mapped line_of lines) kept rows)
 
 -- the ledger was only read, and this is shown of it
-pub record IsRead {L : Type 0} (site_of : L → Part) (book : L → Book) (stands : L → Type 0)
+pub record IsOnlyRead {L : Type 0} (site_of : L → Part) (book : L → Book) (stands : L → Type 0)
     (others : List Text) (name : Text) (first : L) (seen : Seen L) : Type 0 where
   pub site : site_of seen.ledger ≡ site_of first
   pub named : seen.shown.journal.name ≡ name

@@ -2,7 +2,8 @@
 ghost use Rattle.std.specs.Prelude.{◌≡◌, ◌⊎◌, ◌++◌, ◌∷◌, [], false, IfOk, MatchResult, OnOk};
 ghost use Rattle.dr_word_adopt.specs.Changes.{IsOpenedFor};
 ghost use Rattle.dr_word_audit.specs.Audits.{IsShown, IsStop, is_missing as is_no_file};
-ghost use Rattle.dr_word_audit.specs.Readings.{AreGathered, IsListed, IsRead, IsUnread, LooksAs};
+ghost use Rattle.dr_word_audit.specs.Readings.{AreGathered, IsListed, IsOnlyRead, IsUnread};
+ghost use Rattle.dr_word_audit.specs.Readings.{LooksAs};
 ghost use Rattle.dr_run_open.specs.declared.halt.Halt.TheVariants as halts;
 ghost use Rattle.dr_word_audit.specs.declared.reading.Gathering.TheVariants.{Missing};
 
@@ -162,7 +163,7 @@ fn see<L: TellsJournal + Drop>(
     name: &Text,
     ledger: L,
 ) -> Result<Seen<L>, LedgerFault>
-    ensures { IfOk result (IsRead L.site L.book L.stands others.now name.now ledger) }
+    ensures { IfOk result (IsOnlyRead L.site L.book L.stands others.now name.now ledger) }
 {
     let mut ledger = ledger;
     match read_ledger(alloc, others, name, &mut ledger) {

@@ -15,7 +15,7 @@ use Rattle.dr_run_open.specs.declared.answer.PlanAnswer.TheVariants.{Sound, Unso
 use Rattle.dr_run_open.specs.declared.answer.PlanAnswer.TheVariants.{TooLarge, Memory}
 
 -- the text writes a sound plan, and this is the text of the plan's certificate
-pub record IsCertified (text output : Text) : Type 0 where
+pub record IsCertifiedText (text output : Text) : Type 0 where
   pub plan : Network
   pub reads : Reads text (Ok plan)
   pub has : HasCertificate plan output
@@ -40,7 +40,7 @@ IsLineOf fault TooLarge = ⊥
 
 -- what `check` may answer to a text; want of memory may be answered to any
 abbrev pub IsAnswerTo : Text → PlanAnswer → Type 0
-IsAnswerTo text (Sound printed) = IsCertified text printed
+IsAnswerTo text (Sound printed) = IsCertifiedText text printed
 IsAnswerTo text (Unsound printed why) = IsRefuted text printed
 IsAnswerTo text (NoPlan fault place) = Reads text (Err fault) × (fault ≢ NoMemory)
 IsAnswerTo text TooLarge = (plan : Network) × Reads text (Ok plan) × IsTooLarge plan

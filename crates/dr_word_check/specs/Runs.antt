@@ -22,7 +22,7 @@ pub record Answers (text : Text) (old new : Option (List ℕ)) (status : Status)
 
 -- a run of `verify` on a text that has one: the verdict on the second text, of which `Holds` holds,
 -- is printed
-pub record Judges (Holds : Text → Type 0) (text : Text) (old new : Option (List ℕ))
+pub record JudgesText (Holds : Text → Type 0) (text : Text) (old new : Option (List ℕ))
     (status : Status) : Type 0 where
   pub plan : Network
   pub reads : Reads text (Ok plan)
@@ -35,4 +35,5 @@ pub record Judges (Holds : Text → Type 0) (text : Text) (old new : Option (Lis
 
 -- a run of `verify`: the first text has no plan, or the verdict on the second text is printed
 abbrev pub Verifies : (Text → Type 0) → Text → Option (List ℕ) → Option (List ℕ) → Status → Type 0
-Verifies Holds text old new status = Refuses text old new status ⊎ Judges Holds text old new status
+Verifies Holds text old new status =
+    Refuses text old new status ⊎ JudgesText Holds text old new status

@@ -16,7 +16,7 @@ use Rattle.dr_word_line.specs.declared.words.NextPlan.{NextPlan}
 use Rattle.dr_cert_diff.specs.Differing.{IsDiff, LosesSome}
 use Rattle.dr_cert_diff.specs.Rows.{change_rows}
 use Rattle.dr_cert_diff.specs.declared.change.RouteChange.{RouteChange}
-use Rattle.dr_word_route.specs.Unsealing.{Unseals}
+use Rattle.dr_word_route.specs.Unsealing.{AnswersUnsealed}
 
 -- the lines of the changes are printed, and the program ends with success; refused, where some node
 -- is lost and that is to be a no
@@ -51,7 +51,7 @@ pub record JudgesNext (Holds : List ℕ → Text → Type 0) (plan : Network) (p
   pub reads : Reads text (Ok next)
   pub second : Text
   pub held : Holds paths.certificate.now second
-  pub judged : Unseals next second old new status
+  pub judged : AnswersUnsealed next second old new status
       ⊎ SealsNext plan next second paths.fails_on_lost old new status
 
 -- a run on what changes from a sealed plan to that of another file: its text has no plan, or it

@@ -58,7 +58,7 @@ verdict_status (Faulty (Expect number)) = Refused
 verdict_status (Faulty Memory) = OutOfMemory
 
 -- the verdict is printed after what the output held, and the program ends with its status
-pub record IsTold (verdict : ExpectVerdict) (old new : Option (List ℕ))
+pub record VerdictIsTold (verdict : ExpectVerdict) (old new : Option (List ℕ))
     (status : Status) : Type 0 where
   pub printed : Appends old new (printed_verdict verdict)
   pub ends : status ≡ verdict_status verdict
@@ -66,4 +66,4 @@ pub record IsTold (verdict : ExpectVerdict) (old new : Option (List ℕ))
 -- a verdict on the text is told
 abbrev pub Expects : Network → Text → Option (List ℕ) → Option (List ℕ) → Status → Type 0
 Expects plan text old new status =
-    (verdict : ExpectVerdict) × IsVerdict plan text verdict × IsTold verdict old new status
+    (verdict : ExpectVerdict) × IsVerdict plan text verdict × VerdictIsTold verdict old new status

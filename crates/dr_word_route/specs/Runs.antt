@@ -24,18 +24,19 @@ use Rattle.dr_word_route.specs.Expecting.{Expects}
 use Rattle.dr_word_route.specs.Keys.{ReadsFileKey, ReadsWords}
 use Rattle.dr_word_route.specs.Replies.{IsRouteReply, IsSiteReply, IsTextReply, printed_for}
 use Rattle.dr_word_route.specs.Replies.{status_for}
-use Rattle.dr_word_route.specs.Unsealing.{Unseals}
+use Rattle.dr_word_route.specs.Unsealing.{AnswersUnsealed}
 use Rattle.dr_word_route.specs.declared.reply.Response.{Response}
 use Rattle.dr_word_route.specs.declared.reply.Response.TheVariants.{NoLine, Printed, Refused}
 
 -- the reply is printed after what the output held, and the program ends with its status
-pub record IsTold (reply : Response) (old new : Option (List ℕ)) (status : Status) : Type 0 where
+pub record ReplyIsTold (reply : Response) (old new : Option (List ℕ))
+    (status : Status) : Type 0 where
   pub printed : Appends old new (printed_for reply)
   pub ends : status ≡ status_for reply
 
 -- a reply of which `May` says that it may be given is told
 abbrev pub Replies : (Response → Type 0) → Option (List ℕ) → Option (List ℕ) → Status → Type 0
-Replies May old new status = (reply : Response) × May reply × IsTold reply old new status
+Replies May old new status = (reply : Response) × May reply × ReplyIsTold reply old new status
 
 -- the status with which the program ends for a reply that is to say nothing: refused where it says
 -- something
@@ -74,7 +75,7 @@ Responds Holds plan certificate (Diff paths) old new status =
     Compares Holds plan paths old new status
 
 -- a run in which the text is that of the certificate of a sound plan: the question is answered
-pub record Seals (Holds : List ℕ → Text → Type 0) (question : Question) (plan : Network)
+pub record AnswersSealed (Holds : List ℕ → Text → Type 0) (question : Question) (plan : Network)
     (text : Text) (old new : Option (List ℕ)) (status : Status) : Type 0 where
   pub certificate : Certificate
   pub written : IsTextOf text certificate
@@ -84,13 +85,14 @@ pub record Seals (Holds : List ℕ → Text → Type 0) (question : Question) (p
 
 -- a run for a text that has a plan: another text, which the file of the certificate holds, is
 -- refused as its certificate or is it
-pub record Judges (Holds : List ℕ → Text → Type 0) (path : List ℕ) (question : Question)
+pub record JudgesAndAnswers (Holds : List ℕ → Text → Type 0) (path : List ℕ) (question : Question)
     (text : Text) (old new : Option (List ℕ)) (status : Status) : Type 0 where
   pub plan : Network
   pub reads : Reads text (Ok plan)
   pub second : Text
   pub held : Holds path second
-  pub judged : Unseals plan second old new status ⊎ Seals Holds question plan second old new status
+  pub judged : AnswersUnsealed plan second old new status
+      ⊎ AnswersSealed Holds question plan second old new status
 
 -- a run on a question about the plan in the one file, whose certificate is in the other: the first
 -- text has no plan, or it goes on to the certificate and the question
@@ -98,4 +100,5 @@ abbrev pub Asks : (List ℕ → Text → Type 0) → Bor (List ℕ) → Bor (Lis
     → Option (List ℕ) → Option (List ℕ) → Status → Type 0
 Asks Holds plan certificate question old new status =
     (text : Text) × Holds plan.now text
-    × (Refuses text old new status ⊎ Judges Holds certificate.now question text old new status)
+    × (Refuses text old new status
+    ⊎ JudgesAndAnswers Holds certificate.now question text old new status)

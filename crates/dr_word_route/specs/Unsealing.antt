@@ -12,7 +12,7 @@ use Rattle.dr_run_open.specs.declared.status.Status.TheVariants.{Refused as No, 
 
 -- a run in which the text is refused as the plan's certificate, or memory ran out over it: nothing
 -- is printed
-pub record Unseals (plan : Network) (text : Text) (old new : Option (List ℕ))
+pub record AnswersUnsealed (plan : Network) (text : Text) (old new : Option (List ℕ))
     (status : Status) : Type 0 where
   pub fault : CertFault
   pub right : (fault ≢ NoMemory) → IsFaultOf plan text fault × (status ≡ No)

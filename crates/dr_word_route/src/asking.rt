@@ -7,9 +7,10 @@ ghost use Rattle.dr_run_open.specs.Answers.{Refuses};
 ghost use Rattle.dr_run_open.specs.declared.status.Status.TheVariants.{Refused, Memory};
 ghost use Rattle.dr_word_route.specs.Keys.{ReadsFileKey, ReadsWords};
 ghost use Rattle.dr_word_route.specs.Replies.{IsRouteReply, IsSiteReply, printed_for};
-ghost use Rattle.dr_word_route.specs.Runs.{Asks, IsTold, Judges, Replies, Responds, Seals};
+ghost use Rattle.dr_word_route.specs.Runs.{Asks, ReplyIsTold, JudgesAndAnswers, Replies, Responds};
+ghost use Rattle.dr_word_route.specs.Runs.{AnswersSealed};
 ghost use Rattle.dr_word_route.specs.Runs.{strict_status};
-ghost use Rattle.dr_word_route.specs.Unsealing.{Unseals};
+ghost use Rattle.dr_word_route.specs.Unsealing.{AnswersUnsealed};
 
 use crate::keys::{key_of_file, key_of_words, site_of};
 use crate::reply::Response;
@@ -66,7 +67,8 @@ impl<F: Files, W: Write, E: Write> Asker<'_, F, W, E> {
     /// Tells a reply, and ends as it says.
     fn tell(self, reply: &Response) -> io::Result<Status>
         ensures { IfOk result
-            (IsTold reply.now (W.contents self.entry.output.now) (W.contents self.exit.0.now)) }
+            (ReplyIsTold reply.now (W.contents self.entry.output.now)
+            (W.contents self.exit.0.now)) }
     {
         let Asker { output, faults, .. } = self;
         write_reply(reply, output, faults)?;
@@ -184,9 +186,9 @@ impl<F: Files, W: Write, E: Write> Asker<'_, F, W, E> {
         question: Question<'a>,
     ) -> Result<Status, Failure<'a>>
         ensures { IfOk result
-            (λ status. Unseals plan text.now (W.contents self.entry.output.now)
+            (λ status. AnswersUnsealed plan text.now (W.contents self.entry.output.now)
             (W.contents self.exit.0.now) status
-            ⊎ Seals (F.holds self.entry.files.now) question.entry plan text.now
+            ⊎ AnswersSealed (F.holds self.entry.files.now) question.entry plan text.now
             (W.contents self.entry.output.now) (W.contents self.exit.0.now) status) }
     {
         let sealed = match seal_text(alloc, plan, text) {
@@ -211,10 +213,10 @@ impl<F: Files, W: Write, E: Write> Asker<'_, F, W, E> {
         question: Question<'a>,
     ) -> Result<Status, Failure<'a>>
         ensures { IfOk result
-            (λ status. Refuses text.now (W.contents self.entry.output.now)
-            (W.contents self.exit.0.now) status
-            ⊎ Judges (F.holds self.entry.files.now) certificate.now question.entry text.now
-            (W.contents self.entry.output.now) (W.contents self.exit.0.now) status) }
+            (λ status.
+            Refuses text.now (W.contents self.entry.output.now) (W.contents self.exit.0.now) status
+            ⊎ JudgesAndAnswers (F.holds self.entry.files.now) certificate.now question.entry
+            text.now (W.contents self.entry.output.now) (W.contents self.exit.0.now) status) }
     {
         let plan = match plan_of(alloc, text) {
             Ok(plan) => plan,

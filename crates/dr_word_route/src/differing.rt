@@ -7,7 +7,7 @@ ghost use Rattle.dr_cert_diff.specs.Differing.{IsDiff, LosesSome};
 ghost use Rattle.dr_cert_diff.specs.Rows.{change_rows};
 ghost use Rattle.dr_cert_diff.specs.declared.change.RouteChange.{RouteChange as ChangeValue};
 ghost use Rattle.dr_word_route.specs.Differing.{Compares, Differs, JudgesNext, SealsNext};
-ghost use Rattle.dr_word_route.specs.Unsealing.{Unseals};
+ghost use Rattle.dr_word_route.specs.Unsealing.{AnswersUnsealed};
 
 use crate::asking::{Asker, tell_refusal};
 use dr_base::Text;
@@ -87,7 +87,7 @@ impl<F: Files, W: Write, E: Write> Asker<'_, F, W, E> {
         fails: bool,
     ) -> io::Result<Status>
         ensures { IfOk result
-            (λ status. Unseals plan text.now (W.contents self.entry.output.now)
+            (λ status. AnswersUnsealed plan text.now (W.contents self.entry.output.now)
             (W.contents self.exit.0.now) status
             ⊎ SealsNext sealed.now.plan plan text.now fails (W.contents self.entry.output.now)
             (W.contents self.exit.0.now) status) }

@@ -4,7 +4,8 @@ ghost use Rattle.std.specs.Io.KnownBytes.{Appends};
 ghost use Rattle.dr_base.specs.Texts.{Text as Words};
 ghost use Rattle.dr_cert_expect.specs.Expected.{IsFirstMiss};
 ghost use Rattle.dr_cert_expect.specs.Rows.{miss_line};
-ghost use Rattle.dr_word_route.specs.Expecting.{Expects, IsTold, IsVerdict, IsVerdictOn, MayMiss};
+ghost use Rattle.dr_word_route.specs.Expecting.{Expects, VerdictIsTold, IsVerdict, IsVerdictOn};
+ghost use Rattle.dr_word_route.specs.Expecting.{MayMiss};
 ghost use Rattle.dr_word_route.specs.Expecting.{printed_verdict, verdict_status};
 
 use crate::asking::Asker;
@@ -96,7 +97,8 @@ fn tell_verdict<W: Write, E: Write>(
     output: &mut W,
     faults: &mut E,
 ) -> io::Result<Status>
-    ensures { IfOk result (IsTold verdict.now (W.contents output.old) (W.contents output.new)) }
+    ensures { IfOk result
+        (VerdictIsTold verdict.now (W.contents output.old) (W.contents output.new)) }
 {
     write_verdict(verdict, output, faults)?;
     Ok(verdict.status())

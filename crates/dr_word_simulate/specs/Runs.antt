@@ -28,7 +28,7 @@ pub record Plays (Holds : Text → Text → Type 0) (plan : Network) (certificat
 
 -- a run in which the text is refused as the plan's certificate, or memory ran out over it: nothing
 -- is printed
-pub record Unseals (plan : Network) (text : Text) (old new : Option (List ℕ))
+pub record PlaysUnsealed (plan : Network) (text : Text) (old new : Option (List ℕ))
     (status : Status) : Type 0 where
   pub fault : CertFault
   pub right : (fault ≢ NoMemory) → IsFaultOf plan text fault × (status ≡ Refused)
@@ -37,7 +37,7 @@ pub record Unseals (plan : Network) (text : Text) (old new : Option (List ℕ))
 
 -- a run in which the text is that of the certificate of a sound plan: the script that the file of
 -- this path holds is played
-pub record Seals (Holds : Text → Text → Type 0) (path : Text) (plan : Network) (text : Text)
+pub record PlaysSealed (Holds : Text → Text → Type 0) (path : Text) (plan : Network) (text : Text)
     (old new : Option (List ℕ)) (status : Status) : Type 0 where
   pub certificate : Certificate
   pub written : IsTextOf text certificate
@@ -49,17 +49,18 @@ pub record Seals (Holds : Text → Text → Type 0) (path : Text) (plan : Networ
 
 -- a run for a text that has a plan: the text that the second file holds is refused as its
 -- certificate or is it
-pub record Judges (Holds : Text → Text → Type 0) (path script text : Text)
+pub record JudgesAndPlays (Holds : Text → Text → Type 0) (path script text : Text)
     (old new : Option (List ℕ)) (status : Status) : Type 0 where
   pub plan : Network
   pub reads : Reads text (Ok plan)
   pub second : Text
   pub held : Holds path second
-  pub judged : Unseals plan second old new status ⊎ Seals Holds script plan second old new status
+  pub judged : PlaysUnsealed plan second old new status
+      ⊎ PlaysSealed Holds script plan second old new status
 
 -- A run of `simulate`: the first text has no plan, or it goes on to the certificate and the script.
 -- `Holds` says of a path and a text that the file of this path holds it.
 abbrev pub Simulates : (Text → Text → Type 0) → Text → Text → Text → Option (List ℕ)
     → Option (List ℕ) → Status → Type 0
 Simulates Holds certificate script text old new status =
-    Refuses text old new status ⊎ Judges Holds certificate script text old new status
+    Refuses text old new status ⊎ JudgesAndPlays Holds certificate script text old new status

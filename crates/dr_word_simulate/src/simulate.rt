@@ -3,7 +3,7 @@ ghost use Rattle.std.specs.Prelude.{◌⊎◌, IfOk, OnOk};
 ghost use Rattle.std.specs.Io.KnownBytes.{Appends};
 ghost use Rattle.dr_base.specs.Texts.{Text};
 ghost use Rattle.dr_word_simulate.specs.Outcomes.{printed_for};
-ghost use Rattle.dr_word_simulate.specs.Runs.{Plays, Seals, Simulates, Unseals};
+ghost use Rattle.dr_word_simulate.specs.Runs.{Plays, PlaysSealed, Simulates, PlaysUnsealed};
 
 use crate::outcome::{PlayOutcome, outcome_of};
 use dr_cert::Sealed;
@@ -70,8 +70,9 @@ fn play_sealed<'a, F: Files, W: Write, E: Write>(
     faults: &mut E,
 ) -> Result<Status, Failure<'a>>
     ensures { IfOk result
-        (λ status. Unseals plan text.now (W.contents output.old) (W.contents output.new) status
-        ⊎ Seals (F.holds files.now) script.now plan text.now (W.contents output.old)
+        (λ status.
+        PlaysUnsealed plan text.now (W.contents output.old) (W.contents output.new) status
+        ⊎ PlaysSealed (F.holds files.now) script.now plan text.now (W.contents output.old)
         (W.contents output.new) status) }
 {
     let sealed = match seal_text(alloc, plan, text) {

@@ -24,7 +24,7 @@ use Rattle.dr_node.specs.declared.links.LinkSide.{LinkSide as NodeSide}
 use Rattle.dr_node.specs.declared.node.Node.{Node}
 use Rattle.dr_node.specs.Sides.{state_of_side}
 use Rattle.dr_world_tie.specs.Desks.{LedgerStep}
-use Rattle.dr_world_tie.specs.Channels.{Terminal, Channel}
+use Rattle.dr_world_tie.specs.Channels.{LiveTerminal, Channel}
 use Rattle.dr_world_tie.specs.ByteWorlds.{ByteWorld, Move, Side, Requestor, Acceptor, StepNote as ByteNote, Done as WasDone, Skipped as WasSkipped, LinkStep, DoesIf, ReadsIf, Moves, CallerReads, ReceiverReads, CallerMeets, ReceiverMeets, Meets as MeetsBytes, core_at, is_over, with_done}
 use Rattle.dr_world.specs.declared.fronts.MoveDue.{MoveDue}
 use Rattle.dr_world.specs.declared.fronts.MoveDue.TheVariants as due
@@ -33,7 +33,7 @@ use Rattle.dr_world.specs.declared.steps.StepNote.TheVariants.{Done, Skipped}
 use Rattle.dr_world.specs.declared.wires.Wires.{Wires}
 use Rattle.dr_world.specs.declared.world.World.{World}
 use Rattle.dr_world.specs.Shows.{Contents, Seat, ShowsBytes, IsSeated, Becomes, IsLinked}
-use Rattle.dr_world.specs.Ends.{IsDone, AreWritten, name_at, wire_at, opposite}
+use Rattle.dr_world.specs.Ends.{IsDoneAtEnd, AreWritten, name_at, wire_at, opposite}
 use Rattle.dr_world.specs.Nodes.{IsDoneAt, event_at, over_at, seat_of}
 use Rattle.dr_world.specs.Whole.{Meets, MeetsIn, StepsTo, contents, noted}
 use Rattle.dr_world.specs.Moved.{AreTaken, Hears, HearsIn, IsDue, IsDueAt, IsMovable, kept_at, kept_of}
@@ -257,7 +257,7 @@ module _ {L : Type 0} {l : Ghosts L} (old new : World L l) (link n : ℕ) (side 
 
   module _ (m : ℕ) where
     hears_at : (w : Wires) → tree.get nat_cmp old.wires link ≡ Some w → IsDueAt old.nodes link side n w (due.Bytes m) → (plan : Network) (certificate : Certificate) → IsCertified plan certificate → (b : ByteWorld) → IsSeated plan certificate (contents old).seats
-        → ShowsBytes (contents old) b → (acts : List LinkAction) → IsDone (event_at (event.Heard (heard.Bytes (take m (wire_at side w))))) m (contents old) link side acts (contents new)
+        → ShowsBytes (contents old) b → (acts : List LinkAction) → IsDoneAtEnd (event_at (event.Heard (heard.Bytes (take m (wire_at side w))))) m (contents old) link side acts (contents new)
         → Becomes plan certificate b (Move link side n) WasDone (contents new)
     hears_at w wired h plan certificate certified b seated s acts d =
         let w_is : w ≡ d.wires = one_wires w d.wires (sym wired ∙ d.wired) in

@@ -28,7 +28,7 @@ use Rattle.dr_node.specs.Sides.{moment_at, with_end}
 use Rattle.dr_world_model.proofs.Lookups.{numbers}
 use Rattle.dr_world_model.specs.Worlds.{same_text}
 use Rattle.dr_world_tie.specs.Desks.{LedgerStep}
-use Rattle.dr_world_tie.specs.Channels.{Terminal, Channel, bytes_of}
+use Rattle.dr_world_tie.specs.Channels.{LiveTerminal, Channel, bytes_of}
 use Rattle.dr_world_tie.specs.Ties.{caller_did, receiver_did, caller_read, receiver_read, with_desk}
 use Rattle.dr_world_tie.specs.ByteWorlds.{ByteWorld, Push, Abort, Release, Late, Side, Requestor, Acceptor, StepNote, Done, Skipped, DoesIf, LinkStep, CallerMeets, PushesIf, PushNote, Meets, IsMoment, caller_of, receiver_of, core_at, with_done, has_cell, acts_late}
 use Rattle.std.specs.Option.{option_map_or}
@@ -43,7 +43,7 @@ use Rattle.dr_session.specs.Desks.{DeskCall, DeskAnswer}
 use Rattle.dr_session.specs.Turns.{Turns}
 use Rattle.dr_world.specs.declared.wires.Wires.{Wires}
 use Rattle.dr_world.specs.Shows.{Contents, Seat, Seats, ShowsBytes, IsSeated, Becomes, HasSide, IsLinked, side_of, with_end_done}
-use Rattle.dr_world.specs.Ends.{IsDone, name_at, note_by}
+use Rattle.dr_world.specs.Ends.{IsDoneAtEnd, name_at, note_by}
 use Rattle.dr_world.proofs.Counted.{linked_there}
 use Rattle.dr_world.proofs.AtNodes.{one_seat}
 use Rattle.dr_world.proofs.Doing.{caller_done, receiver_done, still_seated}
@@ -53,7 +53,7 @@ use Rattle.dr_world.proofs.Sited.{reacts_keep}
 
 -- ---- the two sides
 
-abbrev pub end_of : Side → Channel → Terminal
+abbrev pub end_of : Side → Channel → LiveTerminal
 end_of Requestor k = k.caller
 end_of Acceptor k = k.receiver
 
@@ -122,13 +122,13 @@ Does = Part → Moment → End → Desk → Result (List LinkAction) AllocError 
 module _ (plan : Network) (certificate : Certificate) (certified : IsCertified plan certificate) (c : Contents) (b : ByteWorld) (seated : IsSeated plan certificate c.seats) (s : ShowsBytes c b) (does : Part → Moment → End → Desk → Result (List LinkAction) AllocError → End → Desk → Type 0)
     (taken number : ℕ) (acts : List LinkAction) (new : Contents) where
   -- the link's channel and its side at the node
-  pub record Found (side : Side) (d : IsDone does taken c number side acts new) : Type 0 where
+  pub record Found (side : Side) (d : IsDoneAtEnd does taken c number side acts new) : Type 0 where
     pub k : Channel
     pub has : map.get b.links number ≡ Some k
     pub linked : IsLinked c.seats number d.wires k
     pub had : map.get d.seat.sides number ≡ Some (side_of (accepts side) (end_of side k))
 
-  pub found : (side : Side) (d : IsDone does taken c number side acts new) → Found side d
+  pub found : (side : Side) (d : IsDoneAtEnd does taken c number side acts new) → Found side d
   found side d =
       let l = linked_there c b s number d.wires d.wired in
       let there = sided c.seats number d.wires l.0 l.2 side in
@@ -139,12 +139,12 @@ module _ (plan : Network) (certificate : Certificate) (certified : IsCertified p
         had = subst (λ (y : Seat). map.get y.sides number ≡ Some (side_of (accepts side) (end_of side l.0))) (one_seat (c.seats (name_at side d.wires)) there.0 d.seat there.1 d.seated) there.2;
       }
 
-  pub seated_after : (side : Side) (d : IsDone does taken c number side acts new) → IsSeated plan certificate new.seats
+  pub seated_after : (side : Side) (d : IsDoneAtEnd does taken c number side acts new) → IsSeated plan certificate new.seats
   seated_after side d =
       let P : Contents → Type 0 = λ z. IsSeated plan certificate z.seats in
       subst P (sym d.is) (still_seated plan certificate c.seats (name_at side d.wires) d.seat (Rattle.dr_world.specs.Shows.with_side d.seat number (with_end d.own d.end) d.desk) d.seated refl seated)
 
-  pub shown : (side : Side) (d : IsDone does taken c number side acts new) (f : Found side d) (x : Effect) (ear : Feeding) → x.core.site ≡ (end_of side f.k).core.site → acts ≡ x.acts
+  pub shown : (side : Side) (d : IsDoneAtEnd does taken c number side acts new) (f : Found side d) (x : Effect) (ear : Feeding) → x.core.site ≡ (end_of side f.k).core.site → acts ≡ x.acts
       → with_end d.own d.end ≡ side_of (accepts side) (record { core = x.core; ear = ear }) → ShowsBytes new (with_done b (name_at side d.wires) d.desk number (read_at side f.k taken ear x))
   shown Requestor d f x ear site acts_are own =
       let r = caller_done c b s number d.wires d.after f.k d.wired f.linked d.written.caller d.written.receiver d.seat ear x d.desk (drop taken f.k.to_caller) d.seated f.had site
@@ -180,13 +180,13 @@ kept_by plan name core at i d x t (inr (gone, same, still)) = ap (λ (y : Effect
 module _ (plan : Network) (certificate : Certificate) (certified : IsCertified plan certificate) (c : Contents) (b : ByteWorld) (seated : IsSeated plan certificate c.seats) (s : ShowsBytes c b) (does : Part → Moment → End → Desk → Result (List LinkAction) AllocError → End → Desk → Type 0)
     (number : ℕ) (acts : List LinkAction) (new : Contents) (i : Input)
     (meets : (site : Part) (at : Moment) (o : End) (d : Desk) (r : Result (List LinkAction) AllocError) (e : End) (t : Desk) → does site at o d r e t → EndMeets (RoutedStep (site_routing site)) at i o d r e t) where
-  by_side : (side : Side) (d : IsDone does 0 c number side acts new) (f : Found plan certificate certified c b seated s does 0 number acts new side d) (x : Effect) →
+  by_side : (side : Side) (d : IsDoneAtEnd does 0 c number side acts new) (f : Found plan certificate certified c b seated s does 0 number acts new side d) (x : Effect) →
       Happened (LedgerStep plan (name_at side d.wires)) (end_of side f.k).core (moment_at number d.seat.sides c.now) i (b.desks (name_at side d.wires)) x d.desk → acts ≡ x.acts →
       with_end d.own d.end ≡ side_of (accepts side) (record { core = x.core; ear = (end_of side f.k).ear }) → ShowsBytes new (with_done b (name_at side d.wires) d.desk number (did_at side f.k x))
   by_side Requestor d f x h a own = shown plan certificate certified c b seated s does 0 number acts new Requestor d f x f.k.caller.ear (kept_by plan d.wires.caller f.k.caller.core _ i _ x d.desk h) a own
   by_side Acceptor d f x h a own = shown plan certificate certified c b seated s does 0 number acts new Acceptor d f x f.k.receiver.ear (kept_by plan d.wires.receiver f.k.receiver.core _ i _ x d.desk h) a own
 
-  pub met_at : (side : Side) → IsDone does 0 c number side acts new → MetAt plan b number side i acts new
+  pub met_at : (side : Side) → IsDoneAtEnd does 0 c number side acts new → MetAt plan b number side i acts new
   met_at side d =
       let f = found plan certificate certified c b seated s does 0 number acts new side d in
       let name = name_at side d.wires in

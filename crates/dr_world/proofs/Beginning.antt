@@ -11,9 +11,9 @@ use Rattle.dr_world_tie.specs.Channels.{Channel}
 use Rattle.dr_world_tie.specs.ByteWorlds.{beginning}
 use Rattle.dr_world.specs.declared.wires.Wires.{Wires}
 use Rattle.dr_world.specs.Shows.{Contents, Seat, HasSide, LinkedAt, desk_at}
-use Rattle.dr_world.specs.Laws.{IsNew, NewIsBeginning}
+use Rattle.dr_world.specs.Laws.{IsNewWorld, NewIsBeginning}
 
-module _ (c : Contents) (n : IsNew c) where
+module _ (c : Contents) (n : IsNewWorld c) where
   no_side : (name : Text) (number : ℕ) (side : LinkSide) → HasSide c.seats name number side → ⊥
   no_side name number side h =
       let none : map.get h.0.sides number ≡ None = ap (λ (s : Sides). map.get s number) ((n.seats name h.0 h.1).1) ∙ map.get-empty nat_cmp number in

@@ -25,7 +25,7 @@ use Rattle.dr_world_tie.specs.Channels.{Channel}
 use Rattle.dr_world_tie.specs.ByteWorlds.{ByteWorld, FarEnds, FarEndsOf, AllFarEnd, receiver_of, with_done}
 use Rattle.dr_world.specs.declared.wires.Wires.{Wires}
 use Rattle.dr_world.specs.Shows.{Contents, ShowsBytes, IsSeated}
-use Rattle.dr_world.specs.Ends.{IsDone}
+use Rattle.dr_world.specs.Ends.{IsDoneAtEnd}
 use Rattle.dr_world.specs.Nodes.{event_at}
 use Rattle.dr_world.specs.Restarted.{far_by, far_of}
 use Rattle.dr_world.proofs.Counted.{linked_there}
@@ -36,7 +36,7 @@ use Rattle.dr_world.proofs.Ending.{ended_over}
 -- one far end, as a world's contents show it
 abbrev pub FarDone : Text → Option Wires → Contents → ℕ → Contents → Type 0
 FarDone node None c number new = new ≡ c
-FarDone node (Some w) c number new = (acts : List LinkAction) × IsDone (event_at (event.Heard heard.End)) 0 c number (far_of node w) acts new
+FarDone node (Some w) c number new = (acts : List LinkAction) × IsDoneAtEnd (event_at (event.Heard heard.End)) 0 c number (far_of node w) acts new
 
 -- one after the other
 abbrev pub AllFarDone : Text → Contents → List ℕ → Contents → Type 0

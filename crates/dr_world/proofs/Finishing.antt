@@ -13,7 +13,7 @@ use Rattle.dr_session.specs.declared.ends.Moment.{Moment}
 use Rattle.dr_session.specs.Desks.{DeskCall, DeskAnswer}
 use Rattle.dr_session.specs.Plays.{Plays, PlaysBytes, at_moment, inputs_of}
 use Rattle.dr_world_tie.specs.Desks.{LedgerStep}
-use Rattle.dr_world_tie.specs.Channels.{Terminal, Channel}
+use Rattle.dr_world_tie.specs.Channels.{LiveTerminal, Channel}
 use Rattle.dr_world_tie.specs.Moves.{IsLeft}
 use Rattle.dr_world_tie.specs.ByteWorlds.{ByteWorld, Requestor, Acceptor, StepNote, Done, LinkStep, DoesIf, ReadsIf, Moves, CallerReads, ReceiverReads, CallerHears, ReceiverHears, IsMoved, is_over, with_done, caller_of, receiver_of}
 use Rattle.dr_world_tie.proofs.Fronts.{hears_one}
@@ -36,11 +36,11 @@ some_wire [] rest wire some is none = some refl
 some_wire (x ∷ xs) rest wire some is none = (let e : x ∷ (xs ++ rest) ≡ [] = sym is ∙ none in cc)
 
 -- just the rest is moved
-all_left : (t : Terminal) (wire : List ℕ) (n m : ℕ) → IsMoved t wire n m → (front : Pdu) (left : List ℕ) → IsLeft t wire front left → length left ≤ n → m ≡ length left
+all_left : (t : LiveTerminal) (wire : List ℕ) (n m : ℕ) → IsMoved t wire n m → (front : Pdu) (left : List ℕ) → IsLeft t wire front left → length left ≤ n → m ≡ length left
 all_left t wire n m moved front left h less = (let a = moved.1 front left h in elim a.1 [ inl all ↦ omega (arith, all, less, a.0) | inr same ↦ same ])
 
 -- what was heard is the PDU
-module _ {S : Type 0} (step : S → DeskCall → DeskAnswer → S → Type 0) (at : Moment) (t : Terminal) (wire : List ℕ) (s : S) (front : Pdu) (left : List ℕ) (is : IsLeft t wire front left) (works : t.ear.failed ≡ false) where
+module _ {S : Type 0} (step : S → DeskCall → DeskAnswer → S → Type 0) (at : Moment) (t : LiveTerminal) (wire : List ℕ) (s : S) (front : Pdu) (left : List ℕ) (is : IsLeft t wire front left) (works : t.ear.failed ≡ false) where
   heard_front : (m : ℕ) (new : Feeding) (x : Effect) (after : S) → m ≡ length left → PlaysBytes step at t.ear t.core (take m wire) s new x after
       → Plays step t.core (mapped (at_moment at) (inputs_of front)) s x.acts x.core after × (new ≡ fresh t.ear.limit)
   heard_front m new x after same (inputs, hears, plays) =

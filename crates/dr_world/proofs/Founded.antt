@@ -23,7 +23,7 @@ use Rattle.dr_site.specs.Parts.{Part}
 use Rattle.std.specs.Prelude.{IfErr, IsErrAnd, Result, Ok, Err}
 use Rattle.dr_world.specs.declared.wires.Wires.{Wires}
 use Rattle.dr_world.specs.declared.world.World.{World}
-use Rattle.dr_world.specs.Laws.{IsNew}
+use Rattle.dr_world.specs.Laws.{IsNewWorld}
 use Rattle.dr_world.specs.Nodes.{AllStandIn, seat_of, seats_of}
 use Rattle.dr_world.specs.Runs.{IsReached}
 use Rattle.dr_world.specs.Shows.{IsSeated, Seat}
@@ -121,7 +121,7 @@ module _ {L : Type 0} {l : Ghosts L} (plan : Network) (certificate : Certificate
   }
 
   module _ (w : World L l) (of : w.nodes ≡ nodes) (time : w.time.passed ≡ 0) (opened : w.opened ≡ 0) (wires : w.wires.entries ≡ []) (are : AreNames plan names) where
-    is_new : ((name : Text) → Contains names name → (n : Node L l) → tree.get text_cmp nodes name ≡ Some n → l.book n.desk.ledger ≡ empty_book) → IsNew (contents w)
+    is_new : ((name : Text) → Contains names name → (n : Node L l) → tree.get text_cmp nodes name ≡ Some n → l.book n.desk.ledger ≡ empty_book) → IsNewWorld (contents w)
     is_new bare = record {
       now = time;
       opened = opened;

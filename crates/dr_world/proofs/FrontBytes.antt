@@ -7,7 +7,7 @@ use Rattle.dr_pdu.specs.declared.pdu.Pdu.{Pdu}
 use Rattle.dr_pdu.specs.declared.pdu.Pdu.TheVariants as pdu
 use Rattle.dr_pdu.specs.Written.{Fits, MeetsLimit, written}
 use Rattle.dr_pdu.proofs.WrittenLemmas.{written_spells}
-use Rattle.dr_world_tie.specs.Channels.{Terminal}
+use Rattle.dr_world_tie.specs.Channels.{LiveTerminal}
 use Rattle.dr_world_tie.specs.Moves.{IsLeft}
 use Rattle.dr_world.specs.Moved.{TellsLength, IsLeftOf, IsMovable}
 
@@ -71,7 +71,7 @@ module _ (kept wire : List ℕ) (size : ℕ) (tells : TellsLength (kept ++ wire)
   left_there more there = (there, (λ some. omega (arith, more)), λ p left rest joined some wire_is fits. (let h = sized p left rest joined wire_is fits in omega (arith, h)))
 
 module _ (kept wire : List ℕ) (left : ℕ) (is : IsLeftOf kept wire left) where
-  length_left : (t : Terminal) → t.ear.kept ≡ kept → (front : Pdu) (rest : List ℕ) → IsLeft t wire front rest → left ≡ length rest
+  length_left : (t : LiveTerminal) → t.ear.kept ≡ kept → (front : Pdu) (rest : List ℕ) → IsLeft t wire front rest → left ≡ length rest
   length_left t same front rest h = is.2 front rest h.rest (ap (λ (k : List ℕ). k ++ rest) (sym same) ∙ h.joined) h.some h.wire_is h.first.2
 
   pub moves_some : (n : ℕ) → n < left → IsMovable kept wire n n

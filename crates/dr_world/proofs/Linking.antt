@@ -30,7 +30,7 @@ use Rattle.dr_world.specs.declared.steps.StepNote.TheVariants.{Skipped}
 use Rattle.dr_world.specs.declared.wires.Wires.{Wires}
 use Rattle.dr_world.specs.declared.world.World.{World}
 use Rattle.dr_world.specs.Shows.{Contents, ShowsBytes, LinkedAt, IsSeated, Becomes, with_seat, with_side, with_wires, with_end_done}
-use Rattle.dr_world.specs.Ends.{IsDone, AreWritten, name_at, note_by}
+use Rattle.dr_world.specs.Ends.{IsDoneAtEnd, AreWritten, name_at, note_by}
 use Rattle.dr_world.specs.Nodes.{IsDoneAt, AllStandIn, seat_of, seats_of, event_at, push_at}
 use Rattle.dr_world.specs.Whole.{Meets, MeetsIn, StepsTo, contents, noted}
 use Rattle.dr_world.proofs.Asking.{met_at, seated_after, aborted, released, delayed, pushed}
@@ -51,7 +51,7 @@ module _ {L : Type 0} {l : Ghosts L} (does : Part → Deed Desk) (old new : Worl
       λ i. record { now = (time i).passed; opened = opened i; seats = λ q. at q i; wires = λ q. wires_at q i }
 
   by_side : (n : Node L l) → tree.get text_cmp old.nodes (name_at side w) ≡ Some n → (sides : Sides) (t : Desk) (o : Option NodeSide) → map.get n.links link ≡ o → DoesIn (does (l.site n.desk.ledger)) old.time.passed link o n.links (seat_of n).desk (Ok acts) sides t
-      → ((q : Text) → seats_of new.nodes q ≡ with_seat (seats_of old.nodes) (name_at side w) (record { site = l.site n.desk.ledger; sides = sides; desk = t }) q) → IsDone does taken (contents old) link side acts (contents new)
+      → ((q : Text) → seats_of new.nodes q ≡ with_seat (seats_of old.nodes) (name_at side w) (record { site = l.site n.desk.ledger; sides = sides; desk = t }) q) → IsDoneAtEnd does taken (contents old) link side acts (contents new)
   by_side n is sides t None none h seats = absurd (no_fault acts h.0)
     where
       no_fault : (xs : List LinkAction) → Ok xs ≡ Err LinkUnknown → ⊥
@@ -71,7 +71,7 @@ module _ {L : Type 0} {l : Ghosts L} (does : Part → Deed Desk) (old new : Worl
     is = contents_are n own sides h.0 t h.2 seats;
   }
 
-  pub done_of : (now : ℕ) → now ≡ old.time.passed → (h : IsDoneAt does (name_at side w) link now old.nodes acts new.nodes) → AllStandIn new.nodes → IsDone does taken (contents old) link side acts (contents new)
+  pub done_of : (now : ℕ) → now ≡ old.time.passed → (h : IsDoneAt does (name_at side w) link now old.nodes acts new.nodes) → AllStandIn new.nodes → IsDoneAtEnd does taken (contents old) link side acts (contents new)
   done_of now at h all =
       let d = h.3 all in
       let D : ℕ → Type 0 = λ m. Does (does (l.site h.0.desk.ledger)) m link h.0.links (seat_of h.0).desk (Ok acts) d.0 d.1 in
@@ -107,7 +107,7 @@ unlinked c b s number none = by_get (map.get b.links number) refl (subst (λ (o 
 
 module _ {L : Type 0} {l : Ghosts L} (old new : World L l) (note : StepNote) (does : Part → Deed Desk) (link : ℕ) (side : Side) (step : WorldStep)
     (skips : (plan : Network) (certificate : Certificate) (b : ByteWorld) → map.get b.links link ≡ None → Steps plan certificate b step WasSkipped b)
-    (steps : (plan : Network) (certificate : Certificate) → IsCertified plan certificate → (c : Contents) (b : ByteWorld) → IsSeated plan certificate c.seats → ShowsBytes c b → (acts : List LinkAction) (after : Contents) → IsDone does 0 c link side acts after
+    (steps : (plan : Network) (certificate : Certificate) → IsCertified plan certificate → (c : Contents) (b : ByteWorld) → IsSeated plan certificate c.seats → ShowsBytes c b → (acts : List LinkAction) (after : Contents) → IsDoneAtEnd does 0 c link side acts after
     → Becomes plan certificate b step (note_by acts) after) where
   met_in : (o : Option Wires) → tree.get nat_cmp old.wires link ≡ o → MeetsIn does o link side old note new → StepsTo step old note new
   met_in None none h = (

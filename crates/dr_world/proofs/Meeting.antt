@@ -31,7 +31,7 @@ use Rattle.dr_session.specs.Turns.{Turns, Ends, Asks, Fails}
 use Rattle.dr_node.specs.declared.links.LinkSide.{LinkSide}
 use Rattle.dr_node.specs.Sides.{moment_at, with_end}
 use Rattle.dr_world_tie.specs.Desks.{LedgerStep}
-use Rattle.dr_world_tie.specs.Channels.{Terminal}
+use Rattle.dr_world_tie.specs.Channels.{LiveTerminal}
 use Rattle.dr_world_tie.specs.ByteWorlds.{ByteWorld, IsMoment, has_cell, acts_late}
 use Rattle.dr_world_tie.proofs.Sites.{site_steps}
 use Rattle.dr_world.specs.Shows.{Contents, Seat, ShowsBytes, IsSeated, side_of}
@@ -143,7 +143,7 @@ module _ (plan : Network) (certificate : Certificate) (certified : IsCertified p
   at_desk : b.desks name ≡ seat.desk
   at_desk = desk_there c b s name seat is
 
-  module _ (accepted : Bool) (end : Terminal) (own : LinkSide) (has : map.get seat.sides number ≡ Some own) (had : map.get seat.sides number ≡ Some (side_of accepted end)) (acts : List LinkAction) (new : End) (t : Desk) where
+  module _ (accepted : Bool) (end : LiveTerminal) (own : LinkSide) (has : map.get seat.sides number ≡ Some own) (had : map.get seat.sides number ≡ Some (side_of accepted end)) (acts : List LinkAction) (new : End) (t : Desk) where
     own_is : own ≡ side_of accepted end
     own_is = (let e : Some own ≡ Some (side_of accepted end) = sym has ∙ had in cc)
 

@@ -28,7 +28,7 @@ use Rattle.dr_world_tie.specs.Channels.{Channel}
 use Rattle.dr_world_tie.specs.ByteWorlds.{ByteWorld, Open, Done, opened_between}
 use Rattle.dr_world.specs.declared.wires.Wires.{Wires}
 use Rattle.dr_world.specs.Shows.{Contents, Seat, Seats, ShowsBytes, IsSeated, Becomes, HasSide, IsLinked, LinkedAt, IsOfLink, desk_at, with_seat, with_side, with_wires}
-use Rattle.dr_world.specs.Opened.{IsOpened, with_opened, asks_at}
+use Rattle.dr_world.specs.Opened.{IsLinkOpened, with_opened, asks_at}
 use Rattle.dr_world.proofs.AtNodes.{one_seat}
 use Rattle.dr_world.proofs.Doing.{seat_here, seat_there, apart_texts, still_seated}
 
@@ -197,7 +197,7 @@ module _ (c : Contents) (b : ByteWorld) (s : ShowsBytes c b) (from to : Text) (a
 
 -- ---- the step
 
-module _ (plan : Network) (certificate : Certificate) (certified : IsCertified plan certificate) (c : Contents) (b : ByteWorld) (seated : IsSeated plan certificate c.seats) (s : ShowsBytes c b) (from to : Text) (new : Contents) (o : IsOpened from to c new) where
+module _ (plan : Network) (certificate : Certificate) (certified : IsCertified plan certificate) (c : Contents) (b : ByteWorld) (seated : IsSeated plan certificate c.seats) (s : ShowsBytes c b) (from to : Text) (new : Contents) (o : IsLinkOpened from to c new) where
   away : from ≢ to
   away = (let e = seated.each from o.near o.is_near in λ same. hops_elsewhere plan certificate certified o.near.site e.1 to o.hop o.goes (e.0 ∙ same))
 

@@ -35,7 +35,7 @@ use Rattle.dr_world.specs.declared.steps.StepNote.TheVariants as note
 use Rattle.dr_world.specs.declared.wires.Wires.{Wires}
 use Rattle.dr_world.specs.declared.world.World.{World}
 use Rattle.dr_world.specs.Shows.{Contents, Seat, Seats, ShowsBytes, IsSeated, Becomes, with_seat, with_side, with_wires}
-use Rattle.dr_world.specs.Opened.{IsOpened, asks_at}
+use Rattle.dr_world.specs.Opened.{IsLinkOpened, asks_at}
 use Rattle.dr_world.specs.Nodes.{AllStandIn, HasSides, OpensAt, AcceptsAt, seat_of, seats_of}
 use Rattle.dr_world.specs.Whole.{AllStand, StepsTo, contents}
 use Rattle.dr_world.proofs.Opening.{hops_elsewhere, opened_becomes}
@@ -123,7 +123,7 @@ module _ {L : Type 0} {l : Ghosts L} (old new : World L l) (from to : Text) (act
         (seats_after from opens.0 opens.1 old.nodes mid opens.4 q
         ∙ ap (λ (m : Sides). with_seat (seats_of old.nodes) from (let s : Seat = record { site = l.site opens.0.desk.ledger; sides = m; desk = (seat_of opens.0).desk } in s) q) near_side)))
 
-    pub is_opened : IsOpened from to (contents old) (contents new)
+    pub is_opened : IsLinkOpened from to (contents old) (contents new)
     is_opened = record {
       near = seat_of opens.0;
       far = seat_of accepts.0;
@@ -146,8 +146,8 @@ module _ {L : Type 0} {l : Ghosts L} (old new : World L l) (from to : Text) (act
     stood,
     λ plan certificate certified b seated s all.
         let e = seated.each from (seat_of opens.0) (ap (option_map seat_of) opens.4.was) in
-        let R : Type 0 = ∥ IsOpened from to (contents old) (contents new) ∥₁ in
-        let made : ∥ IsOpened from to (contents old) (contents new) ∥₁ =
+        let R : Type 0 = ∥ IsLinkOpened from to (contents old) (contents new) ∥₁ in
+        let made : ∥ IsLinkOpened from to (contents old) (contents new) ∥₁ =
         ∥∥₁_elim opens.0.of ∥∥₁_prop (λ near. ∥∥₁_map accepts.0.of (λ far. is_opened (λ same. hops_elsewhere plan certificate certified (l.site opens.0.desk.ledger) e.1 to opens.2.0
         (let P : Part → Type 0 = λ p. IsHopTo p to opens.2.0 in subst P (sym near) opens.2.1) (e.0 ∙ sym same)) near far)) in
         (seated_in plan certificate certified b seated s, ∥∥₁_map made (λ o. opened_becomes plan certificate certified (contents old) b seated s from to (contents new) o)),

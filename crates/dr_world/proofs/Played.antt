@@ -18,7 +18,7 @@ use Rattle.dr_world_model.specs.Runs.{Action, Adopt as Adopting, Occurs, Runs}
 use Rattle.dr_world_model.proofs.FromSafety.{headline_holds}
 use Rattle.dr_world_tie.specs.ByteWorlds.{ByteWorld, StepNote, Steps, WorldStep, beginning}
 use Rattle.dr_world_tie.specs.Changes.{TakesPlan}
-use Rattle.dr_world_tie.specs.Shown.{Comes, Shows}
+use Rattle.dr_world_tie.specs.Shown.{Comes, ShowsWorld}
 use Rattle.dr_world_tie.proofs.Changes.{plans_are_adopted}
 use Rattle.dr_world_tie.proofs.World.{world_steps, beside_beginning}
 use Rattle.dr_world_script.specs.declared.step.Step.{Step}
@@ -138,7 +138,7 @@ Leads first taken plan w = (actions : List Action) × (adopted_in actions ≡ ta
 
 -- a world beside the bytes to which they lead
 abbrev IsFrom : Network → List Network → Network → Certificate → ByteWorld → Type 0
-IsFrom first taken plan certificate b = (w : model.World) × Shows plan certificate b w × Leads first taken plan w
+IsFrom first taken plan certificate b = (w : model.World) × ShowsWorld plan certificate b w × Leads first taken plan w
 
 step_from : (first : Network) (taken : List Network) (plan : Network) (b : ByteWorld) (step : WorldStep) (note : StepNote) (w u : model.World) → Leads first taken plan w → Comes plan b step note w u → Leads first taken plan u
 step_from first taken plan b step note w u by (inl same) = subst (λ (z : model.World). Leads first taken plan z) (sym same.0) by

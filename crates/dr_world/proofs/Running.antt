@@ -22,7 +22,7 @@ use Rattle.dr_world.specs.Nodes.{seat_of}
 use Rattle.dr_world.specs.Whole.{StepsTo, noted}
 use Rattle.dr_ledger.specs.declared.content.Job.{Job}
 use Rattle.dr_world_script.specs.declared.step.Step.{Step}
-use Rattle.dr_world.specs.Runs.{IsReached, GoesOn, HoldsAfter, HoldsAfterAll, HoldsWhereReached, Leads, step_of}
+use Rattle.dr_world.specs.Runs.{IsReached, StepsOn, HoldsAfter, HoldsAfterAll, HoldsWhereReached, Leads, step_of}
 
 -- one step behind others
 one_more : (plan : Network) (certificate : Certificate) (steps : List bytes.WorldStep) (step : bytes.WorldStep) (note : bytes.StepNote) (a b c : ByteWorld) → RunsOf plan certificate a steps b → Steps plan certificate b step note c → RunsOf plan certificate a (steps ++ step ∷ []) c
@@ -30,7 +30,7 @@ one_more plan certificate [] step note a b c run h = (note, c, subst (λ (z : By
 one_more plan certificate (first ∷ rest) step note a b c (said, mid, one, more) h = (said, mid, one, one_more plan certificate rest step note mid b c more h)
 
 module _ {L : Type 0} {l : Ghosts L} where
-  pub goes_on : (step : bytes.WorldStep) (old new : World L l) (note : StepNote) → StepsTo step old note new → GoesOn step old new
+  pub goes_on : (step : bytes.WorldStep) (old new : World L l) (note : StepNote) → StepsTo step old note new → StepsOn step old new
   goes_on step old new note h plan certificate certified steps reached all =
       ∥∥₁_elim (reached (h.0 all)) ∥∥₁_prop (λ r.
       let after = h.1 plan certificate certified r.1.0 r.0 r.1.2 all in
@@ -48,7 +48,7 @@ module _ {L : Type 0} {l : Ghosts L} where
   pub holds_after : (step : bytes.WorldStep) (old new : World L l) (note : StepNote) → StepsTo step old note new → HoldsAfter step old new
   holds_after step old new note h plan certificate certified steps reached all = holds new plan certificate certified (steps ++ step ∷ []) (goes_on step old new note h plan certificate certified steps reached) all
 
-pub stepped_if : {L : Type 0} {l : Ghosts L} (step : bytes.WorldStep) (old new : World L l) (r : Result StepNote WorldFault) → IfOk r (λ note. StepsTo step old note new) → IfOk r (λ note. GoesOn step old new) × IfOk r (λ note. HoldsAfter step old new)
+pub stepped_if : {L : Type 0} {l : Ghosts L} (step : bytes.WorldStep) (old new : World L l) (r : Result StepNote WorldFault) → IfOk r (λ note. StepsTo step old note new) → IfOk r (λ note. StepsOn step old new) × IfOk r (λ note. HoldsAfter step old new)
 stepped_if step old new (Ok note) h = (goes_on step old new note h, holds_after step old new note h)
 stepped_if step old new (Err why) h = (tt, tt)
 
@@ -70,7 +70,7 @@ module _ {L : Type 0} {l : Ghosts L} where
   pub leads_none : (w : World L l) (steps : List Step) → Leads (mapped step_of (take 0 steps)) w w
   leads_none w steps plan certificate certified before reached = (let P : List bytes.WorldStep → Type 0 = λ s. IsReached plan certificate s w in subst P (sym (append-nil before)) reached)
 
-  pub leads_more : (first old new : World L l) (steps : List Step) (i : ℕ) (step : Step) → i < length steps → Leads (mapped step_of (take i steps)) first old → GoesOn (step_of step) old new → step ≡ get_or steps i step → Leads (mapped step_of (take (i + 1) steps)) first new
+  pub leads_more : (first old new : World L l) (steps : List Step) (i : ℕ) (step : Step) → i < length steps → Leads (mapped step_of (take i steps)) first old → StepsOn (step_of step) old new → step ≡ get_or steps i step → Leads (mapped step_of (take (i + 1) steps)) first new
   leads_more first old new steps i step less h goes is plan certificate certified before reached =
       let P : List bytes.WorldStep → Type 0 = λ s. IsReached plan certificate s new in
       let same : (before ++ mapped step_of (take i steps)) ++ step_of step ∷ [] ≡ before ++ mapped step_of (take (i + 1) steps) =

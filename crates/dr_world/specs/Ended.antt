@@ -11,7 +11,7 @@ use Rattle.dr_session.specs.declared.ends.Moment.{Moment}
 use Rattle.dr_session.specs.Ledgers.{Desk}
 use Rattle.dr_session.specs.Plays.{Plays, at_moment, inputs_of}
 use Rattle.dr_world_tie.specs.Desks.{LedgerStep}
-use Rattle.dr_world_tie.specs.Channels.{Terminal, Channel}
+use Rattle.dr_world_tie.specs.Channels.{LiveTerminal, Channel}
 use Rattle.dr_world_tie.specs.Moves.{IsLeft}
 use Rattle.dr_world_tie.specs.Ties.{caller_read, receiver_read}
 use Rattle.dr_world_tie.specs.ByteWorlds.{ByteWorld, Move, Side, Requestor, Acceptor, StepNote}
@@ -19,7 +19,7 @@ use Rattle.dr_world_tie.specs.ByteWorlds.{Done, Steps, IsMoment, caller_of, rece
 use Rattle.dr_world_tie.specs.ByteWorlds.{is_over, with_done}
 
 -- an end of a link, its node, and what is on its way to it
-abbrev pub end_at : Side → Channel → Terminal
+abbrev pub end_at : Side → Channel → LiveTerminal
 end_at Requestor k = k.caller
 end_at Acceptor k = k.receiver
 

@@ -47,7 +47,7 @@ pub record AreWritten (side : Side) (taken : ℕ) (acts : List LinkAction)
 
 -- At the end of a link that is there something was done: its node did it at its desk, so many bytes
 -- were taken off the end's wire, and what it wrote is on the other end's.
-pub record IsDone
+pub record IsDoneAtEnd
     (does : Part → Moment → Terminal → Desk
     → Result (List LinkAction) AllocError
     → Terminal → Desk → Type 0) (taken : ℕ) (old : Contents) (number : ℕ) (side : Side)

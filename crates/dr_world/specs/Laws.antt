@@ -29,8 +29,8 @@ use Rattle.dr_session.specs.declared.ends.Heard.TheVariants as heard
 use Rattle.dr_session.specs.declared.ends.LinkAction.{LinkAction}
 use Rattle.dr_session.specs.Ends.{is_gone, state_in}
 use Rattle.dr_node.specs.declared.event.LinkEvent.TheVariants as event
-use Rattle.dr_world_tie.specs.Channels.{Terminal}
-use Rattle.dr_world.specs.Ends.{IsDone, wire_at}
+use Rattle.dr_world_tie.specs.Channels.{LiveTerminal}
+use Rattle.dr_world.specs.Ends.{IsDoneAtEnd, wire_at}
 use Rattle.dr_world.specs.Forgotten.{pends}
 use Rattle.dr_world.specs.Nodes.{event_at}
 use Rattle.dr_world.specs.Shows.{Contents, Seat, ShowsBytes, IsSeated, Becomes, with_seat}
@@ -49,7 +49,7 @@ OthersAreCounted =
 
 -- no time has passed, no link was opened, and each node has an empty book, no side, and a store
 -- that isn't to refuse
-pub record IsNew (c : Contents) : Type 0 where
+pub record IsNewWorld (c : Contents) : Type 0 where
   pub now : c.now ≡ 0
   pub opened : c.opened ≡ 0
   pub wires : (number : ℕ) → c.wires number ≡ None
@@ -59,7 +59,7 @@ pub record IsNew (c : Contents) : Type 0 where
 
 -- A new world stands beside the beginning.
 abbrev pub NewIsBeginning : Type 0
-NewIsBeginning = (c : Contents) → IsNew c → ShowsBytes c beginning
+NewIsBeginning = (c : Contents) → IsNewWorld c → ShowsBytes c beginning
 
 -- ---- steps at no link
 
@@ -212,10 +212,10 @@ MoveIsShown =
     → IsSeated plan certificate c.seats
     → ShowsBytes c b
     → (link n m : ℕ) (side : Side) (piece : List ℕ) (acts : List LinkAction) (new : Contents)
-    → (d : IsDone (event_at (event.Heard (heard.Bytes piece))) m c link side acts new)
+    → (d : IsDoneAtEnd (event_at (event.Heard (heard.Bytes piece))) m c link side acts new)
     → piece ≡ take m (wire_at side d.wires)
     → wire_at side d.wires ≢ []
     → nat_le 1 n ≡ true
     → is_gone (state_in d.own.end.core) ≡ false
-    → ((t : Terminal) → t.ear ≡ d.own.end.ear → IsMoved t (wire_at side d.wires) n m)
+    → ((t : LiveTerminal) → t.ear ≡ d.own.end.ear → IsMoved t (wire_at side d.wires) n m)
     → Becomes plan certificate b (Move link side n) Done new

@@ -14,7 +14,7 @@ use Rattle.dr_session.specs.declared.ends.LinkAction.{LinkAction}
 use Rattle.dr_node.specs.declared.event.LinkEvent.TheVariants as event
 use Rattle.dr_node.specs.declared.links.LinkSide.{LinkSide as NodeSide}
 use Rattle.dr_node.specs.declared.node.Node.{Node}
-use Rattle.dr_world_tie.specs.Channels.{Terminal}
+use Rattle.dr_world_tie.specs.Channels.{LiveTerminal}
 use Rattle.dr_world_tie.specs.ByteWorlds.{Side, IsMoved}
 use Rattle.dr_world.specs.declared.fronts.MoveDue.{MoveDue}
 use Rattle.dr_world.specs.declared.fronts.MoveDue.TheVariants as due
@@ -22,7 +22,7 @@ use Rattle.dr_world.specs.declared.steps.StepNote.{StepNote}
 use Rattle.dr_world.specs.declared.steps.StepNote.TheVariants.{Done, Skipped}
 use Rattle.dr_world.specs.declared.wires.Wires.{Wires}
 use Rattle.dr_world.specs.declared.world.World.{World}
-use Rattle.dr_world.specs.Ends.{IsDone, name_at, wire_at, opposite}
+use Rattle.dr_world.specs.Ends.{IsDoneAtEnd, name_at, wire_at, opposite}
 use Rattle.dr_world.specs.Nodes.{event_at, over_at}
 use Rattle.dr_world.specs.Whole.{AllStand, contents}
 
@@ -47,7 +47,7 @@ abbrev pub IsMovable : List ℕ → List ℕ → ℕ → ℕ → Type 0
 IsMovable kept wire n m =
     (m ≤ length wire)
     × (wire ≢ [] → 0 < n → 0 < m)
-    × ((t : Terminal) → t.ear.kept ≡ kept → IsMoved t wire n m)
+    × ((t : LiveTerminal) → t.ear.kept ≡ kept → IsMoved t wire n m)
 
 -- ---- what is due
 
@@ -106,8 +106,8 @@ HearsIn (Some w) link side m old note new =
     × (AllStand new → AllStand old)
     × (AllStand new
     → (acts : List LinkAction)
-    × IsDone (event_at (event.Heard (heard.Bytes (take m (wire_at side w))))) m (contents old) link
-    side acts (contents new))
+    × IsDoneAtEnd (event_at (event.Heard (heard.Bytes (take m (wire_at side w))))) m (contents old)
+    link side acts (contents new))
 
 abbrev pub Hears : {L : Type 0} {l : Ghosts L}
     → ℕ → Side → ℕ → World L l → StepNote → World L l → Type 0

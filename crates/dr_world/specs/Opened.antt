@@ -31,7 +31,7 @@ asks_at site dest rq now =
 
 -- A link was opened between two nodes, over a hop of the first one's site: its request is on the
 -- wire, and nothing else.
-pub record IsOpened (from to : Text) (old new : Contents) : Type 0 where
+pub record IsLinkOpened (from to : Text) (old new : Contents) : Type 0 where
   pub near : Seat
   pub far : Seat
   pub is_near : old.seats from ≡ Some near

@@ -54,8 +54,8 @@ abbrev pub IsReached : {L : Type 0} {l : Ghosts L}
 IsReached plan certificate steps w = AllStand w → WasReached plan certificate steps w
 
 -- a step more, from any world that some steps have led to
-abbrev pub GoesOn : {L : Type 0} {l : Ghosts L} → bytes.WorldStep → World L l → World L l → Type 0
-GoesOn step old new =
+abbrev pub StepsOn : {L : Type 0} {l : Ghosts L} → bytes.WorldStep → World L l → World L l → Type 0
+StepsOn step old new =
     (plan : Network) (certificate : Certificate)
     → IsCertified plan certificate
     → (steps : List bytes.WorldStep)

@@ -13,7 +13,7 @@ use Rattle.dr_node.specs.declared.links.LinkSide.{LinkSide}
 use Rattle.dr_node.specs.Sides.{Sides, is_taken}
 use Rattle.dr_world_model.specs.Worlds.{same_text}
 use Rattle.dr_world_model.specs.Events.{HasNode}
-use Rattle.dr_world_tie.specs.Channels.{Terminal, Channel}
+use Rattle.dr_world_tie.specs.Channels.{LiveTerminal, Channel}
 use Rattle.dr_world_tie.specs.ByteWorlds.{ByteWorld, WorldStep, StepNote, Steps, caller_of}
 use Rattle.dr_world_tie.specs.ByteWorlds.{receiver_of}
 use Rattle.dr_world.specs.declared.wires.Wires.{Wires}
@@ -79,7 +79,7 @@ with_end_done c name seat number side t w = record {
 
 -- An end as its node has it. Its core is there: where memory ended one the whole world is over, and
 -- stands for no world of bytes.
-abbrev pub side_of : Bool → Terminal → LinkSide
+abbrev pub side_of : Bool → LiveTerminal → LinkSide
 side_of accepted end =
     record { end = record { ear = end.ear; core = Some end.core }; accepted = accepted }
 

@@ -28,7 +28,7 @@ use Rattle.dr_world.specs.declared.wires.Wires.{Wires}
 use Rattle.dr_world.specs.declared.world.World.{World}
 use Rattle.dr_world.specs.Shows.{Contents, Seat, ShowsBytes, IsSeated, Becomes, with_desk_of}
 use Rattle.dr_world.specs.Laws.{away_note, with_time, with_seats}
-use Rattle.dr_world.specs.Ends.{IsDone, note_by}
+use Rattle.dr_world.specs.Ends.{IsDoneAtEnd, note_by}
 use Rattle.dr_world.specs.Nodes.{AllStandIn, seat_of, seats_of}
 
 -- a note, as the world of bytes has it
@@ -147,7 +147,7 @@ MeetsIn does (Some w) link side old note new =
     × (AllStand new
     → (acts : List LinkAction)
     × (noted note ≡ note_by acts)
-    × IsDone does 0 (contents old) link side acts (contents new))
+    × IsDoneAtEnd does 0 (contents old) link side acts (contents new))
 
 abbrev pub Meets : {L : Type 0} {l : Ghosts L}
     → (Part → Deed Desk) → ℕ → bytes.Side → World L l → StepNote → World L l → Type 0

@@ -15,7 +15,7 @@ ghost use Rattle.dr_world.specs.Nodes.{event_at, over_at, push_at as pushed_at};
 ghost use Rattle.dr_world.specs.declared.deed.Deed.TheVariants as deeds;
 ghost use Rattle.dr_world.specs.declared.fault.WorldFault.{WorldFault as FaultValue};
 ghost use Rattle.dr_world.specs.Played.{HoldsThrough, PlaysOn};
-ghost use Rattle.dr_world.specs.Runs.{GoesOn, HoldsAfter, HoldsAfterAll, Leads, step_of};
+ghost use Rattle.dr_world.specs.Runs.{StepsOn, HoldsAfter, HoldsAfterAll, Leads, step_of};
 ghost use Rattle.dr_world.specs.Reports.{IsReported, ListsBook, bodies_of, books_of, has_in};
 ghost use Rattle.dr_world.specs.Restarted.{AllFarHear, FarHears};
 ghost use Rattle.dr_world.specs.Whole.{AllStand, Calls, GivesUp, HasTicked, IsSameWorld};
@@ -411,7 +411,7 @@ impl<L: LetsGo> World<Refusing<L>> {
     /// Errors: Memory.
     pub fn step(&mut self, step: &Step) -> Result<StepNote, WorldFault>
         ensures steps { IfOk result (λ note. StepsTo (step_of step.now) self.old note self.new) }
-        ensures goes_on { IfOk result (λ note. GoesOn (step_of step.now) self.old self.new) }
+        ensures goes_on { IfOk result (λ note. StepsOn (step_of step.now) self.old self.new) }
         ensures headline { IfOk result (λ note. HoldsAfter (step_of step.now) self.old self.new) }
         ensures plays { IfOk result (λ note. PlaysOn (deeds.Step step.now) [] self.old self.new) }
         ensures holds { IfOk result (λ note.

@@ -28,7 +28,7 @@ use Rattle.dr_world_audit.specs.declared.audit.NodeJournal.{NodeJournal}
 use Rattle.dr_world_audit.specs.declared.hop.AuditHop.{AuditHop as Held}
 use Rattle.dr_world_audit.specs.Comparing.{IsUnanswered, IsUnsent}
 use Rattle.dr_world_audit.specs.Hops.{held, hop_of}
-use Rattle.dr_world_audit.specs.Sites.{AreApart, DoesHold, DoesNotHold, IsForNoReason, IsNotThere, IsUnfair, Shows, Tells, TellsNode, all_came, all_done, all_of, all_sent, books_of, is_fair, lines_at, names, ours_of}
+use Rattle.dr_world_audit.specs.Sites.{AreApart, DoesHold, DoesNotHold, IsForNoReason, IsNotThere, IsUnfair, ShowsNode, Tells, TellsNode, all_came, all_done, all_of, all_sent, books_of, is_fair, lines_at, names, ours_of}
 use Rattle.dr_world_audit.specs.Stops.{Compares}
 use Rattle.dr_world_audit.specs.contracts.hop.AuditHopOrd.TheImpl.Laws as hop_laws
 use Rattle.dr_world_audit.proofs.Named.{book_is, named_in, others_are_empty, ours_found, ours_in}
@@ -207,7 +207,7 @@ module _ (plan : Network) (nodes : List NodeJournal) (apart : AreApart nodes) (k
   at_node P node among h = (let R : List Line × Book → Type 0 = λ p. P node.name p.0 p.1 in subst R (λ j. (lines_of_book node among j, book_is nodes apart node among j)) h)
 
   -- ---- what all show
-  histories_of : ((node : NodeJournal) → Contains nodes node → Shows plan keys node) → AreHistories (ours_of nodes) plan (books_of nodes)
+  histories_of : ((node : NodeJournal) → Contains nodes node → ShowsNode plan keys node) → AreHistories (ours_of nodes) plan (books_of nodes)
   histories_of shows = record {
     own = λ name own. (let P : Text → List Line → Book → Type 0 = λ n ls b. IsSince (plan_routing plan n) (until_adoption ls) b in at_name P (λ node among. (shows node among).own) name own);
     fit = λ name to item own s. (
@@ -217,7 +217,7 @@ module _ (plan : Network) (nodes : List NodeJournal) (apart : AreApart nodes) (k
     others = λ name other. others_are_empty nodes name other;
   }
 
-  fair_of : ((node : NodeJournal) → Contains nodes node → Shows plan keys node) → AnswersAreFair (ours_of nodes) (books_of nodes)
+  fair_of : ((node : NodeJournal) → Contains nodes node → ShowsNode plan keys node) → AnswersAreFair (ours_of nodes) (books_of nodes)
   fair_of shows name uid to outcome now own near h =
       let P : Text → List Line → Book → Type 0 = λ n ls b. Contains ls (Settling uid to outcome now) → IsFairOutcome outcome in
       at_name P (λ node among c. elim (cases (is_fair outcome)) [
@@ -225,7 +225,7 @@ module _ (plan : Network) (nodes : List NodeJournal) (apart : AreApart nodes) (k
         | inr unfair ↦ absurd ((shows node among).fair (Settling uid to outcome now) c (unfair, key_in to near))
       ]) name own h
 
-  pub shows_of : AreHistories (ours_of nodes) plan (books_of nodes) → Match (ours_of nodes) plan (books_of nodes) → (node : NodeJournal) → Contains nodes node → Shows plan keys node
+  pub shows_of : AreHistories (ours_of nodes) plan (books_of nodes) → Match (ours_of nodes) plan (books_of nodes) → (node : NodeJournal) → Contains nodes node → ShowsNode plan keys node
   shows_of h m node among = record {
     own = (let P : Text → List Line → Book → Type 0 = λ n ls b. IsSince (plan_routing plan n) (until_adoption ls) b in at_node P node among (h.own node.name (node_own node among)));
     fit = λ to item s. (
@@ -301,7 +301,7 @@ module _ (plan : Network) (nodes : List NodeJournal) (apart : AreApart nodes) (k
       subst P (sym (came_name f.0.name (since_adoption (lines_at f.0)) h f.2)) (node_own f.0 f.1)
 
   -- ---- the verdict
-  pub holds : IsSound plan → ((node : NodeJournal) → Contains nodes node → Shows plan keys node) → Compares keys (held (all_came nodes)) (held (all_sent plan nodes)) (held (all_done nodes)) None → DoesHold plan nodes
+  pub holds : IsSound plan → ((node : NodeJournal) → Contains nodes node → ShowsNode plan keys node) → Compares keys (held (all_came nodes)) (held (all_sent plan nodes)) (held (all_done nodes)) None → DoesHold plan nodes
   holds sound shows compared =
       let ours = ours_of nodes in
       let books = books_of nodes in
@@ -327,7 +327,7 @@ module _ (plan : Network) (nodes : List NodeJournal) (apart : AreApart nodes) (k
       record { histories = histories; match = m; headline = matching_journals_show_the_headline ours plan sound books histories m }
 
   -- what one node's journal is told of, it doesn't show
-  pub node_fails : (node : NodeJournal) (told : Mismatch) → TellsNode plan keys node told → Shows plan keys node → ⊥
+  pub node_fails : (node : NodeJournal) (told : Mismatch) → TellsNode plan keys node told → ShowsNode plan keys node → ⊥
   node_fails node (mismatch.NoHistory name) t shows = t.1 shows.own
   node_fails node (mismatch.NoHop name uid to) t shows = t.1.nowhere (shows.fit to t.1.item t.1.stood)
   node_fails node (mismatch.NotFair name uid to) t shows = elim (cases (is_fair t.2.outcome)) [
@@ -347,7 +347,7 @@ module _ (plan : Network) (nodes : List NodeJournal) (apart : AreApart nodes) (k
   pub one_fails : (node : NodeJournal) (told : Mismatch) → Contains nodes node → TellsNode plan keys node told → DoesNotHold plan nodes told
   one_fails node told among t = record { tells = tells node told among t; fails = λ histories m. node_fails node told t (shows_of histories m node among) }
 
-  pub mismatches : ((node : NodeJournal) → Contains nodes node → Shows plan keys node) → (told : Mismatch) → Compares keys (held (all_came nodes)) (held (all_sent plan nodes)) (held (all_done nodes)) (Some told) → DoesNotHold plan nodes told
+  pub mismatches : ((node : NodeJournal) → Contains nodes node → ShowsNode plan keys node) → (told : Mismatch) → Compares keys (held (all_came nodes)) (held (all_sent plan nodes)) (held (all_done nodes)) (Some told) → DoesNotHold plan nodes told
   mismatches shows told (inl u) =
       let books = books_of nodes in
       let own = histories_of shows in

@@ -35,7 +35,7 @@ use Rattle.dr_world_audit.specs.declared.fault.JournalFault.TheVariants as fault
 use Rattle.dr_world_audit.specs.declared.trail.Trail.{Trail}
 use Rattle.dr_world_audit.specs.Hops.{Notes}
 use Rattle.dr_world_audit.specs.Readings.{IsJournal, IsRead, Reads}
-use Rattle.dr_world_audit.specs.Sites.{IsUnfair, NotesNode, Shows, TellsNode, lines_at}
+use Rattle.dr_world_audit.specs.Sites.{IsUnfair, NotesNode, ShowsNode, TellsNode, lines_at}
 use Rattle.dr_world_audit.specs.Stops.{ReadsNode, RefusesNode, StopsFor}
 use Rattle.dr_world_audit.specs.Standing.{FitsAt}
 use Rattle.dr_world_journals.specs.Hops.{Hop, came_to, done_at, goals, sent_from, standing, to_each, went, went_by}
@@ -92,7 +92,7 @@ module _ (plan : Network) (certificate : Certificate) (site : Part) (certified :
 
   module _ (ours : List Text) (node : NodeJournal) (named : site.name ≡ node.name) where
     -- the node was read
-    pub node_read : (old new : Trail) → IsRead plan site (lines_at node) old new → ((line : Line) → Contains (lines_at node) line → IsUnfair ours line → ⊥) → Shows plan ours node × NotesNode plan node old new
+    pub node_read : (old new : Trail) → IsRead plan site (lines_at node) old new → ((line : Line) → Contains (lines_at node) line → IsUnfair ours line → ⊥) → ShowsNode plan ours node × NotesNode plan node old new
     node_read old new read fair =
         let lines = lines_at node in
         let P : Text → Type 0 = λ n. IsSince (plan_routing plan n) (until_adoption lines) (Fold lines) in

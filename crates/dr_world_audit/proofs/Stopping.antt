@@ -24,7 +24,7 @@ use Rattle.dr_world_audit.specs.declared.audit.AuditStop.{AuditStop}
 use Rattle.dr_world_audit.specs.declared.audit.AuditStop.TheVariants as stop
 use Rattle.dr_world_audit.specs.declared.trail.Trail.{Trail}
 use Rattle.dr_world_audit.specs.Hops.{Notes}
-use Rattle.dr_world_audit.specs.Sites.{AreRead, FirstUnfair, IsNotFair, IsUnfair, NotesNode, Shows, all_of, is_fair, lines_at}
+use Rattle.dr_world_audit.specs.Sites.{AreRead, FirstUnfair, IsNotFair, IsUnfair, NotesNode, ShowsNode, all_of, is_fair, lines_at}
 use Rattle.dr_world_audit.specs.Stops.{AllFair, IsFaultOf, IsVerdictOf, ReadsAll, ReadsNode, RefusesNode, TestsAnswers}
 use Rattle.dr_world_audit.proofs.Lists.{notes_nothing, notes_on}
 use Rattle.dr_world_journals.specs.Hops.{Hop, came_to, done_at, sent_from}
@@ -67,9 +67,9 @@ module _ (plan : Network) (ours : List Text) where
   pub none_read : (t : Trail) → AreRead plan ours [] t t
   none_read t = record { each = λ node h. absurd (nothing_in_nil node h); notes = notes_nothing t }
 
-  pub read_more : (nodes : List NodeJournal) (one : NodeJournal) (old mid new : Trail) → AreRead plan ours nodes old mid → Shows plan ours one × NotesNode plan one mid new → AreRead plan ours (nodes ++ one ∷ []) old new
+  pub read_more : (nodes : List NodeJournal) (one : NodeJournal) (old mid new : Trail) → AreRead plan ours nodes old mid → ShowsNode plan ours one × NotesNode plan one mid new → AreRead plan ours (nodes ++ one ∷ []) old new
   read_more nodes one old mid new so_far now = record {
-    each = λ node h. elim (Contains-push_cases nodes one node h) [ inl was ↦ so_far.each node was | inr same ↦ subst (Shows plan ours) same now.0 ];
+    each = λ node h. elim (Contains-push_cases nodes one node h) [ inl was ↦ so_far.each node was | inr same ↦ subst (ShowsNode plan ours) same now.0 ];
     notes = (
         let all = notes_on old (all_of came_at nodes) (all_of sent_at nodes) (all_of answered_at nodes) mid (came_at one) (sent_at one) (answered_at one) new so_far.notes now.1 in
         let P : List Hop × List Hop × List Hop → Type 0 = λ p. Notes old p.0 p.1 p.2 new in

@@ -77,7 +77,7 @@ FirstUnfair ours lines None =
 
 -- ---- one node
 -- what a node's journal shows by itself, where these are ours
-pub record Shows (plan : Network) (ours : List Text) (node : NodeJournal) : Type 0 where
+pub record ShowsNode (plan : Network) (ours : List Text) (node : NodeJournal) : Type 0 where
   pub own : IsSince (plan_routing plan node.name) (until_adoption (lines_at node))
       (Fold (lines_at node))
   pub fit : (to : Text) (item : Instance)
@@ -114,7 +114,7 @@ all_done nodes = all_of (λ node. done_at node.name (lines_at node)) nodes
 -- all were read
 pub record AreRead (plan : Network) (ours : List Text) (nodes : List NodeJournal)
     (old new : Trail) : Type 0 where
-  pub each : (node : NodeJournal) → Contains nodes node → Shows plan ours node
+  pub each : (node : NodeJournal) → Contains nodes node → ShowsNode plan ours node
   pub notes : Notes old (all_came nodes) (all_sent plan nodes) (all_done nodes) new
 
 -- ---- what doesn't match

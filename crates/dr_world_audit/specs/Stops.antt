@@ -18,7 +18,7 @@ use Rattle.dr_world_audit.specs.declared.audit.AuditVerdict.TheVariants as verdi
 use Rattle.dr_world_audit.specs.declared.fault.JournalFault.{JournalFault}
 use Rattle.dr_world_audit.specs.declared.fault.JournalFault.TheVariants as read
 use Rattle.dr_world_audit.specs.declared.trail.Trail.{Trail}
-use Rattle.dr_world_audit.specs.Sites.{AreApart, AreRead, IsUnfair, NotesNode, Shows, TellsNode}
+use Rattle.dr_world_audit.specs.Sites.{AreApart, AreRead, IsUnfair, NotesNode, ShowsNode, TellsNode}
 use Rattle.dr_world_audit.specs.Sites.{lines_at}
 
 -- there is no memory
@@ -67,7 +67,7 @@ IsTwice nodes fault.Memory = Unit {0}
 abbrev pub ReadsNode : Network → List Text → NodeJournal → Trail → Trail
     → Result (Unit {0}) AuditStop
     → Type 0
-ReadsNode plan ours node old new (Ok done) = Shows plan ours node × NotesNode plan node old new
+ReadsNode plan ours node old new (Ok done) = ShowsNode plan ours node × NotesNode plan node old new
 ReadsNode plan ours node old new (Err (stop.No mismatch)) = TellsNode plan ours node mismatch
 ReadsNode plan ours node old new (Err (stop.Fault why)) = RefusesNode plan node why
 

@@ -13,7 +13,7 @@ use Rattle.dr_ledger.specs.Routings.{Routing}
 use Rattle.dr_ledger.proofs.Maps.{cases_of}
 use Rattle.dr_ledger.proofs.Since.{since_is}
 use Rattle.dr_world_model.specs.Among.{Act, Agrees, Calls, Does, Doing, Other, Ours, Own, Replies, RunsAmong, Stores, Takes, Turn, Turns, acts_of, all_ours}
-use Rattle.dr_world_model.specs.Calls.{Called, StoreOutcome}
+use Rattle.dr_world_model.specs.Calls.{CalledAt, StoreOutcome}
 use Rattle.dr_world_model.specs.Claims.{IsToSend}
 use Rattle.dr_world_model.specs.Events.{HasNode}
 use Rattle.dr_world_model.specs.Worlds.{World, start}
@@ -32,7 +32,7 @@ Known plan name b stood = (past : List Line) × IsSince (plan_routing plan name)
 abbrev Journalled : Network → World → Type 0
 Journalled plan w = (w.time ≤ 2 ^ 62) × ((name : Text) → Known plan name (w.books name) (w.stood name))
 
-called_journalled : (plan : Network) (Would : Type 0) (w v : World) (name : Text) (came : StoreOutcome) (book : Book) → Called Would w name came book v →
+called_journalled : (plan : Network) (Would : Type 0) (w v : World) (name : Text) (came : StoreOutcome) (book : Book) → CalledAt Would w name came book v →
     Known plan name book (w.stood name) → Journalled plan w → Journalled plan v
 called_journalled plan Would w v name came book c is p =
     subst (Journalled plan) (sym c.is) (p.0, each_book w name book (λ n b. Known plan n b (w.stood n)) is p.1)

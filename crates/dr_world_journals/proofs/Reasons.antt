@@ -24,7 +24,7 @@ use Rattle.dr_ledger.specs.Routings.{Routing}
 use Rattle.dr_ledger.proofs.Maps.{cases_of, got}
 use Rattle.dr_ledger.proofs.Since.{Acknowledges, none_taken, nothing_taken, taken_from}
 use Rattle.dr_world_model.specs.Among.{Act, Agrees, Calls, Does, Doing, Other, Ours, Own, Replies, RunsAmong, Stores, Takes, Turn, Turns, answered_link}
-use Rattle.dr_world_model.specs.Calls.{Answer, Arriving, Called, Reply, Settlement, StoreOutcome, status_of}
+use Rattle.dr_world_model.specs.Calls.{Answer, Arriving, CalledAt, Reply, Settlement, StoreOutcome, status_of}
 use Rattle.dr_world_model.specs.Claims.{Has, HadArrival, IsToSend, WasCarriedOver}
 use Rattle.dr_world_model.specs.Events.{Event, Take, Ask, AgreeReceiver, AgreeCaller, Give, Receive, Answered, BreakCaller, BreakReceiver, Close, Restart, Requeue, Drop, Forget, Refuse, StayAway, Tick, Step}
 use Rattle.dr_world_model.specs.Steps.{IsLink, asked, SettlesFirst, OpensLink, pending, SettlesPending, Leaves, LeavesIfOn, LeaveAll, callers_of, Gives, Receives, new_link, passed}
@@ -200,18 +200,18 @@ arrived_took routing caller item old new (Err fault.NotWaiting) c i a h = absurd
 arrived_took routing caller item old new (Err fault.NotHeld) c i a h = absurd a
 arrived_took routing caller item old new (Err fault.NotOver) c i a h = absurd a
 
-called_links : (Would : Type 0) (w v : World) (name : Text) (came : StoreOutcome) (book : Book) → Called Would w name came book v → v.links ≡ w.links
+called_links : (Would : Type 0) (w v : World) (name : Text) (came : StoreOutcome) (book : Book) → CalledAt Would w name came book v → v.links ≡ w.links
 called_links Would w v name came book c = ap (λ (x : World). x.links) c.is
 
 -- after a call the node took what its book says, the others what they had
-called_took : (Would : Type 0) (w v : World) (name : Text) (came : StoreOutcome) (book : Book) → Called Would w name came book v → (P : Text → Text → Instance → Type 0) →
+called_took : (Would : Type 0) (w v : World) (name : Text) (came : StoreOutcome) (book : Book) → CalledAt Would w name came book v → (P : Text → Text → Instance → Type 0) →
     ((c : Text) (i : Instance) → Took book c i → P name c i) → ((n c : Text) (i : Instance) → HadArrival w n c i → P n c i) → (n c : Text) (i : Instance) → HadArrival v n c i → P n c i
 called_took Would w v name came book called P here there n c i h =
     let Q : Text → Book → Type 0 = λ m b. (c : Text) (i : Instance) → Took b c i → P m c i in
     let R : World → Type 0 = λ x. Took (x.books n) c i in
     each_book w name book Q here (λ m d j g. there m d j g) n c i (subst R called.is h)
 
-quiet_call : (Would : Type 0) (w v : World) (name : Text) (came : StoreOutcome) (book : Book) → Called Would w name came book v → ((c : Text) (i : Instance) → Took book c i → Took (w.books name) c i) → IsQuiet w v
+quiet_call : (Would : Type 0) (w v : World) (name : Text) (came : StoreOutcome) (book : Book) → CalledAt Would w name came book v → ((c : Text) (i : Instance) → Took book c i → Took (w.books name) c i) → IsQuiet w v
 quiet_call Would w v name came book c took = record {
   arrivals = λ n d i h. called_took Would w v name came book c (λ m e j. HadArrival w m e j) took (λ m e j g. g) n d i h;
   links = λ number link accepted item at is. record {

@@ -30,7 +30,7 @@ use Rattle.dr_world_model.specs.Worlds.{World, Link, Contexts, Stage, Asking, An
 use Rattle.dr_world_model.specs.Calls.{Reply, Answer, Settlement, status_of}
 use Rattle.dr_world_model.specs.Steps.{IsLink, SettlesFirst, OpensLink, pending, SettlesPending, Leaves, LeavesIfOn, LeaveAll, callers_of, links_without, ReadsAnswer, Gives, Receives, ReadsReply}
 use Rattle.dr_world_model.specs.Events.{Event, Take, Ask, AgreeReceiver, AgreeCaller, Give, Receive, Answered, BreakCaller, BreakReceiver, Close, Restart, Requeue, Drop, Forget, Refuse, StayAway, Tick, HasNode, Step}
-use Rattle.dr_world_model.specs.Claims.{CoversHop, HadArrival, IsKept, IsOpen, IsToGo, IsToSend, NobodyDropped, WasGivenUp}
+use Rattle.dr_world_model.specs.Claims.{CoversHop, HadArrival, IsKeptAt, IsOpen, IsToGo, IsToSend, NobodyDropped, WasGivenUp}
 use Rattle.dr_world_model.proofs.AdoptionsKept.{adopted_right, empty_right, no_row, node_or_not, queued_not_done, was_queued}
 use Rattle.dr_world_model.proofs.CallsKept.{one_item, broken_not_done}
 use Rattle.dr_world_model.proofs.EventsKept.{covers_of, fair_status_of, not_refused, status_inside, success_of, was_link}
@@ -253,7 +253,7 @@ module _ (ours : Ours) (plan : Network) where
       IsWalk plan item.key caller name over → (last_place caller name over).1 ≡ dest → Keeps plan dest (last_place caller name over).0 item.key → IsAnsweredAmong ours plan w caller name item dest
   covered_among [] w safe caller name item dest a walk here keeps =
       let k = (safe.books name).kept caller item a (subst (λ (d : Text). Keeps plan d caller item.key) (sym here) keeps) in
-      inl (inl (subst (IsKept w item) here (record { kept = k.0; has = k.1 })))
+      inl (inl (subst (IsKeptAt w item) here (record { kept = k.0; has = k.1 })))
   covered_among (to ∷ over) w safe caller name item dest a walk last keeps = elim (safe.sent name caller to item a walk.0) [
     | inl g ↦ inl (inr (inl (record { over = []; walk = tt; to = to; row = g.row; queued = g.queued; at = g.at; has = g.has; goes = (over, walk.1, last, keeps) })))
     | inr (inl given) ↦ inr (record { over = []; walk = tt; to = to; sends = walk.0; given_up = given; goes = (over, walk.1, last, keeps) })

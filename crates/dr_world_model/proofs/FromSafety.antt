@@ -17,7 +17,7 @@ use Rattle.dr_ledger.specs.declared.item.Progress.TheVariants.{Done}
 use Rattle.dr_ledger.specs.Pairs.{pair_cmp}
 use Rattle.dr_world_model.specs.Worlds.{World, Contexts, Stage, Asking, Answering, Rejecting, Open, Storing, Replying, Gone, start}
 use Rattle.dr_world_model.specs.Runs.{Action, Occurs, Adopt, Runs}
-use Rattle.dr_world_model.specs.Claims.{AllIsThere, HadArrival, CoversHop, IsAnswered, IsOpen, IsOrigin, IsKept, IsCovered, IsGivenUp, IsToGo, Headline, NobodyDropped, WasGivenUp}
+use Rattle.dr_world_model.specs.Claims.{AllIsThere, HadArrival, CoversHop, IsAnswered, IsOpen, IsOrigin, IsKeptAt, IsCovered, IsGivenUp, IsToGo, Headline, NobodyDropped, WasGivenUp}
 use Rattle.dr_world_model.specs.Theorem.{HeadlineHolds, WhatNobodyGaveUpIsThere}
 use Rattle.dr_world_model.proofs.Walking.{goes_reached, reached_on, destination_before}
 use Rattle.dr_ledger.specs.Books.{empty_book}
@@ -91,7 +91,7 @@ covered : (over : List Text) (plan : Network) (w : World) → IsSafe plan w → 
     IsWalk plan item.key caller name over → (last_place caller name over).1 ≡ dest → Keeps plan dest (last_place caller name over).0 item.key → IsAnswered plan w caller name item dest
 covered [] plan w safe caller name item dest a walk here keeps =
     let k = (safe.books name).kept caller item a (subst (λ (d : Text). Keeps plan d caller item.key) (sym here) keeps) in
-    inl (inl (subst (IsKept w item) here (record { kept = k.0; has = k.1 })))
+    inl (inl (subst (IsKeptAt w item) here (record { kept = k.0; has = k.1 })))
 covered (to ∷ over) plan w safe caller name item dest a walk last keeps = elim (safe.sent name caller to item a walk.0) [
   | inl g ↦ inl (inr (record { over = []; walk = tt; to = to; row = g.row; queued = g.queued; at = g.at; has = g.has; goes = (over, walk.1, last, keeps) }))
   | inr (inr given) ↦ inr (record { over = []; walk = tt; to = to; sends = walk.0; given_up = given; goes = (over, walk.1, last, keeps) })

@@ -11,7 +11,7 @@ use Rattle.dr_ledger.specs.declared.item.Instance.{Instance}
 use Rattle.dr_ledger.specs.Books.{Book}
 use Rattle.dr_ledger.proofs.Maps.{texts, same_or_not, got, get_other, cases_of}
 use Rattle.dr_world_model.specs.Worlds.{World, Link, same_text, with_link, without_caller}
-use Rattle.dr_world_model.specs.Calls.{Answer, StoreOutcome, Called}
+use Rattle.dr_world_model.specs.Calls.{Answer, StoreOutcome, CalledAt}
 use Rattle.dr_world_model.specs.Steps.{IsLink, SettlesFirst, OpensLink, pending, SettlesPending, Leaves, LeavesIfOn, LeaveAll, callers_of, is_of, links_without, Gives}
 use Rattle.dr_world_model.specs.Events.{Take, Ask, AgreeReceiver, AgreeCaller, Give, Receive, Answered, BreakCaller, BreakReceiver, Close, Restart, Requeue, Drop, Forget, Refuse, StayAway, Tick}
 use Rattle.dr_world_model.specs.Pinning.{EventsAreLocal}
@@ -32,7 +32,7 @@ then w mid v W T a b = (
   λ number. elim (b.1 number) [ inl here ↦ inl here | inr e ↦ elim (a.1 number) [ inl here ↦ inl here | inr f ↦ inr (e ∙ f) ] ],
 )
 
-called_local : (Would : Type 0) (w v : World) (name : Text) (came : StoreOutcome) (book : Book) (W : Text → Type 0) (T : ℕ → Type 0) → Called Would w name came book v → W name → Local w v W T
+called_local : (Would : Type 0) (w v : World) (name : Text) (came : StoreOutcome) (book : Book) (W : Text → Type 0) (T : ℕ → Type 0) → CalledAt Would w name came book v → W name → Local w v W T
 called_local Would w v name came book W T c here = (
   λ other. elim (same_or_not texts other name) [
     | inl e ↦ inl (subst W (sym e) here)

@@ -22,7 +22,7 @@ use Rattle.dr_ledger.specs.Replies.{Arrives, Settles, Requeues, Drops, Forgets, 
 use Rattle.dr_ledger.proofs.Growing.{inside as some_inside}
 use Rattle.dr_ledger.proofs.Ones.{next_is_one}
 use Rattle.dr_world_model.specs.Worlds.{World, Link, Contexts, with_armed, with_book, with_link}
-use Rattle.dr_world_model.specs.Calls.{Reply, Answer, StoreOutcome, Called, Arriving, Settlement, Requeueing, GivingUp, LettingGo}
+use Rattle.dr_world_model.specs.Calls.{Reply, Answer, StoreOutcome, CalledAt, Arriving, Settlement, Requeueing, GivingUp, LettingGo}
 use Rattle.dr_world_model.specs.Steps.{IsLink, AcceptsOffered}
 
 -- ---- orders
@@ -119,7 +119,7 @@ pub same_link : (w : World) (number : ℕ) (a b : Link) → IsLink w number a �
 same_link w number a b p q = some_inside a b (sym p ∙ q)
 
 module _ (w : World) (armed : FinSet text_cmp) (a b : World) where
-  called_alike : (P Q : Type 0) (name : Text) (came : StoreOutcome) (x y : Book) → x ≡ y → Called P (with_armed w armed) name came x a → Called Q w name came y b → Alike a b
+  called_alike : (P Q : Type 0) (name : Text) (came : StoreOutcome) (x y : Book) → x ≡ y → CalledAt P (with_armed w armed) name came x a → CalledAt Q w name came y b → Alike a b
   called_alike P Q name came x y e p q = (p.armed, p.is ∙ (ap (λ book. with_armed (with_book w name book) p.armed) e ∙ ap (λ v. with_armed v p.armed) (sym q.is)))
 
   pub arriving_alike : (plan : Network) (name caller : Text) (item : Instance) (reply : Reply) → Arriving plan (with_armed w armed) name caller item reply a → Arriving plan w name caller item reply b → Alike a b

@@ -14,7 +14,7 @@ use Rattle.dr_ledger.specs.Histories.{IsSince}
 use Rattle.dr_ledger.specs.PlanRoutes.{plan_routing}
 use Rattle.dr_ledger.proofs.Folding.{folded_push, empty_is_journalled, arrivals_are_journalled, settlings_are_journalled, requeuings_are_journalled, droppings_are_journalled, forgettings_are_journalled, adoptions_are_journalled}
 use Rattle.dr_world_model.specs.Worlds.{World, Link, start, with_book}
-use Rattle.dr_world_model.specs.Calls.{StoreOutcome, Written, Untried, Failed, ArmedAfter, Called}
+use Rattle.dr_world_model.specs.Calls.{StoreOutcome, Written, Untried, Failed, ArmedAfter, CalledAt}
 use Rattle.dr_world_model.specs.Steps.{IsHop, IsLink}
 use Rattle.dr_world_model.specs.Events.{HasNode}
 use Rattle.dr_world_model.specs.Runs.{Action, Occurs, Adopt, Runs, Adopts}
@@ -28,7 +28,7 @@ use Rattle.dr_world_model.proofs.AdoptionsKept.{no_row, node_or_not}
 use Rattle.dr_world_model.proofs.Stepwise.{Closed, step_keeps}
 
 -- ---- a call
-module _ (Would : Type 0) (w v : World) (name : Text) (came : StoreOutcome) (book : Book) (c : Called Would w name came book v) where
+module _ (Would : Type 0) (w v : World) (name : Text) (came : StoreOutcome) (book : Book) (c : CalledAt Would w name came book v) where
   -- what doesn't look at books or at armed nodes stays
   stays : (P : World → Type 0) → ((armed : FinSet text_cmp) → P (record { time = w.time; books = (with_book w name book).books; stood = w.stood; armed = armed; links = w.links; opened = w.opened })) → P v
   stays P h = subst P (sym c.is) (h c.armed)
@@ -161,7 +161,7 @@ no_later n = omega arith
 abbrev Armed : Network → World → Type 0
 Armed plan w = (name : Text) → set.contains w.armed name ≡ true → HasNode plan name
 
-called_armed : (plan : Network) (Would : Type 0) (w v : World) (name : Text) (came : StoreOutcome) (book : Book) → Called Would w name came book v → Armed plan w → Armed plan v
+called_armed : (plan : Network) (Would : Type 0) (w v : World) (name : Text) (came : StoreOutcome) (book : Book) → CalledAt Would w name came book v → Armed plan w → Armed plan v
 called_armed plan Would w v name came book c p q h = p q (armed_from Would w.armed c.armed name came c.store q (ap (λ (u : World). set.contains u.armed q) (sym c.is) ∙ h))
 
 armed_closed : (plan : Network) → Closed plan (Armed plan)
@@ -206,7 +206,7 @@ Known plan name b stood = (past : List Line) × IsSince (plan_routing plan name)
 abbrev Journalled : Network → World → Type 0
 Journalled plan w = (w.time ≤ 2 ^ 62) × ((name : Text) → Known plan name (w.books name) (w.stood name))
 
-called_journalled : (plan : Network) (Would : Type 0) (w v : World) (name : Text) (came : StoreOutcome) (book : Book) → Called Would w name came book v →
+called_journalled : (plan : Network) (Would : Type 0) (w v : World) (name : Text) (came : StoreOutcome) (book : Book) → CalledAt Would w name came book v →
     Known plan name book (w.stood name) → Journalled plan w → Journalled plan v
 called_journalled plan Would w v name came book c is p =
     stays Would w v name came book c (Journalled plan) (λ armed. (p.0, each_book w name book (λ n b. Known plan n b (w.stood n)) is p.1))

@@ -7,7 +7,7 @@ use Rattle.dr_ledger.specs.declared.fault.LedgerFault.{LedgerFault}
 use Rattle.dr_ledger.specs.declared.fault.LedgerFault.TheVariants as fault
 use Rattle.dr_ledger.specs.Books.{Book}
 use Rattle.dr_world_model.specs.Worlds.{World}
-use Rattle.dr_world_model.specs.Calls.{Called, store_outcome_of}
+use Rattle.dr_world_model.specs.Calls.{CalledAt, store_outcome_of}
 use Rattle.dr_world_model.specs.Spending.{IsSpentWell, ArrivalsSpendWell, SettlingsSpendWell, RequeuingsSpendWell, DroppingsSpendWell, ForgettingsSpendWell}
 
 module _ {A : Type 0} (Would : Type 0) (old new : World) (name : Text) (book : Book) where
@@ -20,7 +20,7 @@ module _ {A : Type 0} (Would : Type 0) (old new : World) (name : Text) (book : B
   failed armed is (inl same) = record { written = λ value e. absurd (let f : ⊥ = cc in f); spared = λ apart. absurd (apart refl); spent = inl (cc) }
   failed armed is (inr spent) = record { written = λ value e. absurd (let f : ⊥ = cc in f); spared = λ apart. absurd (apart refl); spent = inr (spent.0, (cc)) }
 
-  pub spent_well : (reply : Result A LedgerFault) → Called Would old name (store_outcome_of reply) book new → IsSpentWell Would old name reply new
+  pub spent_well : (reply : Result A LedgerFault) → CalledAt Would old name (store_outcome_of reply) book new → IsSpentWell Would old name reply new
   spent_well (Ok value) c = unspent (Ok value) (λ other e. c.store.0) (ap (λ (w : World). w.armed) c.is ∙ c.store.1)
   spent_well (Err fault.NoLine) c = unspent (Err fault.NoLine) (λ value e. absurd (let f : ⊥ = cc in f)) (ap (λ (w : World). w.armed) c.is ∙ c.store)
   spent_well (Err fault.Conflict) c = unspent (Err fault.Conflict) (λ value e. absurd (let f : ⊥ = cc in f)) (ap (λ (w : World). w.armed) c.is ∙ c.store)

@@ -21,7 +21,7 @@ use Rattle.dr_ledger.specs.Routings.{Routing}
 use Rattle.dr_ledger.proofs.Maps.{texts, got, filled_got}
 use Rattle.dr_ledger.proofs.Needs.{one_instance_is_one_item}
 use Rattle.dr_world_model.specs.Worlds.{World, Link, start, with_link}
-use Rattle.dr_world_model.specs.Calls.{Reply, Answer, StoreOutcome, Called, Arriving, Settlement}
+use Rattle.dr_world_model.specs.Calls.{Reply, Answer, StoreOutcome, CalledAt, Arriving, Settlement}
 use Rattle.dr_world_model.specs.Steps.{IsLink, SettlesFirst, OpensLink, pending, SettlesPending, Leaves, LeavesIfOn, LeaveAll, callers_of, Gives}
 use Rattle.dr_world_model.specs.Events.{Event, Take, Ask, AgreeReceiver, AgreeCaller, Give, Receive, Answered, BreakCaller, BreakReceiver, Close, Restart, Requeue, Drop, Forget, Refuse, StayAway, Tick, Step}
 use Rattle.dr_world_model.specs.Runs.{Adopts, Action, Occurs, Adopt, Runs}
@@ -99,7 +99,7 @@ module _ (T : Instance → Type 0) where
   abbrev Known : World → Type 0
   Known w = ((name : Text) → InBook (w.books name)) × ((number : ℕ) (link : Link) → IsLink w number link → OnLink link)
 
-  called : (Would : Type 0) (w v : World) (name : Text) (came : StoreOutcome) (book : Book) → Called Would w name came book v → InBook book → Known w → Known v
+  called : (Would : Type 0) (w v : World) (name : Text) (came : StoreOutcome) (book : Book) → CalledAt Would w name came book v → InBook book → Known w → Known v
   called Would w v name came book c here k =
       subst Known (sym c.is) (each_book w name book (λ n b. InBook b) here k.0, k.1)
 

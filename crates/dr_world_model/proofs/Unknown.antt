@@ -17,7 +17,7 @@ use Rattle.dr_ledger.specs.Pairs.{pair_cmp}
 use Rattle.dr_ledger.specs.PlanRoutes.{plan_routing}
 use Rattle.dr_ledger.specs.Replies.{Arrives, Drops, Forgets, IsHeld, IsOver, IsWaiting, Requeues, Settles}
 use Rattle.dr_world_model.specs.Worlds.{World, start}
-use Rattle.dr_world_model.specs.Calls.{Answer, Called, StoreOutcome, Reply}
+use Rattle.dr_world_model.specs.Calls.{Answer, CalledAt, StoreOutcome, Reply}
 use Rattle.dr_world_model.specs.Events.{HasNode}
 use Rattle.dr_world_model.specs.Runs.{Adopts, Action, Occurs, Adopt, Runs}
 use Rattle.dr_world_model.specs.Strangers.{StrangersHaveNothing}
@@ -93,7 +93,7 @@ module _ (plan : Network) (formed : IsWellFormed plan) where
   forgotten_empty uid old new (Err fault.NotWaiting) e f = absurd f
   forgotten_empty uid old new (Err fault.NotHeld) e f = absurd f
 
-  called_empty : (Would : Type 0) (w v : World) (name : Text) (came : StoreOutcome) (book : Book) → Called Would w name came book v → ((HasNode plan name → ⊥) → book ≡ empty_book) → Empty plan w → Empty plan v
+  called_empty : (Would : Type 0) (w v : World) (name : Text) (came : StoreOutcome) (book : Book) → CalledAt Would w name came book v → ((HasNode plan name → ⊥) → book ≡ empty_book) → Empty plan w → Empty plan v
   called_empty Would w v name came book c here p =
       subst (Empty plan) (sym c.is) (each_book w name book (λ n b. (HasNode plan n → ⊥) → b ≡ empty_book) here p)
 

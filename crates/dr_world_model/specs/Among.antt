@@ -27,7 +27,7 @@ use Rattle.dr_world_model.specs.Events.{Requeue, Drop, Forget, Refuse, StayAway,
 use Rattle.dr_world_model.specs.Events.{Step}
 use Rattle.dr_world_model.specs.Runs.{IsAdoptable, Action, Occurs, Adopt, Runs}
 use Rattle.dr_world_model.specs.Claims.{CoversHop, Has, HadArrival, Headline, HasItems, HasRow}
-use Rattle.dr_world_model.specs.Claims.{IsFairOutcome, IsGivenUp, IsKept, IsOpen, IsToGo}
+use Rattle.dr_world_model.specs.Claims.{IsFairOutcome, IsGivenUp, IsKeptAt, IsOpen, IsToGo}
 use Rattle.dr_world_model.specs.Claims.{IsUnderway, NobodyDropped, WasCarriedOver, WasGivenUp}
 
 -- which names are those of our nodes: any set of them
@@ -283,7 +283,7 @@ pub record IsHandedOver (ours : Ours) (plan : Network) (w : World) (caller name 
 -- another product on the way
 abbrev pub IsCoveredAmong : Ours → Network → World → Text → Text → Instance → Text → Type 0
 IsCoveredAmong ours plan w caller name item dest =
-    IsKept w item dest
+    IsKeptAt w item dest
     ⊎ (IsUnderway plan w caller name item dest ⊎ IsHandedOver ours plan w caller name item dest)
 
 -- the item is covered for the destination, or a person gave it up at one of ours on the way

@@ -52,7 +52,7 @@ ArmedAfter Would old name Failed new =
     (new ≡ old) ⊎ (Would × (set.contains old name ≡ true) × (new ≡ set.remove old name))
 
 -- the world after a call that left this book at the node
-pub record Called (Would : Type 0) (old : World) (name : Text) (came : StoreOutcome) (book : Book)
+pub record CalledAt (Would : Type 0) (old : World) (name : Text) (came : StoreOutcome) (book : Book)
     (new : World) : Type 0 where
   pub armed : FinSet text_cmp
   pub store : ArmedAfter Would old.armed name came armed
@@ -63,7 +63,7 @@ pub record Arriving (plan : Network) (old : World) (name caller : Text) (item : 
     (reply : Reply) (new : World) : Type 0 where
   pub book : Book
   pub call : Arrives (plan_routing plan name) caller item (old.books name) reply book
-  pub called : Called (IsAdmitted (plan_routing plan name) caller item (old.books name)) old name
+  pub called : CalledAt (IsAdmitted (plan_routing plan name) caller item (old.books name)) old name
       (store_outcome_of reply) book new
 
 -- the node settles the row of the instance and the destination
@@ -72,27 +72,29 @@ pub record Settlement (old : World) (name uid dest : Text) (outcome : Outcome) (
   pub book : Book
   pub call : Settles uid dest outcome old.time (old.books name) answer book
   pub called :
-      Called (IsWaiting (old.books name) uid dest) old name (store_outcome_of answer) book new
+      CalledAt (IsWaiting (old.books name) uid dest) old name (store_outcome_of answer) book new
 
 -- the node puts the held row back
 pub record Requeueing (old : World) (name uid dest : Text) (answer : Answer)
     (new : World) : Type 0 where
   pub book : Book
   pub call : Requeues uid dest (old.books name) answer book
-  pub called : Called (IsHeld (old.books name) uid dest) old name (store_outcome_of answer) book new
+  pub called :
+      CalledAt (IsHeld (old.books name) uid dest) old name (store_outcome_of answer) book new
 
 -- a person gives up the held row of the instance and the destination
 pub record GivingUp (old : World) (name uid dest : Text) (answer : Answer)
     (new : World) : Type 0 where
   pub book : Book
   pub call : Drops uid dest old.time (old.books name) answer book
-  pub called : Called (IsHeld (old.books name) uid dest) old name (store_outcome_of answer) book new
+  pub called :
+      CalledAt (IsHeld (old.books name) uid dest) old name (store_outcome_of answer) book new
 
 -- the node forgets the instance of the uid
 pub record LettingGo (old : World) (name uid : Text) (answer : Answer) (new : World) : Type 0 where
   pub book : Book
   pub call : Forgets uid (old.books name) answer book
-  pub called : Called (IsOver (old.books name) uid) old name (store_outcome_of answer) book new
+  pub called : CalledAt (IsOver (old.books name) uid) old name (store_outcome_of answer) book new
 
 -- the status of the C-STORE response for a reply (PS3.4 B.2.3): success, no line, other data under
 -- this uid, out of resources

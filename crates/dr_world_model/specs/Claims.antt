@@ -173,14 +173,14 @@ pub record IsUnderway (plan : Network) (w : World) (caller name : Text) (item : 
   pub goes : IsDestination plan (last_place caller name over).1 to item.key dest
 
 -- the destination keeps the item, unchanged
-pub record IsKept (w : World) (item : Instance) (dest : Text) : Type 0 where
+pub record IsKeptAt (w : World) (item : Instance) (dest : Text) : Type 0 where
   pub kept : set.contains (w.books dest).kept item.uid ≡ true
   pub has : Has w dest item
 
 -- the destination keeps the item, or some node has it under way to there
 abbrev pub IsCovered : Network → World → Text → Text → Instance → Text → Type 0
 IsCovered plan w caller name item dest =
-    IsKept w item dest ⊎ IsUnderway plan w caller name item dest
+    IsKeptAt w item dest ⊎ IsUnderway plan w caller name item dest
 
 -- A person gave the item up at the node for the next one: the node's journal says so, by name,
 -- since the plan was adopted. And since then the node has acknowledged this very item to nobody

@@ -17,7 +17,7 @@ use Rattle.dr_ulstate.specs.Phases.{state_of}
 use Rattle.dr_pdu.specs.declared.pdu.Pdu.{Pdu}
 use Rattle.dr_pdu.specs.declared.pdu.Pdu.TheVariants as pdu
 use Rattle.dr_pdu.specs.Written.{written}
-use Rattle.dr_dimse.specs.Taking.{Stage as Taken}
+use Rattle.dr_dimse.specs.Taking.{MessageStage as Taken}
 use Rattle.dr_nego.specs.declared.agreed.Agreed.{Agreed}
 use Rattle.dr_nego.specs.declared.fault.NegoFault.{NegoFault}
 use Rattle.dr_nego.specs.declared.fault.NegoFault.TheVariants as nego

@@ -59,7 +59,7 @@ use Rattle.dr_world_model.specs.Calls.{StoreOutcome, Written, Untried, Failed}
 use Rattle.dr_world_model.specs.Worlds.{with_book, with_armed, same_text}
 use Rattle.dr_base.specs.Texts.{text_cmp}
 use Rattle.dr_world_tie.specs.Desks.{Desk, ArmedBy, LedgerStep}
-use Rattle.dr_world_tie.specs.Channels.{Terminal, Channel, Carries, ShowsLink, ToReceiver, IsCaller, IsAt, IsOff, IsControl, bytes_of, AgreesOn, site_of, site_in}
+use Rattle.dr_world_tie.specs.Channels.{LiveTerminal, Channel, Carries, ShowsLink, ToReceiver, IsCaller, IsAt, IsOff, IsControl, bytes_of, AgreesOn, site_of, site_in}
 use Rattle.dr_world_tie.specs.Ties.{IsDeskOf, Happens, caller_as, caller_did, CallerLeaves, LateAtCaller, ReleaseLeaves, is_late}
 use Rattle.dr_world_tie.proofs.Leaving.{AreFit, carries_more, only_link, acts_by, plain_turn, abort_fits}
 
@@ -126,7 +126,7 @@ still_coming (Storing accepted item) receiver old new c pdus p s none (job, same
 still_coming (Replying accepted item status) receiver old new c pdus p s none h = h
 still_coming Gone receiver old new c pdus p s none h = h
 
-pub carries_map : (t : Terminal) (wire : List ℕ) (P Q : List Pdu → Type 0) (b : Bool) → ((l : List Pdu) → P l → Q l) → Carries t wire P b → Carries t wire Q b
+pub carries_map : (t : LiveTerminal) (wire : List ℕ) (P Q : List Pdu → Type 0) (b : Bool) → ((l : List Pdu) → P l → Q l) → Carries t wire P b → Carries t wire Q b
 carries_map t wire P Q b f c = record { coming = c.coming; is = f c.coming c.is; controls = c.controls; joined = c.joined; works = c.works; waits = c.waits; fits = c.fits; control = c.control; none = c.none }
 
 -- ---- who is armed

@@ -28,9 +28,9 @@ use Rattle.dr_dimse.specs.declared.command.Command.TheVariants.{StoreRq, StoreRs
 use Rattle.dr_dimse.specs.declared.message.Awaited.{Awaited}
 use Rattle.dr_dimse.specs.declared.message.Awaited.TheVariants.{Requests, AnswerTo}
 use Rattle.dr_dimse.specs.declared.message.Body.TheVariants.{Whole}
-use Rattle.dr_dimse.specs.Commands.{Element, element_text}
+use Rattle.dr_dimse.specs.Commands.{CommandElement, element_text}
 use Rattle.dr_dimse.specs.Written as commands
-use Rattle.dr_dimse.specs.Taking.{Stage as Taken, Idle}
+use Rattle.dr_dimse.specs.Taking.{MessageStage as Taken, Idle}
 use Rattle.dr_dimse.proofs.TextLemmas.{even_short}
 use Rattle.dr_dimse.proofs.WrittenLemmas.{written_reads}
 use Rattle.dr_dimse.proofs.FitLemmas.{store_answer_fits}
@@ -119,10 +119,10 @@ pair_for agreed class syntax context h = by_found (find (is_for class syntax) ag
 
 -- ---- commands are short
 
-element_long : (e : Element) → length (element_text e) ≡ 8 + length e.value
+element_long : (e : CommandElement) → length (element_text e) ≡ 8 + length e.value
 element_long e = simp length-append (omega arith)
 
-joined_long : (e : Element) (es : List Element) → length (commands.joined (e ∷ es)) ≡ (8 + length e.value) + length (commands.joined es)
+joined_long : (e : CommandElement) (es : List CommandElement) → length (commands.joined (e ∷ es)) ≡ (8 + length e.value) + length (commands.joined es)
 joined_long e es = length-append (element_text e) (commands.joined es) ∙ ap (λ (n : ℕ). n + length (commands.joined es)) (element_long e)
 
 store_short : (id : ℕ) (class instance : Text) → length class ≤ 64 → length instance ≤ 64 → length (commands.written (StoreRq id class instance)) ≤ 16384

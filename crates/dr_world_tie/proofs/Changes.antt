@@ -37,7 +37,7 @@ use Rattle.dr_world_model.proofs.FromSafety.{headline_holds}
 use Rattle.dr_world_model.proofs.Lasting.{kept_stays_kept}
 use Rattle.dr_world_tie.specs.Channels.{Channel, ShowsLink, IsCaller, IsReceiver}
 use Rattle.dr_world_tie.specs.ByteWorlds.{ByteWorld, beginning, WorldStep, StepNote, is_over}
-use Rattle.dr_world_tie.specs.Shown.{Shows, ShowsAt, Comes}
+use Rattle.dr_world_tie.specs.Shown.{ShowsWorld, ShowsAt, Comes}
 use Rattle.dr_world_tie.specs.Changes.{AllAreOver, TakesPlan, PlansAreAdopted, Deed, Does, Takes, RunsThrough, ComesThrough, ChangesKeepTheHeadline, WhatIsKeptStaysThrough, PlansCanBeTaken, NewWorldsMayTake, WhatIsTakenIsOne}
 use Rattle.dr_world_tie.proofs.Others.{state_is, shown_channel}
 use Rattle.dr_world_tie.proofs.World.{world_steps, beside_beginning}
@@ -99,7 +99,7 @@ no_links number next own =
     subst (λ (o : Option Channel). ShowsAt next own o (map_of.get (map_of.empty {R = nat_cmp}) number)) (sym (map_of.get-empty nat_cmp number))
     (subst (λ (o : Option Link). ShowsAt next own None o) (sym (map_of.get-empty nat_cmp number)) tt)
 
-module _ (plan next : Network) (certificate own : Certificate) (certified : IsCertified next own) (b new : ByteWorld) (w : World) (s : Shows plan certificate b w) (t : TakesPlan plan b next new) where
+module _ (plan next : Network) (certificate own : Certificate) (certified : IsCertified next own) (b new : ByteWorld) (w : World) (s : ShowsWorld plan certificate b w) (t : TakesPlan plan b next new) where
   abbrev adopted : World
   adopted = record {
     time = w.time;
@@ -150,7 +150,7 @@ module _ (plan next : Network) (certificate own : Certificate) (certified : IsCe
     | inr none ↦ ap (λ (d : Desk). d.armed) (t.joined name none) ∙ sym (sym (s.desks name).1 ∙ ap (λ (d : Desk). d.armed) (t.may.strangers name none))
   ]
 
-  shown : Shows next own new adopted
+  shown : ShowsWorld next own new adopted
   shown = record {
     time = s.time ∙ sym t.time;
     opened = s.opened ∙ sym t.opened;
@@ -171,7 +171,7 @@ runs_then (Adopt next ∷ actions) more first mid last w v u h k = (h.0, (h.1.0,
 
 -- a world beside the bytes, to which actions lead from this one
 abbrev IsFrom : Network → World → Network → Certificate → ByteWorld → Type 0
-IsFrom first v plan certificate b = (w : World) × Shows plan certificate b w × ((actions : List Action) × Runs first v actions plan w)
+IsFrom first v plan certificate b = (w : World) × ShowsWorld plan certificate b w × ((actions : List Action) × Runs first v actions plan w)
 
 step_from : (first : Network) (v : World) (plan : Network) (b : ByteWorld) (step : WorldStep) (note : StepNote) (w u : World) → (actions : List Action) × Runs first v actions plan w → Comes plan b step note w u → (actions : List Action) × Runs first v actions plan u
 step_from first v plan b step note w u by (inl same) = subst (λ (z : World). (actions : List Action) × Runs first v actions plan z) (sym same.0) by

@@ -37,7 +37,7 @@ use Rattle.dr_session.specs.Turns.{Turns}
 use Rattle.dr_session.specs.Plays.{PlaysBytes, inputs_of}
 use Rattle.dr_session.specs.Telling.{event_of_input}
 use Rattle.dr_world_tie.specs.Desks.{Desk, LedgerStep}
-use Rattle.dr_world_tie.specs.Channels.{alone, Terminal, Channel, Carries, ShowsLink, ToCaller, ToReceiver, IsAt, IsControl, site_of}
+use Rattle.dr_world_tie.specs.Channels.{alone, LiveTerminal, Channel, Carries, ShowsLink, ToCaller, ToReceiver, IsAt, IsControl, site_of}
 use Rattle.dr_world_tie.specs.Ties.{IsFirst, receiver_read, caller_read, ReceiverHearsControl, CallerHearsControl, IsDeskOf, Happens}
 use Rattle.dr_world_tie.proofs.Leaving.{AreFit, acts_by, plain_turn, abort_fits, left_nothing, receiver_done, receiver_at as receiver_stands_at}
 use Rattle.dr_world_tie.proofs.CallerLeaving.{left_from, caller_at}
@@ -72,7 +72,7 @@ none_to_caller (Storing accepted item) to c pdus e = subst (λ (l : List Pdu). N
 none_to_caller Gone to c pdus e = subst (λ (l : List Pdu). NoControls l) (sym e) tt
 
 -- a control PDU in front: nothing is under way any more, and it has a spelling
-front_control : (t : Terminal) (wire : List ℕ) (n : ℕ) (front : Pdu) (coming controls : List Pdu) → IsControl front → IsFirst t wire front → t.ear.kept ++ take n wire ≡ written front
+front_control : (t : LiveTerminal) (wire : List ℕ) (n : ℕ) (front : Pdu) (coming controls : List Pdu) → IsControl front → IsFirst t wire front → t.ear.kept ++ take n wire ≡ written front
     → NoControls coming → t.ear.kept ++ wire ≡ spellings (coming ++ controls) → AreFit t.ear.limit (coming ++ controls) → coming ≡ []
 front_control t wire n front [] controls control first whole none joined fits = refl
 front_control t wire n front (p ∷ ps) controls control first whole none joined fits =

@@ -23,7 +23,7 @@ use Rattle.dr_ulstate.specs.Standing.{moved, standing}
 use Rattle.dr_pdu.specs.Feeding.{Feeding}
 use Rattle.dr_dimse.specs.declared.message.Awaited.{Awaited}
 use Rattle.dr_dimse.specs.declared.message.Awaited.TheVariants.{AnswerTo, Nothing as NothingAwaited}
-use Rattle.dr_dimse.specs.Taking.{Stage as Taken, Idle, InCommand, InData, data_of, let_go}
+use Rattle.dr_dimse.specs.Taking.{MessageStage as Taken, Idle, InCommand, InData, data_of, let_go}
 use Rattle.dr_ledger.specs.declared.content.Job.{Job}
 use Rattle.dr_ledger.specs.declared.fault.LedgerFault.TheVariants as fault
 use Rattle.dr_ledger.specs.declared.item.Instance.{Instance}
@@ -60,7 +60,7 @@ use Rattle.dr_world_model.specs.Steps.{pending as pending_of, SettlesPending}
 use Rattle.dr_world_model.specs.Among.{Ours}
 use Rattle.dr_world_model.proofs.Lookups.{numbers}
 use Rattle.dr_world_tie.specs.Desks.{Desk, LedgerStep}
-use Rattle.dr_world_tie.specs.Channels.{Terminal, IsAt, IsOff, IsSideOf, bytes_of}
+use Rattle.dr_world_tie.specs.Channels.{LiveTerminal, IsAt, IsOff, IsSideOf, bytes_of}
 use Rattle.dr_world_tie.specs.Ties.{IsDeskOf}
 use Rattle.dr_world_tie.specs.Foreign.{StandsAt, ShowsForeign, WritesControls}
 use Rattle.dr_world_tie.specs.ForeignCalls.{GoesOnAwaited, CallsAt, IsCallOf, CallsIn, LeadsTo}
@@ -88,7 +88,7 @@ goes_on_as awaited (InCommand id text) h = tt
 goes_on_as awaited (InData id command body) h = absurd h
 
 module _ (ours : Ours) (plan : Network) (certificate : Certificate) (w : World) (number : ℕ)
-    (link : Link) (k : Terminal) (s : Desk) (here : IsLink w number link)
+    (link : Link) (k : LiveTerminal) (s : Desk) (here : IsLink w number link)
     (away : ours link.receiver ≡ false) (peer : k.core.peer ≡ link.receiver)
     (own : ours link.caller ≡ true) (desk : IsDeskOf w link.caller s)
     (side : IsSideOf plan certificate link.caller k.core k.ear) (moment : Moment)
@@ -100,7 +100,7 @@ module _ (ours : Ours) (plan : Network) (certificate : Certificate) (w : World) 
   abbrev pstep : Desk → DeskCall → DeskAnswer → Desk → Type 0
   pstep = LedgerStep plan node
 
-  abbrev ends_as : Terminal
+  abbrev ends_as : LiveTerminal
   ends_as = record { core = x.core; ear = k.ear }
 
   abbrev PushedSome : Type 0

@@ -34,7 +34,7 @@ use Rattle.dr_pdu.specs.declared.fault.PduFault.TheVariants as pdufault
 use Rattle.dr_pdu.specs.Feeding.{Feeding}
 use Rattle.dr_dimse.specs.declared.message.Awaited.{Awaited}
 use Rattle.dr_dimse.specs.declared.message.Awaited.TheVariants.{Nothing as NothingAwaited}
-use Rattle.dr_dimse.specs.Taking.{Stage as Taken, Idle}
+use Rattle.dr_dimse.specs.Taking.{MessageStage as Taken, Idle}
 use Rattle.dr_ledger.specs.declared.fault.LedgerFault.TheVariants as fault
 use Rattle.dr_ledger.specs.declared.item.Instance.{Instance}
 use Rattle.dr_ledger.specs.declared.item.Outcome.TheVariants.{Status, Broken}
@@ -70,7 +70,7 @@ use Rattle.dr_world_model.specs.Among.{Ours}
 use Rattle.dr_world_model.proofs.AmongActs.{headline_holds_among}
 use Rattle.dr_world_model.proofs.Lookups.{numbers}
 use Rattle.dr_world_tie.specs.Desks.{Desk, LedgerStep}
-use Rattle.dr_world_tie.specs.Channels.{Terminal, IsAt, IsOff, IsAsking, IsEstablished, HasPending}
+use Rattle.dr_world_tie.specs.Channels.{LiveTerminal, IsAt, IsOff, IsAsking, IsEstablished, HasPending}
 use Rattle.dr_world_tie.specs.Channels.{IsSideOf, bytes_of, contexts_of, site_of}
 use Rattle.dr_world_tie.specs.Ties.{IsDeskOf}
 use Rattle.dr_world_tie.specs.Foreign.{WritesControls}
@@ -269,7 +269,7 @@ middle plan w link c now s t desk peer time (Some item) None h = absurd h
 -- ---- a caller of ours
 
 module _ (ours : Ours) (plan : Network) (certificate : Certificate)
-    (certified : IsCertified plan certificate) (w : World) (number : ℕ) (link : Link) (k : Terminal)
+    (certified : IsCertified plan certificate) (w : World) (number : ℕ) (link : Link) (k : LiveTerminal)
     (s : Desk) (here : IsLink w number link) (away : ours link.receiver ≡ false)
     (peer : k.core.peer ≡ link.receiver) (own : ours link.caller ≡ true)
     (desk : IsDeskOf w link.caller s) (side : IsSideOf plan certificate link.caller k.core k.ear)
@@ -284,7 +284,7 @@ module _ (ours : Ours) (plan : Network) (certificate : Certificate)
       → Desk → Type 0
   cstep = LedgerStep plan node
 
-  abbrev ends_as : Terminal
+  abbrev ends_as : LiveTerminal
   ends_as = record { core = x.core; ear = k.ear }
 
   abbrev HeardAs : Heard → Type 0

@@ -35,7 +35,7 @@ use Rattle.dr_pdu.specs.declared.pdu.Pdv.{Pdv}
 use Rattle.dr_pdu.specs.Feeding.{Feeding}
 use Rattle.dr_dimse.specs.declared.command.Command.TheVariants.{StoreRq, StoreRsp}
 use Rattle.dr_dimse.specs.declared.message.Body.TheVariants as body
-use Rattle.dr_dimse.specs.Taking.{Stage as Taken, Takes as TakesValue}
+use Rattle.dr_dimse.specs.Taking.{MessageStage as Taken, Takes as TakesValue}
 use Rattle.dr_ledger.specs.declared.content.Job.{Job}
 use Rattle.dr_ledger.specs.declared.fault.LedgerFault.TheVariants as fault
 use Rattle.dr_ledger.specs.declared.item.Arrived.TheVariants.{New, Again}
@@ -79,7 +79,7 @@ use Rattle.dr_world_model.proofs.Lookups.{numbers}
 use Rattle.dr_world_model.proofs.OneReply.{contexts_exact}
 use Rattle.dr_world_model.proofs.Safety.{book_here, book_there}
 use Rattle.dr_world_tie.specs.Desks.{Desk, ArmedBy, LedgerStep}
-use Rattle.dr_world_tie.specs.Channels.{Terminal, IsAt, IsOff, IsListening, IsReceiver, IsSideOf}
+use Rattle.dr_world_tie.specs.Channels.{LiveTerminal, IsAt, IsOff, IsListening, IsReceiver, IsSideOf}
 use Rattle.dr_world_tie.specs.Channels.{message, site_of, site_in, contexts_of}
 use Rattle.dr_world_tie.specs.Ties.{IsDeskOf, OnlyHere, StaysOff}
 use Rattle.dr_world_tie.specs.Foreign.{AreTaken, Serves, StandsAt, IsCalledBy, ShowsForeign, Came}
@@ -523,10 +523,10 @@ serves_still plan name caller accepted c d still h =
 -- ---- before there is a link
 
 module _ (ours : Ours) (plan : Network) (certificate : Certificate) (name : Text) (w : World)
-    (k : Terminal) (s : Desk) (own : ours name ≡ true) (others : OthersHaveNone ours w)
+    (k : LiveTerminal) (s : Desk) (own : ours name ≡ true) (others : OthersHaveNone ours w)
     (desk : IsDeskOf w name s) (side : IsSideOf plan certificate name k.core k.ear)
     (moment : Moment) (x : Effect) (t : Desk) where
-  abbrev after_ear : Terminal
+  abbrev after_ear : LiveTerminal
   after_ear = record { core = x.core; ear = k.ear }
 
   abbrev Unlinked : Type 0
@@ -745,7 +745,7 @@ module _ (ours : Ours) (plan : Network) (certificate : Certificate) (name : Text
 -- ---- on a link
 
 module _ (ours : Ours) (plan : Network) (certificate : Certificate)
-    (certified : IsCertified plan certificate) (w : World) (number : ℕ) (link : Link) (k : Terminal)
+    (certified : IsCertified plan certificate) (w : World) (number : ℕ) (link : Link) (k : LiveTerminal)
     (s : Desk) (here : IsLink w number link) (away : ours link.caller ≡ false)
     (on : link.caller_connected ≡ true) (own : ours link.receiver ≡ true)
     (others : OthersHaveNone ours w) (desk : IsDeskOf w link.receiver s)
@@ -754,7 +754,7 @@ module _ (ours : Ours) (plan : Network) (certificate : Certificate)
   abbrev node : Text
   node = link.receiver
 
-  abbrev ends_as : Terminal
+  abbrev ends_as : LiveTerminal
   ends_as = record { core = x.core; ear = k.ear }
 
   abbrev Linked : Type 0

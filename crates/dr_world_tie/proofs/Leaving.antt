@@ -46,9 +46,9 @@ use Rattle.dr_session.specs.Reactions.{turn, occurs, moves, acts, event_of, is_t
 use Rattle.dr_session.specs.Turns.{Turns}
 use Rattle.dr_session.specs.Telling.{Looks, action_at, event_of_input}
 use Rattle.dr_session.specs.Plays.{Reacts, at_moment, with_stage}
-use Rattle.dr_dimse.specs.Taking.{Stage as Taken}
+use Rattle.dr_dimse.specs.Taking.{MessageStage as Taken}
 use Rattle.dr_world_tie.specs.Desks.{Desk, LedgerStep}
-use Rattle.dr_world_tie.specs.Channels.{Terminal, Channel, Carries, ShowsLink, ToCaller, IsReceiver, IsAt, IsOff, IsControl, bytes_of, AgreesOn, site_of, site_in}
+use Rattle.dr_world_tie.specs.Channels.{LiveTerminal, Channel, Carries, ShowsLink, ToCaller, IsReceiver, IsAt, IsOff, IsControl, bytes_of, AgreesOn, site_of, site_in}
 use Rattle.dr_world_tie.specs.Ties.{IsDeskOf, OnlyHere, Happens, receiver_as, IsLeaving, ReceiverLeaves, LateAtReceiver, is_late}
 use Rattle.dr_world_tie.proofs.Agreeing.{stepped_at}
 
@@ -66,7 +66,7 @@ abbrev pub AreFit : ℕ → List Pdu → Type 0
 AreFit limit pdus = AllByRecursion (λ p. Fits p × MeetsLimit limit p) pdus
 
 -- what is written as an end leaves stands behind all else
-pub carries_more : (t : Terminal) (wire : List ℕ) (IsComing : List Pdu → Type 0) (on : Bool) → Carries t wire IsComing on → (pdus : List Pdu) → AllByRecursion IsControl pdus → AreFit t.ear.limit pdus
+pub carries_more : (t : LiveTerminal) (wire : List ℕ) (IsComing : List Pdu → Type 0) (on : Bool) → Carries t wire IsComing on → (pdus : List Pdu) → AllByRecursion IsControl pdus → AreFit t.ear.limit pdus
     → Carries t (wire ++ spellings pdus) IsComing false
 carries_more t wire IsComing on c pdus control fits = record {
   coming = c.coming;

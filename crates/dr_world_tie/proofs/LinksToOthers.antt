@@ -25,7 +25,7 @@ use Rattle.dr_session.specs.Plays.{without_data}
 use Rattle.dr_world_model.specs.Worlds.{World}
 use Rattle.dr_world_model.specs.Among.{Ours, Act}
 use Rattle.dr_world_tie.specs.Desks.{Desk, LedgerStep}
-use Rattle.dr_world_tie.specs.Channels.{Terminal, bytes_of}
+use Rattle.dr_world_tie.specs.Channels.{LiveTerminal, bytes_of}
 use Rattle.dr_world_tie.specs.Foreign.{Came, ComeAll, CallsAsNoneOfOurs, NoneCallsAsOurs, StandsIn}
 use Rattle.dr_world_tie.specs.Foreign.{WritesControls}
 use Rattle.dr_world_tie.specs.ForeignCalls.{CallsIn, LeadsTo, acts_of_all}
@@ -76,7 +76,7 @@ no_acts acts e = cc
 
 module _ (ours : Ours) (plan : Network) (certificate : Certificate)
     (certified : IsCertified plan certificate) (name : Text) (w : World) (number : Option ℕ)
-    (k : Terminal) (s : Desk) (stands : StandsIn ours plan certificate name w number k s)
+    (k : LiveTerminal) (s : Desk) (stands : StandsIn ours plan certificate name w number k s)
     (moment : Moment) (acts : List LinkAction) (new : End) (t : Desk) where
   abbrev Comes_as : Type 0
   Comes_as =
@@ -202,7 +202,7 @@ what_acceptors_hear ours plan certificate certified name w number k s stands mom
 -- ---- a requestor
 
 module _ (ours : Ours) (plan : Network) (certificate : Certificate)
-    (certified : IsCertified plan certificate) (name : Text) (w : World) (number : ℕ) (k : Terminal)
+    (certified : IsCertified plan certificate) (name : Text) (w : World) (number : ℕ) (k : LiveTerminal)
     (s : Desk) (stands : CallsIn ours plan certificate name w number k s) (moment : Moment)
     (time : moment.now ≡ w.time) (acts : List LinkAction) (new : End) (t : Desk) where
   abbrev Heard_as : Type 0

@@ -23,7 +23,7 @@ use Rattle.dr_world_model.specs.Worlds.{World, Link, Stage, Asking, Answering, R
 use Rattle.dr_world_model.specs.Steps.{IsLink, others}
 use Rattle.dr_world_model.specs.Events.{Event, AgreeReceiver, AgreeCaller, Receive, Answered, BreakCaller, BreakReceiver}
 use Rattle.dr_world_tie.specs.Desks.{Desk, LedgerStep}
-use Rattle.dr_world_tie.specs.Channels.{Terminal, Channel, Carries, ShowsLink, ToReceiver, ToCaller, IsReceiver, IsCaller, IsControl, site_of}
+use Rattle.dr_world_tie.specs.Channels.{LiveTerminal, Channel, Carries, ShowsLink, ToReceiver, ToCaller, IsReceiver, IsCaller, IsControl, site_of}
 use Rattle.dr_world_tie.specs.Ties.{IsDeskOf, IsWithin, IsData, Happens, receiver_read, caller_read}
 use Rattle.dr_world_tie.specs.Moves.{IsLeft, IsOfReceiver, IsOfCaller, ReceiverMoves, CallerMoves}
 use Rattle.dr_world_tie.proofs.Fronts.{more_not_memory}
@@ -67,7 +67,7 @@ drop_some n xs h e = (let l : length (drop n xs) ≡ length xs - n = length-drop
 -- ---- the PDU at the front
 
 -- where bytes are on the wire, what is under way begins with a PDU, and some of its bytes are still there
-front_of : (t : Terminal) (wire : List ℕ) (pdus : List Pdu) → t.ear.kept ++ wire ≡ spellings pdus → Shows t.ear.limit t.ear.kept More → AreFit t.ear.limit pdus → wire ≢ []
+front_of : (t : LiveTerminal) (wire : List ℕ) (pdus : List Pdu) → t.ear.kept ++ wire ≡ spellings pdus → Shows t.ear.limit t.ear.kept More → AreFit t.ear.limit pdus → wire ≢ []
     → (front : Pdu) × (left : List ℕ) × IsLeft t wire front left
 front_of t wire [] joined waits fits some = absurd (some (nothing_both t.ear.kept wire joined).1)
 front_of t wire (p ∷ ps) joined waits fits some = by_split (splits t.ear.kept wire (written p) (spellings ps) joined)
@@ -89,11 +89,11 @@ front_of t wire (p ∷ ps) joined waits fits some = by_split (splits t.ear.kept 
     )
     by_split (inr (e, more, is)) = absurd (starts e more)
 
-carried_front : (t : Terminal) (wire : List ℕ) (P : List Pdu → Type 0) (b : Bool) → Carries t wire P b → wire ≢ [] → (front : Pdu) × (left : List ℕ) × IsLeft t wire front left
+carried_front : (t : LiveTerminal) (wire : List ℕ) (P : List Pdu → Type 0) (b : Bool) → Carries t wire P b → wire ≢ [] → (front : Pdu) × (left : List ℕ) × IsLeft t wire front left
 carried_front t wire P b c some = front_of t wire (c.coming ++ c.controls) c.joined c.waits c.fits some
 
 -- the bytes of a Move are all that is left of the front PDU, or they end nothing
-moves : (t : Terminal) (wire : List ℕ) (front : Pdu) (left : List ℕ) (n : ℕ) → IsLeft t wire front left → n ≤ length left
+moves : (t : LiveTerminal) (wire : List ℕ) (front : Pdu) (left : List ℕ) (n : ℕ) → IsLeft t wire front left → n ≤ length left
     → ((n ≡ length left) × (t.ear.kept ++ take n wire ≡ written front)) ⊎ ((n < length left) × IsWithin (t.ear.kept ++ take n wire) front)
 moves t wire front left n l few =
     let same : take n wire ≡ take n left = ap (λ (z : List ℕ). take n z) l.wire_is ∙ take-append-le n left l.rest few in
@@ -115,7 +115,7 @@ moves t wire front left n l few =
     ]
 
 -- where nothing is under way but what the writer wrote as it left
-control_front : (t : Terminal) (wire : List ℕ) (n : ℕ) (front : Pdu) (left : List ℕ) (coming controls : List Pdu) → IsLeft t wire front left → t.ear.kept ++ take n wire ≡ written front → coming ≡ []
+control_front : (t : LiveTerminal) (wire : List ℕ) (n : ℕ) (front : Pdu) (left : List ℕ) (coming controls : List Pdu) → IsLeft t wire front left → t.ear.kept ++ take n wire ≡ written front → coming ≡ []
     → t.ear.kept ++ wire ≡ spellings (coming ++ controls) → AreFit t.ear.limit (coming ++ controls) → AllByRecursion IsControl controls → IsControl front
 control_front t wire n front left coming controls l whole none joined fits control =
     by_controls controls (subst (λ (c : List Pdu). t.ear.kept ++ wire ≡ spellings (c ++ controls)) none joined) (subst (λ (c : List Pdu). AreFit t.ear.limit (c ++ controls)) none fits) control

@@ -22,7 +22,7 @@ use Rattle.dr_dimse.specs.declared.message.Awaited.TheVariants.{Nothing}
 use Rattle.dr_dimse.specs.declared.message.Message.{Message}
 use Rattle.dr_dimse.specs.declared.fault.DimseFault.{DimseFault}
 use Rattle.dr_dimse.specs.declared.fault.DimseFault.TheVariants as dimse
-use Rattle.dr_dimse.specs.Taking.{Stage as Taken, Idle, InCommand, InData, Takes, data_of}
+use Rattle.dr_dimse.specs.Taking.{MessageStage as Taken, Idle, InCommand, InData, Takes, data_of}
 use Rattle.dr_nego.specs.Fragments.{spellings}
 use Rattle.dr_nego.specs.declared.agreed.Agreed.{Agreed}
 use Rattle.dr_nego.specs.declared.agreed.Pair.{Pair}

@@ -10,13 +10,13 @@ use Rattle.dr_world_model.specs.Steps.{new_link, asked}
 use Rattle.dr_nego.specs.Agreeing.{AssociateRq}
 use Rattle.dr_nego.specs.Proposing.{IsProposal}
 use Rattle.dr_world_tie.specs.Ties.{OpensAreAsks}
-use Rattle.dr_world_tie.specs.Channels.{Terminal, site_of}
+use Rattle.dr_world_tie.specs.Channels.{LiveTerminal, site_of}
 use Rattle.dr_world_tie.proofs.Fronts.{nothing_yet}
 
-kept_none : (t : Terminal) (wire : List ℕ) → t.ear ≡ fresh t.ear.limit → t.ear.kept ++ wire ≡ wire
+kept_none : (t : LiveTerminal) (wire : List ℕ) → t.ear ≡ fresh t.ear.limit → t.ear.kept ++ wire ≡ wire
 kept_none t wire e = ap (λ (f : Feeding). f.kept ++ wire) e
 
-waits_yet : (t : Terminal) → t.ear ≡ fresh t.ear.limit → Shows t.ear.limit t.ear.kept More
+waits_yet : (t : LiveTerminal) → t.ear ≡ fresh t.ear.limit → Shows t.ear.limit t.ear.kept More
 waits_yet t e = subst (λ (f : Feeding). Shows t.ear.limit f.kept More) (sym e) (nothing_yet t.ear.limit)
 
 some_same : (a b : AssociateRq) → Some a ≡ Some b → a ≡ b

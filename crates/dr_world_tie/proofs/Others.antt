@@ -25,13 +25,13 @@ use Rattle.dr_world_model.proofs.Counted.{others_are_counted}
 use Rattle.dr_world_model.proofs.Lookups.{numbers}
 use Rattle.dr_world_tie.specs.Channels.{Channel, ShowsLink, IsReceiver, IsAt}
 use Rattle.dr_world_tie.specs.ByteWorlds.{ByteWorld, AreOthers, is_open}
-use Rattle.dr_world_tie.specs.Shown.{Shows, ShowsAt}
+use Rattle.dr_world_tie.specs.Shown.{ShowsWorld, ShowsAt}
 
 pub state_is : (c : Core) (requestor : Bool) (state : State) → IsAt c requestor state → state_of c.phase ≡ state
 state_is c requestor state at = ap (λ (o : Option Standing). option_map_or (λ (b : Standing). b.state) o Sta1) at.1 ∙ at.3
 
 -- a link and its channel
-pub shown_link : (plan : Network) (certificate : Certificate) (b : ByteWorld) (w : World) (number : ℕ) (k : Channel) → Shows plan certificate b w → map_of.get b.links number ≡ Some k
+pub shown_link : (plan : Network) (certificate : Certificate) (b : ByteWorld) (w : World) (number : ℕ) (k : Channel) → ShowsWorld plan certificate b w → map_of.get b.links number ≡ Some k
     → (link : Link) × IsLink w number link × ShowsLink plan certificate k link
 shown_link plan certificate b w number k s has =
     by_get (map_of.get w.links number) refl (subst (λ (o : Option Channel). ShowsAt plan certificate o (map_of.get w.links number)) has (s.links number))
@@ -40,7 +40,7 @@ shown_link plan certificate b w number k s has =
     by_get (Some link) e h = (link, e, subst (λ (o : Option Link). ShowsAt plan certificate (Some k) o) e h)
     by_get None e h = absurd (subst (λ (o : Option Link). ShowsAt plan certificate (Some k) o) e h)
 
-pub shown_channel : (plan : Network) (certificate : Certificate) (b : ByteWorld) (w : World) (number : ℕ) (link : Link) → Shows plan certificate b w → IsLink w number link
+pub shown_channel : (plan : Network) (certificate : Certificate) (b : ByteWorld) (w : World) (number : ℕ) (link : Link) → ShowsWorld plan certificate b w → IsLink w number link
     → (k : Channel) × (map_of.get b.links number ≡ Some k) × ShowsLink plan certificate k link
 shown_channel plan certificate b w number link s here =
     by_get (map_of.get b.links number) refl (subst (λ (o : Option Link). ShowsAt plan certificate (map_of.get b.links number) o) here (s.links number))
@@ -76,7 +76,7 @@ unfolding IsStrictlySortedBy
 as_pairs [] h = λ i j d before inside. absurd (omega (arith, inside))
 as_pairs (x ∷ xs) h = AllPairs-cons (λ p q. nat_cmp p q ≡ Less) x xs (All-from_recursion (λ (y : ℕ). nat_cmp x y ≡ Less) xs h.0) (as_pairs xs h.1)
 
-pub same_others : (plan : Network) (certificate : Certificate) (b : ByteWorld) (w : World) (number : ℕ) (name : Text) (xs : List ℕ) → Shows plan certificate b w → AreOthers b number name xs → xs ≡ others_of w number name
+pub same_others : (plan : Network) (certificate : Certificate) (b : ByteWorld) (w : World) (number : ℕ) (name : Text) (xs : List ℕ) → ShowsWorld plan certificate b w → AreOthers b number name xs → xs ≡ others_of w number name
 same_others plan certificate b w number name xs s there =
     let counted = others_are_counted w number name in
     same_sorted nat_cmp numbers.total xs (others_of w number name) (as_pairs xs there.0) (as_pairs (others_of w number name) counted.0) (λ other. (

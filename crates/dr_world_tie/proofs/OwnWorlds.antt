@@ -34,7 +34,7 @@ use Rattle.dr_world_tie.specs.ByteWorlds.{Side, Requestor, Acceptor}
 use Rattle.dr_world_tie.specs.Desks.{Desk, LedgerStep}
 use Rattle.dr_session.specs.Desks.{Settle, Settling}
 use Rattle.dr_ledger.specs.declared.item.Outcome.TheVariants.{Broken}
-use Rattle.dr_world_tie.specs.Channels.{Terminal}
+use Rattle.dr_world_tie.specs.Channels.{LiveTerminal}
 use Rattle.dr_world_tie.specs.Nodes.{GivesUpAt, HappensAt, OnlyAt}
 use Rattle.dr_world_tie.specs.Ties.{IsDeskOf, with_desk}
 use Rattle.dr_world_tie.specs.Foreign.{Came, ComeAll, OnlyOf, OthersHaveNone, ShowsForeign}
@@ -87,7 +87,7 @@ all_counted ours plan name (came ∷ cames) w v number next acts written h n e =
 module _ (ours : Ours) (plan : Network) (certificate : Certificate) where
   -- what isn't touched stays shown
   shown_still :
-      (w v : World) (next at : Option ℕ) (name : Text) (side : Side) (node : Text) (k : Terminal)
+      (w v : World) (next at : Option ℕ) (name : Text) (side : Side) (node : Text) (k : LiveTerminal)
       → OnlyOf w v next name
       → ((m : ℕ) → at ≡ Some m → next ≢ Some m)
       → ShowsBy ours plan certificate w at side node k
@@ -164,7 +164,7 @@ module _ (ours : Ours) (plan : Network) (certificate : Certificate) where
     ]
 
     -- the world with another end in its place
-    done : (side : Side) (k : Terminal)
+    done : (side : Side) (k : LiveTerminal)
         → ((n : ℕ) → shows.numbers i ≡ Some n → next ≡ Some n)
         → ShowsBy ours plan certificate v next side node k
         → ShowsOwn ours plan certificate
@@ -433,7 +433,7 @@ module _ (ours : Ours) (plan : Network) (certificate : Certificate) where
         → BeginsCalling ours plan certificate b i node dest new
         → Acts w new
     opens i node dest new h =
-        let k : Terminal =
+        let k : LiveTerminal =
         record { core = requesting (Some h.site) dest h.rq b.time; ear = fresh h.site.max_pdu } in
         let P : Text → Type 0 = λ n. ours n ≡ true → IsHop plan n dest → IsDeskOf w n (b.desks node)
         → RunsAmong ours plan w (Own (Ask n dest) ∷ []) plan (asked w n dest)
@@ -459,7 +459,7 @@ module _ (ours : Ours) (plan : Network) (certificate : Certificate) where
     -- a requestor is asked for something
     finishes : (i : ℕ) (h_end : OwnEnd) (own : ours h_end.node ≡ true) (n : ℕ)
         → shows.numbers i ≡ Some n → h_end.side ≡ Requestor
-        → (acts : List Act) (v : World) (t : Desk) (k : Terminal)
+        → (acts : List Act) (v : World) (t : Desk) (k : LiveTerminal)
         → LeadsTo ours plan h_end.node w n acts v
         → CallsIn ours plan certificate h_end.node v n k t
         → Acts w (with_done b i (record { side = h_end.side; node = h_end.node; terminal = k }) t)
@@ -516,7 +516,7 @@ module _ (ours : Ours) (plan : Network) (certificate : Certificate) where
 
     -- links stay as they are
     shown_as : (v : World) → v.links ≡ w.links
-        → (at : Option ℕ) (side : Side) (node : Text) (k : Terminal)
+        → (at : Option ℕ) (side : Side) (node : Text) (k : LiveTerminal)
         → ShowsBy ours plan certificate w at side node k
         → ShowsBy ours plan certificate v at side node k
     shown_as v same None Acceptor node k h = h

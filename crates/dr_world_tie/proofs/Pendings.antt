@@ -13,7 +13,7 @@ use Rattle.dr_world_model.specs.Worlds.{Replying, Gone}
 use Rattle.dr_world_model.specs.Steps.{NoneIsPending, pending}
 use Rattle.dr_world_tie.specs.Channels.{IsCaller}
 use Rattle.dr_world_tie.specs.ByteWorlds.{ByteWorld, IsUnderWay}
-use Rattle.dr_world_tie.specs.Shown.{Shows, SomeIsPending}
+use Rattle.dr_world_tie.specs.Shown.{ShowsWorld, SomeIsPending}
 use Rattle.dr_world_tie.proofs.Others.{shown_link, shown_channel}
 
 -- a caller that is on has an item of the uid pending
@@ -62,7 +62,7 @@ pends_here (Replying accepted other status) receiver c item h is =
 pends_here Gone receiver c item h is = absurd h
 
 module _ (plan : Network) (certificate : Certificate) (b : ByteWorld) (w : World)
-    (s : Shows plan certificate b w) where
+    (s : ShowsWorld plan certificate b w) where
   pub some_is_pending : (name uid : Text) → IsUnderWay b name uid → SomeIsPending w name uid
   some_is_pending name uid (number, (k, has, called, pends)) =
       let l = shown_link plan certificate b w number k s has in

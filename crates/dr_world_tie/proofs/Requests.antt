@@ -35,7 +35,7 @@ use Rattle.dr_session.specs.Reactions.{turn, effect, write, rj}
 use Rattle.dr_session.specs.Turns.{Turns}
 use Rattle.dr_session.specs.Plays.{PlaysBytes, with_stage}
 use Rattle.dr_nego.specs.declared.answering.Answer.TheVariants.{Accept, Reject}
-use Rattle.dr_dimse.specs.Taking.{Stage as Taken}
+use Rattle.dr_dimse.specs.Taking.{MessageStage as Taken}
 use Rattle.dr_nego.specs.declared.agreed.Agreed.{Agreed}
 use Rattle.dr_nego.specs.Agreeing.{AssociateRq}
 use Rattle.dr_nego.specs.Answering.{answer, acceptance_of, agreed_by}
@@ -50,7 +50,7 @@ use Rattle.dr_nego.proofs.Concluded.{both_sides_agree}
 use Rattle.dr_nego.proofs.Sized.{acceptances_fit}
 use Rattle.dr_nego.proofs.HopAgreed.{answered}
 use Rattle.dr_world_tie.specs.Desks.{Desk, LedgerStep}
-use Rattle.dr_world_tie.specs.Channels.{Terminal, Channel, Carries, ShowsLink, ToReceiver, ToCaller, IsCaller, IsReceiver, contexts_of, hop_contexts, site_of}
+use Rattle.dr_world_tie.specs.Channels.{LiveTerminal, Channel, Carries, ShowsLink, ToReceiver, ToCaller, IsCaller, IsReceiver, contexts_of, hop_contexts, site_of}
 use Rattle.dr_world_tie.specs.Ties.{IsDeskOf, IsFirst, receiver_read, AgreesAtReceiver, Happens}
 use Rattle.dr_world_tie.proofs.Fronts.{hears_one, nothing_yet}
 use Rattle.dr_world_tie.proofs.Leaving.{only_link}
@@ -70,7 +70,7 @@ rejecting_still true receiver c h = h
 rejecting_still false receiver c h = h
 
 -- a wire on which nothing was, and what is written on it
-pub written_on : (t : Terminal) (wire bytes : List ℕ) → t.ear.kept ++ wire ≡ [] → t.ear.kept ++ (wire ++ (bytes ++ [])) ≡ bytes
+pub written_on : (t : LiveTerminal) (wire bytes : List ℕ) → t.ear.kept ++ wire ≡ [] → t.ear.kept ++ (wire ++ (bytes ++ [])) ≡ bytes
 written_on t wire bytes none =
     let n = nothing_both t.ear.kept wire none in
     ap (λ (l : List ℕ). l ++ (wire ++ (bytes ++ []))) n.0 ∙ (ap (λ (l : List ℕ). l ++ (bytes ++ [])) n.1 ∙ append-nil bytes)

@@ -17,7 +17,7 @@ use Rattle.dr_pdu.specs.declared.pdu.Pdv.{Pdv}
 use Rattle.dr_pdu.specs.Written.{written}
 use Rattle.dr_dimse.specs.declared.command.Command.{Command}
 use Rattle.dr_dimse.specs.declared.command.Command.TheVariants.{StoreRsp}
-use Rattle.dr_dimse.specs.Taking.{Stage as Taken, Idle as NothingTaken, Takes}
+use Rattle.dr_dimse.specs.Taking.{MessageStage as Taken, Idle as NothingTaken, Takes}
 use Rattle.dr_nego.specs.Agreeing.{pair_at}
 use Rattle.dr_pdu.specs.Feeding.{Feeding}
 use Rattle.dr_ledger.specs.declared.item.Instance.{Instance}

@@ -27,7 +27,7 @@ use Rattle.dr_world_tie.specs.Channels.{Channel, ShowsLink}
 use Rattle.dr_world_tie.specs.Ties.{IsDeskOf, OnlyHere, with_desk}
 use Rattle.dr_world_tie.specs.Closing.{IsEnded}
 use Rattle.dr_world_tie.specs.ByteWorlds.{ByteWorld, FarEnds, FarEndsOf, AllFarEnd, AreLinksOf, Restarts, is_there, caller_of, receiver_of}
-use Rattle.dr_world_tie.specs.Shown.{Shows, ShowsAt}
+use Rattle.dr_world_tie.specs.Shown.{ShowsWorld, ShowsAt}
 use Rattle.dr_world_tie.proofs.Others.{shown_link, shown_channel, as_pairs}
 use Rattle.dr_world_tie.proofs.Restarting.{desks_after}
 use Rattle.dr_world_tie.proofs.Closing.{caller_ends, receiver_ends, same_world_link}
@@ -41,7 +41,7 @@ unchanged w number name = record { books = λ other apart. refl; links = λ othe
 not_below_itself : (n : ℕ) → nat_cmp n n ≡ Less → ⊥
 not_below_itself n h = (let e : Less ≡ Equal = sym h ∙ tied_itself numbers.total n in cc e)
 
-module _ (plan : Network) (certificate : Certificate) (b : ByteWorld) (node : Text) (start : World) (s : Shows plan certificate b start) where
+module _ (plan : Network) (certificate : Certificate) (b : ByteWorld) (node : Text) (start : World) (s : ShowsWorld plan certificate b start) where
   -- the links over which the node is called, their callers on
   abbrev is_called : ℕ → Bool
   is_called number = calls node (map_of.get start.links number)
@@ -238,14 +238,14 @@ module _ (plan : Network) (certificate : Certificate) (b : ByteWorld) (node : Te
       (shown_or_gone there (map_of.get b.links number) (map_of.get mid.links number) (λ none.
       subst (λ (q : Option Link). ShowsAt plan certificate (map_of.get b.links number) q) (sym (others number (λ c. false≢true (sym none ∙ (are.1 number).0 c)))) (s.links number))))
 
-  pub restarted : (new : ByteWorld) → Restarts plan b node new → (v : World) × (answers : List (Option Answer)) × model.Restarts start node answers v × Shows plan certificate new v
+  pub restarted : (new : ByteWorld) → Restarts plan b node new → (v : World) × (answers : List (Option Answer)) × model.Restarts start node answers v × ShowsWorld plan certificate new v
   restarted new (all, desks, are, ends, is) =
       let r = far all (as_pairs all are.0) (λ number c. (are.1 number).0 c) start b.desks desks s.desks s.time (λ number c. refl) ends in
       let v : World = with_links r.mid (links_without r.mid.links node) in (
         v,
         r.answers,
         (r.mid, subst (λ (ns : List ℕ). LeaveAll start ns r.answers r.mid) (are_called all are) r.leave, refl),
-        subst (λ (z : ByteWorld). Shows plan certificate z v) (sym is) (record {
+        subst (λ (z : ByteWorld). ShowsWorld plan certificate z v) (sym is) (record {
           time = r.rest.0 ∙ s.time;
           opened = r.rest.2 ∙ s.opened;
           desks = r.are;

@@ -32,11 +32,11 @@ use Rattle.dr_session.specs.declared.ends.Pending.{Pending}
 use Rattle.dr_session.specs.Plays.{Reacts, PlaysBytes, at_moment}
 use Rattle.dr_session.specs.Reactions.{effect, is_idle, is_free, is_impatient, is_requestor}
 use Rattle.dr_world_tie.specs.Desks.{Desk, LedgerStep}
-use Rattle.dr_world_tie.specs.Channels.{Terminal, Channel, ShowsLink, IsCaller, IsReceiver, IsAt, IsOff, site_of}
+use Rattle.dr_world_tie.specs.Channels.{LiveTerminal, Channel, ShowsLink, IsCaller, IsReceiver, IsAt, IsOff, site_of}
 use Rattle.dr_world_tie.specs.Ties.{IsData, IsDeskOf, Happens, caller_did, receiver_did, caller_read, receiver_read, is_late}
 use Rattle.dr_world_tie.specs.Nodes.{HappensAt}
 use Rattle.dr_world_tie.specs.ByteWorlds.{ByteWorld, WorldStep, Submit, Open, Push, Move, Abort, Release, Close, Late, Restart, Requeue, Drop, Forget, Tick, Refuse, Side, Requestor, Acceptor, StepNote, Done, Skipped, Skips, DoesIf, ReadsIf, LinkStep, NodeStep, Steps, CallerMeets, CallerPushes, PushesIf, ReceiverMeets, Meets, CallerHears, ReceiverHears, CallerReads, ReceiverReads, Moves, Closes, IsMoment, IsMoved, caller_of, receiver_of, with_done, with_call, has_cell, acts_late, is_over}
-use Rattle.dr_world_tie.specs.Shown.{Shows, ShowsAt, IsNamed, Comes, IsOffAt, IsSilent}
+use Rattle.dr_world_tie.specs.Shown.{ShowsWorld, ShowsAt, IsNamed, Comes, IsOffAt, IsSilent}
 use Rattle.dr_world_tie.proofs.Others.{same_others, state_is}
 use Rattle.dr_world_tie.proofs.Restarting.{desks_after}
 use Rattle.dr_world_tie.proofs.CallerLeaving.{caller_leaves, late_at_caller, release_leaves}
@@ -56,14 +56,14 @@ was_late c now h = one_of (next_expired c.phase now) (is_impatient c now) (has_c
 
 module _ (plan : Network) (certificate : Certificate) where
   abbrev pub Result_of : ByteWorld → WorldStep → StepNote → World → ByteWorld → Type 0
-  Result_of b step note w new = (v : World) × Comes plan b step note w v × Shows plan certificate new v
+  Result_of b step note w new = (v : World) × Comes plan b step note w v × ShowsWorld plan certificate new v
 
   -- ---- what an event leaves
 
   other_apart : (other number : ℕ) → eq_by_cmp nat_cmp other number ≡ false → other ≢ number
   other_apart other number apart e = false≢true (sym apart ∙ (ap (λ (n : ℕ). eq_by_cmp nat_cmp n number) e ∙ ties_itself numbers number))
 
-  pub after : (b : ByteWorld) (w : World) (number : ℕ) (event : Event) (name : Text) (t : Desk) (k : Channel) → Shows plan certificate b w → (h : Happens plan certificate w number event name t k) → Shows plan certificate (with_done b name t number k) h.after
+  pub after : (b : ByteWorld) (w : World) (number : ℕ) (event : Event) (name : Text) (t : Desk) (k : Channel) → ShowsWorld plan certificate b w → (h : Happens plan certificate w number event name t k) → ShowsWorld plan certificate (with_done b name t number k) h.after
   after b w number event name t k s h = record {
     time = h.only.rest.0 ∙ s.time;
     opened = h.only.rest.2 ∙ s.opened;
@@ -79,7 +79,7 @@ module _ (plan : Network) (certificate : Certificate) where
     ];
   }
 
-  pub nothing : (b : ByteWorld) (w : World) (number : ℕ) (link : Link) (name : Text) (t : Desk) (k : Channel) → Shows plan certificate b w → IsLink w number link → t ≡ b.desks name → ShowsLink plan certificate k link → Shows plan certificate (with_done b name t number k) w
+  pub nothing : (b : ByteWorld) (w : World) (number : ℕ) (link : Link) (name : Text) (t : Desk) (k : Channel) → ShowsWorld plan certificate b w → IsLink w number link → t ≡ b.desks name → ShowsLink plan certificate k link → ShowsWorld plan certificate (with_done b name t number k) w
   nothing b w number link name t k s here same shows = record {
     time = s.time;
     opened = s.opened;
@@ -94,7 +94,7 @@ module _ (plan : Network) (certificate : Certificate) where
     ];
   }
 
-  pub at_node : (b : ByteWorld) (w : World) (event : Event) (name : Text) (t : Desk) → Shows plan certificate b w → (h : HappensAt plan w event name t) → Shows plan certificate (with_call b name t) h.after
+  pub at_node : (b : ByteWorld) (w : World) (event : Event) (name : Text) (t : Desk) → ShowsWorld plan certificate b w → (h : HappensAt plan w event name t) → ShowsWorld plan certificate (with_call b name t) h.after
   at_node b w event name t s h = record {
     time = h.only.rest.0 ∙ s.time;
     opened = h.only.rest.2 ∙ s.opened;
@@ -107,15 +107,15 @@ module _ (plan : Network) (certificate : Certificate) where
   abbrev pub Outcome : ByteWorld → WorldStep → World → ℕ → Link → Text → Desk → Desk → Channel → Type 0
   Outcome b step w number link name s t k = ((event : Event) × IsNamed step event × Happens plan certificate w number event name t k) ⊎ ((t ≡ s) × ShowsLink plan certificate k link × IsSilent b w step)
 
-  pub comes : (step : WorldStep) (note : StepNote) (b : ByteWorld) (w : World) (number : ℕ) (link : Link) (name there : Text) (t : Desk) (k : Channel) → Shows plan certificate b w → IsLink w number link → there ≡ name
+  pub comes : (step : WorldStep) (note : StepNote) (b : ByteWorld) (w : World) (number : ℕ) (link : Link) (name there : Text) (t : Desk) (k : Channel) → ShowsWorld plan certificate b w → IsLink w number link → there ≡ name
       → Outcome b step w number link name (b.desks name) t k → Result_of b step note w (with_done b there t number k)
   comes step note b w number link name there t k s here same (inl (event, named, h)) =
-      (h.after, inr (event, named, h.step), subst (λ (n : Text). Shows plan certificate (with_done b n t number k) h.after) (sym same) (after b w number event name t k s h))
+      (h.after, inr (event, named, h.step), subst (λ (n : Text). ShowsWorld plan certificate (with_done b n t number k) h.after) (sym same) (after b w number event name t k s h))
   comes step note b w number link name there t k s here same (inr (e, shows, silent)) =
-      (w, inl (refl, inr silent), subst (λ (n : Text). Shows plan certificate (with_done b n t number k) w) (sym same) (nothing b w number link name t k s here e shows))
+      (w, inl (refl, inr silent), subst (λ (n : Text). ShowsWorld plan certificate (with_done b n t number k) w) (sym same) (nothing b w number link name t k s here e shows))
 
-  pub skips : (step : WorldStep) (b new : ByteWorld) (w : World) (note : StepNote) → Shows plan certificate b w → Skips b note new → Result_of b step note w new
-  skips step b new w note s (skipped, same) = (w, inl (refl, inl skipped), subst (λ (c : ByteWorld). Shows plan certificate c w) (sym same) s)
+  pub skips : (step : WorldStep) (b new : ByteWorld) (w : World) (note : StepNote) → ShowsWorld plan certificate b w → Skips b note new → Result_of b step note w new
+  skips step b new w note s (skipped, same) = (w, inl (refl, inl skipped), subst (λ (c : ByteWorld). ShowsWorld plan certificate c w) (sym same) s)
 
   -- ---- an end that does nothing
 
@@ -129,7 +129,7 @@ module _ (plan : Network) (certificate : Certificate) where
       let P : List ℕ → Type 0 = λ l. ShowsLink plan certificate (record { caller = k.caller; receiver = k.receiver; to_caller = l; to_receiver = k.to_receiver }) link in
       subst P (sym (append-nil k.to_caller)) shows)
 
-  module _ (certified : IsCertified plan certificate) (b : ByteWorld) (w : World) (s : Shows plan certificate b w) (number : ℕ) (link : Link) (k : Channel) (has : map_of.get b.links number ≡ Some k) (here : IsLink w number link) (shows : ShowsLink plan certificate k link) where
+  module _ (certified : IsCertified plan certificate) (b : ByteWorld) (w : World) (s : ShowsWorld plan certificate b w) (number : ℕ) (link : Link) (k : Channel) (has : map_of.get b.links number ≡ Some k) (here : IsLink w number link) (shows : ShowsLink plan certificate k link) where
     from_is : caller_of k ≡ link.caller
     from_is = shows.from.1
 

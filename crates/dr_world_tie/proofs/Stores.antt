@@ -20,7 +20,7 @@ use Rattle.dr_pdu.specs.declared.pdu.Pdv.{Pdv}
 use Rattle.dr_pdu.specs.Written.{Fits, MeetsLimit, written}
 use Rattle.dr_dimse.specs.declared.message.Body.TheVariants as body
 use Rattle.dr_dimse.specs.declared.command.Command.TheVariants.{StoreRq, StoreRsp}
-use Rattle.dr_dimse.specs.Taking.{Stage as Taken, Idle as NothingTaken, Takes}
+use Rattle.dr_dimse.specs.Taking.{MessageStage as Taken, Idle as NothingTaken, Takes}
 use Rattle.dr_nego.specs.declared.agreed.Agreed.{Agreed}
 use Rattle.dr_nego.specs.Agreeing.{pair_at}
 use Rattle.dr_ledger.specs.PlanRoutes.{plan_routing}

@@ -22,7 +22,7 @@ use Rattle.dr_dimse.specs.declared.message.Message.{Message}
 use Rattle.dr_dimse.specs.declared.message.Body.TheVariants as body
 use Rattle.dr_dimse.specs.declared.fault.DimseFault.{DimseFault}
 use Rattle.dr_dimse.specs.declared.fault.DimseFault.TheVariants as dimse
-use Rattle.dr_dimse.specs.Taking.{Stage as Taken, Takes}
+use Rattle.dr_dimse.specs.Taking.{MessageStage as Taken, Takes}
 use Rattle.dr_dimse.proofs.OneTake.{one_take}
 use Rattle.dr_ledger.specs.declared.content.Job.{Job}
 use Rattle.dr_ledger.specs.Items.{IsItem, ReadsItem}

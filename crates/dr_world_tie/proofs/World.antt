@@ -39,7 +39,7 @@ use Rattle.dr_world_tie.specs.Channels.{Channel, ShowsLink}
 use Rattle.dr_world_tie.specs.Ties.{IsDeskOf, IsOpened, with_desk}
 use Rattle.dr_world_tie.specs.Closing.{IsEnded, closed}
 use Rattle.dr_world_tie.specs.ByteWorlds.{ByteWorld, beginning, WorldStep, Submit, Open, Away, Push, Move, Abort, Release, Close, Late, Restart, Requeue, Drop, Forget, Tick, Refuse, StepNote, DoesIf, LinkStep, SettlesDue, Steps, Opens, Closes, is_over, caller_of, receiver_of, with_done, with_call, opened_between}
-use Rattle.dr_world_tie.specs.Shown.{ComesAbout, Shows, ShowsAt, Comes, WorldStepsAreEvents, RunsOf, RunsKeepTheHeadline, WhatIsKeptStaysKept}
+use Rattle.dr_world_tie.specs.Shown.{ComesAbout, ShowsWorld, ShowsAt, Comes, WorldStepsAreEvents, RunsOf, RunsKeepTheHeadline, WhatIsKeptStaysKept}
 use Rattle.dr_world_tie.specs.Nodes.{GivesUpAt}
 use Rattle.dr_world_tie.proofs.Others.{shown_link}
 use Rattle.dr_site.proofs.Assembled.{is_site}
@@ -52,7 +52,7 @@ use Rattle.dr_world_tie.proofs.Pendings.{some_is_pending, none_is_pending}
 use Rattle.dr_world_tie.proofs.Closing.{closing_is_close}
 use Rattle.dr_world_tie.proofs.Shown.{Result_of, after, at_node, skips, moved, pushed, released, aborted, delayed}
 
-module _ (plan : Network) (certificate : Certificate) (certified : IsCertified plan certificate) (b new : ByteWorld) (w : World) (note : StepNote) (s : Shows plan certificate b w) where
+module _ (plan : Network) (certificate : Certificate) (certified : IsCertified plan certificate) (b new : ByteWorld) (w : World) (note : StepNote) (s : ShowsWorld plan certificate b w) where
   abbrev Res : WorldStep → Type 0
   Res step = ∥ Result_of plan certificate b step note w new ∥₁
 
@@ -74,11 +74,11 @@ module _ (plan : Network) (certificate : Certificate) (certified : IsCertified p
       let c1 : IsEnded (LedgerStep plan link.caller) k.caller.core late (mid link.caller) x t = subst (λ (n : Text). IsEnded (LedgerStep plan n) k.caller.core late (mid n) x t) from c in
       let h = closing_is_close plan certificate w number link k (mid link.caller) (b.desks link.receiver) here (still link.caller) (s.desks link.receiver) shows late early (late_is ∙ sym s.time) (early_is ∙ sym s.time) x y t u c1 r1 in
       let mid_world : ByteWorld = with_call b (receiver_of k) u in
-      let shown : Shows plan certificate mid_world w = record { time = s.time; opened = s.opened; desks = still; links = s.links } in
-      let result : Shows plan certificate (with_done mid_world link.caller t number (closed k x y)) h.1.1.after = after plan certificate mid_world w number (event.Close number h.1.0) link.caller t (closed k x y) shown h.1.1 in
-      let named : Shows plan certificate (with_done mid_world (caller_of k) t number (closed k x y)) h.1.1.after =
-      subst (λ (n : Text). Shows plan certificate (with_done mid_world n t number (closed k x y)) h.1.1.after) (sym from) result in
-      (h.1.1.after, inr (event.Close number h.1.0, refl, h.1.1.step), subst (λ (z : ByteWorld). Shows plan certificate z h.1.1.after) (sym is) named)
+      let shown : ShowsWorld plan certificate mid_world w = record { time = s.time; opened = s.opened; desks = still; links = s.links } in
+      let result : ShowsWorld plan certificate (with_done mid_world link.caller t number (closed k x y)) h.1.1.after = after plan certificate mid_world w number (event.Close number h.1.0) link.caller t (closed k x y) shown h.1.1 in
+      let named : ShowsWorld plan certificate (with_done mid_world (caller_of k) t number (closed k x y)) h.1.1.after =
+      subst (λ (n : Text). ShowsWorld plan certificate (with_done mid_world n t number (closed k x y)) h.1.1.after) (sym from) result in
+      (h.1.1.after, inr (event.Close number h.1.0, refl, h.1.1.step), subst (λ (z : ByteWorld). ShowsWorld plan certificate z h.1.1.after) (sym is) named)
 
   close_if : (number : ℕ) (k : Channel) (link : Link) → IsLink w number link → ShowsLink plan certificate k link → (go : Bool) → DoesIf go b note new (Closes plan b number k new) → Res (Close number)
   close_if number k link here shows true h = ∣ closes number k link here shows h.1 ∣₁
@@ -93,7 +93,7 @@ module _ (plan : Network) (certificate : Certificate) (certified : IsCertified p
     | inr apart ↦ sym (ap (λ (x : Bool). if x then b.desks name else b.desks other) apart)
   ]
 
-  uncalled : (name : Text) (v : World) → Shows plan certificate (with_call b name (b.desks name)) v → Shows plan certificate b v
+  uncalled : (name : Text) (v : World) → ShowsWorld plan certificate (with_call b name (b.desks name)) v → ShowsWorld plan certificate b v
   uncalled name v h = record {
     time = h.time;
     opened = h.opened;
@@ -102,7 +102,7 @@ module _ (plan : Network) (certificate : Certificate) (certified : IsCertified p
   }
 
   settled_due : (from to uid : Text) (answer : Answer) (t : Desk) → HasNode plan from → LedgerStep plan from (b.desks from) (Settle uid to Broken b.time) (Settling answer) t →
-      (v : World) × Comes plan b (Away from to) note w v × Shows plan certificate (with_call b from t) v
+      (v : World) × Comes plan b (Away from to) note w v × ShowsWorld plan certificate (with_call b from t) v
   settled_due from to uid answer t is_node call =
       let now = subst (λ (time : ℕ). LedgerStep plan from (b.desks from) (Settle uid to Broken time) (Settling answer) t) (sym s.time) call in
       let h = staying_away_is_stay_away plan w from uid to (b.desks from) t answer is_node (s.desks from) now in
@@ -114,14 +114,14 @@ module _ (plan : Network) (certificate : Certificate) (certified : IsCertified p
       Result_of plan certificate b (Away from to) note w new
   untold from to answer is_node call is =
       let d = settled_due from to [] answer (b.desks from) is_node call in
-      (d.0, d.1, subst (λ (z : ByteWorld). Shows plan certificate z d.0) (sym is) (uncalled from d.0 d.2))
+      (d.0, d.1, subst (λ (z : ByteWorld). ShowsWorld plan certificate z d.0) (sym is) (uncalled from d.0 d.2))
 
   stayed : (from to : Text) → HasNode plan from → (due : Result (Option Text) LedgerFault) → Reads due (Dues (b.desks from).book to b.time) → SettlesDue plan b from to due note new →
       Result_of plan certificate b (Away from to) note w new
   stayed from to is_node (Ok None) told h = skips plan certificate (Away from to) b new w note s h
   stayed from to is_node (Ok (Some uid)) told (answer, t, call, noted, is) =
       let d = settled_due from to uid answer t is_node call in
-      (d.0, d.1, subst (λ (z : ByteWorld). Shows plan certificate z d.0) (sym is) d.2)
+      (d.0, d.1, subst (λ (z : ByteWorld). ShowsWorld plan certificate z d.0) (sym is) d.2)
   stayed from to is_node (Err fault.Store) told h = untold from to (Err fault.Store) is_node (refl, inl refl) h.1
   stayed from to is_node (Err fault.Memory) told h = untold from to (Err fault.Memory) is_node (refl, refl) h.1
   stayed from to is_node (Err fault.NoLine) told h = absurd told
@@ -154,14 +154,14 @@ module _ (plan : Network) (certificate : Certificate) (certified : IsCertified p
       } in
       let a = opens_are_asks plan certificate w from to k goes opened in
       let world : ByteWorld = record { time = b.time; desks = b.desks; links = map_of.insert b.links (b.opened + 1) k; opened = b.opened + 1 } in
-      let shown : Shows plan certificate world (asked w from to) = record {
+      let shown : ShowsWorld plan certificate world (asked w from to) = record {
         time = s.time;
         opened = ap (λ (n : ℕ). n + 1) s.opened;
         desks = s.desks;
         links = λ other. (let P : ℕ → Type 0 = λ n. ShowsAt plan certificate (map_of.get (map_of.insert b.links n k) other) (map_of.get (map_of.insert w.links (w.opened + 1) (new_link from to)) other) in
             subst P (ap (λ (n : ℕ). n + 1) s.opened) (by_number other (same_or_not numbers other (w.opened + 1)) k a.3));
       } in
-      (asked w from to, inr (Ask from to, (refl, refl), (goes, refl)), subst (λ (z : ByteWorld). Shows plan certificate z (asked w from to)) (sym is) shown)
+      (asked w from to, inr (Ask from to, (refl, refl), (goes, refl)), subst (λ (z : ByteWorld). ShowsWorld plan certificate z (asked w from to)) (sym is) shown)
     where
       by_number : (other : ℕ) → (other ≡ w.opened + 1) ⊎ (eq_by_cmp nat_cmp other (w.opened + 1) ≡ false) → (k : Channel) → ShowsLink plan certificate k (new_link from to)
           → ShowsAt plan certificate (map_of.get (map_of.insert b.links (w.opened + 1) k) other) (map_of.get (map_of.insert w.links (w.opened + 1) (new_link from to)) other)
@@ -185,23 +185,23 @@ module _ (plan : Network) (certificate : Certificate) (certified : IsCertified p
   each (Submit node item) (inr h) = ∣ skips plan certificate (Submit node item) b new w note s h.1 ∣₁
   each (Submit node item) (inl (is_node, (reply, t, call, noted, is))) =
       let h = submitting_takes plan w node item (b.desks node) t reply is_node (s.desks node) call in
-      ∣ (h.after, inr (Take node (instance_of item) reply, (refl, refl), h.step), subst (λ (z : ByteWorld). Shows plan certificate z h.after) (sym is) (at_node plan certificate b w (Take node (instance_of item) reply) node t s h)) ∣₁
+      ∣ (h.after, inr (Take node (instance_of item) reply, (refl, refl), h.step), subst (λ (z : ByteWorld). ShowsWorld plan certificate z h.after) (sym is) (at_node plan certificate b w (Take node (instance_of item) reply) node t s h)) ∣₁
   each (Away from to) (inr h) = ∣ skips plan certificate (Away from to) b new w note s h.1 ∣₁
   each (Away from to) (inl (is_node, (due, told, done))) = ∣ stayed from to is_node due told done ∣₁
   each (Requeue node uid dest) (inr h) = ∣ skips plan certificate (Requeue node uid dest) b new w note s h.1 ∣₁
   each (Requeue node uid dest) (inl (is_node, (answer, t, call, noted, is))) =
       let h = requeueing_is_requeue plan w node uid dest (b.desks node) t answer is_node (s.desks node) call in
-      ∣ (h.after, inr (event.Requeue node uid dest answer, (refl, refl, refl), h.step), subst (λ (z : ByteWorld). Shows plan certificate z h.after) (sym is) (at_node plan certificate b w (event.Requeue node uid dest answer) node t s h)) ∣₁
+      ∣ (h.after, inr (event.Requeue node uid dest answer, (refl, refl, refl), h.step), subst (λ (z : ByteWorld). ShowsWorld plan certificate z h.after) (sym is) (at_node plan certificate b w (event.Requeue node uid dest answer) node t s h)) ∣₁
   each (Drop node uid dest) (inr h) = ∣ skips plan certificate (Drop node uid dest) b new w note s h.1 ∣₁
   each (Drop node uid dest) (inl (is_node, (answer, t, call, noted, is))) =
       let now = subst (λ (time : ℕ). GivesUpAt (b.desks node) uid dest time answer t) (sym s.time) call in
       let h = giving_up_is_drop plan w node uid dest (b.desks node) t answer is_node (s.desks node) now in
       let it : Event = event.Drop node uid dest answer in
-      ∣ (h.after, inr (it, (refl, refl, refl), h.step), subst (λ (z : ByteWorld). Shows plan certificate z h.after) (sym is) (at_node plan certificate b w it node t s h)) ∣₁
+      ∣ (h.after, inr (it, (refl, refl, refl), h.step), subst (λ (z : ByteWorld). ShowsWorld plan certificate z h.after) (sym is) (at_node plan certificate b w it node t s h)) ∣₁
   each (Forget node uid) (inr h) = ∣ skips plan certificate (Forget node uid) b new w note s h.1 ∣₁
   each (Forget node uid) (inl (is_node, inl (under_way, noted, is))) =
       let silent = some_is_pending plan certificate b w s node uid under_way in
-      let shown = subst (λ (z : ByteWorld). Shows plan certificate z w) (sym is) s in
+      let shown = subst (λ (z : ByteWorld). ShowsWorld plan certificate z w) (sym is) s in
       ∣ (w, inl (refl, inr silent), shown) ∣₁
   each (Forget node uid) (inl (is_node, inr (none, (answer, t, call, noted, is)))) =
       let free = none_is_pending plan certificate b w s node uid none in
@@ -209,17 +209,17 @@ module _ (plan : Network) (certificate : Certificate) (certified : IsCertified p
       let h = forgetting_is_forget plan w node uid old t answer is_node free (s.desks node) call in
       let it : Event = event.Forget node uid answer in
       let shown = at_node plan certificate b w it node t s h in
-      let now = subst (λ (z : ByteWorld). Shows plan certificate z h.after) (sym is) shown in
+      let now = subst (λ (z : ByteWorld). ShowsWorld plan certificate z h.after) (sym is) shown in
       ∣ (h.after, inr (it, (refl, refl), h.step), now) ∣₁
   each (Refuse node) (inr h) = ∣ skips plan certificate (Refuse node) b new w note s h.1 ∣₁
   each (Refuse node) (inl (is_node, (noted, is))) =
       let h = refusing_is_refuse plan w node (b.desks node) is_node (s.desks node) in
-      ∣ (h.after, inr (event.Refuse node, refl, h.step), subst (λ (z : ByteWorld). Shows plan certificate z h.after) (sym is) (at_node plan certificate b w (event.Refuse node) node (desk (b.desks node).book true) s h)) ∣₁
+      ∣ (h.after, inr (event.Refuse node, refl, h.step), subst (λ (z : ByteWorld). ShowsWorld plan certificate z h.after) (sym is) (at_node plan certificate b w (event.Refuse node) node (desk (b.desks node).book true) s h)) ∣₁
   each (Tick ms) (noted, is) =
       ∣ (
         passed w ms,
         inr (event.Tick ms, refl, refl),
-        subst (λ (z : ByteWorld). Shows plan certificate z (passed w ms)) (sym is)
+        subst (λ (z : ByteWorld). ShowsWorld plan certificate z (passed w ms)) (sym is)
             (record { time = ap (λ (n : ℕ). min (n + ms) (2 ^ 62)) s.time; opened = s.opened; desks = s.desks; links = s.links }),
       ) ∣₁
   each (Restart node) (inr h) = ∣ skips plan certificate (Restart node) b new w note s h.1 ∣₁
@@ -232,7 +232,7 @@ world_steps plan certificate certified b new w step note s h = each plan certifi
 
 -- a world beside the bytes, to which events lead, and of which the four claims hold
 abbrev IsGood : Network → Certificate → ByteWorld → Type 0
-IsGood plan certificate b = (w : World) × Shows plan certificate b w × IsSafe plan w × ComesAbout plan w
+IsGood plan certificate b = (w : World) × ShowsWorld plan certificate b w × IsSafe plan w × ComesAbout plan w
 
 -- one event behind others
 runs_more : (plan : Network) (events : List Event) (e : Event) (a w v : World) →
@@ -284,7 +284,7 @@ come_lasting plan certificate certified b step note w v safe (inr (e, named, h))
 
 -- a world beside the bytes, and one from which it came
 abbrev Lasting : Network → Certificate → World → ByteWorld → Type 0
-Lasting plan certificate v c = (w : World) × Shows plan certificate c w × IsSafe plan w × Lasts v w
+Lasting plan certificate v c = (w : World) × ShowsWorld plan certificate c w × IsSafe plan w × Lasts v w
 
 run_lasting : (plan : Network) (certificate : Certificate) → IsCertified plan certificate → (v : World) (steps : List WorldStep) (b new : ByteWorld) → ∥ Lasting plan certificate v b ∥₁ → RunsOf plan certificate b steps new
     → ∥ Lasting plan certificate v new ∥₁
@@ -298,7 +298,7 @@ run_lasting plan certificate certified v (step ∷ steps) b new good (note, mid,
       lasts_on v g.0 r.0 g.3 (come_lasting plan certificate certified b step note g.0 r.0 g.2 r.1),
     )))) rest
 
-pub beside_beginning : (plan : Network) (certificate : Certificate) → Shows plan certificate beginning start
+pub beside_beginning : (plan : Network) (certificate : Certificate) → ShowsWorld plan certificate beginning start
 beside_beginning plan certificate = record {
   time = refl;
   opened = refl;

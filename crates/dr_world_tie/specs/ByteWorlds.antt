@@ -45,7 +45,7 @@ use Rattle.dr_world_model.specs.Worlds.{same_text}
 use Rattle.dr_world_model.specs.Calls.{Reply, Answer}
 use Rattle.dr_world_model.specs.Events.{HasNode}
 use Rattle.dr_world_tie.specs.Desks.{Desk, LedgerStep}
-use Rattle.dr_world_tie.specs.Channels.{Terminal, Channel, site_of}
+use Rattle.dr_world_tie.specs.Channels.{LiveTerminal, Channel, site_of}
 use Rattle.dr_world_tie.specs.Ties.{with_desk, caller_did, receiver_did, caller_read, receiver_read}
 use Rattle.dr_world_tie.specs.Moves.{IsLeft}
 use Rattle.dr_world_tie.specs.Nodes.{RequeuesAt, GivesUpAt, ForgetsAt}
@@ -202,7 +202,7 @@ acts_late c now = next_expired c.phase now || (is_impatient c now && has_cell Ab
 
 -- so many of at most n bytes are moved: never past the end of the PDU at the front, and as many of
 -- it as may be
-abbrev pub IsMoved : Terminal → List ℕ → ℕ → ℕ → Type 0
+abbrev pub IsMoved : LiveTerminal → List ℕ → ℕ → ℕ → Type 0
 IsMoved t wire n m =
     (m ≤ n)
     × ((front : Pdu) (left : List ℕ)

@@ -16,7 +16,7 @@ use Rattle.dr_world_model.specs.Theorem.{Lasts}
 use Rattle.dr_world_tie.specs.Channels.{Channel}
 use Rattle.dr_world_tie.specs.ByteWorlds.{ByteWorld, WorldStep, StepNote, Steps, beginning}
 use Rattle.dr_world_tie.specs.ByteWorlds.{is_over}
-use Rattle.dr_world_tie.specs.Shown.{Shows}
+use Rattle.dr_world_tie.specs.Shown.{ShowsWorld}
 
 -- both ends of each link are over (PS3.8 9.2.1: Sta1), so that nothing is under way
 abbrev pub AllAreOver : ByteWorld → Type 0
@@ -53,9 +53,9 @@ PlansAreAdopted =
     (plan next : Network) (certificate own : Certificate)
     → IsCertified next own
     → (b new : ByteWorld) (w : World)
-    → Shows plan certificate b w
+    → ShowsWorld plan certificate b w
     → TakesPlan plan b next new
-    → (v : World) × Adopts plan w next v × Shows next own new v
+    → (v : World) × Adopts plan w next v × ShowsWorld next own new v
 
 -- ---- runs
 
@@ -91,7 +91,7 @@ ChangesKeepTheHeadline =
     → IsCertified plan certificate
     → (deeds : List Deed) (last : Network) (its : Certificate) (b : ByteWorld)
     → RunsThrough plan certificate beginning deeds last its b
-    → ∥ ((w : World) × Shows last its b w × ComesThrough plan last w × Headline last w) ∥₁
+    → ∥ ((w : World) × ShowsWorld last its b w × ComesThrough plan last w × Headline last w) ∥₁
 
 -- What a node has and keeps after some deeds it has and keeps after any further ones, unchanged,
 -- and its journal has grown at its end.
@@ -103,8 +103,8 @@ WhatIsKeptStaysThrough =
     → RunsThrough plan certificate beginning deeds mid own b
     → RunsThrough mid own b more last its c
     → ∥ ((v : World) × (w : World)
-    × Shows mid own b v
-    × Shows last its c w
+    × ShowsWorld mid own b v
+    × ShowsWorld last its c w
     × Lasts v w) ∥₁
 
 -- ---- laws

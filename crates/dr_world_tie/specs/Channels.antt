@@ -31,7 +31,7 @@ use Rattle.dr_dimse.specs.declared.message.Body.TheVariants.{Whole}
 use Rattle.dr_dimse.specs.declared.command.Command.{Command}
 use Rattle.dr_dimse.specs.declared.message.Body.{Body}
 use Rattle.dr_dimse.specs.declared.command.Command.TheVariants.{StoreRq, StoreRsp}
-use Rattle.dr_dimse.specs.Taking.{Stage as Taken, Idle, Takes, data_of}
+use Rattle.dr_dimse.specs.Taking.{MessageStage as Taken, Idle, Takes, data_of}
 use Rattle.dr_ledger.specs.declared.item.Instance.{Instance}
 use Rattle.dr_nego.specs.declared.agreed.Pair.{Pair}
 use Rattle.dr_nego.specs.declared.agreed.Agreed.{Agreed}
@@ -72,13 +72,13 @@ abbrev pub site_of : Core → Part
 site_of c = site_in c.site
 
 -- an end, and what it keeps of the bytes that it heard
-pub record Terminal : Type 0 where
+pub record LiveTerminal : Type 0 where
   pub core : Core
   pub ear : Feeding
 
 pub record Channel : Type 0 where
-  pub caller : Terminal
-  pub receiver : Terminal
+  pub caller : LiveTerminal
+  pub receiver : LiveTerminal
   pub to_caller : List ℕ
   pub to_receiver : List ℕ
 
@@ -276,7 +276,7 @@ IsControl p = ⊥
 
 -- The reader keeps the front of it, the wire has the rest: what is under way, and behind it what
 -- the writer wrote as it left.
-pub record Carries (t : Terminal) (wire : List ℕ) (IsComing : List Pdu → Type 0)
+pub record Carries (t : LiveTerminal) (wire : List ℕ) (IsComing : List Pdu → Type 0)
     (writer_on : Bool) : Type 0 where
   pub coming : List Pdu
   pub is : IsComing coming

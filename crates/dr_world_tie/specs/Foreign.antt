@@ -24,7 +24,7 @@ use Rattle.dr_dimse.specs.declared.command.Command.{Command}
 use Rattle.dr_dimse.specs.declared.command.Command.TheVariants.{StoreRq, StoreRsp, EchoRq, EchoRsp}
 use Rattle.dr_dimse.specs.declared.command.Command.TheVariants.{Other as OtherCommand}
 use Rattle.dr_dimse.specs.declared.message.Body.TheVariants.{Whole}
-use Rattle.dr_dimse.specs.Taking.{Stage as Taken, Takes as TakesValue}
+use Rattle.dr_dimse.specs.Taking.{MessageStage as Taken, Takes as TakesValue}
 use Rattle.dr_ledger.specs.declared.content.Job.{Job}
 use Rattle.dr_ledger.specs.declared.fault.LedgerFault.TheVariants.{NotWaiting}
 use Rattle.dr_ledger.specs.declared.item.Instance.{Instance}
@@ -54,7 +54,7 @@ use Rattle.dr_world_model.specs.Events.{AgreeCaller, Receive, Answered, BreakRec
 use Rattle.dr_world_model.specs.Among.{Ours, Act, Own, Other, Calls, Takes, Stores, RunsAmong}
 use Rattle.dr_world_model.specs.Among.{HeadlineAmong}
 use Rattle.dr_world_tie.specs.Desks.{Desk, LedgerStep}
-use Rattle.dr_world_tie.specs.Channels.{Terminal, IsOff, IsListening, IsReceiver, IsSideOf}
+use Rattle.dr_world_tie.specs.Channels.{LiveTerminal, IsOff, IsListening, IsReceiver, IsSideOf}
 use Rattle.dr_world_tie.specs.Channels.{IsControl, bytes_of, contexts_of, message, site_of}
 use Rattle.dr_world_tie.specs.Ties.{IsDeskOf}
 
@@ -99,7 +99,8 @@ pub record IsCalledBy (ours : Ours) (plan : Network) (name : Text) (link : Link)
 
 -- An end of the node of that name, and the number of its link in the message world. It has none
 -- before it has answered a request: then nobody has called by name.
-abbrev pub ShowsForeign : Ours → Network → Certificate → Text → World → Option ℕ → Terminal → Type 0
+abbrev pub ShowsForeign : Ours → Network → Certificate → Text → World → Option ℕ → LiveTerminal
+    → Type 0
 ShowsForeign ours plan certificate name w None t =
     IsSideOf plan certificate name t.core t.ear
     × (IsReceiver true Asking name t.core ⊎ IsOff t.core false)
@@ -230,7 +231,7 @@ NoneCallsAsOurs ours ear piece new =
 
 -- an end of ours with its desk, shown by a world
 pub record StandsIn (ours : Ours) (plan : Network) (certificate : Certificate) (name : Text)
-    (w : World) (number : Option ℕ) (t : Terminal) (s : Desk) : Type 0 where
+    (w : World) (number : Option ℕ) (t : LiveTerminal) (s : Desk) : Type 0 where
   pub own : ours name ≡ true
   pub others : OthersHaveNone ours w
   pub desk : IsDeskOf w name s
@@ -242,7 +243,7 @@ abbrev pub OneInputComes : Type 0
 OneInputComes =
     (ours : Ours) (plan : Network) (certificate : Certificate)
     → IsCertified plan certificate
-    → (name : Text) (w : World) (number : Option ℕ) (k : Terminal) (s : Desk)
+    → (name : Text) (w : World) (number : Option ℕ) (k : LiveTerminal) (s : Desk)
     → StandsIn ours plan certificate name w number k s
     → (moment : Moment) (i : Input)
     → CallsAsNoneOfOurs ours i
@@ -258,7 +259,7 @@ abbrev pub AnyBytesCome : Type 0
 AnyBytesCome =
     (ours : Ours) (plan : Network) (certificate : Certificate)
     → IsCertified plan certificate
-    → (name : Text) (w : World) (number : Option ℕ) (k : Terminal) (s : Desk)
+    → (name : Text) (w : World) (number : Option ℕ) (k : LiveTerminal) (s : Desk)
     → StandsIn ours plan certificate name w number k s
     → (moment : Moment) (piece : List ℕ) (new : Feeding) (x : Effect) (t : Desk)
     → NoneCallsAsOurs ours k.ear piece new
@@ -277,7 +278,7 @@ ClaimsHoldAfterBytes =
     → IsCertified plan certificate
     → (before : List Act) (w : World)
     → RunsAmong ours first start before plan w
-    → (name : Text) (number : Option ℕ) (k : Terminal) (s : Desk)
+    → (name : Text) (number : Option ℕ) (k : LiveTerminal) (s : Desk)
     → ours name ≡ true → IsDeskOf w name s
     → ShowsForeign ours plan certificate name w number k
     → (moment : Moment) (piece : List ℕ) (new : Feeding) (x : Effect) (t : Desk)
@@ -304,7 +305,7 @@ AcceptorsBegin =
 abbrev pub RequestsAreAnswered : Type 0
 RequestsAreAnswered =
     (ours : Ours) (plan : Network) (certificate : Certificate) (name : Text) (w : World)
-    (k : Terminal) (s : Desk)
+    (k : LiveTerminal) (s : Desk)
     → StandsIn ours plan certificate name w None k s
     → IsReceiver true Asking name k.core
     → (moment : Moment) (rq : AssociateRq)
@@ -330,7 +331,7 @@ abbrev pub StoresAreBrought : Type 0
 StoresAreBrought =
     (ours : Ours) (plan : Network) (certificate : Certificate)
     → IsCertified plan certificate
-    → (name : Text) (w : World) (number : ℕ) (k : Terminal) (s : Desk)
+    → (name : Text) (w : World) (number : ℕ) (k : LiveTerminal) (s : Desk)
     → StandsIn ours plan certificate name w (Some number) k s
     → (link : Link)
     → IsLink w number link
@@ -358,7 +359,7 @@ StoresAreBrought =
 abbrev pub NothingUnheardIsStored : Type 0
 NothingUnheardIsStored =
     (ours : Ours) (plan : Network) (certificate : Certificate) (name : Text) (w : World)
-    (number : ℕ) (k : Terminal) (link : Link) (accepted : Contexts) (item : Instance)
+    (number : ℕ) (k : LiveTerminal) (link : Link) (accepted : Contexts) (item : Instance)
     → IsLink w number link
     → link.receiver_connected ≡ true
     → link.stage ≡ Storing accepted item
@@ -369,7 +370,7 @@ NothingUnheardIsStored =
 abbrev pub OursAreNotForeign : Type 0
 OursAreNotForeign =
     (ours : Ours) (plan : Network) (certificate : Certificate) (name : Text) (w : World)
-    (number : ℕ) (k : Terminal) (link : Link)
+    (number : ℕ) (k : LiveTerminal) (link : Link)
     → IsLink w number link
     → ours link.caller ≡ true
     → ShowsForeign ours plan certificate name w (Some number) k

@@ -15,7 +15,7 @@ use Rattle.dr_dimse.specs.declared.command.Command.TheVariants.{StoreRsp}
 use Rattle.dr_dimse.specs.declared.message.Awaited.{Awaited}
 use Rattle.dr_dimse.specs.declared.message.Awaited.TheVariants.{Nothing as NothingAwaited}
 use Rattle.dr_dimse.specs.declared.message.Body.{Body}
-use Rattle.dr_dimse.specs.Taking.{Stage as Taken, Idle, InCommand, InData, IsAwaited}
+use Rattle.dr_dimse.specs.Taking.{MessageStage as Taken, Idle, InCommand, InData, IsAwaited}
 use Rattle.dr_dimse.specs.Taking.{Takes as TakesValue}
 use Rattle.dr_ledger.specs.declared.content.Job.{Job}
 use Rattle.dr_ledger.specs.declared.item.Instance.{Instance}
@@ -41,7 +41,7 @@ use Rattle.dr_world_model.specs.Events.{AgreeCaller, Answered, Ask, BreakCaller,
 use Rattle.dr_world_model.specs.Among.{Ours, Act, Own, Other, Agrees, Replies, RunsAmong}
 use Rattle.dr_world_model.specs.Among.{HeadlineAmong}
 use Rattle.dr_world_tie.specs.Desks.{Desk, LedgerStep}
-use Rattle.dr_world_tie.specs.Channels.{Terminal, IsOff, IsAsking, IsEstablished, HasPending}
+use Rattle.dr_world_tie.specs.Channels.{LiveTerminal, IsOff, IsAsking, IsEstablished, HasPending}
 use Rattle.dr_world_tie.specs.Channels.{IsSideOf, message}
 use Rattle.dr_world_tie.specs.Ties.{IsDeskOf}
 use Rattle.dr_world_tie.specs.Foreign.{OnlyOf, ShowsForeign, WritesControls}
@@ -83,7 +83,7 @@ pub record IsCallOf (ours : Ours) (name : Text) (link : Link) (c : Core) : Type 
   pub stands : CallsAt link.caller_connected link.stage link.receiver c
 
 -- an end of the node of that name, and its link in the message world
-abbrev pub ShowsCall : Ours → Network → Certificate → Text → World → ℕ → Terminal → Type 0
+abbrev pub ShowsCall : Ours → Network → Certificate → Text → World → ℕ → LiveTerminal → Type 0
 ShowsCall ours plan certificate name w number t =
     IsSideOf plan certificate name t.core t.ear
     × ((link : Link) × IsLink w number link × IsCallOf ours name link t.core)
@@ -116,7 +116,7 @@ acts_of_all number (heard ∷ more) = acts_of number heard ++ acts_of_all number
 
 -- an end of ours with its desk, shown by a world
 pub record CallsIn (ours : Ours) (plan : Network) (certificate : Certificate) (name : Text)
-    (w : World) (number : ℕ) (t : Terminal) (s : Desk) : Type 0 where
+    (w : World) (number : ℕ) (t : LiveTerminal) (s : Desk) : Type 0 where
   pub own : ours name ≡ true
   pub desk : IsDeskOf w name s
   pub shows : ShowsCall ours plan certificate name w number t
@@ -134,7 +134,7 @@ abbrev pub OneAnswerComes : Type 0
 OneAnswerComes =
     (ours : Ours) (plan : Network) (certificate : Certificate)
     → IsCertified plan certificate
-    → (name : Text) (w : World) (number : ℕ) (k : Terminal) (s : Desk)
+    → (name : Text) (w : World) (number : ℕ) (k : LiveTerminal) (s : Desk)
     → CallsIn ours plan certificate name w number k s
     → (moment : Moment) → moment.now ≡ w.time → (i : Input) → i ≢ PushAsked
     → (x : Effect) (t : Desk)
@@ -149,7 +149,7 @@ abbrev pub AnyAnswersCome : Type 0
 AnyAnswersCome =
     (ours : Ours) (plan : Network) (certificate : Certificate)
     → IsCertified plan certificate
-    → (name : Text) (w : World) (number : ℕ) (k : Terminal) (s : Desk)
+    → (name : Text) (w : World) (number : ℕ) (k : LiveTerminal) (s : Desk)
     → CallsIn ours plan certificate name w number k s
     → (moment : Moment) → moment.now ≡ w.time
     → (piece : List ℕ) (new : Feeding) (x : Effect) (t : Desk)
@@ -167,7 +167,7 @@ ClaimsHoldAfterAnswers =
     → IsCertified plan certificate
     → (before : List Act) (w : World)
     → RunsAmong ours first start before plan w
-    → (name : Text) (number : ℕ) (k : Terminal) (s : Desk)
+    → (name : Text) (number : ℕ) (k : LiveTerminal) (s : Desk)
     → CallsIn ours plan certificate name w number k s
     → (moment : Moment) → moment.now ≡ w.time
     → (piece : List ℕ) (new : Feeding) (x : Effect) (t : Desk)
@@ -206,7 +206,7 @@ Sends v number Broke acts = WritesControls acts
 abbrev pub OnePushComes : Type 0
 OnePushComes =
     (ours : Ours) (plan : Network) (certificate : Certificate) (name : Text) (w : World)
-    (number : ℕ) (k : Terminal) (s : Desk)
+    (number : ℕ) (k : LiveTerminal) (s : Desk)
     → CallsIn ours plan certificate name w number k s
     → (moment : Moment) → moment.now ≡ w.time → (x : Effect) (t : Desk)
     → Reacts (LedgerStep plan name) k.core (at_moment moment PushAsked) s x t
@@ -249,7 +249,7 @@ abbrev pub ResponsesAreReplies : Type 0
 ResponsesAreReplies =
     (ours : Ours) (plan : Network) (certificate : Certificate)
     → IsCertified plan certificate
-    → (name : Text) (w : World) (number : ℕ) (k : Terminal) (s : Desk)
+    → (name : Text) (w : World) (number : ℕ) (k : LiveTerminal) (s : Desk)
     → CallsIn ours plan certificate name w number k s
     → (link : Link)
     → IsLink w number link
@@ -277,7 +277,8 @@ ResponsesAreReplies =
 abbrev pub NothingUnheardIsAnswered : Type 0
 NothingUnheardIsAnswered =
     (ours : Ours) (plan : Network) (certificate : Certificate) (name : Text) (w : World)
-    (number : ℕ) (k : Terminal) (link : Link) (accepted : Contexts) (item : Instance) (status : ℕ)
+    (number : ℕ) (k : LiveTerminal) (link : Link) (accepted : Contexts) (item : Instance)
+    (status : ℕ)
     → IsLink w number link
     → link.caller_connected ≡ true
     → link.stage ≡ Replying accepted item status
@@ -288,7 +289,7 @@ NothingUnheardIsAnswered =
 abbrev pub CallsToOursAreNotForeign : Type 0
 CallsToOursAreNotForeign =
     (ours : Ours) (plan : Network) (certificate : Certificate) (name : Text) (w : World)
-    (number : ℕ) (k : Terminal) (link : Link)
+    (number : ℕ) (k : LiveTerminal) (link : Link)
     → IsLink w number link
     → ours link.receiver ≡ true
     → ShowsCall ours plan certificate name w number k

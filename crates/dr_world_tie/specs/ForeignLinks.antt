@@ -15,13 +15,13 @@ use Rattle.dr_session.specs.Ends.{Terminal as End, HearsOf}
 use Rattle.dr_world_model.specs.Worlds.{World}
 use Rattle.dr_world_model.specs.Among.{Ours, Act}
 use Rattle.dr_world_tie.specs.Desks.{Desk, LedgerStep}
-use Rattle.dr_world_tie.specs.Channels.{Terminal}
+use Rattle.dr_world_tie.specs.Channels.{LiveTerminal}
 use Rattle.dr_world_tie.specs.Foreign.{Came, ComeAll, NoneCallsAsOurs, StandsIn, WritesControls}
 use Rattle.dr_world_tie.specs.ForeignCalls.{CallsIn, LeadsTo, acts_of_all}
 use Rattle.dr_world_tie.specs.ForeignCalls as calls
 
 -- an end with its memory, as sessions have it
-abbrev pub end_of : Terminal → End
+abbrev pub end_of : LiveTerminal → End
 end_of k = record { ear = k.ear; core = Some k.core }
 
 -- no request that comes names one of ours as its caller
@@ -40,7 +40,7 @@ abbrev pub WhatAcceptorsHear : Type 0
 WhatAcceptorsHear =
     (ours : Ours) (plan : Network) (certificate : Certificate)
     → IsCertified plan certificate
-    → (name : Text) (w : World) (number : Option ℕ) (k : Terminal) (s : Desk)
+    → (name : Text) (w : World) (number : Option ℕ) (k : LiveTerminal) (s : Desk)
     → StandsIn ours plan certificate name w number k s
     → (moment : Moment) (came : Heard) (acts : List LinkAction) (new : End) (t : Desk)
     → NoneComesAsOurs ours k.ear came new.ear
@@ -55,7 +55,7 @@ abbrev pub WhatRequestorsHear : Type 0
 WhatRequestorsHear =
     (ours : Ours) (plan : Network) (certificate : Certificate)
     → IsCertified plan certificate
-    → (name : Text) (w : World) (number : ℕ) (k : Terminal) (s : Desk)
+    → (name : Text) (w : World) (number : ℕ) (k : LiveTerminal) (s : Desk)
     → CallsIn ours plan certificate name w number k s
     → (moment : Moment) → moment.now ≡ w.time
     → (came : Heard) (acts : List LinkAction) (new : End) (t : Desk)

@@ -33,7 +33,7 @@ use Rattle.dr_world_model.specs.Steps.{IsHop, IsLink}
 use Rattle.dr_world_model.specs.Among.{Ours, Act, RunsAmong, HeadlineAmong}
 use Rattle.dr_world_tie.specs.ByteWorlds.{Side, Requestor, Acceptor}
 use Rattle.dr_world_tie.specs.Desks.{Desk, LedgerStep}
-use Rattle.dr_world_tie.specs.Channels.{Terminal}
+use Rattle.dr_world_tie.specs.Channels.{LiveTerminal}
 use Rattle.dr_world_tie.specs.Nodes.{ForgetsAt, GivesUpAt, RequeuesAt}
 use Rattle.dr_world_tie.specs.Ties.{IsDeskOf, with_desk}
 use Rattle.dr_world_tie.specs.Foreign.{ShowsForeign}
@@ -44,7 +44,7 @@ use Rattle.dr_world_tie.specs.ForeignLinks.{NoneComesAsOurs, end_of}
 pub record OwnEnd : Type 0 where
   pub side : Side
   pub node : Text
-  pub terminal : Terminal
+  pub terminal : LiveTerminal
 
 -- the time, the desk of each node, and the ends of connections, by number
 pub record OwnWorld : Type 0 where
@@ -225,7 +225,7 @@ module _ (ours : Ours) (plan : Network) (certificate : Certificate) where
   -- ---- beside which world of messages it stands
 
   -- the end is the receiver or the caller of its link
-  abbrev pub ShowsBy : World → Option ℕ → Side → Text → Terminal → Type 0
+  abbrev pub ShowsBy : World → Option ℕ → Side → Text → LiveTerminal → Type 0
   ShowsBy w at Acceptor node k = ShowsForeign ours plan certificate node w at k
   ShowsBy w at Requestor node k =
       (n : ℕ) × (at ≡ Some n) × ShowsCall ours plan certificate node w n k

@@ -14,11 +14,11 @@ use Rattle.dr_world_model.specs.Steps.{IsLink, others}
 use Rattle.dr_world_model.specs.Events.{Event, AgreeReceiver, AgreeCaller, Receive, Answered}
 use Rattle.dr_world_model.specs.Events.{BreakCaller, BreakReceiver}
 use Rattle.dr_world_tie.specs.Desks.{Desk, LedgerStep}
-use Rattle.dr_world_tie.specs.Channels.{Terminal, Channel, ShowsLink}
+use Rattle.dr_world_tie.specs.Channels.{LiveTerminal, Channel, ShowsLink}
 use Rattle.dr_world_tie.specs.Ties.{IsDeskOf, IsFirst, IsData, Happens, receiver_read, caller_read}
 
 -- these bytes of the PDU at the front are still on the wire
-pub record IsLeft (t : Terminal) (wire : List ℕ) (front : Pdu) (left : List ℕ) : Type 0 where
+pub record IsLeft (t : LiveTerminal) (wire : List ℕ) (front : Pdu) (left : List ℕ) : Type 0 where
   pub first : IsFirst t wire front
   pub joined : t.ear.kept ++ left ≡ written front
   pub some : left ≢ []

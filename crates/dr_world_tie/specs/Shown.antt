@@ -18,7 +18,7 @@ use Rattle.dr_world_model.specs.Events.{Event, Step, Take, Ask, Give, BreakCalle
 use Rattle.dr_world_model.specs.Events as event
 use Rattle.dr_world_model.specs.Claims.{Headline}
 use Rattle.dr_world_model.specs.Theorem.{Lasts}
-use Rattle.dr_world_tie.specs.Channels.{Terminal, Channel, ShowsLink}
+use Rattle.dr_world_tie.specs.Channels.{LiveTerminal, Channel, ShowsLink}
 use Rattle.dr_world_tie.specs.Ties.{IsDeskOf, IsData}
 use Rattle.dr_world_tie.specs.Moves.{IsLeft, IsOfReceiver, IsOfCaller}
 use Rattle.dr_world_tie.specs.ByteWorlds.{ByteWorld, beginning, WorldStep, Submit, Open, Away, Push}
@@ -34,7 +34,7 @@ ShowsAt plan certificate None (Some link) = ⊥
 ShowsAt plan certificate (Some k) None = ⊥
 
 -- the same time, the same books, armed alike, and each link shown
-pub record Shows (plan : Network) (certificate : Certificate) (b : ByteWorld)
+pub record ShowsWorld (plan : Network) (certificate : Certificate) (b : ByteWorld)
     (w : World) : Type 0 where
   pub time : w.time ≡ b.time
   pub opened : w.opened ≡ b.opened
@@ -78,7 +78,7 @@ abbrev pub IsOffAt : World → ℕ → Side → Type 0
 IsOffAt w number side = (link : Link) × IsLink w number link × (is_on side link ≡ false)
 
 -- so few bytes end no message: there is more of the PDU at the front, or it is a value of data
-abbrev pub EndsNone : Terminal → List ℕ → ℕ → Type 0
+abbrev pub EndsNone : LiveTerminal → List ℕ → ℕ → Type 0
 EndsNone t wire n =
     (front : Pdu) × (left : List ℕ) × IsLeft t wire front left × ((n < length left) ⊎ IsData front)
 
@@ -121,9 +121,9 @@ WorldStepsAreEvents =
     (plan : Network) (certificate : Certificate)
     → IsCertified plan certificate
     → (b new : ByteWorld) (w : World) (step : WorldStep) (note : StepNote)
-    → Shows plan certificate b w
+    → ShowsWorld plan certificate b w
     → Steps plan certificate b step note new
-    → ∥ ((v : World) × Comes plan b step note w v × Shows plan certificate new v) ∥₁
+    → ∥ ((v : World) × Comes plan b step note w v × ShowsWorld plan certificate new v) ∥₁
 
 -- steps one after the other
 abbrev pub RunsOf : Network → Certificate → ByteWorld → List WorldStep → ByteWorld → Type 0
@@ -145,7 +145,7 @@ RunsKeepTheHeadline =
     → IsCertified plan certificate
     → (steps : List WorldStep) (b : ByteWorld)
     → RunsOf plan certificate beginning steps b
-    → ∥ ((w : World) × Shows plan certificate b w × ComesAbout plan w × Headline plan w) ∥₁
+    → ∥ ((w : World) × ShowsWorld plan certificate b w × ComesAbout plan w × Headline plan w) ∥₁
 
 -- What a node has and keeps after some steps it has and keeps after any further ones, unchanged,
 -- and its journal has grown at its end.
@@ -157,6 +157,6 @@ WhatIsKeptStaysKept =
     → RunsOf plan certificate beginning steps b
     → RunsOf plan certificate b more c
     → ∥ ((v : World) × (w : World)
-    × Shows plan certificate b v
-    × Shows plan certificate c w
+    × ShowsWorld plan certificate b v
+    × ShowsWorld plan certificate c w
     × Lasts v w) ∥₁

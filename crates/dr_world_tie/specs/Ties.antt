@@ -51,7 +51,8 @@ use Rattle.dr_world_model.specs.Calls.{Reply, Answer}
 use Rattle.dr_world_model.specs.Events.{Event, Step, Ask, AgreeReceiver, AgreeCaller, Give, Receive}
 use Rattle.dr_world_model.specs.Events.{Answered, BreakCaller, BreakReceiver, Restart}
 use Rattle.dr_world_tie.specs.Desks.{Desk, LedgerStep}
-use Rattle.dr_world_tie.specs.Channels.{IsAt, alone, message, Gets, Terminal, Channel, ShowsLink}
+use Rattle.dr_world_tie.specs.Channels.{IsAt, alone, message, Gets, LiveTerminal, Channel}
+use Rattle.dr_world_tie.specs.Channels.{ShowsLink}
 use Rattle.dr_world_tie.specs.Channels.{bytes_of, IsControl, IsOff, IsSideOf, IsAsking, IsReceiver}
 
 -- the desk of a node of the world
@@ -90,7 +91,7 @@ abbrev pub caller_did : Channel → Effect → Channel
 caller_did k x = caller_as k k.to_caller k.caller.ear x
 
 -- the PDU whose bytes come next
-abbrev pub IsFirst : Terminal → List ℕ → Pdu → Type 0
+abbrev pub IsFirst : LiveTerminal → List ℕ → Pdu → Type 0
 IsFirst t wire p =
     (more : List Pdu)
     × (t.ear.kept ++ wire ≡ spellings (p ∷ more))

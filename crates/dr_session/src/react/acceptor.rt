@@ -3,7 +3,7 @@
 ghost use Rattle.std.specs.Prelude.{◌≡◌, ◌∷◌, [], ◌<◌, ◌≤◌, ◌^◌, ◌+◌, IfOk, OnErr, Some, None};
 ghost use Rattle.std.specs.Prelude.{false};
 ghost use Rattle.std.specs.Option.{option_map_or};
-ghost use Rattle.dr_dimse.specs.Written.{Fits};
+ghost use Rattle.dr_dimse.specs.Written.{CommandFits};
 ghost use Rattle.dr_dimse.specs.declared.command.Command.TheVariants.{StoreRq, StoreRsp, EchoRq};
 ghost use Rattle.dr_dimse.specs.declared.command.Command.TheVariants.{EchoRsp, Other};
 ghost use Rattle.dr_nego.specs.declared.agreed.Agreed.{Agreed as AgreedOn};
@@ -56,7 +56,7 @@ fn status(reply: &Result<Arrived, LedgerFault>) -> u16
 
 /// A response in the context, within the limit that was agreed on.
 fn say(alloc: Global, core: &Core, context: u8, command: Command) -> Result<LinkAction, AllocError>
-    requires { Fits command }
+    requires { CommandFits command }
     ensures { IfOk result (λ a. a ≡ says core.now context command) }
 {
     let agreed = Agreed {
@@ -74,7 +74,7 @@ fn reply(
     command: Command,
     core: BoxedCore,
 ) -> Result<Effect, AllocError>
-    requires { Fits command }
+    requires { CommandFits command }
     ensures { IfOk result (λ e. e ≡ effect (says core context command ∷ []) core) }
 {
     let action = say(alloc, core.as_core(), context, command)?;
@@ -100,7 +100,7 @@ fn respond(
     status: u16,
     core: BoxedCore,
 ) -> Result<Effect, AllocError>
-    requires { Fits (StoreRq to.now.id class instance) }
+    requires { CommandFits (StoreRq to.now.id class instance) }
     ensures { IfOk result (λ e. e ≡ stored core to.now.context to.now.id class instance status) }
 {
     let command = Command::StoreRsp {
@@ -130,7 +130,7 @@ fn bring<P: DeskPort>(
     core: BoxedCore,
     port: &mut P,
 ) -> Result<Effect, AllocError>
-    requires { Fits (StoreRq to.now.id class instance) }
+    requires { CommandFits (StoreRq to.now.id class instance) }
     ensures done { IfOk result (λ e. Turns P.step
         (brings core to.now.context to.now.id class instance item) port.old e port.new) }
     ensures broke { OnErr result
@@ -157,7 +157,7 @@ fn store_found<P: DeskPort>(
     core: BoxedCore,
     port: &mut P,
 ) -> Result<Effect, AllocError>
-    requires { Fits (StoreRq to.now.id class instance) }
+    requires { CommandFits (StoreRq to.now.id class instance) }
     ensures done { IfOk result (λ e. Turns P.step
         (arrives core to.now.context to.now.id class instance found) port.old e port.new) }
     ensures broke { OnErr result
@@ -181,7 +181,7 @@ fn store_in<P: DeskPort>(
     core: BoxedCore,
     port: &mut P,
 ) -> Result<Effect, AllocError>
-    requires { Fits (StoreRq to.now.id class instance) }
+    requires { CommandFits (StoreRq to.now.id class instance) }
     ensures done { IfOk result (λ e. Turns P.step
         (stores core to.now.context to.now.of.now to.now.id class instance found) port.old e
         port.new) }
@@ -206,7 +206,7 @@ pub fn store<P: DeskPort>(
     core: BoxedCore,
     port: &mut P,
 ) -> Result<Effect, AllocError>
-    requires { Fits (StoreRq to.now.id class instance) }
+    requires { CommandFits (StoreRq to.now.id class instance) }
     ensures done { IfOk result (λ e. Turns P.step
         (stores core to.now.context to.now.of.now to.now.id class instance found) port.old e
         port.new) }
@@ -241,7 +241,7 @@ pub fn answer_request(
     command: Command,
     core: BoxedCore,
 ) -> Result<Effect, AllocError>
-    requires { Fits command }
+    requires { CommandFits command }
     ensures { IfOk result (λ e. requested core context of command ≡ Ends e) }
 {
     match command {
@@ -273,7 +273,7 @@ fn answer_echo(
     class: Text,
     core: BoxedCore,
 ) -> Result<Effect, AllocError>
-    requires { Fits (EchoRq id class false) }
+    requires { CommandFits (EchoRq id class false) }
     ensures { IfOk result (λ e. e
         ≡ effect (says core context (EchoRsp id (status_of_echo class of) class false) ∷ []) core) }
 {
@@ -295,7 +295,7 @@ fn answer_other(
     status: Option<u16>,
     core: BoxedCore,
 ) -> Result<Effect, AllocError>
-    requires { Fits (Other field id status false) }
+    requires { CommandFits (Other field id status false) }
     ensures { IfOk result (λ e. requested_other core context field id status ≡ Ends e) }
 {
     let Some(id) = id else {
@@ -318,7 +318,7 @@ fn answer_unknown(
     id: u16,
     core: BoxedCore,
 ) -> Result<Effect, AllocError>
-    requires { Fits (Other field (Some id) None false) }
+    requires { CommandFits (Other field (Some id) None false) }
     ensures { IfOk result (λ e. e
         ≡ effect (says core context (Other (0x8000 + field) (Some id) (Some 0x0211) false) ∷ [])
         core) }

@@ -3,7 +3,8 @@ use Rattle.dr_plan_model.specs.Networks.{Network}
 use Rattle.dr_plan_sound.specs.declared.certificate.Certificate.{Certificate}
 use Rattle.dr_plan_sound.specs.declared.certificate.Hop.{Hop}
 use Rattle.dr_plan_sound.specs.Certificates.{IsCertificateOf}
-use Rattle.dr_cert_trace.specs.Found.{AreFound, AreInOrder, Carries}
+use Rattle.dr_cert.specs.Conditions.{AreHopsInOrder}
+use Rattle.dr_cert_trace.specs.Found.{AreFound, Carries}
 use Rattle.dr_cert_trace.proofs.Followed.{is_journey}
 use Rattle.dr_cert_trace.proofs.tracing.follow.Goals as goal
 
@@ -20,4 +21,4 @@ returns c =
     let each : (hop : Hop) → Contains c.in_ok-hops.hops hop ↔ (Contains certificate.hops hop × Carries key pairs hop) =
     subst (λ (hops : List Hop). (hop : Hop) → Contains c.in_ok-hops.hops hop ↔ (Contains hops hop × Carries key pairs hop)) same c.in_ok-hops.ensures.each in
     is_journey plan certificate site key own pairs c.in_ok-pairs.keeps found c.args.rank c.in_ok-hops.hops c.in_ok-keeps.keeps c.requires.enters c.requires.rank
-    each (c.in_ok-hops.ensures.ordered (subst AreInOrder (sym same) own.hops_ordered)) c.in_ok-keeps.ensures.same c.in_ok-keeps.ensures.ordered
+    each (c.in_ok-hops.ensures.ordered (subst AreHopsInOrder (sym same) own.hops_ordered)) c.in_ok-keeps.ensures.same c.in_ok-keeps.ensures.ordered

@@ -6,7 +6,7 @@ use Rattle.dr_plan_core.specs.Reading.{ReadsCore}
 use Rattle.dr_plan_core.specs.declared.fault.PlanFault.{PlanFault}
 use Rattle.dr_plan_core.specs.declared.fault.PlanFault.TheVariants.{Memory as NoMemory}
 use Rattle.dr_plan_core.proofs.OneAnswer.{one_core_answer}
-use Rattle.dr_certify.specs.Certified.{IsCertified, FindsOf}
+use Rattle.dr_certify.specs.Certified.{IsCertifiedCore, FindsOf}
 use Rattle.dr_certify.specs.Laws.{NoPlanHasBoth}
 use Rattle.dr_certify.proofs.Read.{read_once}
 use Rattle.dr_certify.proofs.laws.no_text_has_both.Goals as goal
@@ -20,7 +20,7 @@ unread text plan fault apart reads fails =
     let same : read ≡ refused = one_core_answer text read refused none other reads fails in
     cc same
 
-found : NoPlanHasBoth → (text output : Text) → IsCertified text output → (plan : Network) → ReadsCore text (Ok plan) → FindsOf plan None → ⊥
+found : NoPlanHasBoth → (text output : Text) → IsCertifiedCore text output → (plan : Network) → ReadsCore text (Ok plan) → FindsOf plan None → ⊥
 found no_both text output it plan reads none =
     let P : Network → Type 0 = λ n. FindsOf n None in
     let same : plan ≡ it.plan = read_once text plan it.plan reads it.reads in

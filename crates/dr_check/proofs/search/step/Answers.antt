@@ -7,7 +7,7 @@ use Rattle.dr_plan_sound.specs.declared.certificate.Stop.{Stop}
 use Rattle.dr_plan_sound.specs.Ranked.{SendsOn}
 use Rattle.dr_check.specs.declared.search.Search.{Search}
 use Rattle.dr_check.specs.declared.search.Frame.{Frame}
-use Rattle.dr_check.specs.Searching.{IsNew, IsDone, IsFirstEnd, IsFirstYet}
+use Rattle.dr_check.specs.Searching.{IsNew, IsSearchedThrough, IsFirstEnd, IsFirstYet}
 use Rattle.dr_check.specs.Stacks.{IsTop, IsStack, IsSameFrame, Enters, stop_of_frame}
 use Rattle.dr_check.proofs.Trails.{trail_goes_on}
 use Rattle.dr_check.proofs.Stacked.{new_top, top_finished, top_resumed, stack_resumed, same_stack, begins_pushed, stack_begins}
@@ -92,8 +92,8 @@ returns-in-None c = λ start caller from stack.
     let L : List Frame → Type 0 = λ fs. IsStack c.args.plan.now c.args.cell.now start caller from (reverse fs) c.args.top.now s in
     let here = same_stack c.args.plan.now c.args.cell.now start caller from [] c.args.top.now f s found.0 (subst L none stack) in
     let done = top_finished c.args.plan.now c.args.cell.now f start s new found.1 found.2 here.2 c.in_ok-leave-in-Nothing.ensures in
-    let P : Text → Type 0 = λ a. IsDone c.args.plan.now c.args.cell.now a f.node f.rank start new in
-    let Q : Text → Type 0 = λ b. IsDone c.args.plan.now c.args.cell.now caller b f.rank start new in
+    let P : Text → Type 0 = λ a. IsSearchedThrough c.args.plan.now c.args.cell.now a f.node f.rank start new in
+    let Q : Text → Type 0 = λ b. IsSearchedThrough c.args.plan.now c.args.cell.now caller b f.rank start new in
     subst Q here.1 (subst P here.0 done)
 
 pub returns-in_ok-push-in-End : goal.returns-in_ok-push-in-End

@@ -4,7 +4,7 @@ use Rattle.std.proofs.lemmas.Bool.{eqb-true, eqb-false}
 use Rattle.std.proofs.lemmas.List.{map_push, nil_from_length}
 use Rattle.dr_base.specs.Runs.{Run}
 use Rattle.dr_base.proofs.RunLemmas.{run_more, starts_then}
-use Rattle.dr_dimse.specs.Commands.{Element, StartsElement}
+use Rattle.dr_dimse.specs.Commands.{CommandElement, StartsElement}
 use Rattle.dr_dimse.specs.Reads.{element, elements}
 use Rattle.dr_dimse.proofs.ElementLemmas.{element_parts}
 use Rattle.dr_dimse.proofs.Refusals.{refused}
@@ -15,7 +15,7 @@ returns-in_err-element c =
     let p = err_from_is_err_and c.from_residual.result c.from_residual.ensures.1 in
     let test : eqb (length c.loop-rest.rest.now) 0 ≡ false = sym c.is_empty.ensures ∙ c.loop-rest-test.true in
     let some : c.loop-rest.rest.now ≢ [] = λ e. eqb-false _ _ test (ap length e) in
-    rw (p.1, p.2) (refused _ (λ (x : Element × List ℕ). StartsElement c.loop-rest.rest.now x.0 x.1) (λ es. Run StartsElement es c.args.text.now []) (λ es. starts_then StartsElement element_parts _ es _ _ some c.loop-rest.invariant) c.in_err-element.ensures)
+    rw (p.1, p.2) (refused _ (λ (x : CommandElement × List ℕ). StartsElement c.loop-rest.rest.now x.0 x.1) (λ es. Run StartsElement es c.args.text.now []) (λ es. starts_then StartsElement element_parts _ es _ _ some c.loop-rest.invariant) c.in_err-element.ensures)
 
 pub loop-rest-preserved : goal.loop-rest-preserved
 loop-rest-preserved c =

@@ -1,6 +1,6 @@
 use Rattle.std.proofs.Common.{refl, subst}
 use Rattle.dr_base.specs.Texts.{Text}
-use Rattle.dr_route.specs.Names.{Adds}
+use Rattle.dr_route.specs.Names.{AddsName}
 use Rattle.dr_route.proofs.NameSets.{adds, has_already}
 use Rattle.dr_route.proofs.names.add_name.Goals as goal
 
@@ -9,5 +9,5 @@ returns-then-has_name c = has_already c.args.names.now c.args.name.now (c.if-has
 
 pub returns : goal.returns
 returns c =
-    let A : Text → Type 0 = λ k. Adds c.args.names.now c.insert.new.self k in
+    let A : Text → Type 0 = λ k. AddsName c.args.names.now c.insert.new.self k in
     subst A c.in_ok-clone.ensures (adds c.args.names.now c.insert.new.self c.in_ok-clone.field-0 c.in_ok-insert.ensures.updates)

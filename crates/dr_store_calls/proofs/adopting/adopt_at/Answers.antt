@@ -2,7 +2,7 @@ use Rattle.std.proofs.Common.{◌∙◌, List, ℕ, subst}
 use Rattle.sqlite.specs.Held.{state}
 use Rattle.dr_store_writes.specs.Effects.{HasSite}
 use Rattle.dr_store_changes.specs.Writing.{Written}
-use Rattle.dr_store_calls.specs.Adoptions.{Adopts}
+use Rattle.dr_store_calls.specs.Adoptions.{AdoptsPlan}
 use Rattle.dr_store_calls.proofs.Changes.{OwnedBy, not_adopted, written_adopted}
 use Rattle.dr_store_calls.proofs.adopting.adopt_at.Goals as goal
 
@@ -15,6 +15,6 @@ returns-clause-adopted g c part =
     let r = c.write_plan.result in
     let old = state g.S.Store c.args.conn.now in
     let new = state g.S.Store c.write_plan.new.conn in
-    let Wrote : List ℕ → Type 0 = λ digest. Written n HasSite (Adopts digest n) r old new in
+    let Wrote : List ℕ → Type 0 = λ digest. Written n HasSite (AdoptsPlan digest n) r old new in
     written_adopted n part c.args.next.now old new (λ h. c.write_plan.ensures.idle) c.args.node.now (c.is_name.ensures.0 c.if-not-is_name.false ∙ c.name.ensures) r c.write_plan.ensures.fault
     (subst Wrote c.digest.ensures c.write_plan.ensures.written)

@@ -14,7 +14,7 @@ use Rattle.dr_store_schema.specs.Books.{bodies_of, book_of}
 use Rattle.dr_store_changes.specs.Bringing.{AsksToTake, Brings, names_for}
 use Rattle.dr_store_changes.specs.Changes.{HasRows}
 use Rattle.dr_store_changes.specs.Writing.{Written}
-use Rattle.dr_store_calls.specs.Knowing.{Fits}
+use Rattle.dr_store_calls.specs.Knowing.{FitsTables}
 use Rattle.dr_store_calls.proofs.Calls.{below_of, made_called, unmade_called}
 use Rattle.dr_store_calls.proofs.Fitting.{rows_there}
 use Rattle.dr_store_calls.proofs.Takings.{arrives, arrives_own, takes_none}
@@ -38,7 +38,7 @@ returns-in-Ok-clause-called g c =
     let old = state g.S.Store c.args.conn.now in
     let new = state g.S.Store c.written.new.conn in
     let Made : Instance → List ℕ → List Text → List Text → List Text → Trees → Trees → Type 0 = λ instance body ys ds names. Brings how caller instance body ys ds keeps names n in
-    let Asks : Trees → Type 0 = λ base. Fits how caller item to keep again dests keeps base in
+    let Asks : Trees → Type 0 = λ base. FitsTables how caller item to keep again dests keeps base in
     let Makes : Trees → Trees → Type 0 = λ base db. Arrives (site_routing part) caller (instance_of item) (book_of base) (Ok New) (book_of db) in
     let Answers : Trees → Trees → Type 0 = λ base db. Arrives (site_routing part) caller (instance_of item) (book_of base) (Ok New) (book_of db) × OnlyTakes item (bodies_of base) (bodies_of db) in
     let Wants : List ℕ → List Text → Trees → Type 0 = λ uid ys db. AsksToTake how uid db × HasRows uid ys db in
@@ -68,7 +68,7 @@ returns-in-Err-clause-called g c =
     let old = state g.S.Store c.args.conn.now in
     let new = state g.S.Store c.written.new.conn in
     let Made : Instance → List ℕ → List Text → List Text → List Text → Trees → Trees → Type 0 = λ instance body ys ds names. Brings how caller instance body ys ds keeps names n in
-    let Asks : Trees → Type 0 = λ base. Fits how caller item to keep again dests keeps base in
+    let Asks : Trees → Type 0 = λ base. FitsTables how caller item to keep again dests keeps base in
     let Makes : Trees → Trees → Type 0 = λ base db. Arrives (site_routing part) caller (instance_of item) (book_of base) (Ok New) (book_of db) in
     let e = c.in-Err.fault in
     let Answers : Trees → Trees → Type 0 = λ base db. Arrives (site_routing part) caller (instance_of item) (book_of base) (Err e) (book_of db) × OnlyTakes item (bodies_of base) (bodies_of db) in

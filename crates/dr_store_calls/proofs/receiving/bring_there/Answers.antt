@@ -3,7 +3,7 @@ use Rattle.sqlite.specs.Held.{state}
 use Rattle.sqlite.specs.Tree.{Trees}
 use Rattle.dr_ledger.specs.declared.item.Arrived.TheVariants.{New}
 use Rattle.dr_store_changes.specs.declared.first.Taking.{Taking}
-use Rattle.dr_store_calls.specs.Knowing.{Fits, taking_there}
+use Rattle.dr_store_calls.specs.Knowing.{FitsTables, taking_there}
 use Rattle.dr_store_calls.specs.Receiving.{IsFoundFor, IsThereFor}
 use Rattle.dr_store_calls.proofs.Fitting.{fits_there}
 use Rattle.dr_store_calls.proofs.Takings.{received_as}
@@ -25,7 +25,7 @@ returns-clause-called g c =
     let keeps : ks ≡ (keep && not first.kept) = c.keeps_now-keeps.ensures in
     let it_is = taking_there whole keep ((length again == 0) && (length dests == 0)) in
     let how : t ≡ it_is = c.taking_of-taking.ensures ∙ ap (λ none. taking_there whole keep none) c.are_none-none.ensures in
-    let Wants : Taking → Bool → Trees → Type 0 = λ how k base. Fits how caller item to keep again dests k base in
+    let Wants : Taking → Bool → Trees → Type 0 = λ how k base. FitsTables how caller item to keep again dests k base in
     let Asks : Trees → Type 0 = λ base. IsThereFor came whole false base × IsFoundFor item.uid base first in
     received_as came (state g.S.Store c.args.conn.now) (state g.S.Store c.bring_item.new.conn) New c.bring_item.result (Wants t ks) Asks
     (λ base l it. subst (λ x. Wants x ks base) (sym how) (subst (λ k. Wants it_is k base) (sym keeps)

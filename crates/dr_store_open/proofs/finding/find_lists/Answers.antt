@@ -3,7 +3,7 @@ use Rattle.sqlite.specs.Effect.{Database}
 use Rattle.sqlite.specs.Held.{state}
 use Rattle.dr_store_schema.specs.Ledgers.{IsLedger}
 use Rattle.dr_store_open.specs.declared.listed.WholeLists.{WholeLists}
-use Rattle.dr_store_open.specs.Listed.{AreListsOf}
+use Rattle.dr_store_open.specs.Listed.{AreWholeListsOf}
 use Rattle.dr_store_open.specs.Opening.{IsAgreedIf}
 use Rattle.dr_store_open.proofs.Chains.{asked_failed, asked_then}
 use Rattle.dr_store_open.proofs.finding.find_lists.Goals as goal
@@ -15,8 +15,8 @@ returns-in-Ok g c =
     let mid = state g.S.Store c.list_all.new.conn in
     let new = state g.S.Store c.compare.new.conn in
     let x = c.in-Ok.lists in
-    let One : Database → WholeLists → Type 0 = λ db lists. AreListsOf db.trees lists in
-    let Two : Database → Option ℕ → Type 0 = λ db found. AreListsOf db.trees x → IsAgreedIf part db.trees found in
+    let One : Database → WholeLists → Type 0 = λ db lists. AreWholeListsOf db.trees lists in
+    let Two : Database → Option ℕ → Type 0 = λ db found. AreWholeListsOf db.trees x → IsAgreedIf part db.trees found in
     let Both : Database → Option ℕ → Type 0 = λ db found. IsAgreedIf part db.trees found in
     record {
       asked = asked_then {Asks = IsLedger} {More = IsLedger} old mid new x c.compare.result One Two Both (λ is_open has one. has)

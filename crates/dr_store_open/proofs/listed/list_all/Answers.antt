@@ -7,7 +7,7 @@ use Rattle.dr_store_open.specs.declared.listed.Journal.{Journal}
 use Rattle.dr_store_open.specs.declared.listed.Moves.{Moves}
 use Rattle.dr_store_open.specs.declared.listed.Stock.{Stock}
 use Rattle.dr_store_open.specs.declared.listed.WholeLists.{WholeLists}
-use Rattle.dr_store_open.specs.Listed.{AreListsOf, IsJournalOf, IsMovesOf, IsStockOf}
+use Rattle.dr_store_open.specs.Listed.{AreWholeListsOf, IsJournalOf, IsMovesOf, IsStockOf}
 use Rattle.dr_store_open.proofs.Chains.{of_ledger, then_failed, two_asked}
 use Rattle.dr_store_open.proofs.listed.list_all.Goals as goal
 
@@ -90,7 +90,7 @@ returns g c =
     let n = c.in_ok-_next._next in
     let all : WholeLists = record { stock = stock; moves = moves; journal = journal } in
     record {
-      asked = two_asked old three new tt n all (Three stock moves journal) Numbers (λ db lists. AreListsOf db.trees lists)
+      asked = two_asked old three new tt n all (Three stock moves journal) Numbers (λ db lists. AreWholeListsOf db.trees lists)
           (λ db a b. record { stock = a.0; moves = a.1; journal = a.2; numbers = (n, b.1) })
           (two_asked old two three tt journal tt (Two stock moves) JournalIn (Three stock moves journal) (λ db a b. (a.0, a.1, b))
           (two_asked old one two stock moves tt StockIn MovesIn (Two stock moves) (λ db a b. (a, b)) c.in_ok-stock.ensures.asked c.in_ok-moves.ensures.asked)

@@ -2,7 +2,7 @@ use Rattle.std.proofs.Common.{◌≡◌, [], Global, List, Vec, ℕ, ap, map as 
 use Rattle.std.specs.Borrow.{Bor}
 use Rattle.std.specs.Prelude.{IfOk}
 use Rattle.dr_base.specs.Texts.{Text}
-use Rattle.dr_word_adopt.specs.Endings.{Adopts}
+use Rattle.dr_word_adopt.specs.Endings.{AdoptsFiles}
 use Rattle.dr_word_rehearse.specs.Endings.{Rehearses}
 use Rattle.dr_word_audit.specs.Endings.{EndsAs}
 use Rattle.dr_word_audit.specs.Names.{text_of}
@@ -48,7 +48,7 @@ pub returns-in-Adopt-clause-adopted : goal.returns-in-Adopt-clause-adopted
 unfolding change_of
 returns-in-Adopt-clause-adopted g c = λ change asked.
     let same : asks.Adopt c.in-Adopt.change ≡ asks.Adopt change = sym c.in-Adopt.is ∙ asked in
-    let P : PlanChange → Type 0 = λ files. IfOk c.adopt_files.result (Adopts (g.F.Files.holds c.args.system.files.now) (g.O.Ledgers.opens c.args.system.ledgers.now) g.O.Ledger.Ledger.site g.O.Ledger.Ledger.book g.O.Ledger.Ledger.stands files
+    let P : PlanChange → Type 0 = λ files. IfOk c.adopt_files.result (AdoptsFiles (g.F.Files.holds c.args.system.files.now) (g.O.Ledgers.opens c.args.system.ledgers.now) g.O.Ledger.Ledger.site g.O.Ledger.Ledger.book g.O.Ledger.Ledger.stands files
     (g.W.Write.contents c.args.output.now) (g.W.Write.contents c.adopt_files.new.output)) in
     subst P (ap (change_of change) same) c.adopt_files.ensures
 

@@ -8,11 +8,11 @@ use Rattle.dr_certify.specs.Laws.{NoPlanHasBoth}
 use Rattle.dr_certify.specs.declared.certificate.Refusal.TheVariants as refusal
 use Rattle.dr_run_open.specs.declared.answer.PlanAnswer.{PlanAnswer}
 use Rattle.dr_run_open.specs.declared.answer.PlanAnswer.TheVariants.{Sound, Unsound, NoPlan, TooLarge, Memory}
-use Rattle.dr_word_check.specs.Answers.{IsAnswerTo, IsCertified}
+use Rattle.dr_word_check.specs.Answers.{IsAnswerTo, IsCertifiedText}
 use Rattle.dr_word_check.proofs.Read.{read_once, unread}
 use Rattle.dr_word_check.proofs.laws.certified_texts_are_sound.Goals as goal
 
-sound : NoPlanHasBoth → (text output : Text) → IsCertified text output → (answer : PlanAnswer) → IsAnswerTo text answer → answer ≢ Memory →
+sound : NoPlanHasBoth → (text output : Text) → IsCertifiedText text output → (answer : PlanAnswer) → IsAnswerTo text answer → answer ≢ Memory →
     (printed : Text) × (answer ≡ Sound printed)
 sound none text output it (Sound printed) is some = (printed, refl)
 sound none text output it (Unsound printed why) is some =

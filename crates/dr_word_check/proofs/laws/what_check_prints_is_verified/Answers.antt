@@ -8,14 +8,14 @@ use Rattle.dr_plan_sound.specs.Certificates.{IsCertificateOf}
 use Rattle.dr_cert_text.proofs.Whole.{same_certificate}
 use Rattle.dr_cert.specs.Refusing.{IsRefused}
 use Rattle.dr_cert.proofs.Faultless.{own_is_taken}
-use Rattle.dr_word_check.specs.Answers.{IsCertified}
+use Rattle.dr_word_check.specs.Answers.{IsCertifiedText}
 use Rattle.dr_word_check.proofs.Read.{read_once}
 use Rattle.dr_word_check.specs.Verdicts.{IsVerdictOn}
 use Rattle.dr_word_check.specs.declared.verify.Verification.{Verification}
 use Rattle.dr_word_check.specs.declared.verify.Verification.TheVariants.{Yes, No, Memory}
 use Rattle.dr_word_check.proofs.laws.what_check_prints_is_verified.Goals as goal
 
-verdicts : (text output : Text) → IsCertified text output → (plan : Network) → Reads text (Ok plan) → (verdict : Verification) → IsVerdictOn plan output verdict →
+verdicts : (text output : Text) → IsCertifiedText text output → (plan : Network) → Reads text (Ok plan) → (verdict : Verification) → IsVerdictOn plan output verdict →
     (verdict ≡ Yes) ⊎ (verdict ≡ Memory)
 verdicts text output proved plan reads Yes right = inl refl
 verdicts text output proved plan reads Memory right = inr refl

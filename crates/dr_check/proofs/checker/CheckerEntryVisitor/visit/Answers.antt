@@ -6,7 +6,7 @@ use Rattle.dr_route.specs.declared.key.Key.{Key}
 use Rattle.dr_route.specs.declared.cell.OwnedCell.{OwnedCell}
 use Rattle.dr_plan_sound.specs.Ranked.{line_at}
 use Rattle.dr_plan_model.specs.Networks.{Network}
-use Rattle.dr_check.specs.Searching.{IsDone, IsTrail, IsFirstEnd, GoesOnFrom}
+use Rattle.dr_check.specs.Searching.{IsSearchedThrough, IsTrail, IsFirstEnd, GoesOnFrom}
 use Rattle.dr_check.specs.Stopping.{IsStoppedAt}
 use Rattle.dr_check.proofs.Trails.{trail_begins}
 use Rattle.dr_check.proofs.Steps.{any_cell}
@@ -28,7 +28,7 @@ reach-requires-clause-alone c = c.requires.ready.no_walk
 
 pub returns-in-Rank : goal.returns-in-Rank
 returns-in-Rank c =
-    let done : IsDone c.args.self.now.plan.now c.args.cell.now c.args.self.now.local c.args.site.now c.in-Rank.field-0 c.args.self.now.search c.reach.new.search =
+    let done : IsSearchedThrough c.args.self.now.plan.now c.args.cell.now c.args.self.now.local c.args.site.now c.in-Rank.field-0 c.args.self.now.search c.reach.new.search =
     rw c.in-Rank.is at c.in_ok-reach.ensures in
     let no_walk : c.reach.new.search.path.items ≡ [] = done.path ∙ c.requires.ready.no_walk in
     record {

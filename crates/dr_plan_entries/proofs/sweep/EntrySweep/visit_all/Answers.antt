@@ -6,7 +6,7 @@ use Rattle.dr_route.specs.declared.cell.OwnedCell.{OwnedCell}
 use Rattle.dr_plan_model.specs.Networks.{Network}
 use Rattle.dr_plan_model.specs.declared.plan.Flow.{Flow}
 use Rattle.dr_plan_entries.specs.Entering.{AllBelow, TakesIn, HasSites, WantsAny, WantsSite}
-use Rattle.dr_plan_entries.specs.Visiting.{GoesOn, IsEntryCell}
+use Rattle.dr_plan_entries.specs.Visiting.{VisitorGoesOn, IsEntryCell}
 use Rattle.dr_plan_entries.proofs.Entries.{wanted_entry, entry_wanted}
 use Rattle.dr_plan_entries.proofs.Orders.{by_site, byte_order_is_printed}
 use Rattle.dr_plan_entries.proofs.Visits.{Picks, picked_is, picked_below, one_more, all_of_them, went_on, wants_alike, found_in_row}
@@ -98,7 +98,7 @@ returns g c =
     let plan : Network = c.args.self.now.plan.now in
     let items : List Text = c.as_slice-site-items.result.now in
     let all : take c.loop-site.site-index items ≡ items = take_all c.loop-site.site-index items (omega arith) in
-    let P : List Text → Type 0 = λ xs. GoesOn g.V.EntryVisitor.plan g.V.EntryVisitor.is_ready g.V.EntryVisitor.has_visited g.V.EntryVisitor.shows
+    let P : List Text → Type 0 = λ xs. VisitorGoesOn g.V.EntryVisitor.plan g.V.EntryVisitor.is_ready g.V.EntryVisitor.has_visited g.V.EntryVisitor.shows
     (λ s x. WantsAny plan s x × Contains xs s) c.args.visitor.now c.loop-site.visitor in
     wants_alike g.V.EntryVisitor.plan g.V.EntryVisitor.is_ready g.V.EntryVisitor.has_visited g.V.EntryVisitor.shows
     (WantsAny plan) (IsEntryCell plan) c.args.visitor.now c.loop-site.visitor None (λ s x. (wanted_entry plan s x, entry_wanted plan c.flows.ensures.well_formed s x))

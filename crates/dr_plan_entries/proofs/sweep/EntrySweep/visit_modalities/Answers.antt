@@ -5,7 +5,7 @@ use Rattle.dr_plan_model.specs.Networks.{Network}
 use Rattle.dr_plan_model.specs.declared.plan.Flow.{Flow}
 use Rattle.dr_plan_sound.specs.Printed.{printed_field}
 use Rattle.dr_plan_entries.specs.Entering.{Admits, AllBelow, WantsSyntax, WantsModality}
-use Rattle.dr_plan_entries.specs.Visiting.{GoesOn}
+use Rattle.dr_plan_entries.specs.Visiting.{VisitorGoesOn}
 use Rattle.dr_plan_entries.proofs.Orders.{by_modality}
 use Rattle.dr_plan_entries.proofs.Visits.{Picks, picked_is, picked_below, one_more, all_of_them, went_on, found_in_row}
 use Rattle.dr_plan_entries.specs.Listing.{IsStationRow}
@@ -78,7 +78,7 @@ pub returns : goal.returns
 returns g c =
     let items : List OwnedField = c.args.row.now in
     let all : take c.loop-modality.modality-index items ≡ items = take_all c.loop-modality.modality-index items (omega arith) in
-    let P : List OwnedField → Type 0 = λ xs. GoesOn g.V.EntryVisitor.plan g.V.EntryVisitor.is_ready g.V.EntryVisitor.has_visited g.V.EntryVisitor.shows
+    let P : List OwnedField → Type 0 = λ xs. VisitorGoesOn g.V.EntryVisitor.plan g.V.EntryVisitor.is_ready g.V.EntryVisitor.has_visited g.V.EntryVisitor.shows
     (λ s x. WantsSyntax c.args.self.now.plan.now c.args.entrance.now.site.now c.args.entrance.now.class.now c.args.entrance.now.syntax c.args.among.now s x × Contains xs (x.modality)) c.args.visitor.now c.loop-modality.visitor in
     all_of_them g.V.EntryVisitor.plan g.V.EntryVisitor.is_ready g.V.EntryVisitor.has_visited g.V.EntryVisitor.shows (λ s x. x.modality) (WantsSyntax c.args.self.now.plan.now c.args.entrance.now.site.now c.args.entrance.now.class.now c.args.entrance.now.syntax c.args.among.now)
     items c.args.visitor.now c.loop-modality.visitor (subst P all c.loop-modality.invariant)

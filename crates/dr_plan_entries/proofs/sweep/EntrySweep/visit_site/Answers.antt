@@ -4,7 +4,7 @@ use Rattle.dr_base.specs.Texts.{Text, IsInByteOrder}
 use Rattle.dr_plan_model.specs.Networks.{Network}
 use Rattle.dr_plan_model.specs.declared.plan.Flow.{Flow}
 use Rattle.dr_plan_entries.specs.Entering.{AllBelow, HasClasses, WantsSite, WantsClass}
-use Rattle.dr_plan_entries.specs.Visiting.{GoesOn}
+use Rattle.dr_plan_entries.specs.Visiting.{VisitorGoesOn}
 use Rattle.dr_plan_entries.proofs.Orders.{by_class, byte_order_is_printed}
 use Rattle.dr_plan_entries.proofs.Visits.{Picks, picked_is, picked_below, one_more, all_of_them, went_on, found_in_row}
 use Rattle.dr_plan_entries.proofs.Wanted.{class_in, class_out}
@@ -69,7 +69,7 @@ pub returns : goal.returns
 returns g c =
     let items : List Text = c.as_slice-class-items.result.now in
     let all : take c.loop-class.class-index items ≡ items = take_all c.loop-class.class-index items (omega arith) in
-    let P : List Text → Type 0 = λ xs. GoesOn g.V.EntryVisitor.plan g.V.EntryVisitor.is_ready g.V.EntryVisitor.has_visited g.V.EntryVisitor.shows
+    let P : List Text → Type 0 = λ xs. VisitorGoesOn g.V.EntryVisitor.plan g.V.EntryVisitor.is_ready g.V.EntryVisitor.has_visited g.V.EntryVisitor.shows
     (λ s x. WantsSite c.args.self.now.plan.now c.args.site.now c.args.among.now s x × Contains xs (x.class)) c.args.visitor.now c.loop-class.visitor in
     all_of_them g.V.EntryVisitor.plan g.V.EntryVisitor.is_ready g.V.EntryVisitor.has_visited g.V.EntryVisitor.shows (λ s x. x.class) (WantsSite c.args.self.now.plan.now c.args.site.now c.args.among.now)
     items c.args.visitor.now c.loop-class.visitor (subst P all c.loop-class.invariant)

@@ -3,7 +3,7 @@ use Rattle.std.proofs.lemmas.List.{take_more, take_all}
 use Rattle.dr_route.specs.declared.cell.OwnedStation.{OwnedStation}
 use Rattle.dr_plan_sound.specs.Printed.{printed_station}
 use Rattle.dr_plan_entries.specs.Entering.{WantsModality, WantsStation}
-use Rattle.dr_plan_entries.specs.Visiting.{GoesOn}
+use Rattle.dr_plan_entries.specs.Visiting.{VisitorGoesOn}
 use Rattle.dr_plan_entries.proofs.Orders.{by_station}
 use Rattle.dr_plan_entries.proofs.Visits.{one_more, all_of_them, went_on, found_in_row}
 use Rattle.dr_plan_entries.proofs.sweep.EntrySweep.visit_stations.Goals as goal
@@ -36,7 +36,7 @@ pub returns : goal.returns
 returns g c =
     let items : List OwnedStation = c.args.row.now in
     let all : take c.loop-station.station-index items ≡ items = take_all c.loop-station.station-index items (omega arith) in
-    let P : List OwnedStation → Type 0 = λ xs. GoesOn g.V.EntryVisitor.plan g.V.EntryVisitor.is_ready g.V.EntryVisitor.has_visited g.V.EntryVisitor.shows
+    let P : List OwnedStation → Type 0 = λ xs. VisitorGoesOn g.V.EntryVisitor.plan g.V.EntryVisitor.is_ready g.V.EntryVisitor.has_visited g.V.EntryVisitor.shows
     (λ s x. WantsModality c.args.self.now.plan.now c.args.entrance.now.site.now c.args.entrance.now.class.now c.args.entrance.now.syntax c.args.modality.now c.args.among.now s x × Contains xs (x.station)) c.args.visitor.now c.loop-station.visitor in
     all_of_them g.V.EntryVisitor.plan g.V.EntryVisitor.is_ready g.V.EntryVisitor.has_visited g.V.EntryVisitor.shows (λ s x. x.station) (WantsModality c.args.self.now.plan.now c.args.entrance.now.site.now c.args.entrance.now.class.now c.args.entrance.now.syntax c.args.modality.now c.args.among.now)
     items c.args.visitor.now c.loop-station.visitor (subst P all c.loop-station.invariant)

@@ -1,7 +1,7 @@
 use Rattle.sqlite.specs.Held.{state}
 use Rattle.sqlite.specs.Tree.{Trees}
 use Rattle.dr_store_writes.specs.Effects.{GoesOn}
-use Rattle.dr_store_changes.specs.Bringing.{AsksToTake, KeepsIf, TakesIn, Then}
+use Rattle.dr_store_changes.specs.Bringing.{AsksToTake, KeepsIf, TakesInItem, Then}
 use Rattle.dr_store_changes.specs.Changes.{AddsRows, HasRows, NotesArrival, Renews}
 use Rattle.dr_store_changes.proofs.FirstOnes.{rows_untouched}
 use Rattle.dr_store_changes.proofs.Movements.{goes_over}
@@ -16,7 +16,7 @@ returns-clause-step g c =
     let old = state g.S.Store c.args.tx.now.conn.now in
     let mid = state g.S.Store c.take_from.new.tx.conn.now in
     let new = state g.S.Store c.queue.new.tx.conn.now in
-    let Taken : Trees → Trees → Type 0 = Then (TakesIn it.taking it.item.now it.body.now) (NotesArrival (it.caller.now, uid)) in
+    let Taken : Trees → Trees → Type 0 = Then (TakesInItem it.taking it.item.now it.body.now) (NotesArrival (it.caller.now, uid)) in
     let Queued : Trees → Trees → Type 0 = Then (Then (Renews uid again) (AddsRows uid it.dests.now)) (KeepsIf uid it.keeps) in
     one_then old mid new c.in_ok-take_from.field-0 _ (AsksToTake it.taking uid old.now.trees × HasRows uid again old.now.trees) (GoesOn old mid × Taken old.now.trees mid.now.trees) (HasRows uid again mid.now.trees)
     (GoesOn mid new × Queued mid.now.trees new.now.trees) (GoesOn old new × Then Taken Queued old.now.trees new.now.trees)
