@@ -1,40 +1,23 @@
 //! The lines of a report.
-ghost use Rattle.std.specs.Prelude.{◌≡◌, ◌++◌, ◌∷◌, [], OnOk, flat_map, decimal};
+ghost use Rattle.std.specs.Prelude.{◌≡◌, ◌++◌, ◌∷◌, [], OnOk, flat_map};
 ghost use Rattle.dr_ledger_report.specs.Reports.{arrival_line, cause_field, kept_line, name_line};
 ghost use Rattle.dr_ledger_report.specs.Reports.{moment_field, next_field, progress_fields};
 ghost use Rattle.dr_ledger_report.specs.Reports.{report_of, row_line};
 
 use dr_base::Text;
+use dr_base::fields::{add_field, add_number};
 use dr_ledger::{Cause, Progress};
 use std::alloc::AllocError;
 
-const TAB: u8 = 9;
-
 const LF: u8 = 10;
-
-/// Adds a field behind the one before it.
-pub fn put_field(out: &mut Vec<u8>, field: &[u8]) -> Result<(), AllocError>
-    ensures { OnOk result (out.new.items ≡ out.old.items ++ next_field field.now) }
-{
-    out.push(TAB)?;
-    out.extend_from_slice(field)
-}
-
-/// Adds a number as a field.
-pub fn put_number(out: &mut Vec<u8>, number: u64) -> Result<(), AllocError>
-    ensures { OnOk result (out.new.items ≡ out.old.items ++ next_field (decimal number)) }
-{
-    let mut digits = itoa::Buffer::new();
-    put_field(out, digits.format(number).as_bytes())
-}
 
 /// Adds a moment as a field (milliseconds), and a hyphen where there is none.
 pub fn put_moment(out: &mut Vec<u8>, moment: Option<u64>) -> Result<(), AllocError>
     ensures { OnOk result (out.new.items ≡ out.old.items ++ next_field (moment_field moment)) }
 {
     match moment {
-        Some(moment) => put_number(out, moment),
-        None => put_field(out, b"-"),
+        Some(moment) => add_number(out, moment),
+        None => add_field(out, b"-"),
     }
 }
 
@@ -47,9 +30,9 @@ fn put_cause(out: &mut Vec<u8>, cause: Cause) -> Result<(), AllocError>
             let bytes = status.to_be_bytes();
             let alloc = *out.allocator();
             let digits = hex::encode_upper(alloc, bytes.as_slice())?;
-            put_field(out, digits.as_bytes())
+            add_field(out, digits.as_bytes())
         }
-        Cause::NoContext => put_field(out, b"no-context"),
+        Cause::NoContext => add_field(out, b"no-context"),
     }
 }
 
@@ -60,16 +43,16 @@ fn put_progress(out: &mut Vec<u8>, progress: Progress) -> Result<(), AllocError>
 {
     match progress {
         Progress::Waiting { tries, due } => {
-            put_field(out, b"waiting")?;
-            put_number(out, tries as u64)?;
-            put_number(out, due)
+            add_field(out, b"waiting")?;
+            add_number(out, tries as u64)?;
+            add_number(out, due)
         }
         Progress::Held(cause) => {
-            put_field(out, b"held")?;
+            add_field(out, b"held")?;
             put_cause(out, cause)
         }
-        Progress::Done => put_field(out, b"done"),
-        Progress::Dropped => put_field(out, b"dropped"),
+        Progress::Done => add_field(out, b"done"),
+        Progress::Dropped => add_field(out, b"dropped"),
     }
 }
 
@@ -78,8 +61,8 @@ fn put_arrival(out: &mut Vec<u8>, caller: &Text, uid: &Text) -> Result<(), Alloc
     ensures { OnOk result (out.new.items ≡ out.old.items ++ arrival_line (caller.now, uid.now)) }
 {
     out.extend_from_slice(b"arrival")?;
-    put_field(out, caller.as_bytes())?;
-    put_field(out, uid.as_bytes())?;
+    add_field(out, caller.as_bytes())?;
+    add_field(out, uid.as_bytes())?;
     out.push(LF)?;
     Ok(())
 }
@@ -89,8 +72,8 @@ fn put_kept(out: &mut Vec<u8>, uid: &Text, bytes: u64) -> Result<(), AllocError>
     ensures { OnOk result (out.new.items ≡ out.old.items ++ kept_line (uid.now, bytes)) }
 {
     out.extend_from_slice(b"kept")?;
-    put_field(out, uid.as_bytes())?;
-    put_number(out, bytes)?;
+    add_field(out, uid.as_bytes())?;
+    add_number(out, bytes)?;
     out.push(LF)?;
     Ok(())
 }
@@ -101,8 +84,8 @@ fn put_row(out: &mut Vec<u8>, uid: &Text, dest: &Text, progress: Progress) -> Re
         (out.new.items ≡ out.old.items ++ row_line ((uid.now, dest.now), progress)) }
 {
     out.extend_from_slice(b"row")?;
-    put_field(out, uid.as_bytes())?;
-    put_field(out, dest.as_bytes())?;
+    add_field(out, uid.as_bytes())?;
+    add_field(out, dest.as_bytes())?;
     put_progress(out, progress)?;
     out.push(LF)?;
     Ok(())
@@ -143,7 +126,7 @@ pub fn put_name(out: &mut Vec<u8>, name: &Text) -> Result<(), AllocError>
     ensures { OnOk result (out.new.items ≡ out.old.items ++ name_line name.now) }
 {
     out.extend_from_slice(b"node")?;
-    put_field(out, name.as_bytes())?;
+    add_field(out, name.as_bytes())?;
     out.push(LF)?;
     Ok(())
 }
@@ -165,7 +148,7 @@ pub fn put_report(
     put_all_kept(out, kept)?;
     put_rows(out, rows)?;
     out.extend_from_slice(b"lines")?;
-    put_number(out, lines)?;
+    add_number(out, lines)?;
     out.push(LF)?;
     Ok(())
 }

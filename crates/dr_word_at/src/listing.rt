@@ -3,7 +3,8 @@ ghost use Rattle.dr_run_ask.specs.Conversations.{OnlyReads};
 
 use crate::shown::{number_in, put_queue, put_row, text_in};
 use dr_base::Text;
-use dr_ledger_report::{put_name, put_number};
+use dr_base::fields::add_number;
+use dr_ledger_report::put_name;
 use dr_run_ask::{
     AskFault, Asks, HttpAnswer, HttpCall, first_value, refusal, rows_form, text_at, value_of,
 };
@@ -206,7 +207,7 @@ pub(crate) fn list_of<A: Asks>(
 /// Adds the line of a kind, with how many there are.
 fn put_count(out: &mut Vec<u8>, word: &str, count: u64) -> Result<(), AllocError> {
     out.extend_from_slice(word.as_bytes())?;
-    put_number(out, count)?;
+    add_number(out, count)?;
     out.push(LF)?;
     Ok(())
 }

@@ -8,7 +8,8 @@ ghost use Rattle.dr_run_ask.specs.Lines.{number_at, text_at};
 ghost use Rattle.dr_word_at.specs.Printing.{IsHeld, IsStage, IsWaiting, ShowsProgress};
 ghost use Rattle.dr_word_at.specs.Printing.{ShowsQueue, ShowsRow, queue_line};
 
-use dr_ledger_report::{put_field, put_moment, put_number};
+use dr_base::fields::{add_field, add_number};
+use dr_ledger_report::put_moment;
 use dr_run_ask::{AskFault, number_at, text_at};
 use serde_json::Value;
 use std::alloc::AllocError;
@@ -43,7 +44,7 @@ pub(crate) fn text_in<'v>(value: &'v Value, name: &str) -> Result<&'v str, AskFa
 fn put_text(out: &mut Vec<u8>, text: &str) -> Result<(), AllocError>
     ensures { OnOk result (out.new.items ≡ out.old.items ++ next_field text.now) }
 {
-    put_field(out, text.as_bytes())
+    add_field(out, text.as_bytes())
 }
 
 /// How many rows to a node wait, are held and are done, and from when on the first one is due.
@@ -68,8 +69,8 @@ fn put_counted(out: &mut Vec<u8>, word: &[u8], count: u64) -> Result<(), AllocEr
     ensures { OnOk result
         (out.new.items ≡ out.old.items ++ (next_field word.now ++ next_field (decimal count))) }
 {
-    put_field(out, word)?;
-    put_number(out, count)
+    add_field(out, word)?;
+    add_number(out, count)
 }
 
 /// Adds the line of the rows to a node, of which there are so many.
@@ -83,7 +84,7 @@ fn put_counts(out: &mut Vec<u8>, dest: &str, counted: Counted) -> Result<(), All
     put_counted(out, b"waiting", counted.waiting)?;
     put_counted(out, b"held", counted.held)?;
     put_counted(out, b"done", counted.done)?;
-    put_field(out, b"oldest")?;
+    add_field(out, b"oldest")?;
     put_moment(out, counted.due)?;
     put_end(out)?;
     Ok(())
@@ -121,9 +122,9 @@ fn put_waiting(out: &mut Vec<u8>, value: &Value) -> Result<(), AskFault>
 {
     let tries = number_in(value, "tries")?;
     let due = number_in(value, "due")?;
-    put_field(out, b"waiting")?;
-    put_number(out, tries)?;
-    put_number(out, due)?;
+    add_field(out, b"waiting")?;
+    add_number(out, tries)?;
+    add_number(out, due)?;
     Ok(())
 }
 
@@ -135,7 +136,7 @@ fn put_held(out: &mut Vec<u8>, value: &Value) -> Result<(), AskFault>
         × (out.new.items ≡ out.old.items ++ flat_map next_field fields)) }
 {
     let cause = text_in(value, "cause")?;
-    put_field(out, b"held")?;
+    add_field(out, b"held")?;
     put_text(out, cause)?;
     Ok(())
 }
@@ -145,7 +146,7 @@ fn put_alone(out: &mut Vec<u8>, field: &[u8]) -> Result<(), AskFault>
     ensures { OnOk result
         (out.new.items ≡ out.old.items ++ flat_map next_field (field.now ∷ [])) }
 {
-    put_field(out, field)?;
+    add_field(out, field)?;
     Ok(())
 }
 

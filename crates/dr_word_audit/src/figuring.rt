@@ -5,7 +5,7 @@ ghost use Rattle.dr_word_audit.specs.Figures.{holds_line as line_of_all, node_li
 
 use crate::counting::Figures;
 use dr_base::Text;
-use dr_ledger_report::{put_field, put_number};
+use dr_base::fields::{add_field, add_number};
 use std::alloc::{AllocError, Global};
 
 const LF: u8 = 10;
@@ -15,8 +15,8 @@ fn put_count(out: &mut Vec<u8>, word: &[u8], count: usize) -> Result<(), AllocEr
     ensures { OnOk result
         (out.new.items ≡ out.old.items ++ count_fields word.now count) }
 {
-    put_field(out, word)?;
-    put_number(out, count as u64)
+    add_field(out, word)?;
+    add_number(out, count as u64)
 }
 
 /// Adds how much a node has.
@@ -38,7 +38,7 @@ pub fn node_line(alloc: Global, name: &Text, figures: &Figures) -> Result<Text, 
 {
     let mut out = Vec::new(alloc);
     out.extend_from_slice(b"node")?;
-    put_field(&mut out, name.as_bytes())?;
+    add_field(&mut out, name.as_bytes())?;
     put_figures(&mut out, figures)?;
     out.push(LF)?;
     Ok(Text::from_vec(out))
@@ -50,7 +50,7 @@ pub fn holds_line(alloc: Global, count: usize) -> Result<Vec<u8>, AllocError>
 {
     let mut out = Vec::new(alloc);
     out.extend_from_slice(b"holds")?;
-    put_number(&mut out, count as u64)?;
+    add_number(&mut out, count as u64)?;
     out.push(LF)?;
     Ok(out)
 }

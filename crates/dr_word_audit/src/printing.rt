@@ -6,7 +6,7 @@ ghost use Rattle.dr_word_audit.specs.Places.{missing_line as line_of_missing, no
 ghost use Rattle.dr_word_audit.specs.Places.{number_field, short_line as shorter};
 
 use dr_base::Text;
-use dr_ledger_report::{put_field, put_number};
+use dr_base::fields::{add_field, add_number};
 use dr_world_audit::audit::Mismatch;
 use std::alloc::{AllocError, Global};
 
@@ -17,8 +17,8 @@ fn put_place(out: &mut Vec<u8>, number: Option<usize>) -> Result<(), AllocError>
     ensures { OnOk result (out.new.items ≡ out.old.items ++ next_field (number_field number)) }
 {
     match number {
-        Some(number) => put_number(out, number as u64),
-        None => put_field(out, b"-"),
+        Some(number) => add_number(out, number as u64),
+        None => add_field(out, b"-"),
     }
 }
 
@@ -28,8 +28,8 @@ fn line_head(alloc: Global, code: &[u8], node: &Text) -> Result<Vec<u8>, AllocEr
 {
     let mut out = Vec::new(alloc);
     out.extend_from_slice(b"no")?;
-    put_field(&mut out, code)?;
-    put_field(&mut out, node.as_bytes())?;
+    add_field(&mut out, code)?;
+    add_field(&mut out, node.as_bytes())?;
     Ok(out)
 }
 
@@ -55,8 +55,8 @@ fn long_line(
 {
     let mut out = line_head(alloc, code, node)?;
     put_place(&mut out, number)?;
-    put_field(&mut out, uid.as_bytes())?;
-    put_field(&mut out, other.as_bytes())?;
+    add_field(&mut out, uid.as_bytes())?;
+    add_field(&mut out, other.as_bytes())?;
     out.push(LF)?;
     Ok(Text::from_vec(out))
 }

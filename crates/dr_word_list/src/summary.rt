@@ -8,8 +8,9 @@ ghost use Rattle.dr_word_list.specs.Summaries.{AreQueueLines, IsQueueLine, IsSum
 ghost use Rattle.dr_word_list.specs.Summaries.{count_line, queue_line};
 
 use dr_base::Text;
+use dr_base::fields::{add_field, add_number};
 use dr_ledger::{Ledger, LedgerFault, Row};
-use dr_ledger_report::{put_field, put_moment, put_name, put_number};
+use dr_ledger_report::{put_moment, put_name};
 use dr_ledger_views::Stage;
 use dr_ledger_views::listed::{first_due, how_many};
 use dr_run_open::{NextHop, Opened, hops_of};
@@ -22,7 +23,7 @@ fn put_count(out: &mut Vec<u8>, word: &[u8], count: usize) -> Result<(), AllocEr
     ensures { OnOk result (out.new.items ≡ out.old.items ++ count_line word.now count) }
 {
     out.extend_from_slice(word)?;
-    put_number(out, count as u64)?;
+    add_number(out, count as u64)?;
     out.push(LF)?;
     Ok(())
 }
@@ -41,8 +42,8 @@ fn put_stage(
         ++ (next_field word.now
         ++ next_field (decimal (number_of rows.now dest.now (Some stage))))) }
 {
-    put_field(out, word)?;
-    put_number(out, how_many(rows, dest, stage))
+    add_field(out, word)?;
+    add_number(out, how_many(rows, dest, stage))
 }
 
 /// Adds the line of a node to which this one sends, with this moment.
@@ -55,11 +56,11 @@ fn put_queue_line(
     ensures { OnOk result (out.new.items ≡ out.old.items ++ queue_line rows.now dest.now oldest) }
 {
     out.extend_from_slice(b"queue")?;
-    put_field(out, dest.as_bytes())?;
+    add_field(out, dest.as_bytes())?;
     put_stage(out, b"waiting", rows, dest, Stage::Waiting)?;
     put_stage(out, b"held", rows, dest, Stage::Held)?;
     put_stage(out, b"done", rows, dest, Stage::Done)?;
-    put_field(out, b"oldest")?;
+    add_field(out, b"oldest")?;
     put_moment(out, oldest)?;
     out.push(LF)?;
     Ok(())

@@ -11,7 +11,7 @@ ghost use Rattle.dr_word_rehearse.specs.Rehearsals.{halt_of};
 
 use crate::looking::{LedgerLook, Looked};
 use dr_base::Text;
-use dr_ledger_report::put_field;
+use dr_base::fields::add_field;
 use dr_run_files::Failure;
 use dr_run_open::Status;
 use dr_word_adopt::{Halted, tell_stop, unfit_text};
@@ -89,7 +89,7 @@ fn put_word(out: &mut Vec<u8>, word: &[u8], node: &Text) -> Result<(), AllocErro
         (out.new.items ≡ out.old.items ++ line_of word.now (node.now ∷ [])) }
 {
     out.extend_from_slice(word)?;
-    put_field(out, node.as_bytes())?;
+    add_field(out, node.as_bytes())?;
     out.push(LF)?;
     Ok(())
 }

@@ -20,11 +20,11 @@ returns c =
     let m : Text = next_field (moment_field c.args.counted.due) in
     let l : Text = 10 ∷ [] in
     let added = chained old (word ++ name ++ (a ++ b) ++ (e ++ f) ++ (g ++ h) ++ o ++ m) l c.put_moment.new.out.items c.put_end.new.out.items
-    (chained old (word ++ name ++ (a ++ b) ++ (e ++ f) ++ (g ++ h) ++ o) m c.put_field.new.out.items c.put_moment.new.out.items
-    (chained old (word ++ name ++ (a ++ b) ++ (e ++ f) ++ (g ++ h)) o c.put_counted-3.new.out.items c.put_field.new.out.items
+    (chained old (word ++ name ++ (a ++ b) ++ (e ++ f) ++ (g ++ h) ++ o) m c.add_field.new.out.items c.put_moment.new.out.items
+    (chained old (word ++ name ++ (a ++ b) ++ (e ++ f) ++ (g ++ h)) o c.put_counted-3.new.out.items c.add_field.new.out.items
     (chained old (word ++ name ++ (a ++ b) ++ (e ++ f)) (g ++ h) c.put_counted-2.new.out.items c.put_counted-3.new.out.items
     (chained old (word ++ name ++ (a ++ b)) (e ++ f) c.put_counted.new.out.items c.put_counted-2.new.out.items
     (chained old (word ++ name) (a ++ b) c.put_text.new.out.items c.put_counted.new.out.items
     (chained old word name c.extend_from_slice.new.self.items c.put_text.new.out.items
-    c.in_ok-extend_from_slice.ensures.items c.in_ok-put_text.ensures) c.in_ok-put_counted.ensures) c.in_ok-put_counted-2.ensures) c.in_ok-put_counted-3.ensures) c.in_ok-put_field.ensures) c.in_ok-put_moment.ensures) c.in_ok-put_end.ensures in
+    c.in_ok-extend_from_slice.ensures.items c.in_ok-put_text.ensures) c.in_ok-put_counted.ensures) c.in_ok-put_counted-2.ensures) c.in_ok-put_counted-3.ensures) c.in_ok-add_field.ensures) c.in_ok-put_moment.ensures) c.in_ok-put_end.ensures in
     added ∙ ap (λ (x : List ℕ). old ++ x) (as_fields word name a b e f g h o m l)

@@ -9,5 +9,5 @@ returns c =
     let cause = c.in_ok-cause.cause.now in (
       codes "held" ∷ cause ∷ [],
       (cause, c.in_ok-cause.ensures, refl),
-      two_fields c.args.out.now.items (next_field (codes "held")) (next_field cause) c.put_field.new.out.items c.put_text.new.out.items c.in_ok-put_field.ensures c.in_ok-put_text.ensures,
+      two_fields c.args.out.now.items (next_field (codes "held")) (next_field cause) c.add_field.new.out.items c.put_text.new.out.items c.in_ok-add_field.ensures c.in_ok-put_text.ensures,
     )

@@ -10,6 +10,6 @@ returns c =
     let due = c.in_ok-due.due in (
       codes "waiting" ∷ decimal tries ∷ decimal due ∷ [],
       (tries, due, c.in_ok-tries.ensures, c.in_ok-due.ensures, refl),
-      three_fields c.args.out.now.items (next_field (codes "waiting")) (next_field (decimal tries)) (next_field (decimal due)) c.put_field.new.out.items c.put_number.new.out.items c.put_number-2.new.out.items
-          c.in_ok-put_field.ensures c.in_ok-put_number.ensures c.in_ok-put_number-2.ensures,
+      three_fields c.args.out.now.items (next_field (codes "waiting")) (next_field (decimal tries)) (next_field (decimal due)) c.add_field.new.out.items c.add_number.new.out.items c.add_number-2.new.out.items
+          c.in_ok-add_field.ensures c.in_ok-add_number.ensures c.in_ok-add_number-2.ensures,
     )

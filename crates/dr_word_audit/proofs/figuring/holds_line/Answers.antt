@@ -11,5 +11,5 @@ returns c =
     let number : Text = next_field (decimal c.args.count) in
     let l : Text = 10 ∷ [] in
     let first = behind [] word c.new-out.result.items c.extend_from_slice.new.self.items c.new-out.ensures.items c.in_ok-extend_from_slice.ensures.items in
-    behind (word ++ number) l c.put_number.new.out.items c.push.new.self.items
-    (behind word number c.extend_from_slice.new.self.items c.put_number.new.out.items first c.in_ok-put_number.ensures) c.in_ok-push.ensures.items
+    behind (word ++ number) l c.add_number.new.out.items c.push.new.self.items
+    (behind word number c.extend_from_slice.new.self.items c.add_number.new.out.items first c.in_ok-add_number.ensures) c.in_ok-push.ensures.items

@@ -23,13 +23,13 @@ returns c =
     let o : Text = next_field (codes "oldest") in
     let m : Text = next_field (moment_field c.args.oldest) in
     let l : Text = 10 ∷ [] in
-    let named = c.in_ok-put_field.ensures ∙ ap (λ (t : Text). c.extend_from_slice.new.self.items ++ next_field t) c.as_bytes.ensures in
+    let named = c.in_ok-add_field.ensures ∙ ap (λ (t : Text). c.extend_from_slice.new.self.items ++ next_field t) c.as_bytes.ensures in
     let added = chained old (word ++ name ++ (a ++ b) ++ (e ++ f) ++ (g ++ h) ++ o ++ m) l c.put_moment.new.out.items c.push.new.self.items
-    (chained old (word ++ name ++ (a ++ b) ++ (e ++ f) ++ (g ++ h) ++ o) m c.put_field-2.new.out.items c.put_moment.new.out.items
-    (chained old (word ++ name ++ (a ++ b) ++ (e ++ f) ++ (g ++ h)) o c.put_stage-3.new.out.items c.put_field-2.new.out.items
+    (chained old (word ++ name ++ (a ++ b) ++ (e ++ f) ++ (g ++ h) ++ o) m c.add_field-2.new.out.items c.put_moment.new.out.items
+    (chained old (word ++ name ++ (a ++ b) ++ (e ++ f) ++ (g ++ h)) o c.put_stage-3.new.out.items c.add_field-2.new.out.items
     (chained old (word ++ name ++ (a ++ b) ++ (e ++ f)) (g ++ h) c.put_stage-2.new.out.items c.put_stage-3.new.out.items
     (chained old (word ++ name ++ (a ++ b)) (e ++ f) c.put_stage.new.out.items c.put_stage-2.new.out.items
-    (chained old (word ++ name) (a ++ b) c.put_field.new.out.items c.put_stage.new.out.items
-    (chained old word name c.extend_from_slice.new.self.items c.put_field.new.out.items
-    c.in_ok-extend_from_slice.ensures.items named) c.in_ok-put_stage.ensures) c.in_ok-put_stage-2.ensures) c.in_ok-put_stage-3.ensures) c.in_ok-put_field-2.ensures) c.in_ok-put_moment.ensures) c.in_ok-push.ensures.items in
+    (chained old (word ++ name) (a ++ b) c.add_field.new.out.items c.put_stage.new.out.items
+    (chained old word name c.extend_from_slice.new.self.items c.add_field.new.out.items
+    c.in_ok-extend_from_slice.ensures.items named) c.in_ok-put_stage.ensures) c.in_ok-put_stage-2.ensures) c.in_ok-put_stage-3.ensures) c.in_ok-add_field-2.ensures) c.in_ok-put_moment.ensures) c.in_ok-push.ensures.items in
     added ∙ ap (λ (x : List ℕ). old ++ x) (as_fields word name a b e f g h o m l)
