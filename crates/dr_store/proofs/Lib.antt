@@ -1,7 +1,6 @@
 pub mod Admits
 pub mod Adopts
 pub mod Among
-pub mod Found
 pub mod Looks
 pub mod Nexts
 pub mod Replies

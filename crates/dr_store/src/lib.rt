@@ -10,7 +10,6 @@
 mod counting;
 mod ledger;
 mod listing;
-mod lookup;
 mod reading;
 mod telling;
 
