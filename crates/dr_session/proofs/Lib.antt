@@ -4,6 +4,7 @@ pub mod Asking
 pub mod Ending
 pub mod Fitting
 pub mod Handing
+pub mod Hopping
 pub mod Idle
 pub mod InTurn
 pub mod Joining

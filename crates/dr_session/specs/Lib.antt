@@ -3,6 +3,7 @@ pub mod Desks
 pub mod Ends
 pub mod Pendings
 pub mod Figures
+pub mod Hops
 pub mod Laws
 pub mod Ledgers
 pub mod Fits
