@@ -1,4 +1,5 @@
 pub mod Acting
+pub mod Differing
 pub mod Effects
 pub mod Asking
 pub mod Ending

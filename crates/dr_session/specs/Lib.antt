@@ -1,5 +1,6 @@
 pub mod Changes
 pub mod Desks
+pub mod Differences
 pub mod Ends
 pub mod Pendings
 pub mod Figures

@@ -16,7 +16,7 @@ use Rattle.dr_nego.specs.Fragments.{spellings}
 use Rattle.dr_nego.specs.Proposing.{echo_proposal}
 use Rattle.dr_session.specs.declared.ends.Core.{Core}
 use Rattle.dr_session.specs.declared.ends.Ended.TheVariants.{Closed}
-use Rattle.dr_session.specs.declared.ends.Found.TheVariants.{Read, Unreadable, TooLarge}
+use Rattle.dr_session.specs.declared.ends.Found.TheVariants.{Read, Nameless, Unreadable, TooLarge}
 use Rattle.dr_session.specs.declared.ends.Moment.{Moment}
 use Rattle.dr_session.specs.declared.ends.Told.{Told}
 use Rattle.dr_session.specs.declared.ends.Told.TheVariants.{Store, Whole}
@@ -87,9 +87,12 @@ pub record StoreAnswers (c : Core) (at : Moment) : Type 0 where
   -- too large: A700H
   pub large : AcceptorWrites 16384 c at (Store 7 image 0x0203 image uid TooLarge)
       (transfer 108 104 7 3 (store_answer 0 0xA7))
-  -- no instance: C000H
+  -- it can't be read: C000H
   pub unreadable : AcceptorWrites 16384 c at (Store 7 image 0x0203 image uid Unreadable)
       (transfer 108 104 7 3 (store_answer 0 0xC0))
+  -- it can be read, and lacks its class or its UID: A900H
+  pub nameless : AcceptorWrites 16384 c at (Store 7 image 0x0203 image uid Nameless)
+      (transfer 108 104 7 3 (store_answer 0 0xA9))
   -- another class than the context's: 0122H
   pub misplaced : AcceptorWrites 16384 c at (Store 3 other 0x0203 image uid Unreadable)
       (transfer 108 104 3 3 (store_answer 0x22 1))
