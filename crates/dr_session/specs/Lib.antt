@@ -2,6 +2,7 @@ pub mod Changes
 pub mod Desks
 pub mod Differences
 pub mod Ends
+pub mod Outcomes
 pub mod Pendings
 pub mod Figures
 pub mod Hops
