@@ -18,7 +18,7 @@ mod port;
 mod react;
 pub mod sessions;
 mod telling;
-mod waiting;
+pub mod waiting;
 pub mod wishes;
 mod writing;
 
