@@ -11,7 +11,7 @@ use crate::fields::{field_before_tab, read_field, read_number, read_station};
 use crate::printed::{Printed, add_station};
 use dr_base::fields::add_field;
 use dr_base::{Syntax, Text};
-use dr_plan_sound::{Line, Stop};
+use dr_plan_sound::{Line, Stop, field_bytes};
 use dr_route::OwnedCell;
 use std::alloc::{AllocError, Global};
 

@@ -1,5 +1,6 @@
 pub mod Apart
 pub mod Carried
+mod Causes
 pub mod Figures
 pub mod Handed
 pub mod Holding

@@ -1,6 +1,6 @@
 //! A desk that threads share.
-ghost use Rattle.std.specs.Prelude.{◌≡◌, ◌<◌, ◌≤◌, ◌+◌, ◌^◌, [], All, IfErr, IfOk, MatchResult};
-ghost use Rattle.std.specs.Prelude.{◌↔◌, IsTrue, OnOk, length, map as mapped, sum_by};
+ghost use Rattle.std.specs.Prelude.{◌≡◌, ◌⊎◌, ◌<◌, ◌≤◌, ◌+◌, ◌^◌, [], All, IfErr, IfOk};
+ghost use Rattle.std.specs.Prelude.{◌↔◌, IsTrue, MatchResult, OnOk, length, map as mapped, sum_by};
 ghost use Rattle.std.specs.FinMap as map;
 ghost use Rattle.std.specs.List.{AllByRecursion, flat_map};
 ghost use Rattle.dr_ledger.specs.Adopting.{Unfits};
@@ -9,7 +9,8 @@ ghost use Rattle.dr_ledger.specs.Histories.{IsJournalled};
 ghost use Rattle.dr_ledger.specs.Items.{instance_of};
 ghost use Rattle.dr_ledger.specs.Pairs.{pair_cmp};
 ghost use Rattle.dr_ledger.specs.Replies.{Admits, AreKept, Arrives, Drops, Dues, Forgets, IsOver};
-ghost use Rattle.dr_ledger.specs.Replies.{Lists, Reads, Requeues, Settles, entry_of};
+ghost use Rattle.dr_ledger.specs.Replies.{HasRisen, Lists, Reads, Requeues, Settles, entry_of};
+ghost use Rattle.dr_ledger.specs.declared.fault.LedgerFault.TheVariants.{Memory, Store};
 ghost use Rattle.dr_ledger.specs.SiteRoutes.{site_routing};
 ghost use Rattle.dr_desk.specs.Agreeing.{AreApart, Fails, IsOfLine, Rises, numbers};
 ghost use Rattle.dr_desk.specs.Answering.{Answers};
@@ -61,6 +62,10 @@ impl<L: Ledger, B: Sharing> SharedDesk<L, B> {
             × (L.book e.1.ledger ≡ L.book desk.ledger)
             × (L.bodies e.1.ledger ≡ L.bodies desk.ledger)) }
         ensures of { IfErr result (λ e. L.site e.1.ledger ≡ site) }
+        ensures stored { IfErr result (λ e. e.0 ≡ Store
+            → HasRisen (L.failed desk.ledger) (L.failed e.1.ledger)) }
+        ensures cause { IfErr result (λ e. L.stands e.1.ledger
+            → (e.0 ≡ Store) ⊎ (e.0 ≡ Memory)) }
     {
         let mut desk = desk;
         let kept = match desk.lines() {

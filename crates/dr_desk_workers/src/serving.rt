@@ -108,133 +108,66 @@ pub fn workers<
         gate,
     };
     let (blank, room) = (Blank::new(PARTS), passes.as_mut_slice());
-    serve_all::<R, L, B, K, C, G, Brand>(&workshop, memory, connections, room, blank)?;
+    workshop.serve_all::<K, C, Brand>(memory, connections, room, blank)?;
     Ok(passes)
 }
 
-/// The same, with a pass for each worker: behind a door of the brand D, so that no guest of another
-/// door can be handed in.
-fn serve_all<
+impl<
+    'a,
     R: Threads + Wait + Sync + time::Clock,
     L: Ledger + Send,
     B: Sharing + Send + Sync,
-    K: Link + Drop + Send,
-    C: Clock + Drop + Send,
     G: Gate + Sync,
-    D: ledger::Ledger + Send,
->(
-    workshop: &Workshop<'_, R, L, B, G>,
-    memory: u64,
-    connections: &Receiver<Connection<K, C>>,
-    passes: &mut [Pass<B>],
-    blank: Blank,
-) -> Result<(), AllocError>
-    requires blank { (blank.name ≡ D.name) × (blank.parts ≡ D.parts) × (D.parts ≡ 265) }
-    requires few { length passes.old ≤ 264 }
-{
-    let (bounds, guests) = Bounds::<D>::new(workshop.alloc, blank, passes.len(), memory)?;
-    start_as_needed(workshop, &bounds, connections, passes, guests);
-    Ok(())
-}
-
-/// Starts a worker, in a thread of its own, whenever no other waits for a connection, one for each
-/// pass at most, until the channel is closed and empty and all of them are back.
-fn start_as_needed<
-    R: Threads + Wait + Sync + time::Clock,
-    L: Ledger + Send,
-    B: Sharing + Send + Sync,
-    K: Link + Drop + Send,
-    C: Clock + Drop + Send,
-    G: Gate + Sync,
-    D: ledger::Ledger + Send,
->(
-    workshop: &Workshop<'_, R, L, B, G>,
-    bounds: &Bounds<D>,
-    connections: &Receiver<Connection<K, C>>,
-    passes: &mut [Pass<B>],
-    guests: Vec<Outside<D>>,
-) {
-    thread::scope(
-        thread::scope_env(),
-        workshop.rt,
-        move |scope|
-            requires { IsSync R.row × IsSend L.row × IsSend B.row × IsSync B.row × IsSend K.row
-                × IsSend C.row × IsSync G.row × IsSend D.row }
-        {
-            let mut begun = 0usize;
-            for (pass, guest) in passes.iter_mut().zip(guests) {
-                if !bounds.staff.admit(workshop.rt) {
-                    return;
-                }
-                let started = scope.spawn(move || work(workshop, bounds, connections, guest, pass));
-                if let Err(refused) = started {
-                    workshop.gate.lacks(begun);
-                    (refused.value)();
-                    return;
-                }
-                begun = begun.saturating_add(1);
-            }
-        },
-    );
-}
-
-/// Serves until the channel is closed and empty.
-fn work<
-    R: Wait + time::Clock,
-    L: Ledger,
-    B: Sharing,
-    K: Link + Drop,
-    C: Clock + Drop,
-    G: Gate,
-    D: ledger::Ledger,
->(
-    workshop: &Workshop<'_, R, L, B, G>,
-    bounds: &Bounds<D>,
-    connections: &Receiver<Connection<K, C>>,
-    guest: Outside<D>,
-    pass: &mut Pass<B>,
-) {
-    let (rt, staff, mut guest) = (workshop.rt, &bounds.staff, guest);
-    for connection in connections.iter(rt) {
-        staff.take(rt);
-        guest = serve(workshop, bounds, connection, guest, pass);
-        staff.give_back(rt);
+> Workshop<'a, R, L, B, G> {
+    /// Runs workers with a pass for each: behind a door of the brand D, so that no guest of another
+    /// door can be handed in.
+    fn serve_all<K: Link + Drop + Send, C: Clock + Drop + Send, D: ledger::Ledger + Send>(
+        &self,
+        memory: u64,
+        connections: &Receiver<Connection<K, C>>,
+        passes: &mut [Pass<B>],
+        blank: Blank,
+    ) -> Result<(), AllocError>
+        requires blank { (blank.name ≡ D.name) × (blank.parts ≡ D.parts) × (D.parts ≡ 265) }
+        requires few { length passes.old ≤ 264 }
+    {
+        let (bounds, guests) = Bounds::<D>::new(self.alloc, blank, passes.len(), memory)?;
+        self.start_as_needed(&bounds, connections, passes, guests);
+        Ok(())
     }
-    staff.end(rt);
-}
 
-/// Serves one connection to its end, however the session ends. The session counts from this moment,
-/// and its length from that at which the connection came. The guest is outside again.
-fn serve<
-    R: Wait + time::Clock,
-    L: Ledger,
-    B: Sharing,
-    K: Link + Drop,
-    C: Clock + Drop,
-    G: Gate,
-    D: ledger::Ledger,
->(
-    workshop: &Workshop<'_, R, L, B, G>,
-    bounds: &Bounds<D>,
-    connection: Connection<K, C>,
-    guest: Outside<D>,
-    pass: &mut Pass<B>,
-) -> Outside<D> {
-    let Connection {
-        session,
-        link,
-        clock,
-    } = connection;
-    workshop.gate.at(session, Point::Taken);
-    let counts = SessionCounts::new(session);
-    let opened = link.opened();
-    let (ended, guest) = receive_gated(workshop, bounds, link, &clock, &counts, guest, pass);
-    workshop.gate.ended(
-        session,
-        ended,
-        counts.tally(clock.now().saturating_sub(opened)),
-    );
-    guest
+    /// Starts a worker, in a thread of its own, whenever no other waits for a connection, one for
+    /// each pass at most, until the channel is closed and empty and all of them are back.
+    fn start_as_needed<K: Link + Drop + Send, C: Clock + Drop + Send, D: ledger::Ledger + Send>(
+        &self,
+        bounds: &Bounds<D>,
+        connections: &Receiver<Connection<K, C>>,
+        passes: &mut [Pass<B>],
+        guests: Vec<Outside<D>>,
+    ) {
+        thread::scope(
+            thread::scope_env(),
+            self.rt,
+            move |scope|
+                requires { IsSync R.row × IsSend L.row × IsSend B.row × IsSync B.row × IsSend K.row
+                    × IsSend C.row × IsSync G.row × IsSend D.row }
+            {
+                let mut begun = 0usize;
+                for (pass, guest) in passes.iter_mut().zip(guests) {
+                    if !bounds.staff.admit(self.rt) {
+                        return;
+                    }
+                    let started = scope.spawn(move || self.work(bounds, connections, guest, pass));
+                    if let Err(refused) = started {
+                        self.gate.lacks(begun);
+                        (refused.value)();
+                        return;
+                    }
+                    begun = begun.saturating_add(1);
+                }
+            },
+        );
+    }
 }
 
 /// The last moment that a clock tells, in milliseconds.
@@ -269,94 +202,122 @@ fn receive_counted<K: CountingLink, P: DeskPort, C: Clock>(
     receive(alloc, link, site, port, clock, others)
 }
 
-/// A link behind a gate, once what comes first is there, and it is its turn at the door: it has the
-/// turn, and what is ahead of its session is what its own connection brought.
-fn at_the_door<
-    'a,
-    R: Wait + time::Clock,
-    L: Ledger,
-    B: Sharing,
-    K: Link + Drop,
-    C: Clock,
-    G: Gate,
-    D: ledger::Ledger,
->(
-    workshop: &'a Workshop<'a, R, L, B, G>,
-    bounds: &'a Bounds<D>,
-    link: K,
-    clock: &C,
-    counts: &'a SessionCounts,
-    guest: Outside<D>,
-) -> GatedLink<'a, R, K, G, D>
-    ensures { HasTurn K.hears link result }
-{
-    let (rt, alloc, gate, session) = (workshop.rt, workshop.alloc, workshop.gate, counts.session);
-    let (mut link, taken) = (link, clock.now());
-    let ahead = ahead_of(alloc, &mut link, gate, clock, taken);
-    let request = request_in(alloc, &ahead);
-    let taken = counted_from(taken, gate.awaits());
-    let turn = bounds.door.lock(rt);
-    let others = turn.count();
-    gate.counted(session, others, &turn);
-    GatedLink {
-        rt,
-        alloc,
-        link,
-        ahead,
-        request,
-        turn: Some(turn),
-        asked: false,
-        guest: guest.into_guest(),
-        others,
-        gate,
-        session,
-        counts,
-        room: &bounds.room,
-        share: Share::new(),
-        warned: false,
-        taken,
-        failures: 0,
+impl<'a, R: Wait + time::Clock, L: Ledger, B: Sharing, G: Gate> Workshop<'a, R, L, B, G> {
+    /// Serves until the channel is closed and empty.
+    fn work<K: Link + Drop, C: Clock + Drop, D: ledger::Ledger>(
+        &self,
+        bounds: &Bounds<D>,
+        connections: &Receiver<Connection<K, C>>,
+        guest: Outside<D>,
+        pass: &mut Pass<B>,
+    ) {
+        let (rt, staff, mut guest) = (self.rt, &bounds.staff, guest);
+        for connection in connections.iter(rt) {
+            staff.take(rt);
+            guest = self.serve(bounds, connection, guest, pass);
+            staff.give_back(rt);
+        }
+        staff.end(rt);
     }
-}
 
-/// A session behind a gate, on a link of the connection that has its turn at the door, and beside
-/// as many others as that link counted. Who was let in is counted out when the session has ended.
-fn receive_gated<
-    'a,
-    R: Wait + time::Clock,
-    L: Ledger,
-    B: Sharing,
-    K: Link + Drop,
-    C: Clock,
-    G: Gate,
-    D: ledger::Ledger,
->(
-    workshop: &'a Workshop<'a, R, L, B, G>,
-    bounds: &'a Bounds<D>,
-    link: K,
-    clock: &C,
-    counts: &SessionCounts,
-    guest: Outside<D>,
-    pass: &mut Pass<B>,
-) -> (Result<Ended, SessionFault>, Outside<D>)
-    ensures { RunsInTurn K.hears ⟦<GatedLink<'a, R, K, G, D> as Link>⟧.hears
-        ⟦<GatedLink<'a, R, K, G, D> as Link>⟧.sends
-        ⟦<GatedLink<'a, R, K, G, D> as Link>⟧.closes
-        ⟦<SessionPort<'a, R, L, B, G> as DeskPort>⟧.step (C.tells clock.now)
-        (λ port. port.pass.now) workshop.now.desk.now.site link pass.old result.0 }
-{
-    let (rt, alloc, desk) = (workshop.rt, workshop.alloc, workshop.desk);
-    let (gate, session) = (workshop.gate, counts.session);
-    let mut link = at_the_door(workshop, bounds, link, clock, counts, guest);
-    let mut port = SessionPort {
-        rt,
-        alloc,
-        desk,
-        pass,
-        gate,
-        session,
-        counts,
-    };
-    let ended = receive_counted(alloc, &mut link, desk.site(), &mut port, clock);
-    (ended, link.leave(&bounds.door))
+    /// Serves one connection to its end, however the session ends. The session counts from this
+    /// moment, and its length from that at which the connection came. The guest is outside again.
+    fn serve<K: Link + Drop, C: Clock + Drop, D: ledger::Ledger>(
+        &self,
+        bounds: &Bounds<D>,
+        connection: Connection<K, C>,
+        guest: Outside<D>,
+        pass: &mut Pass<B>,
+    ) -> Outside<D> {
+        let Connection {
+            session,
+            link,
+            clock,
+        } = connection;
+        self.gate.at(session, Point::Taken);
+        let counts = SessionCounts::new(session);
+        let opened = link.opened();
+        let (ended, guest) = self.receive_gated(bounds, link, &clock, &counts, guest, pass);
+        self.gate.ended(
+            session,
+            ended,
+            counts.tally(clock.now().saturating_sub(opened)),
+        );
+        guest
+    }
+
+    /// A link behind a gate, once what comes first is there, and it is its turn at the door: it has
+    /// the turn, and what is ahead of its session is what its own connection brought.
+    fn at_the_door<K: Link + Drop, C: Clock, D: ledger::Ledger>(
+        &'a self,
+        bounds: &'a Bounds<D>,
+        link: K,
+        clock: &C,
+        counts: &'a SessionCounts,
+        guest: Outside<D>,
+    ) -> GatedLink<'a, R, K, G, D>
+        ensures { HasTurn K.hears link result }
+    {
+        let (rt, alloc, gate, session) = (self.rt, self.alloc, self.gate, counts.session);
+        let (mut link, taken) = (link, clock.now());
+        let ahead = ahead_of(alloc, &mut link, gate, clock, taken);
+        let request = request_in(alloc, &ahead);
+        let taken = counted_from(taken, gate.awaits());
+        let turn = bounds.door.lock(rt);
+        let others = turn.count();
+        gate.counted(session, others, &turn);
+        GatedLink {
+            rt,
+            alloc,
+            link,
+            ahead,
+            request,
+            turn: Some(turn),
+            asked: false,
+            guest: guest.into_guest(),
+            others,
+            gate,
+            session,
+            counts,
+            room: &bounds.room,
+            share: Share::new(),
+            warned: false,
+            taken,
+            failures: 0,
+        }
+    }
+
+    /// A session behind a gate, on a link of the connection that has its turn at the door, and
+    /// beside as many others as that link counted. Who was let in is counted out when the session
+    /// has ended.
+    fn receive_gated<K: Link + Drop, C: Clock, D: ledger::Ledger>(
+        &'a self,
+        bounds: &'a Bounds<D>,
+        link: K,
+        clock: &C,
+        counts: &SessionCounts,
+        guest: Outside<D>,
+        pass: &mut Pass<B>,
+    ) -> (Result<Ended, SessionFault>, Outside<D>)
+        ensures { RunsInTurn K.hears ⟦<GatedLink<'a, R, K, G, D> as Link>⟧.hears
+            ⟦<GatedLink<'a, R, K, G, D> as Link>⟧.sends
+            ⟦<GatedLink<'a, R, K, G, D> as Link>⟧.closes
+            ⟦<SessionPort<'a, R, L, B, G> as DeskPort>⟧.step (C.tells clock.now)
+            (λ port. port.pass.now) self.now.desk.now.site link pass.old result.0 }
+    {
+        let (rt, alloc, desk) = (self.rt, self.alloc, self.desk);
+        let (gate, session) = (self.gate, counts.session);
+        let mut link = self.at_the_door(bounds, link, clock, counts, guest);
+        let mut port = SessionPort {
+            rt,
+            alloc,
+            desk,
+            pass,
+            gate,
+            session,
+            counts,
+        };
+        let ended = receive_counted(alloc, &mut link, desk.site(), &mut port, clock);
+        (ended, link.leave(&bounds.door))
+    }
 }

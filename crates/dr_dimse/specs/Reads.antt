@@ -1,6 +1,6 @@
 -- What the private readers of commands promise.
 use Rattle.std.specs.Prelude.{◌≡◌, Bool, ℕ, List, map, Result, Ok, Err}
-use Rattle.dr_dimse.specs.declared.elements.Element.{CommandElement as Found}
+use Rattle.dr_dimse.specs.declared.elements.Element.{Element as Found}
 use Rattle.dr_dimse.specs.declared.fault.DimseFault.{DimseFault}
 use Rattle.dr_dimse.specs.declared.fault.DimseFault.TheVariants.{BadCommand, Memory}
 use Rattle.dr_dimse.specs.declared.command.Command.{Command}

@@ -7,7 +7,6 @@ pub mod Ledgers
 pub mod Lists
 pub mod Lookups
 pub mod NextDue
-pub mod Searching
 pub mod Steps
 pub mod Trees
 pub mod Uids

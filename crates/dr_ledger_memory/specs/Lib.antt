@@ -5,5 +5,4 @@ pub mod Dues
 pub mod Entries
 pub mod Jobs
 pub mod Sound
-pub mod Tables
 pub mod Unfits

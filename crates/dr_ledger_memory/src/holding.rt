@@ -8,10 +8,10 @@ ghost use Rattle.dr_ledger_memory.specs.Entries.{filled as filled_rows, filled_a
 ghost use Rattle.dr_ledger_memory.specs.Entries.{is_open as is_open_row, needs, row_in};
 
 use crate::held::Held;
-use crate::table::{get, put, set};
 use dr_base::{Octets, Text};
 use dr_ledger::{Instance, Progress};
 use dr_ledger_history::stands;
+use dr_ledger_views::table::{get, put, set};
 use std::alloc::{AllocError, Global};
 
 impl Held {

@@ -6,7 +6,6 @@ mod held;
 mod holding;
 mod ledger;
 mod parts;
-mod table;
 mod waiting;
 
 pub use ledger::MemoryLedger;

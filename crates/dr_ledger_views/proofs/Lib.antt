@@ -6,4 +6,5 @@ mod Pages
 mod Paged
 pub mod Ordered
 pub mod Pairs
+pub mod Searching
 pub mod Sets

@@ -1,3 +1,4 @@
 pub mod Earlier
 pub mod Laws
+pub mod Tables
 pub mod Views

@@ -2,14 +2,15 @@
 //! row is due, rows in pages, and who brought an instance.
 //!
 //! What is shown of the book is said in `specs/Views.antt`. The trait `Views` stands beside
-//! `LetsGo`.
+//! `LetsGo`. In a list whose keys rise, what is of a key is found by a search (`table`).
 #![tactic(auto)]
 
 pub mod laws;
 pub mod listed;
 pub mod listing;
-pub mod stage;
-pub mod views;
+mod stage;
+pub mod table;
+mod views;
 
 pub use stage::{HopTally, Stage};
 pub use views::{Views, tally};

@@ -1,6 +1,5 @@
 //! A node that runs, as its threads have it, and by what means.
 use crate::signal::Signal;
-use crate::stop::Terms;
 use dr_desk::{SharedDesk, Sharing};
 use dr_ledger::Ledger;
 use dr_ledger_timed::Meter;
@@ -25,16 +24,6 @@ impl<'a, D, N, C, G> Clone for Means<'a, D, N, C, G> {
 }
 
 impl<'a, D, N, C, G> Copy for Means<'a, D, N, C, G> {}
-
-/// How a node is to serve: to which hops it sends, on what terms it serves, by what means, and what
-/// times the calls of its ledger.
-#[derive(Drop)]
-pub struct Deployment<'a, D, N, C, G> {
-    pub hops: Vec<NextHop>,
-    pub terms: Terms<'a>,
-    pub means: Means<'a, D, N, C, G>,
-    pub meter: &'a Meter,
-}
 
 /// A node that runs, as all of its threads share it: its desk, the hops to which it sends, what
 /// wakes them, what times the calls of its ledger, and by what they tell the time and what happens.

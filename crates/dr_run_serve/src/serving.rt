@@ -8,7 +8,7 @@ ghost use Rattle.dr_ledger.specs.SiteRoutes.{site_routing};
 use crate::control::{answer_all, passes_of};
 use crate::events::{tell_came, tell_threads, tell_unaccepted};
 use crate::keeper::keep;
-use crate::live::{Deployment, LiveNode, Means};
+use crate::live::{LiveNode, Means};
 use crate::monitor::Monitor;
 use crate::sender::{HopSender, send_rows};
 use crate::shutting::Wake;
@@ -19,7 +19,7 @@ use crate::watch::Watch;
 use crossbeam_channel::{Receiver, Sender, bounded};
 use dr_desk::{CloseFault, Desk, Pass, SharedDesk, Sharing};
 use dr_desk_workers::{Connection, WorkersFault, workers};
-use dr_ledger::LedgerFault;
+use dr_ledger::{Ledger, LedgerFault};
 use dr_ledger_timed::{Meter, Timed};
 use dr_ledger_views::Views;
 use dr_run_net::{Listening, Network};
@@ -140,184 +140,11 @@ fn accept_links<
     true
 }
 
-/// Works until the channel is closed and empty. Where the workers can't begin, nobody receives any
-/// more.
-fn work<
-    'a,
-    R: Threads + Wait + Sync + time::Clock,
-    L: Views + Drop + Send,
-    B: Sharing + Send + Sync,
-    K: Link + Drop + Send,
-    C: Clock + Sync,
-    G: Log + Sync,
->(
-    rt: &R,
-    alloc: Global,
-    from: Receiver<Connection<K, ClockOf<'a, C>>>,
-    desk: &SharedDesk<L, B>,
-    terms: Terms<'_>,
-    watch: &Watch<'_, R, C, G>,
-) -> Result<Vec<Pass<B>>, WorkersFault> {
-    watch.signal.begin(rt);
-    let passes = workers(rt, alloc, terms.workers(), terms.memory, &from, desk, watch);
-    drop(from);
-    watch.signal.end(rt);
-    passes
-}
-
-/// Accepts and serves connections, and tells the signal when there is nothing left to serve.
-fn serve_links<
-    R: Threads + Wait + Sync + time::Clock,
-    L: Views + Drop + Send,
-    B: Sharing + Send + Sync,
-    K: Link + Drop + Send,
-    D: Listening<Socket = K> + Sync,
-    C: Clock + Sync,
-    G: Log + Sync,
->(
-    node: &LiveNode<'_, R, L, B, C, G>,
-    listener: &D,
-    terms: Terms<'_>,
-) -> Result<Vec<Pass<B>>, WorkersFault> {
-    let (rt, alloc, desk) = (node.rt, node.alloc, node.desk);
-    let (signal, clock, log) = (node.signal, node.clock, node.log);
-    let Ok((to, from)) = bounded(alloc, QUEUE) else {
-        signal.end(rt);
-        return Err(WorkersFault::Memory);
-    };
-    let watch = Watch {
-        rt,
-        alloc,
-        signal,
-        clock,
-        log,
-        node: desk.site().name(),
-        request: terms.request(),
-    };
-    let (passes, has_served) = thread::join(
-        rt,
-        ||
-            requires { IsSync R.row × IsSend L.row × IsSend B.row × IsSync B.row × IsSend K.row
-                × IsSync C.row × IsSync G.row }
-        { work(rt, alloc, from, desk, terms, &watch) },
-        || accept_links(rt, listener, to, terms.links, signal, clock, log),
-    );
-    if has_served {
-        passes
-    } else {
-        Err(WorkersFault::Memory)
-    }
-}
-
-/// Sends to each hop, in a thread of its own, as long as somebody serves.
-fn send_all<
-    R: Threads + Wait + Sync + time::Clock,
-    L: Views + Send,
-    B: Sharing + Send + Sync,
-    N: Network + Sync,
-    C: Clock + Sync,
-    G: Log + Sync,
->(node: &LiveNode<'_, R, L, B, C, G>, network: &N, senders: Vec<HopSender<B>>) -> Vec<HopSender<B>>
-where
-    N::Socket: Send,
-    N::Listener: Sync,
-{
-    let mut senders = senders;
-    let count = senders.len();
-    if count > 0 {
-        thread::for_each_mut(
-            node.rt,
-            senders.as_mut_slice(),
-            count,
-            &|number, sender| { send_rows(node, network, sender, number) },
-        );
-    }
-    node.signal.end_sending(node.rt);
-    senders
-}
-
-/// Sends, and tells of the node, side by side.
-fn send_and_keep<
-    R: Threads + Wait + Sync + time::Clock,
-    L: Views + Drop + Send,
-    B: Sharing + Send + Sync,
-    D: Listening + Sync,
-    N: Network + Sync,
-    C: Clock + Sync,
-    G: Monitor + Sync,
->(
-    node: &LiveNode<'_, R, L, B, C, G>,
-    senders: Vec<HopSender<B>>,
-    sweeper: Sweeper<B>,
-    wake: &Wake<'_, D, N>,
-) -> (Vec<HopSender<B>>, Sweeper<B>)
-where
-    N::Socket: Send,
-    N::Listener: Sync,
-{
-    let (network, count) = (wake.network, senders.len());
-    thread::join(
-        node.rt,
-        ||
-            requires { IsSync R.row × IsSend L.row × IsSend B.row × IsSync B.row × IsSync N.row
-                × IsSend N.Socket.row × IsSync N.Listener.row × IsSync C.row × IsSync G.row }
-        { send_all(node, network, senders) },
-        || keep(node, count, sweeper, wake),
-    )
-}
-
 /// What those who serve come back with, and those who send and the one who sweeps.
 type Came<B> = (
     Result<Vec<Pass<B>>, WorkersFault>,
     (Vec<HopSender<B>>, Sweeper<B>),
 );
-
-/// Serves, sends and tells of the node, side by side; the passes of those who serve, those who
-/// send, and the one who sweeps. When that is over, nobody may ask any more.
-fn serve_and_send<
-    R: Threads + Wait + Sync + time::Clock,
-    L: Views + Drop + Send,
-    B: Sharing + Send + Sync,
-    K: Link + Drop + Send,
-    D: Listening<Socket = K> + Sync,
-    N: Network + Sync,
-    C: Clock + Sync,
-    G: Monitor + Sync,
->(
-    node: &LiveNode<'_, R, L, B, C, G>,
-    senders: Vec<HopSender<B>>,
-    sweeper: Sweeper<B>,
-    terms: Terms<'_>,
-    means: Means<'_, D, N, C, G>,
-) -> Came<B>
-where
-    N::Socket: Send,
-    N::Listener: Sync,
-{
-    let listener = means.listener;
-    let wake = Wake {
-        signal: node.signal,
-        listener,
-        network: means.network,
-        stop: terms.stop,
-    };
-    let came = thread::join(
-        node.rt,
-        ||
-            requires { IsSync R.row × IsSend L.row × IsSend B.row × IsSync B.row × IsSend K.row
-                × IsSync D.row × IsSync C.row × IsSync G.row }
-        { serve_links(node, listener, terms) },
-        ||
-            requires { IsSync R.row × IsSend L.row × IsSend B.row × IsSync B.row × IsSync D.row
-                × IsSync N.row × IsSend N.Socket.row × IsSync N.Listener.row × IsSync C.row
-                × IsSync G.row }
-        { send_and_keep(node, senders, sweeper, &wake) },
-    );
-    if let Some(port) = terms.control {
-        port.close();
-    }
-    came
-}
 
 /// All that came back of those who served: their passes, those who sent, the one who swept, and the
 /// passes of those who were asked.
@@ -329,46 +156,162 @@ struct Served<B: Sharing> {
     asked: Vec<Pass<B>>,
 }
 
-/// Serves and sends, and answers who asks, side by side.
-fn serve_all<
+/// A node that serves: as all of its threads share it, what it is woken by and what is ended where
+/// it ends, and on what terms it serves.
+#[derive(Drop)]
+struct ServingNode<'a, R: Wait, L: Ledger, B: Sharing, D: Listening, N: Network, C: Clock, G: Log> {
+    live: LiveNode<'a, R, L, B, C, G>,
+    wake: Wake<'a, D, N>,
+    terms: Terms<'a>,
+}
+
+impl<
+    'a,
     R: Threads + Wait + Sync + time::Clock,
     L: Views + Drop + Send,
     B: Sharing + Send + Sync,
-    K: Link + Drop + Send,
-    D: Listening<Socket = K> + Sync,
+    D: Listening + Sync,
     N: Network + Sync,
     C: Clock + Sync,
     G: Monitor + Sync,
->(
-    node: &LiveNode<'_, R, L, B, C, G>,
-    senders: Vec<HopSender<B>>,
-    sweeper: Sweeper<B>,
-    asked: Vec<Pass<B>>,
-    terms: Terms<'_>,
-    means: Means<'_, D, N, C, G>,
-) -> Served<B>
+> ServingNode<'a, R, L, B, D, N, C, G>
 where
+    D::Socket: Send,
     N::Socket: Send,
     N::Listener: Sync,
 {
-    let since = node.clock.now();
-    let ((served, (senders, sweeper)), asked) = thread::join(
-        node.rt,
-        ||
-            requires { IsSync R.row × IsSend L.row × IsSend B.row × IsSync B.row × IsSend K.row
-                × IsSync D.row × IsSync N.row × IsSend N.Socket.row × IsSync N.Listener.row
-                × IsSync C.row × IsSync G.row }
-        { serve_and_send(node, senders, sweeper, terms, means) },
-        ||
-            requires { IsSync R.row × IsSend L.row × IsSend B.row × IsSync B.row × IsSync C.row
-                × IsSync G.row }
-        { answer_all(node, asked, since, terms) },
-    );
-    Served {
-        served,
-        senders,
-        sweeper,
-        asked,
+    /// Works until the channel is closed and empty. Where the workers can't begin, nobody receives
+    /// any more.
+    fn work(
+        &self,
+        from: Receiver<Connection<D::Socket, ClockOf<'a, C>>>,
+        watch: &Watch<'_, R, C, G>,
+    ) -> Result<Vec<Pass<B>>, WorkersFault> {
+        let (rt, alloc, desk, terms) = (self.live.rt, self.live.alloc, self.live.desk, self.terms);
+        watch.signal.begin(rt);
+        let passes = workers(rt, alloc, terms.workers(), terms.memory, &from, desk, watch);
+        drop(from);
+        watch.signal.end(rt);
+        passes
+    }
+
+    /// Accepts and serves connections, and tells the signal when there is nothing left to serve.
+    fn serve_links(&self) -> Result<Vec<Pass<B>>, WorkersFault> {
+        let (rt, alloc, signal) = (self.live.rt, self.live.alloc, self.live.signal);
+        let (clock, log) = (self.live.clock, self.live.log);
+        let (listener, links) = (self.wake.listener, self.terms.links);
+        let Ok((to, from)) = bounded(alloc, QUEUE) else {
+            signal.end(rt);
+            return Err(WorkersFault::Memory);
+        };
+        let watch = Watch {
+            rt,
+            alloc,
+            signal,
+            clock,
+            log,
+            node: self.live.desk.site().name(),
+            request: self.terms.request(),
+        };
+        let (passes, has_served) = thread::join(
+            rt,
+            ||
+                requires { IsSync R.row × IsSend L.row × IsSend B.row × IsSync B.row
+                    × IsSend D.Socket.row × IsSync D.row × IsSync N.row × IsSend N.Socket.row
+                    × IsSync N.Listener.row × IsSync C.row × IsSync G.row }
+            { self.work(from, &watch) },
+            || accept_links(rt, listener, to, links, signal, clock, log),
+        );
+        if has_served {
+            passes
+        } else {
+            Err(WorkersFault::Memory)
+        }
+    }
+
+    /// Sends to each hop, in a thread of its own, as long as somebody serves.
+    fn send_all(&self, senders: Vec<HopSender<B>>) -> Vec<HopSender<B>> {
+        let (node, network) = (&self.live, self.wake.network);
+        let mut senders = senders;
+        let count = senders.len();
+        if count > 0 {
+            thread::for_each_mut(
+                node.rt,
+                senders.as_mut_slice(),
+                count,
+                &|number, sender| { send_rows(node, network, sender, number) },
+            );
+        }
+        node.signal.end_sending(node.rt);
+        senders
+    }
+
+    /// Sends, and tells of the node, side by side.
+    fn send_and_keep(
+        &self,
+        senders: Vec<HopSender<B>>,
+        sweeper: Sweeper<B>,
+    ) -> (Vec<HopSender<B>>, Sweeper<B>) {
+        let (node, wake, count) = (&self.live, &self.wake, senders.len());
+        thread::join(
+            node.rt,
+            ||
+                requires { IsSync R.row × IsSend L.row × IsSend B.row × IsSync B.row
+                    × IsSend D.Socket.row × IsSync D.row × IsSync N.row × IsSend N.Socket.row
+                    × IsSync N.Listener.row × IsSync C.row × IsSync G.row }
+            { self.send_all(senders) },
+            || keep(node, count, sweeper, wake),
+        )
+    }
+
+    /// Serves, sends and tells of the node, side by side; the passes of those who serve, those who
+    /// send, and the one who sweeps. When that is over, nobody may ask any more.
+    fn serve_and_send(&self, senders: Vec<HopSender<B>>, sweeper: Sweeper<B>) -> Came<B> {
+        let came = thread::join(
+            self.live.rt,
+            ||
+                requires { IsSync R.row × IsSend L.row × IsSend B.row × IsSync B.row
+                    × IsSend D.Socket.row × IsSync D.row × IsSync N.row × IsSend N.Socket.row
+                    × IsSync N.Listener.row × IsSync C.row × IsSync G.row }
+            { self.serve_links() },
+            ||
+                requires { IsSync R.row × IsSend L.row × IsSend B.row × IsSync B.row
+                    × IsSend D.Socket.row × IsSync D.row × IsSync N.row × IsSend N.Socket.row
+                    × IsSync N.Listener.row × IsSync C.row × IsSync G.row }
+            { self.send_and_keep(senders, sweeper) },
+        );
+        if let Some(port) = self.terms.control {
+            port.close();
+        }
+        came
+    }
+
+    /// Serves and sends, and answers who asks, side by side.
+    fn serve_all(
+        &self,
+        senders: Vec<HopSender<B>>,
+        sweeper: Sweeper<B>,
+        asked: Vec<Pass<B>>,
+    ) -> Served<B> {
+        let (node, terms, since) = (&self.live, self.terms, self.live.clock.now());
+        let ((served, (senders, sweeper)), asked) = thread::join(
+            node.rt,
+            ||
+                requires { IsSync R.row × IsSend L.row × IsSend B.row × IsSync B.row
+                    × IsSend D.Socket.row × IsSync D.row × IsSync N.row × IsSend N.Socket.row
+                    × IsSync N.Listener.row × IsSync C.row × IsSync G.row }
+            { self.serve_and_send(senders, sweeper) },
+            ||
+                requires { IsSync R.row × IsSend L.row × IsSend B.row × IsSync B.row × IsSync C.row
+                    × IsSync G.row }
+            { answer_all(node, asked, since, terms) },
+        );
+        Served {
+            served,
+            senders,
+            sweeper,
+            asked,
+        }
     }
 }
 
@@ -452,94 +395,6 @@ fn all_passes<B: Sharing>(came: Served<B>, is_shut: bool) -> Result<Vec<Pass<B>>
     with_asked(with_senders(served, senders, sweeper), asked)
 }
 
-/// Serves and sends on a shared desk; all passes that were made of it.
-///
-/// Errors: Store, Memory.
-fn serve_by<
-    R: Threads + Wait + Sync + time::Clock,
-    L: Views + Drop + Send,
-    B: Sharing + Send + Sync,
-    K: Link + Drop + Send,
-    D: Listening<Socket = K> + Sync,
-    N: Network + Sync,
-    C: Clock + Sync,
-    G: Monitor + Sync,
->(
-    rt: &R,
-    alloc: Global,
-    desk: &SharedDesk<L, B>,
-    deployment: &Deployment<'_, D, N, C, G>,
-) -> Result<Vec<Pass<B>>, ServeFault>
-where
-    N::Socket: Send,
-    N::Listener: Sync,
-{
-    let (terms, means) = (deployment.terms, deployment.means);
-    let hops = deployment.hops.as_slice();
-    let signal = Signal::new(alloc, hops, terms.forget_after.is_some())?;
-    let Ok(senders) = senders_of(rt, alloc, desk, hops) else {
-        return Err(ServeFault::Memory);
-    };
-    let Ok(pass) = desk.pass(rt, alloc) else {
-        drop(senders);
-        return Err(ServeFault::Memory);
-    };
-    let sweeper = Sweeper::new(pass, terms.forget_after);
-    let Ok(asked) = passes_of(rt, alloc, desk, terms.control) else {
-        drop(senders);
-        drop(sweeper);
-        return Err(ServeFault::Memory);
-    };
-    let node = LiveNode {
-        rt,
-        alloc,
-        desk,
-        hops,
-        signal: &signal,
-        meter: deployment.meter,
-        clock: means.clock,
-        log: means.log,
-    };
-    let came = serve_all(&node, senders, sweeper, asked, terms, means);
-    all_passes(came, signal.is_shut())
-}
-
-/// Serves and sends on a shared desk, and ends the sharing.
-fn serve_shared<
-    R: Threads + Wait + Sync + time::Clock,
-    L: Views + Drop + Send,
-    B: Sharing + Send + Sync,
-    K: Link + Drop + Send,
-    D: Listening<Socket = K> + Sync,
-    N: Network + Sync,
-    C: Clock + Sync,
-    G: Monitor + Sync,
->(
-    rt: &R,
-    alloc: Global,
-    desk: SharedDesk<L, B>,
-    deployment: Deployment<'_, D, N, C, G>,
-) -> Result<L, ServeFault>
-where
-    N::Socket: Send,
-    N::Listener: Sync,
-    requires { B.all ≡ B.parts }
-    ensures begins { IfOk result (λ l. L.stands l → BeginWith B.first (L.book l).lines) }
-    ensures history { IfOk result (λ l.
-        L.stands l → ∥ IsJournalled (site_routing B.site) (L.book l) ∥₁) }
-    ensures of { IfOk result (λ l. L.site l ≡ B.site) }
-{
-    let came = serve_by(rt, alloc, &desk, &deployment);
-    drop(deployment);
-    match came {
-        Ok(passes) => closed(alloc, desk, passes),
-        Err(fault) => {
-            drop(desk);
-            Err(fault)
-        }
-    }
-}
-
 /// The desk is no longer shared.
 fn closed<L: Views + Drop, B: Sharing>(
     alloc: Global,
@@ -567,78 +422,136 @@ fn fault_of(fault: CloseFault) -> ServeFault {
     }
 }
 
-/// Shares a ledger's desk, and serves and sends on it.
-fn share<
-    R: Threads + Wait + Sync + time::Clock,
-    L: Views + Drop + Send,
-    B: Sharing + Send + Sync,
-    K: Link + Drop + Send,
-    D: Listening<Socket = K> + Sync,
-    N: Network + Sync,
-    C: Clock + Sync,
-    G: Monitor + Sync,
->(
-    rt: &R,
+/// How a node is to serve: by what it waits, to which hops it sends, on what terms it serves, by
+/// what means, and what times the calls of its ledger. All that it borrows is of one lifetime: the
+/// ledger that is shared names it.
+#[derive(Drop)]
+struct Deployment<'a, R, D, N, C, G> {
+    rt: &'a R,
     alloc: Global,
-    ledger: L,
-    site: Site,
-    blank: Blank,
-    deployment: Deployment<'_, D, N, C, G>,
-) -> Result<L, ServeFault>
-where
-    N::Socket: Send,
-    N::Listener: Sync,
-    requires blank { (blank.name ≡ B.name) × (blank.parts ≡ B.parts) × (B.all ≡ B.parts)
-        × (B.all ≡ 65536) }
-    requires first { B.first ≡ (L.book ledger).lines }
-    requires site { (L.site ledger ≡ site) × (B.site ≡ site) }
-    ensures begins { IfOk result (λ l. L.stands l → BeginWith B.first (L.book l).lines) }
-    ensures history { IfOk result (λ l.
-        L.stands l → ∥ IsJournalled (site_routing B.site) (L.book l) ∥₁) }
-    ensures of { IfOk result (λ l. L.site l ≡ B.site) }
-{
-    let desk: SharedDesk<L, B> = match SharedDesk::new(Desk::new(ledger), site, blank) {
-        Ok(desk) => desk,
-        Err((LedgerFault::Memory, _)) => return Err(ServeFault::Memory),
-        Err(_) => return Err(ServeFault::Store),
-    };
-    serve_shared(rt, alloc, desk, deployment)
+    hops: Vec<NextHop>,
+    terms: Terms<'a>,
+    means: Means<'a, D, N, C, G>,
+    meter: &'a Meter,
 }
 
-/// Serves and sends on a ledger whose calls are timed. All that it borrows is of one lifetime: the
-/// ledger that is shared names it.
-fn serve_timed<
-    't,
+impl<
+    'a,
     R: Threads + Wait + Sync + time::Clock,
-    L: Views + Drop + Send,
-    K: Link + Drop + Send,
-    D: Listening<Socket = K> + Sync,
+    D: Listening + Sync,
     N: Network + Sync,
     C: Clock + Sync,
     G: Monitor + Sync,
->(
-    rt: &'t R,
-    alloc: Global,
-    ledger: L,
-    site: Site,
-    deployment: Deployment<'t, D, N, C, G>,
-) -> Result<L, ServeFault>
+> Deployment<'a, R, D, N, C, G>
 where
+    D::Socket: Send,
     N::Socket: Send,
     N::Listener: Sync,
-    requires { L.site ledger ≡ site }
-    ensures begins { IfOk result (λ l.
-        L.stands l → BeginWith (L.book ledger).lines (L.book l).lines) }
-    ensures history { IfOk result (λ l.
-        L.stands l → ∥ IsJournalled (site_routing site) (L.book l) ∥₁) }
-    ensures of { IfOk result (λ l. L.site l ≡ site) }
 {
-    let (timed, blank) = (Timed::new(ledger, rt, deployment.meter), Blank::new(65_536));
-    match share::<R, Timed<'t, L, R>, Brand, K, D, N, C, G>(
-        rt, alloc, timed, site, blank, deployment,
-    ) {
-        Ok(timed) => Ok(timed.into_ledger()),
-        Err(fault) => Err(fault),
+    /// Serves and sends on a shared desk; all passes that were made of it.
+    ///
+    /// Errors: Store, Memory.
+    fn serve_by<L: Views + Drop + Send, B: Sharing + Send + Sync>(
+        &self,
+        desk: &SharedDesk<L, B>,
+    ) -> Result<Vec<Pass<B>>, ServeFault> {
+        let (rt, alloc, hops) = (self.rt, self.alloc, self.hops.as_slice());
+        let (terms, means) = (self.terms, self.means);
+        let signal = Signal::new(alloc, hops, terms.forget_after.is_some())?;
+        let Ok(senders) = senders_of(rt, alloc, desk, hops) else {
+            return Err(ServeFault::Memory);
+        };
+        let Ok(pass) = desk.pass(rt, alloc) else {
+            drop(senders);
+            return Err(ServeFault::Memory);
+        };
+        let sweeper = Sweeper::new(pass, terms.forget_after);
+        let Ok(asked) = passes_of(rt, alloc, desk, terms.control) else {
+            drop(senders);
+            drop(sweeper);
+            return Err(ServeFault::Memory);
+        };
+        let live = LiveNode {
+            rt,
+            alloc,
+            desk,
+            hops,
+            signal: &signal,
+            meter: self.meter,
+            clock: means.clock,
+            log: means.log,
+        };
+        let wake = Wake {
+            signal: &signal,
+            listener: means.listener,
+            network: means.network,
+            stop: terms.stop,
+        };
+        let node = ServingNode { live, wake, terms };
+        let came = node.serve_all(senders, sweeper, asked);
+        all_passes(came, signal.is_shut())
+    }
+
+    /// Serves and sends on a shared desk, and ends the sharing.
+    fn serve_shared<L: Views + Drop + Send, B: Sharing + Send + Sync>(
+        self,
+        desk: SharedDesk<L, B>,
+    ) -> Result<L, ServeFault>
+        requires { B.all ≡ B.parts }
+        ensures begins { IfOk result (λ l. L.stands l → BeginWith B.first (L.book l).lines) }
+        ensures history { IfOk result (λ l.
+            L.stands l → ∥ IsJournalled (site_routing B.site) (L.book l) ∥₁) }
+        ensures of { IfOk result (λ l. L.site l ≡ B.site) }
+    {
+        let (alloc, came) = (self.alloc, self.serve_by(&desk));
+        drop(self);
+        match came {
+            Ok(passes) => closed(alloc, desk, passes),
+            Err(fault) => {
+                drop(desk);
+                Err(fault)
+            }
+        }
+    }
+
+    /// Shares a ledger's desk, and serves and sends on it.
+    fn share<L: Views + Drop + Send, B: Sharing + Send + Sync>(
+        self,
+        ledger: L,
+        site: Site,
+        blank: Blank,
+    ) -> Result<L, ServeFault>
+        requires blank { (blank.name ≡ B.name) × (blank.parts ≡ B.parts) × (B.all ≡ B.parts)
+            × (B.all ≡ 65536) }
+        requires first { B.first ≡ (L.book ledger).lines }
+        requires site { (L.site ledger ≡ site) × (B.site ≡ site) }
+        ensures begins { IfOk result (λ l. L.stands l → BeginWith B.first (L.book l).lines) }
+        ensures history { IfOk result (λ l.
+            L.stands l → ∥ IsJournalled (site_routing B.site) (L.book l) ∥₁) }
+        ensures of { IfOk result (λ l. L.site l ≡ B.site) }
+    {
+        let desk: SharedDesk<L, B> = match SharedDesk::new(Desk::new(ledger), site, blank) {
+            Ok(desk) => desk,
+            Err((LedgerFault::Memory, _)) => return Err(ServeFault::Memory),
+            Err(_) => return Err(ServeFault::Store),
+        };
+        self.serve_shared(desk)
+    }
+
+    /// Serves and sends on a ledger whose calls are timed.
+    fn serve_timed<L: Views + Drop + Send>(self, ledger: L, site: Site) -> Result<L, ServeFault>
+        requires { L.site ledger ≡ site }
+        ensures begins { IfOk result (λ l.
+            L.stands l → BeginWith (L.book ledger).lines (L.book l).lines) }
+        ensures history { IfOk result (λ l.
+            L.stands l → ∥ IsJournalled (site_routing site) (L.book l) ∥₁) }
+        ensures of { IfOk result (λ l. L.site l ≡ site) }
+    {
+        let (timed, blank) = (Timed::new(ledger, self.rt, self.meter), Blank::new(65_536));
+        match self.share::<Timed<'a, L, R>, Brand>(timed, site, blank) {
+            Ok(timed) => Ok(timed.into_ledger()),
+            Err(fault) => Err(fault),
+        }
     }
 }
 
@@ -684,10 +597,12 @@ where
 {
     let meter = Meter::new();
     let deployment = Deployment {
+        rt,
+        alloc,
         hops,
         terms,
         means,
         meter: &meter,
     };
-    serve_timed::<R, L, K, D, N, C, G>(rt, alloc, ledger, site, deployment)
+    deployment.serve_timed(ledger, site)
 }

@@ -45,8 +45,9 @@ module _ {L S : Type 0} (hears : L → Heard → L → Type 0) (sends : L → Li
 
   session_to : (r : Result Ended SessionFault) (terminal : Terminal) (acts : List LinkAction) (now : ℕ) (k l : L) (s t : S) → OpensTo site dest now (Ok (terminal, acts)) → tells now
       → StartsAs hears sends closes step tells 0 Deliver r k acts s terminal l t → SessionTo hears sends closes step tells 0 site dest r k s l t
-  session_to r terminal acts now k l s t (rq, proposal, is, written) told h =
+  session_to r terminal acts now k l s t (hop, rq, proposal, is, written) told h =
       let begun = h (spellings (pdu.AssociateRq rq ∷ [])) written in (
+        hop,
         rq,
         now,
         begun.0,
@@ -61,7 +62,7 @@ module _ {L S : Type 0} (hears : L → Heard → L → Type 0) (sends : L → Li
 
   delivers_as : (r : Result Ended SessionFault) (k l : L) (s t : S) → SessionTo hears sends closes step tells 0 site dest r k s l t → DeliversAs hears sends closes step tells 0 site dest r k s l t
   delivers_as (Ok e) k l s t h = h
-  delivers_as (Err fault.NoHop) k l s t (rq, now, sent, proposal, told, b) = absurd (never_no_hop sent k l _ s t _ b)
+  delivers_as (Err fault.NoHop) k l s t (hop, rq, now, sent, proposal, told, b) = absurd (never_no_hop sent k l _ s t _ b)
   delivers_as (Err fault.Memory) k l s t h = inr h
   delivers_as (Err fault.Read) k l s t h = h
   delivers_as (Err fault.Write) k l s t h = h

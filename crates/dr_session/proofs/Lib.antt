@@ -1,9 +1,11 @@
 pub mod Acting
+pub mod Differing
 pub mod Effects
 pub mod Asking
 pub mod Ending
 pub mod Fitting
 pub mod Handing
+pub mod Hopping
 pub mod Idle
 pub mod InTurn
 pub mod Joining

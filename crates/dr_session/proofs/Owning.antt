@@ -28,7 +28,7 @@ use Rattle.dr_nego.specs.Answering.{answer}
 use Rattle.dr_session.specs.declared.ends.Core.{Core}
 use Rattle.dr_session.specs.declared.ends.Effect.{Effect}
 use Rattle.dr_session.specs.declared.ends.Found.{Found}
-use Rattle.dr_session.specs.declared.ends.Found.TheVariants.{Read, Unreadable, TooLarge}
+use Rattle.dr_session.specs.declared.ends.Found.TheVariants.{Read, Nameless, Unreadable, TooLarge}
 use Rattle.dr_session.specs.declared.ends.Input.{Input}
 use Rattle.dr_session.specs.declared.ends.Input.TheVariants as input
 use Rattle.dr_session.specs.declared.ends.LinkAction.{LinkAction}
@@ -92,6 +92,7 @@ module _ (peer : Text) (now : ℕ) where
   arriving : (c : Core) (context id : ℕ) (class instance : Text) (found : Found) (Own : Text → Type 0) → SettlesOwn (arrives c context id class instance found) peer now Own
   arriving c context id class instance TooLarge Own = tt
   arriving c context id class instance Unreadable Own = tt
+  arriving c context id class instance Nameless Own = tt
   arriving c context id class instance (Read item) Own = bringing c context id class instance item Own
 
   storing : (c : Core) (context : ℕ) (of : Text) (id : ℕ) (class instance : Text) (found : Found) (Own : Text → Type 0) → SettlesOwn (stores c context of id class instance found) peer now Own

@@ -14,7 +14,7 @@ use Rattle.dr_ledger.specs.declared.fault.LedgerFault.{LedgerFault}
 use Rattle.dr_nego.specs.declared.agreed.Agreed.{Agreed}
 use Rattle.dr_session.specs.declared.ends.Core.{Core}
 use Rattle.dr_session.specs.declared.ends.Found.{Found}
-use Rattle.dr_session.specs.declared.ends.Found.TheVariants.{Read, Unreadable, TooLarge}
+use Rattle.dr_session.specs.declared.ends.Found.TheVariants.{Read, Nameless, Unreadable, TooLarge}
 use Rattle.dr_session.specs.declared.ends.Input.{Input}
 use Rattle.dr_session.specs.declared.ends.Input.TheVariants as input
 use Rattle.dr_session.specs.declared.ends.LinkAction.{LinkAction}
@@ -49,6 +49,7 @@ bringing c context id class instance item =
 arriving : (c : Core) (context id : ℕ) (class instance : Text) (found : Found) → Spells IsSpelled (arrives c context id class instance found)
 arriving c context id class instance TooLarge = said c context (StoreRsp id 0xA700 class instance false)
 arriving c context id class instance Unreadable = said c context (StoreRsp id 0xC000 class instance false)
+arriving c context id class instance Nameless = said c context (StoreRsp id 0xA900 class instance false)
 arriving c context id class instance (Read item) = bringing c context id class instance item
 
 storing : (c : Core) (context : ℕ) (of : Text) (id : ℕ) (class instance : Text) (found : Found) → Spells IsSpelled (stores c context of id class instance found)

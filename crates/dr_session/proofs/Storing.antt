@@ -21,7 +21,7 @@ use Rattle.dr_nego.specs.declared.agreed.Agreed.{Agreed}
 use Rattle.dr_session.specs.declared.ends.Core.{Core}
 use Rattle.dr_session.specs.declared.ends.Effect.{Effect}
 use Rattle.dr_session.specs.declared.ends.Found.{Found}
-use Rattle.dr_session.specs.declared.ends.Found.TheVariants.{Read, Unreadable, TooLarge}
+use Rattle.dr_session.specs.declared.ends.Found.TheVariants.{Read, Nameless, Unreadable, TooLarge}
 use Rattle.dr_session.specs.declared.ends.LinkAction.{LinkAction}
 use Rattle.dr_session.specs.declared.ends.Moment.{Moment}
 use Rattle.dr_session.specs.declared.ends.Pending.{Pending}
@@ -85,6 +85,7 @@ module _ {S : Type 0} (step : S → DeskCall → DeskAnswer → S → Type 0) (c
   by_found : (found : Found) → Turns step (arrives c context id class instance found) s x t → AnswersStore step c context id class instance found s x t
   by_found TooLarge h = refused TooLarge 0xA700 (λ e. omega (arith, e)) (omega arith) h
   by_found Unreadable h = refused Unreadable 0xC000 (λ e. omega (arith, e)) (omega arith) h
+  by_found Nameless h = refused Nameless 0xA900 (λ e. omega (arith, e)) (omega arith) h
   by_found (Read item) h = by_name item (is_named item class instance) h
 
   by_class : (found : Found) (b : Bool) → Turns step (if b then arrives c context id class instance found else Ends (stored c context id class instance 0x0122)) s x t

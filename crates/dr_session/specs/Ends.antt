@@ -281,7 +281,8 @@ TakesFree old (Some c) new =
 -- a requestor's end for a hop of the site, which asks for the association at once; or there is none
 abbrev pub OpensTo : Part → Text → ℕ → Result (Terminal × List LinkAction) NegoFault → Type 0
 OpensTo site dest now (Ok x) =
-    (rq : AssociateRq) × IsProposal site dest rq
+    ((hop : Hop) × IsHopTo site dest hop)
+    × (rq : AssociateRq) × IsProposal site dest rq
     × (x.0 ≡ begins site.max_pdu (requesting (Some site) dest rq now))
     × (x.1 ≡ write (pdu.AssociateRq rq ∷ []) ∷ [])
 OpensTo site dest now (Err NoHop) = (hop : Hop) → IsHopTo site dest hop → ⊥

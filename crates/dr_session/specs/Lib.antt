@@ -1,8 +1,11 @@
 pub mod Changes
 pub mod Desks
+pub mod Differences
 pub mod Ends
+pub mod Outcomes
 pub mod Pendings
 pub mod Figures
+pub mod Hops
 pub mod Laws
 pub mod Ledgers
 pub mod Fits

@@ -299,7 +299,8 @@ module _ {L S : Type 0} (hears : L → Heard → L → Type 0) (sends : L → Li
   -- told.
   abbrev pub SessionTo : Part → Text → Result Ended SessionFault → L → S → L → S → Type 0
   SessionTo site dest result k s l t =
-      (rq : AssociateRq) × (now : ℕ) × (sent : Bool) × IsProposal site dest rq × tells now
+      ((hop : Hop) × IsHopTo site dest hop)
+      × (rq : AssociateRq) × (now : ℕ) × (sent : Bool) × IsProposal site dest rq × tells now
       × Begins Deliver sent result k (spellings (pdu.AssociateRq rq ∷ [])) s
       (begins site.max_pdu (requesting (Some site) dest rq now)) l t
 

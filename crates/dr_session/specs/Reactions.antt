@@ -52,7 +52,7 @@ use Rattle.dr_session.specs.declared.ends.Input.TheVariants.{NoValue, ReleaseRq,
 use Rattle.dr_session.specs.declared.ends.Input.TheVariants.{Unknown, Invalid, Ended, Late}
 use Rattle.dr_session.specs.declared.ends.Input.TheVariants.{AbortAsked, ReleaseAsked, PushAsked}
 use Rattle.dr_session.specs.declared.ends.Found.{Found}
-use Rattle.dr_session.specs.declared.ends.Found.TheVariants.{Read, Unreadable, TooLarge}
+use Rattle.dr_session.specs.declared.ends.Found.TheVariants.{Read, Nameless, Unreadable, TooLarge}
 use Rattle.dr_session.specs.declared.ends.Told.{Told}
 use Rattle.dr_session.specs.declared.ends.Told.TheVariants.{Plain, Fault, Strange, Store, Whole}
 use Rattle.dr_session.specs.declared.ends.Told.TheVariants.{Agreement}
@@ -271,6 +271,7 @@ brings c context id class instance item =
 abbrev pub arrives : Core → ℕ → ℕ → Text → Text → Found → Reaction
 arrives c context id class instance TooLarge = Ends (stored c context id class instance 0xA700)
 arrives c context id class instance Unreadable = Ends (stored c context id class instance 0xC000)
+arrives c context id class instance Nameless = Ends (stored c context id class instance 0xA900)
 arrives c context id class instance (Read item) = brings c context id class instance item
 
 abbrev pub stores : Core → ℕ → Text → ℕ → Text → Text → Found → Reaction

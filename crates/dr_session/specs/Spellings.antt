@@ -16,7 +16,7 @@ use Rattle.dr_nego.specs.Fragments.{spellings}
 use Rattle.dr_nego.specs.Proposing.{echo_proposal}
 use Rattle.dr_session.specs.declared.ends.Core.{Core}
 use Rattle.dr_session.specs.declared.ends.Ended.TheVariants.{Closed}
-use Rattle.dr_session.specs.declared.ends.Found.TheVariants.{Read, Unreadable, TooLarge}
+use Rattle.dr_session.specs.declared.ends.Found.TheVariants.{Read, Nameless, Unreadable, TooLarge}
 use Rattle.dr_session.specs.declared.ends.Moment.{Moment}
 use Rattle.dr_session.specs.declared.ends.Told.{Told}
 use Rattle.dr_session.specs.declared.ends.Told.TheVariants.{Store, Whole}
@@ -87,9 +87,12 @@ pub record StoreAnswers (c : Core) (at : Moment) : Type 0 where
   -- too large: A700H
   pub large : AcceptorWrites 16384 c at (Store 7 image 0x0203 image uid TooLarge)
       (transfer 108 104 7 3 (store_answer 0 0xA7))
-  -- no instance: C000H
+  -- it can't be read: C000H
   pub unreadable : AcceptorWrites 16384 c at (Store 7 image 0x0203 image uid Unreadable)
       (transfer 108 104 7 3 (store_answer 0 0xC0))
+  -- it can be read, and lacks its class or its UID: A900H
+  pub nameless : AcceptorWrites 16384 c at (Store 7 image 0x0203 image uid Nameless)
+      (transfer 108 104 7 3 (store_answer 0 0xA9))
   -- another class than the context's: 0122H
   pub misplaced : AcceptorWrites 16384 c at (Store 3 other 0x0203 image uid Unreadable)
       (transfer 108 104 3 3 (store_answer 0x22 1))
@@ -100,15 +103,16 @@ pub record StoreAnswers (c : Core) (at : Moment) : Type 0 where
 
 -- ---- message ids (PS3.7 9.1.1.1.1: a number of two bytes)
 
--- The C-STORE-RQ of an instance without a data set, as message 1: the group length, 90; the class;
--- the field 0001H; the message id (0000,0110); the priority; a data set; the instance.
-abbrev pub first_request : List ℕ
-first_request =
+-- The C-STORE-RQ of an instance without a data set, by the two bytes of its id: the group length,
+-- 90; the class; the field 0001H; the message id (0000,0110); the priority; a data set; the
+-- instance.
+abbrev pub store_request : ℕ → ℕ → List ℕ
+store_request low high =
     0 ∷ 0 ∷ 0 ∷ 0 ∷ 4 ∷ 0 ∷ 0 ∷ 0 ∷ 90 ∷ 0 ∷ 0 ∷ 0 ∷ 0 ∷ 0 ∷ 2 ∷ 0 ∷ 26 ∷ 0 ∷ 0 ∷ 0
     ∷ (image
-    ++ 0 ∷ 0 ∷ 0 ∷ 0 ∷ 1 ∷ 2 ∷ 0 ∷ 0 ∷ 0 ∷ 1 ∷ 0 ∷ 0 ∷ 0 ∷ 0x10 ∷ 1 ∷ 2 ∷ 0 ∷ 0 ∷ 0 ∷ 1 ∷ 0 ∷ 0 ∷ 0
-    ∷ 0 ∷ 7 ∷ 2 ∷ 0 ∷ 0 ∷ 0 ∷ 0 ∷ 0 ∷ 0 ∷ 0 ∷ 0 ∷ 8 ∷ 2 ∷ 0 ∷ 0 ∷ 0 ∷ 1 ∷ 0 ∷ 0 ∷ 0 ∷ 0 ∷ 0x10 ∷ 8
-    ∷ 0 ∷ 0 ∷ 0 ∷ (uid ++ 0 ∷ []))
+    ++ 0 ∷ 0 ∷ 0 ∷ 0 ∷ 1 ∷ 2 ∷ 0 ∷ 0 ∷ 0 ∷ 1 ∷ 0 ∷ 0 ∷ 0 ∷ 0x10 ∷ 1 ∷ 2 ∷ 0 ∷ 0 ∷ 0 ∷ low ∷ high ∷ 0
+    ∷ 0 ∷ 0 ∷ 7 ∷ 2 ∷ 0 ∷ 0 ∷ 0 ∷ 0 ∷ 0 ∷ 0 ∷ 0 ∷ 0 ∷ 8 ∷ 2 ∷ 0 ∷ 0 ∷ 0 ∷ 1 ∷ 0 ∷ 0 ∷ 0 ∷ 0 ∷ 0x10
+    ∷ 8 ∷ 0 ∷ 0 ∷ 0 ∷ (uid ++ 0 ∷ []))
 
 -- an end whose last message had that id
 abbrev pub at_last : ℕ → Core → Core
@@ -119,10 +123,15 @@ pub record MessageIds (c : Core) (at : Moment) : Type 0 where
   pub next : id_after 258 ≡ 259
   pub greatest : id_after 65534 ≡ 65535
   pub again : id_after 65535 ≡ 1
-  -- what goes over behind 65,535 is message 1, in the context 3, and awaits its response
+  -- what goes over behind 65,534 is message 65,535, and behind that message 1, each in the context
+  -- 3; it awaits its response
+  pub goes_last : gives_in (Some 3) (within 16384) at (an_image image uid) (at_last 65534 c)
+      ≡ Ends
+      (effect (sends (transfer 108 104 3 3 (store_request 255 255) ++ transfer 6 2 3 2 []))
+      (awaiting (storing 65535 3 uid) at.now (at_last 65534 c)))
   pub goes_over : gives_in (Some 3) (within 16384) at (an_image image uid) (at_last 65535 c)
       ≡ Ends
-      (effect (sends (transfer 108 104 3 3 first_request ++ transfer 6 2 3 2 []))
+      (effect (sends (transfer 108 104 3 3 (store_request 1 0) ++ transfer 6 2 3 2 []))
       (awaiting (storing 1 3 uid) at.now (at_last 65535 c)))
 
 -- ---- the 32 reserved bytes of an association (PS3.8 9.3.2, 9.3.3)

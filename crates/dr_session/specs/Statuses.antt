@@ -12,7 +12,7 @@ use Rattle.dr_plan_sound.specs.Samples.{image}
 use Rattle.dr_session.specs.declared.ends.Core.{Core}
 use Rattle.dr_session.specs.declared.ends.Effect.{Effect}
 use Rattle.dr_session.specs.declared.ends.Found.{Found}
-use Rattle.dr_session.specs.declared.ends.Found.TheVariants.{Read, Unreadable, TooLarge}
+use Rattle.dr_session.specs.declared.ends.Found.TheVariants.{Read, Nameless, Unreadable, TooLarge}
 use Rattle.dr_session.specs.Desks.{DeskCall, DeskAnswer, Arrive, Arrival}
 use Rattle.dr_session.specs.Reactions.{Reaction, stored, stores}
 use Rattle.dr_session.specs.Telling.{Finds, FindsIn}
@@ -38,6 +38,7 @@ abbrev pub ClassIsFirst : Type 0
 ClassIsFirst = (c : Core)
     → (answered c other uid TooLarge ≡ Ends (stored c 1 7 other uid 0x0122))
     × (answered c other uid Unreadable ≡ Ends (stored c 1 7 other uid 0x0122))
+    × (answered c other uid Nameless ≡ Ends (stored c 1 7 other uid 0x0122))
     × (answered c other uid (Read (an_image image other)) ≡ Ends (stored c 1 7 other uid 0x0122))
     × (answered c other uid (Read (an_image other uid)) ≡ Ends (stored c 1 7 other uid 0x0122))
 
@@ -48,10 +49,15 @@ SizeIsBeforeReading =
     × ((found : Found) → FindsIn other body.TooLarge found → found ≡ TooLarge)
     × ((c : Core) → answered c image uid TooLarge ≡ Ends (stored c 1 7 image uid 0xA700))
 
--- a data set that can't be read, or that names no instance, has no UIDs that could differ
+-- a data set that can't be read has no UIDs that could differ
 abbrev pub ReadingIsBeforeUids : Type 0
-ReadingIsBeforeUids = Finds (Err items.Data) Unreadable × Finds (Err items.NoUid) Unreadable
+ReadingIsBeforeUids = Finds (Err items.Data) Unreadable
     × ((c : Core) → answered c image uid Unreadable ≡ Ends (stored c 1 7 image uid 0xC000))
+
+-- one that can be read, and lacks its class or its UID, has other UIDs than the command
+abbrev pub LackingIsDiffering : Type 0
+LackingIsDiffering = Finds (Err items.NoUid) Nameless
+    × ((c : Core) → answered c image uid Nameless ≡ Ends (stored c 1 7 image uid 0xA900))
 
 -- another instance or another class than the command's isn't brought: so it doesn't matter that the
 -- desk has no line for it

@@ -31,7 +31,7 @@ use Rattle.dr_nego.specs.declared.fault.NegoFault.{NegoFault}
 use Rattle.dr_session.specs.declared.ends.Input.{Input}
 use Rattle.dr_session.specs.declared.ends.Input.TheVariants.{Acceptance, Value}
 use Rattle.dr_session.specs.declared.ends.Found.{Found}
-use Rattle.dr_session.specs.declared.ends.Found.TheVariants.{Read, Unreadable, TooLarge}
+use Rattle.dr_session.specs.declared.ends.Found.TheVariants.{Read, Nameless, Unreadable, TooLarge}
 use Rattle.dr_session.specs.declared.ends.Told.{Told}
 use Rattle.dr_session.specs.declared.ends.Told.TheVariants.{Plain, Quiet, Fault, Strange, Store}
 use Rattle.dr_session.specs.declared.ends.Told.TheVariants.{Whole, Agreement}
@@ -42,11 +42,12 @@ state_at c = state_of c.phase
 
 -- ---- data sets
 
--- what a data set was read as; want of memory comes to nothing
+-- what a data set was read as; one without its class or its UID can be read. Want of memory comes
+-- to nothing
 abbrev pub Finds : Result Job ItemFault → Found → Type 0
 Finds (Ok item) found = found ≡ Read item
 Finds (Err items.Data) found = found ≡ Unreadable
-Finds (Err items.NoUid) found = found ≡ Unreadable
+Finds (Err items.NoUid) found = found ≡ Nameless
 Finds (Err items.TooLarge) found = found ≡ TooLarge
 Finds (Err items.Memory) found = ⊥
 

@@ -46,6 +46,8 @@ pub enum Input {
 #[derive(Drop)]
 pub enum Found {
     Read(Item),
+    /// It was read, and lacks its class or its UID.
+    Nameless,
     Unreadable,
     TooLarge,
 }

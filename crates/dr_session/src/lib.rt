@@ -2,7 +2,7 @@
 //! a desk.
 #![tactic(auto)]
 
-pub mod boxed;
+mod boxed;
 pub mod desk;
 pub mod echo_desk;
 mod echoing;
@@ -13,7 +13,7 @@ mod find;
 mod hearing;
 pub mod laws;
 mod link;
-pub mod listening;
+mod listening;
 mod port;
 mod react;
 pub mod sessions;

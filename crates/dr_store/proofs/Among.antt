@@ -7,7 +7,7 @@ use Rattle.std.specs.FinMap.{find, is_sorted}
 use Rattle.std.proofs.lemmas.Map.Views.{tells_apart}
 use Rattle.dr_ledger.proofs.Maps.{IsExact}
 use Rattle.dr_ledger.proofs.Growing.{inside}
-use Rattle.dr_store.proofs.Found.{below_at, left, right}
+use Rattle.dr_ledger_views.proofs.Searching.{below_at, left, right}
 
 -- one place is before the other, or they are the same
 pub order_of : (i k : ℕ) → (i < k) ⊎ ((i ≡ k) ⊎ (k < i))

@@ -2,7 +2,6 @@ pub mod Admits
 pub mod Adopts
 pub mod Among
 pub mod Crashes
-pub mod Found
 pub mod Looks
 pub mod Nexts
 pub mod Replies

@@ -26,7 +26,7 @@ use Rattle.dr_store_lists.proofs.Alike.{keys_and_prints}
 use Rattle.dr_store_calls.proofs.Reading.{reads_as, same_fault}
 use Rattle.dr_store.specs.Listing.{FitsAmong, IsOfKey, IsUnfitRow, UnfitsAmong, UnfitsOf}
 use Rattle.dr_store.proofs.Among.{order_of, place_of, rise_at}
-use Rattle.dr_store.proofs.Found.{found_at}
+use Rattle.dr_ledger_views.proofs.Searching.{at_place}
 use Rattle.dr_store.proofs.Looks.{lasts_any}
 
 key_in : (o : Option Key) (key : Key) (item : Instance) (by : Key → Instance) → ((k : Key) → (by k).key ≡ k) → o ≡ Some key → option_map by o ≡ Some item → item.key ≡ key
@@ -92,7 +92,7 @@ module _ (next : Network) (name : Text) (base : Trees) where
     its_row : map.get (rows_of base) at ≡ Some Its
     its_row =
         let P : Pair × Progress → Type 0 = λ e. pair_cmp e.0 at ≡ Equal in
-        map.get-entries (rows_of base) at ∙ (found_at text_pairs.total at Rows Place (at, Its) rows_sorted within (subst P (sym (here (at, Its))) (tied_itself text_pairs.total at)) ∙ ap (λ (e : Pair × Progress). Some e.1) (here (at, Its)))
+        map.get-entries (rows_of base) at ∙ ((at_place text_pairs.total at Rows Place (at, Its) rows_sorted within (subst P (sym (here (at, Its))) (tied_itself text_pairs.total at))).0 ∙ ap (λ (e : Pair × Progress). Some e.1) (here (at, Its)))
 
     its_item : map.get (items_of base) at.0 ≡ Some (instance_by (prints_of base) at.0 unfit.1.0)
     its_item = (keys_and_prints base).items at.0 ∙ ap (option_map (instance_by (prints_of base) at.0)) (found_key at.0 unfit.1.0 unfit.1.1.0)

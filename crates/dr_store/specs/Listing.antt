@@ -2,7 +2,6 @@
 use Rattle.std.specs.Prelude.{◌≡◌, ◌<◌, ◌⊎◌, ℕ, Bool, true, false, T, List, All, length, take}
 use Rattle.std.specs.Prelude.{Option, Some, None, Result, Ok, Err}
 use Rattle.std.specs.List.{AllZip, HoldsAt}
-use Rattle.std.specs.declared.cmp.Ordering.{Ordering}
 use Rattle.std.specs.FinMap.{find, is_sorted}
 use Rattle.dr_base.specs.Texts.{Text, text_cmp}
 use Rattle.dr_plan_model.specs.Networks.{Network}
@@ -14,13 +13,6 @@ use Rattle.dr_ledger.specs.Books.{is_queued}
 use Rattle.dr_ledger.specs.Pairs.{Pair}
 use Rattle.dr_ledger.specs.Replies.{Reads}
 use Rattle.dr_store_reads.specs.declared.finding.Print.{Print}
-
--- ---- entries
-
--- where a search has stopped at a place, what is found by the key stands there
-abbrev pub IsFoundAt : {K X : Type 0} → (K → K → Ordering) → K → List (K × X) → Result ℕ ℕ → Type 0
-IsFoundAt {K} {X} R k es (Ok i) = HoldsAt (λ (e : K × X). find R k es ≡ Some e.1) es i
-IsFoundAt R k es (Err i) = Unit {0}
 
 -- ---- kept uids
 

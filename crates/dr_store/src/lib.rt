@@ -11,7 +11,6 @@ mod counting;
 pub mod laws;
 mod ledger;
 mod listing;
-mod lookup;
 mod reading;
 mod telling;
 

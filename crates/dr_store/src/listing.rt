@@ -13,10 +13,10 @@ ghost use Rattle.dr_store_calls.specs.Calling.{Looked};
 ghost use Rattle.dr_store_lists.specs.Lists.{keys_of, whole_prints_of};
 ghost use Rattle.dr_store.specs.Listing.{AreSized, IsSized, IsUnfitAmong, UnfitsAmong, UnfitsOf};
 
-use crate::lookup::get;
 use dr_base::{Seq, Text};
 use dr_cert::Sealed;
 use dr_ledger::{LedgerFault, Progress};
+use dr_ledger_views::table::get;
 use dr_route::Key;
 use dr_store_lists::{all_arrivals, all_kept, all_keys, all_prints, all_rows};
 use dr_store_reads::Print;

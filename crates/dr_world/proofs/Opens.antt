@@ -101,10 +101,10 @@ module _ {L : Type 0} {l : Ghosts L} (old new : World L l) (from to : Text) (act
     abbrev o : (end : Terminal) × OpensTo opens.0.site to old.time.passed (Ok (end, acts)) × (opens.1 ≡ map.insert opens.0.links new.opened (record { end = end; accepted = false }))
     o = opened_side opens.0.site to new.opened old.time.passed (map.get opens.0.links new.opened) opens.0.links opens.1 acts opens.3
 
-    near_side : opens.1 ≡ map.insert (seat_of opens.0).sides (old.opened + 1) (asks_at (l.site opens.0.desk.ledger) to o.1.0 old.time.passed)
+    near_side : opens.1 ≡ map.insert (seat_of opens.0).sides (old.opened + 1) (asks_at (l.site opens.0.desk.ledger) to o.1.1 old.time.passed)
     near_side =
-        o.2 ∙ (ap (λ (e : Terminal). map.insert opens.0.links new.opened (let s : LinkSide = record { end = e; accepted = false } in s)) o.1.2
-        ∙ (ap (λ (p : Part). map.insert opens.0.links new.opened (asks_at p to o.1.0 old.time.passed)) (sym near_site) ∙ ap (λ (m : ℕ). map.insert opens.0.links m (asks_at (l.site opens.0.desk.ledger) to o.1.0 old.time.passed)) next))
+        o.2 ∙ (ap (λ (e : Terminal). map.insert opens.0.links new.opened (let s : LinkSide = record { end = e; accepted = false } in s)) o.1.3
+        ∙ (ap (λ (p : Part). map.insert opens.0.links new.opened (asks_at p to o.1.1 old.time.passed)) (sym near_site) ∙ ap (λ (m : ℕ). map.insert opens.0.links m (asks_at (l.site opens.0.desk.ledger) to o.1.1 old.time.passed)) next))
 
     far_side : accepts.1 ≡ map.insert (seat_of accepts.0).sides (old.opened + 1) (accepts_at (l.site accepts.0.desk.ledger) old.time.passed)
     far_side =
@@ -112,9 +112,9 @@ module _ {L : Type 0} {l : Ghosts L} (old new : World L l) (from to : Text) (act
         ∙ (ap (λ (p : Part). map.insert accepts.0.links new.opened (accepts_at p old.time.passed)) (sym far_site) ∙ ap (λ (m : ℕ). map.insert accepts.0.links m (accepts_at (l.site accepts.0.desk.ledger) old.time.passed)) next)
 
     near_now : Seat
-    near_now = with_side (seat_of opens.0) (old.opened + 1) (asks_at (l.site opens.0.desk.ledger) to o.1.0 old.time.passed) (seat_of opens.0).desk
+    near_now = with_side (seat_of opens.0) (old.opened + 1) (asks_at (l.site opens.0.desk.ledger) to o.1.1 old.time.passed) (seat_of opens.0).desk
 
-    seats_at : (q : Text) → seats_of new.nodes q ≡ with_seat (with_seat (seats_of old.nodes) from (with_side (seat_of opens.0) (old.opened + 1) (asks_at (l.site opens.0.desk.ledger) to o.1.0 old.time.passed) (seat_of opens.0).desk)) to
+    seats_at : (q : Text) → seats_of new.nodes q ≡ with_seat (with_seat (seats_of old.nodes) from (with_side (seat_of opens.0) (old.opened + 1) (asks_at (l.site opens.0.desk.ledger) to o.1.1 old.time.passed) (seat_of opens.0).desk)) to
         (with_side (seat_of accepts.0) (old.opened + 1) (accepts_at (l.site accepts.0.desk.ledger) old.time.passed) (seat_of accepts.0).desk) q
     seats_at q =
         seats_after to accepts.0 accepts.1 mid new.nodes accepts.3 q
@@ -129,15 +129,15 @@ module _ {L : Type 0} {l : Ghosts L} (old new : World L l) (from to : Text) (act
       far = seat_of accepts.0;
       is_near = ap (option_map seat_of) opens.4.was;
       is_far = ap (option_map seat_of) far_was;
-      rq = o.1.0;
-      proposal = (let P : Part → Type 0 = λ p. Rattle.dr_nego.specs.Proposing.IsProposal p to o.1.0 in subst P (sym near_site) o.1.1);
+      rq = o.1.1;
+      proposal = (let P : Part → Type 0 = λ p. Rattle.dr_nego.specs.Proposing.IsProposal p to o.1.1 in subst P (sym near_site) o.1.2);
       hop = opens.2.0;
       goes = (let P : Part → Type 0 = λ p. IsHopTo p to opens.2.0 in subst P (sym near_site) opens.2.1);
       wires = w;
       caller = caller;
       receiver = receiver;
       to_caller = to_caller;
-      to_receiver = to_receiver ∙ (ap bytes_of o.1.3 ∙ append-nil _);
+      to_receiver = to_receiver ∙ (ap bytes_of o.1.4 ∙ append-nil _);
       is = (λ i. record { now = (time i).passed; opened = next i; seats = λ q. seats_at q i; wires = λ q. wires_at q i });
     }
 

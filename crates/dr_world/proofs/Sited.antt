@@ -28,7 +28,7 @@ use Rattle.dr_site.specs.Parts.{Part}
 use Rattle.dr_session.specs.declared.ends.Core.{Core}
 use Rattle.dr_session.specs.declared.ends.Effect.{Effect}
 use Rattle.dr_session.specs.declared.ends.Found.{Found}
-use Rattle.dr_session.specs.declared.ends.Found.TheVariants.{Read, Unreadable, TooLarge}
+use Rattle.dr_session.specs.declared.ends.Found.TheVariants.{Read, Nameless, Unreadable, TooLarge}
 use Rattle.dr_session.specs.declared.ends.Input.TheVariants as input
 use Rattle.dr_session.specs.declared.ends.LinkAction.{LinkAction}
 use Rattle.dr_session.specs.declared.ends.Moment.{Moment}
@@ -107,6 +107,7 @@ row_keeps site follow h (Settling answer) = tt
 arrives_keep : (c : Core) (context id : ℕ) (class instance : Text) (found : Found) → KeepsSite c.site (r.arrives c context id class instance found)
 arrives_keep c context id class instance TooLarge = refl
 arrives_keep c context id class instance Unreadable = refl
+arrives_keep c context id class instance Nameless = refl
 arrives_keep c context id class instance (Read item) = either c.site (is_named item class instance) _ _ (arrival_keeps c.site (λ reply. Ends (r.stored c context id class instance (r.status_of reply))) (λ reply. refl)) refl
 
 requested_keep : (c : Core) (context : ℕ) (of : Text) (m : Command) → KeepsSite c.site (r.requested c context of m)

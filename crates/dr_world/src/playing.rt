@@ -1,8 +1,12 @@
 //! Steps and changes of plan played from the beginning, over ledgers in memory.
-ghost use Rattle.std.specs.Prelude.{◌≡◌, ◌∷◌, ◌++◌, [], IfOk, List, OnOk};
+ghost use Rattle.std.specs.Prelude.{◌≡◌, ◌⊎◌, ◌∷◌, ◌++◌, [], Contains, IfErr, IfOk, List, OnOk};
+ghost use Rattle.dr_base.specs.Texts.{Text as Words};
+ghost use Rattle.dr_plan_model.specs.Plans.{NamesNoNode};
 ghost use Rattle.dr_world.specs.Played.{IsRunOf, PlaysAll, PlaysOn};
 ghost use Rattle.dr_world.specs.declared.changing.Change.{Change as ChangeValue};
 ghost use Rattle.dr_world.specs.declared.deed.Deed.TheVariants as deeds_of;
+ghost use Rattle.dr_world.specs.declared.fault.WorldFault.TheVariants.{Memory as MemoryFault};
+ghost use Rattle.dr_world.specs.declared.fault.WorldFault.TheVariants.{WrongLedgers as WrongFault};
 
 use crate::changing::Change;
 use crate::deed::Deed;
@@ -28,7 +32,13 @@ fn ledgers_of(
     alloc: Global,
     sealed: &Sealed,
     names: &[Text],
-) -> Result<Vec<MemoryLedger>, WorldFault> {
+) -> Result<Vec<MemoryLedger>, WorldFault>
+    ensures { IfErr result (λ fault. (fault ≡ MemoryFault)
+        ⊎ ((fault ≡ WrongFault)
+        × (name : Words)
+        × Contains names.now name
+        × NamesNoNode sealed.now.plan name)) }
+{
     let mut ledgers = Vec::new(alloc);
     for name in names {
         let site = match Site::of(alloc, sealed, name) {

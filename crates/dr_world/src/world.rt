@@ -1,5 +1,6 @@
 //! The simulated world: each node over its own ledger, and the wires of each link.
-ghost use Rattle.std.specs.Prelude.{◌≡◌, ◌&&◌, [], Err, IfOk, None, OnOk, Some, map as mapped};
+ghost use Rattle.std.specs.Prelude.{◌≡◌, ◌&&◌, [], Err, IfErr, IfOk, None, OnOk, Some};
+ghost use Rattle.std.specs.Prelude.{map as mapped};
 ghost use Rattle.std.specs.BTreeMap as tree;
 ghost use Rattle.dr_base.specs.Texts.{text_cmp};
 ghost use Rattle.dr_session.specs.declared.ends.Heard.TheVariants as heard;
@@ -14,6 +15,7 @@ ghost use Rattle.dr_world.specs.Laws.{away_note};
 ghost use Rattle.dr_world.specs.Nodes.{event_at, over_at, push_at as pushed_at};
 ghost use Rattle.dr_world.specs.declared.deed.Deed.TheVariants as deeds;
 ghost use Rattle.dr_world.specs.declared.fault.WorldFault.{WorldFault as FaultValue};
+ghost use Rattle.dr_world.specs.declared.fault.WorldFault.TheVariants.{Memory as MemoryFault};
 ghost use Rattle.dr_world.specs.Played.{HoldsThrough, PlaysOn};
 ghost use Rattle.dr_world.specs.Runs.{StepsOn, HoldsAfter, HoldsAfterAll, Leads, step_of};
 ghost use Rattle.dr_world.specs.Reports.{IsReported, ListsBook, bodies_of, books_of, has_in};
@@ -419,6 +421,7 @@ impl<L: LetsGo> World<Refusing<L>> {
         ensures lost { (fault : FaultValue) → self.old.lost ≡ Some fault
             → (result ≡ Err fault) × (self.new ≡ self.old) }
         ensures after { (fault : FaultValue) → result ≡ Err fault → self.new.lost ≡ Some fault }
+        ensures memory { self.old.lost ≡ None → IfErr result (λ fault. fault ≡ MemoryFault) }
     {
         if let Some(fault) = self.lost {
             return Err(fault);

@@ -58,7 +58,7 @@ use Rattle.dr_nego.proofs.OneContext.{found_is}
 use Rattle.dr_session.specs.declared.ends.Core.{Core}
 use Rattle.dr_session.specs.declared.ends.Effect.{Effect}
 use Rattle.dr_session.specs.declared.ends.Found.{Found}
-use Rattle.dr_session.specs.declared.ends.Found.TheVariants.{Read, Unreadable, TooLarge}
+use Rattle.dr_session.specs.declared.ends.Found.TheVariants.{Read, Nameless, Unreadable, TooLarge}
 use Rattle.dr_session.specs.declared.ends.Input.{Input}
 use Rattle.dr_session.specs.declared.ends.Input.TheVariants as input
 use Rattle.dr_session.specs.declared.ends.LinkAction.{LinkAction}
@@ -579,6 +579,7 @@ module _ (c : Core) (p : Pdv) (told : Told) (stage : Taken) where
 abbrev found_item : Job → Found → Job
 found_item item (Read other) = other
 found_item item Unreadable = item
+found_item item Nameless = item
 found_item item TooLarge = item
 
 read_in : (syntax : Text) (b : Body) (item : Job)
@@ -590,7 +591,7 @@ read_in syntax (body.Whole text) item (inl (s, Ok other, uid, reads, finds)) =
 read_in syntax (body.Whole text) item (inl (s, Err items.Data, uid, reads, finds)) =
     (let e : Read item ≡ Unreadable = finds in absurd (cc e))
 read_in syntax (body.Whole text) item (inl (s, Err items.NoUid, uid, reads, finds)) =
-    (let e : Read item ≡ Unreadable = finds in absurd (cc e))
+    (let e : Read item ≡ Nameless = finds in absurd (cc e))
 read_in syntax (body.Whole text) item (inl (s, Err items.TooLarge, uid, reads, finds)) =
     (let e : Read item ≡ TooLarge = finds in absurd (cc e))
 read_in syntax (body.Whole text) item (inl (s, Err items.Memory, uid, reads, finds)) = absurd finds
@@ -711,6 +712,8 @@ module _ {S : Type 0} (step : S → DeskCall → DeskAnswer → S → Type 0) (m
       says_there context (StoreRsp id 0xA700 class instance false) (λ e. omega (arith, e)) h
   by_found context id class instance Unreadable agreed h =
       says_there context (StoreRsp id 0xC000 class instance false) (λ e. omega (arith, e)) h
+  by_found context id class instance Nameless agreed h =
+      says_there context (StoreRsp id 0xA900 class instance false) (λ e. omega (arith, e)) h
   by_found context id class instance (Read item) agreed h = by_name context id class instance item
       (λ e. agreed item refl e) (is_named item class instance) refl h
 

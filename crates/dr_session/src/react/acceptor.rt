@@ -167,6 +167,7 @@ fn store_found<P: DeskPort>(
     match found {
         Found::TooLarge => respond(alloc, to, class, instance, 0xA700, core),
         Found::Unreadable => respond(alloc, to, class, instance, 0xC000, core),
+        Found::Nameless => respond(alloc, to, class, instance, 0xA900, core),
         Found::Read(item) => bring(alloc, to, class, instance, item, core, port),
     }
 }

@@ -5,6 +5,7 @@ use Rattle.dr_session.proofs.end.End.request.Goals as goal
 
 pub returns : goal.returns
 returns c = (
+  c.in_ok-proposal.ensures.proposes.0,
   c.in_ok-proposal.proposal,
   c.in_ok-proposal.ensures.proposes.1,
   c.in_ok-opened.ensures.end ∙ ap (λ (n : ℕ). begins n (requesting (Some c.args.site) c.args.dest.now c.in_ok-proposal.proposal c.args.now)) c.max_pdu-limit.ensures,

@@ -5,4 +5,4 @@ pub returns-clause-echoes : goal.returns-clause-echoes
 returns-clause-echoes c = λ core at. record { success = refl; misplaced = refl; unlimited = refl; short = refl }
 
 pub returns-clause-stores : goal.returns-clause-stores
-returns-clause-stores c = λ core at. record { large = refl; unreadable = refl; misplaced = refl; another = refl }
+returns-clause-stores c = λ core at. record { large = refl; unreadable = refl; nameless = refl; misplaced = refl; another = refl }

@@ -8,15 +8,15 @@ use Rattle.std.specs.Ordering.{is_lt, is_eq}
 use Rattle.std.specs.Cmp.{IsTotalOrder}
 use Rattle.std.specs.FinMap.{find, put, is_sorted}
 use Rattle.std.proofs.lemmas.List.Sorted.{searchable_from_sorted}
-use Rattle.dr_ledger_memory.specs.Tables.{IsPlace, IsThere, without}
+use Rattle.dr_ledger_views.specs.Tables.{IsPlace, IsThere, without}
 use Rattle.std.specs.FinMap.Entries.{by_order, below_all}
 use Rattle.std.specs.Ordering.{ordering_reverse}
 
-left : (a b : Bool) → T (a && b) → T a
+pub left : (a b : Bool) → T (a && b) → T a
 left true b h = tt
 left false b h = absurd h
 
-right : (a b : Bool) → T (a && b) → T b
+pub right : (a b : Bool) → T (a && b) → T b
 right true b h = h
 right false b h = absurd h
 
@@ -28,7 +28,7 @@ less Greater h = absurd h
 turned : {K : Type 0} {R : K → K → Ordering} → IsTotalOrder R → (x y : K) (r : Ordering) → R x y ≡ r → R y x ≡ ordering_reverse r
 turned o x y r h = o.antisymm y x ∙ ap ordering_reverse h
 
-below_at : {K X : Type 0} (R : K → K → Ordering) (x : K) (es : List (K × X)) (i : ℕ) (d : K × X) → T (below_all R x es) → i < length es → R x (get_or es i d).0 ≡ Less
+pub below_at : {K X : Type 0} (R : K → K → Ordering) (x : K) (es : List (K × X)) (i : ℕ) (d : K × X) → T (below_all R x es) → i < length es → R x (get_or es i d).0 ≡ Less
 below_at R x [] i d h lt = absurd (omega (arith, lt))
 below_at R x (e ∷ es) zero d h lt = less _ (left _ _ h)
 below_at R x (e ∷ es) (suc i) d h lt = below_at R x es i d (right _ _ h) (omega (arith, lt))
@@ -50,7 +50,7 @@ module _ {K X : Type 0} {R : K → K → Ordering} (o : IsTotalOrder R) where
         ap (λ r. cond (not (is_eq r)) (e ∷ without R k es) (without R k es)) below ∙ ap (λ xs. e ∷ xs) (above_tie x es (right _ _ h) ties)
 
     -- at an entry whose key ties
-    at_place : (es : List (K × X)) (i : ℕ) (d : K × X) → T (is_sorted R es) → i < length es → R (get_or es i d).0 k ≡ Equal → IsThere R k es i (get_or es i d)
+    pub at_place : (es : List (K × X)) (i : ℕ) (d : K × X) → T (is_sorted R es) → i < length es → R (get_or es i d).0 k ≡ Equal → IsThere R k es i (get_or es i d)
     at_place [] i d h lt ties = absurd (omega (arith, lt))
     at_place (e ∷ es) zero d h lt ties =
         let tie : R k e.0 ≡ Equal = turned o e.0 k Equal ties in (

@@ -1,21 +1,22 @@
-//! Entries in the order of their keys, in a vector: the few rows of one uid.
-ghost use Rattle.std.specs.Prelude.{◌≡◌, ◌<◌, ◌≤◌, ◌+◌, T, IsSome, option_copied, vec_len};
+//! Entries in the order of their keys, in a list or a vector.
+ghost use Rattle.std.specs.Prelude.{◌≡◌, ◌<◌, ◌≤◌, ◌+◌, T, IsSome, length, option_copied, vec_len};
 ghost use Rattle.std.specs.Prelude.{vec_capacity};
+ghost use Rattle.std.specs.List.Sorted.{IsSearchInRange};
 ghost use Rattle.std.specs.FinMap.{is_sorted, find, put as put_entry};
-ghost use Rattle.dr_ledger_memory.specs.Tables.{IsPlace};
+ghost use Rattle.dr_ledger_views.specs.Tables.{IsPlace};
 
-/// Where the key is, or where it would go.
+/// Where the key is, or where it would go, where keys rise.
 fn place<K: Ord, V>(entries: &[(K, V)], key: &K) -> Result<usize, usize>
-    requires { T (is_sorted K.cmp entries.now) }
-    ensures { IsPlace K.cmp key.now entries.now result }
+    ensures bound { IsSearchInRange result (length entries.now) }
+    ensures found { T (is_sorted K.cmp entries.now) → IsPlace K.cmp key.now entries.now result }
 {
     entries.binary_search_by(|entry| entry.0.cmp(key))
 }
 
-/// The value at the key.
+/// The value at the key, where keys rise.
 pub fn get<'a, K: Ord, V>(entries: &'a [(K, V)], key: &K) -> Option<&'a V>
-    requires { T (is_sorted K.cmp entries.now) }
-    ensures { option_copied result ≡ find K.cmp key.now entries.now }
+    ensures { T (is_sorted K.cmp entries.now)
+        → find K.cmp key.now entries.now ≡ option_copied result }
 {
     match place(entries, key) {
         Ok(at) => Some(&entries[at].1),

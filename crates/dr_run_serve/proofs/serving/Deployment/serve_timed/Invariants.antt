@@ -1,4 +1,4 @@
-use Rattle.dr_run_serve.proofs.serving.serve_timed.Given as goal
+use Rattle.dr_run_serve.proofs.serving.Deployment.serve_timed.Given as goal
 
 abbrev pub ghosts-share-B-Ledger : goal.ghosts-share-B-Ledger
 ghosts-share-B-Ledger g a = record { name = a.blank.name; parts = a.blank.parts }

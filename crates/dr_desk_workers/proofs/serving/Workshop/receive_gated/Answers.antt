@@ -1,5 +1,5 @@
 use Rattle.std.proofs.Common.{refl}
-use Rattle.dr_desk_workers.proofs.serving.receive_gated.Goals as goal
+use Rattle.dr_desk_workers.proofs.serving.Workshop.receive_gated.Goals as goal
 
 pub returns : goal.returns
 returns g c = (
