@@ -1,5 +1,5 @@
 -- Why a call that reads is refused.
-use Rattle.std.proofs.Common.{◌≡◌, ◌⊎◌, absurd, inl, inr, refl}
+use Rattle.std.proofs.Common.{◌≡◌, ◌⊎◌, inl, inr, refl}
 use Rattle.std.specs.Prelude.{Err}
 use Rattle.dr_ledger.specs.declared.fault.LedgerFault.{LedgerFault}
 use Rattle.dr_ledger.specs.declared.fault.LedgerFault.TheVariants as ledger
