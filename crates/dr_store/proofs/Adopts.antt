@@ -1,5 +1,5 @@
 -- An adoption by a ledger that keeps its tables.
-use Rattle.std.proofs.Common.{◌≡◌, ◌⊎◌, inl, inr, ℕ, Result, Ok, Some, subst}
+use Rattle.std.proofs.Common.{◌≡◌, ℕ, Result, Ok, Some, subst}
 use Rattle.std.specs.FinMap as map
 use Rattle.sqlite.specs.State.{State}
 use Rattle.sqlite.specs.Tree.{Trees}
@@ -9,16 +9,13 @@ use Rattle.dr_ledger.specs.Adopting.{Adopting, site_after}
 use Rattle.dr_ledger.specs.Bodies.{Bodies, OnlyLetsGo}
 use Rattle.dr_store_schema.specs.Books.{bodies_of, book_of}
 use Rattle.dr_store_calls.specs.Calling.{Nothing, advanced}
-use Rattle.dr_store_calls.specs.Adoptions.{Adopted}
+use Rattle.dr_store_calls.specs.Adoptions.{Adopted, IsAdopted}
 use Rattle.dr_store.proofs.Writes.{Done}
 
 abbrev pub Adoption : Result (Unit {0}) LedgerFault → Trees → Trees → Type 0
 Adoption r base db = Adopting (book_of base) r (book_of db) × OnlyLetsGo (bodies_of base) (bodies_of db)
 
-abbrev pub Adoptive : Trees → Trees → Type 0
-Adoptive base db = Adopting (book_of base) (Ok tt) (book_of db)
-
-pub adopted : (n : ℕ) (part next : Part) (r : Result (Unit {0}) LedgerFault) (old new : State) → Adopted n part next r old new Nothing → Done n (advanced r n) part (site_after r next part) r old new (Adoption r) Adoptive
+pub adopted : (n : ℕ) (part next : Part) (r : Result (Unit {0}) LedgerFault) (old new : State) → Adopted n part next r old new Nothing → Done n (advanced r n) part (site_after r next part) r old new (Adoption r) (IsAdopted next)
 adopted n part next r old new a = record {
   clean = a.clean;
   was_open = a.was_open;
@@ -27,5 +24,5 @@ adopted n part next r old new a = record {
   answers = λ clean is_open k.
       let it = a.answers clean is_open k tt in
       (it.reply, λ uid body there. let P : Bodies → Type 0 = λ bodies. map.get bodies uid ≡ Some body in subst P it.bodies there);
-  crash = λ clean k db left. elim (a.crash clean k tt db left) [ inl before ↦ inl before | inr made ↦ inr made.book ];
+  crash = λ clean k db left. a.crash clean k tt db left;
 }

@@ -1,6 +1,7 @@
 pub mod Admits
 pub mod Adopts
 pub mod Among
+pub mod Crashes
 pub mod Looks
 pub mod Nexts
 pub mod Replies

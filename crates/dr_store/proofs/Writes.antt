@@ -10,15 +10,13 @@ use Rattle.sqlite_trees.specs.View.{doubt}
 use Rattle.dr_site.specs.Parts.{Part}
 use Rattle.dr_ledger.specs.declared.fault.LedgerFault.{LedgerFault}
 use Rattle.dr_ledger.specs.declared.fault.LedgerFault.TheVariants as fault
-use Rattle.dr_ledger.specs.Books.{Book}
 use Rattle.dr_ledger.specs.Refusals.{Arms}
 use Rattle.dr_ledger.specs.Replies.{Counts, HasRisen, IsLastingFault, PremiseLasts, LastsAfter, Reads}
 use Rattle.dr_store_schema.specs.Books.{bodies_of, book_of}
 use Rattle.dr_store_calls.specs.Calling.{Called, IsKept, IsSafe, Looked, Nothing}
 use Rattle.dr_store.specs.Counting.{failures_after}
 use Rattle.dr_store.specs.Surviving.{Wrote}
-use Rattle.dr_store.proofs.Stable.{Stable, both, by_code, either, of_set, tested}
-use Rattle.dr_store.proofs.Sets.{coded_book}
+use Rattle.dr_store.proofs.Stable.{Stable}
 
 -- ---- what holds of any answer
 
@@ -110,28 +108,24 @@ module _ {A : Type 0} (n m : ℕ) (part next : Part) (r : Result A LedgerFault) 
 
 -- ---- a call that writes
 
-module _ {A : Type 0} (n m : ℕ) (part next : Part) (r : Result A LedgerFault) (old new : State) (Answers : Trees → Trees → Type 0) (Makes : Book → Book → Type 0) (kept : IsSafe old → ∥ IsKept n part old ∥₁)
-    (c : Done n m part next r old new Answers (λ base db. Makes (book_of base) (book_of db)))
+module _ {A : Type 0} (n m : ℕ) (part next : Part) (r : Result A LedgerFault) (old new : State) (Answers Makes : Trees → Trees → Type 0) (kept : IsSafe old → ∥ IsKept n part old ∥₁)
+    (c : Done n m part next r old new Answers Makes)
     (was_settled : (db : Trees) → IsTrue old.is_open → old.may_leave db → db ≡ old.committed.trees)
     (is_settled : (db : Trees) → IsTrue new.is_open → new.may_leave db → db ≡ new.committed.trees)
-    (answers : Stable (Answers old.committed.trees new.committed.trees)) (makes : (b d : Book) → Stable (Makes b d)) where
-  abbrev Made : Trees → Trees → Type 0
-  Made base db = Makes (book_of base) (book_of db)
+    (answers : Stable (Answers old.committed.trees new.committed.trees)) where
+  left : HasCleanDisk new → IsSafe old → (db : Trees) → new.may_leave db → ∥ (db ≡ old.committed.trees) ⊎ Makes old.committed.trees db ∥₁
+  left clean safe db may = ∥∥₁_map (kept safe) (λ k. elim (c.crash clean k db may) [ inl before ↦ inl (was_settled db safe.1 before) | inr made ↦ inr made ])
 
-  left : HasCleanDisk new → IsSafe old → (db : Trees) → new.may_leave db → (book_of db ≡ book_of old.committed.trees) ⊎ Makes (book_of old.committed.trees) (book_of db)
-  left clean safe db may = either (tested coded_book (book_of db) (book_of old.committed.trees)) (makes (book_of old.committed.trees) (book_of db))
-      (∥∥₁_map (kept safe) (λ k. elim (c.crash clean k db may) [ inl before ↦ inl (ap book_of (was_settled db safe.1 before)) | inr made ↦ inr made ]))
-
-  stands : (q : Result A LedgerFault) → LastsAfter q (HasCleanDisk new → IsSafe old → IsSafe new) → HasCleanDisk new → IsSafe old → OnOk q ((db : Trees) → new.may_leave db → book_of db ≡ book_of new.committed.trees)
-  stands (Ok value) lasts clean safe = λ db may. ap book_of (is_settled db (lasts clean safe).1 may)
+  stands : (q : Result A LedgerFault) → LastsAfter q (HasCleanDisk new → IsSafe old → IsSafe new) → HasCleanDisk new → IsSafe old → OnOk q ((db : Trees) → new.may_leave db → db ≡ new.committed.trees)
+  stands (Ok value) lasts clean safe = λ db may. is_settled db (lasts clean safe).1 may
   stands (Err why) lasts clean safe = tt
 
   pub wrote : Wrote r old new Answers Makes
   wrote =
-      let lasts = lasting n m part next r old new Answers Made kept c in
+      let lasts = lasting n m part next r old new Answers Makes kept c in
       record {
-        answers = answered n m part next r old new Answers Made kept c answers;
-        stood = was_safe n m part next r old new Answers Made kept c;
+        answers = answered n m part next r old new Answers Makes kept c answers;
+        stood = was_safe n m part next r old new Answers Makes kept c;
         lasts = lasts;
         crash = left;
         durable = stands r lasts.lasts;

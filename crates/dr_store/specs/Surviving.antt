@@ -1,24 +1,67 @@
--- A call that writes, by the book before and after it, and what a crash leaves of it.
-use Rattle.std.specs.Prelude.{◌≡◌, ◌⊎◌, Result, OnOk}
+-- A call that writes, by the tables before and after it, and what a crash leaves of it.
+use Rattle.std.specs.Prelude.{◌≡◌, ◌⊎◌, ℕ, Result, Ok, OnOk}
 use Rattle.sqlite.specs.State.{State, HasCleanDisk}
 use Rattle.sqlite.specs.Tree.{Trees}
+use Rattle.dr_base.specs.Texts.{Text}
+use Rattle.dr_site.specs.Parts.{Part}
 use Rattle.dr_ledger.specs.declared.fault.LedgerFault.{LedgerFault}
+use Rattle.dr_ledger.specs.declared.item.Instance.{Instance}
+use Rattle.dr_ledger.specs.declared.item.Outcome.{Outcome}
+use Rattle.dr_ledger.specs.Adopting.{Adopting}
 use Rattle.dr_ledger.specs.Books.{Book}
-use Rattle.dr_ledger.specs.Replies.{PremiseLasts}
+use Rattle.dr_ledger.specs.Replies.{Drops, Forgets, PremiseLasts, Requeues, Settles}
 use Rattle.dr_store_schema.specs.Books.{book_of}
+use Rattle.dr_store_calls.specs.Adoptions.{IsAdopted}
 use Rattle.dr_store_calls.specs.Calling.{IsSafe}
+use Rattle.dr_store_calls.specs.Knowing.{IsAccepted}
 
 -- It answers for the tables committed before and after it, while the disk has returned what was
 -- written and the store is open; only a failed store or want of memory ends that. A crash after it
--- leaves the book from before it or the one that the accepted call makes, and where it was
--- accepted, the book after it.
+-- leaves all tables as they were committed before it, or such as the accepted call makes by this
+-- relation; and where it was accepted, all of them as they are committed after it.
 pub record Wrote {A : Type 0} (result : Result A LedgerFault) (old new : State)
-    (Answers : Trees → Trees → Type 0) (Makes : Book → Book → Type 0) : Type 0 where
+    (Answers Makes : Trees → Trees → Type 0) : Type 0 where
   pub answers : IsSafe new → Answers old.committed.trees new.committed.trees
   pub stood : IsSafe new → IsSafe old
   pub lasts : PremiseLasts result (HasCleanDisk old) (HasCleanDisk new) (IsSafe old) (IsSafe new)
   pub crash : HasCleanDisk new → IsSafe old → (db : Trees) → new.may_leave db
-      → (book_of db ≡ book_of old.committed.trees)
-      ⊎ Makes (book_of old.committed.trees) (book_of db)
+      → ∥ (db ≡ old.committed.trees) ⊎ Makes old.committed.trees db ∥₁
   pub durable : HasCleanDisk new → IsSafe old
-      → OnOk result ((db : Trees) → new.may_leave db → book_of db ≡ book_of new.committed.trees)
+      → OnOk result ((db : Trees) → new.may_leave db → db ≡ new.committed.trees)
+
+-- ---- laws
+
+-- whatever it answers, and whatever it makes
+abbrev pub Whatever : Trees → Trees → Type 0
+Whatever base db = Unit {0}
+
+-- it makes nothing
+abbrev pub MakesNone : Trees → Trees → Type 0
+MakesNone base db = ⊥
+
+-- what a crash leaves is told by the books: the one from before, or the one that the call makes
+abbrev pub IsToldByBooks : (Trees → Trees → Type 0) → (Book → Book → Type 0) → Type 0
+IsToldByBooks Makes Accepts =
+    (base db : Trees)
+    → ∥ (db ≡ base) ⊎ Makes base db ∥₁
+    → (book_of db ≡ book_of base) ⊎ Accepts (book_of base) (book_of db)
+
+-- so it is of each call, as its clause says what the call makes
+pub record CrashesAreTold : Type 0 where
+  pub arrival : (part : Part) (caller : Text) (item : Instance)
+      → IsToldByBooks (λ base db. IsAccepted part caller item (book_of base) (book_of db))
+      (IsAccepted part caller item)
+  pub settling : (uid dest : Text) (outcome : Outcome) (now : ℕ)
+      → IsToldByBooks (λ base db. Settles uid dest outcome now (book_of base) (Ok tt) (book_of db))
+      (λ old new. Settles uid dest outcome now old (Ok tt) new)
+  pub requeuing : (uid dest : Text)
+      → IsToldByBooks (λ base db. Requeues uid dest (book_of base) (Ok tt) (book_of db))
+      (λ old new. Requeues uid dest old (Ok tt) new)
+  pub dropping : (uid dest : Text) (now : ℕ)
+      → IsToldByBooks (λ base db. Drops uid dest now (book_of base) (Ok tt) (book_of db))
+      (λ old new. Drops uid dest now old (Ok tt) new)
+  pub forgetting : (uid : Text)
+      → IsToldByBooks (λ base db. Forgets uid (book_of base) (Ok tt) (book_of db))
+      (λ old new. Forgets uid old (Ok tt) new)
+  pub adoption : (next : Part)
+      → IsToldByBooks (IsAdopted next) (λ old new. Adopting old (Ok tt) new)

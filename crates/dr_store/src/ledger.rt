@@ -8,6 +8,7 @@ ghost use Rattle.dr_ledger.specs.Items.{instance_of};
 ghost use Rattle.dr_ledger.specs.Replies.{Arrives, Counts, Drops, Forgets, Requeues, Settles};
 ghost use Rattle.dr_ledger.specs.SiteRoutes.{site_routing};
 ghost use Rattle.dr_store_schema.specs.Books.{bodies_of, book_of};
+ghost use Rattle.dr_store_calls.specs.Adoptions.{IsAdopted};
 ghost use Rattle.dr_store_calls.specs.Calling.{IsKept, IsSafe};
 ghost use Rattle.dr_store_calls.specs.Knowing.{IsAccepted};
 ghost use Rattle.dr_store.specs.Counting.{failures_after};
@@ -84,7 +85,8 @@ impl<S: Alter> SqlLedger<S> {
             (λ base db. Arrives (site_routing self.old.site) caller.now (instance_of item)
             (book_of base) result (book_of db)
             × OnlyTakes item (bodies_of base) (bodies_of db))
-            (IsAccepted self.old.site caller.now (instance_of item)) }
+            (λ base db. IsAccepted self.old.site caller.now (instance_of item) (book_of base)
+            (book_of db)) }
         ensures counted { self.new.failures ≡ failures_after result self.old.failures }
         ensures counts { Counts result self.old.failures self.new.failures }
         ensures site { self.new.site ≡ self.old.site }
@@ -114,7 +116,7 @@ impl<S: Alter> SqlLedger<S> {
         ensures wrote { Wrote result (state S.Store self.old.conn) (state S.Store self.new.conn)
             (λ base db. Settles uid.now dest.now outcome now (book_of base) result (book_of db)
             × OnlyLetsGo (bodies_of base) (bodies_of db))
-            (λ old new. Settles uid.now dest.now outcome now old (Ok tt) new) }
+            (λ base db. Settles uid.now dest.now outcome now (book_of base) (Ok tt) (book_of db)) }
         ensures counted { self.new.failures ≡ failures_after result self.old.failures }
         ensures counts { Counts result self.old.failures self.new.failures }
         ensures site { self.new.site ≡ self.old.site }
@@ -130,7 +132,7 @@ impl<S: Alter> SqlLedger<S> {
         ensures wrote { Wrote result (state S.Store self.old.conn) (state S.Store self.new.conn)
             (λ base db. Requeues uid.now dest.now (book_of base) result (book_of db)
             × OnlyLetsGo (bodies_of base) (bodies_of db))
-            (λ old new. Requeues uid.now dest.now old (Ok tt) new) }
+            (λ base db. Requeues uid.now dest.now (book_of base) (Ok tt) (book_of db)) }
         ensures counted { self.new.failures ≡ failures_after result self.old.failures }
         ensures counts { Counts result self.old.failures self.new.failures }
         ensures site { self.new.site ≡ self.old.site }
@@ -147,7 +149,7 @@ impl<S: Alter> SqlLedger<S> {
         ensures wrote { Wrote result (state S.Store self.old.conn) (state S.Store self.new.conn)
             (λ base db. Drops uid.now dest.now now (book_of base) result (book_of db)
             × OnlyLetsGo (bodies_of base) (bodies_of db))
-            (λ old new. Drops uid.now dest.now now old (Ok tt) new) }
+            (λ base db. Drops uid.now dest.now now (book_of base) (Ok tt) (book_of db)) }
         ensures counted { self.new.failures ≡ failures_after result self.old.failures }
         ensures counts { Counts result self.old.failures self.new.failures }
         ensures site { self.new.site ≡ self.old.site }
@@ -164,7 +166,7 @@ impl<S: Alter> SqlLedger<S> {
         ensures wrote { Wrote result (state S.Store self.old.conn) (state S.Store self.new.conn)
             (λ base db. Forgets uid.now (book_of base) result (book_of db)
             × OnlyLetsGo (bodies_of base) (bodies_of db))
-            (λ old new. Forgets uid.now old (Ok tt) new) }
+            (λ base db. Forgets uid.now (book_of base) (Ok tt) (book_of db)) }
         ensures counted { self.new.failures ≡ failures_after result self.old.failures }
         ensures counts { Counts result self.old.failures self.new.failures }
         ensures site { self.new.site ≡ self.old.site }
@@ -181,7 +183,7 @@ impl<S: Alter> SqlLedger<S> {
         ensures wrote { Wrote result (state S.Store self.old.conn) (state S.Store self.new.conn)
             (λ base db. Adopting (book_of base) result (book_of db)
             × OnlyLetsGo (bodies_of base) (bodies_of db))
-            (λ old new. Adopting old (Ok tt) new) }
+            (IsAdopted own) }
         ensures counted { self.new.failures ≡ failures_after result self.old.failures }
         ensures counts { Counts result self.old.failures self.new.failures }
         ensures site { self.new.site ≡ site_after result own self.old.site }

@@ -1,6 +1,9 @@
 //! Why a file's ledger isn't opened.
-ghost use Rattle.std.specs.Prelude.{◌≢◌};
+ghost use Rattle.std.specs.Prelude.{◌≡◌, ◌≢◌, ◌↔◌};
+ghost use Rattle.dr_ledger.specs.declared.fault.LedgerFault.TheVariants as ledger;
+ghost use Rattle.dr_store_audit.specs.declared.fault.FindingFault.TheVariants as finding;
 ghost use Rattle.dr_store_open.specs.declared.fault.OpeningFault.TheVariants as opening;
+ghost use Rattle.dr_store_reads.specs.Queries.{IsWantOfMemory};
 
 use dr_ledger::LedgerFault;
 use dr_store_audit::FindingFault;
@@ -46,7 +49,8 @@ impl<T: Drop> From<AllocFailed<T>> for OpeningFault {
 
 /// The fault of an opening where a ledger answers this.
 pub fn opening_fault(fault: LedgerFault) -> OpeningFault
-    ensures { result ≢ opening.OtherSite }
+    ensures other { result ≢ opening.OtherSite }
+    ensures memory { (result ≡ opening.Memory) ↔ (fault ≡ ledger.Memory) }
 {
     match fault {
         LedgerFault::Memory => OpeningFault::Memory,
@@ -55,12 +59,18 @@ pub fn opening_fault(fault: LedgerFault) -> OpeningFault
 }
 
 /// The fault of an opening where the database answers this.
-pub fn of_error(error: &SqlError) -> OpeningFault {
+pub fn of_error(error: &SqlError) -> OpeningFault
+    ensures other { result ≢ opening.OtherSite }
+    ensures memory { (result ≡ opening.Memory) ↔ IsWantOfMemory error.now }
+{
     opening_fault(fault_of(error))
 }
 
 /// The fault of an opening where tables that were found aren't taken.
-pub fn of_finding(fault: FindingFault) -> OpeningFault {
+pub fn of_finding(fault: FindingFault) -> OpeningFault
+    ensures other { (result ≡ opening.OtherSite) ↔ (fault ≡ finding.OtherSite) }
+    ensures memory { (result ≡ opening.Memory) ↔ (fault ≡ finding.Memory) }
+{
     match fault {
         FindingFault::OtherSite => OpeningFault::OtherSite,
         FindingFault::Memory => OpeningFault::Memory,

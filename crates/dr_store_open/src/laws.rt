@@ -1,11 +1,12 @@
 //! Laws of what an opening finds, and of what it leaves.
-ghost use Rattle.std.specs.Prelude.{◌≡◌, IsTrue};
+ghost use Rattle.std.specs.Prelude.{◌≡◌, ◌⊎◌, IsTrue};
 ghost use Rattle.sqlite.specs.Held.{state};
 ghost use Rattle.sqlite.specs.Tree.{Trees};
 ghost use Rattle.dr_store_schema.specs.Tables.{tables};
 ghost use Rattle.dr_store_audit.specs.Older.{IsOlder};
 ghost use Rattle.dr_store_open.specs.Opening.{BadTablesAreNone, IsBlank, LeavesFile, LeavesOldOr};
-ghost use Rattle.dr_store_open.specs.Opening.{LedgersAreOne, NewLedgersAreLedgers, StaysAsFound};
+ghost use Rattle.dr_store_open.specs.Opening.{LeavesOldOrCommitted, LedgersAreOne};
+ghost use Rattle.dr_store_open.specs.Opening.{NewLedgersAreLedgers, StaysAsFound};
 ghost use Rattle.dr_store_open.specs.Renewing.{HasNoRows, KeepsRows};
 
 use sqlite::{Alter, Connection};
@@ -65,6 +66,16 @@ pub fn a_new_file_has_no_rows<S: Alter>(before: &Connection<S>, after: &Connecti
         → IsBlank (state S.Store before.now).now.schema
         → LeavesOldOr (λ d. d.schema ≡ tables → HasNoRows d) (state S.Store before.now)
         (state S.Store after.now) }
+{}
+
+/// Where a crash leaves what it could before or what is committed, and the store was open before,
+/// it leaves all tables as they were committed before, or as they are now.
+pub fn a_crash_leaves_the_old_or_the_new<S: Alter>(before: &Connection<S>, after: &Connection<S>)
+    ensures { LeavesOldOrCommitted (state S.Store before.now) (state S.Store after.now)
+        → IsTrue (state S.Store before.now).is_open
+        → (db : Trees) → (state S.Store after.now).may_leave db
+        → (db ≡ (state S.Store before.now).committed.trees)
+        ⊎ (db ≡ (state S.Store after.now).committed.trees) }
 {}
 
 /// What stays as it was found is committed as it was, and a crash leaves no more than before.

@@ -1,8 +1,9 @@
 //! A file's ledger, opened, as a ledger over its connection.
-ghost use Rattle.std.specs.Prelude.{◌≡◌, IfOk, false};
+ghost use Rattle.std.specs.Prelude.{◌≡◌, ℕ, IfOk, false};
 ghost use Rattle.sqlite.specs.Held.{state};
 ghost use Rattle.sqlite.specs.State.{HasCleanDisk};
 ghost use Rattle.dr_store_calls.specs.Calling.{IsKept};
+ghost use Rattle.dr_store_open.specs.Opening.{HasLedgerOf};
 
 use crate::fault::OpeningFault;
 use crate::opening::on;
@@ -22,6 +23,8 @@ pub fn ledger_on<S: Alter + Drop>(
 ) -> Result<SqlLedger<S>, OpeningFault>
     requires { conn.in_transaction ≡ false }
     ensures of { IfOk result (λ l. l.site ≡ site) }
+    ensures is { IfOk result (λ l. HasCleanDisk (state S.Store l.conn)
+        → (n : ℕ) × HasLedgerOf n l.site (state S.Store l.conn).committed) }
 {
     match on(conn, alloc, &site) {
         Ok((conn, next)) => Ok(SqlLedger::of(alloc, conn, site, next)),

@@ -3,6 +3,9 @@ use Rattle.std.specs.Prelude.{◌≡◌, ◌≢◌, ◌≤◌, ◌<◌, ◌^◌,
 use Rattle.std.specs.Prelude.{Bool, List, length}
 use Rattle.std.specs.Prelude.{[], ◌∷◌, Option, Some, None, option_map, unwrap_or, Result, OnOk}
 use Rattle.std.specs.FinMap as map
+use Rattle.sqlite.specs.declared.error.Error.{Error}
+use Rattle.sqlite.specs.declared.error.Error.TheVariants.{SqliteFailure}
+use Rattle.sqlite.specs.declared.error.ErrorCode.TheVariants.{OutOfMemory}
 use Rattle.sqlite.specs.declared.types.Value.TheVariants.{Blob, Int, Text as TextCell}
 use Rattle.sqlite.specs.declared.types.Value.{Value}
 use Rattle.sqlite.specs.Effect.{Database}
@@ -25,6 +28,11 @@ use Rattle.dr_store_writes.specs.Effects.{IsSiteOf}
 use Rattle.dr_store_reads.specs.declared.finding.Owner.{Owner}
 use Rattle.dr_store_reads.specs.declared.finding.Print.{Print}
 use Rattle.dr_store_reads.specs.declared.finding.Stored.{Stored}
+
+-- the database failed since memory was wanting
+abbrev pub IsWantOfMemory : Error → Type 0
+IsWantOfMemory (SqliteFailure OutOfMemory) = Unit {0}
+IsWantOfMemory error = ⊥
 
 -- the tables are those of a ledger
 abbrev pub HasTables : Database → Type 0

@@ -1,12 +1,12 @@
 //! Queries, which change nothing.
-ghost use Rattle.std.specs.Prelude.{◌≡◌, ◌⊎◌};
+ghost use Rattle.std.specs.Prelude.{◌≡◌, ◌⊎◌, ◌↔◌};
 ghost use Rattle.sqlite.specs.State.{Shown};
 ghost use Rattle.sqlite.specs.Held.{state};
 ghost use Rattle.sqlite.specs.Values.{bound};
 ghost use Rattle.sqlite.specs.Listing.{understood};
 ghost use Rattle.sqlite.specs.Given.{IsPlain};
 ghost use Rattle.dr_ledger.specs.declared.fault.LedgerFault.TheVariants as fault;
-ghost use Rattle.dr_store_reads.specs.Queries.{Asked};
+ghost use Rattle.dr_store_reads.specs.Queries.{Asked, IsWantOfMemory};
 
 use dr_ledger::LedgerFault;
 use sqlite::types::ValueRef;
@@ -14,7 +14,8 @@ use sqlite::{Alter, Connection, Error, ErrorCode, Row};
 
 /// What a ledger answers where the database answers this.
 pub fn fault_of(error: &Error) -> LedgerFault
-    ensures { (result ≡ fault.Store) ⊎ (result ≡ fault.Memory) }
+    ensures own { (result ≡ fault.Store) ⊎ (result ≡ fault.Memory) }
+    ensures memory { (result ≡ fault.Memory) ↔ IsWantOfMemory error.now }
 {
     match error {
         Error::SqliteFailure(ErrorCode::OutOfMemory) => LedgerFault::Memory,

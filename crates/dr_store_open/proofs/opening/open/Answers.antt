@@ -83,4 +83,4 @@ returns-in-Ok-None-clause-refused g c clean other n is =
     none n (subst (λ h. HasLedgerOf n part (state g.S.Store h).now) (sym same) is)
 
 pub returns-in-Err-clause-refused : goal.returns-in-Err-clause-refused
-returns-in-Err-clause-refused g c clean other = absurd (c.opening_fault.ensures other)
+returns-in-Err-clause-refused g c clean other = absurd (c.opening_fault.ensures.other other)

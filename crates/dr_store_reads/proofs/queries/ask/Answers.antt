@@ -12,5 +12,5 @@ returns-in-Ok g c = record {
 pub returns-in-Err : goal.returns-in-Err
 returns-in-Err g c = record {
   asked = asked_failed c.args.sql.now (bound c.args.params.now) (state g.S.Store c.args.conn.now) (state g.S.Store c.query_all.new.self) c.in-Err.error c.fault_of.result _ c.in-Err.ensures.err
-      c.query_all.ensures.mode c.query_all.ensures.survives c.fault_of.ensures;
+      c.query_all.ensures.mode c.query_all.ensures.survives c.fault_of.ensures.own;
 }

@@ -1,11 +1,11 @@
-use Rattle.std.proofs.Common.{◌≡◌, Ok, sym, subst}
+use Rattle.std.proofs.Common.{sym, subst}
 use Rattle.sqlite.specs.Held.{state}
 use Rattle.dr_site.specs.Parts.{Part}
-use Rattle.dr_ledger.specs.Adopting.{Adopting, site_after}
-use Rattle.dr_ledger.specs.Books.{Book}
+use Rattle.dr_ledger.specs.Adopting.{site_after}
 use Rattle.dr_store_schema.specs.Books.{bodies_of, book_of}
+use Rattle.dr_store_calls.specs.Adoptions.{IsAdopted}
 use Rattle.dr_store_calls.specs.Calling.{IsKept, IsSafe, advanced}
-use Rattle.dr_store.proofs.Adopts.{Adoption, Adoptive, adopted}
+use Rattle.dr_store.proofs.Adopts.{Adoption, adopted}
 use Rattle.dr_store.proofs.Replies.{adopting, lets_go}
 use Rattle.dr_store.proofs.Stable.{both}
 use Rattle.dr_store.proofs.Writes.{still_kept, wrote}
@@ -24,7 +24,7 @@ invariant_of-self g c =
     record {
       idle = c.adopt-answer.ensures.idle;
       kept = subst (λ m. IsSafe new → ∥ IsKept m c.take_over.new.site new ∥₁) (sym c.next_after-self.ensures)
-          (subst P (sym c.take_over.ensures) (still_kept n (advanced r n) part (site_after r next part) r old new (Adoption r) Adoptive c.args.self.now.kept done));
+          (subst P (sym c.take_over.ensures) (still_kept n (advanced r n) part (site_after r next part) r old new (Adoption r) (IsAdopted next) c.args.self.now.kept done));
     }
 
 pub returns-clause-wrote : goal.returns-clause-wrote
@@ -36,8 +36,6 @@ returns-clause-wrote g c =
     let old = state g.S.Store c.args.self.now.conn in
     let new = state g.S.Store c.adopt-answer.new.conn in
     let done = adopted n part next r old new (c.adopt-answer.ensures.adopted part) in
-    let Makes : Book → Book → Type 0 = λ b d. Adopting b (Ok tt) d in
-    wrote n (advanced r n) part (site_after r next part) r old new (Adoption r) Makes c.args.self.now.kept done (λ db is_open left. g.met.S.Store.settled c.args.self.now.conn.store db is_open left)
+    wrote n (advanced r n) part (site_after r next part) r old new (Adoption r) (IsAdopted next) c.args.self.now.kept done (λ db is_open left. g.met.S.Store.settled c.args.self.now.conn.store db is_open left)
     (λ db is_open left. g.met.S.Store.settled c.adopt-answer.new.conn.store db is_open left)
     (both (adopting (book_of old.committed.trees) r (book_of new.committed.trees)) (lets_go (bodies_of old.committed.trees) (bodies_of new.committed.trees)))
-    (λ b d. adopting b (Ok tt) d)

@@ -2,14 +2,13 @@ use Rattle.std.proofs.Common.{◌≡◌, Ok, sym, subst}
 use Rattle.sqlite.specs.Held.{state}
 use Rattle.sqlite.specs.Tree.{Trees}
 use Rattle.dr_ledger.specs.Bodies.{OnlyLetsGo, OnlyTakes}
-use Rattle.dr_ledger.specs.Books.{Book}
 use Rattle.dr_ledger.specs.Items.{instance_of}
 use Rattle.dr_ledger.specs.Replies.{Arrives, Requeues, Settles}
 use Rattle.dr_ledger.specs.SiteRoutes.{site_routing}
 use Rattle.dr_store_schema.specs.Books.{bodies_of, book_of}
 use Rattle.dr_store_calls.specs.Calling.{IsKept, IsSafe, advanced}
 use Rattle.dr_store_calls.specs.Knowing.{IsAccepted}
-use Rattle.dr_store.proofs.Replies.{accepted, arrives, lets_go, requeues, settles, takes}
+use Rattle.dr_store.proofs.Replies.{arrives, lets_go, requeues, settles, takes}
 use Rattle.dr_store.proofs.Stable.{both}
 use Rattle.dr_store.proofs.Writes.{called, still_kept, wrote}
 use Rattle.dr_store.proofs.ledger.SqlLedger.arrive_in.Goals as goal
@@ -24,12 +23,11 @@ invariant_of-self g c =
     let old = state g.S.Store c.args.self.now.conn in
     let new = state g.S.Store c.arrive-answer.new.conn in
     let Answers : Trees → Trees → Type 0 = λ base db. Arrives (site_routing part) caller (instance_of item) (book_of base) r (book_of db) × OnlyTakes item (bodies_of base) (bodies_of db) in
-    let Makes : Book → Book → Type 0 = λ b d. IsAccepted part caller (instance_of item) b d in
-    let Made : Trees → Trees → Type 0 = λ base db. Makes (book_of base) (book_of db) in
-    let done = called n (advanced r n) part r old new Answers Made c.arrive-answer.ensures.called in
+    let Makes : Trees → Trees → Type 0 = λ base db. IsAccepted part caller (instance_of item) (book_of base) (book_of db) in
+    let done = called n (advanced r n) part r old new Answers Makes c.arrive-answer.ensures.called in
     record {
       idle = c.arrive-answer.ensures.idle;
-      kept = subst (λ m. IsSafe new → ∥ IsKept m part new ∥₁) (sym c.next_after-self.ensures) (still_kept n (advanced r n) part part r old new Answers Made c.args.self.now.kept done);
+      kept = subst (λ m. IsSafe new → ∥ IsKept m part new ∥₁) (sym c.next_after-self.ensures) (still_kept n (advanced r n) part part r old new Answers Makes c.args.self.now.kept done);
     }
 
 pub returns-clause-wrote : goal.returns-clause-wrote
@@ -42,10 +40,8 @@ returns-clause-wrote g c =
     let old = state g.S.Store c.args.self.now.conn in
     let new = state g.S.Store c.arrive-answer.new.conn in
     let Answers : Trees → Trees → Type 0 = λ base db. Arrives (site_routing part) caller (instance_of item) (book_of base) r (book_of db) × OnlyTakes item (bodies_of base) (bodies_of db) in
-    let Makes : Book → Book → Type 0 = λ b d. IsAccepted part caller (instance_of item) b d in
-    let Made : Trees → Trees → Type 0 = λ base db. Makes (book_of base) (book_of db) in
-    let done = called n (advanced r n) part r old new Answers Made c.arrive-answer.ensures.called in
+    let Makes : Trees → Trees → Type 0 = λ base db. IsAccepted part caller (instance_of item) (book_of base) (book_of db) in
+    let done = called n (advanced r n) part r old new Answers Makes c.arrive-answer.ensures.called in
     wrote n (advanced r n) part part r old new Answers Makes c.args.self.now.kept done (λ db is_open left. g.met.S.Store.settled c.args.self.now.conn.store db is_open left)
     (λ db is_open left. g.met.S.Store.settled c.arrive-answer.new.conn.store db is_open left)
     (both (arrives part caller (instance_of item) (book_of old.committed.trees) r (book_of new.committed.trees)) (takes item (bodies_of old.committed.trees) (bodies_of new.committed.trees)))
-    (accepted part caller (instance_of item))

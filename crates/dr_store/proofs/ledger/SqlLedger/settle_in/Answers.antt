@@ -2,7 +2,6 @@ use Rattle.std.proofs.Common.{◌≡◌, Ok, sym, subst}
 use Rattle.sqlite.specs.Held.{state}
 use Rattle.sqlite.specs.Tree.{Trees}
 use Rattle.dr_ledger.specs.Bodies.{OnlyLetsGo, OnlyTakes}
-use Rattle.dr_ledger.specs.Books.{Book}
 use Rattle.dr_ledger.specs.Items.{instance_of}
 use Rattle.dr_ledger.specs.Replies.{Arrives, Requeues, Settles}
 use Rattle.dr_ledger.specs.SiteRoutes.{site_routing}
@@ -26,12 +25,11 @@ invariant_of-self g c =
     let old = state g.S.Store c.args.self.now.conn in
     let new = state g.S.Store c.settle-answer.new.conn in
     let Answers : Trees → Trees → Type 0 = λ base db. Settles uid dest outcome now (book_of base) r (book_of db) × OnlyLetsGo (bodies_of base) (bodies_of db) in
-    let Makes : Book → Book → Type 0 = λ b d. Settles uid dest outcome now b (Ok tt) d in
-    let Made : Trees → Trees → Type 0 = λ base db. Makes (book_of base) (book_of db) in
-    let done = called n (advanced r n) part r old new Answers Made (c.settle-answer.ensures.called part) in
+    let Makes : Trees → Trees → Type 0 = λ base db. Settles uid dest outcome now (book_of base) (Ok tt) (book_of db) in
+    let done = called n (advanced r n) part r old new Answers Makes (c.settle-answer.ensures.called part) in
     record {
       idle = c.settle-answer.ensures.idle;
-      kept = subst (λ m. IsSafe new → ∥ IsKept m part new ∥₁) (sym c.next_after-self.ensures) (still_kept n (advanced r n) part part r old new Answers Made c.args.self.now.kept done);
+      kept = subst (λ m. IsSafe new → ∥ IsKept m part new ∥₁) (sym c.next_after-self.ensures) (still_kept n (advanced r n) part part r old new Answers Makes c.args.self.now.kept done);
     }
 
 pub returns-clause-wrote : goal.returns-clause-wrote
@@ -46,10 +44,8 @@ returns-clause-wrote g c =
     let old = state g.S.Store c.args.self.now.conn in
     let new = state g.S.Store c.settle-answer.new.conn in
     let Answers : Trees → Trees → Type 0 = λ base db. Settles uid dest outcome now (book_of base) r (book_of db) × OnlyLetsGo (bodies_of base) (bodies_of db) in
-    let Makes : Book → Book → Type 0 = λ b d. Settles uid dest outcome now b (Ok tt) d in
-    let Made : Trees → Trees → Type 0 = λ base db. Makes (book_of base) (book_of db) in
-    let done = called n (advanced r n) part r old new Answers Made (c.settle-answer.ensures.called part) in
+    let Makes : Trees → Trees → Type 0 = λ base db. Settles uid dest outcome now (book_of base) (Ok tt) (book_of db) in
+    let done = called n (advanced r n) part r old new Answers Makes (c.settle-answer.ensures.called part) in
     wrote n (advanced r n) part part r old new Answers Makes c.args.self.now.kept done (λ db is_open left. g.met.S.Store.settled c.args.self.now.conn.store db is_open left)
     (λ db is_open left. g.met.S.Store.settled c.settle-answer.new.conn.store db is_open left)
     (both (settles uid dest outcome now (book_of old.committed.trees) r (book_of new.committed.trees)) (lets_go (bodies_of old.committed.trees) (bodies_of new.committed.trees)))
-    (λ b d. settles uid dest outcome now b (Ok tt) d)

@@ -1,0 +1,40 @@
+//! Laws of what a crash leaves of a call that writes.
+ghost use Rattle.std.specs.Prelude.{◌≡◌, Err, Ok};
+ghost use Rattle.sqlite.specs.Held.{state};
+ghost use Rattle.sqlite.specs.State.{HasCleanDisk};
+ghost use Rattle.sqlite.specs.Tree.{Trees};
+ghost use Rattle.dr_ledger.specs.declared.fault.LedgerFault.{LedgerFault};
+ghost use Rattle.dr_store_calls.specs.Calling.{IsSafe};
+ghost use Rattle.dr_store.specs.Surviving.{CrashesAreTold, MakesNone, Whatever, Wrote};
+
+use sqlite::{Alter, Connection};
+
+/// Where a call was accepted, a crash leaves all tables as they are committed after it: book, data
+/// sets and owner together.
+pub fn what_was_accepted_outlasts_a_crash<S: Alter>(before: &Connection<S>, after: &Connection<S>)
+    ensures { Wrote {A = Unit {0}} (Ok tt) (state S.Store before.now) (state S.Store after.now)
+        Whatever Whatever
+        → HasCleanDisk (state S.Store after.now)
+        → IsSafe (state S.Store before.now)
+        → (db : Trees)
+        → (state S.Store after.now).may_leave db
+        → db ≡ (state S.Store after.now).committed.trees }
+{}
+
+/// Whatever a call answers that makes nothing, a crash leaves all tables as they were.
+pub fn what_makes_nothing_leaves_all<S: Alter>(before: &Connection<S>, after: &Connection<S>)
+    ensures { (why : LedgerFault)
+        → Wrote {A = Unit {0}} (Err why) (state S.Store before.now) (state S.Store after.now)
+        Whatever MakesNone
+        → HasCleanDisk (state S.Store after.now)
+        → IsSafe (state S.Store before.now)
+        → (db : Trees)
+        → (state S.Store after.now).may_leave db
+        → ∥ db ≡ (state S.Store before.now).committed.trees ∥₁ }
+{}
+
+/// What a crash leaves of a call is told by the books: the one from before the call, or the one
+/// that the accepted call makes.
+pub fn a_crash_is_told_by_books()
+    ensures { CrashesAreTold }
+{}
