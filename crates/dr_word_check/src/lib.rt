@@ -11,5 +11,5 @@ mod run;
 mod system;
 mod verify;
 
-pub use run::{run_asked, run_check_words, tell_failure, tell_unread_words};
+pub use run::{run_asked, tell_failure, tell_unread_words};
 pub use system::{Disk, given_words};

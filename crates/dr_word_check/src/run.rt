@@ -6,9 +6,8 @@ ghost use Rattle.std.specs.Io.KnownBytes.{Appends};
 ghost use Rattle.dr_word_check.specs.Verdicts.{verdict_line};
 ghost use Rattle.dr_word_check.specs.Runs.{Answers, Verifies};
 ghost use Rattle.dr_word_check.specs.Expanded.{Expanded};
-ghost use Rattle.dr_word_line.specs.Words.{IsPlainCheck, IsCheckOf, IsExpandOf, IsVerifyOf};
 ghost use Rattle.dr_word_line.specs.declared.words.Task.TheVariants as asks;
-ghost use Rattle.dr_run_open.specs.declared.status.Status.TheVariants.{Success, Refused, Usage};
+ghost use Rattle.dr_run_open.specs.declared.status.Status.TheVariants.{Refused, Usage};
 ghost use Rattle.dr_run_open.specs.declared.status.Status.TheVariants.{InputOutput, Memory};
 
 use crate::answer::answer_to;
@@ -19,8 +18,8 @@ use clap::error::ErrorKind;
 use dr_certify::read_input;
 use dr_run_files::{Failure, Files, read_file};
 use dr_run_open::{Status, plan_of, tell_answer};
-use dr_word_line::{Task, read_words};
-use std::alloc::{AllocError, Global};
+use dr_word_line::Task;
+use std::alloc::Global;
 use std::io;
 use std::io::{Read, Write};
 
@@ -244,51 +243,5 @@ pub fn run_asked<'a, R: Read, W: Write, E: Write, F: Files>(
         | Task::Audit(_)
         | Task::AuditAmong(_, _) => { Ok(tell_other_word(faults)?) }
         Task::Told(error) => Ok(tell_words(&error, output, faults)?),
-    }
-}
-
-/// Runs `check`, `expand` or `verify` on the words of a command line, without the program's own
-/// name, and answers how it ends.
-pub fn run_check_words<R: Read, W: Write, E: Write, F: Files>(
-    alloc: Global,
-    words: &[&str],
-    input: &mut R,
-    output: &mut W,
-    faults: &mut E,
-    files: &F,
-) -> Status
-    ensures known { IsPlainCheck words.now → result ≢ Usage }
-    ensures answered { IsPlainCheck words.now
-        → (result ≡ Success) ⊎ (result ≡ Refused)
-        → IfSome (R.remaining input.old) (λ text.
-        Answers text (W.contents output.old) (W.contents output.new) result) }
-    ensures checked { (plan : Bor (List ℕ)) → IsCheckOf words.now plan
-        → (result ≡ Success) ⊎ (result ≡ Refused)
-        → (text : Text)
-        × F.holds files.now plan.now text
-        × Answers text (W.contents output.old) (W.contents output.new) result }
-    ensures expanded { (plan : Bor (List ℕ)) → IsExpandOf words.now plan
-        → (result ≡ Success) ⊎ (result ≡ Refused)
-        → (text : Text)
-        × F.holds files.now plan.now text
-        × Expanded text (W.contents output.old) (W.contents output.new) result }
-    ensures verified { (plan certificate : Bor (List ℕ))
-        → IsVerifyOf words.now plan certificate
-        → (result ≡ Success) ⊎ (result ≡ Refused)
-        → (text : Text)
-        × F.holds files.now plan.now text
-        × Verifies (F.holds files.now certificate.now) text (W.contents output.old)
-        (W.contents output.new) result }
-{
-    let asked = match read_words(alloc, words) {
-        Ok(asked) => asked,
-        Err(AllocError) => return tell_failure(
-            &Failure::Stream(io::Error::from(AllocError)),
-            faults,
-        ),
-    };
-    match run_asked(alloc, asked, input, output, faults, files) {
-        Ok(status) => status,
-        Err(failure) => tell_failure(&failure, faults),
     }
 }
