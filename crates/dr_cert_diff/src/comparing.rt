@@ -13,6 +13,7 @@ use dr_base::{Seq, Text};
 use dr_cert::Sealed;
 use dr_cert_trace::reach_of;
 use dr_route::cell::key_in;
+use dr_route::copies::copy_cell;
 use dr_route::names::{add_names, is_in_set, names_in_order};
 use dr_route::{Key, OwnedCell};
 use std::alloc::{AllocError, Global};
@@ -86,14 +87,6 @@ fn keepers(alloc: Global, sealed: &Sealed, site: &Text, key: &Key) -> Result<Seq
             Ok(names)
         }
     }
-}
-
-/// A copy of a cell.
-fn copy_cell(cell: &OwnedCell) -> Result<OwnedCell, AllocError>
-    ensures { IfOk result (λ copy. copy ≡ cell.now) }
-{
-    let copy = cell.clone()?;
-    Ok(copy)
 }
 
 /// Whether neither list has a name.

@@ -1,5 +1,5 @@
 //! The contexts of a certificate for a key.
-ghost use Rattle.std.specs.Prelude.{◌≡◌, ◌↔◌, IfOk, IsTrue, OnOk, Contains};
+ghost use Rattle.std.specs.Prelude.{◌↔◌, IfOk, IsTrue, OnOk, Contains};
 ghost use Rattle.dr_plan_sound.specs.declared.certificate.Hop.{Hop as PlannedHop};
 ghost use Rattle.dr_cert.specs.Conditions.{AreHopsInOrder};
 ghost use Rattle.dr_cert_trace.specs.Found.{AddsIf, Carries};
@@ -7,17 +7,10 @@ ghost use Rattle.dr_cert_trace.specs.Found.{AddsIf, Carries};
 use crate::pairs::has_pair;
 use dr_base::{Seq, Text};
 use dr_plan_sound::Hop;
+use dr_plan_sound::copies::copy_hop;
 use dr_route::Key;
 use std::alloc::{AllocError, Global};
 use std::collections::BTreeSet;
-
-/// A copy of a hop.
-fn copy_hop(hop: &Hop) -> Result<Hop, AllocError>
-    ensures { IfOk result (λ copy. copy ≡ hop.now) }
-{
-    let copy = hop.clone()?;
-    Ok(copy)
-}
 
 /// Whether the key goes over the hop in this context, where the pairs are those on which it goes.
 fn carries(hop: &Hop, key: &Key, pairs: &BTreeSet<(Text, Text)>) -> Result<bool, AllocError>

@@ -78,7 +78,7 @@ impl<D: Ledger> Door<D> {
     }
 
     /// Lets one in, where fewer than 256 are; says whether it did.
-    pub fn enter(&mut self, guest: &mut Guest<D>) -> bool
+    pub(crate) fn enter(&mut self, guest: &mut Guest<D>) -> bool
         requires { guest.old.inside ≡ false }
         ensures sum { MatchBool result
             ((self.old.tally.total < 256) × (self.new.tally.total ≡ self.old.tally.total + 1))
@@ -97,7 +97,7 @@ impl<D: Ledger> Door<D> {
     }
 
     /// The association of this guest is over: one fewer is open, if it was let in.
-    pub fn leave(&mut self, guest: Guest<D>) -> Outside<D>
+    pub(crate) fn leave(&mut self, guest: Guest<D>) -> Outside<D>
         ensures { self.new.tally.total + cond guest.inside 1 0 ≡ self.old.tally.total }
     {
         let mut guest = guest;

@@ -13,4 +13,4 @@ mod trees;
 
 pub use history::History;
 pub use line::{HistoryFault, JournalLine, entries_of};
-pub use trees::stands;
+pub use trees::{put_uid, stands};

@@ -14,7 +14,7 @@ ghost use Rattle.dr_base.specs.Texts.{text_cmp};
 use crate::comparing::{are_arrivals, are_items, are_kept, are_rows, is_same};
 use crate::letting::{let_callers_go, let_rows_go, take_item};
 use crate::line::{HistoryFault, JournalLine};
-use crate::trees::{clear, fill, prune, put_arrival, put_item, put_kept, put_row};
+use crate::trees::{clear, fill, prune, put_arrival, put_item, put_row, put_uid};
 use dr_base::{Seq, Text};
 use dr_ledger::{Cause, Instance, Outcome, Progress, moved};
 use std::alloc::{AllocError, Global};
@@ -111,7 +111,7 @@ impl HistoryParts {
     {
         fill(&mut self.rows, &instance.uid, to.as_slice())?;
         if keep {
-            put_kept(&mut self.kept, &instance.uid)?;
+            put_uid(&mut self.kept, &instance.uid)?;
         }
         put_arrival(&mut self.arrivals, arrival)?;
         put_item(&mut self.items, instance)

@@ -42,12 +42,12 @@ pub fn put_arrival(
     Ok(())
 }
 
-/// Notes that the uid is kept.
-pub fn put_kept(kept: &mut BTreeSet<Text>, uid: &Text) -> Result<(), AllocError>
+/// Puts a uid in.
+pub fn put_uid(uids: &mut BTreeSet<Text>, uid: &Text) -> Result<(), AllocError>
     ensures { OnOk result
-        (as_set text_cmp kept.new ≡ set.insert (as_set text_cmp kept.old) uid.now) }
+        (as_set text_cmp uids.new ≡ set.insert (as_set text_cmp uids.old) uid.now) }
 {
-    kept.insert(uid.clone()?)?;
+    uids.insert(uid.clone()?)?;
     Ok(())
 }
 

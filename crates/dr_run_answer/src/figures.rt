@@ -5,8 +5,9 @@ ghost use Rattle.dr_run_answer.specs.Answers.{labelled, open_figure, stages_of, 
 ghost use Rattle.dr_run_answer.specs.Answers.{label_part, other_part, value_part};
 ghost use Rattle.dr_run_answer.specs.Answers.{visits_figure, visits_figures, visits_of};
 
-use crate::json::{Counts, Queue, put_decimal};
+use crate::json::{Counts, Queue};
 use dr_base::Text;
+use dr_base::fields::add_decimal;
 use dr_base_quoted::{put_text, put_words};
 use std::alloc::AllocError;
 
@@ -26,7 +27,7 @@ pub(crate) fn put_figure(
     out.extend_from_slice(b"\n")?;
     out.extend_from_slice(name.as_bytes())?;
     out.extend_from_slice(b" ")?;
-    put_decimal(out, value)?;
+    add_decimal(out, value)?;
     out.extend_from_slice(b"\n")
 }
 
@@ -64,7 +65,7 @@ fn put_value(out: &mut Vec<u8>, value: u64) -> Result<(), AllocError>
     ensures { OnOk result (out.new.items ≡ out.old.items ++ value_part value) }
 {
     out.extend_from_slice(b"} ")?;
-    put_decimal(out, value)?;
+    add_decimal(out, value)?;
     out.extend_from_slice(b"\n")
 }
 

@@ -1,11 +1,12 @@
 //! Lines of JSON.
-ghost use Rattle.std.specs.Prelude.{◌≡◌, ◌++◌, OnOk, decimal};
+ghost use Rattle.std.specs.Prelude.{◌≡◌, ◌++◌, OnOk};
 ghost use Rattle.dr_run_answer.specs.Answers.{cause_part, done_line, due_part, fault_line};
 ghost use Rattle.dr_run_answer.specs.Answers.{flag, held_part, instance_line, late_line};
 ghost use Rattle.dr_run_answer.specs.Answers.{line_of_node, line_of_queue, number, progress_part};
 ghost use Rattle.dr_run_answer.specs.Answers.{row_line, visit_part, waiting_part, well_line, word};
 
 use dr_base::Text;
+use dr_base::fields::add_decimal;
 use dr_base_quoted::{put_quoted, put_text};
 use dr_ledger::{Cause, Progress};
 use std::alloc::AllocError;
@@ -61,14 +62,6 @@ pub struct Queue<'a> {
     pub visits: Visits,
 }
 
-/// Adds the digits of a number, in base ten.
-pub fn put_decimal(out: &mut Vec<u8>, value: u64) -> Result<(), AllocError>
-    ensures { OnOk result (out.new.items ≡ out.old.items ++ decimal value) }
-{
-    let mut digits = itoa::Buffer::new();
-    out.extend_from_slice(digits.format(value).as_bytes())
-}
-
 /// Adds a number behind its name.
 pub(crate) fn put_number(out: &mut Vec<u8>, name: &str, value: u64) -> Result<(), AllocError>
     ensures { OnOk result (out.new.items ≡ out.old.items ++ number name.now value) }
@@ -76,7 +69,7 @@ pub(crate) fn put_number(out: &mut Vec<u8>, name: &str, value: u64) -> Result<()
     out.extend_from_slice(b",\"")?;
     out.extend_from_slice(name.as_bytes())?;
     out.extend_from_slice(b"\":")?;
-    put_decimal(out, value)
+    add_decimal(out, value)
 }
 
 /// Adds a text behind its name.

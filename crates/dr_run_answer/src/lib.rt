@@ -29,8 +29,8 @@ pub use figures::{put_figures, put_open, put_queues, put_visits};
 pub use instance::{put_froms, put_own_rows};
 pub use intake::{Brought, Recent, put_callers, put_recents, put_stored_bytes};
 pub use json::{
-    Counts, Identity, Queue, Visited, Visits, put_decimal, put_done, put_fault, put_instance,
-    put_late, put_node, put_queue, put_row, put_well,
+    Counts, Identity, Queue, Visited, Visits, put_done, put_fault, put_instance, put_late,
+    put_node, put_queue, put_row, put_well,
 };
 pub use page::put_rows;
 pub use responses::{ResponseCount, note_status, put_responses, response_copies};

@@ -4,7 +4,7 @@ ghost use Rattle.dr_run_answer.specs.Answers.{in_seconds, lock_figures, seconds_
 ghost use Rattle.dr_run_answer.specs.Answers.{three_digits};
 
 use crate::figures::put_figure;
-use crate::json::put_decimal;
+use dr_base::fields::add_decimal;
 use dr_ledger_timed::Timing;
 use std::alloc::AllocError;
 
@@ -12,16 +12,16 @@ use std::alloc::AllocError;
 fn put_digits(out: &mut Vec<u8>, value: u64) -> Result<(), AllocError>
     ensures { OnOk result (out.new.items ≡ out.old.items ++ three_digits value) }
 {
-    put_decimal(out, value / 100 % 10)?;
-    put_decimal(out, value / 10 % 10)?;
-    put_decimal(out, value % 10)
+    add_decimal(out, value / 100 % 10)?;
+    add_decimal(out, value / 10 % 10)?;
+    add_decimal(out, value % 10)
 }
 
 /// Adds a time in seconds, with six decimals.
 fn put_seconds(out: &mut Vec<u8>, microseconds: u64) -> Result<(), AllocError>
     ensures { OnOk result (out.new.items ≡ out.old.items ++ in_seconds microseconds) }
 {
-    put_decimal(out, microseconds / 1_000_000)?;
+    add_decimal(out, microseconds / 1_000_000)?;
     out.extend_from_slice(b".")?;
     put_digits(out, microseconds / 1_000 % 1_000)?;
     put_digits(out, microseconds % 1_000)

@@ -5,8 +5,9 @@ ghost use Rattle.dr_run_page.specs.Documents.{seconds, tried_words, visit_words}
 ghost use Rattle.dr_run_page.specs.Pieces.{text_of};
 
 use crate::shown::put_shown;
+use dr_base::fields::add_decimal;
 use dr_ledger::Cause;
-use dr_run_answer::{Visited, put_decimal};
+use dr_run_answer::Visited;
 use std::alloc::AllocError;
 
 /// A piece of a document.
@@ -50,7 +51,7 @@ fn put_seconds(out: &mut Vec<u8>, word: &str, from: u64, to: u64) -> Result<(), 
         ≡ out.old.items ++ (word.now ++ decimal (seconds from to) ++ codes " s")) }
 {
     out.extend_from_slice(word.as_bytes())?;
-    put_decimal(out, (to - from) / 1_000)?;
+    add_decimal(out, (to - from) / 1_000)?;
     out.extend_from_slice(b" s")
 }
 
@@ -91,7 +92,7 @@ fn put_ago(out: &mut Vec<u8>, now: u64, at: u64) -> Result<(), AllocError>
     if now < at {
         return out.extend_from_slice(b"now");
     }
-    put_decimal(out, (now - at) / 1_000)?;
+    add_decimal(out, (now - at) / 1_000)?;
     out.extend_from_slice(b" s ago")
 }
 
@@ -114,7 +115,7 @@ fn put_piece(out: &mut Vec<u8>, piece: Piece<'_>) -> Result<(), AllocError>
     match piece {
         Piece::Markup(markup) => out.extend_from_slice(markup.as_bytes()),
         Piece::Words(words) => put_shown(out, words),
-        Piece::Number(value) => put_decimal(out, value),
+        Piece::Number(value) => add_decimal(out, value),
         Piece::Cause(cause) => put_cause(out, cause),
         Piece::Due(now, due) => put_due(out, now, due),
         Piece::Visit(now, visit) => put_visit(out, now, visit),

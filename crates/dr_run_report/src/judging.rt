@@ -5,6 +5,7 @@ ghost use Rattle.dr_run_report.specs.Places.{JudgesPlace, Takes};
 
 use crate::names::is_ledger_name;
 use dr_base::Text;
+use dr_base::same::Same;
 use thiserror::Error;
 
 /// What tells a file from all others of the machine: its device, and its number there. A hard link
@@ -79,17 +80,11 @@ fn is_among(found: &PathTarget, files: &[FileId]) -> bool
     }
 }
 
-fn is_same(this: &Text, that: &Text) -> bool
-    ensures { IsTrue result ↔ (this.now ≡ that.now) }
-{
-    this == that
-}
-
 /// Whether a ledger whose database stands there takes the name of the spot.
 fn takes(ledger: &Spot, spot: &Spot) -> bool
     ensures { IsTrue result ↔ Takes spot.now ledger.now }
 {
-    is_same(&ledger.folder, &spot.folder)
+    ledger.folder.is_same(&spot.folder)
         && is_ledger_name(ledger.name.as_bytes(), spot.name.as_bytes())
 }
 

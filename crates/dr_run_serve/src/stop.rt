@@ -39,7 +39,7 @@ impl StopSign {
     }
 
     /// Whether it is.
-    pub fn is_asked(&self) -> bool {
+    pub(crate) fn is_asked(&self) -> bool {
         self.asked.load(Ordering::SeqCst)
     }
 }

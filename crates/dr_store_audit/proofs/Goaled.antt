@@ -17,9 +17,10 @@ use Rattle.std.proofs.lemmas.Map.Lookups.{exact_bytes}
 use Rattle.std.proofs.lemmas.Map.Views.{Contains-from_any, list_any-from_Contains}
 use Rattle.sqlite.specs.Tree.{Trees}
 use Rattle.dr_base.specs.Texts.{Text, text_cmp}
+use Rattle.dr_route.specs.Routes.{local}
 use Rattle.dr_ledger.specs.Replies.{Lists}
 use Rattle.dr_ledger.proofs.Maps.{same_or_not, texts, ties_itself}
-use Rattle.dr_store_schema.specs.Books.{keep_mark, keeps_in, names_in, targets_in}
+use Rattle.dr_store_schema.specs.Books.{keeps_in, names_in, targets_in}
 use Rattle.dr_store_lists.specs.Lists.{Goal, goal_cmp, goals_of}
 use Rattle.dr_store_writes.proofs.Maps.{equal}
 use Rattle.dr_store_lists.proofs.Alike.{both_tied, goals_are_names, tied_number}
@@ -52,14 +53,14 @@ yes_or : (b : Bool) → (b || true) ≡ true
 yes_or true = refl
 yes_or false = refl
 
-kept_is : (n : ℕ) (goals : List Goal) → keep_by (filter (is_at n) goals) ≡ list_any (eq_by_cmp goal_cmp (n, keep_mark)) goals
+kept_is : (n : ℕ) (goals : List Goal) → keep_by (filter (is_at n) goals) ≡ list_any (eq_by_cmp goal_cmp (n, local)) goals
 kept_is n [] = refl
 kept_is n (g ∷ goals) = go (g.0 == n) refl (kept_is n goals)
   where
-    go : (b : Bool) → (g.0 == n) ≡ b → keep_by (filter (is_at n) goals) ≡ list_any (eq_by_cmp goal_cmp (n, keep_mark)) goals
-        → keep_by (cond b (g ∷ filter (is_at n) goals) (filter (is_at n) goals)) ≡ (eq_by_cmp goal_cmp (n, keep_mark) g || list_any (eq_by_cmp goal_cmp (n, keep_mark)) goals)
-    go true is later = ap (λ b. is_mark g.1 || b) later ∙ ap (λ b. b || list_any (eq_by_cmp goal_cmp (n, keep_mark)) goals) (sym (goal_ties n keep_mark g true is))
-    go false is later = later ∙ ap (λ b. b || list_any (eq_by_cmp goal_cmp (n, keep_mark)) goals) (sym (goal_ties n keep_mark g false is))
+    go : (b : Bool) → (g.0 == n) ≡ b → keep_by (filter (is_at n) goals) ≡ list_any (eq_by_cmp goal_cmp (n, local)) goals
+        → keep_by (cond b (g ∷ filter (is_at n) goals) (filter (is_at n) goals)) ≡ (eq_by_cmp goal_cmp (n, local) g || list_any (eq_by_cmp goal_cmp (n, local)) goals)
+    go true is later = ap (λ b. is_mark g.1 || b) later ∙ ap (λ b. b || list_any (eq_by_cmp goal_cmp (n, local)) goals) (sym (goal_ties n local g true is))
+    go false is later = later ∙ ap (λ b. b || list_any (eq_by_cmp goal_cmp (n, local)) goals) (sym (goal_ties n local g false is))
 
 -- a name that isn't the mark is found just where it is a goal of the line
 name_found : (n : ℕ) (q : Text) (goals : List Goal) → is_some (find text_cmp q (named_by (filter (is_at n) goals))) ≡ (not (is_mark q) && list_any (eq_by_cmp goal_cmp (n, q)) goals)
@@ -173,15 +174,15 @@ module _ (db : Trees) (goals : List Goal) (are : Lists goal_cmp (goals_of db) go
   names_has n q = listed (n, q) ∙ goals_are_names db n q
 
   pub keeps : (n : ℕ) → keep_of goals n ≡ keeps_in (db 12) n
-  keeps n = kept_is n goals ∙ names_has n keep_mark
+  keeps n = kept_is n goals ∙ names_has n local
 
   pub targets : (n : ℕ) → to_of goals n ≡ targets_in (db 12) n
   targets n =
       let names = names_in (db 12) n in
       sym (names_are (filter (is_at n) goals))
       ∙ ap (mapped (λ (e : Text × Unit {0}). e.0))
-      (same_entries text_cmp nat_list_cmp_total exact_bytes (named_by (filter (is_at n) goals)) (map.entries (map.remove names keep_mark)) (names_rise n goals are.ordered) (map.entries_sorted (map.remove names keep_mark)) (λ q.
+      (same_entries text_cmp nat_list_cmp_total exact_bytes (named_by (filter (is_at n) goals)) (map.entries (map.remove names local)) (names_rise n goals are.ordered) (map.entries_sorted (map.remove names local)) (λ q.
       one_unit _ _ (name_found n q goals ∙ ap (λ b. not (is_mark q) && b) (names_has n q)
-      ∙ ap (λ b. not b && is_some (map.get names q)) ((eq_by_cmp_equiv nat_list_cmp_total).symm keep_mark q)
-      ∙ sym (some_but (eq_by_cmp text_cmp q keep_mark) (map.get names q))
-      ∙ ap is_some (sym (map.get-remove nat_list_cmp_total names keep_mark q)) ∙ ap is_some (map.get-entries (map.remove names keep_mark) q))))
+      ∙ ap (λ b. not b && is_some (map.get names q)) ((eq_by_cmp_equiv nat_list_cmp_total).symm local q)
+      ∙ sym (some_but (eq_by_cmp text_cmp q local) (map.get names q))
+      ∙ ap is_some (sym (map.get-remove nat_list_cmp_total names local q)) ∙ ap is_some (map.get-entries (map.remove names local) q))))

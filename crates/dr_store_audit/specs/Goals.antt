@@ -3,7 +3,7 @@ use Rattle.std.specs.Prelude.{◌==◌, ◌||◌, ℕ, Bool, false, cond, List, 
 use Rattle.std.specs.List.Sorted.{IsNonDecreasingBy}
 use Rattle.std.specs.Ordering.{eq_by_cmp}
 use Rattle.dr_base.specs.Texts.{Text, text_cmp}
-use Rattle.dr_store_schema.specs.Books.{keep_mark}
+use Rattle.dr_route.specs.Routes.{local}
 use Rattle.dr_store_lists.specs.Lists.{Goal}
 
 -- goals are in the order of their lines
@@ -16,7 +16,7 @@ is_at n goal = goal.0 == n
 
 -- the name stands for keeping
 abbrev pub is_mark : Text → Bool
-is_mark name = eq_by_cmp text_cmp keep_mark name
+is_mark name = eq_by_cmp text_cmp local name
 
 -- where these go on to
 abbrev pub to_by : List Goal → List Text

@@ -1,18 +1,10 @@
 //! Where the lines of first arrivals go on to.
 ghost use Rattle.std.specs.Prelude.{◌≡◌, ◌<◌, IfOk, IsTrue, ◌↔◌, All, filter};
-ghost use Rattle.dr_store_schema.specs.Books.{keep_mark};
 ghost use Rattle.dr_store_audit.specs.Goals.{AreByLine, is_at, keep_by, keep_of, to_by, to_of};
 
 use dr_base::{Seq, Text};
-use dr_route::Targets;
+use dr_route::{Targets, is_local};
 use std::alloc::{AllocError, Global};
-
-/// Whether the name stands for keeping.
-fn is_mark(name: &Text) -> bool
-    ensures { IsTrue result ↔ (name.now ≡ keep_mark) }
-{
-    name.as_bytes() == b"-".as_slice()
-}
 
 /// Whether goals are in the order of their lines.
 pub fn are_by_line(goals: &[(u64, Text)]) -> bool
@@ -41,7 +33,7 @@ fn targets_by(alloc: Global, goals: &[(u64, Text)]) -> Result<Targets, AllocErro
     let mut to = Seq::new(alloc);
     let mut keep = false;
     for goal in goals {
-        if is_mark(&goal.1) {
+        if is_local(&goal.1) {
             keep = true;
         } else {
             to.push(goal.1.clone()?)?;

@@ -12,18 +12,10 @@ ghost use Rattle.dr_store_audit.specs.declared.fault.FindingFault.TheVariants.{M
 use crate::fault::FindingFault;
 use dr_base::Text;
 use dr_ledger::Progress;
+use dr_ledger_history::put_uid;
 use dr_store_reads::Print;
 use std::alloc::{AllocError, Global};
 use std::collections::BTreeSet;
-
-/// Adds a uid.
-fn add(uids: &mut BTreeSet<Text>, uid: &Text) -> Result<(), AllocError>
-    ensures { OnOk result
-        (as_set text_cmp uids.new ≡ set.insert (as_set text_cmp uids.old) uid.now) }
-{
-    uids.insert(uid.clone()?)?;
-    Ok(())
-}
 
 /// Adds the uid of a row that waits or is held.
 fn add_open(uids: &mut BTreeSet<Text>, row: &((Text, Text), Progress)) -> Result<(), AllocError>
@@ -34,7 +26,7 @@ fn add_open(uids: &mut BTreeSet<Text>, row: &((Text, Text), Progress)) -> Result
         ⊎ ((uid ≡ row.now.0.0) × (is_queued row.now.1 ≡ true)))) }
 {
     if row.1.is_queued() {
-        return add(uids, &row.0.0);
+        return put_uid(uids, &row.0.0);
     }
     Ok(())
 }
@@ -67,7 +59,7 @@ fn all_kept(alloc: Global, kept: &[Text]) -> Result<BTreeSet<Text>, AllocError>
 {
     let mut uids = BTreeSet::new(alloc);
     for uid in kept {
-        add(&mut uids, uid)?;
+        put_uid(&mut uids, uid)?;
     }
     Ok(uids)
 }

@@ -1,5 +1,5 @@
 //! Adoptions.
-ghost use Rattle.std.specs.Prelude.{◌≡◌, ◌≤◌, ◌↔◌, ◌^◌, IfErr, IsTrue, OnOk, false, List, ℕ};
+ghost use Rattle.std.specs.Prelude.{◌≡◌, ◌≤◌, ◌^◌, IfErr, OnOk, false, List, ℕ};
 ghost use Rattle.sqlite.specs.Held.{state};
 ghost use Rattle.dr_site.specs.Parts.{Part};
 ghost use Rattle.dr_store_writes.specs.Effects.{HasSite, IsSiteOf};
@@ -9,6 +9,7 @@ ghost use Rattle.dr_store_calls.specs.Adoptions.{Adopted, AdoptsPlan};
 
 use crate::plan::NewPlan;
 use dr_base::Text;
+use dr_base::same::Same;
 use dr_ledger::LedgerFault;
 use dr_site::Site;
 use dr_store_changes::write;
@@ -38,13 +39,6 @@ fn write_plan<S: Alter>(conn: &mut Connection<S>, n: u64, digest: &[u8]) -> Resu
     }
 }
 
-/// Whether the name is that one.
-fn is_name(name: &Text, other: &Text) -> bool
-    ensures { IsTrue result ↔ (name.now ≡ other.now) }
-{
-    name == other
-}
-
 /// Adopts the plan of the next site, where the tables are owned by this node.
 fn adopt_at<S: Alter>(
     conn: &mut Connection<S>,
@@ -59,7 +53,7 @@ fn adopt_at<S: Alter>(
     ensures number { OnOk result (n ≤ 2 ^ 62) }
     ensures idle { conn.new.in_transaction ≡ false }
 {
-    if !is_name(node, next.name()) {
+    if !node.is_same(next.name()) {
         return Err(LedgerFault::Store);
     }
     write_plan(conn, n, next.digest())

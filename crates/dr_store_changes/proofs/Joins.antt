@@ -19,6 +19,7 @@ use Rattle.sqlite.specs.declared.types.Value.TheVariants.{Int}
 use Rattle.sqlite.specs.Order.{Row, column}
 use Rattle.sqlite.specs.Tree.{Trees, put_row, rowid}
 use Rattle.dr_base.specs.Texts.{IsInByteOrder, Text, text_cmp}
+use Rattle.dr_route.specs.Routes.{local}
 use Rattle.dr_plan_model.proofs.Gathered.{Contains-cons_cases, nothing_in_nil}
 use Rattle.dr_ledger.specs.declared.content.Job.{Job}
 use Rattle.dr_ledger.specs.declared.item.Instance.{Instance}
@@ -28,7 +29,7 @@ use Rattle.dr_ledger.specs.Items.{IsItem, instance_of}
 use Rattle.dr_ledger.proofs.Growing.{inside, kept_from, still_kept}
 use Rattle.dr_ledger.proofs.Maps.{filled_is, filled_keeps, get_new, get_other, same_or_not, texts, ties_itself}
 use Rattle.dr_ledger.proofs.PlanRouting.{any_from, one_list, or_right}
-use Rattle.dr_store_schema.specs.Books.{AreBelow, Names, all_kept_in, arrivals_in, bodies_of, book_of, instance_in, items_of, keep_mark, line_by, line_in, lines_in, lines_of, names_in, numbered_line, rows_of}
+use Rattle.dr_store_schema.specs.Books.{AreBelow, Names, all_kept_in, arrivals_in, bodies_of, book_of, instance_in, items_of, line_by, line_in, lines_in, lines_of, names_in, numbered_line, rows_of}
 use Rattle.dr_store_schema.specs.Cells.{number_in, outcome_in, text_in}
 use Rattle.dr_store_writes.specs.Effects.{arrived_line}
 use Rattle.dr_store_writes.proofs.Maps.{equal}
@@ -125,11 +126,11 @@ module _ (keep : Bool) (to : List Text) (names : AreNames to) where
   abbrev all : Names
   all = with_names map.empty (names_for keep to)
 
-  among : (k : Bool) (q : Text) → list_any (eq_by_cmp text_cmp q) (names_for k to) ≡ ((k && eq_by_cmp text_cmp q keep_mark) || list_any (eq_by_cmp text_cmp q) to)
+  among : (k : Bool) (q : Text) → list_any (eq_by_cmp text_cmp q) (names_for k to) ≡ ((k && eq_by_cmp text_cmp q local) || list_any (eq_by_cmp text_cmp q) to)
   among true q = refl
   among false q = refl
 
-  seen : (q : Text) → map.get all q ≡ present ((keep && eq_by_cmp text_cmp q keep_mark) || list_any (eq_by_cmp text_cmp q) to)
+  seen : (q : Text) → map.get all q ≡ present ((keep && eq_by_cmp text_cmp q local) || list_any (eq_by_cmp text_cmp q) to)
   seen q =
       names_got (names_for keep to) map.empty q ∙ ap (λ got. cond (list_any (eq_by_cmp text_cmp q) (names_for keep to)) (Some tt) got) (map.get-empty text_cmp q)
       ∙ ap present (among keep q)
@@ -142,34 +143,34 @@ module _ (keep : Bool) (to : List Text) (names : AreNames to) where
   table false false true = refl
   table false false false = refl
 
-  others : (q : Text) → map.contains_key (map.remove all keep_mark) q ≡ (not (eq_by_cmp text_cmp q keep_mark) && list_any (eq_by_cmp text_cmp q) to)
+  others : (q : Text) → map.contains_key (map.remove all local) q ≡ (not (eq_by_cmp text_cmp q local) && list_any (eq_by_cmp text_cmp q) to)
   others q =
-      ap is_some (map.get-remove nat_list_cmp_total all keep_mark q ∙ ap (λ got. cond (eq_by_cmp text_cmp q keep_mark) None got) (seen q))
-      ∙ table keep (eq_by_cmp text_cmp q keep_mark) (list_any (eq_by_cmp text_cmp q) to)
+      ap is_some (map.get-remove nat_list_cmp_total all local q ∙ ap (λ got. cond (eq_by_cmp text_cmp q local) None got) (seen q))
+      ∙ table keep (eq_by_cmp text_cmp q local) (list_any (eq_by_cmp text_cmp q) to)
 
   second : (e a : Bool) → (not e && a) ≡ true → a ≡ true
   second true a h = absurd (true≢false (sym h))
   second false a h = h
 
-  no_mark : (q : Text) (b : Bool) → eq_by_cmp text_cmp q keep_mark ≡ b → Contains to q → (not b && list_any (eq_by_cmp text_cmp q) to) ≡ true
-  no_mark q true is has = absurd (names.1 (subst (λ t. Contains to t) (exact_bytes q keep_mark (equal _ is)) has))
+  no_mark : (q : Text) (b : Bool) → eq_by_cmp text_cmp q local ≡ b → Contains to q → (not b && list_any (eq_by_cmp text_cmp q) to) ≡ true
+  no_mark q true is has = absurd (names.1 (subst (λ t. Contains to t) (exact_bytes q local (equal _ is)) has))
   no_mark q false is has = any_here q to has
 
-  pub its_targets : map.keys (map.remove all keep_mark) ≡ to
-  its_targets = one_list (map.keys (map.remove all keep_mark)) to (sorted_keys (map.entries (map.remove all keep_mark)) (map.entries_sorted (map.remove all keep_mark))) names.0 (λ q. (
-    λ h. in_list q to (second (eq_by_cmp text_cmp q keep_mark) (list_any (eq_by_cmp text_cmp q) to) (sym (others q) ∙ (keys_hold (map.remove all keep_mark) q).0 h)),
-    λ h. (keys_hold (map.remove all keep_mark) q).1 (others q ∙ no_mark q (eq_by_cmp text_cmp q keep_mark) refl h),
+  pub its_targets : map.keys (map.remove all local) ≡ to
+  its_targets = one_list (map.keys (map.remove all local)) to (sorted_keys (map.entries (map.remove all local)) (map.entries_sorted (map.remove all local))) names.0 (λ q. (
+    λ h. in_list q to (second (eq_by_cmp text_cmp q local) (list_any (eq_by_cmp text_cmp q) to) (sym (others q) ∙ (keys_hold (map.remove all local) q).0 h)),
+    λ h. (keys_hold (map.remove all local) q).1 (others q ∙ no_mark q (eq_by_cmp text_cmp q local) refl h),
   ))
 
-  marked : (k b : Bool) → list_any (eq_by_cmp text_cmp keep_mark) to ≡ b → is_some (present ((k && true) || list_any (eq_by_cmp text_cmp keep_mark) to)) ≡ k
+  marked : (k b : Bool) → list_any (eq_by_cmp text_cmp local) to ≡ b → is_some (present ((k && true) || list_any (eq_by_cmp text_cmp local) to)) ≡ k
   marked true b is = refl
-  marked false true is = absurd (names.1 (in_list keep_mark to is))
+  marked false true is = absurd (names.1 (in_list local to is))
   marked false false is = ap (λ b. is_some (present b)) is
 
-  pub it_keeps : map.contains_key all keep_mark ≡ keep
+  pub it_keeps : map.contains_key all local ≡ keep
   it_keeps =
-      ap is_some (seen keep_mark ∙ ap (λ b. present ((keep && b) || list_any (eq_by_cmp text_cmp keep_mark) to)) (mark_itself keep_mark))
-      ∙ marked keep (list_any (eq_by_cmp text_cmp keep_mark) to) refl
+      ap is_some (seen local ∙ ap (λ b. present ((keep && b) || list_any (eq_by_cmp text_cmp local) to)) (mark_itself local))
+      ∙ marked keep (list_any (eq_by_cmp text_cmp local) to) refl
 
 -- ---- the lines that were there
 
@@ -181,7 +182,7 @@ module _ (targets others : List Row) (n : ℕ) (names : (m : ℕ) → (n == m) �
   one_line_same row below =
       let same = names (number_in (rowid row)) (other_number n below.0 (rowid row) below.1 below.2) in λ i.
       line_by (number_in (column row 2)) (text_in (column row 3)) (instance_in row) (text_in (column row 4)) (text_in (column row 5)) (outcome_in (column row 6)) (number_in (column row 7))
-      (map.keys (map.remove (same i) keep_mark)) (map.contains_key (same i) keep_mark)
+      (map.keys (map.remove (same i) local)) (map.contains_key (same i) local)
 
   numbered_same : (rows : List Row) → AreBelow n rows → mapped (numbered_line others) rows ≡ mapped (numbered_line targets) rows
   numbered_same [] below = refl
@@ -213,7 +214,7 @@ arrivals_arrive how old new n caller item body to keep below ahead known names w
     let lines : lines_of new ≡ lines_of old ++ Arrival caller item to keep ∷ [] =
     ap (λ rows. lines_in (new 12) rows) w.journal ∙ lines_put (new 12) n _ (old 11) below
     ∙ (λ i. lines_same (old 12) (new 12) n others (old 11) below i
-    ++ Arrival caller (came item n 0 caller i) ((ap (λ (s : Names). map.keys (map.remove s keep_mark)) its ∙ its_targets keep to names) i) ((ap (λ (s : Names). map.contains_key s keep_mark) its ∙ it_keeps keep to names) i) ∷ []) in
+    ++ Arrival caller (came item n 0 caller i) ((ap (λ (s : Names). map.keys (map.remove s local)) its ∙ its_targets keep to names) i) ((ap (λ (s : Names). map.contains_key s local) its ∙ it_keeps keep to names) i) ∷ []) in
     λ i. record {
       items = (w.items ∙ taken_is how (items_of old) item known) i;
       arrivals = w.arrivals i;

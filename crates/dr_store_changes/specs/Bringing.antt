@@ -6,13 +6,14 @@ use Rattle.std.specs.FinMap.{FinMap}
 use Rattle.std.specs.FinSet as set
 use Rattle.sqlite.specs.Tree.{Trees, put_row}
 use Rattle.dr_base.specs.Texts.{IsInByteOrder, Text, text_cmp}
+use Rattle.dr_route.specs.Routes.{local}
 use Rattle.dr_ledger.specs.declared.item.Instance.{Instance}
 use Rattle.dr_ledger.specs.declared.item.Progress.{Progress}
 use Rattle.dr_ledger.specs.declared.item.Progress.TheVariants.{Waiting, Held, Done, Dropped}
 use Rattle.dr_ledger.specs.Bodies.{Bodies}
 use Rattle.dr_ledger.specs.Books.{with_rows}
 use Rattle.dr_ledger.specs.Pairs.{Pair, pair_cmp}
-use Rattle.dr_store_schema.specs.Books.{all_kept_in, arrivals_in, bodies_of, items_of, keep_mark}
+use Rattle.dr_store_schema.specs.Books.{all_kept_in, arrivals_in, bodies_of, items_of}
 use Rattle.dr_store_schema.specs.Books.{names_in, rows_of}
 use Rattle.dr_store_writes.specs.Effects.{arrived_line}
 use Rattle.dr_store_changes.specs.declared.first.Taking.{Taking}
@@ -111,11 +112,11 @@ given_up rows uid to = filter (λ dest. is_dropped (map.get rows (uid, dest))) t
 
 -- where the line goes on to, with `-` where the instance is kept
 abbrev pub names_for : Bool → List Text → List Text
-names_for keep to = cond keep (keep_mark ∷ to) to
+names_for keep to = cond keep (local ∷ to) to
 
 -- these are names of nodes in byte order, each once; `-` is none
 abbrev pub AreNames : List Text → Type 0
-AreNames to = IsInByteOrder to × (Contains to keep_mark → ⊥)
+AreNames to = IsInByteOrder to × (Contains to local → ⊥)
 
 -- what stands at the uid of an item that is taken so
 abbrev pub IsKnownFor : Taking → Instance → Option Instance → Type 0

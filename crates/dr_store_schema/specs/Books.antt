@@ -2,7 +2,7 @@
 -- instance `item` has what rules read and `print` the length and the digest. The line of an arrival
 -- has all of its instance itself, since the item may be forgotten, and another one come under its
 -- uid.
-use Rattle.std.specs.Prelude.{◌≡◌, ◌==◌, ◌<◌, ℕ, zero, suc, pos, Bool, false, not, List, [], ◌∷◌}
+use Rattle.std.specs.Prelude.{◌≡◌, ◌==◌, ◌<◌, ℕ, zero, suc, pos, Bool, false, not, List, []}
 use Rattle.std.specs.Prelude.{map as mapped, filter, Option, Some, None}
 use Rattle.std.specs.List.{AllByRecursion}
 use Rattle.std.specs.Ordering.{nat_cmp}
@@ -14,6 +14,7 @@ use Rattle.sqlite.specs.declared.types.Value.TheVariants.{Int}
 use Rattle.sqlite.specs.Order.{Row, column}
 use Rattle.sqlite.specs.Tree.{Trees, rowid}
 use Rattle.dr_base.specs.Texts.{Text, text_cmp}
+use Rattle.dr_route.specs.Routes.{local}
 use Rattle.dr_route.specs.declared.key.Key.{Key}
 use Rattle.dr_ledger.specs.declared.item.Instance.{Instance}
 use Rattle.dr_ledger.specs.declared.item.Outcome.{Outcome}
@@ -115,10 +116,6 @@ is_of_line n row = number_in (column row 1) == n
 abbrev pub dest_in : Row → Text
 dest_in row = text_in (column row 2)
 
--- `-`, which stands for keeping; no node has this name
-abbrev pub keep_mark : Text
-keep_mark = 45 ∷ []
-
 -- a set of names, whose keys stand in byte order
 abbrev pub Names : Type 0
 Names = FinMap text_cmp (Unit {0})
@@ -126,17 +123,17 @@ Names = FinMap text_cmp (Unit {0})
 abbrev pub named_in : Row → Text × Unit {0}
 named_in row = (dest_in row, tt)
 
--- what target has of line n
+-- what target has of line n, where `-` stands for keeping
 abbrev pub names_in : List Row → ℕ → Names
 names_in rows n = map.from_entries (mapped named_in (filter (is_of_line n) rows))
 
 -- where the first arrival of line n goes on to, in byte order
 abbrev pub targets_in : List Row → ℕ → List Text
-targets_in rows n = map.keys (map.remove (names_in rows n) keep_mark)
+targets_in rows n = map.keys (map.remove (names_in rows n) local)
 
 -- whether the node keeps what came by line n
 abbrev pub keeps_in : List Row → ℕ → Bool
-keeps_in rows n = map.contains_key (names_in rows n) keep_mark
+keeps_in rows n = map.contains_key (names_in rows n) local
 
 -- the instance in a row of journal
 abbrev pub instance_in : Row → Instance

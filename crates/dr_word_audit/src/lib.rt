@@ -17,5 +17,4 @@ mod placing;
 mod printing;
 mod reading;
 
-pub use audited::Audited;
 pub use auditing::audit_files;

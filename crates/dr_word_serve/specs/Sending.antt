@@ -3,6 +3,7 @@ use Rattle.std.specs.Prelude.{◌≡◌, ◌∷◌, ◌++◌, [], ℕ, Bool, Lis
 use Rattle.std.specs.declared.option.Option.{Option}
 use Rattle.std.specs.Io.KnownBytes.{Appends}
 use Rattle.dr_base.specs.Texts.{Text}
+use Rattle.dr_route.specs.Routes.{local}
 use Rattle.dr_ledger.specs.Books.{Book}
 use Rattle.dr_ledger.specs.Items.{instance_of}
 use Rattle.dr_ledger.specs.Replies.{Arrives}
@@ -30,10 +31,6 @@ use Rattle.dr_word_serve.specs.Serving.{AtOpened}
 abbrev pub arrived_line : Arrived → Text
 arrived_line New = codes "new" ++ (10 ∷ [])
 arrived_line Again = codes "again" ++ (10 ∷ [])
-
--- who brings what enters at a node itself
-abbrev pub local_caller : Text
-local_caller = codes "-"
 
 -- what comes of a file that is to have an instance
 abbrev pub ReadsFrom : (Text → Type 0) → Result Job Halt → Type 0
@@ -80,7 +77,7 @@ module _ {L : Type 0} (book : L → Book) (stands : L → Type 0)
   SentFrom site hops item old report before after =
       (arrived : Arrived) × (first : OwnPort L)
       × (stands first.desk.ledger
-      → Arrives (site_routing site) local_caller (instance_of item) (book old) (Ok arrived)
+      → Arrives (site_routing site) local (instance_of item) (book old) (Ok arrived)
       (book first.desk.ledger))
       × Appends before after (arrived_line arrived)
       × ReportsVisited site hops first report

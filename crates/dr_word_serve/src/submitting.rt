@@ -3,6 +3,7 @@ ghost use Rattle.std.specs.Prelude.{◌≡◌, IfOk, MatchResult, Ok, Result};
 ghost use Rattle.std.specs.declared.option.Option.{Option};
 ghost use Rattle.std.specs.Io.KnownBytes.{Appends};
 ghost use Rattle.dr_base.specs.Texts.{Text as Words};
+ghost use Rattle.dr_route.specs.Routes.{local};
 ghost use Rattle.dr_ledger.specs.Items.{instance_of};
 ghost use Rattle.dr_ledger.specs.Replies.{Arrives};
 ghost use Rattle.dr_ledger.specs.SiteRoutes.{site_routing};
@@ -11,7 +12,7 @@ ghost use Rattle.dr_run_open.specs.Ends.{Ends};
 ghost use Rattle.dr_run_open.specs.Hops.{hops_from};
 ghost use Rattle.dr_run_open.specs.declared.halt.Halt.{Halt as HaltValue};
 ghost use Rattle.dr_word_serve.specs.Sending.{IsUnsent, ReadsFrom, ReportsVisited, Sends, SentFrom};
-ghost use Rattle.dr_word_serve.specs.Sending.{VisitsBy, arrived_line, local_caller};
+ghost use Rattle.dr_word_serve.specs.Sending.{VisitsBy, arrived_line};
 
 use crate::surrounding::System;
 use dr_base::Text;
@@ -63,7 +64,7 @@ fn read_instance<'a, F: Files>(alloc: Global, files: &F, file: &'a str) -> Resul
 /// Errors: those of `arrive`.
 fn submit<L: Ledger>(alloc: Global, ledger: &mut L, item: Item) -> Result<Arrived, LedgerFault>
     ensures { IfOk result (λ arrived. L.stands ledger.new
-        → Arrives (site_routing (L.site ledger.old)) local_caller (instance_of item)
+        → Arrives (site_routing (L.site ledger.old)) local (instance_of item)
         (L.book ledger.old) (Ok arrived) (L.book ledger.new)) }
 {
     let local = Text::copy_of(alloc, b"-")?;
@@ -82,7 +83,7 @@ fn take_in<'a, L: Ledger, W: Write>(
     ensures { MatchResult result
         (λ done. (arrived : ArrivedValue)
         × (L.stands ledger.new
-        → Arrives (site_routing (L.site ledger.old)) local_caller (instance_of item)
+        → Arrives (site_routing (L.site ledger.old)) local (instance_of item)
         (L.book ledger.old) (Ok arrived) (L.book ledger.new))
         × Appends (W.contents output.old) (W.contents output.new) (arrived_line arrived)) IsUnsent }
 {

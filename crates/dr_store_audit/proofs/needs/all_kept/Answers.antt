@@ -24,5 +24,5 @@ loop-uid-preserved c = λ q.
     let e = drop_more kept i uid c.loop-uid-test.true in
     let more : drop i kept ≡ uid ∷ drop (i + 1) kept = rw (← c.uid-item.is) at e in
     let s = as_set text_cmp c.loop-uid.uids in
-    let n = as_set text_cmp c.add.new.uids in
-    moved_over (c.loop-uid.invariant q) (one_more s n uid c.in_ok-add.ensures q) (subst (λ xs. Contains xs q ↔ ((q ≡ uid) ⊎ Contains (drop (i + 1) kept) q)) (sym more) (first_kept uid (drop (i + 1) kept) q))
+    let n = as_set text_cmp c.put_uid.new.uids in
+    moved_over (c.loop-uid.invariant q) (one_more s n uid c.in_ok-put_uid.ensures q) (subst (λ xs. Contains xs q ↔ ((q ≡ uid) ⊎ Contains (drop (i + 1) kept) q)) (sym more) (first_kept uid (drop (i + 1) kept) q))

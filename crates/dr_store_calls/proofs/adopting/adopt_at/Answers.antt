@@ -6,8 +6,8 @@ use Rattle.dr_store_calls.specs.Adoptions.{AdoptsPlan}
 use Rattle.dr_store_calls.proofs.Changes.{OwnedBy, not_adopted, written_adopted}
 use Rattle.dr_store_calls.proofs.adopting.adopt_at.Goals as goal
 
-pub returns-then-not-is_name-clause-adopted : goal.returns-then-not-is_name-clause-adopted
-returns-then-not-is_name-clause-adopted g c part = not_adopted c.args.n part c.args.next.now (state g.S.Store c.args.conn.now) (OwnedBy c.args.node.now)
+pub returns-then-not-is_same-clause-adopted : goal.returns-then-not-is_same-clause-adopted
+returns-then-not-is_same-clause-adopted g c part = not_adopted c.args.n part c.args.next.now (state g.S.Store c.args.conn.now) (OwnedBy c.args.node.now)
 
 pub returns-clause-adopted : goal.returns-clause-adopted
 returns-clause-adopted g c part =
@@ -16,5 +16,5 @@ returns-clause-adopted g c part =
     let old = state g.S.Store c.args.conn.now in
     let new = state g.S.Store c.write_plan.new.conn in
     let Wrote : List ℕ → Type 0 = λ digest. Written n HasSite (AdoptsPlan digest n) r old new in
-    written_adopted n part c.args.next.now old new (λ h. c.write_plan.ensures.idle) c.args.node.now (c.is_name.ensures.0 c.if-not-is_name.false ∙ c.name.ensures) r c.write_plan.ensures.fault
+    written_adopted n part c.args.next.now old new (λ h. c.write_plan.ensures.idle) c.args.node.now (c.is_same.ensures.0 c.if-not-is_same.false ∙ c.name.ensures) r c.write_plan.ensures.fault
     (subst Wrote c.digest.ensures c.write_plan.ensures.written)

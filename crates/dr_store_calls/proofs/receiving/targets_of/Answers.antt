@@ -1,4 +1,4 @@
-use Rattle.dr_store_schema.specs.Books.{keep_mark}
+use Rattle.dr_route.specs.Routes.{local}
 use Rattle.dr_store_calls.proofs.Fitting.{keep_is, targets_are}
 use Rattle.dr_store_calls.proofs.Takings.{not_to_local}
 use Rattle.dr_store_calls.proofs.receiving.targets_of.Goals as goal
@@ -12,5 +12,5 @@ returns-in-Ok c =
     record {
       to = targets_are part caller key c.in-Ok.targets.to sent.to sent.ordered;
       keep = keep_is part caller key c.in-Ok.targets.keep sent.keep;
-      formed = (sent.ordered, λ among. not_to_local part caller key c.accepts-accepts.ensures.site ((sent.to keep_mark).0 among));
+      formed = (sent.ordered, λ among. not_to_local part caller key c.accepts-accepts.ensures.site ((sent.to local).0 among));
     }
