@@ -35,17 +35,21 @@ no_entry_shows plan formed lines all site cell entry =
     let line = all.entries entry.0 cell site entry.1 entry.2 in
     harmless_entry plan formed lines all.each all.one site cell (cell_that_lies plan cell entry.0 entry.1) line.0 line.1
 
+-- an entry that a checker has visited shows no fault
+pub visited_is_harmless : (plan : Network) (c : Checker) → c.plan.now ≡ plan → CheckerIsReady c → (site : Text) (cell : OwnedCell) → IsCellOf plan cell → HasVisited c site cell →
+    IsHarmlessEntry plan site cell
+visited_is_harmless plan c same ready site cell is visited =
+    let C : Network → Type 0 = λ p. IsCellOf p cell in
+    let H : Network → Type 0 = λ p. IsHarmlessEntry p site cell in
+    let searching = ready.searching cell in
+    subst H same (harmless_entry c.plan.now ready.formed c.search.lines.items searching.ranked
+    (λ stop r q a b. finished_same (searching.listed stop r a) (searching.listed stop q b))
+    site cell (subst C (sym same) is) visited.0 visited.1)
+
 -- where a checker stops, the entries before have been visited
 pub stops_first : (plan : Network) (start : Checker) (stopped : Stopped) → start.plan.now ≡ plan →
     (at : FindsAt (λ (v : Checker). v.plan.now) CheckerIsReady HasVisited ShowsStopped (IsEntryCell plan) start stopped) → IsFirstEntry plan at.site at.cell
 stops_first plan start stopped same at = λ s c entry before.
     let there : Checker = at.there in
-    let ready : CheckerIsReady there = at.earlier.is_ready in
     let here : there.plan.now ≡ plan = at.earlier.same_plan ∙ same in
-    let visited : HasVisited there s c = at.earlier.wanted s c (entry, before) in
-    let C : Network → Type 0 = λ p. IsCellOf p c in
-    let H : Network → Type 0 = λ p. IsHarmlessEntry p s c in
-    let searching = ready.searching c in
-    subst H here (harmless_entry there.plan.now ready.formed there.search.lines.items searching.ranked
-    (λ stop r q a b. finished_same (searching.listed stop r a) (searching.listed stop q b))
-    s c (subst C (sym here) (cell_that_lies plan c entry.0 entry.1)) visited.0 visited.1)
+    visited_is_harmless plan there here at.earlier.is_ready s c (cell_that_lies plan c entry.0 entry.1) (at.earlier.wanted s c (entry, before))

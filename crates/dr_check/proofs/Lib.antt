@@ -1,11 +1,13 @@
 pub mod Entered
 pub mod Firsts
+pub mod Gathered
 pub mod Marking
 pub mod Named
 pub mod OneFirst
 pub mod Ready
 pub mod Stacked
 pub mod Steps
+pub mod Told
 pub mod Trails
 pub mod Unsound
 pub mod Overfull

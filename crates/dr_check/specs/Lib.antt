@@ -1,6 +1,8 @@
+pub mod AllFaults
 pub mod Answering
 pub mod Checking
 pub mod Firsts
+pub mod Gathering
 pub mod Laws
 pub mod Searching
 pub mod Shown
