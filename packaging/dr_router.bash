@@ -53,7 +53,9 @@ _dr_router() {
             mapfile -t COMPREPLY < <(compgen -W "--fail-on-lost --json" -- "$current") ;;
         "lint 4")
             mapfile -t COMPREPLY < <(compgen -W "--strict --json" -- "$current") ;;
-        "check 3" | "expect 5" | "route 6" | "route 9")
+        "check 3")
+            mapfile -t COMPREPLY < <(compgen -W "--all --json" -- "$current") ;;
+        "expect 5" | "route 6" | "route 9")
             mapfile -t COMPREPLY < <(compgen -W "--json" -- "$current") ;;
         "adopt 7")
             mapfile -t COMPREPLY < <(compgen -W "--dry-run" -- "$current") ;;

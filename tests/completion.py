@@ -44,7 +44,7 @@ def main():
     compare('an option more', ['--other'], offered('audit', plan, 'certificate', 'plans', '--other', 'GATE', ''))
     compare('what is expected', ['plans/hospital.expect'], offered('expect', plan, 'certificate', 'plans/hospital.e'))
     compare('a table', ['plans/devices.csv'], offered('import', 'plans/dev'))
-    compare('an answer as JSON', ['--json'], offered('check', plan, ''))
+    compare('all faults, or an answer as JSON', ['--all', '--json'], offered('check', plan, ''))
     compare('a rehearsal', ['--dry-run'], offered('adopt', plan, 'certificate', plan, 'certificate', 'plans', ''))
     compare('the option of a word', ['--fail-on-lost'], offered('diff', plan, 'certificate', plan, 'certificate', '--f'))
     compare('a running node', ['--at'], offered('stop', plan, 'certificate', 'GATE', ''))

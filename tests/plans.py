@@ -60,6 +60,14 @@ def expected(text):
     return printed, b'', 0 if is_yes else 1
 
 
+def expected_of_all(text):
+    """The same for `check --all`: where the plan has a fault, the lines of all of them."""
+    printed, faults, status = expected(text)
+    if printed.startswith(b'no\t'):
+        return model_of(text).all_faults() or printed, faults, status
+    return printed, faults, status
+
+
 def pair_of(*plans):
     """The plans as they are read, with their certificates; None where one isn't sound."""
     found = []
@@ -98,6 +106,10 @@ class Comparison:
         is_its = want[2] == 0 and not want[0].startswith(b'certificate\t3\n')
         certificate = (want[0], b'', 0) if is_its else (b'', b'', 1)
         self.compare(f'{what}, its first certificate', certificate, run(given=text, first=first, program=CERTIFIER), plan=text)
+
+    def check_all(self, what, text):
+        self.check(what, text)
+        self.compare(f'{what}, all its faults', expected_of_all(text), run('check', '--all', given=text), plan=text)
 
     def verdict(self, what, verdict, plan, certificate):
         want = (b'yes\n', b'', 0) if verdict == 'yes' else (f'no\t{verdict}\n'.encode(), b'', 1)
@@ -258,11 +270,11 @@ def compare_all(it, times, seed):
     for name in sorted(os.listdir(f'{TOP}/plans')):
         if name.endswith('.toml'):
             with open(f'{TOP}/plans/{name}', 'rb') as file:
-                it.check(name, file.read())
+                it.check_all(name, file.read())
     for text in over_limits():
         it.check('a text at its limits', text)
     for i in range(times * PLANS):
-        it.check(f'plan {i}', random_plan(random.Random(f'plan {seed} {i}')))
+        it.check_all(f'plan {i}', random_plan(random.Random(f'plan {seed} {i}')))
     for i in range(times * TEXTS):
         it.check(f'text {i}', OddTexts(random.Random(f'text {seed} {i}')).text())
     for i in range(times * TEXTS):

@@ -13,7 +13,7 @@ import tempfile
 TOP = os.path.dirname(os.path.dirname(os.path.abspath(__file__)))
 PROGRAM = f'{TOP}/crates/dr_router/out/dr_router'
 SOUND, CYCLE = f'{TOP}/plans/three-nodes.toml', f'{TOP}/plans/cycle.toml'
-OVERFULL = f'{TOP}/plans/overfull-hop.toml'
+OVERFULL, FAULTY = f'{TOP}/plans/overfull-hop.toml', f'{TOP}/plans/three-faults.toml'
 
 
 def run(words, given=b'', output=subprocess.PIPE, memory=None):
@@ -66,6 +66,21 @@ def checks(certificate):
     as_json = json.loads(run(['check', '--json', SOUND])[1])
     if as_json != [line.split('\t') for line in printed.decode().splitlines()]:
         sys.exit('a certificate as JSON')
+
+
+def checks_of_all():
+    """`check --all`: a plan with three faults, plans with one, one without, no plan, and words that don't go together."""
+    faults = [('Cycle', 'CT\tS1\tCT1\tGATE\tHUB\tGATE\tHUB'), ('NoContext', 'MR\tS2\tMR1\tGATE\tARCH'), ('DeadEnd', 'US\tS3\tUS1\tGATE')]
+    lines = [f'no\t{fault}\t{CLASS}\t{SYNTAX}\t{rest}\n'.encode() for fault, rest in faults]
+    for words, given in ((['--all', FAULTY], b''), ([FAULTY, '--all'], b''), (['--all'], content(FAULTY))):
+        is_answer('three faults', run(['check', *words], given), 1, b''.join(lines), b'')
+    is_answer('the first of three faults', run(['check', FAULTY]), 1, lines[0], b'')
+    is_answer('a cycle is all', run(['check', '--all', CYCLE]), 1, cycle_line(), b'')
+    is_answer('an overfull hop is all', run(['check', '--all', OVERFULL]), 1, b'no\tTooManyContexts\tCT1\tARCH\n', b'')
+    is_answer('no fault', run(['check', '--all', SOUND]), 0, run(['check', SOUND])[1], b'')
+    is_answer('no plan, and all its faults', run(['check', '--all'], b'[[node]'), 1, b'', b'dr_router: L1 NotToml\n')
+    is_answer('all faults as JSON', run(['check', '--all', '--json', FAULTY]), 2, b'', (b"cannot be used with",))
+    is_answer('no file', run(['check', '--all', 'none']), 3, b'', (b'dr_router: none: ',))
 
 
 def verdicts(certificate):
@@ -298,6 +313,7 @@ def main():
         with open(large, 'wb') as it:
             it.write(LARGEST['65,536 lines'])
         checks(f'{room}/certificate')
+        checks_of_all()
         verdicts(f'{room}/certificate')
         routes(f'{room}/certificate', room)
         pictures(f'{room}/certificate')

@@ -166,6 +166,16 @@ class Model:
         except Fault as wrong:
             return f'no\t{wrong}\n'.encode(), False
 
+    def all_faults(self):
+        """What `check --all` prints where a walk shows a fault: the line of each entry from which one does; else nothing."""
+        lines = []
+        for site, cell in self.entries():
+            try:
+                self.visit((LOCAL, site, cell), [], frozenset(), {})
+            except Fault as wrong:
+                lines.append(f'no\t{wrong}\n')
+        return ''.join(lines).encode()
+
     # ---- the verdict
 
     def reached(self):

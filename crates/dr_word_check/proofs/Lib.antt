@@ -1,3 +1,4 @@
+pub mod Many
 pub mod Refuted
 pub mod Cored
 pub mod Read

@@ -1,3 +1,4 @@
+pub mod All
 pub mod Answers
 pub mod Expanded
 pub mod Faults

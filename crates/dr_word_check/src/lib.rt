@@ -3,6 +3,7 @@
 //! certificate for a plan.
 #![tactic(auto)]
 
+mod all;
 mod answer;
 mod expand;
 pub mod laws;

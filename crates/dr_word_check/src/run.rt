@@ -4,13 +4,15 @@ ghost use Rattle.std.specs.Borrow.{Bor};
 ghost use Rattle.dr_base.specs.Texts.{Text};
 ghost use Rattle.std.specs.Io.KnownBytes.{Appends};
 ghost use Rattle.dr_word_check.specs.Verdicts.{verdict_line};
+ghost use Rattle.dr_word_check.specs.All.{AnswersWithAll};
 ghost use Rattle.dr_word_check.specs.Runs.{Answers, Verifies};
 ghost use Rattle.dr_word_check.specs.Expanded.{Expanded};
 ghost use Rattle.dr_word_line.specs.declared.words.Task.TheVariants as asks;
 ghost use Rattle.dr_run_open.specs.declared.status.Status.TheVariants.{Refused, Usage};
 ghost use Rattle.dr_run_open.specs.declared.status.Status.TheVariants.{InputOutput, Memory};
 
-use crate::answer::answer_to;
+use crate::all::{answer_file_with_all, answer_input_with_all};
+use crate::answer::answer_text;
 use crate::expand::expand_file;
 use crate::verify::{Verification, verdict_on};
 use clap::Error;
@@ -22,22 +24,6 @@ use dr_word_line::Task;
 use std::alloc::Global;
 use std::io;
 use std::io::{Read, Write};
-
-/// Answers to the text of a plan.
-fn answer_text<W: Write, E: Write>(
-    alloc: Global,
-    text: &[u8],
-    output: &mut W,
-    faults: &mut E,
-) -> io::Result<Status>
-    ensures known { IfOk result (λ status. status ≢ Usage) }
-    ensures answered { IfOk result
-        (Answers text.now (W.contents output.old) (W.contents output.new)) }
-{
-    let answer = answer_to(alloc, text);
-    tell_answer(&answer, output, faults)?;
-    Ok(answer.status())
-}
 
 /// Answers to the text of a plan on the input.
 fn answer_input<R: Read, W: Write, E: Write>(
@@ -210,6 +196,14 @@ pub fn run_asked<'a, R: Read, W: Write, E: Write, F: Files>(
         → IfOk result (λ status. (text : Text)
         × F.holds files.now plan.now text
         × Answers text (W.contents output.old) (W.contents output.new) status) }
+    ensures all { asked.entry ≡ asks.CheckAllOfInput
+        → IfOk result (λ status. IfSome (R.remaining input.old) (λ text.
+        AnswersWithAll text (W.contents output.old) (W.contents output.new) status)) }
+    ensures all_of_file { (plan : Bor (List ℕ))
+        → asked.entry ≡ asks.CheckAllOfFile plan
+        → IfOk result (λ status. (text : Text)
+        × F.holds files.now plan.now text
+        × AnswersWithAll text (W.contents output.old) (W.contents output.new) status) }
     ensures expanded { (plan : Bor (List ℕ))
         → asked.entry ≡ asks.Expand plan
         → IfOk result (λ status. (text : Text)
@@ -225,6 +219,8 @@ pub fn run_asked<'a, R: Read, W: Write, E: Write, F: Files>(
     match asked {
         Task::CheckInput => Ok(answer_input(alloc, input, output, faults)?),
         Task::CheckFile(path) => answer_file(alloc, files, path, output, faults),
+        Task::CheckAllOfInput => Ok(answer_input_with_all(alloc, input, output, faults)?),
+        Task::CheckAllOfFile(path) => answer_file_with_all(alloc, files, path, output, faults),
         Task::Expand(path) => expand_file(alloc, files, path, output, faults),
         Task::Verify(plan, certificate) => {
             verify_files(alloc, files, plan, certificate, output, faults)

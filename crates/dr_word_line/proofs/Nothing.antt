@@ -102,5 +102,7 @@ module _ (words : List (Bor (List ℕ)))
   nothing_asked (asks.Rehearse change) h = absurd h
   nothing_asked asks.CheckInputAsJson h = absurd h
   nothing_asked (asks.CheckFileAsJson plan) h = absurd h
+  nothing_asked asks.CheckAllOfInput h = absurd h
+  nothing_asked (asks.CheckAllOfFile plan) h = absurd h
   nothing_asked (asks.QuestionAsJson plan certificate question) h = absurd h
   nothing_asked (asks.Told error) h = absurd h

@@ -243,6 +243,8 @@ module _ (words : List Word) where
   is_meant (asks.Rehearse change) h = absurd h
   is_meant asks.CheckInputAsJson h = absurd h
   is_meant (asks.CheckFileAsJson plan) h = absurd h
+  is_meant asks.CheckAllOfInput h = absurd h
+  is_meant (asks.CheckAllOfFile plan) h = absurd h
   is_meant (asks.QuestionAsJson plan certificate question) h = absurd h
   is_meant (asks.Told error) h = absurd h
 

@@ -10,6 +10,7 @@ use Rattle.dr_word_line.specs.declared.words.Task.TheVariants.{Question as AsksQ
 use Rattle.dr_word_line.specs.declared.words.Task.TheVariants.{Adopt, Audit, AtRunning, AuditAmong}
 use Rattle.dr_word_line.specs.declared.words.Task.TheVariants.{Told, Import, Rehearse}
 use Rattle.dr_word_line.specs.declared.words.Task.TheVariants.{CheckInputAsJson, CheckFileAsJson}
+use Rattle.dr_word_line.specs.declared.words.Task.TheVariants.{CheckAllOfInput, CheckAllOfFile}
 use Rattle.dr_word_line.specs.declared.words.Task.TheVariants.{QuestionAsJson}
 use Rattle.dr_word_line.specs.declared.words.Duty.{Duty}
 use Rattle.dr_word_line.specs.declared.words.Duty.TheVariants.{List as ToList, Summary, Requeue}
@@ -338,8 +339,8 @@ IsAuditOf words given =
     × IsNoOption given.folder.now
 
 -- the words are of a plain form, which asks for this; that nodes are of other makers, that nothing
--- is to be changed, and that an answer is to be JSON is said by options, of which nothing is said
--- here
+-- is to be changed, that all faults are to be named, and that an answer is to be JSON is said by
+-- options, of which nothing is said here
 abbrev pub Asks : List (Bor (List ℕ)) → Task → Type 0
 Asks words CheckInput = IsPlainCheck words
 Asks words (CheckFile plan) = IsCheckOf words plan
@@ -357,6 +358,8 @@ Asks words (AuditAmong given others) = ⊥
 Asks words (Rehearse change) = ⊥
 Asks words CheckInputAsJson = ⊥
 Asks words (CheckFileAsJson plan) = ⊥
+Asks words CheckAllOfInput = ⊥
+Asks words (CheckAllOfFile plan) = ⊥
 Asks words (QuestionAsJson plan certificate question) = ⊥
 Asks words (Told error) = ⊥
 

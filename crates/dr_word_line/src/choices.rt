@@ -16,6 +16,7 @@ pub(crate) enum Choice {
     Station,
     Strict,
     Json,
+    AllFaults,
     DryRun,
     Fails,
     Summary,
@@ -57,6 +58,7 @@ impl<'a> Makes<Arg<'a>> for Choice {
             Choice::Station => Ok(station(alloc)),
             Choice::Strict => Ok(strict(alloc)),
             Choice::Json => Ok(json(alloc)),
+            Choice::AllFaults => all_faults(alloc),
             Choice::DryRun => Ok(dry_run(alloc)),
             Choice::Fails => Ok(fails(alloc)),
             Choice::Summary => Ok(summary(alloc)),
@@ -137,6 +139,15 @@ fn json<'a>(alloc: Global) -> Arg<'a> {
         .long("json")
         .action(ArgAction::SetTrue)
         .help("prints the answer as JSON: a list of its lines, each a list of its parts")
+}
+
+/// The option of `check` for all faults.
+fn all_faults<'a>(alloc: Global) -> Result<Arg<'a>, AllocError> {
+    Arg::new(alloc, "ALLFAULTS")
+        .long("all")
+        .action(ArgAction::SetTrue)
+        .help("names the fault of each entry, a line each, and not the first alone")
+        .conflicts_with("JSON")
 }
 
 /// The option of `diff` for a no where something is lost.

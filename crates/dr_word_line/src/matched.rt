@@ -69,8 +69,19 @@ fn ask<'a>(
     Task::Question(plan, certificate, question)
 }
 
+/// What `check` asks for where all faults are to be named, as clap has read it.
+fn check_all_of<'a>(given: &ArgMatches<'a>) -> Task<'a> {
+    match given.get_str("PLAN") {
+        Some(plan) => Task::CheckAllOfFile(plan),
+        None => Task::CheckAllOfInput,
+    }
+}
+
 /// What `check` asks for, as clap has read it.
 fn check_of<'a>(given: &ArgMatches<'a>) -> Task<'a> {
+    if given.get_flag("ALLFAULTS") {
+        return check_all_of(given);
+    }
     let is_json = given.get_flag("JSON");
     match given.get_str("PLAN") {
         Some(plan) if is_json => Task::CheckFileAsJson(plan),

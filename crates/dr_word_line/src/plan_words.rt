@@ -19,7 +19,13 @@ pub(crate) fn word<'a>(
 /// The word `check`.
 pub(crate) fn check<'a>(alloc: Global) -> Result<Command<'a>, AllocError> {
     let about = "Checks a plan, and prints its certificate or what is wrong with it";
-    word(alloc, "check", about, &[], &[Choice::Plan, Choice::Json])
+    word(
+        alloc,
+        "check",
+        about,
+        &[],
+        &[Choice::Plan, Choice::AllFaults, Choice::Json],
+    )
 }
 
 /// The word `expand`.

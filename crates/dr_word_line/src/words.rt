@@ -228,6 +228,10 @@ pub enum Task<'a> {
     CheckInputAsJson,
     /// The same as `CheckFile` says.
     CheckFileAsJson(&'a str),
+    /// To do as `CheckInput` says, and to name each fault that is found.
+    CheckAllOfInput,
+    /// The same as `CheckFile` says.
+    CheckAllOfFile(&'a str),
     /// The same as `Question` says.
     QuestionAsJson(&'a str, &'a str, Question<'a>),
     /// To do this at a node that has these files.
