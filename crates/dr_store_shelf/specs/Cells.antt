@@ -27,6 +27,10 @@ number_at cell at = from_le_bytes w64 (take 8 (drop at cell))
 abbrev pub extent_in : List ℕ → Extent
 extent_in cell = record { at = number_at cell 0; size = number_at cell 8 }
 
+-- what is seen at an extent
+abbrev pub shown : List ℕ → Extent → List ℕ
+shown seen e = take e.size (drop e.at seen)
+
 -- the digest of the piece with that number: those behind the first two
 abbrev pub sum_in : List ℕ → ℕ → ℕ
 sum_in cell i = number_at cell (16 + i * 8)

@@ -73,14 +73,16 @@ impl<D: Disk> InFile<D> {
 }
 
 impl<D: Disk> Shelf for InFile<D> {
-    ghost use Rattle.dr_store_bodies.specs.Bodies.{IsClean, IsUsable, faults};
-    ghost use Rattle.dr_store_shelf.specs.Cells.{Passes};
+    ghost use Rattle.dr_store_bodies.specs.Bodies.{IsClean, IsUsable, faults, seen};
+    ghost use Rattle.dr_store_shelf.specs.Cells.{Passes, extent_in, shown};
     ghost use Rattle.dr_store_shelf.specs.Shelves.{AreApart, IsUsed, Stands};
-    ghost use Rattle.dr_store_shelf.specs.Held.{held_is_one};
+    ghost use Rattle.dr_store_shelf.specs.Held.{held_is_shown};
 
     ghost stands = { λ it. Stands it.key it.bodies };
 
     ghost uses = { λ it. IsUsed it.bodies };
+
+    ghost body_of = { λ it cell. shown (seen it.bodies) (extent_in cell) };
 
     ghost apart = { AreApart };
 
@@ -92,7 +94,7 @@ impl<D: Disk> Shelf for InFile<D> {
 
     ghost faults = { λ it. faults it.bodies };
 
-    ghost one = { λ it cell bytes other is so. held_is_one _ _ _ bytes other is.0 so.0 };
+    ghost only = { λ it cell bytes is. held_is_shown _ _ (extent_in cell) bytes is.0 };
 
     ghost passed = { λ it cell bytes is. is.1 };
 

@@ -8,11 +8,12 @@ pub struct InRow;
 
 impl Shelf for InRow {
     ghost use Rattle.std.specs.Prelude.{◌≡◌};
-    ghost use Rattle.std.proofs.Common.{sym, ◌∙◌};
 
     ghost stands = { λ _ cell bytes. cell ≡ bytes };
 
     ghost uses = { λ _ _. Unit {0} };
+
+    ghost body_of = { λ _ cell. cell };
 
     ghost apart = { λ _ _. Unit {0} };
 
@@ -24,7 +25,7 @@ impl Shelf for InRow {
 
     ghost faults = { λ _. 0 };
 
-    ghost one = { λ _ _ _ _ is so. sym is ∙ so };
+    ghost only = { λ _ _ _ is. is };
 
     ghost passed = { λ _ _ _ is. is };
 

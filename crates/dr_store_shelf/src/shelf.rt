@@ -25,6 +25,9 @@ pub trait Shelf {
     // The cell is in use.
     ghost uses: { Self → List ℕ → Type 0 };
 
+    // The bytes for which the cell stands, if it stands for any.
+    ghost body_of: { Self → List ℕ → List ℕ };
+
     // The one cell can be let go without the other.
     ghost apart: { List ℕ → List ℕ → Type 0 };
 
@@ -41,8 +44,8 @@ pub trait Shelf {
     ghost faults: { Self → ℕ };
 
     // A cell stands for one data set at most, which passes its test.
-    ghost one: { (it : Self) (cell bytes other : List ℕ)
-        → stands it cell bytes → stands it cell other → bytes ≡ other };
+    ghost only: { (it : Self) (cell bytes : List ℕ) → stands it cell bytes
+        → body_of it cell ≡ bytes };
 
     ghost passed: { (it : Self) (cell bytes : List ℕ) → stands it cell bytes
         → passes it cell bytes };
