@@ -50,7 +50,7 @@ module _ (does : Deed Desk) (now link : ℕ) (old new : Sides) (s t : Desk) (act
 
 -- ---- ends that are over
 
-module _ {L : Type 0} {l : Ghosts L} (link : ℕ) (accepted : Bool) (t : Rattle.dr_world_tie.specs.Channels.Terminal) where
+module _ {L : Type 0} {l : Ghosts L} (link : ℕ) (accepted : Bool) (t : Rattle.dr_world_tie.specs.Channels.LiveTerminal) where
   pub over_is : (o : Option (Node L l)) (seat : Seat) → option_map seat_of o ≡ Some seat → map.get seat.sides link ≡ Some (side_of accepted t) → over_at link o ≡ is_over t.core
   over_is None seat e h = (let x : None ≡ Some seat = e in let y : ⊥ = cc in absurd y)
   over_is (Some n) seat e h =
