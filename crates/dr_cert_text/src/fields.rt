@@ -1,5 +1,5 @@
 //! Rows and fields of a text.
-ghost use Rattle.std.specs.Prelude.{◌≡◌, ◌≤◌, ◌++◌, ◌∷◌, [], ℕ, List, IfOk, MatchOption, decimal};
+ghost use Rattle.std.specs.Prelude.{◌≡◌, ◌++◌, ◌∷◌, [], List, IfOk, MatchOption};
 ghost use Rattle.hex.specs.Hex.{encode_lower};
 ghost use Rattle.dr_plan_sound.specs.Printed.{printed_field, printed_station};
 ghost use Rattle.dr_cert_text.specs.Printable.{IsPlain, IsPlainField, IsPlainStation, IsDigest};
@@ -10,7 +10,6 @@ use dr_base::Text;
 use dr_route::{OwnedField, OwnedStation};
 use hex::FromHex;
 use std::alloc::{AllocError, Global};
-use std::str;
 
 const TAB: u8 = 9;
 
@@ -42,24 +41,6 @@ pub fn field_before_tab(row: &[u8]) -> Option<(&[u8], &[u8])>
         CutsField row.now p.0.now p.1.now) }
 {
     split_at_byte(row, TAB)
-}
-
-/// The number that is written so, without a sign or a leading zero.
-pub fn read_number(field: &[u8]) -> Option<u32>
-    ensures { MatchOption result (HasNone decimal (λ n. n ≤ 4294967295) field.now)
-        (IsReadBack decimal (λ n. n ≤ 4294967295) field.now) }
-{
-    let Ok(text) = str::from_utf8(field) else {
-        return None;
-    };
-    let Ok(number) = text.parse::<u32>() else {
-        return None;
-    };
-    let mut digits = itoa::Buffer::new();
-    if digits.format(number).as_bytes() != field {
-        return None;
-    }
-    Some(number)
 }
 
 /// The part of the modalities that is printed so.

@@ -7,9 +7,9 @@ ghost use Rattle.dr_cert_text.specs.Printable.{IsPrintableHop};
 ghost use Rattle.dr_cert_text.specs.Reading.{HasNone};
 
 use crate::fault::CertificateFault;
-use crate::fields::{field_before_tab, read_number};
+use crate::fields::field_before_tab;
 use crate::printed::Printed;
-use dr_base::fields::add_field;
+use dr_base::fields::{add_field, read_small_number};
 use dr_base::{Syntax, Text};
 use dr_plan_sound::Hop;
 use std::alloc::{AllocError, Global};
@@ -36,7 +36,7 @@ fn cut_hop(row: &[u8]) -> Option<HopFields<'_>>
     let (to, after_to) = field_before_tab(after_from)?;
     let (digits, after_id) = field_before_tab(after_to)?;
     let (class, uid) = field_before_tab(after_id)?;
-    let number = read_number(digits)?;
+    let number = read_small_number(digits)?;
     if number > MAX_ID {
         return None;
     }
