@@ -1,5 +1,5 @@
 //! Rows and fields of a text.
-ghost use Rattle.std.specs.Prelude.{◌≡◌, ◌++◌, ◌∷◌, [], List, IfOk, MatchOption};
+ghost use Rattle.std.specs.Prelude.{◌≡◌, ◌++◌, ◌∷◌, [], ℕ, List, IfOk, MatchOption};
 ghost use Rattle.hex.specs.Hex.{encode_lower};
 ghost use Rattle.dr_plan_sound.specs.Printed.{printed_field, printed_station};
 ghost use Rattle.dr_cert_text.specs.Printable.{IsPlain, IsPlainField, IsPlainStation, IsDigest};

@@ -9,7 +9,7 @@ ghost use Rattle.dr_cert_text.specs.Reading.{HasNone};
 use crate::fault::CertificateFault;
 use crate::fields::field_before_tab;
 use crate::printed::Printed;
-use dr_base::fields::{add_field, read_small_number};
+use dr_base::fields::{add_field, add_number, read_small_number};
 use dr_base::{Syntax, Text};
 use dr_plan_sound::Hop;
 use std::alloc::{AllocError, Global};
@@ -64,8 +64,7 @@ impl Printed for Hop {
     fn print(&self, out: &mut Vec<u8>) -> Result<(), AllocError> {
         out.extend_from_slice(self.from.as_bytes())?;
         add_field(out, self.to.as_bytes())?;
-        let mut digits = itoa::Buffer::new();
-        add_field(out, digits.format(self.id).as_bytes())?;
+        add_number(out, u64::from(self.id))?;
         add_field(out, self.class.as_bytes())?;
         add_field(out, self.syntax.uid())
     }

@@ -9,7 +9,7 @@ ghost use Rattle.dr_cert_text.specs.Reading.{HasNone};
 use crate::fault::CertificateFault;
 use crate::fields::{field_before_tab, read_field, read_station};
 use crate::printed::{Printed, add_station};
-use dr_base::fields::{add_field, read_small_number};
+use dr_base::fields::{add_field, add_number, read_small_number};
 use dr_base::{Syntax, Text};
 use dr_plan_sound::{Line, Stop, field_bytes};
 use dr_route::OwnedCell;
@@ -72,8 +72,7 @@ impl Printed for Line {
         add_field(out, cell.syntax.uid())?;
         add_field(out, field_bytes(&cell.modality))?;
         add_station(out, &cell.station)?;
-        let mut digits = itoa::Buffer::new();
-        add_field(out, digits.format(self.rank).as_bytes())
+        add_number(out, u64::from(self.rank))
     }
 
     fn read(alloc: Global, fields: &[u8]) -> Result<Line, CertificateFault> {
