@@ -9,6 +9,7 @@ ghost use Rattle.dr_cert_text.specs.Reading.{HasNone, IsReadBack};
 use dr_base::Text;
 use dr_route::{OwnedField, OwnedStation};
 use hex::FromHex;
+use memchr::memchr;
 use std::alloc::{AllocError, Global};
 
 const TAB: u8 = 9;
@@ -26,12 +27,8 @@ pub fn split_at_byte(text: &[u8], mark: u8) -> Option<(&[u8], &[u8])>
     ensures { MatchOption result (Lacks mark text.now) (λ p.
         SplitsAt mark text.now p.0.now p.1.now) }
 {
-    for (i, byte) in text.iter().enumerate() {
-        if *byte == mark {
-            return Some((&text[..i], &text[i + 1..]));
-        }
-    }
-    None
+    let at = memchr(mark, text)?;
+    Some((&text[..at], &text[at + 1..]))
 }
 
 /// The first field of a row and what follows its tab; None where the row is one field.

@@ -3,7 +3,7 @@ ghost use Rattle.std.specs.Prelude.{◌≡◌, ◌↔◌, IfOk, IsTrue, MatchOpt
 ghost use Rattle.std.specs.Prelude.{Result, Ok};
 ghost use Rattle.hex.specs.Hex.{decode_of};
 ghost use Rattle.dr_base.specs.declared.syntax.Syntax.{Syntax as SyntaxValue};
-ghost use Rattle.dr_cert_text.specs.Cuts.{Lacks, SplitsAt, cuts};
+ghost use Rattle.dr_cert_text.specs.Cuts.{cuts};
 ghost use Rattle.dr_world_script.specs.Scripts.{side_word, spelled, syntax_letter};
 ghost use Rattle.dr_world_script.specs.Scripts.{DecodesBody, adopt_word};
 ghost use Rattle.dr_world_script.specs.declared.step.Side.{Side as SideValue};
@@ -12,18 +12,9 @@ ghost use Rattle.dr_world_script.specs.declared.step.Word.{Word as WordValue};
 use crate::fault::LineFault;
 use crate::step::{Side, Word};
 use dr_base::{Octets, Syntax};
+use dr_cert_text::split_at_byte;
 use hex::FromHexError;
-use memchr::memchr;
 use std::alloc::{AllocError, Global};
-
-/// What stands before the first mark, and what follows the mark; None where there is no mark.
-fn split_at_byte(text: &[u8], mark: u8) -> Option<(&[u8], &[u8])>
-    ensures { MatchOption result (Lacks mark text.now) (λ p.
-        SplitsAt mark text.now p.0.now p.1.now) }
-{
-    let at = memchr(mark, text)?;
-    Some((&text[..at], &text[at + 1..]))
-}
 
 /// The parts of a text between its marks, in order; a text without the mark is one part.
 pub fn parts_of<'a>(alloc: Global, text: &'a [u8], mark: u8) -> Result<Vec<&'a [u8]>, AllocError>
