@@ -5,7 +5,7 @@
 #![tactic(auto)]
 
 ghost use Rattle.std.specs.Prelude.{◌≡◌, map as mapped};
-ghost use Rattle.dr_ledger.specs.Replies.{Counts, PremiseLasts, Reads};
+ghost use Rattle.dr_ledger.specs.Replies.{Counts, LastsThrough, Reads};
 ghost use Rattle.dr_ledger_history.specs.Lines.{line_of};
 
 use dr_base::Seq;
@@ -25,7 +25,6 @@ pub trait TellsJournal: Ledger {
         ensures counts { Counts result (Self.failed self.old) (Self.failed self.new) }
         ensures armed { Self.armed self.new ≡ Self.armed self.old }
         ensures stood { Self.stands self.new → Self.stands self.old }
-        ensures lasts { PremiseLasts result (Self.trusts self.old) (Self.trusts self.new)
-            (Self.stands self.old) (Self.stands self.new) }
+        ensures lasts { LastsThrough Self.trusts Self.stands self.old result self.new }
         ensures site { Self.site self.new ≡ Self.site self.old };
 }

@@ -3,7 +3,7 @@
 ghost use Rattle.std.specs.Prelude.{◌≡◌, Some};
 ghost use Rattle.std.specs.FinMap as map;
 ghost use Rattle.std.specs.FinSet as set;
-ghost use Rattle.dr_ledger.specs.Replies.{Counts, PremiseLasts, Reads};
+ghost use Rattle.dr_ledger.specs.Replies.{Counts, LastsThrough, Reads};
 ghost use Rattle.dr_ledger_views.specs.Views.{AreCallers, IsLeast, dues, how_many, page_of};
 ghost use Rattle.dr_ledger_views.specs.Views.{rows_of};
 
@@ -23,8 +23,7 @@ pub fn count_all_arrivals<L: Ledger>(ledger: &mut L) -> Result<u64, LedgerFault>
     ensures counts { Counts result (L.failed ledger.old) (L.failed ledger.new) }
     ensures armed { L.armed ledger.new ≡ L.armed ledger.old }
     ensures stood { L.stands ledger.new → L.stands ledger.old }
-    ensures lasts { PremiseLasts result (L.trusts ledger.old) (L.trusts ledger.new)
-        (L.stands ledger.old) (L.stands ledger.new) }
+    ensures lasts { LastsThrough L.trusts L.stands ledger.old result ledger.new }
     ensures site { L.site ledger.new ≡ L.site ledger.old }
 {
     let all = ledger.arrivals()?;
@@ -41,8 +40,7 @@ pub fn count_all_kept<L: Ledger>(ledger: &mut L) -> Result<u64, LedgerFault>
     ensures counts { Counts result (L.failed ledger.old) (L.failed ledger.new) }
     ensures armed { L.armed ledger.new ≡ L.armed ledger.old }
     ensures stood { L.stands ledger.new → L.stands ledger.old }
-    ensures lasts { PremiseLasts result (L.trusts ledger.old) (L.trusts ledger.new)
-        (L.stands ledger.old) (L.stands ledger.new) }
+    ensures lasts { LastsThrough L.trusts L.stands ledger.old result ledger.new }
     ensures site { L.site ledger.new ≡ L.site ledger.old }
 {
     let all = ledger.kept()?;
@@ -64,8 +62,7 @@ pub fn count_all_rows<L: Ledger>(
     ensures counts { Counts result (L.failed ledger.old) (L.failed ledger.new) }
     ensures armed { L.armed ledger.new ≡ L.armed ledger.old }
     ensures stood { L.stands ledger.new → L.stands ledger.old }
-    ensures lasts { PremiseLasts result (L.trusts ledger.old) (L.trusts ledger.new)
-        (L.stands ledger.old) (L.stands ledger.new) }
+    ensures lasts { LastsThrough L.trusts L.stands ledger.old result ledger.new }
     ensures site { L.site ledger.new ≡ L.site ledger.old }
 {
     let rows = ledger.rows()?;
@@ -82,8 +79,7 @@ pub fn first_of_all<L: Ledger>(ledger: &mut L, dest: &Text) -> Result<Option<u64
     ensures counts { Counts result (L.failed ledger.old) (L.failed ledger.new) }
     ensures armed { L.armed ledger.new ≡ L.armed ledger.old }
     ensures stood { L.stands ledger.new → L.stands ledger.old }
-    ensures lasts { PremiseLasts result (L.trusts ledger.old) (L.trusts ledger.new)
-        (L.stands ledger.old) (L.stands ledger.new) }
+    ensures lasts { LastsThrough L.trusts L.stands ledger.old result ledger.new }
     ensures site { L.site ledger.new ≡ L.site ledger.old }
 {
     let rows = ledger.rows()?;
@@ -105,8 +101,7 @@ pub fn own_of_all<L: Ledger>(
     ensures counts { Counts result (L.failed ledger.old) (L.failed ledger.new) }
     ensures armed { L.armed ledger.new ≡ L.armed ledger.old }
     ensures stood { L.stands ledger.new → L.stands ledger.old }
-    ensures lasts { PremiseLasts result (L.trusts ledger.old) (L.trusts ledger.new)
-        (L.stands ledger.old) (L.stands ledger.new) }
+    ensures lasts { LastsThrough L.trusts L.stands ledger.old result ledger.new }
     ensures site { L.site ledger.new ≡ L.site ledger.old }
 {
     let rows = ledger.rows()?;
@@ -133,8 +128,7 @@ pub fn page_of_all<L: Ledger>(
     ensures counts { Counts result (L.failed ledger.old) (L.failed ledger.new) }
     ensures armed { L.armed ledger.new ≡ L.armed ledger.old }
     ensures stood { L.stands ledger.new → L.stands ledger.old }
-    ensures lasts { PremiseLasts result (L.trusts ledger.old) (L.trusts ledger.new)
-        (L.stands ledger.old) (L.stands ledger.new) }
+    ensures lasts { LastsThrough L.trusts L.stands ledger.old result ledger.new }
     ensures site { L.site ledger.new ≡ L.site ledger.old }
 {
     let rows = ledger.rows()?;
@@ -156,8 +150,7 @@ pub fn callers_of_all<L: Ledger>(
     ensures counts { Counts result (L.failed ledger.old) (L.failed ledger.new) }
     ensures armed { L.armed ledger.new ≡ L.armed ledger.old }
     ensures stood { L.stands ledger.new → L.stands ledger.old }
-    ensures lasts { PremiseLasts result (L.trusts ledger.old) (L.trusts ledger.new)
-        (L.stands ledger.old) (L.stands ledger.new) }
+    ensures lasts { LastsThrough L.trusts L.stands ledger.old result ledger.new }
     ensures site { L.site ledger.new ≡ L.site ledger.old }
 {
     let arrivals = ledger.arrivals()?;

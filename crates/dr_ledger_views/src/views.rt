@@ -2,7 +2,7 @@
 ghost use Rattle.std.specs.Prelude.{◌≡◌};
 ghost use Rattle.std.specs.FinMap as map;
 ghost use Rattle.std.specs.FinSet as set;
-ghost use Rattle.dr_ledger.specs.Replies.{Counts, PremiseLasts, Reads};
+ghost use Rattle.dr_ledger.specs.Replies.{Counts, LastsThrough, Reads};
 ghost use Rattle.dr_ledger_views.specs.Views.{AreCallers, IsLeast, IsTally, dues, how_many};
 ghost use Rattle.dr_ledger_views.specs.Views.{page_of, rows_of};
 ghost use Rattle.std.specs.Prelude.{Some};
@@ -24,8 +24,7 @@ pub trait Views: LetsGo {
         ensures counts { Counts result (Self.failed self.old) (Self.failed self.new) }
         ensures armed { Self.armed self.new ≡ Self.armed self.old }
         ensures stood { Self.stands self.new → Self.stands self.old }
-        ensures lasts { PremiseLasts result (Self.trusts self.old) (Self.trusts self.new)
-            (Self.stands self.old) (Self.stands self.new) }
+        ensures lasts { LastsThrough Self.trusts Self.stands self.old result self.new }
         ensures site { Self.site self.new ≡ Self.site self.old };
 
     /// How many uids it keeps.
@@ -38,8 +37,7 @@ pub trait Views: LetsGo {
         ensures counts { Counts result (Self.failed self.old) (Self.failed self.new) }
         ensures armed { Self.armed self.new ≡ Self.armed self.old }
         ensures stood { Self.stands self.new → Self.stands self.old }
-        ensures lasts { PremiseLasts result (Self.trusts self.old) (Self.trusts self.new)
-            (Self.stands self.old) (Self.stands self.new) }
+        ensures lasts { LastsThrough Self.trusts Self.stands self.old result self.new }
         ensures site { Self.site self.new ≡ Self.site self.old };
 
     /// How many rows to the destination are at the stage.
@@ -53,8 +51,7 @@ pub trait Views: LetsGo {
         ensures counts { Counts result (Self.failed self.old) (Self.failed self.new) }
         ensures armed { Self.armed self.new ≡ Self.armed self.old }
         ensures stood { Self.stands self.new → Self.stands self.old }
-        ensures lasts { PremiseLasts result (Self.trusts self.old) (Self.trusts self.new)
-            (Self.stands self.old) (Self.stands self.new) }
+        ensures lasts { LastsThrough Self.trusts Self.stands self.old result self.new }
         ensures site { Self.site self.new ≡ Self.site self.old };
 
     /// The moment (milliseconds) from which on the first row to the destination that waits is due;
@@ -69,8 +66,7 @@ pub trait Views: LetsGo {
         ensures counts { Counts result (Self.failed self.old) (Self.failed self.new) }
         ensures armed { Self.armed self.new ≡ Self.armed self.old }
         ensures stood { Self.stands self.new → Self.stands self.old }
-        ensures lasts { PremiseLasts result (Self.trusts self.old) (Self.trusts self.new)
-            (Self.stands self.old) (Self.stands self.new) }
+        ensures lasts { LastsThrough Self.trusts Self.stands self.old result self.new }
         ensures site { Self.site self.new ≡ Self.site self.old };
 
     /// The rows of an instance, in byte order of their destinations.
@@ -84,8 +80,7 @@ pub trait Views: LetsGo {
         ensures counts { Counts result (Self.failed self.old) (Self.failed self.new) }
         ensures armed { Self.armed self.new ≡ Self.armed self.old }
         ensures stood { Self.stands self.new → Self.stands self.old }
-        ensures lasts { PremiseLasts result (Self.trusts self.old) (Self.trusts self.new)
-            (Self.stands self.old) (Self.stands self.new) }
+        ensures lasts { LastsThrough Self.trusts Self.stands self.old result self.new }
         ensures site { Self.site self.new ≡ Self.site self.old };
 
     /// A page of the rows to the destination, in byte order of their uids: the first `limit` of
@@ -108,8 +103,7 @@ pub trait Views: LetsGo {
         ensures counts { Counts result (Self.failed self.old) (Self.failed self.new) }
         ensures armed { Self.armed self.new ≡ Self.armed self.old }
         ensures stood { Self.stands self.new → Self.stands self.old }
-        ensures lasts { PremiseLasts result (Self.trusts self.old) (Self.trusts self.new)
-            (Self.stands self.old) (Self.stands self.new) }
+        ensures lasts { LastsThrough Self.trusts Self.stands self.old result self.new }
         ensures site { Self.site self.new ≡ Self.site self.old };
 
     /// Who brought an instance since the last adoption, in byte order.
@@ -122,8 +116,7 @@ pub trait Views: LetsGo {
         ensures counts { Counts result (Self.failed self.old) (Self.failed self.new) }
         ensures armed { Self.armed self.new ≡ Self.armed self.old }
         ensures stood { Self.stands self.new → Self.stands self.old }
-        ensures lasts { PremiseLasts result (Self.trusts self.old) (Self.trusts self.new)
-            (Self.stands self.old) (Self.stands self.new) }
+        ensures lasts { LastsThrough Self.trusts Self.stands self.old result self.new }
         ensures site { Self.site self.new ≡ Self.site self.old };
 }
 
@@ -137,8 +130,7 @@ pub fn tally<L: Views>(ledger: &mut L, dest: &Text) -> Result<HopTally, LedgerFa
     ensures counts { Counts result (L.failed ledger.old) (L.failed ledger.new) }
     ensures armed { L.armed ledger.new ≡ L.armed ledger.old }
     ensures stood { L.stands ledger.new → L.stands ledger.old }
-    ensures lasts { PremiseLasts result (L.trusts ledger.old) (L.trusts ledger.new)
-        (L.stands ledger.old) (L.stands ledger.new) }
+    ensures lasts { LastsThrough L.trusts L.stands ledger.old result ledger.new }
     ensures site { L.site ledger.new ≡ L.site ledger.old }
 {
     let waiting = ledger.count_rows(dest, Stage::Waiting)?;

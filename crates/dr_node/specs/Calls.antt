@@ -4,7 +4,7 @@ use Rattle.dr_site.specs.Parts.{Part}
 use Rattle.dr_ledger.specs.declared.fault.LedgerFault.{LedgerFault}
 use Rattle.dr_ledger.specs.declared.ledger.Ledger.{Ghosts}
 use Rattle.dr_ledger.specs.Adopting.{site_after}
-use Rattle.dr_ledger.specs.Replies.{Counts, PremiseLasts}
+use Rattle.dr_ledger.specs.Replies.{Counts, LastsThrough}
 use Rattle.dr_node.specs.declared.node.Node.{Node}
 use Rattle.dr_node.specs.Sides.{sides_after}
 
@@ -15,8 +15,7 @@ pub record KeepsPremise {A L : Type 0} {l : Ghosts L} (result : Result A LedgerF
     (old new : Node L l) : Type 0 where
   pub counts : Counts result (l.failed old.desk.ledger) (l.failed new.desk.ledger)
   pub stood : l.stands new.desk.ledger → l.stands old.desk.ledger
-  pub lasts : PremiseLasts result (l.trusts old.desk.ledger) (l.trusts new.desk.ledger)
-      (l.stands old.desk.ledger) (l.stands new.desk.ledger)
+  pub lasts : LastsThrough l.trusts l.stands old.desk.ledger result new.desk.ledger
 
 -- The call only reads: the ledger's book and its data sets are as they were, and so is whether its
 -- store is to refuse the next line.

@@ -4,7 +4,7 @@ use Rattle.std.specs.declared.option.Option.{Option}
 use Rattle.dr_base.specs.Texts.{Text}
 use Rattle.dr_ledger.specs.Bodies.{Bodies}
 use Rattle.dr_ledger.specs.Books.{Book}
-use Rattle.dr_ledger.specs.Replies.{Dues, PremiseLasts, Reads}
+use Rattle.dr_ledger.specs.Replies.{Dues, LastsThrough, Reads}
 use Rattle.dr_ledger.specs.declared.fault.LedgerFault.{LedgerFault}
 use Rattle.dr_site.specs.Parts.{Part}
 
@@ -18,5 +18,5 @@ module _ {L : Type 0} (site : L → Part) (book : L → Book) (bodies : L → Bo
     pub same : stands new → (book new ≡ book old) × (bodies new ≡ bodies old)
     pub armed_still : armed new ≡ armed old
     pub stood : stands new → stands old
-    pub lasts : PremiseLasts answer (trusts old) (trusts new) (stands old) (stands new)
+    pub lasts : LastsThrough trusts stands old answer new
     pub site_still : site new ≡ site old
