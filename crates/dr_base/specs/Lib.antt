@@ -1,7 +1,9 @@
 pub mod Calls
 pub mod Copies
+pub mod Lists
 pub mod Padding
 pub mod Runs
+pub mod Standard
 pub mod Syntaxes
 pub mod Texts
 pub mod Uids
