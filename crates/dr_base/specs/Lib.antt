@@ -1,8 +1,10 @@
 pub mod Calls
 pub mod Copies
+pub mod Lists
 pub mod Numbers
 pub mod Padding
 pub mod Runs
+pub mod Standard
 pub mod Syntaxes
 pub mod Texts
 pub mod Uids

@@ -4,8 +4,8 @@ use Rattle.dr_base_quoted.specs.Escaping.{in_quotes}
 use Rattle.dr_base_quoted.specs.Quoting.{quoted}
 
 -- figures: no byte; plain ones; a quote and a backslash; a line feed, a tab and a byte above 127
-abbrev pub FiguresAreRight : Type 0
-FiguresAreRight =
+abbrev pub QuotedFiguresAreRight : Type 0
+QuotedFiguresAreRight =
     (quoted [] ≡ codes "\"\"")
     × (quoted (codes "1.2 CT~") ≡ codes "\"1.2 CT~\"")
     × (quoted (codes "a\"b\\") ≡ codes "\"a\\\"b\\\\\"")

@@ -13,9 +13,9 @@ use Rattle.dr_cert.specs.Refusing.{IsRefused}
 
 -- what the first tests of a certificate answer: it is of this plan and in order, or why it is
 -- refused
-abbrev pub Begins : Network → Certificate → Result (Unit {0}) CertFault → Type 0
-Begins plan certificate (Ok nothing) = UpToOrder plan certificate
-Begins plan certificate (Err fault) = IsRefused plan certificate fault
+abbrev pub TestsUpToOrder : Network → Certificate → Result (Unit {0}) CertFault → Type 0
+TestsUpToOrder plan certificate (Ok nothing) = UpToOrder plan certificate
+TestsUpToOrder plan certificate (Err fault) = IsRefused plan certificate fault
 
 -- the local test of ranks: where it holds, each line of the index is right among the others; else
 -- some rank is wrong

@@ -3,7 +3,7 @@ ghost use Rattle.std.specs.Prelude.{◌↔◌, IsTrue, Contains};
 ghost use Rattle.dr_plan_sound.specs.declared.certificate.Line.{Line as LineValue};
 ghost use Rattle.dr_cert.specs.Conditions.{IsOfPlan, UpToOrder};
 ghost use Rattle.dr_cert.specs.Indexing.{IsIndexOf, AreSorted};
-ghost use Rattle.dr_cert.specs.Verifying.{Begins, Walks, Verifies};
+ghost use Rattle.dr_cert.specs.Verifying.{TestsUpToOrder, Walks, Verifies};
 
 use crate::fault::CertFault;
 use crate::hop_list::are_right_hops;
@@ -27,7 +27,7 @@ fn is_of_plan(plan: &Plan, certificate: &Certificate) -> bool
 
 /// The certificate is of this plan, and its lines and hops stand in order.
 pub fn test_order(alloc: Global, plan: &Plan, certificate: &Certificate) -> Result<(), CertFault>
-    ensures { Begins plan.now certificate.now result }
+    ensures { TestsUpToOrder plan.now certificate.now result }
 {
     if !is_of_plan(plan, certificate) {
         return Err(CertFault::OtherPlan);

@@ -3,7 +3,7 @@ use Rattle.std.proofs.Common.{◌≡◌, ◌∙◌, refl, sym, subst, List, ◌+
 use Rattle.std.proofs.lemmas.List.Elements.{Contains-append_left, Contains-append_right}
 use Rattle.dr_base.specs.Texts.{Text}
 use Rattle.dr_route.specs.Cells.{InCell, InField, InStation}
-use Rattle.dr_route.specs.Routes.{local, Begins}
+use Rattle.dr_route.specs.Routes.{local}
 use Rattle.dr_route.specs.declared.key.Key.{Key}
 use Rattle.dr_route.specs.declared.cell.FieldValues.{FieldValues}
 use Rattle.dr_route.specs.declared.cell.StationValues.{StationValues}

@@ -1,6 +1,7 @@
 //! The lines of changes.
 ghost use Rattle.std.specs.Prelude.{◌≡◌, ◌++◌, IfOk, OnOk, flat_map};
-ghost use Rattle.dr_cert_diff.specs.Rows.{change_rows, dest_field, entry_fields, row_of};
+ghost use Rattle.dr_cert_diff.specs.Rows.{change_rows, entry_fields, row_of};
+ghost use Rattle.dr_base.specs.Texts.{next_field};
 
 use crate::change::RouteChange;
 use dr_base::Text;
@@ -26,7 +27,7 @@ fn add_entry(out: &mut Vec<u8>, site: &Text, cell: &OwnedCell) -> Result<(), All
 
 /// Adds a field for each of the nodes.
 fn add_dests(out: &mut Vec<u8>, dests: &[Text]) -> Result<(), AllocError>
-    ensures { OnOk result (out.new.items ≡ out.old.items ++ flat_map dest_field dests.now) }
+    ensures { OnOk result (out.new.items ≡ out.old.items ++ flat_map next_field dests.now) }
 {
     for dest in dests {
         add_field(out, dest.as_bytes())?;

@@ -9,7 +9,8 @@ use Rattle.dr_route.specs.Routes.{local}
 use Rattle.dr_plan_model.specs.Walks.{FlowBrings, IsDestination, IsEntry}
 use Rattle.dr_plan_model.specs.declared.plan.Flow.{Flow}
 use Rattle.dr_plan_model.proofs.Gathered.{nothing_in_nil, only_one, Contains-here}
-use Rattle.dr_plan_sound.specs.Samples.{archive, image, keep_all, scanner, the_flow, two_nodes}
+use Rattle.dr_plan_sound.specs.Samples.{archive, keep_all, scanner, the_flow, two_nodes}
+use Rattle.dr_base.specs.Standard.{image}
 use Rattle.dr_cert_trace.specs.Laws.{an_image, to_the_archive}
 use Rattle.dr_cert_trace.specs.Traces.{IsJourney}
 use Rattle.dr_cert_trace.proofs.TwoNodes.{goes_there}

@@ -1,10 +1,10 @@
 -- A key that is made of a cell and a row is one of the cell of which the row speaks, where there is any.
 use Rattle.std.proofs.Common.{◌≡◌, ℕ, zero, suc, ◌<◌, ◌≤◌, ◌⊎◌, inl, inr, refl, sym, subst, ap, ◌∙◌, List, [], ◌∷◌, ◌++◌, length, Contains, arith, length-append}
 use Rattle.std.proofs.lemmas.List.{take_all}
-use Rattle.dr_base.specs.Texts.{Text}
+use Rattle.dr_base.specs.Texts.{Text, Begins}
 use Rattle.dr_base.specs.Syntaxes.{syntax_uid}
 use Rattle.dr_base.specs.declared.syntax.Syntax.{Syntax}
-use Rattle.dr_route.specs.Routes.{Begins, Matches, MatchesStation}
+use Rattle.dr_route.specs.Routes.{Matches, MatchesStation}
 use Rattle.dr_route.specs.Cells.{InCell, InField, InStation, IsLongest}
 use Rattle.dr_route.specs.Laws.{ArePlain, ArePlainStations, IsPart, IsStationPart, value_of, station_value_of}
 use Rattle.dr_route.specs.declared.key.Key.{Key}

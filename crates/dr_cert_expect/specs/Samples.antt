@@ -1,7 +1,6 @@
 -- One key of a cell, of which a row speaks if it speaks of any.
 use Rattle.std.specs.Prelude.{◌≡◌, ◌⊎◌, ◌++◌, ◌∷◌, []}
-use Rattle.dr_base.specs.Texts.{Text}
-use Rattle.dr_route.specs.Routes.{Begins}
+use Rattle.dr_base.specs.Texts.{Text, Begins}
 use Rattle.dr_route.specs.Laws.{value_of, station_value_of}
 use Rattle.dr_route.specs.declared.key.Key.{Key}
 use Rattle.dr_route.specs.declared.rule.Pattern.{Pattern}

@@ -8,7 +8,7 @@ use Rattle.dr_cert_text.specs.declared.fault.CertificateFault.{CertificateFault}
 use Rattle.dr_cert_text.specs.declared.fault.CertificateFault.TheVariants.{Text, Memory}
 use Rattle.dr_cert_text.specs.CertificateText.{row}
 use Rattle.dr_cert_text.specs.Cuts.{Lacks, SplitsAt}
-use Rattle.dr_cert_text.specs.Reading.{HasNone, Reads, BeginsWith, AreRowsOf, ReadsRows}
+use Rattle.dr_cert_text.specs.Reading.{HasNone, Reads, BeginsWithField, AreRowsOf, ReadsRows}
 use Rattle.dr_cert_text.proofs.Splits.{unsplit, All-back}
 
 pub ended : (front : List ℕ) → front ++ codes "end" ++ 10 ∷ [] ≡ front ++ (101 ∷ 110 ∷ 100 ∷ 10 ∷ [])
@@ -39,7 +39,7 @@ module _ {X : Type 0} (word : List ℕ) (written : X → List ℕ) where
 
   module _ (Can : X → Type 0) (plain : (x : X) → Can x → Lacks 10 (written x)) where
     -- of two lists of rows with one text, where no row follows the second, the second goes on
-    pub go_on : (xs ys : List X) (rest end : List ℕ) → All Can xs → All Can ys → (BeginsWith word end → ⊥) → flat_map R xs ++ rest ≡ flat_map R ys ++ end →
+    pub go_on : (xs ys : List X) (rest end : List ℕ) → All Can xs → All Can ys → (BeginsWithField word end → ⊥) → flat_map R xs ++ rest ≡ flat_map R ys ++ end →
         (more : List X) × All Can more × (rest ≡ flat_map R more ++ end)
     go_on [] ys rest end all_x all_y ends e = (ys, all_y, e)
     go_on (x ∷ xs) [] rest end all_x all_y ends e = absurd (ends (written x ++ 10 ∷ (flat_map R xs ++ rest), sym e ∙ first_row x xs rest))
@@ -50,7 +50,7 @@ module _ {X : Type 0} (word : List ℕ) (written : X → List ℕ) where
         go_on xs ys rest end (All-tail Can x xs all_x) (All-tail Can y ys all_y) ends parts.1
 
     -- a text has one list of rows at its front
-    pub rows_same : ((x y : X) → Can x → Can y → written x ≡ written y → x ≡ y) → (xs ys : List X) (a b : List ℕ) → All Can xs → All Can ys → (BeginsWith word a → ⊥) → (BeginsWith word b → ⊥) →
+    pub rows_same : ((x y : X) → Can x → Can y → written x ≡ written y → x ≡ y) → (xs ys : List X) (a b : List ℕ) → All Can xs → All Can ys → (BeginsWithField word a → ⊥) → (BeginsWithField word b → ⊥) →
         flat_map R xs ++ a ≡ flat_map R ys ++ b → (xs ≡ ys) × (a ≡ b)
     rows_same one [] [] a b all_x all_y ends_a ends_b e = (refl, e)
     rows_same one [] (y ∷ ys) a b all_x all_y ends_a ends_b e = absurd (ends_a (written y ++ 10 ∷ (flat_map R ys ++ b), e ∙ first_row y ys b))

@@ -13,7 +13,7 @@ use Rattle.dr_plan_sound.specs.Printed.{printed_line, printed_hop}
 use Rattle.dr_cert_text.specs.CertificateText.{row, hop_row, line_row, front, version, certificate_text}
 use Rattle.dr_cert_text.specs.Cuts.{Lacks, SplitsAt}
 use Rattle.dr_cert_text.specs.Printable.{IsDigest, IsPrintableLine, IsPrintableHop, IsPrintable}
-use Rattle.dr_cert_text.specs.Reading.{HasNone, IsReadBack, Reads, BeginsWith, AreRowsOf, ReadsRows}
+use Rattle.dr_cert_text.specs.Reading.{HasNone, IsReadBack, Reads, BeginsWithField, AreRowsOf, ReadsRows}
 use Rattle.dr_cert_text.specs.declared.fault.CertificateFault.{CertificateFault}
 use Rattle.dr_cert_text.specs.declared.fault.CertificateFault.TheVariants.{Text, Memory}
 use Rattle.dr_cert_text.proofs.Injective.{same_line, same_hop, line_plain, hop_plain}
@@ -74,11 +74,11 @@ first_rows Two digits = refl
 first_rows Three digits = refl
 
 -- no hop stands behind the hops, and no line behind the lines
-pub hops_end : (lines : List Line) → BeginsWith (codes "hop") (flat_map line_row lines ++ last_row) → ⊥
+pub hops_end : (lines : List Line) → BeginsWithField (codes "hop") (flat_map line_row lines ++ last_row) → ⊥
 hops_end [] h = let e : ◌≡◌ {A = ℕ} 101 104 = ap (λ (t : List ℕ). get_or t 0 0) h.1 in absurd (omega arith)
 hops_end (line ∷ lines) h = let e : ◌≡◌ {A = ℕ} 108 104 = ap (λ (t : List ℕ). get_or t 0 0) h.1 in absurd (omega arith)
 
-pub lines_end : BeginsWith (codes "line") last_row → ⊥
+pub lines_end : BeginsWithField (codes "line") last_row → ⊥
 lines_end h = let e : ◌≡◌ {A = ℕ} 101 108 = ap (λ (t : List ℕ). get_or t 0 0) h.1 in absurd (omega arith)
 
 -- a certificate's parts in its text

@@ -23,8 +23,8 @@ Reads written Can text (Err Text) = HasNone written Can text
 Reads written Can text (Err Memory) = Unit {0}
 
 -- the text begins with the word as a field
-abbrev pub BeginsWith : List ℕ → List ℕ → Type 0
-BeginsWith word text = (rest : List ℕ) × (text ≡ word ++ (9 ∷ []) ++ rest)
+abbrev pub BeginsWithField : List ℕ → List ℕ → Type 0
+BeginsWithField word text = (rest : List ℕ) × (text ≡ word ++ (9 ∷ []) ++ rest)
 
 -- the text is the rows of these values, and behind them is what begins with no such row
 abbrev pub AreRowsOf : {X : Type 0} → List ℕ → (X → List ℕ) → (X → Type 0) → List ℕ → List X
@@ -32,7 +32,7 @@ abbrev pub AreRowsOf : {X : Type 0} → List ℕ → (X → List ℕ) → (X →
 AreRowsOf word written Can text items rest =
     (text ≡ flat_map (λ item. row word (written item)) items ++ rest)
     × All Can items
-    × (BeginsWith word rest → ⊥)
+    × (BeginsWithField word rest → ⊥)
 
 -- what reading rows answers: their values and the text behind them, that it has no such rows, or
 -- want of memory

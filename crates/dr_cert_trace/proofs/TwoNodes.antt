@@ -16,7 +16,8 @@ use Rattle.dr_plan_model.specs.Walks.{Flows, GoesOver, IsDestination, IsEntry, I
 use Rattle.dr_plan_model.proofs.Gathered.{only_one, Contains-here, Contains-there}
 use Rattle.dr_plan_model.proofs.WalksAlike.{no_rule_keeps}
 use Rattle.dr_plan_sound.specs.Certificates.{AreHopPairs, HasHop, pair_cmp}
-use Rattle.dr_plan_sound.specs.Samples.{scanner, archive, image, keep_all, the_scanner, the_archive, the_flow, two_nodes}
+use Rattle.dr_plan_sound.specs.Samples.{scanner, archive, keep_all, the_scanner, the_archive, the_flow, two_nodes}
+use Rattle.dr_base.specs.Standard.{image}
 use Rattle.dr_plan_sound.specs.Soundness.{IsRank}
 use Rattle.dr_plan_sound.specs.declared.certificate.Hop.{Hop}
 use Rattle.dr_plan_sound.proofs.Hopping.{reached_entry, reached_next}

@@ -5,7 +5,8 @@ use Rattle.dr_base.specs.declared.syntax.Syntax.TheVariants.{Explicit}
 use Rattle.dr_route.specs.declared.key.Key.{Key}
 use Rattle.dr_plan_model.specs.Networks.{Network}
 use Rattle.dr_plan_sound.specs.declared.certificate.Hop.{Hop}
-use Rattle.dr_plan_sound.specs.Samples.{scanner, archive, image, keep_all, two_nodes}
+use Rattle.dr_plan_sound.specs.Samples.{scanner, archive, keep_all, two_nodes}
+use Rattle.dr_base.specs.Standard.{image}
 use Rattle.dr_cert_trace.specs.declared.tracing.Journey.{Journey}
 use Rattle.dr_cert_trace.specs.Traces.{IsJourney}
 

@@ -3,8 +3,9 @@ use Rattle.std.proofs.Common.{◌≡◌, List, ℕ, ◌∷◌, ◌++◌, [], dro
 use Rattle.std.specs.Prelude.{codes}
 use Rattle.dr_dimse.specs.declared.command.Command.{Command}
 use Rattle.dr_dimse.specs.Commands.{CommandElement, IsCommand}
-use Rattle.dr_pdu.specs.Vectors.{ct}
-use Rattle.dr_dimse.specs.Vectors.{echo_request, echo_answer, echo_text, store_request, moved_text, cancel, cancel_text}
+use Rattle.dr_base.specs.Standard.{image}
+use Rattle.dr_dimse.specs.Vectors.{echo_request, echo_answer, store_request, moved_text, cancel, cancel_text}
+use Rattle.dr_pdu.specs.Vectors.{echo_command}
 use Rattle.dr_dimse.specs.Written.{written, CommandFits}
 use Rattle.dr_dimse.proofs.OneCommand.{numbers_of}
 use Rattle.dr_dimse.proofs.WrittenLemmas.{written_reads}
@@ -15,8 +16,8 @@ request_fits = (omega arith, (refl, omega arith))
 answer_fits : CommandFits echo_answer
 answer_fits = (omega arith, omega arith, (refl, omega arith))
 
-pub request_read : IsCommand echo_text echo_request
-request_read = let same : written echo_request ≡ echo_text = refl in subst (λ (t : List ℕ). IsCommand t echo_request) same (written_reads echo_request request_fits)
+pub request_read : IsCommand echo_command echo_request
+request_read = let same : written echo_request ≡ echo_command = refl in subst (λ (t : List ℕ). IsCommand t echo_request) same (written_reads echo_request request_fits)
 
 pub answer_read : IsCommand (written echo_answer) echo_answer
 answer_read = written_reads echo_answer answer_fits
@@ -25,7 +26,7 @@ answer_read = written_reads echo_answer answer_fits
 pub moved_read : IsCommand (moved_text (9 ∷ 0 ∷ [])) store_request
 moved_read =
     let text = moved_text (9 ∷ 0 ∷ []) in
-    let elements : List CommandElement = record { number = 0x0002; value = ct ++ 0 ∷ [] } ∷ record { number = 0x0100; value = 1 ∷ 0 ∷ [] } ∷ record { number = 0x0110; value = 7 ∷ 0 ∷ [] } ∷ record { number = 0x0700; value = 0 ∷ 0 ∷ [] } ∷ record { number = 0x0800; value = 1 ∷ 0 ∷ [] } ∷ record { number = 0x1000; value = 0x31 ∷ 0x2E ∷ 0x32 ∷ 0x2E ∷ 0x33 ∷ 0 ∷ [] } ∷ record { number = 0x1030; value = codes "GATE            " } ∷ record { number = 0x1031; value = 9 ∷ 0 ∷ [] } ∷ [] in (
+    let elements : List CommandElement = record { number = 0x0002; value = image ++ 0 ∷ [] } ∷ record { number = 0x0100; value = 1 ∷ 0 ∷ [] } ∷ record { number = 0x0110; value = 7 ∷ 0 ∷ [] } ∷ record { number = 0x0700; value = 0 ∷ 0 ∷ [] } ∷ record { number = 0x0800; value = 1 ∷ 0 ∷ [] } ∷ record { number = 0x1000; value = 0x31 ∷ 0x2E ∷ 0x32 ∷ 0x2E ∷ 0x33 ∷ 0 ∷ [] } ∷ record { number = 0x1030; value = codes "GATE            " } ∷ record { number = 0x1031; value = 9 ∷ 0 ∷ [] } ∷ [] in (
       elements,
       (drop 34 text, (omega arith, omega arith, refl), (drop 44 text, (omega arith, omega arith, refl), (drop 54 text, (omega arith, omega arith, refl), (drop 64 text, (omega arith, omega arith, refl), (drop 74 text, (omega arith, omega arith, refl), (drop 88 text, (omega arith, omega arith, refl), (drop 112 text, (omega arith, omega arith, refl), (drop 122 text, (omega arith, omega arith, refl), refl)))))))),
       (refl, refl, tt, refl, refl, tt, refl),
@@ -36,7 +37,7 @@ moved_read =
 pub long_id_bad : (c : Command) → IsCommand (moved_text (9 ∷ 0 ∷ 0 ∷ 0 ∷ [])) c → ⊥
 long_id_bad c h =
     let text = moved_text (9 ∷ 0 ∷ 0 ∷ 0 ∷ []) in
-    let elements : List CommandElement = record { number = 0x0002; value = ct ++ 0 ∷ [] } ∷ record { number = 0x0100; value = 1 ∷ 0 ∷ [] } ∷ record { number = 0x0110; value = 7 ∷ 0 ∷ [] } ∷ record { number = 0x0700; value = 0 ∷ 0 ∷ [] } ∷ record { number = 0x0800; value = 1 ∷ 0 ∷ [] } ∷ record { number = 0x1000; value = 0x31 ∷ 0x2E ∷ 0x32 ∷ 0x2E ∷ 0x33 ∷ 0 ∷ [] } ∷ record { number = 0x1030; value = codes "GATE            " } ∷ record { number = 0x1031; value = 9 ∷ 0 ∷ 0 ∷ 0 ∷ [] } ∷ [] in
+    let elements : List CommandElement = record { number = 0x0002; value = image ++ 0 ∷ [] } ∷ record { number = 0x0100; value = 1 ∷ 0 ∷ [] } ∷ record { number = 0x0110; value = 7 ∷ 0 ∷ [] } ∷ record { number = 0x0700; value = 0 ∷ 0 ∷ [] } ∷ record { number = 0x0800; value = 1 ∷ 0 ∷ [] } ∷ record { number = 0x1000; value = 0x31 ∷ 0x2E ∷ 0x32 ∷ 0x2E ∷ 0x33 ∷ 0 ∷ [] } ∷ record { number = 0x1030; value = codes "GATE            " } ∷ record { number = 0x1031; value = 9 ∷ 0 ∷ 0 ∷ 0 ∷ [] } ∷ [] in
     let are = numbers_of elements text c (drop 34 text, (omega arith, omega arith, refl), (drop 44 text, (omega arith, omega arith, refl), (drop 54 text, (omega arith, omega arith, refl), (drop 64 text, (omega arith, omega arith, refl), (drop 74 text, (omega arith, omega arith, refl), (drop 88 text, (omega arith, omega arith, refl), (drop 112 text, (omega arith, omega arith, refl), (drop 124 text, (omega arith, omega arith, refl), refl)))))))) h in
     omega (arith, are.6)
 

@@ -4,12 +4,12 @@ use Rattle.std.proofs.lemmas.List.{length-append}
 use Rattle.dr_base.specs.Runs.{Run}
 use Rattle.dr_dimse.specs.declared.command.Command.{Command}
 use Rattle.dr_dimse.specs.declared.command.Command.TheVariants.{StoreRq, StoreRsp, EchoRq, EchoRsp, Other}
-use Rattle.dr_dimse.specs.Commands.{CommandElement, element_text, StartsElement, first_value, text_at, HasNumber, HasIds, IsCommand}
+use Rattle.dr_dimse.specs.Commands.{CommandElement, element_text, StartsCommandElement, first_value, text_at, HasNumber, HasIds, IsCommand}
 use Rattle.dr_dimse.specs.Written.{IsText, IsNumber, FieldFits, CommandFits}
 use Rattle.dr_dimse.proofs.TextLemmas.{read_unpadded, read_short, uid_is_text}
 
 -- a value is no longer than the text that its element stands in
-value_short : (es : List CommandElement) (text rest : List ℕ) → Run StartsElement es text rest → (number : ℕ) (v : List ℕ) → first_value number es ≡ Some v → length v ≤ length text
+value_short : (es : List CommandElement) (text rest : List ℕ) → Run StartsCommandElement es text rest → (number : ℕ) (v : List ℕ) → first_value number es ≡ Some v → length v ≤ length text
 value_short [] text rest run number v e = absurd (cc)
 value_short (x ∷ xs) text rest (after, starts, run) number v e = by_test (eqb x.number number) refl (value_short xs after rest run number v)
   where
@@ -26,11 +26,11 @@ value_short (x ∷ xs) text rest (after, starts, run) number v e = by_test (eqb 
         let later : first_value number (x ∷ xs) ≡ first_value number xs = rw t refl in
         omega (arith, long, on (sym later ∙ e))
 
-text_fits : (es : List CommandElement) (text : List ℕ) (number : ℕ) → Run StartsElement es text [] → length text ≤ 16384 → IsText (text_at number es)
+text_fits : (es : List CommandElement) (text : List ℕ) (number : ℕ) → Run StartsCommandElement es text [] → length text ≤ 16384 → IsText (text_at number es)
 text_fits es text number run short =
     (read_unpadded (first_value number es), omega (arith, short, read_short (first_value number es) (length text) (λ v e. value_short es text [] run number v e)))
 
-a_text : (es : List CommandElement) (text : List ℕ) (number : ℕ) (t : List ℕ) → Run StartsElement es text [] → length text ≤ 16384 → t ≡ text_at number es → IsText t
+a_text : (es : List CommandElement) (text : List ℕ) (number : ℕ) (t : List ℕ) → Run StartsCommandElement es text [] → length text ≤ 16384 → t ≡ text_at number es → IsText t
 a_text es text number t run short e = subst IsText (sym e) (text_fits es text number run short)
 
 is_number : (es : List CommandElement) (number i n : ℕ) → Some i ≡ Some n → HasNumber es number n → IsNumber i

@@ -10,7 +10,7 @@ use Rattle.dr_dimse.specs.declared.message.Awaited.{Awaited}
 use Rattle.dr_dimse.specs.declared.command.Command.{Command}
 use Rattle.dr_dimse.specs.declared.fault.DimseFault.{DimseFault}
 use Rattle.dr_dimse.specs.Messages.{is_last, joined, IsOfKind, AreInner, body_of, IsMessage}
-use Rattle.dr_dimse.specs.Taking.{MessageStage, Idle, InCommand, InData, LeavesStage, wants_command, text_so_far, kept, IsAwaited, InContext, InPlace, EndsCommand, TakesData, Takes, Call, Took, given_by, given, Waits, Gives}
+use Rattle.dr_dimse.specs.Taking.{MessageStage, Idle, InCommand, InData, LeavesStage, wants_command, text_so_far, kept, IsAwaited, InContext, InPlace, EndsCommand, TakesData, TakesValue, TakeCall, Took, given_by, given, Waits, GivesMessage}
 use Rattle.dr_dimse.proofs.MessageLemmas.{leaves_more, message_ends, kept_is, fault_stays}
 
 -- ---- what is given is the message
@@ -25,7 +25,7 @@ data_known a Idle p new k takes = absurd takes
 data_known a (InCommand id text) p new k takes = absurd takes
 data_known a (InData id c body) p new k takes = subst (λ (u : MessageStage). IsKnown a u) (sym takes.1) k
 
-known_more : (a : Awaited) (s : MessageStage) (p : Pdv) (new : MessageStage) → IsKnown a s → Takes a s p (Ok None) new → IsKnown a new
+known_more : (a : Awaited) (s : MessageStage) (p : Pdv) (new : MessageStage) → IsKnown a s → TakesValue a s p (Ok None) new → IsKnown a new
 known_more a s p new k (inl h) = data_known a s p new k h.2
 known_more a s p new k (inr (inl h)) = subst (λ (u : MessageStage). IsKnown a u) (sym h.3) tt
 known_more a s p new k (inr (inr h)) = subst (λ (u : MessageStage). IsKnown a u) (sym h.5.1) h.4
@@ -35,7 +35,7 @@ data_known_ends a Idle p m new k takes = absurd takes
 data_known_ends a (InCommand id text) p m new k takes = absurd takes
 data_known_ends a (InData id c body) p m new k takes = subst (λ (d : Command). IsAwaited a d) (ap (λ (n : Message). n.command) (sym takes.1)) k
 
-known_ends : (a : Awaited) (s : MessageStage) (p : Pdv) (m : Message) (new : MessageStage) → IsKnown a s → Takes a s p (Ok (Some m)) new → IsAwaited a m.command
+known_ends : (a : Awaited) (s : MessageStage) (p : Pdv) (m : Message) (new : MessageStage) → IsKnown a s → TakesValue a s p (Ok (Some m)) new → IsAwaited a m.command
 known_ends a s p m new k (inl h) = data_known_ends a s p m new k h.2
 known_ends a s p m new k (inr (inl h)) = let e = h.2 in absurd (cc)
 known_ends a s p m new k (inr (inr h)) = subst (λ (d : Command). IsAwaited a d) (ap (λ (n : Message). n.command) (sym h.5.1)) h.4
@@ -46,7 +46,7 @@ data_idle (InCommand id text) p m new takes = absurd takes
 data_idle (InData id c body) p m new takes = takes.2
 
 -- nothing is under way behind a message
-idle_then : (a : Awaited) (s : MessageStage) (p : Pdv) (m : Message) (new : MessageStage) → Takes a s p (Ok (Some m)) new → new ≡ Idle
+idle_then : (a : Awaited) (s : MessageStage) (p : Pdv) (m : Message) (new : MessageStage) → TakesValue a s p (Ok (Some m)) new → new ≡ Idle
 idle_then a s p m new (inl h) = data_idle s p m new h.2
 idle_then a s p m new (inr (inl h)) = let e = h.2 in absurd (cc)
 idle_then a s p m new (inr (inr h)) = h.5.2
@@ -57,7 +57,7 @@ waits_leave a (q ∷ qs) ps s new l k w =
     let it = waits_leave a qs (ps ++ q ∷ []) w.0 new (leaves_more a ps s q w.0 l w.1) (known_more a s q w.0 k w.1) w.2 in
     (subst (λ (all : List Pdv). LeavesStage all new) (append_assoc ps (q ∷ []) qs) it.0, it.1)
 
-pub given_is : (a : Awaited) (ps : List Pdv) (m : Message) → Gives a ps m → IsMessage ps m × IsAwaited a m.command
+pub given_is : (a : Awaited) (ps : List Pdv) (m : Message) → GivesMessage a ps m → IsMessage ps m × IsAwaited a m.command
 given_is a ps m (front, final, mid, split, waits, takes) =
     let w = waits_leave a front [] Idle mid refl tt waits in
     let e = message_ends a front mid final m Idle w.0 takes in
@@ -91,7 +91,7 @@ command_waits a id (p ∷ ps) s text more r (here, inner) short =
     let short' : length ((text ++ p.fragment) ++ (joined ps ++ more)) ≤ 16384 = subst (λ (t : List ℕ). length t ≤ 16384) all short in
     let little : length (text ++ p.fragment) ≤ 16384 = omega (arith, short', length-append (text ++ p.fragment) (joined ps ++ more)) in
     let little' : length (text_so_far s ++ p.fragment) ≤ 16384 = subst (λ (t : List ℕ). length (t ++ p.fragment) ≤ 16384) (sym r.so_far) little in
-    let step : Takes a s p (Ok None) (InCommand id (text ++ p.fragment)) = inr (inl (
+    let step : TakesValue a s p (Ok None) (InCommand id (text ++ p.fragment)) = inr (inl (
       (place, r.wants, little'),
       here.1,
       refl,
@@ -108,7 +108,7 @@ data_waits : (a : Awaited) (id : ℕ) (c : Command) (front : List Pdv) (text : L
 data_waits a id c [] text inner = ap (λ (t : List ℕ). InData id c (body_of t)) (sym (append-nil text))
 data_waits a id c (p ∷ ps) text (here, inner) =
     let on = data_waits a id c ps (text ++ p.fragment) inner in
-    let step : Takes a (InData id c (body_of text)) p (Ok None) (InData id c (body_of (text ++ p.fragment))) =
+    let step : TakesValue a (InData id c (body_of text)) p (Ok None) (InData id c (body_of (text ++ p.fragment))) =
     inl ((here.0.0, here.0.1), refl, (here.1, ap (λ (b : Body). InData id c b) (sym (kept_is text p.fragment)))) in
     (InData id c (body_of (text ++ p.fragment)), step, subst (λ (t : List ℕ). Waits a (InData id c (body_of (text ++ p.fragment))) ps (InData id c (body_of t))) (append_assoc text p.fragment (joined ps)) on)
 
@@ -137,7 +137,7 @@ a_message id c body = record { id = id; command = c; body = body }
 same_message : (m : Message) (body : Option Body) → m.body ≡ body → m ≡ a_message m.id m.command body
 same_message m body e = ap (λ (b : Option Body). a_message m.id m.command b) e
 
-pub is_given : (a : Awaited) (ps : List Pdv) (m : Message) → IsMessage ps m → IsAwaited a m.command → Gives a ps m
+pub is_given : (a : Awaited) (ps : List Pdv) (m : Message) → IsMessage ps m → IsAwaited a m.command → GivesMessage a ps m
 is_given a ps m (cs, ds, text, split, (front, final, parts, inner, kind, last, is), short, command, inl (follows, none, body)) awaited =
     let e = at_end a m.id front final text inner kind last (is ∙ ap joined parts) short in
     let all : ps ≡ front ++ final ∷ [] = split ∙ ap (λ (x : List Pdv). cs ++ x) none ∙ append-nil cs ∙ parts in
@@ -145,7 +145,7 @@ is_given a ps m (cs, ds, text, split, (front, final, parts, inner, kind, last, i
     (front, final, e.mid, all, e.waits, inr (inr (text, m.command, e.ends, command, awaited, (follows, made, refl))))
 is_given a ps m (cs, ds, text, split, (front, final, parts, inner, kind, last, is), short, command, inr (follows, (body, (front', final', parts', inner', kind', last', is'), has))) awaited =
     let e = at_end a m.id front final text inner kind last (is ∙ ap joined parts) short in
-    let begun : Takes a e.mid final (Ok None) (InData m.id m.command (body_of [])) =
+    let begun : TakesValue a e.mid final (Ok None) (InData m.id m.command (body_of [])) =
     inr (inr (text, m.command, e.ends, command, awaited, (follows, ap (λ (i : ℕ). InData i m.command (Whole [])) (sym kind.0)))) in
     let then : Waits a Idle (front ++ final ∷ []) (InData m.id m.command (body_of [])) =
     waits_append a front (final ∷ []) Idle e.mid (InData m.id m.command (body_of [])) e.waits (InData m.id m.command (body_of []), begun, refl) in
@@ -164,13 +164,13 @@ is_given a ps m (cs, ds, text, split, (front, final, parts, inner, kind, last, i
 
 -- ---- what is given was awaited
 
-known_on : (a : Awaited) (p : Pdv) (r : Result (Option Message) DimseFault) (ms : List Message) (s mid : MessageStage) → IsKnown a s → Takes a s p r mid → (IsKnown a mid → AllByRecursion (λ (m : Message). IsAwaited a m.command) ms)
+known_on : (a : Awaited) (p : Pdv) (r : Result (Option Message) DimseFault) (ms : List Message) (s mid : MessageStage) → IsKnown a s → TakesValue a s p r mid → (IsKnown a mid → AllByRecursion (λ (m : Message). IsAwaited a m.command) ms)
     → AllByRecursion (λ (m : Message). IsAwaited a m.command) (given_by r ++ ms)
 known_on a p (Err f) ms s mid k t on = on (subst (λ (u : MessageStage). IsKnown a u) (sym (fault_stays a s p f mid t)) k)
 known_on a p (Ok None) ms s mid k t on = on (known_more a s p mid k t)
 known_on a p (Ok (Some m)) ms s mid k t on = (known_ends a s p m mid k t, on (subst (λ (u : MessageStage). IsKnown a u) (sym (idle_then a s p m mid t)) tt))
 
-pub given_awaited : (a : Awaited) (calls : List Call) (s new : MessageStage) → IsKnown a s → AllByRecursion (λ (x : Call). x.awaited ≡ a) calls → Took s calls new → AllByRecursion (λ (m : Message). IsAwaited a m.command) (given calls)
+pub given_awaited : (a : Awaited) (calls : List TakeCall) (s new : MessageStage) → IsKnown a s → AllByRecursion (λ (x : TakeCall). x.awaited ≡ a) calls → Took s calls new → AllByRecursion (λ (m : Message). IsAwaited a m.command) (given calls)
 given_awaited a [] s new k all t = tt
 given_awaited a (x ∷ xs) s new k all t =
-    known_on a x.value x.answer (given xs) s t.0 k (subst (λ (b : Awaited). Takes b s x.value x.answer t.0) all.0 t.1) (λ known. given_awaited a xs t.0 new known all.1 t.2)
+    known_on a x.value x.answer (given xs) s t.0 k (subst (λ (b : Awaited). TakesValue b s x.value x.answer t.0) all.0 t.1) (λ known. given_awaited a xs t.0 new known all.1 t.2)

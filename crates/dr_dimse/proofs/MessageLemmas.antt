@@ -10,7 +10,7 @@ use Rattle.dr_dimse.specs.declared.message.Awaited.{Awaited}
 use Rattle.dr_dimse.specs.declared.fault.DimseFault.{DimseFault}
 use Rattle.dr_dimse.specs.declared.fault.DimseFault.TheVariants.{OutOfPlace, MixedContext, BadCommand, TooLong, Memory}
 use Rattle.dr_dimse.specs.Messages.{is_last, joined, IsOfKind, AreInner, IsWhole, body_of, IsMessage, AreMessages}
-use Rattle.dr_dimse.specs.Taking.{MessageStage, Idle, InCommand, InData, LeavesStage, wants_command, text_so_far, kept, InContext, InPlace, IsShortEnough, EndsCommand, TakesData, Takes, Call, Took, taken_by, given_by, taken, given}
+use Rattle.dr_dimse.specs.Taking.{MessageStage, Idle, InCommand, InData, LeavesStage, wants_command, text_so_far, kept, InContext, InPlace, IsShortEnough, EndsCommand, TakesData, TakesValue, TakeCall, Took, taken_by, given_by, taken, given}
 
 -- ---- lists of values
 
@@ -87,7 +87,7 @@ data_ends ps (InData id c body) p m new (cs, ds, text, split, whole, short, is, 
     (subst (λ (n : Message). IsMessage (ps ++ p ∷ []) n) (sym made) it, then)
 
 -- a value that ends no message
-pub leaves_more : (a : Awaited) (ps : List Pdv) (s : MessageStage) (p : Pdv) (new : MessageStage) → LeavesStage ps s → Takes a s p (Ok None) new → LeavesStage (ps ++ p ∷ []) new
+pub leaves_more : (a : Awaited) (ps : List Pdv) (s : MessageStage) (p : Pdv) (new : MessageStage) → LeavesStage ps s → TakesValue a s p (Ok None) new → LeavesStage (ps ++ p ∷ []) new
 leaves_more a ps s p new l (inl (place, wants, takes)) = data_goes_on ps s p new l place takes
 leaves_more a ps s p new l (inr (inl (short, last, none, is))) = subst (λ (u : MessageStage). LeavesStage (ps ++ p ∷ []) u) (sym is) (command_goes_on ps s p l short last)
 leaves_more a ps s p new l (inr (inr (text, c, ends, is, awaited, (follows, then)))) =
@@ -96,7 +96,7 @@ leaves_more a ps s p new l (inr (inr (text, c, ends, is, awaited, (follows, then
     (ps ++ p ∷ [], [], text, sym (append-nil (ps ++ p ∷ [])), e.0, e.1, is, follows, tt, refl)
 
 -- a value that ends one
-pub message_ends : (a : Awaited) (ps : List Pdv) (s : MessageStage) (p : Pdv) (m : Message) (new : MessageStage) → LeavesStage ps s → Takes a s p (Ok (Some m)) new → IsMessage (ps ++ p ∷ []) m × (new ≡ Idle)
+pub message_ends : (a : Awaited) (ps : List Pdv) (s : MessageStage) (p : Pdv) (m : Message) (new : MessageStage) → LeavesStage ps s → TakesValue a s p (Ok (Some m)) new → IsMessage (ps ++ p ∷ []) m × (new ≡ Idle)
 message_ends a ps s p m new l (inl (place, wants, takes)) = data_ends ps s p m new l place takes
 message_ends a ps s p m new l (inr (inl (short, last, none, is))) = absurd (cc)
 message_ends a ps s p m new l (inr (inr (text, c, ends, is, awaited, (follows, made, then)))) =
@@ -106,7 +106,7 @@ message_ends a ps s p m new l (inr (inr (text, c, ends, is, awaited, (follows, m
     (subst (λ (n : Message). IsMessage (ps ++ p ∷ []) n) (sym made) it, then)
 
 -- a fault leaves the stage
-pub fault_stays : (a : Awaited) (s : MessageStage) (p : Pdv) (f : DimseFault) (new : MessageStage) → Takes a s p (Err f) new → new ≡ s
+pub fault_stays : (a : Awaited) (s : MessageStage) (p : Pdv) (f : DimseFault) (new : MessageStage) → TakesValue a s p (Err f) new → new ≡ s
 fault_stays a s p MixedContext new h = h.0
 fault_stays a s p OutOfPlace new h = h.0
 fault_stays a s p TooLong new h = h.0
@@ -118,7 +118,7 @@ fault_stays a s p Memory new h = h
 abbrev Told : List Pdv → List Message → MessageStage → Type 0
 Told ps ms new = (rest : List Pdv) × AreMessages ps ms rest × LeavesStage rest new
 
-told_one : (a : Awaited) (p : Pdv) (r : Result (Option Message) DimseFault) (ps qs : List Pdv) (ms : List Message) (s mid new : MessageStage) → LeavesStage ps s → Takes a s p r mid
+told_one : (a : Awaited) (p : Pdv) (r : Result (Option Message) DimseFault) (ps qs : List Pdv) (ms : List Message) (s mid new : MessageStage) → LeavesStage ps s → TakesValue a s p r mid
     → ((before : List Pdv) → LeavesStage before mid → Told (before ++ qs) ms new) → Told (ps ++ (taken_by p r ++ qs)) (given_by r ++ ms) new
 told_one a p (Err f) ps qs ms s mid new l t on = on ps (subst (λ (u : MessageStage). LeavesStage ps u) (sym (fault_stays a s p f mid t)) l)
 told_one a p (Ok None) ps qs ms s mid new l t on =
@@ -128,6 +128,6 @@ told_one a p (Ok (Some m)) ps qs ms s mid new l t on =
     let it = on [] (subst (λ (u : MessageStage). LeavesStage [] u) (sym e.1) refl) in
     (it.0, (ps ++ p ∷ [], qs, sym (append_assoc ps (p ∷ []) qs), e.0, it.1), it.2)
 
-pub told : (calls : List Call) (ps : List Pdv) (s new : MessageStage) → LeavesStage ps s → Took s calls new → Told (ps ++ taken calls) (given calls) new
+pub told : (calls : List TakeCall) (ps : List Pdv) (s new : MessageStage) → LeavesStage ps s → Took s calls new → Told (ps ++ taken calls) (given calls) new
 told [] ps s new l t = (ps, append-nil ps, subst (λ (u : MessageStage). LeavesStage ps u) t l)
 told (x ∷ xs) ps s new l t = told_one x.awaited x.value x.answer ps (taken xs) (given xs) s t.0 new l t.1 (λ before here. told xs before t.0 new here t.2)

@@ -6,11 +6,11 @@ use Rattle.dr_base.specs.Runs.{Run}
 use Rattle.dr_base.proofs.RunLemmas.{run_same}
 use Rattle.dr_dimse.specs.declared.command.Command.{Command}
 use Rattle.dr_dimse.specs.declared.command.Command.TheVariants.{StoreRq, StoreRsp, EchoRq, EchoRsp, Other}
-use Rattle.dr_dimse.specs.Commands.{CommandElement, StartsElement, HasNumber, AreNumbers, field_of, announces, id_of, status_of, Announces, HasIds, HasTexts, Says, IsCommand}
+use Rattle.dr_dimse.specs.Commands.{CommandElement, StartsCommandElement, HasNumber, AreNumbers, field_of, announces, id_of, status_of, Announces, HasIds, HasTexts, SayCommand, IsCommand}
 use Rattle.dr_dimse.proofs.ElementLemmas.{element_parts}
 
-pub same_elements : (es fs : List CommandElement) (text : List ℕ) → Run StartsElement es text [] → Run StartsElement fs text [] → fs ≡ es
-same_elements = run_same StartsElement element_parts
+pub same_elements : (es fs : List CommandElement) (text : List ℕ) → Run StartsCommandElement es text [] → Run StartsCommandElement fs text [] → fs ≡ es
+same_elements = run_same StartsCommandElement element_parts
 
 pub one_number : (es : List CommandElement) (number n m : ℕ) → HasNumber es number n → HasNumber es number m → n ≡ m
 one_number es number n m h k =
@@ -64,7 +64,7 @@ one_kind es (EchoRq i a m) (Other e j r l) f n k s h t = absurd (t.2 (sym f))
 one_kind es (EchoRsp i q a m) (Other e j r l) f n k s h t = absurd (t.3 (sym f))
 one_kind es c d f n k s h t = absurd (omega (arith, f))
 
-pub one_said : (es : List CommandElement) (c d : Command) → Says es c → Says es d → c ≡ d
+pub one_said : (es : List CommandElement) (c d : Command) → SayCommand es c → SayCommand es d → c ≡ d
 one_said es c d h k =
     let field = one_number es 0x0100 (field_of c) (field_of d) h.0 k.0 in
     let ids = one_ids es (field_of d) (id_of c) (id_of d) (status_of c) (status_of d) (subst (λ (f : ℕ). HasIds es f (id_of c) (status_of c)) field h.2) k.2 in
@@ -72,7 +72,7 @@ one_said es c d h k =
 
 pub one_command : (text : List ℕ) (c d : Command) → IsCommand text c → IsCommand text d → c ≡ d
 one_command text c d (es, run, are, says) (fs, run', are', says') =
-    one_said es c d says (subst (λ (gs : List CommandElement). Says gs d) (same_elements es fs text run run') says')
+    one_said es c d says (subst (λ (gs : List CommandElement). SayCommand gs d) (same_elements es fs text run run') says')
 
 -- ---- what the readers need of a text
 
@@ -83,8 +83,8 @@ answer_status es field id status large (inr (inl h)) = absurd (omega (arith, lar
 answer_status es field id status large (inr (inr h)) = (h.2.0, h.2.2)
 
 -- the command of a text is said by the elements that were found in it
-pub numbers_of : (es : List CommandElement) (text : List ℕ) (c : Command) → Run StartsElement es text [] → IsCommand text c → AreNumbers es
+pub numbers_of : (es : List CommandElement) (text : List ℕ) (c : Command) → Run StartsCommandElement es text [] → IsCommand text c → AreNumbers es
 numbers_of es text c run h = subst AreNumbers (sym (same_elements h.0 es text h.1 run)) h.2
 
-pub said_of : (es : List CommandElement) (text : List ℕ) (c : Command) → Run StartsElement es text [] → IsCommand text c → Says es c
-said_of es text c run h = subst (λ (fs : List CommandElement). Says fs c) (sym (same_elements h.0 es text h.1 run)) h.3
+pub said_of : (es : List CommandElement) (text : List ℕ) (c : Command) → Run StartsCommandElement es text [] → IsCommand text c → SayCommand es c
+said_of es text c run h = subst (λ (fs : List CommandElement). SayCommand fs c) (sym (same_elements h.0 es text h.1 run)) h.3

@@ -12,11 +12,11 @@ use Rattle.dr_dimse.specs.declared.fault.DimseFault.{DimseFault}
 use Rattle.dr_dimse.specs.declared.fault.DimseFault.TheVariants.{OutOfPlace, MixedContext, BadCommand, TooLong, Memory}
 use Rattle.dr_dimse.specs.Commands.{IsCommand, announces}
 use Rattle.dr_dimse.specs.Messages.{is_command, is_last}
-use Rattle.dr_dimse.specs.Taking.{MessageStage, Idle, InCommand, InData, context_of, wants_command, text_so_far, kept, IsAwaited, InContext, InPlace, IsShortEnough, EndsCommand, Begins, TakesData, Takes}
+use Rattle.dr_dimse.specs.Taking.{MessageStage, Idle, InCommand, InData, context_of, wants_command, text_so_far, kept, IsAwaited, InContext, InPlace, IsShortEnough, EndsCommand, TakesData, TakesValue}
 
 -- none of the answers is right
 abbrev HasNone : Awaited → MessageStage → Pdv → Type 0
-HasNone a s p = (r : Result (Option Message) DimseFault) (new : MessageStage) → r ≢ Err Memory → Takes a s p r new → ⊥
+HasNone a s p = (r : Result (Option Message) DimseFault) (new : MessageStage) → r ≢ Err Memory → TakesValue a s p r new → ⊥
 
 module _ (a : Awaited) (s : MessageStage) (p : Pdv) (none : HasNone a s p) where
   -- the command is whole
@@ -54,5 +54,5 @@ placed a Idle p none is = of_command a Idle p none is refl
 placed a (InCommand id text) p none is = of_command a (InCommand id text) p none is refl
 placed a (InData id c body) p none is = of_data a id c body p none is
 
-pub some_take : (awaited : Awaited) (old : MessageStage) (p : Pdv) → ((r : Result (Option Message) DimseFault) (new : MessageStage) → r ≢ Err Memory → Takes awaited old p r new → ⊥) → ⊥
+pub some_take : (awaited : Awaited) (old : MessageStage) (p : Pdv) → ((r : Result (Option Message) DimseFault) (new : MessageStage) → r ≢ Err Memory → TakesValue awaited old p r new → ⊥) → ⊥
 some_take a s p none = none (Err MixedContext) s (λ e. cc e) (refl, λ same. none (Err OutOfPlace) s (λ e. cc e) (refl, inl (same, λ kind. placed a s p none (same, kind))))

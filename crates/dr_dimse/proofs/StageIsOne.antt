@@ -7,7 +7,7 @@ use Rattle.dr_dimse.specs.declared.message.Body.{Body}
 use Rattle.dr_dimse.specs.declared.message.Message.{Message}
 use Rattle.dr_dimse.specs.Commands.{IsCommand}
 use Rattle.dr_dimse.specs.Messages.{is_last, joined, AreInner, body_of, IsMessage}
-use Rattle.dr_dimse.specs.Taking.{MessageStage, Idle, InCommand, InData, LeavesStage, IsAwaited, Takes, Waits, ended_by, since}
+use Rattle.dr_dimse.specs.Taking.{MessageStage, Idle, InCommand, InData, LeavesStage, IsAwaited, TakesValue, Waits, ended_by, since}
 use Rattle.dr_dimse.proofs.OneCommand.{one_command}
 use Rattle.dr_dimse.proofs.MessageLemmas.{leaves_more}
 use Rattle.dr_dimse.proofs.GivenLemmas.{is_given, waits_leave}
@@ -105,7 +105,7 @@ waits_split a [] ys s new w = (s, refl, w)
 waits_split a (x ∷ xs) ys s new w = let on = waits_split a xs ys w.0 new w.2 in (on.0, (w.0, w.1, on.1), on.2)
 
 abbrev GoesOn : Awaited → List Pdv → Pdv → List Pdv → Message → MessageStage → Type 0
-GoesOn a before p later m s = (new : MessageStage) × Takes a s p (Ok (ended_by later m)) new × LeavesStage (since (before ++ p ∷ []) later) new
+GoesOn a before p later m s = (new : MessageStage) × TakesValue a s p (Ok (ended_by later m)) new × LeavesStage (since (before ++ p ∷ []) later) new
 
 -- what leads to the values so far leads to the stage that they leave
 reached : (a : Awaited) (before : List Pdv) (s mid : MessageStage) → LeavesStage before s → Waits a Idle before mid → mid ≡ s
@@ -116,7 +116,7 @@ goes_on_by a before p [] m s l is awaited =
     let (front, final, mid, split, waits, takes) = is_given a (before ++ p ∷ []) m is awaited in
     let e = ends before front p final split in
     let here : mid ≡ s = reached a before s mid l (subst (λ (xs : List Pdv). Waits a Idle xs mid) (sym e.0) waits) in
-    (Idle, subst (λ (u : MessageStage). Takes a u p (Ok (Some m)) Idle) here (subst (λ (q : Pdv). Takes a mid q (Ok (Some m)) Idle) (sym e.1) takes), refl)
+    (Idle, subst (λ (u : MessageStage). TakesValue a u p (Ok (Some m)) Idle) here (subst (λ (q : Pdv). TakesValue a mid q (Ok (Some m)) Idle) (sym e.1) takes), refl)
 goes_on_by a before p (q ∷ qs) m s l is awaited =
     let (front, final, mid, split, waits, takes) = is_given a (before ++ p ∷ q ∷ qs) m is awaited in
     let u = unsnoc q qs in
@@ -124,5 +124,5 @@ goes_on_by a before p (q ∷ qs) m s l is awaited =
     append_assoc before (p ∷ u.0) (u.1 ∷ []) ∙ ap (λ (rs : List Pdv). before ++ p ∷ rs) (sym u.2) ∙ split in
     let e = ends (before ++ p ∷ u.0) front u.1 final all in
     let w = waits_split a before (p ∷ u.0) Idle mid (subst (λ (xs : List Pdv). Waits a Idle xs mid) (sym e.0) waits) in
-    let step : Takes a s p (Ok None) w.2.0 = subst (λ (t : MessageStage). Takes a t p (Ok None) w.2.0) (reached a before s w.0 l w.1) w.2.1 in
+    let step : TakesValue a s p (Ok None) w.2.0 = subst (λ (t : MessageStage). TakesValue a t p (Ok None) w.2.0) (reached a before s w.0 l w.1) w.2.1 in
     (w.2.0, step, leaves_more a before s p w.2.0 l step)

@@ -11,7 +11,7 @@ use Rattle.dr_dimse.specs.declared.message.Body.{Body}
 use Rattle.dr_dimse.specs.declared.message.Message.{Message}
 use Rattle.dr_dimse.specs.Messages.{is_last}
 use Rattle.dr_dimse.specs.Stages.{stage_of, text_held, ReadsAwaited}
-use Rattle.dr_dimse.specs.Taking.{Begins, MessageStage, text_so_far, wants_command, InPlace, EndsCommand, Takes}
+use Rattle.dr_dimse.specs.Taking.{BeginsMessage, MessageStage, text_so_far, wants_command, InPlace, EndsCommand, TakesValue}
 
 pub text_is_held : (u : UnderWay) (text : List ℕ) (body : Body) → text_so_far (stage_of u text body) ≡ text_held u text
 text_is_held Nothing text body = refl
@@ -25,7 +25,7 @@ same_stage (ACommand id) text body = refl
 same_stage (ADataSet id c) text body = refl
 
 -- a command that can't be read, or isn't awaited
-pub refused_command : (a : Awaited) (s new : MessageStage) (p : Pdv) (fault : DimseFault) (text : List ℕ) → new ≡ s → EndsCommand s p text → ReadsAwaited a text (Err fault) → Takes a s p (Err fault) new
+pub refused_command : (a : Awaited) (s new : MessageStage) (p : Pdv) (fault : DimseFault) (text : List ℕ) → new ≡ s → EndsCommand s p text → ReadsAwaited a text (Err fault) → TakesValue a s p (Err fault) new
 refused_command a s new p BadCommand text same ends none = (same, (text, ends, none))
 refused_command a s new p OutOfPlace text same ends (c, is, other) = (same, inr (text, c, ends, is, other))
 refused_command a s new p Memory text same ends none = same
@@ -41,6 +41,6 @@ ends_with u text body s p whole is place wants last made short =
     ((place, wants, subst (λ (t : List ℕ). length t ≤ 16384) same short), last, same)
 
 -- an awaited command
-pub begun : (a : Awaited) (s new : MessageStage) (p : Pdv) (text : List ℕ) (c : Command) (m : Option Message) → EndsCommand s p text → ReadsAwaited a text (Ok c) → Begins p.id c m new → Takes a s p (Ok m) new
+pub begun : (a : Awaited) (s new : MessageStage) (p : Pdv) (text : List ℕ) (c : Command) (m : Option Message) → EndsCommand s p text → ReadsAwaited a text (Ok c) → BeginsMessage p.id c m new → TakesValue a s p (Ok m) new
 begun a s new p text c None ends is b = inr (inr (text, c, ends, is.0, is.1, b))
 begun a s new p text c (Some m) ends is b = inr (inr (text, c, ends, is.0, is.1, b))

@@ -6,16 +6,16 @@ use Rattle.std.proofs.lemmas.Bool.{le-leb, lt-leb}
 use Rattle.dr_base.specs.Runs.{Run}
 use Rattle.dr_dimse.specs.declared.command.Command.{Command}
 use Rattle.dr_dimse.specs.declared.command.Command.TheVariants.{StoreRq, StoreRsp, EchoRq, EchoRsp, Other}
-use Rattle.dr_dimse.specs.Commands.{CommandElement, StartsElement, first_value, HasNoName, Announces, IsCommand}
-use Rattle.dr_dimse.specs.Written.{even, number_element, data_element, if_some, elements_of, joined, group_length, written, IsNumber, FieldFits, CommandFits}
+use Rattle.dr_dimse.specs.Commands.{CommandElement, StartsCommandElement, first_value, HasNoName, Announces, IsCommand}
+use Rattle.dr_dimse.specs.Written.{even, number_element, data_element, if_some, elements_of, element_texts, group_length, written, IsNumber, FieldFits, CommandFits}
 use Rattle.dr_dimse.proofs.TextLemmas.{unpadded_even, even_short, uid_unpadded}
 
 abbrev IsElement : CommandElement → Type 0
 IsElement e = (e.number < 2 ^ 16) × (length e.value < 0xFFFFFFFF)
 
-run_elements : (es : List CommandElement) → AllByRecursion IsElement es → Run StartsElement es (joined es) []
+run_elements : (es : List CommandElement) → AllByRecursion IsElement es → Run StartsCommandElement es (element_texts es) []
 run_elements [] h = refl
-run_elements (e ∷ es) h = (joined es, (h.0.0, h.0.1, refl), run_elements es h.1)
+run_elements (e ∷ es) h = (element_texts es, (h.0.0, h.0.1, refl), run_elements es h.1)
 
 -- a text of up to 16,384 bytes makes an element
 text_small : (t : List ℕ) → length t ≤ 16384 → length (even t) < 0xFFFFFFFF
@@ -84,9 +84,9 @@ other field (Some i) None d n names (inr (inl (cancel, small, has, none))) =
     let es = whole (others false field (Some i) None d) in
     let run = run_elements es ((omega arith, omega arith), ((omega arith, omega arith), ((omega arith, omega arith), ((omega arith, omega arith), tt)))) in
     let number : IsNumber i = number_is has in
-    let it : IsCommand (joined es) (Other field (Some i) None d) =
+    let it : IsCommand (element_texts es) (Other field (Some i) None d) =
     (es, run, (refl, refl, tt, tt, refl, tt, tt), ((n, refl), follows es d refl, inr (inl (cancel, small, (i, refl, (number, refl)), refl)), names)) in
-    subst (λ (b : Bool). IsCommand (joined (whole (others b field (Some i) None d))) (Other field (Some i) None d)) (sym test) it
+    subst (λ (b : Bool). IsCommand (element_texts (whole (others b field (Some i) None d))) (Other field (Some i) None d)) (sym test) it
   where
     number_is : (m : ℕ) × (Some i ≡ Some m) × IsNumber m → IsNumber i
     number_is (m, e, h) = let same : m ≡ i = cc in subst IsNumber same h
@@ -94,9 +94,9 @@ other field (Some i) (Some q) d n names (inr (inr (large, has, has'))) =
     let test : leb 0x8000 field ≡ true = le-leb 0x8000 field large in
     let es = whole (others true field (Some i) (Some q) d) in
     let run = run_elements es ((omega arith, omega arith), ((omega arith, omega arith), ((omega arith, omega arith), ((omega arith, omega arith), ((omega arith, omega arith), tt))))) in
-    let it : IsCommand (joined es) (Other field (Some i) (Some q) d) =
+    let it : IsCommand (element_texts es) (Other field (Some i) (Some q) d) =
     (es, run, (refl, tt, refl, tt, refl, refl, tt), ((n, refl), follows es d refl, inr (inr (large, (i, refl, (number_is i has, refl)), (q, refl, (number_is q has', refl)))), names)) in
-    subst (λ (b : Bool). IsCommand (joined (whole (others b field (Some i) (Some q) d))) (Other field (Some i) (Some q) d)) (sym test) it
+    subst (λ (b : Bool). IsCommand (element_texts (whole (others b field (Some i) (Some q) d))) (Other field (Some i) (Some q) d)) (sym test) it
   where
     number_is : (k : ℕ) → (m : ℕ) × (Some k ≡ Some m) × IsNumber m → IsNumber k
     number_is k (m, e, h) = let same : m ≡ k = cc in subst IsNumber same h

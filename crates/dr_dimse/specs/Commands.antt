@@ -28,8 +28,8 @@ abbrev pub element_text : CommandElement → List ℕ
 element_text e = 0 ∷ 0 ∷ (to_le_bytes w16 e.number ++ (to_le_bytes w32 (length e.value) ++ e.value))
 
 -- the text begins with the element, whose length isn't the undefined one, FFFFFFFFH
-abbrev pub StartsElement : List ℕ → CommandElement → List ℕ → Type 0
-StartsElement text e rest =
+abbrev pub StartsCommandElement : List ℕ → CommandElement → List ℕ → Type 0
+StartsCommandElement text e rest =
     (e.number < 2 ^ 16) × (length e.value < 0xFFFFFFFF) × (text ≡ element_text e ++ rest)
 
 -- the values of the elements of one number, in order
@@ -56,15 +56,15 @@ abbrev pub HasNumber : List CommandElement → ℕ → ℕ → Type 0
 HasNumber es number n = (n < 2 ^ 16) × (first_value number es ≡ Some (to_le_bytes w16 n))
 
 -- if the element is there, it has two bytes
-abbrev pub IsShort : List CommandElement → ℕ → Type 0
-IsShort es number = IfSome (first_value number es) (λ value. length value ≡ 2)
+abbrev pub HasTwoBytes : List CommandElement → ℕ → Type 0
+HasTwoBytes es number = IfSome (first_value number es) (λ value. length value ≡ 2)
 
 -- each number of a command but the group length has two bytes; a later element of its tag counts
 -- for nothing
 abbrev pub AreNumbers : List CommandElement → Type 0
 AreNumbers es =
-    IsShort es 0x0100 × IsShort es 0x0110 × IsShort es 0x0120 × IsShort es 0x0700
-    × IsShort es 0x0800 × IsShort es 0x0900 × IsShort es 0x1031
+    HasTwoBytes es 0x0100 × HasTwoBytes es 0x0110 × HasTwoBytes es 0x0120 × HasTwoBytes es 0x0700
+    × HasTwoBytes es 0x0800 × HasTwoBytes es 0x0900 × HasTwoBytes es 0x1031
 
 -- ---- what the elements say
 
@@ -130,8 +130,8 @@ HasTexts es (EchoRsp to status class has_data) = class ≡ text_at 0x0002 es
 HasTexts es (Other field id status has_data) = HasNoName field
 
 -- the elements say this command: its field, ids, status and texts, and whether a data set follows
-abbrev pub Says : List CommandElement → Command → Type 0
-Says es c =
+abbrev pub SayCommand : List CommandElement → Command → Type 0
+SayCommand es c =
     HasNumber es 0x0100 (field_of c)
     × Announces es (announces c)
     × HasIds es (field_of c) (id_of c) (status_of c)
@@ -140,7 +140,9 @@ Says es c =
 -- the text, all of it, is a spelling of the command
 abbrev pub IsCommand : List ℕ → Command → Type 0
 IsCommand text c =
-    (es : List CommandElement) × Run StartsElement es text [] × AreNumbers es × Says es c
+    (es : List CommandElement)
+    × Run StartsCommandElement es text []
+    × AreNumbers es × SayCommand es c
 
 -- what reading a text answers: its command, or that it is none; or memory ran out
 abbrev pub ReadsCommand : List ℕ → Result Command DimseFault → Type 0

@@ -107,9 +107,9 @@ abbrev pub EndsCommand : MessageStage → Pdv → List ℕ → Type 0
 EndsCommand s p text = IsShortEnough s p × (is_last p ≡ true) × (text ≡ text_so_far s ++ p.fragment)
 
 -- a whole command makes a message, or waits for its data set
-abbrev pub Begins : ℕ → Command → Option Message → MessageStage → Type 0
-Begins id c None new = (announces c ≡ true) × (new ≡ InData id c (Whole []))
-Begins id c (Some m) new =
+abbrev pub BeginsMessage : ℕ → Command → Option Message → MessageStage → Type 0
+BeginsMessage id c None new = (announces c ≡ true) × (new ≡ InData id c (Whole []))
+BeginsMessage id c (Some m) new =
     (announces c ≡ false) × (m ≡ record { id = id; command = c; body = None }) × (new ≡ Idle)
 
 -- a fragment of a data set is there
@@ -125,40 +125,40 @@ TakesData s p m new = ⊥
 -- What one value does. A fault leaves what is under way. Of several faults the first counts:
 -- another context, out of place by its kind, a command too long, one that can't be read, one that
 -- isn't awaited.
-abbrev pub Takes : Awaited → MessageStage → Pdv
+abbrev pub TakesValue : Awaited → MessageStage → Pdv
     → Result (Option Message) DimseFault
     → MessageStage → Type 0
-Takes awaited s p (Ok m) new =
+TakesValue awaited s p (Ok m) new =
     InPlace s p × (wants_command s ≡ false) × TakesData s p m new
     ⊎ (IsShortEnough s p × (is_last p ≡ false) × (m ≡ None)
     × (new ≡ InCommand p.id (text_so_far s ++ p.fragment))
     ⊎ ((text : List ℕ) × (c : Command) × EndsCommand s p text × IsCommand text c
-    × IsAwaited awaited c × Begins p.id c m new))
-Takes awaited s p (Err MixedContext) new = (new ≡ s) × (InContext s p → ⊥)
-Takes awaited s p (Err OutOfPlace) new =
+    × IsAwaited awaited c × BeginsMessage p.id c m new))
+TakesValue awaited s p (Err MixedContext) new = (new ≡ s) × (InContext s p → ⊥)
+TakesValue awaited s p (Err OutOfPlace) new =
     (new ≡ s)
     × (InContext s p × (is_command p ≢ wants_command s)
     ⊎ ((text : List ℕ) × (c : Command) × EndsCommand s p text × IsCommand text c
     × (IsAwaited awaited c → ⊥)))
-Takes awaited s p (Err TooLong) new =
+TakesValue awaited s p (Err TooLong) new =
     (new ≡ s) × InPlace s p × (wants_command s ≡ true)
     × (16384 < length (text_so_far s ++ p.fragment))
-Takes awaited s p (Err BadCommand) new =
+TakesValue awaited s p (Err BadCommand) new =
     (new ≡ s) × ((text : List ℕ) × EndsCommand s p text × ((c : Command) → IsCommand text c → ⊥))
-Takes awaited s p (Err Memory) new = new ≡ s
+TakesValue awaited s p (Err Memory) new = new ≡ s
 
 -- ---- many values
 
 -- one call: what was awaited, the value, and the answer
-pub record Call : Type 0 where
+pub record TakeCall : Type 0 where
   pub awaited : Awaited
   pub value : Pdv
   pub answer : Result (Option Message) DimseFault
 
 -- what the calls make of a stage, one after the other
-abbrev pub Took : MessageStage → List Call → MessageStage → Type 0
+abbrev pub Took : MessageStage → List TakeCall → MessageStage → Type 0
 Took old calls new = Calls
-    (λ before call after. Takes call.awaited before call.value call.answer after) old calls new
+    (λ before call after. TakesValue call.awaited before call.value call.answer after) old calls new
 
 -- the value that a call took; a fault takes none
 abbrev pub taken_by : Pdv → Result (Option Message) DimseFault → List Pdv
@@ -171,26 +171,26 @@ given_by (Ok (Some m)) = m ∷ []
 given_by r = []
 
 -- the values that these calls took, in order
-abbrev pub taken : List Call → List Pdv
-taken xs = flat_map (λ (x : Call). taken_by x.value x.answer) xs
+abbrev pub taken : List TakeCall → List Pdv
+taken xs = flat_map (λ (x : TakeCall). taken_by x.value x.answer) xs
 
 -- the messages that these calls ended, in order
-abbrev pub given : List Call → List Message
-given xs = flat_map (λ (x : Call). given_by x.answer) xs
+abbrev pub given : List TakeCall → List Message
+given xs = flat_map (λ (x : TakeCall). given_by x.answer) xs
 
 -- each of the values is taken, one after the other, and none ends a message
 abbrev pub Waits : Awaited → MessageStage → List Pdv → MessageStage → Type 0
 Waits awaited old [] new = old ≡ new
 Waits awaited old (p ∷ ps) new =
-    (mid : MessageStage) × Takes awaited old p (Ok None) mid × Waits awaited mid ps new
+    (mid : MessageStage) × TakesValue awaited old p (Ok None) mid × Waits awaited mid ps new
 
 -- from a fresh assembly on, the last of the values ends the message, and none before it ends one
-abbrev pub Gives : Awaited → List Pdv → Message → Type 0
-Gives awaited ps m =
+abbrev pub GivesMessage : Awaited → List Pdv → Message → Type 0
+GivesMessage awaited ps m =
     (front : List Pdv) × (final : Pdv) × (mid : MessageStage)
     × (ps ≡ front ++ final ∷ [])
     × Waits awaited Idle front mid
-    × Takes awaited mid final (Ok (Some m)) Idle
+    × TakesValue awaited mid final (Ok (Some m)) Idle
 
 -- the message, where no value of it is still to come
 abbrev pub ended_by : List Pdv → Message → Option Message

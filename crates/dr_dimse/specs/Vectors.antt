@@ -3,8 +3,8 @@ use Rattle.std.specs.Prelude.{ℕ, None, false, List, [], ◌∷◌, ◌++◌, l
 use Rattle.dr_dimse.specs.declared.command.Command.{Command}
 use Rattle.dr_dimse.specs.declared.command.Command.TheVariants.{StoreRq, StoreRsp, EchoRq, EchoRsp}
 use Rattle.dr_dimse.specs.declared.command.Command.TheVariants.{Other}
-use Rattle.dr_dimse.specs.Written.{joined, elements_of}
-use Rattle.dr_pdu.specs.Vectors.{ct, verification}
+use Rattle.dr_dimse.specs.Written.{element_texts, elements_of}
+use Rattle.dr_base.specs.Standard.{image, verification}
 
 -- a C-ECHO-RQ with message id 1 (PS3.7 9.3.5.1)
 abbrev pub echo_request : Command
@@ -16,27 +16,19 @@ echo_answer = EchoRsp 1 0 verification false
 
 -- the group length (0000,0000) of the C-ECHO-RSP: how many bytes stand behind its element
 abbrev pub group_length_of_answer : ℕ
-group_length_of_answer = length (joined (elements_of echo_answer))
-
--- the C-ECHO-RQ byte by byte: group length 56, class, field 0030H, message id 1, no data set
-abbrev pub echo_text : List ℕ
-echo_text =
-    0 ∷ 0 ∷ 0 ∷ 0 ∷ 4 ∷ 0 ∷ 0 ∷ 0 ∷ 0x38 ∷ 0 ∷ 0 ∷ 0 ∷ 0 ∷ 0 ∷ 2 ∷ 0 ∷ 0x12 ∷ 0 ∷ 0 ∷ 0
-    ∷ (verification
-    ++ 0 ∷ 0 ∷ 0 ∷ 0 ∷ 1 ∷ 2 ∷ 0 ∷ 0 ∷ 0 ∷ 0x30 ∷ 0 ∷ 0 ∷ 0 ∷ 0x10 ∷ 1 ∷ 2 ∷ 0 ∷ 0 ∷ 0 ∷ 1 ∷ 0 ∷ 0
-    ∷ 0 ∷ 0 ∷ 8 ∷ 2 ∷ 0 ∷ 0 ∷ 0 ∷ 1 ∷ 1 ∷ [])
+group_length_of_answer = length (element_texts (elements_of echo_answer))
 
 -- a C-STORE-RQ of the CT image 1.2.3, with message id 7 (PS3.7 9.3.1.1)
 abbrev pub store_request : Command
-store_request = StoreRq 7 ct (codes "1.2.3")
+store_request = StoreRq 7 image (codes "1.2.3")
 
 -- the C-STORE-RSP to message 7, with status A700H, out of resources (PS3.7 9.3.1.2, PS3.4 B.2.3)
 abbrev pub store_answer : Command
-store_answer = StoreRsp 7 0xA700 ct (codes "1.2.3") false
+store_answer = StoreRsp 7 0xA700 image (codes "1.2.3") false
 
 -- the affected SOP class (0000,0002) of both the request and its answer
 abbrev pub class_text : List ℕ
-class_text = 0 ∷ 0 ∷ 2 ∷ 0 ∷ 26 ∷ 0 ∷ 0 ∷ 0 ∷ (ct ++ 0 ∷ [])
+class_text = 0 ∷ 0 ∷ 2 ∷ 0 ∷ 26 ∷ 0 ∷ 0 ∷ 0 ∷ (image ++ 0 ∷ [])
 
 -- the affected SOP instance (0000,1000) of both the request and its answer
 abbrev pub instance_text : List ℕ

@@ -53,16 +53,16 @@ elements_of (Other field id status has_data) =
     ++ (data_element has_data ∷ if_some 0x0900 status))
 
 -- what elements are written as, one after the other
-abbrev pub joined : List CommandElement → List ℕ
-joined es = flat_map element_text es
+abbrev pub element_texts : List CommandElement → List ℕ
+element_texts es = flat_map element_text es
 
 -- the group length 0000, which counts the bytes behind its element
 abbrev pub group_length : List CommandElement → CommandElement
-group_length es = record { number = 0; value = to_le_bytes w32 (length (joined es)) }
+group_length es = record { number = 0; value = to_le_bytes w32 (length (element_texts es)) }
 
 -- the spelling of a command: the group length, and then its other elements
 abbrev pub written : Command → List ℕ
-written c = joined (group_length (elements_of c) ∷ elements_of c)
+written c = element_texts (group_length (elements_of c) ∷ elements_of c)
 
 -- ---- what can be written
 

@@ -2,8 +2,9 @@
 ghost use Rattle.std.specs.Prelude.{◌≡◌, ◌%◌, ◌/◌, ◌==◌, true, false, IsTrue, ◌↔◌, OnOk, OnErr};
 ghost use Rattle.dr_dimse.specs.Messages.{is_command as starts_command, is_last as ends};
 ghost use Rattle.dr_dimse.specs.Stages.{so_far, text_held, shown_of, ReadsAwaited};
-ghost use Rattle.dr_dimse.specs.Taking.{Begins, Idle, data_of, data_so_far, IsAwaited, InPlace};
-ghost use Rattle.dr_dimse.specs.Taking.{Takes, kept, let_go, wants_command};
+ghost use Rattle.dr_dimse.specs.Taking.{BeginsMessage, Idle, data_of, data_so_far, IsAwaited};
+ghost use Rattle.dr_dimse.specs.Taking.{InPlace};
+ghost use Rattle.dr_dimse.specs.Taking.{TakesValue, kept, let_go, wants_command};
 
 use crate::command::Command;
 use crate::fault::DimseFault;
@@ -86,7 +87,7 @@ impl Assembly {
     /// Where there is one, or `Memory`, the value isn't taken, and the assembly is as before.
     pub fn take(&mut self, pdv: Pdv) -> Result<Option<Message>, DimseFault>
         ensures awaited { self.new.awaited ≡ self.old.awaited }
-        ensures takes { Takes self.old.awaited self.old.stage pdv result self.new.stage }
+        ensures takes { TakesValue self.old.awaited self.old.stage pdv result self.new.stage }
     {
         match &self.under_way {
             UnderWay::Nothing => {
@@ -153,7 +154,7 @@ impl Assembly {
         requires place { InPlace self.old.stage pdv }
         requires kind { wants_command self.old.stage ≡ true }
         ensures awaited { self.new.awaited ≡ self.old.awaited }
-        ensures takes { Takes self.old.awaited self.old.stage pdv result self.new.stage }
+        ensures takes { TakesValue self.old.awaited self.old.stage pdv result self.new.stage }
     {
         clear_unused(&self.under_way, &mut self.text);
         let before = self.text.len();
@@ -177,7 +178,7 @@ impl Assembly {
     /// A command is whole: it is a message, or waits for its data set.
     fn begin(&mut self, id: u8, command: Command) -> Option<Message>
         ensures awaited { self.new.awaited ≡ self.old.awaited }
-        ensures begins { Begins id command result self.new.stage }
+        ensures begins { BeginsMessage id command result self.new.stage }
     {
         if !command.announces() {
             put(&mut self.under_way, UnderWay::Nothing);
@@ -197,7 +198,7 @@ impl Assembly {
         requires place { InPlace self.old.stage pdv }
         requires kind { wants_command self.old.stage ≡ false }
         ensures awaited { self.new.awaited ≡ self.old.awaited }
-        ensures takes { Takes self.old.awaited self.old.stage pdv result self.new.stage }
+        ensures takes { TakesValue self.old.awaited self.old.stage pdv result self.new.stage }
     {
         let ends = is_last(&pdv);
         keep(

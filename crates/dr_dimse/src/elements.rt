@@ -3,9 +3,8 @@
 ghost use Rattle.std.specs.Prelude.{◌≡◌, [], IsTrue, ◌↔◌, ℕ, List, MatchOption};
 ghost use Rattle.std.specs.Option.{option_copied};
 ghost use Rattle.dr_base.specs.Runs.{Run};
-ghost use Rattle.dr_dimse.specs.Commands.{CommandElement as ElementText, StartsElement};
-ghost use Rattle.dr_dimse.specs.Commands.{first_value};
-ghost use Rattle.dr_dimse.specs.Commands.{HasNumber, IsShort, AreNumbers};
+ghost use Rattle.dr_dimse.specs.Commands.{CommandElement as ElementText, StartsCommandElement};
+ghost use Rattle.dr_dimse.specs.Commands.{first_value, HasNumber, HasTwoBytes, AreNumbers};
 ghost use Rattle.dr_dimse.specs.Reads.{Reads, element, elements};
 
 use crate::fault::DimseFault;
@@ -25,7 +24,7 @@ pub struct Element<'a> {
 fn element_at(text: &[u8]) -> Result<(Element<'_>, &[u8]), DimseFault>
     ensures { Reads {Y = ElementText × List ℕ}
         (λ x. (element x.0, x.1.now)) result
-        (λ x. StartsElement text.now x.0 x.1) }
+        (λ x. StartsCommandElement text.now x.0 x.1) }
 {
     let [group_low, group_high, low, high, a, b, c, d, rest @ ..] = text else {
         return Err(DimseFault::BadCommand);
@@ -51,7 +50,7 @@ fn element_at(text: &[u8]) -> Result<(Element<'_>, &[u8]), DimseFault>
 
 /// The elements of a text, in order.
 pub fn elements_of(alloc: Global, text: &[u8]) -> Result<Vec<Element<'_>>, DimseFault>
-    ensures { Reads (λ v. elements v.items) result (λ es. Run StartsElement es text.now []) }
+    ensures { Reads (λ v. elements v.items) result (λ es. Run StartsCommandElement es text.now []) }
 {
     let mut found = Vec::new(alloc);
     let mut rest = text;
@@ -91,7 +90,7 @@ pub fn number_of(found: &[Element<'_>], number: u16) -> Option<u16>
 
 /// Whether the first element of that number has two bytes, if it is there.
 fn is_short(found: &[Element<'_>], number: u16) -> bool
-    ensures { IsTrue result ↔ IsShort (elements found.now) number }
+    ensures { IsTrue result ↔ HasTwoBytes (elements found.now) number }
 {
     let Some(value) = first(found, number) else {
         return true;

@@ -1,8 +1,9 @@
 //! Worked figures of the definitions, by computation.
 ghost use Rattle.std.specs.Prelude.{◌≡◌, ◌∷◌, [], ℕ, List, length, Some, None, Ok, Err};
 ghost use Rattle.dr_dimse.specs.Commands.{first_value, text_at, IsCommand, ReadsCommand};
-ghost use Rattle.dr_dimse.specs.Taking.{Idle, InCommand, InData, Takes};
-ghost use Rattle.dr_dimse.specs.Vectors.{echo_request, echo_answer, echo_text};
+ghost use Rattle.dr_dimse.specs.Taking.{Idle, InCommand, InData, TakesValue};
+ghost use Rattle.dr_dimse.specs.Vectors.{echo_request, echo_answer};
+ghost use Rattle.dr_pdu.specs.Vectors.{echo_command};
 ghost use Rattle.dr_dimse.specs.Vectors.{group_length_of_answer, store_request, store_answer};
 ghost use Rattle.dr_dimse.specs.Vectors.{store_text, store_answer_text, moved_text, cancel};
 ghost use Rattle.dr_dimse.specs.Vectors.{cancel_text};
@@ -15,7 +16,7 @@ ghost use Rattle.dr_dimse.specs.declared.message.Body.TheVariants.{Whole};
 /// Requests for an echo and a store, byte by byte, the answer to a store, and the group length of
 /// that to an echo.
 pub fn what_is_written()
-    ensures request { written echo_request ≡ echo_text }
+    ensures request { written echo_request ≡ echo_command }
     ensures answer { group_length_of_answer ≡ 66 }
     ensures store { written store_request ≡ store_text }
     ensures store_answer { written store_answer ≡ store_answer_text }
@@ -39,7 +40,7 @@ pub fn repeated_elements()
 /// C-STORE-RQ may name the move's originator, whose message id has two bytes; a C-CANCEL-RQ has
 /// neither id nor status.
 pub fn what_is_read()
-    ensures request { IsCommand echo_text echo_request }
+    ensures request { IsCommand echo_command echo_request }
     ensures answer { IsCommand (written echo_answer) echo_answer }
     ensures moved { IsCommand (moved_text (9 ∷ 0 ∷ [])) store_request }
     ensures long_id { ReadsCommand (moved_text (9 ∷ 0 ∷ 0 ∷ 0 ∷ [])) (Err BadCommand) }
@@ -49,33 +50,35 @@ pub fn what_is_read()
 /// A fragment of a data set before any command, two fragments of a command in two contexts, a
 /// command within a data set, and what 16,385 bytes show.
 pub fn faults_of_values()
-    ensures data_first { Takes Requests Idle (record { id = 1; header = 2; fragment = [] })
+    ensures data_first { TakesValue Requests Idle (record { id = 1; header = 2; fragment = [] })
         (Err OutOfPlace) Idle }
-    ensures contexts { Takes Requests (InCommand 1 (0 ∷ []))
+    ensures contexts { TakesValue Requests (InCommand 1 (0 ∷ []))
         (record { id = 3; header = 1; fragment = 0 ∷ [] }) (Err MixedContext)
         (InCommand 1 (0 ∷ [])) }
-    ensures within { Takes Requests (InData 1 echo_request (Whole []))
+    ensures within { TakesValue Requests (InData 1 echo_request (Whole []))
         (record { id = 1; header = 3; fragment = [] }) (Err OutOfPlace)
         (InData 1 echo_request (Whole [])) }
     ensures longest { (text more : List ℕ) → length text ≡ 16384 → length more ≡ 1
-        → Takes Requests (InCommand 1 text) (record { id = 1; header = 1; fragment = more })
+        → TakesValue Requests (InCommand 1 text) (record { id = 1; header = 1; fragment = more })
         (Err TooLong) (InCommand 1 text) }
 {}
 
 /// An echo is a message of one value, and so is a cancel; a request, an answer that is awaited, and
 /// one that isn't.
 pub fn an_echo_is_one_value()
-    ensures request { Takes Requests Idle (record { id = 1; header = 3; fragment = echo_text })
+    ensures request { TakesValue Requests Idle
+        (record { id = 1; header = 3; fragment = echo_command })
         (Ok (Some (record { id = 1; command = echo_request; body = None }))) Idle }
-    ensures cancel { Takes Requests Idle (record { id = 1; header = 3; fragment = cancel_text })
+    ensures cancel { TakesValue Requests Idle
+        (record { id = 1; header = 3; fragment = cancel_text })
         (Ok (Some (record { id = 1; command = cancel; body = None }))) Idle }
-    ensures answer { Takes (AnswerTo 1) Idle
+    ensures answer { TakesValue (AnswerTo 1) Idle
         (record { id = 1; header = 3; fragment = written echo_answer })
         (Ok (Some (record { id = 1; command = echo_answer; body = None }))) Idle }
-    ensures other_id { Takes (AnswerTo 2) Idle
+    ensures other_id { TakesValue (AnswerTo 2) Idle
         (record { id = 1; header = 3; fragment = written echo_answer }) (Err OutOfPlace) Idle }
-    ensures not_asked { Takes Nothing Idle
+    ensures not_asked { TakesValue Nothing Idle
         (record { id = 1; header = 3; fragment = written echo_answer }) (Err OutOfPlace) Idle }
-    ensures reverse { Takes (AnswerTo 1) Idle (record { id = 1; header = 3; fragment = echo_text })
-        (Err OutOfPlace) Idle }
+    ensures reverse { TakesValue (AnswerTo 1) Idle
+        (record { id = 1; header = 3; fragment = echo_command }) (Err OutOfPlace) Idle }
 {}

@@ -5,9 +5,9 @@ ghost use Rattle.std.specs.List.{AllByRecursion};
 ghost use Rattle.dr_pdu.specs.declared.pdu.Pdv.{Pdv as Value};
 ghost use Rattle.dr_dimse.specs.Commands.{IsCommand};
 ghost use Rattle.dr_dimse.specs.Messages.{IsMessage, AreMessages};
-ghost use Rattle.dr_dimse.specs.Taking.{MessageStage, Idle, LeavesStage, IsAwaited, Takes, Call};
-ghost use Rattle.dr_dimse.specs.Taking.{Took, taken};
-ghost use Rattle.dr_dimse.specs.Taking.{given, Waits, Gives, ended_by, since};
+ghost use Rattle.dr_dimse.specs.Taking.{MessageStage, Idle, LeavesStage, IsAwaited, TakesValue};
+ghost use Rattle.dr_dimse.specs.Taking.{TakeCall};
+ghost use Rattle.dr_dimse.specs.Taking.{Took, taken, given, Waits, GivesMessage, ended_by, since};
 ghost use Rattle.dr_dimse.specs.Taking.{InCommand, InData, TakesData, let_go};
 ghost use Rattle.dr_dimse.specs.declared.message.Body.{Body as Data};
 ghost use Rattle.dr_dimse.specs.declared.message.Body.TheVariants.{TooLarge};
@@ -29,27 +29,27 @@ pub fn a_text_has_one_command()
 /// message, and its command is awaited.
 pub fn a_message_is_given_at_its_last_value()
     ensures given { (awaited : Waiting) (ps : List Value) (m : MessageValue)
-        → Gives awaited ps m
+        → GivesMessage awaited ps m
         → IsMessage ps m × IsAwaited awaited m.command }
     ensures whole { (awaited : Waiting) (ps : List Value) (m : MessageValue)
         → IsMessage ps m
         → IsAwaited awaited m.command
-        → Gives awaited ps m }
+        → GivesMessage awaited ps m }
 {}
 
 /// Whatever the calls, the messages that were given are those of the values that were taken, in
 /// order, and what is under way is made of the values behind them.
 pub fn an_assembly_gives_the_messages()
-    ensures fresh { (calls : List Call) (new : MessageStage)
+    ensures fresh { (calls : List TakeCall) (new : MessageStage)
         → Took Idle calls new
         → (rest : List Value)
         × AreMessages (taken calls) (given calls) rest
         × LeavesStage rest new }
-    ensures awaited { (awaited : Waiting) (calls : List Call) (new : MessageStage)
-        → AllByRecursion (λ (x : Call). x.awaited ≡ awaited) calls
+    ensures awaited { (awaited : Waiting) (calls : List TakeCall) (new : MessageStage)
+        → AllByRecursion (λ (x : TakeCall). x.awaited ≡ awaited) calls
         → Took Idle calls new
         → AllByRecursion (λ (m : MessageValue). IsAwaited awaited m.command) (given calls) }
-    ensures later { (calls : List Call) (before : List Value) (old new : MessageStage)
+    ensures later { (calls : List TakeCall) (before : List Value) (old new : MessageStage)
         → LeavesStage before old → Took old calls new
         → (rest : List Value)
         × AreMessages (before ++ taken calls) (given calls) rest
@@ -71,7 +71,7 @@ pub fn a_message_comes_value_by_value()
         → IsMessage (before ++ p ∷ later) m
         → IsAwaited awaited m.command
         → (new : MessageStage)
-        × Takes awaited s p (Ok (ended_by later m)) new
+        × TakesValue awaited s p (Ok (ended_by later m)) new
         × LeavesStage (since (before ++ p ∷ []) later) new }
 {}
 
@@ -80,8 +80,8 @@ pub fn a_value_has_one_answer()
     ensures { (awaited : Waiting) (old : MessageStage) (p : Value)
         (r s : Result (Option MessageValue) Fault) (new new' : MessageStage)
         → r ≢ Err Memory → s ≢ Err Memory
-        → Takes awaited old p r new
-        → Takes awaited old p s new'
+        → TakesValue awaited old p r new
+        → TakesValue awaited old p s new'
         → (r ≡ s) × (new ≡ new') }
 {}
 
@@ -92,7 +92,7 @@ pub fn a_value_has_an_answer()
     ensures { (awaited : Waiting) (old : MessageStage) (p : Value)
         → ((r : Result (Option MessageValue) Fault) (new : MessageStage)
         → r ≢ Err Memory
-        → Takes awaited old p r new
+        → TakesValue awaited old p r new
         → ⊥)
         → ⊥ }
 {}
@@ -105,7 +105,7 @@ pub fn after_a_fault_there_is_no_message()
         (old new : MessageStage)
         → fault ≢ Memory
         → Waits awaited Idle ps old
-        → Takes awaited old p (Err fault) new
+        → TakesValue awaited old p (Err fault) new
         → (more : List Value) (m : MessageValue)
         → IsMessage (ps ++ p ∷ more) m
         → IsAwaited awaited m.command

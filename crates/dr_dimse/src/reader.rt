@@ -1,6 +1,6 @@
 //! The command of a text.
 ghost use Rattle.std.specs.Prelude.{◌≡◌, ◌≢◌, ◌<◌, ◌≤◌, IsTrue, ◌↔◌, IfOk};
-ghost use Rattle.dr_dimse.specs.Commands.{ReadsCommand, Says, text_at};
+ghost use Rattle.dr_dimse.specs.Commands.{ReadsCommand, SayCommand, text_at};
 ghost use Rattle.dr_dimse.specs.Reads.{Reads, IsOf, elements};
 
 use crate::command::Command;
@@ -34,7 +34,7 @@ pub fn read_command(alloc: Global, text: &[u8]) -> Result<Command, DimseFault>
 
 /// The command that the elements say.
 fn command_of(alloc: Global, found: &[Element<'_>]) -> Result<Command, DimseFault>
-    ensures { Reads (λ c. c) result (Says (elements found.now)) }
+    ensures { Reads (λ c. c) result (SayCommand (elements found.now)) }
 {
     let Some(field) = number_of(found, 0x0100) else {
         return Err(DimseFault::BadCommand);

@@ -6,7 +6,8 @@ ghost use Rattle.dr_dimse.specs.Commands.{element_text, HasNoName};
 ghost use Rattle.dr_dimse.specs.declared.command.Command.TheVariants.{StoreRq, StoreRsp, EchoRq};
 ghost use Rattle.dr_dimse.specs.declared.command.Command.TheVariants.{EchoRsp, Other};
 ghost use Rattle.dr_dimse.specs.Written.{number_element, text_element, data_element, if_some};
-ghost use Rattle.dr_dimse.specs.Written.{elements_of, joined, written, CommandFits, FieldFits};
+ghost use Rattle.dr_dimse.specs.Written.{elements_of, element_texts, written, CommandFits};
+ghost use Rattle.dr_dimse.specs.Written.{FieldFits};
 ghost use Rattle.dr_dimse.specs.Written.{IsText};
 
 use crate::assembly::GREATEST_COMMAND;
@@ -32,7 +33,7 @@ pub fn write_command(alloc: Global, command: &Command) -> Result<Vec<u8>, AllocE
 /// The elements behind the group length.
 fn elements_text(alloc: Global, command: &Command) -> Result<Vec<u8>, AllocError>
     requires { CommandFits command.now }
-    ensures { IfOk result (λ bytes. bytes.items ≡ joined (elements_of command.now)) }
+    ensures { IfOk result (λ bytes. bytes.items ≡ element_texts (elements_of command.now)) }
 {
     match command {
         Command::StoreRq {
@@ -77,7 +78,7 @@ fn store_request(
     requires class { length class.now ≤ 16384 }
     requires instance { length instance.now ≤ 16384 }
     ensures { IfOk result (λ bytes.
-        bytes.items ≡ joined (elements_of (StoreRq id class.now instance.now))) }
+        bytes.items ≡ element_texts (elements_of (StoreRq id class.now instance.now))) }
 {
     let mut out = Vec::new(alloc);
     put_text(&mut out, 0x0002, class)?;
@@ -100,8 +101,8 @@ fn store_answer(
 ) -> Result<Vec<u8>, AllocError>
     requires class { length class.now ≤ 16384 }
     requires instance { length instance.now ≤ 16384 }
-    ensures { IfOk result (λ bytes.
-        bytes.items ≡ joined (elements_of (StoreRsp to status class.now instance.now has_data))) }
+    ensures { IfOk result (λ bytes. bytes.items
+        ≡ element_texts (elements_of (StoreRsp to status class.now instance.now has_data))) }
 {
     let mut out = Vec::new(alloc);
     put_text(&mut out, 0x0002, class)?;
@@ -117,7 +118,7 @@ fn store_answer(
 fn echo_request(alloc: Global, id: u16, class: &Text, has_data: bool) -> Result<Vec<u8>, AllocError>
     requires { length class.now ≤ 16384 }
     ensures { IfOk result (λ bytes.
-        bytes.items ≡ joined (elements_of (EchoRq id class.now has_data))) }
+        bytes.items ≡ element_texts (elements_of (EchoRq id class.now has_data))) }
 {
     let mut out = Vec::new(alloc);
     put_text(&mut out, 0x0002, class)?;
@@ -137,7 +138,7 @@ fn echo_answer(
 ) -> Result<Vec<u8>, AllocError>
     requires { length class.now ≤ 16384 }
     ensures { IfOk result (λ bytes.
-        bytes.items ≡ joined (elements_of (EchoRsp to status class.now has_data))) }
+        bytes.items ≡ element_texts (elements_of (EchoRsp to status class.now has_data))) }
 {
     let mut out = Vec::new(alloc);
     put_text(&mut out, 0x0002, class)?;
@@ -157,7 +158,7 @@ fn other_elements(
     has_data: bool,
 ) -> Result<Vec<u8>, AllocError>
     ensures { IfOk result (λ bytes.
-        bytes.items ≡ joined (elements_of (Other field id status has_data))) }
+        bytes.items ≡ element_texts (elements_of (Other field id status has_data))) }
 {
     let mut out = Vec::new(alloc);
     put_number(&mut out, 0x0100, field)?;
@@ -175,7 +176,7 @@ fn id_number(field: u16) -> u16
 }
 
 fn put_if_some(out: &mut Vec<u8>, number: u16, n: Option<u16>) -> Result<(), AllocError>
-    ensures { OnOk result (out.new.items ≡ out.old.items ++ joined (if_some number n)) }
+    ensures { OnOk result (out.new.items ≡ out.old.items ++ element_texts (if_some number n)) }
 {
     match n {
         Some(n) => put_number(out, number, n),

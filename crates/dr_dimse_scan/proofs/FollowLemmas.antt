@@ -10,7 +10,7 @@ use Rattle.dr_dimse.specs.declared.message.Awaited.{Awaited}
 use Rattle.dr_dimse.specs.declared.message.Body.{Body}
 use Rattle.dr_dimse.specs.declared.message.Body.TheVariants.{Whole, TooLarge}
 use Rattle.dr_dimse.specs.declared.message.Message.{Message}
-use Rattle.dr_dimse.specs.Taking.{MessageStage, Idle, InCommand, InData, bytes_of, data_so_far, wants_command, kept, TakesData, Takes}
+use Rattle.dr_dimse.specs.Taking.{MessageStage, Idle, InCommand, InData, bytes_of, data_so_far, wants_command, kept, TakesData, TakesValue}
 use Rattle.dr_dataset.specs.declared.hearing.Scan.{Scan}
 use Rattle.dr_dataset.specs.Hearing.{Hears, HearsMore}
 use Rattle.dr_dimse_scan.specs.declared.hearing.Reading.{Reading}
@@ -92,14 +92,14 @@ data_ends (InCommand id text) p m new r n h e t = absurd h
 data_ends (InData id c body) p m new r n h e t = subst (λ (x : Message). HearsFirst n r (store_in x.command x.body)) (sym t.1) (grows c body p.fragment r n h e)
 
 -- behind a value that ends no message
-pub goes_on : (a : Awaited) (old : MessageStage) (p : Pdv) (new : MessageStage) (reading : Option Reading) (n : ℕ) → HasHeard reading old → n ≡ length (data_so_far old) → Takes a old p (Ok None) new → HasHeardFirst n reading (store_of new)
+pub goes_on : (a : Awaited) (old : MessageStage) (p : Pdv) (new : MessageStage) (reading : Option Reading) (n : ℕ) → HasHeard reading old → n ≡ length (data_so_far old) → TakesValue a old p (Ok None) new → HasHeardFirst n reading (store_of new)
 goes_on a old p new None n h e t = tt
 goes_on a old p new (Some r) n h e (inl t) = data_on old p new r n h e t.2
 goes_on a old p new (Some r) n h e (inr (inl t)) = absurd (no_store old r h t.0.1)
 goes_on a old p new (Some r) n h e (inr (inr t)) = absurd (no_store old r h t.2.0.1)
 
 -- behind one that does
-pub ends : (a : Awaited) (old : MessageStage) (p : Pdv) (m : Message) (new : MessageStage) (reading : Option Reading) (n : ℕ) → HasHeard reading old → n ≡ length (data_so_far old) → Takes a old p (Ok (Some m)) new → HasHeardFirst n reading (store_in m.command m.body)
+pub ends : (a : Awaited) (old : MessageStage) (p : Pdv) (m : Message) (new : MessageStage) (reading : Option Reading) (n : ℕ) → HasHeard reading old → n ≡ length (data_so_far old) → TakesValue a old p (Ok (Some m)) new → HasHeardFirst n reading (store_in m.command m.body)
 ends a old p m new None n h e t = tt
 ends a old p m new (Some r) n h e (inl t) = data_ends old p m new r n h e t.2
 ends a old p m new (Some r) n h e (inr (inl t)) = absurd (no_store old r h t.0.1)

@@ -12,7 +12,7 @@ use Rattle.dr_dimse.specs.declared.message.Body.TheVariants.{Whole, TooLarge}
 use Rattle.dr_dimse.specs.declared.message.Message.{Message}
 use Rattle.dr_dimse.specs.Commands.{announces}
 use Rattle.dr_dimse.specs.Messages.{is_command, joined, AreInner, body_of, IsMessage}
-use Rattle.dr_dimse.specs.Taking.{Gives}
+use Rattle.dr_dimse.specs.Taking.{GivesMessage}
 use Rattle.dr_dimse.proofs.GivenLemmas.{given_is}
 use Rattle.dr_dataset.specs.declared.fault.DataFault.{DataFault}
 use Rattle.dr_dataset.specs.declared.fault.DataFault.TheVariants.{Memory}
@@ -112,7 +112,7 @@ some_found : (s : Syntax) (text : List ℕ) (told : Told) → ReadsStore (Some s
 some_found s text (Some found) h = (found, refl, h)
 some_found s text None h = absurd h
 
-pub read_whole : (a : Awaited) (ps : List Pdv) (m : Message) (n : ℕ) (class instance : List ℕ) (s : Syntax) (told : Told) → Gives a ps m → m.command ≡ StoreRq n class instance → length (data_text ps) ≤ 67108864
+pub read_whole : (a : Awaited) (ps : List Pdv) (m : Message) (n : ℕ) (class instance : List ℕ) (s : Syntax) (told : Told) → GivesMessage a ps m → m.command ≡ StoreRq n class instance → length (data_text ps) ≤ 67108864
     → ReadsStore (Some s) (store_text m) told → (found : Result Attributes DataFault) × (told ≡ Some found) × Scans s (data_text ps) found
 read_whole a ps m n class instance s told gives store small h =
     let is = (given_is a ps m gives).0 in
@@ -132,7 +132,7 @@ no_text (EchoRq i c d) t body large is = refl
 no_text (EchoRsp to u c d) t body large is = refl
 no_text (Other f i u d) t body large is = refl
 
-pub large_is_none : (a : Awaited) (ps : List Pdv) (m : Message) (s : Option Syntax) (told : Told) → Gives a ps m → 67108864 < length (data_text ps) → ReadsStore s (store_text m) told → told ≡ None
+pub large_is_none : (a : Awaited) (ps : List Pdv) (m : Message) (s : Option Syntax) (told : Told) → GivesMessage a ps m → 67108864 < length (data_text ps) → ReadsStore s (store_text m) told → told ≡ None
 large_is_none a ps m s told gives large h =
     let is = (given_is a ps m gives).0 in
     let same : store_text m ≡ None = no_text m.command (data_text ps) m.body large (body_is ps m is) in

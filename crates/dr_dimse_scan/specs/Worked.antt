@@ -4,7 +4,7 @@ use Rattle.dr_pdu.specs.declared.pdu.Pdv.{Pdv}
 use Rattle.dr_dimse.specs.declared.command.Command.TheVariants.{StoreRsp, Other}
 use Rattle.dr_dimse.specs.declared.message.Body.TheVariants.{Whole, TooLarge}
 use Rattle.dr_dimse.specs.declared.message.Message.{Message}
-use Rattle.dr_pdu.specs.Vectors.{ct}
+use Rattle.dr_base.specs.Standard.{image}
 use Rattle.dr_dimse.specs.Vectors.{store_request, moved_text}
 use Rattle.dr_dataset.specs.declared.values.Attributes.{Attributes}
 use Rattle.dr_dataset.specs.Worked.{modality_text}
@@ -25,7 +25,7 @@ stored = record { id = 1; command = store_request; body = Some (Whole modality_t
 abbrev pub answered : Message
 answered = record {
   id = 1;
-  command = StoreRsp 7 0 ct (codes "1.2.3") true;
+  command = StoreRsp 7 0 image (codes "1.2.3") true;
   body = Some (Whole modality_text);
 }
 

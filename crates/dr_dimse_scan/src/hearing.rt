@@ -3,7 +3,7 @@ ghost use Rattle.std.specs.Prelude.{◌≡◌, ◌≢◌, ◌<◌, List, ℕ, le
 ghost use Rattle.std.specs.Bool.{MatchBool};
 ghost use Rattle.dr_base.specs.declared.syntax.Syntax.{Syntax as SyntaxName};
 ghost use Rattle.dr_dimse.specs.Stages.{shown_of};
-ghost use Rattle.dr_dimse.specs.Taking.{Idle, Takes, data_of, data_so_far, let_go};
+ghost use Rattle.dr_dimse.specs.Taking.{Idle, TakesValue, data_of, data_so_far, let_go};
 ghost use Rattle.dr_dataset.specs.Hearing.{Hears};
 ghost use Rattle.dr_dimse_scan.specs.Stores.{HasScan, IsScanOf, message_of, store_in, store_text};
 ghost use Rattle.dr_dimse_scan.specs.Following.{HasHeard, HasHeardFirst, is_storing, store_of};
@@ -81,7 +81,7 @@ impl Hearing {
         syntax: Option<Syntax>,
     ) -> Result<Option<HeardMessage>, DimseFault>
         ensures awaited { self.new.awaited ≡ self.old.awaited }
-        ensures takes { Takes self.old.awaited self.old.stage pdv (message_of result)
+        ensures takes { TakesValue self.old.awaited self.old.stage pdv (message_of result)
             self.new.stage }
         ensures scans { IfOk result (λ ended. IfSome ended (λ h. HasScan syntax h)) }
     {

@@ -9,7 +9,7 @@ ghost use Rattle.dr_dimse.specs.declared.message.Awaited.{Awaited as Waiting};
 ghost use Rattle.dr_dimse.specs.declared.message.Body.TheVariants.{Whole};
 ghost use Rattle.dr_dimse.specs.declared.message.Message.{Message as MessageValue};
 ghost use Rattle.dr_dimse.specs.Messages.{IsMessage};
-ghost use Rattle.dr_dimse.specs.Taking.{Gives};
+ghost use Rattle.dr_dimse.specs.Taking.{GivesMessage};
 ghost use Rattle.dr_dataset.specs.DataSet.{Scans};
 ghost use Rattle.dr_dataset.specs.declared.fault.DataFault.{DataFault as Fault};
 ghost use Rattle.dr_dataset.specs.declared.fault.DataFault.TheVariants.{BadVr, Memory};
@@ -45,14 +45,14 @@ pub fn only_stores_are_read()
 pub fn a_store_is_read_whole()
     ensures whole { (awaited : Waiting) (ps : List Value) (m : MessageValue) (n : ℕ)
         (class instance : List ℕ) (s : SyntaxName) (told : Option (Result Values Fault))
-        → Gives awaited ps m
+        → GivesMessage awaited ps m
         → m.command ≡ StoreRq n class instance
         → length (data_text ps) ≤ 67108864
         → ReadsStore (Some s) (store_text m) told
         → (found : Result Values Fault) × (told ≡ Some found) × Scans s (data_text ps) found }
     ensures large { (awaited : Waiting) (ps : List Value) (m : MessageValue) (s : Option SyntaxName)
         (told : Option (Result Values Fault))
-        → Gives awaited ps m
+        → GivesMessage awaited ps m
         → 67108864 < length (data_text ps)
         → ReadsStore s (store_text m) told
         → told ≡ None }

@@ -3,7 +3,7 @@ use Rattle.std.specs.Prelude.{◌≡◌, ℕ, ◌/◌, ◌%◌, List, [], ◌∷
 use Rattle.std.specs.Prelude.{decimal, Option, None, Some}
 use Rattle.std.specs.FinMap as map
 use Rattle.hex.specs.Hex.{encode_upper}
-use Rattle.dr_base.specs.Texts.{Text}
+use Rattle.dr_base.specs.Texts.{Text, next_field}
 use Rattle.dr_ledger.specs.Books.{Book}
 use Rattle.dr_ledger.specs.Pairs.{Pair, pair_cmp}
 use Rattle.dr_ledger.specs.Replies.{AreKept, Lists}
@@ -12,14 +12,10 @@ use Rattle.dr_ledger.specs.declared.item.Cause.TheVariants as cause
 use Rattle.dr_ledger.specs.declared.item.Progress.{Progress}
 use Rattle.dr_ledger.specs.declared.item.Progress.TheVariants.{Waiting, Held, Done, Dropped}
 
--- a field behind the one before it
-abbrev pub next_field : Text → Text
-next_field field = 9 ∷ field
-
--- a moment in milliseconds, and a hyphen where there is none
-abbrev pub moment_field : Option ℕ → Text
-moment_field None = codes "-"
-moment_field (Some moment) = decimal moment
+-- a number, such as a moment in milliseconds, and a hyphen where there is none
+abbrev pub number_field : Option ℕ → Text
+number_field None = codes "-"
+number_field (Some number) = decimal number
 
 -- a line: its word, its fields and the LF that ends it
 abbrev pub line_of : Text → List Text → Text

@@ -1,7 +1,8 @@
 //! The lines of a report.
 ghost use Rattle.std.specs.Prelude.{◌≡◌, ◌++◌, ◌∷◌, [], OnOk, flat_map};
 ghost use Rattle.dr_ledger_report.specs.Reports.{arrival_line, cause_field, kept_line, name_line};
-ghost use Rattle.dr_ledger_report.specs.Reports.{moment_field, next_field, progress_fields};
+ghost use Rattle.dr_ledger_report.specs.Reports.{number_field, progress_fields};
+ghost use Rattle.dr_base.specs.Texts.{next_field};
 ghost use Rattle.dr_ledger_report.specs.Reports.{report_of, row_line};
 
 use dr_base::Text;
@@ -13,7 +14,7 @@ const LF: u8 = 10;
 
 /// Adds a moment as a field (milliseconds), and a hyphen where there is none.
 pub fn put_moment(out: &mut Vec<u8>, moment: Option<u64>) -> Result<(), AllocError>
-    ensures { OnOk result (out.new.items ≡ out.old.items ++ next_field (moment_field moment)) }
+    ensures { OnOk result (out.new.items ≡ out.old.items ++ next_field (number_field moment)) }
 {
     match moment {
         Some(moment) => add_number(out, moment),

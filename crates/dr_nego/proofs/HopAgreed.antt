@@ -27,7 +27,8 @@ use Rattle.dr_nego.specs.declared.agreed.Pair.{Pair}
 use Rattle.dr_nego.specs.declared.answering.Answer.{Answer}
 use Rattle.dr_nego.specs.declared.answering.Answer.TheVariants.{Accept, Reject}
 use Rattle.dr_nego.specs.Agreeing.{AssociateRq, pair_of}
-use Rattle.dr_nego.specs.Answering.{answer_of, answer_by, answer, refusal, acceptance_of, application_context, is_caller, pairs_of, agreed_by}
+use Rattle.dr_nego.specs.Answering.{answer_of, answer_by, answer, refusal, acceptance_of, is_caller, pairs_of, agreed_by}
+use Rattle.dr_base.specs.Standard.{application_context}
 use Rattle.dr_nego.specs.Proposing.{context_of, IsHopTo, IsProposal}
 use Rattle.dr_nego.specs.Laws.{AgreesOnHop, HopsAreAgreed}
 use Rattle.dr_nego.proofs.OneContext.{accepted_with, same_texts, is_the_caller, only_syntax, or_second}

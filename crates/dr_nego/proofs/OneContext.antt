@@ -18,7 +18,8 @@ use Rattle.dr_plan_model.proofs.Gathered.{nothing_in_nil, Contains-cons_cases, C
 use Rattle.dr_site.proofs.AsPlanned.{keeps_by}
 use Rattle.dr_pdu.specs.declared.pdu.ContextProposal.{ContextProposal}
 use Rattle.dr_pdu.specs.declared.pdu.ContextAnswer.{ContextAnswer}
-use Rattle.dr_nego.specs.Answering.{member, is_caller, is_row_for, syntaxes_for, is_proposed, answer_with, first_proposed, answer_of, verification}
+use Rattle.dr_nego.specs.Answering.{member, is_caller, is_row_for, syntaxes_for, is_proposed, answer_with, first_proposed, answer_of}
+use Rattle.dr_base.specs.Standard.{verification}
 
 pub same_texts : (a b : Text) → a ≡ b → bytes_eq a b ≡ true
 same_texts a b h = (bytes_eq-Decides a b).1 h

@@ -17,7 +17,7 @@ use Rattle.dr_site.proofs.ContextsAsPlanned.{hop_to}
 use Rattle.dr_site.proofs.FormedSites.{sites_are_formed}
 use Rattle.dr_pdu.specs.declared.pdu.ContextProposal.{ContextProposal}
 use Rattle.dr_pdu.specs.declared.pdu.Front.{Front}
-use Rattle.dr_nego.specs.Answering.{application_context}
+use Rattle.dr_base.specs.Standard.{application_context}
 use Rattle.dr_nego.specs.Agreeing.{AssociateRq}
 use Rattle.dr_nego.specs.Laws.{OneProposal}
 use Rattle.dr_nego.specs.Proposing.{context_of, IsHopTo, IsProposal, Proposes}

@@ -28,7 +28,8 @@ use Rattle.dr_pdu.specs.Fitting.{IsTitle, IsUnpadded, FrontFits, ProposalFits, A
 use Rattle.dr_pdu.proofs.FitLemmas.{length_of_proposal}
 use Rattle.dr_pdu.proofs.WrittenLemmas.{request_fits, acceptance_fits, fits_request}
 use Rattle.dr_nego.specs.Agreeing.{AssociateRq}
-use Rattle.dr_nego.specs.Answering.{answer_of, acceptance_of, application_context, verification}
+use Rattle.dr_nego.specs.Answering.{answer_of, acceptance_of}
+use Rattle.dr_base.specs.Standard.{verification, application_context}
 use Rattle.dr_nego.specs.Proposing.{IsHopTo, echo_proposal}
 use Rattle.dr_nego.specs.Laws.{ProposalsFit, EchoesFit, AcceptancesFit}
 use Rattle.dr_nego.proofs.OneContext.{IsFair, fair}

@@ -1,6 +1,6 @@
 -- What an acceptor answers to a request (PS3.8 sections 7.1.1 and 9.3.4), by its node's part of the
 -- plan.
-use Rattle.std.specs.Prelude.{ℕ, ◌%◌, Bool, true, List, [], ◌∷◌, map, filter, find, codes, not}
+use Rattle.std.specs.Prelude.{ℕ, ◌%◌, Bool, true, List, [], ◌∷◌, map, filter, find, not}
 use Rattle.std.specs.Prelude.{◌==◌, ◌&&◌, ◌||◌, nat_le, if◌then◌else◌, Option, Some, None}
 use Rattle.std.specs.List.{flat_map, list_any}
 use Rattle.std.specs.Str.{bytes_eq}
@@ -20,14 +20,7 @@ use Rattle.dr_nego.specs.declared.agreed.Agreed.{Agreed}
 use Rattle.dr_nego.specs.declared.answering.Answer.{Answer}
 use Rattle.dr_nego.specs.declared.answering.Answer.TheVariants.{Accept, Reject, TooSmall}
 use Rattle.dr_nego.specs.Agreeing.{AssociateRq, AssociateAc, pair_of}
-
--- the application context of DICOM (PS3.7 A.2.1)
-abbrev pub application_context : Text
-application_context = codes "1.2.840.10008.3.1.1.1"
-
--- the Verification SOP class (PS3.4 annex A), which each node takes from everybody that may call it
-abbrev pub verification : Text
-verification = codes "1.2.840.10008.1.1"
+use Rattle.dr_base.specs.Standard.{application_context, verification}
 
 -- ---- one context
 

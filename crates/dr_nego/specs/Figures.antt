@@ -14,11 +14,10 @@ use Rattle.dr_nego.specs.declared.answering.Answer.TheVariants.{Accept, Reject, 
 use Rattle.dr_nego.specs.declared.fault.NegoFault.TheVariants.{StrangeId, StrangeSyntax}
 use Rattle.dr_nego.specs.declared.fault.NegoFault.TheVariants.{LimitTooSmall}
 use Rattle.dr_nego.specs.Agreeing.{AssociateRq, AssociateAc, Concludes, agreed_on, context_for}
-use Rattle.dr_nego.specs.Answering.{answer, answer_of, acceptance_of, application_context}
-use Rattle.dr_nego.specs.Answering.{verification}
+use Rattle.dr_nego.specs.Answering.{answer, answer_of, acceptance_of}
+use Rattle.dr_base.specs.Standard.{application_context, verification, image}
 use Rattle.dr_nego.specs.Proposing.{echo_proposal}
 use Rattle.dr_nego.specs.Fragments.{piece_size, pieces}
-use Rattle.dr_plan_sound.specs.Samples.{image}
 
 -- the title of the gateway, which calls
 abbrev pub gate : Text

@@ -11,7 +11,7 @@ use Rattle.dr_nego.specs.declared.fault.NegoFault.{NegoFault}
 use Rattle.dr_nego.specs.declared.fault.NegoFault.TheVariants.{StrangeId, StrangeSyntax}
 use Rattle.dr_nego.specs.declared.fault.NegoFault.TheVariants.{LimitTooSmall, NoHop, Memory}
 use Rattle.dr_nego.specs.Agreeing.{AssociateRq}
-use Rattle.dr_nego.specs.Answering.{application_context, verification}
+use Rattle.dr_base.specs.Standard.{verification, application_context}
 
 -- the context that is proposed for a numbered pair of a hop: the pair's number, class and one
 -- transfer syntax

@@ -6,10 +6,11 @@ use Rattle.std.proofs.lemmas.List.{take_rest}
 use Rattle.dr_pdu.specs.declared.pdu.ContextProposal.{ContextProposal}
 use Rattle.dr_pdu.specs.declared.pdu.ContextAnswer.{ContextAnswer}
 use Rattle.dr_base.specs.Padding.{unpadded}
-use Rattle.dr_pdu.specs.Items.{Item, StartsItem, AreItems, bodies, first_body}
+use Rattle.dr_pdu.specs.Items.{Item, StartsPduItem, AreItems, bodies, first_body}
 use Rattle.dr_pdu.specs.declared.pdu.Association.{Association}
 use Rattle.dr_pdu.specs.declared.pdu.Front.{Front}
-use Rattle.dr_pdu.specs.Grammar.{Each, IsProposal, IsAnswer, IsGreatestLength, IsFront, IsAssociation}
+use Rattle.dr_pdu.specs.Grammar.{IsProposal, IsAnswer, IsGreatestLength, IsFront, IsAssociation}
+use Rattle.dr_base.specs.Lists.{Each}
 use Rattle.dr_pdu.proofs.FrontTexts.{same_front_part}
 use Rattle.dr_pdu.proofs.Bytes.{front4}
 use Rattle.dr_base.proofs.RunLemmas.{run_same}
@@ -17,7 +18,7 @@ use Rattle.dr_pdu.proofs.ItemLemmas.{item_parts}
 
 -- a text of items is those of no other list
 pub same_items : (is js : List Item) (text : List ℕ) → AreItems is text → AreItems js text → js ≡ is
-same_items is js text p q = run_same StartsItem item_parts is js text p q
+same_items is js text p q = run_same StartsPduItem item_parts is js text p q
 
 -- what stands behind four bytes, as the code has it
 pub behind4 : (body rest : List ℕ) (a b c d : ℕ) → body ≡ a ∷ b ∷ c ∷ d ∷ rest → rest ≡ take (length body - 4) (drop 4 body)

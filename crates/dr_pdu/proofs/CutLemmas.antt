@@ -6,8 +6,8 @@ use Rattle.dr_base.proofs.RunLemmas.{run_append, run_longer}
 use Rattle.dr_pdu.specs.declared.pdu.Pdu.{Pdu}
 use Rattle.dr_pdu.specs.declared.fault.PduFault.{PduFault}
 use Rattle.dr_pdu.specs.declared.fault.PduFault.TheVariants.{More, UnknownType, TooLong, BadItem, BadContextId, Memory, Failed}
-use Rattle.dr_pdu.specs.Grammar.{Begins, HasWholeBody, Shows}
-use Rattle.dr_pdu.specs.Feeding.{StartsPdu, Units, Feeding, Feeds, Call, Fed, taken_by, taken, given_by, given, shown_by, shown, KeepsNoPdu, LeavesStream, fresh}
+use Rattle.dr_pdu.specs.Grammar.{StartsFrame, HasWholeBody, Shows}
+use Rattle.dr_pdu.specs.Feeding.{StartsPdu, Units, Feeding, Feeds, FeedCall, Fed, taken_by, taken, given_by, given, shown_by, shown, KeepsNoPdu, LeavesStream, fresh}
 use Rattle.dr_pdu.proofs.FrontLemmas.{one_spelling, length_of}
 use Rattle.dr_pdu.proofs.FeedLemmas.{excludes}
 
@@ -39,12 +39,12 @@ one_longest limit text (p ∷ ps) (q ∷ qs) a b u v =
 
 -- ---- a fault shows whatever follows
 
-begins_on : (text : List ℕ) (kind len : ℕ) (rest more : List ℕ) → Begins text kind len rest → Begins (text ++ more) kind len (rest ++ more)
+begins_on : (text : List ℕ) (kind len : ℕ) (rest more : List ℕ) → StartsFrame text kind len rest → StartsFrame (text ++ more) kind len (rest ++ more)
 begins_on text kind len rest more b = (b.0, b.1, ap (λ (t : List ℕ). t ++ more) b.2)
 
 whole_on : (limit : ℕ) (text : List ℕ) (kind : ℕ) (body rest more : List ℕ) → HasWholeBody limit text kind body rest → HasWholeBody limit (text ++ more) kind body (rest ++ more)
 whole_on limit text kind body rest more w =
-    (subst (λ (t : List ℕ). Begins (text ++ more) kind (length body) t) (append_assoc body rest more) (begins_on text kind (length body) (body ++ rest) more w.0), w.1)
+    (subst (λ (t : List ℕ). StartsFrame (text ++ more) kind (length body) t) (append_assoc body rest more) (begins_on text kind (length body) (body ++ rest) more w.0), w.1)
 
 pub shows_on : (limit : ℕ) (text more : List ℕ) (fault : PduFault) → fault ≢ More → Shows limit text fault → Shows limit (text ++ more) fault
 shows_on limit text more More other h = absurd (other refl)
@@ -59,7 +59,7 @@ shows_on limit text more Failed other h = h
 -- ---- calls
 
 -- a feeder that has failed gives nothing more
-failed_stays : (old : Feeding) (xs : List Call) (new : Feeding) → old.failed ≡ true → Fed old xs new → (given xs ≡ []) × (new.failed ≡ true) × (shown xs ≡ [])
+failed_stays : (old : Feeding) (xs : List FeedCall) (new : Feeding) → old.failed ≡ true → Fed old xs new → (given xs ≡ []) × (new.failed ≡ true) × (shown xs ≡ [])
 failed_stays old [] new f h = (refl, subst (λ (x : Feeding). x.failed ≡ true) h f, refl)
 failed_stays old (x ∷ xs) new f h = by_answer (λ g. failed_stays h.0 xs new g h.2) x.0 x.1 h.1
   where
@@ -81,7 +81,7 @@ abbrev Cut : ℕ → List ℕ → List Pdu → List PduFault → Feeding → Typ
 Cut limit text pdus faults new = (rest : List ℕ) × Units limit text pdus rest × LeavesStream limit faults new rest
 
 -- a fault that the feeder answers ends the list
-ended : (limit : ℕ) (kept piece : List ℕ) (mid : Feeding) (xs : List Call) (new : Feeding) (fault : PduFault) → fault ≢ More → fault ≢ Memory → Shows limit (kept ++ piece) fault → mid.failed ≡ true → Fed mid xs new
+ended : (limit : ℕ) (kept piece : List ℕ) (mid : Feeding) (xs : List FeedCall) (new : Feeding) (fault : PduFault) → fault ≢ More → fault ≢ Memory → Shows limit (kept ++ piece) fault → mid.failed ≡ true → Fed mid xs new
     → Cut limit (kept ++ (piece ++ taken xs)) (given xs) (fault ∷ shown xs) new
 ended limit kept piece mid xs new fault m n shows f h =
     let stays = failed_stays mid xs new f h in
@@ -89,7 +89,7 @@ ended limit kept piece mid xs new fault m n shows f h =
     let on : Shows limit text fault = subst (λ (t : List ℕ). Shows limit t fault) (append_assoc kept piece (taken xs)) (shows_on limit (kept ++ piece) (taken xs) fault m shows) in
     (text, (subst (λ (ps : List Pdu). Run (StartsPdu limit) ps text text) (sym stays.0) refl, excludes limit text fault on n), inr (fault, ap (λ (fs : List PduFault). fault ∷ fs) stays.2, stays.1, m, n, on))
 
-pub cuts : (limit : ℕ) (old : Feeding) (xs : List Call) (new : Feeding) → old.limit ≡ limit → old.failed ≡ false → Nothing limit old.kept → Fed old xs new → Cut limit (old.kept ++ taken xs) (given xs) (shown xs) new
+pub cuts : (limit : ℕ) (old : Feeding) (xs : List FeedCall) (new : Feeding) → old.limit ≡ limit → old.failed ≡ false → Nothing limit old.kept → Fed old xs new → Cut limit (old.kept ++ taken xs) (given xs) (shown xs) new
 cuts limit old [] new l f none h =
     (old.kept, (append-nil old.kept, none), inl (refl, subst (λ (x : Feeding). x.failed ≡ false) h f, ap (λ (x : Feeding). x.kept) h))
 cuts limit old (x ∷ xs) new l f none h = by_answer (λ old' l' f' none' h'. cuts limit old' xs new l' f' none' h') x.0 x.1 h.1
@@ -115,10 +115,10 @@ cuts limit old (x ∷ xs) new l f none h = by_answer (λ old' l' f' none' h'. cu
     by_answer later piece (Err BadItem) s = failing piece BadItem (λ e. cc) (λ e. cc) s.1 s.2
     by_answer later piece (Err BadContextId) s = failing piece BadContextId (λ e. cc) (λ e. cc) s.1 s.2
 
-pub cuts_of_a_stream : (limit : ℕ) (xs : List Call) (new : Feeding) → Fed (fresh limit) xs new → (rest : List ℕ) × Units limit (taken xs) (given xs) rest × LeavesStream limit (shown xs) new rest
+pub cuts_of_a_stream : (limit : ℕ) (xs : List FeedCall) (new : Feeding) → Fed (fresh limit) xs new → (rest : List ℕ) × Units limit (taken xs) (given xs) rest × LeavesStream limit (shown xs) new rest
 cuts_of_a_stream limit xs new h = cuts limit (fresh limit) xs new refl refl (starts_nothing limit) h
 
-pub cuts_midstream : (old : Feeding) (xs : List Call) (new : Feeding) → old.failed ≡ false → KeepsNoPdu old → Fed old xs new → (rest : List ℕ) × Units old.limit (old.kept ++ taken xs) (given xs) rest × LeavesStream old.limit (shown xs) new rest
+pub cuts_midstream : (old : Feeding) (xs : List FeedCall) (new : Feeding) → old.failed ≡ false → KeepsNoPdu old → Fed old xs new → (rest : List ℕ) × Units old.limit (old.kept ++ taken xs) (given xs) rest × LeavesStream old.limit (shown xs) new rest
 cuts_midstream old xs new f none h = cuts old.limit old xs new refl f none h
 
 -- ---- what no call changes
@@ -151,6 +151,6 @@ one_limit old piece (Err TooLong) new s = ap (λ (f : Feeding). f.limit) s.2
 one_limit old piece (Err BadItem) new s = ap (λ (f : Feeding). f.limit) s.2
 one_limit old piece (Err BadContextId) new s = ap (λ (f : Feeding). f.limit) s.2
 
-pub same_limit : (old : Feeding) (xs : List Call) (new : Feeding) → Fed old xs new → new.limit ≡ old.limit
+pub same_limit : (old : Feeding) (xs : List FeedCall) (new : Feeding) → Fed old xs new → new.limit ≡ old.limit
 same_limit old [] new h = ap (λ (f : Feeding). f.limit) (sym h)
 same_limit old (x ∷ xs) new h = same_limit h.0 xs new h.2 ∙ one_limit old x.0 x.1 h.0 h.1

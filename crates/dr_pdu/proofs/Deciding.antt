@@ -10,7 +10,7 @@ use Rattle.dr_pdu.specs.declared.pdu.Pdv.{Pdv}
 use Rattle.dr_pdu.specs.declared.pdu.ContextProposal.{ContextProposal}
 use Rattle.dr_pdu.specs.declared.pdu.ContextAnswer.{ContextAnswer}
 use Rattle.dr_base.specs.Padding.{unpadded}
-use Rattle.dr_pdu.specs.Items.{Item, StartsItem, AreItems, StartsPdv, bodies, first_body}
+use Rattle.dr_pdu.specs.Items.{Item, StartsPduItem, AreItems, StartsPdv, bodies, first_body}
 use Rattle.dr_pdu.specs.Grammar.{IsProposal, IsAnswer}
 use Rattle.dr_pdu.proofs.Bytes.{IsBytes, four_bytes}
 use Rattle.dr_pdu.proofs.ItemLemmas.{starts, item_parts}
@@ -73,17 +73,17 @@ module _ {X : Type 0} (Starts : List ℕ → X → List ℕ → Type 0) (Good : 
       by_start (inr none) later = inr (nothing none)
 
 -- items
-item_number : (text : List ℕ) (i : Item) (rest : List ℕ) → StartsItem text i rest → (length i.body ≡ get_or text 2 0 * 256 + get_or text 3 0) × (length text ≡ (4 + length i.body) + length rest)
+item_number : (text : List ℕ) (i : Item) (rest : List ℕ) → StartsPduItem text i rest → (length i.body ≡ get_or text 2 0 * 256 + get_or text 3 0) × (length text ≡ (4 + length i.body) + length rest)
 item_number text i rest s =
     let n = length i.body in
     let number : n / 256 ^ 1 % 256 * 256 + n % 256 ≡ n = omega (arith, s.1) in
     let whole = ap (λ (t : List ℕ). length t) s.2 in
     (sym number ∙ sym (ap (λ (t : List ℕ). get_or t 2 0 * 256 + get_or t 3 0) s.2), omega (arith, whole, length-append i.body rest))
 
-item_start : (text : List ℕ) → IsBytes text → MayStart StartsItem (λ (i : Item). IsBytes i.body) text
+item_start : (text : List ℕ) → IsBytes text → MayStart StartsPduItem (λ (i : Item). IsBytes i.body) text
 item_start text b = by_length (cases_lt (length text) 4)
   where
-    by_number : (m : ℕ) → m ≡ get_or text 2 0 * 256 + get_or text 3 0 → 4 ≤ length text → (length (drop 4 text) < m) ⊎ (m ≤ length (drop 4 text)) → MayStart StartsItem (λ (i : Item). IsBytes i.body) text
+    by_number : (m : ℕ) → m ≡ get_or text 2 0 * 256 + get_or text 3 0 → 4 ≤ length text → (length (drop 4 text) < m) ⊎ (m ≤ length (drop 4 text)) → MayStart StartsPduItem (λ (i : Item). IsBytes i.body) text
     by_number m e long (inl short) = inr (λ i rest s. let h = item_number text i rest s in omega (arith, h.0, h.1, e, short, length-drop 4 text))
     by_number m e long (inr fits) = inl (record {
       part = record { kind = get_or text 0 0; body = take m (drop 4 text) };
@@ -94,12 +94,12 @@ item_start text b = by_length (cases_lt (length text) 4)
       shorter = omega (arith, long, length-drop m (drop 4 text), length-drop 4 text);
     })
 
-    by_length : (length text < 4) ⊎ (4 ≤ length text) → MayStart StartsItem (λ (i : Item). IsBytes i.body) text
+    by_length : (length text < 4) ⊎ (4 ≤ length text) → MayStart StartsPduItem (λ (i : Item). IsBytes i.body) text
     by_length (inl short) = inr (λ i rest s. let h = item_number text i rest s in omega (arith, h.1, short))
     by_length (inr long) = by_number (get_or text 2 0 * 256 + get_or text 3 0) refl long (cases_lt (length (drop 4 text)) (get_or text 2 0 * 256 + get_or text 3 0))
 
 pub items_found : (text : List ℕ) → IsBytes text → ((is : List Item) × AreItems is text × AllByRecursion (λ (i : Item). IsBytes i.body) is) ⊎ ((is : List Item) → AreItems is text → ⊥)
-items_found text b = by_parts (parts_found StartsItem (λ (i : Item). IsBytes i.body) item_parts item_start (length text) text (omega arith) b)
+items_found text b = by_parts (parts_found StartsPduItem (λ (i : Item). IsBytes i.body) item_parts item_start (length text) text (omega arith) b)
   where
     by_parts : ((is : List Item) × (AreItems is text × AllByRecursion (λ (i : Item). IsBytes i.body) is)) ⊎ ((is : List Item) → AreItems is text → ⊥) → ((is : List Item) × AreItems is text × AllByRecursion (λ (i : Item). IsBytes i.body) is) ⊎ ((is : List Item) → AreItems is text → ⊥)
     by_parts (inl (is, h)) = inl (is, h.0, h.1)

@@ -4,7 +4,7 @@ use Rattle.std.proofs.lemmas.List.{take_more}
 use Rattle.dr_pdu.specs.declared.items.PduItem.{PduItem as Found}
 use Rattle.dr_pdu.specs.Items.{Item, bodies}
 use Rattle.dr_pdu.specs.Reads.{items}
-use Rattle.dr_pdu.specs.Grammar.{Each}
+use Rattle.dr_base.specs.Lists.{Each}
 
 pub each_more : {A B : Type 0} (R : A → B → Type 0) (as' : List A) (bs : List B) (a : A) (b : B) → Each R as' bs → R a b → Each R (as' ++ a ∷ []) (bs ++ b ∷ [])
 each_more R [] [] a b h r = (r, tt)

@@ -4,7 +4,7 @@ use Rattle.std.proofs.lemmas.List.{take_rest, drop_at, drop-drop, length-drop, l
 use Rattle.dr_pdu.specs.declared.pdu.Pdu.{Pdu}
 use Rattle.dr_pdu.specs.declared.fault.PduFault.{PduFault}
 use Rattle.dr_pdu.specs.declared.fault.PduFault.TheVariants.{More, UnknownType, TooLong, BadItem, BadContextId, Memory, Failed}
-use Rattle.dr_pdu.specs.Grammar.{Begins, header_fault, IsBody, HasContextIds, Shows, Decodes}
+use Rattle.dr_pdu.specs.Grammar.{StartsFrame, header_fault, IsBody, HasContextIds, Shows, Decodes}
 use Rattle.dr_pdu.specs.Feeding.{StartsPdu, Units, Feeding, Gathers, Feeds}
 use Rattle.dr_pdu.proofs.FrontLemmas.{same_front, same_whole, goes_on, length_of}
 use Rattle.dr_pdu.proofs.OneBody.{one_body}
@@ -15,10 +15,10 @@ clash limit kind len kind' len' f h p q n =
     let e : Some f ≡ None = sym h ∙ ap (λ (k : ℕ). header_fault limit k len) p ∙ ap (λ (l : ℕ). header_fault limit kind' l) q ∙ n in cc
 
 -- the header of a PDU that starts a text
-pub header_of : (limit : ℕ) (text : List ℕ) (p : Pdu) (after : List ℕ) (s : StartsPdu limit text p after) → Begins text s.2.0 (length s.2.1) (s.2.1 ++ after)
-header_of limit text p after s = subst (λ (w : List ℕ). Begins w s.2.0 (length s.2.1) (s.2.1 ++ after)) (sym s.1) (goes_on limit s.0 after p s.2)
+pub header_of : (limit : ℕ) (text : List ℕ) (p : Pdu) (after : List ℕ) (s : StartsPdu limit text p after) → StartsFrame text s.2.0 (length s.2.1) (s.2.1 ++ after)
+header_of limit text p after s = subst (λ (w : List ℕ). StartsFrame w s.2.0 (length s.2.1) (s.2.1 ++ after)) (sym s.1) (goes_on limit s.0 after p s.2)
 
-pub header_excludes : (limit : ℕ) (text : List ℕ) (f : PduFault) (kind len : ℕ) (rest : List ℕ) → Begins text kind len rest → header_fault limit kind len ≡ Some f → (p : Pdu) (after : List ℕ) → StartsPdu limit text p after → ⊥
+pub header_excludes : (limit : ℕ) (text : List ℕ) (f : PduFault) (kind len : ℕ) (rest : List ℕ) → StartsFrame text kind len rest → header_fault limit kind len ≡ Some f → (p : Pdu) (after : List ℕ) → StartsPdu limit text p after → ⊥
 header_excludes limit text f kind len rest b h p after s =
     let same = same_front text kind len rest s.2.0 (length s.2.1) (s.2.1 ++ after) b (header_of limit text p after s) in
     clash limit kind len s.2.0 (length s.2.1) f h same.same_kind same.same_len s.2.2.1

@@ -13,7 +13,8 @@ use Rattle.dr_pdu.specs.declared.pdu.ContextProposal.{ContextProposal}
 use Rattle.dr_pdu.specs.declared.pdu.ContextAnswer.{ContextAnswer}
 use Rattle.dr_base.specs.Padding.{unpadded, trimmed}
 use Rattle.dr_pdu.specs.Items.{Item, AreItems, StartsPdv, pdv_text, bodies, first_body}
-use Rattle.dr_pdu.specs.Grammar.{Each, IsProposal, IsAnswer, IsFront, IsGreatestLength, IsAssociation}
+use Rattle.dr_pdu.specs.Grammar.{IsProposal, IsAnswer, IsFront, IsGreatestLength, IsAssociation}
+use Rattle.dr_base.specs.Lists.{Each}
 use Rattle.dr_pdu.specs.Written.{item, proposal_body, answer_body, user_text}
 use Rattle.dr_pdu.specs.Fitting.{IsTitle, IsUnpadded, FrontFits, ProposalFits, AnswerFits, weight, AssociationFits}
 use Rattle.dr_pdu.proofs.Trimming.{unpadded_short, unpadded_twice, title_short, title_twice}

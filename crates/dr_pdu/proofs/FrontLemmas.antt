@@ -3,7 +3,7 @@ use Rattle.std.proofs.Common.{◌≡◌, ℕ, ◌+◌, ◌*◌, ◌/◌, ◌%◌
 use Rattle.std.specs.Int.{w32, to_be_bytes}
 use Rattle.std.proofs.lemmas.List.{take_at, drop_at, append-nil}
 use Rattle.dr_pdu.specs.declared.pdu.Pdu.{Pdu}
-use Rattle.dr_pdu.specs.Grammar.{Begins, IsBody, Spells}
+use Rattle.dr_pdu.specs.Grammar.{StartsFrame, IsBody, Spells}
 use Rattle.dr_pdu.proofs.OneBody.{one_body}
 
 pub record SameFront (kind len : ℕ) (rest : List ℕ) (kind' len' : ℕ) (rest' : List ℕ) : Type 0 where
@@ -15,13 +15,13 @@ pub record SameFront (kind len : ℕ) (rest : List ℕ) (kind' len' : ℕ) (rest
 front_len : List ℕ → ℕ
 front_len text = ((get_or text 2 0 * 256 + get_or text 3 0) * 256 + get_or text 4 0) * 256 + get_or text 5 0
 
-len_is : (text : List ℕ) (kind len : ℕ) (rest : List ℕ) → Begins text kind len rest → len ≡ front_len text
+len_is : (text : List ℕ) (kind len : ℕ) (rest : List ℕ) → StartsFrame text kind len rest → len ≡ front_len text
 unfolding front_len
 len_is text kind len rest b =
     let number : ((len / 256 ^ 3 % 256 * 256 + len / 256 ^ 2 % 256) * 256 + len / 256 ^ 1 % 256) * 256 + len % 256 ≡ len = omega (arith, b.1) in
     sym number ∙ ap front_len (sym b.2)
 
-pub same_front : (text : List ℕ) (kind len : ℕ) (rest : List ℕ) (kind' len' : ℕ) (rest' : List ℕ) → Begins text kind len rest → Begins text kind' len' rest' → SameFront kind len rest kind' len' rest'
+pub same_front : (text : List ℕ) (kind len : ℕ) (rest : List ℕ) (kind' len' : ℕ) (rest' : List ℕ) → StartsFrame text kind len rest → StartsFrame text kind' len' rest' → SameFront kind len rest kind' len' rest'
 same_front text kind len rest kind' len' rest' b c = record {
   same_kind = ap (λ (t : List ℕ). get_or t 0 0) (sym b.2 ∙ c.2);
   same_len = len_is text kind len rest b ∙ sym (len_is text kind' len' rest' c);
@@ -29,7 +29,7 @@ same_front text kind len rest kind' len' rest' b c = record {
 }
 
 -- a spelling that goes on, as the front of a text
-pub goes_on : (limit : ℕ) (a x : List ℕ) (p : Pdu) (s : Spells limit a p) → Begins (a ++ x) s.0 (length s.1) (s.1 ++ x)
+pub goes_on : (limit : ℕ) (a x : List ℕ) (p : Pdu) (s : Spells limit a p) → StartsFrame (a ++ x) s.0 (length s.1) (s.1 ++ x)
 goes_on limit a x p s =
     (s.2.0.0, s.2.0.1, ap (λ (t : List ℕ). t ++ x) s.2.0.2 ∙ ap (λ (t : List ℕ). s.0 ∷ s.2.0.0 ∷ (to_be_bytes w32 (length s.1) ++ (t ++ x))) (append-nil s.1))
 
@@ -42,7 +42,7 @@ pub record SameWhole (kind : ℕ) (body rest : List ℕ) (kind' : ℕ) (body' re
   pub rests : rest ≡ rest'
 
 -- a text has one whole body at most
-pub same_whole : (text : List ℕ) (kind : ℕ) (body rest : List ℕ) (kind' : ℕ) (body' rest' : List ℕ) → Begins text kind (length body) (body ++ rest) → Begins text kind' (length body') (body' ++ rest') → SameWhole kind body rest kind' body' rest'
+pub same_whole : (text : List ℕ) (kind : ℕ) (body rest : List ℕ) (kind' : ℕ) (body' rest' : List ℕ) → StartsFrame text kind (length body) (body ++ rest) → StartsFrame text kind' (length body') (body' ++ rest') → SameWhole kind body rest kind' body' rest'
 same_whole text kind body rest kind' body' rest' b c =
     let same = same_front text kind (length body) (body ++ rest) kind' (length body') (body' ++ rest') b c in
     record {
@@ -54,7 +54,7 @@ same_whole text kind body rest kind' body' rest' b c =
 -- two spellings that begin one text are one spelling of one PDU
 pub one_spelling : (limit limit' : ℕ) (a b x y : List ℕ) (p q : Pdu) → Spells limit a p → Spells limit' b q → a ++ x ≡ b ++ y → (a ≡ b) × (p ≡ q)
 one_spelling limit limit' a b x y p q s t e =
-    let b1 = subst (λ (w : List ℕ). Begins w s.0 (length s.1) (s.1 ++ x)) e (goes_on limit a x p s) in
+    let b1 = subst (λ (w : List ℕ). StartsFrame w s.0 (length s.1) (s.1 ++ x)) e (goes_on limit a x p s) in
     let b2 = goes_on limit' b y q t in
     let same = same_whole (b ++ y) s.0 s.1 x t.0 t.1 y b1 b2 in
     let same_length : length s.1 ≡ length t.1 = ap (λ (w : List ℕ). length w) same.whole_bodies in

@@ -17,7 +17,8 @@ use Rattle.dr_pdu.specs.declared.fault.PduFault.{PduFault}
 use Rattle.dr_pdu.specs.declared.fault.PduFault.TheVariants.{More, BadItem, BadContextId, Memory}
 use Rattle.dr_base.specs.Padding.{unpadded, trimmed}
 use Rattle.dr_pdu.specs.Items.{Item, AreItems, StartsPdv, bodies, first_body}
-use Rattle.dr_pdu.specs.Grammar.{Each, IsProposal, IsAnswer, IsFront, IsGreatestLength, IsAssociation, IsBody, AreContextIds, HasContextIds, header_fault, Begins, HasWholeBody, Decodes}
+use Rattle.dr_pdu.specs.Grammar.{IsProposal, IsAnswer, IsFront, IsGreatestLength, IsAssociation, IsBody, AreContextIds, HasContextIds, header_fault, StartsFrame, HasWholeBody, Decodes}
+use Rattle.dr_base.specs.Lists.{Each}
 use Rattle.dr_pdu.proofs.Bytes.{IsBytes, four_bytes, front4}
 use Rattle.dr_pdu.proofs.DecodeLemmas.{begins, header_shows, whole, spelled, request_of, acceptance_of}
 use Rattle.dr_pdu.proofs.FrontTexts.{front_read, front_is_long}
@@ -265,11 +266,11 @@ has_answer limit text h = by_length (bytes_of text h) (cases_lt (length text) 6)
     by_body kind body after w (inl (p, is)) = by_ids kind body after w p is (context_ids_found p)
     by_body kind body after w (inr none) = (Err BadItem, (λ e. cc), inr (kind, body, after, w, none))
 
-    by_rest : (kind len : ℕ) (rest : List ℕ) → Begins text kind len rest → IsBytes rest → header_fault limit kind len ≡ None → (length rest < len) ⊎ (len ≤ length rest) → Answered limit text
+    by_rest : (kind len : ℕ) (rest : List ℕ) → StartsFrame text kind len rest → IsBytes rest → header_fault limit kind len ≡ None → (length rest < len) ⊎ (len ≤ length rest) → Answered limit text
     by_rest kind len rest bg b good (inl short) = (Err More, (λ e. cc), inr (kind, len, rest, bg, good, short))
     by_rest kind len rest bg b good (inr fits) = by_body kind (take len rest) (drop len rest) (whole limit text kind len rest bg good fits) (body_found kind (take len rest) (bytes_take len rest b))
 
-    by_fault : (kind len : ℕ) (rest : List ℕ) → Begins text kind len rest → IsBytes rest → (o : Option PduFault) → header_fault limit kind len ≡ o → Answered limit text
+    by_fault : (kind len : ℕ) (rest : List ℕ) → StartsFrame text kind len rest → IsBytes rest → (o : Option PduFault) → header_fault limit kind len ≡ o → Answered limit text
     by_fault kind len rest bg b (Some fault) e =
         (Err fault, (λ m. let f : fault ≡ Memory = cc in not_memory limit kind len (e ∙ ap Some f)), header_shows limit text kind len rest bg fault e)
     by_fault kind len rest bg b None e = by_rest kind len rest bg b e (cases_lt (length rest) len)

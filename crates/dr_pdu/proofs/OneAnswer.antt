@@ -4,7 +4,7 @@ use Rattle.std.proofs.lemmas.List.{length-append, take_at}
 use Rattle.dr_pdu.specs.declared.pdu.Pdu.{Pdu}
 use Rattle.dr_pdu.specs.declared.fault.PduFault.{PduFault}
 use Rattle.dr_pdu.specs.declared.fault.PduFault.TheVariants.{More, UnknownType, TooLong, BadItem, BadContextId, Memory, Failed}
-use Rattle.dr_pdu.specs.Grammar.{Begins, header_fault, IsBody, Shows, Decodes}
+use Rattle.dr_pdu.specs.Grammar.{StartsFrame, header_fault, IsBody, Shows, Decodes}
 use Rattle.dr_pdu.proofs.FrontLemmas.{same_front, one_spelling}
 use Rattle.dr_pdu.proofs.FeedLemmas.{excludes}
 
@@ -21,7 +21,7 @@ abbrev AtHeader : ℕ → ℕ → ℕ → List ℕ → PduFault → Type 0
 AtHeader limit kind len rest f = (header_fault limit kind len ≡ Some f) ⊎ (header_fault limit kind len ≡ None) × Behind kind len rest f
 
 abbrev Why : ℕ → List ℕ → PduFault → Type 0
-Why limit text f = (length text < 6) × (f ≡ More) ⊎ ((kind len : ℕ) × (rest : List ℕ) × Begins text kind len rest × AtHeader limit kind len rest f)
+Why limit text f = (length text < 6) × (f ≡ More) ⊎ ((kind len : ℕ) × (rest : List ℕ) × StartsFrame text kind len rest × AtHeader limit kind len rest f)
 
 why : (limit : ℕ) (text : List ℕ) (f : PduFault) → f ≢ Memory → Shows limit text f → Why limit text f
 why limit text More other (inl short) = inl (short, refl)
@@ -60,7 +60,7 @@ at_header limit kind len rest f g (inl e) (inr (good, h)) = let both : Some f �
 at_header limit kind len rest f g (inr (good, h)) (inl e) = let both : Some g ≡ None = sym e ∙ good in absurd (cc)
 at_header limit kind len rest f g (inr (good, h)) (inr (good', h')) = behind kind len rest f g h h'
 
-header_long : (text : List ℕ) (kind len : ℕ) (rest : List ℕ) → Begins text kind len rest → length text < 6 → ⊥
+header_long : (text : List ℕ) (kind len : ℕ) (rest : List ℕ) → StartsFrame text kind len rest → length text < 6 → ⊥
 header_long text kind len rest b short = let whole = ap (λ (t : List ℕ). length t) b.2 in omega (arith, whole, short)
 
 one_why : (limit : ℕ) (text : List ℕ) (f g : PduFault) → Why limit text f → Why limit text g → f ≡ g

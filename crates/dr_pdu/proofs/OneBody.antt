@@ -12,7 +12,8 @@ use Rattle.dr_pdu.specs.declared.pdu.ContextProposal.{ContextProposal}
 use Rattle.dr_pdu.specs.declared.pdu.ContextAnswer.{ContextAnswer}
 use Rattle.dr_base.specs.Padding.{unpadded}
 use Rattle.dr_pdu.specs.Items.{Item, AreItems, StartsPdv, bodies, first_body}
-use Rattle.dr_pdu.specs.Grammar.{Each, IsProposal, IsAnswer, IsGreatestLength, IsAssociation, IsBody}
+use Rattle.dr_pdu.specs.Grammar.{IsProposal, IsAnswer, IsGreatestLength, IsAssociation, IsBody}
+use Rattle.dr_base.specs.Lists.{Each}
 use Rattle.dr_pdu.proofs.ContextLemmas.{same_items, proposal_says, answer_says, behind4}
 use Rattle.dr_pdu.proofs.FrontTexts.{same_front_part}
 use Rattle.dr_pdu.proofs.PdvLemmas.{pdv_parts}

@@ -6,14 +6,14 @@ use Rattle.std.proofs.lemmas.Bool.{cases_lt}
 use Rattle.dr_base.specs.Runs.{Run}
 use Rattle.dr_pdu.specs.declared.pdu.Pdu.{Pdu}
 use Rattle.dr_pdu.specs.declared.fault.PduFault.TheVariants.{More}
-use Rattle.dr_pdu.specs.Grammar.{Begins, Spells, Shows}
+use Rattle.dr_pdu.specs.Grammar.{StartsFrame, Spells, Shows}
 use Rattle.dr_pdu.specs.Feeding.{StartsPdu, Units}
 use Rattle.dr_pdu.specs.Written.{Fits, MeetsLimit, written}
 use Rattle.dr_pdu.proofs.FeedLemmas.{excludes}
 use Rattle.dr_pdu.proofs.WrittenLemmas.{written_spells}
 
 -- six bytes of a text that goes on are its header
-header_stays : (front back : List ℕ) (kind len : ℕ) (rest : List ℕ) → Begins (front ++ back) kind len rest → 6 ≤ length front → Begins front kind len (drop 6 front) × (drop 6 front ++ back ≡ rest)
+header_stays : (front back : List ℕ) (kind len : ℕ) (rest : List ℕ) → StartsFrame (front ++ back) kind len rest → 6 ≤ length front → StartsFrame front kind len (drop 6 front) × (drop 6 front ++ back ≡ rest)
 header_stays [] back kind len rest b h = absurd (omega arith)
 header_stays (u ∷ []) back kind len rest b h = absurd (omega arith)
 header_stays (u ∷ v ∷ []) back kind len rest b h = absurd (omega arith)

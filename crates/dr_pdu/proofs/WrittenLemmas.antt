@@ -15,8 +15,9 @@ use Rattle.dr_pdu.specs.declared.pdu.Association.{Association}
 use Rattle.dr_pdu.specs.declared.pdu.ContextProposal.{ContextProposal}
 use Rattle.dr_pdu.specs.declared.pdu.ContextAnswer.{ContextAnswer}
 use Rattle.dr_base.specs.Padding.{unpadded}
-use Rattle.dr_pdu.specs.Items.{Item, StartsItem, AreItems, StartsPdv, pdv_text, bodies, first_body}
-use Rattle.dr_pdu.specs.Grammar.{Each, IsProposal, IsAnswer, IsGreatestLength, IsAssociation, IsBody, AreContextIds, HasContextIds, header_fault, Spells}
+use Rattle.dr_pdu.specs.Items.{Item, StartsPduItem, AreItems, StartsPdv, pdv_text, bodies, first_body}
+use Rattle.dr_pdu.specs.Grammar.{IsProposal, IsAnswer, IsGreatestLength, IsAssociation, IsBody, AreContextIds, HasContextIds, header_fault, Spells}
+use Rattle.dr_base.specs.Lists.{Each}
 use Rattle.dr_pdu.specs.Written.{item, padded, implicit, implementation, version_name, proposal_body, answer_body, user_text, association_text, unless_long, request_text, acceptance_text, framed, written, body_text, Fits, MeetsLimit}
 use Rattle.dr_pdu.specs.Fitting.{IsUnpadded, FrontFits, ProposalFits, AnswerFits, weight, AssociationFits}
 use Rattle.dr_pdu.proofs.Trimming.{title_of_padded, length_of_padded}
@@ -29,7 +30,7 @@ module _ {C : Type 0} (kind : ℕ) (body_of : C → List ℕ) where
   abbrev pub item_of : C → Item
   item_of c = record { kind = kind; body = body_of c }
 
-  run_items : (cs : List C) (rest : List ℕ) → AllByRecursion (λ (b : List ℕ). length b < 2 ^ 16) (map body_of cs) → Run StartsItem (map item_of cs) (flat_map (λ (c : C). item kind (body_of c)) cs ++ rest) rest
+  run_items : (cs : List C) (rest : List ℕ) → AllByRecursion (λ (b : List ℕ). length b < 2 ^ 16) (map body_of cs) → Run StartsPduItem (map item_of cs) (flat_map (λ (c : C). item kind (body_of c)) cs ++ rest) rest
   run_items [] rest h = refl
   run_items (c ∷ cs) rest h =
       (flat_map (λ (x : C). item kind (body_of x)) cs ++ rest, (0, h.0, append_assoc (item kind (body_of c)) (flat_map (λ (x : C). item kind (body_of x)) cs) rest), run_items cs rest h.1)
@@ -67,7 +68,7 @@ proposal_written c (class, syntaxes, some, small) =
     let light : weight (map (λ (b : List ℕ). b) c.syntaxes) < 2 ^ 16 = rw (same_map c.syntaxes) (omega (arith, size, small)) in
     let run = run_items 0x40 (λ (b : List ℕ). b) c.syntaxes [] (small_parts (2 ^ 16) (map (λ (b : List ℕ). b) c.syntaxes) light) in
     let its = map (item_of 0x40 (λ (b : List ℕ). b)) c.syntaxes in
-    let are : Run StartsItem its text [] = subst (λ (t : List ℕ). Run StartsItem its t []) (append-nil text) run in
+    let are : Run StartsPduItem its text [] = subst (λ (t : List ℕ). Run StartsPduItem its t []) (append-nil text) run in
     let them : bodies 0x40 its ≡ c.syntaxes = ap (bodies 0x40) (sym (append-nil its)) ∙ own_bodies 0x40 (λ (b : List ℕ). b) c.syntaxes [] ∙ append-nil (map (λ (b : List ℕ). b) c.syntaxes) ∙ same_map c.syntaxes in
     (0, 0, 0, record { kind = 0x30; body = c.class } ∷ its, item 0x30 c.class ++ text, refl, (text, (0, omega (arith, size, small), refl), are), ap Some class, ap (map unpadded) them ∙ all_unpadded c.syntaxes syntaxes, some)
 
@@ -162,7 +163,7 @@ association_written {C} kind IsContext ContextFits bare body_of full one smalls 
     let contexts = flat_map (λ (c : C). item kind (body_of c)) cs in
     let end = user_text full a.max_pdu in
     let rest = item 0x10 a.application ++ (contexts ++ end) in
-    let run = run_append StartsItem its us (contexts ++ end) end [] (run_items kind body_of cs end (all_small kind body_of ContextFits smalls cs fits.2)) user.are in
+    let run = run_append StartsPduItem its us (contexts ++ end) end [] (run_items kind body_of cs end (all_small kind body_of ContextFits smalls cs fits.2)) user.are in
     let own : bodies kind (first ∷ (its ++ us)) ≡ map body_of cs = rw apart (own_bodies kind body_of cs us ∙ ap (λ (t : List (List ℕ)). map body_of cs ++ t) (user.no_other kind apart') ∙ append-nil (map body_of cs)) in
     let last : bodies 0x50 (its ++ us) ≡ bodies 0x50 us = other_bodies kind body_of 0x50 apart'' cs us in (
       first ∷ (its ++ us),

@@ -61,11 +61,11 @@ Gathers limit text (Err fault) = Shows limit text fault
 -- ---- many pieces
 
 -- one call of a feeder: its piece of the stream and its answer
-abbrev pub Call : Type 0
-Call = List ℕ × Result (List Pdu) PduFault
+abbrev pub FeedCall : Type 0
+FeedCall = List ℕ × Result (List Pdu) PduFault
 
 -- what calls make of a feeder, one after the other
-abbrev pub Fed : Feeding → List Call → Feeding → Type 0
+abbrev pub Fed : Feeding → List FeedCall → Feeding → Type 0
 Fed old calls new = Calls (λ before call after. Feeds before call.0 call.1 after) old calls new
 
 -- the bytes of the stream that a call took: none where memory ran out
@@ -87,16 +87,16 @@ shown_by (Err Failed) = []
 shown_by (Err fault) = fault ∷ []
 
 -- the bytes of the stream that these calls took, one after the other
-abbrev pub taken : List Call → List ℕ
-taken calls = flat_map (λ (x : Call). taken_by x.0 x.1) calls
+abbrev pub taken : List FeedCall → List ℕ
+taken calls = flat_map (λ (x : FeedCall). taken_by x.0 x.1) calls
 
 -- the PDUs that came out of these calls, in order
-abbrev pub given : List Call → List Pdu
-given calls = flat_map (λ (x : Call). given_by x.1) calls
+abbrev pub given : List FeedCall → List Pdu
+given calls = flat_map (λ (x : FeedCall). given_by x.1) calls
 
 -- the faults of the stream that these calls answered, in order
-abbrev pub shown : List Call → List PduFault
-shown calls = flat_map (λ (x : Call). shown_by x.1) calls
+abbrev pub shown : List FeedCall → List PduFault
+shown calls = flat_map (λ (x : FeedCall). shown_by x.1) calls
 
 -- no PDU starts what the feeder keeps, as it is of a fresh one and behind every call
 abbrev pub KeepsNoPdu : Feeding → Type 0

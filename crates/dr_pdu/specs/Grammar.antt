@@ -18,13 +18,7 @@ use Rattle.dr_pdu.specs.declared.fault.PduFault.TheVariants.{More, UnknownType, 
 use Rattle.dr_pdu.specs.declared.fault.PduFault.TheVariants.{BadContextId, Memory, Failed}
 use Rattle.dr_base.specs.Padding.{unpadded, trimmed}
 use Rattle.dr_pdu.specs.Items.{Item, AreItems, StartsPdv, bodies, first_body}
-
--- the two lists go together, one by one
-abbrev pub Each : {A B : Type 0} → (A → B → Type 0) → List A → List B → Type 0
-Each R [] [] = Unit {0}
-Each R (a ∷ as') (b ∷ bs) = R a b × Each R as' bs
-Each R [] (b ∷ bs) = ⊥
-Each R (a ∷ as') [] = ⊥
+use Rattle.dr_base.specs.Lists.{Each}
 
 -- ---- associations (9.3.2, 9.3.3)
 
@@ -105,8 +99,8 @@ HasContextIds p = Unit {0}
 -- ---- texts
 
 -- type, reserved, length (4), and what follows (9.3.1)
-abbrev pub Begins : List ℕ → ℕ → ℕ → List ℕ → Type 0
-Begins text kind len rest =
+abbrev pub StartsFrame : List ℕ → ℕ → ℕ → List ℕ → Type 0
+StartsFrame text kind len rest =
     (reserved : ℕ) × (len < 2 ^ 32) × (text ≡ kind ∷ reserved ∷ (to_be_bytes w32 len ++ rest))
 
 -- The fault that a type and a length show at once. An association's length is 68 to 262,144; that
@@ -124,7 +118,8 @@ header_fault limit kind len =
 -- the text begins with a header that shows no fault, and with its whole body
 abbrev pub HasWholeBody : ℕ → List ℕ → ℕ → List ℕ → List ℕ → Type 0
 HasWholeBody limit text kind body rest =
-    Begins text kind (length body) (body ++ rest) × (header_fault limit kind (length body) ≡ None)
+    StartsFrame text kind (length body) (body ++ rest)
+    × (header_fault limit kind (length body) ≡ None)
 
 -- the text, all of it, is a spelling of the PDU
 abbrev pub Spells : ℕ → List ℕ → Pdu → Type 0
@@ -139,20 +134,20 @@ abbrev pub Shows : ℕ → List ℕ → PduFault → Type 0
 Shows limit text More =
     (length text < 6)
     ⊎ ((kind len : ℕ) × (rest : List ℕ)
-    × Begins text kind len rest
+    × StartsFrame text kind len rest
     × (header_fault limit kind len ≡ None)
     × (length rest < len))
 Shows limit text UnknownType =
     (kind len : ℕ) × (rest : List ℕ)
-    × Begins text kind len rest
+    × StartsFrame text kind len rest
     × (header_fault limit kind len ≡ Some UnknownType)
 Shows limit text TooLong =
     (kind len : ℕ) × (rest : List ℕ)
-    × Begins text kind len rest
+    × StartsFrame text kind len rest
     × (header_fault limit kind len ≡ Some TooLong)
 Shows limit text BadItem =
     ((kind len : ℕ) × (rest : List ℕ)
-    × Begins text kind len rest
+    × StartsFrame text kind len rest
     × (header_fault limit kind len ≡ Some BadItem))
     ⊎ ((kind : ℕ) × (body rest : List ℕ)
     × HasWholeBody limit text kind body rest

@@ -18,13 +18,13 @@ abbrev pub item_text : ℕ → Item → List ℕ
 item_text reserved i = i.kind ∷ reserved ∷ (to_be_bytes w16 (length i.body) ++ i.body)
 
 -- the text begins with the item, whatever its reserved byte, and then the rest follows
-abbrev pub StartsItem : List ℕ → Item → List ℕ → Type 0
-StartsItem text i rest =
+abbrev pub StartsPduItem : List ℕ → Item → List ℕ → Type 0
+StartsPduItem text i rest =
     (reserved : ℕ) × (length i.body < 2 ^ 16) × (text ≡ item_text reserved i ++ rest)
 
 -- the text is these items, one after the other
 abbrev pub AreItems : List Item → List ℕ → Type 0
-AreItems is text = Run StartsItem is text []
+AreItems is text = Run StartsPduItem is text []
 
 -- the bodies of the items of one type, in order
 abbrev pub bodies : ℕ → List Item → List (List ℕ)

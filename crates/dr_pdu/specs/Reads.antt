@@ -1,5 +1,5 @@
 -- What the private readers of the decoder and writers of the encoder promise.
-use Rattle.std.specs.Prelude.{◌≡◌, ℕ, List, ◌++◌, map, Result, Ok, Err}
+use Rattle.std.specs.Prelude.{◌≡◌, List, ◌++◌, map, Result, Ok, Err}
 use Rattle.dr_pdu.specs.declared.items.PduItem.{PduItem as Found}
 use Rattle.dr_pdu.specs.declared.fault.PduFault.{PduFault}
 use Rattle.dr_pdu.specs.declared.fault.PduFault.TheVariants.{BadItem, Memory}
@@ -23,7 +23,3 @@ item i = record { kind = i.kind; body = i.body.now }
 -- the items that a reader has found, in order, as the grammar sees them
 abbrev pub items : List Found → List Item
 items is = map item is
-
--- the new bytes are the old ones, with more behind them
-abbrev pub HasMoreBehind : List ℕ → List ℕ → Type 0
-HasMoreBehind old new = (more : List ℕ) × (new ≡ old ++ more)

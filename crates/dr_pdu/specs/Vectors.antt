@@ -5,26 +5,12 @@ use Rattle.dr_pdu.specs.declared.pdu.Pdu.{Pdu}
 use Rattle.dr_pdu.specs.declared.pdu.Pdu.TheVariants.{AssociateRq, AssociateAc, AssociateRj}
 use Rattle.dr_pdu.specs.declared.pdu.Pdu.TheVariants.{Transfer, Abort}
 use Rattle.dr_pdu.specs.declared.pdu.Front.{Front}
+use Rattle.dr_base.specs.Standard.{application_context, verification, image}
+use Rattle.dr_pdu.specs.Written.{implicit}
 
 -- the UID of Explicit VR Little Endian (PS3.5 A.2)
 abbrev pub explicit : List ℕ
 explicit = codes "1.2.840.10008.1.2.1"
-
--- the UID of Implicit VR Little Endian (PS3.5 A.1)
-abbrev pub implicit : List ℕ
-implicit = codes "1.2.840.10008.1.2"
-
--- the application context of DICOM (PS3.7 annex A.2.1)
-abbrev pub application_context : List ℕ
-application_context = codes "1.2.840.10008.3.1.1.1"
-
--- the CT Image Storage SOP class (PS3.4 B.5)
-abbrev pub ct : List ℕ
-ct = codes "1.2.840.10008.5.1.4.1.1.2"
-
--- the Verification SOP class (PS3.4 annex A)
-abbrev pub verification : List ℕ
-verification = codes "1.2.840.10008.1.1"
 
 -- the front of an association that GATE asks of ARCH: version 1, the two titles, reserved bytes 0
 abbrev pub front : Front
@@ -51,7 +37,7 @@ proposal_text =
     ++ (0x10 ∷ 0 ∷ 0 ∷ 21
     ∷ (application_context
     ++ (0x20 ∷ 0 ∷ 0 ∷ 56 ∷ 1 ∷ 0 ∷ 0 ∷ 0 ∷ 0x30 ∷ 0 ∷ 0 ∷ 25
-    ∷ (ct
+    ∷ (image
     ++ (0x40 ∷ 0 ∷ 0 ∷ 19
     ∷ (explicit
     ++ (0x50 ∷ 0 ∷ 0 ∷ 71 ∷ 0x51 ∷ 0 ∷ 0 ∷ 4 ∷ 0 ∷ 0 ∷ 0x40 ∷ 0 ∷ 0x52 ∷ 0 ∷ 0 ∷ 44
@@ -130,7 +116,7 @@ foreign_front = record {
 abbrev pub foreign_proposal : List ℕ
 foreign_proposal =
     48 ∷ 7 ∷ 0 ∷ 25
-    ∷ (ct
+    ∷ (image
     ++ (48 ∷ 0 ∷ 0 ∷ 17
     ∷ (verification ++ (64 ∷ 5 ∷ 0 ∷ 19 ∷ (explicit ++ (64 ∷ 0 ∷ 0 ∷ 17 ∷ implicit))))))
 
@@ -170,7 +156,7 @@ foreign_request = AssociateRq
     (record {
       front = foreign_front;
       application = application_context;
-      contexts = record { id = 1; class = ct; syntaxes = explicit ∷ implicit ∷ [] } ∷ [];
+      contexts = record { id = 1; class = image; syntaxes = explicit ∷ implicit ∷ [] } ∷ [];
       max_pdu = 16384;
     })
 

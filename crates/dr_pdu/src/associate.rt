@@ -3,7 +3,8 @@ ghost use Rattle.std.specs.Prelude.{◌≡◌, ◌^◌, ◌<◌, Bool, false, �
 ghost use Rattle.std.specs.Option.{SomeIff};
 ghost use Rattle.dr_pdu.specs.Fitting.{ProposalFits, AnswerFits};
 ghost use Rattle.dr_pdu.specs.Written.{proposal_body, answer_body};
-ghost use Rattle.dr_pdu.specs.Grammar.{Each, IsProposal, IsAnswer, IsGreatestLength, IsAssociation};
+ghost use Rattle.dr_pdu.specs.Grammar.{IsProposal, IsAnswer, IsGreatestLength, IsAssociation};
+ghost use Rattle.dr_base.specs.Lists.{Each};
 ghost use Rattle.dr_pdu.specs.Grammar.{IsFront};
 ghost use Rattle.dr_pdu.specs.Items.{bodies, first_body};
 ghost use Rattle.dr_pdu.specs.Reads.{Reads, items};

@@ -7,7 +7,7 @@ ghost use Rattle.dr_pdu.specs.Items.{pdv_text};
 ghost use Rattle.dr_pdu.specs.Written.{item, padded, framed, user_text, association_text};
 ghost use Rattle.dr_pdu.specs.Written.{unless_long, written, Fits};
 ghost use Rattle.dr_pdu.specs.Fitting.{AssociationFits};
-ghost use Rattle.dr_pdu.specs.Reads.{HasMoreBehind};
+ghost use Rattle.dr_base.specs.Texts.{Begins};
 ghost use Rattle.dr_pdu.specs.declared.pdu.Pdu.TheVariants.{Transfer};
 
 use crate::associate::Context;
@@ -131,7 +131,7 @@ fn put_transfer(out: &mut Vec<u8>, pdvs: &[Pdv]) -> Result<(), AllocError>
 fn put_values(out: &mut Vec<u8>, pdvs: &[Pdv]) -> Result<(), AllocError>
     requires { length (flat_map pdv_text pdvs.now) < 2 ^ 32 }
     ensures ok { OnOk result (out.new.items ≡ out.old.items ++ flat_map pdv_text pdvs.now) }
-    ensures err { OnErr result (HasMoreBehind out.old.items out.new.items) }
+    ensures err { OnErr result (Begins out.old.items out.new.items) }
 {
     for pdv in pdvs {
         put_value(out, pdv.id, pdv.header, pdv.fragment.as_bytes())?;
@@ -145,7 +145,7 @@ fn put_value(out: &mut Vec<u8>, id: u8, header: u8, fragment: &[u8]) -> Result<(
         (out.new.items
         ≡ out.old.items
         ++ pdv_text (record { id = id; header = header; fragment = fragment.now })) }
-    ensures err { OnErr result (HasMoreBehind out.old.items out.new.items) }
+    ensures err { OnErr result (Begins out.old.items out.new.items) }
 {
     let [a, b, c, d] = (fragment.len() as u32 + 2).to_be_bytes();
     out.extend_from_slice(&[a, b, c, d, id, header])?;

@@ -3,12 +3,13 @@ ghost use Rattle.std.specs.Prelude.{◌≡◌, ◌∷◌, [], Some, None, Ok, le
 ghost use Rattle.dr_pdu.specs.Grammar.{header_fault, AreContextIds, HasContextIds, IsAnswer};
 ghost use Rattle.dr_pdu.specs.Grammar.{IsBody, IsProposal, Decodes, Shows};
 ghost use Rattle.dr_pdu.specs.Items.{first_body};
-ghost use Rattle.dr_pdu.specs.Vectors.{explicit, implicit, ct, verification, proposal};
+ghost use Rattle.dr_pdu.specs.Vectors.{explicit, proposal};
+ghost use Rattle.dr_pdu.specs.Written.{implicit, body_text, written};
+ghost use Rattle.dr_base.specs.Standard.{image, verification};
 ghost use Rattle.dr_pdu.specs.Vectors.{proposal_text, acceptance, refusal, rejection};
 ghost use Rattle.dr_pdu.specs.Vectors.{rejection_text, transient_rejection, abort, echo, echo_text};
 ghost use Rattle.dr_pdu.specs.Vectors.{foreign_request, foreign_text, syntax_alone, class_alone};
 ghost use Rattle.dr_pdu.specs.Vectors.{bare_proposal, bare_body, repeated};
-ghost use Rattle.dr_pdu.specs.Written.{body_text, written};
 ghost use Rattle.dr_pdu.specs.declared.pdu.ContextAnswer.{ContextAnswer as Answer};
 ghost use Rattle.dr_pdu.specs.declared.pdu.ContextProposal.{ContextProposal as Proposal};
 ghost use Rattle.dr_pdu.specs.declared.pdu.Pdu.{Pdu as PduValue};
@@ -18,8 +19,8 @@ ghost use Rattle.dr_pdu.specs.declared.fault.PduFault.TheVariants.{BadItem};
 
 /// The length fields of associations, and three PDUs byte by byte.
 pub fn what_is_written()
-    ensures proposal { length (body_text (proposal ct explicit)) ≡ 228 }
-    ensures proposal_text { written (proposal ct explicit) ≡ proposal_text }
+    ensures proposal { length (body_text (proposal image explicit)) ≡ 228 }
+    ensures proposal_text { written (proposal image explicit) ≡ proposal_text }
     ensures acceptance { length (body_text (acceptance explicit)) ≡ 199 }
     ensures proposal_of_echo { length (body_text (proposal verification implicit)) ≡ 218 }
     ensures acceptance_of_echo { length (body_text (acceptance implicit)) ≡ 197 }
@@ -63,7 +64,7 @@ pub fn context_ids()
     ensures good { AreContextIds (3 ∷ 1 ∷ 255 ∷ []) }
     ensures even { AreContextIds (1 ∷ 2 ∷ []) → ⊥ }
     ensures twice { AreContextIds (1 ∷ 3 ∷ 1 ∷ []) → ⊥ }
-    ensures request { HasContextIds (proposal ct explicit) }
+    ensures request { HasContextIds (proposal image explicit) }
     ensures acceptance { HasContextIds repeated → ⊥ }
 {}
 

@@ -2,7 +2,7 @@
 ghost use Rattle.std.specs.Prelude.{◌≡◌, ℕ, List, map, IfOk};
 ghost use Rattle.std.specs.Option.{option_copied};
 ghost use Rattle.dr_base.specs.Padding.{unpadded};
-ghost use Rattle.dr_pdu.specs.Items.{Item as ItemText, AreItems, StartsItem, first_body, bodies};
+ghost use Rattle.dr_pdu.specs.Items.{Item as ItemText, AreItems, StartsPduItem, first_body, bodies};
 ghost use Rattle.dr_pdu.specs.Reads.{Reads, item, items};
 
 use crate::fault::PduFault;
@@ -21,7 +21,7 @@ pub struct PduItem<'a> {
 fn item_at(text: &[u8]) -> Result<(PduItem<'_>, &[u8]), PduFault>
     ensures { Reads {Y = ItemText × List ℕ}
         (λ x. (item x.0, x.1.now)) result
-        (λ x. StartsItem text.now x.0 x.1) }
+        (λ x. StartsPduItem text.now x.0 x.1) }
 {
     let [kind, _, high, low, rest @ ..] = text else {
         return Err(PduFault::BadItem);

@@ -4,7 +4,7 @@ ghost use Rattle.std.specs.Prelude.{◌≡◌, ◌≢◌, ◌<◌, ◌≤◌, fa
 ghost use Rattle.std.specs.Prelude.{length};
 ghost use Rattle.std.specs.List.{flat_map, AllByRecursion};
 ghost use Rattle.dr_pdu.specs.Grammar.{Spells, IsBody, Decodes, Shows};
-ghost use Rattle.dr_pdu.specs.Feeding.{Units, Feeding, Feeds, Call, Fed, taken, given, shown};
+ghost use Rattle.dr_pdu.specs.Feeding.{Units, Feeding, Feeds, FeedCall, Fed, taken, given, shown};
 ghost use Rattle.dr_pdu.specs.Feeding.{KeepsNoPdu, LeavesStream, fresh};
 ghost use Rattle.dr_pdu.specs.Written.{Fits, MeetsLimit, written};
 ghost use Rattle.dr_pdu.specs.declared.fault.PduFault.{PduFault as Fault};
@@ -35,12 +35,12 @@ pub fn a_text_has_one_longest_list()
 /// middle of a stream on, what was kept stands in front of the pieces; and no PDU starts what a
 /// feeder keeps.
 pub fn cuts_do_not_matter()
-    ensures start { (limit : ℕ) (calls : List Call) (new : Feeding)
+    ensures start { (limit : ℕ) (calls : List FeedCall) (new : Feeding)
         → Fed (fresh limit) calls new
         → (rest : List ℕ)
         × Units limit (taken calls) (given calls) rest
         × LeavesStream limit (shown calls) new rest }
-    ensures midstream { (old : Feeding) (calls : List Call) (new : Feeding)
+    ensures midstream { (old : Feeding) (calls : List FeedCall) (new : Feeding)
         → old.failed ≡ false → KeepsNoPdu old → Fed old calls new
         → (rest : List ℕ)
         × Units old.limit (old.kept ++ taken calls) (given calls) rest
@@ -49,7 +49,7 @@ pub fn cuts_do_not_matter()
         (new : Feeding)
         → Feeds old piece r new → KeepsNoPdu old → KeepsNoPdu new }
     ensures kept_at_first { (limit : ℕ) → KeepsNoPdu (fresh limit) }
-    ensures limit { (old : Feeding) (calls : List Call) (new : Feeding)
+    ensures limit { (old : Feeding) (calls : List FeedCall) (new : Feeding)
         → Fed old calls new → new.limit ≡ old.limit }
 {}
 

@@ -3,7 +3,7 @@ use Rattle.std.specs.Prelude.{◌≡◌, ◌≢◌, ℕ, pos, ◌+◌, ◌≤◌
 use Rattle.std.specs.Prelude.{Contains, length, map, sum_by, Result, Ok, Err}
 use Rattle.sha2.specs.Sha256.{sha256}
 use Rattle.dr_base.specs.Texts.{Text}
-use Rattle.dr_base.specs.Syntaxes.{syntax_uid}
+use Rattle.dr_base.specs.Syntaxes.{IsSyntax}
 use Rattle.dr_base.specs.declared.syntax.Syntax.{Syntax}
 use Rattle.dr_route.specs.declared.accept.Callers.{Callers}
 use Rattle.dr_route.specs.declared.accept.Callers.TheVariants as callers
@@ -15,11 +15,6 @@ use Rattle.dr_plan_text.specs.Tables.{IsToml, Writes}
 use Rattle.dr_plan_core.specs.Spelling.{written_plan}
 use Rattle.dr_plan_core.specs.declared.fault.PlanFault.{PlanFault}
 use Rattle.dr_plan_core.specs.declared.fault.PlanFault.TheVariants as fault
-
--- the text is the UID of one of the two transfer syntaxes that are routed
-pub record IsSyntax (uid : Text) : Type 0 where
-  pub syntax : Syntax
-  pub is : uid ≡ syntax_uid syntax
 
 -- each transfer syntax of the plan's accept rows and flows is one of the two that are routed
 pub record KnowsSyntaxes (plan : PlanText) : Type 0 where

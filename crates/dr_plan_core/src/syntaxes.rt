@@ -1,6 +1,7 @@
 //! The transfer syntaxes of a plan.
 ghost use Rattle.std.specs.Prelude.{◌≡◌, ◌↔◌, IsTrue, All};
-ghost use Rattle.dr_plan_core.specs.Reading.{IsSyntax, KnowsSyntaxes};
+ghost use Rattle.dr_plan_core.specs.Reading.{KnowsSyntaxes};
+ghost use Rattle.dr_base.specs.Syntaxes.{IsSyntax};
 
 use dr_base::{Syntax, Text};
 use dr_plan_text::{AcceptText, FlowText, NodeText, PlanText};

@@ -1,7 +1,7 @@
 //! A plan that passed its tests, with types for its transfer syntaxes and lengths.
 ghost use Rattle.std.specs.Prelude.{◌≡◌, ◌≢◌, All, IfOk, OnErr, [], map};
-ghost use Rattle.dr_base.specs.Syntaxes.{syntax_uid};
-ghost use Rattle.dr_plan_core.specs.Reading.{IsSyntax, IsTypable};
+ghost use Rattle.dr_base.specs.Syntaxes.{syntax_uid, IsSyntax};
+ghost use Rattle.dr_plan_core.specs.Reading.{IsTypable};
 ghost use Rattle.dr_plan_core.specs.Spelling.{written_row, written_node, written_flow};
 
 use dr_base::{Seq, Syntax, Text};

@@ -29,11 +29,11 @@ use Rattle.dr_plan_model.specs.Laws.{IsCellOf}
 use Rattle.dr_plan_model.specs.Naming.{listed, listed_stations, listed_prefixes}
 use Rattle.dr_plan_model.specs.Plans.{IsWellFormed, LiesIn, literals_of, named_in}
 use Rattle.dr_plan_model.proofs.WalksAlike.{flow_names, cell_has_a_key}
-use Rattle.dr_plan_entries.specs.Entering.{Admits, AdmitsStation, AreStationParts, FitsAll, TakesIn, WantsAny, AreParts}
+use Rattle.dr_plan_entries.specs.Entering.{AdmitsField, AdmitsStation, AreStationParts, FitsAll, TakesIn, WantsAny, ArePartsOf}
 use Rattle.dr_plan_entries.specs.Visiting.{IsEntryCell}
 
 -- a value of the part that the flow takes in is one that it speaks of
-listed_value : (texts : Values) (field : OwnedField) → Admits texts field → IsListed texts (value_of field)
+listed_value : (texts : Values) (field : OwnedField) → AdmitsField texts field → IsListed texts (value_of field)
 listed_value values.Any field h = tt
 listed_value (values.Listed texts) (Literal literal) h = h
 listed_value (values.Listed texts) Rest h = absurd h
@@ -101,7 +101,7 @@ cell_that_lies plan cell key lies = (
 )
 
 admits_from : (literals : List Text) (field : OwnedField) (texts : Values) (value : Text) → ((t : Text) → Contains (listed texts) t → Contains literals t) →
-    InField (record { literals = literals }) field value → IsListed texts value → Admits texts field
+    InField (record { literals = literals }) field value → IsListed texts value → AdmitsField texts field
 admits_from literals field values.Any value known part h = tt
 admits_from literals (Literal literal) (values.Listed texts) value known part h = let P : Text → Type 0 = λ t. Contains texts t in subst P (sym part.1) h
 admits_from literals Rest (values.Listed texts) value known part h = absurd (part (known value h))
@@ -158,7 +158,7 @@ entry_wanted plan formed site cell wanted =
     )
 
 -- ---- values that name the same literals have the same parts
-pub parts_alike : (a b : FieldValues) (fields : List OwnedField) → ((t : Text) → Contains a.literals t ↔ Contains b.literals t) → AreParts a fields → AreParts b fields
+pub parts_alike : (a b : FieldValues) (fields : List OwnedField) → ((t : Text) → Contains a.literals t ↔ Contains b.literals t) → ArePartsOf a fields → ArePartsOf b fields
 parts_alike a b fields same parts (Literal literal) =
     (λ h. (same literal).0 ((parts (Literal literal)).0 h), λ h. (parts (Literal literal)).1 ((same literal).1 h))
 parts_alike a b fields same parts Rest = (λ h. tt, λ h. (parts Rest).1 tt)

@@ -14,7 +14,7 @@ use Rattle.dr_route.specs.declared.cell.FieldValues.{FieldValues}
 use Rattle.dr_route.specs.Laws.{IsPart}
 use Rattle.dr_plan_model.proofs.Gathered.{nothing_in_nil}
 use Rattle.dr_plan_sound.specs.Printed.{printed_field}
-use Rattle.dr_plan_entries.specs.Entering.{IsLiteralOf, AreParts}
+use Rattle.dr_plan_entries.specs.Entering.{IsLiteralOf, ArePartsOf}
 use Rattle.dr_plan_entries.specs.InOrder.{IsInPrintedOrder}
 
 pub no_literal : (field : OwnedField) → IsLiteralOf [] field → ⊥
@@ -52,7 +52,7 @@ literal_added first s n literals literal pushed so_far field = rw pushed (
 
 -- all literals and the rest are just the parts, in whatever order
 pub all_parts : (values : FieldValues) (none one two three : List OwnedField) → none ≡ [] →
-    ((field : OwnedField) → Contains one field ↔ (Contains none field ⊎ IsLiteralOf values.literals field)) → two ≡ one ++ Rest ∷ [] → IsPermutation two three → AreParts values three
+    ((field : OwnedField) → Contains one field ↔ (Contains none field ⊎ IsLiteralOf values.literals field)) → two ≡ one ++ Rest ∷ [] → IsPermutation two three → ArePartsOf values three
 all_parts values none one two three empty literals rest moved field = (
   λ h. forth field (Contains-permutation three two field (IsPermutation-sym two three moved) h),
   λ h. Contains-permutation two three field moved (back field h),

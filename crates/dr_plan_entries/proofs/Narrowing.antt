@@ -18,7 +18,7 @@ use Rattle.dr_plan_model.specs.Naming.{listed, listed_stations, listed_prefixes}
 use Rattle.dr_plan_model.specs.Walks.{BeginsOne}
 use Rattle.dr_plan_model.proofs.Gathered.{nothing_in_nil}
 use Rattle.dr_plan_entries.specs.declared.narrow.Part.{Part}
-use Rattle.dr_plan_entries.specs.Entering.{Admits, AdmitsStation, SpeaksOf, AreNarrowed}
+use Rattle.dr_plan_entries.specs.Entering.{AdmitsField, AdmitsStation, SpeaksOf, AreNarrowed}
 
 pub narrowed_none : (flows : List Flow) (part : Part) → AreNarrowed flows [] part []
 narrowed_none flows part k = (λ h. absurd (nothing_in_nil k h), λ h. absurd (nothing_in_nil k h.0))
@@ -53,10 +53,10 @@ narrowed_passed_over flows among found part place flow at fails so_far k = (
 )
 
 -- a literal is taken in where the flow lists it
-pub admits_literal : (v : Values) (texts : List Text) (field : OwnedField) (literal : Text) → v ≡ values.Listed texts → field ≡ Literal literal → Admits v field ↔ Contains (listed v) literal
+pub admits_literal : (v : Values) (texts : List Text) (field : OwnedField) (literal : Text) → v ≡ values.Listed texts → field ≡ Literal literal → AdmitsField v field ↔ Contains (listed v) literal
 admits_literal v texts field literal is lit =
-    let P : Values → Type 0 = λ x. Admits x field ↔ Contains (listed x) literal in
-    let Q : OwnedField → Type 0 = λ f. Admits (values.Listed texts) f ↔ Contains texts literal in
+    let P : Values → Type 0 = λ x. AdmitsField x field ↔ Contains (listed x) literal in
+    let Q : OwnedField → Type 0 = λ f. AdmitsField (values.Listed texts) f ↔ Contains texts literal in
     subst P (sym is) (subst Q (sym lit) (λ h. h, λ h. h))
 
 pub admits_station_literal : (s : Stations) (own : StationValues) (one : OwnedStation) (literal : Text) → s ≡ stations.Listed own → one ≡ station.Literal literal →

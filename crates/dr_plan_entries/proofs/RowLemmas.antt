@@ -30,13 +30,13 @@ use Rattle.dr_plan_model.proofs.WalksAlike.{flow_names}
 use Rattle.dr_plan_sound.specs.Printed.{printed_field, printed_station}
 use Rattle.dr_plan_entries.specs.declared.rows.FlowSide.{FlowSide}
 use Rattle.dr_plan_entries.specs.declared.rows.FlowSide.TheVariants.{Modality, Station}
-use Rattle.dr_plan_entries.specs.Entering.{Admits, AdmitsStation, IsLiteralOf}
+use Rattle.dr_plan_entries.specs.Entering.{AdmitsField, AdmitsStation, IsLiteralOf}
 use Rattle.dr_plan_entries.specs.InOrder.{IsLess, IsInPrintedOrder}
 use Rattle.dr_plan_entries.specs.Listing.{IsStationOf, TakesListed, TakesListedStations, TakesAtMost, TakesJust, SomeLists, AreNamed, IsFieldRow, IsStationRow}
 use Rattle.dr_plan_entries.proofs.Orders.{byte_order_is_printed}
 
 -- ---- what one flow lists
-own_fields : (texts : List Text) (field : OwnedField) → Admits (values.Listed texts) field → IsLiteralOf texts field
+own_fields : (texts : List Text) (field : OwnedField) → AdmitsField (values.Listed texts) field → IsLiteralOf texts field
 own_fields texts (part.Literal literal) h = h
 own_fields texts part.Rest h = h
 

@@ -10,7 +10,7 @@ use Rattle.dr_route.specs.declared.cell.OwnedStation.{OwnedStation}
 use Rattle.dr_plan_model.specs.declared.plan.Flow.{Flow}
 use Rattle.dr_plan_model.specs.Networks.{Network}
 use Rattle.dr_plan_model.specs.Laws.{IsCellOf}
-use Rattle.dr_plan_entries.specs.Entering.{Admits, TakesIn, FitsAll, WantsAny, WantsSite, WantsClass, WantsSyntax, WantsModality, WantsStation}
+use Rattle.dr_plan_entries.specs.Entering.{AdmitsField, TakesIn, FitsAll, WantsAny, WantsSite, WantsClass, WantsSyntax, WantsModality, WantsStation}
 use Rattle.dr_plan_entries.proofs.Entries.{place_of}
 use Rattle.dr_plan_entries.proofs.Visits.{Picks, picked_takes, picked_back}
 
@@ -64,7 +64,7 @@ module _ (plan : Network) where
   )
 
   -- ---- the part of modality
-  pub modality_in : (site class : Text) (syntax : Syntax) (modality : OwnedField) (among here : List ℕ) → Picks plan.flows among (λ f. Admits f.modalities modality) here → (s : Text) (x : OwnedCell) →
+  pub modality_in : (site class : Text) (syntax : Syntax) (modality : OwnedField) (among here : List ℕ) → Picks plan.flows among (λ f. AdmitsField f.modalities modality) here → (s : Text) (x : OwnedCell) →
       WantsSyntax plan site class syntax among s x → modality ≡ x.modality → WantsModality plan site class syntax modality here s x
   modality_in site class syntax modality among here picks s x w same = (
     sym same,
@@ -75,17 +75,17 @@ module _ (plan : Network) where
         (
           w.1.1.0,
           w.1.1.1,
-          picked_takes plan.flows among here (λ f. Admits f.modalities modality) x picks
-              (λ flow t. let F : OwnedField → Type 0 = λ y. Admits flow.modalities y in subst F (sym same) t.modality) w.1.1.2,
+          picked_takes plan.flows among here (λ f. AdmitsField f.modalities modality) x picks
+              (λ flow t. let F : OwnedField → Type 0 = λ y. AdmitsField flow.modalities y in subst F (sym same) t.modality) w.1.1.2,
         ),
       ),
     ),
   )
 
-  pub modality_out : (site class : Text) (syntax : Syntax) (modality : OwnedField) (among here : List ℕ) → Picks plan.flows among (λ f. Admits f.modalities modality) here → (s : Text) (x : OwnedCell) →
+  pub modality_out : (site class : Text) (syntax : Syntax) (modality : OwnedField) (among here : List ℕ) → Picks plan.flows among (λ f. AdmitsField f.modalities modality) here → (s : Text) (x : OwnedCell) →
       WantsModality plan site class syntax modality here s x → WantsSyntax plan site class syntax among s x × (x.modality ≡ modality)
   modality_out site class syntax modality among here picks s x w =
-      ((w.1.0, (w.1.1.0, (w.1.1.1.0, w.1.1.1.1, picked_back plan.flows among here (λ f. Admits f.modalities modality) x picks w.1.1.1.2))), w.0)
+      ((w.1.0, (w.1.1.0, (w.1.1.1.0, w.1.1.1.1, picked_back plan.flows among here (λ f. AdmitsField f.modalities modality) x picks w.1.1.1.2))), w.0)
 
   -- ---- one cell
   pub is_wanted : (site class : Text) (syntax : Syntax) (modality : OwnedField) (station : OwnedStation) (among : List ℕ) (cell : OwnedCell) (k : ℕ) (flow : Flow) →

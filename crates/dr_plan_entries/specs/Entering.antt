@@ -27,10 +27,10 @@ use Rattle.dr_plan_entries.specs.declared.narrow.Part.TheVariants as part
 
 -- the values of a flow take in the part of the field: all of them do where any value will, else
 -- only listed literals
-abbrev pub Admits : Values → OwnedField → Type 0
-Admits values.Any field = Unit {0}
-Admits (values.Listed texts) (Literal literal) = Contains texts literal
-Admits (values.Listed texts) Rest = ⊥
+abbrev pub AdmitsField : Values → OwnedField → Type 0
+AdmitsField values.Any field = Unit {0}
+AdmitsField (values.Listed texts) (Literal literal) = Contains texts literal
+AdmitsField (values.Listed texts) Rest = ⊥
 
 -- the stations of a flow take in the part: all of them do where any value will; else a literal is
 -- listed or begins with a listed prefix, and a prefix begins with a listed one, as all of its
@@ -48,7 +48,7 @@ abbrev pub SpeaksOf : Flow → Part → Type 0
 SpeaksOf flow (part.Site site) = flow.at ≡ site.now
 SpeaksOf flow (part.Class class) = Contains flow.classes class.now
 SpeaksOf flow (part.Syntax syntax) = Contains flow.syntaxes syntax
-SpeaksOf flow (part.Modality field) = Admits flow.modalities field.now
+SpeaksOf flow (part.Modality field) = AdmitsField flow.modalities field.now
 SpeaksOf flow (part.Station part) = AdmitsStation flow.stations part.now
 
 -- the flow at that place of the list speaks of the value
@@ -74,7 +74,7 @@ AreNarrowed flows among part found =
 pub record TakesIn (flow : Flow) (cell : OwnedCell) : Type 0 where
   pub class : Contains flow.classes cell.class
   pub syntax : Contains flow.syntaxes cell.syntax
-  pub modality : Admits flow.modalities cell.modality
+  pub modality : AdmitsField flow.modalities cell.modality
   pub station : AdmitsStation flow.stations cell.station
 
 -- a flow at one of the places takes in the keys of the cell
@@ -124,8 +124,8 @@ IsLiteralOf literals (Literal literal) = Contains literals literal
 IsLiteralOf literals Rest = ⊥
 
 -- the list has just the parts of a field of the plan: its literals, and the rest
-abbrev pub AreParts : FieldValues → List OwnedField → Type 0
-AreParts values fields = (field : OwnedField) → Contains fields field ↔ IsPart values field
+abbrev pub ArePartsOf : FieldValues → List OwnedField → Type 0
+ArePartsOf values fields = (field : OwnedField) → Contains fields field ↔ IsPart values field
 
 -- the list has just the parts of the stations of the plan: its literals, its prefixes, and the rest
 abbrev pub AreStationParts : StationValues → List OwnedStation → Type 0
@@ -144,7 +144,7 @@ HasItsText shown = shown.text ≡ printed_station shown.part
 -- they are printed
 abbrev pub HasParts : Network → List OwnedField → List OwnedStation → Type 0
 HasParts plan modalities stations =
-    AreParts (literals_of plan).modalities modalities
+    ArePartsOf (literals_of plan).modalities modalities
     × AreStationParts (literals_of plan).stations stations
     × IsInPrintedOrder printed_field modalities
     × IsInPrintedOrder printed_station stations
@@ -174,7 +174,7 @@ FitsSyntax flow site class syntax = Contains flow.syntaxes syntax × FitsClass f
 -- modality
 abbrev pub FitsModality : Flow → Text → Text → Syntax → OwnedField → Type 0
 FitsModality flow site class syntax modality =
-    Admits flow.modalities modality × FitsSyntax flow site class syntax
+    AdmitsField flow.modalities modality × FitsSyntax flow site class syntax
 
 -- the flow is at the site and takes in the class, the transfer syntax and the parts of modality and
 -- station

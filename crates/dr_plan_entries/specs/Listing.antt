@@ -12,7 +12,7 @@ use Rattle.dr_plan_model.specs.declared.plan.Values.{Values}
 use Rattle.dr_plan_model.specs.declared.plan.Stations.{Stations}
 use Rattle.dr_plan_model.specs.Naming.{listed, listed_stations}
 use Rattle.dr_plan_sound.specs.Printed.{printed_field, printed_station}
-use Rattle.dr_plan_entries.specs.Entering.{Admits, AdmitsStation, IsLiteralOf}
+use Rattle.dr_plan_entries.specs.Entering.{AdmitsField, AdmitsStation, IsLiteralOf}
 use Rattle.dr_plan_entries.specs.InOrder.{IsInPrintedOrder}
 use Rattle.dr_plan_entries.specs.declared.rows.FlowSide.{FlowSide}
 use Rattle.dr_plan_entries.specs.declared.rows.FlowSide.TheVariants.{Modality, Station}
@@ -26,7 +26,7 @@ IsStationOf literals station.Rest = ⊥
 -- the values take in these literals at most
 abbrev pub TakesListed : Values → List Text → Type 0
 TakesListed values literals =
-    (field : OwnedField) → Admits values field → IsLiteralOf literals field
+    (field : OwnedField) → AdmitsField values field → IsLiteralOf literals field
 
 -- the stations take in these literals at most
 abbrev pub TakesListedStations : Stations → List Text → Type 0
@@ -71,7 +71,7 @@ pub record IsFieldRow (plan : Network) (among : List ℕ) (row : List OwnedField
   pub whole : (k : ℕ) (flow : Flow) (field : OwnedField)
       → Contains among k
       → slice_get plan.flows k ≡ Some flow
-      → Admits flow.modalities field
+      → AdmitsField flow.modalities field
       → IsPart (literals_of plan).modalities field
       → Contains row field
   pub ordered : IsInPrintedOrder printed_field row

@@ -3,7 +3,7 @@ ghost use Rattle.std.specs.Prelude.{◌↔◌, ◌⊎◌, IfOk, OnOk, Contains};
 ghost use Rattle.dr_base.specs.Texts.{Text as Words};
 ghost use Rattle.dr_route.specs.declared.cell.OwnedField.{OwnedField as FieldValue};
 ghost use Rattle.dr_plan_sound.specs.Printed.{printed_field};
-ghost use Rattle.dr_plan_entries.specs.Entering.{AreParts, IsLiteralOf};
+ghost use Rattle.dr_plan_entries.specs.Entering.{ArePartsOf, IsLiteralOf};
 ghost use Rattle.dr_plan_entries.specs.InOrder.{IsInPrintedOrder};
 
 use dr_base::{Seq, Text};
@@ -27,7 +27,7 @@ fn add_literals(fields: &mut Vec<OwnedField>, literals: &[Text]) -> Result<(), A
 /// The parts of the field in the byte order in which they are printed: its literals, and the rest
 /// as `*`.
 pub fn parts_of(alloc: Global, values: &FieldValues) -> Result<Seq<OwnedField>, AllocError>
-    ensures same { IfOk result (AreParts values.now) }
+    ensures same { IfOk result (ArePartsOf values.now) }
     ensures ordered { IfOk result (IsInPrintedOrder printed_field) }
 {
     let mut fields = Vec::new(alloc);

@@ -9,7 +9,7 @@ ghost use Rattle.dr_plan_model.specs.declared.plan.Flow.{Flow as FlowValue};
 ghost use Rattle.dr_plan_model.specs.Naming.{listed as listed_by, listed_stations};
 ghost use Rattle.dr_plan_model.specs.Listings.{IsListedBy, AreListedBy};
 ghost use Rattle.dr_route.specs.Cells.{owned_field};
-ghost use Rattle.dr_plan_entries.specs.Entering.{Admits, AdmitsStation, SpeaksOf, SpeaksAt};
+ghost use Rattle.dr_plan_entries.specs.Entering.{AdmitsField, AdmitsStation, SpeaksOf, SpeaksAt};
 ghost use Rattle.dr_plan_entries.specs.Entering.{NoneSpeaks, TakesIn, AreNarrowed};
 ghost use Rattle.dr_plan_entries.specs.Entering.{AllBelow};
 
@@ -34,7 +34,7 @@ pub enum Part<'a> {
 fn admits(values: &Values, set: &[Text], field: &OwnedField) -> bool
     requires same { (t : Words) → Contains set.now t ↔ Contains (listed_by values.now) t }
     requires ordered { IsInByteOrder set.now }
-    ensures { IsTrue result ↔ Admits values.now field.now }
+    ensures { IsTrue result ↔ AdmitsField values.now field.now }
 {
     match (values, field) {
         (Values::Any, _) => true,
@@ -126,7 +126,7 @@ fn may_enter(flow: &Flow) -> bool
 
 /// Whether the values are a list of none.
 fn is_empty(values: &Values) -> bool
-    ensures { IsTrue result → (field : FieldValue) → Admits values.now field → ⊥ }
+    ensures { IsTrue result → (field : FieldValue) → AdmitsField values.now field → ⊥ }
 {
     match values {
         Values::Any => false,

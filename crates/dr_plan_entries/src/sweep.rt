@@ -4,7 +4,7 @@ ghost use Rattle.dr_base.specs.Texts.{Text as Words, IsInByteOrder};
 ghost use Rattle.dr_plan_model.specs.Plans.{IsWellFormed, literals_of};
 ghost use Rattle.dr_route.specs.Laws.{IsPart, IsStationPart};
 ghost use Rattle.dr_plan_model.specs.declared.plan.Flow.{Flow as FlowValue};
-ghost use Rattle.dr_plan_entries.specs.Entering.{AllBelow, EachSpeaks, AreParts, HasParts};
+ghost use Rattle.dr_plan_entries.specs.Entering.{AllBelow, EachSpeaks, HasParts};
 ghost use Rattle.dr_plan_entries.specs.Entering.{HasClasses, HasSites, FitsAll, FitsClass};
 ghost use Rattle.dr_plan_entries.specs.Entering.{FitsModality, FitsSyntax, WantsSite, WantsClass};
 ghost use Rattle.dr_plan_entries.specs.Entering.{WantsSyntax, WantsModality, WantsStation};

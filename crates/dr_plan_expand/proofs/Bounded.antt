@@ -18,9 +18,9 @@ use Rattle.dr_plan_text.specs.declared.words.NodeText.{NodeText}
 use Rattle.dr_plan_text.specs.declared.words.FlowText.{FlowText}
 use Rattle.dr_plan_text.specs.declared.words.PlanText.{PlanText}
 use Rattle.dr_plan_expand.specs.Lists.{Yields}
-use Rattle.dr_plan_expand.specs.Words.{Known, OfSet, Defines, IsPlain, IsSet, YieldsClass, YieldsOfSet, YieldsClasses, YieldsNodes}
+use Rattle.dr_plan_expand.specs.Words.{Known, OfSet, Defines, IsPlainWord, IsSet, YieldsClass, YieldsOfSet, YieldsClasses, YieldsNodes}
 use Rattle.dr_plan_expand.specs.Meanings.{Lookups, lookups_of, ArePatterns, YieldsRules, YieldsNode, YieldsFlows, Means, rule_of, node_of, flow_of}
-use Rattle.dr_plan_expand.specs.Amounts.{most, too_much, listed, defined_size, one_if_in, usual_size, marked_size, word_size, word_nodes, word_classes, words_size, values_size, rule_size, node_size, lists_size, flow_size, IsWithin}
+use Rattle.dr_plan_expand.specs.Amounts.{most, too_much, list_amount, defined_size, one_if_in, usual_size, marked_size, word_size, word_nodes, word_classes, words_size, values_size, rule_size, node_size, lists_size, flow_size, IsWithin}
 use Rattle.dr_plan_expand.specs.Laws.{rule_count}
 use Rattle.dr_plan_expand.specs.declared.short.Definition.{Definition}
 use Rattle.dr_plan_expand.specs.declared.short.ShortRule.{ShortRule}
@@ -43,7 +43,7 @@ module _ {X Y : Type 0} (Of : X → List Y → Type 0) (size : X → ℕ) (m : L
       omega arith
 
 -- a list that is counted within the bound is counted as it is
-few : (n : ℕ) → listed n ≤ most → n ≤ 1024
+few : (n : ℕ) → list_amount n ≤ most → n ≤ 1024
 few n = cond_both (nat_le n 1024) n too_much (λ x. x ≤ most → n ≤ 1024) (λ e le. leb-true n 1024 e) (λ e le. absurd (let over : too_much ≤ most = le in omega arith))
 
 words_within : {Y : Type 0} (Of : Text → List Y → Type 0) (size : Text → ℕ) → ((word : Text) (here : List Y) → Of word here → size word ≤ 1024 → length here ≤ size word) →
@@ -55,13 +55,13 @@ words_within Of size each words things y le =
     subst (λ n. length things ≤ n) same long
 
 -- for how many one word stands
-marked_within : (named : Text → ℕ) (word : Text) (n : ℕ) → ((name : Text) → word ≡ 64 ∷ name → named name ≤ 1024 → n ≤ named name) → (IsPlain word → n ≤ 1) → marked_size named word ≤ 1024 → n ≤ marked_size named word
+marked_within : (named : Text → ℕ) (word : Text) (n : ℕ) → ((name : Text) → word ≡ 64 ∷ name → named name ≤ 1024 → n ≤ named name) → (IsPlainWord word → n ≤ 1) → marked_size named word ≤ 1024 → n ≤ marked_size named word
 marked_within named [] n marked plain = λ le. plain (λ rest e. cc)
 marked_within named (byte ∷ name) n marked plain = cond_both (nat_eq byte 64) (named name) 1 (λ x. x ≤ 1024 → n ≤ x)
     (λ e. marked name (ap (λ b. b ∷ name) (eqb-true byte 64 e)))
     (λ e le. plain (λ rest same. false≢true (sym e ∙ eq-eqb byte 64 (ap (λ (t : Text). get_or t 0 0) same))))
 
-word_within : (named : Text → ℕ) (word : Text) (n : ℕ) → ((name : Text) → word ≡ 64 ∷ name → named name ≤ 1024 → n ≤ named name) → (IsPlain word → n ≤ 1) → word_size named word ≤ 1024 → n ≤ word_size named word
+word_within : (named : Text → ℕ) (word : Text) (n : ℕ) → ((name : Text) → word ≡ 64 ∷ name → named name ≤ 1024 → n ≤ named name) → (IsPlainWord word → n ≤ 1) → word_size named word ≤ 1024 → n ≤ word_size named word
 word_within named word n marked plain = cond_both (nat_le (length word) 128) (marked_size named word) too_much (λ x. x ≤ 1024 → n ≤ x)
     (λ e. marked_within named word n marked plain)
     (λ e le. absurd (let over : too_much ≤ 1024 = le in omega arith))

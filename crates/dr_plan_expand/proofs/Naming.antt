@@ -4,14 +4,14 @@ use Rattle.std.specs.Borrow.{Bor}
 use Rattle.std.specs.Prelude.{MatchOption}
 use Rattle.dr_base.specs.Texts.{Text}
 use Rattle.dr_plan_expand.specs.Lists.{IsFirst}
-use Rattle.dr_plan_expand.specs.Words.{Known, HasName, HasSome, Names}
+use Rattle.dr_plan_expand.specs.Words.{Known, HasUid, HasSome, Names}
 use Rattle.dr_plan_expand.proofs.OneMeaning.{first_one}
 
 -- in that table it is what is found there
 pub named_in : (tables : List (List Known)) (word : Text) (table : List Known) → IsFirst (HasSome word) tables table → (r : Option (Bor Text)) →
-    MatchOption r ((uid : Text) → HasName table word uid → ⊥) (λ uid. HasName table word uid.now) →
+    MatchOption r ((uid : Text) → HasUid table word uid → ⊥) (λ uid. HasUid table word uid.now) →
     MatchOption r ((uid : Text) → Names tables word uid → ⊥) (λ uid. Names tables word uid.now)
 named_in tables word table is None h = λ uid names.
-    let H : List Known → Type 0 = λ t. HasName t word uid in
+    let H : List Known → Type 0 = λ t. HasUid t word uid in
     h uid (subst H (first_one (HasSome word) tables names.0 table names.1 is) names.2)
 named_in tables word table is (Some uid) h = (table, is, h)

@@ -6,7 +6,7 @@ use Rattle.dr_base.specs.Texts.{Text}
 use Rattle.dr_plan_expand.specs.Meanings.{Means}
 use Rattle.dr_plan_expand.specs.Amounts.{IsWithin}
 use Rattle.dr_plan_expand.specs.Expanding.{StandsFor, IsOwn, Fails}
-use Rattle.dr_plan_expand.specs.Laws.{EachTextExpandsToOne, ExpansionsAreTheirOwn, NoneExpandsAndFails, OneFaultIsTold, NodeStandsForItself, StrangeGroupStandsForNone}
+use Rattle.dr_plan_expand.specs.Laws.{EachTextExpandsToOne, ExpansionsAreTheirOwn, NoneExpandsAndFails, OneExpandFaultIsTold, NodeStandsForItself, StrangeGroupStandsForNone}
 use Rattle.dr_plan_expand.specs.declared.short.ShortPlan.{ShortPlan}
 use Rattle.dr_plan_expand.specs.declared.fault.ExpandFault.TheVariants.{Field, Limit, Unknown, Memory}
 use Rattle.dr_plan_expand.proofs.ShortOne.{short_one, stands_one}
@@ -46,7 +46,7 @@ no_field_limit root a b = elim a [
 no_limit : (root : Members) → Fails root Limit → Fails root Unknown → ⊥
 no_limit root a b = a.2 (subst IsWithin (short_one root b.0 a.0 b.1 a.1) b.2)
 
-pub one_fault : OneFaultIsTold
+pub one_fault : OneExpandFaultIsTold
 one_fault root Field Field a b m n = refl
 one_fault root Field Limit a b m n = absurd (no_field_limit root a b)
 one_fault root Field Unknown a b m n = absurd (no_field root a b)

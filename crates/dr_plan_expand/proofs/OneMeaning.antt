@@ -3,7 +3,7 @@ use Rattle.std.proofs.Common.{◌≡◌, sym, ◌∙◌, ap, subst, inl, inr, Li
 use Rattle.std.proofs.lemmas.Bool.{false≢true}
 use Rattle.dr_base.specs.Texts.{Text}
 use Rattle.dr_plan_expand.specs.Lists.{IsFirst, Yields}
-use Rattle.dr_plan_expand.specs.Words.{Known, OfSet, HasName, HasSome, Names, Defines, IsCalled, IsClassOf, YieldsClass, YieldsOfSet, IsSet, YieldsClasses, YieldsNodes, YieldsSyntax}
+use Rattle.dr_plan_expand.specs.Words.{Known, OfSet, HasUid, HasSome, Names, Defines, IsCalled, IsClassOf, YieldsClass, YieldsOfSet, IsSet, YieldsClasses, YieldsNodes, YieldsSyntax}
 use Rattle.dr_plan_expand.specs.declared.short.Definition.{Definition}
 use Rattle.dr_plan_expand.proofs.Marked.{same_mark}
 use Rattle.dr_plan_expand.proofs.Yielded.{yields_one}
@@ -25,12 +25,12 @@ first_one P (x ∷ xs) a b p q = elim p [
   | inr here ↦ elim q [ inl there ↦ absurd (here.0 there.0) | inr there ↦ first_one P xs a b here.1 there.1 ]
 ]
 
-pub has_name_one : (table : List Known) (word a b : Text) → HasName table word a → HasName table word b → a ≡ b
+pub has_name_one : (table : List Known) (word a b : Text) → HasUid table word a → HasUid table word b → a ≡ b
 has_name_one table word a b p q = p.2 ∙ (ap (λ (k : Known). k.2) (first_one (λ k. IsCalled k word) table p.0 q.0 p.1 q.1) ∙ sym q.2)
 
 pub names_one : (tables : List (List Known)) (word a b : Text) → Names tables word a → Names tables word b → a ≡ b
 names_one tables word a b p q =
-    let H : List Known → Type 0 = λ table. HasName table word a in
+    let H : List Known → Type 0 = λ table. HasUid table word a in
     has_name_one q.0 word a b (subst H (first_one (HasSome word) tables p.0 q.0 p.1 q.1) p.2) q.2
 
 pub defines_one : (definitions : List Definition) (name : Text) (a b : List Text) → Defines definitions name a → Defines definitions name b → a ≡ b

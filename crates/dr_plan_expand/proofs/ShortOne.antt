@@ -18,7 +18,7 @@ use Rattle.dr_plan_text.specs.declared.words.PlanText.{PlanText}
 use Rattle.dr_plan_text.specs.Fields.{SaysText, SaysFormed, SaysNumber, SaysFlag, SaysPattern, SaysStation, SaysValues, SaysStations, SaysCallers, SaysTextsOnce, SaysTable, IsListOf, IsSomeOf, GivenOr, star}
 use Rattle.dr_plan_text.proofs.OneAnswer.{SaysOne, SaysText-one, SaysFormed-one, IsListOf-one, IsSomeOf-one, Given-one}
 use Rattle.dr_plan_text.proofs.OfStations.{SaysStation-one, SaysStations-one}
-use Rattle.dr_plan_expand.specs.Words.{IsPlain, YieldsClasses, YieldsNodes, YieldsSyntax}
+use Rattle.dr_plan_expand.specs.Words.{IsPlainWord, YieldsClasses, YieldsNodes, YieldsSyntax}
 use Rattle.dr_plan_expand.specs.Fields.{SaysWords, SaysAnyWords, AreDefinitions}
 use Rattle.dr_plan_expand.specs.Tables.{IsShortRow, IsShortRule, IsShortNode, IsShortFlow, IsShortPlan}
 use Rattle.dr_plan_expand.specs.Meanings.{Lookups, IsCallers, ArePatterns, YieldsRows, YieldsRules, YieldsNode, YieldsFlows, Means, lookups_of, row_of, rule_of, flow_of}
@@ -119,7 +119,7 @@ rule_one fields x y a b =
 
 node_one : (fields : Members) (x y : ShortNode) → IsShortNode fields x → IsShortNode fields y → x ≡ y
 node_one fields x y a b =
-    let name = Given-one (SaysFormed IsPlain) (SaysFormed-one IsPlain) _ x.name y.name a.name b.name in
+    let name = Given-one (SaysFormed IsPlainWord) (SaysFormed-one IsPlainWord) _ x.name y.name a.name b.name in
     let address = Given-one (SaysFormed IsAddress) (SaysFormed-one IsAddress) _ x.address y.address a.address b.address in
     let max_pdu = GivenOr-one _ SaysNumber SaysNumber-one _ x.max_pdu y.max_pdu a.max_pdu b.max_pdu in
     let accepts = GivenOr-one [] (IsListOf (SaysTable IsShortRow)) (IsListOf-one (SaysTable IsShortRow) (SaysTable-one IsShortRow row_one)) _ x.accepts y.accepts a.accept b.accept in

@@ -9,7 +9,7 @@ use Rattle.std.proofs.lemmas.List.Sums.{sum_by_push, sum_by-take-le}
 use Rattle.std.proofs.Math.Nat.{le-mul_of_pos_right, lt_of_not-le}
 use Rattle.dr_base.specs.Texts.{Text}
 use Rattle.dr_plan_expand.specs.Words.{Defines}
-use Rattle.dr_plan_expand.specs.Amounts.{listed, too_much, defined_size, marked_size, word_size}
+use Rattle.dr_plan_expand.specs.Amounts.{list_amount, too_much, defined_size, marked_size, word_size}
 use Rattle.dr_plan_expand.specs.declared.short.Definition.{Definition}
 
 -- one element more
@@ -30,16 +30,16 @@ sum_over f xs i x left room lt at so_far here =
     omega arith
 
 -- the list of a number
-pub listed_few : (n : ℕ) → n ≤ 1024 → n ≡ listed n
+pub listed_few : (n : ℕ) → n ≤ 1024 → n ≡ list_amount n
 listed_few n few = cond_both (nat_le n 1024) n too_much (λ x. n ≡ x) (λ e. refl) (λ e. absurd (false≢true (sym e ∙ le-leb n 1024 few)))
 
-pub listed_left : (n left : ℕ) → n + left ≡ 1024 → 1024 - left ≡ listed n
+pub listed_left : (n left : ℕ) → n + left ≡ 1024 → 1024 - left ≡ list_amount n
 listed_left n left all = (let same : 1024 - left ≡ n = omega arith in same) ∙ listed_few n (omega arith)
 
-pub listed_many : (n : ℕ) → 1024 < n → too_much ≡ listed n
+pub listed_many : (n : ℕ) → 1024 < n → too_much ≡ list_amount n
 listed_many n many = cond_both (nat_le n 1024) n too_much (λ x. too_much ≡ x) (λ e. absurd (let le = leb-true n 1024 e in omega arith)) (λ e. refl)
 
-pub listed_small : (n : ℕ) → listed n ≤ too_much
+pub listed_small : (n : ℕ) → list_amount n ≤ too_much
 listed_small n = cond_both (nat_le n 1024) n too_much (λ x. x ≤ too_much) (λ e. (let le = leb-true n 1024 e in omega arith)) (λ e. omega arith)
 
 -- the words of a name

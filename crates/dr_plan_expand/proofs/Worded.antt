@@ -3,7 +3,7 @@ use Rattle.std.proofs.Common.{◌≡◌, ◌≢◌, inl, inr, Ok, Err, List, [],
 use Rattle.std.specs.Prelude.{Result, IfOk, IfErr}
 use Rattle.dr_base.specs.Texts.{Text}
 use Rattle.dr_plan_expand.specs.Lists.{Yields}
-use Rattle.dr_plan_expand.specs.Words.{Known, OfSet, Defines, IsPlain, YieldsClass, YieldsOfSet, IsSet, YieldsClasses}
+use Rattle.dr_plan_expand.specs.Words.{Known, OfSet, Defines, IsPlainWord, YieldsClass, YieldsOfSet, IsSet, YieldsClasses}
 use Rattle.dr_plan_expand.specs.declared.short.Definition.{Definition}
 use Rattle.dr_plan_expand.specs.declared.fault.WordFault.{WordFault}
 use Rattle.dr_plan_expand.specs.declared.fault.WordFault.TheVariants.{Unknown}
@@ -48,10 +48,10 @@ module _ (table : List (List Known)) (usual : List (List OfSet)) (sets : List De
     | inr x ↦ absurd (x.0 name is)
   ]
 
-  pub unmarked : (word : Text) → IsPlain word → (uids : List Text) → YieldsClass table word uids → YieldsClasses table usual sets word uids
+  pub unmarked : (word : Text) → IsPlainWord word → (uids : List Text) → YieldsClass table word uids → YieldsClasses table usual sets word uids
   unmarked word plain uids y = inr (plain, y)
 
-  pub of_unmarked : (word : Text) → IsPlain word → (uids : List Text) → YieldsClasses table usual sets word uids → YieldsClass table word uids
+  pub of_unmarked : (word : Text) → IsPlainWord word → (uids : List Text) → YieldsClasses table usual sets word uids → YieldsClass table word uids
   of_unmarked word plain uids y = elim y [ inl x ↦ absurd (plain x.0 x.1) | inr x ↦ x.1 ]
 
 pub none_pair_as : {X Y : Type 0} (Of : X → List Y → Type 0) (xs : List X) (Q : List Y → Type 0) (r : Result (List Y) WordFault) → ((ys : List Y) → Q ys → Yields Of xs ys × (ys ≢ [])) →

@@ -26,8 +26,8 @@ abbrev pub too_much : ℕ
 too_much = 262145
 
 -- the number of a list: above 1,024 it is too much
-abbrev pub listed : ℕ → ℕ
-listed n = cond (nat_le n 1024) n too_much
+abbrev pub list_amount : ℕ → ℕ
+list_amount n = cond (nat_le n 1024) n too_much
 
 -- how many words the first definition of this name has; without one, the number that is given
 abbrev pub defined_size : List Definition → Text → ℕ → ℕ
@@ -40,7 +40,7 @@ abbrev pub one_if_in : Text → OfSet → ℕ
 one_if_in set class = cond (bytes_eq class.0 set) 1 0
 
 abbrev pub usual_size : List (List OfSet) → Text → ℕ
-usual_size usual set = listed (sum_by (sum_by (one_if_in set)) usual)
+usual_size usual set = list_amount (sum_by (sum_by (one_if_in set)) usual)
 
 -- for how many a word stands: for as many as its name where it begins with `@`, else for one
 abbrev pub marked_size : (Text → ℕ) → Text → ℕ
@@ -60,7 +60,7 @@ word_classes usual sets = word_size (λ name. defined_size sets name (usual_size
 
 -- for how many a list of words stands
 abbrev pub words_size : (Text → ℕ) → List Text → ℕ
-words_size size words = listed (sum_by size words)
+words_size size words = list_amount (sum_by size words)
 
 -- the same of the callers of a row, and of a field of a rule
 abbrev pub callers_size : List Definition → Callers → ℕ
@@ -75,7 +75,7 @@ values_size size (values.Listed words) = words_size size words
 abbrev pub stations_size : Stations → ℕ
 stations_size stations.Any = 1
 stations_size (stations.Listed values) =
-    listed (length values.literals) + listed (length values.prefixes)
+    list_amount (length values.literals) + list_amount (length values.prefixes)
 
 -- a row: one for each class, and each with its callers and transfer syntaxes
 abbrev pub row_size : Lookups → ShortRow → ℕ
@@ -116,7 +116,7 @@ definition_size definition = words_size (word_nodes []) definition.words
 
 -- how many definitions there are, and their words
 abbrev pub definitions_size : List Definition → ℕ
-definitions_size definitions = listed (length definitions) + sum_by definition_size definitions
+definitions_size definitions = list_amount (length definitions) + sum_by definition_size definitions
 
 -- all of a plan
 abbrev pub plan_size : Lookups → ShortPlan → ℕ

@@ -7,7 +7,7 @@ use Rattle.dr_plan_expand.specs.Words.{YieldsNodes}
 use Rattle.dr_plan_text.specs.declared.words.NodeText.{NodeText}
 use Rattle.dr_plan_text.specs.declared.words.PlanText.{PlanText}
 use Rattle.dr_plan_expand.specs.Meanings.{Means}
-use Rattle.dr_plan_expand.specs.Amounts.{most, listed, word_nodes, words_size, IsWithin}
+use Rattle.dr_plan_expand.specs.Amounts.{most, list_amount, word_nodes, words_size, IsWithin}
 use Rattle.dr_plan_expand.specs.declared.short.Definition.{Definition}
 use Rattle.dr_plan_expand.specs.declared.short.ShortPlan.{ShortPlan}
 use Rattle.dr_plan_expand.specs.Expanding.{Expands, ExpandsTo, Fails}
@@ -29,8 +29,8 @@ NoneExpandsAndFails =
     → ExpandsTo root core → Fails root fault → fault ≢ Memory → ⊥
 
 -- of all faults of a text, one is told
-abbrev pub OneFaultIsTold : Type 0
-OneFaultIsTold =
+abbrev pub OneExpandFaultIsTold : Type 0
+OneExpandFaultIsTold =
     (root : Members) (a b : ExpandFault)
     → Fails root a → Fails root b → a ≢ Memory → b ≢ Memory → a ≡ b
 
@@ -74,4 +74,4 @@ LongWordIsTooMuch = most < word_nodes [] (replicate 129 65)
 
 -- and so is a list of 1,025, where one of 1,024 is that many
 abbrev pub LongListIsTooMuch : Type 0
-LongListIsTooMuch = (listed 1024 ≡ 1024) × (most < listed 1025)
+LongListIsTooMuch = (list_amount 1024 ≡ 1024) × (most < list_amount 1025)

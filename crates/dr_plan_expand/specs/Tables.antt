@@ -11,7 +11,7 @@ use Rattle.dr_plan_text.specs.Fields.{SaysStation, SaysValues, SaysStations, Say
 use Rattle.dr_plan_text.specs.Fields.{SaysTextsOnce, IsListOf, IsSomeOf, Given, GivenOr, HasOnly}
 use Rattle.dr_plan_text.specs.Tables.{accept_keys, rule_keys, node_keys, flow_keys}
 use Rattle.dr_plan_expand.specs.Fields.{SaysWords, SaysAnyWords, AreDefinitions}
-use Rattle.dr_plan_expand.specs.Words.{IsPlain}
+use Rattle.dr_plan_expand.specs.Words.{IsPlainWord}
 use Rattle.dr_plan_expand.specs.declared.short.ShortRow.{ShortRow}
 use Rattle.dr_plan_expand.specs.declared.short.ShortRule.{ShortRule}
 use Rattle.dr_plan_expand.specs.declared.short.ShortNode.{ShortNode}
@@ -40,7 +40,7 @@ pub record IsShortRule (fields : Members) (rule : ShortRule) : Type 0 where
 -- `max_pdu` is 16,384 where it isn't given
 pub record IsShortNode (fields : Members) (node : ShortNode) : Type 0 where
   pub only : HasOnly node_keys fields
-  pub name : Given (SaysFormed IsPlain) (get_member (codes "name") fields) node.name
+  pub name : Given (SaysFormed IsPlainWord) (get_member (codes "name") fields) node.name
   pub address : Given (SaysFormed IsAddress) (get_member (codes "address") fields) node.address
   pub max_pdu : GivenOr (pos 16384) SaysNumber (get_member (codes "max_pdu") fields) node.max_pdu
   pub accept : GivenOr [] (IsListOf (SaysTable IsShortRow)) (get_member (codes "accept") fields)

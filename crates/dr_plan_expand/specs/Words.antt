@@ -34,18 +34,18 @@ abbrev pub IsCalled : Known → Text → Type 0
 IsCalled known word = (known.0 ≡ word) ⊎ (known.1 ≡ word)
 
 -- in the table the first entry that the word names has this UID
-abbrev pub HasName : List Known → Text → Text → Type 0
-HasName table word uid =
+abbrev pub HasUid : List Known → Text → Text → Type 0
+HasUid table word uid =
     (known : Known) × IsFirst (λ k. IsCalled k word) table known × (uid ≡ known.2)
 
 -- the table has an entry that the word names
 abbrev pub HasSome : Text → List Known → Type 0
-HasSome word table = (uid : Text) × HasName table word uid
+HasSome word table = (uid : Text) × HasUid table word uid
 
 -- the word names this UID: in the first table that has an entry which it names
 abbrev pub Names : List (List Known) → Text → Text → Type 0
 Names tables word uid =
-    (table : List Known) × IsFirst (HasSome word) tables table × HasName table word uid
+    (table : List Known) × IsFirst (HasSome word) tables table × HasUid table word uid
 
 -- the first definition of this name has these words
 abbrev pub Defines : List Definition → Text → List Text → Type 0
@@ -53,8 +53,8 @@ Defines definitions name words =
     (found : Definition) × IsFirst (λ d. d.name ≡ name) definitions found × (words ≡ found.words)
 
 -- no word begins with `@`, but one that stands for a set or a group
-abbrev pub IsPlain : Text → Type 0
-IsPlain word = (rest : Text) → word ≡ 64 ∷ rest → ⊥
+abbrev pub IsPlainWord : Text → Type 0
+IsPlainWord word = (rest : Text) → word ≡ 64 ∷ rest → ⊥
 
 -- the class of a word: a UID stands for itself, and another word for the class that it names
 abbrev pub IsClassOf : List (List Known) → Text → Text → Type 0
@@ -85,13 +85,13 @@ abbrev pub YieldsClasses :
     List (List Known) → List (List OfSet) → List Definition → Text → List Text → Type 0
 YieldsClasses tables usual sets word uids =
     ((name : Text) × (word ≡ 64 ∷ name) × IsSet tables usual sets name uids)
-    ⊎ (IsPlain word × YieldsClass tables word uids)
+    ⊎ (IsPlainWord word × YieldsClass tables word uids)
 
 -- the nodes of a word: those of a group where it begins with `@`, else the one of that name
 abbrev pub YieldsNodes : List Definition → Text → List Text → Type 0
 YieldsNodes groups word names =
     ((name : Text) × (word ≡ 64 ∷ name) × Defines groups name names)
-    ⊎ (IsPlain word × (names ≡ word ∷ []))
+    ⊎ (IsPlainWord word × (names ≡ word ∷ []))
 
 -- the transfer syntax of a word: the one that it names; a word that names none stands for itself
 abbrev pub YieldsSyntax : List (List Known) → Text → List Text → Type 0

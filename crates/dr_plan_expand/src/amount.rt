@@ -1,7 +1,7 @@
 //! How much a plan of format 3 stands for, counted before anything is made of it.
 ghost use Rattle.std.specs.Prelude.{◌≡◌, ◌+◌, ◌*◌, ◌<◌, ◌≤◌, ◌↔◌, ℕ, IsTrue, MatchOption};
 ghost use Rattle.std.specs.Prelude.{length, map, nat_le, sum_by};
-ghost use Rattle.dr_plan_expand.specs.Amounts.{too_much, listed, defined_size, one_if_in};
+ghost use Rattle.dr_plan_expand.specs.Amounts.{too_much, list_amount, defined_size, one_if_in};
 ghost use Rattle.dr_plan_expand.specs.Amounts.{usual_size, word_nodes, word_classes, callers_size};
 ghost use Rattle.dr_plan_expand.specs.Amounts.{values_size, stations_size, row_size, rule_size};
 ghost use Rattle.dr_plan_expand.specs.Amounts.{node_size, flow_size, definition_size};
@@ -91,7 +91,7 @@ fn spend_all<A: Amounting>(way: &A, elements: &[A::Element], room: usize) -> Opt
 
 /// The number of a list.
 fn list_of(count: usize) -> usize
-    ensures is { result ≡ listed count }
+    ensures is { result ≡ list_amount count }
     ensures small { result ≤ too_much }
 {
     if count <= MOST_LISTED {
@@ -102,7 +102,7 @@ fn list_of(count: usize) -> usize
 
 /// How much the elements of a list are.
 fn count<A: Amounting>(way: &A, elements: &[A::Element]) -> usize
-    ensures is { result ≡ listed (sum_by (A.amount way.now) elements.now) }
+    ensures is { result ≡ list_amount (sum_by (A.amount way.now) elements.now) }
     ensures small { result ≤ too_much }
 {
     match spend_all(way, elements, MOST_LISTED) {

@@ -2,7 +2,7 @@
 ghost use Rattle.std.specs.Prelude.{◌≡◌, ◌↔◌, ◌∷◌, IsTrue, IfOk, IfErr, List, MatchOption};
 ghost use Rattle.toml.specs.View.{view};
 ghost use Rattle.dr_base.specs.Texts.{Text as Words};
-ghost use Rattle.dr_plan_expand.specs.Words.{IsPlain};
+ghost use Rattle.dr_plan_expand.specs.Words.{IsPlainWord};
 ghost use Rattle.dr_plan_expand.specs.Fields.{SaysWords, SaysAnyWords, IsDefinition};
 ghost use Rattle.dr_plan_expand.specs.Fields.{AreDefinitions};
 ghost use Rattle.dr_plan_expand.specs.declared.short.Definition.{Definition as Defined};
@@ -22,7 +22,7 @@ use toml::{Table, Value};
 pub struct Plain;
 
 impl TextForm for Plain {
-    ghost is_formed = { IsPlain };
+    ghost is_formed = { IsPlainWord };
 
     fn test(text: &[u8]) -> bool {
         match after_mark(text) {

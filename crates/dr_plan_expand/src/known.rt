@@ -1,7 +1,7 @@
 //! What the standard names, and how it is found by a word.
 ghost use Rattle.std.specs.Prelude.{◌≡◌, ◌↔◌, IsTrue, MatchOption, map};
 ghost use Rattle.dr_base.specs.Texts.{Text as Words};
-ghost use Rattle.dr_plan_expand.specs.Words.{IsCalled, HasName, HasSome, Names, entry, entries};
+ghost use Rattle.dr_plan_expand.specs.Words.{IsCalled, HasUid, HasSome, Names, entry, entries};
 
 use crate::find::{Test, first};
 
@@ -40,8 +40,8 @@ impl<'a> Test for Called<'a> {
 
 /// The UID of the first entry of a table that the word names.
 fn uid_in(table: &[KnownUid], word: &[u8]) -> Option<&'static str>
-    ensures { MatchOption result ((uid : Words) → HasName (map entry table.now) word.now uid → ⊥)
-        (λ uid. HasName (map entry table.now) word.now uid.now) }
+    ensures { MatchOption result ((uid : Words) → HasUid (map entry table.now) word.now uid → ⊥)
+        (λ uid. HasUid (map entry table.now) word.now uid.now) }
 {
     match first(&Called(word), table) {
         Some(known) => Some(known.2),

@@ -1,6 +1,6 @@
 //! Laws of expansions: what a reader may take from the definitions.
 ghost use Rattle.dr_plan_expand.specs.Laws.{EachTextExpandsToOne, ExpansionsAreTheirOwn};
-ghost use Rattle.dr_plan_expand.specs.Laws.{NoneExpandsAndFails, OneFaultIsTold};
+ghost use Rattle.dr_plan_expand.specs.Laws.{NoneExpandsAndFails, OneExpandFaultIsTold};
 ghost use Rattle.dr_plan_expand.specs.Laws.{NodeStandsForItself, StrangeGroupStandsForNone};
 ghost use Rattle.dr_plan_expand.specs.Laws.{MeaningsAreBounded};
 ghost use Rattle.dr_plan_expand.specs.Laws.{GroupCountsItsNodes, StrangerCountsForOne};
@@ -15,7 +15,7 @@ pub fn an_expansion_is_one_and_its_own()
 /// Want of memory aside, a text that fails to expand has one fault, and expands to nothing.
 pub fn a_text_expands_or_has_one_fault()
     ensures either { NoneExpandsAndFails }
-    ensures one { OneFaultIsTold }
+    ensures one { OneExpandFaultIsTold }
 {}
 
 /// The name of a node stands for that node, and a group that nobody defines for none.

@@ -2,18 +2,13 @@
 use Rattle.std.specs.Prelude.{◌≡◌, List, [], ◌∷◌, codes}
 use Rattle.toml.specs.Data.{Members, get_member}
 use Rattle.dr_base.specs.Texts.{Text}
-use Rattle.dr_base.specs.Syntaxes.{syntax_uid}
-use Rattle.dr_base.specs.declared.syntax.Syntax.{Syntax}
+use Rattle.dr_base.specs.Syntaxes.{IsSyntax}
 use Rattle.dr_route.specs.declared.rule.Pattern.TheVariants.{Any}
 use Rattle.dr_route.specs.declared.rule.StationPattern.TheVariants as station
 use Rattle.dr_plan_model.specs.Formed.{IsClass, IsLiteral}
 use Rattle.dr_plan_text.specs.Fields.{SaysText, SaysFormed, SaysPattern, SaysStation, SaysTable}
 use Rattle.dr_plan_text.specs.Fields.{IsListOf, IsSomeOf, Given, GivenOr, HasOnly}
 use Rattle.dr_plan_expect.specs.declared.words.Expectation.{Expectation}
-
--- the text is the UID of one of the two transfer syntaxes that are routed
-abbrev pub IsSyntax : Text → Type 0
-IsSyntax text = (syntax : Syntax) × (text ≡ syntax_uid syntax)
 
 -- the keys of a row, `[[expect]]`
 abbrev pub expect_keys : List Text

@@ -1,7 +1,8 @@
 //! The tables of a text of expectations.
 ghost use Rattle.std.specs.Prelude.{◌≡◌, ◌↔◌, IfOk, IfErr, IsTrue, List};
 ghost use Rattle.toml.specs.View.{table_view};
-ghost use Rattle.dr_plan_expect.specs.Tables.{IsSyntax, IsExpectTable, IsExpectRoot};
+ghost use Rattle.dr_plan_expect.specs.Tables.{IsExpectTable, IsExpectRoot};
+ghost use Rattle.dr_base.specs.Syntaxes.{IsSyntax};
 ghost use Rattle.dr_plan_expect.specs.declared.words.Expectation.{Expectation as Expected};
 ghost use Rattle.dr_plan_text.specs.declared.fault.ReadFault.TheVariants.{Field};
 

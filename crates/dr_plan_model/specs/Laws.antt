@@ -71,8 +71,8 @@ IsCellOf plan cell =
     × IsStationPart (literals_of plan).stations cell.station
 
 -- each cell of a plan has a key of bytes
-abbrev pub EachCellHasAKey : Type 0
-EachCellHasAKey =
+abbrev pub EachCellOfAPlanHasAKey : Type 0
+EachCellOfAPlanHasAKey =
     (plan : Network) → IsWellFormed plan → (cell : OwnedCell) → IsCellOf plan cell
     → LiesIn plan cell (key_of cell)
 

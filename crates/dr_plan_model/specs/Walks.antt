@@ -1,8 +1,8 @@
 -- What nodes do with a key, and the walks of a key through a plan, over all keys.
 use Rattle.std.specs.Prelude.{◌≡◌, List, [], ◌∷◌, Contains, ◌⊎◌}
-use Rattle.dr_base.specs.Texts.{Text}
+use Rattle.dr_base.specs.Texts.{Text, Begins}
 use Rattle.dr_base.specs.declared.syntax.Syntax.{Syntax}
-use Rattle.dr_route.specs.Routes.{local, Begins, SendsBy, KeepsBy, AcceptsBy}
+use Rattle.dr_route.specs.Routes.{local, SendsBy, KeepsBy, AcceptsBy}
 use Rattle.dr_route.specs.declared.key.Key.{Key}
 use Rattle.dr_plan_model.specs.declared.plan.Node.{Node}
 use Rattle.dr_plan_model.specs.declared.plan.Flow.{Flow}

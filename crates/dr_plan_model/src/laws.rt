@@ -1,6 +1,7 @@
 //! Laws of walks: what a reader may take from the definitions.
 ghost use Rattle.dr_plan_model.specs.Laws.{LocalNeverKeeps, LocalIsNoNode, SendAlike, KeepAlike};
-ghost use Rattle.dr_plan_model.specs.Laws.{EnterAlike, WalkAlike, ReachAlike, EachCellHasAKey};
+ghost use Rattle.dr_plan_model.specs.Laws.{EnterAlike, WalkAlike, ReachAlike};
+ghost use Rattle.dr_plan_model.specs.Laws.{EachCellOfAPlanHasAKey};
 ghost use Rattle.dr_plan_model.specs.Laws.{FormatOneHasNoPrefix, FormatOneKeepsItsCells};
 
 /// Nothing is kept for the local caller, and nothing is sent to it.
@@ -20,7 +21,7 @@ pub fn keys_of_one_cell_walk_alike()
 
 /// Each cell of a plan has a key of bytes.
 pub fn each_cell_has_a_key()
-    ensures { EachCellHasAKey }
+    ensures { EachCellOfAPlanHasAKey }
 {}
 
 /// A plan of format 1 names no prefix of stations, and its cells are those that there were before

@@ -18,7 +18,7 @@ use Rattle.dr_plan_text.specs.Fields.{GivenOr, IsListOf, ListsValues, SaysTable}
 use Rattle.dr_plan_text.specs.Tables.{IsAcceptTable, IsFlowTable, IsNodeTable, IsRoot, IsRuleTable, IsFormat}
 use Rattle.dr_plan_text.specs.declared.words.NodeText.{NodeText}
 use Rattle.dr_plan_text.specs.declared.words.PlanText.{PlanText}
-use Rattle.dr_plan_places.specs.FieldFlaws.{HasFlaw, HasWrong, IsAt, IsIn, IsInNode, IsReadAs, IsRuleOf, IsFlowOf, items_at, table_in}
+use Rattle.dr_plan_places.specs.FieldFlaws.{HasFlaw, HasWrong, IsAt, IsIn, IsInNode, IsReadAs, IsRuleText, IsFlowOf, items_at, table_in}
 use Rattle.dr_plan_places.specs.declared.flaw.Flaw.{Flaw}
 use Rattle.dr_plan_places.specs.declared.flaw.Wrong.{Wrong}
 use Rattle.dr_plan_places.specs.declared.flaw.Wrong.TheVariants.{Missing, Unknown, IllFormed}
@@ -83,7 +83,7 @@ refuted_node format node (AcceptRow index) flaw x fits (row, at, h) is =
     refuted IsAcceptTable row flaw found.0 h found.1
 refuted_node format node (Rule index) flaw x fits (row, at, h) is =
     let found = row_is IsRuleTable (get_member (codes "rule") node) [] x.rules index row is.rule at in
-    refuted (IsRuleOf format) row flaw found.0 h (found.1, All-contains (RuleFits format) x.rules found.0 fits found.2)
+    refuted (IsRuleText format) row flaw found.0 h (found.1, All-contains (RuleFits format) x.rules found.0 fits found.2)
 
 refuted_as : (format : Format) (root : Members) (place : FieldPlace) (flaw : Flaw) (plan : PlanText) → All (RulesFit format) plan.nodes × All (FlowFits format) plan.flows →
     IsAt format root place flaw → IsRoot root plan → ⊥

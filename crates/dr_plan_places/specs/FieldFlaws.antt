@@ -65,8 +65,8 @@ abbrev pub InRow : (Members → Type 0) → Text → Members → ℕ → Type 0
 InRow P key fields index = (row : Members) × IsRow key fields index row × P row
 
 -- the table says a rule of a text of that format
-abbrev pub IsRuleOf : Format → Members → RuleText → Type 0
-IsRuleOf format fields rule = IsRuleTable fields rule × PatternFits format rule.station
+abbrev pub IsRuleText : Format → Members → RuleText → Type 0
+IsRuleText format fields rule = IsRuleTable fields rule × PatternFits format rule.station
 
 -- the table says a flow of a text of that format
 abbrev pub IsFlowOf : Format → Members → FlowText → Type 0
@@ -85,7 +85,7 @@ IsInNode format node Own flaw = HasFlaw IsNodeTable node flaw
 IsInNode format node (AcceptRow index) flaw =
     InRow (λ row. HasFlaw IsAcceptTable row flaw) (codes "accept") node index
 IsInNode format node (Rule index) flaw =
-    InRow (λ row. HasFlaw (IsRuleOf format) row flaw) (codes "rule") node index
+    InRow (λ row. HasFlaw (IsRuleText format) row flaw) (codes "rule") node index
 
 -- the flaw stands at this place of the tables of a text of that format
 abbrev pub IsAt : Format → Members → FieldPlace → Flaw → Type 0

@@ -6,7 +6,7 @@ use Rattle.dr_plan_text.specs.declared.words.PlanText.{PlanText}
 use Rattle.dr_plan_model.specs.declared.plan.Format.TheVariants.{One, Two}
 use Rattle.dr_plan_expand.specs.Tables.{IsShortPlan}
 use Rattle.dr_plan_expand.specs.declared.short.ShortPlan.{ShortPlan}
-use Rattle.dr_plan_places.specs.FieldFlaws.{HasFlaw, IsIn, IsRuleOf}
+use Rattle.dr_plan_places.specs.FieldFlaws.{HasFlaw, IsIn, IsRuleText}
 use Rattle.dr_plan_places.specs.ShortFlaws.{IsInShort}
 use Rattle.dr_plan_places.specs.declared.flaw.Flaw.{Flaw}
 use Rattle.dr_plan_places.specs.declared.flaw.Wrong.TheVariants.{Missing, Unknown, IllFormed}
@@ -55,8 +55,8 @@ prefix_flaw = record { key = codes "station"; wrong = IllFormed }
 
 -- in a text of format 1 it is ill-formed
 abbrev pub PrefixIsIllFormedInFormatOne : Type 0
-PrefixIsIllFormedInFormatOne = HasFlaw (IsRuleOf One) prefixed prefix_flaw
+PrefixIsIllFormedInFormatOne = HasFlaw (IsRuleText One) prefixed prefix_flaw
 
 -- in a text of format 2 it isn't
 abbrev pub PrefixIsOfFormatTwo : Type 0
-PrefixIsOfFormatTwo = HasFlaw (IsRuleOf Two) prefixed prefix_flaw → ⊥
+PrefixIsOfFormatTwo = HasFlaw (IsRuleText Two) prefixed prefix_flaw → ⊥

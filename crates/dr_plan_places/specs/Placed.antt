@@ -7,7 +7,8 @@ use Rattle.dr_plan_text.specs.declared.words.AcceptText.{AcceptText}
 use Rattle.dr_plan_text.specs.declared.words.NodeText.{NodeText}
 use Rattle.dr_plan_text.specs.declared.words.FlowText.{FlowText}
 use Rattle.dr_plan_text.specs.declared.words.PlanText.{PlanText}
-use Rattle.dr_plan_core.specs.Reading.{IsSyntax, HasMaxPdu, IsWithinLimits, node_names}
+use Rattle.dr_plan_core.specs.Reading.{HasMaxPdu, IsWithinLimits, node_names}
+use Rattle.dr_base.specs.Syntaxes.{IsSyntax}
 use Rattle.dr_plan_places.specs.Firsts.{IsFirstAt, IsFirstBad}
 use Rattle.dr_plan_places.specs.Named.{IsNameAt}
 use Rattle.dr_plan_places.specs.declared.syntaxes.SyntaxPlace.{SyntaxPlace}

@@ -1,6 +1,7 @@
 //! The first transfer syntax of a plan that isn't routed.
 ghost use Rattle.std.specs.Prelude.{◌↔◌, IsTrue, All, MatchOption};
-ghost use Rattle.dr_plan_core.specs.Reading.{IsSyntax, KnowsSyntaxes};
+ghost use Rattle.dr_plan_core.specs.Reading.{KnowsSyntaxes};
+ghost use Rattle.dr_base.specs.Syntaxes.{IsSyntax};
 ghost use Rattle.dr_plan_places.specs.Placed.{KnowsRow, KnowsNode, KnowsFlow, IsRowSyntaxAt};
 ghost use Rattle.dr_plan_places.specs.Placed.{IsNodeSyntaxAt, IsFlowSyntaxAt, IsSyntaxAt};
 

@@ -1,6 +1,6 @@
 //! The forms of the text's tables.
 ghost use Rattle.dr_plan_text.specs.Tables.{IsAcceptTable, IsNodeTable, IsRoot};
-ghost use Rattle.dr_plan_places.specs.FieldFlaws.{IsRuleOf, IsFlowOf};
+ghost use Rattle.dr_plan_places.specs.FieldFlaws.{IsRuleText, IsFlowOf};
 
 use crate::flaw::Inspected;
 use crate::keys::{misreads, misreads_station, misses, misses_stations, unknown_key};
@@ -46,7 +46,7 @@ impl Inspected for AcceptTable {
 impl Inspected for RuleTable {
     type Output = Rule;
 
-    ghost is_table = { IsRuleOf };
+    ghost is_table = { IsRuleText };
 
     fn unknown_in<'a>(table: &'a Table) -> Option<&'a str> {
         unknown_key(

@@ -15,7 +15,8 @@ use Rattle.dr_plan_model.specs.Plans.{IsNode}
 use Rattle.dr_plan_model.specs.Walks.{FlowBrings, Flows, Sends, Keeps, Accepts, IsWalk, places, last_place, IsEntry, IsReached, Goes}
 use Rattle.dr_plan_model.proofs.Gathered.{only_one, nothing_in_nil, Contains-here, Contains-there, Contains-cons_cases}
 use Rattle.dr_plan_sound.specs.Soundness.{IsSound}
-use Rattle.dr_plan_sound.specs.Samples.{scanner, archive, image, keep_all, the_scanner, the_archive, the_flow, two_nodes}
+use Rattle.dr_plan_sound.specs.Samples.{scanner, archive, keep_all, the_scanner, the_archive, the_flow, two_nodes}
+use Rattle.dr_base.specs.Standard.{image}
 use Rattle.dr_plan_sound.proofs.Pigeons.{no_more_than}
 
 -- the keys that the flow takes in

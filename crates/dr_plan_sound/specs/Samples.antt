@@ -15,6 +15,7 @@ use Rattle.dr_plan_model.specs.declared.plan.Format.TheVariants.{One}
 use Rattle.dr_route.specs.declared.rule.StationPattern.TheVariants as station
 use Rattle.dr_plan_model.specs.Networks.{Network}
 use Rattle.dr_plan_sound.specs.Soundness.{IsSound}
+use Rattle.dr_base.specs.Standard.{image}
 
 -- the title of the scanner, where instances enter
 abbrev pub scanner : Text
@@ -23,10 +24,6 @@ scanner = codes "CT1"
 -- the title of the archive, to which the scanner sends
 abbrev pub archive : Text
 archive = codes "ARCH"
-
--- the CT Image Storage SOP class (PS3.4 B.5)
-abbrev pub image : Text
-image = codes "1.2.840.10008.5.1.4.1.1.2"
 
 -- a rule that keeps whatever comes
 abbrev pub keep_all : Rule

@@ -7,8 +7,8 @@ use Rattle.std.proofs.lemmas.Bool.{false≢true}
 use Rattle.std.proofs.lemmas.Slice.Eq.{bytes_eq-Decides}
 use Rattle.std.specs.Str.{bytes_eq}
 use Rattle.std.proofs.lemmas.List.Elements.{All-head, All-tail, All-contains, Contains-append_left, Contains-append_right, Contains-append_cases, Contains-push, Contains-push_cases}
-use Rattle.dr_base.specs.Texts.{Text}
-use Rattle.dr_route.specs.Routes.{Begins, Matches, MatchesStation, Holds, SendsBy, KeepsBy}
+use Rattle.dr_base.specs.Texts.{Text, Begins}
+use Rattle.dr_route.specs.Routes.{Matches, MatchesStation, Holds, SendsBy, KeepsBy}
 use Rattle.dr_route.specs.Cells.{InField, InStation, IsLongest, HasNoPrefix, InCell}
 use Rattle.dr_route.specs.Laws.{IsKnown, IsKnownStation, IsKnownRule, IsPart, IsStationPart, ArePlain, ArePlainStations, value_of, station_value_of}
 use Rattle.dr_route.specs.declared.key.Key.{Key}

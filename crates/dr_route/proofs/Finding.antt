@@ -13,8 +13,7 @@ use Rattle.std.proofs.lemmas.List.{take-append-drop, take-append-le, take_all, l
 use Rattle.std.proofs.lemmas.List.Elements.{All-from_recursion}
 use Rattle.std.proofs.lemmas.List.Sorted.{searchable_from_sorted}
 use Rattle.std.proofs.lemmas.Map.Lookups.{exact_bytes}
-use Rattle.dr_base.specs.Texts.{Text, text_cmp, IsInByteOrder}
-use Rattle.dr_route.specs.Routes.{Begins}
+use Rattle.dr_base.specs.Texts.{Text, text_cmp, IsInByteOrder, Begins}
 use Rattle.dr_route.specs.Cells.{IsLongest, HasNoPrefix}
 
 pairs_of : {K : Type 0} (R : K → K → Ordering) (ks : List K) → IsStrictlySortedBy R ks → AllPairs (λ a b. R a b ≡ Less) ks

@@ -1,8 +1,7 @@
 -- Cells: the keys with one class, one transfer syntax, for modality one literal of the plan or none
 -- of them, and for station one literal, the values under one prefix, or none of them.
 use Rattle.std.specs.Prelude.{◌≡◌, ◌≤◌, List, length, Contains}
-use Rattle.dr_base.specs.Texts.{Text, IsInByteOrder}
-use Rattle.dr_route.specs.Routes.{Begins}
+use Rattle.dr_base.specs.Texts.{Text, IsInByteOrder, Begins}
 use Rattle.dr_route.specs.declared.key.Key.{Key}
 use Rattle.dr_route.specs.declared.cell.FieldValues.{FieldValues}
 use Rattle.dr_route.specs.declared.cell.StationValues.{StationValues}

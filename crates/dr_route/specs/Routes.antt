@@ -1,6 +1,6 @@
 -- What the rules of a node, and its accept rows, say of a key.
 use Rattle.std.specs.Prelude.{◌≡◌, ◌≢◌, List, [], ◌∷◌, ◌++◌, codes, Contains, ◌⊎◌, IsTrue}
-use Rattle.dr_base.specs.Texts.{Text}
+use Rattle.dr_base.specs.Texts.{Text, Begins}
 use Rattle.dr_base.specs.declared.syntax.Syntax.{Syntax}
 use Rattle.dr_route.specs.declared.key.Key.{Key}
 use Rattle.dr_route.specs.declared.rule.Pattern.{Pattern}
@@ -20,10 +20,6 @@ local = codes "-"
 abbrev pub Matches : Pattern → Text → Type 0
 Matches Any value = Unit {0}
 Matches (Literal literal) value = literal ≡ value
-
--- the value begins with the prefix: each text begins with itself, and with the empty text
-abbrev pub Begins : Text → Text → Type 0
-Begins prefix value = (rest : Text) × (value ≡ prefix ++ rest)
 
 -- the pattern admits the station
 abbrev pub MatchesStation : StationPattern → Text → Type 0

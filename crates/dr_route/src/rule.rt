@@ -1,7 +1,7 @@
 //! The rules of a node.
 ghost use Rattle.std.specs.Prelude.{◌≡◌, ◌↔◌, ◌++◌, IsTrue, MatchOption};
-ghost use Rattle.dr_base.specs.Texts.{Text as Words};
-ghost use Rattle.dr_route.specs.Routes.{local, Begins, Matches, MatchesStation, Holds};
+ghost use Rattle.dr_base.specs.Texts.{Text as Words, Begins};
+ghost use Rattle.dr_route.specs.Routes.{local, Matches, MatchesStation, Holds};
 
 use crate::key::Key;
 use dr_base::{Seq, Text};

@@ -10,7 +10,7 @@ use Rattle.dr_dimse.specs.declared.message.Message.{Message}
 use Rattle.dr_dimse.specs.declared.fault.DimseFault.{DimseFault}
 use Rattle.dr_dimse.specs.declared.fault.DimseFault.TheVariants.{OutOfPlace, MixedContext, BadCommand, TooLong, Memory}
 use Rattle.dr_dimse.specs.Commands.{IsCommand}
-use Rattle.dr_dimse.specs.Taking.{MessageStage, Idle, InCommand, InData, Takes, TakesData, EndsCommand, Begins, kept, text_so_far}
+use Rattle.dr_dimse.specs.Taking.{MessageStage, Idle, InCommand, InData, TakesValue, TakesData, EndsCommand, BeginsMessage, kept, text_so_far}
 use Rattle.dr_dimse.specs.Written.{CommandFits, FieldFits}
 use Rattle.dr_dimse.proofs.FitLemmas.{read_fits}
 use Rattle.dr_dimse_scan.specs.declared.heard.HeardMessage.{HeardMessage}
@@ -24,7 +24,8 @@ use Rattle.dr_site.specs.Sites.{IsSite}
 use Rattle.dr_nego.specs.declared.answering.Answer.{Answer}
 use Rattle.dr_nego.specs.declared.answering.Answer.TheVariants.{Accept, Reject, TooSmall}
 use Rattle.dr_nego.specs.Agreeing.{AssociateRq}
-use Rattle.dr_nego.specs.Answering.{answer, answer_by, refusal, application_context, is_stranger}
+use Rattle.dr_nego.specs.Answering.{answer, answer_by, refusal, is_stranger}
+use Rattle.dr_base.specs.Standard.{application_context}
 use Rattle.dr_nego.proofs.Sized.{acceptances_fit}
 use Rattle.dr_session.specs.Fits.{StageFits}
 
@@ -39,12 +40,12 @@ data_fits (InData id c body) p None new fits h = (subst (λ (t : MessageStage). 
 data_fits (InData id c body) p (Some m) new fits h =
     (subst (λ (t : MessageStage). StageFits t) (sym h.2) tt, subst (λ (d : Command). CommandFits d) (sym (ap (λ (x : Message). x.command) h.1)) fits)
 
-begin_fits : (id : ℕ) (c : Command) (ended : Option Message) (new : MessageStage) → CommandFits c → Begins id c ended new → StageFits new × EndsFit ended
+begin_fits : (id : ℕ) (c : Command) (ended : Option Message) (new : MessageStage) → CommandFits c → BeginsMessage id c ended new → StageFits new × EndsFit ended
 begin_fits id c None new fits h = (subst (λ (t : MessageStage). StageFits t) (sym h.1) fits, tt)
 begin_fits id c (Some m) new fits h =
     (subst (λ (t : MessageStage). StageFits t) (sym h.2) tt, subst (λ (d : Command). CommandFits d) (sym (ap (λ (x : Message). x.command) h.1)) fits)
 
-ok_fits : (awaited : Awaited) (s : MessageStage) (p : Pdv) (ended : Option Message) (new : MessageStage) → StageFits s → Takes awaited s p (Ok ended) new → StageFits new × EndsFit ended
+ok_fits : (awaited : Awaited) (s : MessageStage) (p : Pdv) (ended : Option Message) (new : MessageStage) → StageFits s → TakesValue awaited s p (Ok ended) new → StageFits new × EndsFit ended
 ok_fits awaited s p ended new fits (inl (place, kind, takes)) = data_fits s p ended new fits takes
 ok_fits awaited s p ended new fits (inr (inl (short, last, none, same))) =
     (subst (λ (t : MessageStage). StageFits t) (sym same) tt, subst (λ (e : Option Message). EndsFit e) (sym none) tt)
@@ -53,7 +54,7 @@ ok_fits awaited s p ended new fits (inr (inr (text, c, ends, is, waits, begins))
     begin_fits p.id c ended new (read_fits text c is short) begins
 
 -- one more value
-pub takes_fits : (awaited : Awaited) (s : MessageStage) (p : Pdv) (r : Result (Option Message) DimseFault) (new : MessageStage) → StageFits s → Takes awaited s p r new
+pub takes_fits : (awaited : Awaited) (s : MessageStage) (p : Pdv) (r : Result (Option Message) DimseFault) (new : MessageStage) → StageFits s → TakesValue awaited s p r new
     → StageFits new × IfOk r EndsFit
 takes_fits awaited s p (Ok ended) new fits h = ok_fits awaited s p ended new fits h
 takes_fits awaited s p (Err OutOfPlace) new fits h = (subst (λ (t : MessageStage). StageFits t) (sym h.0) fits, tt)

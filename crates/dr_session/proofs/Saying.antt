@@ -10,7 +10,7 @@ use Rattle.dr_pdu.specs.declared.pdu.Pdv.{Pdv}
 use Rattle.dr_dimse.specs.declared.fault.DimseFault.{DimseFault}
 use Rattle.dr_dimse.specs.declared.message.Awaited.{Awaited}
 use Rattle.dr_dimse.specs.declared.message.Message.{Message}
-use Rattle.dr_dimse.specs.Taking.{Assembling, Takes}
+use Rattle.dr_dimse.specs.Taking.{Assembling, TakesValue}
 use Rattle.dr_dimse_scan.specs.declared.heard.HeardMessage.{HeardMessage}
 use Rattle.dr_dimse_scan.specs.Stores.{message_of}
 use Rattle.dr_nego.specs.declared.agreed.Agreed.{Agreed}
@@ -40,7 +40,7 @@ tells_strange c p agreed some none = (
 )
 
 pub tells_taken : (c : Core) (p : Pdv) (agreed : Agreed) (x : Pair) (answer : Result (Option Message) DimseFault) (new : Assembling) (told : Told)
-    → c.agreed ≡ Some agreed → Some x ≡ pair_at agreed p.id → Takes c.assembly.awaited c.assembly.stage p answer new.stage
+    → c.agreed ≡ Some agreed → Some x ≡ pair_at agreed p.id → TakesValue c.assembly.awaited c.assembly.stage p answer new.stage
     → new.awaited ≡ c.assembly.awaited → Says x answer told → TellsValueTo c p told (record c { assembly = new })
 tells_taken c p agreed x answer new told some pair takes awaited says = (
   new.stage,

@@ -24,7 +24,7 @@ use Rattle.dr_nego.specs.declared.agreed.Agreed.{Agreed}
 use Rattle.dr_nego.specs.declared.fault.NegoFault.{NegoFault}
 use Rattle.dr_nego.specs.declared.fault.NegoFault.TheVariants.{NoHop, Memory}
 use Rattle.dr_nego.specs.Agreeing.{AssociateRq, context_for}
-use Rattle.dr_nego.specs.Answering.{verification}
+use Rattle.dr_base.specs.Standard.{verification}
 use Rattle.dr_nego.specs.Proposing.{IsProposal, IsHopTo, echo_proposal}
 use Rattle.dr_session.specs.declared.ends.Requested.TheVariants.{Echo}
 use Rattle.dr_session.specs.declared.ends.Core.{Core}

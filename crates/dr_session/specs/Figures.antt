@@ -17,8 +17,7 @@ use Rattle.dr_ledger.specs.declared.item.Outcome.TheVariants.{Broken, Status}
 use Rattle.dr_nego.specs.declared.agreed.Agreed.{Agreed}
 use Rattle.dr_nego.specs.declared.fault.NegoFault.TheVariants.{StrangeId}
 use Rattle.dr_nego.specs.Agreeing.{AssociateRq, AssociateAc}
-use Rattle.dr_nego.specs.Answering.{application_context}
-use Rattle.dr_plan_sound.specs.Samples.{image}
+use Rattle.dr_base.specs.Standard.{application_context, image}
 use Rattle.dr_nego.specs.Figures.{archive, arch, gate, context, request, proposal}
 use Rattle.dr_nego.specs.Answering.{acceptance_of}
 use Rattle.dr_base.specs.declared.syntax.Syntax.TheVariants.{Explicit}

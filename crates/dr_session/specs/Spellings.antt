@@ -9,8 +9,8 @@ use Rattle.dr_pdu.specs.declared.pdu.Pdu.TheVariants as pdu
 use Rattle.dr_dimse.specs.declared.command.Command.TheVariants.{EchoRq}
 use Rattle.dr_nego.specs.declared.agreed.Agreed.{Agreed}
 use Rattle.dr_nego.specs.Agreeing.{AssociateRq}
-use Rattle.dr_nego.specs.Answering.{acceptance_of, verification}
-use Rattle.dr_plan_sound.specs.Samples.{image}
+use Rattle.dr_nego.specs.Answering.{acceptance_of}
+use Rattle.dr_base.specs.Standard.{verification, image}
 use Rattle.dr_nego.specs.Figures.{arch, archive, gate, proposal, other}
 use Rattle.dr_nego.specs.Fragments.{spellings}
 use Rattle.dr_nego.specs.Proposing.{echo_proposal}

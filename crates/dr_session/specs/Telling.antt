@@ -19,7 +19,7 @@ use Rattle.dr_dimse.specs.declared.fault.DimseFault.TheVariants as dimse
 use Rattle.dr_dimse.specs.declared.message.Body.{Body}
 use Rattle.dr_dimse.specs.declared.message.Body.TheVariants as body
 use Rattle.dr_dimse.specs.declared.message.Message.{Message}
-use Rattle.dr_dimse.specs.Taking.{MessageStage, Takes}
+use Rattle.dr_dimse.specs.Taking.{MessageStage, TakesValue}
 use Rattle.dr_ledger.specs.declared.content.Job.{Job}
 use Rattle.dr_ledger.specs.declared.content.ItemFault.{ItemFault}
 use Rattle.dr_ledger.specs.declared.content.ItemFault.TheVariants as items
@@ -90,7 +90,7 @@ abbrev pub TellsIn : Option Pair → Core → Pdv → Told → MessageStage → 
 TellsIn None c p told stage = (told ≡ Strange) × (stage ≡ c.assembly.stage)
 TellsIn (Some x) c p told stage =
     (answer : Result (Option Message) DimseFault)
-    × Takes c.assembly.awaited c.assembly.stage p answer stage
+    × TakesValue c.assembly.awaited c.assembly.stage p answer stage
     × Says x answer told
 
 abbrev pub TellsValue : Option Agreed → Core → Pdv → Told → MessageStage → Type 0

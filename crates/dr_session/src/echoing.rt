@@ -4,7 +4,7 @@ ghost use Rattle.dr_base.specs.Syntaxes.{syntax_uid};
 ghost use Rattle.dr_base.specs.declared.syntax.Syntax.TheVariants.{Implicit};
 ghost use Rattle.dr_dimse.specs.declared.command.Command.TheVariants.{EchoRq};
 ghost use Rattle.dr_nego.specs.Agreeing.{context_for};
-ghost use Rattle.dr_nego.specs.Answering.{verification};
+ghost use Rattle.dr_base.specs.Standard.{verification};
 ghost use Rattle.dr_session.specs.Ends.{echoes_by, echoes_in, is_free};
 ghost use Rattle.dr_session.specs.Messages.{command_pdus};
 ghost use Rattle.dr_session.specs.Reactions.{id_after, write};

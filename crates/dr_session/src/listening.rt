@@ -1,6 +1,6 @@
 //! The messages that an end is hearing, with the scans of their data sets.
 ghost use Rattle.std.specs.Prelude.{◌≡◌, IfOk, IfSome};
-ghost use Rattle.dr_dimse.specs.Taking.{Idle, Takes, let_go};
+ghost use Rattle.dr_dimse.specs.Taking.{Idle, TakesValue, let_go};
 ghost use Rattle.dr_dimse.specs.Written.{CommandFits};
 ghost use Rattle.dr_dimse_scan.specs.Stores.{HasScan, message_of};
 
@@ -64,7 +64,7 @@ impl Listener {
         syntax: Option<Syntax>,
     ) -> Result<Option<HeardMessage>, DimseFault>
         ensures awaited { self.new.awaited ≡ self.old.awaited }
-        ensures takes { Takes self.old.awaited self.old.stage pdv (message_of result)
+        ensures takes { TakesValue self.old.awaited self.old.stage pdv (message_of result)
             self.new.stage }
         ensures fits { IfOk result (λ ended. IfSome ended (λ h. CommandFits h.message.command)) }
         ensures scans { IfOk result (λ ended. IfSome ended (λ h. HasScan syntax h)) }

@@ -18,7 +18,8 @@ use Rattle.dr_plan_model.specs.Networks.{Network}
 use Rattle.dr_plan_model.specs.Plans.{NamesNoNode}
 use Rattle.dr_site.specs.Parts.{Part, IsPartOf}
 use Rattle.dr_word_adopt.specs.Changes.{AreFirst, AreNames, IsAsOpened, IsLeft, IsOver, IsReady, IsSiteAt, IsUnfitAt, OnlyFirstAreOver, StopsAt, UnfitLeavesAll, name_by, name_of, path_in}
-use Rattle.dr_word_adopt.specs.Changings.{Each, IsChanged, IsKept, IsUnchanged, MayChange, OnlyFirstAreChanged}
+use Rattle.dr_word_adopt.specs.Changings.{IsChanged, IsKept, IsUnchanged, MayChange, OnlyFirstAreChanged}
+use Rattle.dr_base.specs.Lists.{Each}
 use Rattle.dr_word_adopt.specs.Lookings.{IsFound, IsSeen, IsUnseen, LooksInto, StandsAt, stood}
 use Rattle.dr_word_adopt.specs.declared.standing.Standing.{Standing}
 use Rattle.dr_word_adopt.specs.declared.standing.Standing.TheVariants.{Ready, Over}

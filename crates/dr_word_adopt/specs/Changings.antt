@@ -1,5 +1,5 @@
 -- One node's ledger as it is changed.
-use Rattle.std.specs.Prelude.{◌≡◌, List, [], ◌∷◌, ◌++◌}
+use Rattle.std.specs.Prelude.{◌≡◌, List, ◌∷◌, ◌++◌}
 use Rattle.dr_cert.specs.Sealing.{Certified}
 use Rattle.dr_ledger.specs.Adopting.{IsFit}
 use Rattle.dr_ledger.specs.Books.{Book, Adoption, after}
@@ -10,6 +10,7 @@ use Rattle.dr_run_open.specs.declared.halt.Halt.TheVariants.{Receipt, Failed, Me
 use Rattle.dr_site.specs.Parts.{Part, IsPartOf}
 use Rattle.dr_word_adopt.specs.declared.standing.Standing.{Standing}
 use Rattle.dr_word_adopt.specs.declared.standing.Standing.TheVariants.{Ready, Over}
+use Rattle.dr_base.specs.Lists.{Each}
 
 -- why a ledger isn't changed: it refused, or want of memory
 abbrev pub IsUnchanged : Halt → Type 0
@@ -22,13 +23,6 @@ IsUnchanged (NotOpened fault) = ⊥
 IsUnchanged (NoInstance fault) = ⊥
 IsUnchanged Receipt = ⊥
 IsUnchanged (Failed failure) = ⊥
-
--- of each element of the one list and that of the other in its place this holds
-abbrev pub Each : {X : Type 0} → (X → X → Type 0) → List X → List X → Type 0
-Each R [] [] = Unit {0}
-Each R [] (y ∷ ys) = ⊥
-Each R (x ∷ xs) [] = ⊥
-Each R (x ∷ xs) (y ∷ ys) = R x y × Each R xs ys
 
 module _ {L : Type 0} (site_of : L → Part) (book : L → Book) (stands : L → Type 0)
     (next : Certified) where

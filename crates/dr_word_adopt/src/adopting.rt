@@ -2,7 +2,8 @@
 ghost use Rattle.std.specs.Prelude.{◌≡◌, [], All, IfOk, MatchResult, Ok, Err};
 ghost use Rattle.dr_word_adopt.specs.Changes.{AreNames, AreSealed, AreUnsealed, Changes};
 ghost use Rattle.dr_word_adopt.specs.Changes.{ChangesBetween, came_of};
-ghost use Rattle.dr_word_adopt.specs.Changings.{Each, IsChanged, IsUnchanged, MayChange};
+ghost use Rattle.dr_word_adopt.specs.Changings.{IsChanged, IsUnchanged, MayChange};
+ghost use Rattle.dr_base.specs.Lists.{Each};
 ghost use Rattle.dr_word_adopt.specs.Changings.{OnlyFirstAreChanged};
 ghost use Rattle.dr_word_adopt.specs.Endings.{AdoptsFiles, EndsChange, unfit_line};
 

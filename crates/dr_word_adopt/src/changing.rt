@@ -1,6 +1,7 @@
 //! The ledgers of all nodes, changed one after the other.
 ghost use Rattle.std.specs.Prelude.{◌≡◌, All, MatchResult};
-ghost use Rattle.dr_word_adopt.specs.Changings.{Each, IsChanged, IsKept, IsUnchanged, MayChange};
+ghost use Rattle.dr_word_adopt.specs.Changings.{IsChanged, IsKept, IsUnchanged, MayChange};
+ghost use Rattle.dr_base.specs.Lists.{Each};
 ghost use Rattle.dr_word_adopt.specs.Changings.{OnlyFirstAreChanged};
 
 use crate::change::Halted;

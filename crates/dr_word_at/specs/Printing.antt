@@ -3,14 +3,14 @@ use Rattle.std.specs.Prelude.{◌≡◌, ◌⊎◌, ℕ, List, [], ◌∷◌, co
 use Rattle.std.specs.Prelude.{Option, Some}
 use Rattle.serde_json.specs.Data.{Data}
 use Rattle.dr_base.specs.Texts.{Text}
-use Rattle.dr_ledger_report.specs.Reports.{line_of, moment_field}
+use Rattle.dr_ledger_report.specs.Reports.{line_of, number_field}
 use Rattle.dr_run_ask.specs.Lines.{number_at, text_at}
 
 -- the line of the rows to a node says how many there are, and this is printed of it
 abbrev pub queue_line : Text → ℕ → ℕ → ℕ → Option ℕ → Text
 queue_line dest waiting held done due =
     line_of (codes "queue") (dest ∷ codes "waiting" ∷ decimal waiting ∷ codes "held" ∷ decimal held
-    ∷ codes "done" ∷ decimal done ∷ codes "oldest" ∷ moment_field due ∷ [])
+    ∷ codes "done" ∷ decimal done ∷ codes "oldest" ∷ number_field due ∷ [])
 
 abbrev pub ShowsQueue : Data → Text → Type 0
 ShowsQueue value line =

@@ -2,8 +2,7 @@
 ghost use Rattle.std.specs.Prelude.{◌≡◌, ◌++◌, ◌∷◌, ◌↔◌, [], IfOk, IsTrue, List, OnOk, Some};
 ghost use Rattle.std.specs.Prelude.{decimal, flat_map};
 ghost use Rattle.serde_json.specs.View.{view};
-ghost use Rattle.dr_base.specs.Texts.{Text as Words};
-ghost use Rattle.dr_ledger_report.specs.Reports.{next_field};
+ghost use Rattle.dr_base.specs.Texts.{Text as Words, next_field};
 ghost use Rattle.dr_run_ask.specs.Lines.{number_at, text_at};
 ghost use Rattle.dr_word_at.specs.Printing.{IsHeld, IsStage, IsWaiting, ShowsProgress};
 ghost use Rattle.dr_word_at.specs.Printing.{ShowsQueue, ShowsRow, queue_line};

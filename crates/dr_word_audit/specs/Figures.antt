@@ -1,12 +1,11 @@
 -- How much a node has, as it is printed where all holds.
 use Rattle.std.specs.Prelude.{ℕ, Bool, true, false, ◌&&◌, List, [], ◌∷◌, ◌++◌, codes, decimal}
 use Rattle.std.specs.Prelude.{Some, filter, length}
-use Rattle.dr_base.specs.Texts.{Text}
+use Rattle.dr_base.specs.Texts.{Text, next_field}
 use Rattle.dr_ledger.specs.declared.item.Outcome.{Outcome}
 use Rattle.dr_ledger.specs.declared.item.Outcome.TheVariants.{Status, Broken, NoContext}
 use Rattle.dr_ledger.specs.Books.{Line, Arrival, Repeat, Settling, Requeuing, Dropping, Row}
 use Rattle.dr_ledger.specs.Books.{Forgetting, Adoption, is_success, since_adoption}
-use Rattle.dr_ledger_report.specs.Reports.{next_field}
 use Rattle.dr_ledger_views.specs.Views.{is_at as is_at_stage}
 use Rattle.dr_ledger_views.specs.declared.stage.Stage.{Stage}
 use Rattle.dr_ledger_views.specs.declared.stage.Stage.TheVariants as stages

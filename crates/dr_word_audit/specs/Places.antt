@@ -1,18 +1,18 @@
 -- What is printed where it doesn't hold: the node, the line of its journal, and what is missing.
 use Rattle.std.specs.Prelude.{◌≡◌, ℕ, ◌+◌, Bool, true, false, ◌&&◌, cond, not, List, [], ◌∷◌, ◌++◌}
-use Rattle.std.specs.Prelude.{codes, decimal, length, Contains, Option, None, Some}
+use Rattle.std.specs.Prelude.{codes, length, Contains, Option, None, Some}
 use Rattle.std.specs.Str.{bytes_eq}
-use Rattle.dr_base.specs.Texts.{Text}
+use Rattle.dr_base.specs.Texts.{Text, next_field}
 use Rattle.dr_ledger.specs.declared.item.Instance.{Instance}
 use Rattle.dr_ledger.specs.Books.{Line, Arrival, Repeat, Settling, Requeuing, Dropping}
 use Rattle.dr_ledger.specs.Books.{Forgetting, Adoption}
-use Rattle.dr_ledger_report.specs.Reports.{next_field}
 use Rattle.dr_world_audit.specs.Sites.{is_fair, lines_at}
 use Rattle.dr_world_audit.specs.declared.audit.Mismatch.{Mismatch}
 use Rattle.dr_world_audit.specs.declared.audit.Mismatch.TheVariants as what
 use Rattle.dr_world_audit.specs.declared.audit.NodeJournal.{NodeJournal}
 use Rattle.dr_word_audit.specs.Figures.{is_taken}
 use Rattle.dr_word_audit.specs.Names.{is_among}
+use Rattle.dr_ledger_report.specs.Reports.{number_field}
 
 -- the line is of an arrival of the uid that goes on to there
 abbrev pub goes_on : Text → Text → Line → Bool
@@ -95,11 +95,6 @@ IsLast test lines (Some number) =
     × (number ≡ length before + 1)
     × (test line ≡ true)
     × HasNone test later
-
--- the number, or a hyphen
-abbrev pub number_field : Option ℕ → Text
-number_field None = codes "-"
-number_field (Some number) = decimal number
 
 -- how such a line begins
 abbrev pub line_start : Text → Text → Text

@@ -1,9 +1,10 @@
 //! The line that tells what doesn't hold.
 ghost use Rattle.std.specs.Prelude.{◌≡◌, ◌++◌, IfOk, OnOk};
-ghost use Rattle.dr_ledger_report.specs.Reports.{next_field};
+ghost use Rattle.dr_base.specs.Texts.{next_field};
 ghost use Rattle.dr_word_audit.specs.Places.{line_start, long_line as longer};
 ghost use Rattle.dr_word_audit.specs.Places.{missing_line as line_of_missing, no_line};
-ghost use Rattle.dr_word_audit.specs.Places.{number_field, short_line as shorter};
+ghost use Rattle.dr_word_audit.specs.Places.{short_line as shorter};
+ghost use Rattle.dr_ledger_report.specs.Reports.{number_field};
 
 use dr_base::Text;
 use dr_base::fields::{add_field, add_number};

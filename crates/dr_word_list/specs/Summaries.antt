@@ -7,7 +7,7 @@ use Rattle.dr_base.specs.Texts.{Text}
 use Rattle.dr_ledger.specs.Books.{Book, Row}
 use Rattle.dr_ledger.specs.Pairs.{Pair, pair_cmp}
 use Rattle.dr_ledger.specs.Replies.{AreKept, Lists}
-use Rattle.dr_ledger_report.specs.Reports.{line_of, moment_field, name_line}
+use Rattle.dr_ledger_report.specs.Reports.{line_of, number_field, name_line}
 use Rattle.dr_ledger_views.specs.Views.{IsLeast, dues, how_many}
 use Rattle.dr_site.specs.Parts.{Part}
 use Rattle.dr_run_open.specs.Hops.{hops_from}
@@ -29,7 +29,7 @@ queue_line rows dest oldest = line_of (codes "queue") (dest
     ∷ codes "waiting" ∷ decimal (how_many rows dest (Some stages.Waiting))
     ∷ codes "held" ∷ decimal (how_many rows dest (Some stages.Held))
     ∷ codes "done" ∷ decimal (how_many rows dest (Some stages.Done))
-    ∷ codes "oldest" ∷ moment_field oldest ∷ [])
+    ∷ codes "oldest" ∷ number_field oldest ∷ [])
 
 -- the line of that node, with the earliest moment from which on a row is due that waits for it
 abbrev pub IsQueueLine : List Row → Text → Text → Type 0

@@ -1,7 +1,6 @@
 //! The option `--summary` of the word `list`.
 ghost use Rattle.std.specs.Prelude.{◌≡◌, ◌++◌, IfOk, OnOk, Some, decimal};
-ghost use Rattle.dr_base.specs.Texts.{Text as Words};
-ghost use Rattle.dr_ledger_report.specs.Reports.{next_field};
+ghost use Rattle.dr_base.specs.Texts.{Text as Words, next_field};
 ghost use Rattle.dr_ledger_views.specs.Views.{how_many as number_of};
 ghost use Rattle.dr_run_open.specs.Hops.{hops_from};
 ghost use Rattle.dr_word_list.specs.Summaries.{AreQueueLines, IsQueueLine, IsSummary, IsSummaryOf};

@@ -10,7 +10,8 @@ use Rattle.dr_base.specs.declared.syntax.Syntax.TheVariants.{Explicit}
 use Rattle.dr_route.specs.Routes.{local}
 use Rattle.dr_plan_model.specs.Walks.{IsReached, Sends}
 use Rattle.dr_plan_model.proofs.Gathered.{nothing_in_nil, only_one, Contains-cons_cases, Contains-here, Contains-there}
-use Rattle.dr_plan_sound.specs.Samples.{archive, image, keep_all, scanner}
+use Rattle.dr_plan_sound.specs.Samples.{archive, keep_all, scanner}
+use Rattle.dr_base.specs.Standard.{image}
 use Rattle.dr_plan_sound.proofs.Hopping.{reached_entry, reached_next}
 use Rattle.dr_plan_sound.proofs.TwoNodes.{goes_only, keeps_stay}
 use Rattle.dr_ledger.specs.declared.item.Instance.{Instance}

@@ -1,7 +1,8 @@
 -- Journals that match are no empty word.
 use Rattle.std.specs.Prelude.{◌≡◌}
 use Rattle.dr_base.specs.declared.syntax.Syntax.TheVariants.{Explicit}
-use Rattle.dr_plan_sound.specs.Samples.{archive, image, scanner}
+use Rattle.dr_plan_sound.specs.Samples.{archive, scanner}
+use Rattle.dr_base.specs.Standard.{image}
 use Rattle.dr_ledger.specs.declared.item.Instance.{Instance}
 use Rattle.dr_world_model.specs.Among.{all_ours}
 use Rattle.dr_world_model.specs.Laws.{IsStored}

@@ -5,7 +5,8 @@ use Rattle.dr_base.specs.Texts.{Text}
 use Rattle.dr_base.specs.declared.syntax.Syntax.TheVariants.{Explicit}
 use Rattle.dr_route.specs.Routes.{local}
 use Rattle.dr_plan_model.specs.Networks.{Network}
-use Rattle.dr_plan_sound.specs.Samples.{archive, image, keep_all, scanner, two_nodes}
+use Rattle.dr_plan_sound.specs.Samples.{archive, keep_all, scanner, two_nodes}
+use Rattle.dr_base.specs.Standard.{image}
 use Rattle.dr_ledger.specs.declared.item.Instance.{Instance}
 use Rattle.dr_ledger.specs.declared.item.Outcome.{Outcome}
 use Rattle.dr_ledger.specs.declared.item.Outcome.TheVariants.{NoContext, Status}

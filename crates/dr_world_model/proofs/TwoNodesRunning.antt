@@ -11,7 +11,8 @@ use Rattle.dr_route.specs.declared.key.Key.{Key}
 use Rattle.dr_plan_model.specs.Networks.{Network}
 use Rattle.dr_plan_model.specs.Walks.{Flows, Sends, Accepts, GoesOver}
 use Rattle.dr_plan_model.proofs.Gathered.{Contains-here}
-use Rattle.dr_plan_sound.specs.Samples.{scanner, archive, image, keep_all, the_scanner, the_archive, the_flow, two_nodes}
+use Rattle.dr_plan_sound.specs.Samples.{scanner, archive, keep_all, the_scanner, the_archive, the_flow, two_nodes}
+use Rattle.dr_base.specs.Standard.{image}
 use Rattle.dr_plan_sound.specs.Certificates.{pair_cmp as context_cmp}
 use Rattle.dr_plan_sound.proofs.Hopping.{reached_entry}
 use Rattle.dr_plan_sound.proofs.TwoNodes.{goes_only, keeps_stay, archive_accepts}

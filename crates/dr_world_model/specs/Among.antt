@@ -82,9 +82,10 @@ answered_link link (Some accepted) = at_stage link (Answering accepted)
 answered_link link None = at_stage (without_receiver link) Rejecting
 
 -- each pair of an acceptance is such
-abbrev pub Each : Option Contexts → (Text × Syntax → Type 0) → Type 0
-Each None Is = Unit {0}
-Each (Some accepted) Is = (pair : Text × Syntax) → set.contains accepted pair ≡ true → Is pair
+abbrev pub EachAccepted : Option Contexts → (Text × Syntax → Type 0) → Type 0
+EachAccepted None Is = Unit {0}
+EachAccepted (Some accepted) Is =
+    (pair : Text × Syntax) → set.contains accepted pair ≡ true → Is pair
 
 -- one of ours answers the request of another product
 pub record TakesOther (ours : Ours) (plan : Network) (old : World) (number : ℕ)
@@ -94,7 +95,7 @@ pub record TakesOther (ours : Ours) (plan : Network) (old : World) (number : ℕ
   pub on : link.receiver_connected ≡ true
   pub stage : link.stage ≡ Asking
   pub other : ours link.caller ≡ false
-  pub taken : Each answer (λ pair. Accepts plan link.receiver link.caller pair.0 pair.1)
+  pub taken : EachAccepted answer (λ pair. Accepts plan link.receiver link.caller pair.0 pair.1)
   pub is : new ≡ with_link old number (answered_link link answer)
 
 -- another product answers the request of one of ours
@@ -105,7 +106,7 @@ pub record OtherAgrees (ours : Ours) (plan : Network) (old : World) (number : �
   pub on : link.receiver_connected ≡ true
   pub stage : link.stage ≡ Asking
   pub other : ours link.receiver ≡ false
-  pub offered : Each answer (λ pair. GoesOver plan link.caller link.receiver pair)
+  pub offered : EachAccepted answer (λ pair. GoesOver plan link.caller link.receiver pair)
   pub is : new ≡ with_link old number (answered_link link answer)
 
 -- another product stores an instance

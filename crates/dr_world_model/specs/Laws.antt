@@ -9,7 +9,8 @@ use Rattle.dr_base.specs.declared.syntax.Syntax.TheVariants.{Explicit}
 use Rattle.dr_route.specs.Routes.{local}
 use Rattle.dr_plan_model.specs.Walks.{Sends, Accepts, GoesOver, IsReached}
 use Rattle.dr_plan_sound.specs.Soundness.{IsSound}
-use Rattle.dr_plan_sound.specs.Samples.{scanner, archive, image, keep_all, two_nodes}
+use Rattle.dr_plan_sound.specs.Samples.{scanner, archive, keep_all, two_nodes}
+use Rattle.dr_base.specs.Standard.{image}
 use Rattle.dr_ledger.specs.declared.item.Arrived.TheVariants.{New}
 use Rattle.dr_ledger.specs.declared.item.Instance.{Instance}
 use Rattle.dr_ledger.specs.declared.fault.LedgerFault.TheVariants as fault

@@ -52,8 +52,8 @@ use Rattle.dr_nego.specs.declared.agreed.Pair.{Pair}
 use Rattle.dr_nego.specs.declared.answering.Answer.{Answer}
 use Rattle.dr_nego.specs.declared.answering.Answer.TheVariants.{Accept, Reject, TooSmall}
 use Rattle.dr_nego.specs.Agreeing.{AssociateRq, pair_at, is_id}
-use Rattle.dr_nego.specs.Answering.{answer, answer_by, acceptance_of, agreed_by}
-use Rattle.dr_nego.specs.Answering.{application_context, is_stranger, is_caller}
+use Rattle.dr_nego.specs.Answering.{answer, answer_by, acceptance_of, agreed_by, is_stranger, is_caller}
+use Rattle.dr_base.specs.Standard.{application_context}
 use Rattle.dr_nego.proofs.OneContext.{found_is}
 use Rattle.dr_session.specs.declared.ends.Core.{Core}
 use Rattle.dr_session.specs.declared.ends.Effect.{Effect}

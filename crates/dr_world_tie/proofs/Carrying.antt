@@ -122,8 +122,8 @@ pair_for agreed class syntax context h = by_found (find (is_for class syntax) ag
 element_long : (e : CommandElement) → length (element_text e) ≡ 8 + length e.value
 element_long e = simp length-append (omega arith)
 
-joined_long : (e : CommandElement) (es : List CommandElement) → length (commands.joined (e ∷ es)) ≡ (8 + length e.value) + length (commands.joined es)
-joined_long e es = length-append (element_text e) (commands.joined es) ∙ ap (λ (n : ℕ). n + length (commands.joined es)) (element_long e)
+joined_long : (e : CommandElement) (es : List CommandElement) → length (commands.element_texts (e ∷ es)) ≡ (8 + length e.value) + length (commands.element_texts es)
+joined_long e es = length-append (element_text e) (commands.element_texts es) ∙ ap (λ (n : ℕ). n + length (commands.element_texts es)) (element_long e)
 
 store_short : (id : ℕ) (class instance : Text) → length class ≤ 64 → length instance ≤ 64 → length (commands.written (StoreRq id class instance)) ≤ 16384
 store_short id class instance a b =

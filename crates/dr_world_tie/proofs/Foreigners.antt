@@ -35,7 +35,7 @@ use Rattle.dr_pdu.specs.declared.pdu.Pdv.{Pdv}
 use Rattle.dr_pdu.specs.Feeding.{Feeding}
 use Rattle.dr_dimse.specs.declared.command.Command.TheVariants.{StoreRq, StoreRsp}
 use Rattle.dr_dimse.specs.declared.message.Body.TheVariants as body
-use Rattle.dr_dimse.specs.Taking.{MessageStage as Taken, Takes as TakesValue}
+use Rattle.dr_dimse.specs.Taking.{MessageStage as Taken, TakesValue}
 use Rattle.dr_ledger.specs.declared.content.Job.{Job}
 use Rattle.dr_ledger.specs.declared.fault.LedgerFault.TheVariants as fault
 use Rattle.dr_ledger.specs.declared.item.Arrived.TheVariants.{New, Again}
@@ -609,7 +609,7 @@ module _ (ours : Ours) (plan : Network) (certificate : Certificate) (name : Text
     after_answer answer = with_link called fresh (answered_link (new_link caller name) answer)
 
     answered_as : (answer : Option Contexts)
-        → Rattle.dr_world_model.specs.Among.Each answer (λ pair.
+        → Rattle.dr_world_model.specs.Among.EachAccepted answer (λ pair.
         Accepts plan name caller pair.0 pair.1)
         → t ≡ s
         → x.core.site ≡ k.core.site

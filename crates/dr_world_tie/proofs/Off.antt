@@ -22,7 +22,7 @@ use Rattle.dr_dimse.specs.declared.message.Awaited.TheVariants.{Nothing}
 use Rattle.dr_dimse.specs.declared.message.Message.{Message}
 use Rattle.dr_dimse.specs.declared.fault.DimseFault.{DimseFault}
 use Rattle.dr_dimse.specs.declared.fault.DimseFault.TheVariants as dimse
-use Rattle.dr_dimse.specs.Taking.{MessageStage as Taken, Idle, InCommand, InData, Takes, data_of}
+use Rattle.dr_dimse.specs.Taking.{MessageStage as Taken, Idle, InCommand, InData, TakesValue, data_of}
 use Rattle.dr_nego.specs.Fragments.{spellings}
 use Rattle.dr_nego.specs.declared.agreed.Agreed.{Agreed}
 use Rattle.dr_nego.specs.declared.agreed.Pair.{Pair}
@@ -267,7 +267,7 @@ module _ {S : Type 0} (step : S → DeskCall → DeskAnswer → S → Type 0) (m
 -- ---- what such an end is told
 
 -- a value ends no message where nothing is awaited, and begins no data set
-none_taken : (stage : Taken) (p : Pdv) (m : Message) (next : Taken) → data_of stage ≡ None → Takes Nothing stage p (Ok (Some m)) next → ⊥
+none_taken : (stage : Taken) (p : Pdv) (m : Message) (next : Taken) → data_of stage ≡ None → TakesValue Nothing stage p (Ok (Some m)) next → ⊥
 none_taken Idle p m next none (inl (place, want, h)) = absurd h
 none_taken (InCommand id text) p m next none (inl (place, want, h)) = absurd h
 none_taken (InData id command body) p m next none h = cc none
@@ -276,7 +276,7 @@ none_taken (InCommand id text) p m next none (inr (inl (short, inner, e, is))) =
 none_taken Idle p m next none (inr (inr (text, command, ends, is, wanted, b))) = wanted
 none_taken (InCommand id t) p m next none (inr (inr (text, command, ends, is, wanted, b))) = wanted
 
-no_data_taken : (stage : Taken) (p : Pdv) (next : Taken) → data_of stage ≡ None → Takes Nothing stage p (Ok None) next → data_of next ≡ None
+no_data_taken : (stage : Taken) (p : Pdv) (next : Taken) → data_of stage ≡ None → TakesValue Nothing stage p (Ok None) next → data_of next ≡ None
 no_data_taken Idle p next none (inl (place, want, h)) = absurd h
 no_data_taken (InCommand id text) p next none (inl (place, want, h)) = absurd h
 no_data_taken (InData id command body) p next none h = absurd (cc none)
@@ -292,7 +292,7 @@ told_part : (told : Told) (t : Told) → told ≡ t → IsPart t → IsPart told
 told_part told t e h = subst (λ (y : Told). IsPart y) (sym e) h
 
 module _ (c : Core) (awaits : c.assembly.awaited ≡ Nothing) (no_data : data_of c.assembly.stage ≡ None) (p : Pdv) (told : Told) (stage : Taken) where
-  by_taken : (x : Pair) (answer : Result (Option Message) DimseFault) → Takes Nothing c.assembly.stage p answer stage → Says x answer told → IsHarmless told stage
+  by_taken : (x : Pair) (answer : Result (Option Message) DimseFault) → TakesValue Nothing c.assembly.stage p answer stage → Says x answer told → IsHarmless told stage
   by_taken x (Ok None) takes says = (told_part told Quiet says tt, no_data_taken c.assembly.stage p stage no_data takes)
   by_taken x (Ok (Some m)) takes says = absurd (none_taken c.assembly.stage p m stage no_data takes)
   by_taken x (Err dimse.MixedContext) takes says = (told_part told Fault says tt, ap data_of takes.0 ∙ no_data)
@@ -303,7 +303,7 @@ module _ (c : Core) (awaits : c.assembly.awaited ≡ Nothing) (no_data : data_of
 
   by_pair : (o : Option Pair) → TellsIn o c p told stage → IsHarmless told stage
   by_pair None h = (told_part told Strange h.0 tt, ap data_of h.1 ∙ no_data)
-  by_pair (Some x) h = by_taken x h.0 (subst (λ (a : Awaited). Takes a c.assembly.stage p h.0 stage) awaits h.1) h.2
+  by_pair (Some x) h = by_taken x h.0 (subst (λ (a : Awaited). TakesValue a c.assembly.stage p h.0 stage) awaits h.1) h.2
 
   by_agreed : (o : Option Agreed) → TellsValue o c p told stage → IsHarmless told stage
   by_agreed None h = (told_part told Strange h.0 tt, ap data_of h.1 ∙ no_data)

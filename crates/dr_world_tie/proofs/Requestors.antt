@@ -38,8 +38,7 @@ use Rattle.dr_dimse.specs.declared.message.Body.{Body}
 use Rattle.dr_dimse.specs.declared.message.Message.{Message}
 use Rattle.dr_dimse.specs.declared.fault.DimseFault.{DimseFault}
 use Rattle.dr_dimse.specs.declared.fault.DimseFault.TheVariants as dimse
-use Rattle.dr_dimse.specs.Taking.{MessageStage as Taken, Idle, InCommand, InData, Takes as TakesValue}
-use Rattle.dr_dimse.specs.Taking.{IsAwaited, data_of}
+use Rattle.dr_dimse.specs.Taking.{MessageStage as Taken, Idle, InCommand, InData, TakesValue, IsAwaited, data_of}
 use Rattle.dr_ledger.specs.declared.fault.LedgerFault.TheVariants as fault
 use Rattle.dr_ledger.specs.declared.item.Instance.{Instance}
 use Rattle.dr_ledger.specs.declared.item.Outcome.TheVariants.{Status, Broken}

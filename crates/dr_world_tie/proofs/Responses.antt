@@ -17,7 +17,7 @@ use Rattle.dr_pdu.specs.declared.pdu.Pdv.{Pdv}
 use Rattle.dr_pdu.specs.Written.{written}
 use Rattle.dr_dimse.specs.declared.command.Command.{Command}
 use Rattle.dr_dimse.specs.declared.command.Command.TheVariants.{StoreRsp}
-use Rattle.dr_dimse.specs.Taking.{MessageStage as Taken, Idle as NothingTaken, Takes}
+use Rattle.dr_dimse.specs.Taking.{MessageStage as Taken, Idle as NothingTaken, TakesValue}
 use Rattle.dr_nego.specs.Agreeing.{pair_at}
 use Rattle.dr_pdu.specs.Feeding.{Feeding}
 use Rattle.dr_ledger.specs.declared.item.Instance.{Instance}
@@ -158,7 +158,7 @@ module _ (plan : Network) (certificate : Certificate) (w : World) (number : ℕ)
     abbrev stays : Taken → Core
     stays next = record (with_stage next c) { phase = in_its_phase (moved at.0 Sta6 moment.now) }
 
-    part : (next : Taken) → Takes c.assembly.awaited c.assembly.stage v (Ok None) next → Gets c.assembly.awaited next vs (message number_of (StoreRsp id status item.key.class item.uid false) None) → (t ≡ s) × ShowsLink plan certificate (caller_read k n new x) link
+    part : (next : Taken) → TakesValue c.assembly.awaited c.assembly.stage v (Ok None) next → Gets c.assembly.awaited next vs (message number_of (StoreRsp id status item.key.class item.uid false) None) → (t ≡ s) × ShowsLink plan certificate (caller_read k n new x) link
     part next takes later =
         let q = quiet_by cstep moment c v m.agreed m.context true at m.has found s t x r next takes in (
           q.1,
@@ -189,7 +189,7 @@ module _ (plan : Network) (certificate : Certificate) (w : World) (number : ℕ)
         )
 
     -- the response settles the row
-    settles : Takes c.assembly.awaited c.assembly.stage v (Ok (Some (message number_of (StoreRsp id status item.key.class item.uid false) None))) NothingTaken
+    settles : TakesValue c.assembly.awaited c.assembly.stage v (Ok (Some (message number_of (StoreRsp id status item.key.class item.uid false) None))) NothingTaken
         → (answer : Answer) × cstep s (Settle item.uid c.peer (Status status) moment.now) (Settling answer) t × GoesOn answer (stays NothingTaken) moment x
     settles takes =
         let td = told_by cstep moment c v m.agreed m.context true at m.has found s t x r (Some (message number_of (StoreRsp id status item.key.class item.uid false) None)) NothingTaken takes in

@@ -20,7 +20,7 @@ use Rattle.dr_pdu.specs.declared.pdu.Pdv.{Pdv}
 use Rattle.dr_pdu.specs.Written.{Fits, MeetsLimit, written}
 use Rattle.dr_dimse.specs.declared.message.Body.TheVariants as body
 use Rattle.dr_dimse.specs.declared.command.Command.TheVariants.{StoreRq, StoreRsp}
-use Rattle.dr_dimse.specs.Taking.{MessageStage as Taken, Idle as NothingTaken, Takes}
+use Rattle.dr_dimse.specs.Taking.{MessageStage as Taken, Idle as NothingTaken, TakesValue}
 use Rattle.dr_nego.specs.declared.agreed.Agreed.{Agreed}
 use Rattle.dr_nego.specs.Agreeing.{pair_at}
 use Rattle.dr_ledger.specs.PlanRoutes.{plan_routing}
@@ -129,7 +129,7 @@ module _ (plan : Network) (certificate : Certificate) (w : World) (number : ℕ)
     still_listening : (next : Taken) → IsListening (stays next) link.caller accepted
     still_listening next = (((moved listening.0.0.0 Sta6 moment.now, refl, listening.0.0.2, refl), listening.0.1), listening.1, listening.2, listening.3)
 
-    part : (next : Taken) → Takes c.assembly.awaited c.assembly.stage v (Ok None) next → Gets c.assembly.awaited next vs (message number_of (StoreRq id item.key.class item.uid) (Some (body.Whole item.body))) → (t ≡ s) × ShowsLink plan certificate (receiver_read k n new x) link
+    part : (next : Taken) → TakesValue c.assembly.awaited c.assembly.stage v (Ok None) next → Gets c.assembly.awaited next vs (message number_of (StoreRq id item.key.class item.uid) (Some (body.Whole item.body))) → (t ≡ s) × ShowsLink plan certificate (receiver_read k n new x) link
     part next takes later =
         let q = quiet_by rstep moment c v m.agreed m.context false listening.0.0 m.has found s t x r next takes in (
           q.1,
@@ -196,7 +196,7 @@ module _ (plan : Network) (certificate : Certificate) (w : World) (number : ℕ)
           none = λ e. refl;
         }
 
-    arrived : vs ≡ [] → Takes c.assembly.awaited c.assembly.stage v (Ok (Some (message number_of (StoreRq id item.key.class item.uid) (Some (body.Whole item.body))))) NothingTaken → (reply : Reply) × Happens plan certificate w number (Receive number reply) link.receiver t (receiver_read k n new x)
+    arrived : vs ≡ [] → TakesValue c.assembly.awaited c.assembly.stage v (Ok (Some (message number_of (StoreRq id item.key.class item.uid) (Some (body.Whole item.body))))) NothingTaken → (reply : Reply) × Happens plan certificate w number (Receive number reply) link.receiver t (receiver_read k n new x)
     arrived none takes =
         let a = store_by plan link.receiver moment c v m.agreed m.context listening.0.0 m.has found s t x r id item is_item m.of NothingTaken number_of takes in
         (a.0, event a.0 a.1 a.2)

@@ -22,7 +22,7 @@ use Rattle.dr_dimse.specs.declared.message.Message.{Message}
 use Rattle.dr_dimse.specs.declared.message.Body.TheVariants as body
 use Rattle.dr_dimse.specs.declared.fault.DimseFault.{DimseFault}
 use Rattle.dr_dimse.specs.declared.fault.DimseFault.TheVariants as dimse
-use Rattle.dr_dimse.specs.Taking.{MessageStage as Taken, Takes}
+use Rattle.dr_dimse.specs.Taking.{MessageStage as Taken, TakesValue}
 use Rattle.dr_dimse.proofs.OneTake.{one_take}
 use Rattle.dr_ledger.specs.declared.content.Job.{Job}
 use Rattle.dr_ledger.specs.Items.{IsItem, ReadsItem}
@@ -73,7 +73,7 @@ module _ {S : Type 0} (step : S → DeskCall → DeskAnswer → S → Type 0) (m
       subst (λ (o : Option Pair). TellsIn o c v r.told r.stage) found t2
 
   -- what it is told, where it is known what the assembly makes of the value
-  pub told_by : (o : Option Message) (next : Taken) → Takes c.assembly.awaited c.assembly.stage v (Ok o) next → (told : Told) × Says context (Ok o) told × Turns step (turn moment (with_stage next c) told) s x u
+  pub told_by : (o : Option Message) (next : Taken) → TakesValue c.assembly.awaited c.assembly.stage v (Ok o) next → (told : Told) × Says context (Ok o) told × Turns step (turn moment (with_stage next c) told) s x u
   told_by o next takes =
       let same = one_take c.assembly.awaited c.assembly.stage v looked.0 (Ok o) r.stage next (not_memory context looked.0 r.told looked.2) (λ e. cc) looked.1 takes in
       (r.told, subst (λ (a : Result (Option Message) DimseFault). Says context a r.told) same.0 looked.2, subst (λ (y : Taken). Turns step (turn moment (with_stage y c) r.told) s x u) same.1 r.turns)
@@ -82,7 +82,7 @@ module _ {S : Type 0} (step : S → DeskCall → DeskAnswer → S → Type 0) (m
   abbrev pub stays : Taken → Core
   stays next = record (with_stage next c) { phase = in_its_phase (moved at.0 Sta6 moment.now) }
 
-  pub quiet_by : (next : Taken) → Takes c.assembly.awaited c.assembly.stage v (Ok None) next → (x ≡ effect [] (stays next)) × (u ≡ s)
+  pub quiet_by : (next : Taken) → TakesValue c.assembly.awaited c.assembly.stage v (Ok None) next → (x ≡ effect [] (stays next)) × (u ≡ s)
   quiet_by next takes =
       let t = told_by None next takes in
       let h : Turns step (turn moment (with_stage next c) Quiet) s x u = subst (λ (y : Told). Turns step (turn moment (with_stage next c) y) s x u) t.1 t.2 in
@@ -114,7 +114,7 @@ module _ (plan : Network) (name : Text) (moment : Moment) (c : Core) (v : Pdv) (
   by_answer core n (Settling a) m one h = absurd h
 
   -- the instance is brought, and its response written
-  pub store_by : (next : Taken) (n : ℕ) → Takes c.assembly.awaited c.assembly.stage v (Ok (Some (record { id = n; command = StoreRq id item.key.class item.uid; body = Some (body.Whole item.body) }))) next
+  pub store_by : (next : Taken) (n : ℕ) → TakesValue c.assembly.awaited c.assembly.stage v (Ok (Some (record { id = n; command = StoreRq id item.key.class item.uid; body = Some (body.Whole item.body) }))) next
       → (reply : Reply) × pstep s (Arrive c.peer item) (Arrival reply) u × (x ≡ stored (record (with_stage next c) { phase = in_its_phase (moved at.0 Sta6 moment.now) }) n id item.key.class item.uid (status_of reply))
   store_by next n takes =
       let t = told_by pstep moment c v agreed context false at has found s u x r (Some (record { id = n; command = StoreRq id item.key.class item.uid; body = Some (body.Whole item.body) })) next takes in

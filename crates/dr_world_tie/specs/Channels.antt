@@ -31,7 +31,7 @@ use Rattle.dr_dimse.specs.declared.message.Body.TheVariants.{Whole}
 use Rattle.dr_dimse.specs.declared.command.Command.{Command}
 use Rattle.dr_dimse.specs.declared.message.Body.{Body}
 use Rattle.dr_dimse.specs.declared.command.Command.TheVariants.{StoreRq, StoreRsp}
-use Rattle.dr_dimse.specs.Taking.{MessageStage as Taken, Idle, Takes, data_of}
+use Rattle.dr_dimse.specs.Taking.{MessageStage as Taken, Idle, TakesValue, data_of}
 use Rattle.dr_ledger.specs.declared.item.Instance.{Instance}
 use Rattle.dr_nego.specs.declared.agreed.Pair.{Pair}
 use Rattle.dr_nego.specs.declared.agreed.Agreed.{Agreed}
@@ -194,8 +194,8 @@ IsReceiver true Gone caller c = ⊥
 abbrev pub Gets : Awaited → Taken → List Pdv → Message → Type 0
 Gets awaited stage [] m = ⊥
 Gets awaited stage (p ∷ ps) m =
-    ((next : Taken) × Takes awaited stage p (Ok None) next × Gets awaited next ps m)
-    ⊎ (Takes awaited stage p (Ok (Some m)) Idle × (ps ≡ []))
+    ((next : Taken) × TakesValue awaited stage p (Ok None) next × Gets awaited next ps m)
+    ⊎ (TakesValue awaited stage p (Ok (Some m)) Idle × (ps ≡ []))
 
 -- each is the one value of a PDU
 abbrev pub alone : Pdv → Pdu

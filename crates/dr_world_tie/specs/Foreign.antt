@@ -24,7 +24,7 @@ use Rattle.dr_dimse.specs.declared.command.Command.{Command}
 use Rattle.dr_dimse.specs.declared.command.Command.TheVariants.{StoreRq, StoreRsp, EchoRq, EchoRsp}
 use Rattle.dr_dimse.specs.declared.command.Command.TheVariants.{Other as OtherCommand}
 use Rattle.dr_dimse.specs.declared.message.Body.TheVariants.{Whole}
-use Rattle.dr_dimse.specs.Taking.{MessageStage as Taken, Takes as TakesValue}
+use Rattle.dr_dimse.specs.Taking.{MessageStage as Taken, TakesValue}
 use Rattle.dr_ledger.specs.declared.content.Job.{Job}
 use Rattle.dr_ledger.specs.declared.fault.LedgerFault.TheVariants.{NotWaiting}
 use Rattle.dr_ledger.specs.declared.item.Instance.{Instance}

@@ -16,7 +16,7 @@ use Rattle.dr_dimse.specs.declared.message.Awaited.{Awaited}
 use Rattle.dr_dimse.specs.declared.message.Awaited.TheVariants.{Nothing as NothingAwaited}
 use Rattle.dr_dimse.specs.declared.message.Body.{Body}
 use Rattle.dr_dimse.specs.Taking.{MessageStage as Taken, Idle, InCommand, InData, IsAwaited}
-use Rattle.dr_dimse.specs.Taking.{Takes as TakesValue}
+use Rattle.dr_dimse.specs.Taking.{TakesValue}
 use Rattle.dr_ledger.specs.declared.content.Job.{Job}
 use Rattle.dr_ledger.specs.declared.item.Instance.{Instance}
 use Rattle.dr_ledger.specs.Items.{instance_of}

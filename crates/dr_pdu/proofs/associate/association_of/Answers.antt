@@ -5,7 +5,8 @@ use Rattle.dr_pdu.specs.declared.pdu.Front.{Front}
 use Rattle.dr_base.specs.Padding.{unpadded}
 use Rattle.dr_pdu.specs.Items.{Item, AreItems, bodies, first_body}
 use Rattle.dr_pdu.specs.Reads.{items}
-use Rattle.dr_pdu.specs.Grammar.{Each, IsFront, IsGreatestLength, IsAssociation}
+use Rattle.dr_pdu.specs.Grammar.{IsFront, IsGreatestLength, IsAssociation}
+use Rattle.dr_base.specs.Lists.{Each}
 use Rattle.dr_pdu.proofs.ContextLemmas.{items_behind, association_says}
 use Rattle.dr_pdu.proofs.Refusals.{refused}
 use Rattle.dr_pdu.proofs.associate.association_of.Goals as goal

@@ -2,7 +2,7 @@ use Rattle.std.proofs.Common.{◌++◌, ◌∷◌, [], List, ℕ, length, sym, s
 use Rattle.std.proofs.lemmas.Result.{err_from_is_err_and}
 use Rattle.dr_pdu.specs.Items.{bodies}
 use Rattle.dr_pdu.specs.Reads.{items}
-use Rattle.dr_pdu.specs.Grammar.{Each}
+use Rattle.dr_base.specs.Lists.{Each}
 use Rattle.dr_pdu.proofs.EachLemmas.{each_more, each_next, bodies_round, bodies_more}
 use Rattle.dr_pdu.proofs.Refusals.{refused}
 use Rattle.dr_pdu.proofs.associate.contexts_of.Goals as goal

@@ -1,7 +1,7 @@
 use Rattle.std.proofs.Common.{take}
 use Rattle.dr_pdu.specs.Items.{bodies}
 use Rattle.dr_pdu.specs.Reads.{items}
-use Rattle.dr_pdu.specs.Grammar.{Each}
+use Rattle.dr_base.specs.Lists.{Each}
 use Rattle.dr_pdu.proofs.associate.contexts_of.Given as goal
 
 abbrev pub invariant-loop-item : goal.invariant-loop-item

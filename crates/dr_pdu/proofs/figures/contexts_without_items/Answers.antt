@@ -6,7 +6,9 @@ use Rattle.std.specs.Option.{option_map}
 use Rattle.dr_base.specs.Padding.{unpadded}
 use Rattle.dr_pdu.specs.Grammar.{IsProposal, IsBody}
 use Rattle.dr_pdu.specs.Items.{Item, first_body}
-use Rattle.dr_pdu.specs.Vectors.{verification, implicit, front, syntax_alone, class_alone, bare_proposal, bare_items, bare_body}
+use Rattle.dr_pdu.specs.Vectors.{front, syntax_alone, class_alone, bare_proposal, bare_items, bare_body}
+use Rattle.dr_pdu.specs.Written.{implicit}
+use Rattle.dr_base.specs.Standard.{verification}
 use Rattle.dr_pdu.proofs.ContextLemmas.{answer_says, proposal_says, association_says}
 use Rattle.dr_pdu.proofs.figures.contexts_without_items.Goals as goal
 

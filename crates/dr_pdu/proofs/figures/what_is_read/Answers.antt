@@ -1,7 +1,9 @@
 use Rattle.std.proofs.Common.{arith, refl, inl, inr, List, ◌∷◌, [], drop}
 use Rattle.std.specs.Prelude.{codes}
 use Rattle.dr_pdu.specs.Items.{Item}
-use Rattle.dr_pdu.specs.Vectors.{echo_text, echo_command, application_context, ct, verification, explicit, implicit, foreign_proposal, foreign_user, foreign_items, foreign_body, foreign_text}
+use Rattle.dr_pdu.specs.Vectors.{echo_text, echo_command, explicit, foreign_proposal, foreign_user, foreign_items, foreign_body, foreign_text}
+use Rattle.dr_pdu.specs.Written.{implicit}
+use Rattle.dr_base.specs.Standard.{image, verification, application_context}
 use Rattle.dr_pdu.proofs.figures.what_is_read.Goals as goal
 
 pub returns-clause-echo : goal.returns-clause-echo
@@ -27,7 +29,7 @@ returns-clause-reserved_bytes c = (5 ∷ 9 ∷ 0 ∷ 0 ∷ 0 ∷ 4 ∷ 1 ∷ 2 �
 pub returns-clause-foreign : goal.returns-clause-foreign
 returns-clause-foreign c =
     let items : List Item = record { kind = 0x11; body = 7 ∷ 8 ∷ [] } ∷ record { kind = 0x10; body = application_context } ∷ record { kind = 0x20; body = 1 ∷ 1 ∷ 2 ∷ 3 ∷ foreign_proposal } ∷ record { kind = 0x50; body = foreign_user } ∷ [] in
-    let proposed : List Item = record { kind = 0x30; body = ct } ∷ record { kind = 0x30; body = verification } ∷ record { kind = 0x40; body = explicit } ∷ record { kind = 0x40; body = implicit } ∷ [] in
+    let proposed : List Item = record { kind = 0x30; body = image } ∷ record { kind = 0x30; body = verification } ∷ record { kind = 0x40; body = explicit } ∷ record { kind = 0x40; body = implicit } ∷ [] in
     let user : List Item = record { kind = 0x51; body = 0 ∷ 0 ∷ 64 ∷ 0 ∷ [] } ∷ record { kind = 0x52; body = 49 ∷ 46 ∷ 50 ∷ [] } ∷ record { kind = 0x53; body = 0 ∷ 1 ∷ 0 ∷ 1 ∷ [] } ∷ record { kind = 0x54; body = 0 ∷ 0 ∷ 1 ∷ 1 ∷ [] } ∷ record { kind = 0x55; body = 68 ∷ [] } ∷ record { kind = 0x56; body = 9 ∷ [] } ∷ record { kind = 0x57; body = 9 ∷ [] } ∷ record { kind = 0x58; body = 1 ∷ 1 ∷ [] } ∷ record { kind = 0x59; body = [] } ∷ [] in (
       foreign_text,
       [],

@@ -1,7 +1,7 @@
 use Rattle.std.specs.Prelude.{All}
 use Rattle.std.specs.Vec.Iter.{into_iter_items}
 use Rattle.dr_plan_text.specs.declared.words.FlowText.{FlowText}
-use Rattle.dr_plan_core.specs.Reading.{IsSyntax}
+use Rattle.dr_base.specs.Syntaxes.{IsSyntax}
 use Rattle.dr_plan_core.specs.Spelling.{written_flow}
 use Rattle.dr_plan_core.proofs.Typing.{Left}
 use Rattle.dr_plan_core.proofs.typed.flows_of.Given as goal

@@ -1,7 +1,7 @@
 use Rattle.std.proofs.Common.{◌∙◌}
 use Rattle.std.specs.Prelude.{All}
 use Rattle.dr_plan_text.specs.declared.words.AcceptText.{AcceptText}
-use Rattle.dr_plan_core.specs.Reading.{IsSyntax}
+use Rattle.dr_base.specs.Syntaxes.{IsSyntax}
 use Rattle.dr_plan_core.specs.Spelling.{written_row}
 use Rattle.dr_plan_core.proofs.Typing.{all_left, next_known, one_less, none_left, no_items}
 use Rattle.dr_plan_core.proofs.typed.rows_of.Goals as goal

@@ -7,7 +7,7 @@ use Rattle.std.specs.Ordering.{is_lt}
 use Rattle.dr_base.specs.Texts.{Text, text_cmp}
 use Rattle.dr_route.specs.declared.cell.OwnedField.{OwnedField}
 use Rattle.dr_plan_sound.specs.Printed.{printed_field}
-use Rattle.dr_plan_entries.specs.Entering.{AreParts, IsLiteralOf}
+use Rattle.dr_plan_entries.specs.Entering.{ArePartsOf, IsLiteralOf}
 use Rattle.dr_plan_entries.specs.InOrder.{IsInPrintedOrder}
 use Rattle.dr_plan_entries.proofs.FieldLemmas.{all_parts, sorted_fields}
 use Rattle.dr_plan_entries.proofs.fields.parts_of.Goals as goal
@@ -15,7 +15,7 @@ use Rattle.dr_plan_entries.proofs.fields.parts_of.Goals as goal
 pub returns-clause-same : goal.returns-clause-same
 returns-clause-same c =
     let L : List Text → Type 0 = λ ls. (field : OwnedField) → Contains c.add_literals.new.fields.items field ↔ (Contains c.new-fields.result.items field ⊎ IsLiteralOf ls field) in
-    let P : List OwnedField → Type 0 = λ fs. AreParts c.args.values.now fs in
+    let P : List OwnedField → Type 0 = λ fs. ArePartsOf c.args.values.now fs in
     subst P (sym c.from_vec.ensures) (all_parts c.args.values.now c.new-fields.result.items c.add_literals.new.fields.items c.push.new.self.items c.sort_unstable_by.new.self.items
     c.new-fields.ensures.items (subst L c.as_slice.ensures c.in_ok-add_literals.ensures) c.in_ok-push.ensures.items c.sort_unstable_by.ensures.permutation)
 

@@ -1,8 +1,7 @@
 use Rattle.std.proofs.Common.{◌≡◌, ℕ, ◌<◌, inl, inr, sym, ◌∙◌, ap, subst, [], length, get_or, arith}
 use Rattle.std.proofs.lemmas.Bool.{cases_lt, false≢true}
 use Rattle.std.proofs.lemmas.List.{get_or_default}
-use Rattle.dr_base.specs.Texts.{Text}
-use Rattle.dr_route.specs.Routes.{Begins}
+use Rattle.dr_base.specs.Texts.{Text, Begins}
 use Rattle.dr_plan_model.proofs.sending.begins_one.Goals as goal
 
 pub loop-prefix-preserved : goal.loop-prefix-preserved

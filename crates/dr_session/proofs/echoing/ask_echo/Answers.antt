@@ -5,7 +5,7 @@ use Rattle.dr_base.specs.declared.syntax.Syntax.TheVariants.{Implicit}
 use Rattle.dr_dimse.specs.declared.command.Command.TheVariants.{EchoRq}
 use Rattle.dr_nego.specs.declared.agreed.Agreed.{Agreed}
 use Rattle.dr_nego.specs.Agreeing.{context_for}
-use Rattle.dr_nego.specs.Answering.{verification}
+use Rattle.dr_base.specs.Standard.{verification}
 use Rattle.dr_session.specs.declared.ends.Core.{Core}
 use Rattle.dr_session.specs.declared.ends.Effect.{Effect}
 use Rattle.dr_session.specs.declared.ends.LinkAction.{LinkAction}

@@ -1,5 +1,6 @@
 use Rattle.std.proofs.Common.{◌≡◌, All, List, length, refl, rules, subst, sym}
-use Rattle.dr_word_adopt.specs.Changings.{Each, IsChanged, MayChange, OnlyFirstAreChanged}
+use Rattle.dr_word_adopt.specs.Changings.{IsChanged, MayChange, OnlyFirstAreChanged}
+use Rattle.dr_base.specs.Lists.{Each}
 use Rattle.dr_word_adopt.specs.declared.standing.Standing.{Standing}
 use Rattle.dr_word_adopt.proofs.Stepping.{back}
 use Rattle.dr_word_adopt.proofs.adopting.make_change.Goals as goal

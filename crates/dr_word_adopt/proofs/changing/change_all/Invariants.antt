@@ -1,5 +1,6 @@
 use Rattle.std.proofs.Common.{◌≡◌, drop, take}
-use Rattle.dr_word_adopt.specs.Changings.{Each, IsChanged}
+use Rattle.dr_word_adopt.specs.Changings.{IsChanged}
+use Rattle.dr_base.specs.Lists.{Each}
 use Rattle.dr_word_adopt.proofs.changing.change_all.Given as goal
 
 -- those so far are changed, and all others weren't touched

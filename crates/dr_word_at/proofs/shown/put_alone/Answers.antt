@@ -1,4 +1,4 @@
-use Rattle.dr_ledger_report.specs.Reports.{next_field}
+use Rattle.dr_base.specs.Texts.{next_field}
 use Rattle.dr_word_at.proofs.Pieces.{one_field}
 use Rattle.dr_word_at.proofs.shown.put_alone.Goals as goal
 

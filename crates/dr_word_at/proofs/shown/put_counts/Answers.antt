@@ -1,7 +1,7 @@
 use Rattle.std.proofs.Common.{◌∙◌, ◌++◌, ◌∷◌, [], ℕ, List, ap}
 use Rattle.std.specs.Prelude.{codes, decimal}
-use Rattle.dr_base.specs.Texts.{Text}
-use Rattle.dr_ledger_report.specs.Reports.{moment_field, next_field}
+use Rattle.dr_base.specs.Texts.{Text, next_field}
+use Rattle.dr_ledger_report.specs.Reports.{number_field}
 use Rattle.dr_word_at.proofs.Pieces.{as_fields, chained}
 use Rattle.dr_word_at.proofs.shown.put_counts.Goals as goal
 
@@ -17,7 +17,7 @@ returns c =
     let g : Text = next_field (codes "done") in
     let h : Text = next_field (decimal c.args.counted.done) in
     let o : Text = next_field (codes "oldest") in
-    let m : Text = next_field (moment_field c.args.counted.due) in
+    let m : Text = next_field (number_field c.args.counted.due) in
     let l : Text = 10 ∷ [] in
     let added = chained old (word ++ name ++ (a ++ b) ++ (e ++ f) ++ (g ++ h) ++ o ++ m) l c.put_moment.new.out.items c.put_end.new.out.items
     (chained old (word ++ name ++ (a ++ b) ++ (e ++ f) ++ (g ++ h) ++ o) m c.add_field.new.out.items c.put_moment.new.out.items

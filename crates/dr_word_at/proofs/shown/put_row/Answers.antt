@@ -1,7 +1,7 @@
 use Rattle.std.proofs.Common.{◌∙◌, ◌++◌, ◌∷◌, [], ℕ, List, ap, refl}
 use Rattle.std.specs.Prelude.{codes, flat_map}
-use Rattle.dr_base.specs.Texts.{Text}
-use Rattle.dr_ledger_report.specs.Reports.{line_of, next_field}
+use Rattle.dr_base.specs.Texts.{Text, next_field}
+use Rattle.dr_ledger_report.specs.Reports.{line_of}
 use Rattle.dr_word_at.proofs.Pieces.{as_row, chained}
 use Rattle.dr_word_at.proofs.shown.put_row.Goals as goal
 

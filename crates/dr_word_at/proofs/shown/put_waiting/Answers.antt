@@ -1,6 +1,6 @@
 use Rattle.std.proofs.Common.{refl, ◌∷◌, []}
 use Rattle.std.specs.Prelude.{codes, decimal}
-use Rattle.dr_ledger_report.specs.Reports.{next_field}
+use Rattle.dr_base.specs.Texts.{next_field}
 use Rattle.dr_word_at.proofs.Pieces.{three_fields}
 use Rattle.dr_word_at.proofs.shown.put_waiting.Goals as goal
 

@@ -1,7 +1,6 @@
 use Rattle.std.proofs.Common.{◌++◌, ◌∷◌, []}
 use Rattle.std.specs.Prelude.{codes, decimal}
-use Rattle.dr_base.specs.Texts.{Text}
-use Rattle.dr_ledger_report.specs.Reports.{next_field}
+use Rattle.dr_base.specs.Texts.{Text, next_field}
 use Rattle.dr_word_audit.proofs.Pieces.{behind}
 use Rattle.dr_word_audit.proofs.figuring.holds_line.Goals as goal
 

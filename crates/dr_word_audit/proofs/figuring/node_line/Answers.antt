@@ -1,7 +1,6 @@
 use Rattle.std.proofs.Common.{◌∙◌, ◌++◌, ◌∷◌, [], ℕ, List, ap}
 use Rattle.std.specs.Prelude.{codes}
-use Rattle.dr_base.specs.Texts.{Text}
-use Rattle.dr_ledger_report.specs.Reports.{next_field}
+use Rattle.dr_base.specs.Texts.{Text, next_field}
 use Rattle.dr_word_audit.specs.Figures.{figure_fields}
 use Rattle.dr_word_audit.proofs.Pieces.{behind}
 use Rattle.dr_word_audit.proofs.figuring.node_line.Goals as goal

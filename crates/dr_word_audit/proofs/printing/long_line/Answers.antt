@@ -1,7 +1,7 @@
 use Rattle.std.proofs.Common.{◌∙◌, ◌++◌, ◌∷◌, [], ap}
-use Rattle.dr_base.specs.Texts.{Text}
-use Rattle.dr_ledger_report.specs.Reports.{next_field}
-use Rattle.dr_word_audit.specs.Places.{line_start, number_field}
+use Rattle.dr_base.specs.Texts.{Text, next_field}
+use Rattle.dr_word_audit.specs.Places.{line_start}
+use Rattle.dr_ledger_report.specs.Reports.{number_field}
 use Rattle.dr_word_audit.proofs.Pieces.{behind}
 use Rattle.dr_word_audit.proofs.printing.long_line.Goals as goal
 

@@ -1,7 +1,7 @@
 use Rattle.std.proofs.Common.{◌∙◌, ◌++◌, ◌∷◌, [], ℕ, List, Some, ap}
 use Rattle.std.specs.Prelude.{codes, decimal}
-use Rattle.dr_base.specs.Texts.{Text}
-use Rattle.dr_ledger_report.specs.Reports.{moment_field, next_field}
+use Rattle.dr_base.specs.Texts.{Text, next_field}
+use Rattle.dr_ledger_report.specs.Reports.{number_field}
 use Rattle.dr_ledger_views.specs.Views.{how_many}
 use Rattle.dr_ledger_views.specs.declared.stage.Stage.TheVariants as stages
 use Rattle.dr_word_list.proofs.Pieces.{as_fields, chained}
@@ -21,7 +21,7 @@ returns c =
     let g : Text = next_field (codes "done") in
     let h : Text = next_field (decimal (how_many rows dest (Some stages.Done))) in
     let o : Text = next_field (codes "oldest") in
-    let m : Text = next_field (moment_field c.args.oldest) in
+    let m : Text = next_field (number_field c.args.oldest) in
     let l : Text = 10 ∷ [] in
     let named = c.in_ok-add_field.ensures ∙ ap (λ (t : Text). c.extend_from_slice.new.self.items ++ next_field t) c.as_bytes.ensures in
     let added = chained old (word ++ name ++ (a ++ b) ++ (e ++ f) ++ (g ++ h) ++ o ++ m) l c.put_moment.new.out.items c.push.new.self.items

@@ -4,7 +4,7 @@ use Rattle.dr_route.specs.declared.cell.OwnedField.{OwnedField}
 use Rattle.dr_plan_model.specs.Networks.{Network}
 use Rattle.dr_plan_model.specs.declared.plan.Flow.{Flow}
 use Rattle.dr_plan_sound.specs.Printed.{printed_field}
-use Rattle.dr_plan_entries.specs.Entering.{Admits, AllBelow, WantsSyntax, WantsModality}
+use Rattle.dr_plan_entries.specs.Entering.{AdmitsField, AllBelow, WantsSyntax, WantsModality}
 use Rattle.dr_plan_entries.specs.Visiting.{VisitorGoesOn}
 use Rattle.dr_plan_entries.proofs.Orders.{by_modality}
 use Rattle.dr_plan_entries.proofs.Visits.{Picks, picked_is, picked_below, one_more, all_of_them, went_on, found_in_row}
@@ -15,7 +15,7 @@ use Rattle.dr_plan_entries.proofs.sweep.EntrySweep.visit_modalities.Goals as goa
 
 pub visit_left-requires-clause-fit : goal.visit_left-requires-clause-fit
 visit_left-requires-clause-fit g c = λ flow k has at.
-    let S : Flow → Type 0 = λ f. Admits f.modalities c.modality-item.result in
+    let S : Flow → Type 0 = λ f. AdmitsField f.modalities c.modality-item.result in
     let P : List ℕ → Type 0 = λ ks. Contains ks k in
     let Q : List Flow → Type 0 = λ fs. Picks fs c.args.among.now S c.in_ok-here.here.items in
     let n = picked_is c.args.self.now.plan.now.flows c.args.among.now c.in_ok-here.here.items S (subst Q c.flows.ensures.same c.in_ok-here.ensures) k flow
@@ -24,7 +24,7 @@ visit_left-requires-clause-fit g c = λ flow k has at.
 
 pub visit_left-requires-clause-below : goal.visit_left-requires-clause-below
 visit_left-requires-clause-below g c =
-    let S : Flow → Type 0 = λ f. Admits f.modalities c.modality-item.result in
+    let S : Flow → Type 0 = λ f. AdmitsField f.modalities c.modality-item.result in
     let P : List ℕ → Type 0 = λ ks. AllBelow ks c.args.self.now.plan.now.flows in
     let Q : List Flow → Type 0 = λ fs. Picks fs c.args.among.now S c.in_ok-here.here.items in
     subst P (sym c.as_slice-left.ensures.value)
@@ -32,7 +32,7 @@ visit_left-requires-clause-below g c =
 
 pub visit_left-requires-clause-row : goal.visit_left-requires-clause-row
 visit_left-requires-clause-row g c =
-    let S : Flow → Type 0 = λ f. Admits f.modalities c.modality-item.result in
+    let S : Flow → Type 0 = λ f. AdmitsField f.modalities c.modality-item.result in
     let P : List ℕ → Type 0 = λ ks. IsStationRow c.args.self.now.plan.now ks c.args.stations.now in
     let Q : List Flow → Type 0 = λ fs. Picks fs c.args.among.now S c.in_ok-here.here.items in
     let picks = subst Q c.flows.ensures.same c.in_ok-here.ensures in
@@ -43,7 +43,7 @@ pub loop-modality-preserved : goal.loop-modality-preserved
 loop-modality-preserved g c =
     let plan : Network = c.args.self.now.plan.now in
     let items : List OwnedField = c.args.row.now in
-    let S : Flow → Type 0 = λ f. Admits f.modalities c.modality-item.result in
+    let S : Flow → Type 0 = λ f. AdmitsField f.modalities c.modality-item.result in
     let Q : List Flow → Type 0 = λ fs. Picks fs c.args.among.now S c.in_ok-here.here.items in
     let H : List ℕ → Type 0 = λ ks. Picks plan.flows c.args.among.now S ks in
     let picks : H c.as_slice-left.result.now = subst H (sym c.as_slice-left.ensures.value) (subst Q c.flows.ensures.same c.in_ok-here.ensures) in
@@ -60,7 +60,7 @@ pub returns-then-is_some : goal.returns-then-is_some
 returns-then-is_some g c =
     let plan : Network = c.args.self.now.plan.now in
     let items : List OwnedField = c.args.row.now in
-    let S : Flow → Type 0 = λ f. Admits f.modalities c.modality-item.result in
+    let S : Flow → Type 0 = λ f. AdmitsField f.modalities c.modality-item.result in
     let Q : List Flow → Type 0 = λ fs. Picks fs c.args.among.now S c.in_ok-here.here.items in
     let H : List ℕ → Type 0 = λ ks. Picks plan.flows c.args.among.now S ks in
     let picks : H c.as_slice-left.result.now = subst H (sym c.as_slice-left.ensures.value) (subst Q c.flows.ensures.same c.in_ok-here.ensures) in

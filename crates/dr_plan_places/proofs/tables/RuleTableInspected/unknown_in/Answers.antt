@@ -1,8 +1,8 @@
 use Rattle.toml.specs.View.{table_view}
 use Rattle.dr_plan_text.specs.Tables.{rule_keys}
-use Rattle.dr_plan_places.specs.FieldFlaws.{IsRuleOf}
+use Rattle.dr_plan_places.specs.FieldFlaws.{IsRuleText}
 use Rattle.dr_plan_places.proofs.FieldsFlawed.{unknown_found}
 use Rattle.dr_plan_places.proofs.tables.RuleTableInspected.unknown_in.Goals as goal
 
 pub returns : goal.returns
-returns c = λ format. unknown_found (IsRuleOf format) (table_view c.args.table.now) rule_keys (λ other x is. is.0.only) c.unknown_key.result c.unknown_key.ensures
+returns c = λ format. unknown_found (IsRuleText format) (table_view c.args.table.now) rule_keys (λ other x is. is.0.only) c.unknown_key.result c.unknown_key.ensures
