@@ -1,6 +1,7 @@
 -- The nodes of a plan, and the values that it names.
-use Rattle.std.specs.Prelude.{◌≡◌, List, ◌++◌, Contains, flat_map}
-use Rattle.dr_base.specs.Texts.{Text}
+use Rattle.std.specs.Prelude.{◌≡◌, List, ◌++◌, Contains, flat_map, map as mapped}
+use Rattle.std.specs.Prelude.{IsPermutation, IsSorted}
+use Rattle.dr_base.specs.Texts.{Text, text_cmp}
 use Rattle.dr_route.specs.declared.cell.Literals.{Literals}
 use Rattle.dr_route.specs.declared.cell.OwnedCell.{OwnedCell}
 use Rattle.dr_route.specs.declared.key.Key.{Key}
@@ -29,6 +30,11 @@ IsTheNode plan name node =
 -- no node of the plan has that name
 abbrev pub NamesNoNode : Network → Text → Type 0
 NamesNoNode plan name = (node : Node) → IsNode plan name node → ⊥
+
+-- the names of the plan's nodes, in byte order
+pub record AreNames (plan : Network) (names : List Text) : Type 0 where
+  pub all : IsPermutation (mapped (λ node. node.name) plan.nodes) names
+  pub sorted : IsSorted text_cmp names
 
 -- the values that the plan names, in its rules and in its flows
 abbrev pub named_in : Attribute → Network → List Text

@@ -7,9 +7,11 @@ pub mod entering;
 pub mod laws;
 pub mod listed;
 pub mod literals;
+mod names;
 pub mod plan;
 mod same;
 pub mod sending;
 
 pub use listed::Listed;
+pub use names::names_of;
 pub use plan::{Flow, Format, Node, Plan, Stations, Values};

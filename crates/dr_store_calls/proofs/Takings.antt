@@ -29,7 +29,7 @@ use Rattle.dr_store_schema.specs.Books.{AreBelow, arrivals_in, bodies_of, book_o
 use Rattle.dr_store_writes.specs.Effects.{arrived_line}
 use Rattle.dr_store_changes.specs.declared.first.Taking.{Taking}
 use Rattle.dr_store_changes.specs.declared.first.Taking.TheVariants as taking
-use Rattle.dr_store_changes.specs.Bringing.{AreNames, Brings, GoNowhere, IsKnownFor, bodies_taken, given_up, missing, names_for}
+use Rattle.dr_store_changes.specs.Bringing.{AreTargets, Brings, GoNowhere, IsKnownFor, bodies_taken, given_up, missing, names_for}
 use Rattle.dr_store_changes.specs.Changes.{AddsOnlyLine, with_names}
 use Rattle.dr_store_changes.proofs.Bookings.{repeats_repeat}
 use Rattle.dr_store_changes.proofs.Joins.{arrivals_arrive, data_sets_come}
@@ -55,7 +55,7 @@ known_same taking.Again item found known held is = sym (inside item held (sym kn
 known_same taking.Nothing item found known held is = sym (inside item held (sym known ∙ is))
 
 module _ (n : ℕ) (part : Part) (how : Taking) (caller : Text) (item : Job) (to : List Text) (keep : Bool) (again dests : List Text) (keeps : Bool) (base db : Trees) (is_item : IsItem item)
-    (line : HasLineFor part caller item.key) (to_is : to ≡ (site_routing part).targets caller item.key) (keep_is : keep ≡ (site_routing part).keeps caller item.key) (names : AreNames to)
+    (line : HasLineFor part caller item.key) (to_is : to ≡ (site_routing part).targets caller item.key) (keep_is : keep ≡ (site_routing part).keeps caller item.key) (names : AreTargets to)
     (below : AreBelow n (base 11)) (l : IsLedgerOf n part base) (f : FitsTables how caller item to keep again dests keeps base)
     (w : Brings how caller (instance_of item) item.body again dests keeps (names_for keep to) n base db) where
   abbrev instance : Instance

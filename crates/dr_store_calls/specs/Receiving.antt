@@ -15,7 +15,7 @@ use Rattle.dr_ledger.specs.Items.{IsItem, instance_of}
 use Rattle.dr_ledger.specs.Replies.{Arrives}
 use Rattle.dr_ledger.specs.SiteRoutes.{site_routing}
 use Rattle.dr_store_schema.specs.Books.{all_kept_in, arrivals_in, bodies_of, book_of, rows_of}
-use Rattle.dr_store_changes.specs.Bringing.{AreNames, given_up, missing}
+use Rattle.dr_store_changes.specs.Bringing.{AreTargets, given_up, missing}
 use Rattle.dr_store_calls.specs.declared.bringing.Delivery.{Delivery}
 use Rattle.dr_store_calls.specs.declared.bringing.FirstArrival.{FirstArrival}
 use Rattle.dr_store_calls.specs.Calling.{Called, advanced}
@@ -34,7 +34,7 @@ pub record IsDelivered (came : Delivery) : Type 0 where
 pub record AreTargetsOf (came : Delivery) (targets : Targets) : Type 0 where
   pub to : targets.to ≡ (site_routing came.site.now).targets came.caller.now came.item.now.key
   pub keep : targets.keep ≡ (site_routing came.site.now).keeps came.caller.now came.item.now.key
-  pub formed : AreNames targets.to
+  pub formed : AreTargets targets.to
 
 -- ---- what the tables have of it
 

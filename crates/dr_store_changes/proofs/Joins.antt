@@ -35,7 +35,7 @@ use Rattle.dr_store_writes.specs.Effects.{arrived_line}
 use Rattle.dr_store_writes.proofs.Maps.{equal}
 use Rattle.dr_store_changes.specs.declared.first.Taking.{Taking}
 use Rattle.dr_store_changes.specs.declared.first.Taking.TheVariants as taking
-use Rattle.dr_store_changes.specs.Bringing.{AreNames, Brings, IsKnownFor, bodies_taken, items_taken, names_for}
+use Rattle.dr_store_changes.specs.Bringing.{AreTargets, Brings, IsKnownFor, bodies_taken, items_taken, names_for}
 use Rattle.dr_store_changes.specs.Changes.{with_names}
 use Rattle.dr_store_changes.specs.Laws.{ArrivalsArrive, ComesWhereNeeded, DataSetsCome}
 use Rattle.dr_store_changes.proofs.Bookings.{came}
@@ -122,7 +122,7 @@ names_got (x ∷ more) names q =
 no_names : Names
 no_names = map.empty
 
-module _ (keep : Bool) (to : List Text) (names : AreNames to) where
+module _ (keep : Bool) (to : List Text) (names : AreTargets to) where
   abbrev all : Names
   all = with_names map.empty (names_for keep to)
 

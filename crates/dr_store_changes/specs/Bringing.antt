@@ -115,8 +115,8 @@ abbrev pub names_for : Bool → List Text → List Text
 names_for keep to = cond keep (local ∷ to) to
 
 -- these are names of nodes in byte order, each once; `-` is none
-abbrev pub AreNames : List Text → Type 0
-AreNames to = IsInByteOrder to × (Contains to local → ⊥)
+abbrev pub AreTargets : List Text → Type 0
+AreTargets to = IsInByteOrder to × (Contains to local → ⊥)
 
 -- what stands at the uid of an item that is taken so
 abbrev pub IsKnownFor : Taking → Instance → Option Instance → Type 0

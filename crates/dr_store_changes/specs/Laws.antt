@@ -22,7 +22,7 @@ use Rattle.dr_store_schema.specs.Books.{rows_of}
 use Rattle.dr_store_writes.specs.Effects.{arrived_line, requeued_line, settled_line}
 use Rattle.dr_store_changes.specs.declared.first.Taking.{Taking}
 use Rattle.dr_store_changes.specs.declared.first.Taking.TheVariants as taking
-use Rattle.dr_store_changes.specs.Bringing.{AreNames, Brings, GoNowhere, IsKnownFor, bodies_taken}
+use Rattle.dr_store_changes.specs.Bringing.{AreTargets, Brings, GoNowhere, IsKnownFor, bodies_taken}
 use Rattle.dr_store_changes.specs.Bringing.{given_up, missing, names_for}
 use Rattle.dr_store_changes.specs.Changes.{AddsOnlyLine, GivesUp, MovesOn, TakesOut}
 
@@ -99,7 +99,7 @@ ArrivalsArrive =
     (to : List Text) (keep : Bool)
     → AreBelow n (old 11) → GoNowhere n old
     → IsKnownFor how item (map.get (items_of old) item.uid)
-    → AreNames to
+    → AreTargets to
     → Brings how caller item body (given_up (rows_of old) item.uid to)
     (missing (rows_of old) item.uid to)
     (keep && not (set.contains (all_kept_in (old 7)) item.uid)) (names_for keep to) n old new

@@ -10,9 +10,10 @@ use Rattle.dr_ledger.specs.Pairs.{Pair}
 use Rattle.dr_run_open.specs.declared.halt.Halt.{Halt}
 use Rattle.dr_run_open.specs.declared.halt.Halt.TheVariants.{Memory}
 use Rattle.dr_site.specs.Parts.{Part}
-use Rattle.dr_word_adopt.specs.Changes.{AreFirst, AreNames, ChangesBetween, IsAsOpened, IsReady, IsUnfitAt, StopsAt, came_of, name_by}
-use Rattle.dr_word_adopt.specs.Changings.{IsChanged, IsUnchanged, OnlyFirstAreChanged}
 use Rattle.dr_base.specs.Lists.{Each}
+use Rattle.dr_plan_model.specs.Plans.{AreNames}
+use Rattle.dr_word_adopt.specs.Changes.{AreFirst, ChangesBetween, IsAsOpened, IsReady, IsUnfitAt, StopsAt, came_of, name_by}
+use Rattle.dr_word_adopt.specs.Changings.{IsChanged, IsUnchanged, OnlyFirstAreChanged}
 use Rattle.dr_word_adopt.specs.Lookings.{AllLookAs, IsUnseen, LooksAs, MayAdd}
 use Rattle.dr_word_adopt.specs.declared.change.Changeover.{Changeover}
 use Rattle.dr_word_adopt.specs.declared.change.Changeover.TheVariants.{Made, Unfit}

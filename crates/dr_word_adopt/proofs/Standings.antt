@@ -15,11 +15,12 @@ use Rattle.dr_run_open.specs.declared.halt.Halt.{Halt}
 use Rattle.dr_run_open.specs.declared.halt.Halt.TheVariants.{NoPlan, NoCertificate, NoNode, NotOpened, NoInstance, Refused, Receipt, Failed, Memory}
 use Rattle.dr_plan_model.proofs.Gathered.{Contains-cons_cases, Contains-here, Contains-there, nothing_in_nil}
 use Rattle.dr_plan_model.specs.Networks.{Network}
-use Rattle.dr_plan_model.specs.Plans.{NamesNoNode}
+use Rattle.dr_plan_model.specs.declared.plan.Node.{Node}
+use Rattle.dr_plan_model.specs.Plans.{AreNames, NamesNoNode}
 use Rattle.dr_site.specs.Parts.{Part, IsPartOf}
-use Rattle.dr_word_adopt.specs.Changes.{AreFirst, AreNames, IsAsOpened, IsLeft, IsOver, IsReady, IsSiteAt, IsUnfitAt, OnlyFirstAreOver, StopsAt, UnfitLeavesAll, name_by, name_of, path_in}
-use Rattle.dr_word_adopt.specs.Changings.{IsChanged, IsKept, IsUnchanged, MayChange, OnlyFirstAreChanged}
 use Rattle.dr_base.specs.Lists.{Each}
+use Rattle.dr_word_adopt.specs.Changes.{AreFirst, IsAsOpened, IsLeft, IsOver, IsReady, IsSiteAt, IsUnfitAt, OnlyFirstAreOver, StopsAt, UnfitLeavesAll, name_by, path_in}
+use Rattle.dr_word_adopt.specs.Changings.{IsChanged, IsKept, IsUnchanged, MayChange, OnlyFirstAreChanged}
 use Rattle.dr_word_adopt.specs.Lookings.{IsFound, IsSeen, IsUnseen, LooksInto, StandsAt, stood}
 use Rattle.dr_word_adopt.specs.declared.standing.Standing.{Standing}
 use Rattle.dr_word_adopt.specs.declared.standing.Standing.TheVariants.{Ready, Over}
@@ -37,7 +38,8 @@ unmapped f (x ∷ xs) y among = elim (Contains-cons_cases (f x) (map f xs) y amo
 -- one of the names of a plan's nodes is the name of a node
 named : (plan : Network) (names : List Text) (name : Text) → AreNames plan names → Contains names name → NamesNoNode plan name → ⊥
 named plan names name are among none =
-    let found = unmapped name_of plan.nodes name (Contains-permutation names (map name_of plan.nodes) name (IsPermutation-sym (map name_of plan.nodes) names are.all) among) in
+    let shown = map (λ (node : Node). node.name) plan.nodes in
+    let found = unmapped (λ (node : Node). node.name) plan.nodes name (Contains-permutation names shown name (IsPermutation-sym shown names are.all) among) in
     none found.0 (found.1, found.2)
 
 module _ {L : Type 0} (opens : Text → L → Type 0) (site_of : L → Part) (book : L → Book) (stands : L → Type 0) (folder : Text) (old next : Certified) where

@@ -1,8 +1,8 @@
 -- The change of the plan at all nodes: each node's ledger is looked into, and only then each is
 -- brought over.
 use Rattle.std.specs.Prelude.{◌≡◌, ◌⊎◌, List, [], ◌∷◌, ◌++◌, codes, map as mapped, All, Contains}
-use Rattle.std.specs.Prelude.{IsPermutation, IsSorted, Some, Result, Ok, Err}
-use Rattle.dr_base.specs.Texts.{Text, text_cmp}
+use Rattle.std.specs.Prelude.{Some, Result, Ok, Err}
+use Rattle.dr_base.specs.Texts.{Text}
 use Rattle.dr_cert.specs.Sealing.{Certified}
 use Rattle.dr_ledger.specs.Adopting.{IsFit, Unfits}
 use Rattle.dr_ledger.specs.Books.{Book, Adoption, after}
@@ -13,23 +13,13 @@ use Rattle.dr_run_open.specs.declared.halt.Halt.TheVariants.{NotOpened, NoInstan
 use Rattle.dr_run_open.specs.declared.halt.Halt.TheVariants.{Receipt, Failed, Memory}
 use Rattle.dr_word_line.specs.declared.words.PlanChange.{PlanChange}
 use Rattle.dr_plan_model.specs.Networks.{Network}
-use Rattle.dr_plan_model.specs.Plans.{NamesNoNode}
-use Rattle.dr_plan_model.specs.declared.plan.Node.{Node}
+use Rattle.dr_plan_model.specs.Plans.{AreNames, NamesNoNode}
 use Rattle.dr_site.specs.Parts.{Part, IsPartOf}
 use Rattle.dr_word_adopt.specs.declared.change.Changeover.{Changeover}
 use Rattle.dr_word_adopt.specs.declared.change.Changeover.TheVariants.{Made, Unfit}
 use Rattle.dr_word_adopt.specs.declared.change.Halted.{Halted}
 use Rattle.dr_word_adopt.specs.declared.standing.Standing.{Standing}
 use Rattle.dr_word_adopt.specs.declared.standing.Standing.TheVariants.{Ready, Over}
-
--- the name of a node
-abbrev pub name_of : Node → Text
-name_of node = node.name
-
--- the names of the plan's nodes, each once, in byte order
-pub record AreNames (plan : Network) (names : List Text) : Type 0 where
-  pub all : IsPermutation (mapped name_of plan.nodes) names
-  pub sorted : IsSorted text_cmp names
 
 -- the path of a node's ledger in the folder
 abbrev pub path_in : Text → Text → Text

@@ -1,6 +1,7 @@
 //! The word `adopt`.
 ghost use Rattle.std.specs.Prelude.{◌≡◌, [], All, IfOk, MatchResult, Ok, Err};
-ghost use Rattle.dr_word_adopt.specs.Changes.{AreNames, AreSealed, AreUnsealed, Changes};
+ghost use Rattle.dr_plan_model.specs.Plans.{AreNames};
+ghost use Rattle.dr_word_adopt.specs.Changes.{AreSealed, AreUnsealed, Changes};
 ghost use Rattle.dr_word_adopt.specs.Changes.{ChangesBetween, came_of};
 ghost use Rattle.dr_word_adopt.specs.Changings.{IsChanged, IsUnchanged, MayChange};
 ghost use Rattle.dr_base.specs.Lists.{Each};
@@ -10,11 +11,12 @@ ghost use Rattle.dr_word_adopt.specs.Endings.{AdoptsFiles, EndsChange, unfit_lin
 use crate::change::{Changeover, Halted};
 use crate::changing::change_all;
 use crate::looking::look_at_all;
-use crate::names::{missing_in, names_of};
+use crate::names::missing_in;
 use crate::standing::Standing;
 use dr_base::Text;
 use dr_cert::Sealed;
 use dr_ledger::Ledger;
+use dr_plan_model::names_of;
 use dr_run_files::{Failure, Files};
 use dr_run_open::{Halt, Ledgers, Status, seal_files, tell_halt};
 use dr_word_line::PlanChange;

@@ -19,4 +19,4 @@ mod standing;
 pub use adopting::{adopt_files, seal_both, tell_stop, unfit_text};
 pub use change::Halted;
 pub use looking::{part_of, parts_of, path_of};
-pub use names::{missing_in, names_of};
+pub use names::missing_in;

@@ -4,13 +4,13 @@ use Rattle.std.specs.Prelude.{Err}
 use Rattle.dr_base.specs.Texts.{Text}
 use Rattle.dr_cert.specs.Sealing.{Certified}
 use Rattle.dr_ledger.specs.Books.{Book}
-use Rattle.dr_plan_model.specs.Plans.{NamesNoNode}
+use Rattle.dr_plan_model.specs.Plans.{AreNames, NamesNoNode}
 use Rattle.dr_run_open.specs.declared.halt.Halt.{Halt}
 use Rattle.dr_run_open.specs.declared.halt.Halt.TheVariants.{NoPlan, NoCertificate, NoNode}
 use Rattle.dr_run_open.specs.declared.halt.Halt.TheVariants.{NotOpened, NoInstance, Refused}
 use Rattle.dr_run_open.specs.declared.halt.Halt.TheVariants.{Receipt, Failed, Memory}
 use Rattle.dr_site.specs.Parts.{Part}
-use Rattle.dr_word_adopt.specs.Changes.{AreNames, AreSealed, AreUnsealed}
+use Rattle.dr_word_adopt.specs.Changes.{AreSealed, AreUnsealed}
 use Rattle.dr_word_adopt.specs.declared.change.Halted.{Halted}
 use Rattle.dr_word_line.specs.declared.words.PlanChange.{PlanChange}
 use Rattle.dr_word_rehearse.specs.Looks.{IsLooked}

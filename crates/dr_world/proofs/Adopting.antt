@@ -52,7 +52,8 @@ use Rattle.dr_world.specs.Adopted.{AddsAbsent, AddsIn, AllJoin, AllStay, AllTake
 use Rattle.dr_world.specs.Adopted.{AreJoining}
 use Rattle.dr_world.specs.Adopted.{AreNodes, ChangesTo, ComesTo, Finds, HasGoneOver, IsFirstUnfit}
 use Rattle.dr_world.specs.Adopted.{LooksAt, TakesAt, Took, is_on, is_on_at, some_is_on}
-use Rattle.dr_world.specs.Founding.{AreNames, Founds, IsFounded}
+use Rattle.dr_plan_model.specs.Plans.{AreNames}
+use Rattle.dr_world.specs.Founding.{Founds, IsFounded}
 use Rattle.dr_world.specs.Nodes.{AllStandIn, over_at, seat_of, seats_of}
 use Rattle.dr_world.specs.Reports.{AreNamesOf, AreSameNodes, IsSameNode, books_of}
 use Rattle.dr_world.specs.Shows.{HasSide, IsSeated, LinkedAt, Seat, ShowsBytes, desk_at}
@@ -1055,13 +1056,13 @@ module _ {L : Type 0} {l : Ghosts L} (nodes : BTreeMap Text (Node L l)) (every :
       let same : take i every ≡ every = take_all i every whole in (
         λ among. let h = (so q).0 among in
             let in_plan : Contains listed q = Contains-permutation every listed q
-            (IsPermutation-sym listed every are.0)
+            (IsPermutation-sym listed every are.all)
             (subst (λ (ns : List Text). Contains ns q) same h.0) in
             let n = named_node plan.nodes q in_plan in ((n.0, (n.1, n.2)), h.1),
         λ h. (so q).1 (
           subst
               (λ (ns : List Text). Contains ns q) (sym same)
-              (Contains-permutation listed every q are.0
+              (Contains-permutation listed every q are.all
               (name_among plan.nodes h.0.0 q h.0.1.0 h.0.1.1)),
           h.1,
         ),

@@ -17,7 +17,8 @@ use Rattle.dr_ledger.specs.declared.ledger.Ledger.{Ghosts}
 use Rattle.dr_ledger.proofs.Maps.{texts, same_or_not, ties_itself}
 use Rattle.dr_world_model.specs.Worlds.{same_text}
 use Rattle.dr_node.specs.declared.node.Node.{Node}
-use Rattle.dr_world.specs.Founding.{AreFounded, AreNames, Founds, IsFounded, IsUnfitAt, SomeIsUnfit}
+use Rattle.dr_plan_model.specs.Plans.{AreNames}
+use Rattle.dr_world.specs.Founding.{AreFounded, Founds, IsFounded, IsUnfitAt, SomeIsUnfit}
 use Rattle.dr_world.specs.declared.fault.WorldFault.{WorldFault}
 use Rattle.dr_site.specs.Parts.{Part}
 use Rattle.std.specs.Prelude.{IfErr, IsErrAnd, Result, Ok, Err}
@@ -116,7 +117,7 @@ module _ {L : Type 0} {l : Ghosts L} (plan : Network) (certificate : Certificate
   seated are = record {
     each = λ name seat e. (let h = seat_in name seat e in let at = f.each name h.0 h.1 in
         (ap (λ (s : Seat). s.site.name) (sym h.2) ∙ at.named, subst (λ (s : Seat). IsPartOf plan certificate s.site) h.2 at.part));
-    all = λ name has. (let among = Contains-permutation (map (λ node. node.name) plan.nodes) names name are.0 (name_among plan.nodes has.0 name has.1.0 has.1.1) in
+    all = λ name has. (let among = Contains-permutation (map (λ node. node.name) plan.nodes) names name are.all (name_among plan.nodes has.0 name has.1.0 has.1.1) in
         let h = f.all name among in (seat_of h.0, ap (option_map seat_of) h.1));
   }
 

@@ -1,12 +1,12 @@
 -- How a world begins: each node of a plan over a new ledger of its own site.
 use Rattle.std.specs.Prelude.{◌≡◌, ◌≢◌, ◌⊎◌, ◌++◌, ◌∷◌, ℕ, Bool, true, false, List, [], ◌<◌, length}
-use Rattle.std.specs.Prelude.{get_or, map as mapped, Contains, Some}
-use Rattle.std.specs.List.Sorted.{IsPermutation, IsSorted}
+use Rattle.std.specs.Prelude.{get_or, Contains, Some}
 use Rattle.std.specs.FinMap as map
 use Rattle.std.specs.BTreeMap as tree
 use Rattle.std.specs.BTreeMap.{BTreeMap}
 use Rattle.dr_base.specs.Texts.{Text, text_cmp}
 use Rattle.dr_plan_model.specs.Networks.{Network}
+use Rattle.dr_plan_model.specs.Plans.{AreNames}
 use Rattle.dr_plan_sound.specs.declared.certificate.Certificate.{Certificate}
 use Rattle.dr_site.specs.Parts.{IsPartOf, Part}
 use Rattle.dr_ledger.specs.Books.{Book}
@@ -21,11 +21,6 @@ use Rattle.dr_world.specs.declared.fault.WorldFault.TheVariants.{Memory}
 abbrev pub SaysEmpty : Book → Bool → Type 0
 SaysEmpty b true = b.lines ≡ []
 SaysEmpty b false = b.lines ≢ []
-
--- the names of the plan's nodes, in byte order
-abbrev pub AreNames : Network → List Text → Type 0
-AreNames plan names =
-    IsPermutation (mapped (λ node. node.name) plan.nodes) names × IsSorted text_cmp names
 
 -- A node as it begins: its own part of the plan, no link, a store that isn't to refuse, and a
 -- journal without a line.

@@ -3,7 +3,7 @@ ghost use Rattle.std.specs.Prelude.{◌≡◌, ◌≢◌, [], IfErr, IfOk, OnOk,
 ghost use Rattle.std.specs.Vec.{vec_len};
 ghost use Rattle.std.specs.FinMap as map;
 ghost use Rattle.dr_ledger.specs.Replies.{HasRisen};
-ghost use Rattle.dr_world.specs.Founding.{AreFounded, AreNames, Founds, HasCause, IsUnfit};
+ghost use Rattle.dr_world.specs.Founding.{AreFounded, Founds, HasCause, IsUnfit};
 ghost use Rattle.dr_world.specs.Founding.{IsUnfitAt, SaysEmpty, SaysFilled, SomeIsUnfit};
 ghost use Rattle.dr_world.specs.declared.fault.WorldFault.TheVariants.{Store as StoreFault};
 ghost use Rattle.dr_world.specs.declared.fault.WorldFault.TheVariants.{WrongLedgers as WrongFault};
@@ -16,9 +16,9 @@ use dr_base::Text;
 use dr_cert::Sealed;
 use dr_ledger::{Ledger, LedgerFault, Refusing};
 use dr_node::Node;
-use dr_plan_model::Plan;
+use dr_plan_model::names_of;
 use dr_site::Site;
-use std::alloc::{AllocError, Global};
+use std::alloc::Global;
 use std::collections::BTreeMap;
 
 /// Whether a ledger has nothing yet: its journal has no line.
@@ -104,18 +104,6 @@ pub(crate) fn seat<L: Ledger + Drop>(
     let name = name.clone()?;
     drop(nodes.insert(name, node)?);
     Ok(())
-}
-
-/// The names of a plan's nodes, in byte order.
-pub fn names_of(alloc: Global, plan: &Plan) -> Result<Vec<Text>, AllocError>
-    ensures { IfOk result (λ names. AreNames plan.now names.items) }
-{
-    let mut names = Vec::new(alloc);
-    for node in plan.nodes() {
-        names.push(node.name.clone()?)?;
-    }
-    names.sort()?;
-    Ok(names)
 }
 
 /// Each node over the ledger at its place.

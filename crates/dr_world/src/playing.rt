@@ -11,12 +11,12 @@ ghost use Rattle.dr_world.specs.declared.fault.WorldFault.TheVariants.{WrongLedg
 use crate::changing::Change;
 use crate::deed::Deed;
 use crate::fault::WorldFault;
-use crate::founding::names_of;
 use crate::world::World;
 use dr_base::{Seq, Text};
 use dr_cert::Sealed;
 use dr_ledger::Refusing;
 use dr_ledger_memory::MemoryLedger;
+use dr_plan_model::names_of;
 use dr_site::{Site, SiteFault};
 use std::alloc::Global;
 

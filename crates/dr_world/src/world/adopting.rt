@@ -8,14 +8,14 @@ ghost use Rattle.dr_world.specs.declared.fault.WorldFault.{WorldFault as FaultVa
 
 use crate::changing::{Change, are_nodes, look_at_all, some_is_on, take_all};
 use crate::fault::WorldFault;
-use crate::founding::{names_of, seat};
+use crate::founding::seat;
 use crate::listing::names_in;
 use crate::world::World;
 use dr_base::Text;
 use dr_cert::Sealed;
 use dr_ledger::{Ledger, Refusing};
 use dr_node::Node;
-use dr_plan_model::Plan;
+use dr_plan_model::{Plan, names_of};
 use std::alloc::{AllocError, Global};
 use std::collections::BTreeMap;
 

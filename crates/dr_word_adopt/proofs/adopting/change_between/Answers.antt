@@ -5,8 +5,8 @@ use Rattle.dr_base.specs.Texts.{Text}
 use Rattle.dr_run_open.specs.declared.halt.Halt.{Halt}
 use Rattle.dr_run_open.specs.declared.halt.Halt.TheVariants.{Memory}
 use Rattle.dr_plan_model.specs.Networks.{Network}
-use Rattle.dr_plan_model.specs.Plans.{NamesNoNode}
-use Rattle.dr_word_adopt.specs.Changes.{AreNames, ChangesBetween, IsAsOpened, StopsAt}
+use Rattle.dr_plan_model.specs.Plans.{AreNames, NamesNoNode}
+use Rattle.dr_word_adopt.specs.Changes.{ChangesBetween, IsAsOpened, StopsAt}
 use Rattle.dr_word_adopt.specs.declared.change.Changeover.{Changeover}
 use Rattle.dr_word_adopt.specs.declared.standing.Standing.{Standing}
 use Rattle.dr_word_adopt.proofs.Changed.{came_as}

@@ -3,10 +3,9 @@ use Rattle.std.specs.Prelude.{Contains}
 use Rattle.std.proofs.lemmas.List.Elements.{All-nil}
 use Rattle.dr_base.specs.Texts.{Text}
 use Rattle.dr_plan_model.specs.Networks.{Network}
-use Rattle.dr_plan_model.specs.Plans.{NamesNoNode}
+use Rattle.dr_plan_model.specs.Plans.{AreNames, NamesNoNode}
 use Rattle.dr_run_open.specs.declared.halt.Halt.{Halt}
 use Rattle.dr_run_open.specs.declared.halt.Halt.TheVariants.{Memory}
-use Rattle.dr_word_adopt.specs.Changes.{AreNames}
 use Rattle.dr_word_rehearse.specs.Looks.{IsLooked}
 use Rattle.dr_word_rehearse.specs.Rehearsals.{AreLooked, LooksAt, RehearsesBetween}
 use Rattle.dr_word_rehearse.specs.declared.looking.Looked.{Looked}

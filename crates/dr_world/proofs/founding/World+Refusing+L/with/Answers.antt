@@ -1,7 +1,8 @@
 use Rattle.std.proofs.Common.{List, inr, sym, subst}
 use Rattle.dr_base.specs.Texts.{Text}
 use Rattle.dr_plan_model.specs.Networks.{Network}
-use Rattle.dr_world.specs.Founding.{AreNames, HasCause, IsUnfit}
+use Rattle.dr_plan_model.specs.Plans.{AreNames}
+use Rattle.dr_world.specs.Founding.{HasCause, IsUnfit}
 use Rattle.dr_world.proofs.Founded.{passed_on, reached}
 use Rattle.dr_world.proofs.founding.World+Refusing+L.with.Goals as goal
 

@@ -1,6 +1,6 @@
 use Rattle.std.proofs.Common.{List, sym, subst}
 use Rattle.dr_base.specs.Texts.{Text}
-use Rattle.dr_world.specs.Founding.{AreNames}
+use Rattle.dr_plan_model.specs.Plans.{AreNames}
 use Rattle.dr_world.proofs.Adopting.{joins_all, joins_on}
 use Rattle.dr_world.proofs.world.adopting.joining_in.Goals as goal
 
