@@ -1,5 +1,6 @@
 pub mod Calls
 pub mod Copies
+pub mod Numbers
 pub mod Padding
 pub mod Runs
 pub mod Syntaxes

@@ -1,7 +1,10 @@
-//! Lines of fields, each behind a tab, as certificates, findings and reports have them.
-ghost use Rattle.std.specs.Prelude.{◌≡◌, ◌++◌, ◌∷◌, OnOk, decimal};
+//! Lines of fields, each behind a tab, as certificates, findings and reports have them, and numbers
+//! in decimal digits.
+ghost use Rattle.std.specs.Prelude.{◌≡◌, ◌++◌, ◌∷◌, ℕ, MatchOption, OnOk, decimal};
+ghost use Rattle.dr_base.specs.Numbers.{IsNumeral};
 
 use std::alloc::AllocError;
+use std::str;
 
 const TAB: u8 = 9;
 
@@ -27,4 +30,34 @@ pub fn add_number(out: &mut Vec<u8>, number: u64) -> Result<(), AllocError>
 {
     out.push(TAB)?;
     add_decimal(out, number)
+}
+
+/// The number below 2^64 that a field writes in decimal digits, without a sign or a leading zero.
+pub fn read_number(field: &[u8]) -> Option<u64>
+    ensures { MatchOption result ((n : ℕ) → IsNumeral 64 n field.now → ⊥)
+        (λ n. IsNumeral 64 n field.now) }
+{
+    let Ok(text) = str::from_utf8(field) else {
+        return None;
+    };
+    let Ok(number) = text.parse::<u64>() else {
+        return None;
+    };
+    let mut digits = itoa::Buffer::new();
+    if digits.format(number).as_bytes() != field {
+        return None;
+    }
+    Some(number)
+}
+
+/// The number below 2^32 that a field writes in decimal digits, without a sign or a leading zero.
+pub fn read_small_number(field: &[u8]) -> Option<u32>
+    ensures { MatchOption result ((n : ℕ) → IsNumeral 32 n field.now → ⊥)
+        (λ n. IsNumeral 32 n field.now) }
+{
+    let number = read_number(field)?;
+    let Ok(small) = u32::try_from(number) else {
+        return None;
+    };
+    Some(small)
 }

@@ -1,6 +1,7 @@
 -- Rows of which the first fields are cut off.
-use Rattle.std.proofs.Common.{◌≡◌, ◌≢◌, ℕ, suc, ◌<◌, ◌≤◌, List, [], ◌∷◌, length, decimal, sym, ap, ◌∙◌, arith}
+use Rattle.std.proofs.Common.{◌≡◌, ◌≢◌, ℕ, suc, ◌<◌, ◌≤◌, ◌^◌, List, [], ◌∷◌, length, decimal, sym, ap, ◌∙◌, arith}
 use Rattle.std.proofs.lemmas.Fmt.{decimal_injective}
+use Rattle.dr_base.specs.Numbers.{IsNumeral}
 use Rattle.dr_base.specs.Syntaxes.{syntax_uid, NamesNoSyntax}
 use Rattle.dr_plan_sound.specs.declared.certificate.Hop.{Hop}
 use Rattle.dr_plan_sound.specs.Printed.{printed_line, printed_hop}
@@ -38,12 +39,12 @@ bad_syntax_line {t} {a} {r1} {b} {r2} {c} {r3} {d} {r4} h1 h2 h3 h4 none line p 
     none line.stop.cell.syntax uid
 
 pub bad_rank : {t a r1 b r2 c r3 d r4 f r5 g r6 : List ℕ} → CutsField t a r1 → CutsField r1 b r2 → CutsField r2 c r3 → CutsField r3 d r4 → CutsField r4 f r5 → CutsField r5 g r6 →
-    HasNone decimal (λ n. n ≤ 4294967295) r6 → HasNone printed_line IsPrintableLine t
+    ((n : ℕ) → IsNumeral 32 n r6 → ⊥) → HasNone printed_line IsPrintableLine t
 bad_rank {t} {a} {r1} {b} {r2} {c} {r3} {d} {r4} {f} {r5} {g} {r6} h1 h2 h3 h4 h5 h6 none line p e =
     let six : cuts 9 t ≡ a ∷ b ∷ c ∷ d ∷ f ∷ g ∷ cuts 9 r6 = four_parts t a r1 b r2 c r3 d r4 h1 h2 h3 h4 ∙ ap (λ parts. a ∷ b ∷ c ∷ d ∷ parts) (h5.parts ∙ ap (λ parts. f ∷ parts) h6.parts) in
     let parts : a ∷ b ∷ c ∷ d ∷ f ∷ g ∷ cuts 9 r6 ≡ line_fields line = sym six ∙ ap (cuts 9) (sym e) ∙ line_cuts line p in
     let last : cuts 9 r6 ≡ decimal line.rank ∷ [] = cc in
-    none line.rank p.rank (sym (cuts-one 9 r6 (decimal line.rank) last))
+    none line.rank (sym (cuts-one 9 r6 (decimal line.rank) last), omega (arith, p.rank))
 
 -- the third field of a hop is its id
 id_field : {t a r1 b r2 c r3 : List ℕ} → CutsField t a r1 → CutsField r1 b r2 → CutsField r2 c r3 → (hop : Hop) → IsPrintableHop hop → printed_hop hop ≡ t → decimal hop.id ≡ c
@@ -51,10 +52,10 @@ id_field {t} {a} {r1} {b} {r2} {c} {r3} h1 h2 h3 hop p e =
     let parts : a ∷ b ∷ c ∷ cuts 9 r3 ≡ hop_fields hop = sym (three_parts t a r1 b r2 c r3 h1 h2 h3) ∙ ap (cuts 9) (sym e) ∙ hop_cuts hop p in
     cc
 
-pub bad_number : {t a r1 b r2 c r3 : List ℕ} → CutsField t a r1 → CutsField r1 b r2 → CutsField r2 c r3 → HasNone decimal (λ n. n ≤ 4294967295) c → HasNone printed_hop IsPrintableHop t
-bad_number h1 h2 h3 none hop p e = let small : hop.id ≤ 255 = p.id in none hop.id (omega arith) (id_field h1 h2 h3 hop p e)
+pub bad_number : {t a r1 b r2 c r3 : List ℕ} → CutsField t a r1 → CutsField r1 b r2 → CutsField r2 c r3 → ((n : ℕ) → IsNumeral 32 n c → ⊥) → HasNone printed_hop IsPrintableHop t
+bad_number h1 h2 h3 none hop p e = let small : hop.id ≤ 255 = p.id in none hop.id (id_field h1 h2 h3 hop p e, omega arith)
 
-pub bad_id : {t a r1 b r2 c r3 : List ℕ} (n : ℕ) → CutsField t a r1 → CutsField r1 b r2 → CutsField r2 c r3 → decimal n ≡ c → n ≤ 4294967295 → 255 < n → HasNone printed_hop IsPrintableHop t
+pub bad_id : {t a r1 b r2 c r3 : List ℕ} (n : ℕ) → CutsField t a r1 → CutsField r1 b r2 → CutsField r2 c r3 → decimal n ≡ c → n < 2 ^ 32 → 255 < n → HasNone printed_hop IsPrintableHop t
 bad_id n h1 h2 h3 is fits large hop p e =
     let small : hop.id ≤ 255 = p.id in
     let same : hop.id ≡ n = decimal_injective hop.id n (omega arith) (omega arith) (id_field h1 h2 h3 hop p e ∙ sym is) in

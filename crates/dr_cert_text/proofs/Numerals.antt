@@ -1,4 +1,4 @@
--- Numbers and digests read again as they were written.
+-- Digests read again as they were written.
 use Rattle.std.proofs.Common.{◌≡◌, ◌≢◌, ℕ, zero, suc, ◌<◌, ◌≤◌, ◌*◌, Bool, true, false, not, eqb, List, [], ◌∷◌, length, decimal, Result, Ok, Err, refl, sym, ap, ◌∙◌, arith}
 use Rattle.std.specs.Prelude.{All}
 use mathlib.Core.Bool.{true≢false}
@@ -12,33 +12,6 @@ use Rattle.hex.proofs.HexLemmas.{decode_sized-encode_lower, decode_sized-ok, dec
 use Rattle.hex.specs.declared.error.FromHexError.{FromHexError}
 use Rattle.dr_cert_text.specs.Printable.{IsDigest}
 use Rattle.dr_cert_text.specs.Cuts.{Lacks}
-
--- no number is written so, where it would be read as one that is written otherwise
-pub not_this_number : (field text again : List ℕ) (number : ℕ) → text ≡ field → ParsesUnsigned {E = ℕ} 32 10 text (Ok number) → again ≡ decimal number → (again ≡ field → ⊥) →
-    (n : ℕ) → n ≤ 4294967295 → decimal n ≡ field → ⊥
-not_this_number field text again number same parsed written differs n small e =
-    let found : ◌≡◌ {A = Result ℕ ℕ} (Ok number) (Ok n) = parse-decimal 32 n text (Ok number) (omega arith) (omega arith) (same ∙ sym e) parsed in
-    let one : number ≡ n = cc in
-    differs (written ∙ ap decimal one ∙ e)
-
-pub not_a_number : (field text : List ℕ) → text ≡ field → ParsesUnsigned {E = ℕ} 32 10 text (Err 0) → (n : ℕ) → n ≤ 4294967295 → decimal n ≡ field → ⊥
-not_a_number field text same parsed n small e =
-    let found : ◌≡◌ {A = Result ℕ ℕ} (Err 0) (Ok n) = parse-decimal 32 n text (Err 0) (omega arith) (omega arith) (same ∙ sym e) parsed in
-    absurd (cc)
-
--- what a test by `!=` says
-pub differ_from : (r : Bool) (xs ys : List ℕ) → r ≡ not (pointwise eqb xs ys) → r ≡ true → xs ≡ ys → ⊥
-differ_from r xs ys ne is same =
-    let yes : pointwise eqb xs ys ≡ true = (bytes_eq-Decides xs ys).1 same in
-    let no : r ≡ false = rw yes at ne in
-    absurd (cc)
-
-pub same_from : (r : Bool) (xs ys : List ℕ) → r ≡ not (pointwise eqb xs ys) → r ≡ false → xs ≡ ys
-same_from r xs ys ne is = by_test (pointwise eqb xs ys) refl
-  where
-    by_test : (t : Bool) → pointwise eqb xs ys ≡ t → xs ≡ ys
-    by_test true e = (bytes_eq-Decides xs ys).0 e
-    by_test false e = let yes : r ≡ true = rw e at ne in absurd (cc)
 
 all_bytes : (bytes : List ℕ) → All (λ b. b < 256) bytes → IsBytes bytes
 all_bytes [] h i = omega arith

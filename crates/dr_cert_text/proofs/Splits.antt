@@ -1,8 +1,7 @@
 -- Texts split at a mark, and fields read.
-use Rattle.std.proofs.Common.{◌≡◌, ◌≢◌, ℕ, ◌+◌, ◌<◌, List, [], ◌∷◌, ◌++◌, length, get_or, take, drop, refl, sym, ap, ◌∙◌, arith, Some, None, Option}
+use Rattle.std.proofs.Common.{◌≡◌, ◌≢◌, ℕ, List, [], ◌∷◌, ◌++◌, refl, ap, ◌∙◌, arith, Some, None, Option}
 use Rattle.std.specs.Prelude.{All, MatchOption}
 use denote.Ref.{Bor}
-use Rattle.std.proofs.lemmas.List.{drop_more, take-append-drop}
 use Rattle.std.proofs.lemmas.List.Elements.{All-cons, All-head, All-tail}
 use Rattle.dr_cert_text.specs.Cuts.{cuts, Lacks, SplitsAt, CutsField}
 use Rattle.dr_cert_text.proofs.Cuts.{cuts-at, cuts-last}
@@ -14,12 +13,6 @@ All-front P (x ∷ xs) ys h = All-cons P x xs (All-head P x (xs ++ ys) h) (All-f
 pub All-back : (P : ℕ → Type 0) (xs ys : List ℕ) → All P (xs ++ ys) → All P ys
 All-back P [] ys h = h
 All-back P (x ∷ xs) ys h = All-back P xs ys (All-tail P x (xs ++ ys) h)
-
--- the text is what stands before the mark, the mark and what comes after it
-pub cut_here : (text : List ℕ) (i mark : ℕ) → i < length text → get_or text i 0 ≡ mark → text ≡ take i text ++ mark ∷ drop (i + 1) text
-cut_here text i mark h e =
-    let d : drop i text ≡ mark ∷ drop (i + 1) text = rw (← e) (drop_more text i 0 h) in
-    sym (take-append-drop i text) ∙ rw d refl
 
 -- a text is split at a mark in one way
 pub unsplit : (mark : ℕ) (p q r s : List ℕ) → Lacks mark p → Lacks mark q → p ++ mark ∷ r ≡ q ++ mark ∷ s → (p ≡ q) × (r ≡ s)

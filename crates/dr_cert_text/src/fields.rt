@@ -1,5 +1,5 @@
 //! Rows and fields of a text.
-ghost use Rattle.std.specs.Prelude.{◌≡◌, ◌≤◌, ◌++◌, ◌∷◌, [], ℕ, List, IfOk, MatchOption, decimal};
+ghost use Rattle.std.specs.Prelude.{◌≡◌, ◌++◌, ◌∷◌, [], ℕ, List, IfOk, MatchOption};
 ghost use Rattle.hex.specs.Hex.{encode_lower};
 ghost use Rattle.dr_plan_sound.specs.Printed.{printed_field, printed_station};
 ghost use Rattle.dr_cert_text.specs.Printable.{IsPlain, IsPlainField, IsPlainStation, IsDigest};
@@ -9,8 +9,8 @@ ghost use Rattle.dr_cert_text.specs.Reading.{HasNone, IsReadBack};
 use dr_base::Text;
 use dr_route::{OwnedField, OwnedStation};
 use hex::FromHex;
+use memchr::memchr;
 use std::alloc::{AllocError, Global};
-use std::str;
 
 const TAB: u8 = 9;
 
@@ -27,12 +27,8 @@ pub fn split_at_byte(text: &[u8], mark: u8) -> Option<(&[u8], &[u8])>
     ensures { MatchOption result (Lacks mark text.now) (λ p.
         SplitsAt mark text.now p.0.now p.1.now) }
 {
-    for (i, byte) in text.iter().enumerate() {
-        if *byte == mark {
-            return Some((&text[..i], &text[i + 1..]));
-        }
-    }
-    None
+    let at = memchr(mark, text)?;
+    Some((&text[..at], &text[at + 1..]))
 }
 
 /// The first field of a row and what follows its tab; None where the row is one field.
@@ -42,24 +38,6 @@ pub fn field_before_tab(row: &[u8]) -> Option<(&[u8], &[u8])>
         CutsField row.now p.0.now p.1.now) }
 {
     split_at_byte(row, TAB)
-}
-
-/// The number that is written so, without a sign or a leading zero.
-pub fn read_number(field: &[u8]) -> Option<u32>
-    ensures { MatchOption result (HasNone decimal (λ n. n ≤ 4294967295) field.now)
-        (IsReadBack decimal (λ n. n ≤ 4294967295) field.now) }
-{
-    let Ok(text) = str::from_utf8(field) else {
-        return None;
-    };
-    let Ok(number) = text.parse::<u32>() else {
-        return None;
-    };
-    let mut digits = itoa::Buffer::new();
-    if digits.format(number).as_bytes() != field {
-        return None;
-    }
-    Some(number)
 }
 
 /// The part of the modalities that is printed so.

@@ -7,9 +7,9 @@ ghost use Rattle.dr_cert_text.specs.Printable.{IsPrintableHop};
 ghost use Rattle.dr_cert_text.specs.Reading.{HasNone};
 
 use crate::fault::CertificateFault;
-use crate::fields::{field_before_tab, read_number};
+use crate::fields::field_before_tab;
 use crate::printed::Printed;
-use dr_base::fields::add_field;
+use dr_base::fields::{add_field, add_number, read_small_number};
 use dr_base::{Syntax, Text};
 use dr_plan_sound::Hop;
 use std::alloc::{AllocError, Global};
@@ -36,7 +36,7 @@ fn cut_hop(row: &[u8]) -> Option<HopFields<'_>>
     let (to, after_to) = field_before_tab(after_from)?;
     let (digits, after_id) = field_before_tab(after_to)?;
     let (class, uid) = field_before_tab(after_id)?;
-    let number = read_number(digits)?;
+    let number = read_small_number(digits)?;
     if number > MAX_ID {
         return None;
     }
@@ -64,8 +64,7 @@ impl Printed for Hop {
     fn print(&self, out: &mut Vec<u8>) -> Result<(), AllocError> {
         out.extend_from_slice(self.from.as_bytes())?;
         add_field(out, self.to.as_bytes())?;
-        let mut digits = itoa::Buffer::new();
-        add_field(out, digits.format(self.id).as_bytes())?;
+        add_number(out, u64::from(self.id))?;
         add_field(out, self.class.as_bytes())?;
         add_field(out, self.syntax.uid())
     }

@@ -14,6 +14,7 @@ mod sorted;
 mod writer;
 
 pub use fault::CertificateFault;
+pub use fields::split_at_byte;
 pub use order::{order_hops, order_lines};
 pub use printed::add_station;
 pub use reader::read_certificate;

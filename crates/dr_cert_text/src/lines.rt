@@ -7,9 +7,9 @@ ghost use Rattle.dr_cert_text.specs.Printable.{IsPrintableLine};
 ghost use Rattle.dr_cert_text.specs.Reading.{HasNone};
 
 use crate::fault::CertificateFault;
-use crate::fields::{field_before_tab, read_field, read_number, read_station};
+use crate::fields::{field_before_tab, read_field, read_station};
 use crate::printed::{Printed, add_station};
-use dr_base::fields::add_field;
+use dr_base::fields::{add_field, add_number, read_small_number};
 use dr_base::{Syntax, Text};
 use dr_plan_sound::{Line, Stop, field_bytes};
 use dr_route::OwnedCell;
@@ -40,7 +40,7 @@ fn cut_line(row: &[u8]) -> Option<LineFields<'_>>
     let (modality, after_modality) = field_before_tab(after_uid)?;
     let (station, digits) = field_before_tab(after_modality)?;
     let syntax = Syntax::of_uid(uid)?;
-    let rank = read_number(digits)?;
+    let rank = read_small_number(digits)?;
     Some(LineFields {
         caller,
         node,
@@ -72,8 +72,7 @@ impl Printed for Line {
         add_field(out, cell.syntax.uid())?;
         add_field(out, field_bytes(&cell.modality))?;
         add_station(out, &cell.station)?;
-        let mut digits = itoa::Buffer::new();
-        add_field(out, digits.format(self.rank).as_bytes())
+        add_number(out, u64::from(self.rank))
     }
 
     fn read(alloc: Global, fields: &[u8]) -> Result<Line, CertificateFault> {

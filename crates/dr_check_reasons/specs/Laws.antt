@@ -2,10 +2,10 @@
 use Rattle.std.specs.Prelude.{◌≡◌, List, [], ◌∷◌, ◌++◌}
 use Rattle.dr_base.specs.Texts.{Text}
 use Rattle.dr_base.specs.declared.syntax.Syntax.{Syntax}
-use Rattle.dr_route.specs.Routes.{Takes}
+use Rattle.dr_route.specs.Routes.{Takes, TakesClass}
 use Rattle.dr_route.specs.declared.accept.AcceptRow.{AcceptRow}
 use Rattle.dr_route.specs.declared.accept.Callers.TheVariants.{Listed}
-use Rattle.dr_check_reasons.specs.Reasons.{TakesClass, TakesPair}
+use Rattle.dr_check_reasons.specs.Reasons.{TakesPair}
 
 -- a row that takes the class from the caller takes it in the transfer syntax that is added to it
 abbrev pub AddedSyntaxIsTaken : Type 0

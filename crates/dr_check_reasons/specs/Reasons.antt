@@ -2,7 +2,7 @@
 use Rattle.std.specs.Prelude.{◌≡◌, ◌≢◌, ℕ, All, Contains, List}
 use Rattle.dr_base.specs.Texts.{Text}
 use Rattle.dr_base.specs.declared.syntax.Syntax.{Syntax}
-use Rattle.dr_route.specs.Routes.{local, Holds, IsCaller}
+use Rattle.dr_route.specs.Routes.{local, Holds, TakesClass}
 use Rattle.dr_route.specs.declared.accept.AcceptRow.{AcceptRow}
 use Rattle.dr_route.specs.declared.key.Key.{Key}
 use Rattle.dr_route.specs.declared.rule.Rule.{Rule}
@@ -45,10 +45,6 @@ abbrev pub IsHolding : List Rule → Text → Key → ℕ → Type 0
 IsHolding rules caller key index = IsFirstAt
     (λ rule. Holds rule caller key → ⊥)
     (λ rule _. Holds rule caller key) rules index (tt {0})
-
--- the row takes the class from the caller, in whatever transfer syntaxes
-abbrev pub TakesClass : Text → Text → AcceptRow → Type 0
-TakesClass caller class row = IsCaller row.from caller × (row.class ≡ class)
 
 -- the row takes the class in that transfer syntax, from whomever
 abbrev pub TakesPair : Text → Syntax → AcceptRow → Type 0

@@ -1,11 +1,12 @@
 //! What makes a node accept what it refuses.
-ghost use Rattle.std.specs.Prelude.{◌≡◌, ◌↔◌, IsTrue, All, Contains};
-ghost use Rattle.dr_route.specs.Routes.{IsCaller};
-ghost use Rattle.dr_check_reasons.specs.Reasons.{TakesClass, TakesPair, IsRemedy};
+ghost use Rattle.std.specs.Prelude.{◌≡◌, ◌↔◌, IsTrue, All};
+ghost use Rattle.dr_route.specs.Routes.{TakesClass};
+ghost use Rattle.dr_check_reasons.specs.Reasons.{TakesPair, IsRemedy};
 
 use dr_base::{Syntax, Text};
 use dr_plan_places::first::{Look, first};
-use dr_route::{AcceptRow, Callers};
+use dr_route::AcceptRow;
+use dr_route::accept::{is_syntax_listed, takes_class};
 
 /// What makes a node accept a class in a transfer syntax from a caller; indices count from 0.
 #[derive(Clone, Copy, PartialEq, Eq)]
@@ -18,35 +19,11 @@ pub enum Remedy {
     AddRow,
 }
 
-/// Whether the name is one of them.
-fn is_among(names: &[Text], name: &Text) -> bool
-    ensures { IsTrue result ↔ Contains names.now name.now }
-{
-    names.contains(name)
-}
-
-/// Whether the callers have this one among them.
-fn is_caller(callers: &Callers, caller: &Text) -> bool
-    ensures { IsTrue result ↔ IsCaller callers.now caller.now }
-{
-    match callers {
-        Callers::Any => true,
-        Callers::Listed(names) => is_among(names.as_slice(), caller),
-    }
-}
-
 /// A search for a row that takes a class from a caller.
 #[derive(Drop)]
 struct OfCaller<'a> {
     caller: &'a Text,
     class: &'a Text,
-}
-
-/// Whether the row takes the class from the caller.
-fn takes_class(row: &AcceptRow, caller: &Text, class: &Text) -> bool
-    ensures { IsTrue result ↔ TakesClass caller.now class.now row.now }
-{
-    is_caller(&row.from, caller) && row.class == *class
 }
 
 impl<'a> Look for OfCaller<'a> {
@@ -73,18 +50,11 @@ struct OfSyntax<'a> {
     syntax: Syntax,
 }
 
-/// Whether the transfer syntax is one of them.
-fn has_syntax(syntaxes: &[Syntax], syntax: Syntax) -> bool
-    ensures { IsTrue result ↔ Contains syntaxes.now syntax }
-{
-    syntaxes.contains(&syntax)
-}
-
 /// Whether the row takes the class in the transfer syntax.
 fn takes_pair(row: &AcceptRow, class: &Text, syntax: Syntax) -> bool
     ensures { IsTrue result ↔ TakesPair class.now syntax row.now }
 {
-    row.class == *class && has_syntax(row.syntaxes.as_slice(), syntax)
+    row.class == *class && is_syntax_listed(row.syntaxes.as_slice(), syntax)
 }
 
 impl<'a> Look for OfSyntax<'a> {

@@ -1,5 +1,5 @@
 //! The flow or the rule by which a key goes over a hop.
-ghost use Rattle.std.specs.Prelude.{◌≡◌, ◌↔◌, IsTrue, All, Contains, MatchOption};
+ghost use Rattle.std.specs.Prelude.{◌≡◌, ◌↔◌, IsTrue, All, MatchOption};
 ghost use Rattle.dr_route.specs.Routes.{Holds};
 ghost use Rattle.dr_plan_model.specs.Walks.{Sends};
 ghost use Rattle.dr_check_reasons.specs.Reasons.{BringsTo, SendsTo, IsSender, IsHolding};
@@ -8,6 +8,7 @@ use dr_base::Text;
 use dr_plan_model::sending::fits;
 use dr_plan_model::{Flow, Plan};
 use dr_plan_places::first::{Look, first};
+use dr_route::accept::is_listed;
 use dr_route::{Key, Rule, holds, is_local};
 
 /// By what a node sends a key on; indices count from 0.
@@ -59,18 +60,11 @@ struct RuleSearch<'a> {
     to: &'a Text,
 }
 
-/// Whether the name is one of them.
-fn is_among(names: &[Text], name: &Text) -> bool
-    ensures { IsTrue result ↔ Contains names.now name.now }
-{
-    names.contains(name)
-}
-
 /// Whether the rule sends the key on to that node.
 fn sends_to(rule: &Rule, caller: &Text, key: &Key, to: &Text) -> bool
     ensures { IsTrue result ↔ SendsTo caller.now key.now to.now rule.now }
 {
-    holds(rule, caller, key) && is_among(rule.to.as_slice(), to)
+    holds(rule, caller, key) && is_listed(rule.to.as_slice(), to)
 }
 
 impl<'a> Look for RuleSearch<'a> {

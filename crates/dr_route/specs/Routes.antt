@@ -56,6 +56,10 @@ abbrev pub IsCaller : Callers → Text → Type 0
 IsCaller callers.Any caller = Unit {0}
 IsCaller (callers.Listed names) caller = Contains names caller
 
+-- the accept row takes the class from the caller, in whatever transfer syntaxes
+abbrev pub TakesClass : Text → Text → AcceptRow → Type 0
+TakesClass caller class row = IsCaller row.from caller × (row.class ≡ class)
+
 -- the accept row takes the class in that transfer syntax from the caller
 abbrev pub Takes : AcceptRow → Text → Text → Syntax → Type 0
 Takes row caller class syntax =

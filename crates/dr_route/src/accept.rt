@@ -1,6 +1,6 @@
 //! What a node accepts from whom.
 ghost use Rattle.std.specs.Prelude.{◌≡◌, ◌↔◌, IsTrue, Contains};
-ghost use Rattle.dr_route.specs.Routes.{IsCaller, Takes, AcceptsBy};
+ghost use Rattle.dr_route.specs.Routes.{IsCaller, TakesClass, Takes, AcceptsBy};
 
 use dr_base::{Seq, Syntax, Text};
 
@@ -22,27 +22,34 @@ pub struct AcceptRow {
 }
 
 /// Whether the text is one of them.
-fn is_listed(texts: &[Text], text: &Text) -> bool
+pub fn is_listed(texts: &[Text], text: &Text) -> bool
     ensures { IsTrue result ↔ Contains texts.now text.now }
 {
     texts.contains(text)
 }
 
 /// Whether the transfer syntax is one of them.
-fn is_syntax_listed(syntaxes: &[Syntax], syntax: Syntax) -> bool
+pub fn is_syntax_listed(syntaxes: &[Syntax], syntax: Syntax) -> bool
     ensures { IsTrue result ↔ Contains syntaxes.now syntax }
 {
     syntaxes.contains(&syntax)
 }
 
 /// Whether the callers have this one among them.
-fn is_caller(callers: &Callers, caller: &Text) -> bool
+pub fn is_caller(callers: &Callers, caller: &Text) -> bool
     ensures { IsTrue result ↔ IsCaller callers.now caller.now }
 {
     match callers {
         Callers::Any => true,
         Callers::Listed(names) => is_listed(names.as_slice(), caller),
     }
+}
+
+/// Whether the row takes the class from the caller, in whatever transfer syntaxes.
+pub fn takes_class(row: &AcceptRow, caller: &Text, class: &Text) -> bool
+    ensures { IsTrue result ↔ TakesClass caller.now class.now row.now }
+{
+    is_caller(&row.from, caller) && row.class == *class
 }
 
 /// Whether the row takes the class in that transfer syntax from the caller.

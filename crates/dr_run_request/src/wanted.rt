@@ -1,5 +1,5 @@
 //! What a request names: a row, or those rows that it wants to see.
-ghost use Rattle.std.specs.Prelude.{◌≡◌, ◌<◌, ◌^◌, ℕ, IfNone, IfOk, IfSome, MatchOption};
+ghost use Rattle.std.specs.Prelude.{◌≡◌, ℕ, IfNone, IfOk, IfSome, MatchOption};
 ghost use Rattle.std.specs.Prelude.{MatchResult};
 ghost use Rattle.std.specs.Prelude.{◌↔◌, Option, IsTrue, Some, codes, decimal};
 ghost use Rattle.dr_run_request.specs.Forms.{IsLimit, LimitOf, NamesInstance, NamesRow, StageOf};
@@ -12,10 +12,10 @@ ghost use Rattle.dr_run_request.specs.declared.wanted.Wanted.{Wanted as WantedVa
 
 use crate::form::{raw_value, value_in};
 use dr_base::Text;
+use dr_base::fields::read_small_number;
 use dr_ledger_views::Stage;
 use percent_encoding::percent_decode;
 use std::alloc::{AllocError, Global};
-use std::str;
 
 /// So many rows are asked for where no number is named, and at most where one is.
 const MOST_ROWS: u32 = 1_000;
@@ -177,25 +177,6 @@ fn stage_in(word: &Option<Text>) -> Result<Option<Stage>, FormFault>
     }
 }
 
-/// The number that is written so, without a sign or a leading zero.
-fn number_of(word: &[u8]) -> Option<u32>
-    ensures { MatchOption result
-        ((n : ℕ) → IsLimit n → word.now ≡ decimal n → ⊥)
-        (λ n. (word.now ≡ decimal n) × (n < 2 ^ 32)) }
-{
-    let Ok(text) = str::from_utf8(word) else {
-        return None;
-    };
-    let Ok(number) = text.parse::<u32>() else {
-        return None;
-    };
-    let mut digits = itoa::Buffer::new();
-    if digits.format(number).as_bytes() != word {
-        return None;
-    }
-    Some(number)
-}
-
 /// Whether so many rows may be on a page.
 fn is_limit(number: u32) -> bool
     ensures { IsTrue result ↔ IsLimit number }
@@ -212,7 +193,7 @@ fn limit_of(word: &[u8]) -> Result<u32, FormFault>
         (λ why. (why ≡ fault.Field)
         × ((n : ℕ) → IsLimit n → word.now ≡ decimal n → ⊥)) }
 {
-    let Some(number) = number_of(word) else {
+    let Some(number) = read_small_number(word) else {
         return Err(FormFault::Field);
     };
     if is_limit(number) {

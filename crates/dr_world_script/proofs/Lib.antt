@@ -1,7 +1,6 @@
 mod Figures
 mod Items
 mod Lines
-mod Numerals
 mod One
 pub mod Placing
 mod Spelling

@@ -3,6 +3,7 @@ use Rattle.std.specs.Prelude.{◌≡◌, ◌⊎◌, ℕ, ◌+◌, ◌<◌, ◌^�
 use Rattle.std.specs.Prelude.{◌++◌, All, length, codes, decimal, filter, not, Result, Ok, Err}
 use Rattle.std.specs.List.{AllZip}
 use Rattle.hex.specs.Hex.{decode_of}
+use Rattle.dr_base.specs.Numbers.{IsNumeral}
 use Rattle.dr_base.specs.Texts.{Text}
 use Rattle.dr_base.specs.declared.syntax.Syntax.{Syntax}
 use Rattle.dr_base.specs.declared.syntax.Syntax.TheVariants.{Implicit, Explicit}
@@ -59,7 +60,7 @@ syntax_letter Explicit = codes "E"
 
 -- the field is the number in decimal, without leading zeros; numbers have 64 bits
 abbrev pub IsNumber : ℕ → Text → Type 0
-IsNumber n field = (decimal n ≡ field) × (n < 2 ^ 64)
+IsNumber n field = IsNumeral 64 n field
 
 -- the fields are one number
 abbrev pub AreNumber : ℕ → List Text → Type 0

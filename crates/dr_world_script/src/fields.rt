@@ -1,10 +1,10 @@
 //! Lines, fields and what is written in one field.
-ghost use Rattle.std.specs.Prelude.{◌≡◌, ◌↔◌, ◌<◌, ◌^◌, ℕ, IfOk, IsTrue, MatchOption, map, decimal};
+ghost use Rattle.std.specs.Prelude.{◌≡◌, ◌↔◌, IfOk, IsTrue, MatchOption, map};
 ghost use Rattle.std.specs.Prelude.{Result, Ok};
 ghost use Rattle.hex.specs.Hex.{decode_of};
 ghost use Rattle.dr_base.specs.declared.syntax.Syntax.{Syntax as SyntaxValue};
-ghost use Rattle.dr_cert_text.specs.Cuts.{Lacks, SplitsAt, cuts};
-ghost use Rattle.dr_world_script.specs.Scripts.{IsNumber, side_word, spelled, syntax_letter};
+ghost use Rattle.dr_cert_text.specs.Cuts.{cuts};
+ghost use Rattle.dr_world_script.specs.Scripts.{side_word, spelled, syntax_letter};
 ghost use Rattle.dr_world_script.specs.Scripts.{DecodesBody, adopt_word};
 ghost use Rattle.dr_world_script.specs.declared.step.Side.{Side as SideValue};
 ghost use Rattle.dr_world_script.specs.declared.step.Word.{Word as WordValue};
@@ -12,19 +12,9 @@ ghost use Rattle.dr_world_script.specs.declared.step.Word.{Word as WordValue};
 use crate::fault::LineFault;
 use crate::step::{Side, Word};
 use dr_base::{Octets, Syntax};
+use dr_cert_text::split_at_byte;
 use hex::FromHexError;
-use memchr::memchr;
 use std::alloc::{AllocError, Global};
-use std::str;
-
-/// What stands before the first mark, and what follows the mark; None where there is no mark.
-fn split_at_byte(text: &[u8], mark: u8) -> Option<(&[u8], &[u8])>
-    ensures { MatchOption result (Lacks mark text.now) (λ p.
-        SplitsAt mark text.now p.0.now p.1.now) }
-{
-    let at = memchr(mark, text)?;
-    Some((&text[..at], &text[at + 1..]))
-}
 
 /// The parts of a text between its marks, in order; a text without the mark is one part.
 pub fn parts_of<'a>(alloc: Global, text: &'a [u8], mark: u8) -> Result<Vec<&'a [u8]>, AllocError>
@@ -73,23 +63,6 @@ pub fn read_word(field: &[u8]) -> Option<Word>
         b"refuse" => Some(Word::Refuse),
         _ => None,
     }
-}
-
-/// The number that is written so: decimal, without leading zeros, below 2^64.
-pub fn read_number(field: &[u8]) -> Option<u64>
-    ensures { MatchOption result ((n : ℕ) → IsNumber n field.now → ⊥) (λ n. IsNumber n field.now) }
-{
-    let Ok(text) = str::from_utf8(field) else {
-        return None;
-    };
-    let Ok(number) = text.parse::<u64>() else {
-        return None;
-    };
-    let mut digits = itoa::Buffer::new();
-    if digits.format(number).as_bytes() != field {
-        return None;
-    }
-    Some(number)
 }
 
 /// The end of a link that is named so.

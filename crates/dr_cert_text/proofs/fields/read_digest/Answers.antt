@@ -1,6 +1,7 @@
 use Rattle.std.proofs.Common.{◌≡◌, ap, sym, ◌∙◌}
 use Rattle.hex.specs.Hex.{encode_lower}
-use Rattle.dr_cert_text.proofs.Numerals.{decoded, same_digest, is_digest, differ_from, same_from}
+use Rattle.dr_base.proofs.Numerals.{differ_from, same_from}
+use Rattle.dr_cert_text.proofs.Numerals.{decoded, same_digest, is_digest}
 use Rattle.dr_cert_text.proofs.fields.read_digest.Goals as goal
 
 pub returns-in_default : goal.returns-in_default

@@ -2,7 +2,7 @@ use Rattle.std.proofs.Common.{◌++◌, ◌∷◌, sym, ◌∙◌, arith}
 use Rattle.std.proofs.lemmas.Result.{err_from_is_err_and}
 use Rattle.hex.specs.Hex.{encode_lower}
 use Rattle.dr_cert_text.proofs.Injective.{line_plain, hop_plain}
-use Rattle.dr_cert_text.proofs.Numerals.{differ_from, same_from}
+use Rattle.dr_base.proofs.Numerals.{differ_from, same_from}
 use Rattle.dr_cert_text.proofs.Whole.{text_is, behind_digest, no_lf_here, no_digest, hops_fault, lines_fault, all_lines, too_many, whole_read}
 use Rattle.dr_cert_text.proofs.reader.read_certificate.Goals as goal
 

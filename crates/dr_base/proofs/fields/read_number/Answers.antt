@@ -1,9 +1,8 @@
 use Rattle.std.proofs.Common.{decimal, ◌∙◌, arith}
 use Rattle.std.proofs.lemmas.Fmt.{IsAscii-decimal}
 use Rattle.std.proofs.lemmas.Str.{IsUtf8-from_ascii}
-use Rattle.dr_cert_text.proofs.Numerals.{differ_from}
-use Rattle.dr_world_script.proofs.Numerals.{not_a_number, not_this_number}
-use Rattle.dr_world_script.proofs.fields.read_number.Goals as goal
+use Rattle.dr_base.proofs.Numerals.{differ_from, not_a_number, not_this_number}
+use Rattle.dr_base.proofs.fields.read_number.Goals as goal
 
 pub returns-in_default : goal.returns-in_default
 returns-in_default c = λ n is. c.in_default.ensures.cases.0 (rw (← is.0) (IsUtf8-from_ascii (decimal n) (IsAscii-decimal n (omega arith))))
