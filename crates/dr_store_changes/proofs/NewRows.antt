@@ -10,7 +10,7 @@ use Rattle.sqlite.specs.declared.error.Error.{Error}
 use Rattle.sqlite.specs.declared.types.Value.TheVariants.{Int}
 use Rattle.sqlite.specs.Edit.{is_taken}
 use Rattle.sqlite.specs.Order.{Row, value_cmp}
-use Rattle.sqlite.specs.State.{State, Survives}
+use Rattle.sqlite.specs.State.{State}
 use Rattle.sqlite.specs.Tree.{put_row, rowid, IsAscending}
 use Rattle.dr_base.specs.Texts.{Text}
 use Rattle.dr_ledger.specs.declared.item.Progress.{Progress}
@@ -18,7 +18,7 @@ use Rattle.dr_ledger.specs.declared.item.Progress.TheVariants.{Waiting}
 use Rattle.dr_ledger.specs.Books.{arrived_row, with_rows}
 use Rattle.dr_ledger.specs.Pairs.{Pair, pair_cmp}
 use Rattle.dr_store_schema.specs.Books.{entry_in, rows_in, rows_of}
-use Rattle.dr_store_writes.specs.Effects.{AddsCells, GoesOn, HasRow, SetsRow, Step, new_cells}
+use Rattle.dr_store_writes.specs.Effects.{AddsCells, CommitsNothing, GoesOn, HasRow, SetsRow, Step, new_cells}
 use Rattle.dr_store_writes.proofs.Keys.{pairs_total, pairs_exact, queue_apart}
 use Rattle.dr_store_writes.proofs.Maps.{equal, map_put, neither}
 use Rattle.dr_store_changes.specs.Changes.{AddsRows, HasRows, Renews, with_waiting}
@@ -68,7 +68,7 @@ with_none : (rows : FinMap pair_cmp Progress) (uid : Text) → with_rows rows ui
 unfolding with_rows
 with_none rows uid = refl
 
-pub still : (s : State) → Survives s s (λ _. ⊥)
+pub still : (s : State) → CommitsNothing s s
 still s = record {
   clean = omega arith;
   shield = λ h. h;

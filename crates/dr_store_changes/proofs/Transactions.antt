@@ -9,7 +9,7 @@ use Rattle.sqlite.proofs.InsideLemmas.{unchanged_keeps, keeps_then}
 use Rattle.sqlite.proofs.StateLemmas.{survives_then}
 use Rattle.dr_store_schema.specs.Books.{AreBelow}
 use Rattle.dr_store_schema.specs.Ledgers.{IsLedger}
-use Rattle.dr_store_writes.specs.Effects.{Step}
+use Rattle.dr_store_writes.specs.Effects.{CommitsNothing, Step}
 use Rattle.dr_store_changes.proofs.Numbers.{below_next}
 use Rattle.dr_store_changes.specs.Writing.{IsMade, IsReady, Written}
 
@@ -104,7 +104,7 @@ all_run old mid new n Asks Makes x r step ok err survives = record {
 
 -- where a statement failed, and the transaction was dropped
 pub one_failed : {A : Type 0} (old mid new : State) (n : ℕ) (Asks : Trees → Type 0) (Makes : Trees → Trees → Type 0) (x : Result A Error) (e : Error) (Made : Type 0)
-    → Step x (record old { in_transaction = true }) mid Made → (HasCleanDisk new → IsRolledBack mid new) → Survives mid new (λ _. ⊥) → Written {E = Error} n Asks Makes (Err e) old new
+    → Step x (record old { in_transaction = true }) mid Made → (HasCleanDisk new → IsRolledBack mid new) → CommitsNothing mid new → Written {E = Error} n Asks Makes (Err e) old new
 one_failed old mid new n Asks Makes x e Made step undone survives = record {
   was_open = λ clean is_open. (keeps_then old mid new (keeps clean) (rolled_keeps mid new (undone clean))).was_open is_open;
   ok = λ clean ready asks. tt;

@@ -4,18 +4,19 @@ use Rattle.sqlite.specs.State.{State, HasCleanDisk, KeepsCounts, Shows, Survives
 use Rattle.sqlite.specs.declared.error.Error.{Error}
 use Rattle.sqlite.specs.Effect.{Database}
 use Rattle.sqlite.proofs.StateLemmas.{survives_then}
+use Rattle.dr_store_writes.specs.Effects.{CommitsNothing}
 use Rattle.dr_store_open.specs.Opening.{LeavesFile, LeavesOldOr, LeavesOldOrCommitted}
 
 -- where nothing is run
-pub survives_still : (s : State) → Survives s s (λ _. ⊥)
+pub survives_still : (s : State) → CommitsNothing s s
 survives_still s = record { clean = omega arith; shield = λ h. h; counts = omega arith; limit = refl; closes = λ clean is_open. inl is_open; crash = λ clean db left. inl left }
 
 -- one after another
-pub survives_both : (a b c : State) → Survives a b (λ _. ⊥) → Survives b c (λ _. ⊥) → Survives a c (λ _. ⊥)
+pub survives_both : (a b c : State) → CommitsNothing a b → CommitsNothing b c → CommitsNothing a c
 survives_both a b c one two = survives_then a b c (λ _. ⊥) (λ _. ⊥) (λ _. ⊥) (λ _ db none. none) (λ _ db none. none) one two
 
 -- where the commit was made
-pub leaves_made : (old mid new : State) (r : Result (Unit {0}) Error) → Survives (record old { in_transaction = true }) mid (λ _. ⊥)
+pub leaves_made : (old mid new : State) (r : Result (Unit {0}) Error) → CommitsNothing (record old { in_transaction = true }) mid
     → (HasCleanDisk new → OnOk r (IsTrue mid.in_transaction × Shows mid new mid.now mid.now false × KeepsCounts mid new × (new.marks ≡ [])))
     → Survives mid new (λ db. db ≡ mid.now.trees) → HasCleanDisk new → OnOk r (LeavesOldOrCommitted old new)
 leaves_made old mid new (Err e) filled done survives clean = tt
@@ -26,7 +27,7 @@ leaves_made old mid new (Ok x) filled done survives clean = λ db left. elim (su
 
 -- where the commit was tried, whatever came of it
 pub leaves_tried : (old mid new : State) (Makes : Database → Type 0)
-    → Survives (record old { in_transaction = true }) mid (λ _. ⊥)
+    → CommitsNothing (record old { in_transaction = true }) mid
     → (HasCleanDisk mid → Makes mid.now)
     → Survives mid new (λ db. db ≡ mid.now.trees) → HasCleanDisk new → LeavesOldOr Makes old new
 leaves_tried old mid new Makes filled made survives clean =
@@ -38,8 +39,8 @@ leaves_tried old mid new Makes filled made survives clean =
 
 -- where a statement failed, and the transaction was let go
 pub leaves_failed : (old mid new : State) (Makes : Database → Type 0)
-    → Survives (record old { in_transaction = true }) mid (λ _. ⊥)
-    → Survives mid new (λ _. ⊥) → HasCleanDisk new → LeavesOldOr Makes old new
+    → CommitsNothing (record old { in_transaction = true }) mid
+    → CommitsNothing mid new → HasCleanDisk new → LeavesOldOr Makes old new
 leaves_failed old mid new Makes filled survives clean =
     let early : HasCleanDisk mid = omega (arith, survives.clean, clean) in
     λ db left. elim (survives.crash clean db left) [

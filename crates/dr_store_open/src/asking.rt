@@ -1,8 +1,9 @@
 //! Statements of a transaction, of which only the commit may leave something.
 ghost use Rattle.std.specs.Prelude.{◌≡◌, IfOk, OnOk};
 ghost use Rattle.sqlite.specs.Held.{state};
-ghost use Rattle.sqlite.specs.State.{HasCleanDisk, Shown, Survives};
+ghost use Rattle.sqlite.specs.State.{HasCleanDisk, Shown};
 ghost use Rattle.sqlite.specs.Values.{bound};
+ghost use Rattle.dr_store_writes.specs.Effects.{CommitsNothing};
 ghost use Rattle.dr_store_open.specs.Renewing.{IsAnswer, IsQuery};
 
 use crate::alike::are_rows;
@@ -19,8 +20,8 @@ pub fn ask_within<S: Alter>(
     params: &[ValueRef<'_>],
 ) -> Result<Vec<Row>, OpeningFault>
     ensures same_reference { tx.new.conn.ghost_name ≡ tx.old.conn.ghost_name }
-    ensures survives { Survives (state S.Store tx.old.conn.now) (state S.Store tx.new.conn.now)
-        (λ _. ⊥) }
+    ensures survives { CommitsNothing (state S.Store tx.old.conn.now)
+        (state S.Store tx.new.conn.now) }
     ensures shown { HasCleanDisk (state S.Store tx.new.conn.now)
         → IfOk result (λ rows. Shown sql.now (bound params.now) (state S.Store tx.old.conn.now)
         (state S.Store tx.new.conn.now) rows.items) }
@@ -34,8 +35,8 @@ pub fn ask_within<S: Alter>(
 /// The answer of a query without parameters, which changes nothing.
 pub fn ask_rows<S: Alter>(tx: &mut Transaction<'_, S>, sql: &str) -> Result<Vec<Row>, OpeningFault>
     ensures same_reference { tx.new.conn.ghost_name ≡ tx.old.conn.ghost_name }
-    ensures survives { Survives (state S.Store tx.old.conn.now) (state S.Store tx.new.conn.now)
-        (λ _. ⊥) }
+    ensures survives { CommitsNothing (state S.Store tx.old.conn.now)
+        (state S.Store tx.new.conn.now) }
     ensures schema { HasCleanDisk (state S.Store tx.new.conn.now)
         → IfOk result (λ rows.
         (state S.Store tx.new.conn.now).now.schema ≡ (state S.Store tx.old.conn.now).now.schema) }
@@ -54,8 +55,8 @@ pub fn test_rows<S: Alter>(
     rows: &[Row],
 ) -> Result<(), OpeningFault>
     ensures same_reference { tx.new.conn.ghost_name ≡ tx.old.conn.ghost_name }
-    ensures survives { Survives (state S.Store tx.old.conn.now) (state S.Store tx.new.conn.now)
-        (λ _. ⊥) }
+    ensures survives { CommitsNothing (state S.Store tx.old.conn.now)
+        (state S.Store tx.new.conn.now) }
     ensures schema { HasCleanDisk (state S.Store tx.new.conn.now)
         → OnOk result
         ((state S.Store tx.new.conn.now).now.schema ≡ (state S.Store tx.old.conn.now).now.schema) }
@@ -79,8 +80,8 @@ pub fn run_within<S: Alter>(
     params: &[ValueRef<'_>],
 ) -> Result<(), OpeningFault>
     ensures same_reference { tx.new.conn.ghost_name ≡ tx.old.conn.ghost_name }
-    ensures survives { Survives (state S.Store tx.old.conn.now) (state S.Store tx.new.conn.now)
-        (λ _. ⊥) }
+    ensures survives { CommitsNothing (state S.Store tx.old.conn.now)
+        (state S.Store tx.new.conn.now) }
 {
     match tx.execute(sql, params) {
         Ok(_) => Ok(()),
@@ -91,8 +92,8 @@ pub fn run_within<S: Alter>(
 /// Runs these statements, in their order.
 pub fn run_texts<S: Alter>(tx: &mut Transaction<'_, S>, texts: &[&str]) -> Result<(), OpeningFault>
     ensures same_reference { tx.new.conn.ghost_name ≡ tx.old.conn.ghost_name }
-    ensures survives { Survives (state S.Store tx.old.conn.now) (state S.Store tx.new.conn.now)
-        (λ _. ⊥) }
+    ensures survives { CommitsNothing (state S.Store tx.old.conn.now)
+        (state S.Store tx.new.conn.now) }
 {
     for text in texts {
         run_within(tx, text, &[])?;
@@ -120,8 +121,8 @@ fn add_row<S: Alter>(
     row: &Row,
 ) -> Result<(), OpeningFault>
     ensures same_reference { tx.new.conn.ghost_name ≡ tx.old.conn.ghost_name }
-    ensures survives { Survives (state S.Store tx.old.conn.now) (state S.Store tx.new.conn.now)
-        (λ _. ⊥) }
+    ensures survives { CommitsNothing (state S.Store tx.old.conn.now)
+        (state S.Store tx.new.conn.now) }
 {
     let cells = cells_of(alloc, row)?;
     run_within(tx, sql, cells.as_slice())
@@ -135,8 +136,8 @@ pub fn add_rows<S: Alter>(
     rows: &[Row],
 ) -> Result<(), OpeningFault>
     ensures same_reference { tx.new.conn.ghost_name ≡ tx.old.conn.ghost_name }
-    ensures survives { Survives (state S.Store tx.old.conn.now) (state S.Store tx.new.conn.now)
-        (λ _. ⊥) }
+    ensures survives { CommitsNothing (state S.Store tx.old.conn.now)
+        (state S.Store tx.new.conn.now) }
 {
     for row in rows {
         add_row(tx, alloc, sql, row)?;

@@ -1,7 +1,7 @@
 //! The journal of a file from before, whose lines get the instances that they are of.
 ghost use Rattle.std.specs.Prelude.{◌≡◌};
 ghost use Rattle.sqlite.specs.Held.{state};
-ghost use Rattle.sqlite.specs.State.{Survives};
+ghost use Rattle.dr_store_writes.specs.Effects.{CommitsNothing};
 
 use crate::asking::{ask_within, cells_of, run_within};
 use crate::fault::{OpeningFault, opening_fault};
@@ -78,8 +78,8 @@ fn put_line<'x, S: Alter>(
     line: &'x Row,
 ) -> Result<(), OpeningFault>
     ensures same_reference { tx.new.conn.ghost_name ≡ tx.old.conn.ghost_name }
-    ensures survives { Survives (state S.Store tx.old.conn.now) (state S.Store tx.new.conn.now)
-        (λ _. ⊥) }
+    ensures survives { CommitsNothing (state S.Store tx.old.conn.now)
+        (state S.Store tx.new.conn.now) }
 {
     let mut cells = cells_of(alloc, line)?;
     let Some(instance) = instance_of(alloc, items, line)? else {
@@ -105,8 +105,8 @@ pub fn put_lines<'x, S: Alter>(
     lines: &'x [Row],
 ) -> Result<(), OpeningFault>
     ensures same_reference { tx.new.conn.ghost_name ≡ tx.old.conn.ghost_name }
-    ensures survives { Survives (state S.Store tx.old.conn.now) (state S.Store tx.new.conn.now)
-        (λ _. ⊥) }
+    ensures survives { CommitsNothing (state S.Store tx.old.conn.now)
+        (state S.Store tx.new.conn.now) }
 {
     for line in lines {
         put_line(tx, alloc, items, line)?;
@@ -120,8 +120,8 @@ pub fn notes_in<S: Alter>(
     alloc: Global,
 ) -> Result<Vec<(u64, JournalRow)>, OpeningFault>
     ensures same_reference { tx.new.conn.ghost_name ≡ tx.old.conn.ghost_name }
-    ensures survives { Survives (state S.Store tx.old.conn.now) (state S.Store tx.new.conn.now)
-        (λ _. ⊥) }
+    ensures survives { CommitsNothing (state S.Store tx.old.conn.now)
+        (state S.Store tx.new.conn.now) }
 {
     let rows = ask_within(
         tx,

@@ -1,9 +1,10 @@
 //! The tables of a new ledger.
 ghost use Rattle.std.specs.Prelude.{◌≡◌, ◌≤◌, OnOk, [], IsTrue, false};
 ghost use Rattle.sqlite.specs.Held.{state};
-ghost use Rattle.sqlite.specs.State.{HasCleanDisk, Survives};
+ghost use Rattle.sqlite.specs.State.{HasCleanDisk};
 ghost use Rattle.sqlite_trees.specs.View.{doubt};
 ghost use Rattle.dr_store_schema.specs.Tables.{tables};
+ghost use Rattle.dr_store_writes.specs.Effects.{CommitsNothing};
 ghost use Rattle.dr_store_open.specs.Opening.{LeavesOldOr, LeavesOldOrCommitted};
 ghost use Rattle.dr_store_open.specs.Renewing.{HasNoRows};
 
@@ -35,8 +36,8 @@ pub(crate) const LATER: [&str; 8] = [
 /// Puts in whose ledger it is.
 fn put_owner<'x, S: Alter>(tx: &mut Transaction<'_, S>, site: &'x Site) -> Result<(), OpeningFault>
     ensures same_reference { tx.new.conn.ghost_name ≡ tx.old.conn.ghost_name }
-    ensures survives { Survives (state S.Store tx.old.conn.now) (state S.Store tx.new.conn.now)
-        (λ _. ⊥) }
+    ensures survives { CommitsNothing (state S.Store tx.old.conn.now)
+        (state S.Store tx.new.conn.now) }
 {
     match add_site(tx, site.name(), site.digest()) {
         Ok(_) => Ok(()),
@@ -60,8 +61,8 @@ fn has_no_rows(sheets: &Sheets) -> bool
 /// Tests that no table has a row, but for the owner's.
 fn test_empty<S: Alter>(tx: &mut Transaction<'_, S>) -> Result<(), OpeningFault>
     ensures same_reference { tx.new.conn.ghost_name ≡ tx.old.conn.ghost_name }
-    ensures survives { Survives (state S.Store tx.old.conn.now) (state S.Store tx.new.conn.now)
-        (λ _. ⊥) }
+    ensures survives { CommitsNothing (state S.Store tx.old.conn.now)
+        (state S.Store tx.new.conn.now) }
     ensures empty { HasCleanDisk (state S.Store tx.new.conn.now)
         → (state S.Store tx.new.conn.now).now.schema ≡ tables
         → OnOk result (HasNoRows (state S.Store tx.new.conn.now).now) }
@@ -76,8 +77,8 @@ fn test_empty<S: Alter>(tx: &mut Transaction<'_, S>) -> Result<(), OpeningFault>
 /// All statements that make the tables of a new ledger of this site, and a look at what they made.
 fn fill<'x, S: Alter>(tx: &mut Transaction<'_, S>, site: &'x Site) -> Result<(), OpeningFault>
     ensures same_reference { tx.new.conn.ghost_name ≡ tx.old.conn.ghost_name }
-    ensures survives { Survives (state S.Store tx.old.conn.now) (state S.Store tx.new.conn.now)
-        (λ _. ⊥) }
+    ensures survives { CommitsNothing (state S.Store tx.old.conn.now)
+        (state S.Store tx.new.conn.now) }
     ensures empty { HasCleanDisk (state S.Store tx.new.conn.now)
         → (state S.Store tx.new.conn.now).now.schema ≡ tables
         → OnOk result (HasNoRows (state S.Store tx.new.conn.now).now) }

@@ -1,8 +1,8 @@
 //! What a ledger's file from before says, and what it lacks, by that and by the site.
 ghost use Rattle.std.specs.Prelude.{◌≡◌, IfOk, IsTrue, length};
 ghost use Rattle.sqlite.specs.Held.{state};
-ghost use Rattle.sqlite.specs.State.{Survives};
 ghost use Rattle.sha2.specs.Sha256.{sha256};
+ghost use Rattle.dr_store_writes.specs.Effects.{CommitsNothing};
 
 use crate::asking::ask_within;
 use crate::fault::{OpeningFault, of_finding, opening_fault};
@@ -86,8 +86,8 @@ fn find_body<'x, S: Alter>(
     uid: &'x Text,
 ) -> Result<Octets, OpeningFault>
     ensures same_reference { tx.new.conn.ghost_name ≡ tx.old.conn.ghost_name }
-    ensures survives { Survives (state S.Store tx.old.conn.now) (state S.Store tx.new.conn.now)
-        (λ _. ⊥) }
+    ensures survives { CommitsNothing (state S.Store tx.old.conn.now)
+        (state S.Store tx.new.conn.now) }
 {
     let rows = ask_within(
         tx,
@@ -150,8 +150,8 @@ fn made_print<'x, S: Alter>(
     uids: &'x BTreeSet<Text>,
 ) -> Result<(Text, Print), OpeningFault>
     ensures same_reference { tx.new.conn.ghost_name ≡ tx.old.conn.ghost_name }
-    ensures survives { Survives (state S.Store tx.old.conn.now) (state S.Store tx.new.conn.now)
-        (λ _. ⊥) }
+    ensures survives { CommitsNothing (state S.Store tx.old.conn.now)
+        (state S.Store tx.new.conn.now) }
 {
     let body = find_body(tx, alloc, &key.0)?;
     let print = print_by(alloc, &key.0, &key.1, body, uids.contains(&key.0))?;
@@ -167,8 +167,8 @@ fn made_prints<'x, S: Alter>(
     uids: &'x BTreeSet<Text>,
 ) -> Result<Vec<(Text, Print)>, OpeningFault>
     ensures same_reference { tx.new.conn.ghost_name ≡ tx.old.conn.ghost_name }
-    ensures survives { Survives (state S.Store tx.old.conn.now) (state S.Store tx.new.conn.now)
-        (λ _. ⊥) }
+    ensures survives { CommitsNothing (state S.Store tx.old.conn.now)
+        (state S.Store tx.new.conn.now) }
 {
     let mut prints = Vec::new(alloc);
     for key in keys {
@@ -191,8 +191,8 @@ fn found_prints<S: Alter>(
     alloc: Global,
 ) -> Result<Vec<(Text, Print)>, OpeningFault>
     ensures same_reference { tx.new.conn.ghost_name ≡ tx.old.conn.ghost_name }
-    ensures survives { Survives (state S.Store tx.old.conn.now) (state S.Store tx.new.conn.now)
-        (λ _. ⊥) }
+    ensures survives { CommitsNothing (state S.Store tx.old.conn.now)
+        (state S.Store tx.new.conn.now) }
 {
     let rows = ask_within(
         tx,
@@ -213,8 +213,8 @@ pub fn prints_for<'x, S: Alter>(
     told: &'x OlderRows,
 ) -> Result<Vec<(Text, Print)>, OpeningFault>
     ensures same_reference { tx.new.conn.ghost_name ≡ tx.old.conn.ghost_name }
-    ensures survives { Survives (state S.Store tx.old.conn.now) (state S.Store tx.new.conn.now)
-        (λ _. ⊥) }
+    ensures survives { CommitsNothing (state S.Store tx.old.conn.now)
+        (state S.Store tx.new.conn.now) }
 {
     if !lacks.print {
         return found_prints(tx, alloc);
@@ -279,8 +279,8 @@ pub fn found_goals<S: Alter>(
     lacks: Lacks,
 ) -> Result<Option<Vec<(u64, Text)>>, OpeningFault>
     ensures same_reference { tx.new.conn.ghost_name ≡ tx.old.conn.ghost_name }
-    ensures survives { Survives (state S.Store tx.old.conn.now) (state S.Store tx.new.conn.now)
-        (λ _. ⊥) }
+    ensures survives { CommitsNothing (state S.Store tx.old.conn.now)
+        (state S.Store tx.new.conn.now) }
 {
     if lacks.target {
         return Ok(None);

@@ -2,9 +2,10 @@
 //! transaction.
 ghost use Rattle.std.specs.Prelude.{◌≡◌, IfOk, OnOk};
 ghost use Rattle.sqlite.specs.Held.{state};
-ghost use Rattle.sqlite.specs.State.{HasCleanDisk, Survives};
+ghost use Rattle.sqlite.specs.State.{HasCleanDisk};
 ghost use Rattle.dr_store_schema.specs.Statements.{all_arrivals, all_items, all_kept, all_rows};
 ghost use Rattle.dr_store_schema.specs.Statements.{the_site};
+ghost use Rattle.dr_store_writes.specs.Effects.{CommitsNothing};
 ghost use Rattle.dr_store_open.specs.Renewing.{AreQueries, IsAnswer, AreSheetsOf, all_calls};
 
 use crate::asking::{ask_rows, test_rows};
@@ -28,8 +29,8 @@ fn ask_stock<S: Alter>(
     tx: &mut Transaction<'_, S>,
 ) -> Result<(Vec<Row>, Vec<Row>, Vec<Row>), OpeningFault>
     ensures same_reference { tx.new.conn.ghost_name ≡ tx.old.conn.ghost_name }
-    ensures survives { Survives (state S.Store tx.old.conn.now) (state S.Store tx.new.conn.now)
-        (λ _. ⊥) }
+    ensures survives { CommitsNothing (state S.Store tx.old.conn.now)
+        (state S.Store tx.new.conn.now) }
     ensures schema { HasCleanDisk (state S.Store tx.new.conn.now)
         → IfOk result (λ r.
         (state S.Store tx.new.conn.now).now.schema ≡ (state S.Store tx.old.conn.now).now.schema) }
@@ -54,8 +55,8 @@ fn ask_moves<S: Alter>(
     tx: &mut Transaction<'_, S>,
 ) -> Result<(Vec<Row>, Vec<Row>, Vec<Row>), OpeningFault>
     ensures same_reference { tx.new.conn.ghost_name ≡ tx.old.conn.ghost_name }
-    ensures survives { Survives (state S.Store tx.old.conn.now) (state S.Store tx.new.conn.now)
-        (λ _. ⊥) }
+    ensures survives { CommitsNothing (state S.Store tx.old.conn.now)
+        (state S.Store tx.new.conn.now) }
     ensures schema { HasCleanDisk (state S.Store tx.new.conn.now)
         → IfOk result (λ r.
         (state S.Store tx.new.conn.now).now.schema ≡ (state S.Store tx.old.conn.now).now.schema) }
@@ -81,8 +82,8 @@ fn ask_moves<S: Alter>(
 /// All of it.
 pub fn ask_sheets<S: Alter>(tx: &mut Transaction<'_, S>) -> Result<Sheets, OpeningFault>
     ensures same_reference { tx.new.conn.ghost_name ≡ tx.old.conn.ghost_name }
-    ensures survives { Survives (state S.Store tx.old.conn.now) (state S.Store tx.new.conn.now)
-        (λ _. ⊥) }
+    ensures survives { CommitsNothing (state S.Store tx.old.conn.now)
+        (state S.Store tx.new.conn.now) }
     ensures schema { HasCleanDisk (state S.Store tx.new.conn.now)
         → IfOk result (λ sheets.
         (state S.Store tx.new.conn.now).now.schema ≡ (state S.Store tx.old.conn.now).now.schema) }
@@ -109,8 +110,8 @@ fn test_stock<'x, S: Alter>(
     sheets: &'x Sheets,
 ) -> Result<(), OpeningFault>
     ensures same_reference { tx.new.conn.ghost_name ≡ tx.old.conn.ghost_name }
-    ensures survives { Survives (state S.Store tx.old.conn.now) (state S.Store tx.new.conn.now)
-        (λ _. ⊥) }
+    ensures survives { CommitsNothing (state S.Store tx.old.conn.now)
+        (state S.Store tx.new.conn.now) }
     ensures schema { HasCleanDisk (state S.Store tx.new.conn.now)
         → OnOk result
         ((state S.Store tx.new.conn.now).now.schema ≡ (state S.Store tx.old.conn.now).now.schema) }
@@ -145,8 +146,8 @@ fn test_moves<'x, S: Alter>(
     sheets: &'x Sheets,
 ) -> Result<(), OpeningFault>
     ensures same_reference { tx.new.conn.ghost_name ≡ tx.old.conn.ghost_name }
-    ensures survives { Survives (state S.Store tx.old.conn.now) (state S.Store tx.new.conn.now)
-        (λ _. ⊥) }
+    ensures survives { CommitsNothing (state S.Store tx.old.conn.now)
+        (state S.Store tx.new.conn.now) }
     ensures schema { HasCleanDisk (state S.Store tx.new.conn.now)
         → OnOk result
         ((state S.Store tx.new.conn.now).now.schema ≡ (state S.Store tx.old.conn.now).now.schema) }
@@ -181,8 +182,8 @@ pub fn test_sheets<'x, S: Alter>(
     sheets: &'x Sheets,
 ) -> Result<(), OpeningFault>
     ensures same_reference { tx.new.conn.ghost_name ≡ tx.old.conn.ghost_name }
-    ensures survives { Survives (state S.Store tx.old.conn.now) (state S.Store tx.new.conn.now)
-        (λ _. ⊥) }
+    ensures survives { CommitsNothing (state S.Store tx.old.conn.now)
+        (state S.Store tx.new.conn.now) }
     ensures schema { HasCleanDisk (state S.Store tx.new.conn.now)
         → OnOk result
         ((state S.Store tx.new.conn.now).now.schema ≡ (state S.Store tx.old.conn.now).now.schema) }

@@ -27,6 +27,11 @@ pub record GoesOn (old new : State) : Type 0 where
   pub committed : new.committed ≡ old.committed
   pub is_open : IsTrue new.is_open
 
+-- The call commits nothing: no fault is forgotten, only a fault shuts the connection, and a crash
+-- leaves no more than what it could leave before.
+abbrev pub CommitsNothing : State → State → Type 0
+CommitsNothing old new = Survives old new (λ _. ⊥)
+
 -- What a statement does inside a transaction. Where it is done it makes this of a ledger's tables;
 -- whatever it answers, nothing is committed, and a crash leaves what it could leave before.
 pub record Step {A E : Type 0} (result : Result A E) (old new : State)
@@ -35,7 +40,7 @@ pub record Step {A E : Type 0} (result : Result A E) (old new : State)
       → IsTrue old.in_transaction
       → IsTrue old.is_open → IsLedger old.now → OnOk result Made
   pub kept : HasCleanDisk new → KeepsCommit old new
-  pub survives : Survives old new (λ _. ⊥)
+  pub survives : CommitsNothing old new
 
 -- of the trees of a ledger's tables all but one are as they were
 pub record LeavesOthers (but : ℕ) (old new : Trees) : Type 0 where
