@@ -13,7 +13,7 @@ use dr_base::{Seq, Text};
 use dr_cert::Sealed;
 use dr_cert_trace::reach_of;
 use dr_route::cell::key_in;
-use dr_route::copies::copy_cell;
+use dr_route::copies::{copy_cell, copy_names};
 use dr_route::names::{add_names, is_in_set, names_in_order};
 use dr_route::{Key, OwnedCell};
 use std::alloc::{AllocError, Global};
@@ -52,14 +52,6 @@ fn without(alloc: Global, names: &[Text], set: &[Text]) -> Result<Seq<Text>, All
     }
     let rest = names_in_order(alloc, left)?;
     Ok(rest)
-}
-
-/// A copy of names.
-fn copy_names(names: &Seq<Text>) -> Result<Seq<Text>, AllocError>
-    ensures { IfOk result (λ copy. copy ≡ names.now) }
-{
-    let copy = names.clone()?;
-    Ok(copy)
 }
 
 /// No names.

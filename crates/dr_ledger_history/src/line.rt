@@ -6,6 +6,7 @@ ghost use Rattle.dr_ledger_history.specs.Lines.{line_of, lines_of};
 use dr_base::{Seq, Text};
 use dr_ledger::{Entry, Instance, Outcome};
 use dr_route::Key;
+use dr_route::copies::copy_names;
 use std::alloc::{AllocError, AllocFailed, Global};
 use thiserror::Error;
 
@@ -118,7 +119,7 @@ fn arrival_entry(
         uid: instance.uid.clone()?,
         key: instance.key.clone()?,
         length: instance.size,
-        to: names_of(to)?,
+        to: copy_names(to)?,
         keep,
     };
     Ok(entry)
@@ -177,13 +178,6 @@ fn forgetting_entry(uid: &Text) -> Result<Entry, AllocError>
 {
     let uid = uid.clone()?;
     Ok(Entry::Forgetting { uid })
-}
-
-fn names_of(names: &Seq<Text>) -> Result<Seq<Text>, AllocError>
-    ensures { IfOk result (λ s. s ≡ names.now) }
-{
-    let copy = names.clone()?;
-    Ok(copy)
 }
 
 /// Why a line isn't taken.

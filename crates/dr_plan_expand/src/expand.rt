@@ -16,6 +16,7 @@ use crate::meant::meant;
 use crate::spell::spell;
 use crate::tables::ShortPlanTable;
 use dr_base::Text;
+use dr_base::same::Same;
 use dr_plan_text::form::TableForm;
 use std::alloc::{AllocError, Global};
 use toml::Table;
@@ -42,13 +43,6 @@ fn stand_in(alloc: Global, root: &Table) -> Result<Text, ExpandFault>
     Ok(text)
 }
 
-/// Whether the two texts are the same.
-fn is_same(one: &Text, other: &Text) -> bool
-    ensures { IsTrue result ↔ (one.now ≡ other.now) }
-{
-    one == other
-}
-
 /// Whether the text is its own expansion.
 fn is_own(alloc: Global, core: &Text) -> Result<bool, AllocError>
     ensures { IfOk result (λ b. IsTrue b ↔ IsOwn core.now) }
@@ -59,7 +53,7 @@ fn is_own(alloc: Global, core: &Text) -> Result<bool, AllocError>
         Err(_) => return Ok(false),
     };
     match stand_in(alloc, &root) {
-        Ok(again) => Ok(is_same(&again, core)),
+        Ok(again) => Ok(again.is_same(core)),
         Err(fault) => match fault {
             ExpandFault::Field => Ok(false),
             ExpandFault::Limit => Ok(false),

@@ -6,6 +6,7 @@ ghost use Rattle.dr_plan_model.specs.Plans.{IsWellFormed, IsTheNode, NamesNoNode
 ghost use Rattle.std.specs.Prelude.{IfOk, MatchOption};
 
 use crate::copies::{copy_accepts, copy_rules};
+use crate::copies::copy_flows;
 use crate::listed::{Listed, all_listed};
 use dr_base::{Seq, Syntax, Text};
 use dr_route::{AcceptRow, Rule, StationValues};
@@ -107,13 +108,6 @@ fn copy_nodes(nodes: &Seq<Node>) -> Result<Seq<Node>, AllocError>
     ensures { IfOk result (λ copy. copy ≡ nodes.now) }
 {
     let copy = nodes.clone()?;
-    Ok(copy)
-}
-
-fn copy_flows(flows: &Seq<Flow>) -> Result<Seq<Flow>, AllocError>
-    ensures { IfOk result (λ copy. copy ≡ flows.now) }
-{
-    let copy = flows.clone()?;
     Ok(copy)
 }
 
