@@ -1,5 +1,6 @@
 //! A network, as a program sees it.
-ghost use Rattle.std.specs.Prelude.{ℕ, List, IfOk};
+ghost use Rattle.std.specs.Prelude.{ℕ, List, Result};
+ghost use Rattle.std.specs.declared.io.Error.{Error};
 
 use crate::limits::Limits;
 use dr_base::Text;
@@ -9,13 +10,14 @@ use std::io;
 use std::net::SocketAddr;
 
 /// Where a program connects and listens, each address as a plan writes it (`host:port`). Its
-/// relation says which links may lead to an address; a system's sockets claim nothing.
+/// relation says what a connect to an address may come to, a link to it or an error; a system's
+/// sockets claim nothing.
 pub trait Network: Sized + Drop {
     type Socket: Link + Drop;
 
     type Listener: Listening<Socket = Self::Socket> + Drop;
 
-    ghost reaches: { Self → List ℕ → Self.Socket → Type 0 };
+    ghost connects: { Self → List ℕ → Result Self.Socket Error → Type 0 };
 
     /// The same network, whose links have these limits.
     fn within(&self, limits: Limits) -> Self;
@@ -25,7 +27,7 @@ pub trait Network: Sized + Drop {
 
     /// A link to what listens at the address.
     fn connect(&self, alloc: Global, address: &Text) -> io::Result<Self::Socket>
-        ensures { IfOk result (reaches self.now address.now) };
+        ensures { connects self.now address.now result };
 
     /// Listens at the address.
     fn listen(&self, alloc: Global, address: &Text) -> io::Result<Self::Listener>;

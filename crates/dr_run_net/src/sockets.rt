@@ -72,7 +72,7 @@ impl<'a, R: Net<Stream = TcpStream, Listener = TcpListener>, C: Clock> Network
 
     type Listener = SystemListener<'a, C>;
 
-    ghost reaches = { λ sockets address socket. Unit {0} };
+    ghost connects = { λ sockets address result. Unit {0} };
 
     fn within(&self, limits: Limits) -> Sockets<'a, R, C> {
         Sockets {

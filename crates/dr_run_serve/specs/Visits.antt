@@ -1,5 +1,6 @@
 -- Visits to a hop: what is called on the desk, and what is sent.
 use Rattle.std.specs.Prelude.{◌≡◌, ◌≢◌, ◌⊎◌, ℕ, Bool, List, Some, None, Result, Ok, Err}
+use Rattle.std.specs.declared.io.Error.{Error}
 use Rattle.std.specs.declared.option.Option.{Option}
 use Rattle.dr_base.specs.Texts.{Text}
 use Rattle.dr_ledger.specs.declared.fault.LedgerFault.{LedgerFault}
@@ -47,15 +48,18 @@ IsToldAs (Err fault.Desk) result = result ≡ Err refused.Store
 IsToldAs (Err fault.Memory) result = result ≡ Err refused.Memory
 IsToldAs (Err why) result = result ≡ Ok (Failed why)
 
-module _ {L S : Type 0} (reaches : Text → L → Type 0) (hears : L → Heard → L → Type 0)
+module _ {L S : Type 0} (connects : Text → Result L Error → Type 0)
+    (hears : L → Heard → L → Type 0)
     (sends : L → List ℕ → Bool → L → Type 0) (closes : L → L → Type 0)
     (step : S → DeskCall → DeskAnswer → S → Type 0)
     (finds : S → Text → ℕ → Result (Option Text) LedgerFault → S → Type 0)
     (tells : ℕ → Type 0) (site : Part) (dest address : Text) where
-  -- There was no link: the row is given up.
+  -- A connect to the address came to an error, which is told: the row is given up.
   abbrev pub StaysAway : Text → S → Result Visit LedgerFault → S → Type 0
-  StaysAway uid s (Ok (Unreached error)) t = GivesUp step tells uid dest s (Ok tt) t
-  StaysAway uid s (Err why) t = GivesUp step tells uid dest s (Err why) t
+  StaysAway uid s (Ok (Unreached error)) t =
+      connects address (Err error) × GivesUp step tells uid dest s (Ok tt) t
+  StaysAway uid s (Err why) t =
+      (error : Error) × connects address (Err error) × GivesUp step tells uid dest s (Err why) t
   StaysAway uid s result t = ⊥
 
   -- A session over a link to the address, after which nothing is done, or the row is given up.
@@ -63,7 +67,7 @@ module _ {L S : Type 0} (reaches : Text → L → Type 0) (hears : L → Heard �
   Delivers uid s result t =
       (link after : L) × (mid : S)
       × (came : Result Ended SessionFault)
-      × reaches address link
+      × connects address (Ok link)
       × DeliversAs hears sends closes step tells 0 site dest came link s after mid
       × (((mid ≡ t) × IsToldAs came result)
       ⊎ (GivesUp step tells uid dest mid (Ok tt) t × IsToldAs came result)

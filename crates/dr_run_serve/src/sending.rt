@@ -23,7 +23,7 @@ pub fn visit_each<N: Network, P: Tallied, C: Clock>(
     clock: &C,
 ) -> Result<(), LedgerFault>
     ensures { VisitsEach
-        (λ hop s came t. Visits (N.reaches network.now) N.Socket.hears N.Socket.sends
+        (λ hop s came t. Visits (N.connects network.now) N.Socket.hears N.Socket.sends
         N.Socket.closes P.step P.finds (C.tells clock.now) site.now hop.dest hop.address s came t)
         hops.now port.old result port.new }
 {

@@ -76,7 +76,7 @@ fn send_due<N: Network, P: Tallied, C: Clock>(
     port: &mut P,
     clock: &C,
 ) -> Result<Visit, LedgerFault>
-    ensures { SendsDue (N.reaches network.now) N.Socket.hears N.Socket.sends N.Socket.closes P.step
+    ensures { SendsDue (N.connects network.now) N.Socket.hears N.Socket.sends N.Socket.closes P.step
         P.finds (C.tells clock.now) site.now hop.now.dest hop.now.address uid.now
         port.old result port.new }
 {
@@ -106,7 +106,7 @@ pub fn visit_hop<N: Network, P: Tallied, C: Clock>(
     port: &mut P,
     clock: &C,
 ) -> Result<Visit, LedgerFault>
-    ensures { Visits (N.reaches network.now) N.Socket.hears N.Socket.sends N.Socket.closes P.step
+    ensures { Visits (N.connects network.now) N.Socket.hears N.Socket.sends N.Socket.closes P.step
         P.finds (C.tells clock.now) site.now hop.now.dest hop.now.address port.old result port.new }
 {
     let Some(uid) = first_due(&hop.dest, port, clock)? else {

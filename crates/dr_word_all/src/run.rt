@@ -154,7 +154,7 @@ where
         → asked.entry ≡ asks.Echo plan caller called
         → IfOk result (λ status. (text : Text)
         × F.holds system.entry.files.now plan.now text
-        × Echoes (N.reaches system.entry.network.now) N.Socket.hears N.Socket.sends N.Socket.closes
+        × Echoes (N.connects system.entry.network.now) N.Socket.hears N.Socket.sends N.Socket.closes
         (C.tells system.entry.clock.now) caller.now called.now text (W.contents output.old)
         (W.contents output.new) status) }
     ensures worked { (given : NodeFilesValue) (duty : DutyValue)
@@ -162,10 +162,11 @@ where
         → IfOk result
         (Works (F.holds system.entry.files.now) (O.opens system.entry.ledgers.now) O.Ledger.site
         O.Ledger.book O.Ledger.stands
-        (VisitsBy (N.reaches system.entry.network.now) N.Socket.hears N.Socket.sends N.Socket.closes
-        ⟦<OwnPort<O::Ledger> as DeskPort>⟧.step ⟦<OwnPort<O::Ledger> as Tallied>⟧.finds
-        (C.tells system.entry.clock.now)) (C.tells system.entry.clock.now) given duty
-        (W.contents output.old) (W.contents output.new)) }
+        (VisitsBy (N.connects system.entry.network.now) N.Socket.hears N.Socket.sends
+        N.Socket.closes ⟦<OwnPort<O::Ledger> as DeskPort>⟧.step
+        ⟦<OwnPort<O::Ledger> as Tallied>⟧.finds (C.tells system.entry.clock.now))
+        (C.tells system.entry.clock.now) given duty (W.contents output.old)
+        (W.contents output.new)) }
     ensures adopted { (change : PlanChangeValue)
         → asked.entry ≡ asks.Adopt change
         → IfOk result
@@ -305,7 +306,7 @@ where
         → (result ≡ Success) ⊎ (result ≡ Refused)
         → (text : Text)
         × F.holds system.entry.files.now plan.now text
-        × Echoes (N.reaches system.entry.network.now) N.Socket.hears N.Socket.sends N.Socket.closes
+        × Echoes (N.connects system.entry.network.now) N.Socket.hears N.Socket.sends N.Socket.closes
         (C.tells system.entry.clock.now) caller.now called.now text (W.contents output.old)
         (W.contents output.new) result }
     ensures worked { (given : NodeFilesValue) (duty : DutyValue)
@@ -313,10 +314,11 @@ where
         → (result ≡ Success) ⊎ (result ≡ Refused)
         → Works (F.holds system.entry.files.now) (O.opens system.entry.ledgers.now) O.Ledger.site
         O.Ledger.book O.Ledger.stands
-        (VisitsBy (N.reaches system.entry.network.now) N.Socket.hears N.Socket.sends N.Socket.closes
-        ⟦<OwnPort<O::Ledger> as DeskPort>⟧.step ⟦<OwnPort<O::Ledger> as Tallied>⟧.finds
-        (C.tells system.entry.clock.now)) (C.tells system.entry.clock.now) given duty
-        (W.contents output.old) (W.contents output.new) result }
+        (VisitsBy (N.connects system.entry.network.now) N.Socket.hears N.Socket.sends
+        N.Socket.closes ⟦<OwnPort<O::Ledger> as DeskPort>⟧.step
+        ⟦<OwnPort<O::Ledger> as Tallied>⟧.finds (C.tells system.entry.clock.now))
+        (C.tells system.entry.clock.now) given duty (W.contents output.old) (W.contents output.new)
+        result }
     ensures adopted { (change : PlanChangeValue)
         → IsAdoptOf words.now change
         → (result ≡ Success) ⊎ (result ≡ Refused)

@@ -1,5 +1,5 @@
 //! Requests over a network, each in a connection of its own.
-ghost use Rattle.std.specs.Prelude.{◌≡◌, IfOk, true, option_map};
+ghost use Rattle.std.specs.Prelude.{◌≡◌, IfOk, Ok, true, option_map};
 ghost use Rattle.dr_run_ask.specs.Calls.{request_of};
 
 use dr_base::Text;
@@ -26,7 +26,7 @@ pub struct Caller<'a, N: Network, C: Clock> {
 ///
 /// Errors: NoConnection, Memory.
 fn connect<N: Network>(alloc: Global, network: &N, at: &Text) -> Result<N::Socket, AskFault>
-    ensures { IfOk result (N.reaches network.now at.now) }
+    ensures { IfOk result (λ link. N.connects network.now at.now (Ok link)) }
 {
     match network.connect(alloc, at) {
         Ok(link) => Ok(link),
@@ -95,12 +95,12 @@ fn exchange<L: Link, C: Clock>(
 /// An answer comes only to the request that is meant, which was sent over a link that leads to the
 /// address.
 impl<'a, N: Network, C: Clock> Asks for Caller<'a, N, C> {
-    ghost use Rattle.std.specs.Prelude.{◌≡◌, IfOk, true, option_map};
+    ghost use Rattle.std.specs.Prelude.{◌≡◌, IfOk, Ok, true, option_map};
     ghost use Rattle.dr_run_ask.specs.Calls.{request_of};
 
     ghost answers = { λ s call result t. IfOk result (λ _.
         (link mid : N.Socket)
-        × N.reaches s.network.now s.at.now link
+        × N.connects s.network.now s.at.now (Ok link)
         × N.Socket.sends link (request_of s.at.now (option_map (λ token. token.now) s.token) call)
         true mid) };
 

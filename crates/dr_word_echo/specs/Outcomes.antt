@@ -1,6 +1,7 @@
 -- What comes of an echo from one node of a plan to another.
 use Rattle.std.specs.Prelude.{◌≡◌, ◌⊎◌, ◌==◌, ℕ, Bool, List, [], None, Some, Result, Ok, Err}
 use Rattle.std.specs.Prelude.{if◌then◌else◌}
+use Rattle.std.specs.declared.io.Error.{Error}
 use Rattle.std.specs.declared.option.Option.{Option}
 use Rattle.dr_base.specs.Texts.{Text}
 use Rattle.dr_plan_model.specs.Networks.{Network}
@@ -26,32 +27,38 @@ TellsOf Came Memory = Unit {0}
 TellsOf Came NoNode = ⊥
 TellsOf Came (Unreached error) = ⊥
 
-module _ {L : Type 0} (reaches : Text → L → Type 0) (hears : L → Heard → L → Type 0)
+-- both names are nodes of the plan, and this holds of the address of the second
+abbrev pub Between : Network → Text → Text → (Text → Type 0) → Type 0
+Between plan caller called HoldsAt =
+    (from_node to_node : Node)
+    × IsTheNode plan caller from_node
+    × IsTheNode plan called to_node
+    × HoldsAt to_node.address
+
+module _ {L : Type 0} (connects : Text → Result L Error → Type 0) (hears : L → Heard → L → Type 0)
     (sends : L → List ℕ → Bool → L → Type 0) (closes : L → L → Type 0) (tells : ℕ → Type 0) where
   -- an echo from the one name to the other, over a link that leads to the address, comes to this
   abbrev pub ComesTo : Text → Text → Text → Result Echoed SessionFault → Type 0
   ComesTo caller called address came =
-      (link after : L) × reaches address link
+      (link after : L) × connects address (Ok link)
       × EchoesAs hears sends closes tells caller called came link after
 
-  -- the same as an outcome; nothing may answer at the address
+  -- the same as an outcome; or a connect to the address came to the error
   abbrev pub IsAskedAt : Text → Text → Text → EchoOutcome → Type 0
-  IsAskedAt caller called address (Unreached error) = Unit {0}
+  IsAskedAt caller called address (Unreached error) = connects address (Err error)
   IsAskedAt caller called address outcome = TellsOf (ComesTo caller called address) outcome
 
   -- an echo between two nodes of the plan, over a link to the second one's address, comes to this
   abbrev pub ComesBetween : Network → Text → Text → Result Echoed SessionFault → Type 0
   ComesBetween plan caller called came =
-      (from_node to_node : Node)
-      × IsTheNode plan caller from_node
-      × IsTheNode plan called to_node
-      × ComesTo caller called to_node.address came
+      Between plan caller called (λ address. ComesTo caller called address came)
 
   -- What may come of an echo from one name to another, for a plan: one of the two is no node, or an
-  -- echo comes to it; that nothing answers at the address, and want of memory, may come of any.
+  -- echo or a connect to the second one's address comes to it; want of memory may come of any.
   abbrev pub IsOutcomeOf : Network → Text → Text → EchoOutcome → Type 0
   IsOutcomeOf plan caller called NoNode = NamesNoNode plan caller ⊎ NamesNoNode plan called
-  IsOutcomeOf plan caller called (Unreached error) = Unit {0}
+  IsOutcomeOf plan caller called (Unreached error) =
+      Between plan caller called (λ address. connects address (Err error))
   IsOutcomeOf plan caller called outcome = TellsOf (ComesBetween plan caller called) outcome
 
 -- what is printed: the line of an echo, else nothing

@@ -1,5 +1,6 @@
 -- What a run of `echo` does.
-use Rattle.std.specs.Prelude.{◌≡◌, ◌⊎◌, ℕ, Bool, List, Ok}
+use Rattle.std.specs.Prelude.{◌≡◌, ◌⊎◌, ℕ, Bool, List, Result, Ok}
+use Rattle.std.specs.declared.io.Error.{Error}
 use Rattle.std.specs.declared.option.Option.{Option}
 use Rattle.std.specs.Io.KnownBytes.{Appends}
 use Rattle.dr_base.specs.Texts.{Text}
@@ -24,12 +25,12 @@ pub record Asks (MayCome : Network → EchoOutcome → Type 0) (text : Text) (ol
 
 -- a run of `echo` from the one name to the other: the text has no plan, or what comes of the echo
 -- is printed
-abbrev pub Echoes : {L : Type 0} → (Text → L → Type 0) → (L → Heard → L → Type 0)
+abbrev pub Echoes : {L : Type 0} → (Text → Result L Error → Type 0) → (L → Heard → L → Type 0)
     → (L → List ℕ → Bool → L → Type 0)
     → (L → L → Type 0) → (ℕ → Type 0) → Text → Text → Text → Option (List ℕ) → Option (List ℕ)
     → Status → Type 0
-Echoes reaches hears sends closes tells caller called text old new status =
+Echoes connects hears sends closes tells caller called text old new status =
     Refuses text old new status
     ⊎ Asks
-    (λ plan outcome. IsOutcomeOf reaches hears sends closes tells plan caller called outcome) text
+    (λ plan outcome. IsOutcomeOf connects hears sends closes tells plan caller called outcome) text
     old new status

@@ -58,7 +58,7 @@ fn echo_text<N: Network, C: Clock, W: Write, E: Write>(
     faults: &mut E,
 ) -> io::Result<Status>
     ensures { IfOk result
-        (Echoes (N.reaches network.now) N.Socket.hears N.Socket.sends N.Socket.closes
+        (Echoes (N.connects network.now) N.Socket.hears N.Socket.sends N.Socket.closes
         (C.tells clock.now) nodes.entry.caller.now nodes.entry.called.now text.now
         (W.contents output.old) (W.contents output.new)) }
 {
@@ -89,7 +89,7 @@ pub fn echo_files<'a, F: Files, N: Network, C: Clock, W: Write, E: Write>(
 ) -> Result<Status, Failure<'a>>
     ensures { IfOk result (λ status. (text : Text)
         × F.holds files.now nodes.entry.plan.now text
-        × Echoes (N.reaches network.now) N.Socket.hears N.Socket.sends N.Socket.closes
+        × Echoes (N.connects network.now) N.Socket.hears N.Socket.sends N.Socket.closes
         (C.tells clock.now) nodes.entry.caller.now nodes.entry.called.now text
         (W.contents output.old) (W.contents output.new) status) }
 {

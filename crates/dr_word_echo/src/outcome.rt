@@ -89,7 +89,7 @@ fn ask<N: Network, C: Clock>(
 ) -> EchoOutcome
     requires caller { IsName caller.now }
     requires called { IsName called.now }
-    ensures { IsAskedAt (N.reaches network.now) N.Socket.hears N.Socket.sends N.Socket.closes
+    ensures { IsAskedAt (N.connects network.now) N.Socket.hears N.Socket.sends N.Socket.closes
         (C.tells clock.now) caller.now called.now address.now result }
 {
     let mut link = match network.connect(alloc, address) {
@@ -113,7 +113,7 @@ fn outcome_between<N: Network, C: Clock>(
     network: &N,
     clock: &C,
 ) -> EchoOutcome
-    ensures { IsOutcomeOf (N.reaches network.now) N.Socket.hears N.Socket.sends N.Socket.closes
+    ensures { IsOutcomeOf (N.connects network.now) N.Socket.hears N.Socket.sends N.Socket.closes
         (C.tells clock.now) plan.now caller.now called.now result }
 {
     let Some(_known) = known_node(plan, caller) else {
@@ -134,7 +134,7 @@ pub fn outcome_of<N: Network, C: Clock>(
     network: &N,
     clock: &C,
 ) -> EchoOutcome
-    ensures { IsOutcomeOf (N.reaches network.now) N.Socket.hears N.Socket.sends N.Socket.closes
+    ensures { IsOutcomeOf (N.connects network.now) N.Socket.hears N.Socket.sends N.Socket.closes
         (C.tells clock.now) plan.now caller.now called.now result }
 {
     let Ok(caller) = Text::copy_of(alloc, caller.as_bytes()) else {

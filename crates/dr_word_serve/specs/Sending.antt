@@ -1,5 +1,6 @@
 -- The word `send`: what it does at a node's ledger, what it prints, and what it comes to.
 use Rattle.std.specs.Prelude.{◌≡◌, ◌∷◌, ◌++◌, [], ℕ, Bool, List, codes, Result, Ok, Err}
+use Rattle.std.specs.declared.io.Error.{Error}
 use Rattle.std.specs.declared.option.Option.{Option}
 use Rattle.std.specs.Io.KnownBytes.{Appends}
 use Rattle.dr_base.specs.Texts.{Text}
@@ -47,16 +48,17 @@ IsUnsent (Failed failure) = Unit {0}
 IsUnsent Memory = Unit {0}
 IsUnsent halt = ⊥
 
--- each hop of the site is visited once, in order, up to the last, over links that lead to its
--- address
-abbrev pub VisitsBy : {K S : Type 0} (reaches : Text → K → Type 0) (hears : K → Heard → K → Type 0)
+-- each hop of the site is visited once, in order, up to the last, over what a connect to its
+-- address comes to
+abbrev pub VisitsBy : {K S : Type 0} (connects : Text → Result K Error → Type 0)
+    (hears : K → Heard → K → Type 0)
     (sends : K → List ℕ → Bool → K → Type 0) (closes : K → K → Type 0)
     (step : S → DeskCall → DeskAnswer → S → Type 0)
     (finds : S → Text → ℕ → Result (Option Text) LedgerFault → S → Type 0) (tells : ℕ → Type 0)
     → Part → List NextHop → S → S → Type 0
-VisitsBy reaches hears sends closes step finds tells site hops s t = VisitsEach
+VisitsBy connects hears sends closes step finds tells site hops s t = VisitsEach
     (λ hop a came b.
-    Visits reaches hears sends closes step finds tells site hop.dest hop.address a came b) hops s
+    Visits connects hears sends closes step finds tells site hop.dest hop.address a came b) hops s
     (Ok tt) t
 
 module _ {L : Type 0} (book : L → Book) (stands : L → Type 0)

@@ -110,7 +110,7 @@ fn send_due<L: Ledger, N: Network, C: Clock>(
 ) -> Result<Text, LedgerFault>
     ensures { IfOk result
         (ReportsVisited L.book L.stands
-        (VisitsBy (N.reaches network.now) N.Socket.hears N.Socket.sends N.Socket.closes
+        (VisitsBy (N.connects network.now) N.Socket.hears N.Socket.sends N.Socket.closes
         ⟦<OwnPort<L> as DeskPort>⟧.step ⟦<OwnPort<L> as Tallied>⟧.finds (C.tells clock.now))
         site.now hops.now port.old) }
 {
@@ -135,7 +135,7 @@ fn send_ledger<'a, L: Ledger + Drop, N: Network, C: Clock, W: Write>(
     requires { L.site ledger ≡ node.site.now }
     ensures { MatchResult result
         (λ report. SentFrom L.book L.stands
-        (VisitsBy (N.reaches network.now) N.Socket.hears N.Socket.sends N.Socket.closes
+        (VisitsBy (N.connects network.now) N.Socket.hears N.Socket.sends N.Socket.closes
         ⟦<OwnPort<L> as DeskPort>⟧.step ⟦<OwnPort<L> as Tallied>⟧.finds (C.tells clock.now))
         node.entry.site.now node.entry.hops.now item ledger report (W.contents output.old)
         (W.contents output.new)) IsUnsent }
@@ -162,7 +162,7 @@ fn send_opened<'a, L: Ledger + Drop, N: Network, C: Clock, W: Write>(
     requires { L.site opened.ledger ≡ opened.site }
     ensures { MatchResult result
         (λ report. SentFrom L.book L.stands
-        (VisitsBy (N.reaches network.now) N.Socket.hears N.Socket.sends N.Socket.closes
+        (VisitsBy (N.connects network.now) N.Socket.hears N.Socket.sends N.Socket.closes
         ⟦<OwnPort<L> as DeskPort>⟧.step ⟦<OwnPort<L> as Tallied>⟧.finds (C.tells clock.now))
         opened.site (hops_from opened.site opened.sealed.plan.nodes) item opened.ledger report
         (W.contents output.old) (W.contents output.new)) IsUnsent }
@@ -202,10 +202,10 @@ fn send_node<'a, F: Files, O: Ledgers, N: Network, C: Clock, G, U, W: Write>(
         (F.holds system.entry.files.now file.now)
         (O.opens system.entry.ledgers.now given.entry.ledger.now) O.Ledger.site O.Ledger.book
         O.Ledger.stands
-        (VisitsBy (N.reaches system.entry.network.now) N.Socket.hears N.Socket.sends N.Socket.closes
-        ⟦<OwnPort<O::Ledger> as DeskPort>⟧.step ⟦<OwnPort<O::Ledger> as Tallied>⟧.finds
-        (C.tells system.entry.clock.now)) given.entry.node.now result (W.contents output.old)
-        (W.contents output.new) }
+        (VisitsBy (N.connects system.entry.network.now) N.Socket.hears N.Socket.sends
+        N.Socket.closes ⟦<OwnPort<O::Ledger> as DeskPort>⟧.step
+        ⟦<OwnPort<O::Ledger> as Tallied>⟧.finds (C.tells system.entry.clock.now))
+        given.entry.node.now result (W.contents output.old) (W.contents output.new) }
 {
     let opened = open_node(alloc, system.files, system.ledgers, given, Making::Allowed)?;
     let item = match read_instance(alloc, system.files, file) {
@@ -238,9 +238,10 @@ pub fn send_files<'a, F: Files, O: Ledgers, N: Network, C: Clock, G, U, W: Write
         (F.holds system.entry.files.now file.now)
         (O.opens system.entry.ledgers.now given.entry.ledger.now) O.Ledger.site O.Ledger.book
         O.Ledger.stands
-        (VisitsBy (N.reaches system.entry.network.now) N.Socket.hears N.Socket.sends N.Socket.closes
-        ⟦<OwnPort<O::Ledger> as DeskPort>⟧.step ⟦<OwnPort<O::Ledger> as Tallied>⟧.finds
-        (C.tells system.entry.clock.now)) given.entry.node.now came (W.contents output.old) mid
+        (VisitsBy (N.connects system.entry.network.now) N.Socket.hears N.Socket.sends
+        N.Socket.closes ⟦<OwnPort<O::Ledger> as DeskPort>⟧.step
+        ⟦<OwnPort<O::Ledger> as Tallied>⟧.finds (C.tells system.entry.clock.now))
+        given.entry.node.now came (W.contents output.old) mid
         × Ends came mid (W.contents output.new) status) }
 {
     let came = send_node(alloc, system, given, file, output);

@@ -51,10 +51,11 @@ where
     ensures { IfOk result
         (Works (F.holds system.entry.files.now) (O.opens system.entry.ledgers.now) O.Ledger.site
         O.Ledger.book O.Ledger.stands
-        (VisitsBy (N.reaches system.entry.network.now) N.Socket.hears N.Socket.sends N.Socket.closes
-        ⟦<OwnPort<O::Ledger> as DeskPort>⟧.step ⟦<OwnPort<O::Ledger> as Tallied>⟧.finds
-        (C.tells system.entry.clock.now)) (C.tells system.entry.clock.now) given.entry duty.entry
-        (W.contents output.old) (W.contents output.new)) }
+        (VisitsBy (N.connects system.entry.network.now) N.Socket.hears N.Socket.sends
+        N.Socket.closes ⟦<OwnPort<O::Ledger> as DeskPort>⟧.step
+        ⟦<OwnPort<O::Ledger> as Tallied>⟧.finds (C.tells system.entry.clock.now))
+        (C.tells system.entry.clock.now) given.entry duty.entry (W.contents output.old)
+        (W.contents output.new)) }
 {
     let (files, ledgers) = (system.files, system.ledgers);
     let registry = Registry { files, ledgers };

@@ -33,7 +33,7 @@ unfolding duty_of given_of
 returns-in-AtNode-clause-worked g c = λ given duty asked.
     let same : asks.AtNode c.in-AtNode.given c.in-AtNode.duty ≡ asks.AtNode given duty = sym c.in-AtNode.is ∙ asked in
     let P : NodeFiles → Duty → Type 0 = λ at what. IfOk c.work_files.result (Works (g.F.Files.holds c.args.system.files.now) (g.O.Ledgers.opens c.args.system.ledgers.now) g.O.Ledger.Ledger.site g.O.Ledger.Ledger.book g.O.Ledger.Ledger.stands
-    (VisitsBy (g.N.Network.reaches c.args.system.network.now) g.N.Socket.Link.hears g.N.Socket.Link.sends g.N.Socket.Link.closes (own.step-value g.row.O-Ledger g.O.Ledger.Ledger g.O.Ledger.Ledger-dict).it (tallied.finds-value g.row.O-Ledger g.O.Ledger.Ledger g.O.Ledger.Ledger-dict).it (g.C.Clock.tells c.args.system.clock.now)) (g.C.Clock.tells c.args.system.clock.now)
+    (VisitsBy (g.N.Network.connects c.args.system.network.now) g.N.Socket.Link.hears g.N.Socket.Link.sends g.N.Socket.Link.closes (own.step-value g.row.O-Ledger g.O.Ledger.Ledger g.O.Ledger.Ledger-dict).it (tallied.finds-value g.row.O-Ledger g.O.Ledger.Ledger g.O.Ledger.Ledger-dict).it (g.C.Clock.tells c.args.system.clock.now)) (g.C.Clock.tells c.args.system.clock.now)
     at what (g.W.Write.contents c.args.output.now) (g.W.Write.contents c.work_files.new.output)) in
     subst (λ (at : NodeFiles). P at duty) (ap (given_of given) same)
     (subst (λ (what : Duty). P c.in-AtNode.given what) (ap (duty_of duty) same) c.work_files.ensures)

@@ -7,5 +7,5 @@ returns-in_default-known_node g c = inr c.in_default-known_node.ensures.node
 
 pub returns : goal.returns
 returns g c =
-    between (g.N.Network.reaches c.args.network.now) g.N.Socket.Link.hears g.N.Socket.Link.sends g.N.Socket.Link.closes (g.C.Clock.tells c.args.clock.now) c.args.plan.now c.args.caller.now c.args.called.now
+    between (g.N.Network.connects c.args.network.now) g.N.Socket.Link.hears g.N.Socket.Link.sends g.N.Socket.Link.closes (g.C.Clock.tells c.args.clock.now) c.args.plan.now c.args.caller.now c.args.called.now
     c.in-Some._known.now c.in-Some-known_node.node.now c.in-Some.ensures.node c.in-Some-known_node.ensures.node c.ask.result c.ask.ensures
