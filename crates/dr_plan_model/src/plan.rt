@@ -5,8 +5,7 @@ ghost use Rattle.dr_plan_model.specs.Listings.{AreListedBy};
 ghost use Rattle.dr_plan_model.specs.Plans.{IsWellFormed, IsTheNode, NamesNoNode};
 ghost use Rattle.std.specs.Prelude.{IfOk, MatchOption};
 
-use crate::copies::{copy_accepts, copy_rules};
-use crate::copies::copy_flows;
+use crate::copies::{copy_accepts, copy_flows, copy_rules};
 use crate::listed::{Listed, all_listed};
 use dr_base::{Seq, Syntax, Text};
 use dr_route::{AcceptRow, Rule, StationValues};
