@@ -7,9 +7,9 @@ pub mod heap;
 pub mod laws;
 pub mod padding;
 pub mod same;
-pub mod seq;
+mod seq;
 pub mod syntax;
-pub mod text;
+mod text;
 pub mod uid;
 
 pub use seq::Seq;

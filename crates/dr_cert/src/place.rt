@@ -40,7 +40,7 @@ impl<'a> StopPlace<'a> {
     }
 
     /// How the stop compares to this one.
-    pub fn compared(&self, stop: &Stop) -> Ordering
+    pub(crate) fn compared(&self, stop: &Stop) -> Ordering
         ensures { result ≡ stop_cmp stop.now self.now }
     {
         stop.caller.cmp(self.caller).then(

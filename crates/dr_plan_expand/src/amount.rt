@@ -376,7 +376,7 @@ fn spend_plan(tables: Tables<'_>, short: &ShortPlan, room: usize) -> Option<usiz
 }
 
 /// Whether the plan stands for no more than a plan may.
-pub fn is_within(short: &ShortPlan) -> bool
+pub(crate) fn is_within(short: &ShortPlan) -> bool
     ensures { IsTrue result ↔ IsWithin short.now }
 {
     let known = standard_tables();

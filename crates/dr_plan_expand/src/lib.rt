@@ -9,7 +9,7 @@ pub mod expand;
 pub mod fault;
 pub mod fields;
 mod find;
-pub mod known;
+mod known;
 pub mod laws;
 pub mod lookup;
 pub mod meant;

@@ -50,7 +50,7 @@ impl<'a> Test for OfName<'a> {
 }
 
 /// The words that a name is defined by, and None where nothing defines it.
-pub fn defined<'a>(definitions: &'a [Definition], name: &[u8]) -> Option<&'a [Text]>
+pub(crate) fn defined<'a>(definitions: &'a [Definition], name: &[u8]) -> Option<&'a [Text]>
     ensures { MatchOption result ((words : List Words) → Defines definitions.now name.now words → ⊥)
         (λ words. Defines definitions.now name.now words.now) }
 {

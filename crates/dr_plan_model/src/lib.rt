@@ -3,9 +3,9 @@
 #![tactic(auto)]
 
 pub mod copies;
-pub mod entering;
+mod entering;
 pub mod laws;
-pub mod listed;
+mod listed;
 pub mod literals;
 mod names;
 pub mod plan;

@@ -29,7 +29,7 @@ fn listed_by(alloc: Global, flow: &Flow) -> Result<Listed, AllocError>
 }
 
 /// What each of the flows lists, in their order. Of no flows it takes no memory.
-pub fn all_listed(alloc: Global, flows: &[Flow]) -> Result<Seq<Listed>, AllocError>
+pub(crate) fn all_listed(alloc: Global, flows: &[Flow]) -> Result<Seq<Listed>, AllocError>
     ensures listed { IfOk result (AreListedBy flows.now) }
     ensures memory { OnErr result (flows.now ≢ []) }
 {
