@@ -1,6 +1,6 @@
 //! The text of a command.
 ghost use Rattle.std.specs.Prelude.{◌≡◌, ◌∷◌, ◌++◌, ◌^◌, ◌<◌, ◌≤◌, length, nat_le, if◌then◌else◌};
-ghost use Rattle.std.specs.Prelude.{IsTrue, ◌↔◌, IfOk, OnOk};
+ghost use Rattle.std.specs.Prelude.{IsTrue, ◌↔◌, IfOk, OnOk, OnErr};
 ghost use Rattle.std.specs.Int.{w16, w32, to_le_bytes};
 ghost use Rattle.dr_dimse.specs.Commands.{element_text, HasNoName};
 ghost use Rattle.dr_dimse.specs.declared.command.Command.TheVariants.{StoreRq, StoreRsp, EchoRq};
@@ -9,6 +9,7 @@ ghost use Rattle.dr_dimse.specs.Written.{number_element, text_element, data_elem
 ghost use Rattle.dr_dimse.specs.Written.{elements_of, element_texts, written, CommandFits};
 ghost use Rattle.dr_dimse.specs.Written.{FieldFits};
 ghost use Rattle.dr_dimse.specs.Written.{IsText};
+ghost use Rattle.dr_pdu.specs.Reads.{HasMoreBehind};
 
 use crate::assembly::GREATEST_COMMAND;
 use crate::command::Command;
@@ -176,7 +177,9 @@ fn id_number(field: u16) -> u16
 }
 
 fn put_if_some(out: &mut Vec<u8>, number: u16, n: Option<u16>) -> Result<(), AllocError>
-    ensures { OnOk result (out.new.items ≡ out.old.items ++ element_texts (if_some number n)) }
+    ensures ok { OnOk result
+        (out.new.items ≡ out.old.items ++ element_texts (if_some number n)) }
+    ensures err { OnErr result (HasMoreBehind out.old.items out.new.items) }
 {
     match n {
         Some(n) => put_number(out, number, n),
@@ -185,14 +188,17 @@ fn put_if_some(out: &mut Vec<u8>, number: u16, n: Option<u16>) -> Result<(), All
 }
 
 fn put_data(out: &mut Vec<u8>, has_data: bool) -> Result<(), AllocError>
-    ensures { OnOk result (out.new.items ≡ out.old.items ++ element_text (data_element has_data)) }
+    ensures ok { OnOk result
+        (out.new.items ≡ out.old.items ++ element_text (data_element has_data)) }
+    ensures err { OnErr result (HasMoreBehind out.old.items out.new.items) }
 {
     put_number(out, 0x0800, if has_data { 0x0001 } else { 0x0101 })
 }
 
 fn put_number(out: &mut Vec<u8>, number: u16, n: u16) -> Result<(), AllocError>
-    ensures { OnOk result
+    ensures ok { OnOk result
         (out.new.items ≡ out.old.items ++ element_text (number_element number n)) }
+    ensures err { OnErr result (HasMoreBehind out.old.items out.new.items) }
 {
     put_element(out, number, &n.to_le_bytes())
 }
@@ -200,8 +206,9 @@ fn put_number(out: &mut Vec<u8>, number: u16, n: u16) -> Result<(), AllocError>
 /// A text, padded to even length.
 fn put_text(out: &mut Vec<u8>, number: u16, text: &Text) -> Result<(), AllocError>
     requires { length text.now ≤ 16384 }
-    ensures { OnOk result
+    ensures ok { OnOk result
         (out.new.items ≡ out.old.items ++ element_text (text_element number text.now)) }
+    ensures err { OnErr result (HasMoreBehind out.old.items out.new.items) }
 {
     if text.len() % 2 == 0 {
         return put_element(out, number, text.as_bytes());
@@ -214,9 +221,10 @@ fn put_text(out: &mut Vec<u8>, number: u16, text: &Text) -> Result<(), AllocErro
 
 fn put_element(out: &mut Vec<u8>, number: u16, value: &[u8]) -> Result<(), AllocError>
     requires { length value.now < 2 ^ 32 }
-    ensures { OnOk result
+    ensures ok { OnOk result
         (out.new.items
         ≡ out.old.items ++ element_text (record { number = number; value = value.now })) }
+    ensures err { OnErr result (HasMoreBehind out.old.items out.new.items) }
 {
     put_header(out, number, value.len() as u32)?;
     out.extend_from_slice(value)?;
@@ -225,8 +233,9 @@ fn put_element(out: &mut Vec<u8>, number: u16, value: &[u8]) -> Result<(), Alloc
 
 /// The tag and the length in front of a value.
 fn put_header(out: &mut Vec<u8>, number: u16, len: u32) -> Result<(), AllocError>
-    ensures { OnOk result
+    ensures ok { OnOk result
         (out.new.items ≡ out.old.items ++ 0 ∷ 0 ∷ (to_le_bytes w16 number ++ to_le_bytes w32 len)) }
+    ensures err { OnErr result (HasMoreBehind out.old.items out.new.items) }
 {
     out.extend_from_slice(&[0, 0])?;
     out.extend_from_slice(&number.to_le_bytes())?;

@@ -1,7 +1,8 @@
 //! Commands and data sets in fragments (PS3.8 annexes D.1 and E).
-ghost use Rattle.std.specs.Prelude.{◌≡◌, ◌≤◌, ◌∷◌, ◌++◌, OnOk, length};
+ghost use Rattle.std.specs.Prelude.{◌≡◌, ◌≤◌, ◌∷◌, ◌++◌, OnOk, OnErr, length};
 ghost use Rattle.std.specs.Int.{w32, to_be_bytes};
 ghost use Rattle.dr_pdu.specs.Items.{pdv_text};
+ghost use Rattle.dr_pdu.specs.Reads.{HasMoreBehind};
 ghost use Rattle.dr_pdu.specs.Written.{written};
 ghost use Rattle.dr_nego.specs.Agreeing.{IsTooSmall};
 ghost use Rattle.dr_nego.specs.Fragments.{piece_size, value_pdu, header_of, is_command};
@@ -48,7 +49,8 @@ fn header_of(kind: FragmentKind, is_last: bool) -> u8
 
 /// Writes the header of a P-DATA-TF of that length (9.3.5).
 fn put_header(out: &mut Vec<u8>, len: u32) -> Result<(), AllocError>
-    ensures { OnOk result (out.new.items ≡ out.old.items ++ (4 ∷ 0 ∷ to_be_bytes w32 len)) }
+    ensures ok { OnOk result (out.new.items ≡ out.old.items ++ (4 ∷ 0 ∷ to_be_bytes w32 len)) }
+    ensures err { OnErr result (HasMoreBehind out.old.items out.new.items) }
 {
     out.extend_from_slice(&[4, 0])?;
     out.extend_from_slice(&len.to_be_bytes())?;
@@ -58,10 +60,11 @@ fn put_header(out: &mut Vec<u8>, len: u32) -> Result<(), AllocError>
 /// Writes a value (9.3.5.1).
 fn put_value(out: &mut Vec<u8>, id: u8, header: u8, fragment: &[u8]) -> Result<(), AllocError>
     requires { length fragment.now ≤ 1048570 }
-    ensures { OnOk result
+    ensures ok { OnOk result
         (out.new.items
         ≡ out.old.items
         ++ pdv_text (record { id = id; header = header; fragment = fragment.now })) }
+    ensures err { OnErr result (HasMoreBehind out.old.items out.new.items) }
 {
     let len = fragment.len() as u32 + 2;
     out.extend_from_slice(&len.to_be_bytes())?;
@@ -80,9 +83,10 @@ fn put_fragment(
     fragment: &[u8],
 ) -> Result<(), AllocError>
     requires { length fragment.now ≤ 1048570 }
-    ensures { OnOk result
+    ensures ok { OnOk result
         (out.new.items
         ≡ out.old.items ++ written (value_pdu id (is_command kind) is_last fragment.now)) }
+    ensures err { OnErr result (HasMoreBehind out.old.items out.new.items) }
 {
     let len = fragment.len() as u32 + 6;
     put_header(out, len)?;
@@ -103,9 +107,10 @@ pub fn put_fragments(
     bytes: &[u8],
 ) -> Result<(), AllocError>
     requires { IsTooSmall agreed.now.limit → ⊥ }
-    ensures { OnOk result
+    ensures ok { OnOk result
         (out.new.items
         ≡ out.old.items ++ spellings (fragment_pdus agreed.now.limit id kind bytes.now)) }
+    ensures err { OnErr result (HasMoreBehind out.old.items out.new.items) }
 {
     let size = piece_size(agreed.limit);
     let mut rest = bytes;

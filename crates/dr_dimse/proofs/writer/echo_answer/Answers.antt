@@ -9,8 +9,8 @@ returns c =
     let e2 = number_element 0x0100 0x8030 in
     let e3 = number_element 0x0120 c.args.to in
     let e4 = data_element c.args.has_data in
-    let x1 = next _ _ [] e1 c.new-out.ensures.items c.in_ok-put_text.ensures in
-    let x2 = next _ _ (e1 ∷ []) e2 x1 c.in_ok-put_number.ensures in
-    let x3 = next _ _ (e1 ∷ e2 ∷ []) e3 x2 c.in_ok-put_number-2.ensures in
-    let x4 = next _ _ (e1 ∷ e2 ∷ e3 ∷ []) e4 x3 c.in_ok-put_data.ensures in
-    next _ _ (e1 ∷ e2 ∷ e3 ∷ e4 ∷ []) (number_element 0x0900 c.args.status) x4 c.in_ok-put_number-3.ensures
+    let x1 = next _ _ [] e1 c.new-out.ensures.items c.in_ok-put_text.ensures.ok in
+    let x2 = next _ _ (e1 ∷ []) e2 x1 c.in_ok-put_number.ensures.ok in
+    let x3 = next _ _ (e1 ∷ e2 ∷ []) e3 x2 c.in_ok-put_number-2.ensures.ok in
+    let x4 = next _ _ (e1 ∷ e2 ∷ e3 ∷ []) e4 x3 c.in_ok-put_data.ensures.ok in
+    next _ _ (e1 ∷ e2 ∷ e3 ∷ e4 ∷ []) (number_element 0x0900 c.args.status) x4 c.in_ok-put_number-3.ensures.ok

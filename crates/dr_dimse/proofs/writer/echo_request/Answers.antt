@@ -8,7 +8,7 @@ returns c =
     let e1 = text_element 0x0002 c.args.class.now in
     let e2 = number_element 0x0100 0x0030 in
     let e3 = number_element 0x0110 c.args.id in
-    let x1 = next _ _ [] e1 c.new-out.ensures.items c.in_ok-put_text.ensures in
-    let x2 = next _ _ (e1 ∷ []) e2 x1 c.in_ok-put_number.ensures in
-    let x3 = next _ _ (e1 ∷ e2 ∷ []) e3 x2 c.in_ok-put_number-2.ensures in
-    next _ _ (e1 ∷ e2 ∷ e3 ∷ []) (data_element c.args.has_data) x3 c.in_ok-put_data.ensures
+    let x1 = next _ _ [] e1 c.new-out.ensures.items c.in_ok-put_text.ensures.ok in
+    let x2 = next _ _ (e1 ∷ []) e2 x1 c.in_ok-put_number.ensures.ok in
+    let x3 = next _ _ (e1 ∷ e2 ∷ []) e3 x2 c.in_ok-put_number-2.ensures.ok in
+    next _ _ (e1 ∷ e2 ∷ e3 ∷ []) (data_element c.args.has_data) x3 c.in_ok-put_data.ensures.ok
