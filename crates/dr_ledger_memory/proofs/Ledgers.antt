@@ -63,7 +63,7 @@ whole_same p q same whole uid entry is = whole uid entry (ap (lookup (is_at (tex
 
 -- ---- nothing is there yet
 module _ (p : Parts) (held : p.held.entries ≡ []) (arrivals : p.arrivals.keys ≡ []) (notes : p.notes.items ≡ []) where
-  nothing_in : content p ≡ empty_book
+  pub nothing_in : content p ≡ empty_book
   nothing_in = λ j. record {
     items = map.from_entries (collected (λ entry. Some entry.instance) (held j));
     arrivals = set.from_list (arrivals j);

@@ -7,6 +7,7 @@ ghost use Rattle.std.specs.FinMap.{is_sorted};
 ghost use Rattle.std.specs.FinSet as set;
 ghost use Rattle.std.proofs.Props.{props};
 ghost use Rattle.dr_base.specs.Texts.{text_cmp};
+ghost use Rattle.dr_ledger.specs.Books.{empty_book};
 ghost use Rattle.dr_ledger.specs.Bodies.{HasBodies, NextsWith, OnlyLetsGo, OnlyTakes};
 ghost use Rattle.dr_ledger.specs.Adopting.{Adopting, Unfits, site_after};
 ghost use Rattle.dr_ledger.specs.Histories.{IsJournalled};
@@ -60,7 +61,8 @@ pub struct MemoryLedger {
 impl MemoryLedger {
     /// The ledger of this site, with nothing in it; it takes no memory.
     pub fn new(alloc: Global, site: Site) -> MemoryLedger
-        ensures { result.site ≡ site }
+        ensures site { result.site ≡ site }
+        ensures empty { content result.parts ≡ empty_book }
     {
         MemoryLedger {
             alloc,
