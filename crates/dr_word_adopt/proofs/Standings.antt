@@ -28,7 +28,7 @@ use Rattle.dr_word_adopt.specs.declared.standing.FoundLedger.{FoundLedger}
 use Rattle.dr_word_adopt.specs.declared.standing.FoundLedger.TheVariants.{InForce, Next}
 
 -- what is shown of an element shows one of them
-unmapped : {X Y : Type 0} (f : X → Y) (xs : List X) (y : Y) → Contains (map f xs) y → (x : X) × Contains xs x × (f x ≡ y)
+pub unmapped : {X Y : Type 0} (f : X → Y) (xs : List X) (y : Y) → Contains (map f xs) y → (x : X) × Contains xs x × (f x ≡ y)
 unmapped f [] y among = absurd (nothing_in_nil y among)
 unmapped f (x ∷ xs) y among = elim (Contains-cons_cases (f x) (map f xs) y among) [
   | inl same ↦ (x, Contains-here x xs, same)
