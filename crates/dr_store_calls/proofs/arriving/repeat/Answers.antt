@@ -1,17 +1,14 @@
-use Rattle.std.proofs.Common.{◌≡◌, ◌≤◌, ◌^◌, true, Ok, Err, arith, subst, sym}
+use Rattle.std.proofs.Common.{◌≡◌, true, Ok, Err}
 use Rattle.std.specs.FinSet as set
 use Rattle.sqlite.specs.Held.{state}
 use Rattle.sqlite.specs.Tree.{Trees}
-use Rattle.dr_ledger.specs.declared.fault.LedgerFault.{LedgerFault}
 use Rattle.dr_ledger.specs.declared.item.Arrived.{Arrived}
 use Rattle.dr_ledger.specs.declared.item.Arrived.TheVariants.{Again}
-use Rattle.dr_ledger.specs.declared.item.Instance.{Instance}
 use Rattle.dr_ledger.specs.Replies.{Arrives}
 use Rattle.dr_ledger.specs.SiteRoutes.{site_routing}
 use Rattle.dr_store_schema.specs.Books.{arrivals_in, bodies_of, book_of}
 use Rattle.dr_store_writes.specs.Effects.{arrived_line}
 use Rattle.dr_store_changes.specs.Changes.{AddsOnlyLine}
-use Rattle.dr_store_changes.specs.Writing.{Written}
 use Rattle.dr_store_calls.specs.Knowing.{IsThere}
 use Rattle.dr_store_calls.specs.Receiving.{TakesOnly}
 use Rattle.dr_store_calls.proofs.Calls.{below_of, made_called, unmade_called}

@@ -1,4 +1,4 @@
-use Rattle.std.proofs.Common.{◌≡◌, ◌∙◌, ℕ, List, ap, subst, sym}
+use Rattle.std.proofs.Common.{◌∙◌, ℕ, List, ap, subst, sym}
 use Rattle.sqlite.specs.Held.{state}
 use Rattle.dr_route.specs.declared.key.Key.{Key}
 use Rattle.dr_site.specs.Routing.{HasLineFor}
