@@ -21,7 +21,8 @@ use Rattle.dr_session.specs.declared.ends.LinkAction.{LinkAction}
 use Rattle.dr_session.specs.declared.ends.Moment.{Moment}
 use Rattle.dr_session.specs.declared.ends.Told.{Told}
 use Rattle.dr_session.specs.Desks.{DeskCall, DeskAnswer, Arrive}
-use Rattle.dr_session.specs.Reactions.{Reaction, turn, stores, stored, status_of, arrives, brings, is_named, store_pdus, says, arrival, write, event_of}
+use Rattle.dr_session.specs.Reactions.{Reaction, turn, stores, stored, arrives, brings, is_named, store_pdus, says, arrival, write, event_of}
+use Rattle.dr_ledger.specs.Replies.{store_status}
 use Rattle.dr_session.specs.Messages.{command_pdus}
 use Rattle.dr_session.specs.Turns.{Ends, Asks}
 use Rattle.dr_session.specs.Laws.{IsSpelled, WritesPdus, GivesPdus, AsksPdus}
@@ -41,9 +42,9 @@ said c context command = wrote (command_pdus (option_map_or (λ (a : Agreed). a.
 
 bringing : (c : Core) (context id : ℕ) (class instance : Text) (item : Job) → Spells IsSpelled (brings c context id class instance item)
 bringing c context id class instance item =
-    let follow : Result Arrived LedgerFault → Reaction = λ r. Ends (stored c context id class instance (status_of r)) in
+    let follow : Result Arrived LedgerFault → Reaction = λ r. Ends (stored c context id class instance (store_status r)) in
     either IsSpelled (is_named item class instance) (Asks (Arrive c.peer item) (arrival follow)) (Ends (stored c context id class instance 0xA900))
-    (λ reply. came IsSpelled follow (λ r. said c context (StoreRsp id (status_of r) class instance false)) reply)
+    (λ reply. came IsSpelled follow (λ r. said c context (StoreRsp id (store_status r) class instance false)) reply)
     (said c context (StoreRsp id 0xA900 class instance false))
 
 arriving : (c : Core) (context id : ℕ) (class instance : Text) (found : Found) → Spells IsSpelled (arrives c context id class instance found)

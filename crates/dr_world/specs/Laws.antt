@@ -17,10 +17,10 @@ use Rattle.dr_session.specs.Desks.{DeskCall, DeskAnswer, Arrive, Arrival}
 use Rattle.dr_session.specs.Plays.{At, Reacts}
 use Rattle.dr_session.specs.Ledgers.{Desk, RoutedStep, desk}
 use Rattle.dr_ledger.specs.Refusals.{Arms}
-use Rattle.dr_ledger.specs.Replies.{Drops, Forgets, Requeues, IsHeld, IsOver}
+use Rattle.dr_ledger.specs.Replies.{Drops, Forgets, Requeues, IsHeld, IsOver, Reply}
 use Rattle.dr_node.specs.Desks.{StaysAway}
 use Rattle.dr_node.specs.Sides.{others}
-use Rattle.dr_world_model.specs.Calls.{Reply, Answer}
+use Rattle.dr_world_model.specs.Calls.{Answer}
 use Rattle.dr_world_tie.specs.ByteWorlds.{ByteWorld, beginning, WorldStep, Side}
 use Rattle.dr_world_tie.specs.ByteWorlds.{Submit, Away, Move, Restart, Requeue, Drop, Forget, Tick}
 use Rattle.dr_world_tie.specs.ByteWorlds.{Refuse, Refused, StepNote}

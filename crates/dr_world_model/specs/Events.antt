@@ -9,8 +9,8 @@ use Rattle.dr_plan_model.specs.Plans.{IsNode}
 use Rattle.dr_plan_model.specs.declared.plan.Node.{Node}
 use Rattle.dr_ledger.specs.declared.item.Instance.{Instance}
 use Rattle.dr_world_model.specs.Worlds.{World, Contexts, with_armed}
-use Rattle.dr_world_model.specs.Calls.{Reply, Answer, Arriving, Requeueing, GivingUp}
-use Rattle.dr_world_model.specs.Calls.{LettingGo}
+use Rattle.dr_world_model.specs.Calls.{Answer, Arriving, Requeueing, GivingUp, LettingGo}
+use Rattle.dr_ledger.specs.Replies.{Reply}
 use Rattle.dr_world_model.specs.Steps.{IsHop, asked, AnswersRequest, ReadsAnswer, Gives, Receives}
 use Rattle.dr_world_model.specs.Steps.{ReadsReply, Leaves, Drops, Closes, Restarts, NoneIsPending}
 use Rattle.dr_world_model.specs.Steps.{StaysAway, passed}

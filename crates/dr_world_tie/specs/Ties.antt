@@ -26,7 +26,7 @@ use Rattle.dr_dimse.specs.Commands.{IsCommand, announces}
 use Rattle.dr_dimse.specs.Written as commands
 use Rattle.dr_dimse.specs.Taking.{IsAwaited, Idle}
 use Rattle.dr_session.specs.Desks.{DeskCall, DeskAnswer}
-use Rattle.dr_ledger.specs.Replies.{IsNext}
+use Rattle.dr_ledger.specs.Replies.{IsNext, Reply}
 use Rattle.dr_session.specs.declared.ends.Input.{Input}
 use Rattle.dr_session.specs.declared.ends.Input.TheVariants.{Ended, Late, AbortAsked, ReleaseAsked}
 use Rattle.dr_session.specs.declared.ends.Input.TheVariants.{PushAsked}
@@ -47,7 +47,7 @@ use Rattle.dr_ulstate.specs.declared.table.State.TheVariants.{Sta6}
 use Rattle.dr_ulstate.specs.Standing.{moved}
 use Rattle.dr_ulstate.specs.Phases.{in_its_phase, next_expired}
 use Rattle.dr_world_model.specs.Worlds.{Contexts}
-use Rattle.dr_world_model.specs.Calls.{Reply, Answer}
+use Rattle.dr_world_model.specs.Calls.{Answer}
 use Rattle.dr_world_model.specs.Events.{Event, Step, Ask, AgreeReceiver, AgreeCaller, Give, Receive}
 use Rattle.dr_world_model.specs.Events.{Answered, BreakCaller, BreakReceiver, Restart}
 use Rattle.dr_world_tie.specs.Desks.{Desk, LedgerStep}
