@@ -1,9 +1,11 @@
--- Lines that tell steps and a change of plan, and lines that tell nothing.
+-- Lines that tell steps, a change of plan and what another product writes, and lines that tell
+-- nothing.
 use Rattle.std.proofs.Common.{◌≡◌, List, [], ◌∷◌, refl, ap, sym, subst, ◌∙◌, arith}
 use mathlib.Core.Bool.{true≢false}
 use Rattle.std.specs.Prelude.{codes}
 use Rattle.std.specs.Str.{bytes_eq}
 use Rattle.std.specs.Fmt.{digits}
+use Rattle.hex.specs.Hex.{decode_pairs}
 use Rattle.dr_base.specs.Texts.{Text}
 use Rattle.dr_cert_text.specs.Cuts.{cuts, grown}
 use Rattle.dr_world_script.specs.declared.act.Act.{Act}
@@ -14,9 +16,9 @@ use Rattle.dr_world_script.specs.declared.step.Step.{Step}
 use Rattle.dr_world_script.specs.declared.step.Step.TheVariants.{Open, Move}
 use Rattle.dr_world_script.specs.declared.step.Word.{Word}
 use Rattle.dr_world_script.specs.declared.step.Word.TheVariants as word
-use Rattle.dr_world_script.specs.Laws.{LinesTellSteps, LinesTellNone, open_line, move_line}
-use Rattle.dr_world_script.specs.Scripts.{Follows, Tells, TellsStep, adopt_word, side_word, spelled}
-use Rattle.dr_world_script.proofs.Spelling.{spelled_apart, spelled_one}
+use Rattle.dr_world_script.specs.Laws.{LinesTellSteps, LinesTellNone, bytes_line, move_line, open_line}
+use Rattle.dr_world_script.specs.Scripts.{Follows, Tells, TellsStep, adopt_word, bytes_word, side_word, spelled}
+use Rattle.dr_world_script.proofs.Spelling.{spelled_apart, spelled_beside, spelled_one, words_apart}
 
 opens : Tells open_line (act.Step (Open (codes "CT1") (codes "GATE")))
 unfolding cuts grown
@@ -26,9 +28,13 @@ moves : Tells move_line (act.Step (Move 1 Acceptor 1000000))
 unfolding cuts grown digits
 moves = (word.Move, codes "1" ∷ codes "acceptor" ∷ codes "1000000" ∷ [], refl, (1, 1000000, Acceptor, refl, (codes "1", codes "1000000", refl, (refl, omega arith), (refl, omega arith))))
 
+writes : Tells bytes_line (act.Bytes 1 Acceptor (10 ∷ []))
+unfolding cuts grown digits decode_pairs
+writes = (codes "1" ∷ codes "acceptor" ∷ codes "0a" ∷ [], refl, (codes "1", codes "0a", refl, (refl, omega arith), refl))
+
 pub told : LinesTellSteps
 unfolding cuts grown
-told = (opens, moves, refl, (opens, (moves, tt)), refl)
+told = (opens, moves, refl, writes, (opens, (moves, tt)), refl)
 
 -- the fields behind the word, where the first field is that word
 behind : (parts : List Text) (w : Word) (fields : List Text) (step : Step) → parts ≡ spelled w ∷ fields → TellsStep parts step → Follows w fields step
@@ -51,9 +57,17 @@ no_change parts w fields plan certificate cut e =
     let same : spelled w ≡ adopt_word = cc in
     spelled_apart w same
 
+-- nor what another product writes
+no_writing : (parts : List Text) (w : Word) (fields others : List Text) → parts ≡ spelled w ∷ fields → parts ≡ bytes_word ∷ others → ⊥
+no_writing parts w fields others cut e =
+    let h : spelled w ∷ fields ≡ bytes_word ∷ others = sym cut ∙ e in
+    let same : spelled w ≡ bytes_word = cc in
+    spelled_beside w same
+
 no_end : (a : Act) → Tells (codes "move\t1\tnobody\t1") a → ⊥
 unfolding cuts grown
 no_end (act.Adopt plan certificate) tells = no_change (cuts 9 (codes "move\t1\tnobody\t1")) word.Move (codes "1" ∷ codes "nobody" ∷ codes "1" ∷ []) plan certificate refl tells
+no_end (act.Bytes link side bytes) (others, e, f) = no_writing (cuts 9 (codes "move\t1\tnobody\t1")) word.Move (codes "1" ∷ codes "nobody" ∷ codes "1" ∷ []) others refl e
 no_end (act.Step step) tells =
     let f = behind (cuts 9 (codes "move\t1\tnobody\t1")) word.Move (codes "1" ∷ codes "nobody" ∷ codes "1" ∷ []) step refl tells in
     third f
@@ -64,6 +78,7 @@ no_end (act.Step step) tells =
 word_alone : (a : Act) → Tells (codes "push") a → ⊥
 unfolding cuts grown
 word_alone (act.Adopt plan certificate) tells = no_change (cuts 9 (codes "push")) word.Push [] plan certificate refl tells
+word_alone (act.Bytes link side bytes) (others, e, f) = no_writing (cuts 9 (codes "push")) word.Push [] others refl e
 word_alone (act.Step step) tells = none (behind (cuts 9 (codes "push")) word.Push [] step refl tells)
   where
     none : Follows word.Push [] step → ⊥
@@ -72,6 +87,7 @@ word_alone (act.Step step) tells = none (behind (cuts 9 (codes "push")) word.Pus
 one_too_many : (a : Act) → Tells (codes "open\tCT1\tGATE\t") a → ⊥
 unfolding cuts grown
 one_too_many (act.Adopt plan certificate) tells = no_change (cuts 9 (codes "open\tCT1\tGATE\t")) word.Open (codes "CT1" ∷ codes "GATE" ∷ [] ∷ []) plan certificate refl tells
+one_too_many (act.Bytes link side bytes) (others, e, f) = no_writing (cuts 9 (codes "open\tCT1\tGATE\t")) word.Open (codes "CT1" ∷ codes "GATE" ∷ [] ∷ []) others refl e
 one_too_many (act.Step step) tells = none (behind (cuts 9 (codes "open\tCT1\tGATE\t")) word.Open (codes "CT1" ∷ codes "GATE" ∷ [] ∷ []) step refl tells)
   where
     none : Follows word.Open (codes "CT1" ∷ codes "GATE" ∷ [] ∷ []) step → ⊥
@@ -82,10 +98,29 @@ unfolding cuts grown
 no_certificate (act.Adopt plan certificate) tells =
     let h : adopt_word ∷ codes "next.toml" ∷ [] ≡ adopt_word ∷ plan ∷ certificate ∷ [] = tells in
     absurd (cc)
+no_certificate (act.Bytes link side bytes) (others, e, f) =
+    let h : adopt_word ∷ codes "next.toml" ∷ [] ≡ bytes_word ∷ others = e in
+    let same : adopt_word ≡ bytes_word = cc in
+    words_apart same
 no_certificate (act.Step step) (w, fields, e, f) =
     let h : adopt_word ∷ codes "next.toml" ∷ [] ≡ spelled w ∷ fields = e in
     let same : spelled w ≡ adopt_word = cc in
     spelled_apart w same
 
+no_bytes : (a : Act) → Tells (codes "bytes\t1\tacceptor") a → ⊥
+unfolding cuts grown
+no_bytes (act.Adopt plan certificate) tells =
+    let h : adopt_word ∷ plan ∷ certificate ∷ [] ≡ bytes_word ∷ codes "1" ∷ codes "acceptor" ∷ [] = sym tells in
+    let same : adopt_word ≡ bytes_word = cc in
+    words_apart same
+no_bytes (act.Bytes link side bytes) (others, e, (field, hex, f, a, b)) =
+    let h : bytes_word ∷ codes "1" ∷ codes "acceptor" ∷ [] ≡ bytes_word ∷ others = e in
+    let rest : codes "1" ∷ codes "acceptor" ∷ [] ≡ field ∷ side_word side ∷ hex ∷ [] = (let tail : codes "1" ∷ codes "acceptor" ∷ [] ≡ others = cc in tail ∙ f) in
+    absurd (cc)
+no_bytes (act.Step step) (w, fields, e, f) =
+    let h : bytes_word ∷ codes "1" ∷ codes "acceptor" ∷ [] ≡ spelled w ∷ fields = e in
+    let same : spelled w ≡ bytes_word = cc in
+    spelled_beside w same
+
 pub told_none : LinesTellNone
-told_none a = (no_end a, word_alone a, one_too_many a, no_certificate a)
+told_none a = (no_end a, word_alone a, one_too_many a, no_certificate a, no_bytes a)

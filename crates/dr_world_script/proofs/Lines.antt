@@ -1,5 +1,5 @@
 -- What parts tell, by their first word.
-use Rattle.std.proofs.Common.{◌≡◌, List, [], ◌∷◌, Result, Ok, Err, sym, ap, subst, ◌∙◌}
+use Rattle.std.proofs.Common.{◌≡◌, ℕ, List, [], ◌∷◌, Result, Ok, Err, sym, ap, subst, ◌∙◌}
 use Rattle.dr_base.specs.Texts.{Text}
 use Rattle.dr_world_script.specs.declared.act.Act.{Act}
 use Rattle.dr_world_script.specs.declared.act.Act.TheVariants as act
@@ -7,12 +7,13 @@ use Rattle.dr_world_script.specs.declared.fault.LineFault.{LineFault}
 use Rattle.dr_world_script.specs.declared.fault.LineFault.TheVariants as lines
 use Rattle.dr_world_script.specs.declared.step.Step.{Step}
 use Rattle.dr_world_script.specs.declared.step.Word.{Word}
-use Rattle.dr_world_script.specs.Scripts.{Follows, ReadsAdoption, ReadsFields, ReadsParts, ReadsStep, TellsBy, TellsStep, adopt_word, spelled}
-use Rattle.dr_world_script.proofs.Spelling.{spelled_apart, spelled_one}
+use Rattle.dr_world_script.specs.Scripts.{AreWritten, Follows, ReadsAdoption, ReadsFields, ReadsParts, ReadsStep, ReadsWritten, TellsBy, TellsStep, adopt_word, bytes_word, spelled}
+use Rattle.dr_world_script.proofs.Spelling.{spelled_apart, spelled_beside, spelled_one, words_apart}
 
 -- a change of plan, where the word is that of one
 pub adoption : (first : Text) (fields : List Text) (answer : Result Act LineFault) → adopt_word ≡ first → ReadsAdoption fields answer → ReadsParts (first ∷ fields) answer
 adoption first fields (Ok (act.Step step)) is h = absurd h
+adoption first fields (Ok (act.Bytes link side bytes)) is h = absurd h
 adoption first fields (Ok (act.Adopt plan certificate)) is h = (let P : Text → Type 0 = λ t. t ∷ fields ≡ adopt_word ∷ plan ∷ certificate ∷ [] in subst P is (ap (λ fs. adopt_word ∷ fs) h))
 adoption first fields (Err lines.NoStep) is h = λ a. none a
   where
@@ -21,19 +22,44 @@ adoption first fields (Err lines.NoStep) is h = λ a. none a
         let same : spelled w ≡ adopt_word = (let both : spelled w ∷ others ≡ first ∷ fields = sym e in cc) in
         spelled_apart w same
     none (act.Adopt plan certificate) e = h plan certificate (cc)
+    none (act.Bytes link side bytes) (others, e, f) =
+        let same : adopt_word ≡ bytes_word = (let both : bytes_word ∷ others ≡ first ∷ fields = sym e in cc) in
+        words_apart same
 adoption first fields (Err lines.Memory) is h = tt
 
--- a step, where it isn't
+-- what another product writes, where the word is that of it
+pub writing : (first : Text) (fields : List Text) (answer : Result Act LineFault) → bytes_word ≡ first → ReadsWritten fields answer → ReadsParts (first ∷ fields) answer
+writing first fields (Ok (act.Step step)) is h = absurd h
+writing first fields (Ok (act.Adopt plan certificate)) is h = absurd h
+writing first fields (Ok (act.Bytes link side bytes)) is h = (fields, ap (λ (t : Text). t ∷ fields) (sym is), h)
+writing first fields (Err lines.NoStep) is h = λ a. none a
+  where
+    none : (a : Act) → TellsBy (first ∷ fields) a → ⊥
+    none (act.Step step) (w, others, e, f) =
+        let same : spelled w ≡ bytes_word = (let both : spelled w ∷ others ≡ first ∷ fields = sym e in cc) in
+        spelled_beside w same
+    none (act.Adopt plan certificate) e =
+        let same : adopt_word ≡ bytes_word = (let both : adopt_word ∷ plan ∷ certificate ∷ [] ≡ first ∷ fields = sym e in cc) in
+        words_apart same
+    none (act.Bytes link side bytes) (others, e, f) =
+        let both : bytes_word ∷ others ≡ bytes_word ∷ fields = sym e ∙ ap (λ (t : Text). t ∷ fields) (sym is) in
+        let rest : others ≡ fields = cc in
+        let P : List Text → Type 0 = λ fs. AreWritten link side bytes fs in
+        h link side bytes (subst P rest f)
+writing first fields (Err lines.Memory) is h = tt
+
+-- a step, where it is neither
 pub stepping : (first : Text) (fields : List Text) (step : Step) → ReadsStep (first ∷ fields) (Ok step) → ReadsParts (first ∷ fields) (Ok (act.Step step))
 stepping first fields step h = h
 
-pub failing : (first : Text) (fields : List Text) (fault : LineFault) → (adopt_word ≡ first → ⊥) → ReadsStep (first ∷ fields) (Err fault) → ReadsParts (first ∷ fields) (Err fault)
-failing first fields lines.NoStep isnt h = λ a. none a
+pub failing : (first : Text) (fields : List Text) (fault : LineFault) → (adopt_word ≡ first → ⊥) → (bytes_word ≡ first → ⊥) → ReadsStep (first ∷ fields) (Err fault) → ReadsParts (first ∷ fields) (Err fault)
+failing first fields lines.NoStep isnt nor h = λ a. none a
   where
     none : (a : Act) → TellsBy (first ∷ fields) a → ⊥
     none (act.Step step) told = h step told
     none (act.Adopt plan certificate) e = isnt (cc)
-failing first fields lines.Memory isnt h = tt
+    none (act.Bytes link side bytes) (others, e, f) = nor (cc)
+failing first fields lines.Memory isnt nor h = tt
 
 -- what follows a word
 pub following : (first : Text) (w : Word) (fields : List Text) (answer : Result Step LineFault) → spelled w ≡ first → ReadsFields w fields answer → ReadsStep (first ∷ fields) answer

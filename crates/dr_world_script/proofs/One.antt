@@ -23,8 +23,8 @@ use Rattle.dr_world_script.specs.declared.step.Step.TheVariants.{Push, Release, 
 use Rattle.dr_world_script.specs.declared.step.Word.{Word}
 use Rattle.dr_world_script.specs.declared.step.Word.TheVariants as word
 use Rattle.dr_world_script.specs.Laws.{OneActForALine, OneScriptForAText}
-use Rattle.dr_world_script.specs.Scripts.{AreEnd, AreMove, AreNumber, Follows, IsNumber, Tells, TellsBy, TellsStep, adopt_word, side_word, spelled, syntax_letter, told_lines}
-use Rattle.dr_world_script.proofs.Spelling.{spelled_apart, spelled_one}
+use Rattle.dr_world_script.specs.Scripts.{AreEnd, AreMove, AreNumber, AreWritten, Follows, IsNumber, Tells, TellsBy, TellsStep, adopt_word, bytes_word, side_word, spelled, syntax_letter, told_lines}
+use Rattle.dr_world_script.proofs.Spelling.{spelled_apart, spelled_beside, spelled_one, words_apart}
 
 number_one : (n m : ℕ) (field other : Text) → IsNumber n field → IsNumber m other → field ≡ other → n ≡ m
 number_one n m field other a b e = decimal_injective n m a.1 b.1 (a.0 ∙ e ∙ sym b.0)
@@ -53,6 +53,13 @@ move_one : (n m k l : ℕ) (s t : Side) (fields : List Text) → AreMove n s k f
 move_one n m k l s t fields (f, c, e, a, p) (g, d, h, b, q) =
     let i : f ∷ side_word s ∷ c ∷ [] ≡ g ∷ side_word t ∷ d ∷ [] = sym e ∙ h in
     (number_one n m f g a b (cc), side_one s t (cc), number_one k l c d p q (cc))
+
+written_one : (n m : ℕ) (s t : Side) (xs ys : List ℕ) (fields : List Text) → AreWritten n s xs fields → AreWritten m t ys fields → (n ≡ m) × (s ≡ t) × (xs ≡ ys)
+written_one n m s t xs ys fields (f, c, e, a, p) (g, d, h, b, q) =
+    let i : f ∷ side_word s ∷ c ∷ [] ≡ g ∷ side_word t ∷ d ∷ [] = sym e ∙ h in
+    let same : c ≡ d = cc in
+    let both : ◌≡◌ {A = Result (List ℕ) _} (Ok xs) (Ok ys) = sym p ∙ ap decode_of same ∙ q in
+    (number_one n m f g a b (cc), side_one s t (cc), cc)
 
 -- an item is what its data set has in its transfer syntax
 item_one : (a b : Job) → IsItem a → IsItem b → a.key.syntax ≡ b.key.syntax → a.body ≡ b.body → a ≡ b
@@ -111,6 +118,20 @@ apart parts step plan certificate (w, fields, e, f) d =
     let same : spelled w ≡ adopt_word = cc in
     spelled_apart w same
 
+-- nor what another product writes
+written_apart : (parts fields : List Text) (step : Step) → TellsStep parts step → parts ≡ bytes_word ∷ fields → ⊥
+written_apart parts fields step (w, others, e, f) d =
+    let h : spelled w ∷ others ≡ bytes_word ∷ fields = sym e ∙ d in
+    let same : spelled w ≡ bytes_word = cc in
+    spelled_beside w same
+
+-- and neither is the other
+two_apart : (parts fields : List Text) (plan certificate : Text) → parts ≡ adopt_word ∷ plan ∷ certificate ∷ [] → parts ≡ bytes_word ∷ fields → ⊥
+two_apart parts fields plan certificate e d =
+    let h : adopt_word ∷ plan ∷ certificate ∷ [] ≡ bytes_word ∷ fields = sym e ∙ d in
+    let same : adopt_word ≡ bytes_word = cc in
+    words_apart same
+
 parts_one : (parts : List Text) (a b : Act) → TellsBy parts a → TellsBy parts b → a ≡ b
 parts_one parts (act.Step one) (act.Step other) s t = ap act.Step (step_one parts one other s t)
 parts_one parts (act.Step one) (act.Adopt plan certificate) s t = absurd (apart parts one plan certificate s t)
@@ -120,6 +141,16 @@ parts_one parts (act.Adopt plan certificate) (act.Adopt next own) s t =
     let p : plan ≡ next = cc in
     let q : certificate ≡ own = cc in
     rw (p, q) refl
+parts_one parts (act.Step one) (act.Bytes link side bytes) s (fields, e, is) = absurd (written_apart parts fields one s e)
+parts_one parts (act.Bytes link side bytes) (act.Step other) (fields, e, is) t = absurd (written_apart parts fields other t e)
+parts_one parts (act.Adopt plan certificate) (act.Bytes link side bytes) s (fields, e, is) = absurd (two_apart parts fields plan certificate s e)
+parts_one parts (act.Bytes link side bytes) (act.Adopt plan certificate) (fields, e, is) t = absurd (two_apart parts fields plan certificate t e)
+parts_one parts (act.Bytes link side bytes) (act.Bytes number end written) (fields, e, is) (others, f, also) =
+    let h : bytes_word ∷ fields ≡ bytes_word ∷ others = sym e ∙ f in
+    let rest : others ≡ fields = cc in
+    let P : List Text → Type 0 = λ fs. AreWritten number end written fs in
+    let one = written_one link number side end bytes written fields is (subst P rest also) in
+    rw (one.0, one.1, one.2) refl
 
 pub line_one : OneActForALine
 line_one line a b s t = parts_one (cuts 9 line) a b s t

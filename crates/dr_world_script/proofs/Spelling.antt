@@ -6,7 +6,7 @@ use Rattle.std.specs.Str.{bytes_eq}
 use Rattle.dr_base.specs.Texts.{Text}
 use Rattle.dr_world_script.specs.declared.step.Word.{Word}
 use Rattle.dr_world_script.specs.declared.step.Word.TheVariants.{Submit, Open, Away, Push, Move, Abort, Release, Close, Late, Restart, Requeue, Drop, Forget, Tick, Refuse}
-use Rattle.dr_world_script.specs.Scripts.{adopt_word, spelled}
+use Rattle.dr_world_script.specs.Scripts.{adopt_word, bytes_word, spelled}
 
 word_in : Text → Option Word
 word_in text =
@@ -72,3 +72,36 @@ pub spelled_apart : (w : Word) → spelled w ≡ adopt_word → ⊥
 spelled_apart w e =
     let is : is_adopting adopt_word ≡ true = refl in
     false≢true (sym (no_adoption w) ∙ (ap is_adopting e ∙ is))
+
+-- nor as that of what another product writes
+abbrev is_writing : Text → Bool
+is_writing text = bytes_eq text (codes "bytes")
+
+no_writing : (w : Word) → is_writing (spelled w) ≡ false
+no_writing Submit = refl
+no_writing Open = refl
+no_writing Away = refl
+no_writing Push = refl
+no_writing Move = refl
+no_writing Abort = refl
+no_writing Release = refl
+no_writing Close = refl
+no_writing Late = refl
+no_writing Restart = refl
+no_writing Requeue = refl
+no_writing Drop = refl
+no_writing Forget = refl
+no_writing Tick = refl
+no_writing Refuse = refl
+
+pub spelled_beside : (w : Word) → spelled w ≡ bytes_word → ⊥
+spelled_beside w e =
+    let is : is_writing bytes_word ≡ true = refl in
+    false≢true (sym (no_writing w) ∙ (ap is_writing e ∙ is))
+
+-- these two are two words
+pub words_apart : adopt_word ≡ bytes_word → ⊥
+words_apart e =
+    let isnt : is_writing adopt_word ≡ false = refl in
+    let is : is_writing bytes_word ≡ true = refl in
+    false≢true (sym isnt ∙ (ap is_writing e ∙ is))

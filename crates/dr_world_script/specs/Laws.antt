@@ -45,17 +45,23 @@ move_line = codes "move\t1\tacceptor\t1000000"
 abbrev pub adopt_line : Text
 adopt_line = codes "adopt\tnext.toml\tnext"
 
--- what three lines tell, and what a script of them and of lines that are skipped tells
+-- `bytes`, tab, `1`, tab, `acceptor`, tab, `0a`
+abbrev pub bytes_line : Text
+bytes_line = codes "bytes\t1\tacceptor\t0a"
+
+-- what four lines tell, and what a script of them and of lines that are skipped tells
 abbrev pub LinesTellSteps : Type 0
 LinesTellSteps =
     Tells open_line (act.Step (Open (codes "CT1") (codes "GATE")))
     × Tells move_line (act.Step (Move 1 Acceptor 1000000))
     × Tells adopt_line (act.Adopt (codes "next.toml") (codes "next"))
+    × Tells bytes_line (act.Bytes 1 Acceptor (10 ∷ []))
     × IsScriptOf (codes "# two steps\n\n" ++ open_line ++ (10 ∷ []) ++ move_line ++ (10 ∷ []))
     (act.Step (Open (codes "CT1") (codes "GATE")) ∷ act.Step (Move 1 Acceptor 1000000) ∷ [])
     × (is_skipped (codes " ") ≡ false)
 
--- an end that isn't one, a word alone, a field too many, and a plan without a certificate
+-- an end that isn't one, a word alone, a field too many, a plan without a certificate, and an end
+-- at which nothing is written
 abbrev pub LinesTellNone : Type 0
 LinesTellNone =
     (a : Act)
@@ -63,3 +69,4 @@ LinesTellNone =
     × (Tells (codes "push") a → ⊥)
     × (Tells (codes "open\tCT1\tGATE\t") a → ⊥)
     × (Tells (codes "adopt\tnext.toml") a → ⊥)
+    × (Tells (codes "bytes\t1\tacceptor") a → ⊥)

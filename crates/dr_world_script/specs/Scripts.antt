@@ -1,4 +1,5 @@
--- Scripts: a step or a change of plan a line, its fields joined by tabs.
+-- Scripts: a step, a change of plan or what another product writes a line, its fields joined by
+-- tabs.
 use Rattle.std.specs.Prelude.{◌≡◌, ◌⊎◌, ℕ, ◌+◌, ◌<◌, ◌^◌, ◌==◌, Bool, true, false, List, [], ◌∷◌}
 use Rattle.std.specs.Prelude.{◌++◌, All, length, codes, decimal, filter, not, Result, Ok, Err}
 use Rattle.std.specs.List.{AllZip}
@@ -48,6 +49,10 @@ spelled word.Refuse = codes "refuse"
 abbrev pub adopt_word : Text
 adopt_word = codes "adopt"
 
+-- the word of what another maker's product writes
+abbrev pub bytes_word : Text
+bytes_word = codes "bytes"
+
 -- the word for an end of a link
 abbrev pub side_word : Side → Text
 side_word Requestor = codes "requestor"
@@ -77,6 +82,14 @@ AreMove link reader most fields =
     (field count : Text)
     × (fields ≡ field ∷ side_word reader ∷ count ∷ [])
     × IsNumber link field × IsNumber most count
+
+-- the fields are a link's number, an end of it, and bytes in hex digits of either case
+abbrev pub AreWritten : ℕ → Side → List ℕ → List Text → Type 0
+AreWritten link side bytes fields =
+    (field digits : Text)
+    × (fields ≡ field ∷ side_word side ∷ digits ∷ [])
+    × IsNumber link field
+    × (decode_of digits ≡ Ok bytes)
 
 -- What the fields behind a word tell. A data set is written in hex digits of either case; its item
 -- is what the data set has in the given transfer syntax.
@@ -119,10 +132,12 @@ TellsStep parts step =
     (w : Word) × (fields : List Text) × (parts ≡ spelled w ∷ fields) × Follows w fields step
 
 -- what parts tell: a step; or that all nodes take another plan, by the names of two files: the
--- plan's and its certificate's
+-- plan's and its certificate's; or what another product writes at an end of a link
 abbrev pub TellsBy : List Text → Act → Type 0
 TellsBy parts (act.Step step) = TellsStep parts step
 TellsBy parts (act.Adopt plan certificate) = parts ≡ adopt_word ∷ plan ∷ certificate ∷ []
+TellsBy parts (act.Bytes link side bytes) =
+    (fields : List Text) × (parts ≡ bytes_word ∷ fields) × AreWritten link side bytes fields
 
 -- what the line tells, whose parts are joined by tabs
 abbrev pub Tells : Text → Act → Type 0
@@ -156,10 +171,20 @@ ReadsStep parts (Err lines.Memory) = Unit {0}
 -- what reading the names of two files answers
 abbrev pub ReadsAdoption : List Text → Result Act LineFault → Type 0
 ReadsAdoption fields (Ok (act.Step step)) = ⊥
+ReadsAdoption fields (Ok (act.Bytes link side bytes)) = ⊥
 ReadsAdoption fields (Ok (act.Adopt plan certificate)) = fields ≡ plan ∷ certificate ∷ []
 ReadsAdoption fields (Err lines.NoStep) =
     (plan certificate : Text) → fields ≡ plan ∷ certificate ∷ [] → ⊥
 ReadsAdoption fields (Err lines.Memory) = Unit {0}
+
+-- what reading the fields of what another product writes answers
+abbrev pub ReadsWritten : List Text → Result Act LineFault → Type 0
+ReadsWritten fields (Ok (act.Step step)) = ⊥
+ReadsWritten fields (Ok (act.Adopt plan certificate)) = ⊥
+ReadsWritten fields (Ok (act.Bytes link side bytes)) = AreWritten link side bytes fields
+ReadsWritten fields (Err lines.NoStep) =
+    (link : ℕ) (side : Side) (bytes : List ℕ) → AreWritten link side bytes fields → ⊥
+ReadsWritten fields (Err lines.Memory) = Unit {0}
 
 -- what reading the fields behind a word answers
 abbrev pub ReadsFields : Word → List Text → Result Step LineFault → Type 0

@@ -1,6 +1,6 @@
 //! What a line of a script tells.
-use crate::step::Step;
-use dr_base::Text;
+use crate::step::{Side, Step};
+use dr_base::{Octets, Text};
 
 /// What a line of a script tells.
 #[derive(Drop)]
@@ -9,4 +9,7 @@ pub enum Act {
     Step(Step),
     /// All nodes take the plan in the one file, whose certificate is in the other.
     Adopt { plan: Text, certificate: Text },
+    /// Another maker's product writes at that end of a link: what is on its way from there is these
+    /// bytes now.
+    Bytes { link: u64, side: Side, bytes: Octets },
 }

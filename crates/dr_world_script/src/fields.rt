@@ -5,7 +5,7 @@ ghost use Rattle.hex.specs.Hex.{decode_of};
 ghost use Rattle.dr_base.specs.declared.syntax.Syntax.{Syntax as SyntaxValue};
 ghost use Rattle.dr_cert_text.specs.Cuts.{cuts};
 ghost use Rattle.dr_world_script.specs.Scripts.{side_word, spelled, syntax_letter};
-ghost use Rattle.dr_world_script.specs.Scripts.{DecodesBody, adopt_word};
+ghost use Rattle.dr_world_script.specs.Scripts.{DecodesBody, adopt_word, bytes_word};
 ghost use Rattle.dr_world_script.specs.declared.step.Side.{Side as SideValue};
 ghost use Rattle.dr_world_script.specs.declared.step.Word.{Word as WordValue};
 
@@ -36,6 +36,16 @@ pub fn is_adopt(field: &[u8]) -> bool
 {
     match field {
         b"adopt" => true,
+        _ => false,
+    }
+}
+
+/// Whether the word is that of what another product writes.
+pub fn is_bytes(field: &[u8]) -> bool
+    ensures { IsTrue result ↔ (bytes_word ≡ field.now) }
+{
+    match field {
+        b"bytes" => true,
         _ => false,
     }
 }

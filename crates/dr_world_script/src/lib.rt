@@ -1,5 +1,5 @@
-//! What is told to the simulator: the steps of a world of nodes and changes of their plan, and
-//! scripts of them as text.
+//! What is told to the simulator: the steps of a world of nodes, changes of their plan and what
+//! other makers' products write, and scripts of these as text.
 #![tactic(auto)]
 
 pub mod act;

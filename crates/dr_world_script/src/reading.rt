@@ -2,13 +2,15 @@
 ghost use Rattle.std.specs.Prelude.{◌≡◌, ◌∷◌, [], ℕ, map, MatchOption};
 ghost use Rattle.dr_base.specs.Texts.{Text as TextValue};
 ghost use Rattle.dr_world_script.specs.Scripts.{AreNumber, AreEnd, ReadsFields, ReadsLine};
-ghost use Rattle.dr_world_script.specs.Scripts.{ReadsAdoption, ReadsParts, ReadsStep, TakesItem};
+ghost use Rattle.dr_world_script.specs.Scripts.{ReadsAdoption, ReadsParts, ReadsStep};
+ghost use Rattle.dr_world_script.specs.Scripts.{ReadsWritten, TakesItem};
 ghost use Rattle.dr_world_script.specs.declared.step.Side.{Side as SideValue};
 ghost use Rattle.dr_world_script.specs.declared.step.Word.TheVariants as words;
 
 use crate::act::Act;
 use crate::fault::LineFault;
-use crate::fields::{is_adopt, parts_of, read_bytes, read_side, read_syntax, read_word};
+use crate::fields::{is_adopt, is_bytes, parts_of};
+use crate::fields::{read_bytes, read_side, read_syntax, read_word};
 use crate::step::{Side, Step, Word};
 use dr_base::fields::read_number;
 use dr_base::{Octets, Syntax, Text};
@@ -277,6 +279,26 @@ fn read_adoption(alloc: Global, fields: &[&[u8]]) -> Result<Act, LineFault>
     Ok(Act::Adopt { plan, certificate })
 }
 
+/// What another product writes, by the link, the end and the hex digits that these fields are.
+fn read_written(alloc: Global, fields: &[&[u8]]) -> Result<Act, LineFault>
+    ensures { ReadsWritten (map (λ f. f.now) fields.now) result }
+{
+    let [first, second, third] = fields else {
+        return Err(LineFault::NoStep);
+    };
+    let Some(link) = read_number(first) else {
+        return Err(LineFault::NoStep);
+    };
+    let Some(side) = read_side(second) else {
+        return Err(LineFault::NoStep);
+    };
+    let bytes = match read_bytes(alloc, third) {
+        Ok(bytes) => bytes,
+        Err(fault) => return Err(fault),
+    };
+    Ok(Act::Bytes { link, side, bytes })
+}
+
 /// The step whose word is spelled as the first part, and whose other fields these are.
 fn read_step(alloc: Global, first: &[u8], fields: &[&[u8]]) -> Result<Step, LineFault>
     ensures { ReadsStep (first.now ∷ map (λ f. f.now) fields.now) result }
@@ -293,6 +315,9 @@ fn read_parts(alloc: Global, first: &[u8], fields: &[&[u8]]) -> Result<Act, Line
 {
     if is_adopt(first) {
         return read_adoption(alloc, fields);
+    }
+    if is_bytes(first) {
+        return read_written(alloc, fields);
     }
     match read_step(alloc, first, fields) {
         Ok(step) => Ok(Act::Step(step)),

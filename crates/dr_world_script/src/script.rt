@@ -21,9 +21,10 @@ fn is_skipped(line: &[u8]) -> bool
     }
 }
 
-/// What a script tells: one step or change of plan a line, whose fields are joined by tabs; lines
-/// that are empty or begin with `#` are skipped. Numbers are decimal without leading zeros and
-/// below 2^64; a data set is given in hex digits of either case.
+/// What a script tells: one step, change of plan or write of another product a line, whose fields
+/// are joined by tabs; lines that are empty or begin with `#` are skipped. Numbers are decimal
+/// without leading zeros and below 2^64; a data set, and what is written, is given in hex digits of
+/// either case.
 ///
 /// Errors: Line, of the first line that tells nothing of these; Memory, which may come before a
 /// later line is known to be wrong.
