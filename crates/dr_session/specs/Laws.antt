@@ -36,7 +36,7 @@ use Rattle.dr_session.specs.declared.ends.Input.TheVariants.{Unknown}
 use Rattle.dr_session.specs.declared.ends.Told.{Told}
 use Rattle.dr_session.specs.declared.ends.Told.TheVariants.{Plain, Store}
 use Rattle.std.specs.declared.alloc.AllocError.{AllocError}
-use Rattle.dr_session.specs.Ends.{Terminal, IsOver, Meets, HearsOf}
+use Rattle.dr_session.specs.Ends.{Terminal, IsEndOver, Meets, HearsOf}
 use Rattle.dr_session.specs.Messages.{command_pdus}
 use Rattle.dr_session.specs.Reactions.{Reaction, turn, quiet, effect, says, stores, leaves}
 use Rattle.dr_session.specs.Reactions.{aborted, abort_pdu, event_of, store_pdus, write}
@@ -195,7 +195,8 @@ AsksPdus {S} step =
 
 -- an end that is over writes nothing and calls nothing, whatever it is told
 abbrev pub RestsWhenOver : Type 0
-RestsWhenOver = (at : Moment) (c : Core) (told : Told) → IsOver (Some c) → turn at c told ≡ quiet c
+RestsWhenOver =
+    (at : Moment) (c : Core) (told : Told) → IsEndOver (Some c) → turn at c told ≡ quiet c
 
 -- a call of it answers an empty list; the end and the port stay as they were
 abbrev pub IsStill : {S : Type 0} → Terminal → S
@@ -207,7 +208,7 @@ abbrev pub StaysOver : {S : Type 0} → (S → DeskCall → DeskAnswer → S →
 StaysOver {S} step =
     (input : Input) (at : Moment) (old new : Terminal) (s t : S)
     (result : Result (List LinkAction) AllocError)
-    → IsOver old.core
+    → IsEndOver old.core
     → Meets step at input old s result new t
     → IsStill old s result new t
 
@@ -215,7 +216,7 @@ abbrev pub HearsNothing : {S : Type 0} → (S → DeskCall → DeskAnswer → S 
 HearsNothing {S} step =
     (came : Heard) (at : Moment) (old new : Terminal) (s t : S)
     (result : Result (List LinkAction) AllocError)
-    → IsOver old.core
+    → IsEndOver old.core
     → HearsOf step came at old s result new t
     → IsStill old s result new t
 

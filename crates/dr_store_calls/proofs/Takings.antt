@@ -37,7 +37,7 @@ use Rattle.sqlite.specs.State.{State}
 use Rattle.dr_store_calls.specs.declared.bringing.Delivery.{Delivery}
 use Rattle.dr_store_calls.specs.Calling.{IsLedgerOf, IsOwnFault, Looked, advanced}
 use Rattle.dr_store_calls.specs.Knowing.{FitsTables, IsThere}
-use Rattle.dr_store_calls.specs.Receiving.{Accepts, AnswersTo, IsDelivered, Receives, ReceivesAs}
+use Rattle.dr_store_calls.specs.Receiving.{AcceptsItem, AnswersTo, IsDelivered, Receives, ReceivesAs}
 use Rattle.dr_store_calls.proofs.Calls.{asked_as, called_as, looked_failed, looked_then, still_called}
 
 -- ---- a first arrival
@@ -137,33 +137,33 @@ module _ (came : Delivery) (old new : State) where
   -- where what is known couldn't be read
   pub not_read : {A : Type 0} (Shows : Trees → A → Type 0) (e : LedgerFault) (Asks : Trees → Type 0) → IsDelivered came → Looked came.n came.site.now (Err e) old new Shows → Receives came (Err e) old new Asks
   not_read Shows e Asks is l =
-      looked_failed {B = Arrived} came.n came.site.now old new Shows e Asks (AnswersTo came.site.now came.caller.now came.item.now (Err e)) (Accepts came.site.now came.caller.now came.item.now) l (λ base asks own. refused came.site.now came.caller.now came.item.now e is.line own base)
+      looked_failed {B = Arrived} came.n came.site.now old new Shows e Asks (AnswersTo came.site.now came.caller.now came.item.now (Err e)) (AcceptsItem came.site.now came.caller.now came.item.now) l (λ base asks own. refused came.site.now came.caller.now came.item.now e is.line own base)
 
   -- what is known by reading helps a call that takes it
   pub read_then : {A : Type 0} (mid : State) (Shows : Trees → A → Type 0) (a : A) (r : Result Arrived LedgerFault) (Asks Given : Trees → Type 0) → Looked came.n came.site.now (Ok a) old mid Shows → Receives came r mid new Given
       → ((db : Trees) → Asks db → Shows db a → Given db) → Receives came r old new Asks
   read_then mid Shows a r Asks Given l c gives =
       let Answers = AnswersTo came.site.now came.caller.now came.item.now r in
-      let Makes = Accepts came.site.now came.caller.now came.item.now in
+      let Makes = AcceptsItem came.site.now came.caller.now came.item.now in
       looked_then came.n (advanced r came.n) came.site.now old mid new Shows a r Asks Given Answers Makes Answers Makes l c (λ db l asks shown. gives db asks shown) (λ base db asks shown it. it) (λ base db asks shown it. it)
 
   -- a call that asks for less
   pub received : (r : Result Arrived LedgerFault) (Asks More : Trees → Type 0) → ((db : Trees) → More db → Asks db) → Receives came r old new Asks → Receives came r old new More
   received r Asks More gives c =
-      asked_as came.n (advanced r came.n) came.site.now r old new Asks More (AnswersTo came.site.now came.caller.now came.item.now r) (Accepts came.site.now came.caller.now came.item.now) (λ db l more. gives db more) c
+      asked_as came.n (advanced r came.n) came.site.now r old new Asks More (AnswersTo came.site.now came.caller.now came.item.now r) (AcceptsItem came.site.now came.caller.now came.item.now) (λ db l more. gives db more) c
 
   -- a call with one answer
   pub received_as : (answer : Arrived) (r : Result Arrived LedgerFault) (Asks More : Trees → Type 0) → ((db : Trees) → IsLedgerOf came.n came.site.now db → More db → Asks db) → ReceivesAs answer came r old new Asks
       → Receives came r old new More
   received_as answer r Asks More gives c =
       called_as came.n (advanced r came.n) came.site.now r old new Asks More (AnswersTo came.site.now came.caller.now came.item.now r)
-      (λ base db. Arrives (site_routing came.site.now) came.caller.now (instance_of came.item.now) (book_of base) (Ok answer) (book_of db)) (Accepts came.site.now came.caller.now came.item.now) gives (λ base db is. (answer, is)) c
+      (λ base db. Arrives (site_routing came.site.now) came.caller.now (instance_of came.item.now) (book_of base) (Ok answer) (book_of db)) (AcceptsItem came.site.now came.caller.now came.item.now) gives (λ base db is. (answer, is)) c
 
 -- where nothing is done
 pub not_received : (came : Delivery) (e : LedgerFault) (s : State) (Asks : Trees → Type 0) → ((db : Trees) → Asks db → AnswersTo came.site.now came.caller.now came.item.now (Err e) db db)
     → ((P : Type 0) → P → IsLastingFault e P) → Receives came (Err e) s s Asks
 not_received came e s Asks answers lasts =
-    still_called {A = Arrived} came.n came.site.now (Err e) s Asks (AnswersTo came.site.now came.caller.now came.item.now (Err e)) (Accepts came.site.now came.caller.now came.item.now) answers lasts
+    still_called {A = Arrived} came.n came.site.now (Err e) s Asks (AnswersTo came.site.now came.caller.now came.item.now (Err e)) (AcceptsItem came.site.now came.caller.now came.item.now) answers lasts
 
 -- where there is no memory
 pub no_memory : (came : Delivery) (s : State) (Asks : Trees → Type 0) → IsDelivered came → Receives came (Err fault.Memory) s s Asks

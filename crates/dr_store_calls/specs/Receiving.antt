@@ -59,8 +59,8 @@ AnswersTo part caller item result base db =
     × OnlyTakes item (bodies_of base) (bodies_of db)
 
 -- the book after an arrival that was accepted
-abbrev pub Accepts : Part → Text → Job → Trees → Trees → Type 0
-Accepts part caller item base db =
+abbrev pub AcceptsItem : Part → Text → Job → Trees → Trees → Type 0
+AcceptsItem part caller item base db =
     IsAccepted part caller (instance_of item) (book_of base) (book_of db)
 
 -- a call that takes what is brought, where the tables are as it asks
@@ -69,7 +69,7 @@ abbrev pub Receives : Delivery → Result Arrived LedgerFault → State → Stat
 Receives came result old new Asks =
     Called came.n (advanced result came.n) came.site.now result old new Asks
     (AnswersTo came.site.now came.caller.now came.item.now result)
-    (Accepts came.site.now came.caller.now came.item.now)
+    (AcceptsItem came.site.now came.caller.now came.item.now)
 
 -- the same, where what is accepted has this one answer
 abbrev pub ReceivesAs : Arrived → Delivery → Result Arrived LedgerFault → State → State

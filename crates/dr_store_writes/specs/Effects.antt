@@ -29,7 +29,7 @@ pub record GoesOn (old new : State) : Type 0 where
 
 -- What a statement does inside a transaction. Where it is done it makes this of a ledger's tables;
 -- whatever it answers, nothing is committed, and a crash leaves what it could leave before.
-pub record Step {A E : Type 0} (result : Result A E) (old new : State)
+pub record StatementStep {A E : Type 0} (result : Result A E) (old new : State)
     (Made : Type 0) : Type 0 where
   pub ok : HasCleanDisk new
       → IsTrue old.in_transaction
