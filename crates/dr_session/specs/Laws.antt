@@ -41,7 +41,7 @@ use Rattle.dr_site.specs.Parts.{Part}
 use Rattle.dr_site.specs.Sites.{IsSite}
 use Rattle.dr_nego.specs.Agreeing.{AssociateRq}
 use Rattle.dr_session.specs.Fits.{InputFits, Serves, CoreServes, ToldServes}
-use Rattle.dr_session.specs.Ends.{Terminal, IsOver, Meets, HearsOf, accepting, requesting}
+use Rattle.dr_session.specs.Ends.{Terminal, IsEndOver, Meets, HearsOf, accepting, requesting}
 use Rattle.dr_session.specs.Messages.{command_pdus}
 use Rattle.dr_session.specs.Reactions.{Reaction, turn, quiet, effect, says, stores, leaves}
 use Rattle.dr_session.specs.Reactions.{aborted, abort_pdu, event_of, store_pdus, write}
@@ -216,7 +216,8 @@ BeginsServing =
 
 -- an end that is over writes nothing and calls nothing, whatever it is told
 abbrev pub RestsWhenOver : Type 0
-RestsWhenOver = (at : Moment) (c : Core) (told : Told) → IsOver (Some c) → turn at c told ≡ quiet c
+RestsWhenOver =
+    (at : Moment) (c : Core) (told : Told) → IsEndOver (Some c) → turn at c told ≡ quiet c
 
 -- a call of it answers an empty list; the end and the port stay as they were
 abbrev pub IsStill : {S : Type 0} → Terminal → S
@@ -228,7 +229,7 @@ abbrev pub StaysOver : {S : Type 0} → (S → DeskCall → DeskAnswer → S →
 StaysOver {S} step =
     (input : Input) (at : Moment) (old new : Terminal) (s t : S)
     (result : Result (List LinkAction) AllocError)
-    → IsOver old.core
+    → IsEndOver old.core
     → Meets step at input old s result new t
     → IsStill old s result new t
 
@@ -236,7 +237,7 @@ abbrev pub HearsNothing : {S : Type 0} → (S → DeskCall → DeskAnswer → S 
 HearsNothing {S} step =
     (came : Heard) (at : Moment) (old new : Terminal) (s t : S)
     (result : Result (List LinkAction) AllocError)
-    → IsOver old.core
+    → IsEndOver old.core
     → HearsOf step came at old s result new t
     → IsStill old s result new t
 

@@ -31,10 +31,10 @@ pub record IsThere (db : Trees) (item : Instance) (whole : Bool) : Type 0 where
   pub body : map.contains_key (bodies_of db) item.uid ≡ whole
 
 -- what the tables have of the item's uid: nothing, another instance, or this one
-abbrev pub IsKnown : Trees → Instance → Known → Type 0
-IsKnown db item known.No = HasNeither item.uid db
-IsKnown db item known.Other = HasConflict (book_of db) item
-IsKnown db item (known.Same whole) = IsThere db item whole
+abbrev pub IsWhatIsKnown : Trees → Instance → Known → Type 0
+IsWhatIsKnown db item known.No = HasNeither item.uid db
+IsWhatIsKnown db item known.Other = HasConflict (book_of db) item
+IsWhatIsKnown db item (known.Same whole) = IsThere db item whole
 
 -- a destination with this row is one of those that are looked for: those for which the row was
 -- dropped, or else those to which there is none

@@ -72,8 +72,8 @@ AnswersTo part caller item result base db =
     × OnlyTakes item (bodies_of base) (bodies_of db)
 
 -- the book after an arrival that was accepted
-abbrev pub Accepts : Part → Text → Job → Trees → Trees → Type 0
-Accepts part caller item base db =
+abbrev pub AcceptsItem : Part → Text → Job → Trees → Trees → Type 0
+AcceptsItem part caller item base db =
     IsAccepted part caller (instance_of item) (book_of base) (book_of db)
 
 -- each cell that is there after a call was there before, or is this one, under this uid

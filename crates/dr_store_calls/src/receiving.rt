@@ -7,8 +7,9 @@ ghost use Rattle.dr_site.specs.Parts.{Part};
 ghost use Rattle.dr_store_schema.specs.Books.{rows_of};
 ghost use Rattle.dr_store_changes.specs.Changes.{HasNeither};
 ghost use Rattle.dr_store_calls.specs.Calling.{Called, Looked, Nothing, advanced};
-ghost use Rattle.dr_store_calls.specs.Knowing.{IsKnown, IsThere, chosen, is_chosen, taking_there};
-ghost use Rattle.dr_store_calls.specs.Receiving.{Accepts, AnswersTo, AreTargetsOf, IsDelivered};
+ghost use Rattle.dr_store_calls.specs.Knowing.{IsWhatIsKnown, IsThere, chosen, is_chosen};
+ghost use Rattle.dr_store_calls.specs.Knowing.{taking_there};
+ghost use Rattle.dr_store_calls.specs.Receiving.{AcceptsItem, AnswersTo, AreTargetsOf, IsDelivered};
 ghost use Rattle.dr_store_calls.specs.Receiving.{IsFoundFor, IsThereFor, Receives};
 
 use crate::arriving::{bring_item, bring_new, repeat};
@@ -261,7 +262,7 @@ fn arrive_by<'x, S: Alter>(
     requires idle { conn.old.in_transaction ≡ false }
     requires delivered { IsDelivered came.now }
     ensures called { Receives came.now result (state S.Store conn.old) (state S.Store conn.new)
-        (λ base. IsKnown base came.now.instance.now known) }
+        (λ base. IsWhatIsKnown base came.now.instance.now known) }
     ensures number { OnOk result (came.now.n ≤ 2 ^ 62) }
     ensures idle { conn.new.in_transaction ≡ false }
 {
@@ -309,7 +310,7 @@ pub fn arrive<'x, S: Alter>(
     requires idle { conn.old.in_transaction ≡ false }
     ensures called { Called n (advanced result n) site.now result (state S.Store conn.old)
         (state S.Store conn.new) Nothing (AnswersTo site.now caller.now item result)
-        (Accepts site.now caller.now item) }
+        (AcceptsItem site.now caller.now item) }
     ensures number { OnOk result (n ≤ 2 ^ 62) }
     ensures idle { conn.new.in_transaction ≡ false }
 {

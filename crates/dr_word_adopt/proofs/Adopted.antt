@@ -14,7 +14,7 @@ use Rattle.dr_ledger.specs.Pairs.{pair_cmp}
 use Rattle.dr_ledger.specs.declared.item.Instance.{Instance}
 use Rattle.dr_ledger.specs.declared.item.Progress.{Progress}
 use Rattle.dr_plan_model.specs.Networks.{Network}
-use Rattle.dr_plan_model.specs.Plans.{IsWellFormed}
+use Rattle.dr_plan_model.specs.Plans.{AreNames, IsWellFormed}
 use Rattle.dr_plan_model.specs.Walks.{Goes}
 use Rattle.dr_plan_model.specs.declared.plan.Node.{Node}
 use Rattle.dr_plan_model.proofs.Gathered.{Contains-cons_cases, Contains-here, Contains-there, nothing_in_nil}
@@ -26,10 +26,13 @@ use Rattle.dr_world_model.specs.Runs.{Adopts}
 use Rattle.dr_world_model.specs.Worlds.{World}
 use Rattle.dr_world_model.proofs.AdoptionsKept.{no_row, node_or_not}
 use Rattle.dr_word_adopt.specs.Adoptions.{HasBookOf, HasFirstBook, IsAtRest, IsFirstOf, MadeIsAdopted, ledger_in}
-use Rattle.dr_word_adopt.specs.Changes.{AreNames, IsOver, name_by, name_of}
+use Rattle.dr_word_adopt.specs.Changes.{IsOver, name_by}
 use Rattle.dr_word_adopt.specs.declared.standing.Standing.{Standing}
 use Rattle.dr_word_adopt.specs.declared.standing.Standing.TheVariants.{Ready, Over}
 use Rattle.dr_word_adopt.proofs.Standings.{unmapped}
+
+abbrev name_of : Node → Text
+name_of node = node.name
 
 -- ---- names
 

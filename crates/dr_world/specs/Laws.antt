@@ -37,8 +37,8 @@ use Rattle.dr_world.specs.Shows.{Contents, Seat, ShowsBytes, IsSeated, Becomes, 
 use Rattle.dr_world.specs.Shows.{with_desk_of}
 
 -- How many links a node has accepted and not left is how many others the world of bytes counts.
-abbrev pub OthersAreCounted : Type 0
-OthersAreCounted =
+abbrev pub OtherLinksAreCounted : Type 0
+OtherLinksAreCounted =
     (c : Contents) (b : ByteWorld)
     → ShowsBytes c b
     → (link : ℕ) (name : Text) (seat : Seat)

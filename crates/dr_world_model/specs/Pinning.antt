@@ -15,7 +15,8 @@ use Rattle.dr_world_model.specs.Worlds.{World, Link, Contexts, Stage, Answering,
 use Rattle.dr_world_model.specs.Worlds.{Storing, Replying}
 use Rattle.dr_world_model.specs.Calls.{Answer}
 use Rattle.dr_world_model.specs.Steps.{IsLink, AnswersRequest, ReadsAnswer, Receives, ReadsReply}
-use Rattle.dr_world_model.specs.Steps.{Drops, Closes, Restarts, others, others_of, callers_of}
+use Rattle.dr_world_model.specs.Steps.{ReceiverDrops, Closes, Restarts, others, others_of}
+use Rattle.dr_world_model.specs.Steps.{callers_of}
 use Rattle.dr_world_model.specs.Events.{Event, Take, Ask, AgreeReceiver, AgreeCaller, Give, Receive}
 use Rattle.dr_world_model.specs.Events.{Answered, BreakCaller, BreakReceiver, Close, Restart}
 use Rattle.dr_world_model.specs.Events.{Requeue, Drop, Forget, Refuse, StayAway, Tick, Step}
@@ -205,7 +206,7 @@ RestartsInOrder = (w : World) (name : Text) → IsStrictlySortedBy nat_cmp (call
 abbrev pub DropsLeaveTheCaller : Type 0
 DropsLeaveTheCaller =
     (w v : World) (number : ℕ) (link : Link)
-    → IsLink w number link → Drops w number v
+    → IsLink w number link → ReceiverDrops w number v
     → ((is : Link) × IsLink v number is
     × (is.caller_connected ≡ link.caller_connected)
     × (is.stage ≡ link.stage))

@@ -241,7 +241,7 @@ pub record Leaves (old : World) (number : ℕ) (reply : Option Answer) (new : Wo
   pub is : new ≡ with_link mid number (without_caller link)
 
 -- the receiver disconnects
-pub record Drops (old : World) (number : ℕ) (new : World) : Type 0 where
+pub record ReceiverDrops (old : World) (number : ℕ) (new : World) : Type 0 where
   pub link : Link
   pub at : IsLink old number link
   pub on : link.receiver_connected ≡ true

@@ -50,7 +50,7 @@ use Rattle.dr_session.specs.Plays.{PlaysBytes, with_stage}
 use Rattle.dr_world_model.specs.Worlds.{with_book, with_armed}
 use Rattle.dr_world_tie.specs.Desks.{Desk, ArmedBy, LedgerStep}
 use Rattle.dr_world_tie.specs.Channels.{Brings, alone, message, Gets, IsMessageFor, IsListening, IsReceiver, Channel, Carries, ShowsLink, ToCaller, ToReceiver, IsCaller, bytes_of, hop_contexts, site_of}
-use Rattle.dr_world_tie.specs.Ties.{IsData, IsFirst, receiver_read, HearsStore, IsDeskOf, Happens}
+use Rattle.dr_world_tie.specs.Ties.{IsData, IsFirstPdu, receiver_read, HearsStore, IsDeskOf, Happens}
 use Rattle.dr_world_tie.proofs.Leaving.{AreFit, only_link}
 use Rattle.dr_world_tie.proofs.CallerLeaving.{armed_after}
 use Rattle.dr_world_tie.proofs.Agreeing.{front_is, plays_alone}
@@ -64,7 +64,7 @@ still_replying false accepted item status receiver c h = h
 
 module _ (plan : Network) (certificate : Certificate) (w : World) (number : ℕ) (link : Link) (k : Channel) (s : Desk) (here : IsLink w number link) (desk : IsDeskOf w link.receiver s) (shows : ShowsLink plan certificate k link)
     (on : link.receiver_connected ≡ true) (accepted : Contexts) (item : Job) (storing : link.stage ≡ Storing accepted (instance_of item)) (carries : Carries k.receiver k.to_receiver (Brings item k.caller.core k.receiver.core) link.caller_connected) (certified : IsCertified plan certificate) (moment : Moment) (n : ℕ) (front : Pdu) (new : Feeding) (x : Effect) (t : Desk)
-    (first : IsFirst k.receiver k.to_receiver front) (whole : k.receiver.ear.kept ++ take n k.to_receiver ≡ written front)
+    (first : IsFirstPdu k.receiver k.to_receiver front) (whole : k.receiver.ear.kept ++ take n k.to_receiver ≡ written front)
     (plays : PlaysBytes (LedgerStep plan link.receiver) moment k.receiver.ear k.receiver.core (take n k.to_receiver) s new x t) where
   abbrev rstep : Desk → DeskCall → DeskAnswer → Desk → Type 0
   rstep = LedgerStep plan link.receiver
