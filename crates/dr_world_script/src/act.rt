@@ -8,8 +8,15 @@ pub enum Act {
     /// A step of the world.
     Step(Step),
     /// All nodes take the plan in the one file, whose certificate is in the other.
-    Adopt { plan: Text, certificate: Text },
+    Adopt {
+        plan: Text,
+        certificate: Text,
+    },
     /// Another maker's product writes at that end of a link: what is on its way from there is these
     /// bytes now.
-    Bytes { link: u64, side: Side, bytes: Octets },
+    Bytes {
+        link: u64,
+        side: Side,
+        bytes: Octets,
+    },
 }

@@ -9,8 +9,7 @@ ghost use Rattle.dr_world_script.specs.declared.step.Word.TheVariants as words;
 
 use crate::act::Act;
 use crate::fault::LineFault;
-use crate::fields::{is_adopt, is_bytes, parts_of};
-use crate::fields::{read_bytes, read_side, read_syntax, read_word};
+use crate::fields::{is_adopt, is_bytes, parts_of, read_bytes, read_side, read_syntax, read_word};
 use crate::step::{Side, Step, Word};
 use dr_base::fields::read_number;
 use dr_base::{Octets, Syntax, Text};
