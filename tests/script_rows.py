@@ -9,6 +9,9 @@ import subprocess
 import sys
 import tempfile
 
+sys.dont_write_bytecode = True
+from lib import requestor as wire
+
 TOP = os.path.dirname(os.path.dirname(os.path.abspath(__file__)))
 PROGRAM = f'{TOP}/crates/dr_router/out/dr_router'
 CT, EXPLICIT = '1.2.840.10008.5.1.4.1.1.2', '1.2.840.10008.1.2.1'
@@ -127,6 +130,31 @@ HELD_TWICE = [*submit('CT2', SHORT), *carried('CT2', 'ARCH', 1), *submit('CT1', 
               *opened('GATE', 'ARCH', 4), ('push', 3), ('push', 4), *moved(3, 'acceptor', 'acceptor', 'requestor')]
 GIVEN_UP = [*HELD, ('drop', 'GATE', UID, 'ARCH')]
 GIVEN_UP_ROW = HELD_AT_GATE.format(2) + 'row 1.2.3.4 ARCH dropped|lines 3|'
+# what other makers' products write: CT1 asks in a context of its own, ARCH answers the one that GATE proposes
+ASKED = wire.associate(1, 'GATE', 'CT1', wire.context(9, wire.CT, wire.EXPLICIT))
+COMMAND = wire.command((2, wire.CT), (0x100, wire.STORE), (0x110, 77), (0x700, 0), (0x800, 1), (0x1000, UID.encode()))
+STORED = wire.values(9, 1, COMMAND) + wire.values(9, 0, SHORT)
+REJECTED = wire.pdu(wire.REJECTED, bytes([0, 1, 1, 1]))
+
+
+def accepted(result):
+    return wire.associate(2, 'ARCH', 'GATE', wire.item(0x21, bytes([1, 0, result, 0]) + wire.item(0x40, wire.EXPLICIT)))
+
+
+def written(link, side, *pdus):
+    """Each of these is written at that end and moved to the other one."""
+    reader = 'acceptor' if side == 'requestor' else 'requestor'
+    return [step for pdu in pdus for step in (('bytes', link, side, pdu.hex()), *moved(link, *[reader] * 2))]
+
+
+def answered(status, to=1):
+    return wire.stored(UID.encode(), 1, to, status)
+
+
+SCANNER = [('open', 'CT1', 'GATE'), *written(1, 'requestor', ASKED, STORED)]
+SCANNED = 'node ARCH|lines 0|node CT1|lines 0|' + GATE_WAITS
+ARCHIVE = [*FIRST, ('open', 'GATE', 'ARCH'), *written(2, 'acceptor', accepted(0)), ('push', 2)]
+ARCHIVED = 'node ARCH|lines 0|' + CT1_SENT
 # no link is open, and GATE has still to send
 CLOSED = [*FIRST, ('close', 1)]
 CLOSED_REPORT = 'node ARCH|lines 0|' + CT1_SENT + GATE_WAITS
@@ -252,6 +280,25 @@ ROWS = [
      'node GATE|arrival CT1 1.2.3.4|row 1.2.3.4 ARCH waiting 0 0|lines 4|'),
     ('a held row that goes on', straight, [*HELD, *(('close', it) for it in (1, 2, 3)), ('adopt', straight)],
      'node ARCH|kept 1.2.3.4 70|lines 2|node CT1|lines 3|node CT2|lines 3|node GATE|row 1.2.3.4 ARCH held C0F1|lines 3|'),
+    ('a scanner of another make', three_nodes, SCANNER, SCANNED),
+    ('.. and what it brought goes on', three_nodes, [*SCANNER, *carried('GATE', 'ARCH', 2)], ARCH_KEEPS + 'node CT1|lines 0|' + GATE_SENT),
+    ('.. that brings it again', three_nodes, [*SCANNER, *written(1, 'requestor', STORED)], SCANNED.replace('lines 1', 'lines 2')),
+    ('.. and half of it', three_nodes, [('open', 'CT1', 'GATE'), *written(1, 'requestor', ASKED, STORED[:-1])], NOTHING),
+    ('.. and the rest', three_nodes, [('open', 'CT1', 'GATE'), *written(1, 'requestor', ASKED, STORED[:-1], STORED[-1:])], SCANNED),
+    ('.. that asks nothing and stores', three_nodes, [('open', 'CT1', 'GATE'), *written(1, 'requestor', STORED)], NOTHING),
+    ('.. that asks as a node that may not', three_nodes,
+     [('open', 'CT1', 'GATE'), *written(1, 'requestor', ASKED.replace(wire.title('CT1'), wire.title('ARCH')), STORED)], NOTHING),
+    ('.. that writes nothing', three_nodes, [('open', 'CT1', 'GATE'), *written(1, 'requestor', b''), *moved(1, 'acceptor', 'requestor'), ('push', 1)], NOTHING),
+    ('an archive of another make', three_nodes, [*ARCHIVE, *written(2, 'acceptor', answered(0))], ARCHIVED + GATE_SENT),
+    ('.. that is out of room', three_nodes, [*ARCHIVE, *written(2, 'acceptor', answered(0xA700))], ARCHIVED + TRIED),
+    ('.. that refuses it', three_nodes, [*ARCHIVE, *written(2, 'acceptor', answered(0xC123))], ARCHIVED + GATE_WAITS.replace('waiting 0 0|lines 1', 'held C123|lines 2')),
+    ('.. that answers another message', three_nodes, [*ARCHIVE, *written(2, 'acceptor', answered(0, to=2))], ARCHIVED + TRIED),
+    ('.. that writes what is no PDU', three_nodes, [*ARCHIVE, *written(2, 'acceptor', b'HTTP/1.1 400 Bad Request\r\n')], ARCHIVED + TRIED),
+    ('.. that writes nothing', three_nodes, ARCHIVE, ARCHIVED + GATE_WAITS),
+    ('.. that rejects', three_nodes, [*FIRST, ('open', 'GATE', 'ARCH'), *written(2, 'acceptor', REJECTED)], ARCHIVED + TRIED),
+    ('.. that takes no context', three_nodes, [*FIRST, ('open', 'GATE', 'ARCH'), *written(2, 'acceptor', accepted(3)), ('push', 2)],
+     ARCHIVED + GATE_WAITS.replace('waiting 0 0|lines 1', 'held no-context|lines 2')),
+    ('what is written on no link', three_nodes, [('bytes', 1, 'acceptor', '00')], NOTHING),
     *((f'{tries} refused stores', three_nodes, steps, 'node ARCH|lines 0|' + CT1_SENT
        + f'node GATE|arrival CT1 1.2.3.4|row 1.2.3.4 ARCH waiting {tries} {due_after(tries)}|lines {tries + 1}|')
       for steps, tries in ninth_and_tenth() if tries in (9, 10)),
@@ -275,7 +322,7 @@ EXACT = [
      'node ARCH|lines 0|' + CT1_SENT + TRIED),
 ]
 # what is no script: the line that is named
-WRONG = [(1, 'away\tGATE\n'), (1, 'away\tGATE\tARCH\t\n'), (1, 'adopt\tplan\n'), (1, 'adopt\tplan\tcertificate\tmore\n'), (1, 'forget\tCT1\n'), (1, 'forget\tCT1\t1.2.3.4\tGATE\n'), (1, 'drop\tCT1\t1.2.3.4\n'), (1, 'drop\tCT1\t1.2.3.4\tGATE\t1\n'), (2, '# a comment\nmove\t1\tnobody\t1\n'), (1, 'push\n'), (1, 'push\t01\n'), (3, '\n\nfly\n'), (1, 'tick\t18446744073709551616\n'),
+WRONG = [(1, 'away\tGATE\n'), (1, 'away\tGATE\tARCH\t\n'), (1, 'adopt\tplan\n'), (1, 'adopt\tplan\tcertificate\tmore\n'), (1, 'forget\tCT1\n'), (1, 'forget\tCT1\t1.2.3.4\tGATE\n'), (1, 'drop\tCT1\t1.2.3.4\n'), (1, 'drop\tCT1\t1.2.3.4\tGATE\t1\n'), (2, '# a comment\nmove\t1\tnobody\t1\n'), (1, 'bytes\t1\tacceptor\n'), (1, 'bytes\t1\tnobody\t00\n'), (1, 'bytes\t01\tacceptor\t00\n'), (1, 'bytes\t1\tacceptor\t0\n'), (1, 'push\n'), (1, 'push\t01\n'), (3, '\n\nfly\n'), (1, 'tick\t18446744073709551616\n'),
          (1, 'submit\tCT1\tE\t0800\n'), (2, 'tick\t1\nsubmit\tCT1\tE\tXY\n'), (1, ' \n')]
 
 

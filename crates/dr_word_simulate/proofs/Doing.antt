@@ -67,6 +67,7 @@ module _ (Holds : Text → Text → Type 0) where
   pub stopped : (plan : Network) (certificate : Certificate) (text : Text) (acts : List Act) (place : ℕ) (fault : ActFault) (outcome : PlayOutcome)
       → IsScriptOf text acts → StopsAt Holds acts place fault → StopsAs text place fault outcome → IsOutcomeOf Holds plan certificate text outcome
   stopped plan certificate text acts place stop.Unsealed (Unsealed line) script (before, act.Step step, later, e, at, why, rest) came = absurd why
+  stopped plan certificate text acts place stop.Unsealed (Unsealed line) script (before, act.Bytes link side bytes, later, e, at, why, rest) came = absurd why
   stopped plan certificate text acts place stop.Unsealed (Unsealed line) script (before, act.Adopt next own, later, e, at, why, rest) came =
       let P : List Act → Type 0 = λ xs. IsScriptOf text xs in
       let Q : ℕ → Type 0 = λ n. IsLineAt text n line in

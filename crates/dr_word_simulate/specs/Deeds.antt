@@ -15,13 +15,19 @@ use Rattle.dr_word_simulate.specs.declared.deeds.ActFault.{ActFault}
 use Rattle.dr_word_simulate.specs.declared.deeds.ActFault.TheVariants.{Unsealed, Unread, Memory}
 
 -- the deed is what the line tells: that step, or that all nodes take the plan that the one file
--- has, with the certificate that the other one has
+-- has, with the certificate that the other one has, or that another product writes just this there
 abbrev pub IsDeedOf : (Text → Text → Type 0) → Act → Deed → Type 0
 IsDeedOf Holds (act.Step step) (deed.Step done) = done ≡ step
 IsDeedOf Holds (act.Step step) (deed.Adopt sealed) = ⊥
+IsDeedOf Holds (act.Step step) (deed.Bytes link side bytes) = ⊥
 IsDeedOf Holds (act.Adopt plan certificate) (deed.Step done) = ⊥
 IsDeedOf Holds (act.Adopt plan certificate) (deed.Adopt sealed) =
     IsSealedBy (Holds plan) (Holds certificate) sealed
+IsDeedOf Holds (act.Adopt plan certificate) (deed.Bytes link side bytes) = ⊥
+IsDeedOf Holds (act.Bytes link side bytes) (deed.Step done) = ⊥
+IsDeedOf Holds (act.Bytes link side bytes) (deed.Adopt sealed) = ⊥
+IsDeedOf Holds (act.Bytes link side bytes) (deed.Bytes at by these) =
+    (at ≡ link) × (by ≡ side) × (these ≡ bytes)
 
 -- the files have no sound plan with its certificate
 abbrev pub IsUnsealedBy : (Text → Type 0) → (Text → Type 0) → Type 0
@@ -36,6 +42,8 @@ IsUndone Holds (act.Adopt plan certificate) Unsealed =
 IsUndone Holds (act.Adopt plan certificate) (Unread path error) = Unit {0}
 IsUndone Holds (act.Step step) Unsealed = ⊥
 IsUndone Holds (act.Step step) (Unread path error) = ⊥
+IsUndone Holds (act.Bytes link side bytes) Unsealed = ⊥
+IsUndone Holds (act.Bytes link side bytes) (Unread path error) = ⊥
 IsUndone Holds a Memory = Unit {0}
 
 -- the deed of that line is behind the others

@@ -11,6 +11,7 @@ use Rattle.dr_world_tie.specs.ByteWorlds.{ByteWorld, beginning}
 use Rattle.dr_world.specs.declared.changing.Change.{Change}
 use Rattle.dr_world.specs.declared.changing.Change.TheVariants.{Adopted, Skipped, Unfit}
 use Rattle.dr_world.specs.declared.deed.Deed.{Deed}
+use Rattle.dr_world.specs.Others.{NoneWrites}
 use Rattle.dr_world.specs.Played.{ComesBy, PlaysThrough, in_force, taken_in}
 use Rattle.dr_world.specs.Reports.{IsReportOfAll}
 
@@ -52,7 +53,8 @@ notes_of [] = []
 notes_of (change ∷ changes) = note_of change ++ notes_of changes
 
 -- The text is what is told of the changes, and behind it the report of the nodes' books after the
--- deeds, in byte order of the nodes' names; the headline holds of them.
+-- deeds, in byte order of the nodes' names; the headline holds of them, where no other product
+-- writes.
 pub record IsReportAfter (plan : Network) (certificate : Certificate) (deeds : List Deed)
     (report : Text) : Type 0 where
   pub changes : List Change
@@ -61,4 +63,4 @@ pub record IsReportAfter (plan : Network) (certificate : Certificate) (deeds : L
   pub told : report ≡ notes_of changes ++ lines
   pub reported : IsReportOfAll books lines
   pub after : ∥ AreBooksAfter plan certificate deeds changes books ∥₁
-  pub holds : ∥ HoldsOfBooks plan (taken_in deeds changes) books ∥₁
+  pub holds : NoneWrites deeds → ∥ HoldsOfBooks plan (taken_in deeds changes) books ∥₁

@@ -132,6 +132,7 @@ fn deed_of<F: Files>(alloc: Global, files: &F, act: Act) -> Result<Deed, ActFaul
 {
     match act {
         Act::Step(step) => Ok(Deed::Step(step)),
+        Act::Bytes { link, side, bytes } => Ok(Deed::Bytes { link, side, bytes }),
         Act::Adopt { plan, certificate } => {
             match seal_named(alloc, files, &plan, &certificate) {
                 Ok(sealed) => Ok(Deed::Adopt(sealed)),

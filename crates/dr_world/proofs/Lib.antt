@@ -28,4 +28,5 @@ pub mod Listed
 pub mod FrontBytes
 pub mod Arriving
 pub mod Finishing
+pub mod Rewriting
 pub mod Played

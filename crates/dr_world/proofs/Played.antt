@@ -1,4 +1,4 @@
--- Steps and changes of plan, one after the other.
+-- Steps, changes of plan and what other products write, one after the other.
 use Rattle.std.proofs.Common.{◌≡◌, ℕ, ◌+◌, ◌<◌, ◌≤◌, List, [], ◌∷◌, ◌++◌, length, get_or, take, append_assoc, map as mapped, Option, inl, inr, refl, sym, ap, subst, ◌∙◌}
 use Rattle.std.proofs.Math.Logic.{∥∥₁_map, ∥∥₁_elim, ∥∥₁_prop}
 use Rattle.std.proofs.lemmas.List.{append-nil, take_more, take_all}
@@ -21,6 +21,7 @@ use Rattle.dr_world_tie.specs.Changes.{TakesPlan}
 use Rattle.dr_world_tie.specs.Shown.{Comes, ShowsWorld}
 use Rattle.dr_world_tie.proofs.Changes.{plans_are_adopted}
 use Rattle.dr_world_tie.proofs.World.{world_steps, beside_beginning}
+use Rattle.dr_world_script.specs.declared.step.Side.{Side}
 use Rattle.dr_world_script.specs.declared.step.Step.{Step}
 use Rattle.dr_world.specs.declared.changing.Change.{Change}
 use Rattle.dr_world.specs.declared.changing.Change.TheVariants.{Adopted, Skipped, Unfit}
@@ -30,11 +31,14 @@ use Rattle.dr_world.specs.declared.steps.StepNote.{StepNote as Note}
 use Rattle.dr_world.specs.declared.world.World.{World}
 use Rattle.dr_world.specs.Adopted.{ChangesTo, ComesTo}
 use Rattle.dr_world.specs.Nodes.{seat_of}
-use Rattle.dr_world.specs.Played.{Changes, ChangesGoOn, DeedsKeepTheHeadline, EventsAloneLead, HoldsThrough, IsPlayed, IsRunOf, PlaysAll, PlaysOn, PlaysThrough, StepsAloneRun, StepsGoOn}
+use Rattle.dr_world.specs.Played.{Changes, ChangesGoOn, DeedsKeepTheHeadline, EventsAloneLead, HoldsThrough, IsPlayed, IsRunOf, PlaysAll, PlaysOn, PlaysThrough, StepsAloneRun, StepsGoOn, WritesGoOn}
 use Rattle.dr_world.specs.Played.{adopted_in, certificate_after, in_force, plan_after, taken_in}
+use Rattle.dr_world.specs.Ends.{named}
+use Rattle.dr_world.specs.Others.{NoneWrites, Writes}
 use Rattle.dr_world.specs.Runs.{IsReached, step_of}
 use Rattle.dr_world.specs.Shows.{Contents, IsSeated, ShowsBytes, desk_at}
 use Rattle.dr_world.specs.Whole.{AllStand, StepsTo, contents, noted}
+use Rattle.dr_world.proofs.Rewriting.{stood, written_beside}
 
 -- ---- one deed behind others
 
@@ -47,9 +51,26 @@ step_behind [] changes first plan its certificate a b c step note h s =
     (note, c, subst P (λ j. (h.1 j, (h.2 j, h.3 j))) s, (append-nil changes ∙ h.0, h.1, h.2, refl))
 step_behind (deed.Step other ∷ deeds) changes first plan its certificate a b c step note h s =
     (h.0, h.1, h.2, step_behind deeds changes first plan its certificate h.1 b c step note h.3 s)
+step_behind (deed.Bytes link side bytes ∷ deeds) changes first plan its certificate a b c step note h s =
+    (h.0, h.1, step_behind deeds changes first plan its certificate h.0 b c step note h.2 s)
 step_behind (deed.Adopt next ∷ deeds) [] first plan its certificate a b c step note h s = absurd h
 step_behind (deed.Adopt next ∷ deeds) (change ∷ changes) first plan its certificate a b c step note h s =
     (h.0, h.1, step_behind deeds changes (plan_after next.plan change first) plan (certificate_after next.certificate change its) certificate h.0 b c step note h.2 s)
+
+-- what another product writes
+write_behind : (deeds : List Deed) (changes : List Change) (first plan : Network) (its certificate : Certificate) (a b c : ByteWorld) (link : ℕ) (side : Side) (bytes : List ℕ)
+    → PlaysThrough first its a deeds changes plan certificate b → Writes b link (named side) bytes c
+    → PlaysThrough first its a (deeds ++ deed.Bytes link side bytes ∷ []) (changes ++ []) plan certificate c
+write_behind [] changes first plan its certificate a b c link side bytes h s =
+    let P : ByteWorld → Type 0 = λ z. Writes z link (named side) bytes c in
+    (c, subst P h.3 s, (append-nil changes ∙ h.0, h.1, h.2, refl))
+write_behind (deed.Step other ∷ deeds) changes first plan its certificate a b c link side bytes h s =
+    (h.0, h.1, h.2, write_behind deeds changes first plan its certificate h.1 b c link side bytes h.3 s)
+write_behind (deed.Bytes number end others ∷ deeds) changes first plan its certificate a b c link side bytes h s =
+    (h.0, h.1, write_behind deeds changes first plan its certificate h.0 b c link side bytes h.2 s)
+write_behind (deed.Adopt next ∷ deeds) [] first plan its certificate a b c link side bytes h s = absurd h
+write_behind (deed.Adopt next ∷ deeds) (change ∷ changes) first plan its certificate a b c link side bytes h s =
+    (h.0, h.1, write_behind deeds changes (plan_after next.plan change first) plan (certificate_after next.certificate change its) certificate h.0 b c link side bytes h.2 s)
 
 -- a change of plan
 change_behind : (deeds : List Deed) (changes : List Change) (first plan : Network) (its certificate : Certificate) (a b c : ByteWorld) (next : Certified) (change : Change)
@@ -61,6 +82,8 @@ change_behind [] changes first plan its certificate a b c next change h s =
     subst Q (sym h.0) (c, subst P (λ j. (h.1 j, h.3 j)) s, (refl, ap (plan_after next.plan change) h.1, ap (certificate_after next.certificate change) h.2, refl))
 change_behind (deed.Step other ∷ deeds) changes first plan its certificate a b c next change h s =
     (h.0, h.1, h.2, change_behind deeds changes first plan its certificate h.1 b c next change h.3 s)
+change_behind (deed.Bytes link side bytes ∷ deeds) changes first plan its certificate a b c next change h s =
+    (h.0, h.1, change_behind deeds changes first plan its certificate h.0 b c next change h.2 s)
 change_behind (deed.Adopt another ∷ deeds) [] first plan its certificate a b c next change h s = absurd h
 change_behind (deed.Adopt another ∷ deeds) (came ∷ changes) first plan its certificate a b c next change h s =
     (h.0, h.1, change_behind deeds changes (plan_after another.plan came first) plan (certificate_after another.certificate came its) certificate h.0 b c next change h.2 s)
@@ -72,6 +95,7 @@ certified_played [] changes plan last certificate its b new certified h =
     let P : Network × Certificate → Type 0 = λ p. IsCertified p.0 p.1 in
     subst P (λ j. (sym h.1 j, sym h.2 j)) certified
 certified_played (deed.Step step ∷ deeds) changes plan last certificate its b new certified h = certified_played deeds changes plan last certificate its h.1 new certified h.3
+certified_played (deed.Bytes link side bytes ∷ deeds) changes plan last certificate its b new certified h = certified_played deeds changes plan last certificate its h.0 new certified h.2
 certified_played (deed.Adopt next ∷ deeds) [] plan last certificate its b new certified h = absurd h
 certified_played (deed.Adopt next ∷ deeds) (Adopted ∷ changes) plan last certificate its b new certified h = certified_played deeds changes next.plan last next.certificate its h.0 new h.1.0 h.2
 certified_played (deed.Adopt next ∷ deeds) (Skipped ∷ changes) plan last certificate its b new certified h = certified_played deeds changes plan last certificate its h.0 new certified h.2
@@ -82,6 +106,7 @@ pub last_in_force : (deeds : List Deed) (changes : List Change) (plan last : Net
     → PlaysThrough plan certificate b deeds changes last its new → last ≡ in_force plan (taken_in deeds changes)
 last_in_force [] changes plan last certificate its b new h = h.1
 last_in_force (deed.Step step ∷ deeds) changes plan last certificate its b new h = last_in_force deeds changes plan last certificate its h.1 new h.3
+last_in_force (deed.Bytes link side bytes ∷ deeds) changes plan last certificate its b new h = last_in_force deeds changes plan last certificate its h.0 new h.2
 last_in_force (deed.Adopt next ∷ deeds) [] plan last certificate its b new h = absurd h
 last_in_force (deed.Adopt next ∷ deeds) (Adopted ∷ changes) plan last certificate its b new h = last_in_force deeds changes next.plan last next.certificate its h.0 new h.2
 last_in_force (deed.Adopt next ∷ deeds) (Skipped ∷ changes) plan last certificate its b new h = last_in_force deeds changes plan last certificate its h.0 new h.2
@@ -95,6 +120,11 @@ module _ {L : Type 0} {l : Ghosts L} (old new : World L l) where
       let proper = certified_played deeds changes first r.0 its r.1 beginning r.3.0 certified r.3.1 in
       let after = h.1 r.0 r.1 proper r.3.0 r.2 r.3.2 all in
       ∥∥₁_map after.1 (λ z. (r.0, r.1, after.0, (z.0, step_behind deeds changes first r.0 its r.1 beginning r.3.0 z.0 step (noted note) r.3.1 z.1, z.2))))
+
+  pub writes_go_on : WritesGoOn old new
+  writes_go_on link side bytes note h first its certified deeds changes played all = ∥∥₁_map (played (stood old new link (named side) bytes note h all)) (λ r.
+      let after = written_beside old new link (named side) bytes note h r.0 r.1 r.3.0 r.2 r.3.2 in
+      (r.0, r.1, after.0, (after.1.0, write_behind deeds changes first r.0 its r.1 beginning r.3.0 after.1.0 link side bytes r.3.1 after.1.1, after.1.2)))
 
   -- what a change comes to, beside the bytes
   module _ (next : Certified) (proper : IsCertified next.plan next.certificate) (plan : Network) (certificate : Certificate) (b : ByteWorld) (seated : IsSeated plan certificate (contents old).seats) (shown : ShowsBytes (contents old) b) where
@@ -161,34 +191,35 @@ adopted_from first taken plan certificate b mid next proper h f =
     )
 
 held : (deeds : List Deed) (changes : List Change) (first : Network) (before : List Network) (plan last : Network) (certificate its : Certificate) (b new : ByteWorld)
-    → IsCertified plan certificate → ∥ IsFrom first before plan certificate b ∥₁ → PlaysThrough plan certificate b deeds changes last its new
+    → IsCertified plan certificate → NoneWrites deeds → ∥ IsFrom first before plan certificate b ∥₁ → PlaysThrough plan certificate b deeds changes last its new
     → ∥ IsFrom first (before ++ taken_in deeds changes) last its new ∥₁
-held [] changes first before plan last certificate its b new certified from h =
+held [] changes first before plan last certificate its b new certified none from h =
     let P : List Network × (Network × (Certificate × ByteWorld)) → Type 0 = λ p. ∥ IsFrom first p.0 p.1.0 p.1.1.0 p.1.1.1 ∥₁ in
     subst P (λ j. (sym (append-nil before) j, (sym h.1 j, (sym h.2 j, sym h.3 j)))) from
-held (deed.Step step ∷ deeds) changes first before plan last certificate its b new certified from (note, mid, h, rest) =
-    held deeds changes first before plan last certificate its mid new certified (∥∥₁_elim from ∥∥₁_prop (λ f.
+held (deed.Bytes link side bytes ∷ deeds) changes first before plan last certificate its b new certified none from h = absurd none
+held (deed.Step step ∷ deeds) changes first before plan last certificate its b new certified none from (note, mid, h, rest) =
+    held deeds changes first before plan last certificate its mid new certified none (∥∥₁_elim from ∥∥₁_prop (λ f.
     ∥∥₁_map (world_steps plan certificate certified b mid f.0 (step_of step) note f.1 h) (λ r. (r.0, r.2, step_from first before plan b (step_of step) note f.0 r.0 f.2 r.1)))) rest
-held (deed.Adopt next ∷ deeds) [] first before plan last certificate its b new certified from h = absurd h
-held (deed.Adopt next ∷ deeds) (Adopted ∷ changes) first before plan last certificate its b new certified from (mid, (proper, h), rest) =
+held (deed.Adopt next ∷ deeds) [] first before plan last certificate its b new certified none from h = absurd h
+held (deed.Adopt next ∷ deeds) (Adopted ∷ changes) first before plan last certificate its b new certified none from (mid, (proper, h), rest) =
     let P : List Network → Type 0 = λ taken. ∥ IsFrom first taken last its new ∥₁ in
     subst P (append_assoc before (next.plan ∷ []) (taken_in deeds changes))
-    (held deeds changes first (before ++ next.plan ∷ []) next.plan last next.certificate its mid new proper (∥∥₁_map from (adopted_from first before plan certificate b mid next proper h)) rest)
-held (deed.Adopt next ∷ deeds) (Skipped ∷ changes) first before plan last certificate its b new certified from (mid, h, rest) =
+    (held deeds changes first (before ++ next.plan ∷ []) next.plan last next.certificate its mid new proper none (∥∥₁_map from (adopted_from first before plan certificate b mid next proper h)) rest)
+held (deed.Adopt next ∷ deeds) (Skipped ∷ changes) first before plan last certificate its b new certified none from (mid, h, rest) =
     let P : ByteWorld → Type 0 = λ z. ∥ IsFrom first before plan certificate z ∥₁ in
-    held deeds changes first before plan last certificate its mid new certified (subst P (sym h.0) from) rest
-held (deed.Adopt next ∷ deeds) (Unfit node uid dest ∷ changes) first before plan last certificate its b new certified from (mid, h, rest) =
+    held deeds changes first before plan last certificate its mid new certified none (subst P (sym h.0) from) rest
+held (deed.Adopt next ∷ deeds) (Unfit node uid dest ∷ changes) first before plan last certificate its b new certified none from (mid, h, rest) =
     let P : ByteWorld → Type 0 = λ z. ∥ IsFrom first before plan certificate z ∥₁ in
-    held deeds changes first before plan last certificate its mid new certified (subst P (sym h.0) from) rest
+    held deeds changes first before plan last certificate its mid new certified none (subst P (sym h.0) from) rest
 
 at_first : (plan : Network) (certificate : Certificate) → IsFrom plan [] plan certificate beginning
 at_first plan certificate = (start, beside_beginning plan certificate, ([], refl, (refl, refl)))
 
 module _ {L : Type 0} {l : Ghosts L} where
   pub deeds_keep_the_headline : (w : World L l) → DeedsKeepTheHeadline w
-  deeds_keep_the_headline w first its certified deeds changes played all = ∥∥₁_elim (played all) ∥∥₁_prop (λ r.
+  deeds_keep_the_headline w first its certified deeds changes played none all = ∥∥₁_elim (played all) ∥∥₁_prop (λ r.
       let last = last_in_force deeds changes first r.0 its r.1 beginning r.3.0 r.3.1 in
-      ∥∥₁_map (held deeds changes first [] first r.0 its r.1 beginning r.3.0 certified ∣ at_first first its ∣₁ r.3.1) (λ v. (
+      ∥∥₁_map (held deeds changes first [] first r.0 its r.1 beginning r.3.0 certified none ∣ at_first first its ∣₁ r.3.1) (λ v. (
         v.0,
         (r.1, r.3.0, r.3.2, subst (λ (p : Network). ShowsWorld p r.1 r.3.0 v.0) last v.1),
         (λ name n is. sym ((v.1.desks name).0) ∙ ap (λ (d : Desk). d.book) (r.3.2.desks name ∙ ap (λ (o : Option (Node L l)). desk_at (option_map seat_of o)) is)),
@@ -197,8 +228,8 @@ module _ {L : Type 0} {l : Ghosts L} where
       )))
 
   pub holds_through : (old new : World L l) (done : Deed) (told : List Change) → PlaysOn done told old new → HoldsThrough done told old new
-  holds_through old new done told plays first its certified deeds changes played all =
-      deeds_keep_the_headline new first its certified (deeds ++ done ∷ []) (changes ++ told) (plays first its certified deeds changes played) all
+  holds_through old new done told plays first its certified deeds changes played none all =
+      deeds_keep_the_headline new first its certified (deeds ++ done ∷ []) (changes ++ told) (plays first its certified deeds changes played) none all
 
   pub stepped_through : (old new : World L l) (step : Step) (note : Note) → StepsTo (step_of step) old note new → HoldsThrough (deed.Step step) [] old new
   stepped_through old new step note h = holds_through old new (deed.Step step) [] (steps_go_on old new step note h)
@@ -237,15 +268,15 @@ module _ {L : Type 0} {l : Ghosts L} where
       → IsReached plan certificate [] first → PlaysAll deeds changes first last → AllStand last → IsRunOf plan certificate deeds changes last
   run_of plan certificate certified first last deeds changes reached plays all =
       let played : IsPlayed plan certificate deeds changes last = plays plan certificate certified [] [] (begun plan certificate first reached) in
-      (played all, deeds_keep_the_headline last plan certificate certified deeds changes played all)
+      (played all, λ none. deeds_keep_the_headline last plan certificate certified deeds changes played none all)
 
 -- ---- without a change
 
 pub steps_alone_run : StepsAloneRun
-steps_alone_run plan last certificate its b new [] changes h = (h.0, h.1, h.3, refl)
+steps_alone_run plan last certificate its b new [] changes h = (h.0, h.1, h.3, refl, tt)
 steps_alone_run plan last certificate its b new (step ∷ steps) changes h =
     let r = steps_alone_run plan last certificate its h.1 new steps changes h.3 in
-    (r.0, r.1, (h.0, h.1, h.2, r.2), r.3)
+    (r.0, r.1, (h.0, h.1, h.2, r.2), r.3, r.4)
 
 cons_nil : (p : Network) (ps : List Network) → p ∷ ps ≡ [] → ⊥
 cons_nil p ps e = absurd (cc)

@@ -11,6 +11,7 @@ pub mod Closed
 pub mod Founding
 pub mod Reports
 pub mod Restarted
+pub mod Others
 pub mod Played
 pub mod Moved
 pub mod Ended

@@ -1,5 +1,6 @@
--- Steps and changes of plan, one after the other, and what holds after them.
-use Rattle.std.specs.Prelude.{◌≡◌, ◌⊎◌, List, [], ◌∷◌, ◌++◌, Some, map as mapped}
+-- Steps, changes of plan and what other products write, one after the other, and what holds after
+-- them.
+use Rattle.std.specs.Prelude.{◌≡◌, ◌⊎◌, ℕ, List, [], ◌∷◌, ◌++◌, Some, map as mapped}
 use Rattle.std.specs.BTreeMap as tree
 use Rattle.dr_base.specs.Texts.{Text, text_cmp}
 use Rattle.dr_ledger.specs.declared.ledger.Ledger.{Ghosts}
@@ -15,6 +16,7 @@ use Rattle.dr_world_model.specs.Runs.{Action, Adopt as Adopting, Occurs, Runs}
 use Rattle.dr_world_tie.specs.ByteWorlds.{ByteWorld, StepNote, Steps, beginning}
 use Rattle.dr_world_tie.specs.Changes.{AllAreOver, TakesPlan}
 use Rattle.dr_world_tie.specs.Shown.{ComesAbout, RunsOf}
+use Rattle.dr_world_script.specs.declared.step.Side.{Side}
 use Rattle.dr_world_script.specs.declared.step.Step.{Step}
 use Rattle.dr_world.specs.declared.changing.Change.{Change}
 use Rattle.dr_world.specs.declared.changing.Change.TheVariants.{Adopted, Skipped, Unfit}
@@ -23,6 +25,8 @@ use Rattle.dr_world.specs.declared.deed.Deed.TheVariants as deed
 use Rattle.dr_world.specs.declared.steps.StepNote.{StepNote as Note}
 use Rattle.dr_world.specs.declared.world.World.{World}
 use Rattle.dr_world.specs.Adopted.{AllStay, ChangesTo, IsFirstUnfit}
+use Rattle.dr_world.specs.Ends.{named}
+use Rattle.dr_world.specs.Others.{NoneWrites, Writes, WritesAt}
 use Rattle.dr_world.specs.Runs.{IsBeside, step_of}
 use Rattle.dr_world.specs.Shows.{IsSeated, ShowsBytes}
 use Rattle.dr_world.specs.Whole.{AllStand, StepsTo, contents}
@@ -61,6 +65,10 @@ PlaysThrough plan certificate b (deed.Step step ∷ deeds) changes last its new 
     (note : StepNote) × (mid : ByteWorld)
     × Steps plan certificate b (step_of step) note mid
     × PlaysThrough plan certificate mid deeds changes last its new
+PlaysThrough plan certificate b (deed.Bytes link side bytes ∷ deeds) changes last its new =
+    (mid : ByteWorld)
+    × Writes b link (named side) bytes mid
+    × PlaysThrough plan certificate mid deeds changes last its new
 PlaysThrough plan certificate b (deed.Adopt next ∷ deeds) [] last its new = ⊥
 PlaysThrough plan certificate b (deed.Adopt next ∷ deeds) (change ∷ changes) last its new =
     (mid : ByteWorld)
@@ -74,6 +82,7 @@ PlaysThrough plan certificate b (deed.Adopt next ∷ deeds) (change ∷ changes)
 abbrev pub taken_in : List Deed → List Change → List Network
 taken_in [] changes = []
 taken_in (deed.Step step ∷ deeds) changes = taken_in deeds changes
+taken_in (deed.Bytes link side bytes ∷ deeds) changes = taken_in deeds changes
 taken_in (deed.Adopt next ∷ deeds) [] = []
 taken_in (deed.Adopt next ∷ deeds) (Adopted ∷ changes) = next.plan ∷ taken_in deeds changes
 taken_in (deed.Adopt next ∷ deeds) (Skipped ∷ changes) = taken_in deeds changes
@@ -136,8 +145,8 @@ PlaysOn done told old new =
     → IsPlayed first its deeds changes old
     → IsPlayed first its (deeds ++ done ∷ []) (changes ++ told) new
 
--- The four claims hold after it, whatever deeds have led to where it was done, under the ledgers'
--- own premise.
+-- The four claims hold after it, whatever deeds of our own have led to where it was done, under the
+-- ledgers' own premise.
 abbrev pub HoldsThrough : {L : Type 0} {l : Ghosts L}
     → Deed → List Change → World L l → World L l → Type 0
 HoldsThrough done told old new =
@@ -145,6 +154,7 @@ HoldsThrough done told old new =
     → IsCertified first its
     → (deeds : List Deed) (changes : List Change)
     → IsPlayed first its deeds changes old
+    → NoneWrites (deeds ++ done ∷ [])
     → AllStand new
     → HoldsBy first (taken_in (deeds ++ done ∷ []) (changes ++ told)) new
 
@@ -159,12 +169,13 @@ PlaysAll done told old new =
     → IsPlayed first its (deeds ++ done) (changes ++ told) new
 
 -- A world that just these deeds have made of the plan, and nothing else is asked: they lead to it
--- from the beginning, each change came to what stands for it, and the headline's four claims hold
--- of its nodes' books by the plan in force.
+-- from the beginning, and each change came to what stands for it. Where no other product writes,
+-- the headline's four claims hold of its nodes' books by the plan in force.
 abbrev pub IsRunOf : {L : Type 0} {l : Ghosts L}
     → Network → Certificate → List Deed → List Change → World L l → Type 0
 IsRunOf plan certificate deeds changes w =
-    WasPlayed plan certificate deeds changes w × HoldsBy plan (taken_in deeds changes) w
+    WasPlayed plan certificate deeds changes w
+    × (NoneWrites deeds → HoldsBy plan (taken_in deeds changes) w)
 
 -- ---- laws
 
@@ -184,18 +195,26 @@ ChangesGoOn old new =
     → ChangesTo next.plan next.certificate old change new
     → PlaysOn (deed.Adopt next) (change ∷ []) old new
 
--- Wherever they have led to, the four claims hold by the plan in force.
+-- And so does what another product writes.
+abbrev pub WritesGoOn : {L : Type 0} {l : Ghosts L} → World L l → World L l → Type 0
+WritesGoOn old new =
+    (link : ℕ) (side : Side) (bytes : List ℕ) (note : Note)
+    → WritesAt link (named side) bytes old note new
+    → PlaysOn (deed.Bytes link side bytes) [] old new
+
+-- Wherever they have led to, the four claims hold by the plan in force, if no other product wrote.
 abbrev pub DeedsKeepTheHeadline : {L : Type 0} {l : Ghosts L} → World L l → Type 0
 DeedsKeepTheHeadline w =
     (first : Network) (its : Certificate)
     → IsCertified first its
     → (deeds : List Deed) (changes : List Change)
     → IsPlayed first its deeds changes w
+    → NoneWrites deeds
     → AllStand w
     → HoldsBy first (taken_in deeds changes) w
 
 -- Steps alone are played as before there were changes: by the steps of the world of bytes, with no
--- change to tell, and the plan stays in force.
+-- change to tell, and the plan stays in force. No other product writes in them.
 abbrev pub StepsAloneRun : Type 0
 StepsAloneRun =
     (plan last : Network) (certificate its : Certificate) (b new : ByteWorld)
@@ -204,6 +223,7 @@ StepsAloneRun =
     → (changes ≡ []) × (last ≡ plan)
     × RunsOf plan certificate b (mapped step_of steps) new
     × (taken_in (mapped deed.Step steps) changes ≡ [])
+    × NoneWrites (mapped deed.Step steps)
 
 -- And where no plan was taken, events alone have led to the world of messages.
 abbrev pub EventsAloneLead : Type 0

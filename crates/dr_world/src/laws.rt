@@ -6,7 +6,7 @@ ghost use Rattle.dr_world.specs.Laws.{NewIsBeginning, OtherLinksAreCounted, Refu
 ghost use Rattle.dr_world.specs.Laws.{RequeueIsShown, StrangerIsSkipped, SubmitIsShown};
 ghost use Rattle.dr_world.specs.Laws.{TickIsShown, UnderWayStays};
 ghost use Rattle.dr_world.specs.Played.{ChangesGoOn, DeedsKeepTheHeadline, EventsAloneLead};
-ghost use Rattle.dr_world.specs.Played.{StepsAloneRun, StepsGoOn};
+ghost use Rattle.dr_world.specs.Played.{StepsAloneRun, StepsGoOn, WritesGoOn};
 
 use crate::world::World;
 use dr_ledger::Ledger;
@@ -55,14 +55,16 @@ pub fn ends_pdus()
     ensures { MoveEndsPdu }
 {}
 
-/// From wherever steps and changes of plan have led to, a step goes on, and so does a change of
-/// plan: what `World::step` and `World::adopt` promise can be put together in any order.
+/// From wherever steps, changes of plan and what other products write have led to, each of them
+/// goes on: what `World::step`, `World::adopt` and `World::write` promise can be put together in
+/// any order.
 pub fn steps_and_changes_go_on<L: Ledger>(_old: &World<L>, _new: &World<L>)
     ensures steps { StepsGoOn _old.now _new.now }
     ensures changes { ChangesGoOn _old.now _new.now }
+    ensures writes { WritesGoOn _old.now _new.now }
 {}
 
-/// Wherever they have led to, the four claims hold by the plan in force.
+/// Wherever they have led to, the four claims hold by the plan in force, if no other product wrote.
 pub fn changes_keep_the_headline<L: Ledger>(_world: &World<L>)
     ensures { DeedsKeepTheHeadline _world.now }
 {}

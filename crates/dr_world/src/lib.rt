@@ -6,8 +6,9 @@
 //! its nodes' books after it.
 //!
 //! A world begins by `World::with`, over a new ledger for each node of a sealed plan. Another plan
-//! is taken by all nodes at once (`World::adopt`). `run` plays steps and changes of plan from the
-//! beginning, over ledgers in memory.
+//! is taken by all nodes at once (`World::adopt`). Another maker's product is played by what it
+//! writes (`World::write`): then the headline isn't claimed, and each step is one of the world of
+//! bytes still. `run` plays all of these from the beginning, over ledgers in memory.
 #![tactic(auto)]
 
 mod calls;

@@ -1,4 +1,5 @@
-//! Steps and changes of plan played from the beginning, over ledgers in memory.
+//! Steps, changes of plan and what other products write, played from the beginning, over ledgers in
+//! memory.
 ghost use Rattle.std.specs.Prelude.{◌≡◌, ◌⊎◌, ◌∷◌, ◌++◌, [], Contains, IfErr, IfOk, List, OnOk};
 ghost use Rattle.dr_base.specs.Texts.{Text as Words};
 ghost use Rattle.dr_plan_model.specs.Plans.{NamesNoNode};
@@ -85,6 +86,10 @@ fn do_deed(
         Deed::Adopt(next) => {
             let change = change_to(alloc, world, next)?;
             changes.push(change)?;
+            Ok(())
+        }
+        Deed::Bytes { link, side, bytes } => {
+            let _note = world.write(*link, *side, bytes)?;
             Ok(())
         }
     }

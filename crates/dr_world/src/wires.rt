@@ -4,6 +4,7 @@ ghost use Rattle.dr_world_tie.specs.Channels.{bytes_of};
 ghost use Rattle.dr_world.specs.Closed.{AreLost};
 ghost use Rattle.dr_world.specs.Ends.{AreWritten, name_at, named, wire_at};
 ghost use Rattle.dr_world.specs.Moved.{AreTaken};
+ghost use Rattle.dr_world.specs.Others.{AreRewritten};
 
 use bytes::BytesMut;
 use dr_base::{Octets, Text};
@@ -81,6 +82,16 @@ impl Wires {
         self.to_receiver.clear();
     }
 
+    /// What is on its way from that side is these bytes, in the place of what was.
+    pub fn rewrite(&mut self, side: Side, bytes: &Octets) -> Result<(), AllocError>
+        ensures { OnOk result (AreRewritten (named side) bytes.now self.old self.new) }
+    {
+        match side {
+            Side::Requestor => replace(&mut self.to_receiver, bytes),
+            Side::Acceptor => replace(&mut self.to_caller, bytes),
+        }
+    }
+
     /// What that side does: it goes onto the other one's wire.
     pub fn write(&mut self, side: Side, actions: &[LinkAction]) -> Result<(), AllocError>
         ensures { OnOk result (AreWritten (named side) 0 actions.now self.old self.new) }
@@ -106,6 +117,14 @@ fn take_front(alloc: Global, wire: &mut BytesMut, count: usize) -> Result<Octets
     let piece = Octets::copy_of(alloc, &wire.as_slice()[..count])?;
     wire.advance(count);
     Ok(piece)
+}
+
+/// These bytes are on a wire, in the place of what was.
+fn replace(wire: &mut BytesMut, bytes: &Octets) -> Result<(), AllocError>
+    ensures { OnOk result (wire.new.items ≡ bytes.now) }
+{
+    wire.clear();
+    wire.extend_from_slice(bytes.as_bytes())
 }
 
 /// What is written goes behind what is there.

@@ -27,6 +27,7 @@ ghost use Rattle.dr_world.specs.Whole.{noted};
 
 mod adopting;
 mod reading;
+mod writing;
 
 use crate::calls::{accept_at, input_at, is_over_at, open_at, push_at};
 use crate::fault::WorldFault;

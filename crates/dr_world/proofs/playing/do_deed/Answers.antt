@@ -9,6 +9,11 @@ returns-in_ok-_note-in-Step c =
     let P : Deed → Type 0 = λ d. PlaysOn d [] c.args.world.now c.step.new.self in
     ([], sym (append-nil c.args.changes.now), subst P (sym c.in-Step.is) c.in_ok-_note-in-Step.ensures.plays)
 
+pub returns-in_ok-_note-in-Bytes : goal.returns-in_ok-_note-in-Bytes
+returns-in_ok-_note-in-Bytes c =
+    let P : Deed → Type 0 = λ d. PlaysOn d [] c.args.world.now c.write.new.self in
+    ([], sym (append-nil c.args.changes.now), subst P (sym c.in-Bytes.is) c.in_ok-_note-in-Bytes.ensures.plays)
+
 pub returns-in_ok-push-in-Adopt : goal.returns-in_ok-push-in-Adopt
 returns-in_ok-push-in-Adopt c =
     let change = c.in_ok-change-in-Adopt.change in
