@@ -17,6 +17,8 @@ use Rattle.dr_ledger.specs.declared.content.Job.{Job}
 use Rattle.dr_ledger.specs.declared.item.Arrived.{Arrived}
 use Rattle.dr_ledger.specs.declared.fault.LedgerFault.{LedgerFault}
 use Rattle.dr_ledger.specs.declared.fault.LedgerFault.TheVariants as fault
+use Rattle.dr_pdu.specs.declared.pdu.Pdu.TheVariants as pdu
+use Rattle.dr_site.specs.Parts.{Part}
 use Rattle.dr_nego.specs.declared.agreed.Agreed.{Agreed}
 use Rattle.dr_session.specs.declared.ends.Core.{Core}
 use Rattle.dr_session.specs.declared.ends.Effect.{Effect}
@@ -175,7 +177,10 @@ stores_are_answered step at c context of id class instance found s t x h = answe
 
 pub others_answer_no_store : {S : Type 0} (step : S → DeskCall → DeskAnswer → S → Type 0) → OthersAnswerNoStore step
 others_answer_no_store step at c told s t x other turns =
-    ends_spelled AnswersNoStore step (turn at c told) s t x
-    (occurring AnswersNoStore (λ (y : Told). IsStore y → ⊥) tt (λ p alone. inl (p, alone, refl)) (λ agreed context id item. inr (inl (agreed, context, id, item, refl)))
-    (λ d context command is_other. inr (inr (option_map_or (λ (a : Agreed). a.limit) d.agreed 0, context, command, is_other, refl)))
-    (λ context of id class instance found takes d. absurd (takes tt)) (event_of told at c) at told other c) turns
+    let Of : Option Part → Option Agreed → Type 0 = λ site agreed. Unit {0} in
+    (ends_spelled AnswersNoStore Of step (turn at c told) s t x
+    (occurring AnswersNoStore Of (λ (y : Told). IsStore y → ⊥) tt (λ p alone fits. inl (p, alone, refl))
+    (λ rq site open_now o takes k ac agreed is. (inl (pdu.AssociateAc ac, tt, refl), tt)) (λ site o agreed takes k. tt)
+    (λ site agreed context id item k. inr (inl (agreed, context, id, item, refl)))
+    (λ d context command is_other k. inr (inr (option_map_or (λ (a : Agreed). a.limit) d.agreed 0, context, command, is_other, refl)))
+    (λ context of id class instance found takes d k. absurd (takes tt)) (event_of told at c) at told other c tt) turns).0
