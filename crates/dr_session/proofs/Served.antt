@@ -29,7 +29,8 @@ use Rattle.dr_nego.specs.declared.answering.Answer.TheVariants.{Accept, Reject, 
 use Rattle.dr_nego.specs.declared.fault.NegoFault.{NegoFault}
 use Rattle.dr_nego.specs.declared.fragment.FragmentKind.{FragmentKind}
 use Rattle.dr_nego.specs.Agreeing.{AssociateRq, AssociateAc, Concludes, IsTooSmall, pair_at}
-use Rattle.dr_nego.specs.Answering.{answer, answer_by, refusal, application_context, is_stranger}
+use Rattle.dr_base.specs.Standard.{application_context}
+use Rattle.dr_nego.specs.Answering.{answer, answer_by, refusal, is_stranger}
 use Rattle.dr_nego.specs.Fragments.{fragment_pdus}
 use Rattle.dr_nego.proofs.Cutting.{fragments_fit}
 use Rattle.dr_nego.proofs.Faults.{too_small_not}
@@ -38,7 +39,8 @@ use Rattle.dr_session.specs.declared.ends.Input.{Input}
 use Rattle.dr_session.specs.declared.ends.Input.TheVariants as input
 use Rattle.dr_session.specs.declared.ends.Told.{Told}
 use Rattle.dr_session.specs.declared.ends.Told.TheVariants.{Plain, Quiet, Fault, Strange, Store, Whole, Agreement}
-use Rattle.dr_session.specs.Fits.{InputFits, PduFits, LimitServes, ToldServes}
+use Rattle.dr_session.specs.Fits.{InputFits, PduFits}
+use Rattle.dr_session.specs.Terms.{LimitServes, ToldServes}
 use Rattle.dr_session.specs.Plays.{HearsLast, HearsBy, Hears, inputs_of, input_of}
 use Rattle.dr_session.specs.Telling.{Says, SaysOf, TellsIn, TellsValue, TellsAcceptance, Tells, Looks, state_at}
 use Rattle.dr_session.proofs.Pieces.{run_fits, fault_fits}

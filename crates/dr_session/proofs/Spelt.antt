@@ -36,7 +36,8 @@ use Rattle.dr_session.specs.Reactions.{Reaction, turn, stores, stored, arrives, 
 use Rattle.dr_ledger.specs.Replies.{store_status}
 use Rattle.dr_session.specs.Messages.{command_pdus, data_pdus}
 use Rattle.dr_session.specs.Turns.{Ends, Asks}
-use Rattle.dr_session.specs.Fits.{InputFits, Serves, CoreServes, ToldServes}
+use Rattle.dr_session.specs.Fits.{InputFits}
+use Rattle.dr_session.specs.Terms.{Serves, CoreServes, ToldServes}
 use Rattle.dr_session.specs.Laws.{IsSpelled, WritesPdus, GivesPdus, AsksPdus, BeginsServing}
 use Rattle.dr_session.specs.declared.ends.Heard.{Heard}
 use Rattle.dr_session.specs.declared.ends.Heard.TheVariants as heard

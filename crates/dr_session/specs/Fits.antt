@@ -1,10 +1,4 @@
 -- What an end may rely on as it reacts: what it was told can be answered.
-use Rattle.std.specs.Prelude.{Option, Some, None, Ok}
-use Rattle.dr_site.specs.Parts.{Part}
-use Rattle.dr_site.specs.Sites.{IsSite}
-use Rattle.dr_nego.specs.Agreeing.{IsTooSmall}
-use Rattle.dr_nego.specs.declared.agreed.Agreed.{Agreed}
-use Rattle.dr_session.specs.declared.ends.Core.{Core}
 use Rattle.dr_pdu.specs.Written as pdus
 use Rattle.dr_pdu.specs.declared.pdu.Pdu.{Pdu}
 use Rattle.dr_pdu.specs.declared.pdu.Pdu.TheVariants as pdu
@@ -80,28 +74,3 @@ abbrev pub told_as : Told → Incoming
 told_as Strange = Unrecognized
 told_as (Agreement answer) = AssociateAc
 told_as told = DataTf
-
--- ---- what an end may rely on, so that what it writes is read again
-
--- no fragment is too long for the other side
-abbrev pub LimitServes : Option Agreed → Type 0
-LimitServes None = Unit {0}
-LimitServes (Some agreed) = IsTooSmall agreed.limit → ⊥
-
-abbrev pub SiteServes : Option Part → Type 0
-SiteServes None = Unit {0}
-SiteServes (Some site) = IsSite site
-
--- its site is that of a node of a sealed plan, and the other side's limit is none of 1 to 7
-abbrev pub Serves : Option Part → Option Agreed → Type 0
-Serves site agreed = SiteServes site × LimitServes agreed
-
-abbrev pub CoreServes : Option Core → Type 0
-CoreServes None = Unit {0}
-CoreServes (Some c) = Serves c.site c.agreed
-
--- a request for an association can be written again, and what is agreed on has such a limit
-abbrev pub ToldServes : Told → Type 0
-ToldServes (Plain i) = InputFits i
-ToldServes (Agreement (Ok agreed)) = IsTooSmall agreed.limit → ⊥
-ToldServes told = Unit {0}

@@ -40,7 +40,8 @@ use Rattle.dr_pdu.specs.Written.{Fits}
 use Rattle.dr_site.specs.Parts.{Part}
 use Rattle.dr_site.specs.Sites.{IsSite}
 use Rattle.dr_nego.specs.Agreeing.{AssociateRq}
-use Rattle.dr_session.specs.Fits.{InputFits, Serves, CoreServes, ToldServes}
+use Rattle.dr_session.specs.Fits.{InputFits}
+use Rattle.dr_session.specs.Terms.{Serves, CoreServes, ToldServes}
 use Rattle.dr_session.specs.Ends.{Terminal, IsEndOver, Meets, HearsOf, accepting, requesting}
 use Rattle.dr_session.specs.Messages.{command_pdus}
 use Rattle.dr_session.specs.Reactions.{Reaction, turn, quiet, effect, says, stores, leaves}
