@@ -133,7 +133,7 @@ of_value None c p told stage h = serves told Strange h.0 tt
 of_value (Some agreed) c p told stage h = in_context (pair_at agreed p.id) c p told stage h
 
 concluded : (rq : AssociateRq) (ac : AssociateAc) (a : Result Agreed NegoFault) → Concludes rq ac a → ToldServes (Agreement a)
-concluded rq ac (Ok agreed) h = subst (λ (x : Agreed). IsTooSmall x.limit → ⊥) (sym h.1.1.1) h.1.1.0
+concluded rq ac (Ok agreed) h = subst (λ (x : Agreed). IsTooSmall x.limit → ⊥) (sym h.3) h.2
 concluded rq ac (Err why) h = tt
 
 of_acceptance : (o : Option AssociateRq) (ac : AssociateAc) (told : Told) → TellsAcceptance o ac told → ToldServes told

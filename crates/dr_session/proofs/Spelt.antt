@@ -146,7 +146,7 @@ module _ {S : Type 0} (step : S → DeskCall → DeskAnswer → S → Type 0) (a
   serves_in c is = subst (λ (o : Option Core). CoreServes o) is serves
 
   meets_by : (over : Bool) (i : Input) (c : Core) → old.core ≡ Some c → InputFits i → MeetsBy step over at i c old s (Ok done) new t → Gave
-  meets_by true i c is fits h = nothing_spelled (Ok done) refl h.0 h.1.0
+  meets_by true i c is fits h = nothing_spelled (Ok done) refl h.0 h.1
   meets_by false i c is fits (x, one, are, stands) =
       let both = reacted step c (at_moment at i) s t x (serves_in c is) fits one in (
         subst (λ (l : List LinkAction). AllByRecursion IsSpelled l) (sym are) both.0,
@@ -154,19 +154,19 @@ module _ {S : Type 0} (step : S → DeskCall → DeskAnswer → S → Type 0) (a
       )
 
   meets_in : (o : Option Core) (i : Input) → old.core ≡ o → InputFits i → MeetsIn step o at i old s (Ok done) new t → Gave
-  meets_in None i is fits h = nothing_spelled (Ok done) refl h.0 h.1.0
+  meets_in None i is fits h = nothing_spelled (Ok done) refl h.0 h.1
   meets_in (Some c) i is fits h = meets_by (is_gone (state_of c.phase)) i c is fits h
 
   hears_by : (over : Bool) (piece : List ℕ) (c : Core) → old.core ≡ Some c → HearsPiece step over at piece c old s (Ok done) new t → Gave
-  hears_by true piece c is h = nothing_spelled (Ok done) refl h.0 h.1.0
+  hears_by true piece c is h = nothing_spelled (Ok done) refl h.0 h.1
   hears_by false piece c is (x, plays, are, stands) =
-      let both = plays_spelled step c x.core (map (at_moment at) plays.0) s t x.acts (serves_in c is) (at_once at plays.0 (heard_serves old.ear piece plays.0 new.ear plays.1.0)) plays.1.1 in (
+      let both = plays_spelled step c x.core (map (at_moment at) plays.0) s t x.acts (serves_in c is) (at_once at plays.0 (heard_serves old.ear piece plays.0 new.ear plays.1)) plays.2 in (
         subst (λ (l : List LinkAction). AllByRecursion IsSpelled l) (sym are) both.0,
         subst (λ (o : Option Core). CoreServes o) (sym stands) both.1,
       )
 
   hears_in : (o : Option Core) (piece : List ℕ) → old.core ≡ o → HearsBytes step o at piece old s (Ok done) new t → Gave
-  hears_in None piece is h = nothing_spelled (Ok done) refl h.0 h.1.0
+  hears_in None piece is h = nothing_spelled (Ok done) refl h.0 h.1
   hears_in (Some c) piece is h = hears_by (is_gone (state_of c.phase)) piece c is h
 
   loses_by : (over : Bool) → LosesBy over old (Ok done) new → Gave
