@@ -56,7 +56,7 @@ names_node plan names name are among =
 
 -- ---- books after the adoption
 
-book_by : {A B : Type 0} → A ⊎ B → Book → Book
+abbrev book_by : {A B : Type 0} → A ⊎ B → Book → Book
 book_by (inl node) b = after Adoption b
 book_by (inr none) b = empty_book
 
@@ -121,7 +121,7 @@ module _ {L : Type 0} (opens : Text → L → Type 0) (site_of : L → Part) (bo
   abbrev Began : World → Standing L → L → Type 0
   Began w s first = HasFirstBook opens site_of book stands folder old next w s first
 
-  first_of : (s : Standing L) → Done s → L
+  abbrev first_of : (s : Standing L) → Done s → L
   first_of (Ready last own) h = h.0
   first_of (Over ledger) h = ledger
 
@@ -129,7 +129,7 @@ module _ {L : Type 0} (opens : Text → L → Type 0) (site_of : L → Part) (bo
   is_first (Ready last own) h = h.1
   is_first (Over ledger) h = refl
 
-  firsts_of : (all : List (Standing L)) → All Done all → List L
+  abbrev firsts_of : (all : List (Standing L)) → All Done all → List L
   firsts_of [] done = []
   firsts_of (s ∷ more) done = first_of s (All-head Done s more done) ∷ firsts_of more (All-tail Done s more done)
 
