@@ -1,8 +1,9 @@
 #!/usr/bin/env python3
 """Answers the calls in the `stdin` of tests/played/ledger (ledgers in memory) and of tests/played/tables (ledgers in
-tables) by a ledger of its own, written again from crates/dr_ledger/specs (Books, Replies, Adopting, Bodies), and
-compares what it answers with the `stdout` there, with which tests/played.py compares what the ledgers answer. So the
-answers that are wanted come from outside the programs.
+tables) by a ledger of its own, written again from crates/dr_ledger/specs (Books, Replies, Adopting, Bodies) and
+crates/dr_ledger_views/specs (Views). It compares what it answers with the `stdout` there, with which tests/played.py
+compares what the ledgers answer. So the answers that are wanted come from outside the programs. `Memory` is none of
+them: with ample memory no call may answer it.
 
 The lines for ledgers in tables begin with those for ledgers in memory, but for `refuse` and `refusals`, and this is
 looked at too. Behind them the files are closed, changed, opened again and stopped, and desks are shared. How often a
@@ -13,6 +14,7 @@ answered as it may be, and that the numbers go together.
     tests/ledger_rows.py --print      prints the answers of ledgers in memory
     tests/ledger_rows.py --lines      prints the lines with which those for ledgers in tables begin
 """
+import hashlib
 import os
 import re
 import sys
@@ -101,6 +103,11 @@ def told(row):
     return f'Some(Held({"NoContext" if parts[0] == "no-context" else f"Status({parts[0]})"}))'
 
 
+def shown_rows(rows):
+    """Rows of a list, each on a line of its own."""
+    return ''.join(f'\n{uid} {dest} {told(row)[5:-1]}' for (uid, dest), row in rows)
+
+
 def is_queued(row):
     return row[0] in ('waiting', 'held')
 
@@ -108,14 +115,16 @@ def is_queued(row):
 class Ledger:
     def __init__(self, site):
         self.site, self.items, self.bodies, self.arrivals, self.kept, self.rows, self.journal = site, {}, set(), set(), set(), {}, []
+        self.digests = []
         self.armed, self.made, self.changed, self.unmade = False, 0, False, 0
 
-    def add(self, line):
-        """The line, where the store takes it."""
+    def add(self, line, item=None):
+        """The line, where the store takes it, and beside it the SHA-256 of its data set."""
         if self.armed:
             self.armed, self.made = False, self.made + 1
             raise Refused('Store')
         self.journal.append(line)
+        self.digests.append(f' {hashlib.sha256(item[2]).hexdigest().upper()}' if item else '')
 
     def let_go(self):
         needed = self.kept | {uid for (uid, dest), row in self.rows.items() if is_queued(row)}
@@ -132,11 +141,11 @@ class Ledger:
         self.admits(caller, item)
         uid, key, _ = item
         if (caller, uid) in self.arrivals:
-            self.add(f'repeat {caller} {shown(item)}')
+            self.add(f'repeat {caller} {shown(item)}', item)
             return 'Again'
         stop = self.site.stop(caller, key)
         to, keep = self.site.model.sends(stop), self.site.model.keeps(stop)
-        self.add(f'arrival {caller} {shown(item)}' + ''.join(f' to {it}' for it in to) + ' keep' * keep)
+        self.add(f'arrival {caller} {shown(item)}' + ''.join(f' to {it}' for it in to) + ' keep' * keep, item)
         self.items[uid] = item
         self.arrivals.add((caller, uid))
         if keep:
@@ -148,9 +157,16 @@ class Ledger:
         self.let_go()
         return 'New'
 
-    def next(self, dest, now):
+    def first_at(self, dest, now):
         due = [(row[2], uid) for (uid, to), row in self.rows.items() if to == dest and row[0] == 'waiting' and row[2] <= int(now)]
-        return shown(self.items[min(due)[1]]) if due else 'nothing'
+        return min(due)[1] if due else None
+
+    def next(self, dest, now):
+        uid = self.first_at(dest, now)
+        return shown(self.items[uid]) if uid else 'nothing'
+
+    def due(self, dest, now):
+        return self.first_at(dest, now) or 'nothing'
 
     def settle(self, uid, dest, outcome, now):
         row = self.rows.get((uid, dest))
@@ -215,8 +231,40 @@ class Ledger:
                 *(f'row\t{u}\t{d}\t{state(r)}' for (u, d), r in sorted(self.rows.items())), f'lines\t{len(self.journal)}']
         return '\n' + '\n'.join(rows)
 
+    def count_arrivals(self):
+        return str(len(self.arrivals))
+
+    def count_kept(self):
+        return str(len(self.kept))
+
+    def count_rows(self, dest, stage):
+        return str(sum(to == dest and row[0] == stage for (_, to), row in self.rows.items()))
+
+    def first_due(self, dest):
+        due = [row[2] for (_, to), row in self.rows.items() if to == dest and row[0] == 'waiting']
+        return f'Some({min(due)})' if due else 'None'
+
+    def tally(self, dest):
+        stages = 'waiting', 'held', 'done', 'dropped'
+        return ', '.join([*(f'{it} {self.count_rows(dest, it)}' for it in stages), f'due {self.first_due(dest)}'])
+
+    def rows_of(self, uid):
+        return shown_rows(it for it in sorted(self.rows.items()) if it[0][0] == uid)
+
+    def page(self, dest, stage, after, limit):
+        behind = '' if after == '-' else after
+        rows = [(at, row) for at, row in sorted(self.rows.items()) if at[1] == dest and at[0] > behind and stage in ('any', row[0])]
+        return shown_rows(rows[:int(limit)])
+
+    def callers_of(self, uid):
+        return ' '.join(caller for caller, it in sorted(self.arrivals) if it == uid)
+
     def lines(self):
         return ''.join(f'\n{it}' for it in self.journal)
+
+    def whole_lines(self):
+        """The lines, each with the SHA-256 of its data set."""
+        return ''.join(f'\n{line}{digest}' for line, digest in zip(self.journal, self.digests))
 
     def first_unfit(self, following):
         wrong = [at for at, row in self.rows.items() if is_queued(row) and not following.goes_on(self.site.node, self.items[at[0]][1], at[1])]
@@ -295,6 +343,8 @@ class Playing:
             return ledger.adopt(self.site(words[0], words[1]), self.site(words[2], words[1]))
         if what == 'is_of':
             return str(ledger.site.is_same(self.site(*words))).lower()
+        if what == 'journal':
+            return ledger.whole_lines()
         if what == 'refusals':
             return f'{str(ledger.armed).lower()} {ledger.made}'
         return str(ledger.made) if what == 'failures' else getattr(ledger, what)(*words)

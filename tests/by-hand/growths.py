@@ -79,16 +79,20 @@ fn main(rt: HostRuntime) -> Result<(), anyhow::Error> {
 SHARING = """//! Says whether the journal has as many lines as the passes count.
 #![tactic(auto)]
 
+use played_kinds::InMemory;
 use played_workers::{Open, serve_archive};
 use std::test::Fail;
 
 fn main(rt: HostRuntime) -> Result<(), Fail> {
-    let outcomes = serve_archive(&rt, rt.alloc(), 2, 2, &Open)?;
+    let outcomes = serve_archive(&rt, rt.alloc(), &InMemory, 2, 2, &Open)?;
     let are_as_many = outcomes.lines == outcomes.sum;
     println!(rt; "as many lines as the passes count: {are_as_many}")?;
     Ok(())
 }
 """
+
+# What stands before the answer of a call that was made again, since a growth was refused (tests/played/rows).
+MADE_AGAIN = "Memory, then "
 
 # of each sweep: what of tests/played it stands on, and its `main`
 MAINS = {"ledger": ("ledger", PLAYING % "ledger"), "desk": ("workers", SHARING), "world": ("world", PLAYING % "world")}
@@ -119,7 +123,7 @@ def put_program(room, what):
         for crate in needed:
             own, of_kit = listed()[crate]
             print(f"{crate}:", *own, *of_kit, file=it)
-        print(f"{what}_growths: played_{name} anyhow", file=it)
+        print(f"{what}_growths:", *(f"played_{at}" for at in used if f"played_{at}::" in main), "anyhow", file=it)
     for it, libraries in used.items():
         put_crate(room, it, libraries)
     shutil.copy(f"{TOP}/HANDLES", room)
@@ -190,6 +194,9 @@ class Sweep:
         met = os.path.exists(note)
         if met:
             os.remove(note)
+        elif MADE_AGAIN in ran.stdout:
+            return met, ran.stdout, "a call was made again, though no growth was refused"
+        ran.stdout = ran.stdout.replace(MADE_AGAIN, "")
         return met, ran.stdout, self.wrong(number, met, ran)
 
     def wrong(self, number, met, ran):
