@@ -14,6 +14,7 @@ mod hearing;
 pub mod laws;
 mod link;
 mod listening;
+mod negotiated;
 mod port;
 mod react;
 pub mod sessions;
