@@ -29,6 +29,6 @@ pub use ends::{
     Core, Effect, Ended, Found, Heard, Input, LinkAction, Marks, Moment, Over, Pending, Requested,
     Told,
 };
-pub use link::{Clock, Link};
+pub use link::{Clock, LAST_MOMENT, Link};
 pub use port::DeskPort;
 pub use sessions::{SessionFault, deliver, echo, is_fault, receive};
