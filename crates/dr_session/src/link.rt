@@ -5,9 +5,6 @@ ghost use Rattle.dr_session.specs.Links.{Counts, IsLinkFault};
 
 use crate::ends::Heard;
 
-/// The last moment that a clock tells, in milliseconds.
-pub const LAST_MOMENT: u64 = 1 << 62;
-
 /// One end of a transport connection. Its relations say what a call did; a socket's claim nothing.
 /// It counts its failures, and the count never falls.
 pub trait Link {
