@@ -5,8 +5,8 @@ Each crate is in the section of its room, behind those of the room that it stand
 each folder of crates/ has its line, and each library of a line is named by the crate; the picture in docs/ is that of
 crates.txt; docs/ARCHITECTURE.md has the table of `tools/rename --table`, whose old names are no crates, and whose new
 ones are there; and its lists of crates and docs/PROVED.md have them in the order of crates.txt. No two crates define a
-record or a data type of one name in their specs, or anything of one name alike. A relation of two crates may have one
-name, where each is the crate's own instance of one idea: `Reads`, `Opens`, `IsAt`.
+record, a type or a law of one name in their specs, and no definition stands there twice, by whatever name. A relation
+of two crates may have one name, where each is the crate's own instance of one idea: `Reads`, `Opens`, `IsAt`.
 """
 import glob
 import os
@@ -31,34 +31,86 @@ OTHER_NAMES = {
 # A definition of a specs file that others can use: its words, and its name.
 DEFINED = re.compile(r"((?:abbrev|unfoldable|opaque|pub|record|data) (?:(?:abbrev|unfoldable|opaque|pub|record|data) )*)"
                      r"([^\s:({]+)")
+# A word of a definition: a text, a name with the name that it is of, or a sign.
+WORD = re.compile(r"\"[^\"]*\"|[\w'«»◌][\w'«»◌.-]*|\S")
+# An import: what is imported, the names of it in braces, and the name that all of it has here.
+IMPORT = re.compile(r"^use (Rattle\.[^\s{]+?)(?:\.\{([^}]*)\})?(?: as (\w+))?$", re.MULTILINE)
+# Names of equations' patterns that are no variables.
+CONSTRUCTORS = {"suc", "zero", "inl", "inr", "tt", "true", "false"}
+# Definitions that have one text and say different things, with what each says.
+BY_ACCIDENT = (
+    {"most", "piece"},  # how much a plan may stand for; the bytes of a piece of a data set
+    {"OfSet", "Pair"},  # a set's name with a class of it; two parts of a row's or an arrival's key
+    {"Print", "Goal"},  # a data set's length and SHA-256; a line's number and a name
+)
 
 
 def definitions(crate):
-    """The name of each definition of a crate's specs, whether it makes a type, and its text without comments."""
+    """Each definition of a crate's specs: its words, its name, its text without comments, and what names mean there."""
     for path in sorted(glob.glob(f"{TOP}/crates/{crate}/specs/*.antt")):
         with open(path, encoding="utf-8") as file:
             lines = [line for line in file.read().split("\n") if not line.startswith("--")]
+        meanings = meanings_in(f"Rattle.{crate}.specs.{os.path.basename(path)[:-5]}", "\n".join(lines))
         for number, line in enumerate(lines):
             found = DEFINED.match(line)
             if found and "pub " in found[1] and found[2] not in ("mod", "use"):
                 end = next((at for at in range(number, len(lines)) if not lines[at].strip()), len(lines))
-                words = found[1].split()
-                yield found[2], "record" in words or "data" in words, " ".join(" ".join(lines[number:end]).split())
+                text = " ".join(" ".join(lines[number:end]).split())
+                yield found[1].split(), found[2], text[len(found[1]):], meanings
+
+
+def meanings_in(module, text):
+    """What each name stands for in the module with that text: a path."""
+    meanings = {name: f"{module}.{name}" for _, name in DEFINED.findall(text)}
+    for path, names, alias in IMPORT.findall(text):
+        if alias:
+            meanings[alias] = path
+        for name in names.split(","):
+            name, _, here = name.strip().partition(" as ")
+            meanings[here or name] = f"{path}.{name}"
+    return meanings
+
+
+def variables(words, name, text):
+    """The names that a definition gives to what it speaks of: they may be any."""
+    found = re.findall(r"[({]\s*((?:[^\s(){}:.,]+ )+):", text) + re.findall(r"λ ([^.]*)\.", text)
+    if "record" not in words and "data" not in words:
+        found += re.findall(rf"(?:^| ){re.escape(name)} ([^=]*?) = ", text)
+    names = {it for part in found for it in re.findall(r"[^\s(){}.,:∷\[\]]+", part)}
+    return {it for it in names if it not in CONSTRUCTORS and not it[0].isupper() and not it[0].isdigit()}
+
+
+def meaning(words, name, text, meanings):
+    """A definition's text without its own name and its variables' names, and with the paths of all others."""
+    text = text.replace("(List ℕ)", "Text").replace("List ℕ", "Text")
+    free, given, said = variables(words, name, text), {}, []
+    for word in WORD.findall(text):
+        first, _, rest = word.partition(".")
+        if word == name:
+            said.append("itself")
+        elif first in free:
+            said.append(f"{given.setdefault(first, len(given))}.{rest}")
+        elif word == "Text":
+            said.append(word)
+        else:
+            said.append(f"{meanings.get(first, first)}.{rest}")
+    return words, " ".join(said)
 
 
 def shared_names():
-    """The names that two crates define in their specs as types, or alike, a line each."""
-    places = {}
+    """The names that two crates define in their specs as types or laws, and the definitions that stand twice, a line each."""
+    types, texts = {}, {}
     for crate in listed():
-        for name, is_type, text in definitions(crate):
-            for which in (("type", name), ("text", text)) if is_type else (("text", text),):
-                places.setdefault((which, name), {})[crate] = True
-    told = {}
-    for (_, name), crates in places.items():
+        for words, name, text, meanings in definitions(crate):
+            if "record" in words or "data" in words or re.match(rf"{re.escape(name)} : Type 0 (?!→)", text):
+                types.setdefault(name, {})[crate] = True
+            texts.setdefault(str(meaning(words, name, text, meanings)), []).append((crate, name))
+    for name, crates in types.items():
         if len(crates) > 1:
-            told.setdefault(name, {}).update(crates)
-    for name, crates in told.items():
-        yield f"{name} is defined in the specs of {', '.join(crates)}"
+            yield f"{name} is defined in the specs of {', '.join(crates)}"
+    for places in texts.values():
+        if len(places) > 1 and {name for _, name in places} not in BY_ACCIDENT:
+            yield f"one definition stands twice: {', '.join(f'{name} of {crate}' for crate, name in places)}"
 
 
 def old_names():

@@ -22,6 +22,6 @@ pub record AreWalked (plan : Network) (lines : List Line) (w : Walked) : Type 0 
   pub wrong : w.survey.ranked ≡ false → HasRightRanks plan lines → ⊥
 
 -- all lines are walked, as a finding says; or some stop to which a walk comes has no line
-abbrev pub Finds : Network → List Line → Option Walked → Type 0
-Finds plan lines (Some w) = AreWalked plan lines w
-Finds plan lines None = HasEachLine plan lines → ⊥
+abbrev pub FindsLines : Network → List Line → Option Walked → Type 0
+FindsLines plan lines (Some w) = AreWalked plan lines w
+FindsLines plan lines None = HasEachLine plan lines → ⊥

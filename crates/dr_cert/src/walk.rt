@@ -1,7 +1,7 @@
 //! What the walk over all lines of a certificate has found.
 ghost use Rattle.std.specs.Prelude.{IfOk};
 ghost use Rattle.dr_cert.specs.Indexing.{AreSorted};
-ghost use Rattle.dr_cert.specs.Finding.{Finds};
+ghost use Rattle.dr_cert.specs.Finding.{FindsLines};
 
 use crate::survey::Survey;
 use crate::walker::Walker;
@@ -23,7 +23,7 @@ pub struct Walked {
 /// no line.
 pub fn walk_lines(alloc: Global, plan: &Plan, lines: &[Line]) -> Result<Option<Walked>, AllocError>
     requires { AreSorted lines.now }
-    ensures { IfOk result (Finds plan.now lines.now) }
+    ensures { IfOk result (FindsLines plan.now lines.now) }
 {
     let local = Text::copy_of(alloc, b"-")?;
     let mut walker = Walker::new(alloc, plan, lines, &local)?;

@@ -18,7 +18,7 @@ use Rattle.dr_cert_expect.specs.declared.answer.Lack.TheVariants.{Keep, Never}
 use Rattle.dr_cert_expect.specs.declared.row.Finding.{Finding}
 use Rattle.dr_cert_expect.specs.declared.row.Finding.TheVariants.{Lacks}
 use Rattle.dr_cert_expect.specs.Expected.{IsCase, IsMet, SpeaksOf}
-use Rattle.dr_cert_expect.specs.Looking.{EntersBy, Finds, LooksAt}
+use Rattle.dr_cert_expect.specs.Looking.{EntersBy, FindsAt, LooksAt}
 use Rattle.dr_cert_expect.specs.Samples.{IsSample}
 use Rattle.dr_cert_expect.proofs.Alike.{met_alike}
 use Rattle.dr_cert_expect.proofs.Sampling.{sample_is}
@@ -26,18 +26,18 @@ use Rattle.dr_cert_expect.proofs.Sampling.{sample_is}
 -- ---- of one key
 module _ (plan : Network) (row : Expectation) (site : Text) (key : Key) (reach : Reach) (is : IsReach plan site key reach) (speaks : SpeaksOf row site key) where
   pub lacks_keep : (name : Text) → Contains row.keep name → (Contains reach.keeps name → ⊥) → (finding : Finding) (case : Case) →
-      finding ≡ Lacks (Keep name case) → case.site ≡ site → case.key ≡ key → Finds plan row site key finding
+      finding ≡ Lacks (Keep name case) → case.site ≡ site → case.key ≡ key → FindsAt plan row site key finding
   lacks_keep name among out finding case found at of =
       let C : Text → Key → Type 0 = λ s k. IsCase plan row s k × Contains row.keep name × (IsDestination plan local s k name → ⊥) in
       let here : C site key = ((speaks, is.enters), among, λ d. out ((is.keeps name).1 d)) in
-      subst (λ (f : Finding). Finds plan row site key f) (sym found) (subst (λ (s : Text). C s case.key) (sym at) (subst (C site) (sym of) here))
+      subst (λ (f : Finding). FindsAt plan row site key f) (sym found) (subst (λ (s : Text). C s case.key) (sym at) (subst (C site) (sym of) here))
 
   pub lacks_never : (name : Text) → Contains row.never name → Contains reach.nodes name → (finding : Finding) (case : Case) →
-      finding ≡ Lacks (Never name case) → case.site ≡ site → case.key ≡ key → Finds plan row site key finding
+      finding ≡ Lacks (Never name case) → case.site ≡ site → case.key ≡ key → FindsAt plan row site key finding
   lacks_never name among comes finding case found at of =
       let C : Text → Key → Type 0 = λ s k. IsCase plan row s k × Contains row.never name × ComesToNode plan s k name in
       let here : C site key = ((speaks, is.enters), among, (is.nodes name).0 comes) in
-      subst (λ (f : Finding). Finds plan row site key f) (sym found) (subst (λ (s : Text). C s case.key) (sym at) (subst (C site) (sym of) here))
+      subst (λ (f : Finding). FindsAt plan row site key f) (sym found) (subst (λ (s : Text). C s case.key) (sym at) (subst (C site) (sym of) here))
 
   pub is_met : All (λ name. Contains reach.keeps name) row.keep → All (λ name. Contains reach.nodes name → ⊥) row.never → IsMet plan row site key
   is_met kept never = record {

@@ -15,10 +15,10 @@ use Rattle.dr_cert_expect.specs.Expected.{HasCase, Holds, IsCase, IsMet, ShowsLa
 
 -- what comes of a key of which the row speaks: it doesn't enter there, it meets the row, or what is
 -- lacking shows that the row doesn't hold
-abbrev pub Finds : Network → Expectation → Text → Key → Finding → Type 0
-Finds plan row site key Other = IsEntry plan site key → ⊥
-Finds plan row site key Met = IsEntry plan site key × IsMet plan row site key
-Finds plan row site key (Lacks lack) = ShowsLack plan row lack
+abbrev pub FindsAt : Network → Expectation → Text → Key → Finding → Type 0
+FindsAt plan row site key Other = IsEntry plan site key → ⊥
+FindsAt plan row site key Met = IsEntry plan site key × IsMet plan row site key
+FindsAt plan row site key (Lacks lack) = ShowsLack plan row lack
 
 -- a case of the row enters by the line: its key is of the line's cell, and enters at its node
 pub record EntersBy (plan : Network) (row : Expectation) (line : Line) (key : Key) : Type 0 where

@@ -4,7 +4,7 @@ ghost use Rattle.dr_cert_expect.specs.declared.answer.Case.{Case as CaseValue};
 ghost use Rattle.dr_cert_expect.specs.declared.answer.Lack.TheVariants as lacks;
 ghost use Rattle.dr_cert_expect.specs.declared.row.Finding.TheVariants.{Lacks};
 ghost use Rattle.dr_cert_expect.specs.Expected.{SpeaksOf};
-ghost use Rattle.dr_cert_expect.specs.Looking.{Finds, LooksAt, LooksOver};
+ghost use Rattle.dr_cert_expect.specs.Looking.{FindsAt, LooksAt, LooksOver};
 
 use crate::answer::{Case, Lack};
 use crate::names::{first_inside, first_outside};
@@ -69,7 +69,7 @@ fn judge(
     key: &Key,
 ) -> Result<Finding, AllocError>
     requires { SpeaksOf row.now site.now key.now }
-    ensures { IfOk result (Finds sealed.now.plan row.now site.now key.now) }
+    ensures { IfOk result (FindsAt sealed.now.plan row.now site.now key.now) }
 {
     let Some(reach) = reach_of(alloc, sealed, site, key)? else {
         return Ok(Finding::Other);

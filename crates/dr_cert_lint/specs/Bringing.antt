@@ -9,8 +9,8 @@ abbrev pub EntersAt : List Flow → Text → Type 0
 EntersAt flows name = (flow : Flow) × Contains flows flow × (flow.at ≡ name)
 
 -- some flow brings the class
-abbrev pub Brings : List Flow → Text → Type 0
-Brings flows class = (flow : Flow) × Contains flows flow × Contains flow.classes class
+abbrev pub BringsClass : List Flow → Text → Type 0
+BringsClass flows class = (flow : Flow) × Contains flows flow × Contains flow.classes class
 
 -- some flow brings the class in that transfer syntax
 abbrev pub BringsIn : List Flow → Text → Syntax → Type 0

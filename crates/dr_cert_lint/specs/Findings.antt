@@ -13,8 +13,8 @@ use Rattle.dr_plan_model.specs.Networks.{Network}
 use Rattle.dr_plan_model.specs.Walks.{IsReached}
 use Rattle.dr_plan_model.specs.declared.plan.Flow.{Flow}
 use Rattle.dr_plan_model.specs.declared.plan.Node.{Node}
-use Rattle.dr_cert_lint.specs.Bringing.{Brings, BringsIn, IsAgain}
-use Rattle.dr_cert_lint.specs.Texts.{RowIf, Rows}
+use Rattle.dr_cert_lint.specs.Bringing.{BringsClass, BringsIn, IsAgain}
+use Rattle.dr_cert_lint.specs.Texts.{RowIf, AreRows}
 
 -- no key comes to the node
 abbrev pub IsUnreached : Network → Node → Type 0
@@ -38,7 +38,8 @@ IsIdle plan node rule =
 -- in that syntax
 abbrev pub IsUnbrought : List Flow → AcceptRow → Syntax → Type 0
 IsUnbrought flows row syntax =
-    (Contains row.syntaxes syntax × Brings flows row.class) × (BringsIn flows row.class syntax → ⊥)
+    (Contains row.syntaxes syntax × BringsClass flows row.class)
+    × (BringsIn flows row.class syntax → ⊥)
 
 -- ---- the lines: fields joined by one tab
 
@@ -101,8 +102,8 @@ abbrev pub IsNodeText : Network → Node → Text → Type 0
 IsNodeText plan node text =
     (whole accepts rules : Text)
     × IsWholeText plan node whole
-    × Rows (IsAcceptText plan node) 1 node.accepts accepts
-    × Rows (IsRuleText plan node) 1 node.rules rules
+    × AreRows (IsAcceptText plan node) 1 node.accepts accepts
+    × AreRows (IsRuleText plan node) 1 node.rules rules
     × (text ≡ whole ++ accepts ++ rules)
 
 -- of a flow: whether it stands among those before it
@@ -114,6 +115,6 @@ IsFlowText before number flow text = RowIf (IsAgain before flow) (flow_row numbe
 abbrev pub IsLintText : Network → Text → Type 0
 IsLintText plan text =
     (nodes flows : Text)
-    × Rows (λ number. IsNodeText plan) 1 plan.nodes nodes
-    × Rows (λ number. IsFlowText (take (number - 1) plan.flows) number) 1 plan.flows flows
+    × AreRows (λ number. IsNodeText plan) 1 plan.nodes nodes
+    × AreRows (λ number. IsFlowText (take (number - 1) plan.flows) number) 1 plan.flows flows
     × (text ≡ nodes ++ flows)

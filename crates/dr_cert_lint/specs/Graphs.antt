@@ -12,7 +12,7 @@ use Rattle.dr_plan_sound.specs.declared.certificate.Certificate.{Certificate}
 use Rattle.dr_cert_lint.specs.Bringing.{EntersAt}
 use Rattle.dr_cert_lint.specs.Edges.{AreEdges}
 use Rattle.dr_base_quoted.specs.Escaping.{escaped, in_quotes}
-use Rattle.dr_cert_lint.specs.Texts.{Rows}
+use Rattle.dr_cert_lint.specs.Texts.{AreRows}
 use Rattle.dr_cert_lint.specs.declared.edges.Edge.{Edge}
 
 -- the node keeps something that comes there
@@ -66,7 +66,7 @@ foot = codes "}" ++ (10 ∷ [])
 -- certificate, in its order, one row with the number of its contexts.
 pub record IsGraphText (plan : Network) (certificate : Certificate) (text : Text) : Type 0 where
   pub vertices : Text
-  pub each_node : Rows (λ number. IsVertexRow plan) 1 plan.nodes vertices
+  pub each_node : AreRows (λ number. IsVertexRow plan) 1 plan.nodes vertices
   pub edges : List Edge
   pub are_edges : AreEdges certificate.hops edges
   pub printed : text ≡ head ++ vertices ++ flat_map edge_row edges ++ foot

@@ -4,11 +4,11 @@ use Rattle.dr_base.specs.Texts.{Text}
 
 -- Of each element, in order, its text, of which `Has` says what it may be; `Has` knows the
 -- element's number, from this one on.
-abbrev pub Rows : {X : Type 0} → (ℕ → X → Text → Type 0) → ℕ → List X → Text → Type 0
-Rows Has number [] text = text ≡ []
-Rows Has number (x ∷ xs) text =
+abbrev pub AreRows : {X : Type 0} → (ℕ → X → Text → Type 0) → ℕ → List X → Text → Type 0
+AreRows Has number [] text = text ≡ []
+AreRows Has number (x ∷ xs) text =
     (here : Text) × (rest : Text) × Has number x here
-    × Rows Has (number + 1) xs rest
+    × AreRows Has (number + 1) xs rest
     × (text ≡ here ++ rest)
 
 -- this row where that is so, and else nothing

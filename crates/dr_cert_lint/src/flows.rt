@@ -1,6 +1,6 @@
 //! What the flows of a plan bring.
 ghost use Rattle.std.specs.Prelude.{◌≡◌, ◌↔◌, IsTrue, Contains};
-ghost use Rattle.dr_cert_lint.specs.Bringing.{Brings, BringsIn, EntersAt, IsAgain};
+ghost use Rattle.dr_cert_lint.specs.Bringing.{BringsClass, BringsIn, EntersAt, IsAgain};
 
 use dr_base::same::Same;
 use dr_base::{Syntax, Text};
@@ -34,7 +34,7 @@ fn has_class(flow: &Flow, class: &Text) -> bool
 
 /// Whether some flow brings the class.
 pub fn brings(flows: &[Flow], class: &Text) -> bool
-    ensures { IsTrue result ↔ Brings flows.now class.now }
+    ensures { IsTrue result ↔ BringsClass flows.now class.now }
 {
     for flow in flows {
         if has_class(flow, class) {

@@ -3,7 +3,7 @@ ghost use Rattle.std.specs.Prelude.{◌≡◌, ◌++◌, [], IfOk, OnOk, Contain
 ghost use Rattle.dr_base.specs.Texts.{Text as Words};
 ghost use Rattle.dr_cert_lint.specs.Edges.{AreEdges};
 ghost use Rattle.dr_cert_lint.specs.Graphs.{IsGraphText, IsVertexRow, edge_row, vertex_row};
-ghost use Rattle.dr_cert_lint.specs.Texts.{Rows};
+ghost use Rattle.dr_cert_lint.specs.Texts.{AreRows};
 
 use crate::edges::{Edge, edges_of};
 use crate::flows::is_entry;
@@ -80,7 +80,7 @@ fn add_vertex(
 fn add_vertices(alloc: Global, out: &mut Vec<u8>, sealed: &Sealed) -> Result<(), AllocError>
     ensures { OnOk result
         ((rows : Words)
-        × Rows (λ number. IsVertexRow sealed.now.plan) 1 sealed.now.plan.nodes rows
+        × AreRows (λ number. IsVertexRow sealed.now.plan) 1 sealed.now.plan.nodes rows
         × (out.new.items ≡ out.old.items ++ rows)) }
 {
     for node in sealed.plan().nodes() {

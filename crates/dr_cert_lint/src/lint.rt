@@ -1,12 +1,12 @@
 //! What is sound in a plan and still looks wrong.
 ghost use Rattle.std.specs.Prelude.{◌≡◌, ◌↔◌, ◌++◌, ◌-◌, IfOk, OnOk, IsTrue, Contains, take};
-ghost use Rattle.dr_cert_lint.specs.Bringing.{Brings};
+ghost use Rattle.dr_cert_lint.specs.Bringing.{BringsClass};
 ghost use Rattle.dr_base.specs.Texts.{Text as Words};
 ghost use Rattle.dr_cert_lint.specs.Findings.{IsAcceptText, IsFlowText, IsLintText, IsNodeText};
 ghost use Rattle.dr_cert_lint.specs.Findings.{IsRuleText, IsSyntaxText, IsUnusedText, IsWholeText};
 ghost use Rattle.dr_cert_lint.specs.Findings.{flow_row, rule_row, syntax_row, unused_row};
 ghost use Rattle.dr_cert_lint.specs.Findings.{whole_row};
-ghost use Rattle.dr_cert_lint.specs.Texts.{Rows};
+ghost use Rattle.dr_cert_lint.specs.Texts.{AreRows};
 
 use crate::flows::{brings, brings_in, is_among};
 use crate::uses::{PartInUse, is_used};
@@ -105,7 +105,8 @@ fn add_syntax_row(
 
 /// Whether the row takes its class in that transfer syntax, and some flow brings the class.
 fn is_wanted(flows: &[Flow], row: &AcceptRow, syntax: Syntax) -> bool
-    ensures { IsTrue result ↔ (Contains row.now.syntaxes syntax × Brings flows.now row.now.class) }
+    ensures { IsTrue result
+        ↔ (Contains row.now.syntaxes syntax × BringsClass flows.now row.now.class) }
 {
     row.syntaxes.as_slice().contains(&syntax) && brings(flows, &row.class)
 }
@@ -165,7 +166,7 @@ fn add_accepts(
 ) -> Result<(), AllocError>
     ensures { OnOk result
         ((text : Words)
-        × Rows (IsAcceptText sealed.now.plan node.now) 1 node.now.accepts text
+        × AreRows (IsAcceptText sealed.now.plan node.now) 1 node.now.accepts text
         × (out.new.items ≡ out.old.items ++ text)) }
 {
     let mut number = 0;
@@ -219,7 +220,7 @@ fn add_rules(
     requires { Contains sealed.now.plan.nodes node.now }
     ensures { OnOk result
         ((text : Words)
-        × Rows (IsRuleText sealed.now.plan node.now) 1 node.now.rules text
+        × AreRows (IsRuleText sealed.now.plan node.now) 1 node.now.rules text
         × (out.new.items ≡ out.old.items ++ text)) }
 {
     let mut number = 0;
@@ -253,7 +254,7 @@ fn add_node(
 fn add_nodes(alloc: Global, out: &mut Vec<u8>, sealed: &Sealed) -> Result<(), AllocError>
     ensures { OnOk result
         ((text : Words)
-        × Rows (λ number. IsNodeText sealed.now.plan) 1 sealed.now.plan.nodes text
+        × AreRows (λ number. IsNodeText sealed.now.plan) 1 sealed.now.plan.nodes text
         × (out.new.items ≡ out.old.items ++ text)) }
 {
     for node in sealed.plan().nodes() {
@@ -296,7 +297,7 @@ fn add_flow(
 fn add_flows(out: &mut Vec<u8>, flows: &[Flow]) -> Result<(), AllocError>
     ensures { OnOk result
         ((text : Words)
-        × Rows (λ number. IsFlowText (take (number - 1) flows.now) number) 1 flows.now text
+        × AreRows (λ number. IsFlowText (take (number - 1) flows.now) number) 1 flows.now text
         × (out.new.items ≡ out.old.items ++ text)) }
 {
     let mut number = 0;

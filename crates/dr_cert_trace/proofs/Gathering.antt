@@ -15,7 +15,7 @@ use Rattle.dr_plan_sound.specs.Certificates.{IsCertificateOf}
 use Rattle.dr_plan_sound.specs.Ranked.{line_at}
 use Rattle.dr_plan_sound.proofs.RankedLines.{some_cell}
 use Rattle.dr_plan_sound.proofs.Ranks.{sound_has_rank}
-use Rattle.dr_cert_trace.specs.Stages.{AreStages, Gathers, HasDepth}
+use Rattle.dr_cert_trace.specs.Stages.{AreStages, GathersStages, HasDepth}
 use Rattle.dr_cert_trace.specs.declared.stages.TraceStage.{TraceStage}
 
 -- each stage has its depth, and each line's place that the key comes to is a stage
@@ -55,7 +55,7 @@ module _ (plan : Network) (key : Key) (lines : List Line) (stages : List TraceSt
   }
 
   -- a line more
-  pub goes_on : (next : List TraceStage) → Gathers plan key line stages next → AreSoFar plan key (take i lines) stages → AreSoFar plan key (take (i + 1) lines) next
+  pub goes_on : (next : List TraceStage) → GathersStages plan key line stages next → AreSoFar plan key (take i lines) stages → AreSoFar plan key (take (i + 1) lines) next
   goes_on next step so_far = elim step [
     | inl more ↦ subst (AreSoFar plan key (take (i + 1) lines)) (sym more.3) (one_more more.0 more.1 more.2 so_far)
     | inr never ↦ subst (AreSoFar plan key (take (i + 1) lines)) (sym never.1) (passed never.0 so_far)

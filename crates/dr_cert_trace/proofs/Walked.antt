@@ -16,7 +16,7 @@ use Rattle.dr_plan_sound.proofs.Hopping.{walk_push, last_push, last_hop}
 use Rattle.dr_cert_trace.specs.declared.stages.TraceStage.{TraceStage}
 use Rattle.dr_cert_trace.specs.Traces.{ComesTo, GoesOnTo}
 use Rattle.dr_cert_trace.specs.Stages.{AreOrdered}
-use Rattle.dr_cert_trace.specs.Found.{AreFound, HasPair, IsKnown, Passes}
+use Rattle.dr_cert_trace.specs.Found.{AreFound, HasPair, IsKnownPlace, PassesPlace}
 
 -- What was found is right, and of the stages that were passed all is found.
 pub record IsSoFar (plan : Network) (site : Text) (key : Key) (passed : List TraceStage) (pairs : BTreeSet (Text × Text)) (keeps : BTreeSet Text) : Type 0 where
@@ -55,7 +55,7 @@ module _ (plan : Network) (site : Text) (key : Key) where
 
   -- what is known is so
   pub known_comes : (passed : List TraceStage) (pairs : BTreeSet (Text × Text)) (keeps : BTreeSet Text) → IsSoFar plan site key passed pairs keeps →
-      (place : Text × Text) → IsKnown pairs site place → ComesTo plan site key place
+      (place : Text × Text) → IsKnownPlace pairs site place → ComesTo plan site key place
   known_comes passed pairs keeps so_far place known = elim known [
     | inl entry ↦ ([], tt, sym entry)
     | inr found ↦ goes_comes place.0 place.1 (so_far.goes place found)
@@ -87,7 +87,7 @@ module _ (plan : Network) (site : Text) (key : Key) where
 
     -- the stage that is passed next is known, if the key comes there
     pub is_known_by_then : (i : ℕ) (stage : TraceStage) → i < length stages → get_or stages i stage ≡ stage → (pairs : BTreeSet (Text × Text)) (keeps : BTreeSet Text) →
-        IsSoFar plan site key (take i stages) pairs keeps → ComesTo plan site key stage.place → IsKnown pairs site stage.place
+        IsSoFar plan site key (take i stages) pairs keeps → ComesTo plan site key stage.place → IsKnownPlace pairs site stage.place
     is_known_by_then i stage lt at pairs keeps so_far comes = elim (before stage.place.0 stage.place.1 comes) [
       | inl entry_place ↦ inl entry_place
       | inr goes ↦ inr ((
@@ -109,7 +109,7 @@ module _ (plan : Network) (site : Text) (key : Key) where
 
     -- one stage more is passed
     pub passes : (i : ℕ) (stage : TraceStage) → i < length stages → get_or stages i stage ≡ stage → (pairs more : BTreeSet (Text × Text)) (keeps kept : BTreeSet Text) →
-        Passes plan site key stage.place pairs more keeps kept → IsSoFar plan site key (take i stages) pairs keeps → IsSoFar plan site key (take (i + 1) stages) more kept
+        PassesPlace plan site key stage.place pairs more keeps kept → IsSoFar plan site key (take i stages) pairs keeps → IsSoFar plan site key (take (i + 1) stages) more kept
     passes i stage lt at pairs more keeps kept step so_far =
         let pushed : take (i + 1) stages ≡ take i stages ++ stage ∷ [] = take_more stages i stage lt ∙ ap (λ (s : TraceStage). take i stages ++ s ∷ []) at in
         elim step [

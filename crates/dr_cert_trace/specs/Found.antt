@@ -15,8 +15,8 @@ abbrev pub HasPair : BTreeSet (Text × Text) → Text × Text → Type 0
 HasPair pairs pair = Contains pairs.keys pair
 
 -- it is known that the key comes to the place: it is where it enters, or a pair that was found
-abbrev pub IsKnown : BTreeSet (Text × Text) → Text → Text × Text → Type 0
-IsKnown pairs site place = (place ≡ (local, site)) ⊎ HasPair pairs place
+abbrev pub IsKnownPlace : BTreeSet (Text × Text) → Text → Text × Text → Type 0
+IsKnownPlace pairs site place = (place ≡ (local, site)) ⊎ HasPair pairs place
 
 -- the pairs of a node and of those others are there too, and no more
 abbrev pub AddsPairs : BTreeSet (Text × Text) → BTreeSet (Text × Text) → Text → (Text → Type 0)
@@ -33,11 +33,11 @@ pub record FindsOnward (plan : Network) (key : Key) (place : Text × Text)
       ↔ (HasName kept name ⊎ ((name ≡ place.1) × Keeps plan place.1 place.0 key))
 
 -- where it isn't known that the key comes there, nothing is found; else all that is done there
-abbrev pub Passes : Network → Text → Key → Text × Text → BTreeSet (Text × Text)
+abbrev pub PassesPlace : Network → Text → Key → Text × Text → BTreeSet (Text × Text)
     → BTreeSet (Text × Text) → BTreeSet Text → BTreeSet Text → Type 0
-Passes plan site key place old new kept now_kept =
-    ((IsKnown old site place → ⊥) × (new.keys ≡ old.keys) × (now_kept.keys ≡ kept.keys))
-    ⊎ (IsKnown old site place × FindsOnward plan key place old new kept now_kept)
+PassesPlace plan site key place old new kept now_kept =
+    ((IsKnownPlace old site place → ⊥) × (new.keys ≡ old.keys) × (now_kept.keys ≡ kept.keys))
+    ⊎ (IsKnownPlace old site place × FindsOnward plan key place old new kept now_kept)
 
 -- exactly the hops of the key's walks, and exactly the nodes that keep it
 pub record AreFound (plan : Network) (site : Text) (key : Key) (pairs : BTreeSet (Text × Text))

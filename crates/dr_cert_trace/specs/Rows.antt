@@ -19,8 +19,9 @@ abbrev pub rank_row : ℕ → Text
 rank_row rank = codes "rank" ++ (9 ∷ decimal rank) ++ (10 ∷ [])
 
 -- `hop`, and then sender, receiver, and the id of the presentation context
-abbrev pub hop_row : Hop → Text
-hop_row hop = codes "hop" ++ (9 ∷ hop.from) ++ (9 ∷ hop.to) ++ (9 ∷ decimal hop.id) ++ (10 ∷ [])
+abbrev pub traced_hop_row : Hop → Text
+traced_hop_row hop =
+    codes "hop" ++ (9 ∷ hop.from) ++ (9 ∷ hop.to) ++ (9 ∷ decimal hop.id) ++ (10 ∷ [])
 
 -- `keep`, and a node that keeps
 abbrev pub keep_row : Text → Text
@@ -29,5 +30,5 @@ keep_row name = codes "keep" ++ (9 ∷ name) ++ (10 ∷ [])
 -- the rows of a journey: the cell of its keys, its rank, its hops, and the nodes that keep
 abbrev pub journey_text : OwnedCell → Journey → Text
 journey_text cell journey =
-    cell_row cell ++ rank_row journey.rank ++ flat_map hop_row journey.hops
+    cell_row cell ++ rank_row journey.rank ++ flat_map traced_hop_row journey.hops
     ++ flat_map keep_row journey.keeps

@@ -17,8 +17,8 @@ HasDepth plan key stage =
     × (stage.depth + rank ≡ 2 ^ 32 - 1)
 
 -- the line's place is one stage more, where the key comes there
-abbrev pub Gathers : Network → Key → Line → List TraceStage → List TraceStage → Type 0
-Gathers plan key line old new =
+abbrev pub GathersStages : Network → Key → Line → List TraceStage → List TraceStage → Type 0
+GathersStages plan key line old new =
     ((stage : TraceStage) × HasDepth plan key stage
     × (stage.place ≡ (line.stop.caller, line.stop.node))
     × (new ≡ old ++ stage ∷ []))

@@ -1,6 +1,6 @@
 //! Sets of pairs of names.
 ghost use Rattle.std.specs.Prelude.{◌≡◌, ◌⊎◌, ◌↔◌, Contains, IfOk, IsTrue, OnOk};
-ghost use Rattle.dr_cert_trace.specs.Found.{AddsPairs, HasPair, IsKnown};
+ghost use Rattle.dr_cert_trace.specs.Found.{AddsPairs, HasPair, IsKnownPlace};
 
 use dr_base::Text;
 use dr_route::is_local;
@@ -17,7 +17,7 @@ pub fn has_pair(pairs: &BTreeSet<(Text, Text)>, pair: &(Text, Text)) -> bool
 /// Whether it is known that a key comes to the place: it is where it enters, or a pair that was
 /// found.
 pub fn is_known(pairs: &BTreeSet<(Text, Text)>, site: &Text, place: &(Text, Text)) -> bool
-    ensures { IsTrue result ↔ IsKnown pairs.now site.now place.now }
+    ensures { IsTrue result ↔ IsKnownPlace pairs.now site.now place.now }
 {
     if is_local(&place.0) && place.1 == *site {
         return true;

@@ -1,6 +1,7 @@
 //! The rows of a journey.
 ghost use Rattle.std.specs.Prelude.{◌≡◌, ◌++◌, IfOk, OnOk, flat_map};
-ghost use Rattle.dr_cert_trace.specs.Rows.{cell_row, hop_row, journey_text, keep_row, rank_row};
+ghost use Rattle.dr_cert_trace.specs.Rows.{cell_row, traced_hop_row, journey_text, keep_row};
+ghost use Rattle.dr_cert_trace.specs.Rows.{rank_row};
 
 use crate::tracing::Journey;
 use dr_base::Text;
@@ -38,7 +39,7 @@ fn add_rank(out: &mut Vec<u8>, rank: u32) -> Result<(), AllocError>
 
 /// Adds the row of a hop.
 fn add_hop(out: &mut Vec<u8>, hop: &Hop) -> Result<(), AllocError>
-    ensures { OnOk result (out.new.items ≡ out.old.items ++ hop_row hop.now) }
+    ensures { OnOk result (out.new.items ≡ out.old.items ++ traced_hop_row hop.now) }
 {
     out.extend_from_slice(b"hop")?;
     add_field(out, hop.from.as_bytes())?;
@@ -51,7 +52,7 @@ fn add_hop(out: &mut Vec<u8>, hop: &Hop) -> Result<(), AllocError>
 
 /// Adds the rows of the hops.
 fn add_hops(out: &mut Vec<u8>, hops: &[Hop]) -> Result<(), AllocError>
-    ensures { OnOk result (out.new.items ≡ out.old.items ++ flat_map hop_row hops.now) }
+    ensures { OnOk result (out.new.items ≡ out.old.items ++ flat_map traced_hop_row hops.now) }
 {
     for hop in hops {
         add_hop(out, hop)?;

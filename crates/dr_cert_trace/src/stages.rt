@@ -1,6 +1,6 @@
 //! The places that a key comes to.
 ghost use Rattle.std.specs.Prelude.{◌≡◌, ◌+◌, ◌-◌, ◌^◌, IfOk, OnOk};
-ghost use Rattle.dr_cert_trace.specs.Stages.{AreOrdered, AreStages, Gathers};
+ghost use Rattle.dr_cert_trace.specs.Stages.{AreOrdered, AreStages, GathersStages};
 
 use dr_base::Text;
 use dr_cert::Sealed;
@@ -35,7 +35,7 @@ fn add_stage(
     key: &Key,
 ) -> Result<(), AllocError>
     ensures { OnOk result
-        (Gathers sealed.now.plan key.now line.now stages.old.items stages.new.items) }
+        (GathersStages sealed.now.plan key.now line.now stages.old.items stages.new.items) }
 {
     let stop = &line.stop;
     let Some(rank) = sealed.rank(&stop.caller, &stop.node, key) else {

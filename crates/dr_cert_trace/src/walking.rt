@@ -5,7 +5,7 @@ ghost use Rattle.dr_route.specs.Names.{HasName};
 ghost use Rattle.dr_plan_model.specs.Plans.{IsWellFormed};
 ghost use Rattle.dr_plan_model.specs.Walks.{IsEntry};
 ghost use Rattle.dr_plan_sound.specs.Soundness.{IsSound};
-ghost use Rattle.dr_cert_trace.specs.Found.{AreFound, FindsOnward, Passes};
+ghost use Rattle.dr_cert_trace.specs.Found.{AreFound, FindsOnward, PassesPlace};
 ghost use Rattle.dr_cert_trace.specs.Stages.{AreOrdered};
 
 use crate::pairs::{add_pairs, is_known};
@@ -62,7 +62,7 @@ fn pass(
     keeps: &mut BTreeSet<Text>,
 ) -> Result<(), AllocError>
     ensures { OnOk result
-        (Passes plan.now site.now key.now place.now pairs.old pairs.new keeps.old keeps.new) }
+        (PassesPlace plan.now site.now key.now place.now pairs.old pairs.new keeps.old keeps.new) }
 {
     if !is_known(pairs, site, place) {
         return Ok(());

@@ -60,9 +60,9 @@ HasNoCertificate text =
     ⊎ ((plan : Network) × ReadsCore text (Ok plan) × FindsOf plan None)
 
 -- what a text comes to: its certificate, or that it has none
-abbrev pub Finds : Text → Option Text → Type 0
-Finds text (Some output) = IsCertifiedCore text output
-Finds text None = HasNoCertificate text
+abbrev pub FindsCertificate : Text → Option Text → Type 0
+FindsCertificate text (Some output) = IsCertifiedCore text output
+FindsCertificate text None = HasNoCertificate text
 
 -- the text's certificate is printed after what the output held
 abbrev pub Prints : Text → Option (List ℕ) → Option (List ℕ) → Type 0

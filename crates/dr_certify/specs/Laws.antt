@@ -13,8 +13,8 @@ abbrev pub NoTextHasBoth : Type 0
 NoTextHasBoth = (text output : Text) → IsCertifiedCore text output → HasNoCertificate text → ⊥
 
 -- plans for which the same is printed have the same certificate
-abbrev pub OneCertificateIsPrinted : Type 0
-OneCertificateIsPrinted =
+abbrev pub OneCertificateIsPrintedOfPlans : Type 0
+OneCertificateIsPrintedOfPlans =
     (a b : Network) (output : Text)
     (one : HasCertificate a output) (other : HasCertificate b output)
     → one.certificate ≡ other.certificate

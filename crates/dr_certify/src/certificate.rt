@@ -3,7 +3,8 @@ ghost use Rattle.std.specs.Prelude.{◌≡◌, true, false, IfOk, IfSome, Ok};
 ghost use Rattle.dr_plan_model.specs.Networks.{Network};
 ghost use Rattle.dr_plan_model.specs.declared.plan.Format.TheVariants.{Three};
 ghost use Rattle.dr_cert_text.specs.Printable.{IsDigest};
-ghost use Rattle.dr_certify.specs.Certified.{Certifies, Finds, FindsOf, HasNoCertificate, Prints};
+ghost use Rattle.dr_certify.specs.Certified.{Certifies, FindsCertificate, FindsOf};
+ghost use Rattle.dr_certify.specs.Certified.{HasNoCertificate, Prints};
 
 use crate::input::read_input;
 use dr_base::Text;
@@ -83,7 +84,7 @@ fn certificate_of_plan(alloc: Global, plan: &Plan) -> Result<Option<Text>, Alloc
 /// The text of the certificate of the plan that this text writes as it stands; None where it writes
 /// none, or one that has no certificate or is of format 3.
 fn certificate_of(alloc: Global, text: &[u8]) -> Result<Option<Text>, AllocError>
-    ensures { IfOk result (Finds text.now) }
+    ensures { IfOk result (FindsCertificate text.now) }
 {
     match read_core(alloc, text) {
         Ok(plan) => certificate_of_plan(alloc, &plan),

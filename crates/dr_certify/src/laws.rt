@@ -1,5 +1,6 @@
 //! Laws of certified plans.
-ghost use Rattle.dr_certify.specs.Laws.{NoPlanHasBoth, NoTextHasBoth, OneCertificateIsPrinted};
+ghost use Rattle.dr_certify.specs.Laws.{NoPlanHasBoth, NoTextHasBoth};
+ghost use Rattle.dr_certify.specs.Laws.{OneCertificateIsPrintedOfPlans};
 
 use dr_check::laws::too_large_has_many_lines;
 
@@ -20,5 +21,5 @@ pub fn no_text_has_both()
 
 /// What is printed for a plan tells which certificate it has, digest and all.
 pub fn one_certificate_is_printed()
-    ensures { OneCertificateIsPrinted }
+    ensures { OneCertificateIsPrintedOfPlans }
 {}

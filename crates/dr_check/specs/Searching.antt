@@ -172,12 +172,13 @@ pub record IsNew (plan : Network) (cell : OwnedCell) (caller node : Text) (stop 
   pub taken : IsTaken plan cell caller node
 
 -- what is found on looking at a stop: it is finished, or the search ends there, or it is new
-abbrev pub Finds : Network → OwnedCell → Text → Text → Search → SeenStop → Type 0
-Finds plan cell caller node s (seen.Finished r) =
+abbrev pub FindsStop : Network → OwnedCell → Text → Text → Search → SeenStop → Type 0
+FindsStop plan cell caller node s (seen.Finished r) =
     (mark_at s.marks (stop_at caller node cell) ≡ Some (Finished r)) × IsTaken plan cell caller node
-Finds plan cell caller node s (seen.End e) =
+FindsStop plan cell caller node s (seen.End e) =
     IsEnd plan cell (s.path.items ++ node ∷ []) e × WasTested plan cell caller node s e
-Finds plan cell caller node s (seen.New stop targets) = IsNew plan cell caller node stop targets s
+FindsStop plan cell caller node s (seen.New stop targets) =
+    IsNew plan cell caller node stop targets s
 
 -- the search stands at the stop, which it has marked
 pub record IsInside (plan : Network) (cell : OwnedCell) (caller node : Text)

@@ -8,7 +8,7 @@ ghost use Rattle.dr_route.specs.Laws.{key_of};
 ghost use Rattle.dr_plan_model.specs.Plans.{IsWellFormed, LiesIn};
 ghost use Rattle.dr_plan_model.specs.Walks.{Accepts};
 ghost use Rattle.dr_plan_model.specs.Laws.{IsCellOf};
-ghost use Rattle.dr_check.specs.Searching.{IsSearching, IsTrail, Finds, AfterReach, stop_at};
+ghost use Rattle.dr_check.specs.Searching.{IsSearching, IsTrail, FindsStop, AfterReach, stop_at};
 ghost use Rattle.dr_check.specs.Searching.{mark_at};
 ghost use Rattle.dr_check.specs.Stacks.{IsTop, Enters, LeavesStop, FindsNextTarget, Steps};
 ghost use Rattle.dr_check.specs.declared.search.Frame.{Frame as FrameValue};
@@ -153,7 +153,7 @@ fn look(
     requires searching { IsSearching plan.now cell.now search.now }
     requires trail { IsTrail plan.now key.now (search.now.path.items ++ node.now ∷ []) caller.now
         node.now }
-    ensures { IfOk result (Finds plan.now cell.now caller.now node.now search.now) }
+    ensures { IfOk result (FindsStop plan.now cell.now caller.now node.now search.now) }
 {
     if !is_accepted(plan, caller, node, cell) {
         return Ok(SeenStop::End(WalkEnd::NoContext));

@@ -10,7 +10,7 @@ use Rattle.dr_desk.specs.declared.receipt.Receipt.{Receipt}
 use Rattle.dr_desk.specs.declared.receipt.Reply.{Reply}
 use Rattle.dr_desk.specs.declared.receipt.Reply.TheVariants as reply
 use Rattle.dr_desk.specs.Agreeing.{IsOfLine}
-use Rattle.dr_desk.specs.Laws.{FiguresAreRight, arrival_at, two_lines}
+use Rattle.dr_desk.specs.Laws.{ReceiptFiguresAreRight, arrival_at, two_lines}
 use Rattle.dr_desk.specs.Receipts.{Records}
 
 abbrev is_again : Reply → Bool
@@ -58,7 +58,7 @@ apart = ((refl, tt), (tt, tt))
 abbrev at_place : Key → ℕ → Receipt → Receipt
 at_place key n d = slice_index_or (arrival_at key 1 New ∷ arrival_at key 2 Again ∷ []) n d
 
-pub figures : FiguresAreRight
+pub figures : ReceiptFiguresAreRight
 figures key = record {
   both = All-cons (IsOfLine (two_lines key)) _ (arrival_at key 2 Again ∷ []) (first key) (All-cons (IsOfLine (two_lines key)) _ [] (second key) (All-nil (IsOfLine (two_lines key))));
   rise = λ k d below. let zero : k ≡ 0 = omega arith in let P : ℕ → Type 0 = λ n. (at_place key n d).number < (at_place key (n + 1) d).number in subst P (sym zero) (omega arith);

@@ -101,5 +101,5 @@ pub record FiguresOfReceipts (key : Key) : Type 0 where
   pub twice : AreApart (numbers (arrival_at key 1 New ∷ arrival_at key 1 New ∷ [])) → ⊥
   pub falling : Rises (arrival_at key 2 Again ∷ arrival_at key 1 New ∷ []) → ⊥
 
-abbrev pub FiguresAreRight : Type 0
-FiguresAreRight = (key : Key) → FiguresOfReceipts key
+abbrev pub ReceiptFiguresAreRight : Type 0
+ReceiptFiguresAreRight = (key : Key) → FiguresOfReceipts key

@@ -10,7 +10,7 @@ ghost use Rattle.dr_desk.specs.AdoptionLaws.{AdoptionsHaveNoReceipt, NoNodeComes
 ghost use Rattle.dr_desk.specs.AdoptionLaws.{ReceiptsStay, RefusalsLeaveTheHoldings};
 ghost use Rattle.dr_desk.specs.AdoptionLaws.{TakenPlansAreFit, TwoAreCarriedOver, UnfitRowsAreOne};
 ghost use Rattle.dr_desk.specs.Answering.{RefusalLeaves};
-ghost use Rattle.dr_desk.specs.Laws.{ArrivalsAreRecorded, FewAreHeld, FiguresAreRight};
+ghost use Rattle.dr_desk.specs.Laws.{ArrivalsAreRecorded, FewAreHeld, ReceiptFiguresAreRight};
 ghost use Rattle.dr_desk.specs.Laws.{DroppingsAreRecorded, ForgettingsAreRecorded};
 ghost use Rattle.dr_desk.specs.Laws.{LinesAreOfOneCall, NoMoreAreHeld};
 ghost use Rattle.dr_desk.specs.Laws.{ReceiptsAreOne, RequeuingsAreRecorded, SettlingsAreRecorded};
@@ -58,7 +58,7 @@ pub fn the_newest_are_held()
 
 /// Receipts that agree with a journal of two lines, and such that don't.
 pub fn figures_are_right()
-    ensures { FiguresAreRight }
+    ensures { ReceiptFiguresAreRight }
 {}
 
 /// An adoption that is refused leaves all that is listed. One that is accepted is noted by one

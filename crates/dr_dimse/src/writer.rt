@@ -9,7 +9,7 @@ ghost use Rattle.dr_dimse.specs.Written.{number_element, text_element, data_elem
 ghost use Rattle.dr_dimse.specs.Written.{elements_of, element_texts, written, CommandFits};
 ghost use Rattle.dr_dimse.specs.Written.{FieldFits};
 ghost use Rattle.dr_dimse.specs.Written.{IsText};
-ghost use Rattle.dr_pdu.specs.Reads.{HasMoreBehind};
+ghost use Rattle.dr_base.specs.Texts.{Begins};
 
 use crate::assembly::GREATEST_COMMAND;
 use crate::command::Command;
@@ -179,7 +179,7 @@ fn id_number(field: u16) -> u16
 fn put_if_some(out: &mut Vec<u8>, number: u16, n: Option<u16>) -> Result<(), AllocError>
     ensures ok { OnOk result
         (out.new.items ≡ out.old.items ++ element_texts (if_some number n)) }
-    ensures err { OnErr result (HasMoreBehind out.old.items out.new.items) }
+    ensures err { OnErr result (Begins out.old.items out.new.items) }
 {
     match n {
         Some(n) => put_number(out, number, n),
@@ -190,7 +190,7 @@ fn put_if_some(out: &mut Vec<u8>, number: u16, n: Option<u16>) -> Result<(), All
 fn put_data(out: &mut Vec<u8>, has_data: bool) -> Result<(), AllocError>
     ensures ok { OnOk result
         (out.new.items ≡ out.old.items ++ element_text (data_element has_data)) }
-    ensures err { OnErr result (HasMoreBehind out.old.items out.new.items) }
+    ensures err { OnErr result (Begins out.old.items out.new.items) }
 {
     put_number(out, 0x0800, if has_data { 0x0001 } else { 0x0101 })
 }
@@ -198,7 +198,7 @@ fn put_data(out: &mut Vec<u8>, has_data: bool) -> Result<(), AllocError>
 fn put_number(out: &mut Vec<u8>, number: u16, n: u16) -> Result<(), AllocError>
     ensures ok { OnOk result
         (out.new.items ≡ out.old.items ++ element_text (number_element number n)) }
-    ensures err { OnErr result (HasMoreBehind out.old.items out.new.items) }
+    ensures err { OnErr result (Begins out.old.items out.new.items) }
 {
     put_element(out, number, &n.to_le_bytes())
 }
@@ -208,7 +208,7 @@ fn put_text(out: &mut Vec<u8>, number: u16, text: &Text) -> Result<(), AllocErro
     requires { length text.now ≤ 16384 }
     ensures ok { OnOk result
         (out.new.items ≡ out.old.items ++ element_text (text_element number text.now)) }
-    ensures err { OnErr result (HasMoreBehind out.old.items out.new.items) }
+    ensures err { OnErr result (Begins out.old.items out.new.items) }
 {
     if text.len() % 2 == 0 {
         return put_element(out, number, text.as_bytes());
@@ -224,7 +224,7 @@ fn put_element(out: &mut Vec<u8>, number: u16, value: &[u8]) -> Result<(), Alloc
     ensures ok { OnOk result
         (out.new.items
         ≡ out.old.items ++ element_text (record { number = number; value = value.now })) }
-    ensures err { OnErr result (HasMoreBehind out.old.items out.new.items) }
+    ensures err { OnErr result (Begins out.old.items out.new.items) }
 {
     put_header(out, number, value.len() as u32)?;
     out.extend_from_slice(value)?;
@@ -235,7 +235,7 @@ fn put_element(out: &mut Vec<u8>, number: u16, value: &[u8]) -> Result<(), Alloc
 fn put_header(out: &mut Vec<u8>, number: u16, len: u32) -> Result<(), AllocError>
     ensures ok { OnOk result
         (out.new.items ≡ out.old.items ++ 0 ∷ 0 ∷ (to_le_bytes w16 number ++ to_le_bytes w32 len)) }
-    ensures err { OnErr result (HasMoreBehind out.old.items out.new.items) }
+    ensures err { OnErr result (Begins out.old.items out.new.items) }
 {
     out.extend_from_slice(&[0, 0])?;
     out.extend_from_slice(&number.to_le_bytes())?;

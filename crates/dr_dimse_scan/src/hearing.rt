@@ -2,8 +2,7 @@
 ghost use Rattle.std.specs.Prelude.{◌≡◌, ◌≢◌, ◌<◌, List, ℕ, length, take, IfOk, IfSome, IfNone};
 ghost use Rattle.std.specs.Bool.{MatchBool};
 ghost use Rattle.dr_base.specs.declared.syntax.Syntax.{Syntax as SyntaxName};
-ghost use Rattle.dr_dimse.specs.Stages.{shown_of};
-ghost use Rattle.dr_dimse.specs.Taking.{Idle, TakesValue, data_of, data_so_far, let_go};
+ghost use Rattle.dr_dimse.specs.Taking.{Idle, TakesValue, let_go};
 ghost use Rattle.dr_dataset.specs.Hearing.{Hears};
 ghost use Rattle.dr_dimse_scan.specs.Stores.{HasScan, IsScanOf, message_of, store_in, store_text};
 ghost use Rattle.dr_dimse_scan.specs.Following.{HasHeard, HasHeardFirst, is_storing, store_of};
@@ -110,22 +109,6 @@ impl Hearing {
     {
         drop(mem::replace(&mut self.reading, None));
         self.assembly.let_data_go();
-    }
-
-    /// The command whose data set is under way, and its presentation context: None between messages
-    /// and within a command.
-    pub fn data_of(&self) -> Option<(u8, &Command)>
-        ensures { shown_of result ≡ data_of self.now.stage }
-    {
-        self.assembly.data_of()
-    }
-
-    /// The bytes of the data set that is under way, as far as they have come and are kept; none
-    /// where there is no data set, or where it is too large.
-    pub fn data_so_far(&self) -> &[u8]
-        ensures { result.now ≡ data_so_far self.now.stage }
-    {
-        self.assembly.data_so_far()
     }
 }
 

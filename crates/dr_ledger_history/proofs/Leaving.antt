@@ -22,7 +22,7 @@ use Rattle.dr_ledger.specs.declared.item.Progress.{Progress}
 use Rattle.dr_ledger.specs.Books.{is_other, is_queued}
 use Rattle.dr_ledger.specs.Pairs.{Pair, pair_cmp}
 use Rattle.dr_ledger.proofs.Maps.{same_or_not, text_pairs, texts, ties_itself}
-use Rattle.dr_ledger_history.specs.Leaving.{AreLetGo, AreOver, IsCallerFrom, IsRowOf, Rows, is_from}
+use Rattle.dr_ledger_history.specs.Leaving.{AreLetGo, AreOver, IsCallerFrom, IsRowOf, RowMap, is_from}
 use Rattle.dr_ledger_history.specs.Trees.{as_map, as_set}
 use Rattle.dr_ledger_history.proofs.Mapped.{get_at, has_at}
 
@@ -37,19 +37,19 @@ inside x y e = cc
 
 -- ---- rows
 -- a row stood at the key, and was done or dropped
-abbrev pub WasOver : Rows → Pair → Type 0
+abbrev pub WasOver : RowMap → Pair → Type 0
 WasOver rows at = (row : Progress) × (map.get rows at ≡ Some row) × (is_queued row ≡ false)
 
-abbrev pub HaveLeft : Text → Rows → Rows → Type 0
+abbrev pub HaveLeft : Text → RowMap → RowMap → Type 0
 HaveLeft uid old new = (at : Pair) → (map.get new at ≡ map.get old at)
     ⊎ ((at.0 ≡ uid) × (map.get new at ≡ None) × WasOver old at)
 
-pub none_has_left : (uid : Text) (m : Rows) → HaveLeft uid m m
+pub none_has_left : (uid : Text) (m : RowMap) → HaveLeft uid m m
 none_has_left uid m at = inl refl
 
-module _ (uid : Text) (old : Rows) where
+module _ (uid : Text) (old : RowMap) where
   -- what stands at a key stood there
-  stood : (new : Rows) (at : Pair) (row : Progress) → HaveLeft uid old new →
+  stood : (new : RowMap) (at : Pair) (row : Progress) → HaveLeft uid old new →
       map.get new at ≡ Some row → map.get old at ≡ Some row
   stood new at row left h = elim (left at) [
     | inl stays ↦ sym stays ∙ h
@@ -85,7 +85,7 @@ module _ (uid : Text) (old : Rows) where
           ]
 
   -- a row that waits or is held
-  pub one_is_open : (new : Rows) (last : Rows) (at : Pair) (row : Progress) → HaveLeft uid old new →
+  pub one_is_open : (new : RowMap) (last : RowMap) (at : Pair) (row : Progress) → HaveLeft uid old new →
       at.0 ≡ uid → map.get new at ≡ Some row → is_queued row ≡ true →
       AreLetGo uid old false last
   one_is_open new last at row left own there queued = λ over.
@@ -93,7 +93,7 @@ module _ (uid : Text) (old : Rows) where
       no_both _ queued (over at.1 row (subst (λ (u : Text). map.get old (u, at.1) ≡ Some row) own h))
 
   -- none is left
-  pub all_have_left : (new : Rows) → HaveLeft uid old new → IsRowOf uid new None →
+  pub all_have_left : (new : RowMap) → HaveLeft uid old new → IsRowOf uid new None →
       AreLetGo uid old true new
   all_have_left new left none = (were_over, map.same_map text_pairs.total text_pairs.exact new _ same)
     where

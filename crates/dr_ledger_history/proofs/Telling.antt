@@ -16,7 +16,7 @@ use Rattle.dr_ledger.proofs.Folding.{folded_append, folded_push, folds_have_thei
 use Rattle.dr_ledger_history.specs.Contents.{Content, book_of, content, content_of}
 use Rattle.dr_ledger_history.specs.declared.history.History.{History}
 use Rattle.dr_ledger_history.specs.Laws.{AllButTheLines, PastIsOver, ToldHasOneContent, ToldIsJournalled}
-use Rattle.dr_ledger_history.specs.Takings.{IsBy, Takes}
+use Rattle.dr_ledger_history.specs.Takings.{IsBy, TakesLine}
 use Rattle.dr_ledger_history.specs.Told.{IsTold, IsToldSince, Tells, TellsSince}
 use Rattle.dr_ledger_history.specs.declared.line.HistoryFault.{HistoryFault}
 use Rattle.dr_ledger_history.specs.declared.line.HistoryFault.TheVariants as fault
@@ -73,13 +73,13 @@ asked_at line old b is h = (let P : Content → Type 0 = λ c. IsSomeCall line (
 asks_at : (line : Line) (old : Content) (b : Book) → old ≡ content_of b → IsSomeCall line b → IsSomeCall line (book_of old)
 asks_at line old b is h = (let P : Content → Type 0 = λ c. IsSomeCall line (book_of c) in subst P (sym is) (asks line b h))
 
-pub told_on : (lines : List Line) (line : Line) (old : Content) (new : History) → Takes line old (Ok tt) (content new.parts) → IsTold lines old → Tells lines line (Ok new)
+pub told_on : (lines : List Line) (line : Line) (old : Content) (new : History) → TakesLine line old (Ok tt) (content new.parts) → IsTold lines old → Tells lines line (Ok new)
 told_on lines line old new take told = record {
   past = past_push lines line empty_book told.past (asked_at line old (Fold lines) told.fold take.0);
   fold = taken_on lines line old (content new.parts) told.fold take.1;
 }
 
-pub refused_past : (lines : List Line) (line : Line) (old new : Content) (why : HistoryFault) → Takes line old (Err why) new → IsTold lines old → Tells lines line (Err why)
+pub refused_past : (lines : List Line) (line : Line) (old new : Content) (why : HistoryFault) → TakesLine line old (Err why) new → IsTold lines old → Tells lines line (Err why)
 refused_past lines line old new fault.NoCall take told = λ h. take (asks_at line old (Fold lines) told.fold (past_last lines line empty_book h))
 refused_past lines line old new fault.Memory take told = tt
 
@@ -110,7 +110,7 @@ module _ (routing : Routing) (past since : List Line) (line : Line) (old : Conte
   is_then : old ≡ content_of (folded (Fold past) since)
   is_then = told.fold ∙ ap content_of goes_on
 
-  pub told_since : (new : History) → IsBy routing line → Takes line old (Ok tt) (content new.parts) → TellsSince routing past since line (Ok new)
+  pub told_since : (new : History) → IsBy routing line → TakesLine line old (Ok tt) (content new.parts) → TellsSince routing past since line (Ok new)
   told_since new by take = record {
     before = told.before;
     accepted = told.accepted;
@@ -118,7 +118,7 @@ module _ (routing : Routing) (past since : List Line) (line : Line) (old : Conte
     fold = taken_on (past ++ since) line old (content new.parts) told.fold take.1 ∙ ap (λ lines. content_of (Fold lines)) (append_assoc past since (line ∷ []));
   }
 
-  pub refused_since : (new : Content) (why : HistoryFault) → Takes line old (Err why) new → TellsSince routing past since line (Err why)
+  pub refused_since : (new : Content) (why : HistoryFault) → TakesLine line old (Err why) new → TellsSince routing past since line (Err why)
   refused_since new fault.NoCall take = λ h.
       take (asks_at line old (folded (Fold past) since) is_then (some_call routing line (folded (Fold past) since) (history_last routing since line (Fold past) h)))
   refused_since new fault.Memory take = tt
@@ -171,7 +171,7 @@ pub brought : (c new : Content) (caller : Text) (item : Instance) (to : List Tex
 brought c new caller item to keep items arrivals kept rows = λ j. record { items = items j; arrivals = arrivals j; kept = kept j; rows = rows j }
 
 pub settled : (c new : Content) (uid dest : Text) (tries due : ℕ) (outcome : Outcome) (now : ℕ) → map.get c.rows (uid, dest) ≡ Some (Waiting tries due) → now ≤ 2 ^ 62 →
-    new.items ≡ c.items → new.arrivals ≡ c.arrivals → new.kept ≡ c.kept → new.rows ≡ map.insert c.rows (uid, dest) (row_after tries outcome now) → Takes (Settling uid dest outcome now) c (Ok tt) new
+    new.items ≡ c.items → new.arrivals ≡ c.arrivals → new.kept ≡ c.kept → new.rows ≡ map.insert c.rows (uid, dest) (row_after tries outcome now) → TakesLine (Settling uid dest outcome now) c (Ok tt) new
 settled c new uid dest tries due outcome now waits early items arrivals kept rows = (
   ((tries, due, waits), early),
   λ j. record {
@@ -183,7 +183,7 @@ settled c new uid dest tries due outcome now waits early items arrivals kept row
 )
 
 pub requeued : (c new : Content) (uid dest : Text) (why : Cause) → map.get c.rows (uid, dest) ≡ Some (Held why) →
-    new.items ≡ c.items → new.arrivals ≡ c.arrivals → new.kept ≡ c.kept → new.rows ≡ map.insert c.rows (uid, dest) (Waiting 0 0) → Takes (Requeuing uid dest) c (Ok tt) new
+    new.items ≡ c.items → new.arrivals ≡ c.arrivals → new.kept ≡ c.kept → new.rows ≡ map.insert c.rows (uid, dest) (Waiting 0 0) → TakesLine (Requeuing uid dest) c (Ok tt) new
 requeued c new uid dest why held items arrivals kept rows = (
   (why, held),
   λ j. record { items = items j; arrivals = arrivals j; kept = kept j; rows = (rows ∙ sym (ap (λ o. requeued_row c.rows (uid, dest) o) held)) j },
@@ -191,20 +191,20 @@ requeued c new uid dest why held items arrivals kept rows = (
 
 -- a row that is something else doesn't wait, and isn't held
 pub not_waiting : (c : Content) (uid dest : Text) (o : Option Progress) → map.get c.rows (uid, dest) ≡ o → ((tries due : ℕ) → o ≡ Some (Waiting tries due) → ⊥) →
-    (outcome : Outcome) (now : ℕ) (new : Content) → Takes (Settling uid dest outcome now) c (Err fault.NoCall) new
+    (outcome : Outcome) (now : ℕ) (new : Content) → TakesLine (Settling uid dest outcome now) c (Err fault.NoCall) new
 not_waiting c uid dest o is none outcome now new = λ h. none h.0.0 h.0.1 (sym is ∙ h.0.2)
 
 pub not_held : (c : Content) (uid dest : Text) (o : Option Progress) → map.get c.rows (uid, dest) ≡ o → ((why : Cause) → o ≡ Some (Held why) → ⊥) →
-    (new : Content) → Takes (Requeuing uid dest) c (Err fault.NoCall) new
+    (new : Content) → TakesLine (Requeuing uid dest) c (Err fault.NoCall) new
 not_held c uid dest o is none new = λ h. none h.0 (sym is ∙ h.1)
 
 pub dropped : (c new : Content) (uid dest : Text) (now : ℕ) (why : Cause) → map.get c.rows (uid, dest) ≡ Some (Held why) → now ≤ 2 ^ 62 →
-    new.items ≡ c.items → new.arrivals ≡ set.retain c.arrivals (λ at. is_other uid at.1) → new.kept ≡ c.kept → new.rows ≡ map.insert c.rows (uid, dest) Dropped → Takes (Dropping uid dest now) c (Ok tt) new
+    new.items ≡ c.items → new.arrivals ≡ set.retain c.arrivals (λ at. is_other uid at.1) → new.kept ≡ c.kept → new.rows ≡ map.insert c.rows (uid, dest) Dropped → TakesLine (Dropping uid dest now) c (Ok tt) new
 dropped c new uid dest now why held early items arrivals kept rows = (
   ((why, held), early),
   λ j. record { items = items j; arrivals = arrivals j; kept = kept j; rows = (rows ∙ sym (ap (λ o. dropped_row c.rows (uid, dest) o) held)) j },
 )
 
 pub not_dropped : (c : Content) (uid dest : Text) (o : Option Progress) → map.get c.rows (uid, dest) ≡ o → ((why : Cause) → o ≡ Some (Held why) → ⊥) →
-    (now : ℕ) (new : Content) → Takes (Dropping uid dest now) c (Err fault.NoCall) new
+    (now : ℕ) (new : Content) → TakesLine (Dropping uid dest now) c (Err fault.NoCall) new
 not_dropped c uid dest o is none now new = λ h. none h.0.0 (sym is ∙ h.0.1)

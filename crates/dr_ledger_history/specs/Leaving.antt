@@ -9,16 +9,16 @@ use Rattle.dr_ledger.specs.declared.item.Progress.{Progress}
 use Rattle.dr_ledger.specs.Books.{is_other, is_queued}
 use Rattle.dr_ledger.specs.Pairs.{Pair, pair_cmp}
 
-abbrev pub Rows : Type 0
-Rows = FinMap pair_cmp Progress
+abbrev pub RowMap : Type 0
+RowMap = FinMap pair_cmp Progress
 
 -- a row of the uid, or that there is none
-abbrev pub IsRowOf : Text → Rows → Option (Pair × Progress) → Type 0
+abbrev pub IsRowOf : Text → RowMap → Option (Pair × Progress) → Type 0
 IsRowOf uid rows None = (dest : Text) → map.get rows (uid, dest) ≡ None
 IsRowOf uid rows (Some found) = (found.0.0 ≡ uid) × (map.get rows found.0 ≡ Some found.1)
 
 -- each row of the uid is done or dropped
-abbrev pub AreOver : Text → Rows → Type 0
+abbrev pub AreOver : Text → RowMap → Type 0
 AreOver uid rows =
     (dest : Text) (row : Progress)
     → map.get rows (uid, dest) ≡ Some row
@@ -26,7 +26,7 @@ AreOver uid rows =
 
 -- the rows of the uid have left, and all were done or dropped; or one isn't, and nothing is said of
 -- what is left
-abbrev pub AreLetGo : Text → Rows → Bool → Rows → Type 0
+abbrev pub AreLetGo : Text → RowMap → Bool → RowMap → Type 0
 AreLetGo uid old true new =
     AreOver uid old × (new ≡ map.retain_keys old (λ at. is_other uid at.0))
 AreLetGo uid old false new = AreOver uid old → ⊥

@@ -22,8 +22,8 @@ IsBy routing (Forgetting uid) = Unit {0}
 IsBy routing Adoption = ⊥
 
 -- what one line makes of what a node has, if it is a call that is accepted there
-abbrev pub Takes : Line → Content → Result (Unit {0}) HistoryFault → Content → Type 0
-Takes line old (Ok done) new =
+abbrev pub TakesLine : Line → Content → Result (Unit {0}) HistoryFault → Content → Type 0
+TakesLine line old (Ok done) new =
     IsSomeCall line (book_of old) × (new ≡ content_of (after line (book_of old)))
-Takes line old (Err fault.NoCall) new = IsSomeCall line (book_of old) → ⊥
-Takes line old (Err fault.Memory) new = Unit {0}
+TakesLine line old (Err fault.NoCall) new = IsSomeCall line (book_of old) → ⊥
+TakesLine line old (Err fault.Memory) new = Unit {0}

@@ -7,7 +7,7 @@ ghost use Rattle.dr_ledger.specs.Books.{Settling, after, empty_book};
 ghost use Rattle.dr_ledger.specs.Histories.{IsSame};
 ghost use Rattle.dr_ledger_history.specs.Contents.{HasJust, book_of, content, content_of};
 ghost use Rattle.dr_ledger_history.specs.Lines.{line_of};
-ghost use Rattle.dr_ledger_history.specs.Takings.{Takes};
+ghost use Rattle.dr_ledger_history.specs.Takings.{TakesLine};
 ghost use Rattle.dr_ledger_history.specs.Trees.{as_map};
 ghost use Rattle.dr_base.specs.Texts.{text_cmp};
 
@@ -47,7 +47,7 @@ impl HistoryParts {
 
     /// Takes a line, whose plan may be gone.
     pub fn take(&mut self, alloc: Global, line: JournalLine) -> Result<(), HistoryFault>
-        ensures { Takes (line_of line) (content self.old) result (content self.new) }
+        ensures { TakesLine (line_of line) (content self.old) result (content self.new) }
     {
         match line {
             JournalLine::Arrival {
@@ -81,7 +81,7 @@ impl HistoryParts {
         to: Seq<Text>,
         keep: bool,
     ) -> Result<(), HistoryFault>
-        ensures { Takes (Arrival caller instance to keep) (content self.old) result
+        ensures { TakesLine (Arrival caller instance to keep) (content self.old) result
             (content self.new) }
     {
         if !self.is_same(&instance) {
@@ -119,7 +119,7 @@ impl HistoryParts {
 
     /// Another arrival of what the caller brought before.
     fn repeat(&mut self, caller: Text, instance: Instance) -> Result<(), HistoryFault>
-        ensures { Takes (Repeat caller instance) (content self.old) result (content self.new) }
+        ensures { TakesLine (Repeat caller instance) (content self.old) result (content self.new) }
     {
         if !self.is_same(&instance) {
             return Err(HistoryFault::NoCall);
@@ -133,7 +133,7 @@ impl HistoryParts {
 
     /// What came of a try.
     fn settle(&mut self, at: (Text, Text), outcome: Outcome, now: u64) -> Result<(), HistoryFault>
-        ensures { Takes (Settling at.0 at.1 outcome now) (content self.old) result
+        ensures { TakesLine (Settling at.0 at.1 outcome now) (content self.old) result
             (content self.new) }
     {
         match self.row(&at) {
@@ -154,7 +154,7 @@ impl HistoryParts {
         now: u64,
     ) -> Result<(), HistoryFault>
         requires { map.get (content self.old).rows at ≡ Some (Progress.Waiting was.0 was.1) }
-        ensures { Takes (Settling at.0 at.1 outcome now) (content self.old) result
+        ensures { TakesLine (Settling at.0 at.1 outcome now) (content self.old) result
             (content self.new) }
     {
         if now > LAST_MOMENT {
@@ -166,7 +166,7 @@ impl HistoryParts {
 
     /// A held row is queued again.
     fn requeue(&mut self, at: (Text, Text)) -> Result<(), HistoryFault>
-        ensures { Takes (Requeuing at.0 at.1) (content self.old) result (content self.new) }
+        ensures { TakesLine (Requeuing at.0 at.1) (content self.old) result (content self.new) }
     {
         match self.row(&at) {
             Some(Progress::Held(_)) => {
@@ -182,7 +182,7 @@ impl HistoryParts {
 
     /// A held row is dropped.
     fn give_up(&mut self, alloc: Global, at: (Text, Text), now: u64) -> Result<(), HistoryFault>
-        ensures { Takes (Dropping at.0 at.1 now) (content self.old) result (content self.new) }
+        ensures { TakesLine (Dropping at.0 at.1 now) (content self.old) result (content self.new) }
     {
         match self.row(&at) {
             Some(Progress::Held(why)) => self.drop_row(alloc, at, now, why),
@@ -202,7 +202,7 @@ impl HistoryParts {
         why: Cause,
     ) -> Result<(), HistoryFault>
         requires { map.get (content self.old).rows at ≡ Some (Progress.Held why) }
-        ensures { Takes (Dropping at.0 at.1 now) (content self.old) result (content self.new) }
+        ensures { TakesLine (Dropping at.0 at.1 now) (content self.old) result (content self.new) }
     {
         if now > LAST_MOMENT {
             return Err(HistoryFault::NoCall);
@@ -215,7 +215,7 @@ impl HistoryParts {
     /// What is over is let go. Of the rows and the arrivals only those of the uid are looked for,
     /// so that a journal with many forgettings is read as fast as one with none.
     fn forget(&mut self, alloc: Global, uid: &Text) -> Result<(), HistoryFault>
-        ensures { Takes (Forgetting uid.now) (content self.old) result (content self.new) }
+        ensures { TakesLine (Forgetting uid.now) (content self.old) result (content self.new) }
     {
         if self.item(uid).is_none() {
             return Err(HistoryFault::NoCall);

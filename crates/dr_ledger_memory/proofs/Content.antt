@@ -27,9 +27,9 @@ use Rattle.dr_ledger_history.specs.declared.line.JournalLine.TheVariants as note
 use Rattle.dr_ledger_history.specs.Lines.{line_of, lines_of}
 use Rattle.dr_ledger_memory.specs.declared.held.Held.{Held as Entry}
 use Rattle.dr_ledger_memory.specs.declared.parts.Parts.{Parts}
-use Rattle.dr_ledger_memory.specs.Changes.{IsAdoptedInParts, IsDroppedInParts, IsForgottenInParts, IsMoved, IsNoted, IsPrunedIn, IsPutAt, IsSame, MovesAt, at}
+use Rattle.dr_ledger_memory.specs.Changes.{IsAdoptedInParts, IsDroppedInParts, IsForgottenInParts, IsMoved, IsNoted, IsPrunedIn, IsPutAt, AreSameParts, MovesAt, at}
 use Rattle.dr_ledger_memory.specs.Contents.{all_rows, collected, content, data_sets, kept_mark, keys}
-use Rattle.dr_ledger_memory.specs.Entries.{Row, filled, filled_at, instance_in, is_kept_in, is_open, row_in, rows_in}
+use Rattle.dr_ledger_memory.specs.Entries.{OwnRow, filled, filled_at, instance_in, is_kept_in, is_open, row_in, rows_in}
 use Rattle.dr_ledger_memory.proofs.Lookups.{arrival_at, item_at, kept_at, pair_ties, row_at}
 use Rattle.dr_ledger_memory.proofs.Whole.{above, nothing_found, no_both, t_left, t_right}
 
@@ -44,7 +44,7 @@ arrivals_alike : (p q : Parts) → ((key : Pair) → sorted.contains pair_cmp q.
 arrivals_alike p q alike = set.same_set text_pairs.total text_pairs.exact (content q).arrivals (content p).arrivals (λ k. arrival_at q k ∙ (alike k ∙ sym (arrival_at p k)))
 
 -- ---- where only the room has changed
-pub same_content : (p q : Parts) → IsSame p q → content q ≡ content p
+pub same_content : (p q : Parts) → AreSameParts p q → content q ≡ content p
 same_content p q s = λ j. record {
   items = map.from_entries (collected (λ entry. Some entry.instance) (s.held j));
   arrivals = arrivals_alike p q s.arrivals j;
@@ -91,14 +91,14 @@ own_row : (o : Option Entry) (dest : Text) → row_in o dest ≡ find text_cmp d
 own_row None dest = refl
 own_row (Some entry) dest = refl
 
-stood : (rows : List Row) (to dest : Text) (row : Progress) → find text_cmp to rows ≡ Some row → find text_cmp dest rows ≡ cond (eq_by_cmp text_cmp dest to) (Some row) (find text_cmp dest rows)
+stood : (rows : List OwnRow) (to dest : Text) (row : Progress) → find text_cmp to rows ≡ Some row → find text_cmp dest rows ≡ cond (eq_by_cmp text_cmp dest to) (Some row) (find text_cmp dest rows)
 stood rows to dest row h = by_case (eq_by_cmp text_cmp dest to) refl
   where
     by_case : (b : Bool) → eq_by_cmp text_cmp dest to ≡ b → find text_cmp dest rows ≡ cond b (Some row) (find text_cmp dest rows)
     by_case true t = ap (λ d. find text_cmp d rows) (tells_apart texts.exact dest to t) ∙ h
     by_case false t = refl
 
-filled_find : (rows : List Row) (to dest : Text) (o : Option Progress) → find text_cmp to rows ≡ o →
+filled_find : (rows : List OwnRow) (to dest : Text) (o : Option Progress) → find text_cmp to rows ≡ o →
     find text_cmp dest (filled_at rows to o) ≡ cond (eq_by_cmp text_cmp dest to) (Some (arrived_row o)) (find text_cmp dest rows)
 filled_find rows to dest None h = find-put text_cmp texts.total dest to (Waiting 0 0) rows
 filled_find rows to dest (Some Dropped) h = find-put text_cmp texts.total dest to (Waiting 0 0) rows
@@ -110,7 +110,7 @@ three : {X : Type 0} (a b : Bool) (x f g : X) → cond (a && b) x (cond a f g) �
 three true b x f g = refl
 three false b x f g = refl
 
-rows_fill : (tos : List Text) (m : FinMap pair_cmp Progress) (rows : List Row) (g : Text → Text → Option Progress) (uid : Text) →
+rows_fill : (tos : List Text) (m : FinMap pair_cmp Progress) (rows : List OwnRow) (g : Text → Text → Option Progress) (uid : Text) →
     ((u d : Text) → map.get m (u, d) ≡ cond (eq_by_cmp text_cmp u uid) (find text_cmp d rows) (g u d)) →
     (u d : Text) → map.get (with_rows m uid tos) (u, d) ≡ cond (eq_by_cmp text_cmp u uid) (find text_cmp d (filled rows tos)) (g u d)
 unfolding with_rows
@@ -262,14 +262,14 @@ abbrev opened : Option Progress → Option Progress
 opened None = None
 opened (Some row) = cond (is_queued row) (Some row) None
 
-none_below : (k x : Text) (es : List Row) → T (below_all text_cmp x es) → eq_by_cmp text_cmp k x ≡ true → find text_cmp k es ≡ None
+none_below : (k x : Text) (es : List OwnRow) → T (below_all text_cmp x es) → eq_by_cmp text_cmp k x ≡ true → find text_cmp k es ≡ None
 none_below k x es h t = at_found (find text_cmp k es) refl
   where
     at_found : (o : Option Progress) → find text_cmp k es ≡ o → find text_cmp k es ≡ None
     at_found None e = e
     at_found (Some v) e = absurd (no_both _ t (above x k v es h e))
 
-find_open : (dest : Text) (rows : List Row) → T (is_sorted text_cmp rows) → find text_cmp dest (filter is_open rows) ≡ opened (find text_cmp dest rows)
+find_open : (dest : Text) (rows : List OwnRow) → T (is_sorted text_cmp rows) → find text_cmp dest (filter is_open rows) ≡ opened (find text_cmp dest rows)
 find_open dest [] h = refl
 find_open dest (e ∷ es) h = by_case (find_open dest es (t_right _ _ h)) (eq_by_cmp text_cmp dest e.0) refl (is_open e) refl
   where

@@ -23,7 +23,7 @@ use Rattle.dr_ledger_memory.specs.declared.held.Held.{Held as Entry}
 use Rattle.dr_ledger_memory.specs.declared.parts.Parts.{Parts}
 use Rattle.dr_ledger_memory.specs.Changes.{at}
 use Rattle.dr_ledger_memory.specs.Contents.{content}
-use Rattle.dr_ledger_memory.specs.Entries.{Row, instance_in, row_in}
+use Rattle.dr_ledger_memory.specs.Entries.{OwnRow, instance_in, row_in}
 use Rattle.dr_ledger_memory.specs.Unfits.{AllFit, RowFits, IsUnfitRow, UnfitsIn}
 use Rattle.dr_ledger_memory.proofs.Lookups.{Es, In, IsInOrder, head_of, item_at, rest_of, row_at}
 use Rattle.dr_ledger_memory.proofs.Whole.{above, nothing_found, t_left, t_right}
@@ -48,7 +48,7 @@ tied : (a b : Text) → a ≡ b → text_cmp a b ≡ Equal
 tied a b e = is_equal (text_cmp a b) (ap (λ x. is_eq (text_cmp x b)) e ∙ ties_itself texts b)
 
 -- a key that is found among keys above x
-higher : (x k : Text) (v : Progress) (es : List Row) → T (below_all text_cmp x es) → find text_cmp k es ≡ Some v → text_cmp x k ≡ Less
+higher : (x k : Text) (v : Progress) (es : List OwnRow) → T (below_all text_cmp x es) → find text_cmp k es ≡ Some v → text_cmp x k ≡ Less
 higher x k v [] h f = absurd (nothing_found v f)
 higher x k v (e ∷ es) h f = elim (cases_of (eq_by_cmp text_cmp k e.0)) [
   | inl t ↦ ap (text_cmp x) (tells_apart texts.exact k e.0 t) ∙ less (text_cmp x e.0) (t_left _ _ h)
@@ -58,7 +58,7 @@ higher x k v (e ∷ es) h f = elim (cases_of (eq_by_cmp text_cmp k e.0)) [
 -- ---- the rows of one uid
 module _ (next : Network) (name : Text) (entry : Entry) where
   -- those that are still to be looked at
-  pub record IsLeft (rest : List Row) : Type 0 where
+  pub record IsLeft (rest : List OwnRow) : Type 0 where
     pub sorted : T (is_sorted text_cmp rest)
     pub seen : (dest : Text) (row : Progress) → find text_cmp dest entry.rows.items ≡ Some row → RowFits next name entry dest row ⊎ (find text_cmp dest rest ≡ Some row)
     pub own : (dest : Text) (row : Progress) → find text_cmp dest rest ≡ Some row → find text_cmp dest entry.rows.items ≡ Some row
@@ -66,10 +66,10 @@ module _ (next : Network) (name : Text) (entry : Entry) where
   pub all_left : IsLeft entry.rows.items
   all_left = record { sorted = entry.ordered; seen = λ dest row h. inr h; own = λ dest row h. h }
 
-  apart : (r : Row) (rest : List Row) → T (is_sorted text_cmp (r ∷ rest)) → (dest : Text) (row : Progress) → find text_cmp dest rest ≡ Some row → find text_cmp dest (r ∷ rest) ≡ Some row
+  apart : (r : OwnRow) (rest : List OwnRow) → T (is_sorted text_cmp (r ∷ rest)) → (dest : Text) (row : Progress) → find text_cmp dest rest ≡ Some row → find text_cmp dest (r ∷ rest) ≡ Some row
   apart r rest s dest row h = ap (λ b. cond b (Some r.1) (find text_cmp dest rest)) (above r.0 dest row rest (t_left _ _ s) h) ∙ h
 
-  pub less_left : (r : Row) (rest : List Row) → IsLeft (r ∷ rest) → RowFits next name entry r.0 r.1 → IsLeft rest
+  pub less_left : (r : OwnRow) (rest : List OwnRow) → IsLeft (r ∷ rest) → RowFits next name entry r.0 r.1 → IsLeft rest
   less_left r rest l fits = record {
     sorted = t_right _ _ l.sorted;
     seen = λ dest row h. elim (l.seen dest row h) [ inl f ↦ inl f | inr there ↦ by_case dest row (eq_by_cmp text_cmp dest r.0) refl there ];
@@ -78,7 +78,7 @@ module _ (next : Network) (name : Text) (entry : Entry) where
     where
       by_case : (dest : Text) (row : Progress) (b : Bool) → eq_by_cmp text_cmp dest r.0 ≡ b → cond b (Some r.1) (find text_cmp dest rest) ≡ Some row → RowFits next name entry dest row ⊎ (find text_cmp dest rest ≡ Some row)
       by_case dest row true t h =
-          (let P : Row → Type 0 = λ x. RowFits next name entry x.0 x.1 in
+          (let P : OwnRow → Type 0 = λ x. RowFits next name entry x.0 x.1 in
           let d : r.0 ≡ dest = sym (tells_apart texts.exact dest r.0 t) in
           let e : r.1 ≡ row = inside r.1 row h in
           inl (subst P (λ j. (d j, e j)) fits))
@@ -87,7 +87,7 @@ module _ (next : Network) (name : Text) (entry : Entry) where
   pub none_left : IsLeft [] → UnfitsIn next name entry None
   none_left l dest row h = elim (l.seen dest row h) [ inl f ↦ f | inr there ↦ absurd (nothing_found row there) ]
 
-  pub first_left : (r : Row) (rest : List Row) → IsLeft (r ∷ rest) → IsUnfitRow next name entry r.0 r.1 → UnfitsIn next name entry (Some r.0)
+  pub first_left : (r : OwnRow) (rest : List OwnRow) → IsLeft (r ∷ rest) → IsUnfitRow next name entry r.0 r.1 → UnfitsIn next name entry (Some r.0)
   first_left r rest l unfit = (
     (r.1, l.own r.0 r.1 (ap (λ b. cond b (Some r.1) (find text_cmp r.0 rest)) (ties_itself texts r.0)), unfit),
     λ other its h u. elim (l.seen other its h) [ inl f ↦ absurd (u.1 (f u.0)) | inr there ↦ by_case other its (eq_by_cmp text_cmp other r.0) refl there ],

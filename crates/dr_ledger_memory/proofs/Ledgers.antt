@@ -43,10 +43,10 @@ use Rattle.dr_ledger_memory.specs.declared.held.Held.{Held as Entry}
 use Rattle.dr_ledger_memory.specs.declared.parts.Bringing.{Bringing}
 use Rattle.dr_ledger_memory.specs.declared.parts.Parts.{Parts}
 use Rattle.dr_ledger_memory.specs.Bringings.{IsFor}
-use Rattle.dr_ledger_memory.specs.Changes.{IsAdoptedInParts, IsBrought, IsDroppedInParts, IsForgottenInParts, IsMoved, IsNoted, IsPrunedIn, IsPutAt, IsSame, MovesAt, PrunesAll, Tree, at}
+use Rattle.dr_ledger_memory.specs.Changes.{IsAdoptedInParts, HasBrought, IsDroppedInParts, IsForgottenInParts, IsMoved, IsNoted, IsPrunedIn, IsPutAt, AreSameParts, MovesAt, PrunesAll, Tree, at}
 use Rattle.dr_ledger_memory.specs.Contents.{all_rows, collected, content, data_sets, kept_mark, keys}
 use Rattle.dr_ledger_memory.specs.Dues.{Covers, Due, due_cmp}
-use Rattle.dr_ledger_memory.specs.Entries.{IsTaken, body_in, instance_in, is_kept_in, needs, let_go, row_in, rows_in}
+use Rattle.dr_ledger_memory.specs.Entries.{IsTakenAgain, body_in, instance_in, is_kept_in, needs, let_go, row_in, rows_in}
 use Rattle.dr_ledger_memory.specs.Sound.{AreWhole, PartsAreSound}
 use Rattle.dr_ledger_memory.proofs.Content.{adopted_is, dropped_so, forgotten_is, left_at, brought_is, opened_some, pruned_row, repeated_is, requeued_so, same_content, same_data_sets, settled_so}
 use Rattle.dr_ledger_memory.proofs.Lookups.{body_at, item_at, row_at}
@@ -80,7 +80,7 @@ module _ (p : Parts) (held : p.held.entries ≡ []) (arrivals : p.arrivals.keys 
   }
 
 -- ---- where nothing but the keys and the room has changed
-pub same_sound : (part : Part) (p q : Parts) → IsSame p q → (Covers p.waiting p.held → Covers q.waiting q.held) → PartsAreSound part p → PartsAreSound part q
+pub same_sound : (part : Part) (p q : Parts) → AreSameParts p q → (Covers p.waiting p.held → Covers q.waiting q.held) → PartsAreSound part p → PartsAreSound part q
 same_sound part p q s covers h = record {
   journalled = journal_same (site_routing part) (content p) (content q) (same_content p q s) h.journalled;
   whole = whole_same p.held q.held s.held h.whole;
@@ -115,7 +115,7 @@ keep_is part caller key keep h =
 module _ (part : Part) (p q : Parts) (sp : tree.IsOrdered text_cmp p.held) (sq : tree.IsOrdered text_cmp q.held) (caller : Text) (job : Job) (targets : Targets) (new : Bringing)
     (sends : (to : Text) → Contains targets.to to ↔ SendsFrom part caller job.key to) (ordered : IsInByteOrder targets.to) (keeps : IsTrue targets.keep ↔ KeepsAt part caller job.key)
     (f : IsFor caller job targets (rows_in (at p.held job.uid)) new) (admitted : IsAdmitted (site_routing part) caller (instance_of job) (content p))
-    (first : set.contains (content p).arrivals (caller, job.uid) ≡ false) (b : IsBrought p new q) where
+    (first : set.contains (content p).arrivals (caller, job.uid) ≡ false) (b : HasBrought p new q) where
   put : IsPutAt p.held job.uid b.after q.held
   put other = b.held other ∙ ap (λ u. cond (eq_by_cmp text_cmp other u) (Some b.after) (at p.held other)) f.uid
 
@@ -134,7 +134,7 @@ module _ (part : Part) (p q : Parts) (sp : tree.IsOrdered text_cmp p.held) (sq :
   pub taken : Arrives (site_routing part) caller (instance_of job) (content p) (Ok New) (content q)
   taken = (admitted, first, book_is)
 
-  its_taken : IsTaken (at p.held job.uid) (instance_of job) b.after.rows.items targets.keep job.body b.after
+  its_taken : IsTakenAgain (at p.held job.uid) (instance_of job) b.after.rows.items targets.keep job.body b.after
   its_taken = record {
     instance_is = b.taken.instance_is ∙ (λ j. unwrap_or (instance_in (at p.held (f.uid j))) (f.instance j));
     kept = b.taken.kept ∙ (λ j. is_kept_in (at p.held (f.uid j)) || f.keep j);
@@ -257,7 +257,7 @@ module _ (routing : Routing) (p : Parts) (sp : tree.IsOrdered text_cmp p.held) (
   conflicting entry there differ = (entry.instance, item_at p sp item.uid ∙ ap instance_in there, differ)
 
 -- ---- a call that went through, or for which there was no memory
-pub repeat_kept : (part : Part) (p q : Parts) (caller : Text) (item : Instance) (note : JournalLine) → IsNoted p note q ⊎ IsSame p q → line_of note ≡ Repeat caller item → IsAdmitted (site_routing part) caller item (content p) →
+pub repeat_kept : (part : Part) (p q : Parts) (caller : Text) (item : Instance) (note : JournalLine) → IsNoted p note q ⊎ AreSameParts p q → line_of note ≡ Repeat caller item → IsAdmitted (site_routing part) caller item (content p) →
     set.contains (content p).arrivals (caller, item.uid) ≡ true → q.held ≡ p.held → q.waiting ≡ p.waiting → ∥ PartsAreSound part p ∥₁ → ∥ PartsAreSound part q ∥₁
 repeat_kept part p q caller item note change line admitted again held waiting h = elim change [
   | inl n ↦ ∥∥₁_map h (repeat_sound part p q caller item note n line admitted again held waiting)
@@ -268,7 +268,7 @@ repeat_kept part p q caller item note change line admitted again held waiting h 
 pub bring_kept : (part : Part) (p q : Parts) (sp : tree.IsOrdered text_cmp p.held) (sq : tree.IsOrdered text_cmp q.held) (caller : Text) (job : Job) (targets : Targets) (new : Bringing)
     (sends : (to : Text) → Contains targets.to to ↔ SendsFrom part caller job.key to) (ordered : IsInByteOrder targets.to) (keeps : IsTrue targets.keep ↔ KeepsAt part caller job.key)
     (f : IsFor caller job targets (rows_in (at p.held job.uid)) new) (admitted : IsAdmitted (site_routing part) caller (instance_of job) (content p))
-    (first : set.contains (content p).arrivals (caller, job.uid) ≡ false) → IsBrought p new q ⊎ IsSame p q → (Covers p.waiting p.held → Covers q.waiting q.held) → ∥ PartsAreSound part p ∥₁ → ∥ PartsAreSound part q ∥₁
+    (first : set.contains (content p).arrivals (caller, job.uid) ≡ false) → HasBrought p new q ⊎ AreSameParts p q → (Covers p.waiting p.held → Covers q.waiting q.held) → ∥ PartsAreSound part p ∥₁ → ∥ PartsAreSound part q ∥₁
 bring_kept part p q sp sq caller job targets new sends ordered keeps f admitted first change covers h = elim change [
   | inl b ↦ ∥∥₁_map h (taken_sound part p q sp sq caller job targets new sends ordered keeps f admitted first b covers)
   | inr s ↦ ∥∥₁_map h (same_sound part p q s covers)
@@ -276,7 +276,7 @@ bring_kept part p q sp sq caller job targets new sends ordered keeps f admitted 
 
 pub settle_kept : (part : Part) (p q : Parts) (sp : tree.IsOrdered text_cmp p.held) (sq : tree.IsOrdered text_cmp q.held) (uid dest : Text) (progress : Progress) (note : JournalLine) (outcome : Outcome) (now tries due : ℕ) →
     map.get (content p).rows (uid, dest) ≡ Some (Waiting tries due) → now ≤ 2 ^ 62 → progress ≡ row_after tries outcome now → line_of note ≡ Settling uid dest outcome now →
-    IsMoved p uid dest progress note q ⊎ IsSame p q → (Covers p.waiting p.held → Covers q.waiting q.held) → ∥ PartsAreSound part p ∥₁ → ∥ PartsAreSound part q ∥₁
+    IsMoved p uid dest progress note q ⊎ AreSameParts p q → (Covers p.waiting p.held → Covers q.waiting q.held) → ∥ PartsAreSound part p ∥₁ → ∥ PartsAreSound part q ∥₁
 settle_kept part p q sp sq uid dest progress note outcome now tries due row early is line change covers h = elim change [
   | inl m ↦ ∥∥₁_map h (settled_sound part p q sp sq uid dest progress note outcome now tries due row early is line m covers)
   | inr s ↦ ∥∥₁_map h (same_sound part p q s covers)
@@ -284,7 +284,7 @@ settle_kept part p q sp sq uid dest progress note outcome now tries due row earl
 
 pub requeue_kept : (part : Part) (p q : Parts) (sp : tree.IsOrdered text_cmp p.held) (sq : tree.IsOrdered text_cmp q.held) (uid dest : Text) (progress : Progress) (note : JournalLine) (why : Cause) →
     map.get (content p).rows (uid, dest) ≡ Some (Held why) → progress ≡ Waiting 0 0 → line_of note ≡ Requeuing uid dest →
-    IsMoved p uid dest progress note q ⊎ IsSame p q → (Covers p.waiting p.held → Covers q.waiting q.held) → ∥ PartsAreSound part p ∥₁ → ∥ PartsAreSound part q ∥₁
+    IsMoved p uid dest progress note q ⊎ AreSameParts p q → (Covers p.waiting p.held → Covers q.waiting q.held) → ∥ PartsAreSound part p ∥₁ → ∥ PartsAreSound part q ∥₁
 requeue_kept part p q sp sq uid dest progress note why row is line change covers h = elim change [
   | inl m ↦ ∥∥₁_map h (requeued_sound part p q sp sq uid dest progress note why row is line m covers)
   | inr s ↦ ∥∥₁_map h (same_sound part p q s covers)
@@ -292,7 +292,7 @@ requeue_kept part p q sp sq uid dest progress note why row is line change covers
 
 pub drop_kept : (part : Part) (p q : Parts) (sp : tree.IsOrdered text_cmp p.held) (sq : tree.IsOrdered text_cmp q.held) (uid dest : Text) (note : JournalLine) (now : ℕ) (why : Cause) →
     map.get (content p).rows (uid, dest) ≡ Some (Held why) → now ≤ 2 ^ 62 → line_of note ≡ Dropping uid dest now →
-    IsDroppedInParts p uid dest note q ⊎ IsSame p q → (Covers p.waiting p.held → Covers q.waiting q.held) → ∥ PartsAreSound part p ∥₁ → ∥ PartsAreSound part q ∥₁
+    IsDroppedInParts p uid dest note q ⊎ AreSameParts p q → (Covers p.waiting p.held → Covers q.waiting q.held) → ∥ PartsAreSound part p ∥₁ → ∥ PartsAreSound part q ∥₁
 drop_kept part p q sp sq uid dest note now why row early line change covers h = elim change [
   | inl d ↦ ∥∥₁_map h (dropped_sound part p q sp sq uid dest note now why row early line d covers)
   | inr s ↦ ∥∥₁_map h (same_sound part p q s covers)
@@ -301,7 +301,7 @@ drop_kept part p q sp sq uid dest note now why row early line change covers h = 
 pub adopt_kept : (part next : Part) (p q : Parts) (sp : tree.IsOrdered text_cmp p.held) (sq : tree.IsOrdered text_cmp q.held) → IsAdoptedInParts p q → q.waiting ≡ p.waiting → ∥ PartsAreSound part p ∥₁ → ∥ PartsAreSound next q ∥₁
 adopt_kept part next p q sp sq a waiting h = ∥∥₁_map h (adopted_sound part next p q sp sq a waiting)
 
-pub unadopted_kept : (part : Part) (p q : Parts) → IsSame p q → q.waiting ≡ p.waiting → ∥ PartsAreSound part p ∥₁ → ∥ PartsAreSound part q ∥₁
+pub unadopted_kept : (part : Part) (p q : Parts) → AreSameParts p q → q.waiting ≡ p.waiting → ∥ PartsAreSound part p ∥₁ → ∥ PartsAreSound part q ∥₁
 unadopted_kept part p q s waiting h = ∥∥₁_map h (same_sound part p q s (λ covers uid dest tries due r.
     subst (λ w. sorted.contains due_cmp w (dest, (due, uid)) ≡ true) (sym waiting) (covers uid dest tries due (ap (λ es. row_in (lookup (is_at (text_cmp uid)) es) dest) (sym s.held) ∙ r))))
 
@@ -309,7 +309,7 @@ unadopted_kept part p q s waiting h = ∥∥₁_map h (same_sound part p q s (λ
 pub row_there : (p : Parts) (sp : tree.IsOrdered text_cmp p.held) (uid dest : Text) (row : Progress) → map.get (content p).rows (uid, dest) ≡ Some row → IsSome (row_in (at p.held uid) dest)
 row_there p sp uid dest row h = subst IsSome (sym (sym (row_at p sp uid dest) ∙ h)) refl
 
-pub adopt_either : (part : Part) (p q : Parts) (sp : tree.IsOrdered text_cmp p.held) (sq : tree.IsOrdered text_cmp q.held) → IsAdoptedInParts p q ⊎ IsSame p q → q.waiting ≡ p.waiting → ∥ PartsAreSound part p ∥₁ → ∥ PartsAreSound part q ∥₁
+pub adopt_either : (part : Part) (p q : Parts) (sp : tree.IsOrdered text_cmp p.held) (sq : tree.IsOrdered text_cmp q.held) → IsAdoptedInParts p q ⊎ AreSameParts p q → q.waiting ≡ p.waiting → ∥ PartsAreSound part p ∥₁ → ∥ PartsAreSound part q ∥₁
 adopt_either part p q sp sq change waiting h = elim change [
   | inl a ↦ adopt_kept part part p q sp sq a waiting h
   | inr s ↦ unadopted_kept part p q s waiting h
@@ -343,7 +343,7 @@ module _ (p q : Parts) (sp : tree.IsOrdered text_cmp p.held) (sq : tree.IsOrdere
   }
 
 pub forget_kept : (part : Part) (p q : Parts) (sp : tree.IsOrdered text_cmp p.held) (sq : tree.IsOrdered text_cmp q.held) (uid : Text) (note : JournalLine) → IsOver (content p) uid → line_of note ≡ Forgetting uid →
-    IsForgottenInParts p uid note q ⊎ IsSame p q → q.waiting ≡ p.waiting → ∥ PartsAreSound part p ∥₁ → ∥ PartsAreSound part q ∥₁
+    IsForgottenInParts p uid note q ⊎ AreSameParts p q → q.waiting ≡ p.waiting → ∥ PartsAreSound part p ∥₁ → ∥ PartsAreSound part q ∥₁
 forget_kept part p q sp sq uid note over line change waiting h = elim change [
   | inl f ↦ ∥∥₁_map h (forgotten_sound p q sp sq uid note f part over line waiting)
   | inr s ↦ unadopted_kept part p q s waiting h

@@ -24,7 +24,7 @@ use Rattle.dr_ledger.proofs.Maps.{texts, text_pairs, ties_itself}
 use Rattle.dr_ledger_memory.specs.declared.held.Held.{Held as Entry}
 use Rattle.dr_ledger_memory.specs.declared.parts.Parts.{Parts}
 use Rattle.dr_ledger_memory.specs.Contents.{all_rows, collected, content, kept_list, kept_mark, keys, one_more, own_rows}
-use Rattle.dr_ledger_memory.specs.Entries.{Row, instance_in}
+use Rattle.dr_ledger_memory.specs.Entries.{OwnRow, instance_in}
 use Rattle.dr_ledger_memory.specs.Changes.{at}
 use Rattle.dr_ledger_memory.proofs.Lookups.{arrival_at, head_of, item_at, rest_of}
 use Rattle.dr_ledger_memory.proofs.Whole.{t_left, t_right}
@@ -66,13 +66,13 @@ below_joined x [] ys h k = k
 below_joined x (e ∷ xs) ys h k = both (is_lt (pair_cmp x e.0)) _ (t_left _ _ h) (below_joined x xs ys (t_right _ _ h) k)
 
 -- rows of one uid are below each other as their destinations are
-below_own : (uid dest : Text) (rows : List Row) → T (below_all text_cmp dest rows) → T (below_all pair_cmp (uid, dest) (own_rows uid rows))
+below_own : (uid dest : Text) (rows : List OwnRow) → T (below_all text_cmp dest rows) → T (below_all pair_cmp (uid, dest) (own_rows uid rows))
 below_own uid dest [] h = tt
 below_own uid dest (row ∷ rows) h =
     both (is_lt (pair_cmp (uid, dest) (uid, row.0))) _ (subst (λ r. T (is_lt r)) (sym (equal_then (text_cmp uid uid) (text_cmp dest row.0) (same_text uid))) (t_left _ _ h)) (below_own uid dest rows (t_right _ _ h))
 
 -- rows of a uid are below those of a greater one
-below_others : (uid dest other : Text) (rows : List Row) → text_cmp uid other ≡ Less → T (below_all pair_cmp (uid, dest) (own_rows other rows))
+below_others : (uid dest other : Text) (rows : List OwnRow) → text_cmp uid other ≡ Less → T (below_all pair_cmp (uid, dest) (own_rows other rows))
 below_others uid dest other [] h = tt
 below_others uid dest other (row ∷ rows) h = both (is_lt (pair_cmp (uid, dest) (other, row.0))) _ (lesser _ (then_less (text_cmp uid other) (text_cmp dest row.0) h)) (below_others uid dest other rows h)
 
@@ -80,7 +80,7 @@ below_later : (uid dest : Text) (es : List (Text × Entry)) → AllByRecursion (
 below_later uid dest [] h = tt
 below_later uid dest (e ∷ es) h = below_joined (uid, dest) (own_rows e.0 e.1.rows.items) (all_rows es) (below_others uid dest e.0 e.1.rows.items h.0) (below_later uid dest es h.1)
 
-joined_sorted : (uid : Text) (rows : List Row) (es : List (Text × Entry)) → T (is_sorted text_cmp rows) → AllByRecursion (λ y. text_cmp uid y ≡ Less) (keys_of es) → T (is_sorted pair_cmp (all_rows es)) →
+joined_sorted : (uid : Text) (rows : List OwnRow) (es : List (Text × Entry)) → T (is_sorted text_cmp rows) → AllByRecursion (λ y. text_cmp uid y ≡ Less) (keys_of es) → T (is_sorted pair_cmp (all_rows es)) →
     T (is_sorted pair_cmp (own_rows uid rows ++ all_rows es))
 joined_sorted uid [] es s h later = later
 joined_sorted uid (row ∷ rows) es s h later =

@@ -22,7 +22,7 @@ use Rattle.dr_ledger_memory.specs.declared.held.Held.{Held as Entry}
 use Rattle.dr_ledger_memory.specs.declared.parts.Parts.{Parts}
 use Rattle.dr_ledger_memory.specs.Changes.{at}
 use Rattle.dr_ledger_memory.specs.Contents.{all_rows, collected, content, data_sets, kept_mark, keys, one_more, own_rows}
-use Rattle.dr_ledger_memory.specs.Entries.{Row, body_in, instance_in, is_kept_in, row_in}
+use Rattle.dr_ledger_memory.specs.Entries.{OwnRow, body_in, instance_in, is_kept_in, row_in}
 
 -- what f finds in the entry of a uid
 abbrev pub found_in : {X : Type 0} → (Entry → Option X) → Option Entry → Option X
@@ -107,7 +107,7 @@ nothing true = refl
 nothing false = refl
 
 -- the rows of one uid
-find_own : (uid dest x : Text) (rows : List Row) → find pair_cmp (uid, dest) (own_rows x rows) ≡ cond (eq_by_cmp text_cmp uid x) (find text_cmp dest rows) None
+find_own : (uid dest x : Text) (rows : List OwnRow) → find pair_cmp (uid, dest) (own_rows x rows) ≡ cond (eq_by_cmp text_cmp uid x) (find text_cmp dest rows) None
 find_own uid dest x [] = nothing (eq_by_cmp text_cmp uid x)
 find_own uid dest x (row ∷ rows) =
     ap (λ b. cond b (Some row.1) (find pair_cmp (uid, dest) (own_rows x rows))) (pair_ties (text_cmp uid x) (text_cmp dest row.0))

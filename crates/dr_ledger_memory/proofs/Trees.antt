@@ -25,7 +25,7 @@ use Rattle.dr_ledger.proofs.Maps.{texts, text_pairs, cases_of}
 use Rattle.dr_ledger_memory.specs.declared.held.Held.{Held as Entry}
 use Rattle.dr_ledger_memory.specs.Changes.{IsPrunedIn, IsPutAt, Tree, at}
 use Rattle.dr_ledger_memory.specs.Dues.{Covers, Due, Grows, due_cmp}
-use Rattle.dr_ledger_memory.specs.Entries.{IsPruned, IsTaken, Row, row_in}
+use Rattle.dr_ledger_memory.specs.Entries.{IsPruned, IsTakenAgain, OwnRow, row_in}
 
 pub put_at : (m n : Tree) (uid : Text) (w : Entry) → ((q : Text) → at n q ≡ cond (is_at (text_cmp uid) q) (Some w) (at m q)) → IsPutAt m uid w n
 put_at m n uid w u q = u q ∙ ap (λ b. cond b (Some w) (at m q)) ((eq_by_cmp_equiv texts.total).symm uid q)
@@ -39,10 +39,10 @@ pub set_put : {K : Type 0} {R : K → K → Ordering} → IsTotalOrder R → (s 
 set_put {R = R} o s n k u q = u q ∙ (either (is_at (R k) q) (sorted.contains R s q) ∙ ap (λ b. b || sorted.contains R s q) ((eq_by_cmp_equiv o).symm k q))
 
 -- the instance that was there stays
-pub known_taken : (o : Option Entry) (before : Entry) (instance : Instance) (rows : List Row) (keep : Bool) (body : List ℕ) (after : Entry) → o ≡ Some before →
-    IsTaken (Some before) before.instance rows keep body after → IsTaken o instance rows keep body after
+pub known_taken : (o : Option Entry) (before : Entry) (instance : Instance) (rows : List OwnRow) (keep : Bool) (body : List ℕ) (after : Entry) → o ≡ Some before →
+    IsTakenAgain (Some before) before.instance rows keep body after → IsTakenAgain o instance rows keep body after
 known_taken o before instance rows keep body after e t =
-    let P : Option Entry → Type 0 = λ x. IsTaken x instance rows keep body after in
+    let P : Option Entry → Type 0 = λ x. IsTakenAgain x instance rows keep body after in
     subst P (sym e) (record { instance_is = t.instance_is; kept = t.kept; rows_are = t.rows_are; body_is = t.body_is })
 
 -- a new uid that is taken out again leaves what was there
@@ -65,13 +65,13 @@ pub either_way : {A E : Type 0} {P Q : Type 0} (r : Result A E) → OnOk r P →
 either_way (Ok value) ok err = inl ok
 either_way (Err why) ok err = inr err
 
-pub in_list : (k : Text) (v : Progress) (es : List Row) → find text_cmp k es ≡ Some v → Contains es (k, v)
+pub in_list : (k : Text) (v : Progress) (es : List OwnRow) → find text_cmp k es ≡ Some v → Contains es (k, v)
 in_list k v [] f = absurd (let e : ⊥ = cc in e)
 in_list k v (e ∷ es) f = elim (cases_of (eq_by_cmp text_cmp k e.0)) [
   | inl t ↦
       (let same : k ≡ e.0 = tells_apart texts.exact k e.0 t in
       let is : e.1 ≡ v = inside e.1 v (sym (ap (λ b. cond b (Some e.1) (find text_cmp k es)) t) ∙ f) in
-      let P : Row → Type 0 = λ x. Contains (e ∷ es) x in
+      let P : OwnRow → Type 0 = λ x. Contains (e ∷ es) x in
       subst P (λ j. (sym same j, is j)) (Contains-here e es))
   | inr t ↦ Contains-there e es (k, v) (in_list k v es (sym (ap (λ b. cond b (Some e.1) (find text_cmp k es)) t) ∙ f))
 ]
@@ -95,7 +95,7 @@ moved_case true progress old row X e f g = f refl e
 moved_case false progress old row X e f g = g refl e
 
 -- the rows of a uid, of which one has moved on
-pub moved_own : (w v : sorted.BTreeSet Due) (uid dest : Text) (progress : Progress) (rows : List Row) → Grows w v →
+pub moved_own : (w v : sorted.BTreeSet Due) (uid dest : Text) (progress : Progress) (rows : List OwnRow) → Grows w v →
     ((tries due : ℕ) → progress ≡ Waiting tries due → sorted.contains due_cmp v (dest, (due, uid)) ≡ true) →
     ((d : Text) (tries due : ℕ) → find text_cmp d rows ≡ Some (Waiting tries due) → sorted.contains due_cmp w (d, (due, uid)) ≡ true) →
     (d : Text) (tries due : ℕ) → find text_cmp d (put text_cmp dest progress rows) ≡ Some (Waiting tries due) → sorted.contains due_cmp v (d, (due, uid)) ≡ true
@@ -129,7 +129,7 @@ has_entry None dest h = h
 has_entry (Some entry) dest h = refl
 
 -- the keys of a uid's rows are there
-pub brought_covers : (w v : sorted.BTreeSet Due) (p q : Tree) (uid : Text) (rows : List Row) (after : Entry) → Grows w v → IsPutAt p uid after q → after.rows.items ≡ rows →
+pub brought_covers : (w v : sorted.BTreeSet Due) (p q : Tree) (uid : Text) (rows : List OwnRow) (after : Entry) → Grows w v → IsPutAt p uid after q → after.rows.items ≡ rows →
     ((dest : Text) (tries due : ℕ) → Contains rows (dest, Waiting tries due) → sorted.contains due_cmp v (dest, (due, uid)) ≡ true) → Covers w p → Covers v q
 brought_covers w v p q uid rows after grows put is there = covers_put w v p q uid after grows put
     (λ dest tries due f. there dest tries due (in_list dest (Waiting tries due) rows (ap (find text_cmp dest) (sym is) ∙ f)))

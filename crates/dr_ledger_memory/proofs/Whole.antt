@@ -20,7 +20,7 @@ use Rattle.dr_ledger_memory.specs.declared.held.Held.{Held as Entry}
 use Rattle.dr_ledger_memory.specs.declared.parts.Parts.{Parts}
 use Rattle.dr_ledger_memory.specs.Changes.{IsPrunedIn, IsPutAt, PrunesAll, Tree, at}
 use Rattle.dr_ledger_memory.specs.Contents.{content, data_sets}
-use Rattle.dr_ledger_memory.specs.Entries.{IsMovedOn, IsPruned, IsTaken, Row, body_in, instance_in, is_kept_in, is_open, let_go, needs, row_in}
+use Rattle.dr_ledger_memory.specs.Entries.{IsMovedOn, IsPruned, IsTakenAgain, OwnRow, body_in, instance_in, is_kept_in, is_open, let_go, needs, row_in}
 use Rattle.dr_ledger_memory.specs.Sound.{AreWhole, EntryIsWhole}
 use Rattle.dr_ledger_memory.proofs.Lookups.{body_at, item_at, kept_at, row_at}
 
@@ -58,7 +58,7 @@ less Greater h = absurd h
 
 -- ---- rows that are still queued
 -- a key that is found among keys above x is above x
-pub above : (x k : Text) (v : Progress) (es : List Row) → T (below_all text_cmp x es) → find text_cmp k es ≡ Some v → eq_by_cmp text_cmp k x ≡ false
+pub above : (x k : Text) (v : Progress) (es : List OwnRow) → T (below_all text_cmp x es) → find text_cmp k es ≡ Some v → eq_by_cmp text_cmp k x ≡ false
 above x k v [] h f = absurd (nothing_found v f)
 above x k v (e ∷ es) h f = elim (cases_of (eq_by_cmp text_cmp k e.0)) [
   | inl t ↦
@@ -69,7 +69,7 @@ above x k v (e ∷ es) h f = elim (cases_of (eq_by_cmp text_cmp k e.0)) [
   | inr t ↦ above x k v es (t_right _ _ h) (sym (ap (λ b. cond b (Some e.1) (find text_cmp k es)) t) ∙ f)
 ]
 
-some_row : (rows : List Row) → T (is_sorted text_cmp rows) → list_any is_open rows ≡ true → (dest : Text) × (row : Progress) × (find text_cmp dest rows ≡ Some row) × (is_queued row ≡ true)
+some_row : (rows : List OwnRow) → T (is_sorted text_cmp rows) → list_any is_open rows ≡ true → (dest : Text) × (row : Progress) × (find text_cmp dest rows ≡ Some row) × (is_queued row ≡ true)
 some_row [] h a = absurd (let e : ⊥ = cc in e)
 some_row (e ∷ es) h a = elim (one_of (is_open e) (list_any is_open es) a) [
   | inl now ↦ (e.0, e.1, ap (λ b. cond b (Some e.1) (find text_cmp e.0 es)) (ties_itself texts e.0), now)
@@ -78,7 +78,7 @@ some_row (e ∷ es) h a = elim (one_of (is_open e) (list_any is_open es) a) [
       (r.0, r.1, ap (λ b. cond b (Some e.1) (find text_cmp r.0 es)) (above e.0 r.0 r.1 es (t_left _ _ h) r.2) ∙ r.2, r.3))
 ]
 
-pub row_some : (dest : Text) (row : Progress) (rows : List Row) → find text_cmp dest rows ≡ Some row → is_queued row ≡ true → list_any is_open rows ≡ true
+pub row_some : (dest : Text) (row : Progress) (rows : List OwnRow) → find text_cmp dest rows ≡ Some row → is_queued row ≡ true → list_any is_open rows ≡ true
 row_some dest row [] f n = absurd (nothing_found row f)
 row_some dest row (e ∷ es) f n = elim (cases_of (eq_by_cmp text_cmp dest e.0)) [
   | inl t ↦
@@ -159,7 +159,7 @@ taken_body : (n : Bool) (x body : List ℕ) → let_go n (Some x) ≡ Some body 
 taken_body true x body h = inside x body h
 taken_body false x body h = absurd (nothing_found body h)
 
-pub taken_whole : (o : Option Entry) (item : Job) (rows : List Row) (keep : Bool) (after : Entry) → IsTaken o (instance_of item) rows keep item.body after → IsItem item →
+pub taken_whole : (o : Option Entry) (item : Job) (rows : List OwnRow) (keep : Bool) (after : Entry) → IsTakenAgain o (instance_of item) rows keep item.body after → IsItem item →
     ((entry : Entry) → o ≡ Some entry → EntryIsWhole entry) → ((entry : Entry) → o ≡ Some entry → entry.instance ≡ instance_of item) → EntryIsWhole after
 taken_whole None item rows keep after t is whole same = record {
   there = ap is_some t.body_is ∙ taken_there (needs after.is_kept after.rows.items) item.body;
@@ -188,7 +188,7 @@ moved_whole before after dest progress was m is isnt w = record {
   own = λ body h. (let i = w.own body (moved_body (needs after.is_kept after.rows.items) before.body body (sym m.body_is ∙ h)) in (i.0, i.1, i.2, m.instance_is ∙ i.3));
 }
 
-still_open : (rows : List Row) → list_any is_open (filter is_open rows) ≡ list_any is_open rows
+still_open : (rows : List OwnRow) → list_any is_open (filter is_open rows) ≡ list_any is_open rows
 still_open [] = refl
 still_open (row ∷ rows) = elim (cases_of (is_open row)) [
   | inl t ↦ ap (λ b. list_any is_open (cond b (row ∷ filter is_open rows) (filter is_open rows))) t ∙ (or_now (is_open row) _ t ∙ sym (or_now (is_open row) _ t))
@@ -213,7 +213,7 @@ both_so : (a b : Bool) → T a → T b → T (a && b)
 both_so true b h k = k
 both_so false b h k = h
 
-below_filter : (p : Row → Bool) (x : Text) (es : List Row) → T (below_all text_cmp x es) → T (below_all text_cmp x (filter p es))
+below_filter : (p : OwnRow → Bool) (x : Text) (es : List OwnRow) → T (below_all text_cmp x es) → T (below_all text_cmp x (filter p es))
 below_filter p x [] h = tt
 below_filter p x (e ∷ es) h = kept (p e) (below_filter p x es (t_right _ _ h))
   where
@@ -221,7 +221,7 @@ below_filter p x (e ∷ es) h = kept (p e) (below_filter p x es (t_right _ _ h))
     kept true later = both_so (is_lt (text_cmp x e.0)) _ (t_left _ _ h) later
     kept false later = later
 
-pub sorted_filter : (p : Row → Bool) (es : List Row) → T (is_sorted text_cmp es) → T (is_sorted text_cmp (filter p es))
+pub sorted_filter : (p : OwnRow → Bool) (es : List OwnRow) → T (is_sorted text_cmp es) → T (is_sorted text_cmp (filter p es))
 sorted_filter p [] h = tt
 sorted_filter p (e ∷ es) h = kept (p e) (sorted_filter p es (t_right _ _ h))
   where

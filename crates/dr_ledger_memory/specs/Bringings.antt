@@ -10,14 +10,14 @@ use Rattle.dr_ledger_history.specs.declared.line.JournalLine.TheVariants as note
 use Rattle.dr_ledger_memory.specs.declared.bringing.Copies.{Copies}
 use Rattle.dr_ledger_memory.specs.declared.bringing.CopiedLine.{CopiedLine}
 use Rattle.dr_ledger_memory.specs.declared.parts.Bringing.{Bringing}
-use Rattle.dr_ledger_memory.specs.Entries.{Row, filled}
+use Rattle.dr_ledger_memory.specs.Entries.{OwnRow, filled}
 
 -- the line of the arrival
 abbrev pub note_for : Text → Job → Targets → JournalLine
 note_for caller item targets = note.Arrival caller (instance_of item) targets.to targets.keep
 
 -- all that the item's first arrival from the caller puts in, where the uid has these rows
-pub record IsFor (caller : Text) (item : Job) (targets : Targets) (rows : List Row)
+pub record IsFor (caller : Text) (item : Job) (targets : Targets) (rows : List OwnRow)
     (new : Bringing) : Type 0 where
   pub is_item : IsItem item
   pub arrival : new.arrival ≡ (caller, item.uid)
@@ -35,7 +35,7 @@ pub record IsLine (caller : Text) (item : Job) (line : CopiedLine) : Type 0 wher
   pub instance : line.instance ≡ instance_of item
 
 -- what is copied for it, where the uid has these rows
-pub record AreCopies (caller : Text) (item : Job) (to : List Text) (rows : List Row)
+pub record AreCopies (caller : Text) (item : Job) (to : List Text) (rows : List OwnRow)
     (copies : Copies) : Type 0 where
   pub arrival : copies.arrival ≡ (caller, item.uid)
   pub instance : copies.instance ≡ instance_of item

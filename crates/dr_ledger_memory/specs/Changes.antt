@@ -15,7 +15,7 @@ use Rattle.dr_ledger_memory.specs.declared.held.Held.{Held as Entry}
 use Rattle.dr_ledger_memory.specs.declared.parts.Bringing.{Bringing}
 use Rattle.dr_ledger_memory.specs.declared.parts.Parts.{Parts}
 use Rattle.dr_ledger_memory.specs.declared.parts.FurtherArrival.{FurtherArrival}
-use Rattle.dr_ledger_memory.specs.Entries.{IsMovedOn, IsPruned, IsTaken, Row}
+use Rattle.dr_ledger_memory.specs.Entries.{IsMovedOn, IsPruned, IsTakenAgain, OwnRow}
 
 -- what stands at each uid
 abbrev pub Tree : Type 0
@@ -35,11 +35,11 @@ IsSetAt old uid found new =
     (other : Text) → at new other ≡ cond (is_at (text_cmp uid) other) found (at old other)
 
 -- another arrival of the uid
-abbrev pub TakesAt : Tree → Text → List Row → Bool → List ℕ → Tree → Type 0
+abbrev pub TakesAt : Tree → Text → List OwnRow → Bool → List ℕ → Tree → Type 0
 TakesAt old uid rows keep body new =
     (before : Entry) × (after : Entry)
     × (at old uid ≡ Some before)
-    × IsTaken (Some before) before.instance rows keep body after
+    × IsTakenAgain (Some before) before.instance rows keep body after
     × IsPutAt old uid after new
 
 -- a row of it moves on
@@ -79,7 +79,7 @@ pub record IsRest (new : Bringing) (rest : FurtherArrival) : Type 0 where
   pub note : rest.note ≡ new.note
 
 -- the same book and data sets
-pub record IsSame (p q : Parts) : Type 0 where
+pub record AreSameParts (p q : Parts) : Type 0 where
   pub held : q.held.entries ≡ p.held.entries
   pub arrivals : AreAlike p.arrivals q.arrivals
   pub notes : q.notes.items ≡ p.notes.items
@@ -91,9 +91,9 @@ pub record IsNoted (p : Parts) (note : JournalLine) (q : Parts) : Type 0 where
   pub notes : q.notes.items ≡ p.notes.items ++ note ∷ []
 
 -- all that a first arrival puts in
-pub record IsBrought (p : Parts) (new : Bringing) (q : Parts) : Type 0 where
+pub record HasBrought (p : Parts) (new : Bringing) (q : Parts) : Type 0 where
   pub after : Entry
-  pub taken : IsTaken (at p.held new.uid) new.instance new.rows.items new.keep new.body after
+  pub taken : IsTakenAgain (at p.held new.uid) new.instance new.rows.items new.keep new.body after
   pub held : IsPutAt p.held new.uid after q.held
   pub arrivals : (key : Pair)
       → sorted.contains pair_cmp q.arrivals key

@@ -10,7 +10,7 @@ use Rattle.dr_ledger.specs.Pairs.{Pair}
 use Rattle.dr_ledger_history.specs.Lines.{lines_of}
 use Rattle.dr_ledger_memory.specs.declared.held.Held.{Held as Entry}
 use Rattle.dr_ledger_memory.specs.declared.parts.Parts.{Parts}
-use Rattle.dr_ledger_memory.specs.Entries.{Row}
+use Rattle.dr_ledger_memory.specs.Entries.{OwnRow}
 
 -- each uid with what f finds in its entry
 abbrev pub one_more : {X : Type 0} → Text → Option X → List (Text × X) → List (Text × X)
@@ -22,7 +22,7 @@ collected f [] = []
 collected f (e ∷ es) = one_more e.0 (f e.1) (collected f es)
 
 -- the rows of one uid
-abbrev pub own_rows : Text → List Row → List (Pair × Progress)
+abbrev pub own_rows : Text → List OwnRow → List (Pair × Progress)
 own_rows uid rows = mapped (λ row. ((uid, row.0), row.1)) rows
 
 -- and of all

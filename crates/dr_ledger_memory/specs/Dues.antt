@@ -10,7 +10,7 @@ use Rattle.dr_base.specs.Texts.{Text, text_cmp}
 use Rattle.dr_ledger.specs.declared.item.Progress.{Progress}
 use Rattle.dr_ledger.specs.declared.item.Progress.TheVariants.{Waiting, Held, Done, Dropped}
 use Rattle.dr_ledger_memory.specs.declared.held.Held.{Held as Entry}
-use Rattle.dr_ledger_memory.specs.Entries.{Row, row_in}
+use Rattle.dr_ledger_memory.specs.Entries.{OwnRow, row_in}
 
 -- a destination, since when a row to it is due, and the row's uid
 abbrev pub Due : Type 0
@@ -47,7 +47,7 @@ IsExpected uid dest row keys =
     → sorted.contains due_cmp keys (dest, (due, uid)) ≡ true
 
 -- the same of all rows of a uid
-abbrev pub AreExpected : Text → List Row → sorted.BTreeSet Due → Type 0
+abbrev pub AreExpected : Text → List OwnRow → sorted.BTreeSet Due → Type 0
 AreExpected uid rows keys =
     (dest : Text) (tries due : ℕ)
     → Contains rows (dest, Waiting tries due)

@@ -12,15 +12,15 @@ use Rattle.dr_ledger_history.specs.Trees.{stands}
 use Rattle.dr_ledger_memory.specs.declared.held.Held.{Held as Entry}
 
 -- a destination, and how far the instance is on its way to it
-abbrev pub Row : Type 0
-Row = Text × Progress
+abbrev pub OwnRow : Type 0
+OwnRow = Text × Progress
 
 -- it waits or is held
-abbrev pub is_open : Row → Bool
+abbrev pub is_open : OwnRow → Bool
 is_open row = is_queued row.1
 
 -- whether the data set is needed: the uid is kept, or a row of it waits or is held
-abbrev pub needs : Bool → List Row → Bool
+abbrev pub needs : Bool → List OwnRow → Bool
 needs kept rows = kept || list_any is_open rows
 
 -- the row to that destination
@@ -44,16 +44,16 @@ body_in None = None
 body_in (Some entry) = entry.body
 
 -- its rows
-abbrev pub rows_in : Option Entry → List Row
+abbrev pub rows_in : Option Entry → List OwnRow
 rows_in None = []
 rows_in (Some entry) = entry.rows.items
 
 -- a waiting row, where the destination has none, or one that was dropped
-abbrev pub filled_at : List Row → Text → Option Progress → List Row
+abbrev pub filled_at : List OwnRow → Text → Option Progress → List OwnRow
 filled_at rows to found = cond (stands found) rows (put text_cmp to (Waiting 0 0) rows)
 
 -- a waiting row for each destination that has none, or one that was dropped
-abbrev pub filled : List Row → List Text → List Row
+abbrev pub filled : List OwnRow → List Text → List OwnRow
 filled rows [] = rows
 filled rows (to ∷ more) = filled (filled_at rows to (find text_cmp to rows)) more
 
@@ -63,8 +63,8 @@ abbrev pub let_go : Bool → Option (List ℕ) → Option (List ℕ)
 let_go needed body = cond needed body None
 
 -- another arrival, or the first: these are the rows now, and the uid is kept if it was or is to be
-pub record IsTaken (old : Option Entry) (instance : Instance) (rows : List Row) (keep : Bool)
-    (body : List ℕ) (new : Entry) : Type 0 where
+pub record IsTakenAgain (old : Option Entry) (instance : Instance) (rows : List OwnRow)
+    (keep : Bool) (body : List ℕ) (new : Entry) : Type 0 where
   pub instance_is : new.instance ≡ unwrap_or (instance_in old) instance
   pub kept : new.is_kept ≡ (is_kept_in old || keep)
   pub rows_are : new.rows.items ≡ rows

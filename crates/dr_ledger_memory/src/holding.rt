@@ -3,7 +3,7 @@ ghost use Rattle.std.specs.Prelude.{◌≡◌, IfOk, OnOk, IsSome, None, Some, T
 ghost use Rattle.std.specs.List.{list_any};
 ghost use Rattle.std.specs.FinMap.{find, is_sorted};
 ghost use Rattle.dr_base.specs.Texts.{text_cmp};
-ghost use Rattle.dr_ledger_memory.specs.Entries.{IsMovedOn, IsPruned, IsTaken, let_go};
+ghost use Rattle.dr_ledger_memory.specs.Entries.{IsMovedOn, IsPruned, IsTakenAgain, let_go};
 ghost use Rattle.dr_ledger_memory.specs.Entries.{filled as filled_rows, filled_at};
 ghost use Rattle.dr_ledger_memory.specs.Entries.{is_open as is_open_row, needs, row_in};
 
@@ -35,7 +35,7 @@ impl Held {
     /// An arrival of a uid that is known: these are its rows from now on.
     pub fn take(&mut self, rows: Vec<(Text, Progress)>, keep: bool, body: Octets)
         requires { T (is_sorted text_cmp rows.items) }
-        ensures { IsTaken (Some self.old) self.old.instance rows.items keep body self.new }
+        ensures { IsTakenAgain (Some self.old) self.old.instance rows.items keep body self.new }
     {
         self.is_kept = self.is_kept || keep;
         self.rows = rows;
@@ -83,7 +83,7 @@ impl Held {
 /// A first arrival's.
 pub fn first(instance: Instance, rows: Vec<(Text, Progress)>, keep: bool, body: Octets) -> Held
     requires { T (is_sorted text_cmp rows.items) }
-    ensures { IsTaken None instance rows.items keep body result }
+    ensures { IsTakenAgain None instance rows.items keep body result }
 {
     let mut held = Held {
         instance,

@@ -8,7 +8,7 @@ ghost use Rattle.std.specs.Ordering.{eq_by_cmp};
 ghost use Rattle.dr_ledger.specs.Pairs.{Pair, pair_cmp};
 ghost use Rattle.dr_base.specs.Texts.{Text as Words, text_cmp};
 ghost use Rattle.dr_ledger_memory.specs.Dues.{AreExpected, Covers, Grows, IsExpected};
-ghost use Rattle.dr_ledger_memory.specs.Entries.{IsTaken, row_in};
+ghost use Rattle.dr_ledger_memory.specs.Entries.{IsTakenAgain, row_in};
 ghost use Rattle.dr_ledger_memory.specs.Changes.{AreAlike, IsSetAt, IsOneMore, IsRest, MovesAt};
 ghost use Rattle.dr_ledger_memory.specs.Changes.{PrunesAll, TakesAt};
 
@@ -54,9 +54,10 @@ struct FurtherArrival {
 }
 
 impl Parts {
-    ghost use Rattle.dr_ledger_memory.specs.Changes.{HasArrived, IsAdoptedInParts, IsBrought};
+    ghost use Rattle.dr_ledger_memory.specs.Changes.{HasArrived, IsAdoptedInParts, HasBrought};
     ghost use Rattle.dr_ledger_memory.specs.Changes.{IsDroppedInParts};
-    ghost use Rattle.dr_ledger_memory.specs.Changes.{IsForgottenInParts, IsMoved, IsNoted, IsSame};
+    ghost use Rattle.dr_ledger_memory.specs.Changes.{IsForgottenInParts, IsMoved, IsNoted};
+    ghost use Rattle.dr_ledger_memory.specs.Changes.{AreSameParts};
     ghost use Rattle.dr_ledger_memory.specs.Changes.{IsTakenOut};
 
     /// An empty book.
@@ -76,7 +77,7 @@ impl Parts {
     /// Adds a line alone; without memory nothing changes.
     pub fn try_note(&mut self, note: JournalLine) -> Result<(), AllocError>
         ensures ok { OnOk result (IsNoted self.old note self.new) }
-        ensures err { OnErr result (IsSame self.old self.new) }
+        ensures err { OnErr result (AreSameParts self.old self.new) }
         ensures held { self.new.held ≡ self.old.held }
         ensures waiting { self.new.waiting ≡ self.old.waiting }
     {
@@ -88,8 +89,8 @@ impl Parts {
     pub fn try_bring(&mut self, new: Bringing) -> Result<(), AllocError>
         requires rows { T (is_sorted text_cmp new.rows.items) }
         requires own { new.arrival.1 ≡ new.uid }
-        ensures ok { OnOk result (IsBrought self.old new self.new) }
-        ensures err { OnErr result (IsSame self.old self.new) }
+        ensures ok { OnOk result (HasBrought self.old new self.new) }
+        ensures err { OnErr result (AreSameParts self.old self.new) }
         ensures ordered { tree.IsOrdered text_cmp self.old.held
             → tree.IsOrdered text_cmp self.new.held }
         ensures covers { Covers self.old.waiting self.old.held
@@ -120,8 +121,8 @@ impl Parts {
         requires rows { T (is_sorted text_cmp new.rows.items) }
         requires room { vec_len self.old.notes < vec_capacity self.old.notes }
         requires own { new.arrival.1 ≡ new.uid }
-        ensures ok { OnOk result (IsBrought self.old new self.new) }
-        ensures err { OnErr result (IsSame self.old self.new) }
+        ensures ok { OnOk result (HasBrought self.old new self.new) }
+        ensures err { OnErr result (AreSameParts self.old self.new) }
         ensures ordered { tree.IsOrdered text_cmp self.old.held
             → tree.IsOrdered text_cmp self.new.held }
         ensures waiting { self.new.waiting ≡ self.old.waiting }
@@ -137,8 +138,8 @@ impl Parts {
         requires rows { T (is_sorted text_cmp new.rows.items) }
         requires room { vec_len self.old.notes < vec_capacity self.old.notes }
         requires known { IsSome (tree.get text_cmp self.old.held new.uid) }
-        ensures ok { OnOk result (IsBrought self.old new self.new) }
-        ensures err { OnErr result (IsSame self.old self.new) }
+        ensures ok { OnOk result (HasBrought self.old new self.new) }
+        ensures err { OnErr result (AreSameParts self.old self.new) }
         ensures ordered { tree.IsOrdered text_cmp self.old.held
             → tree.IsOrdered text_cmp self.new.held }
         ensures waiting { self.new.waiting ≡ self.old.waiting }
@@ -182,8 +183,8 @@ impl Parts {
         requires room { vec_len self.old.notes < vec_capacity self.old.notes }
         requires unknown { tree.get text_cmp self.old.held new.uid ≡ None }
         requires own { new.arrival.1 ≡ new.uid }
-        ensures ok { OnOk result (IsBrought self.old new self.new) }
-        ensures err { OnErr result (IsSame self.old self.new) }
+        ensures ok { OnOk result (HasBrought self.old new self.new) }
+        ensures err { OnErr result (AreSameParts self.old self.new) }
         ensures ordered { tree.IsOrdered text_cmp self.old.held
             → tree.IsOrdered text_cmp self.new.held }
         ensures waiting { self.new.waiting ≡ self.old.waiting }
@@ -229,7 +230,7 @@ impl Parts {
     ) -> Result<(), AllocError>
         requires there { IsSome (row_in (tree.get text_cmp self.old.held uid.now) dest.now) }
         ensures ok { OnOk result (IsMoved self.old uid.now dest.now progress note self.new) }
-        ensures err { OnErr result (IsSame self.old self.new) }
+        ensures err { OnErr result (AreSameParts self.old self.new) }
         ensures ordered { tree.IsOrdered text_cmp self.old.held
             → tree.IsOrdered text_cmp self.new.held }
         ensures covers { Covers self.old.waiting self.old.held
@@ -293,7 +294,7 @@ impl Parts {
     pub fn try_drop(&mut self, uid: &Text, dest: &Text, note: JournalLine) -> Result<(), AllocError>
         requires there { IsSome (row_in (tree.get text_cmp self.old.held uid.now) dest.now) }
         ensures ok { OnOk result (IsDroppedInParts self.old uid.now dest.now note self.new) }
-        ensures err { OnErr result (IsSame self.old self.new) }
+        ensures err { OnErr result (AreSameParts self.old self.new) }
         ensures ordered { tree.IsOrdered text_cmp self.old.held
             → tree.IsOrdered text_cmp self.new.held }
         ensures covers { Covers self.old.waiting self.old.held
@@ -311,7 +312,7 @@ impl Parts {
     /// Lets all that a uid has go, with a line; without memory nothing changes.
     pub fn try_forget(&mut self, uid: &Text, note: JournalLine) -> Result<(), AllocError>
         ensures ok { OnOk result (IsForgottenInParts self.old uid.now note self.new) }
-        ensures err { OnErr result (IsSame self.old self.new) }
+        ensures err { OnErr result (AreSameParts self.old self.new) }
         ensures ordered { tree.IsOrdered text_cmp self.old.held
             → tree.IsOrdered text_cmp self.new.held }
         ensures waiting { self.new.waiting ≡ self.old.waiting }
@@ -327,7 +328,7 @@ impl Parts {
     /// changes.
     pub fn try_adopt(&mut self) -> Result<(), AllocError>
         ensures ok { OnOk result (IsAdoptedInParts self.old self.new) }
-        ensures err { OnErr result (IsSame self.old self.new) }
+        ensures err { OnErr result (AreSameParts self.old self.new) }
         ensures ordered { tree.IsOrdered text_cmp self.old.held
             → tree.IsOrdered text_cmp self.new.held }
         ensures waiting { self.new.waiting ≡ self.old.waiting }
@@ -378,7 +379,7 @@ fn first_of(new: Bringing) -> ((Text, Text), Text, Held, JournalLine)
     requires { T (is_sorted text_cmp new.rows.items) }
     ensures arrival { result.0 ≡ new.arrival }
     ensures uid { result.1 ≡ new.uid }
-    ensures entry { IsTaken None new.instance new.rows.items new.keep new.body result.2 }
+    ensures entry { IsTakenAgain None new.instance new.rows.items new.keep new.body result.2 }
     ensures note { result.3 ≡ new.note }
 {
     let entry = first(new.instance, new.rows, new.keep, new.body);

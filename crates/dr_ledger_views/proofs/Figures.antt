@@ -1,8 +1,8 @@
 -- The figures of an example.
 use Rattle.std.proofs.Common.{◌≤◌, zero, suc, [], ◌∷◌, refl, arith, All}
-use Rattle.dr_ledger_views.specs.Laws.{FiguresAreRight}
+use Rattle.dr_ledger_views.specs.Laws.{ViewFiguresAreRight}
 
-pub figures : FiguresAreRight
+pub figures : ViewFiguresAreRight
 figures = record {
   waiting = refl;
   held = refl;

@@ -104,7 +104,7 @@ some_rows =
     ∷ ((codes "1.2", codes "ARCH"), progress.Waiting 1 5)
     ∷ ((codes "1.3", codes "ARCH"), progress.Done) ∷ []
 
-pub record FiguresAreRight : Type 0 where
+pub record ViewFiguresAreRight : Type 0 where
   pub waiting : how_many some_rows (codes "ARCH") (Some stage.Waiting) ≡ 2
   pub held : how_many some_rows (codes "ARCH") (Some stage.Held) ≡ 0
   pub held_elsewhere : how_many some_rows (codes "PACS") (Some stage.Held) ≡ 1

@@ -1,6 +1,7 @@
 //! Laws of what is asked of a book. Nothing here runs: each function's contract is a law.
 ghost use Rattle.dr_ledger_views.specs.Laws.{CallersAreOne, CallersAreRight, CountsAddUp};
-ghost use Rattle.dr_ledger_views.specs.Laws.{EmptyPagesAreTheEnd, FiguresAreRight, FirstsAreDue};
+ghost use Rattle.dr_ledger_views.specs.Laws.{EmptyPagesAreTheEnd, ViewFiguresAreRight};
+ghost use Rattle.dr_ledger_views.specs.Laws.{FirstsAreDue};
 ghost use Rattle.dr_ledger_views.specs.Laws.{LeastIsOne, NobodyBringsNothing, NoneIsNeverDue};
 ghost use Rattle.dr_ledger_views.specs.Laws.{PagesAreTheWhole};
 
@@ -35,5 +36,5 @@ pub fn callers_are_right()
 
 /// Figures of an example.
 pub fn figures_are_right()
-    ensures { FiguresAreRight }
+    ensures { ViewFiguresAreRight }
 {}

@@ -1,16 +1,17 @@
 -- What is answered where one syntax is proposed that some row has.
-use Rattle.std.proofs.Common.{◌≡◌, ◌≢◌, ℕ, Bool, true, false, List, [], ◌∷◌, length, Option, Some, None, Contains, refl, sym, ap, subst, ◌∙◌, inl, inr, arith}
-use Rattle.std.specs.Prelude.{filter, find, ◌||◌, ◌&&◌}
+use Rattle.std.proofs.Common.{◌≡◌, ◌≢◌, ℕ, Bool, Decides, true, false, List, [], ◌∷◌, length, Option, Some, None, Contains, refl, sym, ap, subst, ◌∙◌, inl, inr, arith}
+use Rattle.std.specs.Prelude.{filter, find, ◌||◌}
 use Rattle.std.specs.List.{flat_map, list_any}
 use Rattle.std.specs.Str.{bytes_eq}
 use Rattle.std.proofs.lemmas.Bool.{cases_Bool, false≢true}
 use Rattle.std.proofs.lemmas.List.Elements.{Contains-append_left, Contains-append_right}
+use Rattle.std.proofs.lemmas.Bool.Decides.{Decides-and}
 use Rattle.std.proofs.lemmas.Slice.Eq.{bytes_eq-Decides}
 use Rattle.dr_base.specs.Texts.{Text}
 use Rattle.dr_base.specs.Syntaxes.{syntax_uid}
 use Rattle.dr_base.specs.declared.syntax.Syntax.{Syntax}
 use Rattle.dr_base.specs.declared.syntax.Syntax.TheVariants.{Implicit, Explicit}
-use Rattle.dr_route.specs.Routes.{IsCaller, Takes, AcceptsBy}
+use Rattle.dr_route.specs.Routes.{IsCaller, TakesClass, Takes, AcceptsBy}
 use Rattle.dr_route.specs.declared.accept.Callers.{Callers}
 use Rattle.dr_route.specs.declared.accept.Callers.TheVariants as callers
 use Rattle.dr_route.specs.declared.accept.AcceptRow.{AcceptRow}
@@ -110,16 +111,19 @@ accepting (row ∷ rows) caller class s (inr more) =
     let a = accepting rows caller class s more in
     (a.0, Contains-there row rows a.0 a.1, a.2)
 
-pub is_the_caller : (from : Callers) (caller : Text) → IsCaller from caller → is_caller from caller ≡ true
-is_the_caller callers.Any caller h = refl
-is_the_caller (callers.Listed names) caller h = is_among caller names h
+-- the tests of a row tell what the row says
+pub caller_told : (from : Callers) (caller : Text) → Decides (is_caller from caller) (IsCaller from caller)
+caller_told callers.Any caller = (λ h. tt, λ h. refl)
+caller_told (callers.Listed names) caller = (among_texts caller names, is_among caller names)
 
-both_true : (a b : Bool) → a ≡ true → b ≡ true → (a && b) ≡ true
-both_true true b h e = e
-both_true false b h e = absurd (false≢true h)
+pub class_told : (row : AcceptRow) (caller class : Text) → Decides (is_row_for caller class row) (TakesClass caller class row)
+class_told row caller class = Decides-and (is_caller row.from caller) (bytes_eq row.class class) (caller_told row.from caller) (bytes_eq-Decides row.class class)
+
+pub is_the_caller : (from : Callers) (caller : Text) → IsCaller from caller → is_caller from caller ≡ true
+is_the_caller from caller h = (caller_told from caller).1 h
 
 pub row_is_for : (row : AcceptRow) (caller class : Text) (s : Syntax) → Takes row caller class s → is_row_for caller class row ≡ true
-row_is_for row caller class s takes = both_true (is_caller row.from caller) (bytes_eq row.class class) (is_the_caller row.from caller takes.0) (same_texts row.class class takes.1)
+row_is_for row caller class s takes = (class_told row caller class).1 (takes.0, takes.1)
 
 -- a test that some element passes
 pub any_passes : {X : Type 0} (test : X → Bool) (xs : List X) (x : X) → Contains xs x → test x ≡ true → list_any test xs ≡ true

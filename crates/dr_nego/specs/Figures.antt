@@ -18,20 +18,17 @@ use Rattle.dr_nego.specs.Answering.{answer, answer_of, acceptance_of}
 use Rattle.dr_base.specs.Standard.{application_context, verification, image}
 use Rattle.dr_nego.specs.Proposing.{echo_proposal}
 use Rattle.dr_nego.specs.Fragments.{piece_size, pieces}
+use Rattle.dr_plan_sound.specs.Samples.{archive}
 
 -- the title of the gateway, which calls
 abbrev pub gate : Text
 gate = codes "GATE"
 
--- the title of the archive, which is called
-abbrev pub arch : Text
-arch = codes "ARCH"
-
 -- the archive's site: it takes images from the gateway in both syntaxes, explicit first, and from
 -- anybody in the implicit
-abbrev pub archive : Part
-archive = record {
-  name = arch;
+abbrev pub archive_site : Part
+archive_site = record {
+  name = archive;
   max_pdu = 16384;
   digest = [];
   rules = [];
@@ -66,7 +63,7 @@ request called calling application version contexts max_pdu = record {
 
 -- the A-ASSOCIATE-RQ that the gateway sends to the archive: CT images, in the explicit syntax
 abbrev pub proposal : AssociateRq
-proposal = request arch gate application_context 1 (context 1 image (Explicit ∷ []) ∷ []) 16384
+proposal = request archive gate application_context 1 (context 1 image (Explicit ∷ []) ∷ []) 16384
 
 -- the body of the gateway's proposal has 228 bytes
 abbrev pub ProposalIsLong : Type 0
@@ -74,16 +71,17 @@ ProposalIsLong = length (body_text (pdu.AssociateRq proposal)) ≡ 228
 
 -- the body of the archive's acceptance of that proposal has 199 bytes
 abbrev pub AcceptanceIsLong : Type 0
-AcceptanceIsLong = length (body_text (pdu.AssociateAc (acceptance_of proposal archive))) ≡ 199
+AcceptanceIsLong = length (body_text (pdu.AssociateAc (acceptance_of proposal archive_site))) ≡ 199
 
 -- the body of the gateway's request for an echo has 218 bytes
 abbrev pub EchoIsLong : Type 0
-EchoIsLong = length (body_text (pdu.AssociateRq (echo_proposal gate arch))) ≡ 218
+EchoIsLong = length (body_text (pdu.AssociateRq (echo_proposal gate archive))) ≡ 218
 
 -- the body of the archive's acceptance of a request for an echo has 197 bytes
 abbrev pub EchoAnswerIsLong : Type 0
 EchoAnswerIsLong =
-    length (body_text (pdu.AssociateAc (acceptance_of (echo_proposal gate arch) archive))) ≡ 197
+    length (body_text (pdu.AssociateAc (acceptance_of (echo_proposal gate archive) archive_site)))
+    ≡ 197
 
 -- ---- answers
 
@@ -94,14 +92,15 @@ other = codes "1.2.3"
 -- Wrong in everything; then one fault less each time, down to a request that is accepted.
 abbrev pub RejectionsInOrder : Type 0
 RejectionsInOrder =
-    (answer (request gate (codes "-") other 2 [] 7) archive 256 ≡ Reject 1 1 2)
-    × (answer (request gate (codes "-") application_context 2 [] 7) archive 256 ≡ Reject 1 2 2)
-    × (answer (request gate (codes "-") application_context 1 [] 7) archive 256 ≡ Reject 1 1 7)
-    × (answer (request arch (codes "-") application_context 1 [] 7) archive 256 ≡ Reject 1 1 3)
-    × (answer (request arch gate application_context 1 [] 7) archive 256 ≡ Reject 2 3 2)
-    × (answer (request arch gate application_context 1 [] 7) archive 255 ≡ TooSmall)
-    × (answer (request arch gate application_context 3 [] 8) archive 255
-    ≡ Accept (acceptance_of (request arch gate application_context 3 [] 8) archive)
+    (answer (request gate (codes "-") other 2 [] 7) archive_site 256 ≡ Reject 1 1 2)
+    × (answer (request gate (codes "-") application_context 2 [] 7) archive_site 256 ≡ Reject 1 2 2)
+    × (answer (request gate (codes "-") application_context 1 [] 7) archive_site 256 ≡ Reject 1 1 7)
+    × (answer (request archive (codes "-") application_context 1 [] 7) archive_site 256
+    ≡ Reject 1 1 3)
+    × (answer (request archive gate application_context 1 [] 7) archive_site 256 ≡ Reject 2 3 2)
+    × (answer (request archive gate application_context 1 [] 7) archive_site 255 ≡ TooSmall)
+    × (answer (request archive gate application_context 3 [] 8) archive_site 255
+    ≡ Accept (acceptance_of (request archive gate application_context 3 [] 8) archive_site)
     (record { pairs = []; limit = 8 }))
     × (written (pdu.AssociateRj (record { result = 1; source = 1; reason = 7 }))
     ≡ 3 ∷ 0 ∷ 0 ∷ 0 ∷ 0 ∷ 4 ∷ 0 ∷ 1 ∷ 1 ∷ 7 ∷ [])
@@ -110,14 +109,14 @@ RejectionsInOrder =
 -- small.
 abbrev pub LimitsAreTested : Type 0
 LimitsAreTested =
-    (answer (request arch gate application_context 1 [] 1) archive 0 ≡ TooSmall)
-    × (answer (request arch gate application_context 1 [] 0) archive 0
-    ≡ Accept (acceptance_of (request arch gate application_context 1 [] 0) archive)
+    (answer (request archive gate application_context 1 [] 1) archive_site 0 ≡ TooSmall)
+    × (answer (request archive gate application_context 1 [] 0) archive_site 0
+    ≡ Accept (acceptance_of (request archive gate application_context 1 [] 0) archive_site)
     (record { pairs = []; limit = 0 }))
-    × (answer (request arch gate application_context 1 [] 0)
-    (record archive {
+    × (answer (request archive gate application_context 1 [] 0)
+    (record archive_site {
       accepts =
-          record { «from» = callers.Listed (arch ∷ []); class = image; syntaxes = Explicit ∷ [] }
+          record { «from» = callers.Listed (archive ∷ []); class = image; syntaxes = Explicit ∷ [] }
           ∷ [];
     }) 0
     ≡ Reject 1 1 3)
@@ -126,17 +125,18 @@ LimitsAreTested =
 -- class of no row; no common syntax; Verification, in the implicit syntax first.
 abbrev pub ContextsAreAnswered : Type 0
 ContextsAreAnswered =
-    (answer_of archive.accepts gate (context 1 image (Implicit ∷ Explicit ∷ []))
+    (answer_of archive_site.accepts gate (context 1 image (Implicit ∷ Explicit ∷ []))
     ≡ record { id = 1; result = 0; syntax = syntax_uid Explicit })
-    × (answer_of archive.accepts gate (context 3 image (Implicit ∷ []))
+    × (answer_of archive_site.accepts gate (context 3 image (Implicit ∷ []))
     ≡ record { id = 3; result = 0; syntax = syntax_uid Implicit })
-    × (answer_of archive.accepts (codes "CT1") (context 5 image (Explicit ∷ Implicit ∷ []))
+    × (answer_of archive_site.accepts (codes "CT1") (context 5 image (Explicit ∷ Implicit ∷ []))
     ≡ record { id = 5; result = 0; syntax = syntax_uid Implicit })
-    × (answer_of archive.accepts (codes "CT1") (context 5 image (Explicit ∷ []))
+    × (answer_of archive_site.accepts (codes "CT1") (context 5 image (Explicit ∷ []))
     ≡ record { id = 5; result = 4; syntax = [] })
-    × (answer_of archive.accepts gate (context 7 other (Explicit ∷ []))
+    × (answer_of archive_site.accepts gate (context 7 other (Explicit ∷ []))
     ≡ record { id = 7; result = 3; syntax = [] })
-    × (answer_of archive.accepts (codes "CT1") (context 9 verification (Explicit ∷ Implicit ∷ []))
+    × (answer_of archive_site.accepts (codes "CT1")
+    (context 9 verification (Explicit ∷ Implicit ∷ []))
     ≡ record { id = 9; result = 0; syntax = syntax_uid Implicit })
     × (answer_of [] gate (context 9 verification (Explicit ∷ []))
     ≡ record { id = 9; result = 0; syntax = syntax_uid Explicit })

@@ -8,7 +8,8 @@ ghost use Rattle.dr_nego.specs.Tests.{offered_by};
 
 use dr_base::{Syntax, Text};
 use dr_pdu::{ContextAnswer, ContextProposal};
-use dr_route::{AcceptRow, Callers};
+use dr_route::AcceptRow;
+use dr_route::accept::{is_caller, takes_class};
 use std::alloc::{AllocError, Global};
 
 /// The Verification class (PS3.4 A).
@@ -30,21 +31,18 @@ pub fn is_member(text: &[u8], texts: &[Text]) -> bool
     texts.iter().any(|other| text == other.as_bytes())
 }
 
-/// Whether the row's callers have this one among them.
-fn is_caller(from: &Callers, caller: &Text) -> bool
-    ensures { result ≡ is_caller from.now caller.now }
+/// Whether the row speaks of the caller.
+fn is_of_caller(row: &AcceptRow, caller: &Text) -> bool
+    ensures { result ≡ is_caller row.now.from caller.now }
 {
-    match from {
-        Callers::Any => true,
-        Callers::Listed(names) => is_member(caller.as_bytes(), names.as_slice()),
-    }
+    is_caller(&row.from, caller)
 }
 
 /// Whether some row speaks of the caller.
 fn is_known(rows: &[AcceptRow], caller: &Text) -> bool
     ensures { result ≡ list_any (λ row. is_caller row.from caller.now) rows.now }
 {
-    rows.iter().any(|row| is_caller(&row.from, caller))
+    rows.iter().any(|row| is_of_caller(row, caller))
 }
 
 /// Whether the caller is the local one, `-`, or no row speaks of it.
@@ -61,7 +59,7 @@ pub fn is_stranger(rows: &[AcceptRow], caller: &Text) -> bool
 fn is_row_for(row: &AcceptRow, caller: &Text, class: &Text) -> bool
     ensures { result ≡ is_row_for caller.now class.now row.now }
 {
-    is_caller(&row.from, caller) && row.class == *class
+    takes_class(row, caller, class)
 }
 
 /// Whether some row is for the caller and the class.

@@ -2,7 +2,7 @@
 ghost use Rattle.std.specs.Prelude.{◌≡◌, ◌≤◌, ◌∷◌, ◌++◌, OnOk, OnErr, length};
 ghost use Rattle.std.specs.Int.{w32, to_be_bytes};
 ghost use Rattle.dr_pdu.specs.Items.{pdv_text};
-ghost use Rattle.dr_pdu.specs.Reads.{HasMoreBehind};
+ghost use Rattle.dr_base.specs.Texts.{Begins};
 ghost use Rattle.dr_pdu.specs.Written.{written};
 ghost use Rattle.dr_nego.specs.Agreeing.{IsTooSmall};
 ghost use Rattle.dr_nego.specs.Fragments.{piece_size, value_pdu, header_of, is_command};
@@ -50,7 +50,7 @@ fn header_of(kind: FragmentKind, is_last: bool) -> u8
 /// Writes the header of a P-DATA-TF of that length (9.3.5).
 fn put_header(out: &mut Vec<u8>, len: u32) -> Result<(), AllocError>
     ensures ok { OnOk result (out.new.items ≡ out.old.items ++ (4 ∷ 0 ∷ to_be_bytes w32 len)) }
-    ensures err { OnErr result (HasMoreBehind out.old.items out.new.items) }
+    ensures err { OnErr result (Begins out.old.items out.new.items) }
 {
     out.extend_from_slice(&[4, 0])?;
     out.extend_from_slice(&len.to_be_bytes())?;
@@ -64,7 +64,7 @@ fn put_value(out: &mut Vec<u8>, id: u8, header: u8, fragment: &[u8]) -> Result<(
         (out.new.items
         ≡ out.old.items
         ++ pdv_text (record { id = id; header = header; fragment = fragment.now })) }
-    ensures err { OnErr result (HasMoreBehind out.old.items out.new.items) }
+    ensures err { OnErr result (Begins out.old.items out.new.items) }
 {
     let len = fragment.len() as u32 + 2;
     out.extend_from_slice(&len.to_be_bytes())?;
@@ -86,7 +86,7 @@ fn put_fragment(
     ensures ok { OnOk result
         (out.new.items
         ≡ out.old.items ++ written (value_pdu id (is_command kind) is_last fragment.now)) }
-    ensures err { OnErr result (HasMoreBehind out.old.items out.new.items) }
+    ensures err { OnErr result (Begins out.old.items out.new.items) }
 {
     let len = fragment.len() as u32 + 6;
     put_header(out, len)?;
@@ -110,7 +110,7 @@ pub fn put_fragments(
     ensures ok { OnOk result
         (out.new.items
         ≡ out.old.items ++ spellings (fragment_pdus agreed.now.limit id kind bytes.now)) }
-    ensures err { OnErr result (HasMoreBehind out.old.items out.new.items) }
+    ensures err { OnErr result (Begins out.old.items out.new.items) }
 {
     let size = piece_size(agreed.limit);
     let mut rest = bytes;

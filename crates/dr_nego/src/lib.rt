@@ -12,7 +12,7 @@ pub mod fault;
 pub mod figures;
 pub mod fragment;
 pub mod laws;
-pub mod proposing;
+mod proposing;
 
 pub use agreed::{Agreed, Pair};
 pub use answering::{Answer, Policy};

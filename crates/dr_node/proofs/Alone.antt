@@ -15,14 +15,14 @@ use Rattle.dr_session.specs.declared.ends.Input.TheVariants as input
 use Rattle.dr_session.specs.declared.ends.LinkAction.{LinkAction}
 use Rattle.dr_session.specs.declared.ends.Moment.{Moment}
 use Rattle.dr_session.specs.Desks.{DeskCall, DeskAnswer}
-use Rattle.dr_session.specs.Ends.{Terminal, MeetsBy, MeetsIn, HearsPiece, HearsBytes, LosesBy, LosesIn, CrowdsBy, CrowdsIn, IsOver, is_gone, idle_in, state_in}
+use Rattle.dr_session.specs.Ends.{Terminal, MeetsBy, MeetsIn, HearsPiece, HearsBytes, LosesBy, LosesIn, CrowdsBy, CrowdsIn, IsEndOver, is_gone, idle_in, state_in}
 use Rattle.dr_node.specs.declared.event.LinkEvent.{LinkEvent}
 use Rattle.dr_node.specs.declared.event.LinkEvent.TheVariants as event
 use Rattle.dr_node.specs.declared.fault.NodeFault.{NodeFault}
 use Rattle.dr_node.specs.declared.fault.NodeFault.TheVariants.{LinkKnown, LinkUnknown, NoHop, Memory}
 use Rattle.dr_node.specs.declared.links.LinkSide.{LinkSide}
 use Rattle.dr_node.specs.Laws.{IsAcceptedWhereFree, KnownIsRefused, OnlyAt, OverDoesNothing, UnknownIsRefused}
-use Rattle.dr_node.specs.Sides.{Sides, Deed, Does, DoesIn, DoesAt, AcceptsIn, MeetsEvent, accepts_at, moment_at, with_end}
+use Rattle.dr_node.specs.Sides.{Sides, EndDeed, Does, DoesIn, DoesAt, AcceptsIn, MeetsEvent, accepts_at, moment_at, with_end}
 use Rattle.dr_node.proofs.Keeping.{Acts}
 
 -- ---- other links
@@ -42,7 +42,7 @@ taken_elsewhere old link other apart =
 pub put_here : (old : Sides) (link : ℕ) (side : LinkSide) → map.get (map.insert old link side) link ≡ Some side
 put_here old link side = map.get-insert nat_cmp_total old link side link ∙ ap (λ b. cond b (Some side) (map.get old link)) ((eq_by_cmp_equiv nat_cmp_total).refl link)
 
-pub only_there : {S : Type 0} (does : Deed S) (now link : ℕ) (known : Option LinkSide) (old new : Sides) (s t : S) (result : Result (List LinkAction) NodeFault) → DoesIn does now link known old s result new t → OnlyAt link old new
+pub only_there : {S : Type 0} (does : EndDeed S) (now link : ℕ) (known : Option LinkSide) (old new : Sides) (s t : S) (result : Result (List LinkAction) NodeFault) → DoesIn does now link known old s result new t → OnlyAt link old new
 only_there does now link None old new s t result h = let P : Sides → Type 0 = OnlyAt link old in subst P (sym h.1) (λ other apart. refl)
 only_there does now link (Some side) old new s t (Ok acts) h = let P : Sides → Type 0 = OnlyAt link old in subst P (sym h.2) (put_elsewhere old link (with_end side h.0))
 only_there does now link (Some side) old new s t (Err Memory) h = let P : Sides → Type 0 = OnlyAt link old in subst P (sym h.3) (taken_elsewhere old link)
@@ -81,23 +81,23 @@ module _ {S : Type 0} (step : S → DeskCall → DeskAnswer → S → Type 0) wh
   abbrev Rests : Acts → Terminal → Terminal → S → S → Type 0
   Rests result old new s t = (result ≡ Ok []) × (new ≡ old) × (t ≡ s)
 
-  meets_over : (o : Option Core) (at : Moment) (i : Input) (old new : Terminal) (s t : S) (result : Acts) → IsOver o → MeetsIn step o at i old s result new t → (result ≡ Ok []) × (new ≡ old) × (t ≡ s)
+  meets_over : (o : Option Core) (at : Moment) (i : Input) (old new : Terminal) (s t : S) (result : Acts) → IsEndOver o → MeetsIn step o at i old s result new t → (result ≡ Ok []) × (new ≡ old) × (t ≡ s)
   meets_over None at i old new s t result over h = h
   meets_over (Some c) at i old new s t result over h = let P : Bool → Type 0 = λ b. MeetsBy step b at i c old s result new t in subst P over h
 
-  hears_over : (o : Option Core) (at : Moment) (piece : List ℕ) (old new : Terminal) (s t : S) (result : Acts) → IsOver o → HearsBytes step o at piece old s result new t → (result ≡ Ok []) × (new ≡ old) × (t ≡ s)
+  hears_over : (o : Option Core) (at : Moment) (piece : List ℕ) (old new : Terminal) (s t : S) (result : Acts) → IsEndOver o → HearsBytes step o at piece old s result new t → (result ≡ Ok []) × (new ≡ old) × (t ≡ s)
   hears_over None at piece old new s t result over h = h
   hears_over (Some c) at piece old new s t result over h = let P : Bool → Type 0 = λ b. HearsPiece step b at piece c old s result new t in subst P over h
 
-  loses_over : (o : Option Core) (old new : Terminal) (result : Acts) → IsOver o → LosesIn o old result new → (result ≡ Ok []) × (new ≡ old)
+  loses_over : (o : Option Core) (old new : Terminal) (result : Acts) → IsEndOver o → LosesIn o old result new → (result ≡ Ok []) × (new ≡ old)
   loses_over None old new result over h = h
   loses_over (Some c) old new result over h = let P : Bool → Type 0 = λ b. LosesBy b old result new in subst P over h
 
-  crowds_over : (o : Option Core) (old new : Terminal) (result : Acts) → IsOver o → CrowdsIn o old result new → (result ≡ Ok []) × (new ≡ old)
+  crowds_over : (o : Option Core) (old new : Terminal) (result : Acts) → IsEndOver o → CrowdsIn o old result new → (result ≡ Ok []) × (new ≡ old)
   crowds_over None old new result over h = h
   crowds_over (Some c) old new result over h = let P : Bool → Type 0 = λ b. CrowdsBy b c old result new in subst P over h
 
-  event_over : (what : LinkEvent) (at : Moment) (old new : Terminal) (s t : S) (result : Acts) → IsOver old.core → MeetsEvent step what at old s result new t →
+  event_over : (what : LinkEvent) (at : Moment) (old new : Terminal) (s t : S) (result : Acts) → IsEndOver old.core → MeetsEvent step what at old s result new t →
       (result ≡ Ok []) × (new ≡ old) × (t ≡ s)
   event_over (event.Heard (heard.Bytes piece)) at old new s t result over h = hears_over old.core at piece old new s t result over h
   event_over (event.Heard heard.End) at old new s t result over h = meets_over old.core at input.Ended old new s t result over h
@@ -113,7 +113,7 @@ module _ {S : Type 0} (step : S → DeskCall → DeskAnswer → S → Type 0) wh
   acts_of (Ok acts) = acts
   acts_of (Err e) = []
 
-  over_at : (what : LinkEvent) (now link : ℕ) (side : LinkSide) (old new : Sides) (s t : S) (result : Result (List LinkAction) NodeFault) → IsOver side.end.core →
+  over_at : (what : LinkEvent) (now link : ℕ) (side : LinkSide) (old new : Sides) (s t : S) (result : Result (List LinkAction) NodeFault) → IsEndOver side.end.core →
       DoesAt (MeetsEvent step what) now link side old s result new t → (result ≡ Ok []) × (t ≡ s) × (map.get new link ≡ Some side)
   unfolding acts_of
   over_at what now link side old new s t (Ok acts) over h =

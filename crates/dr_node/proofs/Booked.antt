@@ -29,7 +29,7 @@ use Rattle.dr_node.specs.declared.fault.NodeFault.TheVariants.{LinkKnown, LinkUn
 use Rattle.dr_node.specs.declared.links.LinkSide.{LinkSide}
 use Rattle.dr_node.specs.Desks.{LedgerStep}
 use Rattle.dr_node.specs.Laws.{desk_of}
-use Rattle.dr_node.specs.Sides.{Sides, Deed, Does, DoesIn, DoesAt, MeetsEvent, Pushes, moment_at}
+use Rattle.dr_node.specs.Sides.{Sides, EndDeed, Does, DoesIn, DoesAt, MeetsEvent, Pushes, moment_at}
 use Rattle.dr_node.proofs.Keeping.{Acts}
 
 module _ {S T : Type 0} (step : S → DeskCall → DeskAnswer → S → Type 0) (shown : T → DeskCall → DeskAnswer → T → Type 0) (shows : S → T) (Holds : S → Type 0)
@@ -120,7 +120,7 @@ module _ {S T : Type 0} (step : S → DeskCall → DeskAnswer → S → Type 0) 
   events event.Abort at old s t result new met k = meets at input.AbortAsked old s t result new met k
   events event.Release at old s t result new met k = meets at input.ReleaseAsked old s t result new met k
 
-  deeds : (does : Deed S) (also : Deed T) →
+  deeds : (does : EndDeed S) (also : EndDeed T) →
       ((at : Moment) (old : Terminal) (s t : S) (result : Acts) (new : Terminal) → does at old s result new t → Holds t → also at old (shows s) result new (shows t)) →
       (now link : ℕ) (known : Option LinkSide) (old new : Sides) (s t : S) (result : Result (List LinkAction) NodeFault) → DoesIn does now link known old s result new t → Holds t →
       DoesIn also now link known old (shows s) result new (shows t)

@@ -26,7 +26,7 @@ use Rattle.dr_node.specs.declared.event.LinkEvent.TheVariants as event
 use Rattle.dr_node.specs.declared.fault.NodeFault.{NodeFault}
 use Rattle.dr_node.specs.declared.fault.NodeFault.TheVariants.{LinkKnown, LinkUnknown, NoHop, Memory}
 use Rattle.dr_node.specs.declared.links.LinkSide.{LinkSide}
-use Rattle.dr_node.specs.Sides.{Sides, Deed, Does, DoesIn, DoesAt, MeetsEvent, Pushes, moment_at}
+use Rattle.dr_node.specs.Sides.{Sides, EndDeed, Does, DoesIn, DoesAt, MeetsEvent, Pushes, moment_at}
 use Rattle.std.specs.FinMap as map
 
 abbrev pub Acts : Type 0
@@ -105,7 +105,7 @@ module _ {S : Type 0} (step : S → DeskCall → DeskAnswer → S → Type 0) (R
   events event.Abort at old s t result new met = meets at input.AbortAsked old s t result new met
   events event.Release at old s t result new met = meets at input.ReleaseAsked old s t result new met
 
-  deeds : (does : Deed S) → ((at : Moment) (old : Terminal) (s t : S) (result : Acts) (new : Terminal) → does at old s result new t → R s t) →
+  deeds : (does : EndDeed S) → ((at : Moment) (old : Terminal) (s t : S) (result : Acts) (new : Terminal) → does at old s result new t → R s t) →
       (now link : ℕ) (known : Option LinkSide) (old new : Sides) (s t : S) (result : Result (List LinkAction) NodeFault) → DoesIn does now link known old s result new t → R s t
   deeds does each now link None old new s t result h = as_it_was s t h.2
   deeds does each now link (Some side) old new s t (Ok acts) h = each (moment_at link old now) side.end s t (Ok acts) h.0 h.1

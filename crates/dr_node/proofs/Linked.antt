@@ -12,7 +12,7 @@ use Rattle.dr_session.specs.Ends.{Terminal}
 use Rattle.dr_node.specs.declared.fault.NodeFault.{NodeFault}
 use Rattle.dr_node.specs.declared.fault.NodeFault.TheVariants.{LinkKnown, LinkUnknown, NoHop, Memory}
 use Rattle.dr_node.specs.declared.links.LinkSide.{LinkSide}
-use Rattle.dr_node.specs.Sides.{Sides, Deed, Does, DoesIn, MeetsAt, moment_at, others, with_end}
+use Rattle.dr_node.specs.Sides.{Sides, EndDeed, Does, DoesIn, MeetsAt, moment_at, others, with_end}
 use Rattle.dr_node.proofs.Mapped.{Tree, seen, seen_at, inserted}
 
 abbrev pub Acts : Type 0
@@ -49,17 +49,17 @@ taken_out old link side = map.same_map nat_cmp_total map.nat_cmp-IsAntisymmetric
 
 -- ---- the answers of a node
 
-pub done : {S : Type 0} (does : Deed S) (now link : ℕ) (known : Option LinkSide) (old new : Sides) (s t : S) (acts : List LinkAction) →
+pub done : {S : Type 0} (does : EndDeed S) (now link : ℕ) (known : Option LinkSide) (old new : Sides) (s t : S) (acts : List LinkAction) →
     MeetsAt (does (moment_at link old now)) link known old s (Some (Ok acts)) new t → DoesIn does now link known old s (Ok acts) new t
 done does now link (Some side) old new s t acts met = met
 done does now link None old new s t acts met = absurd met
 
-pub lost : {S : Type 0} (does : Deed S) (now link : ℕ) (known : Option LinkSide) (old new : Sides) (s t : S) (why : AllocError) →
+pub lost : {S : Type 0} (does : EndDeed S) (now link : ℕ) (known : Option LinkSide) (old new : Sides) (s t : S) (why : AllocError) →
     MeetsAt (does (moment_at link old now)) link known old s (Some (Err why)) new t → DoesIn does now link known old s (Err Memory) (map.remove new link) t
 lost does now link (Some side) old new s t why met = (met.0, why, met.1, ap (λ m. map.remove m link) met.2 ∙ taken_out old link (with_end side met.0))
 lost does now link None old new s t why met = absurd met
 
-pub unknown : {S : Type 0} (does : Deed S) (now link : ℕ) (known : Option LinkSide) (old new : Sides) (s t : S) →
+pub unknown : {S : Type 0} (does : EndDeed S) (now link : ℕ) (known : Option LinkSide) (old new : Sides) (s t : S) →
     MeetsAt (does (moment_at link old now)) link known old s None new t → DoesIn does now link known old s (Err LinkUnknown) new t
 unknown does now link (Some side) old new s t met = absurd met
 unknown does now link None old new s t met = (refl, met.0, met.1)
@@ -68,7 +68,7 @@ pub is_there : (m : Tree) (link : ℕ) (side : LinkSide) → Some side ≡ tree.
 is_there m link side e = subst IsSome e refl
 
 -- by the count that was taken and the answer that was found
-pub as_met : {S : Type 0} (does : Deed S) (now link count : ℕ) (old new : Sides) (s t : S) (found answer : Option Acts) → count ≡ others link old → found ≡ answer →
+pub as_met : {S : Type 0} (does : EndDeed S) (now link count : ℕ) (old new : Sides) (s t : S) (found answer : Option Acts) → count ≡ others link old → found ≡ answer →
     MeetsAt (does (record { now = now; others = count })) link (map.get old link) old s found new t → MeetsAt (does (moment_at link old now)) link (map.get old link) old s answer new t
 as_met does now link count old new s t found answer same is met =
     let P : ℕ → Type 0 = λ n. MeetsAt (does (record { now = now; others = n })) link (map.get old link) old s answer new t in

@@ -10,14 +10,14 @@ use Rattle.dr_site.specs.Parts.{Part}
 use Rattle.dr_session.specs.declared.desk.LedgerDesk.{LedgerDesk}
 use Rattle.dr_session.specs.declared.ends.LinkAction.{LinkAction}
 use Rattle.dr_session.specs.Desks.{DeskCall, DeskAnswer}
-use Rattle.dr_session.specs.Ends.{IsOver}
+use Rattle.dr_session.specs.Ends.{IsEndOver}
 use Rattle.dr_session.specs.Ledgers.{Desk, RoutedStep, desk}
 use Rattle.dr_node.specs.declared.event.LinkEvent.{LinkEvent}
 use Rattle.dr_node.specs.declared.fault.NodeFault.{NodeFault}
 use Rattle.dr_node.specs.declared.fault.NodeFault.TheVariants.{LinkKnown, LinkUnknown}
 use Rattle.dr_node.specs.declared.links.LinkSide.{LinkSide}
 use Rattle.dr_node.specs.Desks.{LedgerStep}
-use Rattle.dr_node.specs.Sides.{Sides, Accepts, Deed, Does, MeetsEvent, Opens, Pushes, accepts_at}
+use Rattle.dr_node.specs.Sides.{Sides, AcceptsLink, Does, MeetsEvent, Opens, Pushes, accepts_at}
 use Rattle.dr_node.specs.Sides.{is_taken, others}
 
 -- all other links are as they were
@@ -45,7 +45,7 @@ IsAcceptedWhereFree =
     (site : Part) (link now : ℕ) (old : Sides)
     → map.get old link ≡ None
     → (new : Sides)
-    × Accepts site link now old (Ok tt) new
+    × AcceptsLink site link now old (Ok tt) new
     × (map.get new link ≡ Some (accepts_at site now))
     × OnlyAt link old new
 
@@ -54,7 +54,7 @@ KnownIsRefused =
     (site : Part) (link now : ℕ) (old new : Sides) (side : LinkSide)
     (result : Result (Unit {0}) NodeFault)
     → map.get old link ≡ Some side
-    → Accepts site link now old result new
+    → AcceptsLink site link now old result new
     → (result ≡ Err LinkKnown) × (new ≡ old)
 
 -- a link that is unknown can be met, and its answer is one
@@ -70,7 +70,7 @@ OverDoesNothing {S} step =
     (what : LinkEvent) (now link : ℕ) (old new : Sides) (s t : S) (side : LinkSide)
     (result : Result (List LinkAction) NodeFault)
     → map.get old link ≡ Some side
-    → IsOver side.end.core
+    → IsEndOver side.end.core
     → Does (MeetsEvent step what) now link old s result new t
     → (result ≡ Ok []) × (t ≡ s) × (map.get new link ≡ Some side)
 

@@ -70,17 +70,19 @@ moment_at link sides now = record { now = now; others = others link sides }
 -- ---- what happens at one link
 
 -- what one end does: at a moment, its value and the port's before, the answer, and both after
-abbrev pub Deed : Type 0 → Type 1
-Deed S = Moment → Terminal → S → Result (List LinkAction) AllocError → Terminal → S → Type 0
+abbrev pub EndDeed : Type 0 → Type 1
+EndDeed S = Moment → Terminal → S → Result (List LinkAction) AllocError → Terminal → S → Type 0
 
 -- an event at an end
-abbrev pub MeetsEvent : {S : Type 0} → (S → DeskCall → DeskAnswer → S → Type 0) → LinkEvent → Deed S
+abbrev pub MeetsEvent : {S : Type 0}
+    → (S → DeskCall → DeskAnswer → S → Type 0)
+    → LinkEvent → EndDeed S
 MeetsEvent step (event.Heard heard) at old s result new t = HearsOf step heard at old s result new t
 MeetsEvent step event.Abort at old s result new t = Meets step at AbortAsked old s result new t
 MeetsEvent step event.Release at old s result new t = Meets step at ReleaseAsked old s result new t
 
 -- a push at an end
-abbrev pub Pushes : {S : Type 0} → (S → DeskCall → DeskAnswer → S → Type 0) → Deed S
+abbrev pub Pushes : {S : Type 0} → (S → DeskCall → DeskAnswer → S → Type 0) → EndDeed S
 Pushes step at old s result new t = Meets step at PushAsked old s result new t
 
 -- The same at one link: its end alone is another. A link that isn't there does nothing.
@@ -98,7 +100,7 @@ MeetsAt does link known old s other new t = ⊥
 
 -- The deed is done at the link's end alone, with that many others counted. Where memory ended the
 -- link is dropped.
-abbrev pub DoesAt : {S : Type 0} → Deed S → ℕ → ℕ → LinkSide → Sides → S
+abbrev pub DoesAt : {S : Type 0} → EndDeed S → ℕ → ℕ → LinkSide → Sides → S
     → Result (List LinkAction) NodeFault
     → Sides → S → Type 0
 DoesAt does now link side old s (Ok acts) new t =
@@ -112,13 +114,13 @@ DoesAt does now link side old s (Err Memory) new t =
 DoesAt does now link side old s (Err other) new t = ⊥
 
 -- An unknown link is refused, and nothing is done.
-abbrev pub DoesIn : {S : Type 0} → Deed S → ℕ → ℕ → Option LinkSide → Sides → S
+abbrev pub DoesIn : {S : Type 0} → EndDeed S → ℕ → ℕ → Option LinkSide → Sides → S
     → Result (List LinkAction) NodeFault
     → Sides → S → Type 0
 DoesIn does now link None old s result new t = (result ≡ Err LinkUnknown) × (new ≡ old) × (t ≡ s)
 DoesIn does now link (Some side) old s result new t = DoesAt does now link side old s result new t
 
-abbrev pub Does : {S : Type 0} → Deed S → ℕ → ℕ → Sides → S
+abbrev pub Does : {S : Type 0} → EndDeed S → ℕ → ℕ → Sides → S
     → Result (List LinkAction) NodeFault
     → Sides → S → Type 0
 Does does now link old s result new t = DoesIn does now link (map.get old link) old s result new t
@@ -138,8 +140,8 @@ AcceptsIn None site link now old (Err Memory) new = new ≡ old
 AcceptsIn (Some side) site link now old (Err LinkKnown) new = new ≡ old
 AcceptsIn known site link now old result new = ⊥
 
-abbrev pub Accepts : Part → ℕ → ℕ → Sides → Result (Unit {0}) NodeFault → Sides → Type 0
-Accepts site link now old result new = AcceptsIn (map.get old link) site link now old result new
+abbrev pub AcceptsLink : Part → ℕ → ℕ → Sides → Result (Unit {0}) NodeFault → Sides → Type 0
+AcceptsLink site link now old result new = AcceptsIn (map.get old link) site link now old result new
 
 -- A link is opened where there is none of its number, for a hop of the site. The request goes out
 -- at once.

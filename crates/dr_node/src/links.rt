@@ -6,7 +6,7 @@ ghost use Rattle.dr_nego.specs.Proposing.{IsHopTo};
 ghost use Rattle.dr_session.specs.Ends.{OpensTo, accepting, begins};
 ghost use Rattle.dr_site.specs.Parts.{ends_at};
 ghost use Rattle.dr_plan_sound.specs.declared.certificate.Hop.{Hop as HopValue};
-ghost use Rattle.dr_node.specs.Sides.{Accepts, Does, MeetsAt, MeetsEvent, Opens, Pushes};
+ghost use Rattle.dr_node.specs.Sides.{AcceptsLink, Does, MeetsAt, MeetsEvent, Opens, Pushes};
 ghost use Rattle.dr_node.specs.Sides.{is_other as other_of, is_taken as taken_of, others};
 ghost use Rattle.dr_node.specs.Sides.{state_of_side};
 
@@ -149,7 +149,7 @@ impl Links {
         link: u64,
         now: u64,
     ) -> Result<(), NodeFault>
-        ensures { Accepts site.now link now self.old result self.new }
+        ensures { AcceptsLink site.now link now self.old result self.new }
     {
         if self.is_known(link) {
             return Err(NodeFault::LinkKnown);

@@ -5,7 +5,7 @@ ghost use Rattle.std.specs.FinMap as map;
 ghost use Rattle.std.proofs.Props.{props};
 ghost use Rattle.dr_route.specs.Routes.{local as local_caller};
 ghost use Rattle.dr_node.specs.Desks.{LedgerStep};
-ghost use Rattle.dr_node.specs.Sides.{Accepts, Does, MeetsEvent, Opens, Pushes, state_of_side};
+ghost use Rattle.dr_node.specs.Sides.{AcceptsLink, Does, MeetsEvent, Opens, Pushes, state_of_side};
 
 mod calls;
 
@@ -115,7 +115,7 @@ impl<L: Ledger> Node<L> {
     ///
     /// Errors: LinkKnown, Memory; after them nothing has changed.
     pub fn accept(&mut self, link: u64, now: u64) -> Result<(), NodeFault>
-        ensures accepts { Accepts self.old.site link now self.old.links result self.new.links }
+        ensures accepts { AcceptsLink self.old.site link now self.old.links result self.new.links }
         ensures desk { self.new.desk ≡ self.old.desk }
         ensures site { self.new.site ≡ self.old.site }
     {

@@ -5,4 +5,3 @@ pub mod Items
 pub mod Reads
 pub mod Vectors
 pub mod Written
-pub mod Reasons

@@ -3,7 +3,7 @@ ghost use Rattle.std.specs.Prelude.{◌≡◌, ◌++◌, ◌^◌, ◌<◌, false
 ghost use Rattle.std.specs.List.{flat_map, AllByRecursion};
 ghost use Rattle.std.specs.Option.{SomeIff};
 ghost use Rattle.dr_pdu.specs.Fitting.{ProposalFits, AnswerFits, weight};
-ghost use Rattle.dr_pdu.specs.Reads.{HasMoreBehind};
+ghost use Rattle.dr_base.specs.Texts.{Begins};
 ghost use Rattle.dr_pdu.specs.Written.{item, proposal_body, answer_body};
 
 use crate::encoder::put_item;
@@ -31,7 +31,7 @@ pub fn proposal_bytes(alloc: Global, context: &ContextProposal) -> Result<Vec<u8
 fn put_names(out: &mut Vec<u8>, names: &[Text]) -> Result<(), AllocError>
     requires { weight names.now < 2 ^ 16 }
     ensures ok { OnOk result (out.new.items ≡ out.old.items ++ flat_map (item 0x40) names.now) }
-    ensures err { OnErr result (HasMoreBehind out.old.items out.new.items) }
+    ensures err { OnErr result (Begins out.old.items out.new.items) }
 {
     for name in names {
         put_item(out, 0x40, name.as_bytes())?;

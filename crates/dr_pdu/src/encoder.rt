@@ -209,7 +209,7 @@ fn put_contexts<C: Context>(
     ensures ok { OnOk result
         (out.new.items
         ≡ out.old.items ++ flat_map (λ c. item kind (C.body_text full c)) contexts.now) }
-    ensures err { OnErr result (HasMoreBehind out.old.items out.new.items) }
+    ensures err { OnErr result (Begins out.old.items out.new.items) }
 {
     for context in contexts {
         let body = context.body(alloc, full)?;
@@ -221,7 +221,7 @@ fn put_contexts<C: Context>(
 /// The user information (annex D).
 fn put_user(alloc: Global, out: &mut Vec<u8>, full: bool, max_pdu: u32) -> Result<(), AllocError>
     ensures ok { OnOk result (out.new.items ≡ out.old.items ++ user_text full max_pdu) }
-    ensures err { OnErr result (HasMoreBehind out.old.items out.new.items) }
+    ensures err { OnErr result (Begins out.old.items out.new.items) }
 {
     if !full && max_pdu == 0 {
         return Ok(());
@@ -239,7 +239,7 @@ fn put_user(alloc: Global, out: &mut Vec<u8>, full: bool, max_pdu: u32) -> Resul
 fn put_title(out: &mut Vec<u8>, name: &[u8]) -> Result<(), AllocError>
     requires { length name.now ≤ 16 }
     ensures ok { OnOk result (out.new.items ≡ out.old.items ++ padded name.now) }
-    ensures err { OnErr result (HasMoreBehind out.old.items out.new.items) }
+    ensures err { OnErr result (Begins out.old.items out.new.items) }
 {
     out.extend_from_slice(name)?;
     out.extend_from_slice(&SPACES[name.len()..])?;
@@ -250,7 +250,7 @@ fn put_title(out: &mut Vec<u8>, name: &[u8]) -> Result<(), AllocError>
 pub fn put_item(out: &mut Vec<u8>, kind: u8, body: &[u8]) -> Result<(), AllocError>
     requires { length body.now < 2 ^ 16 }
     ensures ok { OnOk result (out.new.items ≡ out.old.items ++ item kind body.now) }
-    ensures err { OnErr result (HasMoreBehind out.old.items out.new.items) }
+    ensures err { OnErr result (Begins out.old.items out.new.items) }
 {
     out.push(kind)?;
     out.push(0)?;

@@ -1,9 +1,7 @@
 //! Why a text isn't read as a PDU.
 ghost use Rattle.std.specs.Prelude.{◌≡◌};
-ghost use Rattle.dr_pdu.specs.Reasons.{reason_of};
 ghost use Rattle.dr_pdu.specs.declared.fault.PduFault.TheVariants.{Memory};
 
-use dr_ulstate::AbortReason;
 use std::alloc::{AllocError, AllocFailed};
 use thiserror::Error;
 
@@ -31,22 +29,6 @@ pub enum PduFault {
     /// The stream had a fault before.
     #[error("P7 Failed")]
     Failed,
-}
-
-impl PduFault {
-    /// The reason of the A-ABORT that answers a PDU which shows the fault (PS3.8 9.3.8). `More`,
-    /// `Memory` and `Failed` are no faults of a PDU, and no reason is given for them.
-    pub fn abort_reason(self) -> AbortReason
-        ensures { result ≡ reason_of self }
-    {
-        match self {
-            PduFault::UnknownType => AbortReason::UnrecognizedPdu,
-            PduFault::TooLong | PduFault::BadItem | PduFault::BadContextId => {
-                AbortReason::InvalidParameter
-            }
-            PduFault::More | PduFault::Memory | PduFault::Failed => AbortReason::NotSpecified,
-        }
-    }
 }
 
 impl From<AllocError> for PduFault {

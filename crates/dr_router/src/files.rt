@@ -1,6 +1,8 @@
 //! The system's files as databases, and ledgers in databases.
 ghost use Rattle.std.specs.Prelude.{◌≡◌, IfOk, false};
+ghost use Rattle.sqlite.specs.Held.{state};
 ghost use Rattle.dr_word_rehearse.specs.Looks.{IsFoundBy};
+ghost use Rattle.dr_router.specs.Opening.{HasLedgerIn, fault_of_database, fault_of_opening};
 
 use dr_base::Text;
 use dr_run_files::Files;
@@ -102,7 +104,9 @@ impl<'a> Tokens for SystemDisk<'a> {
 }
 
 /// Why a ledger isn't opened whose database can't be.
-fn file_fault(error: &Error) -> OpenFault {
+fn file_fault(error: &Error) -> OpenFault
+    ensures { result ≡ fault_of_database error.now }
+{
     match error {
         Error::SqliteFailure(ErrorCode::DatabaseBusy) => OpenFault::InUse,
         Error::SqliteFailure(ErrorCode::OutOfMemory) => OpenFault::Memory,
@@ -111,7 +115,9 @@ fn file_fault(error: &Error) -> OpenFault {
 }
 
 /// Why a ledger isn't opened whose database is.
-fn ledger_fault(fault: OpeningFault) -> OpenFault {
+fn ledger_fault(fault: OpeningFault) -> OpenFault
+    ensures { result ≡ fault_of_opening fault }
+{
     match fault {
         OpeningFault::OtherSite => OpenFault::OtherSite,
         OpeningFault::Store => OpenFault::Store,
@@ -126,7 +132,8 @@ fn ledger_over<S: Alter + Drop>(
     site: Site,
 ) -> Result<SqlLedger<S>, OpenFault>
     requires { conn.in_transaction ≡ false }
-    ensures { IfOk result (λ l. l.site ≡ site) }
+    ensures of { IfOk result (λ l. l.site ≡ site) }
+    ensures is { IfOk result (λ l. HasLedgerIn l.site (state S.Store l.conn)) }
 {
     match ledger_on(alloc, conn, site) {
         Ok(ledger) => Ok(ledger),
@@ -138,11 +145,16 @@ fn ledger_over<S: Alter + Drop>(
 #[derive(Drop)]
 pub struct StoredLedgers<D: Databases + Drop>(pub D);
 
-/// What a database holds is claimed by no contract.
+/// What opens is a ledger of its site, as far as its disk has returned what was written. What a
+/// path leads to is claimed by no contract.
 impl<D: Databases + Drop> Ledgers for StoredLedgers<D> {
+    ghost use Rattle.sqlite.specs.Held.{state};
+    ghost use Rattle.dr_router.specs.Opening.{HasLedgerIn};
+
     type Ledger = SqlLedger<D::Store>;
 
-    ghost opens = { λ files path ledger. Unit {0} };
+    ghost opens = { λ files path ledger.
+        HasLedgerIn ledger.site (state D.Store.Store ledger.conn) };
 
     fn open(
         &self,
@@ -169,7 +181,8 @@ fn found_over<S: Alter + Drop>(
     site: Site,
 ) -> Result<LedgerFound<SqlLedger<S>>, OpenFault>
     requires { conn.in_transaction ≡ false }
-    ensures { IfOk result (IsFoundBy (λ l. Unit {0}) (λ l. l.site) site) }
+    ensures { IfOk result (IsFoundBy (λ l. HasLedgerIn l.site (state S.Store l.conn)) (λ l. l.site)
+        site) }
 {
     if !is_ours(conn.schema()) {
         if lacking(conn.schema()).is_some() {

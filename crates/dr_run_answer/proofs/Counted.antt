@@ -4,7 +4,8 @@ use Rattle.std.specs.List.{IsDistinct}
 use Rattle.std.proofs.lemmas.Bool.{le-ltb, lt-ltb, ltb-true}
 use Rattle.std.proofs.lemmas.List.Sums.{sum_by-cons}
 use Rattle.dr_base.specs.Texts.{Text}
-use Rattle.dr_run_answer.specs.Intakes.{Answer, AreRecent, AreTotals, CountsMinute, CountsOne, KeepHours, Notice, answers_to, bytes_from, came_within, if_so, is_again, is_by, is_of_hour, is_refused, is_stored, is_within, most, said_by, said_of, said_within}
+use Rattle.dr_run_answer.specs.Intakes.{AreRecent, AreTotals, CountsMinute, CountsOne, KeepHours, Notice, answers_to, bytes_from, came_within, if_so, is_again, is_by, is_of_hour, is_refused, is_stored, is_within, most, said_by, said_of, said_within}
+use Rattle.dr_ledger.specs.Replies.{Reply}
 use Rattle.dr_run_answer.specs.Laws.{AreCountable, NotedIsCounted, NotedIsKept, NothingIsCounted, OldIsLetGo, RecentIsWhatCame}
 use Rattle.dr_run_answer.specs.declared.intake.Brought.{Brought}
 use Rattle.dr_run_answer.specs.declared.intake.Recent.{Recent}
@@ -50,7 +51,7 @@ parts test (n ∷ all) =
 
 module _ (all : List Notice) (n : Notice) (countable : AreCountable (n ∷ all)) where
   -- one figure, which grows by what the instance adds to it
-  counted : (figure : Brought → ℕ) (such : Answer → Bool) (old new : List Brought) → ((caller : Text) → said_of figure caller old ≡ answers_to such caller all)
+  counted : (figure : Brought → ℕ) (such : Reply → Bool) (old new : List Brought) → ((caller : Text) → said_of figure caller old ≡ answers_to such caller all)
       → ((other : Text) → said_of figure other old + if_so (bytes_eq n.caller other) (if_so (such n.answer) 1) ≤ most → said_of figure other new ≡ said_of figure other old + if_so (bytes_eq n.caller other) (if_so (such n.answer) 1))
       → (caller : Text) → said_of figure caller new ≡ answers_to such caller (n ∷ all)
   counted figure such old new before grows caller =
@@ -98,7 +99,7 @@ regrouped true false c n = refl
 regrouped false b c n = refl
 
 module _ (from : ℕ) (all : List Notice) (n : Notice) (countable : AreCountable (n ∷ all)) where
-  kept : (figure : Recent → ℕ) (such : Answer → Bool) (old new : List Minute)
+  kept : (figure : Recent → ℕ) (such : Reply → Bool) (old new : List Minute)
       → ((caller modality : Text) (now : ℕ) → from ≤ now → said_within figure caller modality now old ≡ came_within such caller modality now all)
       → ((other kind : Text) (now : ℕ) → said_within figure other kind now old + if_so (is_of_hour now n.minute && (bytes_eq n.caller other && bytes_eq n.modality kind)) (if_so (such n.answer) 1) ≤ most
       → said_within figure other kind now new ≡ said_within figure other kind now old + if_so (is_of_hour now n.minute && (bytes_eq n.caller other && bytes_eq n.modality kind)) (if_so (such n.answer) 1))

@@ -13,7 +13,8 @@ use Rattle.std.proofs.lemmas.Slice.Eq.{bytes_eq-Decides}
 use Rattle.std.specs.Prelude.{MatchResult}
 use Rattle.std.specs.declared.alloc.AllocError.{AllocError}
 use Rattle.dr_base.specs.Texts.{Text}
-use Rattle.dr_run_answer.specs.Intakes.{Answer, CountsOne, Grows, IsShare, callers_of, if_so, most}
+use Rattle.dr_run_answer.specs.Intakes.{CountsOne, Grows, IsShare, callers_of, if_so, most}
+use Rattle.dr_ledger.specs.Replies.{Reply}
 use Rattle.dr_run_answer.specs.declared.intake.Brought.{Brought}
 use Rattle.dr_run_answer.specs.declared.noted.CallerShare.{CallerShare}
 
@@ -84,7 +85,7 @@ named caller xs i d found =
     let at = position-Some (λ (b : Brought). bytes_eq b.caller caller) xs i d found in
     (at.0, (bytes_eq-Decides (get_or xs i d).caller caller).0 at.1)
 
-pub counted_at : (caller : Text) (answer : Answer) (size : ℕ) (share : CallerShare) (xs : List Brought) (i : ℕ) (y d : Brought) → IsShare answer size share
+pub counted_at : (caller : Text) (answer : Reply) (size : ℕ) (share : CallerShare) (xs : List Brought) (i : ℕ) (y d : Brought) → IsShare answer size share
     → position (λ b. bytes_eq b.caller caller) xs ≡ Some i → y ≡ raised (get_or xs i d) share → CountsOne caller answer size xs (set xs i y)
 counted_at caller answer size share xs i y d is found same =
     let at = named caller xs i d found in
@@ -129,7 +130,7 @@ is_none false x h = refl
 none_there : (caller : Text) (xs : List Brought) → position (λ b. bytes_eq b.caller caller) xs ≡ None → list_any (bytes_eq caller) (callers_of xs) ≡ false
 none_there caller xs none = sym (same_any caller xs) ∙ none_before (λ (b : Brought). bytes_eq b.caller caller) xs (is_none _ _ none)
 
-pub counted_first : (caller : Text) (answer : Answer) (size : ℕ) (share : CallerShare) (xs ys : List Brought) → IsShare answer size share
+pub counted_first : (caller : Text) (answer : Reply) (size : ℕ) (share : CallerShare) (xs ys : List Brought) → IsShare answer size share
     → position (λ b. bytes_eq b.caller caller) xs ≡ None → ys ≡ xs ++ line_of caller share ∷ [] → CountsOne caller answer size xs ys
 counted_first caller answer size share xs ys is none all =
     let Counts : List Brought → Type 0 = λ zs. CountsOne caller answer size xs zs in
@@ -145,7 +146,7 @@ counted_first caller answer size share xs ys is none all =
     })
 
 -- what came of adding the line
-pub told_first : (caller : Text) (answer : Answer) (size : ℕ) (share : CallerShare) (xs ys : List Brought) (r : Result (Unit {0}) AllocError) → IsShare answer size share
+pub told_first : (caller : Text) (answer : Reply) (size : ℕ) (share : CallerShare) (xs ys : List Brought) (r : Result (Unit {0}) AllocError) → IsShare answer size share
     → position (λ b. bytes_eq b.caller caller) xs ≡ None → MatchResult r (λ done. ys ≡ xs ++ line_of caller share ∷ []) (λ why. ys ≡ xs)
     → MatchResult r (λ done. CountsOne caller answer size xs ys) (λ why. ys ≡ xs)
 told_first caller answer size share xs ys (Ok done) is none all = counted_first caller answer size share xs ys is none all

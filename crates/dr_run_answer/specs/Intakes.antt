@@ -1,21 +1,15 @@
 -- What came, and what the lines amount to by which a node counts it: by caller since it serves, and
 -- by caller and modality of the last hour.
 use Rattle.std.specs.Prelude.{◌≡◌, ◌≤◌, ◌+◌, ◌-◌, ◌^◌, ◌&&◌, ℕ, Bool, true, false, not}
-use Rattle.std.specs.Prelude.{if◌then◌else◌, List, bytes_eq, map as mapped, nat_lt}
-use Rattle.std.specs.Prelude.{Result, Ok, Err, sum_by}
+use Rattle.std.specs.Prelude.{if◌then◌else◌, List, bytes_eq, map as mapped, nat_lt, Ok, Err, sum_by}
 use Rattle.std.specs.List.{IsDistinct}
 use Rattle.dr_base.specs.Texts.{Text}
-use Rattle.dr_ledger.specs.declared.fault.LedgerFault.{LedgerFault}
-use Rattle.dr_ledger.specs.declared.item.Arrived.{Arrived}
 use Rattle.dr_ledger.specs.declared.item.Arrived.TheVariants as arrived
 use Rattle.dr_run_answer.specs.declared.intake.Brought.{Brought}
 use Rattle.dr_run_answer.specs.declared.intake.Recent.{Recent}
 use Rattle.dr_run_answer.specs.declared.noted.Minute.{Minute}
 use Rattle.dr_run_answer.specs.declared.noted.CallerShare.{CallerShare}
-
--- what was answered
-abbrev pub Answer : Type 0
-Answer = Result Arrived LedgerFault
+use Rattle.dr_ledger.specs.Replies.{Reply}
 
 -- An instance that came: from whom, of which modality, in which minute since 1970, of how many
 -- bytes, and what was answered.
@@ -24,19 +18,19 @@ pub record Notice : Type 0 where
   pub modality : Text
   pub minute : ℕ
   pub size : ℕ
-  pub answer : Answer
+  pub answer : Reply
 
-abbrev pub is_stored : Answer → Bool
+abbrev pub is_stored : Reply → Bool
 is_stored (Ok arrived.New) = true
 is_stored (Ok arrived.Again) = false
 is_stored (Err why) = false
 
-abbrev pub is_again : Answer → Bool
+abbrev pub is_again : Reply → Bool
 is_again (Ok arrived.New) = false
 is_again (Ok arrived.Again) = true
 is_again (Err why) = false
 
-abbrev pub is_refused : Answer → Bool
+abbrev pub is_refused : Reply → Bool
 is_refused (Ok took) = false
 is_refused (Err why) = true
 
@@ -51,7 +45,7 @@ most = 2 ^ 64 - 1
 -- ---- by caller
 
 -- to how many of a caller's instances such an answer was given
-abbrev pub answers_to : (Answer → Bool) → Text → List Notice → ℕ
+abbrev pub answers_to : (Reply → Bool) → Text → List Notice → ℕ
 answers_to such caller all =
     sum_by (λ (n : Notice). if_so (bytes_eq n.caller caller && such n.answer) 1) all
 
@@ -79,7 +73,7 @@ pub record AreTotals (all : List Notice) (lines : List Brought) : Type 0 where
   pub bytes : (caller : Text) → said_of (λ b. b.bytes) caller lines ≡ bytes_from caller all
 
 -- an instance raises the figures of its caller by that
-abbrev pub IsShare : Answer → ℕ → CallerShare → Type 0
+abbrev pub IsShare : Reply → ℕ → CallerShare → Type 0
 IsShare answer size share =
     (share.stored ≡ if_so (is_stored answer) 1)
     × (share.again ≡ if_so (is_again answer) 1)
@@ -95,7 +89,7 @@ Grows figure caller amount old new =
     → said_of figure other new ≡ said_of figure other old + if_so (bytes_eq caller other) amount
 
 -- one instance more of a caller was answered so
-pub record CountsOne (caller : Text) (answer : Answer) (size : ℕ) (old new : List Brought)
+pub record CountsOne (caller : Text) (answer : Reply) (size : ℕ) (old new : List Brought)
     : Type 0 where
   pub apart : IsDistinct bytes_eq (callers_of old) → IsDistinct bytes_eq (callers_of new)
   pub stored : Grows (λ b. b.stored) caller (if_so (is_stored answer) 1) old new
@@ -114,7 +108,7 @@ abbrev pub is_by : Text → Text → Recent → Bool
 is_by caller modality line = bytes_eq line.caller caller && bytes_eq line.modality modality
 
 -- how many instances of a caller and a modality were taken, or refused, within the hour
-abbrev pub came_within : (Answer → Bool) → Text → Text → ℕ → List Notice → ℕ
+abbrev pub came_within : (Reply → Bool) → Text → Text → ℕ → List Notice → ℕ
 came_within such caller modality now all =
     sum_by
     (λ (n : Notice). if_so

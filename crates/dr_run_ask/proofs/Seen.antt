@@ -4,7 +4,7 @@ use Rattle.std.specs.Prelude.{IfOk, IfErr, Some, codes}
 use Rattle.serde_json.specs.Data.{Data}
 use Rattle.dr_base.specs.Texts.{Text}
 use Rattle.dr_run_ask.specs.Conversations.{IsDone, IsSeen, OnlyReads, Refuses, Sees, Tells, TellsSeen, name_told}
-use Rattle.dr_run_ask.specs.Lines.{BeginsWith, text_at}
+use Rattle.dr_run_ask.specs.Lines.{FirstLineIs, text_at}
 use Rattle.dr_run_ask.specs.declared.answer.HttpAnswer.{HttpAnswer}
 use Rattle.dr_run_ask.specs.declared.call.HttpCall.{HttpCall}
 use Rattle.dr_run_ask.specs.declared.call.HttpCall.TheVariants.{Status}
@@ -13,7 +13,7 @@ use Rattle.dr_run_ask.specs.declared.fault.AskFault.TheVariants as faults
 use Rattle.dr_run_ask.proofs.Chains.{reads_one}
 
 -- a fault by the name that the answer has for it
-pub refuses : (answer : HttpAnswer) (value : Data) (name given : Text) (fault : AskFault) → BeginsWith answer.body.items value → text_at (codes "fault") value ≡ Some name → given ≡ name
+pub refuses : (answer : HttpAnswer) (value : Data) (name given : Text) (fault : AskFault) → FirstLineIs answer.body.items value → text_at (codes "fault") value ≡ Some name → given ≡ name
     → (fault ≡ faults.NoNodesAnswer) ⊎ (name_told fault ≡ Some given) → Refuses answer fault
 refuses answer value name given fault begins says same (inl is) = inl is
 refuses answer value name given fault begins says same (inr told) = inr (name, told ∙ ap Some same, (value, begins, says))

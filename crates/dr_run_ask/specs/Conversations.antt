@@ -4,7 +4,7 @@ use Rattle.std.specs.Prelude.{Option, None, Some, Result, Ok, Err, MatchOption}
 use Rattle.serde_json.specs.Data.{Data}
 use Rattle.dr_base.specs.Texts.{Text}
 use Rattle.dr_run_ask.specs.Calls.{is_act}
-use Rattle.dr_run_ask.specs.Lines.{BeginsWith, flag_at, text_at}
+use Rattle.dr_run_ask.specs.Lines.{FirstLineIs, flag_at, text_at}
 use Rattle.dr_run_ask.specs.declared.answer.HttpAnswer.{HttpAnswer}
 use Rattle.dr_run_ask.specs.declared.call.HttpCall.{HttpCall}
 use Rattle.dr_run_ask.specs.declared.call.HttpCall.TheVariants.{Status}
@@ -20,7 +20,7 @@ use Rattle.dr_run_ask.specs.declared.fault.AskFault.TheVariants.{NotHeld, NotOve
 abbrev pub IsOf : Text → Text → Text → Type 0
 IsOf name digest text =
     (value : Data)
-    × BeginsWith text value
+    × FirstLineIs text value
     × (text_at (codes "node") value ≡ Some name)
     × MatchOption (text_at (codes "plan") value) (Unit {0}) (λ told. told ≡ digest)
 
@@ -29,14 +29,14 @@ abbrev pub IsDone : HttpAnswer → Type 0
 IsDone answer =
     (answer.status ≡ 200)
     × ((value : Data)
-    × BeginsWith answer.body.items value
+    × FirstLineIs answer.body.items value
     × (flag_at (codes "done") value ≡ Some true))
 
 -- the answer names this fault
-abbrev pub Names : HttpAnswer → Text → Type 0
-Names answer name =
+abbrev pub NamesFault : HttpAnswer → Text → Type 0
+NamesFault answer name =
     (value : Data)
-    × BeginsWith answer.body.items value
+    × FirstLineIs answer.body.items value
     × (text_at (codes "fault") value ≡ Some name)
 
 -- what an answer calls a fault, where it has a name for it
@@ -62,7 +62,7 @@ name_told Memory = Some (codes "Memory")
 abbrev pub Refuses : HttpAnswer → AskFault → Type 0
 Refuses answer fault =
     (fault ≡ NoNodesAnswer)
-    ⊎ ((name : Text) × (name_told fault ≡ Some name) × Names answer name)
+    ⊎ ((name : Text) × (name_told fault ≡ Some name) × NamesFault answer name)
 
 -- none of them changes anything
 abbrev pub NoneActs : List HttpCall → Type 0

@@ -17,6 +17,6 @@ abbrev pub flag_at : Text → Data → Option Bool
 flag_at name value = option_and_then as_bool (get name value)
 
 -- the text begins with a line that is this value
-abbrev pub BeginsWith : Text → Data → Type 0
-BeginsWith text value =
+abbrev pub FirstLineIs : Text → Data → Type 0
+FirstLineIs text value =
     (line : Text) × (rest : Text) × (text ≡ line ++ rest) × (read line ≡ Some value)

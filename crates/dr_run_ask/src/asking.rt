@@ -4,7 +4,7 @@ ghost use Rattle.std.specs.Prelude.{codes};
 ghost use Rattle.serde_json.specs.View.{view};
 ghost use Rattle.dr_run_ask.specs.Conversations.{IsDone, IsOf, Refuses, Sees, Tells, TellsSeen};
 ghost use Rattle.dr_run_ask.specs.Conversations.{name_told};
-ghost use Rattle.dr_run_ask.specs.Lines.{BeginsWith, text_at};
+ghost use Rattle.dr_run_ask.specs.Lines.{FirstLineIs, text_at};
 ghost use Rattle.dr_run_ask.specs.declared.fault.AskFault.TheVariants as faults;
 
 use crate::answer::HttpAnswer;
@@ -43,7 +43,7 @@ pub struct Meant<'a> {
 ///
 /// Errors: NoNodesAnswer where it says nothing; Memory.
 fn said_in(alloc: Global, answer: &HttpAnswer) -> Result<Value, AskFault>
-    ensures { IfOk result (λ value. BeginsWith answer.now.body.items (view value)) }
+    ensures { IfOk result (λ value. FirstLineIs answer.now.body.items (view value)) }
 {
     let value = first_value(alloc, answer.body.as_slice())?;
     Ok(value)

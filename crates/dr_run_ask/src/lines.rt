@@ -4,7 +4,7 @@ ghost use Rattle.serde_json.specs.Data.{Data};
 ghost use Rattle.serde_json.specs.Read.{read};
 ghost use Rattle.serde_json.specs.View.{view};
 ghost use Rattle.dr_base.specs.Texts.{Text as Words};
-ghost use Rattle.dr_run_ask.specs.Lines.{BeginsWith, flag_at, number_at, text_at};
+ghost use Rattle.dr_run_ask.specs.Lines.{FirstLineIs, flag_at, number_at, text_at};
 
 use crate::fault::AskFault;
 use serde_json::{Category, Error, Value};
@@ -58,7 +58,7 @@ fn first_line(text: &[u8]) -> &[u8]
 ///
 /// Errors: NoNodesAnswer where it is none; Memory.
 pub fn first_value(alloc: Global, text: &[u8]) -> Result<Value, AskFault>
-    ensures { IfOk result (λ value. BeginsWith text.now (view value)) }
+    ensures { IfOk result (λ value. FirstLineIs text.now (view value)) }
 {
     value_of(alloc, first_line(text))
 }

@@ -29,7 +29,7 @@ use Rattle.dr_run_answer.specs.declared.json.Visits.{Visits}
 use Rattle.dr_run_control.specs.Replies.{IsToldIn, line_of_answer, name_of_form, name_of_refusal}
 use Rattle.dr_run_control.specs.Replies.{status_of_answer, status_of_form, status_of_refusal}
 use Rattle.dr_run_open.specs.declared.hops.NextHop.{NextHop}
-use Rattle.dr_run_request.specs.Asking.{Admits}
+use Rattle.dr_run_request.specs.Asking.{AdmitsRequest}
 use Rattle.dr_run_request.specs.Orders.{IsAsked}
 use Rattle.dr_run_request.specs.declared.admission.Access.{Access}
 use Rattle.dr_run_request.specs.declared.admission.Refused.{Refused}
@@ -107,7 +107,7 @@ pub record IsRefused (access : Access) (browser : Option Browser) (request : Req
     (status : ℕ) (text : Text)
     (count : ℕ) (receipts : List Receipt) (now : ℕ) (kept : List Receipt) : Type 0 where
   pub why : Refused
-  pub admits : Admits access browser (head_of request) (body_of request) (Err why)
+  pub admits : AdmitsRequest access browser (head_of request) (body_of request) (Err why)
   pub status_is : status ≡ status_of_refusal why
   pub told : IsToldIn (fault_line (name_of_refusal why)) text
   pub leaves : LeavesReceipts count receipts now kept
@@ -118,7 +118,7 @@ pub record IsLooked (access : Access) (browser : Option Browser) (request : Requ
     (status : ℕ) (text : Text)
     (count : ℕ) (receipts : List Receipt) (now : ℕ) (kept : List Receipt) : Type 0 where
   pub asked : Route
-  pub admits : Admits access browser (head_of request) (body_of request) (Ok asked)
+  pub admits : AdmitsRequest access browser (head_of request) (body_of request) (Ok asked)
   pub other : gives_order asked ≡ false
   pub stops : asked ≡ route.Stop → (status ≡ 200) × IsToldIn done_line text
   pub leaves : LeavesReceipts count receipts now kept
@@ -206,7 +206,7 @@ module _ {L : Type 0} (site_of : L → Part) (book : L → Book) (stands : L →
       IsRefused access browser request status text count receipts now kept
       ⊎ (((asked : Route)
       × (gives_order asked ≡ true)
-      × Admits access browser (head_of request) (body_of request) (Ok asked)
+      × AdmitsRequest access browser (head_of request) (body_of request) (Ok asked)
       × Tells hops asked (body_of request) status text count receipts now kept)
       ⊎ IsLooked access browser request status text count receipts now kept)
 

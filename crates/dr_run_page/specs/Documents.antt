@@ -14,7 +14,7 @@ use Rattle.dr_run_answer.specs.declared.intake.Recent.{Recent}
 use Rattle.dr_run_answer.specs.declared.json.Counts.{Counts}
 use Rattle.dr_run_answer.specs.declared.json.Queue.{Queue}
 use Rattle.dr_run_answer.specs.declared.json.Visited.{Visited}
-use Rattle.dr_run_page.specs.Markup.{shown}
+use Rattle.dr_run_page.specs.Markup.{in_markup}
 
 -- texts one behind another
 abbrev pub joined : List Text → Text
@@ -54,7 +54,7 @@ ago_words now at =
 -- what the last visit came to, and how long ago, if there was one
 abbrev pub visit_words : ℕ → Option Visited → Text
 visit_words now None = codes "-"
-visit_words now (Some visit) = shown visit.came.now ++ codes ", " ++ ago_words now visit.at
+visit_words now (Some visit) = in_markup visit.came.now ++ codes ", " ++ ago_words now visit.at
 
 -- ---- the light
 
@@ -88,14 +88,14 @@ light failures queues =
 
 -- what stands for the text is the text, so that a form that has it names just that
 abbrev pub names_itself : Text → Bool
-names_itself text = bytes_eq (shown text) text
+names_itself text = bytes_eq (in_markup text) text
 
 -- a form with one button, by which a browser asks for an act on a next node
 abbrev pub hop_button : Text → Text → Text → Text → Text
 hop_button act label key dest = joined
     (codes "<form method=\"post\" action=\"" ∷ act
-    ∷ codes "\"><input type=\"hidden\" name=\"key\" value=\"" ∷ shown key
-    ∷ codes "\"><input type=\"hidden\" name=\"dest\" value=\"" ∷ shown dest
+    ∷ codes "\"><input type=\"hidden\" name=\"key\" value=\"" ∷ in_markup key
+    ∷ codes "\"><input type=\"hidden\" name=\"dest\" value=\"" ∷ in_markup dest
     ∷ codes "\"><button>" ∷ label
     ∷ codes "</button></form>" ∷ [])
 
@@ -112,7 +112,7 @@ hop_buttons (Some key) dest = if names_itself dest then both_hop_buttons key des
 
 abbrev pub queue_cells : ℕ → Queue → Text
 queue_cells now queue = joined
-    (codes "<tr><td>" ∷ shown queue.dest.now
+    (codes "<tr><td>" ∷ in_markup queue.dest.now
     ∷ codes "</td><td>" ∷ decimal queue.waiting
     ∷ codes "</td><td>" ∷ decimal queue.held
     ∷ codes "</td><td>" ∷ decimal queue.done
@@ -127,7 +127,7 @@ queue_row now key queue =
 -- an association that is open, and since when
 abbrev pub association_row : ℕ → OpenAssociation → Text
 association_row now association = joined
-    (codes "<tr><td>" ∷ shown association.caller
+    (codes "<tr><td>" ∷ in_markup association.caller
     ∷ codes "</td><td>" ∷ ago_words now association.since
     ∷ codes "</td><td>" ∷ decimal association.stored
     ∷ codes "</td><td>" ∷ decimal association.again
@@ -137,8 +137,8 @@ association_row now association = joined
 -- what came within the last hour from a caller, of a modality
 abbrev pub recent_row : Recent → Text
 recent_row recent = joined
-    (codes "<tr><td>" ∷ shown recent.caller
-    ∷ codes "</td><td>" ∷ shown recent.modality
+    (codes "<tr><td>" ∷ in_markup recent.caller
+    ∷ codes "</td><td>" ∷ in_markup recent.modality
     ∷ codes "</td><td>" ∷ decimal recent.stored
     ∷ codes "</td><td>" ∷ decimal recent.refused
     ∷ codes "</td></tr>\n" ∷ [])
@@ -148,9 +148,9 @@ recent_row recent = joined
 abbrev pub button : Text → Text → Text → Text → Text → Text
 button act label key uid dest = joined
     (codes "<form method=\"post\" action=\"" ∷ act
-    ∷ codes "\"><input type=\"hidden\" name=\"key\" value=\"" ∷ shown key
-    ∷ codes "\"><input type=\"hidden\" name=\"uid\" value=\"" ∷ shown uid
-    ∷ codes "\"><input type=\"hidden\" name=\"dest\" value=\"" ∷ shown dest
+    ∷ codes "\"><input type=\"hidden\" name=\"key\" value=\"" ∷ in_markup key
+    ∷ codes "\"><input type=\"hidden\" name=\"uid\" value=\"" ∷ in_markup uid
+    ∷ codes "\"><input type=\"hidden\" name=\"dest\" value=\"" ∷ in_markup dest
     ∷ codes "\"><button>" ∷ label
     ∷ codes "</button></form>" ∷ [])
 
@@ -170,8 +170,8 @@ buttons (Some key) uid dest =
 
 abbrev pub held_cells : Text → Text → Cause → Text
 held_cells uid dest why = joined
-    (codes "<tr><td>" ∷ shown uid
-    ∷ codes "</td><td>" ∷ shown dest
+    (codes "<tr><td>" ∷ in_markup uid
+    ∷ codes "</td><td>" ∷ in_markup dest
     ∷ codes "</td><td>" ∷ cause_words why
     ∷ codes "</td><td>" ∷ [])
 
@@ -199,14 +199,14 @@ abbrev pub head : Text → Text
 head name = joined
     (codes
     "<!DOCTYPE html>\n<html lang=\"en\">\n<head>\n<meta charset=\"utf-8\">\n<meta http-equiv=\"refresh\" content=\"5\">\n<title>"
-    ∷ shown name ∷ codes "</title>\n<style>" ∷ style ∷ codes "</style>\n</head>\n<body>\n" ∷ [])
+    ∷ in_markup name ∷ codes "</title>\n<style>" ∷ style ∷ codes "</style>\n</head>\n<body>\n" ∷ [])
 
 -- under such a light, after so many seconds
 abbrev pub figures_under : Text → Text → ℕ → Counts → Text
 figures_under lit name served counts =
     joined
     (codes "<h1 class=\"" ∷ lit
-    ∷ codes "</h1>\n<p>" ∷ shown name
+    ∷ codes "</h1>\n<p>" ∷ in_markup name
     ∷ codes " has served for " ∷ decimal served
     ∷ codes " s. Arrivals: " ∷ decimal counts.arrivals
     ∷ codes ". Kept: " ∷ decimal counts.kept

@@ -10,19 +10,19 @@ is_markup b = (b == 60) || (b == 62) || (b == 38) || (b == 34) || (b == 39)
 
 -- A byte that stands as it is: a character of ASCII that prints, or a blank, but for those and a
 -- backslash (92).
-abbrev pub is_plain : ℕ → Bool
-is_plain b = nat_le 32 b && nat_le b 126 && not (is_markup b) && not (b == 92)
+abbrev pub stands_in_markup : ℕ → Bool
+stands_in_markup b = nat_le 32 b && nat_le b 126 && not (is_markup b) && not (b == 92)
 
 -- what stands for a byte: itself, or a backslash, `x` and both digits
-abbrev pub shown_byte : ℕ → Text
-shown_byte b =
-    if is_plain b then b ∷ []
+abbrev pub markup_byte : ℕ → Text
+markup_byte b =
+    if stands_in_markup b then b ∷ []
     else 92 ∷ 120 ∷ hex_digit (b / 16) ∷ hex_digit (b % 16) ∷ []
 
 -- the same of all bytes of a text
-abbrev pub shown : Text → Text
-shown text = flat_map shown_byte text
+abbrev pub in_markup : Text → Text
+in_markup text = flat_map markup_byte text
 
 -- a text in which nothing can begin or end markup: each byte is a character that prints
-abbrev pub IsHarmless : ℕ → Type 0
-IsHarmless b = (32 ≤ b) × (b < 127) × (is_markup b ≡ false)
+abbrev pub IsHarmlessByte : ℕ → Type 0
+IsHarmlessByte b = (32 ≤ b) × (b < 127) × (is_markup b ≡ false)

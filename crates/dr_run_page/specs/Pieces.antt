@@ -4,11 +4,11 @@ use Rattle.dr_base.specs.Texts.{Text}
 use Rattle.dr_run_page.specs.declared.pieces.Piece.{Piece}
 use Rattle.dr_run_page.specs.declared.pieces.Piece.TheVariants as piece
 use Rattle.dr_run_page.specs.Documents.{ago_words, cause_words, due_words, visit_words}
-use Rattle.dr_run_page.specs.Markup.{shown}
+use Rattle.dr_run_page.specs.Markup.{in_markup}
 
 abbrev pub text_of : Piece → Text
 text_of (piece.Markup markup) = markup.now
-text_of (piece.Words words) = shown words.now
+text_of (piece.Words words) = in_markup words.now
 text_of (piece.Number value) = decimal value
 text_of (piece.Cause why) = cause_words why
 text_of (piece.Due now due) = due_words now due

@@ -20,12 +20,12 @@ IsAmong files (Report id) = IsFileOf files id
 IsAmong files (Other id) = IsFileOf files id
 
 -- the ledger whose database stands there takes the name, in the same folder
-abbrev pub Takes : Spot → Spot → Type 0
-Takes spot ledger = (ledger.folder ≡ spot.folder) × IsLedgerName ledger.name spot.name
+abbrev pub TakesName : Spot → Spot → Type 0
+TakesName spot ledger = (ledger.folder ≡ spot.folder) × IsLedgerName ledger.name spot.name
 
 -- one of the spots at which the ledger's database stands takes the name
 abbrev pub IsTakenBy : List Spot → Spot → Type 0
-IsTakenBy ledgers spot = (ledger : Spot) × Contains ledgers ledger × Takes spot ledger
+IsTakenBy ledgers spot = (ledger : Spot) × Contains ledgers ledger × TakesName spot ledger
 
 -- the ledger takes the name, whether a file is there or not, or what is there is one of the node's
 -- own files

@@ -1,7 +1,7 @@
 //! Whether a report may take the place of what is at a path.
 ghost use Rattle.std.specs.Prelude.{◌≡◌, ◌↔◌, IsTrue};
 ghost use Rattle.dr_run_report.specs.Places.{HasRoom, IsAmong, IsFileOf, IsOwn, IsTakenBy};
-ghost use Rattle.dr_run_report.specs.Places.{JudgesPlace, Takes};
+ghost use Rattle.dr_run_report.specs.Places.{JudgesPlace, TakesName};
 
 use crate::names::is_ledger_name;
 use dr_base::Text;
@@ -82,7 +82,7 @@ fn is_among(found: &PathTarget, files: &[FileId]) -> bool
 
 /// Whether a ledger whose database stands there takes the name of the spot.
 fn takes(ledger: &Spot, spot: &Spot) -> bool
-    ensures { IsTrue result ↔ Takes spot.now ledger.now }
+    ensures { IsTrue result ↔ TakesName spot.now ledger.now }
 {
     ledger.folder.is_same(&spot.folder)
         && is_ledger_name(ledger.name.as_bytes(), spot.name.as_bytes())

@@ -6,7 +6,7 @@ use Rattle.std.proofs.lemmas.Bool.{false≢true}
 use Rattle.http.specs.declared.request.Parts.{Parts}
 use Rattle.http_uri.specs.Uri.{uri_path}
 use Rattle.dr_base.specs.Texts.{Text}
-use Rattle.dr_run_request.specs.Asking.{Admits, AsksFor, HasToken, IsAt, IsMeant, is_act, method_of, needs_token}
+use Rattle.dr_run_request.specs.Asking.{AdmitsRequest, AsksFor, HasToken, IsAt, IsMeant, is_act, method_of, needs_token}
 use Rattle.dr_run_request.specs.Laws.{PathsDiffer}
 use Rattle.dr_run_request.specs.declared.admission.Access.{Access}
 use Rattle.dr_run_request.specs.declared.admission.Refused.{Refused}
@@ -57,91 +57,91 @@ module _ (differ : PathsDiffer) (access : Access) (browser : Option Browser) (he
       deny (subst (λ (given : Text). IsMeant browser given head form) (one_text access.token has.0 token has.1 some)
       (has.3 (subst (λ (route : Route). is_act route ≡ true) is act)))
 
-  host_origin : Admits access browser head form (Err refused.Host) → Admits access browser head form (Err refused.Origin) → ⊥
+  host_origin : AdmitsRequest access browser head form (Err refused.Host) → AdmitsRequest access browser head form (Err refused.Origin) → ⊥
   host_origin a b = a b.0
 
-  host_path : Admits access browser head form (Err refused.Host) → Admits access browser head form (Err refused.Path) → ⊥
+  host_path : AdmitsRequest access browser head form (Err refused.Host) → AdmitsRequest access browser head form (Err refused.Path) → ⊥
   host_path a b = a b.0.0
 
-  host_method : Admits access browser head form (Err refused.Host) → Admits access browser head form (Err refused.Method) → ⊥
+  host_method : AdmitsRequest access browser head form (Err refused.Host) → AdmitsRequest access browser head form (Err refused.Method) → ⊥
   host_method a b = a b.0.0
 
-  host_closed : Admits access browser head form (Err refused.Host) → Admits access browser head form (Err refused.Closed) → ⊥
+  host_closed : AdmitsRequest access browser head form (Err refused.Host) → AdmitsRequest access browser head form (Err refused.Closed) → ⊥
   host_closed a b = a b.1.0.0
 
-  host_token : Admits access browser head form (Err refused.Host) → Admits access browser head form (Err refused.Token) → ⊥
+  host_token : AdmitsRequest access browser head form (Err refused.Host) → AdmitsRequest access browser head form (Err refused.Token) → ⊥
   host_token a b = a b.2.0.0
 
-  host_key : Admits access browser head form (Err refused.Host) → Admits access browser head form (Err refused.Key) → ⊥
+  host_key : AdmitsRequest access browser head form (Err refused.Host) → AdmitsRequest access browser head form (Err refused.Key) → ⊥
   host_key a b = a b.2.0.0
 
-  host_ok : (route : Route) → Admits access browser head form (Err refused.Host) → Admits access browser head form (Ok route) → ⊥
+  host_ok : (route : Route) → AdmitsRequest access browser head form (Err refused.Host) → AdmitsRequest access browser head form (Ok route) → ⊥
   host_ok route a b = a b.0.0.0
 
-  origin_path : Admits access browser head form (Err refused.Origin) → Admits access browser head form (Err refused.Path) → ⊥
+  origin_path : AdmitsRequest access browser head form (Err refused.Origin) → AdmitsRequest access browser head form (Err refused.Path) → ⊥
   origin_path a b = a.1 b.0.1
 
-  origin_method : Admits access browser head form (Err refused.Origin) → Admits access browser head form (Err refused.Method) → ⊥
+  origin_method : AdmitsRequest access browser head form (Err refused.Origin) → AdmitsRequest access browser head form (Err refused.Method) → ⊥
   origin_method a b = a.1 b.0.1
 
-  origin_closed : Admits access browser head form (Err refused.Origin) → Admits access browser head form (Err refused.Closed) → ⊥
+  origin_closed : AdmitsRequest access browser head form (Err refused.Origin) → AdmitsRequest access browser head form (Err refused.Closed) → ⊥
   origin_closed a b = a.1 b.1.0.1
 
-  origin_token : Admits access browser head form (Err refused.Origin) → Admits access browser head form (Err refused.Token) → ⊥
+  origin_token : AdmitsRequest access browser head form (Err refused.Origin) → AdmitsRequest access browser head form (Err refused.Token) → ⊥
   origin_token a b = a.1 b.2.0.1
 
-  origin_key : Admits access browser head form (Err refused.Origin) → Admits access browser head form (Err refused.Key) → ⊥
+  origin_key : AdmitsRequest access browser head form (Err refused.Origin) → AdmitsRequest access browser head form (Err refused.Key) → ⊥
   origin_key a b = a.1 b.2.0.1
 
-  origin_ok : (route : Route) → Admits access browser head form (Err refused.Origin) → Admits access browser head form (Ok route) → ⊥
+  origin_ok : (route : Route) → AdmitsRequest access browser head form (Err refused.Origin) → AdmitsRequest access browser head form (Ok route) → ⊥
   origin_ok route a b = a.1 b.0.0.1
 
-  path_method : Admits access browser head form (Err refused.Path) → Admits access browser head form (Err refused.Method) → ⊥
+  path_method : AdmitsRequest access browser head form (Err refused.Path) → AdmitsRequest access browser head form (Err refused.Method) → ⊥
   path_method a b = a.1 b.1.0 b.1.1
 
-  path_closed : Admits access browser head form (Err refused.Path) → Admits access browser head form (Err refused.Closed) → ⊥
+  path_closed : AdmitsRequest access browser head form (Err refused.Path) → AdmitsRequest access browser head form (Err refused.Closed) → ⊥
   path_closed a b = a.1 b.0 b.1.1
 
-  path_token : Admits access browser head form (Err refused.Path) → Admits access browser head form (Err refused.Token) → ⊥
+  path_token : AdmitsRequest access browser head form (Err refused.Path) → AdmitsRequest access browser head form (Err refused.Token) → ⊥
   path_token a b = a.1 b.0 b.2.1
 
-  path_key : Admits access browser head form (Err refused.Path) → Admits access browser head form (Err refused.Key) → ⊥
+  path_key : AdmitsRequest access browser head form (Err refused.Path) → AdmitsRequest access browser head form (Err refused.Key) → ⊥
   path_key a b = a.1 b.0 b.2.1
 
-  path_ok : (route : Route) → Admits access browser head form (Err refused.Path) → Admits access browser head form (Ok route) → ⊥
+  path_ok : (route : Route) → AdmitsRequest access browser head form (Err refused.Path) → AdmitsRequest access browser head form (Ok route) → ⊥
   path_ok route a b = a.1 route b.0.1
 
-  method_closed : Admits access browser head form (Err refused.Method) → Admits access browser head form (Err refused.Closed) → ⊥
+  method_closed : AdmitsRequest access browser head form (Err refused.Method) → AdmitsRequest access browser head form (Err refused.Closed) → ⊥
   method_closed a b = other_method a.1.0 b.0 a.1.1 a.1.2 b.1
 
-  method_token : Admits access browser head form (Err refused.Method) → Admits access browser head form (Err refused.Token) → ⊥
+  method_token : AdmitsRequest access browser head form (Err refused.Method) → AdmitsRequest access browser head form (Err refused.Token) → ⊥
   method_token a b = other_method a.1.0 b.0 a.1.1 a.1.2 b.2
 
-  method_key : Admits access browser head form (Err refused.Method) → Admits access browser head form (Err refused.Key) → ⊥
+  method_key : AdmitsRequest access browser head form (Err refused.Method) → AdmitsRequest access browser head form (Err refused.Key) → ⊥
   method_key a b = other_method a.1.0 b.0 a.1.1 a.1.2 b.2
 
-  method_ok : (route : Route) → Admits access browser head form (Err refused.Method) → Admits access browser head form (Ok route) → ⊥
+  method_ok : (route : Route) → AdmitsRequest access browser head form (Err refused.Method) → AdmitsRequest access browser head form (Ok route) → ⊥
   method_ok route a b = other_method a.1.0 route a.1.1 a.1.2 b.0
 
-  closed_token : Admits access browser head form (Err refused.Closed) → Admits access browser head form (Err refused.Token) → ⊥
+  closed_token : AdmitsRequest access browser head form (Err refused.Closed) → AdmitsRequest access browser head form (Err refused.Token) → ⊥
   closed_token a b = none_is_some access.token b.1 a.3 b.3.1
 
-  closed_key : Admits access browser head form (Err refused.Closed) → Admits access browser head form (Err refused.Key) → ⊥
+  closed_key : AdmitsRequest access browser head form (Err refused.Closed) → AdmitsRequest access browser head form (Err refused.Key) → ⊥
   closed_key a b = none_is_some access.token b.1 a.3 b.3.1
 
-  closed_ok : (route : Route) → Admits access browser head form (Err refused.Closed) → Admits access browser head form (Ok route) → ⊥
+  closed_ok : (route : Route) → AdmitsRequest access browser head form (Err refused.Closed) → AdmitsRequest access browser head form (Ok route) → ⊥
   closed_ok route a b = no_token a.0 route a.1 a.2 a.3 b.0 b.1
 
-  token_key : Admits access browser head form (Err refused.Token) → Admits access browser head form (Err refused.Key) → ⊥
+  token_key : AdmitsRequest access browser head form (Err refused.Token) → AdmitsRequest access browser head form (Err refused.Key) → ⊥
   token_key a b = a.4 (subst (λ (given : Text). HasToken browser given head) (one_text access.token b.1 a.1 b.3.1 a.3.1) b.4)
 
-  token_ok : (route : Route) → Admits access browser head form (Err refused.Token) → Admits access browser head form (Ok route) → ⊥
+  token_ok : (route : Route) → AdmitsRequest access browser head form (Err refused.Token) → AdmitsRequest access browser head form (Ok route) → ⊥
   token_ok route a b = another_token a.0 route a.1 a.2 a.3.0 a.3.1 a.4 b.0 b.1
 
-  key_ok : (route : Route) → Admits access browser head form (Err refused.Key) → Admits access browser head form (Ok route) → ⊥
+  key_ok : (route : Route) → AdmitsRequest access browser head form (Err refused.Key) → AdmitsRequest access browser head form (Ok route) → ⊥
   key_ok route a b = without_key a.0 route a.1 a.2 a.3.0 a.3.1 a.5 a.6 b.0 b.1
 
-  pub once : (one other : Result Route Refused) → Admits access browser head form one → Admits access browser head form other → one ≡ other
+  pub once : (one other : Result Route Refused) → AdmitsRequest access browser head form one → AdmitsRequest access browser head form other → one ≡ other
   once (Err refused.Host) (Err refused.Host) a b = refl
   once (Err refused.Host) (Err refused.Origin) a b = absurd (host_origin a b)
   once (Err refused.Host) (Err refused.Path) a b = absurd (host_path a b)

@@ -147,33 +147,33 @@ NeedsTheToken access route token =
 
 -- What comes of a request, with the form in its body: what it asks for, where it may; or the first
 -- cause that it mayn't.
-abbrev pub Admits : Access → Option Browser → Parts → Text → Result Route Refused → Type 0
-Admits access browser head form (Ok route) =
+abbrev pub AdmitsRequest : Access → Option Browser → Parts → Text → Result Route Refused → Type 0
+AdmitsRequest access browser head form (Ok route) =
     AsksFor access head route
     × (needs_token access route ≡ true
     → (token : Text) × (access.token ≡ Some token) × HasToken browser token head
     × (is_act route ≡ true → IsMeant browser token head form))
-Admits access browser head form (Err refused.Host) = IsHosted access head → ⊥
-Admits access browser head form (Err refused.Origin) =
+AdmitsRequest access browser head form (Err refused.Host) = IsHosted access head → ⊥
+AdmitsRequest access browser head form (Err refused.Origin) =
     IsHosted access head × (IsFromHere access head → ⊥)
-Admits access browser head form (Err refused.Path) =
+AdmitsRequest access browser head form (Err refused.Path) =
     IsWelcome access head × ((route : Route) → IsAt route (uri_path head.uri) → ⊥)
-Admits access browser head form (Err refused.Method) =
+AdmitsRequest access browser head form (Err refused.Method) =
     IsWelcome access head
     × ((route : Route)
     × IsAt route (uri_path head.uri)
     × (head.method ≡ method_of route → ⊥))
-Admits access browser head form (Err refused.Closed) =
+AdmitsRequest access browser head form (Err refused.Closed) =
     (route : Route)
     × AsksFor access head route
     × (needs_token access route ≡ true)
     × (access.token ≡ None)
-Admits access browser head form (Err refused.Token) =
+AdmitsRequest access browser head form (Err refused.Token) =
     (route : Route) × (token : Text)
     × AsksFor access head route
     × NeedsTheToken access route token
     × (HasToken browser token head → ⊥)
-Admits access browser head form (Err refused.Key) =
+AdmitsRequest access browser head form (Err refused.Key) =
     (route : Route) × (token : Text)
     × AsksFor access head route
     × NeedsTheToken access route token

@@ -6,8 +6,8 @@ use Rattle.dr_run_request.specs.declared.admission.Access.{Access}
 use Rattle.dr_run_request.specs.declared.admission.Refused.{Refused}
 use Rattle.dr_run_request.specs.declared.browser.Browser.{Browser}
 use Rattle.dr_run_request.specs.declared.route.Route.{Route}
-use Rattle.dr_run_request.specs.Asking.{Admits, HasToken, IsAt, IsFromHere, IsHosted, IsMeant}
-use Rattle.dr_run_request.specs.Asking.{IsProgram, is_act}
+use Rattle.dr_run_request.specs.Asking.{AdmitsRequest, HasToken, IsAt, IsFromHere, IsHosted}
+use Rattle.dr_run_request.specs.Asking.{IsMeant, IsProgram, is_act}
 use Rattle.dr_run_request.specs.Forms.{LimitOf, Wants}
 use Rattle.dr_run_request.specs.Orders.{IsAsked}
 use Rattle.dr_run_request.specs.declared.order.Order.{Order}
@@ -18,14 +18,16 @@ abbrev pub IsAnsweredOnce : Type 0
 IsAnsweredOnce =
     (access : Access) (browser : Option Browser) (head : Parts) (form : Text)
     (one other : Result Route Refused)
-    → Admits access browser head form one → Admits access browser head form other → one ≡ other
+    → AdmitsRequest access browser head form one
+    → AdmitsRequest access browser head form other
+    → one ≡ other
 
 -- whatever acts is a POST, to a host that is allowed and from no other page, with the token that
 -- the node has, of a program or with the key of the page
 abbrev pub OnlyPostsAct : Type 0
 OnlyPostsAct =
     (access : Access) (browser : Option Browser) (head : Parts) (form : Text) (route : Route)
-    → Admits access browser head form (Ok route)
+    → AdmitsRequest access browser head form (Ok route)
     → is_act route ≡ true
     → (head.method ≡ codes "POST")
     × IsHosted access head
@@ -37,7 +39,7 @@ OnlyPostsAct =
 abbrev pub ElseProgramsAct : Type 0
 ElseProgramsAct =
     (access : Access) (head : Parts) (form : Text) (route : Route)
-    → Admits access None head form (Ok route)
+    → AdmitsRequest access None head form (Ok route)
     → is_act route ≡ true
     → (token : Text) × (access.token ≡ Some token) × IsProgram token head
 

@@ -2,7 +2,8 @@
 ghost use Rattle.std.specs.Prelude.{◌≡◌, ◌↔◌, Contains, IsTrue, codes, option_map};
 ghost use Rattle.http.specs.Request.{body_of, head_of};
 ghost use Rattle.http_header.specs.Token.{lowercase};
-ghost use Rattle.dr_run_request.specs.Asking.{Admits, HasKey, IsBrowser, IsFromHere, IsHosted};
+ghost use Rattle.dr_run_request.specs.Asking.{AdmitsRequest, HasKey, IsBrowser, IsFromHere};
+ghost use Rattle.dr_run_request.specs.Asking.{IsHosted};
 ghost use Rattle.dr_run_request.specs.Asking.{IsOriginBy, IsOriginOf, IsProgram, field_of};
 ghost use Rattle.dr_run_request.specs.Asking.{method_of, needs_token};
 
@@ -173,7 +174,8 @@ pub fn admit(
     browser: &Option<Browser>,
     request: &Request<Bytes>,
 ) -> Result<Route, Refused>
-    ensures { Admits access.now browser.now (head_of request.now) (body_of request.now) result }
+    ensures { AdmitsRequest access.now browser.now (head_of request.now) (body_of request.now)
+        result }
 {
     if !is_hosted(access, request) {
         return Err(Refused::Host);

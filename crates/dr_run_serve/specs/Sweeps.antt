@@ -4,8 +4,8 @@ use Rattle.dr_base.specs.Texts.{Text}
 use Rattle.dr_run_serve.specs.declared.sweep.OverInstance.{OverInstance}
 
 -- the first one is the instance of this uid, which has been over since that moment or longer
-abbrev pub IsFirstDue : List OverInstance → ℕ → Text → Type 0
-IsFirstDue queue since uid =
+abbrev pub IsFirstOver : List OverInstance → ℕ → Text → Type 0
+IsFirstOver queue since uid =
     (first : OverInstance) × (rest : List OverInstance)
     × (queue ≡ first ∷ rest) × (first.at ≤ since) × (uid ≡ first.uid)
 

@@ -1,6 +1,6 @@
 //! What is over, and since when: what a node forgets one day.
 ghost use Rattle.std.specs.Prelude.{◌≡◌, ◌≤◌, ◌++◌, ◌∷◌, [], if◌then◌else◌, is_ok, IfSome, IfNone};
-ghost use Rattle.dr_run_serve.specs.Sweeps.{IsFirstDue, IsNotDue};
+ghost use Rattle.dr_run_serve.specs.Sweeps.{IsFirstOver, IsNotDue};
 
 use dr_base::Text;
 use std::alloc::{AllocError, Global};
@@ -44,7 +44,7 @@ impl Sweep {
 
     /// The first one, where it has been over since that moment or longer.
     pub fn first_due(&self, since: u64) -> Option<&Text>
-        ensures due { IfSome result (λ uid. IsFirstDue self.now.queue.items since uid.now) }
+        ensures due { IfSome result (λ uid. IsFirstOver self.now.queue.items since uid.now) }
         ensures none { IfNone result (IsNotDue self.now.queue.items since) }
     {
         let Some(first) = self.queue.front() else {

@@ -5,7 +5,7 @@ use Rattle.std.proofs.lemmas.Bool.{cases_Bool, cond-true, cond-false}
 use Rattle.std.proofs.lemmas.Bool.Decides.{nat_tests}
 use Rattle.std.proofs.lemmas.List.Elements.{All-head, All-tail}
 use Rattle.dr_base_quoted.specs.Quoting.{IsByte, hex_digit, is_plain}
-use Rattle.dr_run_shown.specs.Showing.{escaped, hex_escape, shown_byte}
+use Rattle.dr_run_shown.specs.Showing.{escaped_bytes, shown_byte}
 use Rattle.dr_run_shown.proofs.Forms.{form}
 
 -- the number of a digit
@@ -60,10 +60,10 @@ none_empty b r e =
     let whole = length-append (shown_byte b) r in
     let none = ap length e in omega arith
 
-pub one_form : (these those : List ℕ) → All IsByte these → All IsByte those → escaped these ≡ escaped those → these ≡ those
+pub one_form : (these those : List ℕ) → All IsByte these → All IsByte those → escaped_bytes these ≡ escaped_bytes those → these ≡ those
 one_form [] [] xs ys e = refl
-one_form [] (b ∷ bs) xs ys e = absurd (none_empty b (escaped bs) e)
-one_form (a ∷ more) [] xs ys e = absurd (none_empty a (escaped more) (sym e))
+one_form [] (b ∷ bs) xs ys e = absurd (none_empty b (escaped_bytes bs) e)
+one_form (a ∷ more) [] xs ys e = absurd (none_empty a (escaped_bytes more) (sym e))
 one_form (a ∷ more) (b ∷ bs) xs ys e =
-    let same : (a, escaped more) ≡ (b, escaped bs) = sym (read_back a (All-head IsByte a more xs) (escaped more)) ∙ ap first_of e ∙ read_back b (All-head IsByte b bs ys) (escaped bs) in
+    let same : (a, escaped_bytes more) ≡ (b, escaped_bytes bs) = sym (read_back a (All-head IsByte a more xs) (escaped_bytes more)) ∙ ap first_of e ∙ read_back b (All-head IsByte b bs ys) (escaped_bytes bs) in
     ap₂ (λ (x : ℕ) (l : List ℕ). x ∷ l) (ap (λ (p : ℕ × List ℕ). p.0) same) (one_form more bs (All-tail IsByte a more xs) (All-tail IsByte b bs ys) (ap (λ (p : ℕ × List ℕ). p.1) same))

@@ -5,7 +5,7 @@ use Rattle.std.proofs.lemmas.Bool.{cases_Bool, cond-true, cond-false}
 use Rattle.std.proofs.lemmas.Bool.Decides.{nat_tests}
 use Rattle.std.proofs.lemmas.List.Elements.{All-nil, All-cons, All-append, All-head, All-tail, All-take}
 use Rattle.dr_base_quoted.specs.Quoting.{IsByte, hex_digit, is_plain}
-use Rattle.dr_run_shown.specs.Showing.{escaped, hex_escape, shown, shown_byte}
+use Rattle.dr_run_shown.specs.Showing.{escaped_bytes, byte_escape, shown, shown_byte}
 use Rattle.dr_run_shown.specs.Laws.{IsPrintable}
 
 -- what a byte is, and how it is shown
@@ -14,7 +14,7 @@ Form b =
     ((is_plain b ≡ true) × (shown_byte b ≡ b ∷ []))
     ⊎ (((b ≡ 10) × (shown_byte b ≡ 92 ∷ 110 ∷ []))
     ⊎ ((((b ≡ 34) ⊎ (b ≡ 92)) × (shown_byte b ≡ 92 ∷ b ∷ []))
-    ⊎ (shown_byte b ≡ hex_escape b)))
+    ⊎ (shown_byte b ≡ byte_escape b)))
 
 pub form : (b : ℕ) → Form b
 form b = elim (cases_Bool (is_plain b)) [
@@ -54,16 +54,16 @@ byte_prints b small = elim (form b) [
 ]
 
 -- all bytes of a text
-pub text_prints : (text : List ℕ) → All IsByte text → All IsPrintable (escaped text)
+pub text_prints : (text : List ℕ) → All IsByte text → All IsPrintable (escaped_bytes text)
 text_prints [] bytes = All-nil IsPrintable
-text_prints (b ∷ bs) bytes = All-append IsPrintable (shown_byte b) (escaped bs) (byte_prints b (All-head IsByte b bs bytes)) (text_prints bs (All-tail IsByte b bs bytes))
+text_prints (b ∷ bs) bytes = All-append IsPrintable (shown_byte b) (escaped_bytes bs) (byte_prints b (All-head IsByte b bs bytes)) (text_prints bs (All-tail IsByte b bs bytes))
 
 -- of a text as it is shown
 pub shown_prints : (text : List ℕ) → All IsByte text → All IsPrintable (shown text)
 shown_prints text bytes = elim (cases_Bool (nat_le (length text) 128)) [
   | inl short ↦ subst (All IsPrintable) (sym (cond-true _ _ _ short)) (text_prints text bytes)
   | inr long ↦ subst (All IsPrintable) (sym (cond-false _ _ _ long))
-      (All-append IsPrintable (escaped (take 128 text)) (92 ∷ 46 ∷ 46 ∷ []) (text_prints (take 128 text) (All-take IsByte 128 text bytes))
+      (All-append IsPrintable (escaped_bytes (take 128 text)) (92 ∷ 46 ∷ 46 ∷ []) (text_prints (take 128 text) (All-take IsByte 128 text bytes))
       (prints 92 (46 ∷ 46 ∷ []) (omega arith) (omega arith) (prints 46 (46 ∷ []) (omega arith) (omega arith) (prints 46 [] (omega arith) (omega arith) (All-nil IsPrintable)))))
 ]
 
@@ -76,12 +76,12 @@ byte_bounded b = elim (form b) [
   | inr (inr (inr hex)) ↦ subst (λ (l : List ℕ). length l ≤ 4) (sym hex) (omega arith)
 ]
 
-text_bounded : (text : List ℕ) → length (escaped text) ≤ 4 * length text
+text_bounded : (text : List ℕ) → length (escaped_bytes text) ≤ 4 * length text
 text_bounded [] = omega arith
 text_bounded (b ∷ bs) =
     let one = byte_bounded b in
     let more = text_bounded bs in
-    let whole = length-append (shown_byte b) (escaped bs) in omega arith
+    let whole = length-append (shown_byte b) (escaped_bytes bs) in omega arith
 
 pub shown_bounded : (text : List ℕ) → length (shown text) ≤ 515
 shown_bounded text = elim (cases_Bool (nat_le (length text) 128)) [
@@ -91,17 +91,17 @@ shown_bounded text = elim (cases_Bool (nat_le (length text) 128)) [
   | inr long ↦
       let some = text_bounded (take 128 text) in
       let cut = length-take-le 128 text (grind (arith, nat_tests, long)) in
-      let whole = length-append (escaped (take 128 text)) (92 ∷ 46 ∷ 46 ∷ []) in
+      let whole = length-append (escaped_bytes (take 128 text)) (92 ∷ 46 ∷ 46 ∷ []) in
       subst (λ (l : List ℕ). length l ≤ 515) (sym (cond-false _ _ _ long)) (grind (arith, some, cut, whole))
 ]
 
 -- plain text is shown as it stands
-pub plain_stands : (text : List ℕ) → All (λ b. IsTrue (is_plain b)) text → escaped text ≡ text
+pub plain_stands : (text : List ℕ) → All (λ b. IsTrue (is_plain b)) text → escaped_bytes text ≡ text
 plain_stands [] plain = refl
 plain_stands (b ∷ bs) plain =
     let first : is_plain b ≡ true = All-head (λ c. IsTrue (is_plain c)) b bs plain in
-    ap (λ l. l ++ escaped bs) (cond-true _ _ _ first) ∙ ap (λ l. b ∷ l) (plain_stands bs (All-tail (λ c. IsTrue (is_plain c)) b bs plain))
+    ap (λ l. l ++ escaped_bytes bs) (cond-true _ _ _ first) ∙ ap (λ l. b ∷ l) (plain_stands bs (All-tail (λ c. IsTrue (is_plain c)) b bs plain))
 
 -- a text that isn't long is shown whole
-pub short_stands : (text : List ℕ) → length text ≤ 128 → shown text ≡ escaped text
+pub short_stands : (text : List ℕ) → length text ≤ 128 → shown text ≡ escaped_bytes text
 short_stands text short = cond-true (nat_le (length text) 128) _ _ (grind (arith, nat_tests, short))

@@ -1,7 +1,7 @@
 -- What holds of all that is shown.
 use Rattle.std.specs.Prelude.{◌≡◌, ◌≤◌, ℕ, List, All, IsTrue, length}
 use Rattle.dr_base_quoted.specs.Quoting.{IsByte, is_plain}
-use Rattle.dr_run_shown.specs.Showing.{escaped, shown}
+use Rattle.dr_run_shown.specs.Showing.{shown}
 
 -- a character of ASCII that prints, or a blank: no line ends with it, and no terminal does anything
 -- at it

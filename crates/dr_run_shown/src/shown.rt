@@ -2,7 +2,7 @@
 ghost use Rattle.std.specs.Prelude.{◌≡◌, ◌<◌, ◌≤◌, ◌/◌, ◌%◌, ◌∷◌, ◌++◌, [], codes, length, take};
 ghost use Rattle.std.specs.Fmt.{WritesOnOk};
 ghost use Rattle.dr_base_quoted.specs.Quoting.{hex_digit};
-ghost use Rattle.dr_run_shown.specs.Showing.{escaped, hex_escape, shown, shown_byte};
+ghost use Rattle.dr_run_shown.specs.Showing.{escaped_bytes, byte_escape, shown, shown_byte};
 
 use dr_base_quoted::{hex_digit, is_plain};
 use std::fmt;
@@ -45,7 +45,7 @@ fn write_digits<W: fmt::Write>(f: &mut Formatter<W>, byte: u8) -> fmt::Result
 }
 
 fn write_hex<W: fmt::Write>(f: &mut Formatter<W>, byte: u8) -> fmt::Result
-    ensures { WritesOnOk W.write_str_gives f.old result (hex_escape byte) f.new }
+    ensures { WritesOnOk W.write_str_gives f.old result (byte_escape byte) f.new }
 {
     write_behind(f, b'x')?;
     write_digits(f, byte)
@@ -67,7 +67,7 @@ fn write_shown<W: fmt::Write>(f: &mut Formatter<W>, byte: u8) -> fmt::Result
 }
 
 fn write_escaped<W: fmt::Write>(f: &mut Formatter<W>, bytes: &[u8]) -> fmt::Result
-    ensures { WritesOnOk W.write_str_gives f.old result (escaped bytes.now) f.new }
+    ensures { WritesOnOk W.write_str_gives f.old result (escaped_bytes bytes.now) f.new }
 {
     for byte in bytes {
         write_shown(f, *byte)?;
@@ -87,7 +87,7 @@ fn first_bytes(bytes: &[u8]) -> &[u8]
 fn write_cut<W: fmt::Write>(f: &mut Formatter<W>, bytes: &[u8]) -> fmt::Result
     requires { 128 < length bytes.now }
     ensures { WritesOnOk W.write_str_gives f.old result
-        (escaped (take 128 bytes.now) ++ codes "\\..") f.new }
+        (escaped_bytes (take 128 bytes.now) ++ codes "\\..") f.new }
 {
     write_escaped(f, first_bytes(bytes))?;
     f.write_str("\\..")

@@ -20,7 +20,8 @@ use Rattle.dr_session.specs.declared.ends.Core.{Core}
 use Rattle.dr_session.specs.declared.ends.Found.{Found}
 use Rattle.dr_session.specs.Desks.{Arrive}
 use Rattle.dr_session.specs.Differences.{DiffersFrom, DifferingIsRefused, LackingDiffers}
-use Rattle.dr_session.specs.Reactions.{Reaction, arrival, arrives, is_named, stored, status_of}
+use Rattle.dr_session.specs.Reactions.{Reaction, arrival, arrives, is_named, stored}
+use Rattle.dr_ledger.specs.Replies.{store_status}
 use Rattle.dr_session.specs.Telling.{Finds}
 use Rattle.dr_session.specs.Turns.{Asks, Ends}
 
@@ -44,7 +45,7 @@ module _ (syntax : Syntax) (text : List ℕ) (values : Attributes) (c : Core) (c
       inside_ok (values_of item) values (one_answer syntax text (Ok (values_of item)) (Ok values) (λ e. cc) (λ e. cc) (subst Q i.2 (subst P i.1 i.0.read)) scans)
 
   by_name : (item : Job) → values_of item ≡ values → (b : Bool) → is_named item class instance ≡ b →
-      (if b then Asks (Arrive c.peer item) (arrival (λ r. Ends (stored c context id class instance (status_of r)))) else refusal) ≡ refusal
+      (if b then Asks (Arrive c.peer item) (arrival (λ r. Ends (stored c context id class instance (store_status r)))) else refusal) ≡ refusal
   by_name item same true e =
       let both = and_parts (bytes_eq item.uid instance) (bytes_eq item.key.class class) e in
       absurd

@@ -18,14 +18,14 @@ use Rattle.dr_session.specs.declared.ends.Input.{Input}
 use Rattle.dr_session.specs.declared.ends.LinkAction.{LinkAction}
 use Rattle.dr_session.specs.declared.ends.Moment.{Moment}
 use Rattle.dr_session.specs.Desks.{DeskCall, DeskAnswer}
-use Rattle.dr_session.specs.Ends.{Terminal, IsOver, TakesCore, TakesFree, EchoesBy, EchoesIn, echoes_by, is_free, is_free_in, OpensTo, begins, requesting, is_gone, MeetsBy, MeetsIn, Meets, HearsPiece, HearsBytes, LosesBy, LosesIn, CrowdsBy, CrowdsIn}
+use Rattle.dr_session.specs.Ends.{Terminal, IsEndOver, TakesCore, TakesFree, EchoesBy, EchoesIn, echoes_by, is_free, is_free_in, OpensTo, begins, requesting, is_gone, MeetsBy, MeetsIn, Meets, HearsPiece, HearsBytes, LosesBy, LosesIn, CrowdsBy, CrowdsIn}
 
 module _ {S : Type 0} (step : S → DeskCall → DeskAnswer → S → Type 0) (at : Moment) where
-  meets_none : (core : Option Core) (i : Input) (old : Terminal) (s : S) → IsOver core → MeetsIn step core at i old s (Ok []) old s
+  meets_none : (core : Option Core) (i : Input) (old : Terminal) (s : S) → IsEndOver core → MeetsIn step core at i old s (Ok []) old s
   meets_none None i old s over = (refl, refl, refl)
   meets_none (Some c) i old s over = rw over (refl, refl, refl)
 
-  pub meets_over : (i : Input) (old : Terminal) (s : S) → IsOver old.core → Meets step at i old s (Ok []) old s
+  pub meets_over : (i : Input) (old : Terminal) (s : S) → IsEndOver old.core → Meets step at i old s (Ok []) old s
   meets_over i old s over = meets_none old.core i old s over
 
   pub meets_live : (i : Input) (c : Core) (old new : Terminal) (s t : S) (result : Result (List LinkAction) AllocError) → old.core ≡ Some c → is_gone (state_of c.phase) ≡ false
@@ -33,11 +33,11 @@ module _ {S : Type 0} (step : S → DeskCall → DeskAnswer → S → Type 0) (a
   meets_live i c old new s t result is live h =
       subst (λ (o : Option Core). MeetsIn step o at i old s result new t) (sym is) (subst (λ (b : Bool). MeetsBy step b at i c old s result new t) (sym live) h)
 
-  hears_none : (core : Option Core) (piece : List ℕ) (old : Terminal) (s : S) → IsOver core → HearsBytes step core at piece old s (Ok []) old s
+  hears_none : (core : Option Core) (piece : List ℕ) (old : Terminal) (s : S) → IsEndOver core → HearsBytes step core at piece old s (Ok []) old s
   hears_none None piece old s over = (refl, refl, refl)
   hears_none (Some c) piece old s over = rw over (refl, refl, refl)
 
-  pub hears_over : (piece : List ℕ) (old : Terminal) (s : S) → IsOver old.core → HearsBytes step old.core at piece old s (Ok []) old s
+  pub hears_over : (piece : List ℕ) (old : Terminal) (s : S) → IsEndOver old.core → HearsBytes step old.core at piece old s (Ok []) old s
   hears_over piece old s over = hears_none old.core piece old s over
 
   pub hears_live : (piece : List ℕ) (c : Core) (old new : Terminal) (s t : S) (result : Result (List LinkAction) AllocError) → old.core ≡ Some c → is_gone (state_of c.phase) ≡ false
@@ -47,7 +47,7 @@ module _ {S : Type 0} (step : S → DeskCall → DeskAnswer → S → Type 0) (a
 
   -- ---- the same by what was taken and put back
 
-  pub meets_over_as : (i : Input) (old new : Terminal) (s : S) (acts : List LinkAction) → IsOver old.core × (new ≡ old) → acts ≡ [] → Meets step at i old s (Ok acts) new s
+  pub meets_over_as : (i : Input) (old new : Terminal) (s : S) (acts : List LinkAction) → IsEndOver old.core × (new ≡ old) → acts ≡ [] → Meets step at i old s (Ok acts) new s
   meets_over_as i old new s acts (over, same) none =
       subst (λ (l : List LinkAction). Meets step at i old s (Ok l) new s) (sym none) (subst (λ (x : Terminal). Meets step at i old s (Ok []) x s) (sym same) (meets_over i old s over))
 
@@ -60,7 +60,7 @@ module _ {S : Type 0} (step : S → DeskCall → DeskAnswer → S → Type 0) (a
   meets_broke i c old mid s t (Ok acts) taken no_err stops = absurd (false≢true no_err)
   meets_broke i c old mid s t (Err e) (is, live, taken) is_err stops = meets_live i c old mid s t (Err e) is live (stops, taken)
 
-  pub hears_over_as : (piece : List ℕ) (old new : Terminal) (s : S) (acts : List LinkAction) → IsOver old.core × (new ≡ old) → acts ≡ [] → HearsBytes step old.core at piece old s (Ok acts) new s
+  pub hears_over_as : (piece : List ℕ) (old new : Terminal) (s : S) (acts : List LinkAction) → IsEndOver old.core × (new ≡ old) → acts ≡ [] → HearsBytes step old.core at piece old s (Ok acts) new s
   hears_over_as piece old new s acts (over, same) none =
       subst (λ (l : List LinkAction). HearsBytes step old.core at piece old s (Ok l) new s) (sym none)
       (subst (λ (x : Terminal). HearsBytes step old.core at piece old s (Ok []) x s) (sym same) (hears_over piece old s over))
@@ -85,12 +85,12 @@ abbrev pub terminal : Feeding → Option Core → Terminal
 terminal ear core = record { ear = ear; core = core }
 
 -- the link has no memory
-loses_if : (o : Option Core) (old new : Terminal) (acts : List LinkAction) → IsOver o → new ≡ old → acts ≡ [] → LosesIn o old (Ok acts) new
+loses_if : (o : Option Core) (old new : Terminal) (acts : List LinkAction) → IsEndOver o → new ≡ old → acts ≡ [] → LosesIn o old (Ok acts) new
 loses_if None old new acts over same none = (ap (λ (l : List LinkAction). Ok l) none, same)
 loses_if (Some c) old new acts over same none =
     subst (λ (b : Bool). LosesBy b old (Ok acts) new) (sym over) (ap (λ (l : List LinkAction). Ok l) none, same)
 
-pub loses_over : (old new : Terminal) (acts : List LinkAction) → IsOver old.core × (new ≡ old) → acts ≡ [] → LosesIn old.core old (Ok acts) new
+pub loses_over : (old new : Terminal) (acts : List LinkAction) → IsEndOver old.core × (new ≡ old) → acts ≡ [] → LosesIn old.core old (Ok acts) new
 loses_over old new acts (over, same) none = loses_if old.core old new acts over same none
 
 pub loses_core : (old new : Terminal) (o : Option Core) (c : Core) (e : AllocError) → o ≡ Some c → TakesCore old o new → LosesIn old.core old (Err e) new
@@ -154,11 +154,11 @@ takes_free old ear core (Some c) after same none view free =
 
 -- ---- no room
 
-crowds_none : (core : Option Core) (old : Terminal) → IsOver core → CrowdsIn core old (Ok []) old
+crowds_none : (core : Option Core) (old : Terminal) → IsEndOver core → CrowdsIn core old (Ok []) old
 crowds_none None old over = (refl, refl)
 crowds_none (Some c) old over = rw over (refl, refl)
 
-pub crowds_over : (old new : Terminal) (acts : List LinkAction) → IsOver old.core × (new ≡ old) → acts ≡ [] → CrowdsIn old.core old (Ok acts) new
+pub crowds_over : (old new : Terminal) (acts : List LinkAction) → IsEndOver old.core × (new ≡ old) → acts ≡ [] → CrowdsIn old.core old (Ok acts) new
 crowds_over old new acts (over, same) none =
     subst (λ (l : List LinkAction). CrowdsIn old.core old (Ok l) new) (sym none) (subst (λ (x : Terminal). CrowdsIn old.core old (Ok []) x) (sym same) (crowds_none old.core old over))
 

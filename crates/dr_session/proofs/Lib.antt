@@ -16,6 +16,7 @@ pub mod Pieces
 pub mod Playing
 pub mod Resting
 pub mod Saying
+pub mod Served
 pub mod Serving
 pub mod Spelt
 pub mod Storing

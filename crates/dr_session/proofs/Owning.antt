@@ -37,7 +37,8 @@ use Rattle.dr_session.specs.declared.ends.Pending.{Pending}
 use Rattle.dr_session.specs.declared.ends.Told.{Told}
 use Rattle.dr_session.specs.declared.ends.Told.TheVariants.{Plain, Quiet, Fault, Strange, Store, Whole, Agreement}
 use Rattle.dr_session.specs.Desks.{DeskAnswer, Arrive, Arrival, Upcoming, First, Settling}
-use Rattle.dr_session.specs.Reactions.{Reaction, turn, occurs, moves, acts, hears, stores, stored, status_of, arrives, brings, is_named, requested, requested_other, replied, settles_by, status_for, decides, decides_at, rj, agrees, can_be_named, due, gives, gives_in, refused, leaves, leaves_by, aborts, aborts_desk, abort_pdu, aborted, released, desk_failed, settled_with, left, stepped_by, noted, reason_of, settling, arrival, job, row, write, effect, quiet, is_requestor, is_taken, event_of, rejected as marked}
+use Rattle.dr_session.specs.Reactions.{Reaction, turn, occurs, moves, acts, hears, stores, stored, arrives, brings, is_named, requested, requested_other, replied, settles_by, status_for, decides, decides_at, rj, agrees, can_be_named, due, gives, gives_in, refused, leaves, leaves_by, aborts, aborts_desk, abort_pdu, aborted, released, desk_failed, settled_with, left, stepped_by, noted, reason_of, settling, arrival, job, row, write, effect, quiet, is_requestor, is_taken, event_of, rejected as marked}
+use Rattle.dr_ledger.specs.Replies.{store_status}
 use Rattle.dr_session.specs.declared.ends.LinkAction.TheVariants.{Close}
 use Rattle.dr_session.specs.Turns.{Ends, Asks}
 use Rattle.dr_session.specs.Laws.{Given, Pends, SettlesOwn, SettlesOwnAlone}
@@ -86,8 +87,8 @@ module _ (peer : Text) (now : ℕ) where
 
   bringing : (c : Core) (context id : ℕ) (class instance : Text) (item : Job) (Own : Text → Type 0) → SettlesOwn (brings c context id class instance item) peer now Own
   bringing c context id class instance item Own =
-      either (is_named item class instance) (Asks (Arrive c.peer item) (arrival (λ r. Ends (stored c context id class instance (status_of r))))) (Ends (stored c context id class instance 0xA900)) Own
-      (λ reply. came (λ r. stored c context id class instance (status_of r)) (λ uid. Own uid ⊎ Given reply uid) reply) tt
+      either (is_named item class instance) (Asks (Arrive c.peer item) (arrival (λ r. Ends (stored c context id class instance (store_status r))))) (Ends (stored c context id class instance 0xA900)) Own
+      (λ reply. came (λ r. stored c context id class instance (store_status r)) (λ uid. Own uid ⊎ Given reply uid) reply) tt
 
   arriving : (c : Core) (context id : ℕ) (class instance : Text) (found : Found) (Own : Text → Type 0) → SettlesOwn (arrives c context id class instance found) peer now Own
   arriving c context id class instance TooLarge Own = tt

@@ -19,7 +19,7 @@ use Rattle.dr_session.specs.declared.ends.Told.{Told}
 use Rattle.dr_session.specs.declared.ends.Told.TheVariants.{Plain, Quiet, Fault, Strange, Store, Whole, Agreement}
 use Rattle.dr_session.specs.declared.ends.Heard.{Heard}
 use Rattle.dr_session.specs.declared.ends.Heard.TheVariants as heard
-use Rattle.dr_session.specs.Ends.{Terminal, IsOver, is_gone, MeetsIn, MeetsBy, HearsOf, HearsBytes, HearsPiece, LosesBy, LosesIn, CrowdsBy, CrowdsIn, idle_in, state_in}
+use Rattle.dr_session.specs.Ends.{Terminal, IsEndOver, is_gone, MeetsIn, MeetsBy, HearsOf, HearsBytes, HearsPiece, LosesBy, LosesIn, CrowdsBy, CrowdsIn, idle_in, state_in}
 use Rattle.dr_session.specs.Reactions.{turn, quiet, occurs, moves, event_of, event_of_plain}
 use Rattle.dr_session.specs.Laws.{RestsWhenOver, IsStill, StaysOver, HearsNothing}
 use Rattle.dr_session.specs.Desks.{DeskCall, DeskAnswer}
@@ -125,25 +125,25 @@ rests at c told over = occurs_rests (event_of told at c) at told c over (meets t
 -- ---- at each call of an end
 
 module _ {S : Type 0} (step : S → DeskCall → DeskAnswer → S → Type 0) (at : Moment) (old new : Terminal) (s t : S) (result : Result (List LinkAction) AllocError) where
-  meets_still : (o : Option Core) (i : Input) → IsOver o → MeetsIn step o at i old s result new t → IsStill old s result new t
+  meets_still : (o : Option Core) (i : Input) → IsEndOver o → MeetsIn step o at i old s result new t → IsStill old s result new t
   meets_still None i over h = h
   meets_still (Some c) i over h = subst (λ (b : Bool). MeetsBy step b at i c old s result new t) over h
 
-  hears_still : (o : Option Core) (piece : List ℕ) → IsOver o → HearsBytes step o at piece old s result new t → IsStill old s result new t
+  hears_still : (o : Option Core) (piece : List ℕ) → IsEndOver o → HearsBytes step o at piece old s result new t → IsStill old s result new t
   hears_still None piece over h = h
   hears_still (Some c) piece over h = subst (λ (b : Bool). HearsPiece step b at piece c old s result new t) over h
 
-  loses_still : (o : Option Core) → IsOver o → t ≡ s → LosesIn o old result new → IsStill old s result new t
+  loses_still : (o : Option Core) → IsEndOver o → t ≡ s → LosesIn o old result new → IsStill old s result new t
   loses_still None over same h = (h.0, h.1, same)
   loses_still (Some c) over same h =
       let still : LosesBy true old result new = subst (λ (b : Bool). LosesBy b old result new) over h in (still.0, still.1, same)
 
-  crowds_still : (o : Option Core) → IsOver o → t ≡ s → CrowdsIn o old result new → IsStill old s result new t
+  crowds_still : (o : Option Core) → IsEndOver o → t ≡ s → CrowdsIn o old result new → IsStill old s result new t
   crowds_still None over same h = (h.0, h.1, same)
   crowds_still (Some c) over same h =
       let still : CrowdsBy true c old result new = subst (λ (b : Bool). CrowdsBy b c old result new) over h in (still.0, still.1, same)
 
-  hears_over : (came : Heard) → IsOver old.core → HearsOf step came at old s result new t → IsStill old s result new t
+  hears_over : (came : Heard) → IsEndOver old.core → HearsOf step came at old s result new t → IsStill old s result new t
   hears_over (heard.Bytes piece) over h = hears_still old.core piece over h
   hears_over heard.End over h = meets_still old.core Ended over h
   hears_over heard.Fault over h = meets_still old.core Ended over h

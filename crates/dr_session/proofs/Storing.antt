@@ -17,6 +17,8 @@ use Rattle.dr_ledger.specs.declared.content.Job.{Job}
 use Rattle.dr_ledger.specs.declared.item.Arrived.{Arrived}
 use Rattle.dr_ledger.specs.declared.fault.LedgerFault.{LedgerFault}
 use Rattle.dr_ledger.specs.declared.fault.LedgerFault.TheVariants as fault
+use Rattle.dr_pdu.specs.declared.pdu.Pdu.TheVariants as pdu
+use Rattle.dr_site.specs.Parts.{Part}
 use Rattle.dr_nego.specs.declared.agreed.Agreed.{Agreed}
 use Rattle.dr_session.specs.declared.ends.Core.{Core}
 use Rattle.dr_session.specs.declared.ends.Effect.{Effect}
@@ -29,45 +31,25 @@ use Rattle.dr_session.specs.declared.ends.Told.{Told}
 use Rattle.dr_session.specs.declared.ends.Told.TheVariants.{Store}
 use Rattle.dr_session.specs.Desks.{DeskCall, DeskAnswer, Arrive, Arrival, Upcoming, First, Settling}
 use Rattle.dr_session.specs.Laws.{AnswersStore, AnswersNoStore, IsNoMessage, IsStore, StoresAreAnswered, OthersAnswerNoStore}
-use Rattle.dr_session.specs.Reactions.{Reaction, arrival, arrives, brings, is_named, stored, stores, status_of, turn, moves, event_of, effect, leaves_by, settling, left, desk_failed, aborted, abort_pdu, write, reason_of}
+use Rattle.dr_session.specs.Reactions.{Reaction, arrival, arrives, brings, is_named, stored, stores, turn, moves, event_of, effect, leaves_by, settling, left, desk_failed, aborted, abort_pdu, write, reason_of}
+use Rattle.dr_ledger.specs.Replies.{store_status}
+use Rattle.dr_ledger.proofs.Replied.{statuses_have_two_bytes, zero_is_success}
 use Rattle.dr_session.specs.Telling.{TakesData}
 use Rattle.dr_session.proofs.Wording.{ends_spelled, occurring}
 use Rattle.dr_session.specs.Turns.{Turns, Ends, Asks}
-
--- a success comes of New or Again alone
-taken : (r : Result Arrived LedgerFault) → status_of r ≡ 0 → (value : Arrived) × (r ≡ Ok value)
-taken (Ok value) e = (value, refl)
-taken (Err fault.NoLine) e = absurd (omega (arith, e))
-taken (Err fault.Conflict) e = absurd (omega (arith, e))
-taken (Err fault.Store) e = absurd (omega (arith, e))
-taken (Err fault.NotWaiting) e = absurd (omega (arith, e))
-taken (Err fault.NotHeld) e = absurd (omega (arith, e))
-taken (Err fault.NotOver) e = absurd (omega (arith, e))
-taken (Err fault.Memory) e = absurd (omega (arith, e))
-
--- each status is a number of two bytes
-status_small : (r : Result Arrived LedgerFault) → status_of r < 2 ^ 16
-status_small (Ok value) = omega arith
-status_small (Err fault.NoLine) = omega arith
-status_small (Err fault.Conflict) = omega arith
-status_small (Err fault.Store) = omega arith
-status_small (Err fault.NotWaiting) = omega arith
-status_small (Err fault.NotHeld) = omega arith
-status_small (Err fault.NotOver) = omega arith
-status_small (Err fault.Memory) = omega arith
 
 module _ {S : Type 0} (step : S → DeskCall → DeskAnswer → S → Type 0) (c : Core) (context id : ℕ) (class instance : Text) (s t : S) (x : Effect) where
   refused : (found : Found) (status : ℕ) → (status ≡ 0 → ⊥) → status < 2 ^ 16 → Turns step (Ends (stored c context id class instance status)) s x t → AnswersStore step c context id class instance found s x t
   refused found status other small h = record { status = status; small = small; written = ap (λ (y : Effect). y.acts) h.0; brought = λ e. absurd (other e) }
 
   by_reply : (item : Job) (m : S) (answer : DeskAnswer) → step s (Arrive c.peer item) answer m
-      → Turns step (arrival (λ r. Ends (stored c context id class instance (status_of r))) answer) m x t → AnswersStore step c context id class instance (Read item) s x t
+      → Turns step (arrival (λ r. Ends (stored c context id class instance (store_status r))) answer) m x t → AnswersStore step c context id class instance (Read item) s x t
   by_reply item m (Arrival r) did h = record {
-    status = status_of r;
-    small = status_small r;
+    status = store_status r;
+    small = statuses_have_two_bytes r;
     written = ap (λ (y : Effect). y.acts) h.0;
     brought = λ e.
-        let value = taken r e in
+        let value = zero_is_success r e in
         let P : Result Arrived LedgerFault → Type 0 = λ q. step s (Arrive c.peer item) (Arrival q) m in
         let Q : S → Type 0 = λ n. step s (Arrive c.peer item) (Arrival (Ok value.0)) n in
         (item, value.0, refl, subst Q (sym h.1) (subst P value.1 did));
@@ -77,7 +59,7 @@ module _ {S : Type 0} (step : S → DeskCall → DeskAnswer → S → Type 0) (c
   by_reply item m (Settling r) did h = absurd h
 
   by_name : (item : Job) (b : Bool)
-      → Turns step (if b then Asks (Arrive c.peer item) (arrival (λ r. Ends (stored c context id class instance (status_of r)))) else Ends (stored c context id class instance 0xA900)) s x t
+      → Turns step (if b then Asks (Arrive c.peer item) (arrival (λ r. Ends (stored c context id class instance (store_status r)))) else Ends (stored c context id class instance 0xA900)) s x t
       → AnswersStore step c context id class instance (Read item) s x t
   by_name item true (answer, m, did, h) = by_reply item m answer did h
   by_name item false h = refused (Read item) 0xA900 (λ e. omega (arith, e)) (omega arith) h
@@ -175,7 +157,10 @@ stores_are_answered step at c context of id class instance found s t x h = answe
 
 pub others_answer_no_store : {S : Type 0} (step : S → DeskCall → DeskAnswer → S → Type 0) → OthersAnswerNoStore step
 others_answer_no_store step at c told s t x other turns =
-    ends_spelled AnswersNoStore step (turn at c told) s t x
-    (occurring AnswersNoStore (λ (y : Told). IsStore y → ⊥) tt (λ p alone. inl (p, alone, refl)) (λ agreed context id item. inr (inl (agreed, context, id, item, refl)))
-    (λ d context command is_other. inr (inr (option_map_or (λ (a : Agreed). a.limit) d.agreed 0, context, command, is_other, refl)))
-    (λ context of id class instance found takes d. absurd (takes tt)) (event_of told at c) at told other c) turns
+    let Of : Option Part → Option Agreed → Type 0 = λ site agreed. Unit {0} in
+    (ends_spelled AnswersNoStore Of step (turn at c told) s t x
+    (occurring AnswersNoStore Of (λ (y : Told). IsStore y → ⊥) tt (λ p alone fits. inl (p, alone, refl))
+    (λ rq site open_now o takes k ac agreed is. (inl (pdu.AssociateAc ac, tt, refl), tt)) (λ site o agreed takes k. tt)
+    (λ site agreed context id item k. inr (inl (agreed, context, id, item, refl)))
+    (λ d context command is_other k. inr (inr (option_map_or (λ (a : Agreed). a.limit) d.agreed 0, context, command, is_other, refl)))
+    (λ context of id class instance found takes d k. absurd (takes tt)) (event_of told at c) at told other c tt) turns).0

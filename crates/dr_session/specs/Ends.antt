@@ -101,13 +101,13 @@ abbrev pub is_gone : State → Bool
 is_gone Sta1 = true
 is_gone s = false
 
-abbrev pub IsOver : Option Core → Type 0
-IsOver None = Unit {0}
-IsOver (Some c) = is_gone (state_of c.phase) ≡ true
+abbrev pub IsEndOver : Option Core → Type 0
+IsEndOver None = Unit {0}
+IsEndOver (Some c) = is_gone (state_of c.phase) ≡ true
 
 -- an end's core is taken out of it, unless the end is over
 abbrev pub TakesCore : Terminal → Option Core → Terminal → Type 0
-TakesCore old None new = IsOver old.core × (new ≡ old)
+TakesCore old None new = IsEndOver old.core × (new ≡ old)
 TakesCore old (Some c) new =
     (old.core ≡ Some c)
     × (is_gone (state_of c.phase) ≡ false)

@@ -18,7 +18,8 @@ use Rattle.dr_nego.specs.declared.agreed.Agreed.{Agreed}
 use Rattle.dr_nego.specs.declared.fault.NegoFault.TheVariants.{StrangeId}
 use Rattle.dr_nego.specs.Agreeing.{AssociateRq, AssociateAc}
 use Rattle.dr_base.specs.Standard.{application_context, image}
-use Rattle.dr_nego.specs.Figures.{archive, arch, gate, context, request, proposal}
+use Rattle.dr_nego.specs.Figures.{archive_site, gate, context, request, proposal}
+use Rattle.dr_plan_sound.specs.Samples.{archive}
 use Rattle.dr_nego.specs.Answering.{acceptance_of}
 use Rattle.dr_base.specs.declared.syntax.Syntax.TheVariants.{Explicit}
 use Rattle.dr_pdu.specs.declared.pdu.Pdu.TheVariants as pdu
@@ -43,17 +44,17 @@ use Rattle.dr_session.specs.Turns.{Ends, Asks, Fails}
 
 -- the acceptor's or the requestor's end in a state, entered at moment 0; nothing pends, and nothing
 -- was marked
-pub record Place : Type 0 where
+pub record EndInState : Type 0 where
   pub requestor : Bool
   pub state : State
 
-abbrev pub acceptor : State → Place
+abbrev pub acceptor : State → EndInState
 acceptor state = record { requestor = false; state = state }
 
-abbrev pub requestor : State → Place
+abbrev pub requestor : State → EndInState
 requestor state = record { requestor = true; state = state }
 
-abbrev pub placed : Place → Core → Core
+abbrev pub placed : EndInState → Core → Core
 placed p c = record c {
   phase = phase_of p.state (standing p.state p.requestor 0);
   pending = None;
@@ -62,17 +63,17 @@ placed p c = record c {
 }
 
 -- where data goes both ways, or the requestor's release is under way
-abbrev pub established : List Place
+abbrev pub established : List EndInState
 established = acceptor Sta6 ∷ requestor Sta6 ∷ []
 
-abbrev pub releasing : List Place
+abbrev pub releasing : List EndInState
 releasing = requestor Sta7 ∷ requestor Sta11 ∷ []
 
 -- from the acceptance to the end of the release
-abbrev pub associated : List Place
+abbrev pub associated : List EndInState
 associated = acceptor Sta6 ∷ requestor Sta6 ∷ requestor Sta7 ∷ requestor Sta11 ∷ []
 
-abbrev pub closing : List Place
+abbrev pub closing : List EndInState
 closing = acceptor Sta13 ∷ requestor Sta13 ∷ []
 
 -- ---- what a turn shows
@@ -100,7 +101,7 @@ calls (Asks call follow) = Some call
 calls turn = None
 
 -- at each of these places
-abbrev pub Does : Core → Moment → List Place → Told → ℕ → List LinkAction → Ended → Type 0
+abbrev pub Does : Core → Moment → List EndInState → Told → ℕ → List LinkAction → Ended → Type 0
 Does c at places told state acts ended =
     map (λ p. shows (turn at (placed p c) told)) places
     ≡ map (λ p. Some (record { state = state; acts = acts; ended = ended })) places
@@ -151,12 +152,12 @@ pub record Rejections (c : Core) (at : Moment) (rj : AssociateRj) : Type 0 where
 -- ---- events 6 to 8: an A-ASSOCIATE-RQ and its answer, at the archive
 
 abbrev pub at_archive : Core → Core
-at_archive c = record c { site = Some archive }
+at_archive c = record c { site = Some archive_site }
 
 pub record Requests (c : Core) (now : ℕ) (rq : AssociateRq) : Type 0 where
   pub accepted : Does (at_archive c) (moment now 0) (acceptor Sta2 ∷ [])
       (told.Plain (input.Request proposal)) 6
-      (write (pdu.AssociateAc (acceptance_of proposal archive) ∷ []) ∷ []) Closed
+      (write (pdu.AssociateAc (acceptance_of proposal archive_site) ∷ []) ∷ []) Closed
   -- the 256 associations of a node are open: the service provider rejects
   pub full : Does (at_archive c) (moment now 256) (acceptor Sta2 ∷ [])
       (told.Plain (input.Request proposal)) 13 (rejection 2 3 2) (Rejected (rj 2 3 2))
@@ -169,7 +170,7 @@ pub record Requests (c : Core) (now : ℕ) (rq : AssociateRq) : Type 0 where
   pub too_small : Does (at_archive c) (moment now 0) (acceptor Sta2 ∷ [])
       (told.Plain
       (input.Request
-      (request arch gate application_context 1 (context 1 image (Explicit ∷ []) ∷ []) 7))) 13
+      (request archive gate application_context 1 (context 1 image (Explicit ∷ []) ∷ []) 7))) 13
       (abort 0 0) Aborted
   pub again : Does c (moment now 0) (requestor Sta5 ∷ associated) (told.Plain (input.Request rq)) 13
       (abort 2 2) Aborted
@@ -218,7 +219,7 @@ pub record ReleaseAnswers (c : Core) (at : Moment) : Type 0 where
 
 -- ---- events 15 and 16: aborts
 
-abbrev pub pended : Pending → Place → Core → Core
+abbrev pub pended : Pending → EndInState → Core → Core
 pended p place c = record (placed place c) { pending = Some p }
 
 pub record Aborts (c : Core) (at : Moment) (a : Abort) (p : Pending) : Type 0 where
@@ -271,10 +272,10 @@ pub record Endings (c : Core) (at : Moment) (p : Pending) : Type 0 where
       ≡ Some (Settle p.uid c.peer Broken at.now)
 
 -- a requestor that has awaited an answer since moment 0
-abbrev pub awaited : Place → Core → Core
+abbrev pub awaited : EndInState → Core → Core
 awaited p c = record (placed p c) { awaits = Some 0 }
 
-abbrev pub Waits : Core → ℕ → List Place → ℕ → List LinkAction → Ended → Type 0
+abbrev pub Waits : Core → ℕ → List EndInState → ℕ → List LinkAction → Ended → Type 0
 Waits c now places state acts ended =
     map (λ p. shows (turn (moment now 0) (awaited p c) (told.Plain input.Late))) places
     ≡ map (λ p. Some (record { state = state; acts = acts; ended = ended })) places
@@ -296,7 +297,7 @@ pub record LateMarks (c : Core) : Type 0 where
 -- ---- silence for too long (event 15, or the timer's)
 
 -- what silence does at each of the places, which are in one state
-abbrev pub IsSilenced : Core → ℕ → State → List Place → ℕ → List LinkAction → Ended → Type 0
+abbrev pub IsSilenced : Core → ℕ → State → List EndInState → ℕ → List LinkAction → Ended → Type 0
 IsSilenced c now at places state acts ended =
     Does c (moment now 0) places (told.Plain (idle_in at)) state acts ended
 

@@ -36,7 +36,13 @@ use Rattle.dr_session.specs.declared.ends.Input.TheVariants.{Unknown}
 use Rattle.dr_session.specs.declared.ends.Told.{Told}
 use Rattle.dr_session.specs.declared.ends.Told.TheVariants.{Plain, Store}
 use Rattle.std.specs.declared.alloc.AllocError.{AllocError}
-use Rattle.dr_session.specs.Ends.{Terminal, IsOver, Meets, HearsOf}
+use Rattle.dr_pdu.specs.Written.{Fits}
+use Rattle.dr_site.specs.Parts.{Part}
+use Rattle.dr_site.specs.Sites.{IsSite}
+use Rattle.dr_nego.specs.Agreeing.{AssociateRq}
+use Rattle.dr_session.specs.Fits.{InputFits}
+use Rattle.dr_session.specs.Terms.{Serves, CoreServes, ToldServes}
+use Rattle.dr_session.specs.Ends.{Terminal, IsEndOver, Meets, HearsOf, accepting, requesting}
 use Rattle.dr_session.specs.Messages.{command_pdus}
 use Rattle.dr_session.specs.Reactions.{Reaction, turn, quiet, effect, says, stores, leaves}
 use Rattle.dr_session.specs.Reactions.{aborted, abort_pdu, event_of, store_pdus, write}
@@ -168,34 +174,51 @@ OthersAnswerNoStore {S} step =
     → Turns step (turn at c told) s x t
     → AllByRecursion AnswersNoStore x.acts
 
--- what is written is the spellings of PDUs, joined
+-- what is written is the spellings of PDUs, joined: of such as can be written, so that each is read
+-- again, whatever follows
 abbrev pub IsSpelled : LinkAction → Type 0
-IsSpelled (Write bytes) = (pdus : List Pdu) × (bytes ≡ spellings pdus)
+IsSpelled (Write bytes) = (pdus : List Pdu) × AllByRecursion Fits pdus × (bytes ≡ spellings pdus)
 IsSpelled Close = Unit {0}
 
--- each turn writes PDUs, whatever the port answers
+-- Each turn of an end that serves writes such PDUs, whatever the port answers, and the end serves
+-- after it.
 abbrev pub WritesPdus : {S : Type 0} → (S → DeskCall → DeskAnswer → S → Type 0) → Type 0
 WritesPdus {S} step =
     (at : Moment) (c : Core) (told : Told) (s t : S) (x : Effect)
+    → Serves c.site c.agreed
+    → ToldServes told
     → Turns step (turn at c told) s x t
-    → AllByRecursion IsSpelled x.acts
+    → AllByRecursion IsSpelled x.acts × Serves x.core.site x.core.agreed
 
 -- so does each call of an end: what comes over the link, and what is asked
 abbrev pub GivesPdus : {S : Type 0} → (S → DeskCall → DeskAnswer → S → Type 0) → Type 0
 GivesPdus {S} step =
     (came : Heard) (at : Moment) (old new : Terminal) (s t : S) (acts : List LinkAction)
+    → CoreServes old.core
     → HearsOf step came at old s (Ok acts) new t
-    → AllByRecursion IsSpelled acts
+    → AllByRecursion IsSpelled acts × CoreServes new.core
 
 abbrev pub AsksPdus : {S : Type 0} → (S → DeskCall → DeskAnswer → S → Type 0) → Type 0
 AsksPdus {S} step =
     (input : Input) (at : Moment) (old new : Terminal) (s t : S) (acts : List LinkAction)
+    → CoreServes old.core
+    → InputFits input
     → Meets step at input old s (Ok acts) new t
-    → AllByRecursion IsSpelled acts
+    → AllByRecursion IsSpelled acts × CoreServes new.core
+
+-- an end serves as it begins
+abbrev pub BeginsServing : Type 0
+BeginsServing =
+    (site : Part) (dest : Text) (rq : AssociateRq) (now : ℕ)
+    → IsSite site
+    → CoreServes (Some (accepting site now))
+    × CoreServes (Some (requesting (Some site) dest rq now))
+    × CoreServes (Some (requesting None dest rq now))
 
 -- an end that is over writes nothing and calls nothing, whatever it is told
 abbrev pub RestsWhenOver : Type 0
-RestsWhenOver = (at : Moment) (c : Core) (told : Told) → IsOver (Some c) → turn at c told ≡ quiet c
+RestsWhenOver =
+    (at : Moment) (c : Core) (told : Told) → IsEndOver (Some c) → turn at c told ≡ quiet c
 
 -- a call of it answers an empty list; the end and the port stay as they were
 abbrev pub IsStill : {S : Type 0} → Terminal → S
@@ -207,7 +230,7 @@ abbrev pub StaysOver : {S : Type 0} → (S → DeskCall → DeskAnswer → S →
 StaysOver {S} step =
     (input : Input) (at : Moment) (old new : Terminal) (s t : S)
     (result : Result (List LinkAction) AllocError)
-    → IsOver old.core
+    → IsEndOver old.core
     → Meets step at input old s result new t
     → IsStill old s result new t
 
@@ -215,7 +238,7 @@ abbrev pub HearsNothing : {S : Type 0} → (S → DeskCall → DeskAnswer → S 
 HearsNothing {S} step =
     (came : Heard) (at : Moment) (old new : Terminal) (s t : S)
     (result : Result (List LinkAction) AllocError)
-    → IsOver old.core
+    → IsEndOver old.core
     → HearsOf step came at old s result new t
     → IsStill old s result new t
 

@@ -14,6 +14,7 @@ pub mod Plays
 pub mod Reactions
 pub mod Statuses
 pub mod Telling
+pub mod Terms
 pub mod Turns
 pub mod Waits
 pub mod Links

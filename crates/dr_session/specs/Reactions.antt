@@ -70,6 +70,7 @@ use Rattle.dr_session.specs.Desks.{Upcoming, Settling, Due as DueFor, First}
 use Rattle.dr_nego.specs.Fragments.{spellings}
 use Rattle.dr_session.specs.Messages.{command_pdus, data_pdus}
 use Rattle.dr_session.specs.Turns.{Turn, Ends, Asks, Fails}
+use Rattle.dr_ledger.specs.Replies.{store_status}
 
 abbrev pub Reaction : Type 0
 Reaction = Turn DeskCall DeskAnswer Effect
@@ -247,12 +248,6 @@ abbrev pub says : Core → ℕ → Command → LinkAction
 says c id command =
     write (command_pdus (option_map_or (λ (a : Agreed). a.limit) c.agreed 0) id command)
 
-abbrev pub status_of : Result Arrived LedgerFault → ℕ
-status_of (Ok value) = 0
-status_of (Err fault.NoLine) = 0xC0F0
-status_of (Err fault.Conflict) = 0xC0F1
-status_of (Err why) = 0xA700
-
 abbrev pub stored : Core → ℕ → ℕ → Text → Text → ℕ → Effect
 stored c context id class instance status =
     effect (says c context (StoreRsp id status class instance false) ∷ []) c
@@ -265,7 +260,7 @@ abbrev pub brings : Core → ℕ → ℕ → Text → Text → Job → Reaction
 brings c context id class instance item =
     if is_named item class instance
     then Asks (Arrive c.peer item)
-    (arrival (λ r. Ends (stored c context id class instance (status_of r))))
+    (arrival (λ r. Ends (stored c context id class instance (store_status r))))
     else Ends (stored c context id class instance 0xA900)
 
 abbrev pub arrives : Core → ℕ → ℕ → Text → Text → Found → Reaction

@@ -11,7 +11,8 @@ use Rattle.dr_nego.specs.declared.agreed.Agreed.{Agreed}
 use Rattle.dr_nego.specs.Agreeing.{AssociateRq}
 use Rattle.dr_nego.specs.Answering.{acceptance_of}
 use Rattle.dr_base.specs.Standard.{verification, image}
-use Rattle.dr_nego.specs.Figures.{arch, archive, gate, proposal, other}
+use Rattle.dr_nego.specs.Figures.{archive_site, gate, proposal, other}
+use Rattle.dr_plan_sound.specs.Samples.{archive}
 use Rattle.dr_nego.specs.Fragments.{spellings}
 use Rattle.dr_nego.specs.Proposing.{echo_proposal}
 use Rattle.dr_session.specs.declared.ends.Core.{Core}
@@ -148,13 +149,13 @@ counted =
 
 abbrev pub strange_proposal : AssociateRq
 strange_proposal = record proposal {
-  front = record { version = 1; called = arch; calling = gate; reserved = counted };
+  front = record { version = 1; called = archive; calling = gate; reserved = counted };
 }
 
 -- 0 in a request, and in an acceptance what the request had
 pub record ReservedBytes : Type 0 where
   pub asked :
-      reserved_in (spellings (pdu.AssociateRq (echo_proposal gate arch) ∷ [])) ≡ replicate 32 0
+      reserved_in (spellings (pdu.AssociateRq (echo_proposal gate archive) ∷ [])) ≡ replicate 32 0
   pub answered :
-      reserved_in (spellings (pdu.AssociateAc (acceptance_of strange_proposal archive) ∷ []))
+      reserved_in (spellings (pdu.AssociateAc (acceptance_of strange_proposal archive_site) ∷ []))
       ≡ counted

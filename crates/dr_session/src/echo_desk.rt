@@ -9,7 +9,7 @@ use dr_ledger::{Arrived, Item, Job, LedgerFault, Outcome};
 /// It keeps the status of the response that settles the echo. Nothing is due there, and nothing
 /// arrives.
 #[derive(Drop)]
-pub struct EchoDesk {
+pub(crate) struct EchoDesk {
     pub status: Option<u16>,
 }
 

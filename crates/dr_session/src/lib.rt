@@ -4,7 +4,7 @@
 
 mod boxed;
 pub mod desk;
-pub mod echo_desk;
+mod echo_desk;
 mod echoing;
 mod end;
 pub mod ends;
@@ -19,7 +19,7 @@ mod react;
 pub mod sessions;
 mod telling;
 pub mod waiting;
-pub mod wishes;
+mod wishes;
 mod writing;
 
 pub use echo_desk::Echoed;

@@ -13,7 +13,7 @@ use Rattle.dr_ledger.specs.SiteRoutes.{site_routing}
 use Rattle.dr_ledger.proofs.Growing.{inside}
 use Rattle.dr_store_schema.specs.Books.{book_of, items_of}
 use Rattle.dr_store_calls.specs.Calling.{IsOwnFault}
-use Rattle.dr_store_calls.specs.Knowing.{IsKnown}
+use Rattle.dr_store_calls.specs.Knowing.{IsWhatIsKnown}
 use Rattle.dr_store_calls.specs.declared.knowing.Known.{Known}
 use Rattle.dr_store_calls.specs.declared.knowing.Known.TheVariants as known
 use Rattle.dr_store_calls.proofs.Knows.{no_item_there}
@@ -26,7 +26,7 @@ module _ (part : Part) (caller : Text) (item : Instance) (line : HasLineFor part
   as_said : (r q : Result (Unit {0}) LedgerFault) (base : Trees) → r ≡ q → Says q base → Says r base
   as_said r q base is h = let P : Result (Unit {0}) LedgerFault → Type 0 = λ x. Says x base in subst P (sym is) h
 
-  pub told : (what : Known) (r : Result (Unit {0}) LedgerFault) (base : Trees) → AdmitsKnown what r → IsKnown base item what → Says r base
+  pub told : (what : Known) (r : Result (Unit {0}) LedgerFault) (base : Trees) → AdmitsKnown what r → IsWhatIsKnown base item what → Says r base
   told known.No r base is h = as_said r (Ok tt) base is (record {
     line = line;
     same = λ held there. absurd (let e : None ≡ Some held = sym (no_item_there base item.uid h.0) ∙ there in cc);

@@ -8,7 +8,7 @@ use Rattle.dr_store_lists.specs.Lists.{Goal}
 use Rattle.dr_store_lists.specs.declared.listing.JournalRow.{JournalRow}
 use Rattle.dr_store_lists.specs.declared.listing.JournalRow.TheVariants as note
 use Rattle.dr_store_audit.specs.Journal.{line_told, lines_told}
-use Rattle.dr_store_audit.specs.Telling.{IsNoJournal, IsOver, IsToldJournal, NoneIsOver}
+use Rattle.dr_store_audit.specs.Telling.{IsNoJournal, EndsAtAdoption, IsToldJournal, NoneIsOver}
 use Rattle.dr_store_audit.proofs.Journals.{lines_join}
 use Rattle.dr_store_audit.specs.declared.fault.FindingFault.{FindingFault}
 use Rattle.dr_store_audit.specs.declared.fault.FindingFault.TheVariants as finding
@@ -143,7 +143,7 @@ one_split (line ∷ past) (first ∷ other) since more p o s m same =
 
 -- ---- why lines are no journal
 
-module _ (routing : Routing) (goals : List Goal) (past since : List (ℕ × JournalRow)) (ends : IsOver past) (none : NoneAdopts (lines_told goals since)) where
+module _ (routing : Routing) (goals : List Goal) (past since : List (ℕ × JournalRow)) (ends : EndsAtAdoption past) (none : NoneAdopts (lines_told goals since)) where
   -- the lines up to the last adoption are no past, or those since then are no history behind it
   pub no_journal : (IsPast (lines_told goals past) empty_book → IsHistory routing (lines_told goals since) (Fold (lines_told goals past)) → ⊥) → IsNoJournal routing (lines_told goals (past ++ since))
   no_journal neither b journalled lines =
@@ -153,7 +153,7 @@ module _ (routing : Routing) (goals : List Goal) (past since : List (ℕ × Jour
       (subst (λ (s : List Line). IsHistory routing s (Fold (lines_told goals past))) split.1 (subst (λ (p : List Line). IsHistory routing is.since (Fold p)) split.0 is.history))
 
 -- what was told in two parts, or why it wasn't
-pub told_by : (routing : Routing) (goals : List Goal) (past since : List (ℕ × JournalRow)) (first : Content) → IsOver past → NoneAdopts (lines_told goals since) → IsTold (lines_told goals past) first → (r : Result History FindingFault)
+pub told_by : (routing : Routing) (goals : List Goal) (past since : List (ℕ × JournalRow)) (first : Content) → EndsAtAdoption past → NoneAdopts (lines_told goals since) → IsTold (lines_told goals past) first → (r : Result History FindingFault)
     → MatchResult r (λ h. (before : List Line) → IsToldSince routing before [] first → IsToldSince routing before (lines_told goals since) (content h.parts))
     (λ fault. (before : List Line) → fault ≡ finding.OtherSite → IsToldSince routing before [] first → IsHistory routing (lines_told goals since) (Fold before) → ⊥)
     → MatchResult r (λ h. IsToldJournal routing (lines_told goals (past ++ since)) (content h.parts)) (λ fault. fault ≡ finding.OtherSite → IsNoJournal routing (lines_told goals (past ++ since)))

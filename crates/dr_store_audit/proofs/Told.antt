@@ -10,7 +10,7 @@ use Rattle.dr_store_lists.specs.Lists.{Goal}
 use Rattle.dr_store_lists.specs.declared.listing.JournalRow.{JournalRow}
 use Rattle.dr_store_lists.specs.declared.listing.JournalRow.TheVariants as note
 use Rattle.dr_store_audit.specs.Journal.{lines_told}
-use Rattle.dr_store_audit.specs.Telling.{IsOver, IsToldJournal}
+use Rattle.dr_store_audit.specs.Telling.{EndsAtAdoption, IsToldJournal}
 use Rattle.dr_store_audit.proofs.Journals.{lines_join}
 
 -- the same lines are told
@@ -21,12 +21,12 @@ pub since_alike : {routing : Routing} {past lines others : List Line} {c : Conte
 since_alike {routing = routing} {past = past} {c = c} same told = subst (λ all. IsToldSince routing past all c) (sym same) told
 
 -- lines of notes that are over are over
-pub over : (goals : List Goal) (notes : List (ℕ × JournalRow)) → IsOver notes → IsBeforeAdoption (lines_told goals notes)
+pub over : (goals : List Goal) (notes : List (ℕ × JournalRow)) → EndsAtAdoption notes → IsBeforeAdoption (lines_told goals notes)
 over goals notes (inl none) = inl (ap (lines_told goals) none)
 over goals notes (inr it) = inr (lines_told goals it.0, ap (lines_told goals) it.2 ∙ lines_join goals it.0 ((it.1, note.Adoption) ∷ []))
 
 -- what was told in two parts
-pub told_all : (routing : Routing) (goals : List Goal) (past since : List (ℕ × JournalRow)) (first last : Content) → IsOver past → IsTold (lines_told goals past) first
+pub told_all : (routing : Routing) (goals : List Goal) (past since : List (ℕ × JournalRow)) (first last : Content) → EndsAtAdoption past → IsTold (lines_told goals past) first
     → ((before : List Line) → IsToldSince routing before [] first → IsToldSince routing before (lines_told goals since) last) → IsToldJournal routing (lines_told goals (past ++ since)) last
 told_all routing goals past since first last ends told goes =
     let it = goes (lines_told goals past) (past_is_over routing (lines_told goals past) first told (over goals past ends)) in

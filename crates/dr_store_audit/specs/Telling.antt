@@ -13,8 +13,8 @@ use Rattle.dr_store_lists.specs.declared.listing.JournalRow.{JournalRow}
 use Rattle.dr_store_lists.specs.declared.listing.JournalRow.TheVariants as note
 
 -- the notes are none, or end with an adoption
-abbrev pub IsOver : List (ℕ × JournalRow) → Type 0
-IsOver notes =
+abbrev pub EndsAtAdoption : List (ℕ × JournalRow) → Type 0
+EndsAtAdoption notes =
     (notes ≡ [])
     ⊎ ((earlier : List (ℕ × JournalRow)) × (n : ℕ) × (notes ≡ earlier ++ (n, note.Adoption) ∷ []))
 

@@ -10,7 +10,8 @@ ghost use Rattle.dr_ledger_history.specs.Told.{IsTold, IsToldSince};
 ghost use Rattle.dr_store_lists.specs.declared.listing.JournalRow.TheVariants as noted;
 ghost use Rattle.dr_store_audit.specs.Goals.{AreByLine};
 ghost use Rattle.dr_store_audit.specs.Journal.{CountUp, lines_told};
-ghost use Rattle.dr_store_audit.specs.Telling.{IsNoJournal, IsOver, IsToldJournal, NoneIsOver};
+ghost use Rattle.dr_store_audit.specs.Telling.{IsNoJournal, EndsAtAdoption, IsToldJournal};
+ghost use Rattle.dr_store_audit.specs.Telling.{NoneIsOver};
 ghost use Rattle.dr_store_audit.specs.declared.fault.FindingFault.TheVariants as finding;
 
 use crate::fault::{FindingFault, of_history};
@@ -45,7 +46,7 @@ fn end_after(end: usize, next: usize, note: &JournalRow) -> usize
 /// How many notes there are up to the last adoption.
 fn count_past(notes: &[(u64, JournalRow)]) -> usize
     ensures bound { result ≤ length notes.now }
-    ensures over { IsOver (take result notes.now) }
+    ensures over { EndsAtAdoption (take result notes.now) }
     ensures since { NoneIsOver result notes.now }
 {
     let mut end = 0;

@@ -6,7 +6,7 @@ use Rattle.std.proofs.lemmas.Bool.{cases_lt, cases_order}
 use Rattle.std.proofs.lemmas.List.{get_or_default}
 use Rattle.dr_store_bodies.specs.declared.extent.Extent.{Extent}
 use Rattle.dr_store_bodies.specs.Extents.{end_of, LiesBefore}
-use Rattle.dr_store_bodies.specs.Place.{IsFirst, IsFull, IsGap, IsPlace}
+use Rattle.dr_store_bodies.specs.Place.{IsFirstPlace, IsFull, IsGap, IsPlace}
 
 module _
     (extents : List Extent) (i : ℕ) (e : Extent)
@@ -47,7 +47,7 @@ module _
   -- where the room before it is too small, each place is behind it
   pub passes :
       (size at index other : ℕ)
-      → IsFirst extents size at → (slice_index_or extents i e).at < at + size
+      → IsFirstPlace extents size at → (slice_index_or extents i e).at < at + size
       → IsPlace extents size index other → end_of (slice_index_or extents i e) ≤ other
   passes size at index other first small place =
       elim (cases_lt i index) [
@@ -59,7 +59,7 @@ module _
 -- where not even the first place is within the numbers, there is none
 pub full_at :
     (extents : List Extent) (size at : ℕ)
-    → IsFirst extents size at → 2 ^ 64 ≤ at + size → IsFull extents size
+    → IsFirstPlace extents size at → 2 ^ 64 ≤ at + size → IsFull extents size
 full_at extents size at first over index other place =
     omega (arith, first index other place, place.gap.fits, over)
 

@@ -2,7 +2,7 @@
 use Rattle.std.specs.Prelude.{◌≡◌, ◌⊎◌, ℕ, ◌+◌, ◌<◌, ◌≤◌, List, length, slice_index_or}
 use Rattle.dr_store_bodies.specs.declared.extent.Extent.{Extent}
 use Rattle.dr_store_bodies.specs.Extents.{end_of, Stand}
-use Rattle.dr_store_bodies.specs.Place.{IsFirst, IsGap, IsPlace}
+use Rattle.dr_store_bodies.specs.Place.{IsFirstPlace, IsGap, IsPlace}
 use Rattle.dr_store_bodies.specs.Sums.{AreSums}
 
 -- an extent of a file that no crash changes holds one text of bytes at most
@@ -25,8 +25,8 @@ GapsAreApart =
 abbrev pub FirstIsOne : Type 0
 FirstIsOne =
     (extents : List Extent) (size index at other place : ℕ)
-    → IsPlace extents size index at → IsFirst extents size at
-    → IsPlace extents size other place → IsFirst extents size place → at ≡ place
+    → IsPlace extents size index at → IsFirstPlace extents size at
+    → IsPlace extents size other place → IsFirstPlace extents size place → at ≡ place
 
 -- a data set has one list of digests
 abbrev pub SumsAreOne : Type 0

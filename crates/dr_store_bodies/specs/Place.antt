@@ -18,8 +18,8 @@ pub record IsPlace (extents : List Extent) (size index at : ℕ) : Type 0 where
   pub aligned : at % 4096 ≡ 0
 
 -- no such gap begins before `at`
-abbrev pub IsFirst : List Extent → ℕ → ℕ → Type 0
-IsFirst extents size at = (index other : ℕ) → IsPlace extents size index other → at ≤ other
+abbrev pub IsFirstPlace : List Extent → ℕ → ℕ → Type 0
+IsFirstPlace extents size at = (index other : ℕ) → IsPlace extents size index other → at ≤ other
 
 -- there is no such gap at all
 abbrev pub IsFull : List Extent → ℕ → Type 0

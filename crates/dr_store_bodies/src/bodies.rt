@@ -7,7 +7,7 @@ ghost use Rattle.sqlite_disk.specs.Disk.{Only};
 ghost use Rattle.sqlite_disk.specs.Digest.{digest};
 ghost use Rattle.std.specs.List.Sorted.{IsPermutation};
 ghost use Rattle.dr_store_bodies.specs.Extents.{end_of, LiesBefore, IsSafe, Stand};
-ghost use Rattle.dr_store_bodies.specs.Place.{IsFirst};
+ghost use Rattle.dr_store_bodies.specs.Place.{IsFirstPlace};
 
 use crate::extent::Extent;
 use crate::fault::BodyFault;
@@ -69,7 +69,7 @@ impl<D: Disk> Bodies<D> {
         ensures listed { IfOk result (λ e.
             IsPermutation (e ∷ extents self.old) (extents self.new)) }
         ensures aligned { IfOk result (λ e. e.at % 4096 ≡ 0) }
-        ensures first { IfOk result (λ e. IsFirst (extents self.old) (length body.now) e.at) }
+        ensures first { IfOk result (λ e. IsFirstPlace (extents self.old) (length body.now) e.at) }
         ensures other { IfOk result (λ e. All (λ f. f.at ≢ e.at) (extents self.old)) }
         ensures unlisted { OnErr result (extents self.new ≡ extents self.old) }
         ensures keeps { (e : Extent) (bytes : List ℕ)

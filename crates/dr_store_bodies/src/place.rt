@@ -2,7 +2,7 @@
 ghost use Rattle.std.specs.Prelude.{◌≡◌, ◌%◌, ◌^◌, ◌<◌, ◌≤◌, ℕ, AllPairs, IfNone, IfSome};
 ghost use Rattle.dr_store_bodies.specs.declared.extent.Extent.{Extent};
 ghost use Rattle.dr_store_bodies.specs.Extents.{end_of, LiesBefore};
-ghost use Rattle.dr_store_bodies.specs.Place.{IsFirst, IsFull, IsPlace};
+ghost use Rattle.dr_store_bodies.specs.Place.{IsFirstPlace, IsFull, IsPlace};
 
 use crate::extent::Extent;
 
@@ -42,7 +42,7 @@ fn sector_behind(extent: &Extent) -> Option<usize>
 pub fn place(extents: &[Extent], size: usize) -> Option<(usize, usize)>
     requires { AllPairs LiesBefore extents.now }
     ensures place { IfSome result (λ p. IsPlace extents.now size p.0 p.1) }
-    ensures first { IfSome result (λ p. IsFirst extents.now size p.1) }
+    ensures first { IfSome result (λ p. IsFirstPlace extents.now size p.1) }
     ensures full { IfNone result (IsFull extents.now size) }
 {
     let mut at = 0usize;

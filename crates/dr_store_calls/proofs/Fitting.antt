@@ -12,13 +12,12 @@ use Rattle.dr_route.specs.declared.rule.Targets.{Targets}
 use Rattle.dr_site.specs.Parts.{Part}
 use Rattle.dr_site.specs.Routing.{KeepsAt, SendsFrom}
 use Rattle.dr_site.proofs.AsPlanned.{keeps_by as keeps_one, kept_by}
-use Rattle.dr_ledger.specs.declared.content.Job.{Job}
+use Rattle.dr_ledger.specs.declared.item.Instance.{Instance}
 use Rattle.dr_ledger.specs.declared.item.Progress.{Progress}
 use Rattle.dr_ledger.specs.declared.item.Progress.TheVariants.{Waiting, Held, Done, Dropped}
 use Rattle.dr_ledger.specs.Bodies.{HasBodies, IsNeeded}
 use Rattle.dr_ledger.specs.Books.{Book, Arrival, after, is_queued}
 use Rattle.dr_ledger.specs.Histories.{IsSolid}
-use Rattle.dr_ledger.specs.Items.{instance_of}
 use Rattle.dr_ledger.specs.Pairs.{pair_cmp}
 use Rattle.dr_ledger.specs.PlanRoutes.{keeps_by, targets_by}
 use Rattle.dr_ledger.specs.SiteRoutes.{site_routing}
@@ -120,7 +119,7 @@ unset : (b : Bool) → (b ≡ true → ⊥) → b ≡ false
 unset true none = absurd (none refl)
 unset false none = refl
 
-module _ (n : ℕ) (part : Part) (caller : Text) (item : Job) (to : List Text) (keep : Bool) (base : Trees) (l : IsLedgerOf n part base) (neither : HasNeither item.uid base) where
+module _ (n : ℕ) (part : Part) (caller : Text) (item : Instance) (to : List Text) (keep : Bool) (base : Trees) (l : IsLedgerOf n part base) (neither : HasNeither item.uid base) where
   solid : IsSolid (book_of base)
   solid = journals_are_solid (site_routing part) l.journalled.0 (book_of base) l.journalled.1
 
@@ -143,7 +142,7 @@ module _ (n : ℕ) (part : Part) (caller : Text) (item : Job) (to : List Text) (
   keeps_new : keep ≡ (keep && not (set.contains (all_kept_in (base 7)) item.uid))
   keeps_new = keeps_all keep ∙ ap (λ b. keep && not b) (sym not_kept)
 
-  new_needed : (keep ≡ true) ⊎ ((dest : Text) × Contains to dest) → IsNeeded (after (Arrival caller (instance_of item) to keep) (book_of base)) item.uid
+  new_needed : (keep ≡ true) ⊎ ((dest : Text) × Contains to dest) → IsNeeded (after (Arrival caller item to keep) (book_of base)) item.uid
   new_needed (inl kept) = inl (now_kept keep (all_kept_in (base 7)) item.uid kept)
   new_needed (inr some) = inr (some.0, Waiting 0 0, waits_anew to (rows_of base) item.uid some.0 some.1 (inl (no_rows some.0)), refl)
 
@@ -184,13 +183,13 @@ some_of : {A : Type 0} (o : Option A) → is_some o ≡ true → (a : A) × (o �
 some_of None h = absurd (true≢false (sym h))
 some_of (Some a) h = (a, refl)
 
-module _ (n : ℕ) (part : Part) (caller : Text) (item : Job) (to : List Text) (keep whole kept : Bool) (again dests : List Text) (base : Trees) (l : IsLedgerOf n part base) (there : IsThere base (instance_of item) whole)
+module _ (n : ℕ) (part : Part) (caller : Text) (item : Instance) (to : List Text) (keep whole kept : Bool) (again dests : List Text) (base : Trees) (l : IsLedgerOf n part base) (there : IsThere base item whole)
     (first : set.contains (arrivals_in (base 5)) (caller, item.uid) ≡ false) (again_are : again ≡ given_up (rows_of base) item.uid to) (dests_are : dests ≡ missing (rows_of base) item.uid to) (kept_is : kept ≡ set.contains (all_kept_in (base 7)) item.uid) where
   keeps_more : (keep && not kept) ≡ (keep && not (set.contains (all_kept_in (base 7)) item.uid))
   keeps_more = ap (λ b. keep && not b) kept_is
 
   abbrev made : Book
-  made = after (Arrival caller (instance_of item) to keep) (book_of base)
+  made = after (Arrival caller item to keep) (book_of base)
 
   -- it waits from now on, or anew, for a destination
   abbrev WaitsSomewhere : Type 0

@@ -15,7 +15,7 @@ use Rattle.dr_store_changes.specs.Changes.{HasBoth, HasNeither}
 use Rattle.dr_store_changes.proofs.LettingGo.{body_at}
 use Rattle.dr_store_reads.specs.declared.finding.Print.{Print}
 use Rattle.dr_store_reads.specs.Queries.{IsKeyOf, IsPrintOf}
-use Rattle.dr_store_calls.specs.Knowing.{IsKnown, IsThere}
+use Rattle.dr_store_calls.specs.Knowing.{IsWhatIsKnown, IsThere}
 use Rattle.dr_store_calls.specs.declared.knowing.Known.TheVariants as known
 
 -- ---- two maps of the same rows by the same keys
@@ -76,20 +76,20 @@ found_body : (db : Trees) (uid : Text) (key : Key) (print : Print) → IsKeyOf u
 found_body db uid key print k p =
     ap is_some (body_at (contents_in (db 1)) (wholes_in (db 3)) uid) ∙ body_there (is_whole (map.get (wholes_in (db 3)) uid)) (map.get (contents_in (db 1)) uid) (found_both db uid key print k p).0 ∙ p.1
 
-pub known_no : (db : Trees) (item : Instance) → IsKeyOf item.uid db None → IsPrintOf item.uid db None → IsKnown db item known.No
+pub known_no : (db : Trees) (item : Instance) → IsKeyOf item.uid db None → IsPrintOf item.uid db None → IsWhatIsKnown db item known.No
 known_no db item k p = (no_content db item.uid k, p.1)
 
 abbrev pub AreSame : Instance → Key → Print → Type 0
 AreSame item key print = (key ≡ item.key) × (print.size ≡ item.size) × (print.digest ≡ item.digest)
 
-pub known_same : (db : Trees) (item : Instance) (key : Key) (print : Print) → AreSame item key print → IsKeyOf item.uid db (Some key) → IsPrintOf item.uid db (Some print) → IsKnown db item (known.Same print.whole)
+pub known_same : (db : Trees) (item : Instance) (key : Key) (print : Print) → AreSame item key print → IsKeyOf item.uid db (Some key) → IsPrintOf item.uid db (Some print) → IsWhatIsKnown db item (known.Same print.whole)
 known_same db item key print same k p = record {
   same = found_instance db item.uid key print k p ∙ ap Some (λ i. record { uid = item.uid; key = same.0 i; size = same.1 i; digest = same.2 i });
   both = found_both db item.uid key print k p;
   body = found_body db item.uid key print k p;
 }
 
-pub known_other : (db : Trees) (item : Instance) (key : Key) (print : Print) → (AreSame item key print → ⊥) → IsKeyOf item.uid db (Some key) → IsPrintOf item.uid db (Some print) → IsKnown db item known.Other
+pub known_other : (db : Trees) (item : Instance) (key : Key) (print : Print) → (AreSame item key print → ⊥) → IsKeyOf item.uid db (Some key) → IsPrintOf item.uid db (Some print) → IsWhatIsKnown db item known.Other
 known_other db item key print other k p = (
   instance_with item.uid key print,
   found_instance db item.uid key print k p,

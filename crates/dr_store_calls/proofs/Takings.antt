@@ -1,5 +1,5 @@
 -- Arrivals that are taken.
-use Rattle.std.proofs.Common.{◌≡◌, ◌≢◌, ◌⊎◌, ◌==◌, inl, inr, ℕ, pos, ◌+◌, ◌≤◌, Bool, true, false, cond, not, ◌&&◌, List, [], ◌∷◌, Contains, Option, Some, None, IsSome, Ok, Err, Result, refl, sym, ap, subst, ◌∙◌, true≢false, arith, ne_eqb}
+use Rattle.std.proofs.Common.{◌≡◌, ◌≢◌, ◌⊎◌, ◌==◌, inl, inr, ℕ, pos, ◌+◌, ◌≤◌, ◌^◌, Bool, true, false, cond, not, ◌&&◌, List, [], ◌∷◌, Contains, Option, Some, None, IsSome, Ok, Err, Result, refl, sym, ap, subst, ◌∙◌, true≢false, arith, ne_eqb}
 use Rattle.std.specs.FinMap as map
 use Rattle.std.specs.FinSet as set
 use Rattle.sqlite.specs.Tree.{Trees}
@@ -11,15 +11,14 @@ use Rattle.dr_site.specs.Parts.{Part}
 use Rattle.dr_site.specs.Routing.{HasLineFor, SendsFrom}
 use Rattle.dr_site.specs.Sites.{IsSite}
 use Rattle.dr_site.proofs.AsPlanned.{sends_as_planned}
-use Rattle.dr_ledger.specs.declared.content.Job.{Job}
 use Rattle.dr_ledger.specs.declared.fault.LedgerFault.{LedgerFault}
 use Rattle.dr_ledger.specs.declared.fault.LedgerFault.TheVariants as fault
 use Rattle.dr_ledger.specs.declared.item.Arrived.{Arrived}
 use Rattle.dr_ledger.specs.declared.item.Arrived.TheVariants.{New, Again}
 use Rattle.dr_ledger.specs.declared.item.Instance.{Instance}
-use Rattle.dr_ledger.specs.Bodies.{Bodies, HasBodies, OnlyTakes}
+use Rattle.dr_ledger.specs.Bodies.{Bodies, HasBodies}
 use Rattle.dr_ledger.specs.Books.{Book, Arrival, Repeat, after}
-use Rattle.dr_ledger.specs.Items.{IsItem, instance_of}
+use Rattle.dr_ledger.specs.Items.{instance_of}
 use Rattle.dr_ledger.specs.Replies.{Arrives, IsAdmitted, IsLastingFault}
 use Rattle.dr_ledger.specs.SiteRoutes.{site_routing}
 use Rattle.dr_ledger.proofs.Folding.{arrivals_are_journalled}
@@ -31,22 +30,40 @@ use Rattle.dr_store_changes.specs.declared.first.Taking.{Taking}
 use Rattle.dr_store_changes.specs.declared.first.Taking.TheVariants as taking
 use Rattle.dr_store_changes.specs.Bringing.{AreTargets, Brings, GoNowhere, IsKnownFor, bodies_taken, given_up, missing, names_for}
 use Rattle.dr_store_changes.specs.Changes.{AddsOnlyLine, with_names}
+use Rattle.dr_store_changes.specs.Laws.{ComesWhereNeeded}
 use Rattle.dr_store_changes.proofs.Bookings.{repeats_repeat}
 use Rattle.dr_store_changes.proofs.Joins.{arrivals_arrive, data_sets_come}
 use Rattle.sqlite.specs.State.{State}
 use Rattle.dr_store_calls.specs.declared.bringing.Delivery.{Delivery}
 use Rattle.dr_store_calls.specs.Calling.{IsLedgerOf, IsOwnFault, Looked, advanced}
 use Rattle.dr_store_calls.specs.Knowing.{FitsTables, IsThere}
-use Rattle.dr_store_calls.specs.Receiving.{Accepts, AnswersTo, IsDelivered, Receives, ReceivesAs}
+use Rattle.dr_store_calls.specs.Receiving.{AcceptsOne, AnswersWith, IsDelivered, Receives, ReceivesAs, StandsFor, TakesOnly}
 use Rattle.dr_store_calls.proofs.Calls.{asked_as, called_as, looked_failed, looked_then, still_called}
 
 -- ---- a first arrival
 
-only_takes : (how : Taking) (item : Job) (bodies : Bodies) → OnlyTakes item bodies (bodies_taken how bodies item.uid item.body)
-only_takes taking.New item bodies uid body h = elim (got texts bodies item.uid item.body uid body h) [ inl new ↦ inr new | inr was ↦ inl was.1 ]
-only_takes taking.Bare item bodies uid body h = inl h
-only_takes taking.Again item bodies uid body h = elim (got texts bodies item.uid item.body uid body h) [ inl new ↦ inr new | inr was ↦ inl was.1 ]
-only_takes taking.Nothing item bodies uid body h = inl h
+takes_only : (how : Taking) (uid : Text) (cell : List ℕ) (bodies : Bodies) → TakesOnly uid cell bodies (bodies_taken how bodies uid cell)
+takes_only taking.New uid cell bodies other there h = elim (got texts bodies uid cell other there h) [ inl new ↦ inr new | inr was ↦ inl was.1 ]
+takes_only taking.Bare uid cell bodies other there h = inl h
+takes_only taking.Again uid cell bodies other there h = elim (got texts bodies uid cell other there h) [ inl new ↦ inr new | inr was ↦ inl was.1 ]
+takes_only taking.Nothing uid cell bodies other there h = inl h
+
+-- what a cell stands for is no larger than an item may be
+pub is_small : (cell : List ℕ) (instance : Instance) → StandsFor cell instance → instance.size ≤ 2 ^ 62
+is_small cell instance stands =
+    let P : Instance → Type 0 = λ i. i.size ≤ 2 ^ 62 in
+    let fits = stands.1.fits in
+    subst P (sym stands.3) (omega (arith, fits))
+
+-- where the cell that comes stands for the instance's data set, the book has the data sets that it needs
+cells_come : (how : Taking) (b : Book) (caller : Text) (instance : Instance) (cell : List ℕ) (to : List Text) (keep : Bool) (bodies : Bodies) → StandsFor cell instance → HasBodies b bodies
+    → ((held : Instance) → map.get b.items instance.uid ≡ Some held → held ≡ instance) → ComesWhereNeeded how (after (Arrival caller instance to keep) b) bodies instance.uid
+    → HasBodies (after (Arrival caller instance to keep) b) (bodies_taken how bodies instance.uid cell)
+cells_come how b caller instance cell to keep bodies stands has =
+    let job = stands.0 in
+    let P : Instance → List ℕ → Type 0 = λ i x. ((held : Instance) → map.get b.items i.uid ≡ Some held → held ≡ i) → ComesWhereNeeded how (after (Arrival caller i to keep) b) bodies i.uid
+    → HasBodies (after (Arrival caller i to keep) b) (bodies_taken how bodies i.uid x) in
+    subst (λ i. P i cell) (sym stands.3) (subst (λ x. P (instance_of job) x) stands.2 (λ same comes. data_sets_come how b caller job to keep bodies stands.1 has same comes))
 
 known_same : (how : Taking) (item : Instance) (found : Option Instance) → IsKnownFor how item found → (held : Instance) → found ≡ Some held → held ≡ item
 known_same taking.New item found known held is = absurd (let e : None ≡ Some held = sym known ∙ is in cc)
@@ -54,22 +71,19 @@ known_same taking.Bare item found known held is = absurd (let e : None ≡ Some 
 known_same taking.Again item found known held is = sym (inside item held (sym known ∙ is))
 known_same taking.Nothing item found known held is = sym (inside item held (sym known ∙ is))
 
-module _ (n : ℕ) (part : Part) (how : Taking) (caller : Text) (item : Job) (to : List Text) (keep : Bool) (again dests : List Text) (keeps : Bool) (base db : Trees) (is_item : IsItem item)
-    (line : HasLineFor part caller item.key) (to_is : to ≡ (site_routing part).targets caller item.key) (keep_is : keep ≡ (site_routing part).keeps caller item.key) (names : AreTargets to)
-    (below : AreBelow n (base 11)) (l : IsLedgerOf n part base) (f : FitsTables how caller item to keep again dests keeps base)
-    (w : Brings how caller (instance_of item) item.body again dests keeps (names_for keep to) n base db) where
-  abbrev instance : Instance
-  instance = instance_of item
-
+module _ (n : ℕ) (part : Part) (how : Taking) (caller : Text) (instance : Instance) (cell : List ℕ) (to : List Text) (keep : Bool) (again dests : List Text) (keeps : Bool) (base db : Trees) (stands : StandsFor cell instance)
+    (line : HasLineFor part caller instance.key) (to_is : to ≡ (site_routing part).targets caller instance.key) (keep_is : keep ≡ (site_routing part).keeps caller instance.key) (names : AreTargets to)
+    (below : AreBelow n (base 11)) (l : IsLedgerOf n part base) (f : FitsTables how caller instance to keep again dests keeps base)
+    (w : Brings how caller instance cell again dests keeps (names_for keep to) n base db) where
   book : book_of db ≡ after (Arrival caller instance to keep) (book_of base)
   book =
-      let P : List Text → List Text → Bool → Type 0 = λ again' ds ks. Brings how caller instance item.body again' ds ks (names_for keep to) n base db in
-      arrivals_arrive how base db n caller instance item.body to keep below l.ahead f.known names
-      (subst (λ ks. P (given_up (rows_of base) item.uid to) (missing (rows_of base) item.uid to) ks) f.keeps_is
-      (subst (λ ds. P (given_up (rows_of base) item.uid to) ds keeps) f.missing_are (subst (λ again'. P again' dests keeps) f.again_are w)))
+      let P : List Text → List Text → Bool → Type 0 = λ again' ds ks. Brings how caller instance cell again' ds ks (names_for keep to) n base db in
+      arrivals_arrive how base db n caller instance cell to keep below l.ahead f.known names
+      (subst (λ ks. P (given_up (rows_of base) instance.uid to) (missing (rows_of base) instance.uid to) ks) f.keeps_is
+      (subst (λ ds. P (given_up (rows_of base) instance.uid to) ds keeps) f.missing_are (subst (λ again'. P again' dests keeps) f.again_are w)))
 
-  same : (held : Instance) → map.get (items_of base) item.uid ≡ Some held → held ≡ instance
-  same held is = known_same how instance (map.get (items_of base) item.uid) f.known held is
+  same : (held : Instance) → map.get (items_of base) instance.uid ≡ Some held → held ≡ instance
+  same held is = known_same how instance (map.get (items_of base) instance.uid) f.known held is
 
   answer : Arrives (site_routing part) caller instance (book_of base) (Ok New) (book_of db)
   answer = (record { line = line; same = same }, f.first, book ∙ (λ i. after (Arrival caller instance (to_is i) (keep_is i)) (book_of base)))
@@ -77,26 +91,25 @@ module _ (n : ℕ) (part : Part) (how : Taking) (caller : Text) (item : Job) (to
   bodied : HasBodies (book_of db) (bodies_of db)
   bodied =
       subst (λ b. HasBodies b (bodies_of db)) (sym book)
-      (subst (λ x. HasBodies (after (Arrival caller instance to keep) (book_of base)) x) (sym w.bodies) (data_sets_come how (book_of base) caller item to keep (bodies_of base) is_item l.bodied same f.comes))
+      (subst (λ x. HasBodies (after (Arrival caller instance to keep) (book_of base)) x) (sym w.bodies) (cells_come how (book_of base) caller instance cell to keep (bodies_of base) stands l.bodied same f.comes))
 
   ahead : GoNowhere (n + 1) db
   ahead m later =
       w.targets m ∙ ap (λ b. cond b (with_names (names_in (base 12) m) (names_for keep to)) (names_in (base 12) m)) (ne_eqb n m (λ e. omega (arith, e, later)))
       ∙ l.ahead m (omega (arith, later))
 
-  pub arrives : IsLedgerOf (n + 1) part db × (Arrives (site_routing part) caller instance (book_of base) (Ok New) (book_of db) × OnlyTakes item (bodies_of base) (bodies_of db))
+  pub arrives : IsLedgerOf (n + 1) part db × (Arrives (site_routing part) caller instance (book_of base) (Ok New) (book_of db) × TakesOnly instance.uid cell (bodies_of base) (bodies_of db))
   arrives = (
     record { ahead = ahead; journalled = (l.journalled.0, arrivals_are_journalled (site_routing part) l.journalled.0 caller instance (book_of base) (book_of db) (Ok New) l.journalled.1 answer); bodied = bodied },
-    (answer, subst (λ x. OnlyTakes item (bodies_of base) x) (sym w.bodies) (only_takes how item (bodies_of base))),
+    (answer, subst (λ x. TakesOnly instance.uid cell (bodies_of base) x) (sym w.bodies) (takes_only how instance.uid cell (bodies_of base))),
   )
 
 -- ---- a repeat
 
-pub repeats : (n : ℕ) (part : Part) (caller : Text) (item : Job) (whole : Bool) (base db : Trees) → HasLineFor part caller item.key → AreBelow n (base 11) → IsLedgerOf n part base
-    → IsThere base (instance_of item) whole → set.contains (arrivals_in (base 5)) (caller, item.uid) ≡ true → AddsOnlyLine (arrived_line n 1 caller (instance_of item)) base db
-    → IsLedgerOf (n + 1) part db × (Arrives (site_routing part) caller (instance_of item) (book_of base) (Ok Again) (book_of db) × OnlyTakes item (bodies_of base) (bodies_of db))
-repeats n part caller item whole base db line below l was again w =
-    let instance = instance_of item in
+pub repeats : (n : ℕ) (part : Part) (caller : Text) (instance : Instance) (cell : List ℕ) (whole : Bool) (base db : Trees) → HasLineFor part caller instance.key → AreBelow n (base 11) → IsLedgerOf n part base
+    → IsThere base instance whole → set.contains (arrivals_in (base 5)) (caller, instance.uid) ≡ true → AddsOnlyLine (arrived_line n 1 caller instance) base db
+    → IsLedgerOf (n + 1) part db × (Arrives (site_routing part) caller instance (book_of base) (Ok Again) (book_of db) × TakesOnly instance.uid cell (bodies_of base) (bodies_of db))
+repeats n part caller instance cell whole base db line below l was again w =
     let made = repeats_repeat base db n caller instance below w in
     let answer : Arrives (site_routing part) caller instance (book_of base) (Ok Again) (book_of db) = (
       record { line = line; same = λ held is. sym (inside instance held (sym was.same ∙ is)) },
@@ -109,7 +122,7 @@ repeats n part caller item whole base db line below l was again w =
         journalled = (l.journalled.0, arrivals_are_journalled (site_routing part) l.journalled.0 caller instance (book_of base) (book_of db) (Ok Again) l.journalled.1 answer);
         bodied = subst (λ b. HasBodies b (bodies_of db)) (sym made.0) (subst (λ x. HasBodies (after (Repeat caller instance) (book_of base)) x) (sym made.1) has);
       },
-      (answer, λ uid body h. inl (ap (λ x. map.get x uid) (sym made.1) ∙ h)),
+      (answer, λ other there h. inl (ap (λ x. map.get x other) (sym made.1) ∙ h)),
     )
 
 -- ---- refusals
@@ -118,8 +131,8 @@ pub arrives_own : (part : Part) (caller : Text) (item : Instance) (b : Book) (e 
 arrives_own part caller item b e line (inl is) = subst (λ x. Arrives (site_routing part) caller item b (Err x) b) (sym is) (line, refl)
 arrives_own part caller item b e line (inr is) = subst (λ x. Arrives (site_routing part) caller item b (Err x) b) (sym is) (line, refl)
 
-pub takes_none : (item : Job) (bodies : Bodies) → OnlyTakes item bodies bodies
-takes_none item bodies uid body h = inl h
+pub takes_none : (uid : Text) (cell : List ℕ) (bodies : Bodies) → TakesOnly uid cell bodies bodies
+takes_none uid cell bodies other there h = inl h
 
 -- ---- a site sends nothing to the local caller
 
@@ -130,41 +143,42 @@ not_to_local part caller key site sends =
 
 -- ---- what is said of an arrival, whatever the tables have of it
 
-pub refused : (part : Part) (caller : Text) (item : Job) (e : LedgerFault) → HasLineFor part caller item.key → IsOwnFault e → (db : Trees) → AnswersTo part caller item (Err e) db db
-refused part caller item e line own db = (arrives_own part caller (instance_of item) (book_of db) e line own, takes_none item (bodies_of db))
+pub refused : (part : Part) (caller : Text) (instance : Instance) (cell : List ℕ) (e : LedgerFault) → HasLineFor part caller instance.key → IsOwnFault e → (db : Trees) → AnswersWith part caller instance cell (Err e) db db
+refused part caller instance cell e line own db = (arrives_own part caller instance (book_of db) e line own, takes_none instance.uid cell (bodies_of db))
 
 module _ (came : Delivery) (old new : State) where
   -- where what is known couldn't be read
   pub not_read : {A : Type 0} (Shows : Trees → A → Type 0) (e : LedgerFault) (Asks : Trees → Type 0) → IsDelivered came → Looked came.n came.site.now (Err e) old new Shows → Receives came (Err e) old new Asks
   not_read Shows e Asks is l =
-      looked_failed {B = Arrived} came.n came.site.now old new Shows e Asks (AnswersTo came.site.now came.caller.now came.item.now (Err e)) (Accepts came.site.now came.caller.now came.item.now) l (λ base asks own. refused came.site.now came.caller.now came.item.now e is.line own base)
+      looked_failed {B = Arrived} came.n came.site.now old new Shows e Asks (AnswersWith came.site.now came.caller.now came.instance.now came.cell.now (Err e)) (AcceptsOne came.site.now came.caller.now came.instance.now) l
+      (λ base asks own. refused came.site.now came.caller.now came.instance.now came.cell.now e is.line own base)
 
   -- what is known by reading helps a call that takes it
   pub read_then : {A : Type 0} (mid : State) (Shows : Trees → A → Type 0) (a : A) (r : Result Arrived LedgerFault) (Asks Given : Trees → Type 0) → Looked came.n came.site.now (Ok a) old mid Shows → Receives came r mid new Given
       → ((db : Trees) → Asks db → Shows db a → Given db) → Receives came r old new Asks
   read_then mid Shows a r Asks Given l c gives =
-      let Answers = AnswersTo came.site.now came.caller.now came.item.now r in
-      let Makes = Accepts came.site.now came.caller.now came.item.now in
+      let Answers = AnswersWith came.site.now came.caller.now came.instance.now came.cell.now r in
+      let Makes = AcceptsOne came.site.now came.caller.now came.instance.now in
       looked_then came.n (advanced r came.n) came.site.now old mid new Shows a r Asks Given Answers Makes Answers Makes l c (λ db l asks shown. gives db asks shown) (λ base db asks shown it. it) (λ base db asks shown it. it)
 
   -- a call that asks for less
   pub received : (r : Result Arrived LedgerFault) (Asks More : Trees → Type 0) → ((db : Trees) → More db → Asks db) → Receives came r old new Asks → Receives came r old new More
   received r Asks More gives c =
-      asked_as came.n (advanced r came.n) came.site.now r old new Asks More (AnswersTo came.site.now came.caller.now came.item.now r) (Accepts came.site.now came.caller.now came.item.now) (λ db l more. gives db more) c
+      asked_as came.n (advanced r came.n) came.site.now r old new Asks More (AnswersWith came.site.now came.caller.now came.instance.now came.cell.now r) (AcceptsOne came.site.now came.caller.now came.instance.now) (λ db l more. gives db more) c
 
   -- a call with one answer
   pub received_as : (answer : Arrived) (r : Result Arrived LedgerFault) (Asks More : Trees → Type 0) → ((db : Trees) → IsLedgerOf came.n came.site.now db → More db → Asks db) → ReceivesAs answer came r old new Asks
       → Receives came r old new More
   received_as answer r Asks More gives c =
-      called_as came.n (advanced r came.n) came.site.now r old new Asks More (AnswersTo came.site.now came.caller.now came.item.now r)
-      (λ base db. Arrives (site_routing came.site.now) came.caller.now (instance_of came.item.now) (book_of base) (Ok answer) (book_of db)) (Accepts came.site.now came.caller.now came.item.now) gives (λ base db is. (answer, is)) c
+      called_as came.n (advanced r came.n) came.site.now r old new Asks More (AnswersWith came.site.now came.caller.now came.instance.now came.cell.now r)
+      (λ base db. Arrives (site_routing came.site.now) came.caller.now came.instance.now (book_of base) (Ok answer) (book_of db)) (AcceptsOne came.site.now came.caller.now came.instance.now) gives (λ base db is. (answer, is)) c
 
 -- where nothing is done
-pub not_received : (came : Delivery) (e : LedgerFault) (s : State) (Asks : Trees → Type 0) → ((db : Trees) → Asks db → AnswersTo came.site.now came.caller.now came.item.now (Err e) db db)
+pub not_received : (came : Delivery) (e : LedgerFault) (s : State) (Asks : Trees → Type 0) → ((db : Trees) → Asks db → AnswersWith came.site.now came.caller.now came.instance.now came.cell.now (Err e) db db)
     → ((P : Type 0) → P → IsLastingFault e P) → Receives came (Err e) s s Asks
 not_received came e s Asks answers lasts =
-    still_called {A = Arrived} came.n came.site.now (Err e) s Asks (AnswersTo came.site.now came.caller.now came.item.now (Err e)) (Accepts came.site.now came.caller.now came.item.now) answers lasts
+    still_called {A = Arrived} came.n came.site.now (Err e) s Asks (AnswersWith came.site.now came.caller.now came.instance.now came.cell.now (Err e)) (AcceptsOne came.site.now came.caller.now came.instance.now) answers lasts
 
 -- where there is no memory
 pub no_memory : (came : Delivery) (s : State) (Asks : Trees → Type 0) → IsDelivered came → Receives came (Err fault.Memory) s s Asks
-no_memory came s Asks is = not_received came fault.Memory s Asks (λ db asks. refused came.site.now came.caller.now came.item.now fault.Memory is.line (inr refl) db) (λ P h. tt)
+no_memory came s Asks is = not_received came fault.Memory s Asks (λ db asks. refused came.site.now came.caller.now came.instance.now came.cell.now fault.Memory is.line (inr refl) db) (λ P h. tt)

@@ -7,12 +7,10 @@ use Rattle.std.specs.FinSet as set
 use Rattle.sqlite.specs.Tree.{Trees}
 use Rattle.dr_base.specs.Texts.{Text}
 use Rattle.dr_site.specs.Parts.{Part}
-use Rattle.dr_ledger.specs.declared.content.Job.{Job}
 use Rattle.dr_ledger.specs.declared.item.Arrived.{Arrived}
 use Rattle.dr_ledger.specs.declared.item.Instance.{Instance}
 use Rattle.dr_ledger.specs.declared.item.Progress.{Progress}
 use Rattle.dr_ledger.specs.Books.{Arrival, Book, after}
-use Rattle.dr_ledger.specs.Items.{instance_of}
 use Rattle.dr_ledger.specs.Pairs.{pair_cmp}
 use Rattle.dr_ledger.specs.Replies.{Arrives, HasConflict}
 use Rattle.dr_ledger.specs.SiteRoutes.{site_routing}
@@ -33,10 +31,10 @@ pub record IsThere (db : Trees) (item : Instance) (whole : Bool) : Type 0 where
   pub body : map.contains_key (bodies_of db) item.uid ≡ whole
 
 -- what the tables have of the item's uid: nothing, another instance, or this one
-abbrev pub IsKnown : Trees → Instance → Known → Type 0
-IsKnown db item known.No = HasNeither item.uid db
-IsKnown db item known.Other = HasConflict (book_of db) item
-IsKnown db item (known.Same whole) = IsThere db item whole
+abbrev pub IsWhatIsKnown : Trees → Instance → Known → Type 0
+IsWhatIsKnown db item known.No = HasNeither item.uid db
+IsWhatIsKnown db item known.Other = HasConflict (book_of db) item
+IsWhatIsKnown db item (known.Same whole) = IsThere db item whole
 
 -- a destination with this row is one of those that are looked for: those for which the row was
 -- dropped, or else those to which there is none
@@ -48,14 +46,14 @@ is_chosen false row = not (is_some row)
 abbrev pub chosen : Bool → FinMap pair_cmp Progress → Text → List Text → List Text
 chosen dropped rows uid to = filter (λ dest. is_chosen dropped (map.get rows (uid, dest))) to
 
--- A first arrival, of an item that is taken so, fits the tables: `again` are the destinations for
--- which its row was dropped, `dests` those to which it has none, and it is to be kept from now on
--- just if it wasn't.
-pub record FitsTables (how : Taking) (caller : Text) (item : Job) (to : List Text) (keep : Bool)
-    (again dests : List Text) (keeps : Bool) (db : Trees) : Type 0 where
+-- A first arrival, of an instance that is taken so, fits the tables: `again` are the destinations
+-- for which its row was dropped, `dests` those to which it has none, and it is to be kept from now
+-- on just if it wasn't.
+pub record FitsTables (how : Taking) (caller : Text) (item : Instance) (to : List Text)
+    (keep : Bool) (again dests : List Text) (keeps : Bool) (db : Trees) : Type 0 where
   pub asks : AsksToTake how item.uid db
-  pub known : IsKnownFor how (instance_of item) (map.get (items_of db) item.uid)
-  pub comes : ComesWhereNeeded how (after (Arrival caller (instance_of item) to keep) (book_of db))
+  pub known : IsKnownFor how item (map.get (items_of db) item.uid)
+  pub comes : ComesWhereNeeded how (after (Arrival caller item to keep) (book_of db))
       (bodies_of db) item.uid
   pub again_are : again ≡ given_up (rows_of db) item.uid to
   pub missing_are : dests ≡ missing (rows_of db) item.uid to

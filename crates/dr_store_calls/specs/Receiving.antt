@@ -1,5 +1,6 @@
 -- What is brought to a site, and what is said of the calls that take it.
-use Rattle.std.specs.Prelude.{◌≡◌, Bool, Result, Ok}
+use Rattle.std.specs.Prelude.{◌≡◌, ◌⊎◌, ℕ, Bool, List, Some, Result, Ok}
+use Rattle.std.specs.FinMap as map
 use Rattle.std.specs.FinSet as set
 use Rattle.sqlite.specs.State.{State}
 use Rattle.sqlite.specs.Tree.{Trees}
@@ -10,7 +11,8 @@ use Rattle.dr_site.specs.Routing.{HasLineFor}
 use Rattle.dr_ledger.specs.declared.content.Job.{Job}
 use Rattle.dr_ledger.specs.declared.fault.LedgerFault.{LedgerFault}
 use Rattle.dr_ledger.specs.declared.item.Arrived.{Arrived}
-use Rattle.dr_ledger.specs.Bodies.{OnlyTakes}
+use Rattle.dr_ledger.specs.declared.item.Instance.{Instance}
+use Rattle.dr_ledger.specs.Bodies.{Bodies, OnlyTakes}
 use Rattle.dr_ledger.specs.Items.{IsItem, instance_of}
 use Rattle.dr_ledger.specs.Replies.{Arrives}
 use Rattle.dr_ledger.specs.SiteRoutes.{site_routing}
@@ -23,26 +25,37 @@ use Rattle.dr_store_calls.specs.Knowing.{IsAccepted, IsThere}
 
 -- ---- what is brought
 
--- an item, for whose key the site has a line of that caller, and the same as the instance that it
--- is
+-- the cell of a data set: its own bytes
+abbrev pub IsCellOf : List ℕ → List ℕ → Type 0
+IsCellOf cell body = body ≡ cell
+
+-- the cell is that of an item's data set, and the item is this instance
+abbrev pub StandsFor : List ℕ → Instance → Type 0
+StandsFor cell instance =
+    (item : Job) × IsItem item × IsCellOf cell item.body × (instance ≡ instance_of item)
+
+-- an instance, for whose key the site has a line of that caller, and a cell that stands for its
+-- data set
 pub record IsDelivered (came : Delivery) : Type 0 where
-  pub line : HasLineFor came.site.now came.caller.now came.item.now.key
-  pub instance : came.instance.now ≡ instance_of came.item.now
-  pub is_item : IsItem came.item.now
+  pub line : HasLineFor came.site.now came.caller.now came.instance.now.key
+  pub stands : StandsFor came.cell.now came.instance.now
 
 -- what the site does with its key
 pub record AreTargetsOf (came : Delivery) (targets : Targets) : Type 0 where
-  pub to : targets.to ≡ (site_routing came.site.now).targets came.caller.now came.item.now.key
-  pub keep : targets.keep ≡ (site_routing came.site.now).keeps came.caller.now came.item.now.key
+  pub to : targets.to
+      ≡ (site_routing came.site.now).targets came.caller.now came.instance.now.key
+  pub keep : targets.keep
+      ≡ (site_routing came.site.now).keeps came.caller.now came.instance.now.key
   pub formed : AreTargets targets.to
 
 -- ---- what the tables have of it
 
--- the item is there, whether or not with its data set, and whether or not the caller has brought it
+-- the instance is there, whether or not with its data set, and whether or not the caller has
+-- brought it
 abbrev pub IsThereFor : Delivery → Bool → Bool → Trees → Type 0
 IsThereFor came whole brought db =
-    IsThere db (instance_of came.item.now) whole
-    × (set.contains (arrivals_in (db 5)) (came.caller.now, came.item.now.uid) ≡ brought)
+    IsThere db came.instance.now whole
+    × (set.contains (arrivals_in (db 5)) (came.caller.now, came.instance.now.uid) ≡ brought)
 
 -- the destinations for which it waits after a first arrival, and whether it is kept already
 pub record IsFoundFor (uid : Text) (db : Trees) (first : FirstArrival) : Type 0 where
@@ -59,23 +72,42 @@ AnswersTo part caller item result base db =
     × OnlyTakes item (bodies_of base) (bodies_of db)
 
 -- the book after an arrival that was accepted
-abbrev pub Accepts : Part → Text → Job → Trees → Trees → Type 0
-Accepts part caller item base db =
+abbrev pub AcceptsItem : Part → Text → Job → Trees → Trees → Type 0
+AcceptsItem part caller item base db =
     IsAccepted part caller (instance_of item) (book_of base) (book_of db)
+
+-- each cell that is there after a call was there before, or is this one, under this uid
+abbrev pub TakesOnly : Text → List ℕ → Bodies → Bodies → Type 0
+TakesOnly uid cell old new =
+    (other : Text) (there : List ℕ)
+    → map.get new other ≡ Some there
+    → (map.get old other ≡ Some there) ⊎ ((other ≡ uid) × (there ≡ cell))
+
+-- book and cells after an arrival with this answer of an instance with this cell
+abbrev pub AnswersWith : Part → Text → Instance → List ℕ → Result Arrived LedgerFault
+    → Trees → Trees → Type 0
+AnswersWith part caller instance cell result base db =
+    Arrives (site_routing part) caller instance (book_of base) result (book_of db)
+    × TakesOnly instance.uid cell (bodies_of base) (bodies_of db)
+
+-- the book after an arrival of the instance that was accepted
+abbrev pub AcceptsOne : Part → Text → Instance → Trees → Trees → Type 0
+AcceptsOne part caller instance base db =
+    IsAccepted part caller instance (book_of base) (book_of db)
 
 -- a call that takes what is brought, where the tables are as it asks
 abbrev pub Receives : Delivery → Result Arrived LedgerFault → State → State
     → (Trees → Type 0) → Type 0
 Receives came result old new Asks =
     Called came.n (advanced result came.n) came.site.now result old new Asks
-    (AnswersTo came.site.now came.caller.now came.item.now result)
-    (Accepts came.site.now came.caller.now came.item.now)
+    (AnswersWith came.site.now came.caller.now came.instance.now came.cell.now result)
+    (AcceptsOne came.site.now came.caller.now came.instance.now)
 
 -- the same, where what is accepted has this one answer
 abbrev pub ReceivesAs : Arrived → Delivery → Result Arrived LedgerFault → State → State
     → (Trees → Type 0) → Type 0
 ReceivesAs answer came result old new Asks =
     Called came.n (advanced result came.n) came.site.now result old new Asks
-    (AnswersTo came.site.now came.caller.now came.item.now result)
-    (λ base db. Arrives (site_routing came.site.now) came.caller.now
-    (instance_of came.item.now) (book_of base) (Ok answer) (book_of db))
+    (AnswersWith came.site.now came.caller.now came.instance.now came.cell.now result)
+    (λ base db. Arrives (site_routing came.site.now) came.caller.now came.instance.now
+    (book_of base) (Ok answer) (book_of db))

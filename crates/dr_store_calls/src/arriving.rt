@@ -78,7 +78,7 @@ fn bring<'x, S: Alter>(
     requires names { names.now ≡ names_for targets.now.keep targets.now.to }
     ensures called { ReceivesAs Arrived.New came.now result (state S.Store conn.old)
         (state S.Store conn.new)
-        (FitsTables taking came.now.caller.now came.now.item.now targets.now.to targets.now.keep
+        (FitsTables taking came.now.caller.now came.now.instance.now targets.now.to targets.now.keep
         queued.now.again.now queued.now.dests.now keeps) }
     ensures number { OnOk result (came.now.n ≤ 2 ^ 62) }
     ensures idle { conn.new.in_transaction ≡ false }
@@ -88,7 +88,7 @@ fn bring<'x, S: Alter>(
     let change = Arriving {
         caller: came.caller,
         item: came.instance,
-        body: came.item.body.as_bytes(),
+        body: came.cell,
         taking,
         again,
         dests,
@@ -116,7 +116,7 @@ pub fn bring_item<'x, S: Alter>(
     requires targets { AreTargetsOf came.now targets.now }
     ensures called { ReceivesAs Arrived.New came.now result (state S.Store conn.old)
         (state S.Store conn.new)
-        (FitsTables taking came.now.caller.now came.now.item.now targets.now.to targets.now.keep
+        (FitsTables taking came.now.caller.now came.now.instance.now targets.now.to targets.now.keep
         queued.now.again.now queued.now.dests.now keeps) }
     ensures number { OnOk result (came.now.n ≤ 2 ^ 62) }
     ensures idle { conn.new.in_transaction ≡ false }
@@ -149,7 +149,7 @@ pub fn bring_new<'x, S: Alter>(
     requires delivered { IsDelivered came.now }
     requires targets { AreTargetsOf came.now targets.now }
     ensures called { ReceivesAs Arrived.New came.now result (state S.Store conn.old)
-        (state S.Store conn.new) (HasNeither came.now.item.now.uid) }
+        (state S.Store conn.new) (HasNeither came.now.instance.now.uid) }
     ensures number { OnOk result (came.now.n ≤ 2 ^ 62) }
     ensures idle { conn.new.in_transaction ≡ false }
 {

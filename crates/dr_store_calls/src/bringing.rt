@@ -1,6 +1,6 @@
 //! What a site is brought, and the destinations for which it waits there.
 use dr_base::{Seq, Text};
-use dr_ledger::{Instance, Job};
+use dr_ledger::Instance;
 use dr_route::Targets;
 use dr_site::Site;
 
@@ -13,10 +13,10 @@ pub struct Delivery<'x> {
     pub n: u64,
     /// Who brings it, `-` for what enters at the node itself.
     pub caller: &'x Text,
-    /// What it is, with its data set.
-    pub item: &'x Job,
-    /// The same, as the instance that it is.
+    /// What it is.
     pub instance: &'x Instance,
+    /// What stands for its data set in the tables.
+    pub cell: &'x [u8],
 }
 
 /// The destinations for which a first arrival makes an instance wait.

@@ -7,7 +7,7 @@ ghost use Rattle.dr_site.specs.Parts.{Part};
 ghost use Rattle.dr_ledger.specs.Replies.{Reads};
 ghost use Rattle.dr_store_reads.specs.Queries.{IsKeyOf, IsPrintOf};
 ghost use Rattle.dr_store_calls.specs.Calling.{Looked};
-ghost use Rattle.dr_store_calls.specs.Knowing.{IsKnown};
+ghost use Rattle.dr_store_calls.specs.Knowing.{IsWhatIsKnown};
 
 use dr_ledger::{Instance, LedgerFault};
 use dr_route::Key;
@@ -45,7 +45,7 @@ fn with_key(item: &Instance, key: &Key, print: Option<Print>) -> Result<Known, L
     ensures { Reads result (λ known. (db : Trees)
         → IsKeyOf item.now.uid db (Some key.now)
         → IsPrintOf item.now.uid db print
-        → IsKnown db item.now known) }
+        → IsWhatIsKnown db item.now known) }
 {
     match print {
         Some(print) => {
@@ -63,7 +63,7 @@ fn without_key(print: Option<Print>) -> Result<Known, LedgerFault>
     ensures { Reads result (λ known. (item : Instance) (db : Trees)
         → IsKeyOf item.uid db None
         → IsPrintOf item.uid db print
-        → IsKnown db item known) }
+        → IsWhatIsKnown db item known) }
 {
     match print {
         Some(_) => Err(LedgerFault::Store),
@@ -76,7 +76,7 @@ fn compare(item: &Instance, key: Option<Key>, print: Option<Print>) -> Result<Kn
     ensures { Reads result (λ known. (db : Trees)
         → IsKeyOf item.now.uid db key
         → IsPrintOf item.now.uid db print
-        → IsKnown db item.now known) }
+        → IsWhatIsKnown db item.now known) }
 {
     match key {
         Some(key) => with_key(item, &key, print),
@@ -92,7 +92,7 @@ fn known_by<S: Alter>(
 ) -> Result<Known, LedgerFault>
     ensures looked { (n : ℕ) (part : Part)
         → Looked n part result (state S.Store conn.old) (state S.Store conn.new)
-        (λ base known. IsKeyOf item.now.uid base key → IsKnown base item.now known) }
+        (λ base known. IsKeyOf item.now.uid base key → IsWhatIsKnown base item.now known) }
     ensures idle { conn.old.in_transaction ≡ false → conn.new.in_transaction ≡ false }
 {
     match find_print(conn, &item.uid) {
@@ -109,7 +109,7 @@ pub fn know<S: Alter>(
 ) -> Result<Known, LedgerFault>
     ensures looked { (n : ℕ) (part : Part)
         → Looked n part result (state S.Store conn.old) (state S.Store conn.new)
-        (λ base known. IsKnown base item.now known) }
+        (λ base known. IsWhatIsKnown base item.now known) }
     ensures idle { conn.old.in_transaction ≡ false → conn.new.in_transaction ≡ false }
 {
     match find_key(conn, alloc, &item.uid) {

@@ -1,7 +1,7 @@
 //! The change of the plan in force.
 ghost use Rattle.std.specs.Prelude.{◌≡◌, ◌≤◌, ◌^◌};
 ghost use Rattle.sqlite.specs.Held.{state};
-ghost use Rattle.dr_store_writes.specs.Effects.{GoesOn, HasSite, Step};
+ghost use Rattle.dr_store_writes.specs.Effects.{GoesOn, HasSite, StatementStep};
 ghost use Rattle.dr_store_calls.specs.Adoptions.{Clears, NotesPlan};
 
 use dr_store_changes::TableChange;
@@ -11,7 +11,8 @@ use sqlite::{Alter, Error, Transaction};
 /// Lets arrivals go, and the rows that are over.
 fn clear<S: Alter>(tx: &mut Transaction<'_, S>) -> Result<(), Error>
     ensures same_reference { tx.new.conn.ghost_name ≡ tx.old.conn.ghost_name }
-    ensures step { Step result (state S.Store tx.old.conn.now) (state S.Store tx.new.conn.now)
+    ensures step { StatementStep result (state S.Store tx.old.conn.now)
+        (state S.Store tx.new.conn.now)
         (Unit {0}
         → GoesOn (state S.Store tx.old.conn.now) (state S.Store tx.new.conn.now)
         × Clears (state S.Store tx.old.conn.now).now.trees
@@ -26,7 +27,8 @@ fn clear<S: Alter>(tx: &mut Transaction<'_, S>) -> Result<(), Error>
 fn note_plan<'x, S: Alter>(tx: &mut Transaction<'_, S>, n: u64, plan: &'x [u8]) -> Result<(), Error>
     requires { n ≤ 2 ^ 62 }
     ensures same_reference { tx.new.conn.ghost_name ≡ tx.old.conn.ghost_name }
-    ensures step { Step result (state S.Store tx.old.conn.now) (state S.Store tx.new.conn.now)
+    ensures step { StatementStep result (state S.Store tx.old.conn.now)
+        (state S.Store tx.new.conn.now)
         (HasSite (state S.Store tx.old.conn.now).now.trees
         → GoesOn (state S.Store tx.old.conn.now) (state S.Store tx.new.conn.now)
         × NotesPlan plan.now n (state S.Store tx.old.conn.now).now.trees

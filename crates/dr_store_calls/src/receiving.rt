@@ -2,14 +2,14 @@
 ghost use Rattle.std.specs.Prelude.{◌≡◌, ◌≤◌, ◌==◌, ◌^◌, ◌++◌, ◌∷◌, [], ◌&&◌, cond, length, not};
 ghost use Rattle.std.specs.Prelude.{IfOk, OnOk, ℕ, false};
 ghost use Rattle.sqlite.specs.Held.{state};
-ghost use Rattle.dr_ledger.specs.Items.{instance_of};
 ghost use Rattle.dr_ledger.specs.Replies.{Reads};
 ghost use Rattle.dr_site.specs.Parts.{Part};
 ghost use Rattle.dr_store_schema.specs.Books.{rows_of};
 ghost use Rattle.dr_store_changes.specs.Changes.{HasNeither};
 ghost use Rattle.dr_store_calls.specs.Calling.{Called, Looked, Nothing, advanced};
-ghost use Rattle.dr_store_calls.specs.Knowing.{IsKnown, IsThere, chosen, is_chosen, taking_there};
-ghost use Rattle.dr_store_calls.specs.Receiving.{Accepts, AnswersTo, AreTargetsOf, IsDelivered};
+ghost use Rattle.dr_store_calls.specs.Knowing.{IsWhatIsKnown, IsThere, chosen, is_chosen};
+ghost use Rattle.dr_store_calls.specs.Knowing.{taking_there};
+ghost use Rattle.dr_store_calls.specs.Receiving.{AcceptsItem, AnswersTo, AreTargetsOf, IsDelivered};
 ghost use Rattle.dr_store_calls.specs.Receiving.{IsFoundFor, IsThereFor, Receives};
 
 use crate::arriving::{bring_item, bring_new, repeat};
@@ -30,7 +30,7 @@ fn targets_of(alloc: Global, came: &Delivery<'_>) -> Result<Targets, AllocError>
 {
     // What a site accepts tells that it is one; so it sends nothing to the local caller.
     let _accepts = came.site.accepts();
-    match came.site.targets(alloc, came.caller, &came.item.key) {
+    match came.site.targets(alloc, came.caller, &came.instance.key) {
         Ok(targets) => Ok(targets),
         Err(error) => Err(error),
     }
@@ -141,13 +141,13 @@ fn find_first<'x, S: Alter>(
     ensures targets { IfOk result (λ first. AreTargetsOf came.now first.targets) }
     ensures looked { (n : ℕ) (part : Part)
         → Looked n part result (state S.Store conn.old) (state S.Store conn.new)
-        (IsFoundFor came.now.item.now.uid) }
+        (IsFoundFor came.now.instance.now.uid) }
     ensures idle { conn.old.in_transaction ≡ false → conn.new.in_transaction ≡ false }
 {
     let Ok(targets) = targets_of(alloc, came) else {
         return Err(LedgerFault::Memory);
     };
-    let uid = &came.item.uid;
+    let uid = &came.instance.uid;
     let dests = chosen_from(conn, alloc, uid, targets.to.as_slice(), false)?;
     let again = chosen_from(conn, alloc, uid, targets.to.as_slice(), true)?;
     let kept = find_kept(conn, uid)?;
@@ -173,7 +173,7 @@ fn bring_there<'x, S: Alter>(
     requires targets { AreTargetsOf came.now first.now.targets }
     ensures called { Receives came.now result (state S.Store conn.old) (state S.Store conn.new)
         (λ base. IsThereFor came.now whole false base
-        × IsFoundFor came.now.item.now.uid base first.now) }
+        × IsFoundFor came.now.instance.now.uid base first.now) }
     ensures number { OnOk result (came.now.n ≤ 2 ^ 62) }
     ensures idle { conn.new.in_transaction ≡ false }
 {
@@ -218,11 +218,11 @@ fn arrive_there<'x, S: Alter>(
     requires idle { conn.old.in_transaction ≡ false }
     requires delivered { IsDelivered came.now }
     ensures called { Receives came.now result (state S.Store conn.old) (state S.Store conn.new)
-        (λ base. IsThere base (instance_of came.now.item.now) whole) }
+        (λ base. IsThere base came.now.instance.now whole) }
     ensures number { OnOk result (came.now.n ≤ 2 ^ 62) }
     ensures idle { conn.new.in_transaction ≡ false }
 {
-    match find_arrival(conn, came.caller, &came.item.uid) {
+    match find_arrival(conn, came.caller, &came.instance.uid) {
         Ok(brought) => {
             if brought {
                 return repeat(conn, came, whole);
@@ -242,7 +242,7 @@ fn arrive_new<'x, S: Alter>(
     requires idle { conn.old.in_transaction ≡ false }
     requires delivered { IsDelivered came.now }
     ensures called { Receives came.now result (state S.Store conn.old) (state S.Store conn.new)
-        (HasNeither came.now.item.now.uid) }
+        (HasNeither came.now.instance.now.uid) }
     ensures number { OnOk result (came.now.n ≤ 2 ^ 62) }
     ensures idle { conn.new.in_transaction ≡ false }
 {
@@ -262,7 +262,7 @@ fn arrive_by<'x, S: Alter>(
     requires idle { conn.old.in_transaction ≡ false }
     requires delivered { IsDelivered came.now }
     ensures called { Receives came.now result (state S.Store conn.old) (state S.Store conn.new)
-        (λ base. IsKnown base (instance_of came.now.item.now) known) }
+        (λ base. IsWhatIsKnown base came.now.instance.now known) }
     ensures number { OnOk result (came.now.n ≤ 2 ^ 62) }
     ensures idle { conn.new.in_transaction ≡ false }
 {
@@ -310,7 +310,7 @@ pub fn arrive<'x, S: Alter>(
     requires idle { conn.old.in_transaction ≡ false }
     ensures called { Called n (advanced result n) site.now result (state S.Store conn.old)
         (state S.Store conn.new) Nothing (AnswersTo site.now caller.now item result)
-        (Accepts site.now caller.now item) }
+        (AcceptsItem site.now caller.now item) }
     ensures number { OnOk result (n ≤ 2 ^ 62) }
     ensures idle { conn.new.in_transaction ≡ false }
 {
@@ -319,13 +319,14 @@ pub fn arrive<'x, S: Alter>(
     }
     match item.instance() {
         Ok(instance) => {
+            // In the tables its data set's own bytes stand for it.
             let job = item.into_job();
             let came = Delivery {
                 site,
                 n,
                 caller,
-                item: &job,
                 instance: &instance,
+                cell: job.body.as_bytes(),
             };
             receive(conn, alloc, &came)
         }

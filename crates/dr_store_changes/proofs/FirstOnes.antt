@@ -16,7 +16,7 @@ use Rattle.dr_ledger.specs.Bodies.{Bodies}
 use Rattle.dr_ledger.specs.Books.{with_rows}
 use Rattle.dr_ledger.specs.Pairs.{Pair}
 use Rattle.dr_store_schema.specs.Books.{all_kept_in, arrivals_in, bodies_by, bodies_of, contents_in, is_whole, items_in, names_in, prints_in, rows_in, wholes_in}
-use Rattle.dr_store_writes.specs.Effects.{AddsRow, GoesOn, Step, arrived_line}
+use Rattle.dr_store_writes.specs.Effects.{AddsRow, GoesOn, StatementStep, arrived_line}
 use Rattle.dr_store_writes.proofs.Maps.{equal}
 use Rattle.dr_store_changes.specs.declared.first.Taking.{Taking}
 use Rattle.dr_store_changes.specs.declared.first.Taking.TheVariants as taking
@@ -30,7 +30,7 @@ use Rattle.dr_store_changes.proofs.NewRows.{still}
 use Rattle.dr_store_changes.proofs.Steps.{one_then}
 
 -- nothing is done
-pub step_still : (s : State) (Made : Type 0) → (GoesOn s s → Made) → Step {A = Unit {0}} {E = Error} (Ok tt) s s Made
+pub step_still : (s : State) (Made : Type 0) → (GoesOn s s → Made) → StatementStep {A = Unit {0}} {E = Error} (Ok tt) s s Made
 step_still s Made f = record {
   ok = λ clean inside is_open has. f (record { ledger = has; mode = inside; committed = refl; is_open = is_open });
   kept = λ clean. record { was_open = λ h. h; committed = λ h. refl };
@@ -38,8 +38,8 @@ step_still s Made f = record {
 }
 
 -- one change, and then another that asks for nothing
-pub step_then : {A B : Type 0} (old mid new : State) (x : A) (r : Result B Error) (P : Type 0) (One Other : Trees → Trees → Type 0) → Step {E = Error} (Ok x) old mid (P → GoesOn old mid × One old.now.trees mid.now.trees)
-    → Step r mid new (Unit {0} → GoesOn mid new × Other mid.now.trees new.now.trees) → Step r old new (P → GoesOn old new × Then One Other old.now.trees new.now.trees)
+pub step_then : {A B : Type 0} (old mid new : State) (x : A) (r : Result B Error) (P : Type 0) (One Other : Trees → Trees → Type 0) → StatementStep {E = Error} (Ok x) old mid (P → GoesOn old mid × One old.now.trees mid.now.trees)
+    → StatementStep r mid new (Unit {0} → GoesOn mid new × Other mid.now.trees new.now.trees) → StatementStep r old new (P → GoesOn old new × Then One Other old.now.trees new.now.trees)
 step_then old mid new x r P One Other one two =
     one_then old mid new x r P (GoesOn old mid × One old.now.trees mid.now.trees) (Unit {0}) (GoesOn mid new × Other mid.now.trees new.now.trees) (GoesOn old new × Then One Other old.now.trees new.now.trees)
     one two (λ p m. (m.0, tt)) (λ p m n. (goes_over old mid new m.0 n.0, (mid.now.trees, m.1, n.1)))

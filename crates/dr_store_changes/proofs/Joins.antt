@@ -29,7 +29,7 @@ use Rattle.dr_ledger.specs.Items.{IsItem, instance_of}
 use Rattle.dr_ledger.proofs.Growing.{inside, kept_from, still_kept}
 use Rattle.dr_ledger.proofs.Maps.{filled_is, filled_keeps, get_new, get_other, same_or_not, texts, ties_itself}
 use Rattle.dr_ledger.proofs.PlanRouting.{any_from, one_list, or_right}
-use Rattle.dr_store_schema.specs.Books.{AreBelow, Names, all_kept_in, arrivals_in, bodies_of, book_of, instance_in, items_of, line_by, line_in, lines_in, lines_of, names_in, numbered_line, rows_of}
+use Rattle.dr_store_schema.specs.Books.{AreBelow, NameSet, all_kept_in, arrivals_in, bodies_of, book_of, instance_in, items_of, line_by, line_in, lines_in, lines_of, names_in, numbered_line, rows_of}
 use Rattle.dr_store_schema.specs.Cells.{number_in, outcome_in, text_in}
 use Rattle.dr_store_writes.specs.Effects.{arrived_line}
 use Rattle.dr_store_writes.proofs.Maps.{equal}
@@ -82,7 +82,7 @@ any_here q (x ∷ xs) h = elim (Contains-cons_cases x xs q h) [
   | inr later ↦ or_right (eq_by_cmp text_cmp q x) (list_any (eq_by_cmp text_cmp q) xs) (any_here q xs later)
 ]
 
-keys_hold : (m : Names) (q : Text) → Contains (map.keys m) q ↔ (map.contains_key m q ≡ true)
+keys_hold : (m : NameSet) (q : Text) → Contains (map.keys m) q ↔ (map.contains_key m q ≡ true)
 keys_hold m q = (λ h. map.contains_key-keys m q ∙ any_here q (map.keys m) h, λ h. in_list q (map.keys m) (sym (map.contains_key-keys m q) ∙ h))
 
 less : (r : Ordering) → T (is_lt r) → r ≡ Less
@@ -107,7 +107,7 @@ unfolding IsStrictlySortedBy
 sorted_keys [] h = tt
 sorted_keys (e ∷ es) h = (keys_below e.0 es (t_first _ _ h), sorted_keys es (t_second _ _ h))
 
-names_got : (more : List Text) (names : Names) (q : Text) → map.get (with_names names more) q ≡ cond (list_any (eq_by_cmp text_cmp q) more) (Some tt) (map.get names q)
+names_got : (more : List Text) (names : NameSet) (q : Text) → map.get (with_names names more) q ≡ cond (list_any (eq_by_cmp text_cmp q) more) (Some tt) (map.get names q)
 names_got [] names q = refl
 names_got (x ∷ more) names q =
     names_got more (map.insert names x tt) q ∙ ap (λ got. cond (list_any (eq_by_cmp text_cmp q) more) (Some tt) got) (map.get-insert nat_list_cmp_total names x tt q)
@@ -119,11 +119,11 @@ names_got (x ∷ more) names q =
     go false true = refl
     go false false = refl
 
-no_names : Names
+no_names : NameSet
 no_names = map.empty
 
 module _ (keep : Bool) (to : List Text) (names : AreTargets to) where
-  abbrev all : Names
+  abbrev all : NameSet
   all = with_names map.empty (names_for keep to)
 
   among : (k : Bool) (q : Text) → list_any (eq_by_cmp text_cmp q) (names_for k to) ≡ ((k && eq_by_cmp text_cmp q local) || list_any (eq_by_cmp text_cmp q) to)
@@ -210,11 +210,11 @@ arrivals_arrive how old new n caller item body to keep below ahead known names w
     let others : (m : ℕ) → (n == m) ≡ false → names_in (new 12) m ≡ names_in (old 12) m = λ m is. w.targets m ∙ ap (λ b. cond b (with_names (names_in (old 12) m) (names_for keep to)) (names_in (old 12) m)) is in
     let its : names_in (new 12) n ≡ with_names map.empty (names_for keep to) =
     w.targets n ∙ ap (λ b. cond b (with_names (names_in (old 12) n) (names_for keep to)) (names_in (old 12) n)) (same_number n)
-    ∙ ap (λ (s : Names). with_names s (names_for keep to)) (ahead n (omega arith)) in
+    ∙ ap (λ (s : NameSet). with_names s (names_for keep to)) (ahead n (omega arith)) in
     let lines : lines_of new ≡ lines_of old ++ Arrival caller item to keep ∷ [] =
     ap (λ rows. lines_in (new 12) rows) w.journal ∙ lines_put (new 12) n _ (old 11) below
     ∙ (λ i. lines_same (old 12) (new 12) n others (old 11) below i
-    ++ Arrival caller (came item n 0 caller i) ((ap (λ (s : Names). map.keys (map.remove s local)) its ∙ its_targets keep to names) i) ((ap (λ (s : Names). map.contains_key s local) its ∙ it_keeps keep to names) i) ∷ []) in
+    ++ Arrival caller (came item n 0 caller i) ((ap (λ (s : NameSet). map.keys (map.remove s local)) its ∙ its_targets keep to names) i) ((ap (λ (s : NameSet). map.contains_key s local) its ∙ it_keeps keep to names) i) ∷ []) in
     λ i. record {
       items = (w.items ∙ taken_is how (items_of old) item known) i;
       arrivals = w.arrivals i;

@@ -18,7 +18,7 @@ use Rattle.dr_ledger.specs.declared.item.Progress.TheVariants.{Waiting}
 use Rattle.dr_ledger.specs.Books.{arrived_row, with_rows}
 use Rattle.dr_ledger.specs.Pairs.{Pair, pair_cmp}
 use Rattle.dr_store_schema.specs.Books.{entry_in, rows_in, rows_of}
-use Rattle.dr_store_writes.specs.Effects.{AddsCells, CommitsNothing, GoesOn, HasRow, SetsRow, Step, new_cells}
+use Rattle.dr_store_writes.specs.Effects.{AddsCells, CommitsNothing, GoesOn, HasRow, SetsRow, StatementStep, new_cells}
 use Rattle.dr_store_writes.proofs.Keys.{pairs_total, pairs_exact, queue_apart}
 use Rattle.dr_store_writes.proofs.Maps.{equal, map_put, neither}
 use Rattle.dr_store_changes.specs.Changes.{AddsRows, HasRows, Renews, with_waiting}
@@ -79,7 +79,7 @@ still s = record {
 }
 
 -- before the first destination
-pub no_rows_yet : (uid : Text) (s : State) → Step {A = Unit {0}} {E = Error} (Ok tt) s s (Unit {0} → GoesOn s s × AddsRows uid [] s.now.trees s.now.trees)
+pub no_rows_yet : (uid : Text) (s : State) → StatementStep {A = Unit {0}} {E = Error} (Ok tt) s s (Unit {0} → GoesOn s s × AddsRows uid [] s.now.trees s.now.trees)
 no_rows_yet uid s = record {
   ok = λ clean inside is_open has any. (
     record { ledger = has; mode = inside; committed = refl; is_open = is_open },
@@ -133,7 +133,7 @@ row_still (d ∷ dests) rows uid at h =
     (subst IsSome (sym (map.get-insert pairs_total rows (uid, d) (Waiting 0 0) at)) (some_still (eq_by_cmp pair_cmp at (uid, d)) (map.get rows at) h))
 
 -- before the first destination
-pub no_rows_renewed : (uid : Text) (dests : List Text) (s : State) → Step {A = Unit {0}} {E = Error} (Ok tt) s s (HasRows uid dests s.now.trees → GoesOn s s × Renews uid [] s.now.trees s.now.trees)
+pub no_rows_renewed : (uid : Text) (dests : List Text) (s : State) → StatementStep {A = Unit {0}} {E = Error} (Ok tt) s s (HasRows uid dests s.now.trees → GoesOn s s × Renews uid [] s.now.trees s.now.trees)
 no_rows_renewed uid dests s = record {
   ok = λ clean inside is_open has any. (
     record { ledger = has; mode = inside; committed = refl; is_open = is_open },

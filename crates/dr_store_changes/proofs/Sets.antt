@@ -19,8 +19,8 @@ use Rattle.sqlite.specs.State.{State}
 use Rattle.sqlite.specs.Tree.{put_row, rowid}
 use Rattle.dr_base.specs.Texts.{Text, text_cmp}
 use Rattle.dr_ledger.specs.Pairs.{Pair}
-use Rattle.dr_store_schema.specs.Books.{Names, all_kept_in, arrival_in, arrivals_in, dest_in, is_of_line, kept_in, named_in, names_in}
-use Rattle.dr_store_writes.specs.Effects.{AddsCells, GoesOn, Step, arrival_cells, kept_cells, target_cells}
+use Rattle.dr_store_schema.specs.Books.{NameSet, all_kept_in, arrival_in, arrivals_in, dest_in, is_of_line, kept_in, named_in, names_in}
+use Rattle.dr_store_writes.specs.Effects.{AddsCells, GoesOn, StatementStep, arrival_cells, kept_cells, target_cells}
 use Rattle.dr_store_writes.proofs.Keys.{pairs_total, pairs_exact}
 use Rattle.dr_store_writes.proofs.Maps.{neither}
 use Rattle.dr_store_changes.specs.Changes.{AddsTargets, KeepsOne, NotesArrival, with_names}
@@ -139,20 +139,20 @@ name_put id n name rows m free = map.same_map nat_list_cmp_total exact_bytes _ _
         ∙ sym (map.get-insert nat_list_cmp_total (names_in rows m) name tt q)
     at q false = sym (names_have rows m q)
 
-with_one_name : (names : Names) (more : List Text) (name : Text) → with_names names (more ++ name ∷ []) ≡ map.insert (with_names names more) name tt
+with_one_name : (names : NameSet) (more : List Text) (name : Text) → with_names names (more ++ name ∷ []) ≡ map.insert (with_names names more) name tt
 with_one_name names [] name = refl
 with_one_name names (x ∷ more) name = with_one_name (map.insert names x tt) more name
 
-chosen : (b : Bool) (names more : Names) (name : Text) → cond b (map.insert (cond b more names) name tt) (cond b more names) ≡ cond b (map.insert more name tt) names
+chosen : (b : Bool) (names more : NameSet) (name : Text) → cond b (map.insert (cond b more names) name tt) (cond b more names) ≡ cond b (map.insert more name tt) names
 chosen true names more name = refl
 chosen false names more name = refl
 
-unchosen : (b : Bool) (names : Names) → names ≡ cond b names names
+unchosen : (b : Bool) (names : NameSet) → names ≡ cond b names names
 unchosen true names = refl
 unchosen false names = refl
 
 -- before the first name
-pub no_targets_yet : (n : ℕ) (s : State) → Step {A = Unit {0}} {E = Error} (Ok tt) s s (Unit {0} → GoesOn s s × AddsTargets n [] s.now.trees s.now.trees)
+pub no_targets_yet : (n : ℕ) (s : State) → StatementStep {A = Unit {0}} {E = Error} (Ok tt) s s (Unit {0} → GoesOn s s × AddsTargets n [] s.now.trees s.now.trees)
 no_targets_yet n s = record {
   ok = λ clean inside is_open has any. (
     record { ledger = has; mode = inside; committed = refl; is_open = is_open },

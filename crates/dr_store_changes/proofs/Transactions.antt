@@ -9,7 +9,7 @@ use Rattle.sqlite.proofs.InsideLemmas.{unchanged_keeps, keeps_then}
 use Rattle.sqlite.proofs.StateLemmas.{survives_then}
 use Rattle.dr_store_schema.specs.Books.{AreBelow}
 use Rattle.dr_store_schema.specs.Ledgers.{IsLedger}
-use Rattle.dr_store_writes.specs.Effects.{CommitsNothing, Step}
+use Rattle.dr_store_writes.specs.Effects.{CommitsNothing, StatementStep}
 use Rattle.dr_store_changes.proofs.Numbers.{below_next}
 use Rattle.dr_store_changes.specs.Writing.{IsMade, IsReady, Written}
 
@@ -74,7 +74,7 @@ begun_survives old new P s = record { clean = s.clean; shield = s.shield; counts
 
 -- where all statements were run, and the commit was tried
 pub all_run : {A : Type 0} (old mid new : State) (n : ℕ) (Asks : Trees → Type 0) (Makes : Trees → Trees → Type 0) (x : A) (r : Result (Unit {0}) Error)
-    → Step {E = Error} (Ok x) (record old { in_transaction = true }) mid (Asks old.now.trees → IsMade n Makes (record old { in_transaction = true }) mid)
+    → StatementStep {E = Error} (Ok x) (record old { in_transaction = true }) mid (Asks old.now.trees → IsMade n Makes (record old { in_transaction = true }) mid)
     → (HasCleanDisk new → OnOk r (IsTrue mid.in_transaction × Shows mid new mid.now mid.now false × KeepsCounts mid new × (new.marks ≡ [])))
     → (HasCleanDisk new → IfErr r (FailsToCommit mid new)) → Survives mid new (λ db. db ≡ mid.now.trees) → Written n Asks Makes r old new
 all_run old mid new n Asks Makes x r step ok err survives = record {
@@ -104,7 +104,7 @@ all_run old mid new n Asks Makes x r step ok err survives = record {
 
 -- where a statement failed, and the transaction was dropped
 pub one_failed : {A : Type 0} (old mid new : State) (n : ℕ) (Asks : Trees → Type 0) (Makes : Trees → Trees → Type 0) (x : Result A Error) (e : Error) (Made : Type 0)
-    → Step x (record old { in_transaction = true }) mid Made → (HasCleanDisk new → IsRolledBack mid new) → CommitsNothing mid new → Written {E = Error} n Asks Makes (Err e) old new
+    → StatementStep x (record old { in_transaction = true }) mid Made → (HasCleanDisk new → IsRolledBack mid new) → CommitsNothing mid new → Written {E = Error} n Asks Makes (Err e) old new
 one_failed old mid new n Asks Makes x e Made step undone survives = record {
   was_open = λ clean is_open. (keeps_then old mid new (keeps clean) (rolled_keeps mid new (undone clean))).was_open is_open;
   ok = λ clean ready asks. tt;

@@ -12,7 +12,7 @@ use Rattle.dr_ledger.specs.declared.item.Progress.{Progress}
 use Rattle.dr_ledger.specs.declared.item.Progress.TheVariants.{Waiting, Dropped}
 use Rattle.dr_ledger.specs.Books.{with_rows}
 use Rattle.dr_ledger.specs.Pairs.{Pair, pair_cmp}
-use Rattle.dr_store_schema.specs.Books.{Names, all_kept_in, arrivals_in, bodies_of, contents_in}
+use Rattle.dr_store_schema.specs.Books.{NameSet, all_kept_in, arrivals_in, bodies_of, contents_in}
 use Rattle.dr_store_schema.specs.Books.{items_of, names_in, rows_of, wholes_in}
 use Rattle.dr_store_writes.specs.Effects.{GoesOn, HasItem, HasPrint, HasRow, dropped_line}
 use Rattle.dr_store_writes.specs.Effects.{forgotten_line, is_of_other}
@@ -193,7 +193,7 @@ pub record KeepsOne (uid : Text) (old new : Trees) : Type 0 where
   pub targets : new 12 ≡ old 12
 
 -- the set with all of these
-abbrev pub with_names : Names → List Text → Names
+abbrev pub with_names : NameSet → List Text → NameSet
 with_names names [] = names
 with_names names (name ∷ more) = with_names (map.insert names name tt) more
 

@@ -1,7 +1,7 @@
 //! Instances that come.
 ghost use Rattle.std.specs.Prelude.{◌≡◌, ◌≤◌, ◌^◌};
 ghost use Rattle.sqlite.specs.Held.{state};
-ghost use Rattle.dr_store_writes.specs.Effects.{GoesOn, Step};
+ghost use Rattle.dr_store_writes.specs.Effects.{GoesOn, StatementStep};
 ghost use Rattle.dr_store_changes.specs.Changes.{AddsRows, AddsTargets, HasNeither, HasRows};
 ghost use Rattle.dr_store_changes.specs.Changes.{KeepsOne, NotesArrival, Renews, Stores};
 
@@ -26,7 +26,8 @@ pub fn store<'x, S: Alter>(
     requires size { item.now.size ≤ 2 ^ 62 }
     requires whole { whole ≤ 2 ^ 62 }
     ensures same_reference { tx.new.conn.ghost_name ≡ tx.old.conn.ghost_name }
-    ensures step { Step result (state S.Store tx.old.conn.now) (state S.Store tx.new.conn.now)
+    ensures step { StatementStep result (state S.Store tx.old.conn.now)
+        (state S.Store tx.new.conn.now)
         (HasNeither item.now.uid (state S.Store tx.old.conn.now).now.trees
         → GoesOn (state S.Store tx.old.conn.now) (state S.Store tx.new.conn.now)
         × Stores item.now body.now whole (state S.Store tx.old.conn.now).now.trees
@@ -44,7 +45,8 @@ pub fn add_rows<'x, S: Alter>(
     dests: &'x [Text],
 ) -> Result<(), Error>
     ensures same_reference { tx.new.conn.ghost_name ≡ tx.old.conn.ghost_name }
-    ensures step { Step result (state S.Store tx.old.conn.now) (state S.Store tx.new.conn.now)
+    ensures step { StatementStep result (state S.Store tx.old.conn.now)
+        (state S.Store tx.new.conn.now)
         (Unit {0}
         → GoesOn (state S.Store tx.old.conn.now) (state S.Store tx.new.conn.now)
         × AddsRows uid.now dests.now (state S.Store tx.old.conn.now).now.trees
@@ -63,7 +65,8 @@ pub fn renew_rows<'x, S: Alter>(
     dests: &'x [Text],
 ) -> Result<(), Error>
     ensures same_reference { tx.new.conn.ghost_name ≡ tx.old.conn.ghost_name }
-    ensures step { Step result (state S.Store tx.old.conn.now) (state S.Store tx.new.conn.now)
+    ensures step { StatementStep result (state S.Store tx.old.conn.now)
+        (state S.Store tx.new.conn.now)
         (HasRows uid.now dests.now (state S.Store tx.old.conn.now).now.trees
         → GoesOn (state S.Store tx.old.conn.now) (state S.Store tx.new.conn.now)
         × Renews uid.now dests.now (state S.Store tx.old.conn.now).now.trees
@@ -82,7 +85,8 @@ pub fn note_arrival<'x, S: Alter>(
     uid: &'x Text,
 ) -> Result<(), Error>
     ensures same_reference { tx.new.conn.ghost_name ≡ tx.old.conn.ghost_name }
-    ensures step { Step result (state S.Store tx.old.conn.now) (state S.Store tx.new.conn.now)
+    ensures step { StatementStep result (state S.Store tx.old.conn.now)
+        (state S.Store tx.new.conn.now)
         (GoesOn (state S.Store tx.old.conn.now) (state S.Store tx.new.conn.now)
         × NotesArrival (caller.now, uid.now) (state S.Store tx.old.conn.now).now.trees
         (state S.Store tx.new.conn.now).now.trees) }
@@ -94,7 +98,8 @@ pub fn note_arrival<'x, S: Alter>(
 /// Keeps an instance.
 pub fn keep<'x, S: Alter>(tx: &mut Transaction<'_, S>, uid: &'x Text) -> Result<(), Error>
     ensures same_reference { tx.new.conn.ghost_name ≡ tx.old.conn.ghost_name }
-    ensures step { Step result (state S.Store tx.old.conn.now) (state S.Store tx.new.conn.now)
+    ensures step { StatementStep result (state S.Store tx.old.conn.now)
+        (state S.Store tx.new.conn.now)
         (GoesOn (state S.Store tx.old.conn.now) (state S.Store tx.new.conn.now)
         × KeepsOne uid.now (state S.Store tx.old.conn.now).now.trees
         (state S.Store tx.new.conn.now).now.trees) }
@@ -111,7 +116,8 @@ pub fn add_targets<'x, S: Alter>(
 ) -> Result<(), Error>
     requires { n ≤ 2 ^ 62 }
     ensures same_reference { tx.new.conn.ghost_name ≡ tx.old.conn.ghost_name }
-    ensures step { Step result (state S.Store tx.old.conn.now) (state S.Store tx.new.conn.now)
+    ensures step { StatementStep result (state S.Store tx.old.conn.now)
+        (state S.Store tx.new.conn.now)
         (Unit {0}
         → GoesOn (state S.Store tx.old.conn.now) (state S.Store tx.new.conn.now)
         × AddsTargets n names.now (state S.Store tx.old.conn.now).now.trees

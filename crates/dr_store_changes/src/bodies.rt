@@ -1,7 +1,7 @@
 //! Data sets that are let go, and that come again.
 ghost use Rattle.std.specs.Prelude.{◌≡◌};
 ghost use Rattle.sqlite.specs.Held.{state};
-ghost use Rattle.dr_store_writes.specs.Effects.{GoesOn, Step};
+ghost use Rattle.dr_store_writes.specs.Effects.{GoesOn, StatementStep};
 ghost use Rattle.dr_store_changes.specs.Changes.{HasBoth, LetsGo, TakesBack};
 
 use dr_base::Text;
@@ -11,7 +11,8 @@ use sqlite::{Alter, Error, Transaction};
 /// Lets the data set of an item go; what is known of the item stays.
 pub fn let_go<'x, S: Alter>(tx: &mut Transaction<'_, S>, uid: &'x Text) -> Result<(), Error>
     ensures same_reference { tx.new.conn.ghost_name ≡ tx.old.conn.ghost_name }
-    ensures step { Step result (state S.Store tx.old.conn.now) (state S.Store tx.new.conn.now)
+    ensures step { StatementStep result (state S.Store tx.old.conn.now)
+        (state S.Store tx.new.conn.now)
         (HasBoth uid.now (state S.Store tx.old.conn.now).now.trees
         → GoesOn (state S.Store tx.old.conn.now) (state S.Store tx.new.conn.now)
         × LetsGo uid.now (state S.Store tx.old.conn.now).now.trees
@@ -29,7 +30,8 @@ pub fn take_back<'x, S: Alter>(
     body: &'x [u8],
 ) -> Result<(), Error>
     ensures same_reference { tx.new.conn.ghost_name ≡ tx.old.conn.ghost_name }
-    ensures step { Step result (state S.Store tx.old.conn.now) (state S.Store tx.new.conn.now)
+    ensures step { StatementStep result (state S.Store tx.old.conn.now)
+        (state S.Store tx.new.conn.now)
         (HasBoth uid.now (state S.Store tx.old.conn.now).now.trees
         → GoesOn (state S.Store tx.old.conn.now) (state S.Store tx.new.conn.now)
         × TakesBack uid.now body.now (state S.Store tx.old.conn.now).now.trees

@@ -2,7 +2,7 @@
 ghost use Rattle.std.specs.Prelude.{◌≡◌, ◌≤◌, ◌^◌, true};
 ghost use Rattle.sqlite.specs.Held.{state};
 ghost use Rattle.dr_ledger.specs.declared.item.Progress.TheVariants.{Dropped};
-ghost use Rattle.dr_store_writes.specs.Effects.{HasRow, Step, dropped_line};
+ghost use Rattle.dr_store_writes.specs.Effects.{HasRow, StatementStep, dropped_line};
 ghost use Rattle.dr_store_changes.specs.Changes.{AsksForRow, GivenUp, GivesUp, Moved};
 ghost use Rattle.dr_store_changes.specs.Writing.{IsMade};
 
@@ -24,7 +24,8 @@ fn drop_row<'x, S: Alter>(
     requires moment { now ≤ 2 ^ 62 }
     requires number { n ≤ 2 ^ 62 }
     ensures same_reference { tx.new.conn.ghost_name ≡ tx.old.conn.ghost_name }
-    ensures step { Step result (state S.Store tx.old.conn.now) (state S.Store tx.new.conn.now)
+    ensures step { StatementStep result (state S.Store tx.old.conn.now)
+        (state S.Store tx.new.conn.now)
         (HasRow (uid.now, dest.now) (state S.Store tx.old.conn.now).now.trees
         → Moved (uid.now, dest.now) Dropped (dropped_line n uid.now dest.now now)
         (state S.Store tx.old.conn.now) (state S.Store tx.new.conn.now)) }
@@ -45,7 +46,8 @@ fn give_up<'x, S: Alter>(
     requires moment { now ≤ 2 ^ 62 }
     requires number { n ≤ 2 ^ 62 }
     ensures same_reference { tx.new.conn.ghost_name ≡ tx.old.conn.ghost_name }
-    ensures step { Step result (state S.Store tx.old.conn.now) (state S.Store tx.new.conn.now)
+    ensures step { StatementStep result (state S.Store tx.old.conn.now)
+        (state S.Store tx.new.conn.now)
         (HasRow (uid.now, dest.now) (state S.Store tx.old.conn.now).now.trees
         → GivenUp uid.now dest.now now n (state S.Store tx.old.conn.now)
         (state S.Store tx.new.conn.now)) }
@@ -66,7 +68,8 @@ fn give_up_and_let_go<'x, S: Alter>(
     requires moment { now ≤ 2 ^ 62 }
     requires number { n ≤ 2 ^ 62 }
     ensures same_reference { tx.new.conn.ghost_name ≡ tx.old.conn.ghost_name }
-    ensures step { Step result (state S.Store tx.old.conn.now) (state S.Store tx.new.conn.now)
+    ensures step { StatementStep result (state S.Store tx.old.conn.now)
+        (state S.Store tx.new.conn.now)
         (AsksForRow (uid.now, dest.now) (state S.Store tx.old.conn.now).now.trees
         → IsMade n (GivesUp uid.now dest.now now n true) (state S.Store tx.old.conn.now)
         (state S.Store tx.new.conn.now)) }

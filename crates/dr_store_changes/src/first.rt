@@ -1,7 +1,7 @@
 //! First arrivals, each with all that it makes of the tables.
 ghost use Rattle.std.specs.Prelude.{◌≡◌, ◌≤◌, ◌^◌};
 ghost use Rattle.sqlite.specs.Held.{state};
-ghost use Rattle.dr_store_writes.specs.Effects.{GoesOn, Step, arrived_line};
+ghost use Rattle.dr_store_writes.specs.Effects.{GoesOn, StatementStep, arrived_line};
 ghost use Rattle.dr_store_changes.specs.Bringing.{AsksToTake, KeepsIf, TakesInItem, Then};
 ghost use Rattle.dr_store_changes.specs.Changes.{AddsOnlyLine, AddsRows, AddsTargets, HasRows};
 ghost use Rattle.dr_store_changes.specs.Changes.{NotesArrival, Renews};
@@ -38,7 +38,8 @@ fn take<'x, S: Alter>(
     requires number { n ≤ 2 ^ 62 }
     requires size { item.now.size ≤ 2 ^ 62 }
     ensures same_reference { tx.new.conn.ghost_name ≡ tx.old.conn.ghost_name }
-    ensures step { Step result (state S.Store tx.old.conn.now) (state S.Store tx.new.conn.now)
+    ensures step { StatementStep result (state S.Store tx.old.conn.now)
+        (state S.Store tx.new.conn.now)
         (AsksToTake taking item.now.uid (state S.Store tx.old.conn.now).now.trees
         → GoesOn (state S.Store tx.old.conn.now) (state S.Store tx.new.conn.now)
         × TakesInItem taking item.now body.now (state S.Store tx.old.conn.now).now.trees
@@ -64,7 +65,8 @@ fn take_from<'x, S: Alter>(
     requires number { n ≤ 2 ^ 62 }
     requires size { item.now.size ≤ 2 ^ 62 }
     ensures same_reference { tx.new.conn.ghost_name ≡ tx.old.conn.ghost_name }
-    ensures step { Step result (state S.Store tx.old.conn.now) (state S.Store tx.new.conn.now)
+    ensures step { StatementStep result (state S.Store tx.old.conn.now)
+        (state S.Store tx.new.conn.now)
         (AsksToTake taking item.now.uid (state S.Store tx.old.conn.now).now.trees
         → GoesOn (state S.Store tx.old.conn.now) (state S.Store tx.new.conn.now)
         × Then (TakesInItem taking item.now body.now) (NotesArrival (caller.now, item.now.uid))
@@ -82,7 +84,8 @@ fn keep_if<'x, S: Alter>(
     keeps: bool,
 ) -> Result<(), Error>
     ensures same_reference { tx.new.conn.ghost_name ≡ tx.old.conn.ghost_name }
-    ensures step { Step result (state S.Store tx.old.conn.now) (state S.Store tx.new.conn.now)
+    ensures step { StatementStep result (state S.Store tx.old.conn.now)
+        (state S.Store tx.new.conn.now)
         (GoesOn (state S.Store tx.old.conn.now) (state S.Store tx.new.conn.now)
         × KeepsIf uid.now keeps (state S.Store tx.old.conn.now).now.trees
         (state S.Store tx.new.conn.now).now.trees) }
@@ -102,7 +105,8 @@ fn wait_for<'x, S: Alter>(
     dests: &'x [Text],
 ) -> Result<(), Error>
     ensures same_reference { tx.new.conn.ghost_name ≡ tx.old.conn.ghost_name }
-    ensures step { Step result (state S.Store tx.old.conn.now) (state S.Store tx.new.conn.now)
+    ensures step { StatementStep result (state S.Store tx.old.conn.now)
+        (state S.Store tx.new.conn.now)
         (HasRows uid.now again.now (state S.Store tx.old.conn.now).now.trees
         → GoesOn (state S.Store tx.old.conn.now) (state S.Store tx.new.conn.now)
         × Then (Renews uid.now again.now) (AddsRows uid.now dests.now)
@@ -122,7 +126,8 @@ fn queue<'x, S: Alter>(
     keeps: bool,
 ) -> Result<(), Error>
     ensures same_reference { tx.new.conn.ghost_name ≡ tx.old.conn.ghost_name }
-    ensures step { Step result (state S.Store tx.old.conn.now) (state S.Store tx.new.conn.now)
+    ensures step { StatementStep result (state S.Store tx.old.conn.now)
+        (state S.Store tx.new.conn.now)
         (HasRows uid.now again.now (state S.Store tx.old.conn.now).now.trees
         → GoesOn (state S.Store tx.old.conn.now) (state S.Store tx.new.conn.now)
         × Then (Then (Renews uid.now again.now) (AddsRows uid.now dests.now))
@@ -144,7 +149,8 @@ fn add_line<'x, S: Alter>(
     requires n { n ≤ 2 ^ 62 }
     requires size { item.now.size ≤ 2 ^ 62 }
     ensures same_reference { tx.new.conn.ghost_name ≡ tx.old.conn.ghost_name }
-    ensures step { Step result (state S.Store tx.old.conn.now) (state S.Store tx.new.conn.now)
+    ensures step { StatementStep result (state S.Store tx.old.conn.now)
+        (state S.Store tx.new.conn.now)
         (Unit {0}
         → GoesOn (state S.Store tx.old.conn.now) (state S.Store tx.new.conn.now)
         × AddsOnlyLine (arrived_line n 0 caller.now item.now)
@@ -165,7 +171,8 @@ fn write_line<'x, S: Alter>(
     requires n { n ≤ 2 ^ 62 }
     requires size { item.now.size ≤ 2 ^ 62 }
     ensures same_reference { tx.new.conn.ghost_name ≡ tx.old.conn.ghost_name }
-    ensures step { Step result (state S.Store tx.old.conn.now) (state S.Store tx.new.conn.now)
+    ensures step { StatementStep result (state S.Store tx.old.conn.now)
+        (state S.Store tx.new.conn.now)
         (Unit {0}
         → GoesOn (state S.Store tx.old.conn.now) (state S.Store tx.new.conn.now)
         × Then (AddsOnlyLine (arrived_line n 0 caller.now item.now)) (AddsTargets n names.now)
@@ -202,7 +209,8 @@ impl Arriving<'_> {
     fn fill<S: Alter>(&self, tx: &mut Transaction<'_, S>, n: u64) -> Result<(), Error>
         requires { n ≤ 2 ^ 62 }
         ensures same_reference { tx.new.conn.ghost_name ≡ tx.old.conn.ghost_name }
-        ensures step { Step result (state S.Store tx.old.conn.now) (state S.Store tx.new.conn.now)
+        ensures step { StatementStep result (state S.Store tx.old.conn.now)
+            (state S.Store tx.new.conn.now)
             (AsksToTake self.now.taking self.now.item.now.uid
             (state S.Store tx.old.conn.now).now.trees
             × HasRows self.now.item.now.uid self.now.again.now

@@ -1,7 +1,7 @@
 //! Instances that are forgotten.
 ghost use Rattle.std.specs.Prelude.{◌≡◌};
 ghost use Rattle.sqlite.specs.Held.{state};
-ghost use Rattle.dr_store_writes.specs.Effects.{GoesOn, Step};
+ghost use Rattle.dr_store_writes.specs.Effects.{GoesOn, StatementStep};
 ghost use Rattle.dr_store_changes.specs.Bringing.{Then};
 ghost use Rattle.dr_store_changes.specs.Changes.{DropsMoves, DropsStock};
 
@@ -13,7 +13,8 @@ use sqlite::{Alter, Error, Transaction};
 /// Drops the arrivals and the rows of an instance.
 fn drop_moves<'x, S: Alter>(tx: &mut Transaction<'_, S>, uid: &'x Text) -> Result<(), Error>
     ensures same_reference { tx.new.conn.ghost_name ≡ tx.old.conn.ghost_name }
-    ensures step { Step result (state S.Store tx.old.conn.now) (state S.Store tx.new.conn.now)
+    ensures step { StatementStep result (state S.Store tx.old.conn.now)
+        (state S.Store tx.new.conn.now)
         (Unit {0}
         → GoesOn (state S.Store tx.old.conn.now) (state S.Store tx.new.conn.now)
         × DropsMoves uid.now (state S.Store tx.old.conn.now).now.trees
@@ -27,7 +28,8 @@ fn drop_moves<'x, S: Alter>(tx: &mut Transaction<'_, S>, uid: &'x Text) -> Resul
 /// Drops the print of an instance, and the instance itself.
 fn drop_stock<'x, S: Alter>(tx: &mut Transaction<'_, S>, uid: &'x Text) -> Result<(), Error>
     ensures same_reference { tx.new.conn.ghost_name ≡ tx.old.conn.ghost_name }
-    ensures step { Step result (state S.Store tx.old.conn.now) (state S.Store tx.new.conn.now)
+    ensures step { StatementStep result (state S.Store tx.old.conn.now)
+        (state S.Store tx.new.conn.now)
         (Unit {0}
         → GoesOn (state S.Store tx.old.conn.now) (state S.Store tx.new.conn.now)
         × DropsStock uid.now (state S.Store tx.old.conn.now).now.trees
@@ -41,7 +43,8 @@ fn drop_stock<'x, S: Alter>(tx: &mut Transaction<'_, S>, uid: &'x Text) -> Resul
 /// Drops all that speaks of an instance; what refers to it goes first.
 fn drop_all<'x, S: Alter>(tx: &mut Transaction<'_, S>, uid: &'x Text) -> Result<(), Error>
     ensures same_reference { tx.new.conn.ghost_name ≡ tx.old.conn.ghost_name }
-    ensures step { Step result (state S.Store tx.old.conn.now) (state S.Store tx.new.conn.now)
+    ensures step { StatementStep result (state S.Store tx.old.conn.now)
+        (state S.Store tx.new.conn.now)
         (Unit {0}
         → GoesOn (state S.Store tx.old.conn.now) (state S.Store tx.new.conn.now)
         × Then (DropsMoves uid.now) (DropsStock uid.now) (state S.Store tx.old.conn.now).now.trees

@@ -2,7 +2,7 @@
 ghost use Rattle.std.specs.Prelude.{◌≡◌, ◌≤◌, ◌+◌, ◌^◌, true, false};
 ghost use Rattle.sqlite.specs.Held.{state};
 ghost use Rattle.dr_store_schema.specs.Cells.{due_of};
-ghost use Rattle.dr_store_writes.specs.Effects.{HasRow, Step, requeued_line, settled_line};
+ghost use Rattle.dr_store_writes.specs.Effects.{HasRow, StatementStep, requeued_line, settled_line};
 ghost use Rattle.dr_store_changes.specs.Changes.{AsksForRow, Moved, MovesOn};
 ghost use Rattle.dr_store_changes.specs.Writing.{IsMade};
 
@@ -27,7 +27,8 @@ fn settle<'x, S: Alter>(
     requires moment { now ≤ 2 ^ 62 }
     requires number { n ≤ 2 ^ 62 }
     ensures same_reference { tx.new.conn.ghost_name ≡ tx.old.conn.ghost_name }
-    ensures step { Step result (state S.Store tx.old.conn.now) (state S.Store tx.new.conn.now)
+    ensures step { StatementStep result (state S.Store tx.old.conn.now)
+        (state S.Store tx.new.conn.now)
         (HasRow (uid.now, dest.now) (state S.Store tx.old.conn.now).now.trees
         → Moved (uid.now, dest.now) to (settled_line n uid.now dest.now outcome now)
         (state S.Store tx.old.conn.now) (state S.Store tx.new.conn.now)) }
@@ -51,7 +52,8 @@ fn settle_and_let_go<'x, S: Alter>(
     requires moment { now ≤ 2 ^ 62 }
     requires number { n ≤ 2 ^ 62 }
     ensures same_reference { tx.new.conn.ghost_name ≡ tx.old.conn.ghost_name }
-    ensures step { Step result (state S.Store tx.old.conn.now) (state S.Store tx.new.conn.now)
+    ensures step { StatementStep result (state S.Store tx.old.conn.now)
+        (state S.Store tx.new.conn.now)
         (AsksForRow (uid.now, dest.now) (state S.Store tx.old.conn.now).now.trees
         → IsMade n
         (MovesOn (uid.now, dest.now) to (settled_line n uid.now dest.now outcome now) true)
@@ -73,7 +75,8 @@ fn requeue<'x, S: Alter>(
     requires due { due_of to ≤ 2 ^ 62 + 300000 }
     requires number { n ≤ 2 ^ 62 }
     ensures same_reference { tx.new.conn.ghost_name ≡ tx.old.conn.ghost_name }
-    ensures step { Step result (state S.Store tx.old.conn.now) (state S.Store tx.new.conn.now)
+    ensures step { StatementStep result (state S.Store tx.old.conn.now)
+        (state S.Store tx.new.conn.now)
         (HasRow (uid.now, dest.now) (state S.Store tx.old.conn.now).now.trees
         → Moved (uid.now, dest.now) to (requeued_line n uid.now dest.now)
         (state S.Store tx.old.conn.now) (state S.Store tx.new.conn.now)) }

@@ -2,7 +2,7 @@
 ghost use Rattle.std.specs.Prelude.{◌≡◌, ◌≤◌, ◌^◌, ℕ, false};
 ghost use Rattle.sqlite.specs.Held.{state};
 ghost use Rattle.sqlite.specs.Tree.{Trees};
-ghost use Rattle.dr_store_writes.specs.Effects.{Step};
+ghost use Rattle.dr_store_writes.specs.Effects.{StatementStep};
 ghost use Rattle.dr_store_changes.specs.Writing.{IsMade, Written};
 
 use sqlite::{Alter, Connection, Error, Transaction};
@@ -19,7 +19,8 @@ pub trait TableChange {
     fn run<S: Alter>(&self, tx: &mut Transaction<'_, S>, n: u64) -> Result<(), Error>
         requires { n ≤ 2 ^ 62 }
         ensures same_reference { tx.new.conn.ghost_name ≡ tx.old.conn.ghost_name }
-        ensures step { Step result (state S.Store tx.old.conn.now) (state S.Store tx.new.conn.now)
+        ensures step { StatementStep result (state S.Store tx.old.conn.now)
+            (state S.Store tx.new.conn.now)
             (asks self.now (state S.Store tx.old.conn.now).now.trees
             → IsMade n (makes self.now n) (state S.Store tx.old.conn.now)
             (state S.Store tx.new.conn.now)) };

@@ -117,14 +117,14 @@ abbrev pub dest_in : Row → Text
 dest_in row = text_in (column row 2)
 
 -- a set of names, whose keys stand in byte order
-abbrev pub Names : Type 0
-Names = FinMap text_cmp (Unit {0})
+abbrev pub NameSet : Type 0
+NameSet = FinMap text_cmp (Unit {0})
 
 abbrev pub named_in : Row → Text × Unit {0}
 named_in row = (dest_in row, tt)
 
 -- what target has of line n, where `-` stands for keeping
-abbrev pub names_in : List Row → ℕ → Names
+abbrev pub names_in : List Row → ℕ → NameSet
 names_in rows n = map.from_entries (mapped named_in (filter (is_of_line n) rows))
 
 -- where the first arrival of line n goes on to, in byte order

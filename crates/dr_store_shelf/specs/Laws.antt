@@ -24,8 +24,8 @@ pub record Says (key at : ℕ) (body sums : List ℕ) : Type 0 where
       ≡ placed at (length body)
   pub passes : Passes key (written (at ∷ length body ∷ sums)) body
 
-abbrev pub CellsSayWhatWasWritten : Type 0
-CellsSayWhatWasWritten =
+abbrev pub BodyCellsSayWhatWasWritten : Type 0
+BodyCellsSayWhatWasWritten =
     (key at : ℕ) (body sums : List ℕ)
     → AreSums key piece body sums
     → Fit (at ∷ length body ∷ sums)

@@ -1,5 +1,5 @@
 //! What follows from the definitions alone.
-ghost use Rattle.dr_store_shelf.specs.Laws.{CellsSayWhatWasWritten, NumbersAreRead};
+ghost use Rattle.dr_store_shelf.specs.Laws.{BodyCellsSayWhatWasWritten, NumbersAreRead};
 
 /// Each number that was written is read at its place.
 pub fn numbers_are_read()
@@ -8,5 +8,5 @@ pub fn numbers_are_read()
 
 /// A cell names the place, the length and the digests that were written into it.
 pub fn cells_say_what_was_written()
-    ensures { CellsSayWhatWasWritten }
+    ensures { BodyCellsSayWhatWasWritten }
 {}

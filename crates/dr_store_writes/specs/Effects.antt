@@ -34,7 +34,7 @@ CommitsNothing old new = Survives old new (λ _. ⊥)
 
 -- What a statement does inside a transaction. Where it is done it makes this of a ledger's tables;
 -- whatever it answers, nothing is committed, and a crash leaves what it could leave before.
-pub record Step {A E : Type 0} (result : Result A E) (old new : State)
+pub record StatementStep {A E : Type 0} (result : Result A E) (old new : State)
     (Made : Type 0) : Type 0 where
   pub ok : HasCleanDisk new
       → IsTrue old.in_transaction

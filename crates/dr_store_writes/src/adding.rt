@@ -1,7 +1,7 @@
 //! Rows that are added.
 ghost use Rattle.std.specs.Prelude.{◌≡◌, ◌≤◌, ◌^◌};
 ghost use Rattle.sqlite.specs.Held.{state};
-ghost use Rattle.dr_store_writes.specs.Effects.{AddsCells, AddsRow, Step, adopted_line};
+ghost use Rattle.dr_store_writes.specs.Effects.{AddsCells, AddsRow, StatementStep, adopted_line};
 ghost use Rattle.dr_store_writes.specs.Effects.{arrival_cells, arrived_line, dropped_line};
 ghost use Rattle.dr_store_writes.specs.Effects.{forgotten_line};
 ghost use Rattle.dr_store_writes.specs.Effects.{item_row, kept_cells, new_cells, print_cells};
@@ -29,7 +29,8 @@ pub fn add_item<'x, S: Alter>(
 ) -> Result<usize, Error>
     requires { n ≤ 2 ^ 62 }
     ensures same_reference { tx.new.conn.ghost_name ≡ tx.old.conn.ghost_name }
-    ensures step { Step result (state S.Store tx.old.conn.now) (state S.Store tx.new.conn.now)
+    ensures step { StatementStep result (state S.Store tx.old.conn.now)
+        (state S.Store tx.new.conn.now)
         (AddsRow 1 (item_row n uid.now key.now body.now) (state S.Store tx.old.conn.now)
         (state S.Store tx.new.conn.now)) }
 {
@@ -60,7 +61,8 @@ pub fn add_print<'x, S: Alter>(
     requires size { size ≤ 2 ^ 62 }
     requires whole { whole ≤ 2 ^ 62 }
     ensures same_reference { tx.new.conn.ghost_name ≡ tx.old.conn.ghost_name }
-    ensures step { Step result (state S.Store tx.old.conn.now) (state S.Store tx.new.conn.now)
+    ensures step { StatementStep result (state S.Store tx.old.conn.now)
+        (state S.Store tx.new.conn.now)
         (AddsCells 3 (print_cells uid.now size digest.now whole) (state S.Store tx.old.conn.now)
         (state S.Store tx.new.conn.now)) }
 {
@@ -83,7 +85,8 @@ pub fn add_arrival<'x, S: Alter>(
     uid: &'x Text,
 ) -> Result<usize, Error>
     ensures same_reference { tx.new.conn.ghost_name ≡ tx.old.conn.ghost_name }
-    ensures step { Step result (state S.Store tx.old.conn.now) (state S.Store tx.new.conn.now)
+    ensures step { StatementStep result (state S.Store tx.old.conn.now)
+        (state S.Store tx.new.conn.now)
         (AddsCells 5 (arrival_cells (caller.now, uid.now)) (state S.Store tx.old.conn.now)
         (state S.Store tx.new.conn.now)) }
 {
@@ -100,7 +103,8 @@ pub fn add_arrival<'x, S: Alter>(
 /// An instance is kept.
 pub fn add_kept<'x, S: Alter>(tx: &mut Transaction<'_, S>, uid: &'x Text) -> Result<usize, Error>
     ensures same_reference { tx.new.conn.ghost_name ≡ tx.old.conn.ghost_name }
-    ensures step { Step result (state S.Store tx.old.conn.now) (state S.Store tx.new.conn.now)
+    ensures step { StatementStep result (state S.Store tx.old.conn.now)
+        (state S.Store tx.new.conn.now)
         (AddsCells 7 (kept_cells uid.now) (state S.Store tx.old.conn.now)
         (state S.Store tx.new.conn.now)) }
 {
@@ -118,7 +122,8 @@ pub fn add_row<'x, S: Alter>(
     dest: &'x Text,
 ) -> Result<usize, Error>
     ensures same_reference { tx.new.conn.ghost_name ≡ tx.old.conn.ghost_name }
-    ensures step { Step result (state S.Store tx.old.conn.now) (state S.Store tx.new.conn.now)
+    ensures step { StatementStep result (state S.Store tx.old.conn.now)
+        (state S.Store tx.new.conn.now)
         (AddsCells 9 (new_cells (uid.now, dest.now)) (state S.Store tx.old.conn.now)
         (state S.Store tx.new.conn.now)) }
 {
@@ -140,7 +145,8 @@ pub fn add_target<'x, S: Alter>(
 ) -> Result<usize, Error>
     requires { n ≤ 2 ^ 62 }
     ensures same_reference { tx.new.conn.ghost_name ≡ tx.old.conn.ghost_name }
-    ensures step { Step result (state S.Store tx.old.conn.now) (state S.Store tx.new.conn.now)
+    ensures step { StatementStep result (state S.Store tx.old.conn.now)
+        (state S.Store tx.new.conn.now)
         (AddsCells 12 (target_cells n dest.now) (state S.Store tx.old.conn.now)
         (state S.Store tx.new.conn.now)) }
 {
@@ -163,7 +169,8 @@ pub fn add_arrived<'x, S: Alter>(
     requires kind { kind ≤ 2 ^ 62 }
     requires size { item.now.size ≤ 2 ^ 62 }
     ensures same_reference { tx.new.conn.ghost_name ≡ tx.old.conn.ghost_name }
-    ensures step { Step result (state S.Store tx.old.conn.now) (state S.Store tx.new.conn.now)
+    ensures step { StatementStep result (state S.Store tx.old.conn.now)
+        (state S.Store tx.new.conn.now)
         (AddsRow 11 (arrived_line n kind caller.now item.now) (state S.Store tx.old.conn.now)
         (state S.Store tx.new.conn.now)) }
 {
@@ -197,7 +204,8 @@ pub fn add_settled<'x, S: Alter>(
     requires n { n ≤ 2 ^ 62 }
     requires now { now ≤ 2 ^ 62 }
     ensures same_reference { tx.new.conn.ghost_name ≡ tx.old.conn.ghost_name }
-    ensures step { Step result (state S.Store tx.old.conn.now) (state S.Store tx.new.conn.now)
+    ensures step { StatementStep result (state S.Store tx.old.conn.now)
+        (state S.Store tx.new.conn.now)
         (AddsRow 11 (settled_line n uid.now dest.now outcome now) (state S.Store tx.old.conn.now)
         (state S.Store tx.new.conn.now)) }
 {
@@ -223,7 +231,8 @@ pub fn add_requeued<'x, S: Alter>(
 ) -> Result<usize, Error>
     requires { n ≤ 2 ^ 62 }
     ensures same_reference { tx.new.conn.ghost_name ≡ tx.old.conn.ghost_name }
-    ensures step { Step result (state S.Store tx.old.conn.now) (state S.Store tx.new.conn.now)
+    ensures step { StatementStep result (state S.Store tx.old.conn.now)
+        (state S.Store tx.new.conn.now)
         (AddsRow 11 (requeued_line n uid.now dest.now) (state S.Store tx.old.conn.now)
         (state S.Store tx.new.conn.now)) }
 {
@@ -249,7 +258,8 @@ pub fn add_dropped<'x, S: Alter>(
     requires n { n ≤ 2 ^ 62 }
     requires now { now ≤ 2 ^ 62 }
     ensures same_reference { tx.new.conn.ghost_name ≡ tx.old.conn.ghost_name }
-    ensures step { Step result (state S.Store tx.old.conn.now) (state S.Store tx.new.conn.now)
+    ensures step { StatementStep result (state S.Store tx.old.conn.now)
+        (state S.Store tx.new.conn.now)
         (AddsRow 11 (dropped_line n uid.now dest.now now) (state S.Store tx.old.conn.now)
         (state S.Store tx.new.conn.now)) }
 {
@@ -269,7 +279,8 @@ pub fn add_dropped<'x, S: Alter>(
 pub fn add_adopted<S: Alter>(tx: &mut Transaction<'_, S>, n: u64) -> Result<usize, Error>
     requires { n ≤ 2 ^ 62 }
     ensures same_reference { tx.new.conn.ghost_name ≡ tx.old.conn.ghost_name }
-    ensures step { Step result (state S.Store tx.old.conn.now) (state S.Store tx.new.conn.now)
+    ensures step { StatementStep result (state S.Store tx.old.conn.now)
+        (state S.Store tx.new.conn.now)
         (AddsRow 11 (adopted_line n) (state S.Store tx.old.conn.now)
         (state S.Store tx.new.conn.now)) }
 {
@@ -288,7 +299,8 @@ pub fn add_forgotten<'x, S: Alter>(
 ) -> Result<usize, Error>
     requires { n ≤ 2 ^ 62 }
     ensures same_reference { tx.new.conn.ghost_name ≡ tx.old.conn.ghost_name }
-    ensures step { Step result (state S.Store tx.old.conn.now) (state S.Store tx.new.conn.now)
+    ensures step { StatementStep result (state S.Store tx.old.conn.now)
+        (state S.Store tx.new.conn.now)
         (AddsRow 11 (forgotten_line n uid.now) (state S.Store tx.old.conn.now)
         (state S.Store tx.new.conn.now)) }
 {
@@ -306,7 +318,8 @@ pub fn add_site<'x, S: Alter>(
     plan: &'x [u8],
 ) -> Result<usize, Error>
     ensures same_reference { tx.new.conn.ghost_name ≡ tx.old.conn.ghost_name }
-    ensures step { Step result (state S.Store tx.old.conn.now) (state S.Store tx.new.conn.now)
+    ensures step { StatementStep result (state S.Store tx.old.conn.now)
+        (state S.Store tx.new.conn.now)
         (AddsRow 0 (site_row node.now plan.now) (state S.Store tx.old.conn.now)
         (state S.Store tx.new.conn.now)) }
 {

@@ -3,7 +3,7 @@ ghost use Rattle.std.specs.Prelude.{◌≡◌, ◌≤◌, ◌+◌, ◌^◌};
 ghost use Rattle.sqlite.specs.Held.{state};
 ghost use Rattle.dr_store_schema.specs.Cells.{due_of};
 ghost use Rattle.dr_store_writes.specs.Effects.{HasItem, HasPrint, HasRow, HasSite, SetsBody};
-ghost use Rattle.dr_store_writes.specs.Effects.{SetsPlan, SetsRow, SetsWhole, Step};
+ghost use Rattle.dr_store_writes.specs.Effects.{SetsPlan, SetsRow, SetsWhole, StatementStep};
 
 use crate::cells::{due_cell, number_cell, state_cell, tries_cell, why_cell};
 use crate::running::run;
@@ -21,7 +21,8 @@ pub fn set_row<'x, S: Alter>(
 ) -> Result<usize, Error>
     requires { due_of to ≤ 2 ^ 62 + 300000 }
     ensures same_reference { tx.new.conn.ghost_name ≡ tx.old.conn.ghost_name }
-    ensures step { Step result (state S.Store tx.old.conn.now) (state S.Store tx.new.conn.now)
+    ensures step { StatementStep result (state S.Store tx.old.conn.now)
+        (state S.Store tx.new.conn.now)
         (HasRow (uid.now, dest.now) (state S.Store tx.old.conn.now).now.trees
         → SetsRow (uid.now, dest.now) to (state S.Store tx.old.conn.now)
         (state S.Store tx.new.conn.now)) }
@@ -47,7 +48,8 @@ pub fn set_body<'x, S: Alter>(
     body: &'x [u8],
 ) -> Result<usize, Error>
     ensures same_reference { tx.new.conn.ghost_name ≡ tx.old.conn.ghost_name }
-    ensures step { Step result (state S.Store tx.old.conn.now) (state S.Store tx.new.conn.now)
+    ensures step { StatementStep result (state S.Store tx.old.conn.now)
+        (state S.Store tx.new.conn.now)
         (HasItem uid.now (state S.Store tx.old.conn.now).now.trees
         → SetsBody uid.now body.now (state S.Store tx.old.conn.now)
         (state S.Store tx.new.conn.now)) }
@@ -67,7 +69,8 @@ pub fn set_whole<'x, S: Alter>(
 ) -> Result<usize, Error>
     requires { whole ≤ 2 ^ 62 }
     ensures same_reference { tx.new.conn.ghost_name ≡ tx.old.conn.ghost_name }
-    ensures step { Step result (state S.Store tx.old.conn.now) (state S.Store tx.new.conn.now)
+    ensures step { StatementStep result (state S.Store tx.old.conn.now)
+        (state S.Store tx.new.conn.now)
         (HasPrint uid.now (state S.Store tx.old.conn.now).now.trees
         → SetsWhole uid.now whole (state S.Store tx.old.conn.now) (state S.Store tx.new.conn.now)) }
 {
@@ -81,7 +84,8 @@ pub fn set_whole<'x, S: Alter>(
 /// The plan in force is another, for the same node.
 pub fn set_plan<'x, S: Alter>(tx: &mut Transaction<'_, S>, plan: &'x [u8]) -> Result<usize, Error>
     ensures same_reference { tx.new.conn.ghost_name ≡ tx.old.conn.ghost_name }
-    ensures step { Step result (state S.Store tx.old.conn.now) (state S.Store tx.new.conn.now)
+    ensures step { StatementStep result (state S.Store tx.old.conn.now)
+        (state S.Store tx.new.conn.now)
         (HasSite (state S.Store tx.old.conn.now).now.trees
         → SetsPlan plan.now (state S.Store tx.old.conn.now) (state S.Store tx.new.conn.now)) }
 {

@@ -1,7 +1,7 @@
 //! Rows that leave, at an adoption, at a forgetting and at a dropping.
 ghost use Rattle.std.specs.Prelude.{◌≡◌};
 ghost use Rattle.sqlite.specs.Held.{state};
-ghost use Rattle.dr_store_writes.specs.Effects.{DropsArrivals, DropsOf, DropsOver, Step};
+ghost use Rattle.dr_store_writes.specs.Effects.{DropsArrivals, DropsOf, DropsOver, StatementStep};
 
 use crate::running::run;
 use dr_base::Text;
@@ -11,7 +11,8 @@ use sqlite::{Alter, Error, Transaction};
 /// All arrivals leave, and nothing else.
 pub fn drop_arrivals<S: Alter>(tx: &mut Transaction<'_, S>) -> Result<usize, Error>
     ensures same_reference { tx.new.conn.ghost_name ≡ tx.old.conn.ghost_name }
-    ensures step { Step result (state S.Store tx.old.conn.now) (state S.Store tx.new.conn.now)
+    ensures step { StatementStep result (state S.Store tx.old.conn.now)
+        (state S.Store tx.new.conn.now)
         (DropsArrivals (state S.Store tx.old.conn.now) (state S.Store tx.new.conn.now)) }
 {
     run(tx, "DELETE FROM arrival", &[])
@@ -20,7 +21,8 @@ pub fn drop_arrivals<S: Alter>(tx: &mut Transaction<'_, S>) -> Result<usize, Err
 /// The rows that are over leave, those that are done or dropped, and nothing else.
 pub fn drop_over<S: Alter>(tx: &mut Transaction<'_, S>) -> Result<usize, Error>
     ensures same_reference { tx.new.conn.ghost_name ≡ tx.old.conn.ghost_name }
-    ensures step { Step result (state S.Store tx.old.conn.now) (state S.Store tx.new.conn.now)
+    ensures step { StatementStep result (state S.Store tx.old.conn.now)
+        (state S.Store tx.new.conn.now)
         (DropsOver (state S.Store tx.old.conn.now) (state S.Store tx.new.conn.now)) }
 {
     run(tx, "DELETE FROM queue WHERE state >= 2", &[])
@@ -32,7 +34,8 @@ pub fn drop_arrivals_of<'x, S: Alter>(
     uid: &'x Text,
 ) -> Result<usize, Error>
     ensures same_reference { tx.new.conn.ghost_name ≡ tx.old.conn.ghost_name }
-    ensures step { Step result (state S.Store tx.old.conn.now) (state S.Store tx.new.conn.now)
+    ensures step { StatementStep result (state S.Store tx.old.conn.now)
+        (state S.Store tx.new.conn.now)
         (DropsOf 5 2 uid.now (state S.Store tx.old.conn.now) (state S.Store tx.new.conn.now)) }
 {
     run(
@@ -48,7 +51,8 @@ pub fn drop_rows_of<'x, S: Alter>(
     uid: &'x Text,
 ) -> Result<usize, Error>
     ensures same_reference { tx.new.conn.ghost_name ≡ tx.old.conn.ghost_name }
-    ensures step { Step result (state S.Store tx.old.conn.now) (state S.Store tx.new.conn.now)
+    ensures step { StatementStep result (state S.Store tx.old.conn.now)
+        (state S.Store tx.new.conn.now)
         (DropsOf 9 1 uid.now (state S.Store tx.old.conn.now) (state S.Store tx.new.conn.now)) }
 {
     run(
@@ -61,7 +65,8 @@ pub fn drop_rows_of<'x, S: Alter>(
 /// The length and the SHA-256 of an instance leave.
 pub fn drop_print<'x, S: Alter>(tx: &mut Transaction<'_, S>, uid: &'x Text) -> Result<usize, Error>
     ensures same_reference { tx.new.conn.ghost_name ≡ tx.old.conn.ghost_name }
-    ensures step { Step result (state S.Store tx.old.conn.now) (state S.Store tx.new.conn.now)
+    ensures step { StatementStep result (state S.Store tx.old.conn.now)
+        (state S.Store tx.new.conn.now)
         (DropsOf 3 1 uid.now (state S.Store tx.old.conn.now) (state S.Store tx.new.conn.now)) }
 {
     run(
@@ -74,7 +79,8 @@ pub fn drop_print<'x, S: Alter>(tx: &mut Transaction<'_, S>, uid: &'x Text) -> R
 /// An instance itself leaves, where nothing refers to it any more.
 pub fn drop_item<'x, S: Alter>(tx: &mut Transaction<'_, S>, uid: &'x Text) -> Result<usize, Error>
     ensures same_reference { tx.new.conn.ghost_name ≡ tx.old.conn.ghost_name }
-    ensures step { Step result (state S.Store tx.old.conn.now) (state S.Store tx.new.conn.now)
+    ensures step { StatementStep result (state S.Store tx.old.conn.now)
+        (state S.Store tx.new.conn.now)
         (DropsOf 1 1 uid.now (state S.Store tx.old.conn.now) (state S.Store tx.new.conn.now)) }
 {
     run(

@@ -14,7 +14,7 @@ use Rattle.dr_ledger.specs.declared.fault.LedgerFault.TheVariants as fault
 use Rattle.dr_run_open.specs.declared.halt.Halt.{Halt}
 use Rattle.dr_run_open.specs.declared.halt.Halt.TheVariants.{Refused, Memory, NoPlan, NoCertificate, NoNode, NotOpened, NoInstance, Receipt, Failed}
 use Rattle.dr_site.specs.Parts.{Part}
-use Rattle.dr_word_adopt.specs.Changings.{IsChanged, IsKept, IsUnchanged, MayChange}
+use Rattle.dr_word_adopt.specs.Changings.{IsChanged, IsKept, LeavesLedger, MayChange}
 use Rattle.dr_word_adopt.specs.Lookings.{IsUnseen, LooksInto, MayAdd, LooksAs, StandsAt}
 use Rattle.dr_word_adopt.specs.Changes.{came_of}
 use Rattle.dr_word_adopt.specs.declared.change.Changeover.{Changeover}
@@ -73,15 +73,15 @@ module _ {L : Type 0} (site_of : L → Part) (book : L → Book) (stands : L →
       → MatchResult seen (λ unfit. result ≡ Ok unfit) (λ why. result ≡ Err (Refused why))
       → new ≡ old ++ last ∷ []
       → MatchResult result (λ unfit. (x : Standing L) × (new ≡ old ++ x ∷ []) × LooksInto site_of book stands next s unfit x)
-      (λ halt. IsUnchanged halt × ((new ≡ old) ⊎ ((x : Standing L) × (new ≡ old ++ x ∷ []) × IsKept site_of book stands next s x)))
+      (λ halt. LeavesLedger halt × ((new ≡ old) ⊎ ((x : Standing L) × (new ≡ old ++ x ∷ []) × IsKept site_of book stands next s x)))
   added s last (Ok unfit) result old new h told is =
-      subst (λ r. MatchResult r (λ u. (x : Standing L) × (new ≡ old ++ x ∷ []) × LooksInto site_of book stands next s u x) (λ halt. IsUnchanged halt × ((new ≡ old) ⊎ ((x : Standing L) × (new ≡ old ++ x ∷ []) × IsKept site_of book stands next s x))))
+      subst (λ r. MatchResult r (λ u. (x : Standing L) × (new ≡ old ++ x ∷ []) × LooksInto site_of book stands next s u x) (λ halt. LeavesLedger halt × ((new ≡ old) ⊎ ((x : Standing L) × (new ≡ old ++ x ∷ []) × IsKept site_of book stands next s x))))
       (sym told) (last, is, h)
   added s last (Err why) result old new h told is =
-      subst (λ r. MatchResult r (λ u. (x : Standing L) × (new ≡ old ++ x ∷ []) × LooksInto site_of book stands next s u x) (λ halt. IsUnchanged halt × ((new ≡ old) ⊎ ((x : Standing L) × (new ≡ old ++ x ∷ []) × IsKept site_of book stands next s x))))
+      subst (λ r. MatchResult r (λ u. (x : Standing L) × (new ≡ old ++ x ∷ []) × LooksInto site_of book stands next s u x) (λ halt. LeavesLedger halt × ((new ≡ old) ⊎ ((x : Standing L) × (new ≡ old ++ x ∷ []) × IsKept site_of book stands next s x))))
       (sym told) (tt, inr (last, is, h))
 
-unseen : (old next : Certified) (name : Text) (halt : Halt) → IsUnchanged halt → IsUnseen old next name halt
+unseen : (old next : Certified) (name : Text) (halt : Halt) → LeavesLedger halt → IsUnseen old next name halt
 unseen old next name (Refused fault) u = tt
 unseen old next name Memory u = tt
 unseen old next name (NoPlan told) u = absurd u
@@ -96,7 +96,7 @@ unseen old next name (Failed failure) u = absurd u
 module _ {L : Type 0} (opens : Text → L → Type 0) (site_of : L → Part) (book : L → Book) (stands : L → Type 0) (folder : Text) (old next : Certified) where
   pub looked_at : (name : Text) (s : Standing L) (was all : List (Standing L)) (result : Result (Option Pair) Halt) → StandsAt opens site_of book stands folder old next name s
       → MatchResult result (λ unfit. (x : Standing L) × (all ≡ was ++ x ∷ []) × LooksInto site_of book stands next s unfit x)
-      (λ halt. IsUnchanged halt × ((all ≡ was) ⊎ ((x : Standing L) × (all ≡ was ++ x ∷ []) × IsKept site_of book stands next s x)))
+      (λ halt. LeavesLedger halt × ((all ≡ was) ⊎ ((x : Standing L) × (all ≡ was ++ x ∷ []) × IsKept site_of book stands next s x)))
       → MatchResult result (λ unfit. LooksAs opens site_of book stands folder old next name unfit was all) (λ halt. IsUnseen old next name halt × MayAdd opens site_of book stands folder old next name was all)
   looked_at name s was all (Ok unfit) at h = (h.0, h.1, seen_name opens site_of book stands folder old next s h.0 unfit h.2 ∙ at.0, seen opens site_of book stands folder old next s h.0 unfit at.1 h.2)
   looked_at name s was all (Err halt) at (u, inl same) = (unseen old next name halt u, inl same)

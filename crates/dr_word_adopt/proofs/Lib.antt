@@ -1,3 +1,4 @@
+mod Adopted
 mod Changed
 mod Lists
 mod Nodes

@@ -13,7 +13,7 @@ use Rattle.dr_site.specs.Parts.{Part}
 use Rattle.dr_base.specs.Lists.{Each}
 use Rattle.dr_plan_model.specs.Plans.{AreNames}
 use Rattle.dr_word_adopt.specs.Changes.{AreFirst, ChangesBetween, IsAsOpened, IsReady, IsUnfitAt, StopsAt, came_of, name_by}
-use Rattle.dr_word_adopt.specs.Changings.{IsChanged, IsUnchanged, OnlyFirstAreChanged}
+use Rattle.dr_word_adopt.specs.Changings.{IsChanged, LeavesLedger, OnlyFirstAreChanged}
 use Rattle.dr_word_adopt.specs.Lookings.{AllLookAs, IsUnseen, LooksAs, MayAdd}
 use Rattle.dr_word_adopt.specs.declared.change.Changeover.{Changeover}
 use Rattle.dr_word_adopt.specs.declared.change.Changeover.TheVariants.{Made, Unfit}
@@ -74,7 +74,7 @@ module _ {L : Type 0} (opens : Text → L → Type 0) (site_of : L → Part) (bo
   module _ (names : List Text) (are : AreNames old.plan names) (mid all : List (Standing L)) (shown : map (name_by site_of) mid ≡ names) (ripe : All Ripe mid) where
     -- all were changed, or only the first ones
     pub ends_between : (result : Result Changeover Halted) → MatchResult result (λ change. (change ≡ Made) × Each (IsChanged site_of book stands next) mid all)
-        (λ stop. IsUnchanged stop.halt × OnlyFirstAreChanged site_of book stands next mid all) → ChangesBetween opens site_of book stands folder old next (came_of result) all
+        (λ stop. LeavesLedger stop.halt × OnlyFirstAreChanged site_of book stands next mid all) → ChangesBetween opens site_of book stands folder old next (came_of result) all
     ends_between (Ok change) h = subst (λ c. ChangesBetween opens site_of book stands folder old next (Ok c) all) (sym h.0) (
       subst (AreNames old.plan) (sym (all_named opens site_of book stands folder old next mid all h.1 ∙ shown)) are,
       all_over opens site_of book stands folder old next mid all ripe h.1,

@@ -20,7 +20,7 @@ use Rattle.dr_plan_model.specs.Plans.{AreNames, NamesNoNode}
 use Rattle.dr_site.specs.Parts.{Part, IsPartOf}
 use Rattle.dr_base.specs.Lists.{Each}
 use Rattle.dr_word_adopt.specs.Changes.{AreFirst, IsAsOpened, IsLeft, IsOver, IsReady, IsSiteAt, IsUnfitAt, OnlyFirstAreOver, StopsAt, UnfitLeavesAll, name_by, path_in}
-use Rattle.dr_word_adopt.specs.Changings.{IsChanged, IsKept, IsUnchanged, MayChange, OnlyFirstAreChanged}
+use Rattle.dr_word_adopt.specs.Changings.{IsChanged, IsKept, LeavesLedger, MayChange, OnlyFirstAreChanged}
 use Rattle.dr_word_adopt.specs.Lookings.{IsFound, IsSeen, IsUnseen, LooksInto, StandsAt, stood}
 use Rattle.dr_word_adopt.specs.declared.standing.Standing.{Standing}
 use Rattle.dr_word_adopt.specs.declared.standing.Standing.TheVariants.{Ready, Over}
@@ -28,7 +28,7 @@ use Rattle.dr_word_adopt.specs.declared.standing.FoundLedger.{FoundLedger}
 use Rattle.dr_word_adopt.specs.declared.standing.FoundLedger.TheVariants.{InForce, Next}
 
 -- what is shown of an element shows one of them
-unmapped : {X Y : Type 0} (f : X → Y) (xs : List X) (y : Y) → Contains (map f xs) y → (x : X) × Contains xs x × (f x ≡ y)
+pub unmapped : {X Y : Type 0} (f : X → Y) (xs : List X) (y : Y) → Contains (map f xs) y → (x : X) × Contains xs x × (f x ≡ y)
 unmapped f [] y among = absurd (nothing_in_nil y among)
 unmapped f (x ∷ xs) y among = elim (Contains-cons_cases (f x) (map f xs) y among) [
   | inl same ↦ (x, Contains-here x xs, same)
@@ -184,7 +184,7 @@ module _ {L : Type 0} (opens : Text → L → Type 0) (site_of : L → Part) (bo
       ∙ sym (map-append (name_by site_of) h.done (h.one ∷ h.later)) ∙ ap (map (name_by site_of)) (sym h.was)
 
   -- why it stops, by what is said of the refusal
-  pub stops_by : (now : List (Standing L)) (halt : Halt) → IsUnchanged halt → AreFirst opens site_of book stands folder old next now → OnlyFirstAreOver opens site_of book stands folder old next now
+  pub stops_by : (now : List (Standing L)) (halt : Halt) → LeavesLedger halt → AreFirst opens site_of book stands folder old next now → OnlyFirstAreOver opens site_of book stands folder old next now
       → StopsAt opens site_of book stands folder old next halt now
   stops_by now (Refused fault) u first only = (first, only)
   stops_by now Memory u first only = only

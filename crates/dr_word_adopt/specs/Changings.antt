@@ -13,16 +13,16 @@ use Rattle.dr_word_adopt.specs.declared.standing.Standing.TheVariants.{Ready, Ov
 use Rattle.dr_base.specs.Lists.{Each}
 
 -- why a ledger isn't changed: it refused, or want of memory
-abbrev pub IsUnchanged : Halt → Type 0
-IsUnchanged (Refused fault) = Unit {0}
-IsUnchanged Memory = Unit {0}
-IsUnchanged (NoPlan told) = ⊥
-IsUnchanged (NoCertificate fault) = ⊥
-IsUnchanged NoNode = ⊥
-IsUnchanged (NotOpened fault) = ⊥
-IsUnchanged (NoInstance fault) = ⊥
-IsUnchanged Receipt = ⊥
-IsUnchanged (Failed failure) = ⊥
+abbrev pub LeavesLedger : Halt → Type 0
+LeavesLedger (Refused fault) = Unit {0}
+LeavesLedger Memory = Unit {0}
+LeavesLedger (NoPlan told) = ⊥
+LeavesLedger (NoCertificate fault) = ⊥
+LeavesLedger NoNode = ⊥
+LeavesLedger (NotOpened fault) = ⊥
+LeavesLedger (NoInstance fault) = ⊥
+LeavesLedger Receipt = ⊥
+LeavesLedger (Failed failure) = ⊥
 
 module _ {L : Type 0} (site_of : L → Part) (book : L → Book) (stands : L → Type 0)
     (next : Certified) where

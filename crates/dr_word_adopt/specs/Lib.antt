@@ -1,3 +1,4 @@
+pub mod Adoptions
 pub mod Changes
 pub mod Changings
 pub mod Endings

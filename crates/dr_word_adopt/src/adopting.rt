@@ -3,7 +3,7 @@ ghost use Rattle.std.specs.Prelude.{◌≡◌, [], All, IfOk, MatchResult, Ok, E
 ghost use Rattle.dr_plan_model.specs.Plans.{AreNames};
 ghost use Rattle.dr_word_adopt.specs.Changes.{AreSealed, AreUnsealed, Changes};
 ghost use Rattle.dr_word_adopt.specs.Changes.{ChangesBetween, came_of};
-ghost use Rattle.dr_word_adopt.specs.Changings.{IsChanged, IsUnchanged, MayChange};
+ghost use Rattle.dr_word_adopt.specs.Changings.{IsChanged, LeavesLedger, MayChange};
 ghost use Rattle.dr_base.specs.Lists.{Each};
 ghost use Rattle.dr_word_adopt.specs.Changings.{OnlyFirstAreChanged};
 ghost use Rattle.dr_word_adopt.specs.Endings.{AdoptsFiles, EndsChange, unfit_line};
@@ -64,7 +64,7 @@ fn make_change<'a, L: Ledger + Drop>(
     ensures { MatchResult result
         (λ change. (change ≡ Changeover.Made)
         × Each (IsChanged L.site L.book L.stands next.now) all.old.items all.new.items)
-        (λ stop. IsUnchanged stop.halt
+        (λ stop. LeavesLedger stop.halt
         × OnlyFirstAreChanged L.site L.book L.stands next.now all.old.items all.new.items) }
 {
     match change_all(all.as_mut_slice(), next) {

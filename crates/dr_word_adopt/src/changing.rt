@@ -1,6 +1,6 @@
 //! The ledgers of all nodes, changed one after the other.
 ghost use Rattle.std.specs.Prelude.{◌≡◌, All, MatchResult};
-ghost use Rattle.dr_word_adopt.specs.Changings.{IsChanged, IsKept, IsUnchanged, MayChange};
+ghost use Rattle.dr_word_adopt.specs.Changings.{IsChanged, IsKept, LeavesLedger, MayChange};
 ghost use Rattle.dr_base.specs.Lists.{Each};
 ghost use Rattle.dr_word_adopt.specs.Changings.{OnlyFirstAreChanged};
 
@@ -30,7 +30,7 @@ fn change<L: Ledger + Drop>(standing: &mut Standing<L>, next: &Sealed) -> Result
 
 /// The refusal of the ledger of a node.
 fn refused_at<'a, L: Ledger + Drop>(standing: &Standing<L>, fault: LedgerFault) -> Halted<'a>
-    ensures { IsUnchanged result.halt }
+    ensures { LeavesLedger result.halt }
 {
     match standing {
         Standing::Over(_) => Halted::from(Halt::Refused(fault)),
@@ -48,7 +48,7 @@ pub fn change_all<'a, L: Ledger + Drop>(
     requires { All (MayChange L.site L.book L.stands next.now) all.old }
     ensures { MatchResult result
         (λ _. Each (IsChanged L.site L.book L.stands next.now) all.old all.new)
-        (λ stop. IsUnchanged stop.halt
+        (λ stop. LeavesLedger stop.halt
         × OnlyFirstAreChanged L.site L.book L.stands next.now all.old all.new) }
 {
     for standing in all.iter_mut() {

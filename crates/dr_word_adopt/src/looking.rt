@@ -6,7 +6,7 @@ ghost use Rattle.dr_run_open.specs.Openings.{IsUnopened, Sites};
 ghost use Rattle.dr_run_open.specs.declared.halt.Halt.TheVariants.{Refused};
 ghost use Rattle.dr_plan_model.specs.Plans.{AreNames};
 ghost use Rattle.dr_word_adopt.specs.Changes.{IsSiteAt, StopsAt, path_in};
-ghost use Rattle.dr_word_adopt.specs.Changings.{IsKept, IsUnchanged};
+ghost use Rattle.dr_word_adopt.specs.Changings.{IsKept, LeavesLedger};
 ghost use Rattle.dr_word_adopt.specs.Lookings.{AllLookAs, IsFound, IsUnseen, LooksAs, LooksInto};
 ghost use Rattle.dr_word_adopt.specs.Lookings.{MayAdd, StandsAt, stood};
 ghost use Rattle.dr_word_adopt.specs.declared.standing.Standing.{Standing as StandingValue};
@@ -224,7 +224,7 @@ fn look_and_add<'a, L: Ledger + Drop>(
     ensures { MatchResult result
         (λ unfit. (last : StandingValue L) × (all.new.items ≡ all.old.items ++ last ∷ [])
         × LooksInto L.site L.book L.stands next.now standing unfit last)
-        (λ halt. IsUnchanged halt × ((all.new.items ≡ all.old.items)
+        (λ halt. LeavesLedger halt × ((all.new.items ≡ all.old.items)
         ⊎ ((last : StandingValue L) × (all.new.items ≡ all.old.items ++ last ∷ [])
         × IsKept L.site L.book L.stands next.now standing last))) }
 {

@@ -11,8 +11,10 @@ use Rattle.dr_site.proofs.AsPlanned.{kept_by}
 use Rattle.dr_world_audit.specs.Sites.{AreApart, names}
 use Rattle.dr_world_audit.specs.declared.audit.NodeJournal.{NodeJournal}
 use Rattle.dr_word_audit.specs.Audits.{AreOfNodes}
-use Rattle.dr_word_adopt.specs.Changes.{name_of}
 use Rattle.dr_word_audit.specs.Names.{AreNodes, is_ours, our_names}
+
+abbrev name_of : Node → Text
+name_of node = node.name
 
 -- what is shown of an element shows one of them
 unmapped : {X Y : Type 0} (f : X → Y) (xs : List X) (y : Y) → Contains (mapped f xs) y → (x : X) × Contains xs x × (f x ≡ y)

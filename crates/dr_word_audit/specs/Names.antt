@@ -7,7 +7,6 @@ use Rattle.dr_base.specs.Texts.{Text}
 use Rattle.dr_plan_model.specs.Networks.{Network}
 use Rattle.dr_plan_model.specs.Plans.{NamesNoNode}
 use Rattle.dr_plan_model.specs.declared.plan.Node.{Node}
-use Rattle.dr_word_adopt.specs.Changes.{name_of}
 
 -- the other name is this one
 abbrev pub is_name : Text → Text → Bool
@@ -23,7 +22,7 @@ is_ours others node = not (is_among others node.name)
 
 -- the names of those of these nodes that are ours, in their order
 abbrev pub our_names : List Text → List Node → List Text
-our_names others nodes = mapped name_of (filter (is_ours others) nodes)
+our_names others nodes = mapped (λ node. node.name) (filter (is_ours others) nodes)
 
 -- each of these is the name of a node of the plan
 abbrev pub AreNodes : Network → List Text → Type 0

@@ -4,4 +4,5 @@ pub mod Expanded
 pub mod Faults
 pub mod Laws
 pub mod Runs
+pub mod Tasks
 pub mod Verdicts

@@ -1,15 +1,11 @@
 //! A run of the program.
-ghost use Rattle.std.specs.Prelude.{◌≡◌, ◌≢◌, ◌⊎◌, ℕ, List, IfOk, OnOk, IfSome};
-ghost use Rattle.std.specs.Borrow.{Bor};
+ghost use Rattle.std.specs.Prelude.{◌≡◌, ◌≢◌, ◌⊎◌, IfOk, OnOk, IfSome};
 ghost use Rattle.dr_base.specs.Texts.{Text};
 ghost use Rattle.std.specs.Io.KnownBytes.{Appends};
 ghost use Rattle.dr_word_check.specs.Verdicts.{verdict_line};
-ghost use Rattle.dr_word_check.specs.All.{AnswersWithAll};
 ghost use Rattle.dr_word_check.specs.Runs.{Answers, Verifies};
-ghost use Rattle.dr_word_check.specs.Expanded.{Expanded};
-ghost use Rattle.dr_word_line.specs.declared.words.Task.TheVariants as asks;
-ghost use Rattle.dr_run_open.specs.declared.status.Status.TheVariants.{Refused, Usage};
-ghost use Rattle.dr_run_open.specs.declared.status.Status.TheVariants.{InputOutput, Memory};
+ghost use Rattle.dr_word_check.specs.Tasks.{DoesOnTexts, HasFailed};
+ghost use Rattle.dr_run_open.specs.declared.status.Status.TheVariants.{Memory, Refused, Usage};
 
 use crate::all::{answer_file_with_all, answer_input_with_all};
 use crate::answer::answer_text;
@@ -139,7 +135,7 @@ fn tell_words<W: Write, E: Write>(
 
 /// Writes why the run failed, and ends so; a fault that can't be written is left unwritten.
 pub fn tell_failure<E: Write>(failure: &Failure<'_>, faults: &mut E) -> Status
-    ensures { (result ≡ InputOutput) ⊎ (result ≡ Memory) }
+    ensures { HasFailed result }
 {
     let (Failure::Stream(error) | Failure::File(_, error)) = failure;
     if error.kind() == io::ErrorKind::OutOfMemory {
@@ -187,34 +183,9 @@ pub fn run_asked<'a, R: Read, W: Write, E: Write, F: Files>(
     faults: &mut E,
     files: &F,
 ) -> Result<Status, Failure<'a>>
-    ensures known { asked.entry ≡ asks.CheckInput → IfOk result (λ status. status ≢ Usage) }
-    ensures answered { asked.entry ≡ asks.CheckInput
-        → IfOk result (λ status. IfSome (R.remaining input.old) (λ text.
-        Answers text (W.contents output.old) (W.contents output.new) status)) }
-    ensures checked { (plan : Bor (List ℕ))
-        → asked.entry ≡ asks.CheckFile plan
-        → IfOk result (λ status. (text : Text)
-        × F.holds files.now plan.now text
-        × Answers text (W.contents output.old) (W.contents output.new) status) }
-    ensures all { asked.entry ≡ asks.CheckAllOfInput
-        → IfOk result (λ status. IfSome (R.remaining input.old) (λ text.
-        AnswersWithAll text (W.contents output.old) (W.contents output.new) status)) }
-    ensures all_of_file { (plan : Bor (List ℕ))
-        → asked.entry ≡ asks.CheckAllOfFile plan
-        → IfOk result (λ status. (text : Text)
-        × F.holds files.now plan.now text
-        × AnswersWithAll text (W.contents output.old) (W.contents output.new) status) }
-    ensures expanded { (plan : Bor (List ℕ))
-        → asked.entry ≡ asks.Expand plan
-        → IfOk result (λ status. (text : Text)
-        × F.holds files.now plan.now text
-        × Expanded text (W.contents output.old) (W.contents output.new) status) }
-    ensures verified { (plan certificate : Bor (List ℕ))
-        → asked.entry ≡ asks.Verify plan certificate
-        → IfOk result (λ status. (text : Text)
-        × F.holds files.now plan.now text
-        × Verifies (F.holds files.now certificate.now) text (W.contents output.old)
-        (W.contents output.new) status) }
+    ensures { IfOk result
+        (DoesOnTexts (F.holds files.now) (R.remaining input.old) asked.entry (W.contents output.old)
+        (W.contents output.new)) }
 {
     match asked {
         Task::CheckInput => Ok(answer_input(alloc, input, output, faults)?),

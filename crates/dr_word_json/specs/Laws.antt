@@ -3,8 +3,8 @@ use Rattle.std.specs.Prelude.{◌≡◌, [], ◌∷◌, ◌++◌, codes}
 use Rattle.dr_word_json.specs.Documents.{document}
 
 -- figures: no line; a line of one part; two lines, the first of two parts; a part with a quote
-abbrev pub FiguresAreRight : Type 0
-FiguresAreRight =
+abbrev pub DocumentFiguresAreRight : Type 0
+DocumentFiguresAreRight =
     (document [] ≡ codes "[]" ++ (10 ∷ []))
     × (document (codes "yes" ++ (10 ∷ [])) ≡ codes "[[\"yes\"]]" ++ (10 ∷ []))
     × (document

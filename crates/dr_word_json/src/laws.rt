@@ -1,7 +1,7 @@
 //! Laws of documents. Nothing here runs: each function's contract is a law.
-ghost use Rattle.dr_word_json.specs.Laws.{FiguresAreRight};
+ghost use Rattle.dr_word_json.specs.Laws.{DocumentFiguresAreRight};
 
 /// Figures of documents.
 pub fn figures_are_right()
-    ensures { FiguresAreRight }
+    ensures { DocumentFiguresAreRight }
 {}

@@ -1,14 +1,9 @@
 //! Words about plans, whose answers are printed as JSON.
-ghost use Rattle.std.specs.Prelude.{◌≡◌, ℕ, List, IfOk, IfSome, OnOk};
-ghost use Rattle.std.specs.Borrow.{Bor};
+ghost use Rattle.std.specs.Prelude.{IfOk, OnOk};
 ghost use Rattle.std.specs.Io.KnownBytes.{Appends};
-ghost use Rattle.dr_base.specs.Texts.{Text as OfText};
-ghost use Rattle.dr_word_check.specs.Runs.{Answers};
 ghost use Rattle.dr_word_json.specs.Documents.{document};
 ghost use Rattle.dr_word_json.specs.Runs.{IsAsJson};
-ghost use Rattle.dr_word_line.specs.declared.words.Task.TheVariants as asks;
-ghost use Rattle.dr_word_line.specs.declared.words.Question.{Question as QuestionValue};
-ghost use Rattle.dr_word_route.specs.Runs.{Asks};
+ghost use Rattle.dr_word_route.specs.Tasks.{DoesOnPlans};
 
 use crate::document::document_of;
 use dr_run_files::{Failure, Files};
@@ -41,19 +36,9 @@ pub fn run_as_json<'a, R: Read, W: Write, E: Write, F: Files>(
     faults: &mut E,
     files: &F,
 ) -> Result<Status, Failure<'a>>
-    ensures answered { asked.entry ≡ asks.CheckInput
-        → IfOk result (λ status. IfSome (R.remaining input.old) (λ text.
-        IsAsJson (Answers text) (W.contents output.old) (W.contents output.new) status)) }
-    ensures checked { (plan : Bor (List ℕ))
-        → asked.entry ≡ asks.CheckFile plan
-        → IfOk result (λ status. (text : OfText)
-        × F.holds files.now plan.now text
-        × IsAsJson (Answers text) (W.contents output.old) (W.contents output.new) status) }
-    ensures responded { (plan certificate : Bor (List ℕ)) (question : QuestionValue)
-        → asked.entry ≡ asks.Question plan certificate question
-        → IfOk result
-        (IsAsJson (Asks (F.holds files.now) plan certificate question) (W.contents output.old)
-        (W.contents output.new)) }
+    ensures { IfOk result
+        (IsAsJson (DoesOnPlans (F.holds files.now) (R.remaining input.old) asked.entry)
+        (W.contents output.old) (W.contents output.new)) }
 {
     let mut lines = Vec::new(alloc);
     let status = run_asked(alloc, asked, input, &mut lines, faults, files)?;

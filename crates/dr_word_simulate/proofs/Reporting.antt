@@ -62,7 +62,7 @@ reported_after {L} {l} plan certificate deeds changes w text run reported =
             let h : (n : Node L l) × (tree.get text_cmp w.nodes name ≡ Some n) × (l.book n.desk.ledger ≡ book) = find name book of in
             ap (λ d. d.book) (r.3.2.desks name ∙ ap (λ o. desk_at (option_map seat_of o)) h.1) ∙ h.2;
       });
-      holds = λ none. ∥∥₁_map (run.1 none) (λ v. (v.0, (λ name book of. v.1 name (find name book of).0 (find name book of).1 ∙ (find name book of).2), v.2, v.3));
+      holds = λ none. ∥∥₁_map (run.1 none) (λ v. (v.0, (λ name book of. v.2 name (find name book of).0 (find name book of).1 ∙ (find name book of).2), v.3, v.4));
     }
 
 -- one more change is told

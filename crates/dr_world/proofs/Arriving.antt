@@ -36,7 +36,7 @@ use Rattle.dr_world.specs.Shows.{Contents, Seat, ShowsBytes, IsSeated, Becomes, 
 use Rattle.dr_world.specs.Ends.{IsDoneAtEnd, AreWritten, name_at, wire_at, opposite}
 use Rattle.dr_world.specs.Nodes.{IsDoneAt, event_at, over_at, seat_of}
 use Rattle.dr_world.specs.Whole.{Meets, MeetsIn, StepsTo, contents, noted}
-use Rattle.dr_world.specs.Moved.{AreTaken, Hears, HearsIn, IsDue, IsDueAt, IsMovable, kept_at, kept_of}
+use Rattle.dr_world.specs.Moved.{AreTaken, Hears, HearsIn, IsMoveDue, IsDueAt, IsMovable, kept_at, kept_of}
 use Rattle.dr_world.proofs.Asking.{MetAt, met_at, seated_after, node_of, did_at, wire_of}
 use Rattle.dr_world.proofs.Closes.{over_is, skipped}
 use Rattle.dr_world.proofs.Counted.{linked_there}
@@ -183,13 +183,13 @@ module _ {L : Type 0} {l : Ghosts L} (old : World L l) (link n : ℕ) (side : Si
       by_case k o wire (inr (inl e)) = inr (inl (sym (o side) ∙ e))
       by_case k o wire (inr (inr e)) = inr (inr (wire ∙ e.0, sym (o (opposite side)) ∙ e.1))
 
-  nothing_in : (o : Option Wires) → tree.get nat_cmp old.wires link ≡ o → IsDue o old.nodes link side n due.Nothing → StepsTo (Move link side n) old Skipped old
+  nothing_in : (o : Option Wires) → tree.get nat_cmp old.wires link ≡ o → IsMoveDue o old.nodes link side n due.Nothing → StepsTo (Move link side n) old Skipped old
   nothing_in None none h = skipped old old (Move link side n) refl (λ all. all) (λ plan certificate b s.
       (let P : Option Channel → Type 0 = λ o. LinkStep o b WasSkipped b (λ z. Moves plan b link z side n WasSkipped b) in subst P (sym (unlinked (contents old) b s link none)) (refl, refl)))
   nothing_in (Some w) has h = nothing_at w has h
 
-  pub nothing_moves : (what : MoveDue) → IsDue (tree.get nat_cmp old.wires link) old.nodes link side n what → what ≡ due.Nothing → StepsTo (Move link side n) old Skipped old
-  nothing_moves what h is = (let P : MoveDue → Type 0 = λ d. IsDue (tree.get nat_cmp old.wires link) old.nodes link side n d in nothing_in (tree.get nat_cmp old.wires link) refl (subst P is h))
+  pub nothing_moves : (what : MoveDue) → IsMoveDue (tree.get nat_cmp old.wires link) old.nodes link side n what → what ≡ due.Nothing → StepsTo (Move link side n) old Skipped old
+  nothing_moves what h is = (let P : MoveDue → Type 0 = λ d. IsMoveDue (tree.get nat_cmp old.wires link) old.nodes link side n d in nothing_in (tree.get nat_cmp old.wires link) refl (subst P is h))
 
 -- ---- the connection's end
 
@@ -232,7 +232,7 @@ module _ {L : Type 0} {l : Ghosts L} (old new : World L l) (link n : ℕ) (side 
       one_channel : (x y : Channel) → Some x ≡ Some y → x ≡ y
       one_channel x y e = cc
 
-  end_in : (o : Option Wires) → tree.get nat_cmp old.wires link ≡ o → (note : StepNote) → IsDue o old.nodes link side n due.End → MeetsIn (event_at (event.Heard heard.End)) o link side old note new → StepsTo (Move link side n) old Done new
+  end_in : (o : Option Wires) → tree.get nat_cmp old.wires link ≡ o → (note : StepNote) → IsMoveDue o old.nodes link side n due.End → MeetsIn (event_at (event.Heard heard.End)) o link side old note new → StepsTo (Move link side n) old Done new
   end_in None none note h m = (let e : ⊥ = not_nothing h in absurd e)
     where
       not_nothing : due.End ≡ due.Nothing → ⊥
@@ -247,9 +247,9 @@ module _ {L : Type 0} {l : Ghosts L} (old new : World L l) (link n : ℕ) (side 
         ),
   )
 
-  pub end_moves : (what : MoveDue) (note : StepNote) (e : LinkEvent) → IsDue (tree.get nat_cmp old.wires link) old.nodes link side n what → what ≡ due.End → e ≡ event.Heard heard.End → Meets (event_at e) link side old note new → StepsTo (Move link side n) old Done new
+  pub end_moves : (what : MoveDue) (note : StepNote) (e : LinkEvent) → IsMoveDue (tree.get nat_cmp old.wires link) old.nodes link side n what → what ≡ due.End → e ≡ event.Heard heard.End → Meets (event_at e) link side old note new → StepsTo (Move link side n) old Done new
   end_moves what note e h is e_is m =
-      let P : MoveDue → Type 0 = λ d. IsDue (tree.get nat_cmp old.wires link) old.nodes link side n d in
+      let P : MoveDue → Type 0 = λ d. IsMoveDue (tree.get nat_cmp old.wires link) old.nodes link side n d in
       let Q : LinkEvent → Type 0 = λ x. Meets (event_at x) link side old note new in
       end_in (tree.get nat_cmp old.wires link) refl note (subst P is h) (subst Q e_is m)
 
@@ -270,7 +270,7 @@ module _ {L : Type 0} {l : Ghosts L} (old new : World L l) (link n : ℕ) (side 
         one_wires : (x y : Wires) → Some x ≡ Some y → x ≡ y
         one_wires x y e = cc
 
-    hears_in : (o : Option Wires) → tree.get nat_cmp old.wires link ≡ o → (note : StepNote) → IsDue o old.nodes link side n (due.Bytes m) → HearsIn o link side m old note new → StepsTo (Move link side n) old note new
+    hears_in : (o : Option Wires) → tree.get nat_cmp old.wires link ≡ o → (note : StepNote) → IsMoveDue o old.nodes link side n (due.Bytes m) → HearsIn o link side m old note new → StepsTo (Move link side n) old note new
     hears_in None none note h heard_so = (let e : ⊥ = not_nothing h in absurd e)
       where
         not_nothing : due.Bytes m ≡ due.Nothing → ⊥
@@ -284,9 +284,9 @@ module _ {L : Type 0} {l : Ghosts L} (old new : World L l) (link n : ℕ) (side 
           ),
     )
 
-    pub bytes_move : (what : MoveDue) (note : StepNote) → IsDue (tree.get nat_cmp old.wires link) old.nodes link side n what → what ≡ due.Bytes m → Hears link side m old note new → StepsTo (Move link side n) old note new
+    pub bytes_move : (what : MoveDue) (note : StepNote) → IsMoveDue (tree.get nat_cmp old.wires link) old.nodes link side n what → what ≡ due.Bytes m → Hears link side m old note new → StepsTo (Move link side n) old note new
     bytes_move what note h is heard_so =
-        let P : MoveDue → Type 0 = λ d. IsDue (tree.get nat_cmp old.wires link) old.nodes link side n d in
+        let P : MoveDue → Type 0 = λ d. IsMoveDue (tree.get nat_cmp old.wires link) old.nodes link side n d in
         hears_in (tree.get nat_cmp old.wires link) refl note (subst P is h) heard_so
 
 -- ---- as the calls have it

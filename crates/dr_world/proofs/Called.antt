@@ -19,7 +19,7 @@ use Rattle.dr_node.specs.declared.event.LinkEvent.{LinkEvent}
 use Rattle.dr_node.specs.declared.fault.NodeFault.{NodeFault}
 use Rattle.dr_node.specs.declared.node.Node.{Node}
 use Rattle.dr_node.specs.Desks.{LedgerStep}
-use Rattle.dr_node.specs.Sides.{Accepts, Does, MeetsEvent, Opens, Pushes}
+use Rattle.dr_node.specs.Sides.{AcceptsLink, Does, MeetsEvent, Opens, Pushes}
 use Rattle.dr_node.proofs.Booked.{input_booked, push_booked}
 use Rattle.dr_node.proofs.Keeping.{input_stays, push_stays, input_stood, push_stood}
 use Rattle.dr_world_model.specs.Worlds.{same_text}
@@ -111,7 +111,7 @@ module _ {L : Type 0} {l : Ghosts L} (old new : BTreeMap Text (Node L l)) (name 
       let P : List Hop → Type 0 = λ all. Contains all f.0 in
       (n, after.links, (f.0, (subst P same f.1, f.2)), opens, sides_there desk)
 
-  pub accepted_there : (link now : ℕ) → Accepts n.site link now n.links (Ok tt) after.links → after.desk ≡ n.desk → AcceptsAt name link now old new
+  pub accepted_there : (link now : ℕ) → AcceptsLink n.site link now n.links (Ok tt) after.links → after.desk ≡ n.desk → AcceptsAt name link now old new
   accepted_there link now accepts desk = (n, after.links, accepts, sides_there desk)
 
 pub without_hop_there : {L : Type 0} {l : Ghosts L} (old new : BTreeMap Text (Node L l)) (name : Text) (n : Node L l) (has : Some n ≡ tree.get text_cmp old name) → ((q : Text) → tree.get text_cmp new q ≡ cond (is_at (text_cmp name) q) (Some n) (tree.get text_cmp old q))

@@ -21,7 +21,7 @@ use Rattle.dr_node.specs.declared.event.LinkEvent.TheVariants as event
 use Rattle.dr_node.specs.declared.fault.NodeFault.TheVariants.{LinkUnknown}
 use Rattle.dr_node.specs.declared.links.LinkSide.{LinkSide as NodeSide}
 use Rattle.dr_node.specs.declared.node.Node.{Node}
-use Rattle.dr_node.specs.Sides.{Sides, Deed, Does, DoesIn, moment_at, state_of_side, with_end}
+use Rattle.dr_node.specs.Sides.{Sides, EndDeed, Does, DoesIn, moment_at, state_of_side, with_end}
 use Rattle.dr_world_model.proofs.Lookups.{numbers}
 use Rattle.dr_world_tie.specs.Channels.{Channel}
 use Rattle.dr_world_tie.specs.ByteWorlds.{ByteWorld, WorldStep, Steps, Close, Skipped as WasSkipped, LinkStep, DoesIf, Closes, is_over}
@@ -37,7 +37,7 @@ use Rattle.dr_world.proofs.Closing.{closed_becomes, closed_seated}
 use Rattle.dr_world.proofs.Linking.{unlinked}
 
 -- the deed of one end, where it answered
-module _ (does : Deed Desk) (now link : ℕ) (old new : Sides) (s t : Desk) (acts : List LinkAction) where
+module _ (does : EndDeed Desk) (now link : ℕ) (old new : Sides) (s t : Desk) (acts : List LinkAction) where
   deed_in : (o : Option NodeSide) → map.get old link ≡ o → DoesIn does now link o old s (Ok acts) new t → (own : NodeSide) × (end : Terminal) × (map.get old link ≡ Some own) × does (moment_at link old now) own.end s (Ok acts) end t × (new ≡ map.insert old link (with_end own end))
   deed_in None none h = (let e : ⊥ = no_fault acts h.0 in absurd e)
     where

@@ -23,7 +23,7 @@ use Rattle.dr_world_tie.specs.Channels.{Channel}
 use Rattle.dr_world_tie.specs.ByteWorlds.{ByteWorld, is_open, receiver_of}
 use Rattle.dr_world.specs.declared.wires.Wires.{Wires}
 use Rattle.dr_world.specs.Shows.{Contents, Seat, Seats, ShowsBytes, HasSide, IsLinked, LinkedAt, IsOfLink, side_of}
-use Rattle.dr_world.specs.Laws.{OthersAreCounted}
+use Rattle.dr_world.specs.Laws.{OtherLinksAreCounted}
 
 -- ---- states
 
@@ -208,7 +208,7 @@ module _ (c : Contents) (b : ByteWorld) (s : ShowsBytes c b) (link : ℕ) (name 
       not_so true h = absurd (h refl)
       not_so false h = refl
 
-pub others_are_counted : OthersAreCounted
+pub others_are_counted : OtherLinksAreCounted
 others_are_counted c b s link name seat is =
     let es = map.entries seat.sides in
     let rising = map.entries_sorted seat.sides in (

@@ -20,7 +20,7 @@ use Rattle.dr_node.specs.declared.event.LinkEvent.TheVariants as event
 use Rattle.dr_node.specs.declared.fault.NodeFault.TheVariants.{LinkUnknown}
 use Rattle.dr_node.specs.declared.links.LinkSide.{LinkSide as NodeSide}
 use Rattle.dr_node.specs.declared.node.Node.{Node}
-use Rattle.dr_node.specs.Sides.{Sides, Deed, Does, DoesIn, with_end}
+use Rattle.dr_node.specs.Sides.{Sides, EndDeed, Does, DoesIn, with_end}
 use Rattle.dr_world_model.proofs.Lookups.{numbers}
 use Rattle.dr_world_tie.specs.Channels.{Channel}
 use Rattle.dr_world_tie.specs.ByteWorlds.{ByteWorld, Side, Requestor, Acceptor, WorldStep, Push, Abort, Release, Late, Steps, Skipped as WasSkipped}
@@ -37,7 +37,7 @@ use Rattle.dr_world.proofs.Asking.{met_at, seated_after, aborted, released, dela
 
 -- ---- the contents after a call
 
-module _ {L : Type 0} {l : Ghosts L} (does : Part → Deed Desk) (old new : World L l) (link taken : ℕ) (side : Side) (w v : Wires) (acts : List LinkAction) (wired : Some w ≡ tree.get nat_cmp old.wires link)
+module _ {L : Type 0} {l : Ghosts L} (does : Part → EndDeed Desk) (old new : World L l) (link taken : ℕ) (side : Side) (w v : Wires) (acts : List LinkAction) (wired : Some w ≡ tree.get nat_cmp old.wires link)
     (updates : (q : ℕ) → tree.get nat_cmp new.wires q ≡ cond (is_at (nat_cmp link) q) (Some v) (tree.get nat_cmp old.wires q)) (time : new.time ≡ old.time) (opened : new.opened ≡ old.opened) (written : AreWritten side taken acts w v) where
   wires_at : (q : ℕ) → tree.get nat_cmp new.wires q ≡ with_wires (contents old).wires link v q
   wires_at q = updates q ∙ ap (λ (b : Bool). cond b (Some v) (tree.get nat_cmp old.wires q)) ((eq_by_cmp_equiv numbers.total).symm link q)
@@ -78,7 +78,7 @@ module _ {L : Type 0} {l : Ghosts L} (does : Part → Deed Desk) (old new : Worl
       by_side h.0 h.1 d.0 d.1 (map.get h.0.links link) refl (subst D at d.2) d.3
 
 -- the same, as the call has it
-pub done_named : {L : Type 0} {l : Ghosts L} (does : Part → Deed Desk) (old new : World L l) (link : ℕ) (side : Side) (w v : Wires) (acts written_acts noted_acts : List LinkAction) → written_acts ≡ acts → noted_acts ≡ acts → Some w ≡ tree.get nat_cmp old.wires link
+pub done_named : {L : Type 0} {l : Ghosts L} (does : Part → EndDeed Desk) (old new : World L l) (link : ℕ) (side : Side) (w v : Wires) (acts written_acts noted_acts : List LinkAction) → written_acts ≡ acts → noted_acts ≡ acts → Some w ≡ tree.get nat_cmp old.wires link
     → ((q : ℕ) → tree.get nat_cmp new.wires q ≡ cond (is_at (nat_cmp link) q) (Some v) (tree.get nat_cmp old.wires q)) → new.time ≡ old.time → new.opened ≡ old.opened → AreWritten side 0 written_acts w v
     → (name : Text) → name ≡ name_at side w → (now : ℕ) → now ≡ old.time.passed → IsDoneAt does name link now old.nodes acts new.nodes → (note : StepNote) → noted note ≡ note_by noted_acts → Meets does link side old note new
 done_named does old new link side w v acts written_acts noted_acts e f wired updates time opened written name named_so now at h note noted_so =
@@ -88,7 +88,7 @@ done_named does old new link side w v acts written_acts noted_acts e f wired upd
     let d : IsDoneAt does (name_at side w) link now old.nodes acts new.nodes = subst D named_so h in
     subst P wired (d.2, λ all. (acts, noted_so ∙ ap note_by f, done_of does old new link 0 side w v acts wired updates time opened (subst W e written) now at d all))
 
-pub unmet : {L : Type 0} {l : Ghosts L} (does : Part → Deed Desk) (w : World L l) (wires : BTreeMap ℕ Wires) (link : ℕ) (side : Side) → None ≡ tree.get nat_cmp w.wires link → wires ≡ w.wires
+pub unmet : {L : Type 0} {l : Ghosts L} (does : Part → EndDeed Desk) (w : World L l) (wires : BTreeMap ℕ Wires) (link : ℕ) (side : Side) → None ≡ tree.get nat_cmp w.wires link → wires ≡ w.wires
     → Meets does link side w Skipped (record { alloc = w.alloc; time = w.time; opened = w.opened; nodes = w.nodes; wires = wires; lost = w.lost })
 unmet {L} {l} does w wires link side none same =
     let new : World L l = record { alloc = w.alloc; time = w.time; opened = w.opened; nodes = w.nodes; wires = wires; lost = w.lost } in
@@ -105,7 +105,7 @@ unlinked c b s number none = by_get (map.get b.links number) refl (subst (λ (o 
     by_get None e h = e
     by_get (Some k) e h = absurd (subst (λ (o : Option Channel). LinkedAt c.seats number None o) e h)
 
-module _ {L : Type 0} {l : Ghosts L} (old new : World L l) (note : StepNote) (does : Part → Deed Desk) (link : ℕ) (side : Side) (step : WorldStep)
+module _ {L : Type 0} {l : Ghosts L} (old new : World L l) (note : StepNote) (does : Part → EndDeed Desk) (link : ℕ) (side : Side) (step : WorldStep)
     (skips : (plan : Network) (certificate : Certificate) (b : ByteWorld) → map.get b.links link ≡ None → Steps plan certificate b step WasSkipped b)
     (steps : (plan : Network) (certificate : Certificate) → IsCertified plan certificate → (c : Contents) (b : ByteWorld) → IsSeated plan certificate c.seats → ShowsBytes c b → (acts : List LinkAction) (after : Contents) → IsDoneAtEnd does 0 c link side acts after
     → Becomes plan certificate b step (note_by acts) after) where

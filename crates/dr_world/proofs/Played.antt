@@ -221,6 +221,7 @@ module _ {L : Type 0} {l : Ghosts L} where
       let last = last_in_force deeds changes first r.0 its r.1 beginning r.3.0 r.3.1 in
       ∥∥₁_map (held deeds changes first [] first r.0 its r.1 beginning r.3.0 certified none ∣ at_first first its ∣₁ r.3.1) (λ v. (
         v.0,
+        (r.1, r.3.0, r.3.2, subst (λ (p : Network). ShowsWorld p r.1 r.3.0 v.0) last v.1),
         (λ name n is. sym ((v.1.desks name).0) ∙ ap (λ (d : Desk). d.book) (r.3.2.desks name ∙ ap (λ (o : Option (Node L l)). desk_at (option_map seat_of o)) is)),
         (v.2.0, v.2.1, subst (λ (p : Network). Runs first start v.2.0 p v.0) last v.2.2),
         subst (λ (p : Network). Headline p v.0) last (headline_holds first certified.sound v.2.0 r.0 v.0 v.2.2),

@@ -1,5 +1,5 @@
 -- A node that came up again, in both worlds.
-use Rattle.std.proofs.Common.{◌≡◌, ℕ, ◌+◌, ◌<◌, ◌≤◌, Bool, true, false, cond, List, [], ◌∷◌, ◌++◌, length, take, filter, Option, None, Some, refl, sym, ap, subst, ◌∙◌, inl, inr, ◌⊎◌}
+use Rattle.std.proofs.Common.{◌≡◌, Decides, ℕ, ◌+◌, ◌<◌, ◌≤◌, Bool, true, false, cond, List, [], ◌∷◌, ◌++◌, length, take, filter, Option, None, Some, refl, sym, ap, subst, ◌∙◌, inl, inr, ◌⊎◌}
 use Rattle.std.specs.Prelude.{◌||◌, ◌↔◌, not, Contains, is_some}
 use Rattle.std.specs.Option.{option_map, IsSome}
 use Rattle.std.specs.Ordering.{nat_cmp, eq_by_cmp}
@@ -46,6 +46,10 @@ use Rattle.dr_world.proofs.AtNodes.{node_named, one_seat, strangers}
 use Rattle.dr_world.proofs.Counted.{linked_there}
 use Rattle.dr_world.proofs.Doing.{still_seated}
 use Rattle.dr_world.proofs.FarEnds.{AllFar, AllFarDone, FarDone, all_far}
+
+-- the test of two names tells whether they are one
+pub same_told : (name other : Text) → Decides (same_text name other) (name ≡ other)
+same_told name other = (tells_apart texts.exact name other, λ e. subst (λ (t : Text). same_text name t ≡ true) e (ties_itself texts name))
 
 -- its sides are gone
 abbrev pub emptied : Seat → Seat

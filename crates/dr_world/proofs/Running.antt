@@ -40,6 +40,7 @@ module _ {L : Type 0} {l : Ghosts L} where
   holds w plan certificate certified steps reached all =
       ∥∥₁_elim (reached all) ∥∥₁_prop (λ r. ∥∥₁_map (runs_keep plan certificate certified steps r.1.0 r.1.1) (λ v. (
         v.0,
+        (certificate, r.1.0, r.1.2, v.1),
         (λ name n is. sym ((v.1.desks name).0) ∙ ap (λ (d : Desk). d.book) (r.1.2.desks name ∙ ap (λ (o : Option (Node L l)). desk_at (option_map seat_of o)) is)),
         v.2,
         v.3,

@@ -16,6 +16,7 @@ use Rattle.dr_ledger.specs.declared.content.Job.{Job}
 use Rattle.dr_ledger.specs.declared.fault.LedgerFault.{LedgerFault}
 use Rattle.dr_ledger.specs.declared.fault.LedgerFault.TheVariants as fault
 use Rattle.dr_ledger.specs.declared.item.Arrived.{Arrived}
+use Rattle.dr_ledger.specs.Replies.{store_status}
 use Rattle.dr_nego.specs.declared.agreed.Agreed.{Agreed}
 use Rattle.dr_nego.specs.declared.answering.Answer.{Answer}
 use Rattle.dr_nego.specs.declared.answering.Answer.TheVariants.{Accept, Reject, TooSmall}
@@ -108,7 +109,7 @@ arrives_keep : (c : Core) (context id : ℕ) (class instance : Text) (found : Fo
 arrives_keep c context id class instance TooLarge = refl
 arrives_keep c context id class instance Unreadable = refl
 arrives_keep c context id class instance Nameless = refl
-arrives_keep c context id class instance (Read item) = either c.site (is_named item class instance) _ _ (arrival_keeps c.site (λ reply. Ends (r.stored c context id class instance (r.status_of reply))) (λ reply. refl)) refl
+arrives_keep c context id class instance (Read item) = either c.site (is_named item class instance) _ _ (arrival_keeps c.site (λ reply. Ends (r.stored c context id class instance (store_status reply))) (λ reply. refl)) refl
 
 requested_keep : (c : Core) (context : ℕ) (of : Text) (m : Command) → KeepsSite c.site (r.requested c context of m)
 requested_keep c context of (command.EchoRq id class has_data) = refl

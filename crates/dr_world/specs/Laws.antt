@@ -17,10 +17,10 @@ use Rattle.dr_session.specs.Desks.{DeskCall, DeskAnswer, Arrive, Arrival}
 use Rattle.dr_session.specs.Plays.{At, Reacts}
 use Rattle.dr_session.specs.Ledgers.{Desk, RoutedStep, desk}
 use Rattle.dr_ledger.specs.Refusals.{Arms}
-use Rattle.dr_ledger.specs.Replies.{Drops, Forgets, Requeues, IsHeld, IsOver}
+use Rattle.dr_ledger.specs.Replies.{Drops, Forgets, Requeues, IsHeld, IsOver, Reply}
 use Rattle.dr_node.specs.Desks.{StaysAway}
 use Rattle.dr_node.specs.Sides.{others}
-use Rattle.dr_world_model.specs.Calls.{Reply, Answer}
+use Rattle.dr_world_model.specs.Calls.{Answer}
 use Rattle.dr_world_tie.specs.ByteWorlds.{ByteWorld, beginning, WorldStep, Side}
 use Rattle.dr_world_tie.specs.ByteWorlds.{Submit, Away, Move, Restart, Requeue, Drop, Forget, Tick}
 use Rattle.dr_world_tie.specs.ByteWorlds.{Refuse, Refused, StepNote}
@@ -37,8 +37,8 @@ use Rattle.dr_world.specs.Shows.{Contents, Seat, ShowsBytes, IsSeated, Becomes, 
 use Rattle.dr_world.specs.Shows.{with_desk_of}
 
 -- How many links a node has accepted and not left is how many others the world of bytes counts.
-abbrev pub OthersAreCounted : Type 0
-OthersAreCounted =
+abbrev pub OtherLinksAreCounted : Type 0
+OtherLinksAreCounted =
     (c : Contents) (b : ByteWorld)
     → ShowsBytes c b
     → (link : ℕ) (name : Text) (seat : Seat)

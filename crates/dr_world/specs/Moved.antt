@@ -81,10 +81,10 @@ IsDueAt nodes link side n w (due.Bytes m) =
     × (wire_at side w ≢ [])
     × IsMovable (kept_at link (tree.get text_cmp nodes (name_at side w))) (wire_at side w) n m
 
-abbrev pub IsDue : {L : Type 0} {l : Ghosts L}
+abbrev pub IsMoveDue : {L : Type 0} {l : Ghosts L}
     → Option Wires → BTreeMap Text (Node L l) → ℕ → Side → ℕ → MoveDue → Type 0
-IsDue None nodes link side n what = what ≡ due.Nothing
-IsDue (Some w) nodes link side n what = IsDueAt nodes link side n w what
+IsMoveDue None nodes link side n what = what ≡ due.Nothing
+IsMoveDue (Some w) nodes link side n what = IsDueAt nodes link side n w what
 
 -- ---- what is done
 

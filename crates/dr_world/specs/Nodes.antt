@@ -15,7 +15,7 @@ use Rattle.dr_session.specs.Ends.{is_gone}
 use Rattle.dr_session.specs.Ledgers.{Desk, RoutedStep, desk}
 use Rattle.dr_node.specs.declared.event.LinkEvent.{LinkEvent}
 use Rattle.dr_node.specs.declared.node.Node.{Node}
-use Rattle.dr_node.specs.Sides.{Sides, Accepts, Deed, Does, MeetsEvent, Opens, Pushes}
+use Rattle.dr_node.specs.Sides.{Sides, AcceptsLink, EndDeed, Does, MeetsEvent, Opens, Pushes}
 use Rattle.dr_node.specs.Sides.{state_of_side}
 use Rattle.dr_world_model.specs.Worlds.{same_text}
 use Rattle.dr_world.specs.Shows.{Seat, Seats, with_seat}
@@ -37,16 +37,16 @@ AllStandIn {L} {l} nodes =
     (name : Text) (n : Node L l) → tree.get text_cmp nodes name ≡ Some n → l.stands n.desk.ledger
 
 -- what is done at an end by a site's routes
-abbrev pub event_at : LinkEvent → Part → Deed Desk
+abbrev pub event_at : LinkEvent → Part → EndDeed Desk
 event_at event site = MeetsEvent (RoutedStep (site_routing site)) event
 
-abbrev pub push_at : Part → Deed Desk
+abbrev pub push_at : Part → EndDeed Desk
 push_at site = Pushes (RoutedStep (site_routing site))
 
 -- The node of that name did this at a link, and all other nodes are as they were; where the premise
 -- of each ledger stands after it, it stood before.
 abbrev pub IsDoneAt : {L : Type 0} {l : Ghosts L}
-    → (Part → Deed Desk) → Text → ℕ → ℕ → BTreeMap Text (Node L l) → List LinkAction
+    → (Part → EndDeed Desk) → Text → ℕ → ℕ → BTreeMap Text (Node L l) → List LinkAction
     → BTreeMap Text (Node L l) → Type 0
 IsDoneAt {L} {l} does name link now old acts new =
     (n : Node L l)
@@ -90,7 +90,7 @@ abbrev pub AcceptsAt : {L : Type 0} {l : Ghosts L}
     → Text → ℕ → ℕ → BTreeMap Text (Node L l) → BTreeMap Text (Node L l) → Type 0
 AcceptsAt {L} {l} name link now old new =
     (n : Node L l) × (sides : Sides)
-    × Accepts n.site link now n.links (Ok tt) sides
+    × AcceptsLink n.site link now n.links (Ok tt) sides
     × HasSides name n sides old new
 
 -- whether a node's end of a link is over, or isn't there

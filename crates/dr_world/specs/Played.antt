@@ -27,7 +27,7 @@ use Rattle.dr_world.specs.declared.world.World.{World}
 use Rattle.dr_world.specs.Adopted.{AllStay, ChangesTo, IsFirstUnfit}
 use Rattle.dr_world.specs.Ends.{named}
 use Rattle.dr_world.specs.Others.{NoneWrites, Writes, WritesAt}
-use Rattle.dr_world.specs.Runs.{step_of}
+use Rattle.dr_world.specs.Runs.{IsBeside, step_of}
 use Rattle.dr_world.specs.Shows.{IsSeated, ShowsBytes}
 use Rattle.dr_world.specs.Whole.{AllStand, StepsTo, contents}
 
@@ -124,10 +124,11 @@ abbrev pub IsPlayed : {L : Type 0} {l : Ghosts L}
 IsPlayed first its deeds changes w = AllStand w → WasPlayed first its deeds changes w
 
 -- The headline's four claims hold of the nodes' books by the plan in force: of a world of messages
--- that has just these, and to which events and the adoptions of just these plans lead.
+-- beside it that has just these, and to which events and the adoptions of just these plans lead.
 abbrev pub HoldsBy : {L : Type 0} {l : Ghosts L} → Network → List Network → World L l → Type 0
 HoldsBy {L} {l} first taken w =
     ∥ ((v : model.World)
+    × IsBeside (in_force first taken) w v
     × ((name : Text) (n : Node L l)
     → tree.get text_cmp w.nodes name ≡ Some n
     → v.books name ≡ l.book n.desk.ledger)

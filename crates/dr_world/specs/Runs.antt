@@ -11,7 +11,7 @@ use Rattle.dr_world_model.specs.Worlds as model
 use Rattle.dr_world_model.specs.Claims.{Headline}
 use Rattle.dr_world_tie.specs.ByteWorlds as bytes
 use Rattle.dr_world_tie.specs.ByteWorlds.{ByteWorld, beginning}
-use Rattle.dr_world_tie.specs.Shown.{ComesAbout, RunsOf}
+use Rattle.dr_world_tie.specs.Shown.{ComesAbout, RunsOf, ShowsWorld}
 use Rattle.dr_world_script.specs.declared.step.Step.{Step}
 use Rattle.dr_world_script.specs.declared.step.Step.TheVariants.{Submit, Open, Away, Push, Move}
 use Rattle.dr_world_script.specs.declared.step.Step.TheVariants.{Abort, Release, Close, Late}
@@ -62,11 +62,20 @@ StepsOn step old new =
     → IsReached plan certificate steps old
     → IsReached plan certificate (steps ++ step ∷ []) new
 
--- the headline's four claims hold of the nodes' books: of a world of messages that has just these,
--- and to which events of the plan lead from the start
+-- the world of messages and the contents stand beside the same bytes: so it has their time, their
+-- links, and how many were ever opened
+abbrev pub IsBeside : {L : Type 0} {l : Ghosts L} → Network → World L l → model.World → Type 0
+IsBeside plan w v =
+    (certificate : Certificate) × (b : ByteWorld)
+    × ShowsBytes (contents w) b
+    × ShowsWorld plan certificate b v
+
+-- the headline's four claims hold of the nodes' books: of a world of messages beside it that has
+-- just these, and to which events of the plan lead from the start
 abbrev pub HoldsOf : {L : Type 0} {l : Ghosts L} → Network → World L l → Type 0
 HoldsOf {L} {l} plan w =
     ∥ ((v : model.World)
+    × IsBeside plan w v
     × ((name : Text) (n : Node L l)
     → tree.get text_cmp w.nodes name ≡ Some n
     → v.books name ≡ l.book n.desk.ledger)

@@ -11,16 +11,16 @@ use Rattle.dr_site.specs.Sites.{IsCertified}
 use Rattle.dr_ledger.specs.declared.content.Job.{Job}
 use Rattle.dr_ledger.specs.declared.fault.LedgerFault.{LedgerFault}
 use Rattle.dr_ledger.specs.Refusals.{Arms}
-use Rattle.dr_ledger.specs.Replies.{Drops, Forgets, Requeues, IsHeld, IsOver}
+use Rattle.dr_ledger.specs.Replies.{Drops, Forgets, Requeues, IsHeld, IsOver, Reply}
 use Rattle.dr_ledger.specs.SiteRoutes.{site_routing}
 use Rattle.dr_site.specs.Parts.{Part}
 use Rattle.dr_node.specs.declared.node.Node.{Node}
 use Rattle.dr_node.specs.Desks.{StaysAway}
-use Rattle.dr_node.specs.Sides.{Deed}
+use Rattle.dr_node.specs.Sides.{EndDeed}
 use Rattle.dr_session.specs.declared.ends.LinkAction.{LinkAction}
 use Rattle.dr_session.specs.Desks.{Arrive, Arrival}
 use Rattle.dr_session.specs.Ledgers.{Desk, RoutedStep, desk}
-use Rattle.dr_world_model.specs.Calls.{Reply, Answer}
+use Rattle.dr_world_model.specs.Calls.{Answer}
 use Rattle.dr_world_tie.specs.ByteWorlds as bytes
 use Rattle.dr_world.specs.declared.steps.StepNote.{StepNote}
 use Rattle.dr_world.specs.declared.steps.StepNote.TheVariants.{Done, Skipped, Refused, UnderWay}
@@ -139,7 +139,8 @@ StepsTo step old note new =
 -- Nothing is done where there is no link of that number. Else its end did this, and it is noted by
 -- whether anything was written.
 abbrev pub MeetsIn : {L : Type 0} {l : Ghosts L}
-    → (Part → Deed Desk) → Option Wires → ℕ → bytes.Side → World L l → StepNote → World L l → Type 0
+    → (Part → EndDeed Desk) → Option Wires → ℕ → bytes.Side → World L l → StepNote → World L l
+    → Type 0
 MeetsIn does None link side old note new =
     (note ≡ Skipped) × (contents new ≡ contents old) × (new.nodes ≡ old.nodes)
 MeetsIn does (Some w) link side old note new =
@@ -150,6 +151,6 @@ MeetsIn does (Some w) link side old note new =
     × IsDoneAtEnd does 0 (contents old) link side acts (contents new))
 
 abbrev pub Meets : {L : Type 0} {l : Ghosts L}
-    → (Part → Deed Desk) → ℕ → bytes.Side → World L l → StepNote → World L l → Type 0
+    → (Part → EndDeed Desk) → ℕ → bytes.Side → World L l → StepNote → World L l → Type 0
 Meets does link side old note new =
     MeetsIn does (tree.get nat_cmp old.wires link) link side old note new

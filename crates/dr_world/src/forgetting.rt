@@ -3,7 +3,7 @@ ghost use Rattle.std.specs.Prelude.{◌≡◌, option_copied};
 ghost use Rattle.dr_world.specs.Forgotten.{is_uid, is_under_way, pending_at, pends_over};
 ghost use Rattle.dr_world.specs.Nodes.{seats_of};
 
-use crate::restarts::is_same;
+use crate::restarts::is_same_text;
 use crate::wires::Wires;
 use dr_base::Text;
 use dr_ledger::Ledger;
@@ -15,7 +15,7 @@ fn is_uid(pending: Option<&Text>, uid: &Text) -> bool
     ensures { result ≡ is_uid uid.now (option_copied pending.entry) }
 {
     match pending {
-        Some(other) => is_same(other, uid),
+        Some(other) => is_same_text(other, uid),
         None => false,
     }
 }
@@ -44,7 +44,7 @@ fn pends_over(wires: Option<&Wires>, name: &Text, uid: &Text, pending: Option<&T
         pends_over name.now uid.now (option_copied pending.entry) (option_copied wires.entry) }
 {
     match wires {
-        Some(wires) => is_same(&wires.caller, name) && is_uid(pending, uid),
+        Some(wires) => is_same_text(&wires.caller, name) && is_uid(pending, uid),
         None => false,
     }
 }

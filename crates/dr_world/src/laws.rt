@@ -2,7 +2,7 @@
 ghost use Rattle.dr_world.specs.Ended.{MoveEndsPdu};
 ghost use Rattle.dr_world.specs.Laws.{AwayIsShown, DropIsShown, EndStaysOfItsSite, ForgetIsShown};
 ghost use Rattle.dr_world.specs.Laws.{MoveIsShown};
-ghost use Rattle.dr_world.specs.Laws.{NewIsBeginning, OthersAreCounted, RefuseIsShown};
+ghost use Rattle.dr_world.specs.Laws.{NewIsBeginning, OtherLinksAreCounted, RefuseIsShown};
 ghost use Rattle.dr_world.specs.Laws.{RequeueIsShown, StrangerIsSkipped, SubmitIsShown};
 ghost use Rattle.dr_world.specs.Laws.{TickIsShown, UnderWayStays};
 ghost use Rattle.dr_world.specs.Played.{ChangesGoOn, DeedsKeepTheHeadline, EventsAloneLead};
@@ -19,7 +19,7 @@ pub fn stays_of_its_site<P: DeskPort>()
 
 /// The associations that a node counts are those that the world of bytes counts.
 pub fn counts_others()
-    ensures { OthersAreCounted }
+    ensures { OtherLinksAreCounted }
 {}
 
 /// Time passes for all.

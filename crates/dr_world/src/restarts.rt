@@ -8,22 +8,18 @@ ghost use Rattle.dr_world.specs.Restarted.{AreForgotten, AreLinksAt, ComesUp, fa
 
 use crate::wires::Wires;
 use dr_base::Text;
+use dr_base::same::Same;
 use dr_ledger::Ledger;
 use dr_node::Node;
 use dr_world_script::Side;
 use std::alloc::{AllocError, Global};
-use std::cmp::Ordering;
 use std::collections::BTreeMap;
 
 /// Whether two names are the same.
-pub fn is_same(name: &Text, other: &Text) -> bool
+pub fn is_same_text(name: &Text, other: &Text) -> bool
     ensures { result ≡ same_text name.now other.now }
 {
-    match name.cmp(other) {
-        Ordering::Equal => true,
-        Ordering::Less => false,
-        Ordering::Greater => false,
-    }
+    name.is_same(other)
 }
 
 /// Whether the node of that name is an end of the link.
@@ -31,7 +27,7 @@ fn is_end(wires: Option<&Wires>, name: &Text) -> bool
     ensures { result ≡ is_end name.now (option_copied wires.entry) }
 {
     match wires {
-        Some(wires) => is_same(&wires.caller, name) || is_same(&wires.receiver, name),
+        Some(wires) => is_same_text(&wires.caller, name) || is_same_text(&wires.receiver, name),
         None => false,
     }
 }
@@ -57,7 +53,7 @@ pub fn links_of(
 pub fn far_side(wires: &Wires, name: &Text) -> Side
     ensures { named result ≡ far_of name.now wires.now }
 {
-    if is_same(&wires.receiver, name) {
+    if is_same_text(&wires.receiver, name) {
         return Side::Requestor;
     }
     Side::Acceptor

@@ -25,7 +25,7 @@ use Rattle.dr_world_audit.specs.declared.audit.AuditVerdict.TheVariants as verdi
 use Rattle.dr_world_audit.specs.declared.trail.Trail.{Trail}
 use Rattle.dr_world_audit.specs.Hops.{Notes}
 use Rattle.dr_world_journals.specs.Hops.{Hop, came_to, done_at, sent_from}
-use Rattle.dr_world_journals.specs.Journals.{AreHistories, Books, IsSentOn, Match}
+use Rattle.dr_world_journals.specs.Journals.{AreHistories, NodeBooks, IsSentOn, Match}
 use Rattle.dr_world_journals.specs.Journals.{until_adoption, world_of}
 
 -- the lines of a node's journal
@@ -47,7 +47,7 @@ ours_of [] name = false
 ours_of (node ∷ nodes) name = cond (same_text name node.name) true (ours_of nodes name)
 
 -- the books that these journals make
-abbrev pub books_of : List NodeJournal → Books
+abbrev pub books_of : List NodeJournal → NodeBooks
 books_of [] name = empty_book
 books_of (node ∷ nodes) name =
     cond (same_text name node.name) (Fold (lines_at node)) (books_of nodes name)
@@ -147,7 +147,7 @@ TellsNode plan ours node (mismatch.NoArrival name uid to) = ⊥
 TellsNode plan ours node (mismatch.NoReason name uid from) = ⊥
 
 -- the node notes a success of the instance at another of ours, where it hasn't arrived
-pub record IsNotThere (ours : Ours) (books : Books) (name uid to : Text) : Type 0 where
+pub record IsNotThere (ours : Ours) (books : NodeBooks) (name uid to : Text) : Type 0 where
   pub item : Instance
   pub named : item.uid ≡ uid
   pub own : ours name ≡ true
@@ -156,7 +156,7 @@ pub record IsNotThere (ours : Ours) (books : Books) (name uid to : Text) : Type 
   pub missing : WasTaken (books to).lines name item → ⊥
 
 -- the instance arrived from another of ours, where it had no reason to be sent
-pub record IsForNoReason (plan : Network) (ours : Ours) (books : Books)
+pub record IsForNoReason (plan : Network) (ours : Ours) (books : NodeBooks)
     (name uid from : Text) : Type 0 where
   pub item : Instance
   pub named : item.uid ≡ uid

@@ -19,12 +19,12 @@ use Rattle.dr_ledger.specs.declared.item.Outcome.TheVariants.{Status, Broken, No
 use Rattle.dr_ledger.specs.declared.item.Progress.TheVariants.{Waiting}
 use Rattle.dr_ledger.specs.Books.{Book, Line, Arrival, Repeat, Settling, Requeuing, Dropping, Forgetting}
 use Rattle.dr_ledger.specs.PlanRoutes.{plan_routing}
-use Rattle.dr_ledger.specs.Replies.{Arrives, Drops, Forgets, Requeues, Settles, arrival_line}
+use Rattle.dr_ledger.specs.Replies.{Arrives, Drops, Forgets, Requeues, Settles, arrival_line, store_status, Reply}
 use Rattle.dr_ledger.specs.Routings.{Routing}
 use Rattle.dr_ledger.proofs.Maps.{cases_of, got}
 use Rattle.dr_ledger.proofs.Since.{Acknowledges, none_taken, nothing_taken, taken_from}
 use Rattle.dr_world_model.specs.Among.{Act, Agrees, Calls, Does, Doing, Other, Ours, Own, Replies, RunsAmong, Stores, Takes, Turn, Turns, answered_link}
-use Rattle.dr_world_model.specs.Calls.{Answer, Arriving, CalledAt, Reply, Settlement, StoreOutcome, status_of}
+use Rattle.dr_world_model.specs.Calls.{Answer, Arriving, CalledAt, Settlement, StoreOutcome}
 use Rattle.dr_world_model.specs.Claims.{Has, HadArrival, IsToSend, WasCarriedOver}
 use Rattle.dr_world_model.specs.Events.{Event, Take, Ask, AgreeReceiver, AgreeCaller, Give, Receive, Answered, BreakCaller, BreakReceiver, Close, Restart, Requeue, Drop, Forget, Refuse, StayAway, Tick, Step}
 use Rattle.dr_world_model.specs.Steps.{IsLink, asked, SettlesFirst, OpensLink, pending, SettlesPending, Leaves, LeavesIfOn, LeaveAll, callers_of, Gives, Receives, new_link, passed}
@@ -380,11 +380,11 @@ module _ (ours : Ours) (plan : Network) where
   received : (w new : World) (number : ℕ) (reply : Reply) → WorldGrows w new → HasReasons ours plan w → Receives plan w number reply new → HasReasons ours plan new
   received w new number reply g r s =
       let link = s.link in
-      let is_link = at_stage link (Replying s.accepted s.item (status_of reply)) in
+      let is_link = at_stage link (Replying s.accepted s.item (store_status reply)) in
       let came = called_took _ w s.mid link.receiver _ s.call.book s.call.called (λ n c i. HadArrival w n c i ⊎ ((n ≡ link.receiver) × (c ≡ link.caller) × (i ≡ s.item)))
       (λ c i h. elim (arrived_took (plan_routing plan link.receiver) link.caller s.item (w.books link.receiver) s.call.book reply c i s.call.call h) [ inl was ↦ inl was | inr e ↦ inr (refl, e.0, e.1) ])
       (λ n c i h. inl h) in
-      let quiet = quiet_link s.mid number is_link (replying_stores_nothing s.accepted s.item (status_of reply)) in
+      let quiet = quiet_link s.mid number is_link (replying_stores_nothing s.accepted s.item (store_status reply)) in
       reasons_by w new g r
       (λ name c i own far h. elim (came name c i (subst (λ (x : World). HadArrival x name c i) s.is h)) [
         | inl was ↦ inl was

@@ -26,7 +26,7 @@ use Rattle.dr_world_model.proofs.AmongAll.{all_ours_is_the_headline}
 use Rattle.dr_world_model.proofs.AmongSafe.{IsFairAmong, IsSafeAmong, PassedBy, ReachedBy}
 use Rattle.dr_world_model.proofs.Keeping.{IsRight, Took}
 use Rattle.dr_world_model.proofs.Walking.{last_on, walk_on}
-use Rattle.dr_world_journals.specs.Journals.{AreHistories, Books, Match, stood, until_adoption, world_of}
+use Rattle.dr_world_journals.specs.Journals.{AreHistories, NodeBooks, Match, stood, until_adoption, world_of}
 use Rattle.dr_world_journals.specs.Theorem.{AllJournalsShowTheHeadline, MatchingJournalsShowTheHeadline}
 use Rattle.dr_world_journals.proofs.Back.{walks_end}
 use Rattle.dr_world_journals.proofs.OneHistory.{OnBy, Stands, stands_since}
@@ -38,7 +38,7 @@ own_push : (ours : Ours) (over : List Text) (to : Text) → AreOurs ours over �
 own_push ours [] to own is = (is, tt)
 own_push ours (next ∷ over) to own is = (own.0, own_push ours over to own.1 is)
 
-module _ (ours : Ours) (plan : Network) (sound : IsSound plan) (books : Books) (h : AreHistories ours plan books) (m : Match ours plan books) where
+module _ (ours : Ours) (plan : Network) (sound : IsSound plan) (books : NodeBooks) (h : AreHistories ours plan books) (m : Match ours plan books) where
   stands : (name : Text) → ours name ≡ true → Stands plan name (stood (books name)) (books name)
   stands name own = stands_since plan name (until_adoption (books name).lines) (books name) (h.own name own) (λ to item s. h.fit name to item own s)
 

@@ -16,7 +16,7 @@ use Rattle.dr_ledger.specs.Pairs.{Pair}
 use Rattle.dr_ledger.specs.PlanRoutes.{plan_routing}
 use Rattle.dr_ledger.specs.Routings.{Routing}
 use Rattle.dr_world_model.specs.Among.{Ours}
-use Rattle.dr_world_journals.specs.Journals.{AreHistories, ArrivalsHaveReasons, Books}
+use Rattle.dr_world_journals.specs.Journals.{AreHistories, ArrivalsHaveReasons, NodeBooks}
 use Rattle.dr_world_journals.specs.Journals.{SuccessesArrived, until_adoption}
 
 -- an instance on its way from the one node to the other
@@ -139,7 +139,7 @@ done_at name lines = done name (Fold (until_adoption lines)) (since_adoption lin
 -- Where the journals are histories they match in what was answered just where each hop that one of
 -- ours notes as done to another is one that came there; and in what arrived just where each hop
 -- that came from another of ours is one that was to go on there.
-pub record MatchingIsByHops (ours : Ours) (plan : Network) (books : Books) : Type 0 where
+pub record MatchingIsByHops (ours : Ours) (plan : Network) (books : NodeBooks) : Type 0 where
   pub successes : SuccessesArrived ours books
       ↔ ((name to : Text) (item : Instance)
       → ours name ≡ true → ours to ≡ true
@@ -156,6 +156,6 @@ pub record MatchingIsByHops (ours : Ours) (plan : Network) (books : Books) : Typ
 -- Who compares lists of hops knows whether journals match.
 abbrev pub HopsDecide : Type 0
 HopsDecide =
-    (ours : Ours) (plan : Network) (books : Books)
+    (ours : Ours) (plan : Network) (books : NodeBooks)
     → AreHistories ours plan books
     → MatchingIsByHops ours plan books

@@ -19,8 +19,8 @@ use Rattle.dr_world_model.specs.Worlds.{World}
 
 -- What is seen of nodes that stand still: the book of each, with its journal. Names that aren't
 -- ours have the empty book.
-abbrev pub Books : Type 0
-Books = Text → Book
+abbrev pub NodeBooks : Type 0
+NodeBooks = Text → Book
 
 -- the lines of a journal up to its last adoption, none where there was none
 abbrev pub until_adoption : List Line → List Line
@@ -31,7 +31,7 @@ abbrev pub stood : Book → Book
 stood b = Fold (until_adoption b.lines)
 
 -- The message world of these books: nothing is under way in it.
-abbrev pub world_of : Books → World
+abbrev pub world_of : NodeBooks → World
 world_of books = record {
   time = 0;
   books = books;
@@ -45,13 +45,13 @@ world_of books = record {
 
 -- Each journal of ours is one that a node of the plan writes: what it has since its last adoption
 -- is a history under the plan in force, and the book is what the journal makes.
-abbrev pub EachIsAHistory : Ours → Network → Books → Type 0
+abbrev pub EachIsAHistory : Ours → Network → NodeBooks → Type 0
 EachIsAHistory ours plan books =
     (name : Text) → ours name ≡ true
     → IsSince (plan_routing plan name) (until_adoption (books name).lines) (books name)
 
 -- each row that an adoption carried over is of a hop of the plan
-abbrev pub WhatStoodGoesOn : Ours → Network → Books → Type 0
+abbrev pub WhatStoodGoesOn : Ours → Network → NodeBooks → Type 0
 WhatStoodGoesOn ours plan books =
     (name to : Text) (item : Instance)
     → ours name ≡ true
@@ -59,12 +59,12 @@ WhatStoodGoesOn ours plan books =
     → Goes plan item.key name to
 
 -- nothing is seen of others
-abbrev pub OthersAreNotSeen : Ours → Books → Type 0
+abbrev pub OthersAreNotSeen : Ours → NodeBooks → Type 0
 OthersAreNotSeen ours books =
     (name : Text) → ours name ≡ false → books name ≡ empty_book
 
 -- what each journal of ours shows by itself
-pub record AreHistories (ours : Ours) (plan : Network) (books : Books) : Type 0 where
+pub record AreHistories (ours : Ours) (plan : Network) (books : NodeBooks) : Type 0 where
   pub own : EachIsAHistory ours plan books
   pub fit : WhatStoodGoesOn ours plan books
   pub others : OthersAreNotSeen ours books
@@ -73,7 +73,7 @@ pub record AreHistories (ours : Ours) (plan : Network) (books : Books) : Type 0 
 
 -- Each success that one of ours notes of another has, there, an arrival of this very item from
 -- here.
-abbrev pub SuccessesArrived : Ours → Books → Type 0
+abbrev pub SuccessesArrived : Ours → NodeBooks → Type 0
 SuccessesArrived ours books =
     (name to : Text) (item : Instance)
     → ours name ≡ true → ours to ≡ true
@@ -83,7 +83,7 @@ SuccessesArrived ours books =
 -- Why the node sends the item on to the next one: under the plan in force its journal has a line of
 -- an arrival of this very item that goes there, whether or not the node has forgotten it since; or
 -- a row of it for there was carried over when the plan was adopted.
-abbrev pub IsSentOn : Network → Books → Text → Instance → Text → Type 0
+abbrev pub IsSentOn : Network → NodeBooks → Text → Instance → Text → Type 0
 IsSentOn plan books name item to =
     ((caller : Text)
     × WasTaken (books name).lines caller item
@@ -91,7 +91,7 @@ IsSentOn plan books name item to =
     ⊎ IsToSend (stood (books name)) item to
 
 -- each arrival from another of ours has, there, a reason to be sent here
-abbrev pub ArrivalsHaveReasons : Ours → Network → Books → Type 0
+abbrev pub ArrivalsHaveReasons : Ours → Network → NodeBooks → Type 0
 ArrivalsHaveReasons ours plan books =
     (name caller : Text) (item : Instance)
     → ours name ≡ true → ours caller ≡ true
@@ -100,7 +100,7 @@ ArrivalsHaveReasons ours plan books =
     → IsSentOn plan books caller item name
 
 -- what one of ours was answered by another of ours is fair
-abbrev pub AnswersAreFair : Ours → Books → Type 0
+abbrev pub AnswersAreFair : Ours → NodeBooks → Type 0
 AnswersAreFair ours books =
     (name uid to : Text) (outcome : Outcome) (now : ℕ)
     → ours name ≡ true → ours to ≡ true
@@ -117,7 +117,7 @@ AnswersAreFair ours books =
 -- the first arrival longer by one hop each time. So after so many hops there is an arrival that
 -- comes from no other of ours: it entered there, or its row was carried over. This is the place
 -- where it began, of the second claim.
-pub record Match (ours : Ours) (plan : Network) (books : Books) : Type 0 where
+pub record Match (ours : Ours) (plan : Network) (books : NodeBooks) : Type 0 where
   pub successes : SuccessesArrived ours books
   pub arrivals : ArrivalsHaveReasons ours plan books
   pub fair : AnswersAreFair ours books

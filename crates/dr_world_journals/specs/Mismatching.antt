@@ -16,7 +16,7 @@ use Rattle.dr_ledger.specs.Replies.{arrival_line}
 use Rattle.dr_world_model.specs.Among.{all_ours}
 use Rattle.dr_world_model.specs.Worlds.{books_with}
 use Rattle.dr_world_journals.specs.Journals.{AnswersAreFair, AreHistories, ArrivalsHaveReasons}
-use Rattle.dr_world_journals.specs.Journals.{Books, EachIsAHistory, Match, OthersAreNotSeen}
+use Rattle.dr_world_journals.specs.Journals.{NodeBooks, EachIsAHistory, Match, OthersAreNotSeen}
 use Rattle.dr_world_journals.specs.Journals.{SuccessesArrived, WhatStoodGoesOn}
 
 -- the plan of a scanner that sends images to an archive, which keeps them; it is sound
@@ -24,26 +24,26 @@ abbrev pub two : Network
 two = two_nodes (keep_all ∷ [])
 
 -- one node alone has a journal, of these lines
-abbrev pub one_journal : Text → List Line → Books
+abbrev pub one_journal : Text → List Line → NodeBooks
 one_journal name lines = books_with (λ other. empty_book) name (Fold lines)
 
 -- against the successes: the scanner notes that the archive answered with this outcome, and the
 -- archive has no line
-abbrev pub settled_alone : Instance → Outcome → Books
+abbrev pub settled_alone : Instance → Outcome → NodeBooks
 settled_alone item outcome = one_journal scanner
     (arrival_line (plan_routing two scanner) local item ∷ Settling item.uid archive outcome 0 ∷ [])
 
 -- against the reasons: the archive has an arrival from the scanner, which has no line
-abbrev pub arrived_alone : Instance → Books
+abbrev pub arrived_alone : Instance → NodeBooks
 arrived_alone item =
     one_journal archive (arrival_line (plan_routing two archive) scanner item ∷ [])
 
 -- against the histories: the scanner has forgotten what it never had
-abbrev pub forgotten_alone : Instance → Books
+abbrev pub forgotten_alone : Instance → NodeBooks
 forgotten_alone item = one_journal scanner (Forgetting item.uid ∷ [])
 
 -- against what stood: the archive went over to the plan with a row for the scanner
-abbrev pub stood_alone : Instance → Books
+abbrev pub stood_alone : Instance → NodeBooks
 stood_alone item =
     one_journal archive (Arrival local item (scanner ∷ []) false ∷ Adoption ∷ [])
 

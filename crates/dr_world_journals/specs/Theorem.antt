@@ -7,7 +7,7 @@ use Rattle.dr_world_model.specs.Among.{Act, HeadlineAmong, Ours, RunsAmong, all_
 use Rattle.dr_world_model.specs.Claims.{Headline}
 use Rattle.dr_world_model.specs.Runs.{Action, Runs}
 use Rattle.dr_world_model.specs.Worlds.{World, start}
-use Rattle.dr_world_journals.specs.Journals.{AreHistories, Books, Match, stood, world_of}
+use Rattle.dr_world_journals.specs.Journals.{AreHistories, NodeBooks, Match, stood, world_of}
 
 -- Over a sound plan, whichever nodes are ours: where each of their journals is a history of its
 -- node, and they match, the four claims hold of their books.
@@ -15,7 +15,7 @@ abbrev pub MatchingJournalsShowTheHeadline : Type 0
 MatchingJournalsShowTheHeadline =
     (ours : Ours) (plan : Network)
     → IsSound plan
-    → (books : Books)
+    → (books : NodeBooks)
     → AreHistories ours plan books
     → Match ours plan books
     → HeadlineAmong ours plan (world_of books)
@@ -24,7 +24,7 @@ MatchingJournalsShowTheHeadline =
 abbrev pub AllJournalsShowTheHeadline : Type 0
 AllJournalsShowTheHeadline =
     (plan : Network) → IsSound plan
-    → (books : Books)
+    → (books : NodeBooks)
     → AreHistories all_ours plan books
     → Match all_ours plan books
     → Headline plan (world_of books)

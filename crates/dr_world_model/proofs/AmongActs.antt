@@ -27,7 +27,8 @@ use Rattle.dr_ledger.proofs.Since.{none_taken, nothing_taken}
 use Rattle.dr_ledger.specs.OneNode.{HasSucceededSince}
 use Rattle.dr_world_model.specs.Among.{Ours, ArrivesAtOurs, Doing, Calls, Takes, Agrees, Stores, Replies, answered_link, Does, Turns, Act, Own, Other, Turn, RunsAmong, Entered, HasEntry, AllIsThereAmong, IsAnsweredAmong, IsCoveredAmong, HeadlineAmong, HeadlineHoldsAmong, WhatNobodyGaveUpIsThereAmong}
 use Rattle.dr_world_model.specs.Worlds.{World, Link, Contexts, Stage, Asking, Answering, Rejecting, Open, Storing, Replying, Gone, start, with_link, with_links, without_caller, at_stage}
-use Rattle.dr_world_model.specs.Calls.{Reply, Answer, Settlement, status_of}
+use Rattle.dr_world_model.specs.Calls.{Answer, Settlement}
+use Rattle.dr_ledger.specs.Replies.{store_status, Reply}
 use Rattle.dr_world_model.specs.Steps.{IsLink, SettlesFirst, OpensLink, pending, SettlesPending, Leaves, LeavesIfOn, LeaveAll, callers_of, links_without, ReadsAnswer, Gives, Receives, ReadsReply}
 use Rattle.dr_world_model.specs.Events.{Event, Take, Ask, AgreeReceiver, AgreeCaller, Give, Receive, Answered, BreakCaller, BreakReceiver, Close, Restart, Requeue, Drop, Forget, Refuse, StayAway, Tick, HasNode, Step}
 use Rattle.dr_world_model.specs.Claims.{CoversHop, HadArrival, IsKeptAt, IsOpen, IsToGo, IsToSend, NobodyDropped, WasGivenUp}
@@ -143,7 +144,7 @@ module _ (ours : Ours) (plan : Network) where
       ] in
       let k = arriving_among ours plan w safe link.receiver link.caller s.item reply s.mid near sourced s.call in
       let later = stage_after w s.mid number link (Storing s.accepted s.item) s.at s.stage k.0 fair in
-      subst (LivesAmong ours plan w) (sym s.is) (then_link w s.mid number (at_stage link (Replying s.accepted s.item (status_of reply))) (lives w s.mid k.0) (
+      subst (LivesAmong ours plan w) (sym s.is) (then_link w s.mid number (at_stage link (Replying s.accepted s.item (store_status reply))) (lives w s.mid k.0) (
         later.0,
         later.1,
         λ here. (

@@ -18,7 +18,7 @@ use Rattle.dr_ledger.specs.declared.item.Progress.TheVariants.{Waiting, Held, Do
 use Rattle.dr_ledger.specs.Books.{Book, Line, Arrival, Repeat, Settling, Requeuing, Dropping, Forgetting, Adoption, empty_book, after, row_after, Fold}
 use Rattle.dr_ledger.specs.Pairs.{pair_cmp}
 use Rattle.dr_ledger.specs.PlanRoutes.{plan_routing, keeps}
-use Rattle.dr_ledger.specs.Replies.{IsAdmitted, IsHeld, IsOver, IsWaiting, arrival_line}
+use Rattle.dr_ledger.specs.Replies.{IsAdmitted, IsHeld, IsOver, IsWaiting, arrival_line, Reply}
 use Rattle.dr_ledger.proofs.Answering.{succeeds_now}
 use Rattle.dr_ledger.proofs.Folding.{fold_after}
 use Rattle.dr_ledger.proofs.Forgotten.{Apart, item_left, item_stays, row_left}
@@ -29,7 +29,7 @@ use Rattle.dr_ledger.proofs.Since.{Acknowledges, IsPlain}
 use Rattle.dr_ledger.specs.OneNode.{HasSucceededSince}
 use Rattle.dr_world_model.specs.Among.{Ours, AreOurs, HasEntry}
 use Rattle.dr_world_model.specs.Worlds.{World, with_book, with_armed}
-use Rattle.dr_world_model.specs.Calls.{Reply, Answer, Arriving, Settlement, Requeueing, GivingUp, LettingGo}
+use Rattle.dr_world_model.specs.Calls.{Answer, Arriving, Settlement, Requeueing, GivingUp, LettingGo}
 use Rattle.dr_world_model.specs.Steps.{NoneIsPending}
 use Rattle.dr_world_model.specs.Claims.{Has, HadArrival, IsFairOutcome, WasCarriedOver, WasGivenUp}
 use Rattle.dr_world_model.proofs.AdoptionsKept.{no_row}

@@ -19,7 +19,7 @@ use Rattle.dr_ledger.specs.declared.item.Progress.TheVariants.{Waiting, Held, Do
 use Rattle.dr_ledger.specs.Books.{Book, Line, Arrival, Repeat, Settling, Requeuing, Dropping, Forgetting, Adoption, after, row_after, tried, is_success, is_refused_for_now, Fold}
 use Rattle.dr_ledger.specs.OneNode.{HasSucceededSince}
 use Rattle.dr_ledger.specs.PlanRoutes.{plan_routing, keeps}
-use Rattle.dr_ledger.specs.Replies.{IsAdmitted, arrival_line}
+use Rattle.dr_ledger.specs.Replies.{IsAdmitted, arrival_line, Reply}
 use Rattle.dr_ledger.proofs.Forgotten.{Apart, item_left, item_stays, row_left}
 use Rattle.dr_ledger.proofs.Folding.{fold_after}
 use Rattle.dr_ledger.proofs.Succeeded.{NotesSuccess, succeeded_before, succeeded_from}
@@ -27,7 +27,7 @@ use Rattle.dr_ledger.proofs.Growing.{inside as some_inside, row_put, given_up, s
 use Rattle.dr_ledger.proofs.Maps.{texts, same_or_not}
 use Rattle.dr_ledger.proofs.Since.{Acknowledges, IsPlain}
 use Rattle.dr_world_model.specs.Worlds.{World, with_book, with_armed}
-use Rattle.dr_world_model.specs.Calls.{Reply, Answer, Arriving, Settlement, Requeueing, GivingUp, LettingGo}
+use Rattle.dr_world_model.specs.Calls.{Answer, Arriving, Settlement, Requeueing, GivingUp, LettingGo}
 use Rattle.dr_world_model.specs.Steps.{NoneIsPending}
 use Rattle.dr_world_model.specs.Claims.{Has, HadArrival, HasSource, IsFairLine, IsFairOutcome, IsFairStatus, WasCarriedOver, WasGivenUp}
 use Rattle.dr_world_model.proofs.GivenUp.{given_up_arrived, given_up_now, given_up_on, given_up_repeated}

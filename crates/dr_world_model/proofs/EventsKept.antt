@@ -15,9 +15,9 @@ use Rattle.dr_ledger.specs.declared.fault.LedgerFault.TheVariants as fault
 use Rattle.dr_ledger.specs.declared.item.Instance.{Instance}
 use Rattle.dr_ledger.specs.declared.item.Outcome.TheVariants.{Status, Broken}
 use Rattle.dr_ledger.specs.declared.item.Progress.TheVariants.{Waiting}
-use Rattle.dr_ledger.specs.Replies.{IsNext}
+use Rattle.dr_ledger.specs.Replies.{IsNext, store_status, Reply}
 use Rattle.dr_world_model.specs.Worlds.{World, Link, Contexts, Stage, Asking, Answering, Rejecting, Open, Storing, Replying, Gone, with_link, with_links, without_caller, at_stage}
-use Rattle.dr_world_model.specs.Calls.{Reply, Answer, Arriving, Settlement, status_of}
+use Rattle.dr_world_model.specs.Calls.{Answer, Arriving, Settlement}
 use Rattle.dr_world_model.specs.Steps.{IsLink, AcceptsOffered, SettlesFirst, OpensLink, pending, SettlesPending, Leaves, LeavesIfOn, LeaveAll, callers_of, links_without, is_of, ReadsAnswer, Gives, Receives, ReadsReply}
 use Rattle.dr_world_model.specs.Events.{Event, Take, Ask, AgreeReceiver, AgreeCaller, Give, Receive, Answered, BreakCaller, BreakReceiver, Close, Restart, Requeue, Drop, Forget, Refuse, StayAway, Tick, Step}
 use Rattle.dr_world_model.specs.Claims.{HadArrival, IsFairStatus, CoversHop}
@@ -85,7 +85,7 @@ only_link plan w number link safe fair = then_link plan w w number link (record 
 
 -- ---- replies
 
-pub fair_status_of : (reply : Reply) → reply ≢ Err fault.NoLine → IsFairStatus (status_of reply)
+pub fair_status_of : (reply : Reply) → reply ≢ Err fault.NoLine → IsFairStatus (store_status reply)
 fair_status_of (Ok value) h = inl refl
 fair_status_of (Err fault.NoLine) h = absurd (h refl)
 fair_status_of (Err fault.Conflict) h = inr (inr refl)
@@ -95,7 +95,7 @@ fair_status_of (Err fault.NotWaiting) h = inr (inl refl)
 fair_status_of (Err fault.NotHeld) h = inr (inl refl)
 fair_status_of (Err fault.NotOver) h = inr (inl refl)
 
-pub success_of : (reply : Reply) → status_of reply ≡ 0 → IsSuccess reply
+pub success_of : (reply : Reply) → store_status reply ≡ 0 → IsSuccess reply
 success_of (Ok value) z = tt
 success_of (Err fault.NoLine) z = absurd (let e : ⊥ = omega arith in e)
 success_of (Err fault.Conflict) z = absurd (let e : ⊥ = omega arith in e)
@@ -157,7 +157,7 @@ receives_kept plan w new number reply safe s =
     let k = arriving_kept plan w safe link.receiver link.caller s.item reply s.mid (λ v g there. source_still plan w v link.caller link.receiver s.item g fair.1.source) s.call in
     let later = stage_after plan w s.mid number link (Storing s.accepted s.item) s.at s.stage k.0 fair in
     let known = goes_reached plan s.item.key link.caller link.receiver fair.1.goes in
-    subst (Lives plan w) (sym s.is) (then_link plan w s.mid number (at_stage link (Replying s.accepted s.item (status_of reply))) (lives plan w s.mid k.0)
+    subst (Lives plan w) (sym s.is) (then_link plan w s.mid number (at_stage link (Replying s.accepted s.item (store_status reply))) (lives plan w s.mid k.0)
     (later.0, later.1, later.2, fair_status_of reply (not_refused plan w s.mid link.receiver link.caller s.item reply known s.call), λ z. k.1 (success_of reply z)))
 
 replied_kept : (plan : Network) (w new : World) (number : ℕ) (answer : Answer) → IsSafe plan w → ReadsReply w number answer new → Lives plan w new

@@ -24,7 +24,7 @@ use Rattle.dr_ledger.proofs.Growing.{inside}
 use Rattle.dr_ledger.proofs.Maps.{texts, text_pairs, cases_of, same_or_not, ties_itself, contains_new, get_new, got, filled_is}
 use Rattle.dr_world_model.specs.Worlds.{World, Open, Replying, start, same_text}
 use Rattle.dr_world_model.specs.Claims.{Has, HadArrival, HasItems, HasRow, IsHonest, IsToSend, NoneRefused, NothingLost, WasCarriedOver, WasGivenUp, WithinRank}
-use Rattle.dr_world_model.specs.Failing.{ClaimsCanFail, LeadsNowhere, acknowledged, answered_for_nothing, brought_by, brought_for, carried_and_lost, carried_with, come_from_nowhere, done_for_nothing, forgotten_too_early, given_up_another, given_up_before, given_up_long_ago, given_up_with, keeps_instead, kept_as_another, link_at, noted_without_item, noted_without_line, only, opened_without_pairs, queued_astray, queued_for_nothing, queued_unsaid, settled_strangely, settled_without_context, strange_status, success_for_nothing, under_another_uid}
+use Rattle.dr_world_model.specs.Failing.{ClaimsCanFail, LeadsNowhere, come_from_nowhere, answered_for_nothing, brought_by, brought_for, carried_and_lost, carried_with, done_for_nothing, forgotten_too_early, given_up_another, given_up_before, given_up_long_ago, given_up_with, keeps_instead, kept_as_another, link_at, noted_without_item, noted_without_line, only, opened_without_pairs, queued_astray, queued_for_nothing, queued_unsaid, settled_strangely, settled_without_context, strange_status, success_for_nothing, under_another_uid}
 use Rattle.dr_ledger.proofs.Since.{IsPlain, nothing_taken, taken_now, taken_still}
 use Rattle.dr_ledger.proofs.Succeeded.{not_empty}
 use Rattle.dr_world_model.proofs.Keeping.{Took}
@@ -208,7 +208,7 @@ module _ (plan : Network) (caller name to : Text) (item other : Instance) where
       let is = at_name name (queued_unsaid uid name item) in
       apart (h.named name uid item (ap (λ (x : Book). map.get x.items uid) is ∙ get_new texts map.empty uid item))
 
-  leads_nowhere : LeadsNowhere plan caller name item → NothingLost plan (acknowledged caller name item) → ⊥
+  leads_nowhere : LeadsNowhere plan caller name item → NothingLost plan (come_from_nowhere caller name item) → ⊥
   leads_nowhere nowhere h =
       let s = h.some caller name item (arrived caller name item map.empty set.empty) in
       nowhere s.0 s.1

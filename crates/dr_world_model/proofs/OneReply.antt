@@ -18,11 +18,11 @@ use Rattle.dr_ledger.specs.declared.item.Instance.{Instance}
 use Rattle.dr_ledger.specs.declared.item.Outcome.{Outcome}
 use Rattle.dr_ledger.specs.Books.{Book}
 use Rattle.dr_ledger.specs.PlanRoutes.{plan_routing}
-use Rattle.dr_ledger.specs.Replies.{Arrives, Settles, Requeues, Drops, Forgets, IsNext}
+use Rattle.dr_ledger.specs.Replies.{Arrives, Settles, Requeues, Drops, Forgets, IsNext, Reply}
 use Rattle.dr_ledger.proofs.Growing.{inside as some_inside}
 use Rattle.dr_ledger.proofs.Ones.{next_is_one}
 use Rattle.dr_world_model.specs.Worlds.{World, Link, Contexts, with_armed, with_book, with_link}
-use Rattle.dr_world_model.specs.Calls.{Reply, Answer, StoreOutcome, CalledAt, Arriving, Settlement, Requeueing, GivingUp, LettingGo}
+use Rattle.dr_world_model.specs.Calls.{Answer, StoreOutcome, CalledAt, Arriving, Settlement, Requeueing, GivingUp, LettingGo}
 use Rattle.dr_world_model.specs.Steps.{IsLink, AcceptsOffered}
 
 -- ---- orders

@@ -8,9 +8,9 @@ use Rattle.dr_route.specs.Routes.{local}
 use Rattle.dr_plan_model.specs.Networks.{Network}
 use Rattle.dr_ledger.specs.declared.item.Instance.{Instance}
 use Rattle.dr_ledger.specs.declared.item.Outcome.TheVariants.{Status, Broken, NoContext}
-use Rattle.dr_ledger.specs.Replies.{IsNext}
+use Rattle.dr_ledger.specs.Replies.{IsNext, store_status, Reply}
 use Rattle.dr_world_model.specs.Worlds.{World, Link, Contexts, Answering, Rejecting, Open, Storing, Replying, Gone, with_armed, with_link, with_links, without_caller, without_receiver, at_stage}
-use Rattle.dr_world_model.specs.Calls.{Reply, Answer, Arriving, Settlement, status_of}
+use Rattle.dr_world_model.specs.Calls.{Answer, Arriving, Settlement}
 use Rattle.dr_world_model.specs.Steps.{IsLink, AnswersRequest, SettlesFirst, OpensLink, ReadsAnswer, after_settling, GivesItem, Gives, Receives, ReadsReply, pending, SettlesPending, Leaves, LeavesIfOn, LeaveAll, Closes, Restarts, callers_of, links_without}
 use Rattle.dr_world_model.specs.Events.{Event, Take, Ask, AgreeReceiver, AgreeCaller, Give, Receive, Answered, BreakCaller, BreakReceiver, Close, Restart, Requeue, Drop, Forget, Refuse, StayAway, Tick, Step}
 use Rattle.dr_world_model.specs.Laws.{StepIsAFunction, AdoptionIsAFunction}
@@ -116,7 +116,7 @@ module _ (w : World) where
       let f = storing_inside p.accepted q.accepted p.item q.item (sym p.stage ∙ (ap (λ (link : Link). link.stage) e ∙ q.stage)) in
       let P : Link × Instance → Type 0 = λ t. Arriving plan w t.0.receiver t.0.caller t.1 reply p.mid in
       let mids = arriving_alike w w.armed p.mid q.mid plan q.link.receiver q.link.caller q.item reply (subst P (λ j. (e j, f.1 j)) p.call) q.call in
-      let L : Link × Contexts × Instance → Link = λ t. at_stage t.0 (Replying t.1 t.2 (status_of reply)) in
+      let L : Link × Contexts × Instance → Link = λ t. at_stage t.0 (Replying t.1 t.2 (store_status reply)) in
       subst (λ v. Alike v b) (sym (p.is ∙ ap (λ t. with_link p.mid number (L t)) (λ j. (e j, f.0 j, f.1 j))))
       (subst (λ v. Alike (with_link p.mid number (L (q.link, q.accepted, q.item))) v) (sym q.is) (link_alike p.mid q.mid number (L (q.link, q.accepted, q.item)) mids))
 

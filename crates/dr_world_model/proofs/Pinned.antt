@@ -13,15 +13,12 @@ use Rattle.dr_ledger.proofs.Ones.{next_is_one}
 use Rattle.dr_world_model.specs.Worlds.{World, Link, with_link}
 use Rattle.dr_world_model.specs.Calls.{Answer, Settlement}
 use Rattle.dr_world_model.specs.Steps.{LeaveAll, SettlesFirst, callers_of, calls, others}
-use Rattle.dr_world_model.specs.Pinning.{AgreeingIsByCount, AnsweredIsOpen, AreStatuses, ClosingSettles, ClosingTriesAgain, DropsLeaveTheCaller, ReceivedIsReplied, RejectedSettles, RejectedTriesAgain, RestartsAskAll, RestartsInOrder, TriesAgain}
+use Rattle.dr_world_model.specs.Pinning.{AgreeingIsByCount, AnsweredIsOpen, ClosingSettles, ClosingTriesAgain, DropsLeaveTheCaller, ReceivedIsReplied, RejectedSettles, RejectedTriesAgain, RestartsAskAll, RestartsInOrder, TriesAgain}
 use Rattle.dr_world_model.proofs.CallsKept.{broken_retried}
 use Rattle.dr_world_model.proofs.Ended.{leaving_settles, leaving_tries_again, put_there}
 use Rattle.dr_world_model.proofs.OneReply.{same_link}
 use Rattle.dr_world_model.proofs.Picking.{sorted}
 use Rattle.dr_world_model.proofs.Safety.{book_here}
-
-pub are_statuses : AreStatuses
-are_statuses = record { new = refl; again = refl; no_line = refl; conflict = refl; store = refl; memory = refl }
 
 pub agreeing_is_by_count : AgreeingIsByCount
 agreeing_is_by_count plan w v number link (Some accepted) at s =

@@ -17,9 +17,9 @@ use Rattle.dr_ledger.specs.declared.item.Outcome.TheVariants.{Status, Broken, No
 use Rattle.dr_ledger.specs.declared.item.Arrived.TheVariants.{Again}
 use Rattle.dr_ledger.specs.Books.{Book, Repeat, Settling, Requeuing, Dropping, Forgetting, after, empty_book}
 use Rattle.dr_ledger.specs.PlanRoutes.{plan_routing}
-use Rattle.dr_ledger.specs.Replies.{IsAdmitted, IsWaiting, arrival_line}
+use Rattle.dr_ledger.specs.Replies.{IsAdmitted, IsWaiting, arrival_line, store_status, Reply}
 use Rattle.dr_world_model.specs.Worlds.{World, Link, Contexts, Storing, Replying, start, with_book, with_armed, with_link, without_caller, at_stage}
-use Rattle.dr_world_model.specs.Calls.{Reply, Arriving, Settlement, status_of}
+use Rattle.dr_world_model.specs.Calls.{Arriving, Settlement}
 use Rattle.dr_world_model.specs.Steps.{Leaves, pending, SettlesPending, after_settling}
 use Rattle.dr_world_model.specs.Events.{Receive}
 use Rattle.dr_world_model.specs.Happening.{TakesHappen, OpeningsHappen, StoresHappen, RefusalsHappen, EndingsHappen, EventsHappen, ARefusalIsSpent, CanHappen, Writes, IsCallers, IsReceivers}
@@ -81,7 +81,7 @@ module _ (plan : Network) (w : World) where
   received : (number : ℕ) (link : Link) (accepted : Contexts) (item : Instance) (reply : Reply) (mid : World) → IsReceivers w number link → link.stage ≡ Storing accepted item →
       Arriving plan w link.receiver link.caller item reply mid → CanHappen plan w (Receive number reply)
   received number link accepted item reply mid on stage call = (
-    with_link mid number (at_stage link (Replying accepted item (status_of reply))),
+    with_link mid number (at_stage link (Replying accepted item (store_status reply))),
     record { link = link; accepted = accepted; item = item; at = on.0; on = on.1; stage = stage; mid = mid; call = call; is = refl },
   )
 

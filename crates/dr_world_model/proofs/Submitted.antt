@@ -16,12 +16,12 @@ use Rattle.dr_ledger.specs.declared.item.Outcome.{Outcome}
 use Rattle.dr_ledger.specs.declared.item.Outcome.TheVariants.{Status, Broken, NoContext}
 use Rattle.dr_ledger.specs.Books.{Book}
 use Rattle.dr_ledger.specs.Items.{instance_of}
-use Rattle.dr_ledger.specs.Replies.{Arrives, Requeues, Drops, Forgets, Settles}
+use Rattle.dr_ledger.specs.Replies.{Arrives, Requeues, Drops, Forgets, Settles, Reply}
 use Rattle.dr_ledger.specs.Routings.{Routing}
 use Rattle.dr_ledger.proofs.Maps.{texts, got, filled_got}
 use Rattle.dr_ledger.proofs.Needs.{one_instance_is_one_item}
 use Rattle.dr_world_model.specs.Worlds.{World, Link, start, with_link}
-use Rattle.dr_world_model.specs.Calls.{Reply, Answer, StoreOutcome, CalledAt, Arriving, Settlement}
+use Rattle.dr_world_model.specs.Calls.{Answer, StoreOutcome, CalledAt, Arriving, Settlement}
 use Rattle.dr_world_model.specs.Steps.{IsLink, SettlesFirst, OpensLink, pending, SettlesPending, Leaves, LeavesIfOn, LeaveAll, callers_of, Gives}
 use Rattle.dr_world_model.specs.Events.{Event, Take, Ask, AgreeReceiver, AgreeCaller, Give, Receive, Answered, BreakCaller, BreakReceiver, Close, Restart, Requeue, Drop, Forget, Refuse, StayAway, Tick, Step}
 use Rattle.dr_world_model.specs.Runs.{Adopts, Action, Occurs, Adopt, Runs}

@@ -15,9 +15,9 @@ use Rattle.dr_ledger.specs.declared.item.Progress.TheVariants.{Waiting, Held}
 use Rattle.dr_ledger.specs.Books.{Book, empty_book}
 use Rattle.dr_ledger.specs.Pairs.{pair_cmp}
 use Rattle.dr_ledger.specs.PlanRoutes.{plan_routing}
-use Rattle.dr_ledger.specs.Replies.{Arrives, Drops, Forgets, IsHeld, IsOver, IsWaiting, Requeues, Settles}
+use Rattle.dr_ledger.specs.Replies.{Arrives, Drops, Forgets, IsHeld, IsOver, IsWaiting, Requeues, Settles, Reply}
 use Rattle.dr_world_model.specs.Worlds.{World, start}
-use Rattle.dr_world_model.specs.Calls.{Answer, CalledAt, StoreOutcome, Reply}
+use Rattle.dr_world_model.specs.Calls.{Answer, CalledAt, StoreOutcome}
 use Rattle.dr_world_model.specs.Events.{HasNode}
 use Rattle.dr_world_model.specs.Runs.{Adopts, Action, Occurs, Adopt, Runs}
 use Rattle.dr_world_model.specs.Strangers.{StrangersHaveNothing}

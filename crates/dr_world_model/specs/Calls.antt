@@ -1,24 +1,19 @@
 -- The calls of a node's book in the message world, their replies, and stores that are told to
 -- refuse.
-use Rattle.std.specs.Prelude.{◌≡◌, ℕ, ◌⊎◌, true, false, Result, Ok, Err}
+use Rattle.std.specs.Prelude.{◌≡◌, ◌⊎◌, true, false, Result, Ok, Err}
 use Rattle.std.specs.FinSet as set
 use Rattle.std.specs.FinSet.{FinSet}
 use Rattle.dr_base.specs.Texts.{Text, text_cmp}
 use Rattle.dr_plan_model.specs.Networks.{Network}
-use Rattle.dr_ledger.specs.declared.item.Arrived.{Arrived}
 use Rattle.dr_ledger.specs.declared.item.Instance.{Instance}
 use Rattle.dr_ledger.specs.declared.fault.LedgerFault.{LedgerFault}
 use Rattle.dr_ledger.specs.declared.fault.LedgerFault.TheVariants as fault
 use Rattle.dr_ledger.specs.declared.item.Outcome.{Outcome}
 use Rattle.dr_ledger.specs.Books.{Book}
 use Rattle.dr_ledger.specs.PlanRoutes.{plan_routing}
-use Rattle.dr_ledger.specs.Replies.{IsAdmitted, IsWaiting, IsHeld, IsOver, Arrives, Settles}
+use Rattle.dr_ledger.specs.Replies.{IsAdmitted, IsWaiting, IsHeld, IsOver, Arrives, Settles, Reply}
 use Rattle.dr_ledger.specs.Replies.{Requeues, Drops, Forgets}
 use Rattle.dr_world_model.specs.Worlds.{World, with_book, with_armed}
-
--- what `arrive` answers to a C-STORE request in the message world
-abbrev pub Reply : Type 0
-Reply = Result Arrived LedgerFault
 
 -- what `settle`, `requeue`, `drop` and `forget` answer in the message world
 abbrev pub Answer : Type 0
@@ -95,15 +90,3 @@ pub record LettingGo (old : World) (name uid : Text) (answer : Answer) (new : Wo
   pub book : Book
   pub call : Forgets uid (old.books name) answer book
   pub called : CalledAt (IsOver (old.books name) uid) old name (store_outcome_of answer) book new
-
--- the status of the C-STORE response for a reply (PS3.4 B.2.3): success, no line, other data under
--- this uid, out of resources
-abbrev pub status_of : Reply → ℕ
-status_of (Ok value) = 0
-status_of (Err fault.NoLine) = 0xC0F0
-status_of (Err fault.Conflict) = 0xC0F1
-status_of (Err fault.Store) = 0xA700
-status_of (Err fault.Memory) = 0xA700
-status_of (Err fault.NotWaiting) = 0xA700
-status_of (Err fault.NotHeld) = 0xA700
-status_of (Err fault.NotOver) = 0xA700

@@ -8,8 +8,8 @@ use Rattle.dr_ledger.specs.declared.item.Progress.TheVariants.{Waiting}
 use Rattle.dr_ledger.specs.Books.{tried}
 use Rattle.dr_world_model.specs.Worlds.{World, Link, Contexts, Stage, Open, Storing, Replying, Gone}
 use Rattle.dr_world_model.specs.Calls.{Answer}
-use Rattle.dr_world_model.specs.Steps.{IsLink, callers_of, Leaves, Drops, ReadsReply, Closes}
-use Rattle.dr_world_model.specs.Steps.{Restarts}
+use Rattle.dr_world_model.specs.Steps.{IsLink, callers_of, Leaves, ReceiverDrops, ReadsReply}
+use Rattle.dr_world_model.specs.Steps.{Closes, Restarts}
 use Rattle.dr_world_model.specs.Claims.{HasRow}
 
 -- the instance is under way on the link, or its response is
@@ -48,7 +48,7 @@ LeftIsOff =
 abbrev pub DroppedIsOff : Type 0
 DroppedIsOff =
     (w v : World) (number : ℕ)
-    → Drops w number v
+    → ReceiverDrops w number v
     → (link : Link) × IsLink v number link × (link.receiver_connected ≡ false)
 
 -- the caller is disconnected, and no book has changed

@@ -9,11 +9,11 @@ use Rattle.dr_plan_model.specs.Plans.{IsNode}
 use Rattle.dr_plan_model.specs.declared.plan.Node.{Node}
 use Rattle.dr_ledger.specs.declared.item.Instance.{Instance}
 use Rattle.dr_world_model.specs.Worlds.{World, Contexts, with_armed}
-use Rattle.dr_world_model.specs.Calls.{Reply, Answer, Arriving, Requeueing, GivingUp}
-use Rattle.dr_world_model.specs.Calls.{LettingGo}
+use Rattle.dr_world_model.specs.Calls.{Answer, Arriving, Requeueing, GivingUp, LettingGo}
+use Rattle.dr_ledger.specs.Replies.{Reply}
 use Rattle.dr_world_model.specs.Steps.{IsHop, asked, AnswersRequest, ReadsAnswer, Gives, Receives}
-use Rattle.dr_world_model.specs.Steps.{ReadsReply, Leaves, Drops, Closes, Restarts, NoneIsPending}
-use Rattle.dr_world_model.specs.Steps.{StaysAway, passed}
+use Rattle.dr_world_model.specs.Steps.{ReadsReply, Leaves, ReceiverDrops, Closes, Restarts}
+use Rattle.dr_world_model.specs.Steps.{NoneIsPending, StaysAway, passed}
 
 -- `None` in place of an answer: nothing was settled.
 pub data Event : Type 0 where
@@ -58,7 +58,7 @@ Step plan old (Give link answer) new = Gives old link answer new
 Step plan old (Receive link reply) new = Receives plan old link reply new
 Step plan old (Answered link answer) new = ReadsReply old link answer new
 Step plan old (BreakCaller link answer) new = Leaves old link answer new
-Step plan old (BreakReceiver link) new = Drops old link new
+Step plan old (BreakReceiver link) new = ReceiverDrops old link new
 Step plan old (Close link answer) new = Closes old link answer new
 Step plan old (Restart node answers) new = Restarts old node answers new
 Step plan old (Requeue node uid dest answer) new =

@@ -137,10 +137,6 @@ noted_without_line caller name item = only name (record {
 abbrev pub under_another_uid : Text → Text → Instance → World
 under_another_uid name uid item = only name (queued_unsaid uid name item)
 
--- against claim 4, where the plan has no destination for it: an instance was acknowledged
-abbrev pub acknowledged : Text → Text → Instance → World
-acknowledged caller name item = only name (brought_by caller item map.empty set.empty)
-
 -- against claim 4, where the next node leads to no destination: the one row of an instance waits
 -- for that node
 abbrev pub queued_astray : Text → Text → Text → Instance → World
@@ -276,7 +272,7 @@ pub record ClaimsFail (plan : Network) (caller name to : Text)
   pub gone : NothingLost plan (done_and_gone caller name to item) → ⊥
   pub forgotten : NothingLost plan (forgotten_too_early caller name item) → ⊥
   pub no_destination : LeadsNowhere plan caller name item
-      → NothingLost plan (acknowledged caller name item)
+      → NothingLost plan (come_from_nowhere caller name item)
       → ⊥
   pub astray : LeadsNowhere plan name to item
       → NothingLost plan (queued_astray caller name to item)

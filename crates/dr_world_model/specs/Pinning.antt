@@ -1,23 +1,22 @@
 -- What each event does, said from outside: which books and links it touches, and what is answered
 -- and settled.
 use Rattle.std.specs.Prelude.{◌≡◌, ◌≢◌, ◌↔◌, ℕ, ◌+◌, ◌<◌, ◌≤◌, ◌⊎◌, true, false, List, length}
-use Rattle.std.specs.Prelude.{Contains, Option, None, Some, Ok, Err}
+use Rattle.std.specs.Prelude.{Contains, Option, None, Some, Ok}
 use Rattle.std.specs.FinMap as map
 use Rattle.std.specs.Ordering.{nat_cmp}
 use Rattle.std.specs.List.Sorted.{IsStrictlySortedBy}
 use Rattle.dr_base.specs.Texts.{Text}
 use Rattle.dr_plan_model.specs.Networks.{Network}
-use Rattle.dr_ledger.specs.declared.fault.LedgerFault.TheVariants as fault
-use Rattle.dr_ledger.specs.declared.item.Arrived.TheVariants.{New, Again}
 use Rattle.dr_ledger.specs.declared.item.Instance.{Instance}
 use Rattle.dr_ledger.specs.declared.item.Progress.TheVariants.{Waiting}
 use Rattle.dr_ledger.specs.Books.{tried}
-use Rattle.dr_ledger.specs.Replies.{IsNext}
+use Rattle.dr_ledger.specs.Replies.{IsNext, store_status, Reply}
 use Rattle.dr_world_model.specs.Worlds.{World, Link, Contexts, Stage, Answering, Rejecting, Open}
 use Rattle.dr_world_model.specs.Worlds.{Storing, Replying}
-use Rattle.dr_world_model.specs.Calls.{Answer, Reply, status_of}
+use Rattle.dr_world_model.specs.Calls.{Answer}
 use Rattle.dr_world_model.specs.Steps.{IsLink, AnswersRequest, ReadsAnswer, Receives, ReadsReply}
-use Rattle.dr_world_model.specs.Steps.{Drops, Closes, Restarts, others, others_of, callers_of}
+use Rattle.dr_world_model.specs.Steps.{ReceiverDrops, Closes, Restarts, others, others_of}
+use Rattle.dr_world_model.specs.Steps.{callers_of}
 use Rattle.dr_world_model.specs.Events.{Event, Take, Ask, AgreeReceiver, AgreeCaller, Give, Receive}
 use Rattle.dr_world_model.specs.Events.{Answered, BreakCaller, BreakReceiver, Close, Restart}
 use Rattle.dr_world_model.specs.Events.{Requeue, Drop, Forget, Refuse, StayAway, Tick, Step}
@@ -88,15 +87,6 @@ EventsAreLocal =
 
 -- ---- answers
 
--- the status of each reply
-pub record AreStatuses : Type 0 where
-  pub new : status_of (Ok New) ≡ 0x0000
-  pub again : status_of (Ok Again) ≡ 0x0000
-  pub no_line : status_of (Err fault.NoLine) ≡ 0xC0F0
-  pub conflict : status_of (Err fault.Conflict) ≡ 0xC0F1
-  pub store : status_of (Err fault.Store) ≡ 0xA700
-  pub memory : status_of (Err fault.Memory) ≡ 0xA700
-
 -- A receiver accepts with less than 256 others, and rejects with 256; and that is its answer.
 abbrev pub AgreesByCount : World → World → ℕ → Link → Option Contexts → Type 0
 AgreesByCount w v number link (Some accepted) =
@@ -144,7 +134,7 @@ ReceivedIsReplied =
     (plan : Network) (w v : World) (number : ℕ) (reply : Reply)
     → Receives plan w number reply v
     → (link : Link) × (accepted : Contexts) × (item : Instance) × IsLink v number link
-    × (link.stage ≡ Replying accepted item (status_of reply))
+    × (link.stage ≡ Replying accepted item (store_status reply))
 
 -- After a reply was read and its row was settled the link is open again, and its caller on.
 abbrev pub AnsweredIsOpen : Type 0
@@ -216,7 +206,7 @@ RestartsInOrder = (w : World) (name : Text) → IsStrictlySortedBy nat_cmp (call
 abbrev pub DropsLeaveTheCaller : Type 0
 DropsLeaveTheCaller =
     (w v : World) (number : ℕ) (link : Link)
-    → IsLink w number link → Drops w number v
+    → IsLink w number link → ReceiverDrops w number v
     → ((is : Link) × IsLink v number is
     × (is.caller_connected ≡ link.caller_connected)
     × (is.stage ≡ link.stage))

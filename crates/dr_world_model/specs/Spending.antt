@@ -8,9 +8,9 @@ use Rattle.dr_ledger.specs.declared.fault.LedgerFault.TheVariants as fault
 use Rattle.dr_ledger.specs.declared.item.Instance.{Instance}
 use Rattle.dr_ledger.specs.declared.item.Outcome.{Outcome}
 use Rattle.dr_ledger.specs.PlanRoutes.{plan_routing}
-use Rattle.dr_ledger.specs.Replies.{IsAdmitted, IsWaiting, IsHeld, IsOver}
+use Rattle.dr_ledger.specs.Replies.{IsAdmitted, IsWaiting, IsHeld, IsOver, Reply}
 use Rattle.dr_world_model.specs.Worlds.{World}
-use Rattle.dr_world_model.specs.Calls.{Answer, Reply, Arriving, Settlement, Requeueing}
+use Rattle.dr_world_model.specs.Calls.{Answer, Arriving, Settlement, Requeueing}
 use Rattle.dr_world_model.specs.Calls.{GivingUp, LettingGo}
 
 -- An armed node adds no line. Only a store that fails spends a refusal, and only where the call

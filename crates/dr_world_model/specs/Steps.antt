@@ -13,11 +13,11 @@ use Rattle.dr_plan_model.specs.Walks.{Accepts, Goes, GoesOver}
 use Rattle.dr_ledger.specs.declared.item.Instance.{Instance}
 use Rattle.dr_ledger.specs.declared.fault.LedgerFault.TheVariants as fault
 use Rattle.dr_ledger.specs.declared.item.Outcome.TheVariants.{Status, Broken, NoContext}
-use Rattle.dr_ledger.specs.Replies.{IsNext}
+use Rattle.dr_ledger.specs.Replies.{IsNext, store_status, Reply}
 use Rattle.dr_world_model.specs.Worlds.{World, Link, Contexts, Stage, Asking, Answering, Rejecting}
 use Rattle.dr_world_model.specs.Worlds.{Open, Storing, Replying, Gone, same_text, with_link}
 use Rattle.dr_world_model.specs.Worlds.{with_links, without_caller, without_receiver, at_stage}
-use Rattle.dr_world_model.specs.Calls.{Reply, Answer, Arriving, Settlement, status_of}
+use Rattle.dr_world_model.specs.Calls.{Answer, Arriving, Settlement}
 
 -- the link of that number
 abbrev pub IsLink : World → ℕ → Link → Type 0
@@ -196,7 +196,7 @@ pub record Receives (plan : Network) (old : World) (number : ℕ) (reply : Reply
   pub stage : link.stage ≡ Storing accepted item
   pub mid : World
   pub call : Arriving plan old link.receiver link.caller item reply mid
-  pub is : new ≡ with_link mid number (at_stage link (Replying accepted item (status_of reply)))
+  pub is : new ≡ with_link mid number (at_stage link (Replying accepted item (store_status reply)))
 
 -- the caller takes the reply and settles the row that it had pending
 pub record ReadsReply (old : World) (number : ℕ) (answer : Answer) (new : World) : Type 0 where
@@ -241,7 +241,7 @@ pub record Leaves (old : World) (number : ℕ) (reply : Option Answer) (new : Wo
   pub is : new ≡ with_link mid number (without_caller link)
 
 -- the receiver disconnects
-pub record Drops (old : World) (number : ℕ) (new : World) : Type 0 where
+pub record ReceiverDrops (old : World) (number : ℕ) (new : World) : Type 0 where
   pub link : Link
   pub at : IsLink old number link
   pub on : link.receiver_connected ≡ true

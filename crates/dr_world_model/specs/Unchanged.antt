@@ -7,7 +7,7 @@ use Rattle.dr_ledger.specs.declared.content.Job.{Job}
 use Rattle.dr_ledger.specs.declared.item.Instance.{Instance}
 use Rattle.dr_ledger.specs.Items.{IsItem, IsTheOne, instance_of}
 use Rattle.dr_world_model.specs.Worlds.{World, Link, start}
-use Rattle.dr_world_model.specs.Calls.{Reply}
+use Rattle.dr_ledger.specs.Replies.{Reply}
 use Rattle.dr_world_model.specs.Steps.{IsLink, pending}
 use Rattle.dr_world_model.specs.Events.{Take}
 use Rattle.dr_world_model.specs.Runs.{Action, Occurs, Runs}

@@ -11,7 +11,7 @@ ghost use Rattle.dr_world_model.specs.Fitting.{LedgersFindTheFirst, OpenLinksFor
 ghost use Rattle.dr_world_model.specs.Fitting.{UnfitRowsForbid};
 ghost use Rattle.dr_world_model.specs.Happening.{EventsHappen, ARefusalIsSpent, RestartsHappen};
 ghost use Rattle.dr_world_model.specs.Happening.{AdoptionsHappen, AnAdoptionRuns};
-ghost use Rattle.dr_world_model.specs.Pinning.{AgreeingIsByCount, AnsweredIsOpen, AreStatuses};
+ghost use Rattle.dr_world_model.specs.Pinning.{AgreeingIsByCount, AnsweredIsOpen};
 ghost use Rattle.dr_world_model.specs.Pinning.{ClosingSettles, ClosingTriesAgain};
 ghost use Rattle.dr_world_model.specs.Pinning.{DropsLeaveTheCaller, EventsAreLocal};
 ghost use Rattle.dr_world_model.specs.Pinning.{OthersAreCounted, ReceivedIsReplied};
@@ -169,11 +169,9 @@ pub fn events_are_local()
     ensures { EventsAreLocal }
 {}
 
-/// Each reply has its status; a receiver rejects with 256 others, and not before, and counts those
-/// that it accepted and hasn't left; a store is replied to, and after the reply the link is open
-/// again.
-pub fn each_reply_has_its_status()
-    ensures statuses { AreStatuses }
+/// A receiver rejects with 256 others, and not before, and counts those that it accepted and hasn't
+/// left; a store is replied to, and after the reply the link is open again.
+pub fn each_store_is_replied_to()
     ensures count { AgreeingIsByCount }
     ensures others { OthersAreCounted }
     ensures replied { ReceivedIsReplied }

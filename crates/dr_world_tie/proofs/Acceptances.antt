@@ -43,7 +43,7 @@ use Rattle.dr_session.specs.declared.ends.Told.TheVariants.{Agreement}
 use Rattle.dr_world_tie.specs.Desks.{Desk, LedgerStep}
 use Rattle.std.proofs.lemmas.Option.{same_Some}
 use Rattle.dr_world_tie.specs.Channels.{contexts_of, hop_contexts, IsAsking, IsReceiver, Channel, Carries, ShowsLink, ToCaller, ToReceiver, IsCaller, site_of}
-use Rattle.dr_world_tie.specs.Ties.{IsFirst, caller_read, HearsAcceptance, IsDeskOf, Happens}
+use Rattle.dr_world_tie.specs.Ties.{IsFirstPdu, caller_read, HearsAcceptance, IsDeskOf, Happens}
 use Rattle.dr_world_tie.proofs.Leaving.{AreFit, only_link, acts_by}
 use Rattle.dr_world_tie.proofs.Agreeing.{front_is, plays_alone}
 use Rattle.dr_world_tie.proofs.Fronts.{hears_one, nothing_yet}
@@ -68,7 +68,7 @@ open_still false accepted caller c h = h
 
 module _ (plan : Network) (certificate : Certificate) (w : World) (number : ℕ) (link : Link) (k : Channel) (s : Desk) (here : IsLink w number link) (desk : IsDeskOf w link.caller s) (shows : ShowsLink plan certificate k link)
     (on : link.caller_connected ≡ true) (accepted : Contexts) (answering : link.stage ≡ Answering accepted) (moment : Moment) (n : ℕ) (front : Pdu) (new : Feeding) (x : Effect) (t : Desk)
-    (first : IsFirst k.caller k.to_caller front) (whole : k.caller.ear.kept ++ take n k.to_caller ≡ written front)
+    (first : IsFirstPdu k.caller k.to_caller front) (whole : k.caller.ear.kept ++ take n k.to_caller ≡ written front)
     (plays : PlaysBytes (LedgerStep plan link.caller) moment k.caller.ear k.caller.core (take n k.to_caller) s new x t) where
   abbrev cstep : Desk → DeskCall → DeskAnswer → Desk → Type 0
   cstep = LedgerStep plan link.caller

@@ -70,15 +70,12 @@ use Rattle.dr_session.specs.declared.ends.Told.TheVariants.{Whole, Agreement}
 use Rattle.dr_session.specs.Desks.{DeskCall, DeskAnswer, Arrive, Arrival, Upcoming, First, Settling}
 use Rattle.dr_session.specs.Reactions.{Reaction, turn, occurs, moves, acts, event_of, is_taken}
 use Rattle.dr_session.specs.Reactions.{is_taken_at, is_acceptable, is_requestor, is_idle}
-use Rattle.dr_session.specs.Reactions.{has_waited, decides, decides_at, stepped_by, leaves_by, left}
-use Rattle.dr_session.specs.Reactions.{aborted, released, rejected, rj, effect, write, abort_pdu}
-use Rattle.dr_session.specs.Reactions.{reason_of, requested, requested_other, replied, stores}
-use Rattle.dr_session.specs.Reactions.{arrives, brings, is_named, arrival, stored, status_of, says}
+use Rattle.dr_session.specs.Reactions.{has_waited, decides, decides_at, stepped_by, leaves_by, left, aborted, released, rejected, rj, effect, write, abort_pdu, reason_of, requested, requested_other, replied, stores, arrives, brings, is_named, arrival, stored, says}
+use Rattle.dr_ledger.specs.Replies.{store_status, Reply}
 use Rattle.dr_session.specs.Telling.{Looks, Tells, TellsValue, TellsIn, Says, SaysOf}
 use Rattle.dr_session.specs.Telling.{FindsIn}
 use Rattle.dr_session.specs.Turns.{Turns, Ends, Asks}
 use Rattle.dr_session.specs.Plays.{Reacts, at_moment, with_stage}
-use Rattle.dr_world_model.specs.Calls.{Reply}
 use Rattle.dr_world_tie.specs.Channels.{IsAt, IsOff, IsControl, bytes_of}
 use Rattle.dr_world_tie.specs.Ties.{StaysOff}
 use Rattle.dr_world_tie.specs.Foreign.{Nothing, Writes, IsNoSuccess}
@@ -503,7 +500,7 @@ abbrev pub Brings : {S : Type 0}
 Brings step c s u x =
     (d : Core) × (item : Job) × (reply : Reply) × (context : ℕ) × (id : ℕ)
     × step s (Arrive c.peer item) (Arrival reply) u
-    × (x ≡ stored d context id item.key.class item.uid (status_of reply))
+    × (x ≡ stored d context id item.key.class item.uid (store_status reply))
     × Stays c d × IsAgreedOn c.agreed item
 
 abbrev pub Served : {S : Type 0}
@@ -662,7 +659,7 @@ module _ {S : Type 0} (step : S → DeskCall → DeskAnswer → S → Type 0) (m
       → (a : DeskAnswer) (m : S)
       → step s (Arrive c.peer item) a m
       → Turns step
-      (arrival (λ r. Ends (stored (there Sta6) context id class instance (status_of r))) a) m x u
+      (arrival (λ r. Ends (stored (there Sta6) context id class instance (store_status r))) a) m x u
       → Served step c s u x
   by_desk context id class instance item classes uids agreed (Arrival reply) m one (e, same) =
       inr (inr (
@@ -674,10 +671,10 @@ module _ {S : Type 0} (step : S → DeskCall → DeskAnswer → S → Type 0) (m
         subst (λ (d : S). step s (Arrive c.peer item) (Arrival reply) d) (sym same) one,
         e
             ∙ (ap
-            (λ (t : Text). stored (there Sta6) context id t instance (status_of reply))
+            (λ (t : Text). stored (there Sta6) context id t instance (store_status reply))
             (sym classes)
             ∙ ap
-            (λ (t : Text). stored (there Sta6) context id item.key.class t (status_of reply))
+            (λ (t : Text). stored (there Sta6) context id item.key.class t (store_status reply))
             (sym uids)),
         still,
         agreed,
@@ -693,7 +690,7 @@ module _ {S : Type 0} (step : S → DeskCall → DeskAnswer → S → Type 0) (m
       → Turns step
       (if b
       then Asks (Arrive c.peer item)
-      (arrival (λ r. Ends (stored (there Sta6) context id class instance (status_of r))))
+      (arrival (λ r. Ends (stored (there Sta6) context id class instance (store_status r))))
       else Ends (stored (there Sta6) context id class instance 0xA900)) s x u
       → Served step c s u x
   by_name context id class instance item agreed true e h =

@@ -35,11 +35,11 @@ use Rattle.dr_nego.specs.declared.agreed.Agreed.{Agreed}
 use Rattle.dr_nego.specs.Agreeing.{AssociateRq, AssociateAc}
 use Rattle.dr_nego.specs.Answering.{answer}
 use Rattle.dr_world_tie.specs.Channels.{LiveTerminal, IsAt}
-use Rattle.dr_world_tie.specs.Ties.{IsFirst}
+use Rattle.dr_world_tie.specs.Ties.{IsFirstPdu}
 
 -- ---- which PDU is the front one
 
-pub front_is : (t : LiveTerminal) (wire : List ℕ) (n : ℕ) (front p : Pdu) (pdus : List Pdu) → IsFirst t wire front → t.ear.kept ++ take n wire ≡ written front
+pub front_is : (t : LiveTerminal) (wire : List ℕ) (n : ℕ) (front p : Pdu) (pdus : List Pdu) → IsFirstPdu t wire front → t.ear.kept ++ take n wire ≡ written front
     → t.ear.kept ++ wire ≡ spellings (p ∷ pdus) → Fits p → MeetsLimit t.ear.limit p → (front ≡ p) × (drop n wire ≡ spellings pdus)
 front_is t wire n front p pdus (more, all, fits, meets) whole joined fits_p meets_p =
     let same : written front ++ spellings more ≡ written p ++ spellings pdus = sym all ∙ joined in

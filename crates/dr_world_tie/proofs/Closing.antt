@@ -19,7 +19,7 @@ use Rattle.dr_ledger.proofs.Maps.{get_new}
 use Rattle.dr_world_model.proofs.Lookups.{numbers}
 use Rattle.dr_world_model.specs.Worlds.{World, Link, Gone, with_link, without_caller, without_receiver, at_stage}
 use Rattle.dr_world_model.specs.Calls.{Answer}
-use Rattle.dr_world_model.specs.Steps.{IsLink, Leaves, Drops}
+use Rattle.dr_world_model.specs.Steps.{IsLink, Leaves, ReceiverDrops}
 use Rattle.dr_world_model.specs.Events.{BreakCaller, BreakReceiver}
 use Rattle.dr_session.specs.declared.ends.Core.{Core}
 use Rattle.dr_session.specs.declared.ends.Effect.{Effect}
@@ -151,9 +151,9 @@ left_link plan certificate w number answer name t k link here h =
     (same_world_link h.after number h.link (without_caller l.link) h.here there ∙ ap without_caller (same_world_link w number l.link link l.at here), l)
 
 dropped_link : (plan : Network) (certificate : Certificate) (w : World) (number : ℕ) (name : _) (t : Desk) (k : Channel) (link : Link) → IsLink w number link
-    → (h : Happens plan certificate w number (BreakReceiver number) name t k) → (h.link ≡ without_receiver link) × Drops w number h.after
+    → (h : Happens plan certificate w number (BreakReceiver number) name t k) → (h.link ≡ without_receiver link) × ReceiverDrops w number h.after
 dropped_link plan certificate w number name t k link here h =
-    let l : Drops w number h.after = h.step in
+    let l : ReceiverDrops w number h.after = h.step in
     let there : IsLink h.after number (without_receiver l.link) = subst (λ (v : World). IsLink v number (without_receiver l.link)) (sym l.is) (get_new numbers w.links number (without_receiver l.link)) in
     (same_world_link h.after number h.link (without_receiver l.link) h.here there ∙ ap without_receiver (same_world_link w number l.link link l.at here), l)
 

@@ -38,7 +38,7 @@ use Rattle.dr_session.specs.Plays.{PlaysBytes, inputs_of}
 use Rattle.dr_session.specs.Telling.{event_of_input}
 use Rattle.dr_world_tie.specs.Desks.{Desk, LedgerStep}
 use Rattle.dr_world_tie.specs.Channels.{alone, LiveTerminal, Channel, Carries, ShowsLink, ToCaller, ToReceiver, IsAt, IsControl, site_of}
-use Rattle.dr_world_tie.specs.Ties.{IsFirst, receiver_read, caller_read, ReceiverHearsControl, CallerHearsControl, IsDeskOf, Happens}
+use Rattle.dr_world_tie.specs.Ties.{IsFirstPdu, receiver_read, caller_read, ReceiverHearsControl, CallerHearsControl, IsDeskOf, Happens}
 use Rattle.dr_world_tie.proofs.Leaving.{AreFit, acts_by, plain_turn, abort_fits, left_nothing, receiver_done, receiver_at as receiver_stands_at}
 use Rattle.dr_world_tie.proofs.CallerLeaving.{left_from, caller_at}
 use Rattle.dr_world_tie.proofs.Agreeing.{front_is, plays_alone}
@@ -72,7 +72,7 @@ none_to_caller (Storing accepted item) to c pdus e = subst (λ (l : List Pdu). N
 none_to_caller Gone to c pdus e = subst (λ (l : List Pdu). NoControls l) (sym e) tt
 
 -- a control PDU in front: nothing is under way any more, and it has a spelling
-front_control : (t : LiveTerminal) (wire : List ℕ) (n : ℕ) (front : Pdu) (coming controls : List Pdu) → IsControl front → IsFirst t wire front → t.ear.kept ++ take n wire ≡ written front
+front_control : (t : LiveTerminal) (wire : List ℕ) (n : ℕ) (front : Pdu) (coming controls : List Pdu) → IsControl front → IsFirstPdu t wire front → t.ear.kept ++ take n wire ≡ written front
     → NoControls coming → t.ear.kept ++ wire ≡ spellings (coming ++ controls) → AreFit t.ear.limit (coming ++ controls) → coming ≡ []
 front_control t wire n front [] controls control first whole none joined fits = refl
 front_control t wire n front (p ∷ ps) controls control first whole none joined fits =
@@ -97,13 +97,13 @@ module _ (plan : Network) (certificate : Certificate) (w : World) (number : ℕ)
   rcarries : Carries k.receiver k.to_receiver (ToReceiver link.stage link.receiver k.caller.core k.receiver.core) link.caller_connected
   rcarries = shows.to_receiver on
 
-  turn_of : (front : Pdu) (i : Input) → AsInput front i → IsFirst k.receiver k.to_receiver front → k.receiver.ear.kept ++ take n k.to_receiver ≡ written front
+  turn_of : (front : Pdu) (i : Input) → AsInput front i → IsFirstPdu k.receiver k.to_receiver front → k.receiver.ear.kept ++ take n k.to_receiver ≡ written front
       → PlaysBytes rstep moment k.receiver.ear k.receiver.core (take n k.to_receiver) s new x t → (new.limit ≡ k.receiver.ear.limit) × Turns rstep (turn moment k.receiver.core (Plain i)) s x t
   turn_of front i (inputs_is, none) (more, all, fits, meets) whole (inputs, heard, plays) =
       let h = hears_one k.receiver.ear new (take n k.to_receiver) inputs front rcarries.works fits meets whole heard in
       (ap (λ (f : Feeding). f.limit) h.1, plain_turn rstep moment k.receiver.core i s t x none (plays_alone rstep moment k.receiver.core i inputs s t x (h.0 ∙ inputs_is) plays))
 
-  at_six : (front : Pdu) → IsControl front → IsFirst k.receiver k.to_receiver front → k.receiver.ear.kept ++ take n k.to_receiver ≡ written front → (k.receiver.core.pending ≡ None) × IsAt k.receiver.core false Sta6
+  at_six : (front : Pdu) → IsControl front → IsFirstPdu k.receiver k.to_receiver front → k.receiver.ear.kept ++ take n k.to_receiver ≡ written front → (k.receiver.core.pending ≡ None) × IsAt k.receiver.core false Sta6
   at_six front control first whole =
       let free = none_to_receiver link.stage link.receiver k.caller.core k.receiver.core rcarries.coming rcarries.is in
       let empty = front_control k.receiver k.to_receiver n front rcarries.coming rcarries.controls control first whole free.0 rcarries.joined rcarries.fits in
@@ -113,7 +113,7 @@ module _ (plan : Network) (certificate : Certificate) (w : World) (number : ℕ)
   rabort : Core → Core
   rabort c = aborted c
 
-  pub rcontrol : (front : Pdu) → IsControl front → IsFirst k.receiver k.to_receiver front → k.receiver.ear.kept ++ take n k.to_receiver ≡ written front → PlaysBytes rstep moment k.receiver.ear k.receiver.core (take n k.to_receiver) s new x t → RResult
+  pub rcontrol : (front : Pdu) → IsControl front → IsFirstPdu k.receiver k.to_receiver front → k.receiver.ear.kept ++ take n k.to_receiver ≡ written front → PlaysBytes rstep moment k.receiver.ear k.receiver.core (take n k.to_receiver) s new x t → RResult
   rcontrol pdu.ReleaseRq control first whole plays =
       let h = turn_of pdu.ReleaseRq ReleaseRq (refl, refl) first whole plays in
       let at = at_six pdu.ReleaseRq control first whole in
@@ -155,7 +155,7 @@ module _ (plan : Network) (certificate : Certificate) (w : World) (number : ℕ)
   ccarries : Carries k.caller k.to_caller (ToCaller link.stage (site_of k.receiver.core) k.caller.core) link.receiver_connected
   ccarries = shows.to_caller on
 
-  cturn_of : (front : Pdu) (i : Input) → AsInput front i → IsFirst k.caller k.to_caller front → k.caller.ear.kept ++ take n k.to_caller ≡ written front
+  cturn_of : (front : Pdu) (i : Input) → AsInput front i → IsFirstPdu k.caller k.to_caller front → k.caller.ear.kept ++ take n k.to_caller ≡ written front
       → PlaysBytes cstep moment k.caller.ear k.caller.core (take n k.to_caller) s new x t → (new.limit ≡ k.caller.ear.limit) × Turns cstep (turn moment k.caller.core (Plain i)) s x t
   cturn_of front i (inputs_is, none) (more, all, fits, meets) whole (inputs, heard, plays) =
       let h = hears_one k.caller.ear new (take n k.to_caller) inputs front ccarries.works fits meets whole heard in
@@ -169,7 +169,7 @@ module _ (plan : Network) (certificate : Certificate) (w : World) (number : ℕ)
   by_abort i limit a is r h = left_from plan certificate w number link k s here desk shows on new (drop n k.to_caller) limit x t moment time (aborted (record k.caller.core { phase = in_its_phase (moved a Sta13 moment.now) }))
       (write (abort_pdu 2 2 ∷ []) ∷ []) (abort_pdu 2 2 ∷ []) refl refl refl refl (refl, inr (inr (moved a Sta13 moment.now, refl, r, refl))) (append-nil (spellings (abort_pdu 2 2 ∷ []))) (tt, tt) (abort_fits k.receiver.ear.limit 2 2) h
 
-  pub ccontrol : (front : Pdu) → IsControl front → IsFirst k.caller k.to_caller front → k.caller.ear.kept ++ take n k.to_caller ≡ written front → PlaysBytes cstep moment k.caller.ear k.caller.core (take n k.to_caller) s new x t → CResult
+  pub ccontrol : (front : Pdu) → IsControl front → IsFirstPdu k.caller k.to_caller front → k.caller.ear.kept ++ take n k.to_caller ≡ written front → PlaysBytes cstep moment k.caller.ear k.caller.core (take n k.to_caller) s new x t → CResult
   ccontrol pdu.ReleaseRq control first whole plays =
       let h = cturn_of pdu.ReleaseRq ReleaseRq (refl, refl) first whole plays in
       elim (cat h.0) [

@@ -45,7 +45,7 @@ use Rattle.dr_ledger.specs.Books.{Book, empty_book}
 use Rattle.dr_ledger.specs.Items.{IsItem, instance_of}
 use Rattle.dr_ledger.specs.Pairs.{pair_cmp}
 use Rattle.dr_ledger.specs.PlanRoutes.{plan_routing, same_syntax}
-use Rattle.dr_ledger.specs.Replies.{Arrives, IsAdmitted, IsWaiting}
+use Rattle.dr_ledger.specs.Replies.{Arrives, IsAdmitted, IsWaiting, store_status, Reply}
 use Rattle.dr_ledger.proofs.Maps.{get_new, get_other, same_or_not, texts}
 use Rattle.dr_nego.specs.declared.agreed.Agreed.{Agreed}
 use Rattle.dr_nego.specs.declared.agreed.Pair.{Pair}
@@ -63,13 +63,12 @@ use Rattle.dr_session.specs.declared.ends.Moment.{Moment}
 use Rattle.dr_session.specs.Desks.{Arrive, Arrival}
 use Rattle.dr_session.specs.Plays.{Reacts, Plays, HearsBy, at_moment, with_stage}
 use Rattle.dr_ulstate.specs.Phases.{in_its_phase}
-use Rattle.dr_session.specs.Reactions.{effect, stored, status_of}
+use Rattle.dr_session.specs.Reactions.{effect, stored}
 use Rattle.dr_world_model.specs.Worlds.{World, Link, Contexts, Stage, Asking, Answering, Rejecting}
 use Rattle.dr_world_model.specs.Worlds.{Open, Storing, Replying, Gone as LinkGone, same_text}
 use Rattle.dr_world_model.specs.Worlds.{with_link, with_book, with_armed, at_stage}
 use Rattle.dr_world_model.specs.Worlds.{without_receiver, books_with, start}
-use Rattle.dr_world_model.specs.Calls.{Reply, Arriving, Settlement, store_outcome_of}
-use Rattle.dr_world_model.specs.Calls as calls
+use Rattle.dr_world_model.specs.Calls.{Arriving, Settlement, store_outcome_of}
 use Rattle.dr_world_model.specs.Steps.{IsLink, new_link, asked, after_settling}
 use Rattle.dr_world_model.specs.Events.{Receive, BreakReceiver}
 use Rattle.dr_world_model.specs.Among.{Ours, Act, Own, Other, Turn, Calls, Takes, Stores, RunsAmong}
@@ -94,7 +93,6 @@ use Rattle.dr_world_tie.proofs.CallerLeaving.{armed_after}
 use Rattle.dr_world_tie.proofs.ContextSets.{has_context}
 use Rattle.dr_world_tie.proofs.Leaving.{only_link}
 use Rattle.dr_world_tie.proofs.Off.{off_stays_off}
-use Rattle.dr_world_tie.proofs.Stores.{same_status}
 use Rattle.dr_world_tie.proofs.Values.{store_by}
 use Rattle.dr_world_tie.proofs.Acceptors.{Gone, Stays, Kept, Brings, IsAgreedOn, Took}
 use Rattle.dr_world_tie.proofs.Acceptors.{Refused, awaited, served, accepts, both_hold}
@@ -373,7 +371,7 @@ no_line : (plan : Network) (name caller : Text) (item : Job) (s t : Desk)
     → ((plan_routing plan name).HasLine caller (instance_of item).key → ⊥)
     → (reply : Reply)
     → LedgerStep plan name s (Arrive caller item) (Arrival reply) t
-    → (status_of reply ≡ 0xC0F0) × (t.book ≡ s.book) × (t.armed ≡ s.armed)
+    → (store_status reply ≡ 0xC0F0) × (t.book ≡ s.book) × (t.armed ≡ s.armed)
 no_line plan name caller item s t none (Ok New) h = absurd (none h.0.0.line)
 no_line plan name caller item s t none (Ok Again) h = absurd (none h.0.0.line)
 no_line plan name caller item s t none (Err fault.NoLine) h = (refl, h.0.1, h.1)
@@ -868,7 +866,7 @@ module _ (ours : Ours) (plan : Network) (certificate : Certificate)
     -- the instance is stored, and received
     pub brought : (d : Core) (item : Job) (reply : Reply) (context id : ℕ)
         → LedgerStep plan node s (Arrive link.caller item) (Arrival reply) t
-        → x ≡ stored d context id item.key.class item.uid (status_of reply)
+        → x ≡ stored d context id item.key.class item.uid (store_status reply)
         → Stays k.core d
         → set.contains accepted (item.key.class, item.key.syntax) ≡ true
         → Linked_as (Brought (instance_of item) reply)
@@ -882,7 +880,7 @@ module _ (ours : Ours) (plan : Network) (certificate : Certificate)
         ) in
         let came : Arrived plan storing node link.caller i reply t =
         arrives_at plan storing node link.caller item reply s t storing_desk call in
-        let answered : Link = open_link link (Replying accepted i (calls.status_of reply)) in
+        let answered : Link = open_link link (Replying accepted i (store_status reply)) in
         let v : World = with_link came.mid number answered in
         let only : OnlyOf w v (Some number) node = record {
           books = λ o apart. came.books o apart ∙ ready.books o;
@@ -949,10 +947,7 @@ module _ (ours : Ours) (plan : Network) (certificate : Certificate)
             Rattle.std.specs.Option.option_map_or (λ (a : Agreed). a.limit) d.agreed 0,
             context,
             id,
-            ap (λ (y : Effect). y.acts) e
-                ∙ ap
-                (λ (n : ℕ). (stored d context id item.key.class item.uid n).acts)
-                (same_status reply),
+            ap (λ (y : Effect). y.acts) e,
           ),
           record {
             own = own;

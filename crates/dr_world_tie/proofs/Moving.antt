@@ -12,12 +12,12 @@ use Rattle.dr_session.specs.declared.ends.Moment.{Moment}
 use Rattle.dr_session.specs.Reactions.{effect}
 use Rattle.dr_session.specs.Plays.{Plays, PlaysBytes, At, at_moment}
 use Rattle.dr_world_tie.specs.Channels.{LiveTerminal, Carries}
-use Rattle.dr_world_tie.specs.Ties.{IsFirst, IsWithin, ReceiverHearsNothing, CallerHearsNothing}
+use Rattle.dr_world_tie.specs.Ties.{IsFirstPdu, IsWithin, ReceiverHearsNothing, CallerHearsNothing}
 use Rattle.dr_world_tie.proofs.Fronts.{hears_none}
 
 -- what is under way stays under way
 pub still_carries : (t : LiveTerminal) (wire : List ℕ) (IsComing : List Pdu → Type 0) (writer_on : Bool) → Carries t wire IsComing writer_on →
-    (n : ℕ) (front : Pdu) (new : Feeding) (inputs : List Input) → IsFirst t wire front → IsWithin (t.ear.kept ++ take n wire) front →
+    (n : ℕ) (front : Pdu) (new : Feeding) (inputs : List Input) → IsFirstPdu t wire front → IsWithin (t.ear.kept ++ take n wire) front →
     Rattle.dr_session.specs.Plays.Hears t.ear (take n wire) inputs new → (inputs ≡ []) × Carries (record { core = t.core; ear = new }) (drop n wire) IsComing writer_on × (new.limit ≡ t.ear.limit)
 still_carries t wire IsComing writer_on c n front new inputs (more, all, fits, meets) (back, is, some) h =
     let a = hears_none t.ear new (take n wire) back inputs front c.works fits meets is some h in (

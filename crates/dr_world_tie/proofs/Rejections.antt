@@ -22,7 +22,7 @@ use Rattle.dr_session.specs.Reactions.{desk_failed, refused, rejected, row, left
 use Rattle.dr_session.specs.Turns.{Turns, Ends}
 use Rattle.dr_world_tie.specs.Desks.{Desk, LedgerStep}
 use Rattle.dr_world_tie.specs.Channels.{IsOff, bytes_of, Channel, Carries, ShowsLink, ToCaller, IsAt, IsCaller, IsReceiver, site_of, site_in}
-use Rattle.dr_world_tie.specs.Ties.{IsDeskOf, IsFirst, Happens, caller_read, HearsRejection}
+use Rattle.dr_world_tie.specs.Ties.{IsDeskOf, IsFirstPdu, Happens, caller_read, HearsRejection}
 use Rattle.dr_world_tie.proofs.Leaving.{AreFit, only_link, acts_by, plain_turn}
 use Rattle.std.specs.FinMap as map_of
 use Rattle.dr_ulstate.specs.declared.table.Action.TheVariants.{Ae4}
@@ -49,7 +49,7 @@ use Rattle.dr_session.specs.declared.ends.LinkAction.TheVariants.{Close}
 
 module _ (plan : Network) (certificate : Certificate) (w : World) (number : ℕ) (link : Link) (k : Channel) (s : Desk) (here : IsLink w number link) (desk : IsDeskOf w link.caller s) (shows : ShowsLink plan certificate k link)
     (on : link.caller_connected ≡ true) (rejecting : link.stage ≡ Rejecting) (moment : Moment) (time : moment.now ≡ w.time) (n : ℕ) (front : Pdu) (new : Feeding) (x : Effect) (t : Desk)
-    (first : IsFirst k.caller k.to_caller front) (whole : k.caller.ear.kept ++ take n k.to_caller ≡ written front)
+    (first : IsFirstPdu k.caller k.to_caller front) (whole : k.caller.ear.kept ++ take n k.to_caller ≡ written front)
     (plays : PlaysBytes (LedgerStep plan link.caller) moment k.caller.ear k.caller.core (take n k.to_caller) s new x t) where
   abbrev cstep : Desk → DeskCall → DeskAnswer → Desk → Type 0
   cstep = LedgerStep plan link.caller

@@ -51,7 +51,7 @@ use Rattle.dr_nego.proofs.Sized.{acceptances_fit}
 use Rattle.dr_nego.proofs.HopAgreed.{answered}
 use Rattle.dr_world_tie.specs.Desks.{Desk, LedgerStep}
 use Rattle.dr_world_tie.specs.Channels.{LiveTerminal, Channel, Carries, ShowsLink, ToReceiver, ToCaller, IsCaller, IsReceiver, contexts_of, hop_contexts, site_of}
-use Rattle.dr_world_tie.specs.Ties.{IsDeskOf, IsFirst, receiver_read, AgreesAtReceiver, Happens}
+use Rattle.dr_world_tie.specs.Ties.{IsDeskOf, IsFirstPdu, receiver_read, AgreesAtReceiver, Happens}
 use Rattle.dr_world_tie.proofs.Fronts.{hears_one, nothing_yet}
 use Rattle.dr_world_tie.proofs.Leaving.{only_link}
 use Rattle.dr_world_tie.proofs.Agreeing.{front_is, plays_alone, accepted_core, refused_core, accept_turns, refuse_turns}
@@ -257,7 +257,7 @@ module _ (plan : Network) (certificate : Certificate) (c : IsCertified plan cert
         let a = refuse_turns (LedgerStep plan link.receiver) moment k.receiver.core to shows.to.3 rq receiver_at.0 s t x h e in
         subst (λ (y : Effect). Result_at y new_ear t) (sym a.0) (subst (λ (d : Desk). Result_at turned new_ear d) (sym a.1) (refused_case (subst (λ (m : ℕ). 256 ≤ m) others_is many)))
 
-  pub agrees : (front : Pdu) (new : Feeding) (x : Effect) (t : Desk) → IsFirst k.receiver k.to_receiver front → k.receiver.ear.kept ++ take n k.to_receiver ≡ written front →
+  pub agrees : (front : Pdu) (new : Feeding) (x : Effect) (t : Desk) → IsFirstPdu k.receiver k.to_receiver front → k.receiver.ear.kept ++ take n k.to_receiver ≡ written front →
       PlaysBytes (LedgerStep plan link.receiver) moment k.receiver.ear k.receiver.core (take n k.to_receiver) s new x t →
       (answer : Option Contexts) × Happens plan certificate w number (AgreeReceiver number answer) link.receiver t (receiver_read k n new x)
   agrees front new x t first whole (inputs, heard, plays) =

@@ -52,7 +52,7 @@ use Rattle.std.specs.FinSet as set
 use Rattle.dr_world_model.specs.Worlds.{with_book, with_armed, same_text}
 use Rattle.dr_world_tie.specs.Desks.{Desk, ArmedBy, LedgerStep}
 use Rattle.dr_world_tie.specs.Channels.{alone, message, Gets, IsMessageFor, IsReceiver, Channel, Carries, ShowsLink, ToCaller, ToReceiver, IsCaller, IsAt, site_of}
-use Rattle.dr_world_tie.specs.Ties.{IsData, IsFirst, caller_read, HearsReply, IsDeskOf, OnlyHere, Happens}
+use Rattle.dr_world_tie.specs.Ties.{IsData, IsFirstPdu, caller_read, HearsReply, IsDeskOf, OnlyHere, Happens}
 use Rattle.dr_world_tie.proofs.Leaving.{AreFit, only_link, carries_more, acts_by, abort_fits}
 use Rattle.dr_world_tie.proofs.CallerLeaving.{armed_after}
 use Rattle.dr_world_tie.proofs.Agreeing.{front_is, plays_alone}
@@ -119,7 +119,7 @@ by_answer plan name p outcome moment core s m t x (First d) h k = absurd h
 
 module _ (plan : Network) (certificate : Certificate) (w : World) (number : ℕ) (link : Link) (k : Channel) (s : Desk) (here : IsLink w number link) (desk : IsDeskOf w link.caller s) (shows : ShowsLink plan certificate k link)
     (on : link.caller_connected ≡ true) (accepted : Contexts) (item : Instance) (status : ℕ) (replying : link.stage ≡ Replying accepted item status) (moment : Moment) (time : moment.now ≡ w.time) (n : ℕ) (front : Pdu) (new : Feeding) (x : Effect) (t : Desk)
-    (first : IsFirst k.caller k.to_caller front) (whole : k.caller.ear.kept ++ take n k.to_caller ≡ written front)
+    (first : IsFirstPdu k.caller k.to_caller front) (whole : k.caller.ear.kept ++ take n k.to_caller ≡ written front)
     (plays : PlaysBytes (LedgerStep plan link.caller) moment k.caller.ear k.caller.core (take n k.to_caller) s new x t) where
   abbrev cstep : Desk → DeskCall → DeskAnswer → Desk → Type 0
   cstep = LedgerStep plan link.caller

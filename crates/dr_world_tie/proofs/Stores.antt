@@ -1,5 +1,5 @@
 -- A Move that ends a PDU of a store.
-use Rattle.std.proofs.Common.{◌≡◌, ℕ, Bool, true, false, List, [], ◌∷◌, ◌++◌, map, take, drop, Option, Some, None, Ok, Err, refl, sym, ap, subst, ◌∙◌, inl, inr, ◌⊎◌, ◌<◌, ◌^◌, arith}
+use Rattle.std.proofs.Common.{◌≡◌, ℕ, Bool, true, false, List, [], ◌∷◌, ◌++◌, map, take, drop, Option, Some, None, Ok, refl, sym, ap, subst, ◌∙◌, inl, inr, ◌⊎◌, ◌<◌, ◌^◌}
 use Rattle.std.specs.List.{AllByRecursion}
 use Rattle.std.proofs.lemmas.List.{append-nil}
 use Rattle.dr_site.specs.Sites.{IsCertified}
@@ -24,20 +24,18 @@ use Rattle.dr_dimse.specs.Taking.{MessageStage as Taken, Idle as NothingTaken, T
 use Rattle.dr_nego.specs.declared.agreed.Agreed.{Agreed}
 use Rattle.dr_nego.specs.Agreeing.{pair_at}
 use Rattle.dr_ledger.specs.PlanRoutes.{plan_routing}
-use Rattle.dr_ledger.specs.Replies.{Arrives, IsAdmitted}
-use Rattle.dr_world_model.specs.Calls.{Reply, Arriving}
-use Rattle.dr_world_model.specs.Calls as calls
+use Rattle.dr_ledger.specs.Replies.{Arrives, IsAdmitted, Reply, store_status}
+use Rattle.dr_ledger.proofs.Replied.{statuses_have_two_bytes}
+use Rattle.dr_world_model.specs.Calls.{Arriving, Answer, Settlement, ArmedAfter, store_outcome_of, StoreOutcome, Written, Untried, Failed}
 use Rattle.dr_pdu.specs.Feeding.{Feeding}
 use Rattle.dr_ledger.specs.declared.item.Instance.{Instance}
 use Rattle.dr_ledger.specs.declared.content.Job.{Job}
 use Rattle.dr_ledger.specs.Items.{IsItem, instance_of}
-use Rattle.dr_ledger.specs.declared.fault.LedgerFault.TheVariants as fault
 use Rattle.dr_ledger.specs.Books.{Book}
 use Rattle.dr_ledger.proofs.Maps.{get_new}
 use Rattle.dr_world_model.proofs.Lookups.{numbers}
 use Rattle.dr_world_model.proofs.Safety.{book_here, book_there}
 use Rattle.dr_world_model.specs.Worlds.{World, Link, Stage, Contexts, Storing, Replying, with_link, at_stage}
-use Rattle.dr_world_model.specs.Calls.{Answer, Settlement, ArmedAfter, store_outcome_of}
 use Rattle.dr_world_model.specs.Steps.{IsLink}
 use Rattle.dr_world_model.specs.Events.{Receive}
 use Rattle.dr_session.specs.declared.ends.Core.{Core}
@@ -47,13 +45,12 @@ use Rattle.dr_session.specs.declared.ends.Pending.{Pending}
 use Rattle.dr_session.specs.Desks.{DeskCall, DeskAnswer, Arrive, Arrival}
 use Rattle.dr_nego.specs.Fragments.{spellings}
 use Rattle.dr_session.specs.declared.ends.Moment.{Moment}
-use Rattle.dr_session.specs.Reactions.{stored, status_of, effect, storing as pending_store}
+use Rattle.dr_session.specs.Reactions.{stored, effect, storing as pending_store}
 use Rattle.dr_session.specs.Plays.{PlaysBytes, with_stage}
-use Rattle.dr_world_model.specs.Calls.{StoreOutcome, Written, Untried, Failed}
 use Rattle.dr_world_model.specs.Worlds.{with_book, with_armed}
 use Rattle.dr_world_tie.specs.Desks.{Desk, ArmedBy, LedgerStep}
 use Rattle.dr_world_tie.specs.Channels.{Brings, alone, message, Gets, IsMessageFor, IsListening, IsReceiver, Channel, Carries, ShowsLink, ToCaller, ToReceiver, IsCaller, bytes_of, hop_contexts, site_of}
-use Rattle.dr_world_tie.specs.Ties.{IsData, IsFirst, receiver_read, HearsStore, IsDeskOf, Happens}
+use Rattle.dr_world_tie.specs.Ties.{IsData, IsFirstPdu, receiver_read, HearsStore, IsDeskOf, Happens}
 use Rattle.dr_world_tie.proofs.Leaving.{AreFit, only_link}
 use Rattle.dr_world_tie.proofs.CallerLeaving.{armed_after}
 use Rattle.dr_world_tie.proofs.Agreeing.{front_is, plays_alone}
@@ -65,30 +62,9 @@ still_replying : (b : Bool) (accepted : Contexts) (item : Instance) (status : �
 still_replying true accepted item status receiver c h = (h.0, h.1)
 still_replying false accepted item status receiver c h = h
 
-status_small : (reply : Reply) → calls.status_of reply < 2 ^ 16
-status_small (Ok r) = omega arith
-status_small (Err fault.NoLine) = omega arith
-status_small (Err fault.Conflict) = omega arith
-status_small (Err fault.Store) = omega arith
-status_small (Err fault.Memory) = omega arith
-status_small (Err fault.NotWaiting) = omega arith
-status_small (Err fault.NotHeld) = omega arith
-status_small (Err fault.NotOver) = omega arith
-
--- the status that is written is the message world's
-pub same_status : (reply : Reply) → status_of reply ≡ calls.status_of reply
-same_status (Ok r) = refl
-same_status (Err fault.NoLine) = refl
-same_status (Err fault.Conflict) = refl
-same_status (Err fault.Store) = refl
-same_status (Err fault.Memory) = refl
-same_status (Err fault.NotWaiting) = refl
-same_status (Err fault.NotHeld) = refl
-same_status (Err fault.NotOver) = refl
-
 module _ (plan : Network) (certificate : Certificate) (w : World) (number : ℕ) (link : Link) (k : Channel) (s : Desk) (here : IsLink w number link) (desk : IsDeskOf w link.receiver s) (shows : ShowsLink plan certificate k link)
     (on : link.receiver_connected ≡ true) (accepted : Contexts) (item : Job) (storing : link.stage ≡ Storing accepted (instance_of item)) (carries : Carries k.receiver k.to_receiver (Brings item k.caller.core k.receiver.core) link.caller_connected) (certified : IsCertified plan certificate) (moment : Moment) (n : ℕ) (front : Pdu) (new : Feeding) (x : Effect) (t : Desk)
-    (first : IsFirst k.receiver k.to_receiver front) (whole : k.receiver.ear.kept ++ take n k.to_receiver ≡ written front)
+    (first : IsFirstPdu k.receiver k.to_receiver front) (whole : k.receiver.ear.kept ++ take n k.to_receiver ≡ written front)
     (plays : PlaysBytes (LedgerStep plan link.receiver) moment k.receiver.ear k.receiver.core (take n k.to_receiver) s new x t) where
   abbrev rstep : Desk → DeskCall → DeskAnswer → Desk → Type 0
   rstep = LedgerStep plan link.receiver
@@ -201,17 +177,17 @@ module _ (plan : Network) (certificate : Certificate) (w : World) (number : ℕ)
         let a = store_by plan link.receiver moment c v m.agreed m.context listening.0.0 m.has found s t x r id item is_item m.of NothingTaken number_of takes in
         (a.0, event a.0 a.1 a.2)
       where
-        event : (reply : Reply) → rstep s (Arrive c.peer item) (Arrival reply) t → x ≡ stored (stays NothingTaken) number_of id item.key.class item.uid (status_of reply) → Happens plan certificate w number (Receive number reply) link.receiver t (receiver_read k n new x)
+        event : (reply : Reply) → rstep s (Arrive c.peer item) (Arrival reply) t → x ≡ stored (stays NothingTaken) number_of id item.key.class item.uid (store_status reply) → Happens plan certificate w number (Receive number reply) link.receiver t (receiver_read k n new x)
         event reply call e =
-            let x_is : x ≡ stored (stays NothingTaken) number_of id item.key.class item.uid (calls.status_of reply) = e ∙ ap (λ (st : ℕ). stored (stays NothingTaken) number_of id item.key.class item.uid st) (same_status reply) in
+            let x_is : x ≡ stored (stays NothingTaken) number_of id item.key.class item.uid (store_status reply) = e in
             let would : ArmedBy (IsAdmitted (plan_routing plan link.receiver) link.caller (instance_of item) (w.books link.receiver)) s.armed (store_outcome_of reply) t.armed =
             subst (λ (p : Text). ArmedBy (IsAdmitted (plan_routing plan link.receiver) p (instance_of item) (w.books link.receiver)) s.armed (store_outcome_of reply) t.armed) listening.1
             (subst (λ (b : Book). ArmedBy (IsAdmitted (plan_routing plan link.receiver) c.peer (instance_of item) b) s.armed (store_outcome_of reply) t.armed) desk.0 call.1) in
             let a = armed_after (IsAdmitted (plan_routing plan link.receiver) link.caller (instance_of item) (w.books link.receiver)) w.armed link.receiver (store_outcome_of reply) s.armed t.armed desk.1 would in
             let mid : World = with_armed (with_book w link.receiver t.book) a.0 in
-            let after_link : Link = at_stage link (Replying accepted (instance_of item) (calls.status_of reply)) in
+            let after_link : Link = at_stage link (Replying accepted (instance_of item) (store_status reply)) in
             subst (λ (y : Effect). Happens plan certificate w number (Receive number reply) link.receiver t (receiver_read k n new y)) (sym x_is)
-            (subst (λ (f : Feeding). Happens plan certificate w number (Receive number reply) link.receiver t (receiver_read k n f (stored (stays NothingTaken) number_of id item.key.class item.uid (calls.status_of reply)))) (sym ear_is) record {
+            (subst (λ (f : Feeding). Happens plan certificate w number (Receive number reply) link.receiver t (receiver_read k n f (stored (stays NothingTaken) number_of id item.key.class item.uid (store_status reply)))) (sym ear_is) record {
               after = with_link mid number after_link;
               link = after_link;
               step = record {
@@ -244,8 +220,8 @@ module _ (plan : Network) (certificate : Certificate) (w : World) (number : ℕ)
                 peer = shows.peer;
                 caller_agrees = shows.caller_agrees;
                 receiver_agrees = λ o. shows.receiver_agrees on;
-                caller = still_replying link.caller_connected accepted (instance_of item) (calls.status_of reply) link.receiver k.caller.core caller_at;
-                receiver = subst (λ (b : Bool). IsReceiver b (Replying accepted (instance_of item) (calls.status_of reply)) link.caller (stays NothingTaken)) (sym on) (still_listening NothingTaken, refl);
+                caller = still_replying link.caller_connected accepted (instance_of item) (store_status reply) link.receiver k.caller.core caller_at;
+                receiver = subst (λ (b : Bool). IsReceiver b (Replying accepted (instance_of item) (store_status reply)) link.caller (stays NothingTaken)) (sym on) (still_listening NothingTaken, refl);
                 to_receiver = λ o. record {
                   coming = [];
                   is = refl;
@@ -257,8 +233,8 @@ module _ (plan : Network) (certificate : Certificate) (w : World) (number : ℕ)
                   control = carries.control;
                   none = carries.none;
                 };
-                to_caller = λ o. subst (λ (b : Bool). Carries k.caller (k.to_caller ++ bytes_of (stored (stays NothingTaken) number_of id item.key.class item.uid (calls.status_of reply)).acts) (ToCaller (Replying accepted (instance_of item) (calls.status_of reply)) (site_of k.receiver.core) k.caller.core) b) (sym on)
-                    (carried_back (calls.status_of reply) (status_small reply) o);
+                to_caller = λ o. subst (λ (b : Bool). Carries k.caller (k.to_caller ++ bytes_of (stored (stays NothingTaken) number_of id item.key.class item.uid (store_status reply)).acts) (ToCaller (Replying accepted (instance_of item) (store_status reply)) (site_of k.receiver.core) k.caller.core) b) (sym on)
+                    (carried_back (store_status reply) (statuses_have_two_bytes reply) o);
               };
             })
 

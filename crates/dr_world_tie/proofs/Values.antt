@@ -29,7 +29,7 @@ use Rattle.dr_ledger.specs.Items.{IsItem, ReadsItem}
 use Rattle.dr_ledger.specs.declared.content.ItemFault.{ItemFault}
 use Rattle.dr_ledger.specs.declared.content.ItemFault.TheVariants as items
 use Rattle.dr_ledger.proofs.Reading.{items_are_one}
-use Rattle.dr_world_model.specs.Calls.{Reply}
+use Rattle.dr_ledger.specs.Replies.{Reply, store_status}
 use Rattle.dr_nego.specs.declared.agreed.Agreed.{Agreed}
 use Rattle.dr_nego.specs.declared.agreed.Pair.{Pair}
 use Rattle.dr_nego.specs.Agreeing.{pair_at}
@@ -43,7 +43,7 @@ use Rattle.dr_session.specs.declared.ends.Told.{Told}
 use Rattle.dr_session.specs.declared.ends.Told.TheVariants.{Quiet, Store}
 use Rattle.dr_session.specs.Desks.{DeskCall, DeskAnswer, Arrive, Arrival, Upcoming, First, Settling}
 use Rattle.dr_session.specs.declared.ends.Moment.{Moment}
-use Rattle.dr_session.specs.Reactions.{turn, stores, arrives, is_named, arrival, stored, status_of, effect}
+use Rattle.dr_session.specs.Reactions.{turn, stores, arrives, is_named, arrival, stored, effect}
 use Rattle.dr_session.specs.Telling.{Looks, TellsValue, TellsIn, Says, Finds, FindsIn}
 use Rattle.dr_session.specs.Turns.{Turns, Ends, Asks}
 use Rattle.dr_session.specs.Plays.{Reacts, at_moment, with_stage}
@@ -106,8 +106,8 @@ module _ (plan : Network) (name : Text) (moment : Moment) (c : Core) (v : Pdv) (
   named : is_named item item.key.class item.uid ≡ true
   named = ap (λ (b : Bool). b && bytes_eq item.key.class item.key.class) (same_texts item.uid item.uid refl) ∙ same_texts item.key.class item.key.class refl
 
-  by_answer : (core : Core) (n : ℕ) (a : DeskAnswer) (m : Desk) → pstep s (Arrive core.peer item) a m → Turns pstep (arrival (λ reply. Ends (stored core n id item.key.class item.uid (status_of reply))) a) m x u
-      → (reply : Reply) × pstep s (Arrive core.peer item) (Arrival reply) u × (x ≡ stored core n id item.key.class item.uid (status_of reply))
+  by_answer : (core : Core) (n : ℕ) (a : DeskAnswer) (m : Desk) → pstep s (Arrive core.peer item) a m → Turns pstep (arrival (λ reply. Ends (stored core n id item.key.class item.uid (store_status reply))) a) m x u
+      → (reply : Reply) × pstep s (Arrive core.peer item) (Arrival reply) u × (x ≡ stored core n id item.key.class item.uid (store_status reply))
   by_answer core n (Arrival reply) m one (e, same) = (reply, subst (λ (d : Desk). pstep s (Arrive core.peer item) (Arrival reply) d) (sym same) one, e)
   by_answer core n (Upcoming d) m one h = absurd h
   by_answer core n (First d) m one h = absurd h
@@ -115,7 +115,7 @@ module _ (plan : Network) (name : Text) (moment : Moment) (c : Core) (v : Pdv) (
 
   -- the instance is brought, and its response written
   pub store_by : (next : Taken) (n : ℕ) → TakesValue c.assembly.awaited c.assembly.stage v (Ok (Some (record { id = n; command = StoreRq id item.key.class item.uid; body = Some (body.Whole item.body) }))) next
-      → (reply : Reply) × pstep s (Arrive c.peer item) (Arrival reply) u × (x ≡ stored (record (with_stage next c) { phase = in_its_phase (moved at.0 Sta6 moment.now) }) n id item.key.class item.uid (status_of reply))
+      → (reply : Reply) × pstep s (Arrive c.peer item) (Arrival reply) u × (x ≡ stored (record (with_stage next c) { phase = in_its_phase (moved at.0 Sta6 moment.now) }) n id item.key.class item.uid (store_status reply))
   store_by next n takes =
       let t = told_by pstep moment c v agreed context false at has found s u x r (Some (record { id = n; command = StoreRq id item.key.class item.uid; body = Some (body.Whole item.body) })) next takes in
       let core : Core = record (with_stage next c) { phase = in_its_phase (moved at.0 Sta6 moment.now) } in
@@ -125,6 +125,6 @@ module _ (plan : Network) (name : Text) (moment : Moment) (c : Core) (v : Pdv) (
       let a : Turns pstep (stores core n context.class id item.key.class item.uid (Read item)) s x u = acts_by pstep moment (with_stage next c) told DataPdu false Sta6 Dt2 Sta6 s u x at refl refl refl h in
       let b : Turns pstep (arrives core n id item.key.class item.uid (Read item)) s x u =
       subst (λ (y : Bool). Turns pstep (if y then arrives core n id item.key.class item.uid (Read item) else Ends (stored core n id item.key.class item.uid 0x0122)) s x u) (same_texts item.key.class context.class (sym of.0)) a in
-      let d : Turns pstep (Asks (Arrive core.peer item) (arrival (λ reply. Ends (stored core n id item.key.class item.uid (status_of reply))))) s x u =
-      subst (λ (y : Bool). Turns pstep (if y then Asks (Arrive core.peer item) (arrival (λ reply. Ends (stored core n id item.key.class item.uid (status_of reply)))) else Ends (stored core n id item.key.class item.uid 0xA900)) s x u) named b in
+      let d : Turns pstep (Asks (Arrive core.peer item) (arrival (λ reply. Ends (stored core n id item.key.class item.uid (store_status reply))))) s x u =
+      subst (λ (y : Bool). Turns pstep (if y then Asks (Arrive core.peer item) (arrival (λ reply. Ends (stored core n id item.key.class item.uid (store_status reply)))) else Ends (stored core n id item.key.class item.uid 0xA900)) s x u) named b in
       by_answer core n d.0 d.1 d.2 d.3

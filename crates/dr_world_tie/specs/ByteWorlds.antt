@@ -25,7 +25,7 @@ use Rattle.dr_ledger.specs.declared.content.Job.{Job}
 use Rattle.dr_ledger.specs.declared.fault.LedgerFault.{LedgerFault}
 use Rattle.dr_ledger.specs.declared.item.Outcome.TheVariants.{Broken}
 use Rattle.dr_ledger.specs.Books.{empty_book}
-use Rattle.dr_ledger.specs.Replies.{Dues, Reads}
+use Rattle.dr_ledger.specs.Replies.{Dues, Reads, Reply}
 use Rattle.dr_nego.specs.Agreeing.{AssociateRq}
 use Rattle.dr_nego.specs.Proposing.{IsProposal, IsHopTo}
 use Rattle.dr_nego.specs.Fragments.{spellings}
@@ -42,7 +42,7 @@ use Rattle.dr_session.specs.Ledgers.{desk}
 use Rattle.dr_session.specs.Plays.{Reacts, PlaysBytes, at_moment}
 use Rattle.dr_session.specs.Reactions.{is_idle, is_free, is_impatient}
 use Rattle.dr_world_model.specs.Worlds.{same_text}
-use Rattle.dr_world_model.specs.Calls.{Reply, Answer}
+use Rattle.dr_world_model.specs.Calls.{Answer}
 use Rattle.dr_world_model.specs.Events.{HasNode}
 use Rattle.dr_world_tie.specs.Desks.{Desk, LedgerStep}
 use Rattle.dr_world_tie.specs.Channels.{LiveTerminal, Channel, site_of}

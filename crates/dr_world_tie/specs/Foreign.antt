@@ -48,7 +48,7 @@ use Rattle.dr_session.specs.Plays.{Reacts, Hears, PlaysBytes, at_moment}
 use Rattle.dr_session.specs.Reactions.{write}
 use Rattle.dr_world_model.specs.Worlds.{World, Link, Contexts, Stage, Asking, Answering, Rejecting}
 use Rattle.dr_world_model.specs.Worlds.{Open, Storing, Replying, Gone, same_text, start}
-use Rattle.dr_world_model.specs.Calls.{Reply, status_of}
+use Rattle.dr_ledger.specs.Replies.{store_status, Reply}
 use Rattle.dr_world_model.specs.Steps.{IsLink}
 use Rattle.dr_world_model.specs.Events.{AgreeCaller, Receive, Answered, BreakReceiver}
 use Rattle.dr_world_model.specs.Among.{Ours, Act, Own, Other, Calls, Takes, Stores, RunsAmong}
@@ -176,7 +176,8 @@ Writes (Brought item reply) acts =
     (limit context id : ℕ)
     × (acts
     ≡ write
-    (command_pdus limit context (StoreRsp id (status_of reply) item.key.class item.uid false)) ∷ [])
+    (command_pdus limit context (StoreRsp id (store_status reply) item.key.class item.uid false))
+    ∷ [])
 Writes Left acts = WritesControls acts
 
 -- all but the book of that node and this link is as it was

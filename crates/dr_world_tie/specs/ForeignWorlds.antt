@@ -27,7 +27,8 @@ use Rattle.dr_session.specs.Ledgers.{desk}
 use Rattle.dr_session.specs.Pendings.{pending_of}
 use Rattle.dr_session.specs.Plays.{Reacts, at_moment}
 use Rattle.dr_world_model.specs.Worlds.{Link, World, start}
-use Rattle.dr_world_model.specs.Calls.{Answer, Reply}
+use Rattle.dr_world_model.specs.Calls.{Answer}
+use Rattle.dr_ledger.specs.Replies.{Reply}
 use Rattle.dr_world_model.specs.Events.{HasNode}
 use Rattle.dr_world_model.specs.Steps.{IsHop, IsLink}
 use Rattle.dr_world_model.specs.Among.{Ours, Act, RunsAmong, HeadlineAmong}

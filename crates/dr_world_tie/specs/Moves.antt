@@ -15,11 +15,12 @@ use Rattle.dr_world_model.specs.Events.{Event, AgreeReceiver, AgreeCaller, Recei
 use Rattle.dr_world_model.specs.Events.{BreakCaller, BreakReceiver}
 use Rattle.dr_world_tie.specs.Desks.{Desk, LedgerStep}
 use Rattle.dr_world_tie.specs.Channels.{LiveTerminal, Channel, ShowsLink}
-use Rattle.dr_world_tie.specs.Ties.{IsDeskOf, IsFirst, IsData, Happens, receiver_read, caller_read}
+use Rattle.dr_world_tie.specs.Ties.{IsDeskOf, IsFirstPdu, IsData, Happens, receiver_read}
+use Rattle.dr_world_tie.specs.Ties.{caller_read}
 
 -- these bytes of the PDU at the front are still on the wire
 pub record IsLeft (t : LiveTerminal) (wire : List ℕ) (front : Pdu) (left : List ℕ) : Type 0 where
-  pub first : IsFirst t wire front
+  pub first : IsFirstPdu t wire front
   pub joined : t.ear.kept ++ left ≡ written front
   pub some : left ≢ []
   pub rest : List ℕ

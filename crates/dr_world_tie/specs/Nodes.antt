@@ -8,11 +8,11 @@ use Rattle.dr_ledger.specs.declared.content.Job.{Job}
 use Rattle.dr_ledger.specs.declared.item.Outcome.TheVariants.{Broken}
 use Rattle.dr_ledger.specs.Items.{instance_of}
 use Rattle.dr_ledger.specs.Refusals.{Arms}
-use Rattle.dr_ledger.specs.Replies.{Drops, Forgets, Requeues, IsHeld, IsOver}
+use Rattle.dr_ledger.specs.Replies.{Drops, Forgets, Requeues, IsHeld, IsOver, Reply}
 use Rattle.dr_session.specs.Desks.{Arrive, Arrival, Settle, Settling}
 use Rattle.dr_session.specs.Ledgers.{desk}
 use Rattle.dr_world_model.specs.Worlds.{World, same_text}
-use Rattle.dr_world_model.specs.Calls.{Reply, Answer}
+use Rattle.dr_world_model.specs.Calls.{Answer}
 use Rattle.dr_world_model.specs.Steps.{NoneIsPending}
 use Rattle.dr_world_model.specs.Events.{Event, Step, HasNode, Take, Requeue, Drop}
 use Rattle.dr_world_model.specs.Events.{Forget, Refuse, StayAway, Tick}

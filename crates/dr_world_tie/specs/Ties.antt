@@ -26,7 +26,7 @@ use Rattle.dr_dimse.specs.Commands.{IsCommand, announces}
 use Rattle.dr_dimse.specs.Written as commands
 use Rattle.dr_dimse.specs.Taking.{IsAwaited, Idle}
 use Rattle.dr_session.specs.Desks.{DeskCall, DeskAnswer}
-use Rattle.dr_ledger.specs.Replies.{IsNext}
+use Rattle.dr_ledger.specs.Replies.{IsNext, Reply}
 use Rattle.dr_session.specs.declared.ends.Input.{Input}
 use Rattle.dr_session.specs.declared.ends.Input.TheVariants.{Ended, Late, AbortAsked, ReleaseAsked}
 use Rattle.dr_session.specs.declared.ends.Input.TheVariants.{PushAsked}
@@ -47,7 +47,7 @@ use Rattle.dr_ulstate.specs.declared.table.State.TheVariants.{Sta6}
 use Rattle.dr_ulstate.specs.Standing.{moved}
 use Rattle.dr_ulstate.specs.Phases.{in_its_phase, next_expired}
 use Rattle.dr_world_model.specs.Worlds.{Contexts}
-use Rattle.dr_world_model.specs.Calls.{Reply, Answer}
+use Rattle.dr_world_model.specs.Calls.{Answer}
 use Rattle.dr_world_model.specs.Events.{Event, Step, Ask, AgreeReceiver, AgreeCaller, Give, Receive}
 use Rattle.dr_world_model.specs.Events.{Answered, BreakCaller, BreakReceiver, Restart}
 use Rattle.dr_world_tie.specs.Desks.{Desk, LedgerStep}
@@ -91,8 +91,8 @@ abbrev pub caller_did : Channel → Effect → Channel
 caller_did k x = caller_as k k.to_caller k.caller.ear x
 
 -- the PDU whose bytes come next
-abbrev pub IsFirst : LiveTerminal → List ℕ → Pdu → Type 0
-IsFirst t wire p =
+abbrev pub IsFirstPdu : LiveTerminal → List ℕ → Pdu → Type 0
+IsFirstPdu t wire p =
     (more : List Pdu)
     × (t.ear.kept ++ wire ≡ spellings (p ∷ more))
     × Fits p × MeetsLimit t.ear.limit p
@@ -109,7 +109,7 @@ ReceiverHearsNothing {S} step =
     → ShowsLink plan certificate k link
     → link.receiver_connected ≡ true
     → (moment : Moment) (n : ℕ) (front : Pdu) (new : Feeding) (x : Effect) (s u : S)
-    → IsFirst k.receiver k.to_receiver front
+    → IsFirstPdu k.receiver k.to_receiver front
     → IsWithin (k.receiver.ear.kept ++ take n k.to_receiver) front
     → PlaysBytes step moment k.receiver.ear k.receiver.core (take n k.to_receiver) s new x u
     → (u ≡ s)
@@ -122,7 +122,7 @@ CallerHearsNothing {S} step =
     → ShowsLink plan certificate k link
     → link.caller_connected ≡ true
     → (moment : Moment) (n : ℕ) (front : Pdu) (new : Feeding) (x : Effect) (s u : S)
-    → IsFirst k.caller k.to_caller front
+    → IsFirstPdu k.caller k.to_caller front
     → IsWithin (k.caller.ear.kept ++ take n k.to_caller) front
     → PlaysBytes step moment k.caller.ear k.caller.core (take n k.to_caller) s new x u
     → (u ≡ s)
@@ -164,7 +164,7 @@ AgreesAtReceiver =
     → link.stage ≡ Asking → (moment : Moment) → moment.now ≡ w.time
     → moment.others ≡ others w number link.receiver
     → (n : ℕ) (front : Pdu) (new : Feeding) (x : Effect) (t : Desk)
-    → IsFirst k.receiver k.to_receiver front
+    → IsFirstPdu k.receiver k.to_receiver front
     → k.receiver.ear.kept ++ take n k.to_receiver ≡ written front
     → PlaysBytes (LedgerStep plan link.receiver) moment k.receiver.ear k.receiver.core
     (take n k.to_receiver) s new x t
@@ -217,7 +217,7 @@ ReceiverHearsControl =
     → (moment : Moment) → moment.now ≡ w.time
     → (n : ℕ) (front : Pdu) (new : Feeding) (x : Effect) (t : Desk)
     → IsControl front
-    → IsFirst k.receiver k.to_receiver front
+    → IsFirstPdu k.receiver k.to_receiver front
     → k.receiver.ear.kept ++ take n k.to_receiver ≡ written front
     → PlaysBytes (LedgerStep plan link.receiver) moment k.receiver.ear k.receiver.core
     (take n k.to_receiver) s new x t
@@ -234,7 +234,7 @@ CallerHearsControl =
     → (moment : Moment) → moment.now ≡ w.time
     → (n : ℕ) (front : Pdu) (new : Feeding) (x : Effect) (t : Desk)
     → IsControl front
-    → IsFirst k.caller k.to_caller front
+    → IsFirstPdu k.caller k.to_caller front
     → k.caller.ear.kept ++ take n k.to_caller ≡ written front
     → PlaysBytes (LedgerStep plan link.caller) moment k.caller.ear k.caller.core
     (take n k.to_caller) s new x t
@@ -254,7 +254,7 @@ HearsAcceptance =
     → link.stage ≡ Answering accepted
     → (moment : Moment) → moment.now ≡ w.time
     → (n : ℕ) (front : Pdu) (new : Feeding) (x : Effect) (t : Desk)
-    → IsFirst k.caller k.to_caller front
+    → IsFirstPdu k.caller k.to_caller front
     → k.caller.ear.kept ++ take n k.to_caller ≡ written front
     → PlaysBytes (LedgerStep plan link.caller) moment k.caller.ear k.caller.core
     (take n k.to_caller) s new x t
@@ -272,7 +272,7 @@ HearsRejection =
     → link.caller_connected ≡ true
     → link.stage ≡ Rejecting → (moment : Moment) → moment.now ≡ w.time
     → (n : ℕ) (front : Pdu) (new : Feeding) (x : Effect) (t : Desk)
-    → IsFirst k.caller k.to_caller front
+    → IsFirstPdu k.caller k.to_caller front
     → k.caller.ear.kept ++ take n k.to_caller ≡ written front
     → PlaysBytes (LedgerStep plan link.caller) moment k.caller.ear k.caller.core
     (take n k.to_caller) s new x t
@@ -300,7 +300,7 @@ HearsStore =
     → link.stage ≡ Storing accepted item
     → (moment : Moment) → moment.now ≡ w.time
     → (n : ℕ) (front : Pdu) (new : Feeding) (x : Effect) (t : Desk)
-    → IsFirst k.receiver k.to_receiver front
+    → IsFirstPdu k.receiver k.to_receiver front
     → k.receiver.ear.kept ++ take n k.to_receiver ≡ written front
     → PlaysBytes (LedgerStep plan link.receiver) moment k.receiver.ear k.receiver.core
     (take n k.to_receiver) s new x t
@@ -322,7 +322,7 @@ HearsReply =
     → link.stage ≡ Replying accepted item status
     → (moment : Moment) → moment.now ≡ w.time
     → (n : ℕ) (front : Pdu) (new : Feeding) (x : Effect) (t : Desk)
-    → IsFirst k.caller k.to_caller front
+    → IsFirstPdu k.caller k.to_caller front
     → k.caller.ear.kept ++ take n k.to_caller ≡ written front
     → PlaysBytes (LedgerStep plan link.caller) moment k.caller.ear k.caller.core
     (take n k.to_caller) s new x t

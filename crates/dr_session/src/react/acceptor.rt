@@ -12,7 +12,8 @@ ghost use Rattle.dr_nego.specs.Answering.{answer as answered};
 ghost use Rattle.dr_pdu.specs.Written.{Fits as PduFits};
 ghost use Rattle.dr_pdu.specs.declared.pdu.Pdu.TheVariants as pdu;
 ghost use Rattle.dr_session.specs.Laws.{AnswersStore};
-ghost use Rattle.dr_session.specs.Reactions.{arrives, stores, stored, status_of};
+ghost use Rattle.dr_session.specs.Reactions.{arrives, stores, stored};
+ghost use Rattle.dr_ledger.specs.Replies.{store_status};
 ghost use Rattle.dr_session.specs.Reactions.{echo_status as status_of_echo, effect, is_named};
 ghost use Rattle.dr_session.specs.Reactions.{brings, says, requested, requested_other, decides};
 ghost use Rattle.dr_session.specs.Reactions.{decides_at, stepped_by, write};
@@ -44,7 +45,7 @@ pub struct RespondedTo<'a> {
 
 /// The status of the response for a reply (PS3.4 B.2.3).
 fn status(reply: &Result<Arrived, LedgerFault>) -> u16
-    ensures { result ≡ status_of reply.now }
+    ensures { result ≡ store_status reply.now }
 {
     match reply {
         Ok(_) => 0x0000,

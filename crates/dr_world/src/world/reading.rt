@@ -5,7 +5,7 @@ ghost use Rattle.std.specs.Ordering.{nat_cmp};
 ghost use Rattle.dr_base.specs.Texts.{text_cmp};
 ghost use Rattle.dr_world_tie.specs.ByteWorlds.{Move};
 ghost use Rattle.dr_world.specs.Ends.{named, opposite};
-ghost use Rattle.dr_world.specs.Moved.{Hears, IsDue, IsDueAt, IsMovable, kept_at};
+ghost use Rattle.dr_world.specs.Moved.{Hears, IsMoveDue, IsDueAt, IsMovable, kept_at};
 ghost use Rattle.dr_world.specs.Whole.{StepsTo};
 
 use crate::calls::{input_at, is_over_at};
@@ -53,8 +53,8 @@ impl<L: Ledger> World<L> {
 
     /// What a Move of at most so many bytes finds to do.
     fn due(&self, link: u64, reader: Side, most: u64) -> MoveDue
-        ensures { IsDue (tree.get nat_cmp self.now.wires link) self.now.nodes link (named reader)
-            most result }
+        ensures { IsMoveDue (tree.get nat_cmp self.now.wires link) self.now.nodes link
+            (named reader) most result }
     {
         let Some(wires) = self.wires.get(&link) else {
             return MoveDue::Nothing;

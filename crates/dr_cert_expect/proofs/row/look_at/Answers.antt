@@ -4,7 +4,7 @@ use Rattle.dr_plan_model.specs.Networks.{Network}
 use Rattle.dr_plan_model.specs.Plans.{IsWellFormed}
 use Rattle.dr_cert_expect.specs.declared.row.Finding.{Finding}
 use Rattle.dr_cert_expect.specs.Expected.{SpeaksOf}
-use Rattle.dr_cert_expect.specs.Looking.{Finds}
+use Rattle.dr_cert_expect.specs.Looking.{FindsAt}
 use Rattle.dr_cert_expect.proofs.Judging.{met, no_case}
 use Rattle.dr_cert_expect.proofs.row.look_at.Goals as goal
 
@@ -20,7 +20,7 @@ returns-in-Other c =
     let line = c.args.line.now in
     let key = c.in_ok-key.key in
     no_case plan c.plan-plan.ensures.well_formed row line key c.in_ok-key.ensures c.args.found.now
-    (λ speaks. subst (λ (f : Finding). Finds plan row line.stop.node key f) c.in-Other.is c.in_ok-judge.ensures)
+    (λ speaks. subst (λ (f : Finding). FindsAt plan row line.stop.node key f) c.in-Other.is c.in_ok-judge.ensures)
 
 pub returns-in-Met : goal.returns-in-Met
 returns-in-Met c =
@@ -28,5 +28,5 @@ returns-in-Met c =
     let row = c.args.row.now in
     let line = c.args.line.now in
     let key = c.in_ok-key.key in
-    let found = subst (λ (f : Finding). Finds plan row line.stop.node key f) c.in-Met.is c.in_ok-judge.ensures in
+    let found = subst (λ (f : Finding). FindsAt plan row line.stop.node key f) c.in-Met.is c.in_ok-judge.ensures in
     met plan c.plan-plan.ensures.well_formed row line key c.in_ok-key.ensures c.args.found.now (c.if-not-speaks_of.ensures.0 refl) found.0 found.1

@@ -1,6 +1,6 @@
 use Rattle.std.proofs.Common.{◌≡◌, ◌+◌, List, [], ◌∷◌, drop, refl, subst, arith}
 use Rattle.std.proofs.lemmas.List.{drop_all, drop_more}
-use Rattle.dr_ledger_memory.specs.Entries.{Row}
+use Rattle.dr_ledger_memory.specs.Entries.{OwnRow}
 use Rattle.dr_ledger_memory.proofs.Fitting.{IsLeft, first_left, less_left, none_left}
 use Rattle.dr_ledger_memory.proofs.ledger.unfit_row.Goals as goal
 
@@ -12,9 +12,9 @@ returns-then-is_unfit c =
     let items = c.deref-row-items.result.now in
     let e = drop_more items i r c.loop-row-test.true in
     let more : drop i items ≡ r ∷ drop (i + 1) items = rw (← c.row-item.is) at e in
-    let P : List Row → Type 0 = λ xs. drop i xs ≡ r ∷ drop (i + 1) xs in
+    let P : List OwnRow → Type 0 = λ xs. drop i xs ≡ r ∷ drop (i + 1) xs in
     let split : drop i rows ≡ r ∷ drop (i + 1) rows = subst P c.deref-row-items.ensures.value more in
-    let Q : List Row → Type 0 = λ xs. IsLeft c.args.next.now.plan c.args.name.now c.args.entry.now xs in
+    let Q : List OwnRow → Type 0 = λ xs. IsLeft c.args.next.now.plan c.args.name.now c.args.entry.now xs in
     first_left c.args.next.now.plan c.args.name.now c.args.entry.now r (drop (i + 1) rows) (subst Q split c.loop-row.invariant) (c.if-is_unfit.ensures.unfit refl)
 
 pub loop-row-preserved : goal.loop-row-preserved
@@ -25,9 +25,9 @@ loop-row-preserved c =
     let items = c.deref-row-items.result.now in
     let e = drop_more items i r c.loop-row-test.true in
     let more : drop i items ≡ r ∷ drop (i + 1) items = rw (← c.row-item.is) at e in
-    let P : List Row → Type 0 = λ xs. drop i xs ≡ r ∷ drop (i + 1) xs in
+    let P : List OwnRow → Type 0 = λ xs. drop i xs ≡ r ∷ drop (i + 1) xs in
     let split : drop i rows ≡ r ∷ drop (i + 1) rows = subst P c.deref-row-items.ensures.value more in
-    let Q : List Row → Type 0 = λ xs. IsLeft c.args.next.now.plan c.args.name.now c.args.entry.now xs in
+    let Q : List OwnRow → Type 0 = λ xs. IsLeft c.args.next.now.plan c.args.name.now c.args.entry.now xs in
     less_left c.args.next.now.plan c.args.name.now c.args.entry.now r (drop (i + 1) rows) (subst Q split c.loop-row.invariant) (c.if-is_unfit.ensures.fit refl)
 
 pub returns : goal.returns
@@ -35,7 +35,7 @@ returns c =
     let i = c.loop-row.row-index in
     let items = c.deref-row-items.result.now in
     let none : drop i items ≡ [] = drop_all i items (omega (arith, c.loop-row-test.false)) in
-    let P : List Row → Type 0 = λ xs. drop i xs ≡ [] in
+    let P : List OwnRow → Type 0 = λ xs. drop i xs ≡ [] in
     let empty : drop i c.args.entry.now.rows.items ≡ [] = subst P c.deref-row-items.ensures.value none in
-    let Q : List Row → Type 0 = λ xs. IsLeft c.args.next.now.plan c.args.name.now c.args.entry.now xs in
+    let Q : List OwnRow → Type 0 = λ xs. IsLeft c.args.next.now.plan c.args.name.now c.args.entry.now xs in
     none_left c.args.next.now.plan c.args.name.now c.args.entry.now (subst Q empty c.loop-row.invariant)

@@ -16,7 +16,7 @@ pub returns-in_err-put_fragment-clause-err : goal.returns-in_err-put_fragment-cl
 returns-in_err-put_fragment-clause-err c = further c.from_residual.result _ _ _ _ c.loop-rest.invariant.1.1 c.in_err-put_fragment.ensures.err
 
 pub returns-in_err-put_fragment-2-clause-err : goal.returns-in_err-put_fragment-2-clause-err
-returns-in_err-put_fragment-2-clause-err c = further c.from_residual-2.result _ _ _ _ c.loop-rest.invariant.1.1 c.in_err-put_fragment-2.ensures.err
+returns-in_err-put_fragment-2-clause-err c = further c.from_residual-in_err-put_fragment-2.result _ _ _ _ c.loop-rest.invariant.1.1 c.in_err-put_fragment-2.ensures.err
 
 pub returns-clause-ok : goal.returns-clause-ok
 returns-clause-ok c =

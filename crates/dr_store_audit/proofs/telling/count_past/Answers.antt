@@ -2,7 +2,7 @@ use Rattle.std.proofs.Common.{◌≡◌, ◌≢◌, ◌≤◌, ◌<◌, ◌+◌,
 use Rattle.std.proofs.lemmas.List.{take_more}
 use Rattle.dr_store_lists.specs.declared.listing.JournalRow.{JournalRow}
 use Rattle.dr_store_lists.specs.declared.listing.JournalRow.TheVariants as note
-use Rattle.dr_store_audit.specs.Telling.{IsOver}
+use Rattle.dr_store_audit.specs.Telling.{EndsAtAdoption}
 use Rattle.dr_store_audit.proofs.Split.{one_more_none}
 use Rattle.dr_store_audit.proofs.telling.count_past.Goals as goal
 
@@ -18,12 +18,12 @@ loop-i-preserved c =
     elim c.end_after-end.ensures [
       | inl stays ↦ (
         (let same = stays.0 in omega (arith, same, low)),
-        subst (λ k. IsOver (take k notes)) (sym stays.0) inv.1,
+        subst (λ k. EndsAtAdoption (take k notes)) (sym stays.0) inv.1,
         subst (λ end. (k : ℕ) (d : ℕ × JournalRow) → end ≤ k → k < i + 1 → (slice_index_or notes k d).1 ≢ note.Adoption) (sym stays.0) (one_more_none notes i c.loop-i.end entry (sym c.index-notes-i.is) c.loop-i-test.true stays.1 inv.2),
       )
       | inr new ↦ (
         (let is = new.0 in omega (arith, is)),
-        subst (λ k. IsOver (take k notes)) (sym new.0) (inr (take i notes, entry.0, more ∙ ap (λ (x : JournalRow). take i notes ++ (entry.0, x) ∷ []) new.1)),
+        subst (λ k. EndsAtAdoption (take k notes)) (sym new.0) (inr (take i notes, entry.0, more ∙ ap (λ (x : JournalRow). take i notes ++ (entry.0, x) ∷ []) new.1)),
         λ k d from low. absurd (let is = new.0 in omega (arith, is, from, low)),
       )
     ]

@@ -1,13 +1,10 @@
-use Rattle.std.proofs.Common.{◌≡◌, ◌≤◌, ◌^◌, ℕ, List, Ok, Err, arith, subst, sym}
+use Rattle.std.proofs.Common.{List, Ok, Err, subst}
 use Rattle.sqlite.specs.Held.{state}
 use Rattle.sqlite.specs.Tree.{Trees}
 use Rattle.dr_base.specs.Texts.{Text}
 use Rattle.dr_ledger.specs.declared.fault.LedgerFault.{LedgerFault}
 use Rattle.dr_ledger.specs.declared.item.Arrived.{Arrived}
 use Rattle.dr_ledger.specs.declared.item.Arrived.TheVariants.{New}
-use Rattle.dr_ledger.specs.declared.item.Instance.{Instance}
-use Rattle.dr_ledger.specs.Bodies.{OnlyTakes}
-use Rattle.dr_ledger.specs.Items.{instance_of}
 use Rattle.dr_ledger.specs.Replies.{Arrives}
 use Rattle.dr_ledger.specs.SiteRoutes.{site_routing}
 use Rattle.dr_store_schema.specs.Books.{bodies_of, book_of}
@@ -15,20 +12,22 @@ use Rattle.dr_store_changes.specs.Bringing.{AsksToTake, Brings, names_for}
 use Rattle.dr_store_changes.specs.Changes.{HasRows}
 use Rattle.dr_store_changes.specs.Writing.{Written}
 use Rattle.dr_store_calls.specs.Knowing.{FitsTables}
+use Rattle.dr_store_calls.specs.Receiving.{TakesOnly}
 use Rattle.dr_store_calls.proofs.Calls.{below_of, made_called, unmade_called}
 use Rattle.dr_store_calls.proofs.Fitting.{rows_there}
-use Rattle.dr_store_calls.proofs.Takings.{arrives, arrives_own, takes_none}
+use Rattle.dr_store_calls.proofs.Takings.{arrives, arrives_own, is_small, takes_none}
 use Rattle.dr_store_calls.proofs.arriving.bring.Goals as goal
 
 pub invariant_of-change : goal.invariant_of-change
-invariant_of-change g c = record { size = let P : Instance → Type 0 = λ i. i.size ≤ 2 ^ 62 in let fits = c.requires.delivered.is_item.fits in subst P (sym c.requires.delivered.instance) (omega (arith, fits)) }
+invariant_of-change g c = record { size = is_small c.args.came.now.cell.now c.args.came.now.instance.now c.requires.delivered.stands }
 
 pub returns-in-Ok-clause-called : goal.returns-in-Ok-clause-called
 returns-in-Ok-clause-called g c =
     let n = c.args.came.now.n in
     let part = c.args.came.now.site.now in
     let caller = c.args.came.now.caller.now in
-    let item = c.args.came.now.item.now in
+    let item = c.args.came.now.instance.now in
+    let cell = c.args.came.now.cell.now in
     let how = c.args.taking in
     let to = c.args.targets.now.to in
     let keep = c.args.targets.now.keep in
@@ -37,20 +36,18 @@ returns-in-Ok-clause-called g c =
     let keeps = c.args.keeps in
     let old = state g.S.Store c.args.conn.now in
     let new = state g.S.Store c.written.new.conn in
-    let Made : Instance → List ℕ → List Text → List Text → List Text → Trees → Trees → Type 0 = λ instance body ys ds names. Brings how caller instance body ys ds keeps names n in
+    let Made : List Text → List Text → List Text → Trees → Trees → Type 0 = λ ys ds names. Brings how caller item cell ys ds keeps names n in
     let Asks : Trees → Type 0 = λ base. FitsTables how caller item to keep again dests keeps base in
-    let Makes : Trees → Trees → Type 0 = λ base db. Arrives (site_routing part) caller (instance_of item) (book_of base) (Ok New) (book_of db) in
-    let Answers : Trees → Trees → Type 0 = λ base db. Arrives (site_routing part) caller (instance_of item) (book_of base) (Ok New) (book_of db) × OnlyTakes item (bodies_of base) (bodies_of db) in
-    let Wants : List ℕ → List Text → Trees → Type 0 = λ uid ys db. AsksToTake how uid db × HasRows uid ys db in
-    let W : Instance → List ℕ → List Text → List Text → List Text → Type 0 = λ instance body ys ds names. Written {E = LedgerFault} n (Wants instance.uid ys) (Made instance body ys ds names) (Ok tt) old new in
-    made_called n part (Wants item.uid again) Asks (Made (instance_of item) item.body again dests (names_for keep to)) Answers Makes old new (λ h. c.written.ensures.idle) (λ ready l fits. (fits.asks, rows_there old.committed.trees item.uid to again fits.again_are)) New
-    (subst (λ names. W (instance_of item) item.body again dests names) c.requires.names
-    (subst (λ body. W (instance_of item) body again dests c.args.names.now) c.as_bytes.ensures
-    (subst (λ ds. W (instance_of item) c.as_bytes.result.now again ds c.args.names.now) c.as_slice-dests.ensures
-    (subst (λ ys. W (instance_of item) c.as_bytes.result.now ys c.as_slice-dests.result.now c.args.names.now) c.as_slice-again.ensures
-    (subst (λ i. W i c.as_bytes.result.now c.as_slice-again.result.now c.as_slice-dests.result.now c.args.names.now) c.requires.delivered.instance c.in-Ok.ensures.written)))))
+    let Makes : Trees → Trees → Type 0 = λ base db. Arrives (site_routing part) caller item (book_of base) (Ok New) (book_of db) in
+    let Answers : Trees → Trees → Type 0 = λ base db. Arrives (site_routing part) caller item (book_of base) (Ok New) (book_of db) × TakesOnly item.uid cell (bodies_of base) (bodies_of db) in
+    let Wants : List Text → Trees → Type 0 = λ ys db. AsksToTake how item.uid db × HasRows item.uid ys db in
+    let W : List Text → List Text → List Text → Type 0 = λ ys ds names. Written {E = LedgerFault} n (Wants ys) (Made ys ds names) (Ok tt) old new in
+    made_called n part (Wants again) Asks (Made again dests (names_for keep to)) Answers Makes old new (λ h. c.written.ensures.idle) (λ ready l fits. (fits.asks, rows_there old.committed.trees item.uid to again fits.again_are)) New
+    (subst (λ names. W again dests names) c.requires.names
+    (subst (λ ds. W again ds c.args.names.now) c.as_slice-dests.ensures
+    (subst (λ ys. W ys c.as_slice-dests.result.now c.args.names.now) c.as_slice-again.ensures c.in-Ok.ensures.written)))
     (λ ready l fits db w.
-    let it = arrives n part how caller item to keep again dests keeps old.committed.trees db c.requires.delivered.is_item c.requires.delivered.line c.requires.targets.to c.requires.targets.keep c.requires.targets.formed (below_of n old ready) l fits w in
+    let it = arrives n part how caller item cell to keep again dests keeps old.committed.trees db c.requires.delivered.stands c.requires.delivered.line c.requires.targets.to c.requires.targets.keep c.requires.targets.formed (below_of n old ready) l fits w in
     (it.0, it.1, it.1.0))
 
 pub returns-in-Err-clause-called : goal.returns-in-Err-clause-called
@@ -58,7 +55,8 @@ returns-in-Err-clause-called g c =
     let n = c.args.came.now.n in
     let part = c.args.came.now.site.now in
     let caller = c.args.came.now.caller.now in
-    let item = c.args.came.now.item.now in
+    let item = c.args.came.now.instance.now in
+    let cell = c.args.came.now.cell.now in
     let how = c.args.taking in
     let to = c.args.targets.now.to in
     let keep = c.args.targets.now.keep in
@@ -67,20 +65,18 @@ returns-in-Err-clause-called g c =
     let keeps = c.args.keeps in
     let old = state g.S.Store c.args.conn.now in
     let new = state g.S.Store c.written.new.conn in
-    let Made : Instance → List ℕ → List Text → List Text → List Text → Trees → Trees → Type 0 = λ instance body ys ds names. Brings how caller instance body ys ds keeps names n in
+    let Made : List Text → List Text → List Text → Trees → Trees → Type 0 = λ ys ds names. Brings how caller item cell ys ds keeps names n in
     let Asks : Trees → Type 0 = λ base. FitsTables how caller item to keep again dests keeps base in
-    let Makes : Trees → Trees → Type 0 = λ base db. Arrives (site_routing part) caller (instance_of item) (book_of base) (Ok New) (book_of db) in
+    let Makes : Trees → Trees → Type 0 = λ base db. Arrives (site_routing part) caller item (book_of base) (Ok New) (book_of db) in
     let e = c.in-Err.fault in
-    let Answers : Trees → Trees → Type 0 = λ base db. Arrives (site_routing part) caller (instance_of item) (book_of base) (Err e) (book_of db) × OnlyTakes item (bodies_of base) (bodies_of db) in
-    let Wants : List ℕ → List Text → Trees → Type 0 = λ uid ys db. AsksToTake how uid db × HasRows uid ys db in
-    let W : Instance → List ℕ → List Text → List Text → List Text → Type 0 = λ instance body ys ds names. Written {E = LedgerFault} n (Wants instance.uid ys) (Made instance body ys ds names) (Err e) old new in
-    unmade_called {A = Arrived} n part (Wants item.uid again) Asks (Made (instance_of item) item.body again dests (names_for keep to)) Answers Makes old new (λ h. c.written.ensures.idle) (λ ready l fits. (fits.asks, rows_there old.committed.trees item.uid to again fits.again_are)) e
+    let Answers : Trees → Trees → Type 0 = λ base db. Arrives (site_routing part) caller item (book_of base) (Err e) (book_of db) × TakesOnly item.uid cell (bodies_of base) (bodies_of db) in
+    let Wants : List Text → Trees → Type 0 = λ ys db. AsksToTake how item.uid db × HasRows item.uid ys db in
+    let W : List Text → List Text → List Text → Type 0 = λ ys ds names. Written {E = LedgerFault} n (Wants ys) (Made ys ds names) (Err e) old new in
+    unmade_called {A = Arrived} n part (Wants again) Asks (Made again dests (names_for keep to)) Answers Makes old new (λ h. c.written.ensures.idle) (λ ready l fits. (fits.asks, rows_there old.committed.trees item.uid to again fits.again_are)) e
     c.in-Err.ensures.fault
-    (subst (λ names. W (instance_of item) item.body again dests names) c.requires.names
-    (subst (λ body. W (instance_of item) body again dests c.args.names.now) c.as_bytes.ensures
-    (subst (λ ds. W (instance_of item) c.as_bytes.result.now again ds c.args.names.now) c.as_slice-dests.ensures
-    (subst (λ ys. W (instance_of item) c.as_bytes.result.now ys c.as_slice-dests.result.now c.args.names.now) c.as_slice-again.ensures
-    (subst (λ i. W i c.as_bytes.result.now c.as_slice-again.result.now c.as_slice-dests.result.now c.args.names.now) c.requires.delivered.instance c.in-Err.ensures.written)))))
+    (subst (λ names. W again dests names) c.requires.names
+    (subst (λ ds. W again ds c.args.names.now) c.as_slice-dests.ensures
+    (subst (λ ys. W ys c.as_slice-dests.result.now c.args.names.now) c.as_slice-again.ensures c.in-Err.ensures.written)))
     (λ ready l fits db w.
-    (arrives n part how caller item to keep again dests keeps old.committed.trees db c.requires.delivered.is_item c.requires.delivered.line c.requires.targets.to c.requires.targets.keep c.requires.targets.formed (below_of n old ready) l fits w).1.0)
-    (λ fits. (arrives_own part caller (instance_of item) (book_of old.committed.trees) e c.requires.delivered.line c.in-Err.ensures.fault, takes_none item (bodies_of old.committed.trees)))
+    (arrives n part how caller item cell to keep again dests keeps old.committed.trees db c.requires.delivered.stands c.requires.delivered.line c.requires.targets.to c.requires.targets.keep c.requires.targets.formed (below_of n old ready) l fits w).1.0)
+    (λ fits. (arrives_own part caller item (book_of old.committed.trees) e c.requires.delivered.line c.in-Err.ensures.fault, takes_none item.uid cell (bodies_of old.committed.trees)))

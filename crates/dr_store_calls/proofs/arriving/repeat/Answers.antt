@@ -1,57 +1,55 @@
-use Rattle.std.proofs.Common.{◌≡◌, ◌≤◌, ◌^◌, true, Ok, Err, arith, subst, sym}
+use Rattle.std.proofs.Common.{◌≡◌, true, Ok, Err}
 use Rattle.std.specs.FinSet as set
 use Rattle.sqlite.specs.Held.{state}
 use Rattle.sqlite.specs.Tree.{Trees}
-use Rattle.dr_ledger.specs.declared.fault.LedgerFault.{LedgerFault}
 use Rattle.dr_ledger.specs.declared.item.Arrived.{Arrived}
 use Rattle.dr_ledger.specs.declared.item.Arrived.TheVariants.{Again}
-use Rattle.dr_ledger.specs.declared.item.Instance.{Instance}
-use Rattle.dr_ledger.specs.Bodies.{OnlyTakes}
-use Rattle.dr_ledger.specs.Items.{instance_of}
 use Rattle.dr_ledger.specs.Replies.{Arrives}
 use Rattle.dr_ledger.specs.SiteRoutes.{site_routing}
 use Rattle.dr_store_schema.specs.Books.{arrivals_in, bodies_of, book_of}
 use Rattle.dr_store_writes.specs.Effects.{arrived_line}
 use Rattle.dr_store_changes.specs.Changes.{AddsOnlyLine}
-use Rattle.dr_store_changes.specs.Writing.{Written}
 use Rattle.dr_store_calls.specs.Knowing.{IsThere}
+use Rattle.dr_store_calls.specs.Receiving.{TakesOnly}
 use Rattle.dr_store_calls.proofs.Calls.{below_of, made_called, unmade_called}
-use Rattle.dr_store_calls.proofs.Takings.{arrives_own, repeats, takes_none}
+use Rattle.dr_store_calls.proofs.Takings.{arrives_own, is_small, repeats, takes_none}
 use Rattle.dr_store_calls.proofs.arriving.repeat.Goals as goal
 
 pub invariant_of-change : goal.invariant_of-change
-invariant_of-change g c = record { size = let P : Instance → Type 0 = λ i. i.size ≤ 2 ^ 62 in let fits = c.requires.delivered.is_item.fits in subst P (sym c.requires.delivered.instance) (omega (arith, fits)) }
+invariant_of-change g c = record { size = is_small c.args.came.now.cell.now c.args.came.now.instance.now c.requires.delivered.stands }
 
 pub returns-in-Ok-clause-called : goal.returns-in-Ok-clause-called
 returns-in-Ok-clause-called g c =
     let n = c.args.came.now.n in
     let part = c.args.came.now.site.now in
     let caller = c.args.came.now.caller.now in
-    let item = c.args.came.now.item.now in
+    let item = c.args.came.now.instance.now in
+    let cell = c.args.came.now.cell.now in
     let old = state g.S.Store c.args.conn.now in
     let new = state g.S.Store c.written.new.conn in
-    let Line : Instance → Trees → Trees → Type 0 = λ came. AddsOnlyLine (arrived_line n 1 caller came) in
-    let Asks : Trees → Type 0 = λ base. IsThere base (instance_of item) c.args.whole × (set.contains (arrivals_in (base 5)) (caller, item.uid) ≡ true) in
-    let Answers : Trees → Trees → Type 0 = λ base db. Arrives (site_routing part) caller (instance_of item) (book_of base) (Ok Again) (book_of db) × OnlyTakes item (bodies_of base) (bodies_of db) in
-    let Makes : Trees → Trees → Type 0 = λ base db. Arrives (site_routing part) caller (instance_of item) (book_of base) (Ok Again) (book_of db) in
-    made_called n part (λ db. Unit {0}) Asks (Line (instance_of item)) Answers Makes old new (λ h. c.written.ensures.idle) (λ ready l asks. tt) Again
-    (let W : Instance → Type 0 = λ came. Written {E = LedgerFault} n (λ db. Unit {0}) (Line came) (Ok tt) old new in subst W c.requires.delivered.instance c.in-Ok.ensures.written)
-    (λ ready l asks db w. let it = repeats n part caller item c.args.whole old.committed.trees db c.requires.delivered.line (below_of n old ready) l asks.0 asks.1 w in (it.0, it.1, it.1.0))
+    let Line : Trees → Trees → Type 0 = AddsOnlyLine (arrived_line n 1 caller item) in
+    let Asks : Trees → Type 0 = λ base. IsThere base item c.args.whole × (set.contains (arrivals_in (base 5)) (caller, item.uid) ≡ true) in
+    let Answers : Trees → Trees → Type 0 = λ base db. Arrives (site_routing part) caller item (book_of base) (Ok Again) (book_of db) × TakesOnly item.uid cell (bodies_of base) (bodies_of db) in
+    let Makes : Trees → Trees → Type 0 = λ base db. Arrives (site_routing part) caller item (book_of base) (Ok Again) (book_of db) in
+    made_called n part (λ db. Unit {0}) Asks Line Answers Makes old new (λ h. c.written.ensures.idle) (λ ready l asks. tt) Again
+    c.in-Ok.ensures.written
+    (λ ready l asks db w. let it = repeats n part caller item cell c.args.whole old.committed.trees db c.requires.delivered.line (below_of n old ready) l asks.0 asks.1 w in (it.0, it.1, it.1.0))
 
 pub returns-in-Err-clause-called : goal.returns-in-Err-clause-called
 returns-in-Err-clause-called g c =
     let n = c.args.came.now.n in
     let part = c.args.came.now.site.now in
     let caller = c.args.came.now.caller.now in
-    let item = c.args.came.now.item.now in
+    let item = c.args.came.now.instance.now in
+    let cell = c.args.came.now.cell.now in
     let e = c.in-Err.fault in
     let old = state g.S.Store c.args.conn.now in
     let new = state g.S.Store c.written.new.conn in
-    let Line : Instance → Trees → Trees → Type 0 = λ came. AddsOnlyLine (arrived_line n 1 caller came) in
-    let Asks : Trees → Type 0 = λ base. IsThere base (instance_of item) c.args.whole × (set.contains (arrivals_in (base 5)) (caller, item.uid) ≡ true) in
-    let Answers : Trees → Trees → Type 0 = λ base db. Arrives (site_routing part) caller (instance_of item) (book_of base) (Err e) (book_of db) × OnlyTakes item (bodies_of base) (bodies_of db) in
-    let Makes : Trees → Trees → Type 0 = λ base db. Arrives (site_routing part) caller (instance_of item) (book_of base) (Ok Again) (book_of db) in
-    unmade_called {A = Arrived} n part (λ db. Unit {0}) Asks (Line (instance_of item)) Answers Makes old new (λ h. c.written.ensures.idle) (λ ready l asks. tt) e c.in-Err.ensures.fault
-    (let W : Instance → Type 0 = λ came. Written {E = LedgerFault} n (λ db. Unit {0}) (Line came) (Err e) old new in subst W c.requires.delivered.instance c.in-Err.ensures.written)
-    (λ ready l asks db w. (repeats n part caller item c.args.whole old.committed.trees db c.requires.delivered.line (below_of n old ready) l asks.0 asks.1 w).1.0)
-    (λ asks. (arrives_own part caller (instance_of item) (book_of old.committed.trees) e c.requires.delivered.line c.in-Err.ensures.fault, takes_none item (bodies_of old.committed.trees)))
+    let Line : Trees → Trees → Type 0 = AddsOnlyLine (arrived_line n 1 caller item) in
+    let Asks : Trees → Type 0 = λ base. IsThere base item c.args.whole × (set.contains (arrivals_in (base 5)) (caller, item.uid) ≡ true) in
+    let Answers : Trees → Trees → Type 0 = λ base db. Arrives (site_routing part) caller item (book_of base) (Err e) (book_of db) × TakesOnly item.uid cell (bodies_of base) (bodies_of db) in
+    let Makes : Trees → Trees → Type 0 = λ base db. Arrives (site_routing part) caller item (book_of base) (Ok Again) (book_of db) in
+    unmade_called {A = Arrived} n part (λ db. Unit {0}) Asks Line Answers Makes old new (λ h. c.written.ensures.idle) (λ ready l asks. tt) e c.in-Err.ensures.fault
+    c.in-Err.ensures.written
+    (λ ready l asks db w. (repeats n part caller item cell c.args.whole old.committed.trees db c.requires.delivered.line (below_of n old ready) l asks.0 asks.1 w).1.0)
+    (λ asks. (arrives_own part caller item (book_of old.committed.trees) e c.requires.delivered.line c.in-Err.ensures.fault, takes_none item.uid cell (bodies_of old.committed.trees)))

@@ -1,9 +1,22 @@
-use Rattle.std.proofs.Common.{subst}
+use Rattle.std.proofs.Common.{◌∙◌, ℕ, List, ap, subst, sym}
 use Rattle.sqlite.specs.Held.{state}
+use Rattle.dr_route.specs.declared.key.Key.{Key}
+use Rattle.dr_site.specs.Routing.{HasLineFor}
 use Rattle.dr_ledger.specs.declared.content.Job.{Job}
+use Rattle.dr_ledger.specs.declared.item.Instance.{Instance}
+use Rattle.dr_ledger.specs.Items.{instance_of}
 use Rattle.dr_store_calls.specs.Calling.{Called, Nothing, advanced}
-use Rattle.dr_store_calls.specs.Receiving.{Accepts, AnswersTo}
+use Rattle.dr_store_calls.specs.Receiving.{AcceptsOne, AnswersWith}
 use Rattle.dr_store_calls.proofs.receiving.arrive.Goals as goal
+
+pub receive-requires-clause-delivered : goal.receive-requires-clause-delivered
+receive-requires-clause-delivered g c =
+    let P : Key → Type 0 = λ key. HasLineFor c.args.site.now c.args.caller.now key in
+    let key = c.key.ensures ∙ sym (ap (λ (i : Instance). i.key) c.in-Ok.ensures) in
+    record {
+      line = subst P key (c.has_line.ensures.0 c.if-not-has_line.false);
+      stands = (c.into_job-job.result, c.into_job-job.ensures.item, sym c.as_bytes.ensures, c.in-Ok.ensures ∙ sym (ap (λ (j : Job). instance_of j) c.into_job-job.ensures.same));
+    }
 
 pub returns-in-Ok-clause-called : goal.returns-in-Ok-clause-called
 returns-in-Ok-clause-called g c =
@@ -11,5 +24,6 @@ returns-in-Ok-clause-called g c =
     let part = c.args.site.now in
     let caller = c.args.caller.now in
     let r = c.receive.result in
-    let P : Job → Type 0 = λ item. Called n (advanced r n) part r (state g.S.Store c.args.conn.now) (state g.S.Store c.receive.new.conn) Nothing (AnswersTo part caller item r) (Accepts part caller item) in
-    subst P c.into_job-job.ensures.same c.receive.ensures.called
+    let own = c.as_bytes.ensures ∙ ap (λ (j : Job). j.body) c.into_job-job.ensures.same in
+    let P : Instance → List ℕ → Type 0 = λ instance cell. Called n (advanced r n) part r (state g.S.Store c.args.conn.now) (state g.S.Store c.receive.new.conn) Nothing (AnswersWith part caller instance cell r) (AcceptsOne part caller instance) in
+    subst (λ instance. P instance c.args.item.body) c.in-Ok.ensures (subst (P c.in-Ok.instance) own c.receive.ensures.called)

@@ -2,30 +2,29 @@ use Rattle.std.proofs.Common.{inl, refl, subst}
 use Rattle.sqlite.specs.Held.{state}
 use Rattle.sqlite.specs.Tree.{Trees}
 use Rattle.dr_ledger.specs.declared.fault.LedgerFault.TheVariants as fault
-use Rattle.dr_ledger.specs.Items.{instance_of}
 use Rattle.dr_store_changes.specs.Changes.{HasNeither}
 use Rattle.dr_store_calls.specs.declared.knowing.Known.{Known}
-use Rattle.dr_store_calls.specs.Knowing.{IsKnown, IsThere}
+use Rattle.dr_store_calls.specs.Knowing.{IsWhatIsKnown, IsThere}
 use Rattle.dr_store_calls.proofs.Takings.{not_received, received}
 use Rattle.dr_store_calls.proofs.receiving.arrive_by.Goals as goal
 
 pub returns-in-No-clause-called : goal.returns-in-No-clause-called
 returns-in-No-clause-called g c =
     let came = c.args.came.now in
-    let Knows : Known → Trees → Type 0 = λ what base. IsKnown base (instance_of came.item.now) what in
-    received came (state g.S.Store c.args.conn.now) (state g.S.Store c.arrive_new.new.conn) c.arrive_new.result (HasNeither came.item.now.uid) (Knows c.args.known)
+    let Knows : Known → Trees → Type 0 = λ what base. IsWhatIsKnown base came.instance.now what in
+    received came (state g.S.Store c.args.conn.now) (state g.S.Store c.arrive_new.new.conn) c.arrive_new.result (HasNeither came.instance.now.uid) (Knows c.args.known)
     (λ db is. subst (λ what. Knows what db) c.in-No.is is) c.arrive_new.ensures.called
 
 pub returns-in-Other-clause-called : goal.returns-in-Other-clause-called
 returns-in-Other-clause-called g c =
     let came = c.args.came.now in
-    let Knows : Known → Trees → Type 0 = λ what base. IsKnown base (instance_of came.item.now) what in
+    let Knows : Known → Trees → Type 0 = λ what base. IsWhatIsKnown base came.instance.now what in
     not_received came fault.Conflict (state g.S.Store c.args.conn.now) (Knows c.args.known)
     (λ db is. ((c.requires.delivered.line, subst (λ what. Knows what db) c.in-Other.is is, refl), λ uid body h. inl h)) (λ P h. h)
 
 pub returns-in-Same-clause-called : goal.returns-in-Same-clause-called
 returns-in-Same-clause-called g c =
     let came = c.args.came.now in
-    let Knows : Known → Trees → Type 0 = λ what base. IsKnown base (instance_of came.item.now) what in
-    received came (state g.S.Store c.args.conn.now) (state g.S.Store c.arrive_there.new.conn) c.arrive_there.result (λ base. IsThere base (instance_of came.item.now) c.in-Same.whole) (Knows c.args.known)
+    let Knows : Known → Trees → Type 0 = λ what base. IsWhatIsKnown base came.instance.now what in
+    received came (state g.S.Store c.args.conn.now) (state g.S.Store c.arrive_there.new.conn) c.arrive_there.result (λ base. IsThere base came.instance.now c.in-Same.whole) (Knows c.args.known)
     (λ db is. subst (λ what. Knows what db) c.in-Same.is is) c.arrive_there.ensures.called

@@ -9,12 +9,12 @@ pub returns-in-Ok-clause-called : goal.returns-in-Ok-clause-called
 returns-in-Ok-clause-called g c =
     let came = c.args.came.now in
     let Asks = IsThereFor came c.args.whole false in
-    let Given : Trees → Type 0 = λ base. Asks base × IsFoundFor came.item.now.uid base c.in-Ok.first in
-    read_then came (state g.S.Store c.args.conn.now) (state g.S.Store c.bring_there.new.conn) (state g.S.Store c.find_first.new.conn) (IsFoundFor came.item.now.uid) c.in-Ok.first c.bring_there.result Asks Given
+    let Given : Trees → Type 0 = λ base. Asks base × IsFoundFor came.instance.now.uid base c.in-Ok.first in
+    read_then came (state g.S.Store c.args.conn.now) (state g.S.Store c.bring_there.new.conn) (state g.S.Store c.find_first.new.conn) (IsFoundFor came.instance.now.uid) c.in-Ok.first c.bring_there.result Asks Given
     (c.in-Ok.ensures.looked came.n came.site.now) c.bring_there.ensures.called (λ db is shown. (is, shown))
 
 pub returns-in-Err-clause-called : goal.returns-in-Err-clause-called
 returns-in-Err-clause-called g c =
     let came = c.args.came.now in
-    not_read came (state g.S.Store c.args.conn.now) (state g.S.Store c.find_first.new.conn) (IsFoundFor came.item.now.uid) c.in-Err.fault (IsThereFor came c.args.whole false) c.requires.delivered
+    not_read came (state g.S.Store c.args.conn.now) (state g.S.Store c.find_first.new.conn) (IsFoundFor came.instance.now.uid) c.in-Err.fault (IsThereFor came c.args.whole false) c.requires.delivered
     (c.in-Err.ensures.looked came.n came.site.now)

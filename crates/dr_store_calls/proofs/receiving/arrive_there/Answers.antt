@@ -3,7 +3,6 @@ use Rattle.std.specs.FinSet as set
 use Rattle.sqlite.specs.Held.{state}
 use Rattle.sqlite.specs.Tree.{Trees}
 use Rattle.dr_ledger.specs.declared.item.Arrived.TheVariants.{Again}
-use Rattle.dr_ledger.specs.Items.{instance_of}
 use Rattle.dr_store_schema.specs.Books.{arrivals_in}
 use Rattle.dr_store_calls.specs.Knowing.{IsThere}
 use Rattle.dr_store_calls.specs.Receiving.{IsThereFor}
@@ -17,8 +16,8 @@ returns-then-brought-clause-called g c =
     let old = state g.S.Store c.args.conn.now in
     let mid = state g.S.Store c.find_arrival.new.conn in
     let new = state g.S.Store c.repeat.new.conn in
-    let Shows : Trees → Bool → Type 0 = λ base brought. brought ≡ set.contains (arrivals_in (base 5)) (came.caller.now, came.item.now.uid) in
-    let Asks : Trees → Type 0 = λ base. IsThere base (instance_of came.item.now) c.args.whole in
+    let Shows : Trees → Bool → Type 0 = λ base brought. brought ≡ set.contains (arrivals_in (base 5)) (came.caller.now, came.instance.now.uid) in
+    let Asks : Trees → Type 0 = λ base. IsThere base came.instance.now c.args.whole in
     let Given = IsThereFor came c.args.whole true in
     read_then came old new mid Shows c.in-Ok.brought c.repeat.result Asks Given (asked_looked came.n came.site.now _ old mid Shows c.in-Ok.ensures.asked)
     (received_as came mid new Again c.repeat.result Given Given (λ db l is. is) c.repeat.ensures.called)
@@ -30,8 +29,8 @@ returns-else-brought-clause-called g c =
     let old = state g.S.Store c.args.conn.now in
     let mid = state g.S.Store c.find_arrival.new.conn in
     let new = state g.S.Store c.arrive_first.new.conn in
-    let Shows : Trees → Bool → Type 0 = λ base brought. brought ≡ set.contains (arrivals_in (base 5)) (came.caller.now, came.item.now.uid) in
-    let Asks : Trees → Type 0 = λ base. IsThere base (instance_of came.item.now) c.args.whole in
+    let Shows : Trees → Bool → Type 0 = λ base brought. brought ≡ set.contains (arrivals_in (base 5)) (came.caller.now, came.instance.now.uid) in
+    let Asks : Trees → Type 0 = λ base. IsThere base came.instance.now c.args.whole in
     read_then came old new mid Shows c.in-Ok.brought c.arrive_first.result Asks (IsThereFor came c.args.whole false) (asked_looked came.n came.site.now _ old mid Shows c.in-Ok.ensures.asked)
     c.arrive_first.ensures.called
     (λ db is shown. (is, sym shown ∙ c.if-brought.false))
@@ -41,5 +40,5 @@ returns-in-Err-clause-called g c =
     let came = c.args.came.now in
     let old = state g.S.Store c.args.conn.now in
     let mid = state g.S.Store c.find_arrival.new.conn in
-    let Shows : Trees → Bool → Type 0 = λ base brought. brought ≡ set.contains (arrivals_in (base 5)) (came.caller.now, came.item.now.uid) in
-    not_read came old mid Shows c.in-Err.fault (λ base. IsThere base (instance_of came.item.now) c.args.whole) c.requires.delivered (asked_looked came.n came.site.now _ old mid Shows c.in-Err.ensures.asked)
+    let Shows : Trees → Bool → Type 0 = λ base brought. brought ≡ set.contains (arrivals_in (base 5)) (came.caller.now, came.instance.now.uid) in
+    not_read came old mid Shows c.in-Err.fault (λ base. IsThere base came.instance.now c.args.whole) c.requires.delivered (asked_looked came.n came.site.now _ old mid Shows c.in-Err.ensures.asked)

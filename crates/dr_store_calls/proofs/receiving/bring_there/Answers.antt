@@ -13,7 +13,7 @@ pub returns-clause-called : goal.returns-clause-called
 returns-clause-called g c =
     let came = c.args.came.now in
     let caller = came.caller.now in
-    let item = came.item.now in
+    let item = came.instance.now in
     let first = c.args.first.now in
     let to = first.targets.to in
     let keep = first.targets.keep in

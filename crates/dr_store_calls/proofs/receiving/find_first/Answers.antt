@@ -14,14 +14,14 @@ use Rattle.dr_store_calls.proofs.receiving.find_first.Goals as goal
 
 pub returns-in_err-dests-clause-looked : goal.returns-in_err-dests-clause-looked
 returns-in_err-dests-clause-looked g c n part =
-    let uid = c.args.came.now.item.now.uid in
+    let uid = c.args.came.now.instance.now.uid in
     let Dests : Trees → List Text → Type 0 = λ base xs. xs ≡ chosen false (rows_of base) uid c.as_slice.result.now in
     looked_handed n part Dests (IsFoundFor uid) (state g.S.Store c.args.conn.now) (state g.S.Store c.chosen_from.new.conn) c.in_err-dests.field-0.0 c.from_residual.result c.from_residual.ensures.0 c.from_residual.ensures.1
     (c.in_err-dests.ensures.looked n part)
 
 pub returns-in_err-again-clause-looked : goal.returns-in_err-again-clause-looked
 returns-in_err-again-clause-looked g c n part =
-    let uid = c.args.came.now.item.now.uid in
+    let uid = c.args.came.now.instance.now.uid in
     let old = state g.S.Store c.args.conn.now in
     let mid = state g.S.Store c.chosen_from.new.conn in
     let new = state g.S.Store c.chosen_from-2.new.conn in
@@ -34,7 +34,7 @@ returns-in_err-again-clause-looked g c n part =
 
 pub returns-in_err-kept-clause-looked : goal.returns-in_err-kept-clause-looked
 returns-in_err-kept-clause-looked g c n part =
-    let uid = c.args.came.now.item.now.uid in
+    let uid = c.args.came.now.instance.now.uid in
     let old = state g.S.Store c.args.conn.now in
     let first = state g.S.Store c.chosen_from.new.conn in
     let mid = state g.S.Store c.chosen_from-2.new.conn in
@@ -52,7 +52,7 @@ returns-in_err-kept-clause-looked g c n part =
 
 pub returns-clause-looked : goal.returns-clause-looked
 returns-clause-looked g c n part =
-    let uid = c.args.came.now.item.now.uid in
+    let uid = c.args.came.now.instance.now.uid in
     let to = c.in-Ok.targets.to in
     let old = state g.S.Store c.args.conn.now in
     let first = state g.S.Store c.chosen_from.new.conn in

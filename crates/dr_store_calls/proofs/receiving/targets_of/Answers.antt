@@ -7,7 +7,7 @@ pub returns-in-Ok : goal.returns-in-Ok
 returns-in-Ok c =
     let part = c.args.came.now.site.now in
     let caller = c.args.came.now.caller.now in
-    let key = c.args.came.now.item.now.key in
+    let key = c.args.came.now.instance.now.key in
     let sent = c.in-Ok.ensures in
     record {
       to = targets_are part caller key c.in-Ok.targets.to sent.to sent.ordered;

@@ -6,7 +6,7 @@ use Rattle.sqlite.specs.declared.error.Error.{Error}
 use Rattle.sqlite.specs.Held.{state}
 use Rattle.dr_base.specs.Texts.{Text}
 use Rattle.dr_ledger.specs.declared.item.Progress.TheVariants.{Waiting}
-use Rattle.dr_store_writes.specs.Effects.{GoesOn, HasRow, SetsRow, Step}
+use Rattle.dr_store_writes.specs.Effects.{GoesOn, HasRow, SetsRow, StatementStep}
 use Rattle.dr_store_changes.specs.Changes.{HasRows, Renews}
 use Rattle.dr_store_changes.proofs.NewRows.{has_row_still, no_rows_renewed, one_row_renewed}
 use Rattle.dr_store_changes.proofs.Steps.{as_done, one_then}
@@ -30,7 +30,7 @@ loop-dest-preserved g c =
     let its : Contains dests dest = subst
     (λ d. Contains dests d) (sym c.dest-item.is)
     (Contains-get_or dests i dest c.loop-dest-test.true) in
-    let P : List Text → Type 0 = λ ds. Step {A = Unit {0}} {E = Error} (Ok tt) old new
+    let P : List Text → Type 0 = λ ds. StatementStep {A = Unit {0}} {E = Error} (Ok tt) old new
     (HasRows uid dests old.now.trees
     → GoesOn old new × Renews uid ds old.now.trees new.now.trees) in (
       c.in_ok-set_row.ensures.same_reference ∙ c.loop-dest.invariant.0,
@@ -52,7 +52,7 @@ pub returns-clause-step : goal.returns-clause-step
 returns-clause-step g c =
     let old = state g.S.Store c.args.tx.now.conn.now in
     let new = state g.S.Store c.loop-dest.tx.conn.now in
-    let P : List Text → Type 0 = λ ds. Step {A = Unit {0}} {E = Error} (Ok tt) old new
+    let P : List Text → Type 0 = λ ds. StatementStep {A = Unit {0}} {E = Error} (Ok tt) old new
     (HasRows c.args.uid.now c.args.dests.now old.now.trees
     → GoesOn old new × Renews c.args.uid.now ds old.now.trees new.now.trees) in
     subst P

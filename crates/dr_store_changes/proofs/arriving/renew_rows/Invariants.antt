@@ -1,14 +1,14 @@
 use Rattle.std.proofs.Common.{◌≡◌, Ok, take}
 use Rattle.sqlite.specs.declared.error.Error.{Error}
 use Rattle.sqlite.specs.Held.{state}
-use Rattle.dr_store_writes.specs.Effects.{GoesOn, Step}
+use Rattle.dr_store_writes.specs.Effects.{GoesOn, StatementStep}
 use Rattle.dr_store_changes.specs.Changes.{HasRows, Renews}
 use Rattle.dr_store_changes.proofs.arriving.renew_rows.Given as goal
 
 abbrev pub invariant-loop-dest : goal.invariant-loop-dest
 invariant-loop-dest g l =
     (l.tx.conn.ghost_name ≡ l.fn.tx.conn.ghost_name)
-    × Step {A = Unit {0}} {E = Error} (Ok tt) (state g.S.Store l.fn.tx.conn.now)
+    × StatementStep {A = Unit {0}} {E = Error} (Ok tt) (state g.S.Store l.fn.tx.conn.now)
     (state g.S.Store l.tx.conn.now)
     (HasRows l.uid l.dests (state g.S.Store l.fn.tx.conn.now).now.trees
     → GoesOn (state g.S.Store l.fn.tx.conn.now) (state g.S.Store l.tx.conn.now)

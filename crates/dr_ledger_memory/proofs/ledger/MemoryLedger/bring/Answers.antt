@@ -5,7 +5,7 @@ use Rattle.dr_route.specs.declared.key.Key.{Key}
 use Rattle.dr_site.specs.Routing.{KeepsAt, SendsFrom}
 use Rattle.dr_ledger_memory.specs.Bringings.{IsFor}
 use Rattle.dr_ledger_memory.specs.Changes.{at}
-use Rattle.dr_ledger_memory.specs.Entries.{Row, rows_in}
+use Rattle.dr_ledger_memory.specs.Entries.{OwnRow, rows_in}
 use Rattle.dr_ledger_memory.proofs.Content.{same_content}
 use Rattle.dr_ledger_memory.proofs.Ledgers.{bring_kept, taken, takes}
 use Rattle.dr_ledger_memory.proofs.Trees.{either_way}
@@ -22,7 +22,7 @@ invariant_of-self-2 c =
     let new = c.in_ok-new.new in
     let K : Key → Type 0 = λ k. (to : Text) → Contains targets.to to ↔ SendsFrom l.site c.args.caller.now k to in
     let M : Key → Type 0 = λ k. IsTrue targets.keep ↔ KeepsAt l.site c.args.caller.now k in
-    let P : List Row → Type 0 = λ rows. IsFor c.args.caller.now c.args.item targets rows new in
+    let P : List OwnRow → Type 0 = λ rows. IsFor c.args.caller.now c.args.item targets rows new in
     let f : IsFor c.args.caller.now c.args.item targets (rows_in (at l.parts.held c.args.item.uid)) new = subst P (c.rows_held-rows.ensures.rows ∙ ap (λ u. rows_in (at l.parts.held u)) c.uid.ensures) c.in_ok-new.ensures in
     let order = e.ordered l.ordered in
     let sound = bring_kept l.site l.parts q l.ordered (e.ordered l.ordered) c.args.caller.now c.args.item targets new (subst K c.key.ensures t.to) t.ordered (subst M c.key.ensures t.keep) f c.requires.admitted c.requires.first
@@ -38,7 +38,7 @@ returns-in-Ok-clause-reply c =
     let new = c.in_ok-new.new in
     let K : Key → Type 0 = λ k. (to : Text) → Contains targets.to to ↔ SendsFrom l.site c.args.caller.now k to in
     let M : Key → Type 0 = λ k. IsTrue targets.keep ↔ KeepsAt l.site c.args.caller.now k in
-    let P : List Row → Type 0 = λ rows. IsFor c.args.caller.now c.args.item targets rows new in
+    let P : List OwnRow → Type 0 = λ rows. IsFor c.args.caller.now c.args.item targets rows new in
     taken l.site l.parts c.try_bring.new.self l.ordered (e.ordered l.ordered) c.args.caller.now c.args.item targets new (subst K c.key.ensures t.to) t.ordered (subst M c.key.ensures t.keep) (subst P (c.rows_held-rows.ensures.rows ∙ ap (λ u. rows_in (at l.parts.held u)) c.uid.ensures) c.in_ok-new.ensures)
     c.requires.admitted c.requires.first e.ok
 
@@ -51,7 +51,7 @@ returns-in-Ok-clause-bodies c =
     let new = c.in_ok-new.new in
     let K : Key → Type 0 = λ k. (to : Text) → Contains targets.to to ↔ SendsFrom l.site c.args.caller.now k to in
     let M : Key → Type 0 = λ k. IsTrue targets.keep ↔ KeepsAt l.site c.args.caller.now k in
-    let P : List Row → Type 0 = λ rows. IsFor c.args.caller.now c.args.item targets rows new in
+    let P : List OwnRow → Type 0 = λ rows. IsFor c.args.caller.now c.args.item targets rows new in
     takes l.site l.parts c.try_bring.new.self l.ordered (e.ordered l.ordered) c.args.caller.now c.args.item targets new (subst K c.key.ensures t.to) t.ordered (subst M c.key.ensures t.keep) (subst P (c.rows_held-rows.ensures.rows ∙ ap (λ u. rows_in (at l.parts.held u)) c.uid.ensures) c.in_ok-new.ensures)
     c.requires.admitted c.requires.first e.ok
 

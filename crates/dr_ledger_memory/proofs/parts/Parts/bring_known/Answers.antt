@@ -5,7 +5,7 @@ use Rattle.std.specs.FinMap.{is_sorted}
 use Rattle.dr_base.specs.Texts.{Text, text_cmp}
 use Rattle.dr_ledger_history.specs.declared.line.JournalLine.{JournalLine}
 use Rattle.dr_ledger_memory.specs.Changes.{IsOneMore, at}
-use Rattle.dr_ledger_memory.specs.Entries.{Row}
+use Rattle.dr_ledger_memory.specs.Entries.{OwnRow}
 use Rattle.dr_ledger.specs.Pairs.{Pair}
 use Rattle.dr_ledger_memory.proofs.Steps.{rested}
 use Rattle.dr_ledger_memory.proofs.Trees.{known_taken}
@@ -13,7 +13,7 @@ use Rattle.dr_ledger_memory.proofs.parts.Parts.bring_known.Goals as goal
 
 pub take_rest-requires-clause-rows : goal.take_rest-requires-clause-rows
 take_rest-requires-clause-rows c =
-    let P : List Row → Type 0 = λ es. T (is_sorted text_cmp es) in
+    let P : List OwnRow → Type 0 = λ es. T (is_sorted text_cmp es) in
     subst P (sym c.parted-arrival.ensures.rest.rows) c.requires.rows
 
 pub take_rest-requires-clause-known : goal.take_rest-requires-clause-known

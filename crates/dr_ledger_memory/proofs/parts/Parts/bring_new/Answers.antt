@@ -4,7 +4,7 @@ use Rattle.dr_ledger.specs.Pairs.{Pair}
 use Rattle.dr_ledger_history.specs.declared.line.JournalLine.{JournalLine}
 use Rattle.dr_ledger_memory.specs.declared.held.Held.{Held as Entry}
 use Rattle.dr_ledger_memory.specs.Changes.{IsOneMore, IsPutAt, IsSetAt, Tree}
-use Rattle.dr_ledger_memory.specs.Entries.{IsTaken}
+use Rattle.dr_ledger_memory.specs.Entries.{IsTakenAgain}
 use Rattle.dr_ledger_memory.proofs.Steps.{on_err}
 use Rattle.dr_ledger_memory.proofs.Trees.{on_ok, put_at, undone}
 use Rattle.dr_ledger_memory.proofs.parts.Parts.bring_new.Goals as goal
@@ -17,7 +17,7 @@ returns-in-Ok-clause-ok c =
     let r = c.first_of-arrival.result in
     let n = c.put_entry.new.held in
     let q = c.arrive.new.self in
-    let K : Option Entry → Type 0 = λ o. IsTaken o new.instance new.rows.items new.keep new.body r.2 in
+    let K : Option Entry → Type 0 = λ o. IsTakenAgain o new.instance new.rows.items new.keep new.body r.2 in
     let U : Text → Type 0 = λ u. IsSetAt p.held u (Some r.2) n in
     let H : Tree → Type 0 = λ t. IsPutAt p.held new.uid r.2 t in
     let A : Pair → Type 0 = λ a. IsOneMore p.arrivals a q.arrivals in

@@ -5,7 +5,7 @@ use Rattle.std.proofs.lemmas.List.Sorted.{IsPermutation-insert}
 use Rattle.sqlite_disk.specs.Disk.{Only}
 use Rattle.dr_store_bodies.specs.declared.extent.Extent.{Extent}
 use Rattle.dr_store_bodies.specs.Extents.{LiesBefore, IsSafe, end_of}
-use Rattle.dr_store_bodies.specs.Place.{IsFirst, IsFull, IsPlace}
+use Rattle.dr_store_bodies.specs.Place.{IsFirstPlace, IsFull, IsPlace}
 use Rattle.dr_store_bodies.proofs.PlaceLemmas.{IsBeside, safe_beside, safe_fewer, safe_synced}
 use Rattle.dr_store_bodies.proofs.PlaceLemmas.{All-insert, AllPairs-insert}
 use Rattle.dr_store_bodies.proofs.bodies.Bodies.put.Goals as goal
@@ -19,7 +19,7 @@ returns-in_default-clause-why g c = (
 
 pub returns-clause-first : goal.returns-clause-first
 returns-clause-first g c =
-    subst (λ xs. IsFirst xs (length c.args.body.now) c.in-Some.at) c.deref.ensures.value
+    subst (λ xs. IsFirstPlace xs (length c.args.body.now) c.in-Some.at) c.deref.ensures.value
     c.in-Some.ensures.first
 
 pub returns-clause-listed : goal.returns-clause-listed

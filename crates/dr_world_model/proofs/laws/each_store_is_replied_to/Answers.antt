@@ -1,9 +1,6 @@
-use Rattle.dr_world_model.proofs.Pinned.{are_statuses, agreeing_is_by_count, received_is_replied, answered_is_open}
+use Rattle.dr_world_model.proofs.Pinned.{agreeing_is_by_count, received_is_replied, answered_is_open}
 use Rattle.dr_world_model.proofs.Counted.{others_are_counted}
-use Rattle.dr_world_model.proofs.laws.each_reply_has_its_status.Goals as goal
-
-pub returns-clause-statuses : goal.returns-clause-statuses
-returns-clause-statuses c = are_statuses
+use Rattle.dr_world_model.proofs.laws.each_store_is_replied_to.Goals as goal
 
 pub returns-clause-count : goal.returns-clause-count
 returns-clause-count c = agreeing_is_by_count

@@ -1,0 +1,28 @@
+-- Why a ledger in a database isn't opened, and what one that is has in its file.
+use Rattle.std.specs.Prelude.{ℕ}
+use Rattle.sqlite.specs.State.{State, HasCleanDisk}
+use Rattle.sqlite.specs.declared.error.Error.{Error}
+use Rattle.sqlite.specs.declared.error.Error.TheVariants.{SqliteFailure}
+use Rattle.sqlite.specs.declared.error.ErrorCode.TheVariants.{DatabaseBusy, OutOfMemory}
+use Rattle.dr_run_open.specs.declared.ledgers.OpenFault.{OpenFault}
+use Rattle.dr_run_open.specs.declared.ledgers.OpenFault.TheVariants as unopened
+use Rattle.dr_site.specs.Parts.{Part}
+use Rattle.dr_store_open.specs.declared.fault.OpeningFault.{OpeningFault}
+use Rattle.dr_store_open.specs.declared.fault.OpeningFault.TheVariants as opening
+use Rattle.dr_store_open.specs.Opening.{HasLedgerOf}
+
+-- where its database isn't opened
+abbrev pub fault_of_database : Error → OpenFault
+fault_of_database (SqliteFailure DatabaseBusy) = unopened.InUse
+fault_of_database (SqliteFailure OutOfMemory) = unopened.Memory
+fault_of_database error = unopened.Store
+
+-- where its database is
+abbrev pub fault_of_opening : OpeningFault → OpenFault
+fault_of_opening opening.OtherSite = unopened.OtherSite
+fault_of_opening opening.Store = unopened.Store
+fault_of_opening opening.Memory = unopened.Memory
+
+-- while the disk has returned what was written, the file has a ledger of that site
+abbrev pub HasLedgerIn : Part → State → Type 0
+HasLedgerIn part s = HasCleanDisk s → (n : ℕ) × HasLedgerOf n part s.committed
