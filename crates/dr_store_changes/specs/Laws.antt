@@ -59,8 +59,8 @@ abbrev pub GoesWhereNeededNoMore : Bool → Trees → Text → Type 0
 GoesWhereNeededNoMore true new uid = IsNeeded (book_of new) uid → ⊥
 GoesWhereNeededNoMore false new uid = IsNeeded (book_of new) uid
 
--- A row that waited or was held moves on. Where its cell goes just if it is needed no more, the cells
--- that are there are those that are needed.
+-- A row that waited or was held moves on. Where its cell goes just if it is needed no more, the
+-- cells that are there are those that are needed.
 abbrev pub WhatIsNeededStays : Type 0
 WhatIsNeededStays =
     (old new : Trees) (uid dest : Text) (was to : Progress) (line : Row) (lets_go : Bool)
@@ -111,8 +111,8 @@ ComesWhereNeeded taking.Again made bodies uid = IsNeeded made uid
 ComesWhereNeeded taking.Nothing made bodies uid =
     IsNeeded made uid → (body : List ℕ) × (map.get bodies uid ≡ Some body)
 
--- Where the cell of what arrives comes just if it is needed, the cells that are there are those that
--- are needed.
+-- Where the cell of what arrives comes just if it is needed, the cells that are there are those
+-- that are needed.
 abbrev pub DataSetsCome : Type 0
 DataSetsCome =
     (how : Taking) (b : Book) (caller : Text) (item : Instance) (cell : List ℕ) (to : List Text)
