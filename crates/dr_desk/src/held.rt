@@ -1,5 +1,5 @@
 //! What lies under the lock of a shared desk.
-ghost use Rattle.std.specs.Prelude.{◌≡◌, ◌≤◌, ◌+◌, ◌^◌, [], All, IfErr, IfOk, MatchResult, Ok};
+ghost use Rattle.std.specs.Prelude.{◌≡◌, ◌≤◌, ◌+◌, ◌^◌, [], IfErr, IfOk, MatchResult, Ok};
 ghost use Rattle.std.specs.Prelude.{◌-◌, ◌↔◌, IsTrue, OnErr, OnOk, length, map as mapped};
 ghost use Rattle.std.specs.FinMap as map;
 ghost use Rattle.std.proofs.Props.{props};

@@ -1,5 +1,5 @@
 //! A desk that threads share.
-ghost use Rattle.std.specs.Prelude.{◌≡◌, ◌⊎◌, ◌<◌, ◌≤◌, ◌+◌, ◌^◌, [], All, IfErr, IfOk};
+ghost use Rattle.std.specs.Prelude.{◌≡◌, ◌⊎◌, ◌<◌, ◌≤◌, ◌^◌, [], IfErr, IfOk};
 ghost use Rattle.std.specs.Prelude.{◌↔◌, IsTrue, MatchResult, map as mapped};
 ghost use Rattle.std.specs.FinMap as map;
 ghost use Rattle.dr_ledger.specs.Adopting.{Unfits};
