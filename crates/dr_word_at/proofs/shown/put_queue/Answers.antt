@@ -19,5 +19,5 @@ returns c =
         ap line c.number_at.ensures,
       ),
       c.in_ok-put_queue_line.ensures
-      ∙ ap (λ (t : List ℕ). c.args.out.now.items ++ queue_line t c.in_ok-waiting.waiting c.in_ok-held.held c.in_ok-done.done c.number_at.result) c.as_bytes.ensures.value,
+          ∙ ap (λ (t : List ℕ). c.args.out.now.items ++ queue_line t c.in_ok-waiting.waiting c.in_ok-held.held c.in_ok-done.done c.number_at.result) c.as_bytes.ensures.value,
     )

@@ -17,9 +17,9 @@ returns c =
         n.oldest,
         its.oldest,
         ap (λ (t : List ℕ). queue_line t n.waiting n.held n.done n.oldest) c.as_bytes.ensures
-        ∙ (ap (λ (x : ℕ). queue_line dest x n.held n.done n.oldest) its.waiting
-        ∙ (ap (λ (x : ℕ). queue_line dest waiting x n.done n.oldest) its.held
-        ∙ ap (λ (x : ℕ). queue_line dest waiting held x n.oldest) its.done)),
+            ∙ (ap (λ (x : ℕ). queue_line dest x n.held n.done n.oldest) its.waiting
+            ∙ (ap (λ (x : ℕ). queue_line dest waiting x n.done n.oldest) its.held
+            ∙ ap (λ (x : ℕ). queue_line dest waiting held x n.oldest) its.done)),
       ),
       c.in_ok-put_queue_line.ensures,
     )
