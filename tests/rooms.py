@@ -6,7 +6,8 @@ each folder of crates/ has its line, and each library of a line is named by the 
 crates.txt; docs/ARCHITECTURE.md has the table of `tools/rename --table`, whose old names are no crates, and whose new
 ones are there; and its lists of crates and docs/PROVED.md have them in the order of crates.txt. No two crates define a
 record, a type or a law of one name in their specs, and no definition stands there twice, by whatever name. A relation
-of two crates may have one name, where each is the crate's own instance of one idea: `Reads`, `Opens`, `IsAt`.
+of two crates may have one name, where each is the crate's own instance of one idea: `Reads`, `Opens`, `IsAt`. That it
+is one idea isn't tested. docs/DEFINITIONS.md tells about how many lines each file has.
 """
 import glob
 import os
@@ -35,6 +36,8 @@ DEFINED = re.compile(r"((?:abbrev|unfoldable|opaque|pub|record|data) (?:(?:abbre
 WORD = re.compile(r"\"[^\"]*\"|[\w'«»◌][\w'«»◌.-]*|\S")
 # An import: what is imported, the names of it in braces, and the name that all of it has here.
 IMPORT = re.compile(r"^use (Rattle\.[^\s{]+?)(?:\.\{([^}]*)\})?(?: as (\w+))?$", re.MULTILINE)
+# A crate, or a file of specs with its lines, as docs/DEFINITIONS.md names them.
+TOLD = re.compile(r"`(dr_\w+)`|`(?:specs/)?(\w+)\.antt`(?:\s+\((\d+)(?: lines)?\))?")
 # Names of equations' patterns that are no variables.
 CONSTRUCTORS = {"suc", "zero", "inl", "inr", "tt", "true", "false"}
 # Definitions that have one text and say different things, with what each says.
@@ -52,7 +55,8 @@ def definitions(crate):
             lines = [line for line in file.read().split("\n") if not line.startswith("--")]
         meanings = meanings_in(f"Rattle.{crate}.specs.{os.path.basename(path)[:-5]}", "\n".join(lines))
         for number, line in enumerate(lines):
-            found = DEFINED.match(line)
+            # In a module with parameters it is indented, as are the fields of a record.
+            found = DEFINED.match(line.lstrip() if line.lstrip().startswith("abbrev ") else line)
             if found and "pub " in found[1] and found[2] not in ("mod", "use"):
                 end = next((at for at in range(number, len(lines)) if not lines[at].strip()), len(lines))
                 text = " ".join(" ".join(lines[number:end]).split())
@@ -148,6 +152,24 @@ def out_of_order(page, pattern):
                 last = order.index(found[1])
 
 
+def miscounted():
+    """The files of which docs/DEFINITIONS.md tells more or fewer lines than they have, imports and empty ones aside, a line each."""
+    with open(f"{TOP}/docs/DEFINITIONS.md", encoding="utf-8") as file:
+        page = file.read()
+    crate = None
+    for found in TOLD.finditer(page):
+        crate = found[1] or crate
+        if found[3]:
+            try:
+                with open(f"{TOP}/crates/{crate}/specs/{found[2]}.antt", encoding="utf-8") as file:
+                    count = sum(1 for line in file if line.strip() and not line.startswith(("use ", "pub use ", "pub mod ")))
+            except FileNotFoundError:
+                yield f"docs/DEFINITIONS.md has {found[2]}.antt of {crate}, which isn't there"
+                continue
+            if abs(count - int(found[3])) > 7:
+                yield f"docs/DEFINITIONS.md: {found[2]}.antt of {crate} has {count} lines, and not {found[3]}"
+
+
 def faults():
     """What isn't as it is to be, a line each."""
     yield from out_of_order("docs/ARCHITECTURE.md", r"- `(dr_\w+)`:")
@@ -176,6 +198,7 @@ def faults():
         if f">{crate}<" not in drawn:
             yield f"docs/rooms.svg lacks {crate}: draw it by dot -Tsvg docs/rooms.dot"
     yield from shared_names()
+    yield from miscounted()
     yield from old_names()
 
 

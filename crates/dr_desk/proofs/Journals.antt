@@ -28,6 +28,16 @@ pub of_lines_by : {X : Type 0} (f : X → List Receipt) (xs ys : List X) (a b : 
 of_lines_by {X} f xs ys a b same e h =
     let P : List X → List Entry → Type 0 = λ zs ls. AllByRecursion (λ x. All (IsOfLine ls) (f x)) zs in subst (λ zs. P zs b) same (subst (P xs) e h)
 
+pub rise_by : {X : Type 0} (f : X → List Receipt) (xs ys : List X) → xs ≡ ys
+    → AllByRecursion (λ x. Rises (f x)) xs → AllByRecursion (λ x. Rises (f x)) ys
+rise_by {X} f xs ys same h =
+    let P : List X → Type 0 = λ zs. AllByRecursion (λ x. Rises (f x)) zs in subst P same h
+
+pub apart_by : {X : Type 0} (f : X → List Receipt) (xs ys : List X) → xs ≡ ys
+    → AreApart (flat_map (λ x. numbers (f x)) xs) → AreApart (flat_map (λ x. numbers (f x)) ys)
+apart_by {X} f xs ys same h =
+    let P : List X → Type 0 = λ zs. AreApart (flat_map (λ x. numbers (f x)) zs) in subst P same h
+
 pub unread_shows : (why : LedgerFault) (A B C D : Type 0) → Fails (unread_by why) A B C D
 unread_shows ledger.Memory A B C D = tt
 unread_shows ledger.Store A B C D = tt

@@ -3,6 +3,7 @@ pub mod Adoptions
 pub mod Agreeing
 pub mod Answering
 pub mod Changes
+pub mod Endings
 pub mod Growing
 pub mod Laws
 pub mod Reading

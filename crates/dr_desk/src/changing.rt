@@ -6,6 +6,7 @@ ghost use Rattle.dr_desk.specs.Adoptions.{HasTaken, IsAsItWas, RefusesPlan};
 ghost use Rattle.dr_desk.specs.Agreeing.{AreApart, IsOfLine, Rises, numbers};
 ghost use Rattle.dr_desk.specs.Changes.{EndsByPlan, RefusesChange, StaysBy, StaysShared};
 ghost use Rattle.dr_desk.specs.Changes.{disagreed_by};
+ghost use Rattle.dr_desk.specs.Endings.{AreTallied};
 ghost use Rattle.dr_desk.specs.declared.adopting.AdoptFault.{AdoptFault as AdoptFaultValue};
 ghost use Rattle.dr_ledger.specs.Adopting.{IsFit};
 ghost use Rattle.dr_ledger.specs.Replies.{entry_of};
@@ -182,21 +183,10 @@ impl<L: Ledger, B: Sharing> HeldDesk<L, B> {
         requires site { B.site ≡ site.now }
         ensures ends { IfOk result (λ c. EndsByPlan L.site L.book L.bodies L.stands L.failed B.site
             B.first next.now c.site c.desk.ledger) }
-        ensures of_lines { IfOk result (λ c. L.stands c.desk.ledger
-            → AllByRecursion
-            (λ p. All (IsOfLine (mapped entry_of (L.book c.desk.ledger).lines)) p.receipts.items)
-            passes.items) }
-        ensures rise { OnOk result (AllByRecursion (λ p. Rises p.receipts.items) passes.items) }
-        ensures apart { OnOk result
-            (AreApart (flat_map (λ p. numbers p.receipts.items) passes.items)) }
-        ensures sum { IfOk result (λ c. c.sum ≡ sum_by (λ p. p.made.count) passes.items) }
-        ensures some { IfOk result (λ c. L.stands c.desk.ledger
-            → length B.first + c.sum + 1 ≤ length (L.book c.desk.ledger).lines) }
-        ensures all { IfOk result (λ c. L.stands c.desk.ledger
-            → length passes.items ≡ c.passes
-            → length B.first + c.sum + 1 ≡ length (L.book c.desk.ledger).lines) }
+        ensures tally { IfOk result (λ c. AreTallied passes.items (λ p. p.receipts.items)
+            (λ p. p.made.count) (L.stands c.desk.ledger) (L.book c.desk.ledger).lines c.passes
+            c.sum (length B.first + c.sum + 1)) }
         ensures passes { IfOk result (λ c. c.passes ≡ self.passes) }
-        ensures few { IfOk result (λ c. length passes.items ≤ c.passes) }
         ensures stays { IfErr result (λ e.
             StaysBy L.site L.book L.bodies L.stands L.failed B.site B.first
             (λ lines. AllByRecursion (λ p. All (IsOfLine lines) p.receipts.items) passes.items)
@@ -257,20 +247,9 @@ impl<L: Ledger, B: Sharing> SharedDesk<L, B> {
         requires site { B.site ≡ self.site }
         ensures ends { IfOk result (λ c. EndsByPlan L.site L.book L.bodies L.stands L.failed B.site
             B.first next.now c.site c.desk.ledger) }
-        ensures of_lines { IfOk result (λ c. L.stands c.desk.ledger
-            → AllByRecursion
-            (λ p. All (IsOfLine (mapped entry_of (L.book c.desk.ledger).lines)) p.receipts.items)
-            passes.items) }
-        ensures rise { OnOk result (AllByRecursion (λ p. Rises p.receipts.items) passes.items) }
-        ensures apart { OnOk result
-            (AreApart (flat_map (λ p. numbers p.receipts.items) passes.items)) }
-        ensures sum { IfOk result (λ c. c.sum ≡ sum_by (λ p. p.made.count) passes.items) }
-        ensures some { IfOk result (λ c. L.stands c.desk.ledger
-            → length B.first + c.sum + 1 ≤ length (L.book c.desk.ledger).lines) }
-        ensures all { IfOk result (λ c. L.stands c.desk.ledger
-            → length passes.items ≡ c.passes
-            → length B.first + c.sum + 1 ≡ length (L.book c.desk.ledger).lines) }
-        ensures few { IfOk result (λ c. length passes.items ≤ c.passes) }
+        ensures tally { IfOk result (λ c. AreTallied passes.items (λ p. p.receipts.items)
+            (λ p. p.made.count) (L.stands c.desk.ledger) (L.book c.desk.ledger).lines c.passes
+            c.sum (length B.first + c.sum + 1)) }
         ensures stays { IfErr result (λ e.
             StaysShared L.site L.book L.bodies L.stands L.failed B.site B.first
             (λ lines. AllByRecursion (λ p. All (IsOfLine lines) p.receipts.items) passes.items)

@@ -1,7 +1,6 @@
 //! What lies under the lock of a shared desk.
-ghost use Rattle.std.specs.Prelude.{◌≡◌, ◌≤◌, ◌+◌, ◌^◌, [], All, IfErr, IfOk, MatchResult, Ok};
-ghost use Rattle.std.specs.Prelude.{◌-◌, ◌↔◌, IsTrue, OnErr, OnOk, length, map as mapped, sum_by};
-ghost use Rattle.std.specs.List.{AllByRecursion, flat_map};
+ghost use Rattle.std.specs.Prelude.{◌≡◌, ◌≤◌, ◌+◌, ◌^◌, [], IfErr, IfOk, MatchResult, Ok};
+ghost use Rattle.std.specs.Prelude.{◌-◌, ◌↔◌, IsTrue, OnErr, OnOk, length, map as mapped};
 ghost use Rattle.std.specs.FinMap as map;
 ghost use Rattle.std.proofs.Props.{props};
 ghost use Rattle.dr_ledger.specs.Adopting.{Unfits};
@@ -13,8 +12,8 @@ ghost use Rattle.dr_ledger.specs.Replies.{Admits, AreKept, Arrives, Counts, Drop
 ghost use Rattle.dr_ledger.specs.Replies.{IsOver, Lists, Reads, Requeues, Settles, entry_of};
 ghost use Rattle.dr_ledger.specs.SiteRoutes.{site_routing};
 ghost use Rattle.dr_desk.specs.Answering.{Accepts, Refuses};
-ghost use Rattle.dr_desk.specs.Agreeing.{AreApart, Fails, IsOfLine, Rises, numbers};
-ghost use Rattle.dr_desk.specs.Growing.{BeginWith, Grows};
+ghost use Rattle.dr_desk.specs.Endings.{EndsAgreed, EndsUnagreed};
+ghost use Rattle.dr_desk.specs.Growing.{Grows};
 ghost use Rattle.dr_desk.specs.Reading.{Answered, AreHoldings, HasFailed};
 
 use crate::closing::{Closed, NotClosed, agree, joined, unread};
@@ -330,35 +329,13 @@ impl<L: Ledger, B: Sharing> HeldDesk<L, B> {
         passes: Vec<Pass<B>>,
     ) -> Result<Closed<L>, NotClosed<L, B>>
         requires { B.all ≡ B.parts }
-        ensures begins { IfOk result (λ c.
-            L.stands c.desk.ledger → BeginWith B.first (L.book c.desk.ledger).lines) }
-        ensures history { IfOk result (λ c. L.stands c.desk.ledger
-            → ∥ IsJournalled (site_routing B.site) (L.book c.desk.ledger) ∥₁) }
-        ensures of_lines { IfOk result (λ c. L.stands c.desk.ledger
-            → AllByRecursion
-            (λ p. All (IsOfLine (mapped entry_of (L.book c.desk.ledger).lines)) p.receipts.items)
-            passes.items) }
-        ensures rise { OnOk result (AllByRecursion (λ p. Rises p.receipts.items) passes.items) }
-        ensures apart { OnOk result
-            (AreApart (flat_map (λ p. numbers p.receipts.items) passes.items)) }
-        ensures sum { IfOk result (λ c. c.sum ≡ sum_by (λ p. p.made.count) passes.items) }
-        ensures some { IfOk result (λ c.
-            L.stands c.desk.ledger → length B.first + c.sum ≤ length (L.book c.desk.ledger).lines) }
-        ensures all { IfOk result (λ c. L.stands c.desk.ledger
-            → length passes.items ≡ c.passes
-            → length B.first + c.sum ≡ length (L.book c.desk.ledger).lines) }
+        ensures ends { IfOk result (λ c. EndsAgreed L.site L.book L.stands B.site B.first
+            passes.items (λ p. p.receipts.items) (λ p. p.made.count) c.passes c.sum
+            c.desk.ledger) }
         ensures passes { IfOk result (λ c. c.passes ≡ self.passes) }
-        ensures few { IfOk result (λ c. length passes.items ≤ c.passes) }
-        ensures of { MatchResult result
-            (λ c. L.site c.desk.ledger ≡ B.site)
-            (λ e. L.site e.desk.ledger ≡ B.site) }
+        ensures fails { IfErr result (λ e. EndsUnagreed L.site L.book L.stands B.site B.first
+            passes.items (λ p. p.receipts.items) e.fault e.desk.ledger) }
         ensures back { IfErr result (λ e. e.passes ≡ passes) }
-        ensures fault { IfErr result (λ e. L.stands e.desk.ledger
-            → Fails e.fault (BeginWith B.first (L.book e.desk.ledger).lines)
-            (AllByRecursion
-            (λ p. All (IsOfLine (mapped entry_of (L.book e.desk.ledger).lines)) p.receipts.items)
-            passes.items) (AllByRecursion (λ p. Rises p.receipts.items) passes.items)
-            (AreApart (flat_map (λ p. numbers p.receipts.items) passes.items))) }
     {
         let HeldDesk {
             desk,

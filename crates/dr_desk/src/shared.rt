@@ -1,20 +1,17 @@
 //! A desk that threads share.
-ghost use Rattle.std.specs.Prelude.{◌≡◌, ◌⊎◌, ◌<◌, ◌≤◌, ◌+◌, ◌^◌, [], All, IfErr, IfOk};
-ghost use Rattle.std.specs.Prelude.{◌↔◌, IsTrue, MatchResult, OnOk, length, map as mapped, sum_by};
+ghost use Rattle.std.specs.Prelude.{◌≡◌, ◌⊎◌, ◌<◌, ◌≤◌, ◌^◌, [], IfErr, IfOk};
+ghost use Rattle.std.specs.Prelude.{◌↔◌, IsTrue, MatchResult, map as mapped};
 ghost use Rattle.std.specs.FinMap as map;
-ghost use Rattle.std.specs.List.{AllByRecursion, flat_map};
 ghost use Rattle.dr_ledger.specs.Adopting.{Unfits};
 ghost use Rattle.dr_ledger.specs.Bodies.{NextsWith};
-ghost use Rattle.dr_ledger.specs.Histories.{IsJournalled};
 ghost use Rattle.dr_ledger.specs.Items.{instance_of};
 ghost use Rattle.dr_ledger.specs.Pairs.{pair_cmp};
 ghost use Rattle.dr_ledger.specs.Replies.{Admits, AreKept, Arrives, Drops, Dues, Forgets, IsOver};
 ghost use Rattle.dr_ledger.specs.Replies.{HasRisen, Lists, Reads, Requeues, Settles, entry_of};
 ghost use Rattle.dr_ledger.specs.declared.fault.LedgerFault.TheVariants.{Memory, Store};
 ghost use Rattle.dr_ledger.specs.SiteRoutes.{site_routing};
-ghost use Rattle.dr_desk.specs.Agreeing.{AreApart, Fails, IsOfLine, Rises, numbers};
 ghost use Rattle.dr_desk.specs.Answering.{Answers};
-ghost use Rattle.dr_desk.specs.Growing.{BeginWith};
+ghost use Rattle.dr_desk.specs.Endings.{EndsAgreed, EndsUnagreed};
 ghost use Rattle.dr_desk.specs.Reading.{AreHoldings, Failing, HasLines, Reading};
 ghost use Rattle.dr_desk.specs.Receipts.{LeavesReceipts, Notes, arrival_of};
 
@@ -366,34 +363,12 @@ impl<L: Ledger, B: Sharing> SharedDesk<L, B> {
     /// Errors: Receipt, Store, Memory.
     pub fn close(self, alloc: Global, passes: Vec<Pass<B>>) -> Result<Closed<L>, NotClosed<L, B>>
         requires { B.all ≡ B.parts }
-        ensures begins { IfOk result (λ c.
-            L.stands c.desk.ledger → BeginWith B.first (L.book c.desk.ledger).lines) }
-        ensures history { IfOk result (λ c. L.stands c.desk.ledger
-            → ∥ IsJournalled (site_routing B.site) (L.book c.desk.ledger) ∥₁) }
-        ensures of_lines { IfOk result (λ c. L.stands c.desk.ledger
-            → AllByRecursion
-            (λ p. All (IsOfLine (mapped entry_of (L.book c.desk.ledger).lines)) p.receipts.items)
-            passes.items) }
-        ensures rise { OnOk result (AllByRecursion (λ p. Rises p.receipts.items) passes.items) }
-        ensures apart { OnOk result
-            (AreApart (flat_map (λ p. numbers p.receipts.items) passes.items)) }
-        ensures sum { IfOk result (λ c. c.sum ≡ sum_by (λ p. p.made.count) passes.items) }
-        ensures some { IfOk result (λ c.
-            L.stands c.desk.ledger → length B.first + c.sum ≤ length (L.book c.desk.ledger).lines) }
-        ensures all { IfOk result (λ c. L.stands c.desk.ledger
-            → length passes.items ≡ c.passes
-            → length B.first + c.sum ≡ length (L.book c.desk.ledger).lines) }
-        ensures few { IfOk result (λ c. length passes.items ≤ c.passes) }
-        ensures of { MatchResult result
-            (λ c. L.site c.desk.ledger ≡ B.site)
-            (λ e. L.site e.desk.ledger ≡ B.site) }
+        ensures ends { IfOk result (λ c. EndsAgreed L.site L.book L.stands B.site B.first
+            passes.items (λ p. p.receipts.items) (λ p. p.made.count) c.passes c.sum
+            c.desk.ledger) }
+        ensures fails { IfErr result (λ e. EndsUnagreed L.site L.book L.stands B.site B.first
+            passes.items (λ p. p.receipts.items) e.fault e.desk.ledger) }
         ensures back { IfErr result (λ e. e.passes ≡ passes) }
-        ensures fault { IfErr result (λ e. L.stands e.desk.ledger
-            → Fails e.fault (BeginWith B.first (L.book e.desk.ledger).lines)
-            (AllByRecursion
-            (λ p. All (IsOfLine (mapped entry_of (L.book e.desk.ledger).lines)) p.receipts.items)
-            passes.items) (AllByRecursion (λ p. Rises p.receipts.items) passes.items)
-            (AreApart (flat_map (λ p. numbers p.receipts.items) passes.items))) }
     {
         self.into_held().close(alloc, passes)
     }

@@ -19,7 +19,7 @@ use crate::share::Share;
 use crossbeam_channel::Receiver;
 use dr_desk::{Pass, SharedDesk, Sharing, TooManyPasses};
 use dr_ledger::Ledger;
-use dr_session::{Clock, DeskPort, Ended, Link, SessionFault, receive};
+use dr_session::{Clock, DeskPort, Ended, LAST_MOMENT, Link, SessionFault, receive};
 use dr_site::Site;
 use std::alloc::{AllocError, Global};
 use std::marker::Brand;
@@ -170,9 +170,6 @@ impl<
     }
 }
 
-/// The last moment that a clock tells, in milliseconds.
-const LAST: u64 = 1 << 62;
-
 /// From when on the session's own timer counts, so that it is over when the caller's time is, which
 /// begins when a worker takes its connection.
 fn counted_from(taken: u64, awaits: u64) -> u64
@@ -182,7 +179,7 @@ fn counted_from(taken: u64, awaits: u64) -> u64
     taken
         .saturating_add(awaits)
         .saturating_sub(REQUEST)
-        .min(LAST)
+        .min(LAST_MOMENT)
 }
 
 /// A session on a link that has counted the other associations: it is told just their number.

@@ -3,11 +3,11 @@
 //! site.
 #![tactic(auto)]
 
-pub mod event;
-pub mod fault;
+mod event;
+mod fault;
 pub mod laws;
-pub mod links;
-pub mod node;
+mod links;
+mod node;
 
 pub use event::LinkEvent;
 pub use fault::NodeFault;

@@ -166,11 +166,14 @@ late_line dest = begun (codes "fault") (codes "Late") ++ word (codes "dest") des
 
 -- ---- the text format of Prometheus
 
+-- what stands before the number of a figure of the whole node, of that kind
+abbrev pub figure_head : Text → Text → Text
+figure_head name kind =
+    codes "# TYPE " ++ name ++ codes " " ++ kind ++ codes "\n" ++ name ++ codes " "
+
 -- a figure of the whole node, of that kind
 abbrev pub figure : Text → Text → ℕ → Text
-figure name kind value =
-    codes "# TYPE " ++ name ++ codes " " ++ kind ++ codes "\n" ++ name ++ codes " "
-    ++ decimal value ++ codes "\n"
+figure name kind value = figure_head name kind ++ decimal value ++ codes "\n"
 
 -- how much a node has
 abbrev pub figures : Counts → Text
@@ -193,9 +196,7 @@ in_seconds time =
 
 -- a time of the whole node, of that kind
 abbrev pub seconds_figure : Text → Text → ℕ → Text
-seconds_figure name kind time =
-    codes "# TYPE " ++ name ++ codes " " ++ kind ++ codes "\n" ++ name ++ codes " "
-    ++ in_seconds time ++ codes "\n"
+seconds_figure name kind time = figure_head name kind ++ in_seconds time ++ codes "\n"
 
 -- how many calls locked the ledger, for how long in all, and for how long the longest did
 abbrev pub lock_figures : Timing → Text

@@ -1,6 +1,7 @@
 //! Figures in the text format of Prometheus.
 ghost use Rattle.std.specs.Prelude.{◌≡◌, ◌++◌, OnOk, decimal, flat_map};
-ghost use Rattle.dr_run_answer.specs.Answers.{figure, figures, queues_figures, rows_figure};
+ghost use Rattle.dr_run_answer.specs.Answers.{figure, figure_head, figures, queues_figures};
+ghost use Rattle.dr_run_answer.specs.Answers.{rows_figure};
 ghost use Rattle.dr_run_answer.specs.Answers.{labelled, open_figure, stages_of, twice_labelled};
 ghost use Rattle.dr_run_answer.specs.Answers.{label_part, other_part, value_part};
 ghost use Rattle.dr_run_answer.specs.Answers.{visits_figure, visits_figures, visits_of};
@@ -11,6 +12,19 @@ use dr_base::fields::add_decimal;
 use dr_base_quoted::{put_text, put_words};
 use std::alloc::AllocError;
 
+/// Adds what stands before the number of a figure of the whole node.
+pub(crate) fn put_head(out: &mut Vec<u8>, name: &str, kind: &str) -> Result<(), AllocError>
+    ensures { OnOk result (out.new.items ≡ out.old.items ++ figure_head name.now kind.now) }
+{
+    out.extend_from_slice(b"# TYPE ")?;
+    out.extend_from_slice(name.as_bytes())?;
+    out.extend_from_slice(b" ")?;
+    out.extend_from_slice(kind.as_bytes())?;
+    out.extend_from_slice(b"\n")?;
+    out.extend_from_slice(name.as_bytes())?;
+    out.extend_from_slice(b" ")
+}
+
 /// Adds a figure of the whole node.
 pub(crate) fn put_figure(
     out: &mut Vec<u8>,
@@ -20,13 +34,7 @@ pub(crate) fn put_figure(
 ) -> Result<(), AllocError>
     ensures { OnOk result (out.new.items ≡ out.old.items ++ figure name.now kind.now value) }
 {
-    out.extend_from_slice(b"# TYPE ")?;
-    out.extend_from_slice(name.as_bytes())?;
-    out.extend_from_slice(b" ")?;
-    out.extend_from_slice(kind.as_bytes())?;
-    out.extend_from_slice(b"\n")?;
-    out.extend_from_slice(name.as_bytes())?;
-    out.extend_from_slice(b" ")?;
+    put_head(out, name, kind)?;
     add_decimal(out, value)?;
     out.extend_from_slice(b"\n")
 }

@@ -3,7 +3,7 @@ ghost use Rattle.std.specs.Prelude.{◌≡◌, ◌++◌, OnOk};
 ghost use Rattle.dr_run_answer.specs.Answers.{in_seconds, lock_figures, seconds_figure};
 ghost use Rattle.dr_run_answer.specs.Answers.{three_digits};
 
-use crate::figures::put_figure;
+use crate::figures::{put_figure, put_head};
 use dr_base::fields::add_decimal;
 use dr_ledger_timed::Timing;
 use std::alloc::AllocError;
@@ -32,13 +32,7 @@ fn put_time(out: &mut Vec<u8>, name: &str, kind: &str, microseconds: u64) -> Res
     ensures { OnOk result
         (out.new.items ≡ out.old.items ++ seconds_figure name.now kind.now microseconds) }
 {
-    out.extend_from_slice(b"# TYPE ")?;
-    out.extend_from_slice(name.as_bytes())?;
-    out.extend_from_slice(b" ")?;
-    out.extend_from_slice(kind.as_bytes())?;
-    out.extend_from_slice(b"\n")?;
-    out.extend_from_slice(name.as_bytes())?;
-    out.extend_from_slice(b" ")?;
+    put_head(out, name, kind)?;
     put_seconds(out, microseconds)?;
     out.extend_from_slice(b"\n")
 }

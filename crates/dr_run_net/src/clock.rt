@@ -1,12 +1,9 @@
 //! The system's clock.
 ghost use Rattle.std.specs.Prelude.{◌≤◌, ◌^◌};
 
-use dr_session::Clock;
+use dr_session::{Clock, LAST_MOMENT};
 use std::time::Duration;
 use std::{io, time};
-
-/// The last moment that a clock tells, in milliseconds.
-const LAST: u64 = 1 << 62;
 
 /// Moments in milliseconds since 1970. The system is asked once what time it is; from then on the
 /// clock goes by the time that has passed, so that a moment is never told before an earlier one,
@@ -26,8 +23,8 @@ fn milliseconds(time: Duration) -> u64
     ensures { result ≤ 2 ^ 62 }
 {
     match u64::try_from(time.as_millis()) {
-        Ok(passed) if passed <= LAST => passed,
-        _ => LAST,
+        Ok(passed) if passed <= LAST_MOMENT => passed,
+        _ => LAST_MOMENT,
     }
 }
 
@@ -63,6 +60,6 @@ impl<'a, R: time::Clock> Clock for SystemClock<'a, R> {
 
     fn now(&self) -> u64 {
         let now = self.at + self.passed();
-        if now <= LAST { now } else { LAST }
+        if now <= LAST_MOMENT { now } else { LAST_MOMENT }
     }
 }

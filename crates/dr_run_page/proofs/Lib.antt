@@ -1,3 +1,2 @@
-pub mod Chained
 pub mod Harmless
 pub mod Pages

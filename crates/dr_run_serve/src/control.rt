@@ -29,8 +29,9 @@ use std::{slice, thread, time};
 /// So many may ask at the same time; others wait to be accepted.
 pub const CALLERS: usize = 16;
 
-/// After an accept that failed it is tried again so many milliseconds later.
-const AGAIN: u64 = 100;
+/// After an accept that failed (no descriptor is free, say) it is tried again so many milliseconds
+/// later.
+pub const AGAIN: u64 = 100;
 
 /// After a caller that was refused, or sent no request, the next one waits for so many
 /// milliseconds, so that who sends such requests without end takes little of the node's time.

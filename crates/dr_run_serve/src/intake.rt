@@ -7,7 +7,7 @@ use std::alloc::{AllocError, Global};
 use std::sync::{Mutex, Wait};
 
 /// So many milliseconds are a minute.
-const MINUTE: u64 = 60_000;
+pub const MINUTE: u64 = 60_000;
 
 /// What each caller has brought since the node serves, and what came lately, by minutes.
 #[derive(Drop)]

@@ -1,5 +1,6 @@
 //! What is told of a running node now and then: a report of what it has, and a summary in the log.
 use crate::events::{tell_holdings, tell_queue, tell_unread, tell_unwritten};
+use crate::intake::MINUTE;
 use crate::live::LiveNode;
 use crate::monitor::Monitor;
 use dr_base::Text;
@@ -16,9 +17,6 @@ use std::sync::Wait;
 
 /// Between two reports are so many milliseconds at least.
 pub const PERIOD: u64 = 10_000;
-
-/// And between two summaries in the log.
-const MINUTE: u64 = 60_000;
 
 /// How many lines the journal had when the node was told of last, if it was; and from which moment
 /// on it may be told of again.

@@ -5,7 +5,7 @@ ghost use Rattle.dr_desk.specs.Growing.{BeginWith};
 ghost use Rattle.dr_ledger.specs.Histories.{IsJournalled};
 ghost use Rattle.dr_ledger.specs.SiteRoutes.{site_routing};
 
-use crate::control::{answer_all, passes_of};
+use crate::control::{AGAIN, answer_all, passes_of};
 use crate::events::{tell_came, tell_threads, tell_unaccepted};
 use crate::keeper::keep;
 use crate::live::{LiveNode, Means};
@@ -38,10 +38,6 @@ use thiserror::Error;
 
 /// How many connections wait for one of them; others wait to be accepted.
 const QUEUE: usize = 256;
-
-/// After an accept that failed (no descriptor is free, say) it is tried again so many milliseconds
-/// later.
-const AGAIN: u64 = 100;
 
 /// Why serving ended otherwise than well.
 #[derive(Clone, Copy, PartialEq, Eq, Debug, Error)]

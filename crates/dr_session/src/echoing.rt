@@ -11,11 +11,11 @@ ghost use Rattle.dr_session.specs.Reactions.{id_after, write};
 
 use crate::boxed::BoxedCore;
 use crate::ends::{Core, Effect, LinkAction, Pending, Requested};
+use crate::negotiated::Negotiated;
 use crate::react::{act_once, next_id, quiet};
 use crate::writing::write_response;
 use dr_base::{Syntax, Text};
 use dr_dimse::Command;
-use dr_nego::Agreed;
 use std::alloc::{AllocError, Global};
 
 /// Verification (PS3.4 A.4).
@@ -53,7 +53,7 @@ pub fn ask_echo(alloc: Global, core: BoxedCore, now: u64) -> Result<Effect, Allo
 /// A C-ECHO-RQ.
 fn write_echo(
     alloc: Global,
-    agreed: &Agreed,
+    agreed: &Negotiated,
     context: u8,
     id: u16,
     class: Text,

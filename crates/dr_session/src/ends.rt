@@ -1,10 +1,11 @@
 //! One end without the bytes that it keeps, and what happens at it.
 use crate::boxed::BoxedCore;
 use crate::listening::Listener;
+use crate::negotiated::Negotiated;
 use dr_base::{Octets, Seq, Text};
 use dr_dimse::Command;
 use dr_ledger::Item;
-use dr_nego::{Agreed, NegoFault};
+use dr_nego::NegoFault;
 use dr_pdu::{Abort, AssociateAc, AssociateRj, AssociateRq, Pdv};
 use dr_site::Site;
 use dr_ulstate::Next;
@@ -79,7 +80,7 @@ pub enum Told {
         command: Command,
     },
     /// What an acceptance agrees on.
-    Agreement(Result<Agreed, NegoFault>),
+    Agreement(Result<Negotiated, NegoFault>),
 }
 
 /// What comes over a link.
@@ -165,7 +166,7 @@ pub struct Core {
     pub phase: Next,
     /// What a requestor has proposed.
     pub proposed: Option<AssociateRq>,
-    pub agreed: Option<Agreed>,
+    pub agreed: Option<Negotiated>,
     pub assembly: Listener,
     pub pending: Option<Pending>,
     /// The last message id.

@@ -7,16 +7,17 @@ pub mod desk;
 mod echo_desk;
 mod echoing;
 mod end;
-pub mod ends;
+mod ends;
 pub mod figures;
 mod find;
 mod hearing;
 pub mod laws;
 mod link;
 mod listening;
+mod negotiated;
 mod port;
 mod react;
-pub mod sessions;
+mod sessions;
 mod telling;
 pub mod waiting;
 mod wishes;
@@ -28,6 +29,6 @@ pub use ends::{
     Core, Effect, Ended, Found, Heard, Input, LinkAction, Marks, Moment, Over, Pending, Requested,
     Told,
 };
-pub use link::{Clock, Link};
+pub use link::{Clock, LAST_MOMENT, Link};
 pub use port::DeskPort;
 pub use sessions::{SessionFault, deliver, echo, is_fault, receive};

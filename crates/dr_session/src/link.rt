@@ -43,6 +43,9 @@ pub trait Link {
         ensures { result ≡ failed self.now };
 }
 
+/// The last moment that a clock tells, in milliseconds.
+pub const LAST_MOMENT: u64 = 1 << 62;
+
 /// Tells the moment, in milliseconds. Its relation says which moments it may tell.
 pub trait Clock {
     ghost tells: { Self → ℕ → Type 0 };

@@ -10,6 +10,7 @@ ghost use Rattle.dr_ulstate.specs.declared.table.State.TheVariants.{Sta5};
 use crate::boxed::BoxedCore;
 use crate::ends::{Core, Input, Told};
 use crate::find::find;
+use crate::negotiated::Negotiated;
 use dr_base::Syntax;
 use dr_dimse::{Command, DimseFault};
 use dr_dimse_scan::HeardMessage;
@@ -143,5 +144,8 @@ fn tell_acceptance(alloc: Global, ac: AssociateAc, core: &Core) -> Told
     let Some(rq) = &core.proposed else {
         return Told::Plain(Input::Acceptance(ac));
     };
-    Told::Agreement(conclude(alloc, rq, &ac))
+    match conclude(alloc, rq, &ac) {
+        Ok(agreed) => Told::Agreement(Ok(Negotiated::new(agreed))),
+        Err(why) => Told::Agreement(Err(why)),
+    }
 }

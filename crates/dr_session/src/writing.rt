@@ -7,11 +7,11 @@ ghost use Rattle.dr_session.specs.Messages.{command_pdus};
 ghost use Rattle.dr_session.specs.Reactions.{write, store_pdus, abort_pdu, can_be_named};
 
 use crate::ends::LinkAction;
+use crate::negotiated::Negotiated;
 use dr_base::Text;
 use dr_dimse::{Command, write_command};
 use dr_ledger::Job;
-use dr_nego::concluding::is_too_small;
-use dr_nego::{Agreed, FragmentKind, put_fragments};
+use dr_nego::{FragmentKind, put_fragments};
 use dr_pdu::{Abort, AssociateAc, AssociateRj, Pdu, encode};
 use std::alloc::{AllocError, Global};
 
@@ -61,50 +61,40 @@ pub fn write_release_answer(alloc: Global) -> Result<LinkAction, AllocError>
 }
 
 /// A command in a context, in fragments within the other side's limit.
-///
-/// Errors: AllocError; also where the limit is 1 to 7, which no association is agreed on with
-/// (PS3.8 annex D.1).
 pub fn write_response(
     alloc: Global,
-    agreed: &Agreed,
+    terms: &Negotiated,
     context: u8,
     command: &Command,
 ) -> Result<LinkAction, AllocError>
     requires { IsFit command.now }
-    ensures { IfOk result (λ a. a ≡ write (command_pdus agreed.now.limit context command.now)) }
+    ensures { IfOk result (λ a. a ≡ write (command_pdus terms.now.limit context command.now)) }
 {
-    if is_too_small(agreed.limit) {
-        return Err(AllocError);
-    }
     let text = write_command(alloc, command)?;
+    let agreed = terms.as_agreed();
     let mut out = Vec::new(alloc);
     put_fragments(&mut out, agreed, context, FragmentKind::Command, &text)?;
     Ok(LinkAction::Write(Text::from_vec(out)))
 }
 
 /// A C-STORE-RQ with its data set.
-///
-/// Errors: AllocError; also where the limit is 1 to 7, which no association is agreed on with
-/// (PS3.8 annex D.1).
 pub fn write_store(
     alloc: Global,
-    agreed: &Agreed,
+    terms: &Negotiated,
     context: u8,
     id: u16,
     job: &Job,
 ) -> Result<LinkAction, AllocError>
     requires { can_be_named job.now ≡ true }
-    ensures { IfOk result (λ a. a ≡ write (store_pdus agreed.now context id job.now)) }
+    ensures { IfOk result (λ a. a ≡ write (store_pdus terms.now context id job.now)) }
 {
     let command = Command::StoreRq {
         id,
         class: job.key.class.clone()?,
         instance: job.uid.clone()?,
     };
-    if is_too_small(agreed.limit) {
-        return Err(AllocError);
-    }
     let text = write_command(alloc, &command)?;
+    let agreed = terms.as_agreed();
     let mut out = Vec::new(alloc);
     put_fragments(&mut out, agreed, context, FragmentKind::Command, &text)?;
     put_fragments(

@@ -4,6 +4,7 @@ pub mod Among
 pub mod Crashes
 pub mod Looks
 pub mod Nexts
+pub mod Owns
 pub mod Replies
 pub mod Sets
 pub mod Shown

@@ -4,7 +4,6 @@ use Rattle.std.specs.FinMap as map
 use Rattle.sha2.specs.Sha256.{sha256}
 use Rattle.sqlite.specs.Tree.{Trees}
 use Rattle.dr_base.specs.Texts.{Text}
-use Rattle.dr_site.specs.Parts.{Part}
 use Rattle.dr_ledger.specs.declared.content.Job.{Job}
 use Rattle.dr_ledger.specs.declared.item.Instance.{Instance}
 use Rattle.dr_ledger.specs.declared.item.Progress.{Progress}
@@ -14,23 +13,25 @@ use Rattle.dr_ledger.specs.Items.{instance_of}
 use Rattle.dr_ledger.specs.Replies.{IsDue, IsNoLater}
 use Rattle.dr_ledger.proofs.Growing.{inside}
 use Rattle.dr_store_schema.specs.Books.{bodies_of, book_of, contents_in, instance_by, is_whole, items_of, prints_of, rows_of, wholes_in}
+use Rattle.dr_store_changes.specs.Bringing.{HasCells}
 use Rattle.dr_store_changes.proofs.LettingGo.{body_at}
 use Rattle.dr_store_reads.specs.Queries.{IsFirstDue, IsJobOf}
-use Rattle.dr_store_calls.specs.Calling.{IsLedgerOf}
+use Rattle.dr_store.specs.Owning.{HaveOwn}
+use Rattle.dr_store.specs.Reading.{NextsStored}
 
 the_body : (w : Bool) (o : Option (List ℕ)) (body content : List ℕ) → o ≡ Some content → cond w o None ≡ Some body → body ≡ content
 the_body true o body content is h = inside body content (sym h ∙ is)
 the_body false o body content is h = absurd (let f : ⊥ = cc in f)
 
-pub next_is : (n : ℕ) (part : Part) (db : Trees) (dest : Text) (now : ℕ) (uid : Text) (job : Job) → IsLedgerOf n part db → IsFirstDue db dest now (Some uid) → IsJobOf uid db (Some job)
+next_is : (db : Trees) (dest : Text) (now : ℕ) (uid : Text) (job : Job) → HasCells (book_of db) (bodies_of db) → HaveOwn db → IsFirstDue db dest now (Some uid) → IsJobOf uid db (Some job)
     → NextsWith (book_of db) (bodies_of db) dest now (Some job)
-next_is n part db dest now uid job l first (uid_is, has, content) =
+next_is db dest now uid job cells owns first (uid_is, has, content) =
     let due = first.0 in
     let row = first.1.0 in
     let needed : IsNeeded (book_of db) uid = inr (dest, Waiting row.0 due, row.1, refl) in
-    let there = (l.bodied.there uid).1 needed in
+    let there = (cells.there uid).1 needed in
     let body : there.0 ≡ job.body = the_body (is_whole (map.get (wholes_in (db 3)) uid)) (map.get (contents_in (db 1)) uid) there.0 job.body content (sym (body_at (contents_in (db 1)) (wholes_in (db 3)) uid) ∙ there.1) in
-    let own = l.bodied.own uid there.0 there.1 in
+    let own = owns uid there.0 there.1 in
     let known : Instance = instance_by (prints_of db) uid job.key in
     let same : known ≡ instance_of own.0 = inside known (instance_of own.0) (sym has ∙ own.3) in
     let size : length job.body ≡ known.size = ap length (sym body ∙ sym own.2) ∙ sym (ap (λ (i : Instance). i.size) same) in
@@ -44,3 +45,8 @@ next_is n part db dest now uid job l first (uid_is, has, content) =
       },
       ap (map.get (bodies_of db)) uid_is ∙ there.1 ∙ ap Some body,
     )
+
+-- what was found in its row is the next instance with its data set
+pub next_of : (db : Trees) (dest : Text) (now : ℕ) (job : Option Job) → HasCells (book_of db) (bodies_of db) → HaveOwn db → NextsStored db dest now job → NextsWith (book_of db) (bodies_of db) dest now job
+next_of db dest now None cells owns none = none
+next_of db dest now (Some job) cells owns stored = next_is db dest now job.uid job cells owns stored.0 stored.1

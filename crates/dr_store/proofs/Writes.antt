@@ -14,7 +14,9 @@ use Rattle.dr_ledger.specs.Refusals.{Arms}
 use Rattle.dr_ledger.specs.Replies.{Counts, HasRisen, IsLastingFault, PremiseLasts, LastsAfter, Reads}
 use Rattle.dr_store_schema.specs.Books.{bodies_of, book_of}
 use Rattle.dr_store_calls.specs.Calling.{Called, IsKept, IsSafe, Looked, Nothing}
+use Rattle.dr_store_calls.proofs.Reading.{reads_as}
 use Rattle.dr_store.specs.Counting.{failures_after}
+use Rattle.dr_store.specs.Owning.{HaveOwn, KeepsOwn}
 use Rattle.dr_store.specs.Surviving.{Wrote}
 use Rattle.dr_store.proofs.Stable.{Stable}
 
@@ -79,22 +81,34 @@ called n m part r old new Answers Makes c = record {
   crash = λ clean k. c.crash clean k tt;
 }
 
+-- what it answers says this too
+pub answering : {A : Type 0} (n m : ℕ) (part next : Part) (r : Result A LedgerFault) (old new : State) (Answers Says Makes : Trees → Trees → Type 0) → ((base db : Trees) → Answers base db → Says base db)
+    → Done n m part next r old new Answers Makes → Done n m part next r old new Says Makes
+answering n m part next r old new Answers Says Makes says d = record {
+  clean = d.clean;
+  was_open = d.was_open;
+  lasts = d.lasts;
+  kept = d.kept;
+  answers = λ clean is_open k. says old.committed.trees new.committed.trees (d.answers clean is_open k);
+  crash = d.crash;
+}
+
 is_open : (s : State) → ∥ IsTrue s.is_open ∥₁ → IsTrue s.is_open
 is_open s h = ∥∥₁_elim h (Bool-set _ _) (λ x. x)
 
-module _ {A : Type 0} (n m : ℕ) (part next : Part) (r : Result A LedgerFault) (old new : State) (Answers Makes : Trees → Trees → Type 0) (kept : IsSafe old → ∥ IsKept n part old ∥₁)
+module _ {A : Type 0} (n m : ℕ) (part next : Part) (r : Result A LedgerFault) (old new : State) (Answers Makes : Trees → Trees → Type 0) (kept : IsSafe old → ∥ KeepsOwn n part old ∥₁)
     (c : Done n m part next r old new Answers Makes) where
   pub was_safe : IsSafe new → IsSafe old
   was_safe safe = (omega (arith, c.clean, safe.0), c.was_open safe.0 safe.1)
 
-  pub still_kept : IsSafe new → ∥ IsKept m next new ∥₁
-  still_kept safe = ∥∥₁_map (kept (was_safe safe)) (λ k. c.kept safe.0 safe.1 k)
+  pub still_kept : (IsKept n part old → Answers old.committed.trees new.committed.trees → HaveOwn old.committed.trees → HaveOwn new.committed.trees) → IsSafe new → ∥ KeepsOwn m next new ∥₁
+  still_kept owns safe = ∥∥₁_map (kept (was_safe safe)) (λ k. record { kept = c.kept safe.0 safe.1 k.kept; own = owns k.kept (c.answers safe.0 safe.1 k.kept) k.own })
 
   pub answered : Stable (Answers old.committed.trees new.committed.trees) → IsSafe new → Answers old.committed.trees new.committed.trees
-  answered stable safe = stable (∥∥₁_map (kept (was_safe safe)) (λ k. c.answers safe.0 safe.1 k))
+  answered stable safe = stable (∥∥₁_map (kept (was_safe safe)) (λ k. c.answers safe.0 safe.1 k.kept))
 
   pub lasting : PremiseLasts r (HasCleanDisk old) (HasCleanDisk new) (IsSafe old) (IsSafe new)
-  lasting = record { trusted = λ clean. omega (arith, c.clean, clean); lasts = go r (λ clean safe. ∥∥₁_map (kept safe) (λ k. c.lasts clean k)) }
+  lasting = record { trusted = λ clean. omega (arith, c.clean, clean); lasts = go r (λ clean safe. ∥∥₁_map (kept safe) (λ k. c.lasts clean k.kept)) }
     where
       go : (q : Result A LedgerFault) → (HasCleanDisk new → IsSafe old → ∥ LastsAfter q (IsTrue new.is_open) ∥₁) → LastsAfter q (HasCleanDisk new → IsSafe old → IsSafe new)
       go (Ok value) f = λ clean safe. (clean, is_open new (f clean safe))
@@ -108,13 +122,13 @@ module _ {A : Type 0} (n m : ℕ) (part next : Part) (r : Result A LedgerFault) 
 
 -- ---- a call that writes
 
-module _ {A : Type 0} (n m : ℕ) (part next : Part) (r : Result A LedgerFault) (old new : State) (Answers Makes : Trees → Trees → Type 0) (kept : IsSafe old → ∥ IsKept n part old ∥₁)
+module _ {A : Type 0} (n m : ℕ) (part next : Part) (r : Result A LedgerFault) (old new : State) (Answers Makes : Trees → Trees → Type 0) (kept : IsSafe old → ∥ KeepsOwn n part old ∥₁)
     (c : Done n m part next r old new Answers Makes)
     (was_settled : (db : Trees) → IsTrue old.is_open → old.may_leave db → db ≡ old.committed.trees)
     (is_settled : (db : Trees) → IsTrue new.is_open → new.may_leave db → db ≡ new.committed.trees)
     (answers : Stable (Answers old.committed.trees new.committed.trees)) where
   left : HasCleanDisk new → IsSafe old → (db : Trees) → new.may_leave db → ∥ (db ≡ old.committed.trees) ⊎ Makes old.committed.trees db ∥₁
-  left clean safe db may = ∥∥₁_map (kept safe) (λ k. elim (c.crash clean k db may) [ inl before ↦ inl (was_settled db safe.1 before) | inr made ↦ inr made ])
+  left clean safe db may = ∥∥₁_map (kept safe) (λ k. elim (c.crash clean k.kept db may) [ inl before ↦ inl (was_settled db safe.1 before) | inr made ↦ inr made ])
 
   stands : (q : Result A LedgerFault) → LastsAfter q (HasCleanDisk new → IsSafe old → IsSafe new) → HasCleanDisk new → IsSafe old → OnOk q ((db : Trees) → new.may_leave db → db ≡ new.committed.trees)
   stands (Ok value) lasts clean safe = λ db may. is_settled db (lasts clean safe).1 may
@@ -133,7 +147,7 @@ module _ {A : Type 0} (n m : ℕ) (part next : Part) (r : Result A LedgerFault) 
 
 -- ---- a call that reads
 
-module _ {A : Type 0} (n : ℕ) (part : Part) (r : Result A LedgerFault) (old new : State) (Shows : Trees → A → Type 0) (kept : IsSafe old → ∥ IsKept n part old ∥₁) (l : Looked n part r old new Shows) where
+module _ {A : Type 0} (n : ℕ) (part : Part) (r : Result A LedgerFault) (old new : State) (Shows : Trees → A → Type 0) (kept : IsSafe old → ∥ KeepsOwn n part old ∥₁) (l : Looked n part r old new Shows) where
   abbrev Same : Trees → Trees → Type 0
   Same base db = (db ≡ base) × Reads r (Shows base)
 
@@ -143,17 +157,22 @@ module _ {A : Type 0} (n : ℕ) (part : Part) (r : Result A LedgerFault) (old ne
   pub looked_safe : IsSafe new → IsSafe old
   looked_safe = was_safe n n part part r old new Same (λ base db. ⊥) kept done
 
-  pub looked_kept : IsSafe new → ∥ IsKept n part new ∥₁
-  looked_kept = still_kept n n part part r old new Same (λ base db. ⊥) kept done
+  pub looked_kept : IsSafe new → ∥ KeepsOwn n part new ∥₁
+  looked_kept = still_kept n n part part r old new Same (λ base db. ⊥) kept done (λ k it own. subst HaveOwn (sym it.0) own)
 
   pub looked_lasting : PremiseLasts r (HasCleanDisk old) (HasCleanDisk new) (IsSafe old) (IsSafe new)
   looked_lasting = lasting n n part part r old new Same (λ base db. ⊥) kept done
 
   pub looked_same : IsSafe new → new.committed.trees ≡ old.committed.trees
-  looked_same safe = ∥∥₁_elim (kept (looked_safe safe)) (Trees-set _ _) (λ k. (l.answers safe.0 safe.1 k tt).0)
+  looked_same safe = ∥∥₁_elim (kept (looked_safe safe)) (Trees-set _ _) (λ k. (l.answers safe.0 safe.1 k.kept tt).0)
 
   pub looked_books : IsSafe new → (book_of new.committed.trees ≡ book_of old.committed.trees) × (bodies_of new.committed.trees ≡ bodies_of old.committed.trees)
   looked_books safe = (ap book_of (looked_same safe), ap bodies_of (looked_same safe))
 
   pub looked_reads : ((a : A) → Stable (Shows old.committed.trees a)) → IsSafe new → Reads r (Shows old.committed.trees)
-  looked_reads stable safe = reads_stable r (Shows old.committed.trees) stable (∥∥₁_map (kept (looked_safe safe)) (λ k. (l.answers safe.0 safe.1 k tt).1))
+  looked_reads stable safe = reads_stable r (Shows old.committed.trees) stable (∥∥₁_map (kept (looked_safe safe)) (λ k. (l.answers safe.0 safe.1 k.kept tt).1))
+
+  -- what it shows, where the cells stand for data sets
+  pub looked_says : (Says : A → Type 0) → (KeepsOwn n part old → (a : A) → Shows old.committed.trees a → Says a) → ((a : A) → Stable (Says a)) → IsSafe new → Reads r Says
+  looked_says Says says stable safe =
+      reads_stable r Says stable (∥∥₁_map (kept (looked_safe safe)) (λ k. reads_as r (Shows old.committed.trees) Says (says k) (l.answers safe.0 safe.1 k.kept tt).1))

@@ -1,5 +1,5 @@
 -- What single queries show together.
-use Rattle.std.specs.Prelude.{◌≡◌, ◌≢◌, Option, Some, None, Result, Ok, Err}
+use Rattle.std.specs.Prelude.{◌≡◌, ◌≢◌, ℕ, Option, Some, None, Result, Ok, Err}
 use Rattle.sqlite.specs.Tree.{Trees}
 use Rattle.dr_base.specs.Texts.{Text}
 use Rattle.dr_ledger.specs.declared.content.Job.{Job}
@@ -7,12 +7,19 @@ use Rattle.dr_ledger.specs.declared.fault.LedgerFault.{LedgerFault}
 use Rattle.dr_ledger.specs.declared.fault.LedgerFault.TheVariants as fault
 use Rattle.dr_store_calls.specs.declared.knowing.Known.{Known}
 use Rattle.dr_store_calls.specs.declared.knowing.Known.TheVariants as known
-use Rattle.dr_store_reads.specs.Queries.{IsJobOf}
+use Rattle.dr_store_reads.specs.Queries.{IsFirstDue, IsJobOf}
 
 -- the instance of that uid with what stands in its row for its data set
 abbrev pub IsWholeJob : Text → Trees → Option Job → Type 0
 IsWholeJob uid db None = ⊥
 IsWholeJob uid db (Some job) = IsJobOf uid db (Some job)
+
+-- the instance of the first row that is due, with what stands in its row for its data set, or none
+-- where no row is due
+abbrev pub NextsStored : Trees → Text → ℕ → Option Job → Type 0
+NextsStored db dest now None = IsFirstDue db dest now None
+NextsStored db dest now (Some job) =
+    IsFirstDue db dest now (Some job.uid) × IsJobOf job.uid db (Some job)
 
 -- an arrival is refused just where another instance has its uid
 abbrev pub AdmitsKnown : Known → Result (Unit {0}) LedgerFault → Type 0

@@ -9,9 +9,10 @@ ghost use Rattle.dr_ledger.specs.Replies.{Arrives, Counts, Drops, Forgets, Reque
 ghost use Rattle.dr_ledger.specs.SiteRoutes.{site_routing};
 ghost use Rattle.dr_store_schema.specs.Books.{bodies_of, book_of};
 ghost use Rattle.dr_store_calls.specs.Adoptions.{IsAdopted};
-ghost use Rattle.dr_store_calls.specs.Calling.{IsKept, IsSafe};
+ghost use Rattle.dr_store_calls.specs.Calling.{IsSafe};
 ghost use Rattle.dr_store_calls.specs.Knowing.{IsAccepted};
 ghost use Rattle.dr_store.specs.Counting.{failures_after};
+ghost use Rattle.dr_store.specs.Owning.{KeepsOwn};
 ghost use Rattle.dr_store.specs.Surviving.{Wrote};
 
 use crate::counting::{counted, next_after};
@@ -42,7 +43,7 @@ pub struct SqlLedger<S: Alter> {
     next: u64,
     failures: u64,
     ghost idle: { conn.in_transaction ≡ false },
-    ghost kept: { IsSafe (state S.Store conn) → ∥ IsKept next site (state S.Store conn) ∥₁ },
+    ghost kept: { IsSafe (state S.Store conn) → ∥ KeepsOwn next site (state S.Store conn) ∥₁ },
 }
 
 impl<S: Alter> SqlLedger<S> {
@@ -50,7 +51,7 @@ impl<S: Alter> SqlLedger<S> {
     /// `next`.
     pub fn of(alloc: Global, conn: Connection<S>, site: Site, next: u64) -> SqlLedger<S>
         requires idle { conn.in_transaction ≡ false }
-        requires kept { IsSafe (state S.Store conn) → ∥ IsKept next site (state S.Store conn) ∥₁ }
+        requires kept { IsSafe (state S.Store conn) → ∥ KeepsOwn next site (state S.Store conn) ∥₁ }
         ensures site { result.site ≡ site }
         ensures conn { result.conn ≡ conn }
         ensures failures { result.failures ≡ 0 }
@@ -228,9 +229,10 @@ impl<S: Alter> Ledger for SqlLedger<S> {
 
     ghost armed = { λ l. false };
 
-    ghost journalled = { λ l safe. ∥∥₁_map (l.kept safe) (λ k. k.ledger.journalled) };
+    ghost journalled = { λ l safe. ∥∥₁_map (l.kept safe) (λ k. k.kept.ledger.journalled) };
 
-    ghost bodied = { λ l safe. ∥∥₁_map (l.kept safe) (λ k. k.ledger.bodied) };
+    ghost bodied = { λ l safe. ∥∥₁_map (l.kept safe) (λ k.
+        record { there = k.kept.ledger.bodied.there; own = k.own }) };
 
     fn arrive(&mut self, caller: &Text, item: Item) -> Result<Arrived, LedgerFault> {
         self.arrive_in(caller, item)

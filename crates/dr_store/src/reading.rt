@@ -3,14 +3,13 @@ ghost use Rattle.std.specs.Prelude.{◌≡◌, ℕ, false};
 ghost use Rattle.std.specs.FinMap as map;
 ghost use Rattle.sqlite.specs.Held.{state};
 ghost use Rattle.dr_site.specs.Parts.{Part};
-ghost use Rattle.dr_ledger.specs.Bodies.{NextsWith};
 ghost use Rattle.dr_ledger.specs.Items.{instance_of};
 ghost use Rattle.dr_ledger.specs.Replies.{Admits, Dues};
 ghost use Rattle.dr_ledger.specs.SiteRoutes.{site_routing};
 ghost use Rattle.dr_site.specs.Routing.{HasLineFor};
 ghost use Rattle.dr_store_schema.specs.Books.{bodies_of, book_of, items_of};
 ghost use Rattle.dr_store_calls.specs.Calling.{Called, Looked, Nothing};
-ghost use Rattle.dr_store.specs.Reading.{AdmitsKnown, IsWholeJob};
+ghost use Rattle.dr_store.specs.Reading.{AdmitsKnown, IsWholeJob, NextsStored};
 
 use dr_base::Text;
 use dr_ledger::{Instance, Item, Job, LedgerFault};
@@ -83,7 +82,7 @@ pub fn next_job<S: Alter>(
 ) -> Result<Option<Job>, LedgerFault>
     ensures looked { (n : ℕ) (part : Part)
         → Looked n part result (state S.Store conn.old) (state S.Store conn.new)
-        (λ base job. NextsWith (book_of base) (bodies_of base) dest.now now job) }
+        (λ base job. NextsStored base dest.now now job) }
     ensures idle { conn.old.in_transaction ≡ false → conn.new.in_transaction ≡ false }
 {
     match find_next(conn, alloc, dest, now) {

@@ -3,13 +3,14 @@ use Rattle.std.proofs.Common.{◌≡◌, ◌≤◌, ◌+◌, [], ◌∷◌, ◌+
 use Rattle.std.specs.FinMap as map
 use Rattle.sqlite.specs.Order.{column}
 use Rattle.dr_site.specs.Parts.{Part}
-use Rattle.dr_ledger.specs.Bodies.{Bodies, HasBodies}
+use Rattle.dr_ledger.specs.Bodies.{Bodies}
 use Rattle.dr_ledger.specs.Books.{Adoption, Book, after}
 use Rattle.dr_ledger.specs.Histories.{IsJournalled}
 use Rattle.dr_ledger.specs.SiteRoutes.{site_routing}
 use Rattle.dr_ledger.proofs.Folding.{adoptions_are_journalled}
 use Rattle.dr_ledger.proofs.Needs.{adoptions_need_the_same}
 use Rattle.dr_store_schema.specs.Books.{AreBelow, all_kept_in, arrivals_in, bodies_by, bodies_of, book_of, contents_in, items_in, lines_in, lines_of, names_in, prints_in, wholes_in}
+use Rattle.dr_store_changes.specs.Bringing.{HasCells}
 use Rattle.dr_store_changes.proofs.Numbers.{lines_put}
 use Rattle.dr_store_calls.specs.Calling.{IsLedgerOf}
 use Rattle.dr_store_calls.specs.AdoptionLaws.{AdoptedLedgersAreOfTheNext, AdoptionsAdopt}
@@ -29,10 +30,9 @@ adoptions_adopt old new plan n below w =
     )
 
 -- what was needed is needed
-needed_still : (b : Book) (bodies : Bodies) → HasBodies b bodies → HasBodies (after Adoption b) bodies
+needed_still : (b : Book) (bodies : Bodies) → HasCells b bodies → HasCells (after Adoption b) bodies
 needed_still b bodies has = record {
   there = λ uid. let same = adoptions_need_the_same b uid in (λ body. same.1 ((has.there uid).0 body), λ needed. (has.there uid).1 (same.0 needed));
-  own = has.own;
 }
 
 pub adopted_ledgers_are_of_the_next : AdoptedLedgersAreOfTheNext
@@ -42,5 +42,5 @@ adopted_ledgers_are_of_the_next part next old new plan n below l w =
     record {
       ahead = λ m later. ap (λ rows. names_in rows m) w.targets ∙ l.ahead m (omega (arith, later));
       journalled = subst (IsJournalled (site_routing next)) (sym it.0) (b.lines ++ Adoption ∷ [], adoptions_are_journalled (site_routing part) (site_routing next) l.journalled.0 b l.journalled.1);
-      bodied = subst (λ (x : Book). HasBodies x (bodies_of new)) (sym it.0) (subst (HasBodies (after Adoption b)) (sym it.1) (needed_still b (bodies_of old) l.bodied));
+      bodied = subst (λ (x : Book). HasCells x (bodies_of new)) (sym it.0) (subst (HasCells (after Adoption b)) (sym it.1) (needed_still b (bodies_of old) l.bodied));
     }

@@ -15,7 +15,7 @@ use Rattle.dr_site.proofs.AsPlanned.{keeps_by as keeps_one, kept_by}
 use Rattle.dr_ledger.specs.declared.item.Instance.{Instance}
 use Rattle.dr_ledger.specs.declared.item.Progress.{Progress}
 use Rattle.dr_ledger.specs.declared.item.Progress.TheVariants.{Waiting, Held, Done, Dropped}
-use Rattle.dr_ledger.specs.Bodies.{HasBodies, IsNeeded}
+use Rattle.dr_ledger.specs.Bodies.{IsNeeded}
 use Rattle.dr_ledger.specs.Books.{Book, Arrival, after, is_queued}
 use Rattle.dr_ledger.specs.Histories.{IsSolid}
 use Rattle.dr_ledger.specs.Pairs.{pair_cmp}

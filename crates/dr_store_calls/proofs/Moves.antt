@@ -14,7 +14,7 @@ use Rattle.dr_ledger.specs.declared.item.Cause.{Cause}
 use Rattle.dr_ledger.specs.declared.item.Outcome.{Outcome}
 use Rattle.dr_ledger.specs.declared.item.Progress.{Progress}
 use Rattle.dr_ledger.specs.declared.item.Progress.TheVariants.{Waiting, Held, Done, Dropped}
-use Rattle.dr_ledger.specs.Bodies.{Bodies, HasBodies, IsNeeded, OnlyLetsGo}
+use Rattle.dr_ledger.specs.Bodies.{Bodies, IsNeeded, OnlyLetsGo}
 use Rattle.dr_ledger.specs.Books.{Book, is_queued, row_after}
 use Rattle.dr_ledger.specs.Histories.{IsJournalled}
 use Rattle.dr_ledger.specs.Pairs.{Pair, pair_cmp}
@@ -26,7 +26,7 @@ use Rattle.dr_ledger.proofs.Wholes.{settled_fits}
 use Rattle.dr_store_schema.specs.Books.{AreBelow, all_kept_in, bodies_by, bodies_of, book_of, contents_in, is_whole, names_in, rows_in, rows_of, wholes_in}
 use Rattle.dr_store_schema.specs.Cells.{due_of}
 use Rattle.dr_store_writes.specs.Effects.{HasRow, dropped_line, requeued_line, settled_line}
-use Rattle.dr_store_changes.specs.Bringing.{GoNowhere}
+use Rattle.dr_store_changes.specs.Bringing.{GoNowhere, HasCells}
 use Rattle.dr_store_changes.specs.Changes.{AsksForRow, GivesUp, HasBoth, MovesOn}
 use Rattle.dr_store_changes.specs.Laws.{GoesWhereNeededNoMore}
 use Rattle.dr_store_changes.specs.Writing.{IsReady}
@@ -48,7 +48,7 @@ there_whole None h = absurd (true≢false (sym h))
 there_whole (Some n) h = refl
 
 -- an item whose data set is needed is there with its print
-pub both_there : (db : Trees) (uid : Text) → HasBodies (book_of db) (bodies_of db) → IsNeeded (book_of db) uid → HasBoth uid db
+pub both_there : (db : Trees) (uid : Text) → HasCells (book_of db) (bodies_of db) → IsNeeded (book_of db) uid → HasBoth uid db
 both_there db uid has needed =
     let body = (has.there uid).1 needed in
     let parts = split (is_whole (map.get (wholes_in (db 3)) uid)) (map.get (contents_in (db 1)) uid) body.0 (sym (body_at (contents_in (db 1)) (wholes_in (db 3)) uid) ∙ body.1) in
@@ -58,7 +58,7 @@ row_needed : (db : Trees) (uid dest : Text) (row : Progress) → map.get (rows_o
 row_needed db uid dest row there unfinished = inr (dest, row, there, unfinished)
 
 -- an open row may move on
-pub row_asks : (db : Trees) (uid dest : Text) (row : Progress) → HasBodies (book_of db) (bodies_of db) → map.get (rows_of db) (uid, dest) ≡ Some row → is_queued row ≡ true → AsksForRow (uid, dest) db
+pub row_asks : (db : Trees) (uid dest : Text) (row : Progress) → HasCells (book_of db) (bodies_of db) → map.get (rows_of db) (uid, dest) ≡ Some row → is_queued row ≡ true → AsksForRow (uid, dest) db
 row_asks db uid dest row has there unfinished = (ap is_some there, both_there db uid has (row_needed db uid dest row there unfinished))
 
 module _ (base db : Trees) (uid dest : Text) (to : Progress) (line : Row) (lets_go : Bool) (w : MovesOn (uid, dest) to line lets_go base db) where

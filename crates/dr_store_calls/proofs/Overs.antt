@@ -1,5 +1,5 @@
 -- Instances that are over, and forgettings.
-use Rattle.std.proofs.Common.{◌≡◌, ◌≢◌, ◌⊎◌, ◌↔◌, inl, inr, ℕ, ◌+◌, Bool, true, false, not, IsTrue, is_some, List, Option, Some, None, option_map, Ok, Err, Result, refl, sym, ap, subst, ◌∙◌, true≢false, arith}
+use Rattle.std.proofs.Common.{◌≡◌, ◌≢◌, ◌⊎◌, ◌↔◌, inl, inr, ℕ, ◌+◌, Bool, true, false, not, IsTrue, is_some, Option, Some, None, option_map, Ok, Err, Result, refl, sym, ap, subst, ◌∙◌, true≢false, arith}
 use Rattle.std.specs.FinMap as map
 use Rattle.std.specs.FinSet as set
 use Rattle.sqlite.specs.State.{State}
@@ -9,18 +9,16 @@ use Rattle.dr_route.specs.declared.key.Key.{Key}
 use Rattle.dr_site.specs.Parts.{Part}
 use Rattle.dr_ledger.specs.declared.fault.LedgerFault.{LedgerFault}
 use Rattle.dr_ledger.specs.declared.item.Instance.{Instance}
-use Rattle.dr_ledger.specs.Bodies.{Bodies, HasBodies, IsNeeded, OnlyLetsGo}
+use Rattle.dr_ledger.specs.Bodies.{Bodies, OnlyLetsGo}
 use Rattle.dr_ledger.specs.Books.{Book, Forgetting, after, is_queued}
-use Rattle.dr_ledger.specs.Items.{instance_of}
 use Rattle.dr_ledger.specs.Replies.{Forgets, IsOver}
 use Rattle.dr_ledger.specs.SiteRoutes.{site_routing}
 use Rattle.dr_ledger.proofs.Folding.{forgettings_are_journalled}
-use Rattle.dr_ledger.proofs.Forgotten.{Apart, item_stays}
-use Rattle.dr_ledger.proofs.Maps.{same_or_not, texts}
 use Rattle.dr_ledger.proofs.Needs.{forgettings_need_the_same}
 use Rattle.dr_store_schema.specs.Books.{AreBelow, all_kept_in, bodies_of, book_of, instance_by, items_of, names_in, prints_of}
+use Rattle.dr_store_changes.specs.Bringing.{HasCells}
 use Rattle.dr_store_changes.specs.Changes.{TakesOut}
-use Rattle.dr_store_changes.proofs.Forgotten.{forgettings_forget, forgettings_let_no_data_set_go, not_needed}
+use Rattle.dr_store_changes.proofs.Forgotten.{forgettings_forget, forgettings_let_no_data_set_go}
 use Rattle.dr_store_reads.specs.Queries.{HasOpen, IsKeyOf}
 use Rattle.dr_store_calls.specs.Calling.{IsLedgerOf, IsOwnFault, Looked}
 use Rattle.dr_store_calls.specs.Needs.{IsKeptIn}
@@ -93,17 +91,10 @@ looked_as n part r old new Shows Says l f = record {
 
 -- ---- a forgetting
 
-still_bodied : (b : Book) (bodies : Bodies) (uid : Text) → IsOver b uid → HasBodies b bodies → HasBodies (after (Forgetting uid) b) bodies
+still_bodied : (b : Book) (bodies : Bodies) (uid : Text) → IsOver b uid → HasCells b bodies → HasCells (after (Forgetting uid) b) bodies
 still_bodied b bodies uid over has = record {
   there = λ u. let same = forgettings_need_the_same b uid over u in (λ body. same.1 ((has.there u).0 body), λ needed. (has.there u).1 (same.0 needed));
-  own = λ u body h. let it = has.own u body h in (it.0, it.1, it.2, item_stays b uid u (instance_of it.0) (other u body h) it.3);
 }
-  where
-    other : (u : Text) (body : List ℕ) → map.get bodies u ≡ Some body → Apart u uid
-    other u body h = elim (same_or_not texts u uid) [
-      | inr apart ↦ apart
-      | inl same ↦ absurd (not_needed b uid over (subst (IsNeeded b) same ((has.there u).0 (body, h))))
-    ]
 
 pub forgets : (n : ℕ) (part : Part) (base db : Trees) (uid : Text) → AreBelow n (base 11) → IsLedgerOf n part base → IsOver (book_of base) uid → TakesOut uid n base db
     → IsLedgerOf (n + 1) part db × (Forgets uid (book_of base) (Ok tt) (book_of db) × OnlyLetsGo (bodies_of base) (bodies_of db))
@@ -114,7 +105,7 @@ forgets n part base db uid below l over w =
       record {
         ahead = λ m later. ap (λ rows. names_in rows m) w.targets ∙ l.ahead m (omega (arith, later));
         journalled = (l.journalled.0, forgettings_are_journalled (site_routing part) l.journalled.0 uid (book_of base) (book_of db) (Ok tt) l.journalled.1 answer);
-        bodied = subst (λ (b : Book). HasBodies b (bodies_of db)) (sym book) (subst (HasBodies (after (Forgetting uid) (book_of base))) (sym bodies) (still_bodied (book_of base) (bodies_of base) uid over l.bodied));
+        bodied = subst (λ (b : Book). HasCells b (bodies_of db)) (sym book) (subst (HasCells (after (Forgetting uid) (book_of base))) (sym bodies) (still_bodied (book_of base) (bodies_of base) uid over l.bodied));
       },
       (answer, λ q body h. ap (λ x. map.get x q) (sym bodies) ∙ h),
     )

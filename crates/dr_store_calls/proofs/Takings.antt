@@ -11,59 +11,50 @@ use Rattle.dr_site.specs.Parts.{Part}
 use Rattle.dr_site.specs.Routing.{HasLineFor, SendsFrom}
 use Rattle.dr_site.specs.Sites.{IsSite}
 use Rattle.dr_site.proofs.AsPlanned.{sends_as_planned}
+use Rattle.dr_ledger.specs.declared.content.Job.{Job}
 use Rattle.dr_ledger.specs.declared.fault.LedgerFault.{LedgerFault}
 use Rattle.dr_ledger.specs.declared.fault.LedgerFault.TheVariants as fault
 use Rattle.dr_ledger.specs.declared.item.Arrived.{Arrived}
 use Rattle.dr_ledger.specs.declared.item.Arrived.TheVariants.{New, Again}
 use Rattle.dr_ledger.specs.declared.item.Instance.{Instance}
-use Rattle.dr_ledger.specs.Bodies.{Bodies, HasBodies}
+use Rattle.dr_ledger.specs.Bodies.{Bodies}
 use Rattle.dr_ledger.specs.Books.{Book, Arrival, Repeat, after}
-use Rattle.dr_ledger.specs.Items.{instance_of}
+use Rattle.dr_ledger.specs.Items.{IsItem, instance_of}
 use Rattle.dr_ledger.specs.Replies.{Arrives, IsAdmitted, IsLastingFault}
 use Rattle.dr_ledger.specs.SiteRoutes.{site_routing}
 use Rattle.dr_ledger.proofs.Folding.{arrivals_are_journalled}
 use Rattle.dr_ledger.proofs.Growing.{inside}
-use Rattle.dr_ledger.proofs.Maps.{got, texts}
+use Rattle.dr_ledger.proofs.Maps.{filled_is, got, texts}
 use Rattle.dr_store_schema.specs.Books.{AreBelow, arrivals_in, bodies_of, book_of, items_of, names_in, rows_of}
 use Rattle.dr_store_writes.specs.Effects.{arrived_line}
 use Rattle.dr_store_changes.specs.declared.first.Taking.{Taking}
 use Rattle.dr_store_changes.specs.declared.first.Taking.TheVariants as taking
-use Rattle.dr_store_changes.specs.Bringing.{AreTargets, Brings, GoNowhere, IsKnownFor, bodies_taken, given_up, missing, names_for}
+use Rattle.dr_store_changes.specs.Bringing.{AreTargets, Brings, GoNowhere, HasCells, IsKnownFor, bodies_taken, given_up, missing, names_for}
 use Rattle.dr_store_changes.specs.Changes.{AddsOnlyLine, with_names}
-use Rattle.dr_store_changes.specs.Laws.{ComesWhereNeeded}
 use Rattle.dr_store_changes.proofs.Bookings.{repeats_repeat}
 use Rattle.dr_store_changes.proofs.Joins.{arrivals_arrive, data_sets_come}
 use Rattle.sqlite.specs.State.{State}
 use Rattle.dr_store_calls.specs.declared.bringing.Delivery.{Delivery}
-use Rattle.dr_store_calls.specs.Calling.{IsLedgerOf, IsOwnFault, Looked, advanced}
+use Rattle.dr_store_calls.specs.Calling.{Called, IsLedgerOf, IsOwnFault, Looked, Nothing, advanced}
 use Rattle.dr_store_calls.specs.Knowing.{FitsTables, IsThere}
-use Rattle.dr_store_calls.specs.Receiving.{AcceptsOne, AnswersWith, IsDelivered, Receives, ReceivesAs, StandsFor, TakesOnly}
+use Rattle.dr_store_calls.specs.Receiving.{AcceptsOne, AnswersTo, AnswersWith, IsDelivered, Receives, ReceivesAs, TakesOnly}
 use Rattle.dr_store_calls.proofs.Calls.{asked_as, called_as, looked_failed, looked_then, still_called}
 
 -- ---- a first arrival
 
-takes_only : (how : Taking) (uid : Text) (cell : List ℕ) (bodies : Bodies) → TakesOnly uid cell bodies (bodies_taken how bodies uid cell)
-takes_only taking.New uid cell bodies other there h = elim (got texts bodies uid cell other there h) [ inl new ↦ inr new | inr was ↦ inl was.1 ]
-takes_only taking.Bare uid cell bodies other there h = inl h
-takes_only taking.Again uid cell bodies other there h = elim (got texts bodies uid cell other there h) [ inl new ↦ inr new | inr was ↦ inl was.1 ]
-takes_only taking.Nothing uid cell bodies other there h = inl h
+cell_came : (how : Taking) (uid : Text) (cell : List ℕ) (bodies : Bodies) (other : Text) (there : List ℕ) → map.get (bodies_taken how bodies uid cell) other ≡ Some there
+    → (map.get bodies other ≡ Some there) ⊎ ((other ≡ uid) × (there ≡ cell))
+cell_came taking.New uid cell bodies other there h = elim (got texts bodies uid cell other there h) [ inl new ↦ inr new | inr was ↦ inl was.1 ]
+cell_came taking.Bare uid cell bodies other there h = inl h
+cell_came taking.Again uid cell bodies other there h = elim (got texts bodies uid cell other there h) [ inl new ↦ inr new | inr was ↦ inl was.1 ]
+cell_came taking.Nothing uid cell bodies other there h = inl h
 
--- what a cell stands for is no larger than an item may be
-pub is_small : (cell : List ℕ) (instance : Instance) → StandsFor cell instance → instance.size ≤ 2 ^ 62
-is_small cell instance stands =
+-- an item's size is one that a row can tell
+pub is_small : (item : Job) (instance : Instance) → IsItem item → instance ≡ instance_of item → instance.size ≤ 2 ^ 62
+is_small item instance is same =
     let P : Instance → Type 0 = λ i. i.size ≤ 2 ^ 62 in
-    let fits = stands.1.fits in
-    subst P (sym stands.3) (omega (arith, fits))
-
--- where the cell that comes stands for the instance's data set, the book has the data sets that it needs
-cells_come : (how : Taking) (b : Book) (caller : Text) (instance : Instance) (cell : List ℕ) (to : List Text) (keep : Bool) (bodies : Bodies) → StandsFor cell instance → HasBodies b bodies
-    → ((held : Instance) → map.get b.items instance.uid ≡ Some held → held ≡ instance) → ComesWhereNeeded how (after (Arrival caller instance to keep) b) bodies instance.uid
-    → HasBodies (after (Arrival caller instance to keep) b) (bodies_taken how bodies instance.uid cell)
-cells_come how b caller instance cell to keep bodies stands has =
-    let job = stands.0 in
-    let P : Instance → List ℕ → Type 0 = λ i x. ((held : Instance) → map.get b.items i.uid ≡ Some held → held ≡ i) → ComesWhereNeeded how (after (Arrival caller i to keep) b) bodies i.uid
-    → HasBodies (after (Arrival caller i to keep) b) (bodies_taken how bodies i.uid x) in
-    subst (λ i. P i cell) (sym stands.3) (subst (λ x. P (instance_of job) x) stands.2 (λ same comes. data_sets_come how b caller job to keep bodies stands.1 has same comes))
+    let fits = is.fits in
+    subst P (sym same) (omega (arith, fits))
 
 known_same : (how : Taking) (item : Instance) (found : Option Instance) → IsKnownFor how item found → (held : Instance) → found ≡ Some held → held ≡ item
 known_same taking.New item found known held is = absurd (let e : None ≡ Some held = sym known ∙ is in cc)
@@ -71,7 +62,7 @@ known_same taking.Bare item found known held is = absurd (let e : None ≡ Some 
 known_same taking.Again item found known held is = sym (inside item held (sym known ∙ is))
 known_same taking.Nothing item found known held is = sym (inside item held (sym known ∙ is))
 
-module _ (n : ℕ) (part : Part) (how : Taking) (caller : Text) (instance : Instance) (cell : List ℕ) (to : List Text) (keep : Bool) (again dests : List Text) (keeps : Bool) (base db : Trees) (stands : StandsFor cell instance)
+module _ (n : ℕ) (part : Part) (how : Taking) (caller : Text) (instance : Instance) (cell : List ℕ) (to : List Text) (keep : Bool) (again dests : List Text) (keeps : Bool) (base db : Trees)
     (line : HasLineFor part caller instance.key) (to_is : to ≡ (site_routing part).targets caller instance.key) (keep_is : keep ≡ (site_routing part).keeps caller instance.key) (names : AreTargets to)
     (below : AreBelow n (base 11)) (l : IsLedgerOf n part base) (f : FitsTables how caller instance to keep again dests keeps base)
     (w : Brings how caller instance cell again dests keeps (names_for keep to) n base db) where
@@ -88,27 +79,37 @@ module _ (n : ℕ) (part : Part) (how : Taking) (caller : Text) (instance : Inst
   answer : Arrives (site_routing part) caller instance (book_of base) (Ok New) (book_of db)
   answer = (record { line = line; same = same }, f.first, book ∙ (λ i. after (Arrival caller instance (to_is i) (keep_is i)) (book_of base)))
 
-  bodied : HasBodies (book_of db) (bodies_of db)
+  bodied : HasCells (book_of db) (bodies_of db)
   bodied =
-      subst (λ b. HasBodies b (bodies_of db)) (sym book)
-      (subst (λ x. HasBodies (after (Arrival caller instance to keep) (book_of base)) x) (sym w.bodies) (cells_come how (book_of base) caller instance cell to keep (bodies_of base) stands l.bodied same f.comes))
+      subst (λ b. HasCells b (bodies_of db)) (sym book)
+      (subst (λ x. HasCells (after (Arrival caller instance to keep) (book_of base)) x) (sym w.bodies) (data_sets_come how (book_of base) caller instance cell to keep (bodies_of base) l.bodied f.comes))
+
+  -- the instance is the book's then
+  has : map.get (items_of db) instance.uid ≡ Some instance
+  has = ap (λ (b : Book). map.get b.items instance.uid) book ∙ filled_is texts (items_of base) instance.uid instance same
+
+  takes : TakesOnly instance cell base db
+  takes uid there h = elim (cell_came how instance.uid cell (bodies_of base) uid there (ap (λ x. map.get x uid) (sym w.bodies) ∙ h)) [
+    | inl was ↦ inl was
+    | inr new ↦ inr (new.0, new.1, has)
+  ]
 
   ahead : GoNowhere (n + 1) db
   ahead m later =
       w.targets m ∙ ap (λ b. cond b (with_names (names_in (base 12) m) (names_for keep to)) (names_in (base 12) m)) (ne_eqb n m (λ e. omega (arith, e, later)))
       ∙ l.ahead m (omega (arith, later))
 
-  pub arrives : IsLedgerOf (n + 1) part db × (Arrives (site_routing part) caller instance (book_of base) (Ok New) (book_of db) × TakesOnly instance.uid cell (bodies_of base) (bodies_of db))
+  pub arrives : IsLedgerOf (n + 1) part db × (Arrives (site_routing part) caller instance (book_of base) (Ok New) (book_of db) × TakesOnly instance cell base db)
   arrives = (
     record { ahead = ahead; journalled = (l.journalled.0, arrivals_are_journalled (site_routing part) l.journalled.0 caller instance (book_of base) (book_of db) (Ok New) l.journalled.1 answer); bodied = bodied },
-    (answer, subst (λ x. TakesOnly instance.uid cell (bodies_of base) x) (sym w.bodies) (takes_only how instance.uid cell (bodies_of base))),
+    (answer, takes),
   )
 
 -- ---- a repeat
 
 pub repeats : (n : ℕ) (part : Part) (caller : Text) (instance : Instance) (cell : List ℕ) (whole : Bool) (base db : Trees) → HasLineFor part caller instance.key → AreBelow n (base 11) → IsLedgerOf n part base
     → IsThere base instance whole → set.contains (arrivals_in (base 5)) (caller, instance.uid) ≡ true → AddsOnlyLine (arrived_line n 1 caller instance) base db
-    → IsLedgerOf (n + 1) part db × (Arrives (site_routing part) caller instance (book_of base) (Ok Again) (book_of db) × TakesOnly instance.uid cell (bodies_of base) (bodies_of db))
+    → IsLedgerOf (n + 1) part db × (Arrives (site_routing part) caller instance (book_of base) (Ok Again) (book_of db) × TakesOnly instance cell base db)
 repeats n part caller instance cell whole base db line below l was again w =
     let made = repeats_repeat base db n caller instance below w in
     let answer : Arrives (site_routing part) caller instance (book_of base) (Ok Again) (book_of db) = (
@@ -116,11 +117,11 @@ repeats n part caller instance cell whole base db line below l was again w =
       again,
       made.0,
     ) in
-    let has : HasBodies (after (Repeat caller instance) (book_of base)) (bodies_of base) = record { there = l.bodied.there; own = l.bodied.own } in (
+    let has : HasCells (after (Repeat caller instance) (book_of base)) (bodies_of base) = record { there = l.bodied.there } in (
       record {
         ahead = λ m later. ap (λ rows. names_in rows m) w.targets ∙ l.ahead m (omega (arith, later));
         journalled = (l.journalled.0, arrivals_are_journalled (site_routing part) l.journalled.0 caller instance (book_of base) (book_of db) (Ok Again) l.journalled.1 answer);
-        bodied = subst (λ b. HasBodies b (bodies_of db)) (sym made.0) (subst (λ x. HasBodies (after (Repeat caller instance) (book_of base)) x) (sym made.1) has);
+        bodied = subst (λ b. HasCells b (bodies_of db)) (sym made.0) (subst (λ x. HasCells (after (Repeat caller instance) (book_of base)) x) (sym made.1) has);
       },
       (answer, λ other there h. inl (ap (λ x. map.get x other) (sym made.1) ∙ h)),
     )
@@ -131,8 +132,8 @@ pub arrives_own : (part : Part) (caller : Text) (item : Instance) (b : Book) (e 
 arrives_own part caller item b e line (inl is) = subst (λ x. Arrives (site_routing part) caller item b (Err x) b) (sym is) (line, refl)
 arrives_own part caller item b e line (inr is) = subst (λ x. Arrives (site_routing part) caller item b (Err x) b) (sym is) (line, refl)
 
-pub takes_none : (uid : Text) (cell : List ℕ) (bodies : Bodies) → TakesOnly uid cell bodies bodies
-takes_none uid cell bodies other there h = inl h
+pub takes_none : (instance : Instance) (cell : List ℕ) (db : Trees) → TakesOnly instance cell db db
+takes_none instance cell db uid there h = inl h
 
 -- ---- a site sends nothing to the local caller
 
@@ -144,7 +145,7 @@ not_to_local part caller key site sends =
 -- ---- what is said of an arrival, whatever the tables have of it
 
 pub refused : (part : Part) (caller : Text) (instance : Instance) (cell : List ℕ) (e : LedgerFault) → HasLineFor part caller instance.key → IsOwnFault e → (db : Trees) → AnswersWith part caller instance cell (Err e) db db
-refused part caller instance cell e line own db = (arrives_own part caller instance (book_of db) e line own, takes_none instance.uid cell (bodies_of db))
+refused part caller instance cell e line own db = (arrives_own part caller instance (book_of db) e line own, takes_none instance cell db)
 
 module _ (came : Delivery) (old new : State) where
   -- where what is known couldn't be read
@@ -182,3 +183,19 @@ not_received came e s Asks answers lasts =
 -- where there is no memory
 pub no_memory : (came : Delivery) (s : State) (Asks : Trees → Type 0) → IsDelivered came → Receives came (Err fault.Memory) s s Asks
 no_memory came s Asks is = not_received came fault.Memory s Asks (λ db asks. refused came.site.now came.caller.now came.instance.now came.cell.now fault.Memory is.line (inr refl) db) (λ P h. tt)
+
+-- ---- an item, whose own bytes are its cell
+
+pub takes_item : (n : ℕ) (part : Part) (caller : Text) (item : Job) (r : Result Arrived LedgerFault) (old new : State) (Makes : Trees → Trees → Type 0) → IsItem item
+    → Called n (advanced r n) part r old new Nothing (AnswersWith part caller (instance_of item) item.body r) Makes → Called n (advanced r n) part r old new Nothing (AnswersTo part caller item r) Makes
+takes_item n part caller item r old new Makes is c = record {
+  clean = c.clean;
+  was_open = c.was_open;
+  idle = c.idle;
+  lasts = c.lasts;
+  kept = c.kept;
+  answers = λ clean is_open k any.
+      let it = c.answers clean is_open k any in
+      (it.0, λ uid there h. elim (it.1 uid there h) [ inl was ↦ inl was | inr new ↦ inr (new.0, new.1, is, new.2) ]);
+  crash = c.crash;
+}

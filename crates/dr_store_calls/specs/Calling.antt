@@ -6,12 +6,11 @@ use Rattle.sqlite_trees.specs.View.{doubt}
 use Rattle.dr_site.specs.Parts.{Part}
 use Rattle.dr_ledger.specs.declared.fault.LedgerFault.{LedgerFault}
 use Rattle.dr_ledger.specs.declared.fault.LedgerFault.TheVariants as fault
-use Rattle.dr_ledger.specs.Bodies.{HasBodies}
 use Rattle.dr_ledger.specs.Histories.{IsJournalled}
 use Rattle.dr_ledger.specs.Replies.{LastsAfter, Reads}
 use Rattle.dr_ledger.specs.SiteRoutes.{site_routing}
 use Rattle.dr_store_schema.specs.Books.{bodies_of, book_of}
-use Rattle.dr_store_changes.specs.Bringing.{GoNowhere}
+use Rattle.dr_store_changes.specs.Bringing.{GoNowhere, HasCells}
 use Rattle.dr_store_changes.specs.Writing.{IsReady}
 
 -- the disk has returned what was written, and the store is open
@@ -19,12 +18,12 @@ abbrev pub IsSafe : State → Type 0
 IsSafe s = HasCleanDisk s × IsTrue s.is_open
 
 -- What the tables of a ledger of that site show, where its next line has number n: no targets of
--- lines that are still to come, a book that its journal makes, and just the data sets that the book
--- needs.
+-- lines that are still to come, a book that its journal makes, and a cell for just the data sets
+-- that the book needs.
 pub record IsLedgerOf (n : ℕ) (part : Part) (db : Trees) : Type 0 where
   pub ahead : GoNowhere n db
   pub journalled : IsJournalled (site_routing part) (book_of db)
-  pub bodied : HasBodies (book_of db) (bodies_of db)
+  pub bodied : HasCells (book_of db) (bodies_of db)
 
 -- the store is open, with the tables of a ledger of that site
 pub record IsKept (n : ℕ) (part : Part) (s : State) : Type 0 where

@@ -1,5 +1,5 @@
 -- What is brought to a site, and what is said of the calls that take it.
-use Rattle.std.specs.Prelude.{◌≡◌, ◌⊎◌, ℕ, Bool, List, Some, Result, Ok}
+use Rattle.std.specs.Prelude.{◌≡◌, ◌≤◌, ◌^◌, ◌⊎◌, ℕ, Bool, List, Some, Result, Ok}
 use Rattle.std.specs.FinMap as map
 use Rattle.std.specs.FinSet as set
 use Rattle.sqlite.specs.State.{State}
@@ -12,11 +12,11 @@ use Rattle.dr_ledger.specs.declared.content.Job.{Job}
 use Rattle.dr_ledger.specs.declared.fault.LedgerFault.{LedgerFault}
 use Rattle.dr_ledger.specs.declared.item.Arrived.{Arrived}
 use Rattle.dr_ledger.specs.declared.item.Instance.{Instance}
-use Rattle.dr_ledger.specs.Bodies.{Bodies, OnlyTakes}
 use Rattle.dr_ledger.specs.Items.{IsItem, instance_of}
 use Rattle.dr_ledger.specs.Replies.{Arrives}
 use Rattle.dr_ledger.specs.SiteRoutes.{site_routing}
-use Rattle.dr_store_schema.specs.Books.{all_kept_in, arrivals_in, bodies_of, book_of, rows_of}
+use Rattle.dr_store_schema.specs.Books.{all_kept_in, arrivals_in, bodies_of, book_of, items_of}
+use Rattle.dr_store_schema.specs.Books.{rows_of}
 use Rattle.dr_store_changes.specs.Bringing.{AreTargets, given_up, missing}
 use Rattle.dr_store_calls.specs.declared.bringing.Delivery.{Delivery}
 use Rattle.dr_store_calls.specs.declared.bringing.FirstArrival.{FirstArrival}
@@ -25,20 +25,10 @@ use Rattle.dr_store_calls.specs.Knowing.{IsAccepted, IsThere}
 
 -- ---- what is brought
 
--- the cell of a data set: its own bytes
-abbrev pub IsCellOf : List ℕ → List ℕ → Type 0
-IsCellOf cell body = body ≡ cell
-
--- the cell is that of an item's data set, and the item is this instance
-abbrev pub StandsFor : List ℕ → Instance → Type 0
-StandsFor cell instance =
-    (item : Job) × IsItem item × IsCellOf cell item.body × (instance ≡ instance_of item)
-
--- an instance, for whose key the site has a line of that caller, and a cell that stands for its
--- data set
+-- an instance for whose key the site has a line of that caller, and whose size a row can tell
 pub record IsDelivered (came : Delivery) : Type 0 where
   pub line : HasLineFor came.site.now came.caller.now came.instance.now.key
-  pub stands : StandsFor came.cell.now came.instance.now
+  pub size : came.instance.now.size ≤ 2 ^ 62
 
 -- what the site does with its key
 pub record AreTargetsOf (came : Delivery) (targets : Targets) : Type 0 where
@@ -65,30 +55,43 @@ pub record IsFoundFor (uid : Text) (db : Trees) (first : FirstArrival) : Type 0 
 
 -- ---- the calls
 
+-- each data set that is there after a call was there before, or is that of what was brought, an
+-- item, under its uid, and the book has the item then
+abbrev pub TakesItem : Job → Trees → Trees → Type 0
+TakesItem item base db =
+    (uid : Text) (there : List ℕ)
+    → map.get (bodies_of db) uid ≡ Some there
+    → (map.get (bodies_of base) uid ≡ Some there)
+    ⊎ ((uid ≡ item.uid) × (there ≡ item.body) × IsItem item
+    × (map.get (items_of db) item.uid ≡ Some (instance_of item)))
+
 -- book and data sets after an arrival with this answer
 abbrev pub AnswersTo : Part → Text → Job → Result Arrived LedgerFault → Trees → Trees → Type 0
 AnswersTo part caller item result base db =
     Arrives (site_routing part) caller (instance_of item) (book_of base) result (book_of db)
-    × OnlyTakes item (bodies_of base) (bodies_of db)
+    × TakesItem item base db
 
 -- the book after an arrival that was accepted
 abbrev pub AcceptsItem : Part → Text → Job → Trees → Trees → Type 0
 AcceptsItem part caller item base db =
     IsAccepted part caller (instance_of item) (book_of base) (book_of db)
 
--- each cell that is there after a call was there before, or is this one, under this uid
-abbrev pub TakesOnly : Text → List ℕ → Bodies → Bodies → Type 0
-TakesOnly uid cell old new =
-    (other : Text) (there : List ℕ)
-    → map.get new other ≡ Some there
-    → (map.get old other ≡ Some there) ⊎ ((other ≡ uid) × (there ≡ cell))
+-- each cell that is there after a call was there before, or is this one, under the uid of this
+-- instance, and the book has the instance then
+abbrev pub TakesOnly : Instance → List ℕ → Trees → Trees → Type 0
+TakesOnly instance cell base db =
+    (uid : Text) (there : List ℕ)
+    → map.get (bodies_of db) uid ≡ Some there
+    → (map.get (bodies_of base) uid ≡ Some there)
+    ⊎ ((uid ≡ instance.uid) × (there ≡ cell)
+    × (map.get (items_of db) instance.uid ≡ Some instance))
 
 -- book and cells after an arrival with this answer of an instance with this cell
 abbrev pub AnswersWith : Part → Text → Instance → List ℕ → Result Arrived LedgerFault
     → Trees → Trees → Type 0
 AnswersWith part caller instance cell result base db =
     Arrives (site_routing part) caller instance (book_of base) result (book_of db)
-    × TakesOnly instance.uid cell (bodies_of base) (bodies_of db)
+    × TakesOnly instance cell base db
 
 -- the book after an arrival of the instance that was accepted
 abbrev pub AcceptsOne : Part → Text → Instance → Trees → Trees → Type 0

@@ -8,6 +8,7 @@ ghost use Rattle.dr_store_calls.specs.Calling.{IsOwnFault, Nothing};
 ghost use Rattle.dr_store_calls.specs.Adoptions.{Adopted, AdoptsPlan};
 
 use crate::plan::NewPlan;
+use crate::writing::MOST_LINES;
 use dr_base::Text;
 use dr_base::same::Same;
 use dr_ledger::LedgerFault;
@@ -16,9 +17,6 @@ use dr_store_changes::write;
 use dr_store_reads::{fault_of, find_owner};
 use sqlite::{Alter, Connection};
 use std::alloc::Global;
-
-/// A journal is full with so many lines.
-const MOST_LINES: u64 = 1 << 62;
 
 /// Sets the plan in force as one transaction.
 fn write_plan<S: Alter>(conn: &mut Connection<S>, n: u64, digest: &[u8]) -> Result<(), LedgerFault>

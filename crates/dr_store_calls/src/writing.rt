@@ -10,7 +10,7 @@ use dr_store_reads::fault_of;
 use sqlite::{Alter, Connection};
 
 /// A journal is full with so many lines.
-const MOST_LINES: u64 = 1 << 62;
+pub(crate) const MOST_LINES: u64 = 1 << 62;
 
 /// Writes a change as one transaction, whose commit is its last call of the database.
 ///

@@ -138,9 +138,6 @@ body_was old new at to line false q body w h = sym (ap (λ b. map.get b q) w.bod
 pub what_is_needed_stays : WhatIsNeededStays
 what_is_needed_stays old new uid dest was to line lets_go has needed w goes = record {
   there = λ q. at q (eq_by_cmp text_cmp q uid) refl;
-  own = λ q body h.
-      let it = has.own q body (body_was old new (uid, dest) to line lets_go q body w h) in
-      (it.0, it.1, it.2, ap (λ items. map.get items q) w.items ∙ it.3);
 }
   where
     at : (q : Text) (b : Bool) → eq_by_cmp text_cmp q uid ≡ b → IsThere new q ↔ IsNeeded (book_of new) q

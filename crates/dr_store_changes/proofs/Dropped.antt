@@ -156,4 +156,4 @@ what_is_needed_stays_at_a_dropping old new n uid dest now lets_go has needed w g
     let h = what_is_needed_stays old (but_arrivals old new) uid dest Dropped Dropped
     (dropped_line n uid dest now) lets_go has needed (moves_on uid dest now n lets_go old new w)
     (goes_so old new uid lets_go goes) in
-    record { there = h.there; own = h.own }
+    record { there = h.there }

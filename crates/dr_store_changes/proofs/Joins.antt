@@ -21,13 +21,11 @@ use Rattle.sqlite.specs.Tree.{Trees, put_row, rowid}
 use Rattle.dr_base.specs.Texts.{IsInByteOrder, Text, text_cmp}
 use Rattle.dr_route.specs.Routes.{local}
 use Rattle.dr_plan_model.proofs.Gathered.{Contains-cons_cases, nothing_in_nil}
-use Rattle.dr_ledger.specs.declared.content.Job.{Job}
 use Rattle.dr_ledger.specs.declared.item.Instance.{Instance}
-use Rattle.dr_ledger.specs.Bodies.{Bodies, HasBodies, IsNeeded}
+use Rattle.dr_ledger.specs.Bodies.{Bodies, IsNeeded}
 use Rattle.dr_ledger.specs.Books.{Book, Arrival, after}
-use Rattle.dr_ledger.specs.Items.{IsItem, instance_of}
-use Rattle.dr_ledger.proofs.Growing.{inside, kept_from, still_kept}
-use Rattle.dr_ledger.proofs.Maps.{filled_is, filled_keeps, get_new, get_other, same_or_not, texts, ties_itself}
+use Rattle.dr_ledger.proofs.Growing.{kept_from, still_kept}
+use Rattle.dr_ledger.proofs.Maps.{get_new, get_other, same_or_not, texts, ties_itself}
 use Rattle.dr_ledger.proofs.PlanRouting.{any_from, one_list, or_right}
 use Rattle.dr_store_schema.specs.Books.{AreBelow, NameSet, all_kept_in, arrivals_in, bodies_of, book_of, instance_in, items_of, line_by, line_in, lines_in, lines_of, names_in, numbered_line, rows_of}
 use Rattle.dr_store_schema.specs.Cells.{number_in, outcome_in, text_in}
@@ -35,7 +33,7 @@ use Rattle.dr_store_writes.specs.Effects.{arrived_line}
 use Rattle.dr_store_writes.proofs.Maps.{equal}
 use Rattle.dr_store_changes.specs.declared.first.Taking.{Taking}
 use Rattle.dr_store_changes.specs.declared.first.Taking.TheVariants as taking
-use Rattle.dr_store_changes.specs.Bringing.{AreTargets, Brings, IsKnownFor, bodies_taken, items_taken, names_for}
+use Rattle.dr_store_changes.specs.Bringing.{AreTargets, Brings, HasCells, IsKnownFor, bodies_taken, items_taken, names_for}
 use Rattle.dr_store_changes.specs.Changes.{with_names}
 use Rattle.dr_store_changes.specs.Laws.{ArrivalsArrive, ComesWhereNeeded, DataSetsCome}
 use Rattle.dr_store_changes.proofs.Bookings.{came}
@@ -225,23 +223,23 @@ arrivals_arrive how old new n caller item body to keep below ahead known names w
 
 -- ---- the data sets
 
-module _ (b : Book) (caller : Text) (job : Job) (to : List Text) (keep : Bool) where
+module _ (b : Book) (caller : Text) (item : Instance) (cell : List ℕ) (to : List Text) (keep : Bool) where
   abbrev made : Book
-  made = after (Arrival caller (instance_of job) to keep) b
+  made = after (Arrival caller item to keep) b
 
   needed_still : (uid : Text) → IsNeeded b uid → IsNeeded made uid
   needed_still uid needed = elim needed [
-    | inl kept ↦ inl (still_kept keep b.kept job.uid uid kept)
-    | inr row ↦ inr (row.0, row.1, queued_stays to b.rows job.uid (uid, row.0) row.1 row.2 row.3, row.3)
+    | inl kept ↦ inl (still_kept keep b.kept item.uid uid kept)
+    | inr row ↦ inr (row.0, row.1, queued_stays to b.rows item.uid (uid, row.0) row.1 row.2 row.3, row.3)
   ]
 
-  needed_before : (uid : Text) → (uid ≡ job.uid → ⊥) → IsNeeded made uid → IsNeeded b uid
+  needed_before : (uid : Text) → (uid ≡ item.uid → ⊥) → IsNeeded made uid → IsNeeded b uid
   needed_before uid other needed = elim needed [
-    | inl kept ↦ elim (kept_from keep b.kept job.uid uid kept) [
+    | inl kept ↦ elim (kept_from keep b.kept item.uid uid kept) [
       | inl was ↦ inl was
       | inr is ↦ absurd (other is.0)
     ]
-    | inr row ↦ elim (row_came to b.rows job.uid (uid, row.0) row.1 row.2) [
+    | inr row ↦ elim (row_came to b.rows item.uid (uid, row.0) row.1 row.2) [
       | inl was ↦ inr (row.0, row.1, was, row.3)
       | inr is ↦ absurd (other is.0)
     ]
@@ -250,59 +248,38 @@ module _ (b : Book) (caller : Text) (job : Job) (to : List Text) (keep : Bool) w
   abbrev IsThere : Bodies → Text → Type 0
   IsThere bodies uid = (body : List ℕ) × (map.get bodies uid ≡ Some body)
 
-  same_thing : (x : Bodies) (bodies : Bodies) (q : Text) → map.get x q ≡ map.get bodies q → (q ≡ job.uid → ⊥) → HasBodies b bodies → IsThere x q ↔ IsNeeded made q
+  same_thing : (x : Bodies) (bodies : Bodies) (q : Text) → map.get x q ≡ map.get bodies q → (q ≡ item.uid → ⊥) → HasCells b bodies → IsThere x q ↔ IsNeeded made q
   same_thing x bodies q same other has = (
     λ there. needed_still q ((has.there q).0 (there.0, sym same ∙ there.1)),
     λ needed. let it = (has.there q).1 (needed_before q other needed) in (it.0, same ∙ it.1),
   )
 
   -- elsewhere all is as it was
-  elsewhere : (how : Taking) (bodies : Bodies) (q : Text) → eq_by_cmp text_cmp q job.uid ≡ false → map.get (bodies_taken how bodies job.uid job.body) q ≡ map.get bodies q
-  elsewhere taking.New bodies q other = get_other texts bodies job.uid job.body q other
+  elsewhere : (how : Taking) (bodies : Bodies) (q : Text) → eq_by_cmp text_cmp q item.uid ≡ false → map.get (bodies_taken how bodies item.uid cell) q ≡ map.get bodies q
+  elsewhere taking.New bodies q other = get_other texts bodies item.uid cell q other
   elsewhere taking.Bare bodies q other = refl
-  elsewhere taking.Again bodies q other = get_other texts bodies job.uid job.body q other
+  elsewhere taking.Again bodies q other = get_other texts bodies item.uid cell q other
   elsewhere taking.Nothing bodies q other = refl
 
   -- and here it is where it is needed
-  here : (how : Taking) (bodies : Bodies) → HasBodies b bodies → ComesWhereNeeded how made bodies job.uid → IsThere (bodies_taken how bodies job.uid job.body) job.uid ↔ IsNeeded made job.uid
-  here taking.New bodies has comes = (λ there. comes, λ needed. (job.body, get_new texts bodies job.uid job.body))
-  here taking.Bare bodies has comes = (λ there. needed_still job.uid ((has.there job.uid).0 there), λ needed. absurd (comes needed))
-  here taking.Again bodies has comes = (λ there. comes, λ needed. (job.body, get_new texts bodies job.uid job.body))
-  here taking.Nothing bodies has comes = (λ there. needed_still job.uid ((has.there job.uid).0 there), λ needed. comes needed)
+  here : (how : Taking) (bodies : Bodies) → HasCells b bodies → ComesWhereNeeded how made bodies item.uid → IsThere (bodies_taken how bodies item.uid cell) item.uid ↔ IsNeeded made item.uid
+  here taking.New bodies has comes = (λ there. comes, λ needed. (cell, get_new texts bodies item.uid cell))
+  here taking.Bare bodies has comes = (λ there. needed_still item.uid ((has.there item.uid).0 there), λ needed. absurd (comes needed))
+  here taking.Again bodies has comes = (λ there. comes, λ needed. (cell, get_new texts bodies item.uid cell))
+  here taking.Nothing bodies has comes = (λ there. needed_still item.uid ((has.there item.uid).0 there), λ needed. comes needed)
 
-  abbrev IsOwn : Book → Text → List ℕ → Type 0
-  IsOwn book uid body = (item : Job) × IsItem item × (item.body ≡ body) × (map.get book.items uid ≡ Some (instance_of item))
+  apart : (q : Text) → eq_by_cmp text_cmp q item.uid ≡ false → q ≡ item.uid → ⊥
+  apart q other same = true≢false (sym (ties_itself texts item.uid) ∙ ap (λ x. eq_by_cmp text_cmp x item.uid) (sym same) ∙ other)
 
-  own_still : (uid : Text) (body : List ℕ) → IsOwn b uid body → IsOwn made uid body
-  own_still uid body own = (own.0, own.1, own.2, filled_keeps texts b.items job.uid (instance_of job) uid (instance_of own.0) own.3)
-
-  its_own : ((held : Instance) → map.get b.items job.uid ≡ Some held → held ≡ instance_of job) → IsItem job → (body : List ℕ) → Some job.body ≡ Some body → IsOwn made job.uid body
-  its_own same is body e = (job, is, inside job.body body e, filled_is texts b.items job.uid (instance_of job) same)
-
-  own_here : (how : Taking) (bodies : Bodies) → HasBodies b bodies → ((held : Instance) → map.get b.items job.uid ≡ Some held → held ≡ instance_of job) → IsItem job → (body : List ℕ)
-      → map.get (bodies_taken how bodies job.uid job.body) job.uid ≡ Some body → IsOwn made job.uid body
-  own_here taking.New bodies has same is body h = its_own same is body (sym (get_new texts bodies job.uid job.body) ∙ h)
-  own_here taking.Bare bodies has same is body h = own_still job.uid body (has.own job.uid body h)
-  own_here taking.Again bodies has same is body h = its_own same is body (sym (get_new texts bodies job.uid job.body) ∙ h)
-  own_here taking.Nothing bodies has same is body h = own_still job.uid body (has.own job.uid body h)
-
-  apart : (q : Text) → eq_by_cmp text_cmp q job.uid ≡ false → q ≡ job.uid → ⊥
-  apart q other same = true≢false (sym (ties_itself texts job.uid) ∙ ap (λ x. eq_by_cmp text_cmp x job.uid) (sym same) ∙ other)
-
-  come : (how : Taking) (bodies : Bodies) → IsItem job → HasBodies b bodies → ((held : Instance) → map.get b.items job.uid ≡ Some held → held ≡ instance_of job)
-      → ComesWhereNeeded how made bodies job.uid → HasBodies made (bodies_taken how bodies job.uid job.body)
-  come how bodies is has same comes =
-      let now = bodies_taken how bodies job.uid job.body in
+  come : (how : Taking) (bodies : Bodies) → HasCells b bodies → ComesWhereNeeded how made bodies item.uid → HasCells made (bodies_taken how bodies item.uid cell)
+  come how bodies has comes =
+      let now = bodies_taken how bodies item.uid cell in
       record {
-        there = λ q. elim (same_or_not texts q job.uid) [
+        there = λ q. elim (same_or_not texts q item.uid) [
           | inl e ↦ subst (λ x. IsThere now x ↔ IsNeeded made x) (sym e) (here how bodies has comes)
           | inr other ↦ same_thing now bodies q (elsewhere how bodies q other) (apart q other) has
-        ];
-        own = λ q body h. elim (same_or_not texts q job.uid) [
-          | inl e ↦ subst (λ x. IsOwn made x body) (sym e) (own_here how bodies has same is body (subst (λ x. map.get now x ≡ Some body) e h))
-          | inr other ↦ own_still q body (has.own q body (sym (elsewhere how bodies q other) ∙ h))
         ];
       }
 
 pub data_sets_come : DataSetsCome
-data_sets_come how b caller job to keep bodies is has same comes = come b caller job to keep how bodies is has same comes
+data_sets_come how b caller item cell to keep cells has comes = come b caller item cell to keep how cells has comes

@@ -1,6 +1,6 @@
 -- First arrivals: what each makes of the tables.
-use Rattle.std.specs.Prelude.{◌≡◌, ◌≤◌, ◌==◌, ◌&&◌, ℕ, Bool, cond, not, List, [], ◌∷◌, Contains}
-use Rattle.std.specs.Prelude.{filter, true, false, Option, None, Some}
+use Rattle.std.specs.Prelude.{◌≡◌, ◌≤◌, ◌==◌, ◌&&◌, ◌↔◌, ℕ, Bool, cond, not, List, [], ◌∷◌}
+use Rattle.std.specs.Prelude.{Contains, filter, true, false, Option, None, Some}
 use Rattle.std.specs.FinMap as map
 use Rattle.std.specs.FinMap.{FinMap}
 use Rattle.std.specs.FinSet as set
@@ -10,8 +10,8 @@ use Rattle.dr_route.specs.Routes.{local}
 use Rattle.dr_ledger.specs.declared.item.Instance.{Instance}
 use Rattle.dr_ledger.specs.declared.item.Progress.{Progress}
 use Rattle.dr_ledger.specs.declared.item.Progress.TheVariants.{Waiting, Held, Done, Dropped}
-use Rattle.dr_ledger.specs.Bodies.{Bodies}
-use Rattle.dr_ledger.specs.Books.{with_rows}
+use Rattle.dr_ledger.specs.Bodies.{Bodies, IsNeeded}
+use Rattle.dr_ledger.specs.Books.{Book, with_rows}
 use Rattle.dr_ledger.specs.Pairs.{Pair, pair_cmp}
 use Rattle.dr_store_schema.specs.Books.{all_kept_in, arrivals_in, bodies_of, items_of}
 use Rattle.dr_store_schema.specs.Books.{names_in, rows_of}
@@ -124,6 +124,12 @@ IsKnownFor taking.New item found = found ≡ None
 IsKnownFor taking.Bare item found = found ≡ None
 IsKnownFor taking.Again item found = found ≡ Some item
 IsKnownFor taking.Nothing item found = found ≡ Some item
+
+-- ---- what is needed
+
+-- A cell is there exactly where the book needs a data set.
+pub record HasCells (b : Book) (cells : Bodies) : Type 0 where
+  pub there : (uid : Text) → ((cell : List ℕ) × (map.get cells uid ≡ Some cell)) ↔ IsNeeded b uid
 
 -- ---- lines that are still to come
 

@@ -6,24 +6,22 @@ use Rattle.std.specs.FinSet as set
 use Rattle.sqlite.specs.Order.{Row}
 use Rattle.sqlite.specs.Tree.{Trees}
 use Rattle.dr_base.specs.Texts.{Text}
-use Rattle.dr_ledger.specs.declared.content.Job.{Job}
 use Rattle.dr_ledger.specs.declared.item.Cause.{Cause}
 use Rattle.dr_ledger.specs.declared.item.Instance.{Instance}
 use Rattle.dr_ledger.specs.declared.item.Outcome.{Outcome}
 use Rattle.dr_ledger.specs.declared.item.Progress.{Progress}
 use Rattle.dr_ledger.specs.declared.item.Progress.TheVariants.{Waiting, Held}
-use Rattle.dr_ledger.specs.Bodies.{Bodies, HasBodies, IsNeeded}
+use Rattle.dr_ledger.specs.Bodies.{Bodies, IsNeeded}
 use Rattle.dr_ledger.specs.Books.{Book, Arrival, Repeat, Settling, Requeuing, Dropping, Forgetting}
 use Rattle.dr_ledger.specs.Books.{after, row_after}
-use Rattle.dr_ledger.specs.Items.{IsItem, instance_of}
 use Rattle.dr_ledger.specs.Replies.{IsOver}
 use Rattle.dr_store_schema.specs.Books.{AreBelow, all_kept_in, bodies_of, book_of, items_of}
 use Rattle.dr_store_schema.specs.Books.{rows_of}
 use Rattle.dr_store_writes.specs.Effects.{arrived_line, requeued_line, settled_line}
 use Rattle.dr_store_changes.specs.declared.first.Taking.{Taking}
 use Rattle.dr_store_changes.specs.declared.first.Taking.TheVariants as taking
-use Rattle.dr_store_changes.specs.Bringing.{AreTargets, Brings, GoNowhere, IsKnownFor, bodies_taken}
-use Rattle.dr_store_changes.specs.Bringing.{given_up, missing, names_for}
+use Rattle.dr_store_changes.specs.Bringing.{AreTargets, Brings, GoNowhere, HasCells, IsKnownFor}
+use Rattle.dr_store_changes.specs.Bringing.{bodies_taken, given_up, missing, names_for}
 use Rattle.dr_store_changes.specs.Changes.{AddsOnlyLine, GivesUp, MovesOn, TakesOut}
 
 -- Where a row waits, to move it on by an outcome with the line of its settling is to settle it.
@@ -61,26 +59,26 @@ abbrev pub GoesWhereNeededNoMore : Bool → Trees → Text → Type 0
 GoesWhereNeededNoMore true new uid = IsNeeded (book_of new) uid → ⊥
 GoesWhereNeededNoMore false new uid = IsNeeded (book_of new) uid
 
--- A row that waited or was held moves on. Where its data set goes just if it is needed no more, the
--- data sets are those that are needed.
+-- A row that waited or was held moves on. Where its cell goes just if it is needed no more, the
+-- cells that are there are those that are needed.
 abbrev pub WhatIsNeededStays : Type 0
 WhatIsNeededStays =
     (old new : Trees) (uid dest : Text) (was to : Progress) (line : Row) (lets_go : Bool)
-    → HasBodies (book_of old) (bodies_of old)
+    → HasCells (book_of old) (bodies_of old)
     → IsNeeded (book_of old) uid
     → MovesOn (uid, dest) to line lets_go old new
     → GoesWhereNeededNoMore lets_go new uid
-    → HasBodies (book_of new) (bodies_of new)
+    → HasCells (book_of new) (bodies_of new)
 
 -- The same of a row that is dropped.
 abbrev pub WhatIsNeededStaysAtADropping : Type 0
 WhatIsNeededStaysAtADropping =
     (old new : Trees) (n : ℕ) (uid dest : Text) (now : ℕ) (lets_go : Bool)
-    → HasBodies (book_of old) (bodies_of old)
+    → HasCells (book_of old) (bodies_of old)
     → IsNeeded (book_of old) uid
     → GivesUp uid dest now n lets_go old new
     → GoesWhereNeededNoMore lets_go new uid
-    → HasBodies (book_of new) (bodies_of new)
+    → HasCells (book_of new) (bodies_of new)
 
 -- The line of a repeat, with what came, is all that a repeat adds to the book.
 abbrev pub RepeatsRepeat : Type 0
@@ -113,17 +111,15 @@ ComesWhereNeeded taking.Again made bodies uid = IsNeeded made uid
 ComesWhereNeeded taking.Nothing made bodies uid =
     IsNeeded made uid → (body : List ℕ) × (map.get bodies uid ≡ Some body)
 
--- Where the data set of what arrives comes just if it is needed, the data sets that are there are
--- those that are needed.
+-- Where the cell of what arrives comes just if it is needed, the cells that are there are those
+-- that are needed.
 abbrev pub DataSetsCome : Type 0
 DataSetsCome =
-    (how : Taking) (b : Book) (caller : Text) (job : Job) (to : List Text) (keep : Bool)
-    (bodies : Bodies)
-    → IsItem job → HasBodies b bodies
-    → ((held : Instance) → map.get b.items job.uid ≡ Some held → held ≡ instance_of job)
-    → ComesWhereNeeded how (after (Arrival caller (instance_of job) to keep) b) bodies job.uid
-    → HasBodies (after (Arrival caller (instance_of job) to keep) b)
-    (bodies_taken how bodies job.uid job.body)
+    (how : Taking) (b : Book) (caller : Text) (item : Instance) (cell : List ℕ) (to : List Text)
+    (keep : Bool) (cells : Bodies)
+    → HasCells b cells
+    → ComesWhereNeeded how (after (Arrival caller item to keep) b) cells item.uid
+    → HasCells (after (Arrival caller item to keep) b) (bodies_taken how cells item.uid cell)
 
 -- Where what is of an instance leaves, with the line of its forgetting, the instance is forgotten.
 abbrev pub ForgettingsForget : Type 0
@@ -137,7 +133,7 @@ ForgettingsForget =
 abbrev pub ForgettingsLetNoDataSetGo : Type 0
 ForgettingsLetNoDataSetGo =
     (old new : Trees) (n : ℕ) (uid : Text)
-    → HasBodies (book_of old) (bodies_of old)
+    → HasCells (book_of old) (bodies_of old)
     → IsOver (book_of old) uid
     → TakesOut uid n old new
     → bodies_of new ≡ bodies_of old

@@ -246,7 +246,7 @@ module _ (part : Part) (old new : State) (has : HasTables old.now) (live : IsLiv
                 below = subst (λ (d : Database). AreBelow n (d.trees 11)) (sym is.1) all.below;
               };
               ledger = subst (λ (d : Database). IsLedgerOf n part d.trees) back
-                  (record { ahead = all.hold.found.ahead; journalled = all.hold.found.journalled; bodied = record { there = all.hold.found.there; own = all.own } });
+                  (record { ahead = all.hold.found.ahead; journalled = all.hold.found.journalled; bodied = record { there = all.hold.found.there } });
             };
             owned = subst (λ (d : Database). IsOwnedBy part d.trees) back shown.1.1;
             next = subst (λ (d : Database). IsNext n d.trees) back all.next;

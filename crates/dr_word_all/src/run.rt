@@ -1,7 +1,7 @@
 //! A run of the whole program.
 ghost use Rattle.std.specs.Prelude.{◌⊎◌, IfOk};
 ghost use Rattle.dr_word_all.specs.Tasks.{DoesTask};
-ghost use Rattle.dr_word_check.specs.Tasks.{HasFailed};
+ghost use Rattle.dr_word_check.specs.Tasks.{HasFailedStatus};
 ghost use Rattle.dr_word_json.specs.Runs.{IsAsJson};
 ghost use Rattle.dr_word_line.specs.Words.{Asks};
 ghost use Rattle.dr_word_line.specs.declared.words.Task.{Task as TaskValue};
@@ -209,7 +209,7 @@ where
     N::Listener: Sync,
     ensures { (asked : TaskValue)
         → Asks words.now asked
-        → HasFailed result
+        → HasFailedStatus result
         ⊎ DoesTask (F.holds system.entry.files.now) (O.opens system.entry.ledgers.now)
         O.Ledger.site O.Ledger.book O.Ledger.stands (N.connects system.entry.network.now)
         N.Socket.hears N.Socket.sends N.Socket.closes ⟦<OwnPort<O::Ledger> as DeskPort>⟧.step

@@ -20,8 +20,3 @@ three_fields o a b c p q r first second third =
 -- a line of a word, two fields, further fields, and its end
 pub as_row : (w u d f l : List ℕ) → w ++ u ++ d ++ f ++ l ≡ (w ++ (u ++ (d ++ f))) ++ l
 as_row w u d f l = simp append_assoc
-
--- a word, nine fields, of which six were added in pairs, and what ends their line
-pub as_fields : (w d a b e f g h o m l : List ℕ)
-    → w ++ d ++ (a ++ b) ++ (e ++ f) ++ (g ++ h) ++ o ++ m ++ l ≡ (w ++ (d ++ (a ++ (b ++ (e ++ (f ++ (g ++ (h ++ (o ++ (m ++ [])))))))))) ++ l
-as_fields w d a b e f g h o m l = simp (append_assoc, append-nil)

@@ -1,17 +1,12 @@
 -- The lines that are printed of what a node answers.
-use Rattle.std.specs.Prelude.{◌≡◌, ◌⊎◌, ℕ, List, [], ◌∷◌, codes, decimal}
-use Rattle.std.specs.Prelude.{Option, Some}
+use Rattle.std.specs.Prelude.{◌≡◌, ◌⊎◌, ℕ, List, [], ◌∷◌, codes, decimal, Some}
 use Rattle.serde_json.specs.Data.{Data}
 use Rattle.dr_base.specs.Texts.{Text}
-use Rattle.dr_ledger_report.specs.Reports.{line_of, number_field}
+use Rattle.dr_ledger_report.specs.Reports.{line_of}
 use Rattle.dr_run_ask.specs.Lines.{number_at, text_at}
+use Rattle.dr_word_list.specs.Summaries.{queue_line}
 
 -- the line of the rows to a node says how many there are, and this is printed of it
-abbrev pub queue_line : Text → ℕ → ℕ → ℕ → Option ℕ → Text
-queue_line dest waiting held done due =
-    line_of (codes "queue") (dest ∷ codes "waiting" ∷ decimal waiting ∷ codes "held" ∷ decimal held
-    ∷ codes "done" ∷ decimal done ∷ codes "oldest" ∷ number_field due ∷ [])
-
 abbrev pub ShowsQueue : Data → Text → Type 0
 ShowsQueue value line =
     (dest : Text) × (waiting : ℕ) × (held : ℕ) × (done : ℕ)

@@ -1,15 +1,15 @@
 //! The lines that are printed of what a node that runs answers.
 ghost use Rattle.std.specs.Prelude.{◌≡◌, ◌++◌, ◌∷◌, ◌↔◌, [], IfOk, IsTrue, List, OnOk, Some};
-ghost use Rattle.std.specs.Prelude.{decimal, flat_map};
+ghost use Rattle.std.specs.Prelude.{flat_map};
 ghost use Rattle.serde_json.specs.View.{view};
 ghost use Rattle.dr_base.specs.Texts.{Text as Words, next_field};
 ghost use Rattle.dr_run_ask.specs.Lines.{number_at, text_at};
 ghost use Rattle.dr_word_at.specs.Printing.{IsHeld, IsStage, IsWaiting, ShowsProgress};
-ghost use Rattle.dr_word_at.specs.Printing.{ShowsQueue, ShowsRow, queue_line};
+ghost use Rattle.dr_word_at.specs.Printing.{ShowsQueue, ShowsRow};
 
 use dr_base::fields::{add_field, add_number};
-use dr_ledger_report::put_moment;
 use dr_run_ask::{AskFault, number_at, text_at};
+use dr_word_list::{QueueCounts, put_queue_line};
 use serde_json::Value;
 use std::alloc::AllocError;
 
@@ -46,46 +46,11 @@ fn put_text(out: &mut Vec<u8>, text: &str) -> Result<(), AllocError>
     add_field(out, text.as_bytes())
 }
 
-/// How many rows to a node wait, are held and are done, and from when on the first one is due.
-#[derive(Clone, Copy)]
-struct Counted {
-    waiting: u64,
-    held: u64,
-    done: u64,
-    due: Option<u64>,
-}
-
 /// Ends a line.
 fn put_end(out: &mut Vec<u8>) -> Result<(), AllocError>
     ensures { OnOk result (out.new.items ≡ out.old.items ++ (10 ∷ [])) }
 {
     out.push(LF)?;
-    Ok(())
-}
-
-/// Adds a number behind its word.
-fn put_counted(out: &mut Vec<u8>, word: &[u8], count: u64) -> Result<(), AllocError>
-    ensures { OnOk result
-        (out.new.items ≡ out.old.items ++ (next_field word.now ++ next_field (decimal count))) }
-{
-    add_field(out, word)?;
-    add_number(out, count)
-}
-
-/// Adds the line of the rows to a node, of which there are so many.
-fn put_counts(out: &mut Vec<u8>, dest: &str, counted: Counted) -> Result<(), AllocError>
-    ensures { OnOk result
-        (out.new.items ≡ out.old.items
-        ++ queue_line dest.now counted.waiting counted.held counted.done counted.due) }
-{
-    out.extend_from_slice(b"queue")?;
-    put_text(out, dest)?;
-    put_counted(out, b"waiting", counted.waiting)?;
-    put_counted(out, b"held", counted.held)?;
-    put_counted(out, b"done", counted.done)?;
-    add_field(out, b"oldest")?;
-    put_moment(out, counted.due)?;
-    put_end(out)?;
     Ok(())
 }
 
@@ -102,13 +67,13 @@ pub(crate) fn put_queue(out: &mut Vec<u8>, value: &Value) -> Result<(), AskFault
     let waiting = number_in(value, "waiting")?;
     let held = number_in(value, "held")?;
     let done = number_in(value, "done")?;
-    let counted = Counted {
+    let counts = QueueCounts {
         waiting,
         held,
         done,
-        due: number_at(value, "due"),
+        oldest: number_at(value, "due"),
     };
-    put_counts(out, dest, counted)?;
+    put_queue_line(out, dest.as_bytes(), counts)?;
     Ok(())
 }
 

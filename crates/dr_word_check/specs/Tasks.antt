@@ -11,8 +11,8 @@ use Rattle.dr_word_check.specs.Expanded.{Expanded}
 use Rattle.dr_word_check.specs.Runs.{Answers, Verifies}
 
 -- the program ends so where the input or an output failed, a file wasn't read, or memory ran out
-abbrev pub HasFailed : Status → Type 0
-HasFailed status = (status ≡ InputOutput) ⊎ (status ≡ Memory)
+abbrev pub HasFailedStatus : Status → Type 0
+HasFailedStatus status = (status ≡ InputOutput) ⊎ (status ≡ Memory)
 
 -- A run that was asked for a task, and came to its end: by the task what it prints after what the
 -- output held, and with which status it ends. `Holds` says of a path and a text that the file of

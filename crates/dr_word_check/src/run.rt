@@ -4,7 +4,7 @@ ghost use Rattle.dr_base.specs.Texts.{Text};
 ghost use Rattle.std.specs.Io.KnownBytes.{Appends};
 ghost use Rattle.dr_word_check.specs.Verdicts.{verdict_line};
 ghost use Rattle.dr_word_check.specs.Runs.{Answers, Verifies};
-ghost use Rattle.dr_word_check.specs.Tasks.{DoesOnTexts, HasFailed};
+ghost use Rattle.dr_word_check.specs.Tasks.{DoesOnTexts, HasFailedStatus};
 ghost use Rattle.dr_run_open.specs.declared.status.Status.TheVariants.{Memory, Refused, Usage};
 
 use crate::all::{answer_file_with_all, answer_input_with_all};
@@ -135,7 +135,7 @@ fn tell_words<W: Write, E: Write>(
 
 /// Writes why the run failed, and ends so; a fault that can't be written is left unwritten.
 pub fn tell_failure<E: Write>(failure: &Failure<'_>, faults: &mut E) -> Status
-    ensures { HasFailed result }
+    ensures { HasFailedStatus result }
 {
     let (Failure::Stream(error) | Failure::File(_, error)) = failure;
     if error.kind() == io::ErrorKind::OutOfMemory {

@@ -14,8 +14,8 @@ use Rattle.dr_word_echo.specs.declared.outcome.EchoOutcome.{EchoOutcome}
 
 -- a run for a text that has a plan: an outcome, of which `MayCome` says that it may come of the
 -- plan, is printed after what the output held, and the program ends with its status
-pub record Asks (MayCome : Network → EchoOutcome → Type 0) (text : Text) (old new : Option (List ℕ))
-    (status : Status) : Type 0 where
+pub record PrintsOutcome (MayCome : Network → EchoOutcome → Type 0) (text : Text)
+    (old new : Option (List ℕ)) (status : Status) : Type 0 where
   pub plan : Network
   pub reads : Reads text (Ok plan)
   pub outcome : EchoOutcome
@@ -31,6 +31,6 @@ abbrev pub Echoes : {L : Type 0} → (Text → Result L Error → Type 0) → (L
     → Status → Type 0
 Echoes connects hears sends closes tells caller called text old new status =
     Refuses text old new status
-    ⊎ Asks
+    ⊎ PrintsOutcome
     (λ plan outcome. IsOutcomeOf connects hears sends closes tells plan caller called outcome) text
     old new status

@@ -22,19 +22,20 @@ use Rattle.dr_run_open.specs.declared.hops.NextHop.{NextHop}
 abbrev pub count_line : Text → ℕ → Text
 count_line word count = line_of word (decimal count ∷ [])
 
--- the line of a node to which this one sends: how many rows for it wait, are held and are done, and
--- that moment
-abbrev pub queue_line : List Row → Text → Option ℕ → Text
-queue_line rows dest oldest = line_of (codes "queue") (dest
-    ∷ codes "waiting" ∷ decimal (how_many rows dest (Some stages.Waiting))
-    ∷ codes "held" ∷ decimal (how_many rows dest (Some stages.Held))
-    ∷ codes "done" ∷ decimal (how_many rows dest (Some stages.Done))
-    ∷ codes "oldest" ∷ number_field oldest ∷ [])
+-- the line of a node to which another one sends: how many rows for it wait, are held and are done,
+-- and from which moment on the first one that waits is due
+abbrev pub queue_line : Text → ℕ → ℕ → ℕ → Option ℕ → Text
+queue_line dest waiting held done oldest =
+    line_of (codes "queue") (dest ∷ codes "waiting" ∷ decimal waiting ∷ codes "held" ∷ decimal held
+    ∷ codes "done" ∷ decimal done ∷ codes "oldest" ∷ number_field oldest ∷ [])
 
--- the line of that node, with the earliest moment from which on a row is due that waits for it
+-- the line of that node, by these rows
 abbrev pub IsQueueLine : List Row → Text → Text → Type 0
 IsQueueLine rows dest line =
-    (oldest : Option ℕ) × IsLeast (dues rows dest) oldest × (line ≡ queue_line rows dest oldest)
+    (oldest : Option ℕ) × IsLeast (dues rows dest) oldest
+    × (line
+    ≡ queue_line dest (how_many rows dest (Some stages.Waiting))
+    (how_many rows dest (Some stages.Held)) (how_many rows dest (Some stages.Done)) oldest)
 
 -- the lines of the nodes to which the hops lead, in the order of the hops
 abbrev pub AreQueueLines : List Row → List NextHop → Text → Type 0

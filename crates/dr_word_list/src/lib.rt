@@ -2,7 +2,8 @@
 //!
 //! `LedgerClerk` does them: `make` the word `new`; `list` and `requeue` the words of these names;
 //! `summarize` and `requeue_all` these with the options that count what there is, and that take all
-//! held rows to a node; `give_up` and `forget` the words `drop` and `forget`.
+//! held rows to a node; `give_up` and `forget` the words `drop` and `forget`. `put_queue_line` adds
+//! the line of the rows to a node to such a summary, of whatever node they are.
 //!
 //! By a `Registry` it comes to a ledger, as `open_node` of `dr_run_open` does.
 #![tactic(auto)]
@@ -20,4 +21,5 @@ mod texts;
 pub use clerk::LedgerClerk;
 pub use dropping::GivenUp;
 pub use requeuing::HeldRow;
+pub use summary::{QueueCounts, put_queue_line};
 pub use texts::Registry;

@@ -1,7 +1,8 @@
 //! The option `--summary` of the word `list`.
 ghost use Rattle.std.specs.Prelude.{◌≡◌, ◌++◌, IfOk, OnOk, Some, decimal};
 ghost use Rattle.dr_base.specs.Texts.{Text as Words, next_field};
-ghost use Rattle.dr_ledger_views.specs.Views.{how_many as number_of};
+ghost use Rattle.dr_ledger_views.specs.Views.{IsLeast, dues, how_many as number_of};
+ghost use Rattle.dr_ledger_views.specs.declared.stage.Stage.TheVariants as stages;
 ghost use Rattle.dr_run_open.specs.Hops.{hops_from};
 ghost use Rattle.dr_word_list.specs.Summaries.{AreQueueLines, IsQueueLine, IsSummary, IsSummaryOf};
 ghost use Rattle.dr_word_list.specs.Summaries.{count_line, queue_line};
@@ -27,42 +28,56 @@ fn put_count(out: &mut Vec<u8>, word: &[u8], count: usize) -> Result<(), AllocEr
     Ok(())
 }
 
-/// Adds how many rows for that node are at this stage, behind a word for the stage.
-fn put_stage(
-    out: &mut Vec<u8>,
-    word: &[u8],
-    rows: &[Row],
-    dest: &Text,
-    stage: Stage,
-) -> Result<(), AllocError>
+/// How many rows to a node wait, are held and are done, and from when on the first one that waits
+/// is due.
+#[derive(Clone, Copy)]
+pub struct QueueCounts {
+    pub waiting: u64,
+    pub held: u64,
+    pub done: u64,
+    pub oldest: Option<u64>,
+}
+
+/// Adds a number behind its word.
+fn put_counted(out: &mut Vec<u8>, word: &[u8], count: u64) -> Result<(), AllocError>
+    ensures { OnOk result
+        (out.new.items ≡ out.old.items ++ (next_field word.now ++ next_field (decimal count))) }
+{
+    add_field(out, word)?;
+    add_number(out, count)
+}
+
+/// Adds the line of the rows to a node, of which there are so many.
+pub fn put_queue_line(out: &mut Vec<u8>, dest: &[u8], counts: QueueCounts) -> Result<(), AllocError>
     ensures { OnOk result
         (out.new.items
         ≡ out.old.items
-        ++ (next_field word.now
-        ++ next_field (decimal (number_of rows.now dest.now (Some stage))))) }
-{
-    add_field(out, word)?;
-    add_number(out, how_many(rows, dest, stage))
-}
-
-/// Adds the line of a node to which this one sends, with this moment.
-fn put_queue_line(
-    out: &mut Vec<u8>,
-    rows: &[Row],
-    dest: &Text,
-    oldest: Option<u64>,
-) -> Result<(), AllocError>
-    ensures { OnOk result (out.new.items ≡ out.old.items ++ queue_line rows.now dest.now oldest) }
+        ++ queue_line dest.now counts.waiting counts.held counts.done counts.oldest) }
 {
     out.extend_from_slice(b"queue")?;
-    add_field(out, dest.as_bytes())?;
-    put_stage(out, b"waiting", rows, dest, Stage::Waiting)?;
-    put_stage(out, b"held", rows, dest, Stage::Held)?;
-    put_stage(out, b"done", rows, dest, Stage::Done)?;
+    add_field(out, dest)?;
+    put_counted(out, b"waiting", counts.waiting)?;
+    put_counted(out, b"held", counts.held)?;
+    put_counted(out, b"done", counts.done)?;
     add_field(out, b"oldest")?;
-    put_moment(out, oldest)?;
+    put_moment(out, counts.oldest)?;
     out.push(LF)?;
     Ok(())
+}
+
+/// How many of the rows go there, and from when on the first one that waits is due.
+fn counts_of(rows: &[Row], dest: &Text) -> QueueCounts
+    ensures waiting { result.waiting ≡ number_of rows.now dest.now (Some stages.Waiting) }
+    ensures held { result.held ≡ number_of rows.now dest.now (Some stages.Held) }
+    ensures done { result.done ≡ number_of rows.now dest.now (Some stages.Done) }
+    ensures oldest { IsLeast (dues rows.now dest.now) result.oldest }
+{
+    QueueCounts {
+        waiting: how_many(rows, dest, Stage::Waiting),
+        held: how_many(rows, dest, Stage::Held),
+        done: how_many(rows, dest, Stage::Done),
+        oldest: first_due(rows, dest),
+    }
 }
 
 /// Adds the line of a node to which this one sends.
@@ -72,8 +87,8 @@ fn put_queue(out: &mut Vec<u8>, rows: &[Row], dest: &Text) -> Result<(), AllocEr
         × IsQueueLine rows.now dest.now line
         × (out.new.items ≡ out.old.items ++ line)) }
 {
-    let moment = first_due(rows, dest);
-    put_queue_line(out, rows, dest, moment)?;
+    let counts = counts_of(rows, dest);
+    put_queue_line(out, dest.as_bytes(), counts)?;
     Ok(())
 }
 

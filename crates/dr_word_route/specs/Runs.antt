@@ -96,9 +96,9 @@ pub record JudgesAndAnswers (Holds : List ℕ → Text → Type 0) (path : List 
 
 -- a run on a question about the plan in the one file, whose certificate is in the other: the first
 -- text has no plan, or it goes on to the certificate and the question
-abbrev pub Asks : (List ℕ → Text → Type 0) → Bor (List ℕ) → Bor (List ℕ) → Question
+abbrev pub AnswersQuestion : (List ℕ → Text → Type 0) → Bor (List ℕ) → Bor (List ℕ) → Question
     → Option (List ℕ) → Option (List ℕ) → Status → Type 0
-Asks Holds plan certificate question old new status =
+AnswersQuestion Holds plan certificate question old new status =
     (text : Text) × Holds plan.now text
     × (Refuses text old new status
     ⊎ JudgesAndAnswers Holds certificate.now question text old new status)

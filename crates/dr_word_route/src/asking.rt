@@ -7,9 +7,8 @@ ghost use Rattle.dr_run_open.specs.Answers.{Refuses};
 ghost use Rattle.dr_run_open.specs.declared.status.Status.TheVariants.{Refused, Memory};
 ghost use Rattle.dr_word_route.specs.Keys.{ReadsFileKey, ReadsWords};
 ghost use Rattle.dr_word_route.specs.Replies.{IsRouteReply, IsSiteReply, printed_for};
-ghost use Rattle.dr_word_route.specs.Runs.{Asks, ReplyIsTold, JudgesAndAnswers, Replies, Responds};
-ghost use Rattle.dr_word_route.specs.Runs.{AnswersSealed};
-ghost use Rattle.dr_word_route.specs.Runs.{strict_status};
+ghost use Rattle.dr_word_route.specs.Runs.{AnswersQuestion, ReplyIsTold, JudgesAndAnswers, Replies};
+ghost use Rattle.dr_word_route.specs.Runs.{AnswersSealed, Responds, strict_status};
 ghost use Rattle.dr_word_route.specs.Unsealing.{AnswersUnsealed};
 
 use crate::keys::{key_of_file, key_of_words, site_of};
@@ -246,8 +245,8 @@ impl<F: Files, W: Write, E: Write> Asker<'_, F, W, E> {
         question: Question<'a>,
     ) -> Result<Status, Failure<'a>>
         ensures { IfOk result
-            (Asks (F.holds self.entry.files.now) plan.entry certificate.entry question.entry
-            (W.contents self.entry.output.now) (W.contents self.exit.0.now)) }
+            (AnswersQuestion (F.holds self.entry.files.now) plan.entry certificate.entry
+            question.entry (W.contents self.entry.output.now) (W.contents self.exit.0.now)) }
     {
         let text = read_file(alloc, self.files, plan)?;
         self.ask_text(alloc, text.as_slice(), certificate, question)

@@ -1,6 +1,6 @@
 //! A run of the program for plans.
 ghost use Rattle.std.specs.Prelude.{◌⊎◌, IfOk};
-ghost use Rattle.dr_word_check.specs.Tasks.{HasFailed};
+ghost use Rattle.dr_word_check.specs.Tasks.{HasFailedStatus};
 ghost use Rattle.dr_word_line.specs.Words.{Asks};
 ghost use Rattle.dr_word_line.specs.declared.words.Task.{Task as TaskValue};
 ghost use Rattle.dr_word_route.specs.Tasks.{DoesOnPlans};
@@ -54,7 +54,7 @@ pub fn run_plan_words<R: Read, W: Write, E: Write, F: Files>(
 ) -> Status
     ensures { (asked : TaskValue)
         → Asks words.now asked
-        → HasFailed result
+        → HasFailedStatus result
         ⊎ DoesOnPlans (F.holds files.now) (R.remaining input.old) asked (W.contents output.old)
         (W.contents output.new) result }
 {

@@ -1,11 +1,18 @@
 -- What a script tells, and what can be done of it.
-use Rattle.std.proofs.Common.{◌≡◌, ℕ, suc, ◌<◌, List, [], ◌∷◌, ◌++◌, length, refl, sym, ap, subst, ◌∙◌, arith, length-append}
+use Rattle.std.proofs.Common.{◌≡◌, ℕ, suc, ◌<◌, List, [], ◌∷◌, ◌++◌, length, refl, sym, ap, subst, ◌∙◌, arith, length-append, inl, inr}
 use Rattle.std.specs.List.{AllZip}
 use Rattle.std.proofs.lemmas.List.{nil_from_length}
+use Rattle.std.specs.Prelude.{Contains}
 use Rattle.dr_base.specs.Texts.{Text}
+use Rattle.dr_cert.specs.Sealing.{Certified}
+use Rattle.dr_plan_model.proofs.Gathered.{Contains-cons_cases, Contains-here, Contains-there, nothing_in_nil}
 use Rattle.dr_plan_model.specs.Networks.{Network}
 use Rattle.dr_plan_sound.specs.declared.certificate.Certificate.{Certificate}
 use Rattle.dr_world.specs.declared.deed.Deed.{Deed}
+use Rattle.dr_world.specs.declared.deed.Deed.TheVariants as deed
+use Rattle.dr_world.specs.declared.fault.WorldFault.{WorldFault}
+use Rattle.dr_world.specs.declared.fault.WorldFault.TheVariants as fault
+use Rattle.dr_world.specs.Played.{EndsEarly, HasChange, IsChange}
 use Rattle.dr_world_script.specs.declared.act.Act.{Act}
 use Rattle.dr_world_script.specs.declared.act.Act.TheVariants as act
 use Rattle.dr_world_script.specs.Scripts.{IsLineAt, IsScriptOf, Tells, told_lines}
@@ -15,7 +22,8 @@ use Rattle.dr_word_simulate.specs.declared.deeds.ActFault.TheVariants as stop
 use Rattle.dr_word_simulate.specs.declared.outcome.PlayOutcome.{PlayOutcome}
 use Rattle.dr_word_simulate.specs.declared.outcome.PlayOutcome.TheVariants.{Report, NoScript, Unsealed, Unread, Store, HalfAdopted, Memory}
 use Rattle.dr_word_simulate.specs.Deeds.{AddsDeed, IsDeedOf, IsUndone, StopsAt}
-use Rattle.dr_word_simulate.specs.Outcomes.{IsOutcomeOf, StopsAs}
+use Rattle.dr_word_simulate.specs.Outcomes.{HasChangeIn, IsOutcomeOf, StopsAs}
+use Rattle.dr_word_simulate.specs.Reported.{IsUnreported}
 
 -- lists that are told or done one by one are as long
 zip_length : {X Y : Type 0} (P : X → Y → Type 0) (xs : List X) (ys : List Y) → AllZip P xs ys → length xs ≡ length ys
@@ -76,19 +84,49 @@ module _ (Holds : Text → Text → Type 0) where
   stopped plan certificate text acts place stop.Unsealed (NoScript line) script at came = absurd came
   stopped plan certificate text acts place stop.Unsealed (Unread path error) script at came = tt
   stopped plan certificate text acts place stop.Unsealed Store script at came = tt
-  stopped plan certificate text acts place stop.Unsealed HalfAdopted script at came = tt
+  stopped plan certificate text acts place stop.Unsealed HalfAdopted script at came = absurd came
   stopped plan certificate text acts place stop.Unsealed Memory script at came = tt
   stopped plan certificate text acts place (stop.Unread named why) (Report report) script at came = absurd came
   stopped plan certificate text acts place (stop.Unread named why) (NoScript line) script at came = absurd came
   stopped plan certificate text acts place (stop.Unread named why) (Unsealed line) script at came = absurd came
   stopped plan certificate text acts place (stop.Unread named why) (Unread path error) script at came = tt
   stopped plan certificate text acts place (stop.Unread named why) Store script at came = tt
-  stopped plan certificate text acts place (stop.Unread named why) HalfAdopted script at came = tt
+  stopped plan certificate text acts place (stop.Unread named why) HalfAdopted script at came = absurd came
   stopped plan certificate text acts place (stop.Unread named why) Memory script at came = tt
   stopped plan certificate text acts place stop.Memory (Report report) script at came = absurd came
   stopped plan certificate text acts place stop.Memory (NoScript line) script at came = absurd came
   stopped plan certificate text acts place stop.Memory (Unsealed line) script at came = absurd came
   stopped plan certificate text acts place stop.Memory (Unread path error) script at came = tt
   stopped plan certificate text acts place stop.Memory Store script at came = tt
-  stopped plan certificate text acts place stop.Memory HalfAdopted script at came = tt
+  stopped plan certificate text acts place stop.Memory HalfAdopted script at came = absurd came
   stopped plan certificate text acts place stop.Memory Memory script at came = tt
+
+-- ---- changes of plan
+
+-- a change among the deeds is one among the lines
+told_change : (Holds : Text → Text → Type 0) (acts : List Act) (deeds : List Deed) (next : Certified) → AllZip (IsDeedOf Holds) acts deeds → Contains deeds (deed.Adopt next)
+    → (plan certificate : Text) × Contains acts (act.Adopt plan certificate)
+told_change Holds [] [] next h among = absurd (nothing_in_nil (deed.Adopt next) among)
+told_change Holds [] (done ∷ deeds) next h among = absurd h
+told_change Holds (a ∷ acts) [] next h among = absurd h
+told_change Holds (a ∷ acts) (done ∷ deeds) next h among = elim (Contains-cons_cases done deeds (deed.Adopt next) among) [
+  | inl same ↦ here a done same h.0
+  | inr later ↦ (let found = told_change Holds acts deeds next h.1 later in (found.0, found.1, Contains-there a acts (act.Adopt found.0 found.1) found.2))
+]
+  where
+    here : (b : Act) (one : Deed) → one ≡ deed.Adopt next → IsDeedOf Holds b one → (plan certificate : Text) × Contains (b ∷ acts) (act.Adopt plan certificate)
+    here (act.Adopt plan certificate) (deed.Adopt sealed) same is = (plan, certificate, Contains-here (act.Adopt plan certificate) acts)
+    here (act.Step step) (deed.Adopt sealed) same is = absurd is
+    here (act.Bytes link side bytes) (deed.Adopt sealed) same is = absurd is
+    here a (deed.Step done) same is = absurd (subst IsChange (sym same) tt)
+    here a (deed.Bytes link side bytes) same is = absurd (subst IsChange (sym same) tt)
+
+pub has_change : (Holds : Text → Text → Type 0) (text : Text) (acts : List Act) (deeds : List Deed) → IsScriptOf text acts → AllZip (IsDeedOf Holds) acts deeds → HasChange deeds → HasChangeIn text
+has_change Holds text acts deeds script done (next, among) = (acts, script, told_change Holds acts deeds next done among)
+
+-- why there is no report, where a run comes to an end before its last deed
+pub ended_early : (deeds : List Deed) (f : WorldFault) → EndsEarly (HasChange deeds) f → IsUnreported deeds f
+ended_early deeds fault.Memory h = tt
+ended_early deeds fault.HalfAdopted h = h
+ended_early deeds fault.WrongLedgers h = absurd h
+ended_early deeds fault.Store h = absurd h

@@ -1,5 +1,5 @@
 -- What comes of a script that is played in a world of a plan's nodes.
-use Rattle.std.specs.Prelude.{ℕ, List, []}
+use Rattle.std.specs.Prelude.{ℕ, List, [], Contains}
 use Rattle.std.specs.List.{AllZip}
 use Rattle.dr_base.specs.Texts.{Text}
 use Rattle.dr_plan_model.specs.Networks.{Network}
@@ -40,8 +40,14 @@ IsUnsealedAt Holds text n =
     × IsLineOf text n (Adopt plan certificate)
     × IsUnsealedBy (Holds plan) (Holds certificate)
 
+-- the text is a script that has a change of plan
+abbrev pub HasChangeIn : Text → Type 0
+HasChangeIn text =
+    (acts : List Act) × IsScriptOf text acts
+    × ((plan certificate : Text) × Contains acts (Adopt plan certificate))
+
 -- what may come of a text; want of memory, a store that fails, and a file that isn't read, may come
--- of any
+-- of any; a store that fails in a change of plan, of a script that has one
 abbrev pub IsOutcomeOf : (Text → Text → Type 0) → Network → Certificate → Text → PlayOutcome
     → Type 0
 IsOutcomeOf Holds plan certificate text (Report report) =
@@ -50,7 +56,7 @@ IsOutcomeOf Holds plan certificate text (NoScript line) = IsFirstWrong text line
 IsOutcomeOf Holds plan certificate text (Unsealed line) = IsUnsealedAt Holds text line
 IsOutcomeOf Holds plan certificate text (Unread path error) = Unit {0}
 IsOutcomeOf Holds plan certificate text Store = Unit {0}
-IsOutcomeOf Holds plan certificate text HalfAdopted = Unit {0}
+IsOutcomeOf Holds plan certificate text HalfAdopted = HasChangeIn text
 IsOutcomeOf Holds plan certificate text Memory = Unit {0}
 
 -- why a script isn't done, by the place of what can't be

@@ -11,8 +11,10 @@ use Rattle.dr_world_tie.specs.ByteWorlds.{ByteWorld, beginning}
 use Rattle.dr_world.specs.declared.changing.Change.{Change}
 use Rattle.dr_world.specs.declared.changing.Change.TheVariants.{Adopted, Skipped, Unfit}
 use Rattle.dr_world.specs.declared.deed.Deed.{Deed}
+use Rattle.dr_world.specs.declared.fault.WorldFault.{WorldFault}
+use Rattle.dr_world.specs.declared.fault.WorldFault.TheVariants as fault
 use Rattle.dr_world.specs.Others.{NoneWrites}
-use Rattle.dr_world.specs.Played.{ComesBy, PlaysThrough, in_force, taken_in}
+use Rattle.dr_world.specs.Played.{ComesBy, HasChange, PlaysThrough, in_force, taken_in}
 use Rattle.dr_world.specs.Reports.{IsReportOfAll}
 
 -- the books of the nodes by name; another name has none
@@ -64,3 +66,11 @@ pub record IsReportAfter (plan : Network) (certificate : Certificate) (deeds : L
   pub reported : IsReportOfAll books lines
   pub after : ∥ AreBooksAfter plan certificate deeds changes books ∥₁
   pub holds : NoneWrites deeds → ∥ HoldsOfBooks plan (taken_in deeds changes) books ∥₁
+
+-- why there is no report: there is no memory, or a store failed; in a change of plan, where the
+-- deeds have one
+abbrev pub IsUnreported : List Deed → WorldFault → Type 0
+IsUnreported deeds fault.Memory = Unit {0}
+IsUnreported deeds fault.Store = Unit {0}
+IsUnreported deeds fault.HalfAdopted = HasChange deeds
+IsUnreported deeds fault.WrongLedgers = ⊥

@@ -1,6 +1,6 @@
 //! What comes of a script.
-ghost use Rattle.std.specs.Prelude.{◌≡◌, ◌<◌, IfOk, length};
-ghost use Rattle.dr_word_simulate.specs.Reported.{IsReportAfter};
+ghost use Rattle.std.specs.Prelude.{◌≡◌, ◌<◌, IfErr, IfOk, length};
+ghost use Rattle.dr_word_simulate.specs.Reported.{IsReportAfter, IsUnreported};
 ghost use Rattle.dr_word_simulate.specs.Outcomes.{IsOutcomeOf, StopsAs, status_for};
 ghost use Rattle.dr_world_script.specs.Scripts.{told_lines};
 
@@ -56,7 +56,9 @@ impl PlayOutcome {
 ///
 /// Errors: HalfAdopted, Store, Memory.
 fn report_after(alloc: Global, sealed: &Sealed, deeds: &[Deed]) -> Result<Text, WorldFault>
-    ensures { IfOk result (IsReportAfter sealed.now.plan sealed.now.certificate deeds.now) }
+    ensures reports { IfOk result
+        (IsReportAfter sealed.now.plan sealed.now.certificate deeds.now) }
+    ensures unreported { IfErr result (IsUnreported deeds.now) }
 {
     let PlayedWorld { world, changes } = run(alloc, sealed, deeds)?;
     let mut world = world;
@@ -66,7 +68,9 @@ fn report_after(alloc: Global, sealed: &Sealed, deeds: &[Deed]) -> Result<Text, 
     drop(world);
     match told {
         Ok(()) => Ok(Text::from_vec(report)),
-        Err(fault) => Err(fault),
+        Err(WorldFault::Memory) => Err(WorldFault::Memory),
+        // what reads has no other fault
+        Err(_) => Err(WorldFault::Store),
     }
 }
 

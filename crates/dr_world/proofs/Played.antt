@@ -1,5 +1,14 @@
 -- Steps, changes of plan and what other products write, one after the other.
-use Rattle.std.proofs.Common.{◌≡◌, ℕ, ◌+◌, ◌<◌, ◌≤◌, List, [], ◌∷◌, ◌++◌, length, get_or, take, append_assoc, map as mapped, Option, inl, inr, refl, sym, ap, subst, ◌∙◌}
+use Rattle.std.proofs.Common.{◌≡◌, ◌⊎◌, ℕ, ◌+◌, ◌<◌, ◌≤◌, List, [], ◌∷◌, ◌++◌, length, get_or, take, append_assoc, map as mapped, Option, None, Some, inl, inr, refl, sym, ap, subst, ◌∙◌}
+use Rattle.std.specs.Prelude.{Contains}
+use Rattle.std.specs.BTreeMap as tree
+use Rattle.std.specs.BTreeMap.{BTreeMap}
+use Rattle.std.specs.Ordering.{nat_cmp}
+use Rattle.std.proofs.lemmas.List.Sorted.{Contains-permutation, IsPermutation-sym}
+use Rattle.dr_base.specs.Texts.{Text}
+use Rattle.dr_plan_model.specs.Plans.{AreNames, NamesNoNode}
+use Rattle.dr_plan_model.specs.declared.plan.Node.{Node as PlannedNode}
+use Rattle.dr_plan_model.proofs.Gathered.{Contains-cons_cases, Contains-here, Contains-there, nothing_in_nil}
 use Rattle.std.proofs.Math.Logic.{∥∥₁_map, ∥∥₁_elim, ∥∥₁_prop}
 use Rattle.std.proofs.lemmas.List.{append-nil, take_more, take_all}
 use Rattle.std.specs.Option.{option_map}
@@ -28,13 +37,16 @@ use Rattle.dr_world.specs.declared.changing.Change.TheVariants.{Adopted, Skipped
 use Rattle.dr_world.specs.declared.deed.Deed.{Deed}
 use Rattle.dr_world.specs.declared.deed.Deed.TheVariants as deed
 use Rattle.dr_world.specs.declared.steps.StepNote.{StepNote as Note}
+use Rattle.dr_world.specs.declared.wires.Wires.{Wires}
 use Rattle.dr_world.specs.declared.world.World.{World}
-use Rattle.dr_world.specs.Adopted.{ChangesTo, ComesTo}
+use Rattle.dr_world.specs.Adopted.{AreJoining, ChangesTo, ComesTo}
+use Rattle.dr_world.specs.declared.fault.WorldFault.{WorldFault}
+use Rattle.dr_world.specs.declared.fault.WorldFault.TheVariants as fault
 use Rattle.dr_world.specs.Nodes.{seat_of}
-use Rattle.dr_world.specs.Played.{Changes, ChangesGoOn, DeedsKeepTheHeadline, EventsAloneLead, HoldsThrough, IsPlayed, IsRunOf, PlaysAll, PlaysOn, PlaysThrough, StepsAloneRun, StepsGoOn, WritesGoOn}
+use Rattle.dr_world.specs.Played.{Changes, ChangesGoOn, DeedsKeepTheHeadline, EndsEarly, EventsAloneLead, HasChange, HoldsThrough, IsChange, IsPlayed, IsRunOf, PlaysAll, PlaysOn, PlaysThrough, StepsAloneRun, StepsGoOn, WritesGoOn}
 use Rattle.dr_world.specs.Played.{adopted_in, certificate_after, in_force, plan_after, taken_in}
 use Rattle.dr_world.specs.Ends.{named}
-use Rattle.dr_world.specs.Others.{NoneWrites, Writes}
+use Rattle.dr_world.specs.Others.{NoneWrites, Writes, WritesAt, WritesAtIn}
 use Rattle.dr_world.specs.Runs.{IsReached, step_of}
 use Rattle.dr_world.specs.Shows.{Contents, IsSeated, ShowsBytes, desk_at}
 use Rattle.dr_world.specs.Whole.{AllStand, StepsTo, contents, noted}
@@ -269,6 +281,63 @@ module _ {L : Type 0} {l : Ghosts L} where
   run_of plan certificate certified first last deeds changes reached plays all =
       let played : IsPlayed plan certificate deeds changes last = plays plan certificate certified [] [] (begun plan certificate first reached) in
       (played all, λ none. deeds_keep_the_headline last plan certificate certified deeds changes played none all)
+
+-- ---- a world that keeps no fault
+
+module _ {L : Type 0} {l : Ghosts L} (old new : World L l) where
+  -- it shows all that it showed
+  abbrev unfailed : World L l
+  unfailed = record { alloc = new.alloc; time = new.time; opened = new.opened; nodes = new.nodes; wires = new.wires; lost = None }
+
+  pub writes_unfailed : (link : ℕ) (side : Side) (bytes : List ℕ) (note : Note) → WritesAt link (named side) bytes old note new → WritesAt link (named side) bytes old note unfailed
+  writes_unfailed link side bytes note h = by (tree.get nat_cmp old.wires link) h
+    where
+      by : (o : Option Wires) → WritesAtIn o link (named side) bytes old note new → WritesAtIn o link (named side) bytes old note unfailed
+      by None h = h
+      by (Some w) h = h
+
+  pub changes_unfailed : (next : Network) (own : Certificate) (change : Change) → ChangesTo next own old change new → ChangesTo next own old change unfailed
+  changes_unfailed next own Adopted h = h
+  changes_unfailed next own Skipped h = h
+  changes_unfailed next own (Unfit node uid dest) h = h
+
+-- ---- why not all is played
+
+memory_early : (HasOne : Type 0) (f : WorldFault) → f ≡ fault.Memory → EndsEarly HasOne f
+memory_early HasOne f is = subst (EndsEarly HasOne) (sym is) tt
+
+-- the deed that failed is one of all
+pub early_in : (deeds : List Deed) (i : ℕ) (done : Deed) (f : WorldFault) → i < length deeds → done ≡ get_or deeds i done → EndsEarly (IsChange done) f → EndsEarly (HasChange deeds) f
+early_in deeds i (deed.Step step) fault.HalfAdopted less is h = absurd h
+early_in deeds i (deed.Bytes link side bytes) fault.HalfAdopted less is h = absurd h
+early_in deeds i (deed.Adopt next) fault.HalfAdopted less is h = (next, (i, less, sym is))
+early_in deeds i done fault.Memory less is h = tt
+early_in deeds i done fault.WrongLedgers less is h = absurd h
+early_in deeds i done fault.Store less is h = absurd h
+
+-- why there is no ledger for each name
+abbrev IsUnmade : Network → List Text → WorldFault → Type 0
+IsUnmade plan names f = (f ≡ fault.Memory) ⊎ ((f ≡ fault.WrongLedgers) × (name : Text) × Contains names name × NamesNoNode plan name)
+
+-- each name is a node's
+pub unfounded_early : (HasOne : Type 0) (plan : Network) (names : List Text) (f : WorldFault) → AreNames plan names → IsUnmade plan names f → EndsEarly HasOne f
+unfounded_early HasOne plan names f are (inl memory) = memory_early HasOne f memory
+unfounded_early HasOne plan names f are (inr (is, name, among, none)) =
+    let node = a_node plan.nodes name (Contains-permutation names (mapped (λ node. node.name) plan.nodes) name (IsPermutation-sym (mapped (λ node. node.name) plan.nodes) names are.all) among) in
+    absurd (none node.0 (node.1, node.2))
+  where
+    a_node : (nodes : List PlannedNode) (name : Text) → Contains (mapped (λ node. node.name) nodes) name → (node : PlannedNode) × Contains nodes node × (node.name ≡ name)
+    a_node [] name among = absurd (nothing_in_nil name among)
+    a_node (node ∷ more) name among = elim (Contains-cons_cases node.name (mapped (λ node. node.name) more) name among) [
+      | inl same ↦ (node, Contains-here node more, same)
+      | inr later ↦ (let found = a_node more name later in (found.0, Contains-there node more found.0 found.1, found.2))
+    ]
+
+pub unjoined_early : {L : Type 0} {l : Ghosts L} (plan : Network) (nodes : BTreeMap Text (Node L l)) (names : List Text) (f : WorldFault) → AreJoining plan nodes names → IsUnmade plan names f → EndsEarly (Unit {0}) f
+unjoined_early plan nodes names f are (inl memory) = memory_early (Unit {0}) f memory
+unjoined_early plan nodes names f are (inr (is, name, among, none)) =
+    let node = ((are name).0 among).0 in
+    absurd (none node.0 node.1)
 
 -- ---- without a change
 

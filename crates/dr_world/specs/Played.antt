@@ -1,6 +1,6 @@
 -- Steps, changes of plan and what other products write, one after the other, and what holds after
 -- them.
-use Rattle.std.specs.Prelude.{◌≡◌, ◌⊎◌, ℕ, List, [], ◌∷◌, ◌++◌, Some, map as mapped}
+use Rattle.std.specs.Prelude.{◌≡◌, ◌⊎◌, ℕ, List, [], ◌∷◌, ◌++◌, Contains, Some, map as mapped}
 use Rattle.std.specs.BTreeMap as tree
 use Rattle.dr_base.specs.Texts.{Text, text_cmp}
 use Rattle.dr_ledger.specs.declared.ledger.Ledger.{Ghosts}
@@ -22,6 +22,8 @@ use Rattle.dr_world.specs.declared.changing.Change.{Change}
 use Rattle.dr_world.specs.declared.changing.Change.TheVariants.{Adopted, Skipped, Unfit}
 use Rattle.dr_world.specs.declared.deed.Deed.{Deed}
 use Rattle.dr_world.specs.declared.deed.Deed.TheVariants as deed
+use Rattle.dr_world.specs.declared.fault.WorldFault.{WorldFault}
+use Rattle.dr_world.specs.declared.fault.WorldFault.TheVariants as fault
 use Rattle.dr_world.specs.declared.steps.StepNote.{StepNote as Note}
 use Rattle.dr_world.specs.declared.world.World.{World}
 use Rattle.dr_world.specs.Adopted.{AllStay, ChangesTo, IsFirstUnfit}
@@ -176,6 +178,26 @@ abbrev pub IsRunOf : {L : Type 0} {l : Ghosts L}
 IsRunOf plan certificate deeds changes w =
     WasPlayed plan certificate deeds changes w
     × (NoneWrites deeds → HoldsBy plan (taken_in deeds changes) w)
+
+-- ---- why not all is played
+
+-- a change of plan
+abbrev pub IsChange : Deed → Type 0
+IsChange (deed.Step step) = ⊥
+IsChange (deed.Adopt next) = Unit {0}
+IsChange (deed.Bytes link side bytes) = ⊥
+
+-- one of the deeds is
+abbrev pub HasChange : List Deed → Type 0
+HasChange deeds = (next : Certified) × Contains deeds (deed.Adopt next)
+
+-- why deeds come to an end before the last: there is no memory, or a store failed in a change of
+-- plan, if they have one
+abbrev pub EndsEarly : Type 0 → WorldFault → Type 0
+EndsEarly HasOne fault.Memory = Unit {0}
+EndsEarly HasOne fault.HalfAdopted = HasOne
+EndsEarly HasOne fault.WrongLedgers = ⊥
+EndsEarly HasOne fault.Store = ⊥
 
 -- ---- laws
 

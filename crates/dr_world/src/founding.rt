@@ -1,5 +1,5 @@
 //! How a world begins.
-ghost use Rattle.std.specs.Prelude.{◌≡◌, ◌≢◌, [], IfErr, IfOk, OnOk, length, true, false};
+ghost use Rattle.std.specs.Prelude.{◌≡◌, ◌≢◌, [], IfErr, IfOk, None, OnOk, length, true, false};
 ghost use Rattle.std.specs.Vec.{vec_len};
 ghost use Rattle.std.specs.FinMap as map;
 ghost use Rattle.dr_ledger.specs.Replies.{HasRisen};
@@ -141,6 +141,7 @@ impl<L: Ledger + Drop> World<Refusing<L>> {
         ledgers: Vec<L>,
     ) -> Result<World<Refusing<L>>, WorldFault>
         ensures reached { IfOk result (IsReached sealed.now.plan sealed.now.certificate []) }
+        ensures whole { IfOk result (λ world. world.lost ≡ None) }
         ensures cause { IfErr result
             (HasCause (IsUnfit L.trusts L.stands L.book L.site L.failed) sealed.now.plan
             sealed.now.certificate ledgers.items) }

@@ -12,8 +12,8 @@
 #![tactic(auto)]
 
 mod calls;
-pub mod changing;
-pub mod deed;
+mod changing;
+mod deed;
 mod fault;
 mod forgetting;
 mod founding;
@@ -25,7 +25,7 @@ mod restarts;
 mod steps;
 mod time;
 mod wires;
-pub mod world;
+mod world;
 
 pub use changing::Change;
 pub use deed::Deed;

@@ -1,9 +1,10 @@
 //! Steps, changes of plan and what other products write, played from the beginning, over ledgers in
 //! memory.
-ghost use Rattle.std.specs.Prelude.{◌≡◌, ◌⊎◌, ◌∷◌, ◌++◌, [], Contains, IfErr, IfOk, List, OnOk};
+ghost use Rattle.std.specs.Prelude.{◌≡◌, ◌⊎◌, ◌∷◌, ◌++◌, [], Contains, IfErr, IfOk, List, None};
+ghost use Rattle.std.specs.Prelude.{OnOk};
 ghost use Rattle.dr_base.specs.Texts.{Text as Words};
 ghost use Rattle.dr_plan_model.specs.Plans.{NamesNoNode};
-ghost use Rattle.dr_world.specs.Played.{IsRunOf, PlaysAll, PlaysOn};
+ghost use Rattle.dr_world.specs.Played.{EndsEarly, HasChange, IsChange, IsRunOf, PlaysAll, PlaysOn};
 ghost use Rattle.dr_world.specs.declared.changing.Change.{Change as ChangeValue};
 ghost use Rattle.dr_world.specs.declared.deed.Deed.TheVariants as deeds_of;
 ghost use Rattle.dr_world.specs.declared.fault.WorldFault.TheVariants.{Memory as MemoryFault};
@@ -58,12 +59,19 @@ fn change_to(
     world: &mut World<Refusing<MemoryLedger>>,
     next: &Sealed,
 ) -> Result<Change, WorldFault>
-    ensures { IfOk result (λ change.
+    ensures plays { IfOk result (λ change.
         PlaysOn (deeds_of.Adopt next.now) (change ∷ []) world.old world.new) }
+    ensures whole { IfOk result (λ change. world.new.lost ≡ None) }
+    ensures early { IfErr result (EndsEarly (Unit {0})) }
 {
     let names = world.joining(next.plan())?;
     let ledgers = ledgers_of(alloc, next, names.as_slice())?;
-    world.adopt(next, ledgers)
+    match world.adopt(next, ledgers) {
+        Ok(change) => Ok(change),
+        Err(WorldFault::Memory) => Err(WorldFault::Memory),
+        // each ledger is a new one of its node's site, so that a store is all else that can fail
+        Err(_) => Err(WorldFault::HalfAdopted),
+    }
 }
 
 /// One deed; what a change of plan comes to is added.
@@ -73,10 +81,13 @@ fn do_deed(
     deed: &Deed,
     changes: &mut Seq<Change>,
 ) -> Result<(), WorldFault>
-    ensures { OnOk result
+    requires { world.old.lost ≡ None }
+    ensures plays { OnOk result
         ((told : List ChangeValue)
         × (changes.new ≡ changes.old ++ told)
         × PlaysOn deed.now told world.old world.new) }
+    ensures whole { OnOk result (world.new.lost ≡ None) }
+    ensures early { IfErr result (EndsEarly (IsChange deed.now)) }
 {
     match deed {
         Deed::Step(step) => {
@@ -101,7 +112,9 @@ fn do_all(
     world: &mut World<Refusing<MemoryLedger>>,
     deeds: &[Deed],
 ) -> Result<Seq<Change>, WorldFault>
-    ensures { IfOk result (λ changes. PlaysAll deeds.now changes world.old world.new) }
+    requires { world.old.lost ≡ None }
+    ensures plays { IfOk result (λ changes. PlaysAll deeds.now changes world.old world.new) }
+    ensures early { IfErr result (EndsEarly (HasChange deeds.now)) }
 {
     let mut changes = Seq::new(alloc);
     for deed in deeds {
@@ -113,16 +126,23 @@ fn do_all(
 /// The world of a sealed plan after these deeds, from the beginning: each node over a ledger in
 /// memory, which can be told to refuse.
 ///
-/// Errors: HalfAdopted, where a node that was told to refuse is to take another plan; Memory.
+/// Errors: HalfAdopted, where a node that was told to refuse is to take another plan, so only where
+/// a deed is a change of plan; Memory.
 pub fn run(alloc: Global, sealed: &Sealed, deeds: &[Deed]) -> Result<PlayedWorld, WorldFault>
-    ensures { IfOk result (λ run.
+    ensures runs { IfOk result (λ run.
         IsRunOf sealed.now.plan sealed.now.certificate deeds.now run.changes run.world) }
+    ensures early { IfErr result (EndsEarly (HasChange deeds.now)) }
 {
     let plan = sealed.plan();
     let _certificate = sealed.certificate();
     let names = names_of(alloc, plan)?;
     let ledgers = ledgers_of(alloc, sealed, names.as_slice())?;
-    let mut world = World::with(alloc, sealed, ledgers)?;
+    // each ledger is a new one of its node's site, so that want of memory is all that can be in the
+    // way
+    let Ok(world) = World::with(alloc, sealed, ledgers) else {
+        return Err(WorldFault::Memory);
+    };
+    let mut world = world;
     let changes = do_all(alloc, &mut world, deeds)?;
     Ok(PlayedWorld { world, changes })
 }

@@ -2,15 +2,14 @@
 ghost use Rattle.std.specs.Prelude.{◌≡◌, ◌≤◌, ◌+◌, ◌^◌, min};
 ghost use Rattle.std.proofs.Props.{props};
 
+use dr_session::LAST_MOMENT;
+
 /// How long a world has stood, in milliseconds: at most 2^62, where it stays.
 #[derive(Drop)]
 pub struct Time {
     passed: u64,
     ghost bounded: { passed ≤ 2 ^ 62 } by { Prim.hlevel props },
 }
-
-/// The last moment: 2^62 milliseconds.
-const LAST: u64 = 4_611_686_018_427_387_904;
 
 impl Time {
     /// The start.
@@ -32,10 +31,10 @@ impl Time {
     pub fn pass(&mut self, ms: u64)
         ensures { self.new.passed ≡ min (self.old.passed + ms) (2 ^ 62) }
     {
-        if ms < LAST - self.passed {
+        if ms < LAST_MOMENT - self.passed {
             self.passed += ms;
             return;
         }
-        self.passed = LAST;
+        self.passed = LAST_MOMENT;
     }
 }

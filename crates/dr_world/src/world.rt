@@ -54,7 +54,7 @@ pub struct World<L: Ledger> {
     opened: u64,
     nodes: BTreeMap<Text, Node<L>>,
     wires: BTreeMap<u64, Wires>,
-    /// The fault that ended an earlier call; no further one is taken.
+    /// What the last call came to: the fault that ended it; no further one is taken.
     lost: Option<WorldFault>,
 }
 
@@ -423,6 +423,7 @@ impl<L: LetsGo> World<Refusing<L>> {
             → (result ≡ Err fault) × (self.new ≡ self.old) }
         ensures after { (fault : FaultValue) → result ≡ Err fault → self.new.lost ≡ Some fault }
         ensures memory { self.old.lost ≡ None → IfErr result (λ fault. fault ≡ MemoryFault) }
+        ensures whole { IfOk result (λ note. self.new.lost ≡ None) }
     {
         if let Some(fault) = self.lost {
             return Err(fault);
@@ -431,6 +432,7 @@ impl<L: LetsGo> World<Refusing<L>> {
             self.lost = Some(WorldFault::Memory);
             return Err(WorldFault::Memory);
         };
+        self.lost = None;
         Ok(note)
     }
 

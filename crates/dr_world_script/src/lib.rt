@@ -2,13 +2,13 @@
 //! other makers' products write, and scripts of these as text.
 #![tactic(auto)]
 
-pub mod act;
+mod act;
 mod fault;
 mod fields;
 pub mod laws;
 mod reading;
 mod script;
-pub mod step;
+mod step;
 
 pub use act::Act;
 pub use fault::ScriptFault;

@@ -6,9 +6,9 @@ ghost use Rattle.dr_session.specs.Reactions.{rejected as rejected_with, released
 
 use super::BoxedCore;
 use crate::ends::{Core, Marks, Pending};
+use crate::negotiated::Negotiated;
 use dr_base::Text;
 use dr_dimse::Awaited;
-use dr_nego::Agreed;
 use dr_pdu::AssociateRj;
 
 impl BoxedCore {
@@ -70,7 +70,7 @@ impl BoxedCore {
     }
 
     /// What a requestor agreed on.
-    pub(crate) fn agree(self, agreed: Agreed) -> BoxedCore
+    pub(crate) fn agree(self, agreed: Negotiated) -> BoxedCore
         ensures { result ≡ record self { agreed = Some agreed; awaits = None } }
     {
         let mut core = self.core;
@@ -79,7 +79,7 @@ impl BoxedCore {
     }
 
     /// What an acceptor agreed on, and with whom.
-    pub(crate) fn agree_with(self, peer: Text, agreed: Agreed) -> BoxedCore
+    pub(crate) fn agree_with(self, peer: Text, agreed: Negotiated) -> BoxedCore
         ensures { result ≡ record self { peer = peer; agreed = Some agreed } }
     {
         let mut core = self.core;
@@ -184,14 +184,14 @@ fn set_dry(core: &mut Core)
     core.dry = true;
 }
 
-fn set_agreed(core: &mut Core, agreed: Agreed)
+fn set_agreed(core: &mut Core, agreed: Negotiated)
     ensures { core.new ≡ record core.old { agreed = Some agreed; awaits = None } }
 {
     core.agreed = Some(agreed);
     core.awaits = None;
 }
 
-fn set_peer(core: &mut Core, peer: Text, agreed: Agreed)
+fn set_peer(core: &mut Core, peer: Text, agreed: Negotiated)
     ensures { core.new ≡ record core.old { peer = peer; agreed = Some agreed } }
 {
     core.peer = peer;

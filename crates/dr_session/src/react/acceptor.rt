@@ -8,6 +8,7 @@ ghost use Rattle.dr_dimse.specs.declared.command.Command.TheVariants.{StoreRq, S
 ghost use Rattle.dr_dimse.specs.declared.command.Command.TheVariants.{EchoRsp, Other};
 ghost use Rattle.dr_nego.specs.declared.agreed.Agreed.{Agreed as AgreedOn};
 ghost use Rattle.dr_nego.specs.declared.answering.Answer.TheVariants as answers;
+ghost use Rattle.dr_nego.specs.Agreeing.{IsTooSmall};
 ghost use Rattle.dr_nego.specs.Answering.{answer as answered};
 ghost use Rattle.dr_pdu.specs.Written.{Fits as PduFits};
 ghost use Rattle.dr_pdu.specs.declared.pdu.Pdu.TheVariants as pdu;
@@ -23,6 +24,7 @@ ghost use Rattle.dr_ulstate.specs.declared.table.Event.TheVariants.{AcceptRespon
 
 use crate::boxed::BoxedCore;
 use crate::ends::{Core, Effect, Found, LinkAction, Moment};
+use crate::negotiated::Negotiated;
 use crate::port::DeskPort;
 use crate::react::leaving::{abort, act_once, quiet};
 use crate::writing::{write_acceptance, write_rejection, write_response};
@@ -60,11 +62,11 @@ fn say(alloc: Global, core: &Core, context: u8, command: Command) -> Result<Link
     requires { CommandFits command }
     ensures { IfOk result (λ a. a ≡ says core.now context command) }
 {
-    let agreed = Agreed {
+    let terms = Negotiated::new(Agreed {
         pairs: Seq::new(alloc),
         limit: limit_of(core),
-    };
-    let action = write_response(alloc, &agreed, context, &command)?;
+    });
+    let action = write_response(alloc, &terms, context, &command)?;
     Ok(action)
 }
 
@@ -84,12 +86,13 @@ fn reply(
 
 /// The greatest length that the other side takes; none where nothing is agreed on.
 fn limit_of(core: &Core) -> u32
-    ensures { result ≡ option_map_or (λ (a : AgreedOn). a.limit) core.now.agreed 0 }
+    ensures limit { result ≡ option_map_or (λ (a : AgreedOn). a.limit) core.now.agreed 0 }
+    ensures serves { IsTooSmall result → ⊥ }
 {
-    match &core.agreed {
-        Some(agreed) => agreed.limit,
-        None => 0,
-    }
+    let Some(terms) = &core.agreed else {
+        return 0;
+    };
+    terms.as_agreed().limit
 }
 
 /// The response to a C-STORE-RQ.
@@ -384,7 +387,8 @@ fn accept(
     core: BoxedCore,
     at: Moment,
 ) -> Result<Effect, AllocError>
-    requires { PduFits (pdu.AssociateAc ac) }
+    requires fits { PduFits (pdu.AssociateAc ac) }
+    requires serves { IsTooSmall agreed.limit → ⊥ }
     ensures { IfOk result (λ e. decides (answers.Accept ac agreed) at rq core ≡ Ends e) }
 {
     let action = write_acceptance(alloc, ac)?;
@@ -393,6 +397,7 @@ fn accept(
 
 /// The local user accepts the request: the phase, the peer, and what is agreed on.
 fn establish(agreed: Agreed, rq: AssociateRq, core: BoxedCore, now: u64) -> BoxedCore
+    requires { IsTooSmall agreed.limit → ⊥ }
     ensures { result
         ≡ record (stepped_by AcceptResponse now core) {
           peer = rq.front.calling;
@@ -400,7 +405,8 @@ fn establish(agreed: Agreed, rq: AssociateRq, core: BoxedCore, now: u64) -> Boxe
         } }
 {
     let front = rq.front;
-    core.accept(now).agree_with(front.calling, agreed)
+    core.accept(now)
+        .agree_with(front.calling, Negotiated::new(agreed))
 }
 
 /// The association is rejected.

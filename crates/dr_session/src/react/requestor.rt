@@ -17,19 +17,20 @@ ghost use Rattle.dr_session.specs.Turns.{Turns, Broke, Ends};
 
 use crate::boxed::BoxedCore;
 use crate::ends::{Core, Effect, LinkAction, Moment, Pending, Requested};
+use crate::negotiated::Negotiated;
 use crate::port::DeskPort;
 use crate::react::leaving::{abort, abort_desk, act_once, quiet};
 use crate::writing::write_store;
 use dr_base::Text;
 use dr_dimse::Command;
 use dr_ledger::{Job, LedgerFault, Outcome};
-use dr_nego::{Agreed, NegoFault};
+use dr_nego::NegoFault;
 use std::alloc::{AllocError, Global};
 
 /// What an acceptance agrees on, or why it doesn't: then the end aborts.
 pub fn agree<P: DeskPort>(
     alloc: Global,
-    answer: Result<Agreed, NegoFault>,
+    answer: Result<Negotiated, NegoFault>,
     core: BoxedCore,
     port: &mut P,
     at: Moment,
@@ -302,7 +303,7 @@ fn uid_of(job: Job) -> Text
 }
 
 /// The context in which an instance can go over.
-fn context_of(agreed: &Agreed, job: &Job) -> Option<u8>
+fn context_of(agreed: &Negotiated, job: &Job) -> Option<u8>
     ensures { result ≡ context_for agreed.now job.now.key.class (syntax_uid job.now.key.syntax) }
 {
     agreed.context_for(&job.key.class, job.key.syntax)

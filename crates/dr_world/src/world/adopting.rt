@@ -1,5 +1,5 @@
 //! A plan that all nodes of a world take at once.
-ghost use Rattle.std.specs.Prelude.{◌≡◌, ◌∷◌, [], Err, IfOk, OnOk, Some, length};
+ghost use Rattle.std.specs.Prelude.{◌≡◌, ◌∷◌, [], Err, IfOk, None, OnOk, Some, length};
 ghost use Rattle.std.specs.Vec.{vec_len};
 ghost use Rattle.dr_world.specs.Adopted.{AddsAbsent, AllJoin, AreJoining, ChangesTo, Took};
 ghost use Rattle.dr_world.specs.Played.{HoldsThrough, PlaysOn};
@@ -103,6 +103,7 @@ impl<L: Ledger + Drop> World<Refusing<L>> {
         ensures lost { (fault : FaultValue) → self.old.lost ≡ Some fault
             → (result ≡ Err fault) × (self.new ≡ self.old) }
         ensures after { (fault : FaultValue) → result ≡ Err fault → self.new.lost ≡ Some fault }
+        ensures whole { IfOk result (λ change. self.new.lost ≡ None) }
     {
         let _plan = next.plan();
         let _certificate = next.certificate();
@@ -111,7 +112,10 @@ impl<L: Ledger + Drop> World<Refusing<L>> {
             return Err(fault);
         }
         match self.change(next, joining) {
-            Ok(change) => Ok(change),
+            Ok(change) => {
+                self.lost = None;
+                Ok(change)
+            }
             Err(fault) => {
                 self.lost = Some(fault);
                 Err(fault)

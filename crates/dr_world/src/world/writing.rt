@@ -30,6 +30,7 @@ impl<L: Ledger> World<L> {
             → (result ≡ Err fault) × (self.new ≡ self.old) }
         ensures after { (fault : FaultValue) → result ≡ Err fault → self.new.lost ≡ Some fault }
         ensures memory { self.old.lost ≡ None → IfErr result (λ fault. fault ≡ MemoryFault) }
+        ensures whole { IfOk result (λ note. self.new.lost ≡ None) }
     {
         if let Some(fault) = self.lost {
             return Err(fault);
@@ -38,6 +39,7 @@ impl<L: Ledger> World<L> {
             self.lost = Some(WorldFault::Memory);
             return Err(WorldFault::Memory);
         };
+        self.lost = None;
         Ok(note)
     }
 

@@ -1,7 +1,7 @@
 use Rattle.std.proofs.Common.{◌++◌}
 use Rattle.std.specs.Prelude.{codes}
 use Rattle.dr_run_page.specs.Documents.{button}
-use Rattle.dr_run_page.proofs.Chained.{chained}
+use Rattle.dr_run_answer.proofs.Chained.{chained}
 use Rattle.dr_run_page.proofs.buttons.put_both.Goals as goal
 
 pub returns : goal.returns

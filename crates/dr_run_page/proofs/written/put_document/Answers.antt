@@ -3,7 +3,7 @@ use Rattle.std.specs.Prelude.{option_copied}
 use Rattle.dr_run_page.specs.Documents.{association_row, associations_head, figures, head}
 use Rattle.dr_run_page.specs.Documents.{held_head, held_row, is_held, queue_row}
 use Rattle.dr_run_page.specs.Documents.{queues_head, recent_row, recents_head, tail}
-use Rattle.dr_run_page.proofs.Chained.{chained}
+use Rattle.dr_run_answer.proofs.Chained.{chained}
 use Rattle.dr_run_page.proofs.written.put_document.Goals as goal
 
 pub returns : goal.returns

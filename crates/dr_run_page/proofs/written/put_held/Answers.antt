@@ -1,7 +1,7 @@
 use Rattle.std.proofs.Common.{◌++◌}
 use Rattle.std.specs.Prelude.{codes, option_copied}
 use Rattle.dr_run_page.specs.Documents.{buttons, held_cells}
-use Rattle.dr_run_page.proofs.Chained.{chained}
+use Rattle.dr_run_answer.proofs.Chained.{chained}
 use Rattle.dr_run_page.proofs.written.put_held.Goals as goal
 
 pub returns : goal.returns

@@ -1,5 +1,5 @@
 use Rattle.dr_run_page.specs.Documents.{recent_row}
-use Rattle.dr_run_page.proofs.Chained.{one_more}
+use Rattle.dr_run_answer.proofs.Chained.{one_more}
 use Rattle.dr_run_page.proofs.written.put_recents.Goals as goal
 
 pub loop-recent-preserved : goal.loop-recent-preserved

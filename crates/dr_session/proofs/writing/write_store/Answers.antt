@@ -15,11 +15,11 @@ pub returns : goal.returns
 returns c =
     let read : c.deref.result.now ≡ command.written (StoreRq c.args.id c.in_ok-clone.field-0 c.in_ok-clone-2.field-0) = c.deref.ensures.value ∙ c.in_ok-text.ensures in
     let text : c.deref.result.now ≡ command.written (StoreRq c.args.id c.args.job.now.key.class c.args.job.now.uid) = read ∙ rw (c.in_ok-clone.ensures, c.in_ok-clone-2.ensures) refl in
-    let first : c.put_fragments.new.out.items ≡ spellings (command_pdus c.args.agreed.now.limit c.args.context (StoreRq c.args.id c.args.job.now.key.class c.args.job.now.uid)) =
-    rw (c.new-out.ensures.items, text) at c.in_ok-put_fragments.ensures.ok in
-    let both : c.put_fragments-2.new.out.items ≡ spellings (command_pdus c.args.agreed.now.limit c.args.context (StoreRq c.args.id c.args.job.now.key.class c.args.job.now.uid)) ++ spellings (data_pdus c.args.agreed.now.limit c.args.context c.args.job.now.body) =
-    rw (first, c.as_bytes.ensures) at c.in_ok-put_fragments-2.ensures.ok in
-    ap Write (c.from_vec.ensures ∙ (both ∙ sym (flat_map-append written (command_pdus c.args.agreed.now.limit c.args.context (StoreRq c.args.id c.args.job.now.key.class c.args.job.now.uid)) (data_pdus c.args.agreed.now.limit c.args.context c.args.job.now.body))))
+    let first : c.put_fragments.new.out.items ≡ spellings (command_pdus c.args.terms.now.limit c.args.context (StoreRq c.args.id c.args.job.now.key.class c.args.job.now.uid)) =
+    rw (c.new-out.ensures.items, text, c.as_agreed-agreed.ensures.same) at c.in_ok-put_fragments.ensures.ok in
+    let both : c.put_fragments-2.new.out.items ≡ spellings (command_pdus c.args.terms.now.limit c.args.context (StoreRq c.args.id c.args.job.now.key.class c.args.job.now.uid)) ++ spellings (data_pdus c.args.terms.now.limit c.args.context c.args.job.now.body) =
+    rw (first, c.as_bytes.ensures, c.as_agreed-agreed.ensures.same) at c.in_ok-put_fragments-2.ensures.ok in
+    ap Write (c.from_vec.ensures ∙ (both ∙ sym (flat_map-append written (command_pdus c.args.terms.now.limit c.args.context (StoreRq c.args.id c.args.job.now.key.class c.args.job.now.uid)) (data_pdus c.args.terms.now.limit c.args.context c.args.job.now.body))))
 
 pub write_command-requires : goal.write_command-requires
 write_command-requires c =

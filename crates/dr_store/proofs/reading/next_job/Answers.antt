@@ -1,16 +1,12 @@
-use Rattle.std.proofs.Common.{◌≡◌, Option, Some, None, Ok, Err, subst}
+use Rattle.std.proofs.Common.{◌≡◌, Option, Some, None, Ok, Err, subst, sym}
 use Rattle.sqlite.specs.Held.{state}
 use Rattle.sqlite.specs.Tree.{Trees}
 use Rattle.dr_base.specs.Texts.{Text}
 use Rattle.dr_ledger.specs.declared.content.Job.{Job}
-use Rattle.dr_ledger.specs.Bodies.{NextsWith}
-use Rattle.dr_store_schema.specs.Books.{bodies_of, book_of}
-use Rattle.dr_store_reads.specs.Queries.{IsFirstDue}
-use Rattle.dr_store_calls.specs.Calling.{IsLedgerOf}
+use Rattle.dr_store_reads.specs.Queries.{IsFirstDue, IsJobOf}
 use Rattle.dr_store_calls.proofs.Calls.{asked_looked, looked_read}
-use Rattle.dr_store.specs.Reading.{IsWholeJob}
+use Rattle.dr_store.specs.Reading.{IsWholeJob, NextsStored}
 use Rattle.dr_store.proofs.Looks.{failed_as, looked_both}
-use Rattle.dr_store.proofs.Nexts.{next_is}
 use Rattle.dr_store.proofs.reading.next_job.Goals as goal
 
 pub returns-in-Ok-Some-clause-looked : goal.returns-in-Ok-Some-clause-looked
@@ -23,13 +19,15 @@ returns-in-Ok-Some-clause-looked g c n part =
     let new = state g.S.Store c.job_of.new.conn in
     let Shows : Trees → Option Text → Type 0 = λ base. IsFirstDue base dest now in
     let Then : Trees → Option Job → Type 0 = λ base. IsWholeJob uid base in
-    let Says : Trees → Option Job → Type 0 = λ base. NextsWith (book_of base) (bodies_of base) dest now in
+    let Says : Trees → Option Job → Type 0 = λ base. NextsStored base dest now in
     looked_both n part old mid new Shows c.in-Ok-Some.field-0 c.job_of.result Then Says (asked_looked n part _ old mid Shows c.in-Ok-Some.ensures.asked) (c.job_of.ensures.looked n part)
-    (λ base l shown job then. due base l (let P : Option Text → Type 0 = λ found. IsFirstDue base dest now found in subst P c.in-Ok-Some.field-0-is shown) job then)
+    (λ base l shown job then. due base (let P : Option Text → Type 0 = λ found. IsFirstDue base dest now found in subst P c.in-Ok-Some.field-0-is shown) job then)
   where
-    due : (base : Trees) → IsLedgerOf n part base → IsFirstDue base c.args.dest.now c.args.now (Some c.in-Ok-Some.uid) → (job : Option Job) → IsWholeJob c.in-Ok-Some.uid base job → NextsWith (book_of base) (bodies_of base) c.args.dest.now c.args.now job
-    due base l first None then = absurd then
-    due base l first (Some job) then = next_is n part base c.args.dest.now c.args.now c.in-Ok-Some.uid job l first then
+    due : (base : Trees) → IsFirstDue base c.args.dest.now c.args.now (Some c.in-Ok-Some.uid) → (job : Option Job) → IsWholeJob c.in-Ok-Some.uid base job → NextsStored base c.args.dest.now c.args.now job
+    due base first None then = absurd then
+    due base first (Some job) then =
+        let P : Text → Type 0 = λ uid. IsFirstDue base c.args.dest.now c.args.now (Some uid) × IsJobOf uid base (Some job) in
+        subst P (sym then.0) (first, then)
 
 pub returns-in-Ok-None-clause-looked : goal.returns-in-Ok-None-clause-looked
 returns-in-Ok-None-clause-looked g c n part =
@@ -38,7 +36,7 @@ returns-in-Ok-None-clause-looked g c n part =
     let old = state g.S.Store c.args.conn.now in
     let new = state g.S.Store c.find_next.new.conn in
     let Shows : Trees → Option Text → Type 0 = λ base. IsFirstDue base dest now in
-    let Says : Trees → Option Job → Type 0 = λ base. NextsWith (book_of base) (bodies_of base) dest now in
+    let Says : Trees → Option Job → Type 0 = λ base. NextsStored base dest now in
     looked_read n part old new Shows c.in-Ok-None.field-0 (Ok None) Says (asked_looked n part _ old new Shows c.in-Ok-None.ensures.asked)
     (λ base shown. let P : Option Text → Type 0 = λ found. IsFirstDue base dest now found in subst P c.in-Ok-None.field-0-is shown)
 
@@ -49,5 +47,5 @@ returns-in-Err-clause-looked g c n part =
     let old = state g.S.Store c.args.conn.now in
     let new = state g.S.Store c.find_next.new.conn in
     let Shows : Trees → Option Text → Type 0 = λ base. IsFirstDue base dest now in
-    let Says : Trees → Option Job → Type 0 = λ base. NextsWith (book_of base) (bodies_of base) dest now in
+    let Says : Trees → Option Job → Type 0 = λ base. NextsStored base dest now in
     failed_as n part c.in-Err.fault old new Shows Says (asked_looked n part _ old new Shows c.in-Err.ensures.asked)

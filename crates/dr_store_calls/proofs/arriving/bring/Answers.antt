@@ -7,7 +7,7 @@ use Rattle.dr_ledger.specs.declared.item.Arrived.{Arrived}
 use Rattle.dr_ledger.specs.declared.item.Arrived.TheVariants.{New}
 use Rattle.dr_ledger.specs.Replies.{Arrives}
 use Rattle.dr_ledger.specs.SiteRoutes.{site_routing}
-use Rattle.dr_store_schema.specs.Books.{bodies_of, book_of}
+use Rattle.dr_store_schema.specs.Books.{book_of}
 use Rattle.dr_store_changes.specs.Bringing.{AsksToTake, Brings, names_for}
 use Rattle.dr_store_changes.specs.Changes.{HasRows}
 use Rattle.dr_store_changes.specs.Writing.{Written}
@@ -15,11 +15,11 @@ use Rattle.dr_store_calls.specs.Knowing.{FitsTables}
 use Rattle.dr_store_calls.specs.Receiving.{TakesOnly}
 use Rattle.dr_store_calls.proofs.Calls.{below_of, made_called, unmade_called}
 use Rattle.dr_store_calls.proofs.Fitting.{rows_there}
-use Rattle.dr_store_calls.proofs.Takings.{arrives, arrives_own, is_small, takes_none}
+use Rattle.dr_store_calls.proofs.Takings.{arrives, arrives_own, takes_none}
 use Rattle.dr_store_calls.proofs.arriving.bring.Goals as goal
 
 pub invariant_of-change : goal.invariant_of-change
-invariant_of-change g c = record { size = is_small c.args.came.now.cell.now c.args.came.now.instance.now c.requires.delivered.stands }
+invariant_of-change g c = record { size = c.requires.delivered.size }
 
 pub returns-in-Ok-clause-called : goal.returns-in-Ok-clause-called
 returns-in-Ok-clause-called g c =
@@ -39,7 +39,7 @@ returns-in-Ok-clause-called g c =
     let Made : List Text → List Text → List Text → Trees → Trees → Type 0 = λ ys ds names. Brings how caller item cell ys ds keeps names n in
     let Asks : Trees → Type 0 = λ base. FitsTables how caller item to keep again dests keeps base in
     let Makes : Trees → Trees → Type 0 = λ base db. Arrives (site_routing part) caller item (book_of base) (Ok New) (book_of db) in
-    let Answers : Trees → Trees → Type 0 = λ base db. Arrives (site_routing part) caller item (book_of base) (Ok New) (book_of db) × TakesOnly item.uid cell (bodies_of base) (bodies_of db) in
+    let Answers : Trees → Trees → Type 0 = λ base db. Arrives (site_routing part) caller item (book_of base) (Ok New) (book_of db) × TakesOnly item cell base db in
     let Wants : List Text → Trees → Type 0 = λ ys db. AsksToTake how item.uid db × HasRows item.uid ys db in
     let W : List Text → List Text → List Text → Type 0 = λ ys ds names. Written {E = LedgerFault} n (Wants ys) (Made ys ds names) (Ok tt) old new in
     made_called n part (Wants again) Asks (Made again dests (names_for keep to)) Answers Makes old new (λ h. c.written.ensures.idle) (λ ready l fits. (fits.asks, rows_there old.committed.trees item.uid to again fits.again_are)) New
@@ -47,7 +47,7 @@ returns-in-Ok-clause-called g c =
     (subst (λ ds. W again ds c.args.names.now) c.as_slice-dests.ensures
     (subst (λ ys. W ys c.as_slice-dests.result.now c.args.names.now) c.as_slice-again.ensures c.in-Ok.ensures.written)))
     (λ ready l fits db w.
-    let it = arrives n part how caller item cell to keep again dests keeps old.committed.trees db c.requires.delivered.stands c.requires.delivered.line c.requires.targets.to c.requires.targets.keep c.requires.targets.formed (below_of n old ready) l fits w in
+    let it = arrives n part how caller item cell to keep again dests keeps old.committed.trees db c.requires.delivered.line c.requires.targets.to c.requires.targets.keep c.requires.targets.formed (below_of n old ready) l fits w in
     (it.0, it.1, it.1.0))
 
 pub returns-in-Err-clause-called : goal.returns-in-Err-clause-called
@@ -69,7 +69,7 @@ returns-in-Err-clause-called g c =
     let Asks : Trees → Type 0 = λ base. FitsTables how caller item to keep again dests keeps base in
     let Makes : Trees → Trees → Type 0 = λ base db. Arrives (site_routing part) caller item (book_of base) (Ok New) (book_of db) in
     let e = c.in-Err.fault in
-    let Answers : Trees → Trees → Type 0 = λ base db. Arrives (site_routing part) caller item (book_of base) (Err e) (book_of db) × TakesOnly item.uid cell (bodies_of base) (bodies_of db) in
+    let Answers : Trees → Trees → Type 0 = λ base db. Arrives (site_routing part) caller item (book_of base) (Err e) (book_of db) × TakesOnly item cell base db in
     let Wants : List Text → Trees → Type 0 = λ ys db. AsksToTake how item.uid db × HasRows item.uid ys db in
     let W : List Text → List Text → List Text → Type 0 = λ ys ds names. Written {E = LedgerFault} n (Wants ys) (Made ys ds names) (Err e) old new in
     unmade_called {A = Arrived} n part (Wants again) Asks (Made again dests (names_for keep to)) Answers Makes old new (λ h. c.written.ensures.idle) (λ ready l fits. (fits.asks, rows_there old.committed.trees item.uid to again fits.again_are)) e
@@ -78,5 +78,5 @@ returns-in-Err-clause-called g c =
     (subst (λ ds. W again ds c.args.names.now) c.as_slice-dests.ensures
     (subst (λ ys. W ys c.as_slice-dests.result.now c.args.names.now) c.as_slice-again.ensures c.in-Err.ensures.written)))
     (λ ready l fits db w.
-    (arrives n part how caller item cell to keep again dests keeps old.committed.trees db c.requires.delivered.stands c.requires.delivered.line c.requires.targets.to c.requires.targets.keep c.requires.targets.formed (below_of n old ready) l fits w).1.0)
-    (λ fits. (arrives_own part caller item (book_of old.committed.trees) e c.requires.delivered.line c.in-Err.ensures.fault, takes_none item.uid cell (bodies_of old.committed.trees)))
+    (arrives n part how caller item cell to keep again dests keeps old.committed.trees db c.requires.delivered.line c.requires.targets.to c.requires.targets.keep c.requires.targets.formed (below_of n old ready) l fits w).1.0)
+    (λ fits. (arrives_own part caller item (book_of old.committed.trees) e c.requires.delivered.line c.in-Err.ensures.fault, takes_none item cell old.committed.trees))

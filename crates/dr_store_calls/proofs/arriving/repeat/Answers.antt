@@ -6,17 +6,17 @@ use Rattle.dr_ledger.specs.declared.item.Arrived.{Arrived}
 use Rattle.dr_ledger.specs.declared.item.Arrived.TheVariants.{Again}
 use Rattle.dr_ledger.specs.Replies.{Arrives}
 use Rattle.dr_ledger.specs.SiteRoutes.{site_routing}
-use Rattle.dr_store_schema.specs.Books.{arrivals_in, bodies_of, book_of}
+use Rattle.dr_store_schema.specs.Books.{arrivals_in, book_of}
 use Rattle.dr_store_writes.specs.Effects.{arrived_line}
 use Rattle.dr_store_changes.specs.Changes.{AddsOnlyLine}
 use Rattle.dr_store_calls.specs.Knowing.{IsThere}
 use Rattle.dr_store_calls.specs.Receiving.{TakesOnly}
 use Rattle.dr_store_calls.proofs.Calls.{below_of, made_called, unmade_called}
-use Rattle.dr_store_calls.proofs.Takings.{arrives_own, is_small, repeats, takes_none}
+use Rattle.dr_store_calls.proofs.Takings.{arrives_own, repeats, takes_none}
 use Rattle.dr_store_calls.proofs.arriving.repeat.Goals as goal
 
 pub invariant_of-change : goal.invariant_of-change
-invariant_of-change g c = record { size = is_small c.args.came.now.cell.now c.args.came.now.instance.now c.requires.delivered.stands }
+invariant_of-change g c = record { size = c.requires.delivered.size }
 
 pub returns-in-Ok-clause-called : goal.returns-in-Ok-clause-called
 returns-in-Ok-clause-called g c =
@@ -29,7 +29,7 @@ returns-in-Ok-clause-called g c =
     let new = state g.S.Store c.written.new.conn in
     let Line : Trees → Trees → Type 0 = AddsOnlyLine (arrived_line n 1 caller item) in
     let Asks : Trees → Type 0 = λ base. IsThere base item c.args.whole × (set.contains (arrivals_in (base 5)) (caller, item.uid) ≡ true) in
-    let Answers : Trees → Trees → Type 0 = λ base db. Arrives (site_routing part) caller item (book_of base) (Ok Again) (book_of db) × TakesOnly item.uid cell (bodies_of base) (bodies_of db) in
+    let Answers : Trees → Trees → Type 0 = λ base db. Arrives (site_routing part) caller item (book_of base) (Ok Again) (book_of db) × TakesOnly item cell base db in
     let Makes : Trees → Trees → Type 0 = λ base db. Arrives (site_routing part) caller item (book_of base) (Ok Again) (book_of db) in
     made_called n part (λ db. Unit {0}) Asks Line Answers Makes old new (λ h. c.written.ensures.idle) (λ ready l asks. tt) Again
     c.in-Ok.ensures.written
@@ -47,9 +47,9 @@ returns-in-Err-clause-called g c =
     let new = state g.S.Store c.written.new.conn in
     let Line : Trees → Trees → Type 0 = AddsOnlyLine (arrived_line n 1 caller item) in
     let Asks : Trees → Type 0 = λ base. IsThere base item c.args.whole × (set.contains (arrivals_in (base 5)) (caller, item.uid) ≡ true) in
-    let Answers : Trees → Trees → Type 0 = λ base db. Arrives (site_routing part) caller item (book_of base) (Err e) (book_of db) × TakesOnly item.uid cell (bodies_of base) (bodies_of db) in
+    let Answers : Trees → Trees → Type 0 = λ base db. Arrives (site_routing part) caller item (book_of base) (Err e) (book_of db) × TakesOnly item cell base db in
     let Makes : Trees → Trees → Type 0 = λ base db. Arrives (site_routing part) caller item (book_of base) (Ok Again) (book_of db) in
     unmade_called {A = Arrived} n part (λ db. Unit {0}) Asks Line Answers Makes old new (λ h. c.written.ensures.idle) (λ ready l asks. tt) e c.in-Err.ensures.fault
     c.in-Err.ensures.written
     (λ ready l asks db w. (repeats n part caller item cell c.args.whole old.committed.trees db c.requires.delivered.line (below_of n old ready) l asks.0 asks.1 w).1.0)
-    (λ asks. (arrives_own part caller item (book_of old.committed.trees) e c.requires.delivered.line c.in-Err.ensures.fault, takes_none item.uid cell (bodies_of old.committed.trees)))
+    (λ asks. (arrives_own part caller item (book_of old.committed.trees) e c.requires.delivered.line c.in-Err.ensures.fault, takes_none item cell old.committed.trees))

@@ -1,6 +1,5 @@
-use Rattle.std.proofs.Common.{◌∙◌, ap, refl}
-use Rattle.std.specs.Prelude.{ℕ, Option}
-use Rattle.dr_word_at.specs.Printing.{queue_line}
+use Rattle.std.proofs.Common.{◌∙◌, ◌++◌, ℕ, List, ap}
+use Rattle.dr_word_list.specs.Summaries.{queue_line}
 use Rattle.dr_word_at.proofs.shown.put_queue.Goals as goal
 
 pub returns : goal.returns
@@ -19,5 +18,6 @@ returns c =
         c.in_ok-done.ensures,
         ap line c.number_at.ensures,
       ),
-      c.in_ok-put_counts.ensures,
+      c.in_ok-put_queue_line.ensures
+          ∙ ap (λ (t : List ℕ). c.args.out.now.items ++ queue_line t c.in_ok-waiting.waiting c.in_ok-held.held c.in_ok-done.done c.number_at.result) c.as_bytes.ensures.value,
     )

@@ -1,10 +1,12 @@
 use Rattle.std.proofs.Common.{List, subst}
 use Rattle.std.specs.List.{AllZip}
+use Rattle.dr_world.specs.Played.{HasChange}
 use Rattle.dr_world.specs.declared.deed.Deed.{Deed}
+use Rattle.dr_world.specs.declared.fault.WorldFault.{WorldFault}
 use Rattle.dr_world_script.specs.declared.act.Act.{Act}
 use Rattle.dr_word_simulate.specs.Deeds.{IsDeedOf, StopsAt}
-use Rattle.dr_word_simulate.specs.Reported.{IsReportAfter}
-use Rattle.dr_word_simulate.proofs.Doing.{stopped, stops_at_line}
+use Rattle.dr_word_simulate.specs.Reported.{IsReportAfter, IsUnreported}
+use Rattle.dr_word_simulate.proofs.Doing.{has_change, stopped, stops_at_line}
 use Rattle.dr_word_simulate.proofs.outcome.outcome_of.Goals as goal
 
 pub outcome_of_stop-requires : goal.outcome_of_stop-requires
@@ -29,5 +31,13 @@ returns-in-Ok-report_after g c =
       told = c.in-Ok.ensures;
       deeds = c.in-Ok-deeds_of.deeds.items;
       done = subst P c.into_vec.ensures c.in-Ok-deeds_of.ensures;
-      reported = subst Q c.as_slice.ensures.value c.in-Ok-report_after.ensures;
+      reported = subst Q c.as_slice.ensures.value c.in-Ok-report_after.ensures.reports;
     }
+
+pub returns-in-Err-HalfAdopted : goal.returns-in-Err-HalfAdopted
+returns-in-Err-HalfAdopted g c =
+    let P : List Act → Type 0 = λ acts. AllZip (IsDeedOf (g.F.Files.holds c.args.files.now)) acts c.in-Ok-deeds_of.deeds.items in
+    let Q : List Deed → Type 0 = λ deeds. HasChange deeds in
+    let F : WorldFault → Type 0 = λ why. IsUnreported c.as_slice.result.now why in
+    has_change (g.F.Files.holds c.args.files.now) c.args.text.now c.in-Ok.acts c.in-Ok-deeds_of.deeds.items c.in-Ok.ensures (subst P c.into_vec.ensures c.in-Ok-deeds_of.ensures)
+    (subst Q c.as_slice.ensures.value (subst F c.in-Err-HalfAdopted.field-0-is c.in-Err-HalfAdopted.ensures.unreported))

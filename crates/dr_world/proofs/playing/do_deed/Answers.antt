@@ -4,18 +4,18 @@ use Rattle.dr_world.specs.Played.{PlaysOn}
 use Rattle.dr_world.specs.declared.deed.Deed.{Deed}
 use Rattle.dr_world.proofs.playing.do_deed.Goals as goal
 
-pub returns-in_ok-_note-in-Step : goal.returns-in_ok-_note-in-Step
-returns-in_ok-_note-in-Step c =
+pub returns-in_ok-_note-in-Step-clause-plays : goal.returns-in_ok-_note-in-Step-clause-plays
+returns-in_ok-_note-in-Step-clause-plays c =
     let P : Deed → Type 0 = λ d. PlaysOn d [] c.args.world.now c.step.new.self in
     ([], sym (append-nil c.args.changes.now), subst P (sym c.in-Step.is) c.in_ok-_note-in-Step.ensures.plays)
 
-pub returns-in_ok-_note-in-Bytes : goal.returns-in_ok-_note-in-Bytes
-returns-in_ok-_note-in-Bytes c =
+pub returns-in_ok-_note-in-Bytes-clause-plays : goal.returns-in_ok-_note-in-Bytes-clause-plays
+returns-in_ok-_note-in-Bytes-clause-plays c =
     let P : Deed → Type 0 = λ d. PlaysOn d [] c.args.world.now c.write.new.self in
     ([], sym (append-nil c.args.changes.now), subst P (sym c.in-Bytes.is) c.in_ok-_note-in-Bytes.ensures.plays)
 
-pub returns-in_ok-push-in-Adopt : goal.returns-in_ok-push-in-Adopt
-returns-in_ok-push-in-Adopt c =
+pub returns-in_ok-push-in-Adopt-clause-plays : goal.returns-in_ok-push-in-Adopt-clause-plays
+returns-in_ok-push-in-Adopt-clause-plays c =
     let change = c.in_ok-change-in-Adopt.change in
     let P : Deed → Type 0 = λ d. PlaysOn d (change ∷ []) c.args.world.now c.change_to.new.world in
-    (change ∷ [], c.in_ok-push-in-Adopt.ensures.ok, subst P (sym c.in-Adopt.is) c.in_ok-change-in-Adopt.ensures)
+    (change ∷ [], c.in_ok-push-in-Adopt.ensures.ok, subst P (sym c.in-Adopt.is) c.in_ok-change-in-Adopt.ensures.plays)

@@ -2,7 +2,7 @@ use Rattle.std.proofs.Common.{refl, sym, ap, subst, ◌∙◌}
 use Rattle.dr_plan_model.specs.Plans.{NamesNoNode}
 use Rattle.dr_site.specs.Parts.{Part}
 use Rattle.dr_desk.proofs.Handed.{of_lines_after, stays_as, stays_by_plan}
-use Rattle.dr_desk.proofs.Journals.{of_lines_by}
+use Rattle.dr_desk.proofs.Journals.{apart_by, of_lines_by, rise_by}
 use Rattle.dr_desk.proofs.Taken.{both, fit_then, no_node, one_node, still}
 use Rattle.dr_desk.proofs.held.HeldDesk.change.Goals as goal
 
@@ -51,14 +51,23 @@ hand_over-requires-clause-node g c =
     (c.name.ensures ∙ ap (λ (p : Part). p.name) (sym (c.args.self.of ∙ c.requires.site)))
     c.in-Some.ensures)
 
-pub returns-in-Ok-clause-of_lines : goal.returns-in-Ok-clause-of_lines
-returns-in-Ok-clause-of_lines g c = λ s. let t = c.in-Ok.ensures.takes in
-    of_lines_after
-    (λ p. p.receipts.items) c.args.passes.items (g.L.Ledger.book c.compare.new.self.desk.ledger)
-    (g.L.Ledger.book c.in-Ok.changed.desk.ledger) (t.adopted s)
-    (of_lines_by
-    (λ p. p.receipts.items) c.as_slice.result.now c.args.passes.items _ _ c.as_slice.ensures.value
-    refl (c.in_default-compare.ensures.of_lines (t.stood s)))
+pub returns-in-Ok-clause-tally : goal.returns-in-Ok-clause-tally
+returns-in-Ok-clause-tally g c = let t = c.in-Ok.ensures.takes in record {
+  of_lines = λ s. of_lines_after
+      (λ p. p.receipts.items) c.args.passes.items (g.L.Ledger.book c.compare.new.self.desk.ledger)
+      (g.L.Ledger.book c.in-Ok.changed.desk.ledger) (t.adopted s)
+      (of_lines_by
+      (λ p. p.receipts.items) c.as_slice.result.now c.args.passes.items _ _
+      c.as_slice.ensures.value refl (c.in_default-compare.ensures.of_lines (t.stood s)));
+  rise = rise_by (λ p. p.receipts.items) c.as_slice.result.now c.args.passes.items
+      c.as_slice.ensures.value c.in_default-compare.ensures.rise;
+  apart = apart_by (λ p. p.receipts.items) c.as_slice.result.now c.args.passes.items
+      c.as_slice.ensures.value c.in_default-compare.ensures.apart;
+  sum = c.in-Ok.ensures.sum;
+  some = c.in-Ok.ensures.some;
+  all = c.in-Ok.ensures.all;
+  few = c.in-Ok.ensures.few;
+}
 
 pub returns-in-Err-hand_over-clause-stays : goal.returns-in-Err-hand_over-clause-stays
 returns-in-Err-hand_over-clause-stays g c =

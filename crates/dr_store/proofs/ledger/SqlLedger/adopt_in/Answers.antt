@@ -4,8 +4,10 @@ use Rattle.dr_site.specs.Parts.{Part}
 use Rattle.dr_ledger.specs.Adopting.{site_after}
 use Rattle.dr_store_schema.specs.Books.{bodies_of, book_of}
 use Rattle.dr_store_calls.specs.Adoptions.{IsAdopted}
-use Rattle.dr_store_calls.specs.Calling.{IsKept, IsSafe, advanced}
+use Rattle.dr_store_calls.specs.Calling.{IsSafe, advanced}
+use Rattle.dr_store.specs.Owning.{KeepsOwn}
 use Rattle.dr_store.proofs.Adopts.{Adoption, adopted}
+use Rattle.dr_store.proofs.Owns.{keeps_at_adoption}
 use Rattle.dr_store.proofs.Replies.{adopting, lets_go}
 use Rattle.dr_store.proofs.Stable.{both}
 use Rattle.dr_store.proofs.Writes.{still_kept, wrote}
@@ -20,11 +22,12 @@ invariant_of-self g c =
     let old = state g.S.Store c.args.self.now.conn in
     let new = state g.S.Store c.adopt-answer.new.conn in
     let done = adopted n part next r old new (c.adopt-answer.ensures.adopted part) in
-    let P : Part → Type 0 = λ site. IsSafe new → ∥ IsKept (advanced r n) site new ∥₁ in
+    let P : Part → Type 0 = λ site. IsSafe new → ∥ KeepsOwn (advanced r n) site new ∥₁ in
     record {
       idle = c.adopt-answer.ensures.idle;
-      kept = subst (λ m. IsSafe new → ∥ IsKept m c.take_over.new.site new ∥₁) (sym c.next_after-self.ensures)
-          (subst P (sym c.take_over.ensures) (still_kept n (advanced r n) part (site_after r next part) r old new (Adoption r) (IsAdopted next) c.args.self.now.kept done));
+      kept = subst (λ m. IsSafe new → ∥ KeepsOwn m c.take_over.new.site new ∥₁) (sym c.next_after-self.ensures)
+          (subst P (sym c.take_over.ensures) (still_kept n (advanced r n) part (site_after r next part) r old new (Adoption r) (IsAdopted next) c.args.self.now.kept done
+          (λ k it own. keeps_at_adoption r old.committed.trees new.committed.trees it own)));
     }
 
 pub returns-clause-wrote : goal.returns-clause-wrote

@@ -4,7 +4,9 @@ use Rattle.sqlite.specs.Tree.{Trees}
 use Rattle.dr_ledger.specs.Bodies.{OnlyLetsGo}
 use Rattle.dr_ledger.specs.Replies.{Forgets}
 use Rattle.dr_store_schema.specs.Books.{bodies_of, book_of}
-use Rattle.dr_store_calls.specs.Calling.{IsKept, IsSafe, advanced}
+use Rattle.dr_store_calls.specs.Calling.{IsSafe, advanced}
+use Rattle.dr_store.specs.Owning.{KeepsOwn}
+use Rattle.dr_store.proofs.Owns.{forgotten}
 use Rattle.dr_store.proofs.Replies.{forgets, lets_go}
 use Rattle.dr_store.proofs.Stable.{both}
 use Rattle.dr_store.proofs.Writes.{called, still_kept, wrote}
@@ -23,7 +25,8 @@ invariant_of-self g c =
     let done = called n (advanced r n) part r old new Answers Makes (c.forget-answer.ensures.called part) in
     record {
       idle = c.forget-answer.ensures.idle;
-      kept = subst (λ m. IsSafe new → ∥ IsKept m part new ∥₁) (sym c.next_after-self.ensures) (still_kept n (advanced r n) part part r old new Answers Makes c.args.self.now.kept done);
+      kept = subst (λ m. IsSafe new → ∥ KeepsOwn m part new ∥₁) (sym c.next_after-self.ensures) (still_kept n (advanced r n) part part r old new Answers Makes c.args.self.now.kept done
+          (λ k it own. forgotten uid r old.committed.trees new.committed.trees k.ledger.bodied it own));
     }
 
 pub returns-clause-wrote : goal.returns-clause-wrote

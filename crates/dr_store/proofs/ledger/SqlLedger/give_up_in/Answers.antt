@@ -4,7 +4,9 @@ use Rattle.sqlite.specs.Tree.{Trees}
 use Rattle.dr_ledger.specs.Bodies.{OnlyLetsGo}
 use Rattle.dr_ledger.specs.Replies.{Drops}
 use Rattle.dr_store_schema.specs.Books.{bodies_of, book_of}
-use Rattle.dr_store_calls.specs.Calling.{IsKept, IsSafe, advanced}
+use Rattle.dr_store_calls.specs.Calling.{IsSafe, advanced}
+use Rattle.dr_store.specs.Owning.{KeepsOwn}
+use Rattle.dr_store.proofs.Owns.{dropped}
 use Rattle.dr_store.proofs.Replies.{drops, lets_go}
 use Rattle.dr_store.proofs.Stable.{both}
 use Rattle.dr_store.proofs.Writes.{called, still_kept, wrote}
@@ -29,8 +31,9 @@ invariant_of-self g c =
     record {
       idle = c.give_up-answer.ensures.idle;
       kept = subst
-          (λ m. IsSafe new → ∥ IsKept m part new ∥₁) (sym c.next_after-self.ensures)
-          (still_kept n (advanced r n) part part r old new Answers Makes c.args.self.now.kept done);
+          (λ m. IsSafe new → ∥ KeepsOwn m part new ∥₁) (sym c.next_after-self.ensures)
+          (still_kept n (advanced r n) part part r old new Answers Makes c.args.self.now.kept done
+          (λ k it own. dropped uid dest now r old.committed.trees new.committed.trees it own));
     }
 
 pub returns-clause-wrote : goal.returns-clause-wrote

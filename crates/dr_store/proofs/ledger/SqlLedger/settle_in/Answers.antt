@@ -6,8 +6,10 @@ use Rattle.dr_ledger.specs.Items.{instance_of}
 use Rattle.dr_ledger.specs.Replies.{Arrives, Requeues, Settles}
 use Rattle.dr_ledger.specs.SiteRoutes.{site_routing}
 use Rattle.dr_store_schema.specs.Books.{bodies_of, book_of}
-use Rattle.dr_store_calls.specs.Calling.{IsKept, IsSafe, advanced}
+use Rattle.dr_store_calls.specs.Calling.{IsSafe, advanced}
 use Rattle.dr_store_calls.specs.Knowing.{IsAccepted}
+use Rattle.dr_store.specs.Owning.{KeepsOwn}
+use Rattle.dr_store.proofs.Owns.{settled}
 use Rattle.dr_store.proofs.Replies.{accepted, arrives, lets_go, requeues, settles, takes}
 use Rattle.dr_store.proofs.Stable.{both}
 use Rattle.dr_store.proofs.Writes.{called, still_kept, wrote}
@@ -29,7 +31,8 @@ invariant_of-self g c =
     let done = called n (advanced r n) part r old new Answers Makes (c.settle-answer.ensures.called part) in
     record {
       idle = c.settle-answer.ensures.idle;
-      kept = subst (λ m. IsSafe new → ∥ IsKept m part new ∥₁) (sym c.next_after-self.ensures) (still_kept n (advanced r n) part part r old new Answers Makes c.args.self.now.kept done);
+      kept = subst (λ m. IsSafe new → ∥ KeepsOwn m part new ∥₁) (sym c.next_after-self.ensures) (still_kept n (advanced r n) part part r old new Answers Makes c.args.self.now.kept done
+          (λ k it own. settled uid dest outcome now r old.committed.trees new.committed.trees it own));
     }
 
 pub returns-clause-wrote : goal.returns-clause-wrote

@@ -1,4 +1,4 @@
-use Rattle.std.proofs.Common.{◌≡◌, refl, ap}
+use Rattle.std.proofs.Common.{◌≡◌, refl, sym, subst, ap}
 use Rattle.sqlite.specs.Held.{state}
 use Rattle.sqlite.specs.Tree.{Trees}
 use Rattle.sqlite_trees.specs.Props.{Trees-set}
@@ -6,6 +6,7 @@ use Rattle.dr_ledger.specs.Items.{instance_of}
 use Rattle.dr_ledger.specs.Replies.{Admits}
 use Rattle.dr_ledger.specs.SiteRoutes.{site_routing}
 use Rattle.dr_store_schema.specs.Books.{bodies_of, book_of}
+use Rattle.dr_store.specs.Owning.{HaveOwn}
 use Rattle.dr_store.proofs.Replies.{admits}
 use Rattle.dr_store.proofs.Stable.{both, of_prop}
 use Rattle.dr_store.proofs.Writes.{answered, called, lasting, still_kept, was_safe}
@@ -24,7 +25,7 @@ invariant_of-self g c =
     let None : Trees → Trees → Type 0 = λ base db. ⊥ in
     let done = called n n part r old new Answers None (c.admit-answer.ensures.called n) in
     let kept = c.args.self.now.kept in
-    record { idle = c.admit-answer.ensures.idle c.args.self.now.idle; kept = still_kept n n part part r old new Answers None kept done }
+    record { idle = c.admit-answer.ensures.idle c.args.self.now.idle; kept = still_kept n n part part r old new Answers None kept done (λ k it own. subst HaveOwn (sym it.0) own) }
 
 -- by hand: the search loses itself in what the trait asks
 pub returns : goal.returns

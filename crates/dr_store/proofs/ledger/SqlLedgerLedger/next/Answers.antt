@@ -4,8 +4,10 @@ use Rattle.sqlite.specs.Tree.{Trees}
 use Rattle.dr_ledger.specs.declared.content.Job.{Job}
 use Rattle.dr_ledger.specs.Bodies.{NextsWith}
 use Rattle.dr_store_schema.specs.Books.{bodies_of, book_of}
+use Rattle.dr_store.specs.Reading.{NextsStored}
+use Rattle.dr_store.proofs.Nexts.{next_of}
 use Rattle.dr_store.proofs.Shown.{nexts}
-use Rattle.dr_store.proofs.Writes.{looked_books, looked_kept, looked_lasting, looked_reads, looked_safe}
+use Rattle.dr_store.proofs.Writes.{looked_books, looked_kept, looked_lasting, looked_safe, looked_says}
 use Rattle.dr_store.proofs.ledger.SqlLedgerLedger.next.Goals as goal
 
 pub invariant_of-self : goal.invariant_of-self
@@ -17,7 +19,7 @@ invariant_of-self g c =
     let r = c.next_job-answer.result in
     let old = state g.S.Store c.args.self.now.conn in
     let new = state g.S.Store c.next_job-answer.new.conn in
-    let Shows : Trees → Option Job → Type 0 = λ base. NextsWith (book_of base) (bodies_of base) dest now in
+    let Shows : Trees → Option Job → Type 0 = λ base. NextsStored base dest now in
     record {
       idle = c.next_job-answer.ensures.idle c.args.self.now.idle;
       kept = looked_kept n part r old new Shows c.args.self.now.kept (c.next_job-answer.ensures.looked n part);
@@ -33,11 +35,12 @@ returns g c =
     let r = c.next_job-answer.result in
     let old = state g.S.Store c.args.self.now.conn in
     let new = state g.S.Store c.next_job-answer.new.conn in
-    let Shows : Trees → Option Job → Type 0 = λ base. NextsWith (book_of base) (bodies_of base) dest now in
+    let Shows : Trees → Option Job → Type 0 = λ base. NextsStored base dest now in
     let kept = c.args.self.now.kept in
     let looked = (c.next_job-answer.ensures.looked n part) in
     record {
-      reply = looked_reads n part r old new Shows kept looked (nexts (book_of old.committed.trees) (bodies_of old.committed.trees) dest now);
+      reply = looked_says n part r old new Shows kept looked (NextsWith (book_of old.committed.trees) (bodies_of old.committed.trees) dest now)
+          (λ k job stored. next_of old.committed.trees dest now job k.kept.ledger.bodied k.own stored) (nexts (book_of old.committed.trees) (bodies_of old.committed.trees) dest now);
       same = looked_books n part r old new Shows kept looked;
       counts = c.counted-self.ensures.counts;
       armed = refl;
