@@ -4,7 +4,7 @@
 No sentence has more than 30 words, and no line more than 120 columns. A text in code style is one word. Blocks of code,
 tables and headings aren't looked at, and two things aren't counted: the bold words that begin an item, and references
 in parentheses that are code alone. Each example of docs/PROVING.md, which is code with a file in parentheses behind it,
-is in that file. What isn't so is printed, and the exit status is 1.
+is in that file. README.md has at most 150 lines. What isn't so is printed, and the exit status is 1.
 """
 import glob
 import os
@@ -15,6 +15,7 @@ from crates import TOP
 
 MOST_WORDS = 30
 MOST_COLUMNS = 120
+MOST_LINES_OF_README = 150
 PAGES = ["*.md", "docs/*.md", "bench/*.md", "tests/*.md"]
 # A list's item, behind a quotation's mark or not, and what begins no line of a paragraph.
 ITEM = re.compile(r"(?:[-*+]|\d+[.)])\s+(.*)")
@@ -96,6 +97,8 @@ def faults(pages):
         found = [*long_lines(text), *long_sentences(text)]
         if page == "docs/PROVING.md":
             found += lost_examples(text)
+        if page == "README.md" and text.count("\n") > MOST_LINES_OF_README:
+            found.append((MOST_LINES_OF_README + 1, f"over {MOST_LINES_OF_README} lines"))
         yield from (f"{page}:{number}: {said}" for number, said in found)
 
 
