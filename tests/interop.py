@@ -86,6 +86,13 @@ class Site(Room):
             assert time.monotonic() < end, f'{os.listdir(f"{self.folder}/archive")}, not {count}'
             time.sleep(0.02)
 
+    def wait_until_nothing_is_archived(self):
+        """What storescp breaks off it takes away, if it isn't killed before."""
+        end = time.monotonic() + LIMIT
+        while left := os.listdir(f'{self.folder}/archive'):
+            assert time.monotonic() < end, left
+            time.sleep(0.02)
+
     def listed(self):
         listing = self.at('list', 'GATE')
         same((listing.returncode, listing.stderr), (0, b''))
@@ -192,6 +199,7 @@ def archive_away():
             rows = [line.split('\t')[1:5] for line in site.ends(gate) if line.startswith('row')]
             same([row[:3] for row in rows], [[uid, 'ARCH', 'waiting'] for uid in uids])
             assert any(int(row[3]) > 1 for row in rows), (behaviour, rows)
+            site.wait_until_nothing_is_archived()
             stop(archive)
         same(site.archived(), {})
         archive, gate = site.archive(), site.serve('GATE', 1)
