@@ -1,4 +1,4 @@
-use Rattle.dr_route.proofs.cell.station_of.Goals as goal
+use Rattle.dr_route.proofs.cell.field_of.Goals as goal
 
 pub returns-in-None : goal.returns-in-None
 returns-in-None c = (
