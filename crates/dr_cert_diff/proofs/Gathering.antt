@@ -10,6 +10,7 @@ use Rattle.dr_route.specs.Laws.{IsPart}
 use Rattle.dr_route.specs.declared.cell.FieldValues.{FieldValues}
 use Rattle.dr_route.specs.declared.cell.OwnedField.{OwnedField}
 use Rattle.dr_route.specs.declared.cell.OwnedField.TheVariants as part
+use Rattle.dr_plan_model.specs.Plans.{NamesAlike}
 use Rattle.dr_cert_diff.specs.Differing.{values_of_both}
 use Rattle.dr_plan_model.proofs.Gathered.{nothing_in_nil, only_one, Contains-cons_cases, Contains-here, Contains-there}
 
@@ -153,12 +154,12 @@ same_both xs ys us vs first second t = (
 )
 
 -- the parts of what both name, in whatever order they name it
-pub parts_alike : (a b c d : FieldValues) → Same a.literals c.literals → Same a.prefixes c.prefixes → Same b.literals d.literals → Same b.prefixes d.prefixes → (items : List OwnedField) →
+pub parts_alike : (a b c d : FieldValues) → NamesAlike a c → NamesAlike b d → (items : List OwnedField) →
     ((field : OwnedField) → Contains items field ↔ IsPart (values_of_both a b) field) → (field : OwnedField) → Contains items field ↔ IsPart (values_of_both c d) field
-parts_alike a b c d la pa lb pb items are (part.Literal t) =
-    let same = same_both a.literals b.literals c.literals d.literals la lb t in
+parts_alike a b c d first second items are (part.Literal t) =
+    let same = same_both a.literals b.literals c.literals d.literals first.literals second.literals t in
     (λ h. same.0 ((are (part.Literal t)).0 h), λ h. (are (part.Literal t)).1 (same.1 h))
-parts_alike a b c d la pa lb pb items are (part.Prefix t) =
-    let same = same_both a.prefixes b.prefixes c.prefixes d.prefixes pa pb t in
+parts_alike a b c d first second items are (part.Prefix t) =
+    let same = same_both a.prefixes b.prefixes c.prefixes d.prefixes first.prefixes second.prefixes t in
     (λ h. same.0 ((are (part.Prefix t)).0 h), λ h. (are (part.Prefix t)).1 (same.1 h))
-parts_alike a b c d la pa lb pb items are part.Rest = are part.Rest
+parts_alike a b c d first second items are part.Rest = are part.Rest
