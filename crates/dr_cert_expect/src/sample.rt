@@ -9,8 +9,8 @@ use dr_route::rule::begins;
 use dr_route::{FieldPattern, Key, OwnedCell};
 use std::alloc::{AllocError, Global};
 
-/// The value that the pattern asks for, and else the cell's own; of a prefix the cell's own where it
-/// begins so.
+/// The value that the pattern asks for, and else the cell's own; of a prefix the cell's own where
+/// it begins so.
 fn sample_value(alloc: Global, pattern: &FieldPattern, own: &Text) -> Result<Text, AllocError>
     ensures { IfOk result (IsSampleValue pattern.now own.now) }
 {

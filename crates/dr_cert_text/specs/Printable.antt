@@ -12,7 +12,8 @@ abbrev pub IsPlain : Text → Type 0
 IsPlain text = All (λ byte. (byte ≢ 9) × (byte ≢ 10)) text
 
 -- the part of the modalities, or of the stations, can be told from its text: a literal doesn't end
--- with `*`, which stands behind a prefix, and a prefix isn't empty, as `*` alone stands for the rest
+-- with `*`, which stands behind a prefix, and a prefix isn't empty, as `*` alone stands for the
+-- rest
 abbrev pub IsPlainField : OwnedField → Type 0
 IsPlainField (Literal literal) =
     IsPlain literal × ((front : Text) → literal ≡ front ++ codes "*" → ⊥)
