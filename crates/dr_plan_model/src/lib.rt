@@ -14,4 +14,4 @@ pub mod sending;
 
 pub use listed::Listed;
 pub use names::names_of;
-pub use plan::{Flow, Format, Node, Plan, Stations, Values};
+pub use plan::{Flow, Format, Node, Plan, Values};

@@ -9,7 +9,7 @@ use Rattle.std.specs.Str.{bytes_eq}
 use Rattle.std.proofs.lemmas.List.Elements.{All-head, All-tail, All-contains, Contains-append_left, Contains-append_right, Contains-append_cases, Contains-push, Contains-push_cases}
 use Rattle.dr_base.specs.Texts.{Text, Begins}
 use Rattle.dr_route.specs.Routes.{Matches, MatchesField, Holds, SendsBy, KeepsBy}
-use Rattle.dr_route.specs.Cells.{InField, IsLongest, HasNoPrefix, InCell}
+use Rattle.dr_route.specs.Cells.{InField, IsLongest, HasNoPrefix, InCell, SameValues, SameLiterals}
 use Rattle.dr_route.specs.Laws.{IsKnown, IsKnownRule, IsPart, ArePlain, ArePlainValues, value_of}
 use Rattle.dr_route.specs.declared.key.Key.{Key}
 use Rattle.dr_route.specs.declared.rule.Rule.{Rule}
@@ -196,6 +196,43 @@ one_part values (part.Prefix p) part.Rest value a b = absurd (b.1 p a.1.among a.
 one_part values part.Rest (part.Literal m) value a b = absurd (a.0 (subst (Contains values.literals) b.1 b.0))
 one_part values part.Rest (part.Prefix q) value a b = absurd (a.1 q b.1.among b.1.begins)
 one_part values part.Rest part.Rest value a b = refl
+
+-- a part doesn't depend on the order of the values
+pub field_alike : (a b : FieldValues) → SameValues a b → (part : OwnedField) (value : Text) → InField a part value → InField b part value
+field_alike a b same (part.Literal literal) value h = ((same.literals literal).0 h.0, h.1)
+field_alike a b same (part.Prefix prefix) value h = (
+  λ among. h.0 ((same.literals value).1 among),
+  record {
+    among = (same.prefixes prefix).0 h.1.among;
+    begins = h.1.begins;
+    longest = λ other among begins. h.1.longest other ((same.prefixes other).1 among) begins;
+  },
+)
+field_alike a b same part.Rest value h = (
+  λ among. h.0 ((same.literals value).1 among),
+  λ prefix among begins. h.1 prefix ((same.prefixes prefix).1 among) begins,
+)
+
+-- nor does a cell
+pub cell_alike : (a b : Literals) → SameLiterals a b → (cell : OwnedCell) (key : Key) → InCell a cell key → InCell b cell key
+cell_alike a b same cell key h = record {
+  class = h.class;
+  syntax = h.syntax;
+  modality = field_alike a.modalities b.modalities same.modalities cell.modality key.modality h.modality;
+  station = field_alike a.stations b.stations same.stations cell.station key.station h.station;
+}
+
+-- the other way round
+pub same_turned : (a b : Literals) → SameLiterals a b → SameLiterals b a
+same_turned a b same = record {
+  modalities = values_turned a.modalities b.modalities same.modalities;
+  stations = values_turned a.stations b.stations same.stations;
+} where
+  values_turned : (a b : FieldValues) → SameValues a b → SameValues b a
+  values_turned a b same = record {
+    literals = λ t. ((same.literals t).1, (same.literals t).0);
+    prefixes = λ t. ((same.prefixes t).1, (same.prefixes t).0);
+  }
 
 -- no key lies in two cells
 pub one_cell : (literals : Literals) (key : Key) (a b : OwnedCell) → InCell literals a key → InCell literals b key → a ≡ b

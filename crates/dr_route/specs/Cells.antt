@@ -1,6 +1,6 @@
 -- Cells: the keys with one class, one transfer syntax, and for modality and for station one literal
 -- of the plan, the values under one of its prefixes, or none of them.
-use Rattle.std.specs.Prelude.{◌≡◌, ◌≤◌, List, length, Contains}
+use Rattle.std.specs.Prelude.{◌≡◌, ◌↔◌, ◌≤◌, List, length, Contains}
 use Rattle.dr_base.specs.Texts.{Text, IsInByteOrder, Begins}
 use Rattle.dr_route.specs.declared.key.Key.{Key}
 use Rattle.dr_route.specs.declared.cell.FieldValues.{FieldValues}
@@ -37,6 +37,16 @@ InField values (Prefix prefix) value =
     (Contains values.literals value → ⊥) × IsLongest values.prefixes prefix value
 InField values Rest value =
     (Contains values.literals value → ⊥) × HasNoPrefix values.prefixes value
+
+-- the same literals, and the same prefixes
+pub record SameValues (a b : FieldValues) : Type 0 where
+  pub literals : (text : Text) → Contains a.literals text ↔ Contains b.literals text
+  pub prefixes : (text : Text) → Contains a.prefixes text ↔ Contains b.prefixes text
+
+-- the same values for each field
+pub record SameLiterals (a b : Literals) : Type 0 where
+  pub modalities : SameValues a.modalities b.modalities
+  pub stations : SameValues a.stations b.stations
 
 -- the literals and the prefixes of a field stand in byte order, each once
 pub record IsOrdered (values : FieldValues) : Type 0 where

@@ -2,7 +2,7 @@
 use Rattle.std.specs.Prelude.{◌≡◌, ◌≢◌, ◌<◌, List, ◌∷◌, [], ◌++◌, Contains, All}
 use Rattle.dr_base.specs.Texts.{Text}
 use Rattle.dr_route.specs.Routes.{local, Holds, SendsBy, KeepsBy}
-use Rattle.dr_route.specs.Cells.{IsLongest, InCell}
+use Rattle.dr_route.specs.Cells.{IsLongest, InCell, SameLiterals}
 use Rattle.dr_route.specs.declared.key.Key.{Key}
 use Rattle.dr_route.specs.declared.rule.Rule.{Rule}
 use Rattle.dr_route.specs.declared.rule.FieldPattern.{FieldPattern}
@@ -55,6 +55,12 @@ abbrev pub CellsAreApart : Type 0
 CellsAreApart =
     (literals : Literals) (key : Key) (a b : OwnedCell)
     → InCell literals a key → InCell literals b key → a ≡ b
+
+-- the same values make the same cells
+abbrev pub SameValuesMakeSameCells : Type 0
+SameValuesMakeSameCells =
+    (a b : Literals) → SameLiterals a b → (cell : OwnedCell) (key : Key)
+    → InCell a cell key → InCell b cell key
 
 -- no value has two longest prefixes
 abbrev pub LongestIsOne : Type 0
