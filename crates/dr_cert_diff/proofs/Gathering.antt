@@ -6,13 +6,13 @@ use Rattle.std.proofs.lemmas.List.{take_more}
 use Rattle.std.proofs.lemmas.List.Elements.{All-push, Contains-push_cases, Contains-push, Contains-append_left, Contains-append_right, Contains-append_cases}
 use Rattle.dr_base.specs.Texts.{Text}
 use Rattle.dr_route.specs.Names.{HasName}
+use Rattle.dr_route.specs.Cells.{SameValues}
 use Rattle.dr_route.specs.Laws.{IsPart}
 use Rattle.dr_route.specs.declared.cell.FieldValues.{FieldValues}
 use Rattle.dr_route.specs.declared.cell.OwnedField.{OwnedField}
 use Rattle.dr_route.specs.declared.cell.OwnedField.TheVariants as part
-use Rattle.dr_plan_model.specs.Plans.{NamesAlike}
-use Rattle.dr_cert_diff.specs.Differing.{values_of_both}
 use Rattle.dr_plan_model.proofs.Gathered.{nothing_in_nil, only_one, Contains-cons_cases, Contains-here, Contains-there}
+use Rattle.dr_cert_diff.specs.Differing.{values_of_both}
 
 -- one more of which it holds
 pub one_more_so : {X : Type 0} (P : X → Type 0) (xs : List X) (i : ℕ) (x : X) → i < length xs → x ≡ get_or xs i x → All P (take i xs) → P x → All P (take (i + 1) xs)
@@ -154,7 +154,7 @@ same_both xs ys us vs first second t = (
 )
 
 -- the parts of what both name, in whatever order they name it
-pub parts_alike : (a b c d : FieldValues) → NamesAlike a c → NamesAlike b d → (items : List OwnedField) →
+pub parts_alike : (a b c d : FieldValues) → SameValues a c → SameValues b d → (items : List OwnedField) →
     ((field : OwnedField) → Contains items field ↔ IsPart (values_of_both a b) field) → (field : OwnedField) → Contains items field ↔ IsPart (values_of_both c d) field
 parts_alike a b c d first second items are (part.Literal t) =
     let same = same_both a.literals b.literals c.literals d.literals first.literals second.literals t in

@@ -8,8 +8,8 @@ returns c =
     let other = c.in_ok-other.other in
     let old = literals_of c.args.old.now in
     let new = literals_of c.args.new.now in
-    let of_one = c.in_ok-one.ensures in
-    let of_other = c.in_ok-other.ensures in
+    let of_one = c.in_ok-one.ensures.same in
+    let of_other = c.in_ok-other.ensures.same in
     record {
       modalities = parts_alike one.modalities other.modalities old.modalities new.modalities of_one.modalities of_other.modalities c.in_ok-modalities.modalities.items c.in_ok-modalities.ensures;
       stations = parts_alike one.stations other.stations old.stations new.stations of_one.stations of_other.stations c.in_ok-stations.stations.items c.in_ok-stations.ensures;
