@@ -3,6 +3,7 @@
 use Rattle.std.specs.Prelude.{List, [], ◌∷◌, codes, true}
 use Rattle.dr_base.specs.Texts.{Text}
 use Rattle.dr_base.specs.declared.syntax.Syntax.TheVariants.{Explicit}
+use Rattle.dr_route.specs.declared.rule.FieldPattern.TheVariants as field
 use Rattle.dr_route.specs.declared.rule.Pattern.TheVariants.{Any}
 use Rattle.dr_route.specs.declared.rule.Rule.{Rule}
 use Rattle.dr_route.specs.declared.accept.Callers.TheVariants as callers
@@ -10,9 +11,7 @@ use Rattle.dr_route.specs.declared.accept.AcceptRow.{AcceptRow}
 use Rattle.dr_plan_model.specs.declared.plan.Node.{Node}
 use Rattle.dr_plan_model.specs.declared.plan.Flow.{Flow}
 use Rattle.dr_plan_model.specs.declared.plan.Values.TheVariants as values
-use Rattle.dr_plan_model.specs.declared.plan.Stations.TheVariants as stations
 use Rattle.dr_plan_model.specs.declared.plan.Format.TheVariants.{One}
-use Rattle.dr_route.specs.declared.rule.StationPattern.TheVariants as station
 use Rattle.dr_plan_model.specs.Networks.{Network}
 use Rattle.dr_plan_sound.specs.Soundness.{IsSound}
 use Rattle.dr_base.specs.Standard.{image}
@@ -30,8 +29,8 @@ abbrev pub keep_all : Rule
 keep_all = record {
   «from» = Any;
   class = Any;
-  modality = Any;
-  station = station.Any;
+  modality = field.Any;
+  station = field.Any;
   to = [];
   keep = true;
 }
@@ -63,7 +62,7 @@ the_flow = record {
   classes = image ∷ [];
   syntaxes = Explicit ∷ [];
   modalities = values.Any;
-  stations = stations.Any;
+  stations = values.Any;
 }
 
 -- the plan of the two nodes and the flow, with these rules of the archive
