@@ -155,8 +155,8 @@ ValuesFit format modalities stations =
 
 -- the format has what the nodes and flows name
 pub record IsInFormat (format : Format) (nodes : List Node) (flows : List Flow) : Type 0 where
-  pub rules : All (λ node. All (RuleFits format) node.rules) nodes
-  pub flows : All (λ flow. ValuesFit format flow.modalities flow.stations) flows
+  pub each_rule : All (λ node. All (RuleFits format) node.rules) nodes
+  pub each_flow : All (λ flow. ValuesFit format flow.modalities flow.stations) flows
 
 -- the nodes and flows of a plan of that format: at most 64 nodes, each name once, and at most 1,024
 -- rules and flows together
