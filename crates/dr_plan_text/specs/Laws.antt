@@ -3,12 +3,13 @@ use Rattle.std.specs.Prelude.{◌≡◌, pos, false, [], ◌∷◌, ◌++◌, co
 use Rattle.toml.specs.Data.{string}
 use Rattle.dr_base.specs.Texts.{Text}
 use Rattle.dr_route.specs.declared.rule.Pattern.TheVariants.{Any}
-use Rattle.dr_route.specs.declared.rule.StationPattern.{StationPattern}
-use Rattle.dr_route.specs.declared.rule.StationPattern.TheVariants as station
+use Rattle.dr_route.specs.declared.rule.FieldPattern.{FieldPattern}
+use Rattle.dr_route.specs.declared.rule.FieldPattern.TheVariants as field
 use Rattle.dr_route.specs.declared.rule.Rule.{Rule}
 use Rattle.dr_plan_model.specs.declared.plan.Values.TheVariants as values
-use Rattle.dr_plan_model.specs.declared.plan.Stations.TheVariants as stations
-use Rattle.dr_plan_model.specs.declared.plan.Format.TheVariants.{One, Two}
+use Rattle.dr_plan_model.specs.declared.plan.Values.TheVariants as stations
+use Rattle.dr_plan_model.specs.declared.plan.Format.TheVariants.{One, Two, Three}
+use Rattle.dr_plan_model.specs.Formed.{RuleFits}
 use Rattle.dr_plan_text.specs.declared.words.NodeText.{NodeText}
 use Rattle.dr_plan_text.specs.declared.words.FlowText.{FlowText}
 use Rattle.dr_plan_text.specs.declared.words.PlanText.{PlanText}
@@ -76,8 +77,8 @@ abbrev pub written_rule : Rule
 written_rule = record {
   from = Any;
   class = Any;
-  modality = Any;
-  station = station.Prefix (codes "CT");
+  modality = field.Any;
+  station = field.Prefix (codes "CT");
   to = [];
   keep = false;
 }
@@ -114,7 +115,7 @@ written_flow_text = record {
   classes = codes "1" ∷ [];
   syntaxes = codes "1" ∷ [];
   modalities = values.Any;
-  stations = stations.Listed (record { literals = codes "MR" ∷ []; prefixes = codes "CT" ∷ [] });
+  stations = values.Listed (record { literals = codes "MR" ∷ []; prefixes = codes "CT" ∷ [] });
 }
 
 -- in format 2 the text with the flow writes it
@@ -126,9 +127,24 @@ FlowPrefixIsWritten = Writes (second_format ++ flow_text)
 abbrev pub FlowPrefixIsOfFormatTwo : Type 0
 FlowPrefixIsOfFormatTwo = WritesNone flow_text
 
--- the text names no station: it is neither a literal nor a prefix with an asterisk behind it
+-- the rule for the modalities that begin with CT
+abbrev pub modality_rule : Rule
+modality_rule = record {
+  from = Any;
+  class = Any;
+  modality = field.Prefix (codes "CT");
+  station = field.Any;
+  to = [];
+  keep = false;
+}
+
+-- format 3 has it, and format 2 doesn't
+abbrev pub ModalityPrefixIsOfFormatThree : Type 0
+ModalityPrefixIsOfFormatThree = RuleFits Three modality_rule × (RuleFits Two modality_rule → ⊥)
+
+-- the text names no value: it is neither a literal nor a prefix with an asterisk behind it
 abbrev NamesNone : Text → Type 0
-NamesNone text = (pattern : StationPattern) → SaysNamed (string text) pattern → ⊥
+NamesNone text = (pattern : FieldPattern) → SaysNamed (string text) pattern → ⊥
 
 -- the asterisk alone names none, so that a list can't have it
 abbrev pub StarNamesNone : Type 0

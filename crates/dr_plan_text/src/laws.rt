@@ -4,7 +4,7 @@ ghost use Rattle.dr_plan_text.specs.Laws.{NodeIsWritten, KeyIsUnknown, FormatIsO
 ghost use Rattle.dr_plan_text.specs.Laws.{AddressIsMissing, PortIsTooHigh, RulePrefixIsWritten};
 ghost use Rattle.dr_plan_text.specs.Laws.{RulePrefixIsOfFormatTwo, FlowPrefixIsWritten};
 ghost use Rattle.dr_plan_text.specs.Laws.{FlowPrefixIsOfFormatTwo, StarNamesNone};
-ghost use Rattle.dr_plan_text.specs.Laws.{StarsInsideNameNone, SpacesNameNone};
+ghost use Rattle.dr_plan_text.specs.Laws.{StarsInsideNameNone, SpacesNameNone, ModalityPrefixIsOfFormatThree};
 
 /// A text writes one plan at most.
 pub fn a_text_writes_one_plan()
@@ -36,7 +36,12 @@ pub fn prefixes_are_of_format_2()
     ensures flow_of_1 { FlowPrefixIsOfFormatTwo }
 {}
 
-/// What names no station in any format: `*` alone, an asterisk elsewhere than at the end, and a
+/// In format 3 a rule may name modalities by what they begin with, and in format 2 none does.
+pub fn prefixes_of_a_modality_are_of_format_3()
+    ensures { ModalityPrefixIsOfFormatThree }
+{}
+
+/// What names no modality and no station in any format: `*` alone, an asterisk elsewhere than at the end, and a
 /// prefix with a space at one of its ends.
 pub fn ill_formed_prefixes_name_none()
     ensures star { StarNamesNone }
