@@ -15,9 +15,8 @@ use Rattle.dr_route.specs.declared.cell.OwnedField.TheVariants as part
 use Rattle.dr_route.proofs.Agreement.{part_has_value, some_part}
 use Rattle.dr_plan_model.specs.Networks.{Network}
 use Rattle.dr_plan_model.specs.Plans.{IsWellFormed, literals_of}
-use Rattle.dr_plan_model.specs.Walks.{Flows, IsDestination, IsEntry, IsWalk, Keeps, last_place}
+use Rattle.dr_plan_model.specs.Walks.{IsDestination, IsEntry, IsWalk, Keeps, last_place}
 use Rattle.dr_plan_model.proofs.WalksAlike.{modalities_are_plain, no_rule_keeps, no_rule_sends, stations_are_plain}
-use Rattle.dr_cert_diff.specs.declared.change.RouteChange.{RouteChange}
 use Rattle.dr_cert_diff.specs.declared.parts.FieldParts.{FieldParts}
 use Rattle.dr_cert_diff.specs.Differing.{IsLost, LiesInBoth, literals_of_both, values_of_both}
 use Rattle.dr_cert_diff.specs.Entering.{HasClasses, HasSites}

@@ -1,6 +1,6 @@
 -- What changes from one plan to another, over all keys and all nodes where they enter.
 use Rattle.std.specs.Prelude.{◌≡◌, ◌≢◌, ◌↔◌, ◌⊎◌, List, [], ◌++◌, Contains}
-use Rattle.dr_base.specs.Texts.{Text, IsInByteOrder}
+use Rattle.dr_base.specs.Texts.{Text}
 use Rattle.dr_route.specs.Routes.{local}
 use Rattle.dr_route.specs.Cells.{InCell}
 use Rattle.dr_route.specs.Laws.{key_of}

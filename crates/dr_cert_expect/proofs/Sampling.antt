@@ -5,7 +5,7 @@ use Rattle.dr_base.specs.Texts.{Text, Begins}
 use Rattle.dr_base.specs.Syntaxes.{syntax_uid}
 use Rattle.dr_base.specs.declared.syntax.Syntax.{Syntax}
 use Rattle.dr_route.specs.Routes.{Matches, MatchesField}
-use Rattle.dr_route.specs.Cells.{InCell, InField, IsLongest}
+use Rattle.dr_route.specs.Cells.{InField}
 use Rattle.dr_route.specs.Laws.{ArePlain, ArePlainValues, IsPart, value_of}
 use Rattle.dr_route.specs.declared.key.Key.{Key}
 use Rattle.dr_route.specs.declared.rule.FieldPattern.{FieldPattern}

@@ -7,7 +7,6 @@ use Rattle.dr_route.specs.declared.rule.FieldPattern.{FieldPattern}
 use Rattle.dr_route.specs.declared.rule.FieldPattern.TheVariants as field
 use Rattle.dr_route.specs.declared.rule.Rule.{Rule}
 use Rattle.dr_plan_model.specs.declared.plan.Values.TheVariants as values
-use Rattle.dr_plan_model.specs.declared.plan.Values.TheVariants as stations
 use Rattle.dr_plan_model.specs.declared.plan.Format.TheVariants.{One, Two, Three}
 use Rattle.dr_plan_model.specs.Formed.{RuleFits}
 use Rattle.dr_plan_text.specs.declared.words.NodeText.{NodeText}

@@ -35,7 +35,7 @@ use Rattle.dr_ledger.specs.SiteRoutes.{site_routing}
 use Rattle.dr_ledger.proofs.Growing.{inside}
 use Rattle.dr_store_calls.specs.Knowing.{IsAccepted}
 use Rattle.dr_store.proofs.Sets.{coded_bodies, coded_book, coded_instance, coded_text}
-use Rattle.dr_store.proofs.Stable.{Stable, both, by_code, each, either, is_in, first_in, later_in, in_cases, never, not_in_none, of_dec, of_prop, tested, three}
+use Rattle.dr_store.proofs.Stable.{Stable, both, by_code, each, either, first_in, later_in, in_cases, never, not_in_none, of_dec, of_prop, tested, three}
 use Rattle.std.specs.Coded.{coded_list, coded_option, coded_ℕ}
 
 nothing : {P : Type 0} → Stable ⊥ → ∥ P ∥₁ → (P → ⊥) → ⊥

@@ -1,6 +1,5 @@
 use Rattle.std.proofs.Common.{◌≡◌, ℕ, [], ◌∷◌, List, length, true, false, refl, sym, ◌∙◌}
 use Rattle.std.specs.Prelude.{◌==◌}
-use Rattle.dr_base.specs.Texts.{Text}
 use Rattle.dr_plan_entries.proofs.RowLemmas.{takes_listed, is_none}
 use Rattle.dr_plan_entries.proofs.rows.is_list.Goals as goal
 
