@@ -14,9 +14,7 @@ use Rattle.dr_route.specs.declared.accept.AcceptRow.{AcceptRow}
 use Rattle.dr_plan_model.specs.declared.plan.Node.{Node}
 use Rattle.dr_plan_model.specs.declared.plan.Flow.{Flow}
 use Rattle.dr_plan_model.specs.declared.plan.Format.{Format}
-use Rattle.dr_plan_model.specs.declared.plan.Format.TheVariants.{One, Two, Three}
-use Rattle.dr_plan_model.specs.Formed.{IsName, IsMaxPdu, IsKnownName, HasForm, IsRuleOf, AreKnownCallers, IsAcceptRow, IsWellFormedNode, IsWellFormedFlow, IsInFormat, AreWellFormed}
-use Rattle.dr_plan_model.specs.Naming.{prefix_of, listed_prefixes}
+use Rattle.dr_plan_model.specs.Formed.{IsName, IsMaxPdu, IsKnownName, HasForm, IsRuleOf, AreKnownCallers, IsAcceptRow, IsWellFormedNode, IsWellFormedFlow, IsInFormat, RuleFits, ValuesFit, AreWellFormed}
 use Rattle.dr_plan_text.specs.declared.words.NodeText.{NodeText}
 use Rattle.dr_plan_text.specs.declared.words.FlowText.{FlowText}
 use Rattle.dr_plan_text.specs.declared.words.PlanText.{PlanText}
@@ -36,14 +34,12 @@ known_name format nodes flows name among =
     let node = Contains-unmap written_node nodes text.0 text.1 in
     (node.0, node.1, ap (λ (n : NodeText). n.name) node.2 ∙ text.2)
 
--- in format 1 no rule and no flow of the text names a prefix, nor then of the plan
+-- the format has what the text names, and then what the plan does
 in_format : (format : Format) (nodes : List Node) (flows : List Flow) → FitsFormat (the_plan format nodes flows) → IsInFormat format nodes flows
-in_format One nodes flows fits = (
-  All-unmap written_node (λ (n : NodeText). All (λ (r : Rule). prefix_of r.station ≡ []) n.rules) nodes fits.rules,
-  All-unmap written_flow (λ (f : FlowText). listed_prefixes f.stations ≡ []) flows fits.flows,
-)
-in_format Two nodes flows fits = tt
-in_format Three nodes flows fits = tt
+in_format format nodes flows fits = record {
+  rules = All-unmap written_node (λ (n : NodeText). All (RuleFits format) n.rules) nodes fits.rules;
+  flows = All-unmap written_flow (λ (f : FlowText). ValuesFit format f.modalities f.stations) flows fits.flows;
+}
 
 module _ (format : Format) (nodes : List Node) (flows : List Flow) where
   abbrev Known : Text → Type 0

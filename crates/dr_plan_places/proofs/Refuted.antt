@@ -4,11 +4,10 @@ use Rattle.std.specs.Prelude.{IsSome, codes, All}
 use Rattle.std.proofs.Common.{Contains}
 use Rattle.std.proofs.lemmas.List.Elements.{All-contains}
 use Rattle.dr_plan_model.proofs.Gathered.{Contains-here, Contains-there}
-use Rattle.dr_route.specs.declared.rule.Rule.{Rule as RuleText}
 use Rattle.dr_plan_model.specs.declared.plan.Format.{Format}
 use Rattle.dr_plan_model.specs.declared.plan.Format.TheVariants.{One, Two, Three}
 use Rattle.dr_plan_text.specs.declared.words.FlowText.{FlowText}
-use Rattle.dr_plan_text.specs.Fields.{PatternFits, StationsFit}
+use Rattle.dr_plan_model.specs.Formed.{RuleFits, ValuesFit}
 use Rattle.dr_plan_text.proofs.OnePlan.{format_one}
 use Rattle.std.proofs.lemmas.Bool.{false≢true}
 use Rattle.std.proofs.lemmas.Option.{none-some, same_Some}
@@ -55,26 +54,26 @@ module _ {X : Type 0} (IsTable : Members → X → Type 0) where
   row_is (Some d) default xs i row (items, same, lists) at =
       listed items xs i row lists (subst (λ (e : Data). table_in (get_item i (items_at (Some e))) ≡ Some row) same at)
 
--- a rule of the text fits the format, and so does a flow
-abbrev RuleFits : Format → RuleText → Type 0
-RuleFits format rule = PatternFits format rule.station
-
+-- the rules of a node of the text fit the format, and so does a flow
 abbrev RulesFit : Format → NodeText → Type 0
 RulesFit format node = All (RuleFits format) node.rules
 
 abbrev FlowFits : Format → FlowText → Type 0
-FlowFits format flow = StationsFit format flow.stations
+FlowFits format flow = ValuesFit format flow.modalities flow.stations
+
+-- what fits the text's format fits that as which its tables are looked at
+fits_moved : (root : Members) (plan : PlanText) (format : Format) → plan.format ≡ format → IsRoot root plan → All (RulesFit format) plan.nodes × All (FlowFits format) plan.flows
+fits_moved root plan format same is = (
+  subst (λ (format : Format). All (RulesFit format) plan.nodes) same is.fits.rules,
+  subst (λ (format : Format). All (FlowFits format) plan.flows) same is.fits.flows,
+)
 
 -- a plan of the text fits the format as which its tables are looked at
 fits_as : (format : Format) (root : Members) (plan : PlanText) → IsReadAs (get_member (codes "format") root) format → IsRoot root plan →
     All (RulesFit format) plan.nodes × All (FlowFits format) plan.flows
-fits_as One root plan read is =
-    let same : plan.format ≡ One = format_one root plan.format One is.format read in (
-      subst (λ (format : Format). All (RulesFit format) plan.nodes) same is.fits.rules,
-      subst (λ (format : Format). All (FlowFits format) plan.flows) same is.fits.flows,
-    )
-fits_as Two root plan read is = (λ k d h. λ i r g. tt, λ k d h. tt)
-fits_as Three root plan read is = (λ k d h. λ i r g. tt, λ k d h. tt)
+fits_as One root plan read is = fits_moved root plan One (format_one root plan.format One is.format read) is
+fits_as Two root plan read is = fits_moved root plan Two (format_one root plan.format Two is.format read) is
+fits_as Three root plan read is = (λ k d h. λ i r g. (tt, tt), λ k d h. (tt, tt))
 
 refuted_node : (format : Format) (node : Members) (part : NodePart) (flaw : Flaw) (x : NodeText) → RulesFit format x → IsInNode format node part flaw → IsNodeTable node x → ⊥
 refuted_node format node Own flaw x fits h is = refuted IsNodeTable node flaw x h is
@@ -101,5 +100,8 @@ refuted_text root place flaw plan (format, read, h) is = refuted_as format root 
 -- the format that the text says is that as which its tables are looked at
 pub read_as : (root : Members) (format : Format) → IsFormat (get_member (codes "format") root) format → IsReadAs (get_member (codes "format") root) format
 read_as root One is = is
-read_as root Two is = λ one. let same : One ≡ Two = format_one root One Two one is in cc
-read_as root Three is = λ one. let same : One ≡ Three = format_one root One Three one is in cc
+read_as root Two is = is
+read_as root Three is = (
+  λ one. let same : One ≡ Three = format_one root One Three one is in cc,
+  λ two. let same : Two ≡ Three = format_one root Two Three two is in cc,
+)

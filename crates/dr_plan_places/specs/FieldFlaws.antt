@@ -3,11 +3,10 @@ use Rattle.std.specs.Prelude.{◌≡◌, ℕ, Option, None, Some, IsSome, codes}
 use Rattle.toml.specs.Data.{Data, Items, no_items, Members, as_array, as_table, get_item}
 use Rattle.toml.specs.Data.{get_member}
 use Rattle.dr_base.specs.Texts.{Text}
-use Rattle.dr_route.specs.declared.rule.Rule.{Rule as RuleText}
 use Rattle.dr_plan_model.specs.declared.plan.Format.{Format}
 use Rattle.dr_plan_model.specs.declared.plan.Format.TheVariants.{One, Two, Three}
 use Rattle.dr_plan_text.specs.declared.words.FlowText.{FlowText}
-use Rattle.dr_plan_text.specs.Fields.{PatternFits, StationsFit}
+use Rattle.dr_plan_model.specs.Formed.{RuleFits, ValuesFit}
 use Rattle.dr_plan_text.specs.Tables.{IsAcceptTable, IsRuleTable, IsNodeTable, IsFlowTable, IsRoot}
 use Rattle.dr_plan_text.specs.Tables.{IsFormat}
 use Rattle.dr_plan_places.specs.declared.flaw.Flaw.{Flaw}
@@ -66,18 +65,19 @@ InRow P key fields index = (row : Members) × IsRow key fields index row × P ro
 
 -- the table says a rule of a text of that format
 abbrev pub IsRuleText : Format → Members → RuleText → Type 0
-IsRuleText format fields rule = IsRuleTable fields rule × PatternFits format rule.station
+IsRuleText format fields rule = IsRuleTable fields rule × RuleFits format rule
 
 -- the table says a flow of a text of that format
 abbrev pub IsFlowOf : Format → Members → FlowText → Type 0
-IsFlowOf format fields flow = IsFlowTable fields flow × StationsFit format flow.stations
+IsFlowOf format fields flow =
+    IsFlowTable fields flow × ValuesFit format flow.modalities flow.stations
 
--- the format as which the tables of a text are looked at: 1 where the text's format is 1, and 2 or
--- 3 where it is another one, be that no format at all
+-- the format as which the tables of a text are looked at: that of the text, and 3 where it is
+-- neither 1 nor 2, be that no format at all
 abbrev pub IsReadAs : Option Data → Format → Type 0
 IsReadAs value One = IsFormat value One
-IsReadAs value Two = IsFormat value One → ⊥
-IsReadAs value Three = IsFormat value One → ⊥
+IsReadAs value Two = IsFormat value Two
+IsReadAs value Three = (IsFormat value One → ⊥) × (IsFormat value Two → ⊥)
 
 -- the flaw stands in this part of the node's table, in a text of that format
 abbrev pub IsInNode : Format → Members → NodePart → Flaw → Type 0

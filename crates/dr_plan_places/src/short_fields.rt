@@ -50,8 +50,8 @@ fn wanted_of_rule(key: &str) -> &'static [u8] {
     match key {
         "from" => b"\"*\", a name or a group, or a list of them",
         "class" => b"\"*\", a class or a set, or a list of them",
-        "modality" => b"\"*\" or a value of up to 64 characters",
-        "station" => b"\"*\" or a value of up to 64 characters, or a prefix with *, as \"CT*\"",
+        "modality" | "station" =>
+            b"\"*\" or a value of up to 64 characters, or a prefix with *, as \"CT*\"",
         "to" => b"a list of names and groups",
         "keep" => b"true or false",
         _ => b"?",
@@ -64,8 +64,7 @@ fn wanted_of_flow(key: &str) -> &'static [u8] {
         "at" | "to" => b"a name or a group in quotes, or a list of them",
         "class" => b"a class or a set in quotes, or a list of them",
         "syntax" => b"a list of transfer syntaxes",
-        "modality" => b"\"*\" or a list of values of up to 64 characters",
-        "station" =>
+        "modality" | "station" =>
             b"\"*\" or a list of values of up to 64 characters and of prefixes with *, as \"CT*\"",
         _ => b"?",
     }

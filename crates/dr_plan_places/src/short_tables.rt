@@ -10,11 +10,9 @@ use dr_plan_expand::tables::{
 };
 use dr_plan_expand::{ShortFlow, ShortNode, ShortPlan, ShortRow, ShortRule};
 use dr_plan_model::Format;
-use dr_plan_text::fields::{
-    Address, AnyCallers, AnyText, AnyValues, Flag, Formed, LiteralPattern, Number, TextsOnce,
-};
+use dr_plan_text::fields::{Address, AnyCallers, AnyText, Flag, Formed, Number, TextsOnce};
 use dr_plan_text::form::{ListOf, SomeOf, TableOf};
-use dr_plan_text::stations::{AnyStation, AnyStations};
+use dr_plan_text::values::{AnyField, AnyValues};
 use std::alloc::{AllocError, Global};
 use toml::Table;
 
@@ -68,10 +66,10 @@ impl Inspected for ShortRuleTable {
         if misreads::<AnyOrMore>(alloc, table, "class")? {
             return Ok(Some("class"));
         }
-        if misreads::<LiteralPattern>(alloc, table, "modality")? {
+        if misreads::<AnyField>(alloc, table, "modality")? {
             return Ok(Some("modality"));
         }
-        if misreads::<AnyStation>(alloc, table, "station")? {
+        if misreads::<AnyField>(alloc, table, "station")? {
             return Ok(Some("station"));
         }
         if misreads::<ListOf<AnyText>>(alloc, table, "to")? {
@@ -149,7 +147,7 @@ impl Inspected for ShortFlowTable {
         if misses::<AnyValues>(alloc, table, "modality")? {
             return Ok(Some("modality"));
         }
-        if misses::<AnyStations>(alloc, table, "station")? {
+        if misses::<AnyValues>(alloc, table, "station")? {
             return Ok(Some("station"));
         }
         Ok(None)

@@ -3,11 +3,14 @@ ghost use Rattle.dr_plan_text.specs.Tables.{IsAcceptTable, IsNodeTable, IsRoot};
 ghost use Rattle.dr_plan_places.specs.FieldFlaws.{IsRuleText, IsFlowOf};
 
 use crate::flaw::Inspected;
-use crate::keys::{misreads, misreads_station, misses, misses_stations, unknown_key};
+use crate::keys::{
+    misreads, misreads_modality, misreads_station, misses, misses_modalities, misses_stations,
+    unknown_key,
+};
 use dr_plan_model::Format;
 use dr_plan_text::fields::{
-    Address, AnyCallers, AnyText, AnyValues, Class, ClassPattern, Flag, FormatNumber, Formed,
-    LiteralPattern, NamePattern, Number, TextsOnce,
+    Address, AnyCallers, AnyText, Class, ClassPattern, Flag, FormatNumber, Formed, NamePattern,
+    Number, TextsOnce,
 };
 use dr_plan_text::form::{ListOf, SomeOf, TableOf};
 use dr_plan_text::tables::{AcceptTable, FlowTable, NodeTable, RuleTable};
@@ -66,7 +69,7 @@ impl Inspected for RuleTable {
         if misreads::<ClassPattern>(alloc, table, "class")? {
             return Ok(Some("class"));
         }
-        if misreads::<LiteralPattern>(alloc, table, "modality")? {
+        if misreads_modality(alloc, format, table)? {
             return Ok(Some("modality"));
         }
         if misreads_station(alloc, format, table)? {
@@ -144,7 +147,7 @@ impl Inspected for FlowTable {
         if misses::<SomeOf<AnyText>>(alloc, table, "syntax")? {
             return Ok(Some("syntax"));
         }
-        if misses::<AnyValues>(alloc, table, "modality")? {
+        if misses_modalities(alloc, format, table)? {
             return Ok(Some("modality"));
         }
         if misses_stations(alloc, format, table)? {
