@@ -5,8 +5,9 @@ pub mod Ports
 pub mod Refusals
 pub mod Repeats
 pub mod OneAnswer
-pub mod OfStations
+pub mod OfValues
 pub mod OnePlan
 pub mod SmallTexts
 pub mod PrefixTexts
+pub mod ModalityTexts
 pub mod Unnamed

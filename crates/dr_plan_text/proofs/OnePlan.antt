@@ -6,24 +6,22 @@ use Rattle.dr_base.specs.Texts.{Text}
 use Rattle.dr_route.specs.declared.rule.Rule.{Rule}
 use Rattle.dr_route.specs.declared.rule.Pattern.{Pattern}
 use Rattle.dr_route.specs.declared.rule.Pattern.TheVariants.{Any, Literal}
-use Rattle.dr_route.specs.declared.rule.StationPattern.{StationPattern}
-use Rattle.dr_route.specs.declared.rule.StationPattern.TheVariants as station
+use Rattle.dr_route.specs.declared.rule.FieldPattern.{FieldPattern}
+use Rattle.dr_route.specs.declared.rule.FieldPattern.TheVariants as field
 use Rattle.dr_route.specs.declared.accept.Callers.{Callers}
 use Rattle.dr_route.specs.declared.accept.Callers.TheVariants as callers
 use Rattle.dr_plan_model.specs.declared.plan.Values.{Values}
-use Rattle.dr_plan_model.specs.declared.plan.Values.TheVariants as values
-use Rattle.dr_plan_model.specs.declared.plan.Stations.{Stations}
 use Rattle.dr_plan_model.specs.declared.plan.Format.{Format}
 use Rattle.dr_plan_model.specs.declared.plan.Format.TheVariants.{One}
-use Rattle.dr_plan_model.specs.Formed.{IsClass, IsLiteral, IsAddress}
+use Rattle.dr_plan_model.specs.Formed.{IsClass, IsAddress}
 use Rattle.dr_plan_text.specs.declared.words.AcceptText.{AcceptText}
 use Rattle.dr_plan_text.specs.declared.words.NodeText.{NodeText}
 use Rattle.dr_plan_text.specs.declared.words.FlowText.{FlowText}
 use Rattle.dr_plan_text.specs.declared.words.PlanText.{PlanText}
-use Rattle.dr_plan_text.specs.Fields.{SaysText, SaysFormed, SaysNumber, SaysFlag, SaysFormat, SaysPattern, SaysStation, SaysValues, SaysStations, SaysCallers, SaysTextsOnce, SaysTable, IsListOf, IsSomeOf, GivenOr, star}
+use Rattle.dr_plan_text.specs.Fields.{SaysText, SaysFormed, SaysNumber, SaysFlag, SaysFormat, SaysPattern, SaysField, SaysValues, SaysCallers, SaysTextsOnce, SaysTable, IsListOf, IsSomeOf, GivenOr, star}
 use Rattle.dr_plan_text.specs.Tables.{IsAcceptTable, IsRuleTable, IsNodeTable, IsFlowTable, IsRoot, IsFormat, FitsFormat, Writes}
 use Rattle.dr_plan_text.proofs.OneAnswer.{SaysOne, SaysText-one, SaysFormed-one, IsListOf-one, IsSomeOf-one, Given-one}
-use Rattle.dr_plan_text.proofs.OfStations.{SaysFormat-one, SaysStation-one, SaysStations-one}
+use Rattle.dr_plan_text.proofs.OfValues.{SaysFormat-one, SaysField-one, SaysValues-one}
 
 SaysNumber-one : SaysOne SaysNumber
 SaysNumber-one d x y a b = let same : integer x ≡ integer y = sym a ∙ b in cc
@@ -39,12 +37,6 @@ SaysPattern-one Says one d (Literal x) (Literal y) a b = ap Literal (one d x y a
 
 SaysTextsOnce-one : SaysOne SaysTextsOnce
 SaysTextsOnce-one d xs ys a b = IsSomeOf-one SaysText SaysText-one d xs ys a.0 b.0
-
-SaysValues-one : SaysOne SaysValues
-SaysValues-one d values.Any values.Any a b = refl
-SaysValues-one d values.Any (values.Listed ys) a b = absurd (let both : star ≡ array b.0 = sym a ∙ b.1 in cc)
-SaysValues-one d (values.Listed xs) values.Any a b = absurd (let both : star ≡ array a.0 = sym b ∙ a.1 in cc)
-SaysValues-one d (values.Listed xs) (values.Listed ys) a b = ap values.Listed (IsListOf-one (SaysFormed IsLiteral) (SaysFormed-one IsLiteral) d xs ys a b)
 
 SaysCallers-one : SaysOne SaysCallers
 SaysCallers-one d callers.Any callers.Any a b = refl
@@ -76,7 +68,7 @@ accept_one fields x y a b =
     let syntaxes = Given-one SaysTextsOnce SaysTextsOnce-one _ x.syntaxes y.syntaxes a.syntax b.syntax in
     same_accept x.from y.from x.class y.class x.syntaxes y.syntaxes from class syntaxes
 
-same_rule : (from from2 : Pattern) (class class2 : Pattern) (modality modality2 : Pattern) (station station2 : StationPattern) (to to2 : List Text) (keep keep2 : Bool) → from ≡ from2 → class ≡ class2 → modality ≡ modality2 → station ≡ station2 → to ≡ to2 → keep ≡ keep2 →
+same_rule : (from from2 : Pattern) (class class2 : Pattern) (modality modality2 : FieldPattern) (station station2 : FieldPattern) (to to2 : List Text) (keep keep2 : Bool) → from ≡ from2 → class ≡ class2 → modality ≡ modality2 → station ≡ station2 → to ≡ to2 → keep ≡ keep2 →
     (let x : Rule = record { from = from; class = class; modality = modality; station = station; to = to; keep = keep } in let y : Rule = record { from = from2; class = class2; modality = modality2; station = station2; to = to2; keep = keep2 } in x ≡ y)
 same_rule from from2 class class2 modality modality2 station station2 to to2 keep keep2 e_from e_class e_modality e_station e_to e_keep = rw (e_from, e_class, e_modality, e_station, e_to, e_keep) refl
 
@@ -84,8 +76,8 @@ rule_one : (fields : Members) (x y : Rule) → IsRuleTable fields x → IsRuleTa
 rule_one fields x y a b =
     let from = GivenOr-one Any (SaysPattern SaysText) (SaysPattern-one SaysText SaysText-one) _ x.from y.from a.from b.from in
     let class = GivenOr-one Any (SaysPattern (SaysFormed IsClass)) (SaysPattern-one (SaysFormed IsClass) (SaysFormed-one IsClass)) _ x.class y.class a.class b.class in
-    let modality = GivenOr-one Any (SaysPattern (SaysFormed IsLiteral)) (SaysPattern-one (SaysFormed IsLiteral) (SaysFormed-one IsLiteral)) _ x.modality y.modality a.modality b.modality in
-    let station = GivenOr-one station.Any SaysStation SaysStation-one _ x.station y.station a.station b.station in
+    let modality = GivenOr-one field.Any SaysField SaysField-one _ x.modality y.modality a.modality b.modality in
+    let station = GivenOr-one field.Any SaysField SaysField-one _ x.station y.station a.station b.station in
     let to = GivenOr-one [] (IsListOf SaysText) (IsListOf-one SaysText SaysText-one) _ x.to y.to a.to b.to in
     let keep = GivenOr-one _ SaysFlag SaysFlag-one _ x.keep y.keep a.keep b.keep in
     same_rule x.from y.from x.class y.class x.modality y.modality x.station y.station x.to y.to x.keep y.keep from class modality station to keep
@@ -103,7 +95,7 @@ node_one fields x y a b =
     let rules = GivenOr-one [] (IsListOf (SaysTable IsRuleTable)) (IsListOf-one (SaysTable IsRuleTable) (SaysTable-one IsRuleTable rule_one)) _ x.rules y.rules a.rule b.rule in
     same_node x.name y.name x.address y.address x.max_pdu y.max_pdu x.accepts y.accepts x.rules y.rules name address max_pdu accepts rules
 
-same_flow : (at at2 : Text) (to to2 : Text) (classes classes2 : List Text) (syntaxes syntaxes2 : List Text) (modalities modalities2 : Values) (stations stations2 : Stations) → at ≡ at2 → to ≡ to2 → classes ≡ classes2 → syntaxes ≡ syntaxes2 → modalities ≡ modalities2 → stations ≡ stations2 →
+same_flow : (at at2 : Text) (to to2 : Text) (classes classes2 : List Text) (syntaxes syntaxes2 : List Text) (modalities modalities2 : Values) (stations stations2 : Values) → at ≡ at2 → to ≡ to2 → classes ≡ classes2 → syntaxes ≡ syntaxes2 → modalities ≡ modalities2 → stations ≡ stations2 →
     (let x : FlowText = record { at = at; to = to; classes = classes; syntaxes = syntaxes; modalities = modalities; stations = stations } in let y : FlowText = record { at = at2; to = to2; classes = classes2; syntaxes = syntaxes2; modalities = modalities2; stations = stations2 } in x ≡ y)
 same_flow at at2 to to2 classes classes2 syntaxes syntaxes2 modalities modalities2 stations stations2 e_at e_to e_classes e_syntaxes e_modalities e_stations = rw (e_at, e_to, e_classes, e_syntaxes, e_modalities, e_stations) refl
 
@@ -114,7 +106,7 @@ flow_one fields x y a b =
     let classes = Given-one (IsSomeOf (SaysFormed IsClass)) (IsSomeOf-one (SaysFormed IsClass) (SaysFormed-one IsClass)) _ x.classes y.classes a.class b.class in
     let syntaxes = Given-one (IsSomeOf SaysText) (IsSomeOf-one SaysText SaysText-one) _ x.syntaxes y.syntaxes a.syntax b.syntax in
     let modalities = Given-one SaysValues SaysValues-one _ x.modalities y.modalities a.modality b.modality in
-    let stations = Given-one SaysStations SaysStations-one _ x.stations y.stations a.station b.station in
+    let stations = Given-one SaysValues SaysValues-one _ x.stations y.stations a.station b.station in
     same_flow x.at y.at x.to y.to x.classes y.classes x.syntaxes y.syntaxes x.modalities y.modalities x.stations y.stations at to classes syntaxes modalities stations
 
 pub format_one : (fields : Members) (x y : Format) → IsFormat (get_member (codes "format") fields) x → IsFormat (get_member (codes "format") fields) y → x ≡ y

@@ -9,34 +9,30 @@ use Rattle.dr_base.specs.Texts.{Text}
 use Rattle.dr_route.specs.declared.rule.Rule.{Rule}
 use Rattle.dr_plan_model.specs.declared.plan.Format.{Format}
 use Rattle.dr_plan_model.specs.declared.plan.Format.TheVariants.{One}
-use Rattle.dr_plan_model.specs.Formed.{IsAddress, IsDigit}
+use Rattle.dr_plan_model.specs.Formed.{IsAddress, IsDigit, RuleFits, ValuesFit}
 use Rattle.std.specs.Str.Parse.{digits_value}
 use Rattle.std.proofs.lemmas.List.Elements.{All-nil, All-cons}
 use Rattle.dr_plan_model.proofs.Gathered.{Contains-cons_cases, only_one}
 use Rattle.dr_plan_text.specs.declared.words.NodeText.{NodeText}
 use Rattle.dr_plan_text.specs.declared.words.FlowText.{FlowText}
 use Rattle.dr_plan_text.specs.declared.words.PlanText.{PlanText}
-use Rattle.dr_plan_text.specs.Fields.{SaysTable, ListsValues, IsListOf, GivenOr, HasOnly, PatternFits, StationsFit}
-use Rattle.dr_plan_text.proofs.OfStations.{no_format}
+use Rattle.dr_plan_text.specs.Fields.{SaysTable, ListsValues, IsListOf, GivenOr, HasOnly}
+use Rattle.dr_plan_text.proofs.OfValues.{no_format}
 use Rattle.dr_plan_text.proofs.Refusals.{nothing_parsed}
 use Rattle.dr_plan_text.proofs.Ports.{small_port, no_colon}
 use Rattle.dr_plan_text.specs.Tables.{IsNodeTable, IsFormat, Writes, root_keys}
 use Rattle.dr_plan_text.specs.Laws.{EmptyTextWritesNothing, NodeIsWritten, KeyIsUnknown, FormatIsOther, AddressIsMissing, PortIsTooHigh, node_text, written_node_text}
 
--- a rule's station fits the format
-abbrev pub StationOf : Format → Rule → Type 0
-StationOf format rule = PatternFits format rule.station
-
--- the stations of a node's rules do
+-- a node's rules fit the format
 abbrev pub RulesFit : Format → NodeText → Type 0
-RulesFit format node = All (StationOf format) node.rules
+RulesFit format node = All (RuleFits format) node.rules
 
--- those of a flow do
-abbrev pub StationsOf : Format → FlowText → Type 0
-StationsOf format flow = StationsFit format flow.stations
+-- a flow does
+abbrev pub FlowFits : Format → FlowText → Type 0
+FlowFits format flow = ValuesFit format flow.modalities flow.stations
 
 pub empty_text : EmptyTextWritesNothing
-empty_text = (no_members, (([], (refl, refl)), nothing_parsed), record { only = tt; format = refl; node = refl; flow = refl; fits = record { rules = All-nil (RulesFit One); flows = All-nil (StationsOf One) } })
+empty_text = (no_members, (([], (refl, refl)), nothing_parsed), record { only = tt; format = refl; node = refl; flow = refl; fits = record { rules = All-nil (RulesFit One); flows = All-nil (FlowFits One) } })
 
 node_members : Members
 node_members = member (codes "address") (string (codes "h:1")) (member (codes "name") (string (codes "A")) no_members)
@@ -80,7 +76,7 @@ one_node = (
     format = refl;
     node = (item (table node_members) no_items, refl, ((node_members, refl, node_said), tt));
     flow = refl;
-    fits = record { rules = All-cons (RulesFit One) written_node_text [] (All-nil (StationOf One)) (All-nil (RulesFit One)); flows = All-nil (StationsOf One) };
+    fits = record { rules = All-cons (RulesFit One) written_node_text [] (All-nil (RuleFits One)) (All-nil (RulesFit One)); flows = All-nil (FlowFits One) };
   },
 )
 

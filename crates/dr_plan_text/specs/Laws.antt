@@ -3,12 +3,11 @@ use Rattle.std.specs.Prelude.{◌≡◌, pos, false, [], ◌∷◌, ◌++◌, co
 use Rattle.toml.specs.Data.{string}
 use Rattle.dr_base.specs.Texts.{Text}
 use Rattle.dr_route.specs.declared.rule.Pattern.TheVariants.{Any}
-use Rattle.dr_route.specs.declared.rule.StationPattern.{StationPattern}
-use Rattle.dr_route.specs.declared.rule.StationPattern.TheVariants as station
+use Rattle.dr_route.specs.declared.rule.FieldPattern.{FieldPattern}
+use Rattle.dr_route.specs.declared.rule.FieldPattern.TheVariants as field
 use Rattle.dr_route.specs.declared.rule.Rule.{Rule}
 use Rattle.dr_plan_model.specs.declared.plan.Values.TheVariants as values
-use Rattle.dr_plan_model.specs.declared.plan.Stations.TheVariants as stations
-use Rattle.dr_plan_model.specs.declared.plan.Format.TheVariants.{One, Two}
+use Rattle.dr_plan_model.specs.declared.plan.Format.TheVariants.{One, Two, Three}
 use Rattle.dr_plan_text.specs.declared.words.NodeText.{NodeText}
 use Rattle.dr_plan_text.specs.declared.words.FlowText.{FlowText}
 use Rattle.dr_plan_text.specs.declared.words.PlanText.{PlanText}
@@ -76,8 +75,8 @@ abbrev pub written_rule : Rule
 written_rule = record {
   from = Any;
   class = Any;
-  modality = Any;
-  station = station.Prefix (codes "CT");
+  modality = field.Any;
+  station = field.Prefix (codes "CT");
   to = [];
   keep = false;
 }
@@ -114,7 +113,7 @@ written_flow_text = record {
   classes = codes "1" ∷ [];
   syntaxes = codes "1" ∷ [];
   modalities = values.Any;
-  stations = stations.Listed (record { literals = codes "MR" ∷ []; prefixes = codes "CT" ∷ [] });
+  stations = values.Listed (record { literals = codes "MR" ∷ []; prefixes = codes "CT" ∷ [] });
 }
 
 -- in format 2 the text with the flow writes it
@@ -126,9 +125,73 @@ FlowPrefixIsWritten = Writes (second_format ++ flow_text)
 abbrev pub FlowPrefixIsOfFormatTwo : Type 0
 FlowPrefixIsOfFormatTwo = WritesNone flow_text
 
--- the text names no station: it is neither a literal nor a prefix with an asterisk behind it
+-- the first line of a text of format 3
+abbrev pub third_format : Text
+third_format = codes "format = 3\n"
+
+-- the text of node A with a rule for the modalities that begin with C
+abbrev pub modality_rule_text : Text
+modality_rule_text = codes
+    "[[node]]\nname = \"A\"\naddress = \"h:1\"\n[[node.rule]]\nmodality = \"C*\"\n"
+
+-- the rule as it is read
+abbrev pub written_modality_rule : Rule
+written_modality_rule = record {
+  from = Any;
+  class = Any;
+  modality = field.Prefix (codes "C");
+  station = field.Any;
+  to = [];
+  keep = false;
+}
+
+-- its node as it is read
+abbrev pub written_modality_node : NodeText
+written_modality_node = record {
+  name = codes "A";
+  address = codes "h:1";
+  max_pdu = pos 16384;
+  accepts = [];
+  rules = written_modality_rule ∷ [];
+}
+
+-- in format 3 the text with that rule writes it
+abbrev pub RuleModalityIsWritten : Type 0
+RuleModalityIsWritten = Writes (third_format ++ modality_rule_text)
+    (record { format = Three; nodes = written_modality_node ∷ []; flows = [] })
+
+-- in format 2 it writes no plan
+abbrev pub RuleModalityIsOfFormatThree : Type 0
+RuleModalityIsOfFormatThree = WritesNone (second_format ++ modality_rule_text)
+
+-- the text of a flow for the modality MR, and for those that begin with C
+abbrev pub modality_flow_text : Text
+modality_flow_text = codes
+    "[[flow]]\nat = \"A\"\nto = \"B\"\nclass = [\"1\"]\nsyntax = [\"1\"]\nmodality = [\"MR\", \"C*\"]\nstation = \"*\"\n"
+
+-- the flow as it is read
+abbrev pub written_modality_flow : FlowText
+written_modality_flow = record {
+  at = codes "A";
+  to = codes "B";
+  classes = codes "1" ∷ [];
+  syntaxes = codes "1" ∷ [];
+  modalities = values.Listed (record { literals = codes "MR" ∷ []; prefixes = codes "C" ∷ [] });
+  stations = values.Any;
+}
+
+-- in format 3 the text with that flow writes it
+abbrev pub FlowModalityIsWritten : Type 0
+FlowModalityIsWritten = Writes (third_format ++ modality_flow_text)
+    (record { format = Three; nodes = []; flows = written_modality_flow ∷ [] })
+
+-- in format 2 it writes no plan
+abbrev pub FlowModalityIsOfFormatThree : Type 0
+FlowModalityIsOfFormatThree = WritesNone (second_format ++ modality_flow_text)
+
+-- the text names no value: it is neither a literal nor a prefix with an asterisk behind it
 abbrev NamesNone : Text → Type 0
-NamesNone text = (pattern : StationPattern) → SaysNamed (string text) pattern → ⊥
+NamesNone text = (pattern : FieldPattern) → SaysNamed (string text) pattern → ⊥
 
 -- the asterisk alone names none, so that a list can't have it
 abbrev pub StarNamesNone : Type 0

@@ -7,14 +7,14 @@ use Rattle.toml.specs.Parse.{parse_document}
 use Rattle.dr_base.specs.Texts.{Text}
 use Rattle.dr_route.specs.declared.rule.Rule.{Rule}
 use Rattle.dr_route.specs.declared.rule.Pattern.TheVariants.{Any}
-use Rattle.dr_route.specs.declared.rule.StationPattern.TheVariants as station
+use Rattle.dr_route.specs.declared.rule.FieldPattern.TheVariants as field
 use Rattle.dr_plan_model.specs.declared.plan.Format.{Format}
 use Rattle.dr_plan_model.specs.declared.plan.Format.TheVariants.{One}
-use Rattle.dr_plan_model.specs.Formed.{IsClass, IsLiteral, IsAddress}
+use Rattle.dr_plan_model.specs.Formed.{IsClass, IsAddress, RuleFits, ValuesFit}
 use Rattle.dr_plan_text.specs.Fields.{SaysText, SaysFormed, SaysNumber, SaysFlag, SaysFormat}
-use Rattle.dr_plan_text.specs.Fields.{SaysPattern, SaysStation, SaysValues, SaysStations}
-use Rattle.dr_plan_text.specs.Fields.{SaysCallers, SaysTable, SaysTextsOnce, IsListOf, IsSomeOf}
-use Rattle.dr_plan_text.specs.Fields.{Given, GivenOr, HasOnly, PatternFits, StationsFit}
+use Rattle.dr_plan_text.specs.Fields.{SaysPattern, SaysField, SaysValues, SaysCallers}
+use Rattle.dr_plan_text.specs.Fields.{SaysTable, SaysTextsOnce, IsListOf, IsSomeOf, Given, GivenOr}
+use Rattle.dr_plan_text.specs.Fields.{HasOnly}
 use Rattle.dr_plan_text.specs.declared.words.AcceptText.{AcceptText}
 use Rattle.dr_plan_text.specs.declared.words.NodeText.{NodeText}
 use Rattle.dr_plan_text.specs.declared.words.FlowText.{FlowText}
@@ -45,9 +45,8 @@ pub record IsRuleTable (fields : Members) (rule : Rule) : Type 0 where
   pub from : GivenOr Any (SaysPattern SaysText) (get_member (codes "from") fields) rule.from
   pub class :
       GivenOr Any (SaysPattern (SaysFormed IsClass)) (get_member (codes "class") fields) rule.class
-  pub modality : GivenOr Any (SaysPattern (SaysFormed IsLiteral))
-      (get_member (codes "modality") fields) rule.modality
-  pub station : GivenOr station.Any SaysStation (get_member (codes "station") fields) rule.station
+  pub modality : GivenOr field.Any SaysField (get_member (codes "modality") fields) rule.modality
+  pub station : GivenOr field.Any SaysField (get_member (codes "station") fields) rule.station
   pub to : GivenOr [] (IsListOf SaysText) (get_member (codes "to") fields) rule.to
   pub keep : GivenOr false SaysFlag (get_member (codes "keep") fields) rule.keep
 
@@ -80,16 +79,16 @@ pub record IsFlowTable (fields : Members) (flow : FlowText) : Type 0 where
   pub class : Given (IsSomeOf (SaysFormed IsClass)) (get_member (codes "class") fields) flow.classes
   pub syntax : Given (IsSomeOf SaysText) (get_member (codes "syntax") fields) flow.syntaxes
   pub modality : Given SaysValues (get_member (codes "modality") fields) flow.modalities
-  pub station : Given SaysStations (get_member (codes "station") fields) flow.stations
+  pub station : Given SaysValues (get_member (codes "station") fields) flow.stations
 
 -- the format, which is 1 where the text doesn't say it
 abbrev pub IsFormat : Option Data → Format → Type 0
 IsFormat value format = GivenOr One SaysFormat value format
 
--- the plan's format has what its rules and flows name for station
+-- the plan's format has what its rules and flows name for modality and for station
 pub record FitsFormat (plan : PlanText) : Type 0 where
-  pub rules : All (λ node. All (λ rule. PatternFits plan.format rule.station) node.rules) plan.nodes
-  pub flows : All (λ flow. StationsFit plan.format flow.stations) plan.flows
+  pub rules : All (λ node. All (λ rule. RuleFits plan.format rule) node.rules) plan.nodes
+  pub flows : All (λ flow. ValuesFit plan.format flow.modalities flow.stations) plan.flows
 
 -- the keys of the text as a whole
 abbrev pub root_keys : List Text

@@ -1,6 +1,6 @@
 //! The parts of a plan, as they are written.
 use dr_base::{Seq, Text};
-use dr_plan_model::{Format, Stations, Values};
+use dr_plan_model::{Format, Values};
 use dr_route::{Callers, Rule};
 
 /// A row of a node's accept list: `from` and the transfer syntaxes are any texts, `class` has its
@@ -32,11 +32,11 @@ pub struct FlowText {
     pub classes: Seq<Text>,
     pub syntaxes: Seq<Text>,
     pub modalities: Values,
-    pub stations: Stations,
+    pub stations: Values,
 }
 
-/// The format of a plan's text, and its nodes and flows in the order of the text. In format 1 they
-/// name no prefix.
+/// The format of a plan's text, and its nodes and flows in the order of the text. They name no
+/// prefix that the format doesn't have.
 #[derive(Debug, Drop)]
 pub struct PlanText {
     pub format: Format,

@@ -2,7 +2,7 @@ use Rattle.std.proofs.Common.{refl, sym, ◌∙◌, subst, [], ◌∷◌}
 use Rattle.std.proofs.lemmas.Bool.{false≢true}
 use Rattle.std.proofs.lemmas.List.{append_cancel_right}
 use Rattle.dr_plan_model.specs.Formed.{IsPrefix}
-use Rattle.dr_plan_text.proofs.stations.prefix_in.Goals as goal
+use Rattle.dr_plan_text.proofs.values.prefix_in.Goals as goal
 
 pub returns-then-is_prefix : goal.returns-then-is_prefix
 returns-then-is_prefix c = (c.in-Some.ensures, c.if-is_prefix.ensures.0 refl)
