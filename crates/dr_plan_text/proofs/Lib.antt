@@ -9,4 +9,5 @@ pub mod OfValues
 pub mod OnePlan
 pub mod SmallTexts
 pub mod PrefixTexts
+pub mod ModalityTexts
 pub mod Unnamed

@@ -1,4 +1,4 @@
--- Values and formats: what a value says of them, it alone says.
+-- Fields and formats: what a value says of them, it alone says.
 use Rattle.std.proofs.Common.{◌≡◌, ◌<◌, ◌≤◌, refl, sym, ◌∙◌, ap, subst, ℕ, pos, List, [], ◌∷◌, ◌++◌, None, Contains, arith}
 use Rattle.std.specs.Prelude.{flat_map}
 use Rattle.std.proofs.lemmas.List.{append_cancel_right}
@@ -56,7 +56,7 @@ SaysNamed-one d (field.Prefix p) field.Any a b = absurd b
 SaysNamed-one d (field.Prefix p) (field.Literal y) a b = absurd (no_star_behind y p b.1 (SaysText-one d y (p ++ 42 ∷ []) b.0 a.0))
 SaysNamed-one d (field.Prefix p) (field.Prefix q) a b = ap field.Prefix (append_cancel_right p q (42 ∷ []) (SaysText-one d (p ++ 42 ∷ []) (q ++ 42 ∷ []) a.0 b.0))
 
--- `*` names none
+-- `*` names no value
 star_names_none : (d : Data) (x : FieldPattern) → d ≡ star → SaysNamed d x → ⊥
 star_names_none d field.Any e says = says
 star_names_none d (field.Literal literal) e says = no_star_behind literal [] says.1 (SaysText-one d literal ([] ++ 42 ∷ []) says.0 e)
@@ -79,13 +79,13 @@ SaysField-one d (field.Prefix p) field.Any a b = absurd (star_names_none d (fiel
 SaysField-one d (field.Prefix p) (field.Literal y) a b = SaysNamed-one d (field.Prefix p) (field.Literal y) a b
 SaysField-one d (field.Prefix p) (field.Prefix q) a b = SaysNamed-one d (field.Prefix p) (field.Prefix q) a b
 
--- a value that is no `*`, and names none, says none
-pub no_field : (d : Data) → (d ≡ star → ⊥) → ((x : FieldPattern) → SaysNamed d x → ⊥) → (x : FieldPattern) → SaysField d x → ⊥
-no_field d no_star no_name field.Any says = no_star says
-no_field d no_star no_name (field.Literal literal) says = no_name (field.Literal literal) says
-no_field d no_star no_name (field.Prefix prefix) says = no_name (field.Prefix prefix) says
+-- a value that is no `*`, and names no value, says none
+pub no_value : (d : Data) → (d ≡ star → ⊥) → ((x : FieldPattern) → SaysNamed d x → ⊥) → (x : FieldPattern) → SaysField d x → ⊥
+no_value d no_star no_name field.Any says = no_star says
+no_value d no_star no_name (field.Literal literal) says = no_name (field.Literal literal) says
+no_value d no_star no_name (field.Prefix prefix) says = no_name (field.Prefix prefix) says
 
--- a text that is no literal, and no prefix with `*` behind it, names none
+-- a text that is no literal, and no prefix with `*` behind it, names no value
 pub no_text_named : (text : Text) → (IsLiteral text → ⊥) → ((prefix : Text) → text ≡ prefix ++ 42 ∷ [] → IsPrefix prefix → ⊥) → (x : FieldPattern) → SaysNamed (string text) x → ⊥
 no_text_named text no_literal no_prefix field.Any says = says
 no_text_named text no_literal no_prefix (field.Literal literal) says =
@@ -113,7 +113,7 @@ SaysValues-one d (values.Listed x) (values.Listed y) a b =
     let prefixes : x.prefixes ≡ y.prefixes = a.3 ∙ (ap (λ (ps : List FieldPattern). flat_map prefix_of ps) same ∙ sym b.3) in
     ap values.Listed (same_values x.literals y.literals x.prefixes y.prefixes literals prefixes)
 
--- a value that is no `*`, and no list of named values either, says none
+-- a value that is no `*`, and no list of named values either, says no values
 pub no_values : (d : Data) → (d ≡ star → ⊥) → ((patterns : List FieldPattern) → IsListOf SaysNamed d patterns → ⊥) → (x : Values) → SaysValues d x → ⊥
 no_values d no_star no_list values.Any says = no_star says
 no_values d no_star no_list (values.Listed own) says = no_list says.0 says.1

@@ -1,4 +1,4 @@
--- Small texts that name stations, or modalities, by what they begin with.
+-- Small texts that name stations by what they begin with.
 use Rattle.std.proofs.Common.{◌≡◌, ℕ, ◌<◌, ◌≤◌, ◌⊎◌, refl, subst, pos, inl, List, [], ◌∷◌, ◌++◌, codes, Some, arith, lit<, lit≤}
 use Rattle.std.specs.Prelude.{All}
 use Rattle.std.proofs.lemmas.List.Elements.{All-nil, All-cons}
@@ -13,13 +13,13 @@ use Rattle.dr_plan_text.specs.declared.words.NodeText.{NodeText}
 use Rattle.dr_plan_text.specs.declared.words.FlowText.{FlowText}
 use Rattle.dr_plan_text.specs.Fields.{SaysValues, SaysTable, IsListOf}
 use Rattle.dr_plan_text.specs.Tables.{IsRuleTable, IsNodeTable, IsFlowTable, IsRoot}
-use Rattle.dr_plan_text.specs.Laws.{ModalityPrefixIsOfFormatThree, RulePrefixIsWritten, RulePrefixIsOfFormatTwo, FlowPrefixIsWritten, FlowPrefixIsOfFormatTwo, second_format, rule_text, written_rule, written_rule_node, flow_text, written_flow_text}
+use Rattle.dr_plan_text.specs.Laws.{RulePrefixIsWritten, RulePrefixIsOfFormatTwo, FlowPrefixIsWritten, FlowPrefixIsOfFormatTwo, second_format, rule_text, written_rule, written_rule_node, flow_text, written_flow_text}
 use Rattle.dr_plan_text.proofs.Trimmed.{trimmed}
 use Rattle.dr_plan_text.proofs.OnePlan.{nodes_one, flows_one}
 use Rattle.dr_plan_text.proofs.SmallTexts.{RulesFit, FlowFits, address_is, the_tree}
 
 -- a byte that a literal may have
-abbrev IsPlain : ℕ → Type 0
+abbrev pub IsPlain : ℕ → Type 0
 IsPlain byte = (32 ≤ byte) × (byte < 127) × (byte ≡ 42 → ⊥)
 
 two_bytes : (a b : ℕ) → IsPlain a → IsPlain b → (a ≡ 32 → ⊥) → (b ≡ 32 → ⊥) → IsLiteral (a ∷ b ∷ [])
@@ -35,10 +35,10 @@ ct_is = record {
   some = λ e. cc;
 }
 
-mr_is : IsLiteral (codes "MR")
+pub mr_is : IsLiteral (codes "MR")
 mr_is = two_bytes 77 82 (lit≤ tt, lit< tt, λ e. omega arith) (lit≤ tt, lit< tt, λ e. omega arith) (λ e. omega arith) (λ e. omega arith)
 
-class_is : IsClass (codes "1")
+pub class_is : IsClass (codes "1")
 class_is =
     let P : ℕ → Type 0 = λ byte. IsDigit byte ⊎ (byte ≡ 46) in
     record { some = λ e. cc; short = lit≤ tt; digits = All-cons P 49 [] (inl (lit≤ tt, lit≤ tt)) (All-nil P) }
@@ -184,6 +184,3 @@ flow_of_1 = λ plan w.
     let fits : All (FlowFits One) (written_flow_text ∷ []) = subst R flows (subst Q is.format is.fits.flows) in
     let none : codes "CT" ∷ [] ≡ [] = (fits 0 written_flow_text (lit< tt)).1 in
     cc
-
-pub modality_prefix : ModalityPrefixIsOfFormatThree
-modality_prefix = ((tt, tt), λ fits. let none : codes "CT" ∷ [] ≡ [] = fits.0 in cc)

@@ -6,6 +6,7 @@ use Rattle.toml.specs.Data.{string, integer, array, table, Items, no_items, item
 use Rattle.toml.specs.Parse.{parse_document}
 use Rattle.toml.proofs.OnLiterals.{toml_on_literals}
 use Rattle.dr_base.specs.Texts.{Text}
+use Rattle.dr_route.specs.declared.rule.Rule.{Rule}
 use Rattle.dr_plan_model.specs.declared.plan.Format.{Format}
 use Rattle.dr_plan_model.specs.declared.plan.Format.TheVariants.{One}
 use Rattle.dr_plan_model.specs.Formed.{IsAddress, IsDigit, RuleFits, ValuesFit}
@@ -22,11 +23,11 @@ use Rattle.dr_plan_text.proofs.Ports.{small_port, no_colon}
 use Rattle.dr_plan_text.specs.Tables.{IsNodeTable, IsFormat, Writes, root_keys}
 use Rattle.dr_plan_text.specs.Laws.{EmptyTextWritesNothing, NodeIsWritten, KeyIsUnknown, FormatIsOther, AddressIsMissing, PortIsTooHigh, node_text, written_node_text}
 
--- the format has what a node's rules name
+-- a node's rules fit the format
 abbrev pub RulesFit : Format → NodeText → Type 0
 RulesFit format node = All (RuleFits format) node.rules
 
--- it has what a flow names
+-- a flow does
 abbrev pub FlowFits : Format → FlowText → Type 0
 FlowFits format flow = ValuesFit format flow.modalities flow.stations
 

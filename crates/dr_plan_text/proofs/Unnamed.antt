@@ -1,4 +1,4 @@
--- Texts that name no station.
+-- Texts that name no value.
 use Rattle.std.proofs.Common.{◌≡◌, ◌<◌, ◌≤◌, refl, sym, ◌∙◌, ap, subst, ℕ, [], ◌∷◌, ◌++◌, codes, length, get_or, Contains, arith, length-append, lit<}
 use Rattle.std.proofs.lemmas.List.{append_cancel_right, get_or_push}
 use Rattle.std.proofs.lemmas.List.Elements.{All-contains}

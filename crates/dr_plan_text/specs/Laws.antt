@@ -8,7 +8,6 @@ use Rattle.dr_route.specs.declared.rule.FieldPattern.TheVariants as field
 use Rattle.dr_route.specs.declared.rule.Rule.{Rule}
 use Rattle.dr_plan_model.specs.declared.plan.Values.TheVariants as values
 use Rattle.dr_plan_model.specs.declared.plan.Format.TheVariants.{One, Two, Three}
-use Rattle.dr_plan_model.specs.Formed.{RuleFits}
 use Rattle.dr_plan_text.specs.declared.words.NodeText.{NodeText}
 use Rattle.dr_plan_text.specs.declared.words.FlowText.{FlowText}
 use Rattle.dr_plan_text.specs.declared.words.PlanText.{PlanText}
@@ -126,20 +125,69 @@ FlowPrefixIsWritten = Writes (second_format ++ flow_text)
 abbrev pub FlowPrefixIsOfFormatTwo : Type 0
 FlowPrefixIsOfFormatTwo = WritesNone flow_text
 
--- the rule for the modalities that begin with CT
-abbrev pub modality_rule : Rule
-modality_rule = record {
+-- the first line of a text of format 3
+abbrev pub third_format : Text
+third_format = codes "format = 3\n"
+
+-- the text of node A with a rule for the modalities that begin with C
+abbrev pub modality_rule_text : Text
+modality_rule_text = codes
+    "[[node]]\nname = \"A\"\naddress = \"h:1\"\n[[node.rule]]\nmodality = \"C*\"\n"
+
+-- the rule as it is read
+abbrev pub written_modality_rule : Rule
+written_modality_rule = record {
   from = Any;
   class = Any;
-  modality = field.Prefix (codes "CT");
+  modality = field.Prefix (codes "C");
   station = field.Any;
   to = [];
   keep = false;
 }
 
--- format 3 has it, and format 2 doesn't
-abbrev pub ModalityPrefixIsOfFormatThree : Type 0
-ModalityPrefixIsOfFormatThree = RuleFits Three modality_rule × (RuleFits Two modality_rule → ⊥)
+-- its node as it is read
+abbrev pub written_modality_node : NodeText
+written_modality_node = record {
+  name = codes "A";
+  address = codes "h:1";
+  max_pdu = pos 16384;
+  accepts = [];
+  rules = written_modality_rule ∷ [];
+}
+
+-- in format 3 the text with that rule writes it
+abbrev pub RuleModalityIsWritten : Type 0
+RuleModalityIsWritten = Writes (third_format ++ modality_rule_text)
+    (record { format = Three; nodes = written_modality_node ∷ []; flows = [] })
+
+-- in format 2 it writes no plan
+abbrev pub RuleModalityIsOfFormatThree : Type 0
+RuleModalityIsOfFormatThree = WritesNone (second_format ++ modality_rule_text)
+
+-- the text of a flow for the modality MR, and for those that begin with C
+abbrev pub modality_flow_text : Text
+modality_flow_text = codes
+    "[[flow]]\nat = \"A\"\nto = \"B\"\nclass = [\"1\"]\nsyntax = [\"1\"]\nmodality = [\"MR\", \"C*\"]\nstation = \"*\"\n"
+
+-- the flow as it is read
+abbrev pub written_modality_flow : FlowText
+written_modality_flow = record {
+  at = codes "A";
+  to = codes "B";
+  classes = codes "1" ∷ [];
+  syntaxes = codes "1" ∷ [];
+  modalities = values.Listed (record { literals = codes "MR" ∷ []; prefixes = codes "C" ∷ [] });
+  stations = values.Any;
+}
+
+-- in format 3 the text with that flow writes it
+abbrev pub FlowModalityIsWritten : Type 0
+FlowModalityIsWritten = Writes (third_format ++ modality_flow_text)
+    (record { format = Three; nodes = []; flows = written_modality_flow ∷ [] })
+
+-- in format 2 it writes no plan
+abbrev pub FlowModalityIsOfFormatThree : Type 0
+FlowModalityIsOfFormatThree = WritesNone (second_format ++ modality_flow_text)
 
 -- the text names no value: it is neither a literal nor a prefix with an asterisk behind it
 abbrev NamesNone : Text → Type 0

@@ -12,9 +12,9 @@ use Rattle.dr_plan_model.specs.declared.plan.Format.{Format}
 use Rattle.dr_plan_model.specs.declared.plan.Format.TheVariants.{One}
 use Rattle.dr_plan_model.specs.Formed.{IsClass, IsAddress, RuleFits, ValuesFit}
 use Rattle.dr_plan_text.specs.Fields.{SaysText, SaysFormed, SaysNumber, SaysFlag, SaysFormat}
-use Rattle.dr_plan_text.specs.Fields.{SaysPattern, SaysField, SaysValues}
-use Rattle.dr_plan_text.specs.Fields.{SaysCallers, SaysTable, SaysTextsOnce, IsListOf, IsSomeOf}
-use Rattle.dr_plan_text.specs.Fields.{Given, GivenOr, HasOnly}
+use Rattle.dr_plan_text.specs.Fields.{SaysPattern, SaysField, SaysValues, SaysCallers}
+use Rattle.dr_plan_text.specs.Fields.{SaysTable, SaysTextsOnce, IsListOf, IsSomeOf, Given, GivenOr}
+use Rattle.dr_plan_text.specs.Fields.{HasOnly}
 use Rattle.dr_plan_text.specs.declared.words.AcceptText.{AcceptText}
 use Rattle.dr_plan_text.specs.declared.words.NodeText.{NodeText}
 use Rattle.dr_plan_text.specs.declared.words.FlowText.{FlowText}
@@ -87,7 +87,7 @@ IsFormat value format = GivenOr One SaysFormat value format
 
 -- the plan's format has what its rules and flows name for modality and for station
 pub record FitsFormat (plan : PlanText) : Type 0 where
-  pub rules : All (λ node. All (RuleFits plan.format) node.rules) plan.nodes
+  pub rules : All (λ node. All (λ rule. RuleFits plan.format rule) node.rules) plan.nodes
   pub flows : All (λ flow. ValuesFit plan.format flow.modalities flow.stations) plan.flows
 
 -- the keys of the text as a whole

@@ -1,7 +1,7 @@
 //! Whether a format has what a plan names for modality and for station.
 ghost use Rattle.std.specs.Prelude.{◌≡◌, ◌↔◌, [], IsTrue, All};
-ghost use Rattle.dr_plan_model.specs.Formed.{ModalitiesFit, RuleFits, StationsFit, ValuesFit};
 ghost use Rattle.dr_plan_model.specs.Naming.{prefix_of, listed_prefixes};
+ghost use Rattle.dr_plan_model.specs.Formed.{ModalitiesFit, StationsFit, RuleFits, ValuesFit};
 ghost use Rattle.dr_plan_text.specs.Tables.{FitsFormat};
 
 use crate::words::{FlowText, NodeText, PlanText};
@@ -29,17 +29,29 @@ fn list_no_prefix(values: &Values) -> bool
     }
 }
 
-/// Whether the format has the pattern for a modality: a prefix from format 3 on.
+/// Whether the format has the modality of a rule: only format 3 has prefixes of modalities.
 pub fn modality_fits(format: Format, pattern: &FieldPattern) -> bool
     ensures { IsTrue result ↔ ModalitiesFit format (prefix_of pattern.now) }
 {
     match format {
-        Format::One | Format::Two => has_no_prefix(pattern),
+        Format::One => has_no_prefix(pattern),
+        Format::Two => has_no_prefix(pattern),
         Format::Three => true,
     }
 }
 
-/// Whether the format has the pattern for a station: a prefix from format 2 on.
+/// Whether the format has the modalities of a flow.
+pub fn modalities_fit(format: Format, values: &Values) -> bool
+    ensures { IsTrue result ↔ ModalitiesFit format (listed_prefixes values.now) }
+{
+    match format {
+        Format::One => list_no_prefix(values),
+        Format::Two => list_no_prefix(values),
+        Format::Three => true,
+    }
+}
+
+/// Whether the format has the station of a rule: format 1 has no prefixes.
 pub fn station_fits(format: Format, pattern: &FieldPattern) -> bool
     ensures { IsTrue result ↔ StationsFit format (prefix_of pattern.now) }
 {
@@ -49,17 +61,7 @@ pub fn station_fits(format: Format, pattern: &FieldPattern) -> bool
     }
 }
 
-/// Whether the format has what a flow names for modality: a prefix from format 3 on.
-pub fn modalities_fit(format: Format, values: &Values) -> bool
-    ensures { IsTrue result ↔ ModalitiesFit format (listed_prefixes values.now) }
-{
-    match format {
-        Format::One | Format::Two => list_no_prefix(values),
-        Format::Three => true,
-    }
-}
-
-/// Whether the format has what a flow names for station: a prefix from format 2 on.
+/// Whether the format has the stations of a flow.
 pub fn stations_fit(format: Format, values: &Values) -> bool
     ensures { IsTrue result ↔ StationsFit format (listed_prefixes values.now) }
 {
@@ -75,24 +77,24 @@ fn rule_fits(format: Format, rule: &Rule) -> bool
     modality_fits(format, &rule.modality) && station_fits(format, &rule.station)
 }
 
-fn flow_fits(format: Format, flow: &FlowText) -> bool
-    ensures { IsTrue result ↔ ValuesFit format flow.now.modalities flow.now.stations }
-{
-    modalities_fit(format, &flow.modalities) && stations_fit(format, &flow.stations)
-}
-
 fn rules_fit(format: Format, rules: &[Rule]) -> bool
-    ensures { IsTrue result ↔ All (RuleFits format) rules.now }
+    ensures { IsTrue result ↔ All (λ rule. RuleFits format rule) rules.now }
 {
     rules.iter().all(|rule| rule_fits(format, rule))
 }
 
 fn nodes_fit(format: Format, nodes: &[NodeText]) -> bool
-    ensures { IsTrue result ↔ All (λ node. All (RuleFits format) node.rules) nodes.now }
+    ensures { IsTrue result ↔ All (λ node. All (λ rule. RuleFits format rule) node.rules) nodes.now }
 {
     nodes
         .iter()
         .all(|node| rules_fit(format, node.rules.as_slice()))
+}
+
+fn flow_fits(format: Format, flow: &FlowText) -> bool
+    ensures { IsTrue result ↔ ValuesFit format flow.now.modalities flow.now.stations }
+{
+    modalities_fit(format, &flow.modalities) && stations_fit(format, &flow.stations)
 }
 
 fn flows_fit(format: Format, flows: &[FlowText]) -> bool

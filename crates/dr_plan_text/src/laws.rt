@@ -4,7 +4,9 @@ ghost use Rattle.dr_plan_text.specs.Laws.{NodeIsWritten, KeyIsUnknown, FormatIsO
 ghost use Rattle.dr_plan_text.specs.Laws.{AddressIsMissing, PortIsTooHigh, RulePrefixIsWritten};
 ghost use Rattle.dr_plan_text.specs.Laws.{RulePrefixIsOfFormatTwo, FlowPrefixIsWritten};
 ghost use Rattle.dr_plan_text.specs.Laws.{FlowPrefixIsOfFormatTwo, StarNamesNone};
-ghost use Rattle.dr_plan_text.specs.Laws.{StarsInsideNameNone, SpacesNameNone, ModalityPrefixIsOfFormatThree};
+ghost use Rattle.dr_plan_text.specs.Laws.{StarsInsideNameNone, SpacesNameNone};
+ghost use Rattle.dr_plan_text.specs.Laws.{RuleModalityIsWritten, RuleModalityIsOfFormatThree};
+ghost use Rattle.dr_plan_text.specs.Laws.{FlowModalityIsWritten, FlowModalityIsOfFormatThree};
 
 /// A text writes one plan at most.
 pub fn a_text_writes_one_plan()
@@ -36,13 +38,17 @@ pub fn prefixes_are_of_format_2()
     ensures flow_of_1 { FlowPrefixIsOfFormatTwo }
 {}
 
-/// In format 3 a rule may name modalities by what they begin with, and in format 2 none does.
-pub fn prefixes_of_a_modality_are_of_format_3()
-    ensures { ModalityPrefixIsOfFormatThree }
+/// In format 3 a rule and a flow may name modalities by what they begin with, and the same texts of
+/// format 2 write no plan.
+pub fn prefixes_of_modalities_are_of_format_3()
+    ensures rule { RuleModalityIsWritten }
+    ensures rule_of_2 { RuleModalityIsOfFormatThree }
+    ensures flow { FlowModalityIsWritten }
+    ensures flow_of_2 { FlowModalityIsOfFormatThree }
 {}
 
-/// What names no modality and no station in any format: `*` alone, an asterisk elsewhere than at the end, and a
-/// prefix with a space at one of its ends.
+/// What names no modality and no station in any format: `*` alone, an asterisk elsewhere than at the
+/// end, and a prefix with a space at one of its ends.
 pub fn ill_formed_prefixes_name_none()
     ensures star { StarNamesNone }
     ensures inside { StarsInsideNameNone }

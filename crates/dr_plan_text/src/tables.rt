@@ -14,7 +14,7 @@ use crate::fields::{
 };
 use crate::fits::fits_format;
 use crate::form::{ListOf, SomeOf, TableForm, TableOf, defaulted, has_only, required};
-use crate::values::{AnyField, AnyValues};
+use crate::values::{AnyValue, AnyValues};
 use crate::words::{AcceptText, FlowText, NodeText, PlanText};
 use dr_base::Seq;
 use dr_plan_model::Format;
@@ -60,8 +60,8 @@ impl TableForm for RuleTable {
         Ok(Rule {
             from: defaulted::<NamePattern>(alloc, table, "from", Pattern::Any)?,
             class: defaulted::<ClassPattern>(alloc, table, "class", Pattern::Any)?,
-            modality: defaulted::<AnyField>(alloc, table, "modality", FieldPattern::Any)?,
-            station: defaulted::<AnyField>(alloc, table, "station", FieldPattern::Any)?,
+            modality: defaulted::<AnyValue>(alloc, table, "modality", FieldPattern::Any)?,
+            station: defaulted::<AnyValue>(alloc, table, "station", FieldPattern::Any)?,
             to: defaulted::<ListOf<AnyText>>(alloc, table, "to", Seq::new(alloc))?,
             keep: defaulted::<Flag>(alloc, table, "keep", false)?,
         })

@@ -1,5 +1,5 @@
-//! The forms of modalities and of stations. A prefix is read in each format; whether the format has
-//! it is tested of the whole plan.
+//! The forms of modalities and stations. A prefix is read in each format; whether the format has it
+//! is tested of the whole plan.
 ghost use Rattle.std.specs.Prelude.{◌≡◌, ◌++◌, ◌∷◌, [], IfOk, IfErr, OnOk, MatchOption, flat_map};
 ghost use Rattle.toml.specs.Data.{string};
 ghost use Rattle.dr_base.specs.Texts.{Text as Words};
@@ -59,9 +59,9 @@ fn named_in(alloc: Global, text: &[u8]) -> Result<FieldPattern, ReadFault>
 }
 
 /// A value that is named: a literal, or a prefix with `*` behind it.
-struct NamedField;
+struct NamedValue;
 
-impl Form for NamedField {
+impl Form for NamedValue {
     type Output = FieldPattern;
 
     ghost says = { SaysNamed };
@@ -75,9 +75,9 @@ impl Form for NamedField {
 }
 
 /// `*`, or a value that is named.
-pub struct AnyField;
+pub struct AnyValue;
 
-impl Form for AnyField {
+impl Form for AnyValue {
     type Output = FieldPattern;
 
     ghost says = { SaysField };
@@ -86,7 +86,7 @@ impl Form for AnyField {
         if is_star(value) {
             return Ok(FieldPattern::Any);
         }
-        let named = NamedField::read(alloc, value)?;
+        let named = NamedValue::read(alloc, value)?;
         Ok(named)
     }
 }
@@ -131,7 +131,7 @@ impl Form for AnyValues {
         if is_star(value) {
             return Ok(Values::Any);
         }
-        let patterns = ListOf::<NamedField>::read(alloc, value)?;
+        let patterns = ListOf::<NamedValue>::read(alloc, value)?;
         let values = values_of(alloc, patterns.as_slice())?;
         Ok(Values::Listed(values))
     }

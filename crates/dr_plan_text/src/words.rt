@@ -35,8 +35,8 @@ pub struct FlowText {
     pub stations: Values,
 }
 
-/// The format of a plan's text, and its nodes and flows in the order of the text. They name only
-/// prefixes that the format has.
+/// The format of a plan's text, and its nodes and flows in the order of the text. They name no
+/// prefix that the format doesn't have.
 #[derive(Debug, Drop)]
 pub struct PlanText {
     pub format: Format,
