@@ -11,7 +11,7 @@ use dr_base::{Seq, Syntax};
 use dr_plan_text::fault::ReadFault;
 use dr_plan_text::fields::{AnyText, ClassPattern, Formed, NamePattern, PatternOf, TextForm};
 use dr_plan_text::form::{ListOf, SomeOf, TableForm, TableOf, defaulted, has_only, required};
-use dr_plan_text::values::AnyField;
+use dr_plan_text::values::AnyValue;
 use dr_route::{FieldPattern, Pattern};
 use std::alloc::Global;
 use toml::Table;
@@ -53,8 +53,8 @@ impl TableForm for ExpectTable {
                 "syntax",
                 Pattern::Any,
             )?,
-            modality: defaulted::<AnyField>(alloc, table, "modality", FieldPattern::Any)?,
-            station: defaulted::<AnyField>(alloc, table, "station", FieldPattern::Any)?,
+            modality: defaulted::<AnyValue>(alloc, table, "modality", FieldPattern::Any)?,
+            station: defaulted::<AnyValue>(alloc, table, "station", FieldPattern::Any)?,
             keep: defaulted::<ListOf<AnyText>>(alloc, table, "keep", Seq::new(alloc))?,
             never: defaulted::<ListOf<AnyText>>(alloc, table, "never", Seq::new(alloc))?,
         })

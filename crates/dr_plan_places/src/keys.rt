@@ -12,7 +12,7 @@ use dr_plan_model::Format;
 use dr_plan_text::fault::ReadFault;
 use dr_plan_text::fits::{modalities_fit, modality_fits, station_fits, stations_fit};
 use dr_plan_text::form::{Form, is_among, required, value_at};
-use dr_plan_text::values::{AnyField, AnyValues};
+use dr_plan_text::values::{AnyValue, AnyValues};
 use std::alloc::{AllocError, Global};
 use toml::Table;
 
@@ -61,7 +61,7 @@ pub fn misreads_modality(alloc: Global, format: Format, table: &Table) -> Result
     let Some(value) = value_at(table, "modality") else {
         return Ok(false);
     };
-    match AnyField::read(alloc, value) {
+    match AnyValue::read(alloc, value) {
         Ok(pattern) => Ok(!modality_fits(format, &pattern)),
         Err(ReadFault::Field) => Ok(true),
         Err(ReadFault::Memory) => Err(AllocError),
@@ -80,7 +80,7 @@ pub fn misreads_station(alloc: Global, format: Format, table: &Table) -> Result<
     let Some(value) = value_at(table, "station") else {
         return Ok(false);
     };
-    match AnyField::read(alloc, value) {
+    match AnyValue::read(alloc, value) {
         Ok(pattern) => Ok(!station_fits(format, &pattern)),
         Err(ReadFault::Field) => Ok(true),
         Err(ReadFault::Memory) => Err(AllocError),

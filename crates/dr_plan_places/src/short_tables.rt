@@ -12,7 +12,7 @@ use dr_plan_expand::{ShortFlow, ShortNode, ShortPlan, ShortRow, ShortRule};
 use dr_plan_model::Format;
 use dr_plan_text::fields::{Address, AnyCallers, AnyText, Flag, Formed, Number, TextsOnce};
 use dr_plan_text::form::{ListOf, SomeOf, TableOf};
-use dr_plan_text::values::{AnyField, AnyValues};
+use dr_plan_text::values::{AnyValue, AnyValues};
 use std::alloc::{AllocError, Global};
 use toml::Table;
 
@@ -66,10 +66,10 @@ impl Inspected for ShortRuleTable {
         if misreads::<AnyOrMore>(alloc, table, "class")? {
             return Ok(Some("class"));
         }
-        if misreads::<AnyField>(alloc, table, "modality")? {
+        if misreads::<AnyValue>(alloc, table, "modality")? {
             return Ok(Some("modality"));
         }
-        if misreads::<AnyField>(alloc, table, "station")? {
+        if misreads::<AnyValue>(alloc, table, "station")? {
             return Ok(Some("station"));
         }
         if misreads::<ListOf<AnyText>>(alloc, table, "to")? {
