@@ -1,4 +1,5 @@
 pub mod Keys
+pub mod Listened
 pub mod Items
 pub mod Trimmed
 pub mod Ports

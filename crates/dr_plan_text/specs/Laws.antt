@@ -1,11 +1,12 @@
 -- Laws of plans as they are written, and small texts.
-use Rattle.std.specs.Prelude.{◌≡◌, pos, false, [], ◌∷◌, ◌++◌, codes}
+use Rattle.std.specs.Prelude.{◌≡◌, pos, false, [], ◌∷◌, ◌++◌, None, codes}
 use Rattle.toml.specs.Data.{string}
 use Rattle.dr_base.specs.Texts.{Text}
 use Rattle.dr_route.specs.declared.rule.Pattern.TheVariants.{Any}
 use Rattle.dr_route.specs.declared.rule.FieldPattern.{FieldPattern}
 use Rattle.dr_route.specs.declared.rule.FieldPattern.TheVariants as field
 use Rattle.dr_route.specs.declared.rule.Rule.{Rule}
+use Rattle.dr_plan_model.specs.declared.listens.Listens.TheVariants.{At}
 use Rattle.dr_plan_model.specs.declared.plan.Values.TheVariants as values
 use Rattle.dr_plan_model.specs.declared.plan.Format.TheVariants.{One, Two, Three}
 use Rattle.dr_plan_text.specs.declared.words.NodeText.{NodeText}
@@ -31,7 +32,7 @@ node_text = codes "[[node]]\nname = \"A\"\naddress = \"h:1\"\n"
 abbrev pub written_node_text : NodeText
 written_node_text = record {
   name = codes "A";
-  address = codes "h:1";
+  listens = At (codes "h:1") None;
   max_pdu = pos 16384;
   accepts = [];
   rules = [];
@@ -85,7 +86,7 @@ written_rule = record {
 abbrev pub written_rule_node : NodeText
 written_rule_node = record {
   name = codes "A";
-  address = codes "h:1";
+  listens = At (codes "h:1") None;
   max_pdu = pos 16384;
   accepts = [];
   rules = written_rule ∷ [];
@@ -149,7 +150,7 @@ written_modality_rule = record {
 abbrev pub written_modality_node : NodeText
 written_modality_node = record {
   name = codes "A";
-  address = codes "h:1";
+  listens = At (codes "h:1") None;
   max_pdu = pos 16384;
   accepts = [];
   rules = written_modality_rule ∷ [];
