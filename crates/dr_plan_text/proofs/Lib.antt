@@ -10,5 +10,6 @@ pub mod OfValues
 pub mod OnePlan
 pub mod SmallTexts
 pub mod PrefixTexts
+pub mod ListenTexts
 pub mod ModalityTexts
 pub mod Unnamed

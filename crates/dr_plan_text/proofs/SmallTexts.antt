@@ -129,7 +129,7 @@ other_format = λ plan w.
     no_format (integer (pos 4)) (apart_numbers 4 1 (λ e. omega arith)) (apart_numbers 4 2 (λ e. omega arith)) (apart_numbers 4 3 (λ e. omega arith)) plan.format (subst P same w.2.format)
 
 -- the one node of a text that says one node, if it says any
-the_node : (fields : Members) (nodes : List NodeText) → IsListOf (SaysTable IsNodeTable) (array (item (table fields) no_items)) nodes → (node : NodeText) × IsNodeTable fields node
+pub the_node : (fields : Members) (nodes : List NodeText) → IsListOf (SaysTable IsNodeTable) (array (item (table fields) no_items)) nodes → (node : NodeText) × IsNodeTable fields node
 the_node fields nodes says = first nodes (let same : item (table fields) no_items ≡ says.0 = (let e = says.1 in cc) in let P : Items → Type 0 = λ items. ListsValues (SaysTable IsNodeTable) items nodes in subst P (sym same) says.2)
   where
     first : (nodes : List NodeText) → ListsValues (SaysTable IsNodeTable) (item (table fields) no_items) nodes → (node : NodeText) × IsNodeTable fields node
@@ -148,7 +148,7 @@ unfolding toml_on_literals
 name_parsed = refl
 
 -- where no address is given, and nothing says that the node only calls
-unaddressed : (fields : Members) (place : Listens) → get_member (codes "listens") fields ≡ None → get_member (codes "address") fields ≡ None → IsListens false fields place → ⊥
+pub unaddressed : (fields : Members) (place : Listens) → get_member (codes "listens") fields ≡ None → get_member (codes "address") fields ≡ None → IsListens false fields place → ⊥
 unaddressed fields Nowhere silent none is = none-some (boolean false) (sym silent ∙ is.0)
 unaddressed fields (At address bind) silent none is = subst (λ (d : Option Data). Given (SaysFormed IsAddress) d address) none is.1
 
@@ -165,7 +165,7 @@ high_parsed = refl
 high_address : (place : Listens) → IsListens false high_fields place → (address : Text) × (string (codes "h:65536") ≡ string address) × IsAddress address
 unfolding high_fields
 high_address Nowhere is = absurd (none-some (boolean false) is.0)
-high_address (At address bind) is = (address, is.1)
+high_address (At address bind) is = (address, is.1.0, is.1.1)
 
 five_digits : All IsDigit (codes "65536")
 five_digits = All-cons IsDigit 54 (codes "5536") (lit≤ tt, lit≤ tt) (All-cons IsDigit 53 (codes "536") (lit≤ tt, lit≤ tt) (All-cons IsDigit 53 (codes "36") (lit≤ tt, lit≤ tt)
