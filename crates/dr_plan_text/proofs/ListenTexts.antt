@@ -212,7 +212,7 @@ unfolding toml_on_literals row_members accepting_members
 accepting_parsed = refl
 
 -- an array with an item says no empty list
-some_listed : {X : Type 0} (Says : Data → X → Type 0) (d : Data) (more : Items) (xs : List X) → IsListOf Says (array (item d more)) xs → xs ≡ [] → ⊥
+pub some_listed : {X : Type 0} (Says : Data → X → Type 0) (d : Data) (more : Items) (xs : List X) → IsListOf Says (array (item d more)) xs → xs ≡ [] → ⊥
 some_listed Says d more [] says none =
     let e = says.1 in
     let same : item d more ≡ says.0 = cc in
