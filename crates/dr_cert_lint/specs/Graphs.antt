@@ -37,8 +37,8 @@ abbrev pub place_text : Listens → Text
 place_text Nowhere = codes "only calls"
 place_text (At address bind) = escaped address
 
--- the row of a node: title and where it listens, round corners where instances enter, and a double line
--- where they are kept
+-- the row of a node: title and where it listens, round corners where instances enter, and a double
+-- line where they are kept
 abbrev pub vertex_row : Node → Bool → Bool → Text
 vertex_row node enters keeps =
     codes "  " ++ in_quotes node.name ++ label_start ++ escaped node.name ++ (92 ∷ codes "n")

@@ -132,8 +132,8 @@ fn edges_in(alloc: Global, sealed: &Sealed) -> Result<Vec<Edge>, AllocError>
     Ok(edges)
 }
 
-/// The network of the plan as a graph for Graphviz: a vertex for each node, with where it listens, and
-/// an edge for each hop, with its number of presentation contexts.
+/// The network of the plan as a graph for Graphviz: a vertex for each node, with where it listens,
+/// and an edge for each hop, with its number of presentation contexts.
 ///
 /// Errors: want of memory.
 pub fn graph_text(alloc: Global, sealed: &Sealed) -> Result<Text, AllocError>

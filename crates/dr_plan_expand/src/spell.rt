@@ -4,8 +4,8 @@ ghost use Rattle.dr_plan_expand.specs.Spelling.{row_text, rule_text, node_text, 
 ghost use Rattle.dr_plan_expand.specs.Spelling.{plan_text};
 
 use crate::pieces::{
-    add_callers, add_flag, add_list, add_listens, add_pattern, add_signed, add_station, add_stations,
-    add_values,
+    add_callers, add_flag, add_list, add_listens, add_pattern, add_signed, add_station,
+    add_stations, add_values,
 };
 use dr_base::Text;
 use dr_base_quoted::put_in_quotes;

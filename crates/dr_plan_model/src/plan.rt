@@ -41,9 +41,9 @@ impl Clone for Node {
 }
 
 /// The format of a plan's text, which is also the version of its certificate's text. From format 2
-/// on a rule or a flow may name stations by what they begin with, and in format 3 modalities too. In
-/// format 3 a text may have names and lists that are put right before it is read as a plan, and a
-/// node may listen nowhere, or elsewhere than others reach it.
+/// on a rule or a flow may name stations by what they begin with, and in format 3 modalities too.
+/// In format 3 a text may have names and lists that are put right before it is read as a plan, and
+/// a node may listen nowhere, or elsewhere than others reach it.
 #[derive(Clone, Copy, PartialEq, Eq, Debug)]
 pub enum Format {
     One,

@@ -19,8 +19,8 @@ use Rattle.dr_plan_places.specs.declared.field_place.FieldPlace.TheVariants.{Roo
 use Rattle.dr_plan_places.specs.declared.field_place.NodePart.{NodePart}
 use Rattle.dr_plan_places.specs.declared.field_place.NodePart.TheVariants.{Own, AcceptRow, Rule}
 
--- whatever else stands in a table: where it has what these fields have at this key and at `listens`,
--- on which other keys of a node rest, it isn't of the form
+-- whatever else stands in a table: where it has what these fields have at this key and at
+-- `listens`, on which other keys of a node rest, it isn't of the form
 abbrev pub IsAtFault : {X : Type 0} → (Members → X → Type 0) → Members → Text → Type 0
 IsAtFault {X} IsTable fields key =
     (other : Members) (x : X)

@@ -85,7 +85,8 @@ fn rules_fit(format: Format, rules: &[Rule]) -> bool
 }
 
 fn nodes_fit(format: Format, nodes: &[NodeText]) -> bool
-    ensures { IsTrue result ↔ All (λ node. All (λ rule. RuleFits format rule) node.rules) nodes.now }
+    ensures { IsTrue result
+        ↔ All (λ node. All (λ rule. RuleFits format rule) node.rules) nodes.now }
 {
     nodes
         .iter()
@@ -118,9 +119,7 @@ pub fn listens_fits(format: Format, listens: &Listens) -> bool
 fn all_listen(format: Format, nodes: &[NodeText]) -> bool
     ensures { IsTrue result ↔ All (λ node. ListensFits format node.listens) nodes.now }
 {
-    nodes
-        .iter()
-        .all(|node| listens_fits(format, &node.listens))
+    nodes.iter().all(|node| listens_fits(format, &node.listens))
 }
 
 /// Whether the plan's format has what its rules and flows name for modality and for station, and

@@ -50,17 +50,17 @@ pub fn prefixes_of_modalities_are_of_format_3()
     ensures flow_of_2 { FlowModalityIsOfFormatThree }
 {}
 
-/// What names no modality and no station in any format: `*` alone, an asterisk elsewhere than at the
-/// end, and a prefix with a space at one of its ends.
+/// What names no modality and no station in any format: `*` alone, an asterisk elsewhere than at
+/// the end, and a prefix with a space at one of its ends.
 pub fn ill_formed_prefixes_name_none()
     ensures star { StarNamesNone }
     ensures inside { StarsInsideNameNone }
     ensures spaces { SpacesNameNone }
 {}
 
-/// In format 3 a node may listen nowhere, or bind elsewhere than others reach it, and the same texts
-/// of format 2 write no plan. Nor does a text of format 3 where a node binds and has no address, or
-/// where one listens nowhere and has an address or an accept row.
+/// In format 3 a node may listen nowhere, or bind elsewhere than others reach it, and the same
+/// texts of format 2 write no plan. Nor does a text of format 3 where a node binds and has no
+/// address, or where one listens nowhere and has an address or an accept row.
 pub fn nodes_listen_elsewhere_in_format_3()
     ensures nowhere { NowhereIsWritten }
     ensures nowhere_of_2 { NowhereIsOfFormatThree }

@@ -89,8 +89,12 @@ impl TableForm for NodeTable {
         let name = required::<AnyText>(alloc, table, "name")?;
         let listens = listens_in(alloc, table, false)?;
         let max_pdu = defaulted::<Number>(alloc, table, "max_pdu", 16384)?;
-        let accepts =
-            defaulted::<ListOf<TableOf<AcceptTable>>>(alloc, table, "accept", Seq::new(alloc))?;
+        let accepts = defaulted::<ListOf<TableOf<AcceptTable>>>(
+            alloc,
+            table,
+            "accept",
+            Seq::new(alloc),
+        )?;
         if !may_accept(&listens, &accepts) {
             return Err(ReadFault::Field);
         }

@@ -37,7 +37,8 @@ pub struct FlowText {
 }
 
 /// The format of a plan's text, and its nodes and flows in the order of the text. They name no
-/// prefix that the format doesn't have, and before format 3 each node listens where others reach it.
+/// prefix that the format doesn't have, and before format 3 each node listens where others reach
+/// it.
 #[derive(Debug, Drop)]
 pub struct PlanText {
     pub format: Format,

@@ -62,10 +62,7 @@ fn bind_node<'a, N: Network>(
     node: &'a str,
 ) -> Result<N::Listener, Failure<'a>> {
     let Some(address) = listens.door() else {
-        return Err(Failure::File(
-            node,
-            io::Error::new(ErrorKind::InvalidInput, "Nowhere"),
-        ));
+        return Err(Failure::File(node, io::Error::new(ErrorKind::InvalidInput, "Nowhere")));
     };
     match network.listen(alloc, address) {
         Ok(listener) => Ok(listener),
@@ -444,8 +441,8 @@ where
 /// named for it, the node may be asked there what it has, and told to act.
 ///
 /// Errors: Stream, also where the system gives no thread for the input; File; File with the node's
-/// name where it listens nowhere or its address can't be bound to, with the report's path where no report may be
-/// written there, and with the control's address where nothing may listen there.
+/// name where it listens nowhere or its address can't be bound to, with the report's path where no
+/// report may be written there, and with the control's address where nothing may listen there.
 pub fn serve_files<
     'a,
     R: Threads + Wait + Sync + time::Clock,
