@@ -11,7 +11,7 @@ use Rattle.std.proofs.lemmas.List.Elements.{Contains-push, Contains-push_cases, 
 use Rattle.std.proofs.lemmas.List.Sorted.{IsPermutation-map, IsPermutation-sym, Contains-permutation, sorted_far, ranks_by, All-permutation}
 use Rattle.dr_base.specs.Texts.{Text, text_cmp}
 use Rattle.dr_route.specs.declared.cell.OwnedField.{OwnedField}
-use Rattle.dr_route.specs.declared.cell.OwnedField.TheVariants as part
+use Rattle.dr_route.specs.declared.cell.OwnedField.TheVariants as field
 use Rattle.dr_route.specs.declared.cell.FieldValues.{FieldValues}
 use Rattle.dr_plan_model.proofs.Gathered.{nothing_in_nil, Contains-cons_cases, Contains-here, Contains-there, only_one}
 use Rattle.dr_plan_sound.specs.Printed.{printed_field}
@@ -33,7 +33,7 @@ map_push f (y ∷ xs) x = ap (λ ys. f y ∷ ys) (map_push f xs x)
 
 -- the parts that the three lists make
 abbrev pub all_of : FieldValues → List OwnedField
-all_of values = map (λ l. part.Literal l) values.literals ++ map (λ p. part.Prefix p) values.prefixes ++ part.Rest ∷ []
+all_of values = map (λ l. field.Literal l) values.literals ++ map (λ p. field.Prefix p) values.prefixes ++ field.Rest ∷ []
 
 in_map : {X : Type 0} (f : Text → X) (texts : List Text) (t : Text) → Contains texts t → Contains (map f texts) (f t)
 in_map f [] t has = absurd (nothing_in_nil t has)
@@ -50,77 +50,77 @@ from_map f (u ∷ texts) x has = elim (Contains-cons_cases (f u) (map f texts) x
 ]
 
 abbrev text_in : OwnedField → List Text
-text_in (part.Literal l) = l ∷ []
-text_in (part.Prefix p) = p ∷ []
-text_in part.Rest = []
+text_in (field.Literal l) = l ∷ []
+text_in (field.Prefix p) = p ∷ []
+text_in field.Rest = []
 
 abbrev IsLiteralPart : OwnedField → Type 0
-IsLiteralPart (part.Literal l) = Unit {0}
-IsLiteralPart (part.Prefix p) = ⊥
-IsLiteralPart part.Rest = ⊥
+IsLiteralPart (field.Literal l) = Unit {0}
+IsLiteralPart (field.Prefix p) = ⊥
+IsLiteralPart field.Rest = ⊥
 
 abbrev IsPrefixPart : OwnedField → Type 0
-IsPrefixPart (part.Literal l) = ⊥
-IsPrefixPart (part.Prefix p) = Unit {0}
-IsPrefixPart part.Rest = ⊥
+IsPrefixPart (field.Literal l) = ⊥
+IsPrefixPart (field.Prefix p) = Unit {0}
+IsPrefixPart field.Rest = ⊥
 
 one_text : (a b : Text) → (a ∷ []) ≡ (b ∷ []) → a ≡ b
 one_text a b e = only_one a b (subst (λ (ts : List Text). Contains ts b) (sym e) (Contains-here b []))
 
 abbrev literals_of : FieldValues → List OwnedField
-literals_of values = map (λ l. part.Literal l) values.literals
+literals_of values = map (λ l. field.Literal l) values.literals
 
 abbrev prefixes_of : FieldValues → List OwnedField
-prefixes_of values = map (λ p. part.Prefix p) values.prefixes
+prefixes_of values = map (λ p. field.Prefix p) values.prefixes
 
-three_cases : (values : FieldValues) (part : OwnedField) → Contains (literals_of values ++ prefixes_of values) part ⊎ (part.Rest ≡ part) →
-    (Contains (literals_of values) part ⊎ Contains (prefixes_of values) part) ⊎ (part.Rest ≡ part)
+three_cases : (values : FieldValues) (part : OwnedField) → Contains (literals_of values ++ prefixes_of values) part ⊎ (field.Rest ≡ part) →
+    (Contains (literals_of values) part ⊎ Contains (prefixes_of values) part) ⊎ (field.Rest ≡ part)
 three_cases values part (inl before) = inl (Contains-append_cases (literals_of values) (prefixes_of values) part before)
 three_cases values part (inr same) = inr same
 
 -- where a part stands among all of them
 three : (values : FieldValues) (part : OwnedField) → Contains (all_of values) part →
-    (Contains (literals_of values) part ⊎ Contains (prefixes_of values) part) ⊎ (part.Rest ≡ part)
-three values part has = three_cases values part (Contains-push_cases (literals_of values ++ prefixes_of values) part.Rest part has)
+    (Contains (literals_of values) part ⊎ Contains (prefixes_of values) part) ⊎ (field.Rest ≡ part)
+three values part has = three_cases values part (Contains-push_cases (literals_of values ++ prefixes_of values) field.Rest part has)
 
-is_rest_only : (part : OwnedField) → part.Rest ≡ part → text_in part ≡ []
+is_rest_only : (part : OwnedField) → field.Rest ≡ part → text_in part ≡ []
 is_rest_only part same = sym (ap text_in same)
 
 some_text : (t : Text) → (t ∷ []) ≡ [] → ⊥
 some_text t e = nothing_in_nil t (subst (λ (ts : List Text). Contains ts t) e (Contains-here t []))
 
 pub all_are_parts : (values : FieldValues) → ArePartsOf values (all_of values)
-all_are_parts values (part.Literal l) = (
-  λ has. elim (three values (part.Literal l) has) [
+all_are_parts values (field.Literal l) = (
+  λ has. elim (three values (field.Literal l) has) [
     | inl before ↦ elim before [
       | inl x ↦
-          let found = from_map (λ t. part.Literal t) values.literals (part.Literal l) x in
+          let found = from_map (λ t. field.Literal t) values.literals (field.Literal l) x in
           subst (λ (t : Text). Contains values.literals t) (one_text found.0 l (ap text_in found.2)) found.1
       | inr x ↦
-          let found = from_map (λ t. part.Prefix t) values.prefixes (part.Literal l) x in
+          let found = from_map (λ t. field.Prefix t) values.prefixes (field.Literal l) x in
           absurd (subst IsPrefixPart found.2 tt)
     ]
-    | inr same ↦ absurd (some_text l (is_rest_only (part.Literal l) same))
+    | inr same ↦ absurd (some_text l (is_rest_only (field.Literal l) same))
   ],
-  λ has. Contains-append_left (literals_of values ++ prefixes_of values) (part.Rest ∷ []) (part.Literal l)
-      (Contains-append_left (literals_of values) (prefixes_of values) (part.Literal l) (in_map (λ t. part.Literal t) values.literals l has)),
+  λ has. Contains-append_left (literals_of values ++ prefixes_of values) (field.Rest ∷ []) (field.Literal l)
+      (Contains-append_left (literals_of values) (prefixes_of values) (field.Literal l) (in_map (λ t. field.Literal t) values.literals l has)),
 )
-all_are_parts values (part.Prefix p) = (
-  λ has. elim (three values (part.Prefix p) has) [
+all_are_parts values (field.Prefix p) = (
+  λ has. elim (three values (field.Prefix p) has) [
     | inl before ↦ elim before [
       | inl x ↦
-          let found = from_map (λ t. part.Literal t) values.literals (part.Prefix p) x in
+          let found = from_map (λ t. field.Literal t) values.literals (field.Prefix p) x in
           absurd (subst IsLiteralPart found.2 tt)
       | inr x ↦
-          let found = from_map (λ t. part.Prefix t) values.prefixes (part.Prefix p) x in
+          let found = from_map (λ t. field.Prefix t) values.prefixes (field.Prefix p) x in
           subst (λ (t : Text). Contains values.prefixes t) (one_text found.0 p (ap text_in found.2)) found.1
     ]
-    | inr same ↦ absurd (some_text p (is_rest_only (part.Prefix p) same))
+    | inr same ↦ absurd (some_text p (is_rest_only (field.Prefix p) same))
   ],
-  λ has. Contains-append_left (literals_of values ++ prefixes_of values) (part.Rest ∷ []) (part.Prefix p)
-      (Contains-append_right (literals_of values) (prefixes_of values) (part.Prefix p) (in_map (λ t. part.Prefix t) values.prefixes p has)),
+  λ has. Contains-append_left (literals_of values ++ prefixes_of values) (field.Rest ∷ []) (field.Prefix p)
+      (Contains-append_right (literals_of values) (prefixes_of values) (field.Prefix p) (in_map (λ t. field.Prefix t) values.prefixes p has)),
 )
-all_are_parts values part.Rest = (λ has. tt, λ is. Contains-push (literals_of values ++ prefixes_of values) part.Rest)
+all_are_parts values field.Rest = (λ has. tt, λ is. Contains-push (literals_of values ++ prefixes_of values) field.Rest)
 
 -- sorting keeps the parts
 pub sorted_parts : (values : FieldValues) (before after : List ShownPart) → map part_of before ≡ all_of values → IsPermutation before after → ArePartsOf values (map part_of after)

@@ -6,7 +6,8 @@ ghost use Rattle.dr_plan_model.specs.Naming.{listed_literals};
 ghost use Rattle.dr_plan_model.specs.Listings.{IsListedBy, AreListedBy};
 ghost use Rattle.dr_route.specs.Names.{HasName};
 ghost use Rattle.dr_plan_entries.specs.Entering.{AllBelow};
-ghost use Rattle.dr_plan_entries.specs.Listing.{TakesListed, TakesJust, AreNamed, values_of, set_of};
+ghost use Rattle.dr_plan_entries.specs.Listing.{TakesListed, TakesJust, AreNamed};
+ghost use Rattle.dr_plan_entries.specs.Listing.{values_of, set_of};
 
 use dr_base::same::are_same;
 use dr_base::{Seq, Text};

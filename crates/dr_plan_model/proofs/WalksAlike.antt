@@ -84,17 +84,17 @@ flow_names plan attribute flow t has_flow has_text =
     Contains-append_right _ _ t (Contains-flat_map (λ (f : Flow). named_by_flow attribute f) plan.flows flow t has_flow has_text)
 
 -- ---- keys of one cell
-listed_alike : (values : FieldValues) (part : OwnedField) (listed : Values) (v w : Text) → ((t : Text) → Contains (listed_literals listed) t → Contains values.literals t) →
-    ((t : Text) → Contains (listed_prefixes listed) t → Contains values.prefixes t) →
-    InField values part v → InField values part w → IsListed listed v → IsListed listed w
-listed_alike values part values.Any v w known each a b h = tt
-listed_alike values part (values.Listed own) v w known each a b (inl one) = inl (same_literal part a b one) where
-  same_literal : (part : OwnedField) → InField values part v → InField values part w → Contains own.literals v → Contains own.literals w
+listed_alike : (all : FieldValues) (lot : OwnedField) (listed : Values) (v w : Text) → ((t : Text) → Contains (listed_literals listed) t → Contains all.literals t) →
+    ((t : Text) → Contains (listed_prefixes listed) t → Contains all.prefixes t) →
+    InField all lot v → InField all lot w → IsListed listed v → IsListed listed w
+listed_alike all lot values.Any v w known each a b h = tt
+listed_alike all lot (values.Listed own) v w known each a b (inl one) = inl (same_literal lot a b one) where
+  same_literal : (one : OwnedField) → InField all one v → InField all one w → Contains own.literals v → Contains own.literals w
   same_literal (part.Literal literal) a b one = let P : Text → Type 0 = λ t. Contains own.literals t in subst P (sym a.1 ∙ b.1) one
   same_literal (part.Prefix prefix) a b one = absurd (a.0 (known v one))
   same_literal part.Rest a b one = absurd (a.0 (known v one))
-listed_alike values part (values.Listed own) v w known each a b (inr begun) =
-    inr (begun.0, begun.1, prefix_agrees values part begun.0 v w (each begun.0 begun.1) a b begun.2)
+listed_alike all lot (values.Listed own) v w known each a b (inr begun) =
+    inr (begun.0, begun.1, prefix_agrees all lot begun.0 v w (each begun.0 begun.1) a b begun.2)
 
 pub fits_alike : (plan : Network) (cell : OwnedCell) (k l : Key) → LiesIn plan cell k → LiesIn plan cell l → (flow : Flow) → Contains plan.flows flow → FlowBrings flow k → FlowBrings flow l
 fits_alike plan cell k l a b flow has_flow fit = record {

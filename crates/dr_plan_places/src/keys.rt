@@ -49,7 +49,8 @@ pub fn misreads<F: Form>(alloc: Global, table: &Table, key: &str) -> Result<bool
     }
 }
 
-/// Whether the modality of a rule is ill-formed: also where it is a prefix, and the format has none.
+/// Whether the modality of a rule is ill-formed: also where it is a prefix, and the format has
+/// none.
 ///
 /// Errors: want of memory.
 pub fn misreads_modality(alloc: Global, format: Format, table: &Table) -> Result<bool, AllocError>

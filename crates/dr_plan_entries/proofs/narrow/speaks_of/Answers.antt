@@ -9,7 +9,7 @@ admits-requires-clause-same c = λ t.
     let P : List Text → Type 0 = λ ts. Contains ts t ↔ Contains (listed_literals c.args.flow.now.modalities) t in
     subst P (sym c.as_slice-in-Modality.ensures) (c.requires.modalities t)
 
-pub admits-in-Station-requires-clause-same : goal.admits-in-Station-requires-clause-same
-admits-in-Station-requires-clause-same c = λ t.
+pub admits-requires-in-Station-clause-same : goal.admits-requires-in-Station-clause-same
+admits-requires-in-Station-clause-same c = λ t.
     let P : List Text → Type 0 = λ ts. Contains ts t ↔ Contains (listed_literals c.args.flow.now.stations) t in
     subst P (sym c.as_slice-in-Station.ensures) (c.requires.stations t)
