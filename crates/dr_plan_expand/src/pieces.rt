@@ -2,15 +2,15 @@
 ghost use Rattle.std.specs.Prelude.{◌≡◌, ◌++◌, OnOk, IfOk, map, flat_map};
 ghost use Rattle.std.specs.Fmt.{signed_decimal};
 ghost use Rattle.dr_plan_expand.specs.Spelling.{further, list_text, starred};
-ghost use Rattle.dr_plan_expand.specs.Spelling.{pattern_text, station_text, callers_text};
-ghost use Rattle.dr_plan_expand.specs.Spelling.{values_text, stations_text, flag_text};
+ghost use Rattle.dr_plan_expand.specs.Spelling.{pattern_text, field_text, callers_text};
+ghost use Rattle.dr_plan_expand.specs.Spelling.{values_text, flag_text};
 ghost use Rattle.dr_plan_expand.specs.Spelling.{bind_text, address_text, listens_text};
 
 use crate::words::copy_of;
 use dr_base::{Seq, Text};
 use dr_base_quoted::put_in_quotes;
-use dr_plan_model::{Listens, Stations, Values};
-use dr_route::{Callers, Pattern, StationPattern, StationValues};
+use dr_plan_model::{Listens, Values};
+use dr_route::{Callers, FieldPattern, FieldValues, Pattern};
 use std::alloc::{AllocError, Global};
 
 const STAR: u8 = 42;
@@ -79,18 +79,14 @@ fn with_star(alloc: Global, prefix: &Text) -> Result<Text, AllocError>
     Ok(Text::from_vec(bytes))
 }
 
-/// Adds what a rule asks of the station.
-pub fn add_station(
-    alloc: Global,
-    out: &mut Vec<u8>,
-    pattern: &StationPattern,
-) -> Result<(), AllocError>
-    ensures { OnOk result (out.new.items ≡ out.old.items ++ station_text pattern.now) }
+/// Adds what a rule asks of the modality or of the station.
+pub fn add_field(alloc: Global, out: &mut Vec<u8>, pattern: &FieldPattern) -> Result<(), AllocError>
+    ensures { OnOk result (out.new.items ≡ out.old.items ++ field_text pattern.now) }
 {
     match pattern {
-        StationPattern::Any => out.extend_from_slice(ANY),
-        StationPattern::Literal(literal) => put_in_quotes(out, literal),
-        StationPattern::Prefix(prefix) => {
+        FieldPattern::Any => out.extend_from_slice(ANY),
+        FieldPattern::Literal(literal) => put_in_quotes(out, literal),
+        FieldPattern::Prefix(prefix) => {
             let text = with_star(alloc, prefix)?;
             put_in_quotes(out, &text)
         }
@@ -107,16 +103,6 @@ pub fn add_callers(alloc: Global, out: &mut Vec<u8>, callers: &Callers) -> Resul
     }
 }
 
-/// Adds the modalities of a flow.
-pub fn add_values(alloc: Global, out: &mut Vec<u8>, values: &Values) -> Result<(), AllocError>
-    ensures { OnOk result (out.new.items ≡ out.old.items ++ values_text values.now) }
-{
-    match values {
-        Values::Any => out.extend_from_slice(ANY),
-        Values::Listed(texts) => add_list(alloc, out, texts.as_slice()),
-    }
-}
-
 /// Adds prefixes with the asterisk behind each.
 fn add_starred(alloc: Global, out: &mut Vec<Text>, prefixes: &[Text]) -> Result<(), AllocError>
     ensures { OnOk result (out.new.items ≡ out.old.items ++ map starred prefixes.now) }
@@ -127,8 +113,8 @@ fn add_starred(alloc: Global, out: &mut Vec<Text>, prefixes: &[Text]) -> Result<
     Ok(())
 }
 
-/// The stations that are named, as they are written: the values, and then the prefixes.
-fn written(alloc: Global, named: &StationValues) -> Result<Seq<Text>, AllocError>
+/// What is named, as it is written: the values, and then the prefixes.
+fn written(alloc: Global, named: &FieldValues) -> Result<Seq<Text>, AllocError>
     ensures { IfOk result (λ texts. texts ≡ named.now.literals ++ map starred named.now.prefixes) }
 {
     let mut texts = copy_of(alloc, named.literals.as_slice())?.into_vec();
@@ -136,13 +122,13 @@ fn written(alloc: Global, named: &StationValues) -> Result<Seq<Text>, AllocError
     Ok(Seq::from_vec(texts))
 }
 
-/// Adds the stations of a flow.
-pub fn add_stations(alloc: Global, out: &mut Vec<u8>, stations: &Stations) -> Result<(), AllocError>
-    ensures { OnOk result (out.new.items ≡ out.old.items ++ stations_text stations.now) }
+/// Adds the modalities or the stations of a flow.
+pub fn add_values(alloc: Global, out: &mut Vec<u8>, values: &Values) -> Result<(), AllocError>
+    ensures { OnOk result (out.new.items ≡ out.old.items ++ values_text values.now) }
 {
-    match stations {
-        Stations::Any => out.extend_from_slice(ANY),
-        Stations::Listed(named) => {
+    match values {
+        Values::Any => out.extend_from_slice(ANY),
+        Values::Listed(named) => {
             let texts = written(alloc, named)?;
             add_list(alloc, out, texts.as_slice())
         }

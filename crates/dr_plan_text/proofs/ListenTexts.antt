@@ -19,7 +19,7 @@ use Rattle.dr_plan_text.specs.declared.words.PlanText.{PlanText}
 use Rattle.dr_plan_text.specs.Fields.{SaysTable, ListsValues, IsListOf, GivenOr}
 use Rattle.dr_plan_text.specs.Listening.{IsListens}
 use Rattle.dr_plan_text.specs.Tables.{IsAcceptTable, IsNodeTable, IsRoot, Writes}
-use Rattle.dr_plan_text.specs.Laws.{NowhereIsWritten, NowhereIsOfFormatThree, BindIsWritten, BindIsOfFormatThree, BindNeedsAddress, NowhereHasNoAddress, NowhereAcceptsNothing, second_format, third_format, nowhere_text, written_nowhere, bound_text, written_bound, accept_text}
+use Rattle.dr_plan_text.specs.Laws.{NowhereIsWritten, NowhereIsOfFormatThree, BindIsWritten, BindIsOfFormatThree, BindNeedsAddress, NowhereHasNoAddress, NowhereHasNoRow, second_format, third_format, nowhere_text, written_nowhere, bound_text, written_bound, accept_text}
 use Rattle.dr_plan_text.proofs.OfValues.{SaysFormat-one}
 use Rattle.dr_plan_text.proofs.OnePlan.{nodes_one}
 use Rattle.dr_plan_text.proofs.SmallTexts.{RulesFit, FlowFits, ListensOf, address_is, the_tree, the_node, unaddressed}
@@ -224,7 +224,7 @@ unfolding accepting_members
 nothing_accepted Nowhere rows is says may = some_listed (SaysTable IsAcceptTable) (table row_members) no_items rows says may
 nothing_accepted (At address bind) rows is says may = none-some (boolean false) (sym is.0)
 
-pub nowhere_accepts : NowhereAcceptsNothing
+pub nowhere_accepts : NowhereHasNoRow
 nowhere_accepts = λ plan w.
     let node = lone _ accepting_members plan accepting_parsed w in
     nothing_accepted node.0.listens node.0.accepts node.1.listens node.1.accept node.1.may_accept

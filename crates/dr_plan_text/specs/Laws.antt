@@ -267,5 +267,5 @@ abbrev pub accept_text : Text
 accept_text = codes "[[node.accept]]\nfrom = \"*\"\nclass = \"1\"\nsyntax = [\"1\"]\n"
 
 -- nor one with a node that listens nowhere and has an accept row
-abbrev pub NowhereAcceptsNothing : Type 0
-NowhereAcceptsNothing = WritesNone (third_format ++ nowhere_text ++ accept_text)
+abbrev pub NowhereHasNoRow : Type 0
+NowhereHasNoRow = WritesNone (third_format ++ nowhere_text ++ accept_text)

@@ -9,7 +9,7 @@ ghost use Rattle.dr_plan_text.specs.Laws.{RuleModalityIsWritten, RuleModalityIsO
 ghost use Rattle.dr_plan_text.specs.Laws.{FlowModalityIsWritten, FlowModalityIsOfFormatThree};
 ghost use Rattle.dr_plan_text.specs.Laws.{NowhereIsWritten, NowhereIsOfFormatThree, BindIsWritten};
 ghost use Rattle.dr_plan_text.specs.Laws.{BindIsOfFormatThree, BindNeedsAddress};
-ghost use Rattle.dr_plan_text.specs.Laws.{NowhereHasNoAddress, NowhereAcceptsNothing};
+ghost use Rattle.dr_plan_text.specs.Laws.{NowhereHasNoAddress, NowhereHasNoRow};
 
 /// A text writes one plan at most.
 pub fn a_text_writes_one_plan()
@@ -68,5 +68,5 @@ pub fn nodes_listen_elsewhere_in_format_3()
     ensures bind_of_2 { BindIsOfFormatThree }
     ensures no_address { BindNeedsAddress }
     ensures addressed { NowhereHasNoAddress }
-    ensures accepts { NowhereAcceptsNothing }
+    ensures accepts { NowhereHasNoRow }
 {}
