@@ -1,80 +1,9 @@
 //! Copies of lines of a journal.
 ghost use Rattle.std.specs.Prelude.{◌≡◌, IfOk, drop, take};
-ghost use Rattle.dr_ledger_history.specs.declared.line.JournalLine.TheVariants as told;
 
 use crate::line::JournalLine;
-use dr_base::{Seq, Text};
-use dr_ledger::{Instance, Outcome};
-use dr_route::copies::copy_names;
+use dr_base::Seq;
 use std::alloc::{AllocError, Global};
-
-fn copy_arrival(
-    caller: &Text,
-    instance: &Instance,
-    to: &Seq<Text>,
-    keep: bool,
-) -> Result<JournalLine, AllocError>
-    ensures { IfOk result (λ copy. copy ≡ told.Arrival caller.now instance.now to.now keep) }
-{
-    let caller = caller.clone()?;
-    let instance = instance.copy()?;
-    let to = copy_names(to)?;
-    Ok(JournalLine::Arrival {
-        caller,
-        instance,
-        to,
-        keep,
-    })
-}
-
-fn copy_repeat(caller: &Text, instance: &Instance) -> Result<JournalLine, AllocError>
-    ensures { IfOk result (λ copy. copy ≡ told.Repeat caller.now instance.now) }
-{
-    let caller = caller.clone()?;
-    let instance = instance.copy()?;
-    Ok(JournalLine::Repeat { caller, instance })
-}
-
-fn copy_settling(
-    uid: &Text,
-    dest: &Text,
-    outcome: Outcome,
-    now: u64,
-) -> Result<JournalLine, AllocError>
-    ensures { IfOk result (λ copy. copy ≡ told.Settling uid.now dest.now outcome now) }
-{
-    let uid = uid.clone()?;
-    let dest = dest.clone()?;
-    Ok(JournalLine::Settling {
-        uid,
-        dest,
-        outcome,
-        now,
-    })
-}
-
-fn copy_requeuing(uid: &Text, dest: &Text) -> Result<JournalLine, AllocError>
-    ensures { IfOk result (λ copy. copy ≡ told.Requeuing uid.now dest.now) }
-{
-    let uid = uid.clone()?;
-    let dest = dest.clone()?;
-    Ok(JournalLine::Requeuing { uid, dest })
-}
-
-fn copy_dropping(uid: &Text, dest: &Text, now: u64) -> Result<JournalLine, AllocError>
-    ensures { IfOk result (λ copy. copy ≡ told.Dropping uid.now dest.now now) }
-{
-    let uid = uid.clone()?;
-    let dest = dest.clone()?;
-    Ok(JournalLine::Dropping { uid, dest, now })
-}
-
-fn copy_forgetting(uid: &Text) -> Result<JournalLine, AllocError>
-    ensures { IfOk result (λ copy. copy ≡ told.Forgetting uid.now) }
-{
-    let uid = uid.clone()?;
-    Ok(JournalLine::Forgetting { uid })
-}
 
 /// An equal line.
 pub fn copy_line(line: &JournalLine) -> Result<JournalLine, AllocError>
@@ -86,17 +15,37 @@ pub fn copy_line(line: &JournalLine) -> Result<JournalLine, AllocError>
             instance,
             to,
             keep,
-        } => copy_arrival(caller, instance, to, *keep),
-        JournalLine::Repeat { caller, instance } => copy_repeat(caller, instance),
+        } => Ok(JournalLine::Arrival {
+            caller: caller.clone()?,
+            instance: instance.copy()?,
+            to: to.clone()?,
+            keep: *keep,
+        }),
+        JournalLine::Repeat { caller, instance } => Ok(JournalLine::Repeat {
+            caller: caller.clone()?,
+            instance: instance.copy()?,
+        }),
         JournalLine::Settling {
             uid,
             dest,
             outcome,
             now,
-        } => copy_settling(uid, dest, *outcome, *now),
-        JournalLine::Requeuing { uid, dest } => copy_requeuing(uid, dest),
-        JournalLine::Dropping { uid, dest, now } => copy_dropping(uid, dest, *now),
-        JournalLine::Forgetting { uid } => copy_forgetting(uid),
+        } => Ok(JournalLine::Settling {
+            uid: uid.clone()?,
+            dest: dest.clone()?,
+            outcome: *outcome,
+            now: *now,
+        }),
+        JournalLine::Requeuing { uid, dest } => Ok(JournalLine::Requeuing {
+            uid: uid.clone()?,
+            dest: dest.clone()?,
+        }),
+        JournalLine::Dropping { uid, dest, now } => Ok(JournalLine::Dropping {
+            uid: uid.clone()?,
+            dest: dest.clone()?,
+            now: *now,
+        }),
+        JournalLine::Forgetting { uid } => Ok(JournalLine::Forgetting { uid: uid.clone()? }),
         JournalLine::Adoption => Ok(JournalLine::Adoption),
     }
 }
