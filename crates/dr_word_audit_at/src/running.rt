@@ -33,7 +33,7 @@ enum NodesStopped<'a> {
     Halted(Halted<'a>),
     /// At the node of that name, or on the way to it.
     Asking(AskFault, Text),
-    /// Two addresses are of one node.
+    /// Two addresses are of one node, or one is of a node that is named as another maker's.
     Twice(Text),
     Memory,
 }
@@ -89,14 +89,14 @@ fn addresses_of(alloc: Global, words: &[&str]) -> Result<Addresses, AllocError> 
     Ok(all)
 }
 
-/// The first name that stands there twice.
-fn twice_in(names: &[Text]) -> Option<&Text> {
+/// The first of these names that stands there once more, or among the others.
+fn twice_in<'x>(names: &'x [Text], others: &[Text]) -> Option<&'x Text> {
     let mut rest = names;
     for name in names {
         let [_name, more @ ..] = rest else {
             return None;
         };
-        if is_among(more, name) {
+        if is_among(more, name) || is_among(others, name) {
             return Some(name);
         }
         rest = more;
@@ -104,14 +104,21 @@ fn twice_in(names: &[Text]) -> Option<&Text> {
     None
 }
 
-/// Whether the names are of nodes of the plan, each of another one.
+/// Whether all of the names are of nodes of the plan.
 ///
-/// Errors: NoNode, Twice, Memory.
-fn test_names<'a>(plan: &Plan, names: &[Text]) -> Result<(), NodesStopped<'a>> {
-    if let Some(name) = stranger_in(plan, names) {
-        return Err(NodesStopped::Halted(Halted::at(name, Halt::NoNode)));
+/// Errors: NoNode, Memory.
+fn test_known<'a>(plan: &Plan, names: &[Text]) -> Result<(), NodesStopped<'a>> {
+    match stranger_in(plan, names) {
+        Some(name) => Err(NodesStopped::Halted(Halted::at(name, Halt::NoNode))),
+        None => Ok(()),
     }
-    match twice_in(names) {
+}
+
+/// Whether each of the nodes is named once, and none is among the others.
+///
+/// Errors: Twice, Memory.
+fn test_once<'a>(names: &[Text], others: &[Text]) -> Result<(), NodesStopped<'a>> {
+    match twice_in(names, others) {
         Some(name) => Err(NodesStopped::Twice(name.clone()?)),
         None => Ok(()),
     }
@@ -339,8 +346,9 @@ fn audit_sealed<'a, N: Network, C: Clock>(
 ) -> Result<Audited, NodesStopped<'a>> {
     let others = texts_of(alloc, given.others.as_slice())?;
     let addresses = addresses_of(alloc, given.running.as_slice())?;
-    test_names(sealed.plan(), others.as_slice())?;
-    test_names(sealed.plan(), addresses.names.as_slice())?;
+    test_known(sealed.plan(), others.as_slice())?;
+    test_known(sealed.plan(), addresses.names.as_slice())?;
+    test_once(addresses.names.as_slice(), others.as_slice())?;
     let names = our_names(alloc, sealed.plan(), others.as_slice())?;
     if let Some(name) = lacking(&addresses, names.as_slice()) {
         let text = short_line(alloc, b"A7 NoAddress", name)?;
