@@ -36,11 +36,13 @@ _dr_router() {
             mapfile -t COMPREPLY < <(compgen -W "$(_dr_router_nodes "$plan")" -- "$current") ;;
         "check 2" | "expand 2" | "import 2" | "verify "[23] | "route "[235] | "graph "[23] | "lint "[23] | "expect "[234] | "diff "[2345] | "simulate "[234] | "echo 2" | "new "[235] | "serve "[235] | "send "[2356] | "list "[235] | "requeue "[235] | "drop "[235] | "forget "[235] | "visit "[23] | "stop "[23] | "adopt "[2345] | "audit "[23])
             mapfile -t COMPREPLY < <(compgen -f -- "$current") ;;
-        "audit "[68] | "audit 1"[02468])
-            local IFS=$'\n'
-            mapfile -t COMPREPLY < <(compgen -W "$(_dr_router_nodes "$plan")" -- "$current") ;;
-        "audit "[579] | "audit 1"[13579])
-            mapfile -t COMPREPLY < <(compgen -W "--other" -- "$current") ;;
+        "audit "[5-9] | "audit "[1-9][0-9])
+            local IFS=$'\n' before=${COMP_WORDS[COMP_CWORD - 1]}
+            if [ "$before" = "--other" ] || [ "$before" = "--at" ]; then
+                mapfile -t COMPREPLY < <(compgen -W "$(_dr_router_nodes "$plan")" -- "$current")
+            else
+                mapfile -t COMPREPLY < <(compgen -W "--other"$'\n'"--at"$'\n'"--token" -- "$current")
+            fi ;;
         "adopt 6" | "audit 4")
             mapfile -t COMPREPLY < <(compgen -d -- "$current") ;;
         "serve 6" | "serve 8" | "serve 1"[02468])

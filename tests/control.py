@@ -15,6 +15,7 @@ import os
 import random
 import re
 import socket
+import sqlite3
 import subprocess
 import sys
 import threading
@@ -153,6 +154,70 @@ def reads():
         same(sorted(set(names)), sorted(names))
         same({re.match('[a-z_]+', line)[0] for line in figures.splitlines() if line[0] != '#'} - set(names), set())
         stop(node.process)
+
+
+def line_told(ledger, row):
+    """The line of a row of a ledger's journal, as a node tells it."""
+    n, kind, caller, uid, dest, outcome, moment, *key, length, digest = row
+    kinds = 'arrival', 'repeat', 'settling', 'requeuing', 'adoption', 'forgetting', 'dropping'
+    line = {'line': n, 'kind': kinds[kind]}
+    if kind in (0, 1):
+        uids = {'I': '1.2.840.10008.1.2', 'E': '1.2.840.10008.1.2.1'}
+        of, syntax, modality, station = key
+        line |= {'caller': caller, 'uid': uid, 'class': of, 'syntax': uids[syntax], 'modality': modality.decode('latin-1'),
+                 'station': station.decode('latin-1'), 'length': length, 'sha256': digest.hex()}
+    if kind == 0:
+        goals = [dest for dest, in ledger.execute('SELECT dest FROM target WHERE n = ? ORDER BY dest', (n,))]
+        line |= {'to': [dest for dest in goals if dest != '-'], 'keep': '-' in goals}
+    if kind in (2, 3, 6):
+        line |= {'uid': uid, 'dest': dest}
+    if kind == 2:
+        line |= {'outcome': 'broken' if outcome is None else 'no-context' if outcome < 0 else f'{outcome:04X}'}
+    if kind in (2, 6):
+        line |= {'moment': moment}
+    return line | ({'uid': uid} if kind == 5 else {})
+
+
+def journal_in(room, node):
+    """The journal in a node's file, as the node tells it."""
+    with sqlite3.connect(f'{room.folder}/{node}.db') as ledger:
+        rows = ledger.execute('SELECT n, kind, caller, uid, dest, outcome, moment, class, syntax, modality, station, length, sha256 FROM journal ORDER BY n').fetchall()
+        told_lines = [line_told(ledger, row) for row in rows]
+    ledger.close()
+    return told_lines
+
+
+def journal():
+    """The journal in pages, each line with its number, behind a line that tells whose it is and how many lines there are."""
+    with Room() as room:
+        hold(room, b'1.2.3.4', b'1.2.3.5')
+        node = Asked(room, 'CT1', 0)
+        same(node.act('/drop', uid='1.2.3.4', dest='GATE'), DONE)
+        same(node.act('/requeue', uid='1.2.3.5', dest='GATE'), DONE)
+        head, *whole = node.read('/journal')
+        status = node.read('/status')[0]
+        same(head, {name: status[name] for name in ('node', 'plan', 'lines')})
+        count = head['lines']
+        same([line['line'] for line in whole], list(range(1, count + 1)))
+        for limit in 1, 2, count - 1, count, count + 1, 1_000:
+            read = []
+            while len(read) < count:
+                read += node.read(f'/journal?after={len(read)}&limit={limit}')[1:][:limit]
+            same(read, whole)
+        same(node.read('/journal?after=1&limit=2'), [head, *whole[1:3]])
+        for after in count, count + 1, 2 ** 63 - 1, 2 ** 63, 2 ** 64 - 1:
+            same(node.read(f'/journal?after={after}'), [head])
+        for form in 'limit=0', 'limit=1001', 'limit=', 'limit=01', 'after=', 'after=-1', 'after=01', 'after=x', f'after={2 ** 64}', 'after=1%00':
+            same((form, node.ask('GET', f'/journal?{form}')), (form, (400, '{"fault":"Field"}\n')))
+        same(node.ask('POST', '/journal', {}), (405, '{"fault":"Method"}\n'))
+        same(node.ask('GET', '/journal/'), (404, '{"fault":"Path"}\n'))
+        stop(node.process)
+        same(journal_in(room, 'CT1'), whole)
+        same([line['kind'] for line in whole if line['uid'] == '1.2.3.4'][-1], 'dropping')
+        guarded = Asked(room, 'CT1', 0, '--control-anyone')
+        same(guarded.ask('GET', '/journal'), (401, '{"fault":"Token"}\n'))
+        same(guarded.ask('GET', '/journal', Authorization=f'Bearer {TOKEN}')[0], 200)
+        stop(guarded.process)
 
 
 def page():
@@ -557,12 +622,12 @@ def hostile():
         ended(node.process)
 
 
-def storing(room, callers, seconds, meanwhile=None):
+def storing(room, callers, seconds, meanwhile=None, caller='CT1', called='GATE'):
     """How many images peers store in that time, one association each, while something else is done; each is acknowledged."""
     counts, end = [0] * callers, [time.monotonic() + seconds]
 
     def store(peer):
-        with Requestor(room.ports['GATE'], 'CT1', 'GATE') as link:
+        with Requestor(room.ports[called], caller, called) as link:
             while time.monotonic() < end[0]:
                 uid = f'1.2.{os.getpid()}.{peer}.{time.monotonic_ns()}'.encode()
                 same(link.store(uid, data_set(uid)), 0)
@@ -666,7 +731,7 @@ def main():
         return attack(*map(int, sys.argv[2:]))
     if sys.argv[1:] == ['--more']:
         return run_cases('control --more', flood_of_20_000)
-    return run_cases('control', reads, page, acts, orders, hurried, forms, associations, responses, refusals, places, hostile, flood)
+    return run_cases('control', reads, journal, page, acts, orders, hurried, forms, associations, responses, refusals, places, hostile, flood)
 
 
 if __name__ == '__main__':

@@ -1,5 +1,5 @@
 //! What is asked of a ledger without a list of all that it has: counts, the first moment at which a
-//! row is due, rows in pages, and who brought an instance.
+//! row is due, rows and lines of the journal in pages, and who brought an instance.
 //!
 //! What is shown of the book is said in `specs/Views.antt`. The trait `Views` stands beside
 //! `LetsGo`. In a list whose keys rise, what is of a key is found by a search (`table`).

@@ -1,5 +1,5 @@
 -- What a node that runs is asked and told, and the bytes of the requests.
-use Rattle.std.specs.Prelude.{Bool, List, [], ◌∷◌, ◌++◌, codes, decimal}
+use Rattle.std.specs.Prelude.{ℕ, Bool, List, [], ◌∷◌, ◌++◌, codes, decimal}
 use Rattle.std.specs.Prelude.{length}
 use Rattle.std.specs.Prelude.{Option, None, Some, option_map, if◌then◌else◌}
 use Rattle.form_urlencoded.specs.Form.{extend_pairs}
@@ -10,14 +10,15 @@ use Rattle.dr_run_request.specs.Asking as asked
 use Rattle.dr_run_request.specs.declared.route.Route.{Route}
 use Rattle.dr_run_request.specs.declared.route.Route.TheVariants as routes
 use Rattle.dr_run_ask.specs.declared.call.HttpCall.{HttpCall}
-use Rattle.dr_run_ask.specs.declared.call.HttpCall.TheVariants.{Status, Rows, Requeue, GiveUp}
-use Rattle.dr_run_ask.specs.declared.call.HttpCall.TheVariants.{Forget}
+use Rattle.dr_run_ask.specs.declared.call.HttpCall.TheVariants.{Status, Rows, Journal, Requeue}
+use Rattle.dr_run_ask.specs.declared.call.HttpCall.TheVariants.{GiveUp, Forget}
 use Rattle.dr_run_ask.specs.declared.call.HttpCall.TheVariants.{Visit, Stop}
 
 -- what it means at the node
 abbrev pub route_of : HttpCall → Route
 route_of Status = routes.Status
 route_of (Rows form) = routes.Rows
+route_of (Journal form) = routes.Journal
 route_of (Requeue form) = routes.Requeue
 route_of (GiveUp form) = routes.GiveUp
 route_of (Forget form) = routes.Forget
@@ -35,6 +36,7 @@ is_act call = asked.is_act (route_of call)
 abbrev pub form_of : HttpCall → Text
 form_of Status = []
 form_of (Rows form) = form.now
+form_of (Journal form) = form.now
 form_of (Requeue form) = form.now
 form_of (GiveUp form) = form.now
 form_of (Forget form) = form.now
@@ -63,6 +65,10 @@ uid_form uid = extend_pairs [] ((codes "uid", uid) ∷ [])
 
 abbrev pub rows_form : Text → Text → Text
 rows_form dest after = extend_pairs [] ((codes "dest", dest) ∷ (codes "after", after) ∷ [])
+
+-- the form of the lines of a journal behind a number
+abbrev pub journal_form : ℕ → Text
+journal_form after = extend_pairs [] ((codes "after", decimal after) ∷ [])
 
 -- the form stands behind the path of what is asked, and in the body of what is told
 abbrev pub query_of : Text → Text

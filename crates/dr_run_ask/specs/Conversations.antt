@@ -13,7 +13,8 @@ use Rattle.dr_run_ask.specs.declared.fault.AskFault.TheVariants.{NoConnection, N
 use Rattle.dr_run_ask.specs.declared.fault.AskFault.TheVariants.{NoNodesAnswer, OtherNode}
 use Rattle.dr_run_ask.specs.declared.fault.AskFault.TheVariants.{OtherPlan, NoRequest, Host}
 use Rattle.dr_run_ask.specs.declared.fault.AskFault.TheVariants.{Unknown, Closed, Token, NoHop}
-use Rattle.dr_run_ask.specs.declared.fault.AskFault.TheVariants.{NotHeld, NotOver, Store, Memory}
+use Rattle.dr_run_ask.specs.declared.fault.AskFault.TheVariants.{Shrunk, NotHeld, NotOver, Store}
+use Rattle.dr_run_ask.specs.declared.fault.AskFault.TheVariants.{Memory}
 
 -- the answer's first line is of the node of that name, and, where it tells the digest of its plan,
 -- of that plan
@@ -52,6 +53,7 @@ name_told Unknown = Some (codes "Path")
 name_told Closed = Some (codes "Closed")
 name_told Token = Some (codes "Token")
 name_told NoHop = Some (codes "Hop")
+name_told Shrunk = None
 name_told NotHeld = Some (codes "G5 NotHeld")
 name_told NotOver = Some (codes "G7 NotOver")
 name_told Store = Some (codes "G3 Store")

@@ -24,6 +24,7 @@ CallsAreRoutes =
     IsOfRoute calls.Status routes.Status
     × IsOfRoute calls.Stop routes.Stop
     × ((form : Bor (List ℕ)) → IsOfRoute (calls.Rows form) routes.Rows)
+    × ((form : Bor (List ℕ)) → IsOfRoute (calls.Journal form) routes.Journal)
     × ((form : Bor (List ℕ)) → IsOfRoute (calls.Requeue form) routes.Requeue)
     × ((form : Bor (List ℕ)) → IsOfRoute (calls.GiveUp form) routes.GiveUp)
     × ((form : Bor (List ℕ)) → IsOfRoute (calls.Forget form) routes.Forget)

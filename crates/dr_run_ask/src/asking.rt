@@ -90,7 +90,7 @@ fn test_plan(value: &Value, digest: &Text) -> Result<(), AskFault>
 /// Whether the answer's first line is of the node that is meant.
 ///
 /// Errors: OtherNode, OtherPlan, NoNodesAnswer, Memory.
-fn judge(alloc: Global, answer: &HttpAnswer, meant: Meant<'_>) -> Result<(), AskFault>
+pub fn judge(alloc: Global, answer: &HttpAnswer, meant: Meant<'_>) -> Result<(), AskFault>
     ensures { IfOk result
         (λ _. IsOf meant.entry.name.now meant.entry.digest.now answer.now.body.items) }
 {

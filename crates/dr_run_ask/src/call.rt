@@ -1,6 +1,7 @@
 //! What a node that runs is asked and told.
 ghost use Rattle.std.specs.Prelude.{◌≡◌, IfOk, string_bytes};
-ghost use Rattle.dr_run_ask.specs.Calls.{dest_form, form_of, is_act, method_of, path_of};
+ghost use Rattle.dr_run_ask.specs.Calls.{dest_form, form_of, is_act, journal_form, method_of};
+ghost use Rattle.dr_run_ask.specs.Calls.{path_of};
 ghost use Rattle.dr_run_ask.specs.Calls.{reason_form, route_of, row_form, rows_form, uid_form};
 
 use dr_run_request::Route;
@@ -15,6 +16,8 @@ pub enum HttpCall<'a> {
     Status,
     /// The rows to a node, behind a UID.
     Rows(&'a str),
+    /// Lines of its journal, behind a number.
+    Journal(&'a str),
     /// To queue held rows again.
     Requeue(&'a str),
     /// To give a held row up.
@@ -35,6 +38,7 @@ impl<'a> HttpCall<'a> {
         match self {
             HttpCall::Status => Route::Status,
             HttpCall::Rows(_) => Route::Rows,
+            HttpCall::Journal(_) => Route::Journal,
             HttpCall::Requeue(_) => Route::Requeue,
             HttpCall::GiveUp(_) => Route::GiveUp,
             HttpCall::Forget(_) => Route::Forget,
@@ -64,7 +68,7 @@ impl<'a> HttpCall<'a> {
         match self {
             HttpCall::Status | HttpCall::Stop => "",
             HttpCall::Rows(form) | HttpCall::Requeue(form) | HttpCall::GiveUp(form) => form,
-            HttpCall::Forget(form) | HttpCall::Visit(form) => form,
+            HttpCall::Forget(form) | HttpCall::Visit(form) | HttpCall::Journal(form) => form,
         }
     }
 
@@ -118,5 +122,16 @@ pub fn rows_form(alloc: Global, dest: &str, after: &str) -> Result<String, Alloc
 {
     let mut form = Serializer::new(String::new(alloc));
     form.extend_pairs(&[("dest", dest), ("after", after)])?;
+    Ok(form.finish())
+}
+
+/// The form of the lines of a journal behind a number.
+pub fn journal_form(alloc: Global, after: u64) -> Result<String, AllocError>
+    ensures { IfOk result (λ form. string_bytes form ≡ journal_form after) }
+{
+    let mut digits = itoa::Buffer::new();
+    let after = digits.format(after);
+    let mut form = Serializer::new(String::new(alloc));
+    form.extend_pairs(&[("after", after)])?;
     Ok(form.finish())
 }

@@ -28,6 +28,8 @@ pub enum AskFault {
     Token,
     /// The node sends nothing to the one that it is to visit.
     NoHop,
+    /// The node's journal has fewer lines than it told before.
+    Shrunk,
     /// The row isn't held.
     NotHeld,
     /// The instance isn't over.
@@ -64,6 +66,7 @@ impl AskFault {
             AskFault::Closed => "H9 Closed",
             AskFault::Token => "H10 Token",
             AskFault::NoHop => "H11 NoHop",
+            AskFault::Shrunk => "H12 Shrunk",
             AskFault::NotHeld => "G5 NotHeld",
             AskFault::NotOver => "G7 NotOver",
             AskFault::Store => "G3 Store",

@@ -49,6 +49,7 @@ gives_order route.Page = false
 gives_order route.Status = false
 gives_order route.Rows = false
 gives_order route.Instance = false
+gives_order route.Journal = false
 gives_order route.Metrics = false
 gives_order route.Health = false
 gives_order route.Requeue = true

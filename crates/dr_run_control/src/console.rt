@@ -155,8 +155,8 @@ fn gives_order(route: Route) -> bool
 {
     match route {
         Route::Requeue | Route::GiveUp | Route::Forget | Route::Visit => true,
-        Route::Page | Route::Status | Route::Rows | Route::Instance | Route::Metrics => false,
-        Route::Health | Route::Stop => false,
+        Route::Page | Route::Status | Route::Rows | Route::Instance | Route::Journal => false,
+        Route::Metrics | Route::Health | Route::Stop => false,
     }
 }
 
@@ -199,6 +199,7 @@ impl<'a, R: Wait, L: Views, B: Sharing, C: Clock, H: House> Console<'a, R, L, B,
             Route::Page => node.read_page(since, self.browser),
             Route::Rows => node.clerk.read_rows(query_of(request)),
             Route::Instance => node.clerk.read_instance(request.uri().path()),
+            Route::Journal => node.clerk.read_journal(query_of(request)),
             Route::Status => node.read_status(ServingSince { version, since }),
             Route::Metrics => node.read_figures(),
             Route::Stop => {

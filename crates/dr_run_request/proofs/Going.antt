@@ -11,6 +11,7 @@ only_instance route.Page goes = absurd (false≢true goes)
 only_instance route.Status goes = absurd (false≢true goes)
 only_instance route.Rows goes = absurd (false≢true goes)
 only_instance route.Instance goes = refl
+only_instance route.Journal goes = absurd (false≢true goes)
 only_instance route.Metrics goes = absurd (false≢true goes)
 only_instance route.Health goes = absurd (false≢true goes)
 only_instance route.Requeue goes = absurd (false≢true goes)

@@ -15,8 +15,8 @@ use Rattle.dr_run_request.specs.declared.admission.Refused.TheVariants as refuse
 use Rattle.dr_run_request.specs.declared.browser.Browser.{Browser}
 use Rattle.dr_run_request.specs.declared.route.Route.{Route}
 use Rattle.dr_run_request.specs.declared.route.Route.TheVariants.{Page, Status, Rows, Instance}
-use Rattle.dr_run_request.specs.declared.route.Route.TheVariants.{Metrics, Health, Requeue, GiveUp}
-use Rattle.dr_run_request.specs.declared.route.Route.TheVariants.{Forget, Visit, Stop}
+use Rattle.dr_run_request.specs.declared.route.Route.TheVariants.{Journal, Metrics, Health, Requeue}
+use Rattle.dr_run_request.specs.declared.route.Route.TheVariants.{GiveUp, Forget, Visit, Stop}
 
 -- the path of a route; of an instance, what stands before its UID
 abbrev pub path_of : Route → Text
@@ -24,6 +24,7 @@ path_of Page = codes "/"
 path_of Status = codes "/status"
 path_of Rows = codes "/rows"
 path_of Instance = codes "/instance/"
+path_of Journal = codes "/journal"
 path_of Metrics = codes "/metrics"
 path_of Health = codes "/health"
 path_of Requeue = codes "/requeue"
@@ -38,6 +39,7 @@ is_act Page = false
 is_act Status = false
 is_act Rows = false
 is_act Instance = false
+is_act Journal = false
 is_act Metrics = false
 is_act Health = false
 is_act Requeue = true
@@ -52,6 +54,7 @@ goes_on Page = false
 goes_on Status = false
 goes_on Rows = false
 goes_on Instance = true
+goes_on Journal = false
 goes_on Metrics = false
 goes_on Health = false
 goes_on Requeue = false

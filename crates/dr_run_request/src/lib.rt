@@ -11,6 +11,7 @@ mod admission;
 mod browser;
 mod form;
 pub mod laws;
+mod lines;
 mod order;
 mod route;
 mod token;
@@ -18,6 +19,7 @@ mod wanted;
 
 pub use admission::{Access, Refused, admit};
 pub use browser::Browser;
+pub use lines::{LinesWanted, lines_wanted_of};
 pub use order::{Order, order_of};
 pub use route::Route;
 pub use wanted::{

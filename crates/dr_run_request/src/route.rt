@@ -4,7 +4,7 @@ ghost use Rattle.dr_run_request.specs.Asking.{IsAt, goes_on, is_act, method_of, 
 ghost use Rattle.dr_run_request.specs.declared.route.Route.{Route as RouteValue};
 ghost use Rattle.dr_run_request.specs.declared.route.Route.TheVariants as RouteValues;
 
-/// What may be asked of a running node: six things to read, and five acts.
+/// What may be asked of a running node: seven things to read, and five acts.
 #[derive(Clone, Copy, PartialEq, Eq)]
 pub enum Route {
     /// The page for people.
@@ -15,6 +15,8 @@ pub enum Route {
     Rows,
     /// The rows of an instance.
     Instance,
+    /// Lines of its journal.
+    Journal,
     /// Its figures, for Prometheus.
     Metrics,
     /// Whether it is well.
@@ -38,7 +40,7 @@ impl Route {
     {
         match self {
             Route::Page | Route::Status | Route::Rows | Route::Instance => false,
-            Route::Metrics | Route::Health => false,
+            Route::Journal | Route::Metrics | Route::Health => false,
             Route::Requeue | Route::GiveUp | Route::Forget | Route::Visit | Route::Stop => true,
         }
     }
@@ -52,6 +54,7 @@ impl Route {
             Route::Status => "/status",
             Route::Rows => "/rows",
             Route::Instance => "/instance/",
+            Route::Journal => "/journal",
             Route::Metrics => "/metrics",
             Route::Health => "/health",
             Route::Requeue => "/requeue",
@@ -116,6 +119,9 @@ fn reading_at(path: &str) -> Option<Route>
     }
     if is_at(Route::Instance, path) {
         return Some(Route::Instance);
+    }
+    if is_at(Route::Journal, path) {
+        return Some(Route::Journal);
     }
     if is_at(Route::Metrics, path) {
         return Some(Route::Metrics);

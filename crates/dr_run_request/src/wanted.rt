@@ -205,7 +205,7 @@ fn limit_of(word: &[u8]) -> Result<u32, FormFault>
 /// How many rows a form asks for: a whole page where it names no number.
 ///
 /// Errors: Field where it names what is no number from 1 to 1,000.
-fn limit_in(word: &Option<Text>) -> Result<u32, FormFault>
+pub(crate) fn limit_in(word: &Option<Text>) -> Result<u32, FormFault>
     ensures { MatchResult result
         (LimitOf word.now)
         (λ why. (why ≡ fault.Field) × ((n : ℕ) → LimitOf word.now n → ⊥)) }

@@ -21,6 +21,7 @@ abbrev pub status_of : AskFault → Ending
 status_of faults.NoConnection = ends.InputOutput
 status_of faults.NoAnswer = ends.InputOutput
 status_of faults.NoNodesAnswer = ends.InputOutput
+status_of faults.Shrunk = ends.Refused
 status_of faults.OtherNode = ends.Refused
 status_of faults.OtherPlan = ends.Refused
 status_of faults.NoRequest = ends.Refused

@@ -11,4 +11,6 @@ mod listing;
 mod running;
 mod shown;
 
-pub use running::{Way, ask_files};
+pub use caller::Caller;
+pub use running::{Way, ask_files, digest_of, status_of, token_at};
+pub use shown::{number_in, text_in};

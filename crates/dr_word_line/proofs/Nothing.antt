@@ -99,6 +99,7 @@ module _ (words : List (Bor (List ℕ)))
   nothing_asked (asks.Adopt change) h = adopt change h
   nothing_asked (asks.Audit given) h = audit given h
   nothing_asked (asks.AuditAmong given others) h = absurd h
+  nothing_asked (asks.AuditRunning given) h = absurd h
   nothing_asked (asks.Rehearse change) h = absurd h
   nothing_asked asks.CheckInputAsJson h = absurd h
   nothing_asked (asks.CheckFileAsJson plan) h = absurd h

@@ -240,6 +240,7 @@ module _ (words : List Word) where
       subst (Means (asks.Audit given)) (sym h.1)
       (subst (λ n. of_four n given.plan given.certificate given.folder ≡ asks.Audit given) (sym h.2) refl)
   is_meant (asks.AuditAmong given others) h = absurd h
+  is_meant (asks.AuditRunning given) h = absurd h
   is_meant (asks.Rehearse change) h = absurd h
   is_meant asks.CheckInputAsJson h = absurd h
   is_meant (asks.CheckFileAsJson plan) h = absurd h

@@ -23,6 +23,7 @@ pub(crate) enum Choice {
     IfHeld,
     At,
     AtNeeded,
+    AtEach,
     AtToken,
     Row,
     Dest,
@@ -65,6 +66,7 @@ impl<'a> Makes<Arg<'a>> for Choice {
             Choice::IfHeld => if_held(alloc),
             Choice::At => Ok(at(alloc)),
             Choice::AtNeeded => Ok(at(alloc).required(true)),
+            Choice::AtEach => Ok(at_each(alloc)),
             Choice::AtToken => at_token(alloc),
             Choice::Row => row(alloc),
             Choice::Dest => Ok(dest(alloc)),
@@ -182,6 +184,16 @@ fn at<'a>(alloc: Global) -> Arg<'a> {
         .action(ArgAction::Set)
         .value_name("HOST:PORT")
         .help("in the place of DB: asks the node that runs, by its control connection there")
+}
+
+/// Where nodes that run are asked.
+fn at_each<'a>(alloc: Global) -> Arg<'a> {
+    Arg::new(alloc, "AT")
+        .long("at")
+        .action(ArgAction::Append)
+        .value_name("NAME=HOST:PORT")
+        .allow_hyphen_values(true)
+        .help("in the place of DIR: the node that runs, and its control connection; once for each")
 }
 
 /// The token that a node that runs asks for.

@@ -1,6 +1,7 @@
 //! The command line as clap knows it: its words in their order.
 use crate::node_words::{
-    adopt, audit, forget, give_up, list, make_ledger, requeue, send, serve, stop, visit,
+    adopt, audit, audit_running, forget, give_up, list, make_ledger, requeue, send, serve, stop,
+    visit,
 };
 use crate::parts::{LEDGER, Makes, RUNNING, add_all};
 use crate::plan_words::{
@@ -118,6 +119,7 @@ const RUNNING_VERBS: &[Running] = &[
     Running(Verb::Forget),
     Running(Verb::Visit),
     Running(Verb::Stop),
+    Running(Verb::Audit),
 ];
 
 impl<'a> Makes<Command<'a>> for Running {
@@ -127,6 +129,7 @@ impl<'a> Makes<Command<'a>> for Running {
             Verb::Requeue => requeue(alloc, RUNNING),
             Verb::Drop => give_up(alloc, RUNNING),
             Verb::Forget => forget(alloc, RUNNING),
+            Verb::Audit => audit_running(alloc),
             other => other.make(alloc),
         }
     }

@@ -202,6 +202,18 @@ pub enum Errand<'a> {
     Stop,
 }
 
+/// All nodes of a plan, of which some run: the paths of the plan and its certificate, the names of
+/// those that run, each with the address of its control connection behind a `=`, the names of those
+/// that are of other makers, and the path of the token.
+#[derive(Drop)]
+pub struct RunningNodes<'a> {
+    pub plan: &'a str,
+    pub certificate: &'a str,
+    pub running: Vec<&'a str>,
+    pub others: Vec<&'a str>,
+    pub token: Option<&'a str>,
+}
+
 /// What the words ask for.
 #[derive(Drop)]
 pub enum Task<'a> {
@@ -246,6 +258,8 @@ pub enum Task<'a> {
     Audit(SiteFiles<'a>),
     /// The same of all nodes but those of these names, which are of other makers.
     AuditAmong(SiteFiles<'a>, Vec<&'a str>),
+    /// To audit the journals of nodes that run.
+    AuditRunning(RunningNodes<'a>),
     /// Help, or nothing that the program knows.
     Told(Error),
 }
