@@ -152,7 +152,7 @@ only_then w v u number next name first later keeps = record {
       omega (arith, a, b));
 }
 
-are_kept :
+pub are_kept :
     (w : World) (name : Text) (number : Option ℕ) (came : Came) (acts : List Act) (next : Option ℕ)
     → AreActs w name number came acts next
     → Keeps number next
