@@ -18,7 +18,7 @@ use Rattle.dr_session.specs.Ends.{accepting, requesting}
 use Rattle.dr_ledger.proofs.Maps.{get_other, same_or_not, texts, ties_itself}
 use Rattle.dr_session.specs.declared.ends.Input.{Input}
 use Rattle.dr_session.specs.declared.ends.Input.TheVariants as input
-use Rattle.dr_world_model.specs.Worlds.{Link, World, start}
+use Rattle.dr_world_model.specs.Worlds.{Link, World, same_text, start}
 use Rattle.dr_world_model.specs.Worlds.{Stage, Asking, Answering, Rejecting, Open, Storing}
 use Rattle.dr_world_model.specs.Worlds.{Replying, Gone}
 use Rattle.dr_world_model.specs.Steps.{IsLink, NoneIsPending, pending}
@@ -46,9 +46,10 @@ use Rattle.dr_world_tie.specs.ForeignWorlds.{OwnEnd, OwnWorld, with_end, with_do
 use Rattle.dr_world_tie.specs.ForeignWorlds.{OwnStep, Listens, Opens, Hears, Meets}
 use Rattle.dr_world_tie.specs.ForeignWorlds.{Submits, Passes, HearsWhat, MeetsWhat}
 use Rattle.dr_world_tie.specs.ForeignWorlds.{BeginsListening, BeginsCalling, DoesAlone}
-use Rattle.dr_world_tie.specs.ForeignWorlds.{OthersAreNotHere, OursCanListen}
+use Rattle.dr_world_tie.specs.ForeignWorlds.{EndsAreAskedSo, OthersAreNotHere, OursCanListen}
 use Rattle.dr_world_tie.specs.ForeignWorlds.{Forgets, NoneAwaits}
-use Rattle.dr_world_tie.specs.ForeignWorlds.{GivesUp, OwnSteps, PutsBack, Refuses, StaysAway}
+use Rattle.dr_world_tie.specs.ForeignWorlds.{GivesUp, OwnSteps, PutsBack, Refuses, Restarts}
+use Rattle.dr_world_tie.specs.ForeignWorlds.{StaysAway}
 use Rattle.dr_world_tie.specs.ForeignWorlds.{OwnRuns, ShowsBy, ShowsOwn, OwnWorldsKeepTheClaims}
 use Rattle.dr_world_tie.proofs.Foreigners.{acceptors_begin, all_only, all_run, are_kept, only_none}
 use Rattle.dr_world_tie.proofs.Foreigners.{one_input_comes, runs_on}
@@ -58,6 +59,7 @@ use Rattle.dr_world_tie.proofs.LinksToOthers.{what_acceptors_hear, what_requesto
 use Rattle.dr_world_tie.proofs.Nodes.{giving_up_is_drop, refusing_is_refuse}
 use Rattle.dr_world_tie.proofs.Nodes.{requeueing_is_requeue, staying_away_is_stay_away}
 use Rattle.dr_world_tie.proofs.Nodes.{forgetting_is_forget, submitting_takes}
+use Rattle.dr_world_tie.proofs.OwnRestarts.{restart_is_shown, without_is}
 use Rattle.dr_world_tie.proofs.Foreigners.{all_kept, one_link}
 
 -- a number from then on is the one before, or a new one
@@ -716,6 +718,8 @@ module _ (ours : Ours) (plan : Network) (certificate : Certificate) where
     one_step (Refuses node) new h = alone node _ new h (Refuse node) tt
         (subst (λ (d : Desk). HappensAt plan w (Refuse node) node d) (sym h.does)
         (refusing_is_refuse plan w node (b.desks node) h.is_node (shows.desks node h.own)))
+    one_step (Restarts node) new h = as_new new _ h.is
+        (restart_is_shown ours plan certificate b w shows others node h.own)
     one_step (Passes ms) new h = passes ms new h
 
   -- ---- any steps
@@ -773,4 +777,17 @@ others_are_not_here = record {
   listens = λ ours plan certificate b new number node away h. false≢true (sym away ∙ h.own);
   calls = λ ours plan certificate b new number node dest own h. false≢true (sym h.away ∙ own);
   takes = λ ours plan certificate b new node item away h. false≢true (sym away ∙ h.own);
+}
+
+pub ends_are_asked_so : EndsAreAskedSo
+ends_are_asked_so = record {
+  sends = λ ours plan certificate b new number e at accepts h.
+      (let same : h.end ≡ e = same_Some h.end e (sym h.there ∙ at) in
+      let f : Acceptor ≡ Requestor = sym accepts ∙ (ap (λ (z : OwnEnd). z.side) (sym same) ∙ h.may) in
+      cc f);
+  anew = λ ours plan certificate b new node h number e at named.
+      (let was = without_is node (b.ends number) e
+      (sym (ap (λ (z : OwnWorld). z.ends number) h.is) ∙ at) in
+      false≢true (sym was.1
+      ∙ (ap (λ (z : Text). same_text z node) named ∙ ties_itself texts node)));
 }

@@ -27,7 +27,7 @@ use Rattle.dr_session.specs.Ends.{Terminal as End, HearsOf, accepting, requestin
 use Rattle.dr_session.specs.Ledgers.{desk}
 use Rattle.dr_session.specs.Pendings.{pending_of}
 use Rattle.dr_session.specs.Plays.{Reacts, at_moment}
-use Rattle.dr_world_model.specs.Worlds.{Link, World, start}
+use Rattle.dr_world_model.specs.Worlds.{Link, World, same_text, start}
 use Rattle.dr_world_model.specs.Calls.{Answer}
 use Rattle.dr_ledger.specs.Replies.{Reply}
 use Rattle.dr_world_model.specs.Events.{HasNode}
@@ -84,7 +84,13 @@ pub data OwnStep : Type 0 where
   -- a node forgets what is over, where no requestor of it awaits an answer about it
   Forgets : (node : Text) → (uid : Text) → OwnStep
   Refuses : (node : Text) → OwnStep  -- a node's store is to refuse its next line
+  Restarts : (node : Text) → OwnStep  -- a node starts anew, and its links are gone
   Passes : (ms : ℕ) → OwnStep  -- time passes
+
+-- an end of another node stays
+abbrev pub without_node : Text → Option OwnEnd → Option OwnEnd
+without_node node None = None
+without_node node (Some e) = if same_text e.node node then None else Some e
 
 -- no requestor of the node has a store of the uid pending
 abbrev pub NoneAwaits : OwnWorld → Text → Text → Type 0
@@ -204,6 +210,16 @@ module _ (ours : Ours) (plan : Network) (certificate : Certificate) where
           ends = old.ends;
         }
 
+  -- a node of ours starts anew: its ends are gone, and nothing is settled
+  pub record StartsAnew (old : OwnWorld) (node : Text) (new : OwnWorld) : Type 0 where
+    pub own : ours node ≡ true
+    pub is : new
+        ≡ record {
+          time = old.time;
+          desks = old.desks;
+          ends = λ number. without_node node (old.ends number);
+        }
+
   -- the step leads from the one world to the other
   abbrev pub OwnSteps : OwnWorld → OwnStep → OwnWorld → Type 0
   OwnSteps old (Listens number node) new = BeginsListening old number node new
@@ -225,6 +241,7 @@ module _ (ours : Ours) (plan : Network) (certificate : Certificate) where
       NoneAwaits old node uid
       × DoesAlone old node (λ s t. (answer : Answer) × ForgetsAt s uid answer t) new
   OwnSteps old (Refuses node) new = DoesAlone old node (λ s t. t ≡ desk s.book true) new
+  OwnSteps old (Restarts node) new = StartsAnew old node new
   OwnSteps old (Passes ms) new =
       new ≡ record { time = min (old.time + ms) (2 ^ 62); desks = old.desks; ends = old.ends }
 
@@ -295,3 +312,14 @@ pub record OthersAreNotHere : Type 0 where
   pub takes : (ours : Ours) (plan : Network) (certificate : Certificate) (b new : OwnWorld)
       (node : Text) (item : Job)
       → ours node ≡ false → OwnSteps ours plan certificate b (Submits node item) new → ⊥
+
+-- An acceptor is never asked to send, and no end of a node that starts anew is left.
+pub record EndsAreAskedSo : Type 0 where
+  pub sends : (ours : Ours) (plan : Network) (certificate : Certificate) (b new : OwnWorld)
+      (number : ℕ) (e : OwnEnd)
+      → b.ends number ≡ Some e → e.side ≡ Acceptor
+      → OwnSteps ours plan certificate b (Meets number PushAsked) new → ⊥
+  pub anew : (ours : Ours) (plan : Network) (certificate : Certificate) (b new : OwnWorld)
+      (node : Text)
+      → OwnSteps ours plan certificate b (Restarts node) new
+      → (number : ℕ) (e : OwnEnd) → new.ends number ≡ Some e → e.node ≡ node → ⊥
