@@ -1,5 +1,5 @@
 -- A run of a world of bytes in which other products write is one of the ends of ours alone.
-use Rattle.std.proofs.Common.{◌≡◌, ◌≢◌, ◌⊎◌, ℕ, ◌+◌, ◌<◌, ◌≤◌, ◌^◌, Bool, true, false, List, [], ◌∷◌, ◌++◌, Option, None, Some, Result, Ok, Err, take, drop, inl, inr, refl, sym, ap, subst, ◌∙◌, arith}
+use Rattle.std.proofs.Common.{◌≡◌, ◌≢◌, ◌⊎◌, ℕ, ◌+◌, ◌<◌, ◌≤◌, ◌^◌, Bool, true, false, List, [], ◌∷◌, ◌++◌, Option, None, Some, Result, Ok, Err, append_assoc, length, take, drop, inl, inr, refl, sym, ap, subst, ◌∙◌, arith}
 use Rattle.std.proofs.Math.Logic.{∥∥₁_map}
 use Rattle.std.specs.Prelude.{◌==◌, ◌&&◌, ◌||◌, AllPairs, Contains, cond, not, min, nat_le, if◌then◌else◌}
 use Rattle.std.specs.declared.cmp.Ordering.TheVariants.{Equal, Less}
@@ -11,7 +11,9 @@ use Rattle.std.specs.Option.{option_map, option_map_or}
 use Rattle.std.proofs.lemmas.Bool.{cases_Bool, eq-eqb, eqb-true, false≢true, or_parts}
 use Rattle.std.proofs.lemmas.Cmp.{tied_itself}
 use Rattle.std.proofs.lemmas.Map.Views.{tells_apart}
+use Rattle.std.proofs.lemmas.List.{append-nil, take-append-drop, take_all}
 use Rattle.std.proofs.lemmas.Option.{same_Some}
+use Rattle.std.specs.List.{AllByRecursion}
 use Rattle.dr_base.specs.Texts.{Text, text_cmp}
 use Rattle.dr_plan_model.specs.Networks.{Network}
 use Rattle.dr_plan_model.proofs.Gathered.{Contains-cons_cases, Contains-here, Contains-there, nothing_in_nil}
@@ -24,7 +26,11 @@ use Rattle.dr_ulstate.specs.Standing.{Standing}
 use Rattle.dr_ulstate.specs.Phases.{standing_of, state_of}
 use Rattle.dr_ulstate.specs.declared.table.State.{State}
 use Rattle.dr_ulstate.specs.declared.table.State.TheVariants.{Sta1, Sta6}
+use Rattle.dr_pdu.specs.declared.pdu.Pdu.{Pdu}
+use Rattle.dr_pdu.specs.declared.pdu.Pdu.TheVariants as pdu
 use Rattle.dr_pdu.specs.Feeding.{Feeding, fresh}
+use Rattle.dr_pdu.specs.Written.{written}
+use Rattle.dr_pdu.proofs.WrittenLemmas.{written_spells}
 use Rattle.dr_nego.specs.Agreeing.{AssociateRq}
 use Rattle.dr_nego.specs.Proposing.{IsHopTo, IsProposal}
 use Rattle.dr_ledger.specs.declared.fault.LedgerFault.{LedgerFault}
@@ -44,7 +50,7 @@ use Rattle.dr_session.specs.Desks.{Arrival, Arrive, Settle, Settling}
 use Rattle.dr_session.specs.Ends.{HearsPiece, MeetsBy, accepting, is_gone, requesting}
 use Rattle.dr_session.specs.Ledgers.{desk}
 use Rattle.dr_session.specs.Pendings.{pending_of}
-use Rattle.dr_session.specs.Plays.{PlaysBytes, Reacts, at_moment}
+use Rattle.dr_session.specs.Plays.{Hears, HearsBy, HearsOn, PlaysBytes, Reacts, at_moment}
 use Rattle.dr_session.specs.Reactions.{is_free, is_idle}
 use Rattle.dr_node.specs.declared.node.Node.{Node}
 use Rattle.dr_ulstate.specs.declared.table.Event.TheVariants.{AbortRequest, ReleaseRequest}
@@ -63,18 +69,19 @@ use Rattle.dr_world_tie.specs.Closing.{IsEnded, closed}
 use Rattle.dr_world_tie.specs.Ties.{caller_as, receiver_as, with_desk}
 use Rattle.dr_world_tie.specs.ByteWorlds as bytes
 use Rattle.dr_world_tie.specs.ByteWorlds.{Acceptor, ByteWorld, Requestor, Side, Skipped, StepNote, Steps, WorldStep, caller_of, is_over, opened_between, receiver_of, with_call, with_done}
-use Rattle.dr_world_tie.specs.Foreign.{NoneCallsAsOurs}
+use Rattle.dr_world_tie.specs.Foreign.{CallsAsNoneOfOurs, NoneCallsAsOurs}
 use Rattle.dr_world_tie.specs.ForeignCalls.{CallsAt, ShowsCall}
 use Rattle.dr_world_tie.specs.ForeignLinks.{end_of}
 use Rattle.dr_world_tie.specs.ForeignWorlds as own
 use Rattle.dr_world_tie.specs.ForeignWorlds.{NoneAwaits, OwnEnd, OwnRuns, OwnStep, OwnSteps, OwnWorld, ShowsBy, own_beginning}
+use Rattle.dr_world_tie.proofs.Fronts.{hears_none, hears_one, nothing_yet}
 use Rattle.dr_world_tie.proofs.Others.{as_pairs}
 use Rattle.dr_world_tie.proofs.OwnWorlds.{own_worlds_keep_the_claims}
 use Rattle.dr_world.specs.declared.changing.Change.{Change}
 use Rattle.dr_world.specs.declared.deed.Deed.{Deed}
 use Rattle.dr_world.specs.declared.deed.Deed.TheVariants as deed
 use Rattle.dr_world.specs.declared.world.World.{World}
-use Rattle.dr_world.specs.Among.{FitsFrom, HasOurEnds, HoldsAmong, NoneNamesOurs, StepFits, own_in, own_of}
+use Rattle.dr_world.specs.Among.{FitsFrom, HasOurEnds, HoldsAmong, NamesAreLookedAt, NoneNamesOurs, StepFits, own_in, own_of}
 use Rattle.dr_world.specs.Ends.{named}
 use Rattle.dr_world.specs.Nodes.{seat_of}
 use Rattle.dr_world.specs.Others.{Writes, WritesIn, with_written}
@@ -494,8 +501,8 @@ module _ (ours : Ours) (plan : Network) (certificate : Certificate) where
 
       -- ---- what another product writes
 
-      written : (side : Side) (piece : List ℕ) (new : ByteWorld) → WritesIn (Some k) b number side piece new → Goes o new
-      written side piece new is =
+      overwritten : (side : Side) (piece : List ℕ) (new : ByteWorld) → WritesIn (Some k) b number side piece new → Goes o new
+      overwritten side piece new is =
           let l : Channel = with_written side piece k in
           let caller : k.caller ≡ l.caller = caller_still side in
           let receiver : k.receiver ≡ l.receiver = receiver_still side in
@@ -982,7 +989,7 @@ module _ (ours : Ours) (plan : Network) (certificate : Certificate) where
       where
         by_link : (q : Option Channel) → map.get b.links link ≡ q → WritesIn q b link side piece new → Goes o new
         by_link None e d = stays new d
-        by_link (Some k) e d = written link k e side piece new d
+        by_link (Some k) e d = overwritten link k e side piece new d
 
   -- ---- one deed after the other
 
@@ -1028,3 +1035,45 @@ module _ {L : Type 0} {l : Ghosts L} where
         (c.0, c.2),
         c.4,
       ))
+
+-- ---- names are looked at
+
+-- some first bytes are all, or there are more
+split : (m : ℕ) (wire : List ℕ) → (take m wire ≡ wire) ⊎ ((back : List ℕ) × (wire ≡ take m wire ++ back) × (back ≢ []))
+split m wire = by (drop m wire) (sym (take-append-drop m wire))
+  where
+    by : (back : List ℕ) → wire ≡ take m wire ++ back → (take m wire ≡ wire) ⊎ ((back : List ℕ) × (wire ≡ take m wire ++ back) × (back ≢ []))
+    by [] e = inl (sym (append-nil (take m wire)) ∙ sym e)
+    by (y ∷ ys) e = inr (y ∷ ys, e, λ f. cc f)
+
+pub names_are_looked_at : NamesAreLookedAt
+names_are_looked_at = record {
+  others = λ ours k p comes none m ear inputs h.
+      let P : List Input → Type 0 = λ is. AllByRecursion (CallsAsNoneOfOurs ours) is in
+      elim (split m k.to_receiver) [
+        | inl whole ↦
+            subst P (sym (hears_one k.receiver.ear ear (take m k.to_receiver) inputs p comes.works comes.fits comes.meets (ap (λ (w : List ℕ). k.receiver.ear.kept ++ w) whole ∙ comes.is) h).0) none
+        | inr (back, joined, some) ↦
+            let parts : written p ≡ (k.receiver.ear.kept ++ take m k.to_receiver) ++ back = sym comes.is
+            ∙ (ap (λ (w : List ℕ). k.receiver.ear.kept ++ w) joined ∙ sym (append_assoc k.receiver.ear.kept (take m k.to_receiver) back)) in
+            subst P (sym (hears_none k.receiver.ear ear (take m k.to_receiver) back inputs p comes.works comes.fits comes.meets parts some h).0) tt
+      ];
+  own = λ ours k rq comes mine none.
+      let p : Pdu = pdu.AssociateRq rq in
+      let limit : ℕ = k.receiver.ear.limit in
+      let ear : Feeding = record { limit = limit; failed = false; kept = [] } in
+      let piece : List ℕ = take (length k.to_receiver) k.to_receiver in
+      let all : piece ≡ k.to_receiver = take_all (length k.to_receiver) k.to_receiver (omega arith) in
+      let text : k.receiver.ear.kept ++ piece ≡ written p ++ [] = ap (λ (w : List ℕ). k.receiver.ear.kept ++ w) all ∙ (comes.is ∙ sym (append-nil (written p))) in
+      let on : HearsOn limit k.receiver.ear.kept piece (input.Request rq ∷ []) ear = record {
+        pdus = p ∷ [];
+        rest = [];
+        last = [];
+        run = ([], (written p, text, written_spells limit p comes.fits comes.meets), refl);
+        stops = (nothing_yet limit, refl, refl);
+        same = refl;
+        are = refl;
+      } in
+      let h : Hears k.receiver.ear piece (input.Request rq ∷ []) ear = subst (λ (f : Bool). HearsBy f k.receiver.ear piece (input.Request rq ∷ []) ear) (sym comes.works) on in
+      false≢true (sym (none (length k.to_receiver) ear (input.Request rq ∷ []) h).0 ∙ mine);
+}

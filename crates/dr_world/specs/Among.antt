@@ -1,6 +1,8 @@
 -- Scripts in which other products write: what ends of ours have of a world of bytes, what is asked
 -- of a script, and the four claims of ours.
-use Rattle.std.specs.Prelude.{◌≡◌, ℕ, Bool, true, false, List, [], ◌∷◌, take, Option, None, Some}
+use Rattle.std.specs.Prelude.{◌≡◌, ℕ, Bool, true, false, List, [], ◌∷◌, ◌++◌, take, Option, None}
+use Rattle.std.specs.Prelude.{Some}
+use Rattle.std.specs.List.{AllByRecursion}
 use Rattle.std.specs.FinMap as map
 use Rattle.std.specs.BTreeMap as tree
 use Rattle.dr_base.specs.Texts.{Text, text_cmp}
@@ -8,7 +10,9 @@ use Rattle.dr_ledger.specs.declared.ledger.Ledger.{Ghosts}
 use Rattle.dr_nego.specs.Agreeing.{AssociateRq}
 use Rattle.dr_pdu.specs.Feeding.{Feeding}
 use Rattle.dr_pdu.specs.Written.{Fits, MeetsLimit, written}
+use Rattle.dr_pdu.specs.declared.pdu.Pdu.{Pdu}
 use Rattle.dr_pdu.specs.declared.pdu.Pdu.TheVariants as pdu
+use Rattle.dr_session.specs.Plays.{inputs_of}
 use Rattle.dr_plan_model.specs.Networks.{Network}
 use Rattle.dr_plan_sound.specs.declared.certificate.Certificate.{Certificate}
 use Rattle.dr_node.specs.declared.node.Node.{Node}
@@ -18,7 +22,7 @@ use Rattle.dr_world_tie.specs.Channels.{Channel}
 use Rattle.dr_world_tie.specs.ByteWorlds.{Acceptor, ByteWorld, Move, Open, Requestor}
 use Rattle.dr_world_tie.specs.ByteWorlds.{StepNote, Steps, WorldStep, caller_of, is_over}
 use Rattle.dr_world_tie.specs.ByteWorlds.{receiver_of}
-use Rattle.dr_world_tie.specs.Foreign.{NoneCallsAsOurs}
+use Rattle.dr_world_tie.specs.Foreign.{CallsAsNoneOfOurs, NoneCallsAsOurs}
 use Rattle.dr_world_tie.specs.ForeignWorlds.{OwnEnd, OwnWorld}
 use Rattle.dr_world.specs.declared.deed.Deed.{Deed}
 use Rattle.dr_world.specs.declared.deed.Deed.TheVariants as deed
@@ -97,3 +101,24 @@ HoldsAmong {L} {l} ours plan w =
     → v.books name ≡ l.book n.desk.ledger)
     × ((acts : List Act) × RunsAmong ours plan model.start acts plan v)
     × HeadlineAmong ours plan v) ∥₁
+
+-- ---- laws
+
+-- this PDU and nothing else comes to the acceptor: the end keeps the front of it, the wire has the
+-- rest
+pub record IsComing (k : Channel) (p : Pdu) : Type 0 where
+  pub works : k.receiver.ear.failed ≡ false
+  pub is : k.receiver.ear.kept ++ k.to_receiver ≡ written p
+  pub fits : Fits p
+  pub meets : MeetsLimit k.receiver.ear.limit p
+
+-- Another product's request by a name of its own may come, and so may data; one by a name of ours
+-- may not.
+pub record NamesAreLookedAt : Type 0 where
+  pub others : (ours : Ours) (k : Channel) (p : Pdu)
+      → IsComing k p
+      → AllByRecursion (CallsAsNoneOfOurs ours) (inputs_of p)
+      → NoneNamesOurs ours k
+  pub own : (ours : Ours) (k : Channel) (rq : AssociateRq)
+      → IsComing k (pdu.AssociateRq rq)
+      → ours rq.front.calling ≡ true → NoneNamesOurs ours k → ⊥
