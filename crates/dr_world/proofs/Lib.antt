@@ -1,4 +1,5 @@
 pub mod Adopting
+pub mod Among
 pub mod Beginning
 pub mod Calling
 pub mod Counted
