@@ -13,6 +13,7 @@ use dr_site::Site;
 use dr_store::SqlLedger;
 use dr_store_audit::{is_ours, lacking};
 use dr_store_open::{OpeningFault, ledger_on};
+use dr_store_shelf::InRow;
 use dr_word_check::Disk;
 use dr_word_rehearse::{Finds, LedgerFound};
 use sqlite::{Alter, Connection, Error, ErrorCode, File, FileStore};
@@ -130,7 +131,7 @@ fn ledger_over<S: Alter + Drop>(
     alloc: Global,
     conn: Connection<S>,
     site: Site,
-) -> Result<SqlLedger<S>, OpenFault>
+) -> Result<SqlLedger<S, InRow>, OpenFault>
     requires { conn.in_transaction ≡ false }
     ensures of { IfOk result (λ l. l.site ≡ site) }
     ensures is { IfOk result (λ l. HasLedgerIn l.site (state S.Store l.conn)) }
@@ -151,7 +152,7 @@ impl<D: Databases + Drop> Ledgers for StoredLedgers<D> {
     ghost use Rattle.sqlite.specs.Held.{state};
     ghost use Rattle.dr_router.specs.Opening.{HasLedgerIn};
 
-    type Ledger = SqlLedger<D::Store>;
+    type Ledger = SqlLedger<D::Store, InRow>;
 
     ghost opens = { λ files path ledger.
         HasLedgerIn ledger.site (state D.Store.Store ledger.conn) };
@@ -162,7 +163,7 @@ impl<D: Databases + Drop> Ledgers for StoredLedgers<D> {
         path: &str,
         site: Site,
         making: Making,
-    ) -> Result<SqlLedger<D::Store>, OpenFault> {
+    ) -> Result<SqlLedger<D::Store, InRow>, OpenFault> {
         if let Some(fault) = making.refusal(self.0.is_there(path)) {
             return Err(fault);
         }
@@ -179,7 +180,7 @@ fn found_over<S: Alter + Drop>(
     alloc: Global,
     conn: Connection<S>,
     site: Site,
-) -> Result<LedgerFound<SqlLedger<S>>, OpenFault>
+) -> Result<LedgerFound<SqlLedger<S, InRow>>, OpenFault>
     requires { conn.in_transaction ≡ false }
     ensures { IfOk result (IsFoundBy (λ l. HasLedgerIn l.site (state S.Store l.conn)) (λ l. l.site)
         site) }
@@ -202,7 +203,7 @@ impl<D: Databases + Drop> Finds for StoredLedgers<D> {
         alloc: Global,
         path: &str,
         site: Site,
-    ) -> Result<LedgerFound<SqlLedger<D::Store>>, OpenFault> {
+    ) -> Result<LedgerFound<SqlLedger<D::Store, InRow>>, OpenFault> {
         if !self.0.is_there(path) {
             return Ok(LedgerFound::Nothing);
         }
