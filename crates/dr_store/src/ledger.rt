@@ -24,23 +24,25 @@ use dr_cert::Sealed;
 use dr_ledger::{Arrived, Entry, Item, Job, Ledger, LedgerFault, LetsGo, Outcome, Progress};
 use dr_ledger_history::JournalLine;
 use dr_ledger_journal::TellsJournal;
-use dr_ledger_views::{Stage, Views};
+use dr_ledger_views::{Moments, Stage, Views};
 use dr_site::Site;
 use dr_store_calls::{adopt, arrive, forget, give_up, is_over, requeue, settle};
 use dr_store_reads::find_row;
 use dr_store_views::{
-    callers_of, count_arrivals, count_kept, count_rows, first_moment, page, rows_of,
+    callers_of, came_at, count_arrivals, count_kept, count_rows, first_moment, page, rows_of,
 };
 use sqlite::{Alter, Connection};
 use std::alloc::Global;
 
-/// The ledger of one node, in the tables of a database. It counts the failures of its store.
+/// The ledger of one node, in the tables of a database. It counts the failures of its store, and
+/// has the moment that it was told last, if it was told one.
 #[derive(Drop)]
 pub struct SqlLedger<S: Alter> {
     alloc: Global,
     site: Site,
     conn: Connection<S>,
     next: u64,
+    moment: Option<u64>,
     failures: u64,
     ghost idle: { conn.in_transaction ≡ false },
     ghost kept: { IsSafe (state S.Store conn) → ∥ KeepsOwn next site (state S.Store conn) ∥₁ },
@@ -48,8 +50,14 @@ pub struct SqlLedger<S: Alter> {
 
 impl<S: Alter> SqlLedger<S> {
     /// The ledger of this site, over a connection to its tables; the number of its next line is
-    /// `next`.
-    pub fn of(alloc: Global, conn: Connection<S>, site: Site, next: u64) -> SqlLedger<S>
+    /// `next`, and the moment that it was told (milliseconds since 1970) is `moment`.
+    pub fn of(
+        alloc: Global,
+        conn: Connection<S>,
+        site: Site,
+        next: u64,
+        moment: Option<u64>,
+    ) -> SqlLedger<S>
         requires idle { conn.in_transaction ≡ false }
         requires kept { IsSafe (state S.Store conn) → ∥ KeepsOwn next site (state S.Store conn) ∥₁ }
         ensures site { result.site ≡ site }
@@ -61,6 +69,7 @@ impl<S: Alter> SqlLedger<S> {
             site,
             conn,
             next,
+            moment,
             failures: 0,
         }
     }
@@ -75,6 +84,7 @@ impl<S: Alter> SqlLedger<S> {
             site: _,
             conn,
             next: _,
+            moment: _,
             failures: _,
         } = self;
         conn
@@ -97,6 +107,7 @@ impl<S: Alter> SqlLedger<S> {
             self.alloc,
             &self.site,
             self.next,
+            self.moment,
             caller,
             item,
         );
@@ -138,7 +149,7 @@ impl<S: Alter> SqlLedger<S> {
         ensures counts { Counts result self.old.failures self.new.failures }
         ensures site { self.new.site ≡ self.old.site }
     {
-        let answer = requeue(&mut self.conn, self.next, uid, dest);
+        let answer = requeue(&mut self.conn, self.next, self.moment, uid, dest);
         self.next = next_after(&answer, self.next);
         self.failures = counted(&answer, self.failures);
         answer
@@ -172,7 +183,7 @@ impl<S: Alter> SqlLedger<S> {
         ensures counts { Counts result self.old.failures self.new.failures }
         ensures site { self.new.site ≡ self.old.site }
     {
-        let answer = forget(&mut self.conn, self.alloc, self.next, uid);
+        let answer = forget(&mut self.conn, self.alloc, self.next, self.moment, uid);
         self.next = next_after(&answer, self.next);
         self.failures = counted(&answer, self.failures);
         answer
@@ -189,7 +200,7 @@ impl<S: Alter> SqlLedger<S> {
         ensures counts { Counts result self.old.failures self.new.failures }
         ensures site { self.new.site ≡ site_after result own self.old.site }
     {
-        let answer = adopt(&mut self.conn, self.alloc, self.next, &own);
+        let answer = adopt(&mut self.conn, self.alloc, self.next, self.moment, &own);
         self.next = next_after(&answer, self.next);
         self.failures = counted(&answer, self.failures);
         take_over(&mut self.site, own, &answer);
@@ -343,6 +354,19 @@ impl<S: Alter> LetsGo for SqlLedger<S> {
 
     fn is_over(&mut self, uid: &Text) -> Result<bool, LedgerFault> {
         let answer = is_over(&mut self.conn, self.alloc, uid);
+        self.failures = counted(&answer, self.failures);
+        answer
+    }
+}
+
+/// The moment stands beside each line that is written from then on.
+impl<S: Alter> Moments for SqlLedger<S> {
+    fn at(&mut self, now: u64) {
+        self.moment = Some(now);
+    }
+
+    fn came_at(&mut self, uid: &Text) -> Result<Option<u64>, LedgerFault> {
+        let answer = came_at(&mut self.conn, uid);
         self.failures = counted(&answer, self.failures);
         answer
     }

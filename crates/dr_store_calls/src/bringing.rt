@@ -11,6 +11,8 @@ pub struct Delivery<'x> {
     pub site: &'x Site,
     /// The number of the line by which the journal is to tell of it.
     pub n: u64,
+    /// The moment of that line (milliseconds), if it is known.
+    pub moment: Option<u64>,
     /// Who brings it, `-` for what enters at the node itself.
     pub caller: &'x Text,
     /// What it is.

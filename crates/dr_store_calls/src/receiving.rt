@@ -304,6 +304,7 @@ pub fn arrive<'x, S: Alter>(
     alloc: Global,
     site: &Site,
     n: u64,
+    moment: Option<u64>,
     caller: &'x Text,
     item: Item,
 ) -> Result<Arrived, LedgerFault>
@@ -324,6 +325,7 @@ pub fn arrive<'x, S: Alter>(
             let came = Delivery {
                 site,
                 n,
+                moment,
                 caller,
                 instance: &instance,
                 cell: job.body.as_bytes(),

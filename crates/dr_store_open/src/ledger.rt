@@ -14,12 +14,14 @@ use std::alloc::Global;
 
 /// The ledger of a site over a connection to a file: its tables are made where the file has none, a
 /// file from before is brought over, and then they are compared with what the journal's lines make.
+/// It is told that moment (milliseconds since 1970).
 ///
 /// Errors: OtherSite, Store, Memory.
 pub fn ledger_on<S: Alter + Drop>(
     alloc: Global,
     conn: Connection<S>,
     site: Site,
+    moment: Option<u64>,
 ) -> Result<SqlLedger<S>, OpeningFault>
     requires { conn.in_transaction ≡ false }
     ensures of { IfOk result (λ l. l.site ≡ site) }
@@ -27,7 +29,7 @@ pub fn ledger_on<S: Alter + Drop>(
         → (n : ℕ) × HasLedgerOf n l.site (state S.Store l.conn).committed) }
 {
     match on(conn, alloc, &site) {
-        Ok((conn, next)) => Ok(SqlLedger::of(alloc, conn, site, next)),
+        Ok((conn, next)) => Ok(SqlLedger::of(alloc, conn, site, next, moment)),
         Err(fault) => Err(fault),
     }
 }
