@@ -19,6 +19,7 @@ use dr_word_rehearse::{Finds, LedgerFound};
 use sqlite::{Alter, Connection, Error, ErrorCode, File, FileStore};
 use std::alloc::Global;
 use std::io::ErrorKind;
+use std::time::Clock;
 use std::{fs, io};
 
 /// Where databases are opened by a path.
@@ -30,6 +31,9 @@ pub trait Databases {
 
     /// Whether something is there, or it can't be told.
     fn is_there(&self, path: &str) -> bool;
+
+    /// The present moment (milliseconds since 1970), if it can be told.
+    fn now(&self) -> Option<u64>;
 }
 
 /// The system's files.
@@ -49,6 +53,11 @@ impl<'a> Databases for SystemFiles<'a> {
             Ok(_) => true,
             Err(error) => !matches!(error.kind(), ErrorKind::NotFound | ErrorKind::NotADirectory),
         }
+    }
+
+    fn now(&self) -> Option<u64> {
+        let time = self.0.since_1970().ok()?;
+        u64::try_from(time.as_millis()).ok()
     }
 }
 
@@ -126,17 +135,18 @@ fn ledger_fault(fault: OpeningFault) -> OpenFault
     }
 }
 
-/// The ledger of a site over a connection to its database.
+/// The ledger of a site over a connection to its database, which is told the moment.
 fn ledger_over<S: Alter + Drop>(
     alloc: Global,
     conn: Connection<S>,
     site: Site,
+    now: Option<u64>,
 ) -> Result<SqlLedger<S, InRow>, OpenFault>
     requires { conn.in_transaction ≡ false }
     ensures of { IfOk result (λ l. l.site ≡ site) }
     ensures is { IfOk result (λ l. HasLedgerIn l.site (state S.Store l.conn)) }
 {
-    match ledger_on(alloc, conn, site) {
+    match ledger_on(alloc, conn, site, now) {
         Ok(ledger) => Ok(ledger),
         Err(fault) => Err(ledger_fault(fault)),
     }
@@ -168,7 +178,7 @@ impl<D: Databases + Drop> Ledgers for StoredLedgers<D> {
             return Err(fault);
         }
         match self.0.open_database(path) {
-            Ok(conn) => ledger_over(alloc, conn, site),
+            Ok(conn) => ledger_over(alloc, conn, site, self.0.now()),
             Err(error) => Err(file_fault(&error)),
         }
     }
@@ -180,6 +190,7 @@ fn found_over<S: Alter + Drop>(
     alloc: Global,
     conn: Connection<S>,
     site: Site,
+    now: Option<u64>,
 ) -> Result<LedgerFound<SqlLedger<S, InRow>>, OpenFault>
     requires { conn.in_transaction ≡ false }
     ensures { IfOk result (IsFoundBy (λ l. HasLedgerIn l.site (state S.Store l.conn)) (λ l. l.site)
@@ -191,7 +202,7 @@ fn found_over<S: Alter + Drop>(
         }
         return Err(OpenFault::OtherSite);
     }
-    match ledger_over(alloc, conn, site) {
+    match ledger_over(alloc, conn, site, now) {
         Ok(ledger) => Ok(LedgerFound::Ledger(ledger)),
         Err(fault) => Err(fault),
     }
@@ -208,7 +219,7 @@ impl<D: Databases + Drop> Finds for StoredLedgers<D> {
             return Ok(LedgerFound::Nothing);
         }
         match self.0.open_database(path) {
-            Ok(conn) => found_over(alloc, conn, site),
+            Ok(conn) => found_over(alloc, conn, site, self.0.now()),
             Err(error) => Err(file_fault(&error)),
         }
     }

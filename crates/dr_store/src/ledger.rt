@@ -24,19 +24,20 @@ use dr_cert::Sealed;
 use dr_ledger::{Arrived, Entry, Item, Job, Ledger, LedgerFault, LetsGo, Outcome, Progress};
 use dr_ledger_history::JournalLine;
 use dr_ledger_journal::TellsJournal;
-use dr_ledger_views::{Stage, Views};
+use dr_ledger_views::{Moments, Stage, Views};
 use dr_site::Site;
-use dr_store_calls::{adopt, arrive, forget, give_up, is_over, requeue, settle};
+use dr_store_calls::{NextLine, adopt, arrive, forget, give_up, is_over, requeue, settle};
 use dr_store_reads::find_row;
 use dr_store_shelf::Shelf;
 use dr_store_views::{
-    callers_of, count_arrivals, count_kept, count_rows, first_moment, page, rows_of,
+    callers_of, came_at, count_arrivals, count_kept, count_rows, first_moment, page, rows_of,
 };
 use sqlite::{Alter, Connection};
 use std::alloc::Global;
 
 /// The ledger of one node, in the tables of a database. Its data sets are on a shelf, and the
-/// tables have the cells that stand for them. It counts the failures of its store.
+/// tables have the cells that stand for them. It counts the failures of its store, and has the
+/// moment that it was told last, if it was told one.
 #[derive(Drop)]
 pub struct SqlLedger<S: Alter, B: Shelf> {
     alloc: Global,
@@ -44,6 +45,7 @@ pub struct SqlLedger<S: Alter, B: Shelf> {
     conn: Connection<S>,
     shelf: B,
     next: u64,
+    moment: Option<u64>,
     failures: u64,
     ghost idle: { conn.in_transaction ≡ false },
     ghost kept: { IsSafe (state S.Store conn)
@@ -53,13 +55,15 @@ pub struct SqlLedger<S: Alter, B: Shelf> {
 
 impl<S: Alter, B: Shelf> SqlLedger<S, B> {
     /// The ledger of this site, over a connection to its tables and the shelf of their cells; the
-    /// number of its next line is `next`.
+    /// number of its next line is `next`, and the moment that it was told (milliseconds since 1970)
+    /// is `moment`.
     pub fn of(
         alloc: Global,
         conn: Connection<S>,
         shelf: B,
         site: Site,
         next: u64,
+        moment: Option<u64>,
     ) -> SqlLedger<S, B>
         requires idle { conn.in_transaction ≡ false }
         requires kept { IsSafe (state S.Store conn)
@@ -76,6 +80,7 @@ impl<S: Alter, B: Shelf> SqlLedger<S, B> {
             conn,
             shelf,
             next,
+            moment,
             failures: 0,
         }
     }
@@ -91,6 +96,7 @@ impl<S: Alter, B: Shelf> SqlLedger<S, B> {
             conn,
             shelf: _,
             next: _,
+            moment: _,
             failures: _,
         } = self;
         conn
@@ -111,12 +117,16 @@ impl<S: Alter, B: Shelf> SqlLedger<S, B> {
         ensures counts { Counts result self.old.failures self.new.failures }
         ensures site { self.new.site ≡ self.old.site }
     {
+        let line = NextLine {
+            n: self.next,
+            moment: self.moment,
+        };
         let answer = arrive(
             &mut self.conn,
             &mut self.shelf,
             self.alloc,
             &self.site,
-            self.next,
+            line,
             caller,
             item,
         );
@@ -162,7 +172,7 @@ impl<S: Alter, B: Shelf> SqlLedger<S, B> {
         ensures counts { Counts result self.old.failures self.new.failures }
         ensures site { self.new.site ≡ self.old.site }
     {
-        let answer = requeue(&mut self.conn, self.next, uid, dest);
+        let answer = requeue(&mut self.conn, self.next, self.moment, uid, dest);
         self.next = next_after(&answer, self.next);
         self.failures = counted(&answer, self.failures);
         answer
@@ -200,7 +210,7 @@ impl<S: Alter, B: Shelf> SqlLedger<S, B> {
         ensures counts { Counts result self.old.failures self.new.failures }
         ensures site { self.new.site ≡ self.old.site }
     {
-        let answer = forget(&mut self.conn, self.alloc, self.next, uid);
+        let answer = forget(&mut self.conn, self.alloc, self.next, self.moment, uid);
         self.next = next_after(&answer, self.next);
         self.failures = counted(&answer, self.failures);
         answer
@@ -219,7 +229,7 @@ impl<S: Alter, B: Shelf> SqlLedger<S, B> {
         ensures counts { Counts result self.old.failures self.new.failures }
         ensures site { self.new.site ≡ site_after result own self.old.site }
     {
-        let answer = adopt(&mut self.conn, self.alloc, self.next, &own);
+        let answer = adopt(&mut self.conn, self.alloc, self.next, self.moment, &own);
         self.next = next_after(&answer, self.next);
         self.failures = counted(&answer, self.failures);
         take_over(&mut self.site, own, &answer);
@@ -377,6 +387,19 @@ impl<S: Alter, B: Shelf> LetsGo for SqlLedger<S, B> {
 
     fn is_over(&mut self, uid: &Text) -> Result<bool, LedgerFault> {
         let answer = is_over(&mut self.conn, self.alloc, uid);
+        self.failures = counted(&answer, self.failures);
+        answer
+    }
+}
+
+/// The moment stands beside each line that is written from then on.
+impl<S: Alter, B: Shelf> Moments for SqlLedger<S, B> {
+    fn at(&mut self, now: u64) {
+        self.moment = Some(now);
+    }
+
+    fn came_at(&mut self, uid: &Text) -> Result<Option<u64>, LedgerFault> {
+        let answer = came_at(&mut self.conn, uid);
         self.failures = counted(&answer, self.failures);
         answer
     }

@@ -62,14 +62,14 @@ known_same taking.Bare item found known held is = absurd (let e : None ≡ Some 
 known_same taking.Again item found known held is = sym (inside item held (sym known ∙ is))
 known_same taking.Nothing item found known held is = sym (inside item held (sym known ∙ is))
 
-module _ (n : ℕ) (part : Part) (how : Taking) (caller : Text) (instance : Instance) (cell : List ℕ) (to : List Text) (keep : Bool) (again dests : List Text) (keeps : Bool) (base db : Trees)
+module _ (n : ℕ) (moment : Option ℕ) (part : Part) (how : Taking) (caller : Text) (instance : Instance) (cell : List ℕ) (to : List Text) (keep : Bool) (again dests : List Text) (keeps : Bool) (base db : Trees)
     (line : HasLineFor part caller instance.key) (to_is : to ≡ (site_routing part).targets caller instance.key) (keep_is : keep ≡ (site_routing part).keeps caller instance.key) (names : AreTargets to)
     (below : AreBelow n (base 11)) (l : IsLedgerOf n part base) (f : FitsTables how caller instance to keep again dests keeps base)
-    (w : Brings how caller instance cell again dests keeps (names_for keep to) n base db) where
+    (w : Brings how caller instance cell again dests keeps (names_for keep to) n moment base db) where
   book : book_of db ≡ after (Arrival caller instance to keep) (book_of base)
   book =
-      let P : List Text → List Text → Bool → Type 0 = λ again' ds ks. Brings how caller instance cell again' ds ks (names_for keep to) n base db in
-      arrivals_arrive how base db n caller instance cell to keep below l.ahead f.known names
+      let P : List Text → List Text → Bool → Type 0 = λ again' ds ks. Brings how caller instance cell again' ds ks (names_for keep to) n moment base db in
+      arrivals_arrive how base db n moment caller instance cell to keep below l.ahead f.known names
       (subst (λ ks. P (given_up (rows_of base) instance.uid to) (missing (rows_of base) instance.uid to) ks) f.keeps_is
       (subst (λ ds. P (given_up (rows_of base) instance.uid to) ds keeps) f.missing_are (subst (λ again'. P again' dests keeps) f.again_are w)))
 
@@ -107,11 +107,11 @@ module _ (n : ℕ) (part : Part) (how : Taking) (caller : Text) (instance : Inst
 
 -- ---- a repeat
 
-pub repeats : (n : ℕ) (part : Part) (caller : Text) (instance : Instance) (cell : List ℕ) (whole : Bool) (base db : Trees) → HasLineFor part caller instance.key → AreBelow n (base 11) → IsLedgerOf n part base
-    → IsThere base instance whole → set.contains (arrivals_in (base 5)) (caller, instance.uid) ≡ true → AddsOnlyLine (arrived_line n 1 caller instance) base db
+pub repeats : (n : ℕ) (moment : Option ℕ) (part : Part) (caller : Text) (instance : Instance) (cell : List ℕ) (whole : Bool) (base db : Trees) → HasLineFor part caller instance.key → AreBelow n (base 11) → IsLedgerOf n part base
+    → IsThere base instance whole → set.contains (arrivals_in (base 5)) (caller, instance.uid) ≡ true → AddsOnlyLine (arrived_line n moment 1 caller instance) base db
     → IsLedgerOf (n + 1) part db × (Arrives (site_routing part) caller instance (book_of base) (Ok Again) (book_of db) × TakesOnly (Ok Again) instance cell base db)
-repeats n part caller instance cell whole base db line below l was again w =
-    let made = repeats_repeat base db n caller instance below w in
+repeats n moment part caller instance cell whole base db line below l was again w =
+    let made = repeats_repeat base db n moment caller instance below w in
     let answer : Arrives (site_routing part) caller instance (book_of base) (Ok Again) (book_of db) = (
       record { line = line; same = λ held is. sym (inside instance held (sym was.same ∙ is)) },
       again,

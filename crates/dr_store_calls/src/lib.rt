@@ -22,6 +22,7 @@ mod shelving;
 mod writing;
 
 pub use adopting::adopt;
+pub use bringing::NextLine;
 pub use dropping::give_up;
 pub use forgetting::{forget, is_over};
 pub use knowing::{Known, know};

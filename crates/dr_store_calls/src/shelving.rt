@@ -6,7 +6,7 @@ ghost use Rattle.dr_store_calls.specs.Calling.{Called, Nothing, advanced};
 ghost use Rattle.dr_store_calls.specs.Receiving.{AcceptsItem, IsDelivered};
 ghost use Rattle.dr_store_calls.specs.Shelving.{AnswersTo, ReceivesOn, fault_of_shelf};
 
-use crate::bringing::Delivery;
+use crate::bringing::{Delivery, NextLine};
 use crate::receiving::receive;
 use dr_base::Text;
 use dr_ledger::{Arrived, Item, LedgerFault};
@@ -81,6 +81,7 @@ fn shelve<'x, S: Alter, B: Shelf>(
             let named = Delivery {
                 site: came.site,
                 n: came.n,
+                moment: came.moment,
                 caller: came.caller,
                 instance: came.instance,
                 cell: cell.bytes(came.cell),
@@ -104,20 +105,20 @@ pub fn arrive<'x, S: Alter, B: Shelf>(
     shelf: &mut B,
     alloc: Global,
     site: &Site,
-    n: u64,
+    line: NextLine,
     caller: &'x Text,
     item: Item,
 ) -> Result<Arrived, LedgerFault>
     requires idle { conn.old.in_transaction ≡ false }
-    ensures called { Called n (advanced result n) site.now result (state S.Store conn.old)
-        (state S.Store conn.new) Nothing
+    ensures called { Called line.n (advanced result line.n) site.now result
+        (state S.Store conn.old) (state S.Store conn.new) Nothing
         (AnswersTo (B.Shelf.uses shelf.new) (B.Shelf.stands shelf.new) site.now caller.now item
         result)
         (AcceptsItem site.now caller.now item) }
     ensures keeps { KeepsCells (B.Shelf.uses shelf.old) (B.Shelf.stands shelf.old)
         (B.Shelf.uses shelf.new) (B.Shelf.stands shelf.new) }
     ensures clean { B.Shelf.is_clean shelf.new → B.Shelf.is_clean shelf.old }
-    ensures number { OnOk result (n ≤ 2 ^ 62) }
+    ensures number { OnOk result (line.n ≤ 2 ^ 62) }
     ensures idle { conn.new.in_transaction ≡ false }
 {
     if !site.has_line(caller, item.key()) {
@@ -128,7 +129,8 @@ pub fn arrive<'x, S: Alter, B: Shelf>(
             let job = item.into_job();
             let came = Delivery {
                 site,
-                n,
+                n: line.n,
+                moment: line.moment,
                 caller,
                 instance: &instance,
                 cell: job.body.as_bytes(),

@@ -14,12 +14,14 @@ use sqlite::{Alter, Connection};
 use std::alloc::Global;
 
 /// The ledger of this site, over a connection to its tables, each of whose cells is the data set
-/// itself; the number of its next line is `next`.
+/// itself; the number of its next line is `next`, and the moment that it was told (milliseconds since
+/// 1970) is `moment`.
 pub fn in_rows<S: Alter>(
     alloc: Global,
     conn: Connection<S>,
     site: Site,
     next: u64,
+    moment: Option<u64>,
 ) -> SqlLedger<S, InRow>
     requires idle { conn.in_transaction ≡ false }
     requires kept { HasCleanDisk (state S.Store conn) → IsKept next site (state S.Store conn) }
@@ -28,18 +30,19 @@ pub fn in_rows<S: Alter>(
     ensures site { result.site ≡ site }
     ensures conn { result.conn ≡ conn }
 {
-    SqlLedger::of(alloc, conn, InRow, site, next)
+    SqlLedger::of(alloc, conn, InRow, site, next, moment)
 }
 
 /// The ledger of a site over a connection to a file: its tables are made where the file has none, a
 /// file from before is brought over, and then they are compared with what the journal's lines make.
-/// Each data set stands in its row.
+/// Each data set stands in its row. The ledger is told that moment (milliseconds since 1970).
 ///
 /// Errors: OtherSite, Store, Memory.
 pub fn ledger_on<S: Alter + Drop>(
     alloc: Global,
     conn: Connection<S>,
     site: Site,
+    moment: Option<u64>,
 ) -> Result<SqlLedger<S, InRow>, OpeningFault>
     requires { conn.in_transaction ≡ false }
     ensures of { IfOk result (λ l. l.site ≡ site) }
@@ -47,7 +50,7 @@ pub fn ledger_on<S: Alter + Drop>(
         → (n : ℕ) × HasLedgerOf n l.site (state S.Store l.conn).committed) }
 {
     match on(conn, alloc, &site) {
-        Ok((conn, next)) => Ok(in_rows(alloc, conn, site, next)),
+        Ok((conn, next)) => Ok(in_rows(alloc, conn, site, next, moment)),
         Err(fault) => Err(fault),
     }
 }

@@ -12,6 +12,7 @@ use Rattle.sqlite_tied.specs.Listing.{count_rows}
 use Rattle.sqlite_value.specs.declared.keys.Key.{Key}
 use Rattle.sqlite_value.specs.Keys.{ascending}
 use Rattle.dr_store_views.specs.Statements as text
+use Rattle.dr_store_writes.proofs.Commands.{by_uid, over}
 use Rattle.dr_store_reads.proofs.Selects.{Is}
 
 -- how many rows of a table the conditions hold of
@@ -116,3 +117,18 @@ page_query = ordered behind entry_shown ((col 1 1, ascending Binary) ∷ []) (co
 pub page : Is text.page page_query names
 unfolding understood everything
 page = record { command = refl; listing = refl; plain = (refl, refl) }
+
+-- ---- when an instance came
+
+pub line_of : Is text.line_of (over 1 by_uid (col 1 0 ∷ [])) (codes "rowid" ∷ [])
+unfolding understood everything
+line_of = record { command = refl; listing = refl; plain = (refl, refl) }
+
+-- WHERE n = ?1 AND kind = 0 AND uid = ?2
+abbrev pub by_number : List Term
+by_number =
+    op2 (Compare Eq Binary) (col 1 0) (col 0 0) ∷ op2 (Compare Eq Binary) (col 1 2) (lit (Int (pos 0))) ∷ op2 (Compare Eq Binary) (col 1 4) (col 0 1) ∷ []
+
+pub moment_of : Is text.moment_of (over 11 by_number (col 1 7 ∷ [])) (codes "moment" ∷ [])
+unfolding understood everything
+moment_of = record { command = refl; listing = refl; plain = (refl, refl) }

@@ -36,7 +36,7 @@ returns-in-Ok-clause-called g c =
     let keeps = c.args.keeps in
     let old = state g.S.Store c.args.conn.now in
     let new = state g.S.Store c.written.new.conn in
-    let Made : List Text → List Text → List Text → Trees → Trees → Type 0 = λ ys ds names. Brings how caller item cell ys ds keeps names n in
+    let Made : List Text → List Text → List Text → Trees → Trees → Type 0 = λ ys ds names. Brings how caller item cell ys ds keeps names n c.args.came.now.moment in
     let Asks : Trees → Type 0 = λ base. FitsTables how caller item to keep again dests keeps base in
     let Makes : Trees → Trees → Type 0 = λ base db. Arrives (site_routing part) caller item (book_of base) (Ok New) (book_of db) in
     let Answers : Trees → Trees → Type 0 = λ base db. Arrives (site_routing part) caller item (book_of base) (Ok New) (book_of db) × TakesOnly (Ok New) item cell base db in
@@ -47,7 +47,7 @@ returns-in-Ok-clause-called g c =
     (subst (λ ds. W again ds c.args.names.now) c.as_slice-dests.ensures
     (subst (λ ys. W ys c.as_slice-dests.result.now c.args.names.now) c.as_slice-again.ensures c.in-Ok.ensures.written)))
     (λ ready l fits db w.
-    let it = arrives n part how caller item cell to keep again dests keeps old.committed.trees db c.requires.delivered.line c.requires.targets.to c.requires.targets.keep c.requires.targets.formed (below_of n old ready) l fits w in
+    let it = arrives n c.args.came.now.moment part how caller item cell to keep again dests keeps old.committed.trees db c.requires.delivered.line c.requires.targets.to c.requires.targets.keep c.requires.targets.formed (below_of n old ready) l fits w in
     (it.0, it.1, it.1.0))
 
 pub returns-in-Err-clause-called : goal.returns-in-Err-clause-called
@@ -65,7 +65,7 @@ returns-in-Err-clause-called g c =
     let keeps = c.args.keeps in
     let old = state g.S.Store c.args.conn.now in
     let new = state g.S.Store c.written.new.conn in
-    let Made : List Text → List Text → List Text → Trees → Trees → Type 0 = λ ys ds names. Brings how caller item cell ys ds keeps names n in
+    let Made : List Text → List Text → List Text → Trees → Trees → Type 0 = λ ys ds names. Brings how caller item cell ys ds keeps names n c.args.came.now.moment in
     let Asks : Trees → Type 0 = λ base. FitsTables how caller item to keep again dests keeps base in
     let Makes : Trees → Trees → Type 0 = λ base db. Arrives (site_routing part) caller item (book_of base) (Ok New) (book_of db) in
     let e = c.in-Err.fault in
@@ -78,5 +78,5 @@ returns-in-Err-clause-called g c =
     (subst (λ ds. W again ds c.args.names.now) c.as_slice-dests.ensures
     (subst (λ ys. W ys c.as_slice-dests.result.now c.args.names.now) c.as_slice-again.ensures c.in-Err.ensures.written)))
     (λ ready l fits db w.
-    (arrives n part how caller item cell to keep again dests keeps old.committed.trees db c.requires.delivered.line c.requires.targets.to c.requires.targets.keep c.requires.targets.formed (below_of n old ready) l fits w).1.0)
+    (arrives n c.args.came.now.moment part how caller item cell to keep again dests keeps old.committed.trees db c.requires.delivered.line c.requires.targets.to c.requires.targets.keep c.requires.targets.formed (below_of n old ready) l fits w).1.0)
     (λ fits. (arrives_own part caller item (book_of old.committed.trees) e c.requires.delivered.line c.in-Err.ensures.fault, takes_none e item cell old.committed.trees))

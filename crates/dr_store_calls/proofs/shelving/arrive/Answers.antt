@@ -29,5 +29,5 @@ returns-in-Ok-clause-called g c =
     let Uses : List ℕ → Type 0 = g.B.Shelf.uses c.shelve.new.shelf in
     let Stands : List ℕ → List ℕ → Type 0 = g.B.Shelf.stands c.shelve.new.shelf in
     let own = c.as_bytes.ensures ∙ ap (λ (j : Job). j.body) c.into_job-job.ensures.same in
-    received_item Uses Stands c.args.n c.args.site.now c.args.caller.now c.args.item c.in-Ok.instance _ c.shelve.result (state g.S.Store c.args.conn.now) (state g.S.Store c.shelve.new.conn)
+    received_item Uses Stands c.args.line.n c.args.site.now c.args.caller.now c.args.item c.in-Ok.instance _ c.shelve.result (state g.S.Store c.args.conn.now) (state g.S.Store c.shelve.new.conn)
     (subst Is c.into_job-job.ensures.same c.into_job-job.ensures.item) c.in-Ok.ensures own c.shelve.ensures.called
