@@ -132,13 +132,15 @@ fn read_due<B: Shelf>(shelf: &mut B, due: Option<Job>) -> Result<Option<Job>, Le
 
 /// What the first row for the destination, by (due, uid), that waits and is due at the moment `now`
 /// (milliseconds) is about, with its data set.
-pub fn next_job<S: Alter, B: Shelf>(
+pub fn next_job<S: Alter, B>(
     conn: &mut Connection<S>,
     shelf: &mut B,
     alloc: Global,
     dest: &Text,
     now: u64,
 ) -> Result<Option<Job>, LedgerFault>
+where
+    B: Shelf,
     ensures looked { (n : ℕ) (part : Part)
         → Looked n part result (state S.Store conn.old) (state S.Store conn.new)
         (λ base job. B.Shelf.is_clean shelf.new

@@ -14,8 +14,8 @@ use sqlite::{Alter, Connection};
 use std::alloc::Global;
 
 /// The ledger of this site, over a connection to its tables, each of whose cells is the data set
-/// itself; the number of its next line is `next`, and the moment that it was told (milliseconds since
-/// 1970) is `moment`.
+/// itself. The number of its next line is `next`, and the moment that it was told (milliseconds
+/// since 1970) is `moment`.
 pub fn in_rows<S: Alter>(
     alloc: Global,
     conn: Connection<S>,
