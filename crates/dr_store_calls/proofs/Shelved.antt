@@ -36,7 +36,7 @@ use Rattle.dr_store_calls.proofs.Takings.{arrives_own}
 read_some : (s : Syntax) (body : List ℕ) (values : Attributes) → Scans s body (Ok values) → IsUid values.instance → 0 < length body
 read_some s [] values scans is =
     let none = one_reading s [] scans.0 [] scans.1 refl in
-    let nothing : values.instance ≡ [] = scans.2.1 ∙ ap (value_at 0x0008 0x0018) none in
+    let nothing : values.instance ≡ [] = scans.3 ∙ ap (value_at 0x0008 0x0018) none in
     let some = is.0 in
     absurd (omega (arith, some, ap length nothing))
 read_some s (byte ∷ more) values scans is = omega arith
