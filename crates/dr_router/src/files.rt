@@ -13,11 +13,13 @@ use dr_site::Site;
 use dr_store::SqlLedger;
 use dr_store_audit::{is_ours, lacking};
 use dr_store_open::{OpeningFault, ledger_on};
+use dr_store_shelf::InRow;
 use dr_word_check::Disk;
 use dr_word_rehearse::{Finds, LedgerFound};
 use sqlite::{Alter, Connection, Error, ErrorCode, File, FileStore};
 use std::alloc::Global;
 use std::io::ErrorKind;
+use std::time::Clock;
 use std::{fs, io};
 
 /// Where databases are opened by a path.
@@ -29,6 +31,9 @@ pub trait Databases {
 
     /// Whether something is there, or it can't be told.
     fn is_there(&self, path: &str) -> bool;
+
+    /// The present moment (milliseconds since 1970), if it can be told.
+    fn now(&self) -> Option<u64>;
 }
 
 /// The system's files.
@@ -48,6 +53,11 @@ impl<'a> Databases for SystemFiles<'a> {
             Ok(_) => true,
             Err(error) => !matches!(error.kind(), ErrorKind::NotFound | ErrorKind::NotADirectory),
         }
+    }
+
+    fn now(&self) -> Option<u64> {
+        let time = self.0.since_1970().ok()?;
+        u64::try_from(time.as_millis()).ok()
     }
 }
 
@@ -125,17 +135,18 @@ fn ledger_fault(fault: OpeningFault) -> OpenFault
     }
 }
 
-/// The ledger of a site over a connection to its database.
+/// The ledger of a site over a connection to its database, which is told the moment.
 fn ledger_over<S: Alter + Drop>(
     alloc: Global,
     conn: Connection<S>,
     site: Site,
-) -> Result<SqlLedger<S>, OpenFault>
+    now: Option<u64>,
+) -> Result<SqlLedger<S, InRow>, OpenFault>
     requires { conn.in_transaction ≡ false }
     ensures of { IfOk result (λ l. l.site ≡ site) }
     ensures is { IfOk result (λ l. HasLedgerIn l.site (state S.Store l.conn)) }
 {
-    match ledger_on(alloc, conn, site) {
+    match ledger_on(alloc, conn, site, now) {
         Ok(ledger) => Ok(ledger),
         Err(fault) => Err(ledger_fault(fault)),
     }
@@ -151,7 +162,7 @@ impl<D: Databases + Drop> Ledgers for StoredLedgers<D> {
     ghost use Rattle.sqlite.specs.Held.{state};
     ghost use Rattle.dr_router.specs.Opening.{HasLedgerIn};
 
-    type Ledger = SqlLedger<D::Store>;
+    type Ledger = SqlLedger<D::Store, InRow>;
 
     ghost opens = { λ files path ledger.
         HasLedgerIn ledger.site (state D.Store.Store ledger.conn) };
@@ -162,12 +173,12 @@ impl<D: Databases + Drop> Ledgers for StoredLedgers<D> {
         path: &str,
         site: Site,
         making: Making,
-    ) -> Result<SqlLedger<D::Store>, OpenFault> {
+    ) -> Result<SqlLedger<D::Store, InRow>, OpenFault> {
         if let Some(fault) = making.refusal(self.0.is_there(path)) {
             return Err(fault);
         }
         match self.0.open_database(path) {
-            Ok(conn) => ledger_over(alloc, conn, site),
+            Ok(conn) => ledger_over(alloc, conn, site, self.0.now()),
             Err(error) => Err(file_fault(&error)),
         }
     }
@@ -179,7 +190,8 @@ fn found_over<S: Alter + Drop>(
     alloc: Global,
     conn: Connection<S>,
     site: Site,
-) -> Result<LedgerFound<SqlLedger<S>>, OpenFault>
+    now: Option<u64>,
+) -> Result<LedgerFound<SqlLedger<S, InRow>>, OpenFault>
     requires { conn.in_transaction ≡ false }
     ensures { IfOk result (IsFoundBy (λ l. HasLedgerIn l.site (state S.Store l.conn)) (λ l. l.site)
         site) }
@@ -190,7 +202,7 @@ fn found_over<S: Alter + Drop>(
         }
         return Err(OpenFault::OtherSite);
     }
-    match ledger_over(alloc, conn, site) {
+    match ledger_over(alloc, conn, site, now) {
         Ok(ledger) => Ok(LedgerFound::Ledger(ledger)),
         Err(fault) => Err(fault),
     }
@@ -202,12 +214,12 @@ impl<D: Databases + Drop> Finds for StoredLedgers<D> {
         alloc: Global,
         path: &str,
         site: Site,
-    ) -> Result<LedgerFound<SqlLedger<D::Store>>, OpenFault> {
+    ) -> Result<LedgerFound<SqlLedger<D::Store, InRow>>, OpenFault> {
         if !self.0.is_there(path) {
             return Ok(LedgerFound::Nothing);
         }
         match self.0.open_database(path) {
-            Ok(conn) => found_over(alloc, conn, site),
+            Ok(conn) => found_over(alloc, conn, site, self.0.now()),
             Err(error) => Err(file_fault(&error)),
         }
     }

@@ -12,6 +12,7 @@ use Rattle.sqlite_tied.specs.Listing.{count_rows}
 use Rattle.sqlite_value.specs.declared.keys.Key.{Key}
 use Rattle.sqlite_value.specs.Keys.{ascending}
 use Rattle.dr_store_views.specs.Statements as text
+use Rattle.dr_store_writes.proofs.Commands.{by_uid, over}
 use Rattle.dr_store_reads.proofs.Selects.{Is}
 use Rattle.dr_store_lists.proofs.Wholes.{all_lines_order, all_lines_shown, all_targets_order, all_targets_shown}
 
@@ -143,3 +144,18 @@ lines_behind = record { command = refl; listing = refl; plain = (refl, refl) }
 pub targets_behind : Is text.targets_behind (spanned 12 1 all_targets_shown all_targets_order) (codes "n" ∷ codes "dest" ∷ [])
 unfolding understood everything
 targets_behind = record { command = refl; listing = refl; plain = (refl, refl) }
+
+-- ---- when an instance came
+
+pub line_of : Is text.line_of (over 1 by_uid (col 1 0 ∷ [])) (codes "rowid" ∷ [])
+unfolding understood everything
+line_of = record { command = refl; listing = refl; plain = (refl, refl) }
+
+-- WHERE n = ?1 AND kind = 0 AND uid = ?2
+abbrev pub by_number : List Term
+by_number =
+    op2 (Compare Eq Binary) (col 1 0) (col 0 0) ∷ op2 (Compare Eq Binary) (col 1 2) (lit (Int (pos 0))) ∷ op2 (Compare Eq Binary) (col 1 4) (col 0 1) ∷ []
+
+pub moment_of : Is text.moment_of (over 11 by_number (col 1 7 ∷ [])) (codes "moment" ∷ [])
+unfolding understood everything
+moment_of = record { command = refl; listing = refl; plain = (refl, refl) }

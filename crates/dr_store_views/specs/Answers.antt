@@ -1,10 +1,14 @@
 -- What the answers of these queries say.
-use Rattle.std.specs.Prelude.{◌≡◌, ◌<◌, ◌-◌, ◌^◌, ℕ, List, Option, None, Some}
+use Rattle.std.specs.Prelude.{◌≡◌, ◌<◌, ◌-◌, ◌^◌, ℕ, List, [], ◌∷◌, Option, None, Some}
+use Rattle.sqlite.specs.declared.types.Value.TheVariants.{Text as TextCell}
 use Rattle.sqlite.specs.Order.{Row, column}
-use Rattle.dr_store_schema.specs.Cells.{number_in}
+use Rattle.sqlite.specs.State.{Shown, State}
+use Rattle.dr_base.specs.Texts.{Text}
+use Rattle.dr_store_schema.specs.Cells.{moment_in, moment_value, number_in}
 use Rattle.dr_store_reads.specs.Queries.{first_of}
 use Rattle.dr_ledger_views.specs.declared.stage.Stage.{Stage}
 use Rattle.dr_ledger_views.specs.Views.{number_of}
+use Rattle.dr_store_views.specs.Statements as text
 
 -- The first row says this number, and it is below the one at which the database stops to count.
 pub record IsCount (rows : List Row) (count : ℕ) : Type 0 where
@@ -23,3 +27,31 @@ least_state (Some stage) = number_of stage
 abbrev pub greatest_state : Option Stage → ℕ
 greatest_state None = 3
 greatest_state (Some stage) = number_of stage
+
+-- ---- when an instance came
+
+-- the moment in the first row, if there is one
+abbrev pub first_moment_in : List Row → Option ℕ
+first_moment_in [] = None
+first_moment_in (row ∷ rows) = moment_in (column row 0)
+
+-- the number under which the instance of that uid stands, as a query shows it
+abbrev pub IsLineShown : Text → State → State → Option ℕ → Type 0
+IsLineShown uid old new n =
+    (rows : List Row) × Shown text.line_of (TextCell uid ∷ []) old new rows × IsMoment rows n
+
+-- the moment of that line of its first arrival, as a query shows it
+abbrev pub IsMomentShown : ℕ → Text → State → State → Option ℕ → Type 0
+IsMomentShown n uid old new moment =
+    (rows : List Row)
+    × Shown text.moment_of (moment_value (Some n) ∷ TextCell uid ∷ []) old new rows
+    × (moment ≡ first_moment_in rows)
+
+-- A moment that is told is that of the line by which the instance came, as the one query shows the
+-- number of it, and then the other one its moment.
+abbrev pub CameAs : Text → State → State → Option ℕ → Type 0
+CameAs uid old new None = Unit {0}
+CameAs uid old new (Some moment) =
+    (n : ℕ) × (mid : State)
+    × IsLineShown uid old mid (Some n)
+    × IsMomentShown n uid mid new (Some moment)

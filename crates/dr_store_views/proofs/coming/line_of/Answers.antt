@@ -1,0 +1,21 @@
+use Rattle.std.proofs.Common.{◌∙◌, ap, subst, sym}
+use Rattle.sqlite.specs.Listing.{understood}
+use Rattle.sqlite.proofs.Callers.{IsPlain}
+use Rattle.dr_store_views.specs.Statements as text
+use Rattle.dr_store_reads.proofs.Outcomes.{decoded, reads_map, refused}
+use Rattle.dr_store_views.proofs.Selects as select
+use Rattle.dr_store_views.proofs.Counted.{number_first}
+use Rattle.dr_store_views.proofs.coming.line_of.Goals as goal
+
+pub returns-in_err-rows : goal.returns-in_err-rows
+returns-in_err-rows g c =
+    record { asked = refused c.from_residual.ensures (λ has. subst (λ s. IsPlain (understood s text.line_of)) (sym has.schema) select.line_of.plain) c.in_err-rows.ensures.asked }
+
+pub returns : goal.returns
+returns g c =
+    let rows = c.in_ok-rows.rows.items in
+    record {
+      asked = decoded _ (λ has. subst (λ s. IsPlain (understood s text.line_of)) (sym has.schema) select.line_of.plain)
+          (λ has shown. reads_map c.moment_in.result (λ n is. (rows, rw c.as_bytes.ensures at shown, is ∙ ap number_first c.as_slice.ensures.value)) c.moment_in.ensures)
+          c.in_ok-rows.ensures.asked;
+    }
