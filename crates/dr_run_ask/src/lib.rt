@@ -17,7 +17,7 @@ mod request;
 
 pub use answer::{HttpAnswer, MOST, answer_in};
 pub use asking::{Asks, Meant, refusal, see, tell};
-pub use call::{HttpCall, dest_form, reason_form, row_form, rows_form, uid_form};
+pub use call::{HttpCall, copy_form, dest_form, reason_form, row_form, rows_form, uid_form};
 pub use fault::AskFault;
 pub use lines::{first_value, number_at, text_at, value_of};
 pub use request::request_bytes;
