@@ -1,6 +1,6 @@
 -- Whether a report may take the place of what is at a path, and whether a copy may be made there.
 use Rattle.std.specs.Prelude.{◌≡◌, ◌⊎◌, List, Contains, Result, Ok, Err}
-use Rattle.dr_run_report.specs.Names.{IsBesideDatabase, IsLedgerName}
+use Rattle.dr_run_report.specs.Names.{IsLedgerName}
 use Rattle.dr_run_report.specs.declared.judging.FileId.{FileId}
 use Rattle.dr_run_report.specs.declared.judging.PathTarget.{PathTarget}
 use Rattle.dr_run_report.specs.declared.judging.PathTarget.TheVariants.{Nothing, Report, Other}
@@ -50,15 +50,13 @@ JudgesPlace ledgers files place (Err NoReport) =
     (IsOwn ledgers files place → ⊥) × (HasRoom place.found → ⊥)
 JudgesPlace ledgers files place (Err IsThere) = ⊥
 
--- the ledger doesn't take the name, nor would one whose database has the name without its end
-abbrev pub IsFree : List Spot → Spot → Type 0
-IsFree ledgers spot = (IsTakenBy ledgers spot → ⊥) × (IsBesideDatabase spot.name → ⊥)
-
--- What is answered of a place at which a copy is to be made: it may just where the name is free and
--- nothing is there, not even a link. That the name isn't free comes first.
+-- What is answered of a place at which a file of a copy is to be made: it may just where the ledger
+-- doesn't take the name and nothing is there, not even a link. That the ledger takes it comes
+-- first.
 abbrev pub JudgesNew : List Spot → ReportPlace → Result (Unit {0}) ReportFault → Type 0
-JudgesNew ledgers place (Ok done) = IsFree ledgers place.spot × (place.found ≡ Nothing)
-JudgesNew ledgers place (Err OwnFile) = IsFree ledgers place.spot → ⊥
+JudgesNew ledgers place (Ok done) =
+    (IsTakenBy ledgers place.spot → ⊥) × (place.found ≡ Nothing)
+JudgesNew ledgers place (Err OwnFile) = IsTakenBy ledgers place.spot
 JudgesNew ledgers place (Err NoReport) = ⊥
 JudgesNew ledgers place (Err IsThere) =
-    IsFree ledgers place.spot × (place.found ≡ Nothing → ⊥)
+    (IsTakenBy ledgers place.spot → ⊥) × (place.found ≡ Nothing → ⊥)

@@ -1,5 +1,6 @@
 //! What is asked of a file system before a report is written, or a copy is made.
 use crate::judging::{FileId, ReportFault, ReportPlace, Spot, judge, judge_new};
+use crate::names::is_beside_database;
 use std::alloc::{AllocError, Global};
 use std::io;
 use std::io::ErrorKind;
@@ -162,8 +163,15 @@ fn test_new<P: Paths>(
     Ok(judge_new(ledgers, &place))
 }
 
+/// Whether a database of that path would be taken for the log of another.
+fn is_beside_another<P: Paths>(alloc: Global, paths: &P, path: &str) -> io::Result<bool> {
+    let place = paths.place(alloc, path)?;
+    Ok(is_beside_database(place.spot.name.as_bytes()))
+}
+
 /// Tests whether the ledger may be copied to a path: by `judge_new`, of each file that the copy
-/// takes, and of those that are written before.
+/// takes, and of those that are written before. The path is no name that SQLite would take for a
+/// file beside another database.
 ///
 /// Errors: OwnFile, IsThere; those of the file system, also where the copy's folder isn't there;
 /// want of memory.
@@ -173,6 +181,9 @@ pub fn test_copy<P: Paths>(
     ledger: &str,
     copy: &str,
 ) -> io::Result<Result<(), ReportFault>> {
+    if is_beside_another(alloc, paths, copy)? {
+        return Ok(Err(ReportFault::OwnFile));
+    }
     let databases = database_paths(alloc, paths, ledger)?;
     let spots = spots_of(alloc, paths, databases.as_slice())?;
     for end in COPY_ENDS {

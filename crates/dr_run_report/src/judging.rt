@@ -1,10 +1,10 @@
 //! Whether a report may take the place of what is at a path.
 ghost use Rattle.std.specs.Prelude.{◌≡◌, ◌↔◌, IsTrue};
 ghost use Rattle.dr_run_report.specs.Places.{HasRoom, IsAmong, IsFileOf, IsOwn, IsTakenBy};
-ghost use Rattle.dr_run_report.specs.Places.{IsFree, JudgesNew, JudgesPlace, TakesName};
+ghost use Rattle.dr_run_report.specs.Places.{JudgesNew, JudgesPlace, TakesName};
 ghost use Rattle.dr_run_report.specs.declared.judging.PathTarget.TheVariants.{Nothing};
 
-use crate::names::{is_beside_database, is_ledger_name};
+use crate::names::is_ledger_name;
 use dr_base::Text;
 use dr_base::same::Same;
 use thiserror::Error;
@@ -141,14 +141,6 @@ pub fn judge(ledgers: &[Spot], files: &[FileId], place: &ReportPlace) -> Result<
     Err(ReportFault::NoReport)
 }
 
-/// Whether no ledger's file has the name of the spot, as far as names tell: neither one of this
-/// ledger, nor one that lies beside the database of another.
-fn is_free(ledgers: &[Spot], spot: &Spot) -> bool
-    ensures { IsTrue result ↔ IsFree ledgers.now spot.now }
-{
-    !is_taken(ledgers, spot) && !is_beside_database(spot.name.as_bytes())
-}
-
 /// Whether nothing was found.
 fn is_nothing(found: &PathTarget) -> bool
     ensures { IsTrue result ↔ (found.now ≡ Nothing) }
@@ -159,14 +151,14 @@ fn is_nothing(found: &PathTarget) -> bool
     }
 }
 
-/// Whether a copy of the ledger may be made at the place: the ledger's database stands at these
-/// spots (as it is named, and where links lead).
+/// Whether a file of a copy of the ledger may be made at the place: the ledger's database stands at
+/// these spots (as it is named, and where links lead).
 ///
 /// Errors: OwnFile, IsThere.
 pub fn judge_new(ledgers: &[Spot], place: &ReportPlace) -> Result<(), ReportFault>
     ensures { JudgesNew ledgers.now place.now result }
 {
-    if !is_free(ledgers, &place.spot) {
+    if is_taken(ledgers, &place.spot) {
         return Err(ReportFault::OwnFile);
     }
     if is_nothing(&place.found) {
