@@ -509,7 +509,7 @@ def refusals():
         form = urllib.parse.urlencode(row)
         node = Asked(room, 'CT1', 0, '--control-host', 'node.example')
         bearer = f'Bearer {TOKEN}'
-        for path in '/requeue', '/drop', '/forget', '/visit', '/stop':
+        for path in '/requeue', '/drop', '/forget', '/visit', '/backup', '/stop':
             same(node.ask('POST', path, row), (401, '{"fault":"Token"}\n'))
             for given in TOKEN, f'Basic {TOKEN}', f'bearer {TOKEN}', f'Bearer {TOKEN[:-1]}', f'Bearer {TOKEN}x', f'Bearer {TOKEN[:-1]}X', 'Bearer ', 'Bearer':
                 same(node.ask('POST', path, row, Authorization=given)[0], 401)
@@ -536,10 +536,62 @@ def refusals():
     with Room() as room:
         hold(room)
         node = Asked(room, 'CT1', 0, token=False)
-        for path in '/requeue', '/drop', '/forget', '/visit', '/stop':
+        for path in '/requeue', '/drop', '/forget', '/visit', '/backup', '/stop':
             same(node.ask('POST', path, row, Authorization=bearer), (403, '{"fault":"Closed"}\n'))
         same(node.read('/rows?dest=GATE&state=held')[0]['uid'], '1.2.3.4')
         stop(node.process)
+
+
+def backups():
+    """The ledger is copied to a path where nothing is, of the node's machine and from its root: two files, that nobody but their owner may read.
+    Where that is refused, or fails, nothing is there then that wasn't before."""
+    with Room() as room:
+        node = Asked(room, 'GATE', 0)
+        with Requestor(room.ports['GATE'], 'CT1', 'GATE') as link:
+            same(link.store(b'1.2.3.4', data_set(b'1.2.3.4')), 0)
+        os.mkdir(f'{room.folder}/copies')
+        for name in 'there.db', 'log.db-wal', 'part.db.part', 'late.db-wal.part':
+            room.put(f'copies/{name}', b'not to be lost')
+        os.symlink('nowhere', f'{room.folder}/copies/link.db')
+        os.symlink('GATE.db', f'{room.folder}/second.db')
+        before = sorted(os.listdir(room.folder)), sorted(os.listdir(f'{room.folder}/copies'))
+        copy = f'{room.folder}/copies/GATE.db'
+        same(node.ask('POST', '/backup', {'copy': copy}), (401, '{"fault":"Token"}\n'))
+        same(node.ask('GET', f'/backup?copy={copy}')[0], 405)
+        same(node.act('/backup'), (400, '{"fault":"Field"}\n'))
+        same(node.act('/backup', uid='1.2.3.4'), (400, '{"fault":"Field"}\n'))
+        for path in 'copy.db', '', './copy.db', '\udcff/copy.db':
+            same(node.act('/backup', copy=path.encode('utf-8', 'surrogateescape')), (400, '{"fault":"Q4 NoPath"}\n'))
+        for name in 'there', 'log', 'part', 'late', 'link':
+            same(node.act('/backup', copy=f'{room.folder}/copies/{name}.db'), (409, '{"fault":"Q3 IsThere"}\n'))
+        same(node.act('/backup', copy=f'{room.folder}/second.db'), (409, '{"fault":"Q3 IsThere"}\n'))
+        # the ledger's own names, whether a file has them or not, by whatever path, and what would be another ledger's log
+        for name in 'GATE.db', 'GATE.db-wal', 'GATE.db-journal', 'GATE.db-shm', 'GATE.db.new', 'GATE.db.data', 'copies/../GATE.db', 'copies/ARCH.db-wal', 'copies/ARCH.db-journal':
+            same(node.act('/backup', copy=f'{room.folder}/{name}'), (409, '{"fault":"Q1 OwnFile"}\n'))
+        same(node.act('/backup', copy=f'{room.folder}/nowhere/GATE.db'), (503, '{"fault":"Q7 NoCopy"}\n'))
+        same((sorted(os.listdir(room.folder)), sorted(os.listdir(f'{room.folder}/copies'))), before)
+        same(node.act('/backup', copy=copy), DONE)
+        same(sorted(set(os.listdir(f'{room.folder}/copies')) - set(before[1])), ['GATE.db', 'GATE.db-wal'])
+        for name in copy, f'{copy}-wal':
+            same(os.stat(name).st_mode & 0o777, 0o600)
+        same(node.act('/backup', copy=copy), (409, '{"fault":"Q3 IsThere"}\n'))
+        # of many at the same time the others are refused while one is made
+        answers = []
+        askers = [threading.Thread(target=lambda number=number: answers.append((number, node.act('/backup', copy=f'{copy}.{number}')))) for number in range(8)]
+        for asker in askers:
+            asker.start()
+        for asker in askers:
+            asker.join()
+        made = sorted(f'GATE.db.{number}' for number, answer in answers if answer == DONE)
+        assert made and all(answer in (DONE, (409, '{"fault":"Q5 Busy"}\n')) for _, answer in answers), answers
+        same(sorted(name for name in os.listdir(f'{room.folder}/copies') if re.fullmatch('GATE.db.[0-9]', name)), made)
+        same(node.act('/stop'), DONE)
+        got = ended(node.process)
+        same(lines(room.at('list', 'GATE', ledger='copies/GATE.db').stdout), got)
+        said = [event[3] for event in room.events('GATE') if event[2] == 'control' and event[3].startswith('backup ')]
+        assert re.fullmatch(f'backup copy="{copy}" lines=1 bytes=[0-9]+ milliseconds=[0-9]+', next(line for line in said if 'bytes=' in line)), said
+        assert f'backup copy="{room.folder}/GATE.db" fault="Q1 OwnFile"' in said, said
+        assert any(line.startswith(f'backup copy="{room.folder}/nowhere/GATE.db" fault="Q7 NoCopy" error="') for line in said), said
 
 
 def places():
@@ -731,7 +783,7 @@ def main():
         return attack(*map(int, sys.argv[2:]))
     if sys.argv[1:] == ['--more']:
         return run_cases('control --more', flood_of_20_000)
-    return run_cases('control', reads, journal, page, acts, orders, hurried, forms, associations, responses, refusals, places, hostile, flood)
+    return run_cases('control', reads, journal, page, acts, orders, hurried, forms, associations, responses, refusals, backups, places, hostile, flood)
 
 
 if __name__ == '__main__':

@@ -310,6 +310,8 @@ IsErrandOf words given (errands.Forget uid) =
     IsToRunning (codes "forget") words given (uid ∷ []) × IsNoOption uid.now
 IsErrandOf words given (errands.Visit dest) =
     IsToRunning (codes "visit") words given (dest ∷ []) × IsNoOption dest.now
+IsErrandOf words given (errands.Backup copy) =
+    IsToRunning (codes "backup") words given (copy ∷ []) × IsNoOption copy.now
 IsErrandOf words given errands.Stop = IsToRunning (codes "stop") words given []
 
 -- the word adopt, the paths of a plan and its certificate, those of the next plan and its

@@ -30,6 +30,7 @@ pub(crate) enum Choice {
     Uid,
     Next,
     Visited,
+    Copy,
     Reason,
     Other,
     AllHeld,
@@ -73,6 +74,7 @@ impl<'a> Makes<Arg<'a>> for Choice {
             Choice::Uid => Ok(needed(alloc, "UID", "the SOP instance UID")),
             Choice::Next => Ok(needed(alloc, "DEST", "the node to which it is not to be sent")),
             Choice::Visited => Ok(needed(alloc, "DEST", "the node to which it is to send")),
+            Choice::Copy => Ok(copy(alloc)),
             Choice::Reason => reason(alloc),
             Choice::Other => Ok(other(alloc)),
             Choice::AllHeld => all_held(alloc),
@@ -204,6 +206,15 @@ fn at_token<'a>(alloc: Global) -> Result<Arg<'a>, AllocError> {
         .value_name("FILE")
         .help("with --at: the file with the token, which nobody but its owner may read")
         .requires_arg("AT")
+}
+
+/// Where a ledger is copied to.
+fn copy<'a>(alloc: Global) -> Arg<'a> {
+    needed(
+        alloc,
+        "COPY",
+        "the path of the copy on the node's machine, from the root; nothing may be there",
+    )
 }
 
 /// Why a row is given up.

@@ -259,6 +259,7 @@ fn errand_of<'a>(name: &str, given: &ArgMatches<'a>) -> Errand<'a> {
         },
         "forget" => Errand::Forget(uid_of(given)),
         "visit" => Errand::Visit(dest_of(given)),
+        "backup" => Errand::Backup(given.get_str("COPY").unwrap_or("")),
         _ => Errand::Stop,
     }
 }

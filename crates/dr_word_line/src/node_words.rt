@@ -83,6 +83,18 @@ pub(crate) fn visit<'a>(alloc: Global) -> Result<Command<'a>, AllocError> {
     )
 }
 
+/// The word `backup`.
+pub(crate) fn backup<'a>(alloc: Global) -> Result<Command<'a>, AllocError> {
+    let about = "Copies the ledger of a node that runs, which goes on";
+    word(
+        alloc,
+        "backup",
+        about,
+        RUNNING,
+        &[Choice::Copy, Choice::AtNeeded, Choice::AtToken],
+    )
+}
+
 /// The word `stop`.
 pub(crate) fn stop<'a>(alloc: Global) -> Result<Command<'a>, AllocError> {
     let about = "Ends a node that runs, in order";

@@ -198,6 +198,8 @@ pub enum Errand<'a> {
     Forget(&'a str),
     /// To visit that node now.
     Visit(&'a str),
+    /// To copy its ledger to a file of that path.
+    Backup(&'a str),
     /// To end in order.
     Stop,
 }

@@ -13,6 +13,7 @@ use dr_ledger::LedgerFault;
 use dr_ledger_report::report_of;
 use dr_ledger_views::Views;
 use dr_plan_model::Listens;
+use dr_run_backup::Backups;
 use dr_run_files::{Failure, Files, NodeFiles};
 use dr_run_net::{Limits, Listening, Network};
 use dr_run_open::{Halt, Ledgers, Making, NextHop, Opened, Status, finish, hops_of, open_node};
@@ -446,7 +447,7 @@ where
 pub fn serve_files<
     'a,
     R: Threads + Wait + Sync + time::Clock,
-    F: Files + Paths + Sync,
+    F: Files + Backups + Sync,
     O: Ledgers,
     N: Network + Sync,
     C: Clock + Sync,
@@ -480,6 +481,7 @@ where
         log: &logged,
         files: system.files,
         path: serving.report,
+        ledger: given.ledger,
     };
     let came = serve_until_ended(rt, alloc, system, &monitor, given, serving)?;
     finish(came, output, faults)
