@@ -151,32 +151,38 @@ module _ (ours : Ours) (plan : Network) (certificate : Certificate) where
   -- an end has its connection ended
   ended_step : (o : OwnWorld) (number : ℕ) (e : OwnEnd) → o.ends number ≡ Some e → (moment : Moment) → moment.now ≡ o.time → (x : Effect) (t : Desk) → IsEnded (LedgerStep plan e.node) e.terminal.core moment (o.desks e.node) x t
       → (step : OwnStep) × OwnSteps ours plan certificate o step (own.with_done o number (record { side = e.side; node = e.node; terminal = record { core = x.core; ear = e.terminal.ear } }) t)
-  ended_step o number e is moment now x t (inl reacts) = (own.Meets number input.Ended, record {
-    end = e;
-    there = is;
-    may = tt;
-    moment = moment;
-    now = now;
-    effect = x;
-    after = t;
-    reacts = reacts;
-    is = refl;
-  })
-  ended_step o number e is moment now x t (inr (gone, same, still)) = (own.Hears number heard.End, record {
-    end = e;
-    there = is;
-    moment = moment;
-    now = now;
-    acts = [];
-    left = end_of e.terminal;
-    core = x.core;
-    after = t;
-    none = λ accepts. tt;
-    hears = subst (λ (over : Bool). MeetsBy (LedgerStep plan e.node) over moment input.Ended e.terminal.core (end_of e.terminal) (o.desks e.node) (Ok []) (end_of e.terminal) t) (sym (ap is_gone gone))
-        (refl, refl, still);
-    lives = ap (λ (y : Effect). Some y.core) (sym same);
-    is = refl;
-  })
+  ended_step o number e is moment now x t (inl reacts) = (
+    own.Meets number input.Ended,
+    record {
+      end = e;
+      there = is;
+      may = tt;
+      moment = moment;
+      now = now;
+      effect = x;
+      after = t;
+      reacts = reacts;
+      is = refl;
+    },
+  )
+  ended_step o number e is moment now x t (inr (gone, same, still)) = (
+    own.Hears number heard.End,
+    record {
+      end = e;
+      there = is;
+      moment = moment;
+      now = now;
+      acts = [];
+      left = end_of e.terminal;
+      core = x.core;
+      after = t;
+      none = λ accepts. tt;
+      hears = subst (λ (over : Bool). MeetsBy (LedgerStep plan e.node) over moment input.Ended e.terminal.core (end_of e.terminal) (o.desks e.node) (Ok []) (end_of e.terminal) t) (sym (ap is_gone gone))
+          (refl, refl, still);
+      lives = ap (λ (y : Effect). Some y.core) (sym same);
+      is = refl;
+    },
+  )
 
   -- ---- a link is another now, or is new
 
@@ -243,16 +249,21 @@ module _ (ours : Ours) (plan : Network) (certificate : Certificate) where
         apart = s.apart;
         fresh = s.fresh;
       })
-      | inr away ↦ ([], o, refl, record {
-        has = record {
-          time = s.has.time;
-          desks = λ name mine. s.has.desks name mine ∙ sym (other_desk b.desks node t name mine away);
-          ends = s.has.ends;
-          gone = s.has.gone;
-        };
-        apart = s.apart;
-        fresh = s.fresh;
-      })
+      | inr away ↦ (
+        [],
+        o,
+        refl,
+        record {
+          has = record {
+            time = s.has.time;
+            desks = λ name mine. s.has.desks name mine ∙ sym (other_desk b.desks node t name mine away);
+            ends = s.has.ends;
+            gone = s.has.gone;
+          };
+          apart = s.apart;
+          fresh = s.fresh;
+        },
+      )
     ])
 
     does : (node : Text) (Does : Desk → Desk → Type 0) (t : Desk) → HasNode plan node → Does (b.desks node) t → ours node ≡ true → own.DoesAlone ours plan certificate o node Does (called node t)
@@ -445,8 +456,13 @@ module _ (ours : Ours) (plan : Network) (certificate : Certificate) where
         | inl its ↦ ours_calls its
         | inr away ↦ elim (cases_Bool (ours (receiver_of k))) [
           | inl also ↦ ours_receives away also
-          | inr too ↦ ([], o, refl, changed b o s number l single b.opened (omega arith) known desks o s.has.time (both_away away too)
-              (s.has.ends number k at ∙ (neither k away too ∙ sym (neither l (ap ours caller_same ∙ away) (ap ours receiver_same ∙ too)))) (λ n apart. refl))
+          | inr too ↦ (
+            [],
+            o,
+            refl,
+            changed b o s number l single b.opened (omega arith) known desks o s.has.time (both_away away too)
+                (s.has.ends number k at ∙ (neither k away too ∙ sym (neither l (ap ours caller_same ∙ away) (ap ours receiver_same ∙ too)))) (λ n apart. refl),
+          )
         ]
       ])
         where
@@ -1034,7 +1050,7 @@ module _ {L : Type 0} {l : Ghosts L} where
       let c = own_worlds_keep_the_claims ours plan certificate certified a.0 a.1 a.2 in (
         c.1,
         (λ name n is mine. sym ((c.3.desks name mine).0) ∙ (ap (λ (d : Desk). d.book) (a.3.desks name mine)
-        ∙ ap (λ (d : Desk). d.book) (r.3.2.desks name ∙ ap (λ (q : Option (Node L l)). desk_at (option_map seat_of q)) is))),
+            ∙ ap (λ (d : Desk). d.book) (r.3.2.desks name ∙ ap (λ (q : Option (Node L l)). desk_at (option_map seat_of q)) is))),
         (c.0, c.2),
         c.4,
       ))
