@@ -108,10 +108,13 @@ none_some k e = cc e
 no_end : (e : OwnEnd) → None ≡ Some e → ⊥
 no_end e h = cc h
 
+abbrev end_at : Side → Text → LiveTerminal → OwnEnd
+end_at side node terminal = record { side = side; node = node; terminal = terminal }
+
 -- which end is ours goes by the ends alone
 alike : (c r : Bool) (k l : Channel) → k.caller ≡ l.caller → k.receiver ≡ l.receiver → own_in c r k ≡ own_in c r l
-alike true r k l caller receiver = ap (λ (t : LiveTerminal). Some (record { side = Requestor; node = (site_in t.core.site).name; terminal = t })) caller
-alike false true k l caller receiver = ap (λ (t : LiveTerminal). Some (record { side = Acceptor; node = (site_in t.core.site).name; terminal = t })) receiver
+alike true r k l caller receiver = ap (λ (t : LiveTerminal). Some (end_at Requestor (site_in t.core.site).name t)) caller
+alike false true k l caller receiver = ap (λ (t : LiveTerminal). Some (end_at Acceptor (site_in t.core.site).name t)) receiver
 alike false false k l caller receiver = refl
 
 not_below_itself : (n : ℕ) → nat_cmp n n ≡ Less → ⊥
@@ -148,32 +151,38 @@ module _ (ours : Ours) (plan : Network) (certificate : Certificate) where
   -- an end has its connection ended
   ended_step : (o : OwnWorld) (number : ℕ) (e : OwnEnd) → o.ends number ≡ Some e → (moment : Moment) → moment.now ≡ o.time → (x : Effect) (t : Desk) → IsEnded (LedgerStep plan e.node) e.terminal.core moment (o.desks e.node) x t
       → (step : OwnStep) × OwnSteps ours plan certificate o step (own.with_done o number (record { side = e.side; node = e.node; terminal = record { core = x.core; ear = e.terminal.ear } }) t)
-  ended_step o number e is moment now x t (inl reacts) = (own.Meets number input.Ended, record {
-    end = e;
-    there = is;
-    may = tt;
-    moment = moment;
-    now = now;
-    effect = x;
-    after = t;
-    reacts = reacts;
-    is = refl;
-  })
-  ended_step o number e is moment now x t (inr (gone, same, still)) = (own.Hears number heard.End, record {
-    end = e;
-    there = is;
-    moment = moment;
-    now = now;
-    acts = [];
-    left = end_of e.terminal;
-    core = x.core;
-    after = t;
-    none = λ accepts. tt;
-    hears = subst (λ (over : Bool). MeetsBy (LedgerStep plan e.node) over moment input.Ended e.terminal.core (end_of e.terminal) (o.desks e.node) (Ok []) (end_of e.terminal) t) (sym (ap is_gone gone))
-        (refl, refl, still);
-    lives = ap (λ (y : Effect). Some y.core) (sym same);
-    is = refl;
-  })
+  ended_step o number e is moment now x t (inl reacts) = (
+    own.Meets number input.Ended,
+    record {
+      end = e;
+      there = is;
+      may = tt;
+      moment = moment;
+      now = now;
+      effect = x;
+      after = t;
+      reacts = reacts;
+      is = refl;
+    },
+  )
+  ended_step o number e is moment now x t (inr (gone, same, still)) = (
+    own.Hears number heard.End,
+    record {
+      end = e;
+      there = is;
+      moment = moment;
+      now = now;
+      acts = [];
+      left = end_of e.terminal;
+      core = x.core;
+      after = t;
+      none = λ accepts. tt;
+      hears = subst (λ (over : Bool). MeetsBy (LedgerStep plan e.node) over moment input.Ended e.terminal.core (end_of e.terminal) (o.desks e.node) (Ok []) (end_of e.terminal) t) (sym (ap is_gone gone))
+          (refl, refl, still);
+      lives = ap (λ (y : Effect). Some y.core) (sym same);
+      is = refl;
+    },
+  )
 
   -- ---- a link is another now, or is new
 
@@ -240,16 +249,21 @@ module _ (ours : Ours) (plan : Network) (certificate : Certificate) where
         apart = s.apart;
         fresh = s.fresh;
       })
-      | inr away ↦ ([], o, refl, record {
-        has = record {
-          time = s.has.time;
-          desks = λ name mine. s.has.desks name mine ∙ sym (other_desk b.desks node t name mine away);
-          ends = s.has.ends;
-          gone = s.has.gone;
-        };
-        apart = s.apart;
-        fresh = s.fresh;
-      })
+      | inr away ↦ (
+        [],
+        o,
+        refl,
+        record {
+          has = record {
+            time = s.has.time;
+            desks = λ name mine. s.has.desks name mine ∙ sym (other_desk b.desks node t name mine away);
+            ends = s.has.ends;
+            gone = s.has.gone;
+          };
+          apart = s.apart;
+          fresh = s.fresh;
+        },
+      )
     ])
 
     does : (node : Text) (Does : Desk → Desk → Type 0) (t : Desk) → HasNode plan node → Does (b.desks node) t → ours node ≡ true → own.DoesAlone ours plan certificate o node Does (called node t)
@@ -274,10 +288,10 @@ module _ (ours : Ours) (plan : Network) (certificate : Certificate) where
         | inr away ↦ away
       ]
 
-      caller_end : ours (caller_of k) ≡ true → o.ends number ≡ Some (record { side = Requestor; node = caller_of k; terminal = k.caller })
+      caller_end : ours (caller_of k) ≡ true → o.ends number ≡ Some (end_at Requestor (caller_of k) k.caller)
       caller_end its = s.has.ends number k at ∙ ap (λ (c : Bool). own_in c (ours (receiver_of k)) k) its
 
-      receiver_end : ours (receiver_of k) ≡ true → o.ends number ≡ Some (record { side = Acceptor; node = receiver_of k; terminal = k.receiver })
+      receiver_end : ours (receiver_of k) ≡ true → o.ends number ≡ Some (end_at Acceptor (receiver_of k) k.receiver)
       receiver_end its = s.has.ends number k at ∙ (ap (λ (c : Bool). own_in c (ours (receiver_of k)) k) (caller_away its) ∙ ap (λ (r : Bool). own_in false r k) its)
 
       -- at an end of ours
@@ -311,7 +325,7 @@ module _ (ours : Ours) (plan : Network) (certificate : Certificate) where
               | inl its ↦
                   let e : OwnEnd = record { side = Requestor; node = caller_of k; terminal = record { core = x.core; ear = ear } } in
                   let is : own_of ours l ≡ Some e = ap (λ (c : Bool). own_in c (ours (receiver_of l)) l) (ap ours same ∙ its)
-                  ∙ ap (λ (n : Text). Some (record { side = Requestor; node = n; terminal = l.caller })) same in
+                  ∙ ap (λ (n : Text). Some (end_at Requestor n l.caller)) same in
                   done l e t step single is (f its)
               | inr away ↦
                   let off : ours (caller_of l) ≡ false = ap ours same ∙ away in
@@ -335,7 +349,7 @@ module _ (ours : Ours) (plan : Network) (certificate : Certificate) where
               | inl its ↦
                   let e : OwnEnd = record { side = Acceptor; node = receiver_of k; terminal = record { core = x.core; ear = ear } } in
                   let is : own_of ours l ≡ Some e = ap (λ (c : Bool). own_in c (ours (receiver_of l)) l) (caller_away its)
-                  ∙ (ap (λ (r : Bool). own_in false r l) (ap ours same ∙ its) ∙ ap (λ (n : Text). Some (record { side = Acceptor; node = n; terminal = l.receiver })) same) in
+                  ∙ (ap (λ (r : Bool). own_in false r l) (ap ours same ∙ its) ∙ ap (λ (n : Text). Some (end_at Acceptor n l.receiver)) same) in
                   done l e t step single is (f its)
               | inr away ↦
                   let is : own_of ours l ≡ own_of ours k = ap (λ (r : Bool). own_in (ours (caller_of k)) r l) (ap ours same ∙ away)
@@ -350,7 +364,7 @@ module _ (ours : Ours) (plan : Network) (certificate : Certificate) where
       -- ---- what is asked of an end, or happens to it
 
       met_at : (side : Side) (node : Text) (end : LiveTerminal) (i : Input) (moment : Moment) (x : Effect) (t : Desk) → own.MayMeet i side
-          → o.ends number ≡ Some (record { side = side; node = node; terminal = end }) → moment.now ≡ b.time
+          → o.ends number ≡ Some (end_at side node end) → moment.now ≡ b.time
           → Reacts (LedgerStep plan node) end.core (at_moment moment i) (b.desks node) x t → ours node ≡ true
           → own.MeetsWhat ours plan certificate o number i (own.with_done o number (record { side = side; node = node; terminal = record { core = x.core; ear = end.ear } }) t)
       met_at side node end i moment x t may is now reacts its = record {
@@ -391,7 +405,7 @@ module _ (ours : Ours) (plan : Network) (certificate : Certificate) where
 
       heard_at : (side : Side) (node : Text) (end : LiveTerminal) (piece : List ℕ) (moment : Moment) (ear : Feeding) (x : Effect) (t : Desk) → is_over end.core ≡ false
           → (side ≡ Acceptor → NoneCallsAsOurs ours end.ear piece ear)
-          → o.ends number ≡ Some (record { side = side; node = node; terminal = end }) → moment.now ≡ b.time
+          → o.ends number ≡ Some (end_at side node end) → moment.now ≡ b.time
           → PlaysBytes (LedgerStep plan node) moment end.ear end.core piece (b.desks node) ear x t → ours node ≡ true
           → own.HearsWhat ours plan certificate o number (heard.Bytes piece) (own.with_done o number (record { side = side; node = node; terminal = record { core = x.core; ear = ear } }) t)
       heard_at side node end piece moment ear x t on none is now plays its = record {
@@ -442,8 +456,13 @@ module _ (ours : Ours) (plan : Network) (certificate : Certificate) where
         | inl its ↦ ours_calls its
         | inr away ↦ elim (cases_Bool (ours (receiver_of k))) [
           | inl also ↦ ours_receives away also
-          | inr too ↦ ([], o, refl, changed b o s number l single b.opened (omega arith) known desks o s.has.time (both_away away too)
-              (s.has.ends number k at ∙ (neither k away too ∙ sym (neither l (ap ours caller_same ∙ away) (ap ours receiver_same ∙ too)))) (λ n apart. refl))
+          | inr too ↦ (
+            [],
+            o,
+            refl,
+            changed b o s number l single b.opened (omega arith) known desks o s.has.time (both_away away too)
+                (s.has.ends number k at ∙ (neither k away too ∙ sym (neither l (ap ours caller_same ∙ away) (ap ours receiver_same ∙ too)))) (λ n apart. refl),
+          )
         ]
       ])
         where
@@ -483,7 +502,7 @@ module _ (ours : Ours) (plan : Network) (certificate : Certificate) where
               one o next h.0 (with_done (with_call b (receiver_of k) u) (caller_of k) t number l) h.1 (changed b o s number l single b.opened (omega arith) known desks next s.has.time
               (λ name mine. ap (λ (d : Desk). if same_text name (caller_of k) then t else d) (s.has.desks name mine ∙ sym (other_desk b.desks (receiver_of k) u name mine away)))
               (ap (λ (q : Bool). if q then Some next_end else o.ends number) (eq-eqb number number refl)
-              ∙ sym (ap (λ (q : Bool). own_in q (ours (receiver_of l)) l) (ap ours caller_same ∙ its) ∙ ap (λ (n : Text). Some (record { side = Requestor; node = n; terminal = l.caller })) caller_same))
+              ∙ sym (ap (λ (q : Bool). own_in q (ours (receiver_of l)) l) (ap ours caller_same ∙ its) ∙ ap (λ (n : Text). Some (end_at Requestor n l.caller)) caller_same))
               (λ n apart. ap (λ (q : Bool). if q then Some next_end else o.ends n) apart))
 
           ours_receives : ours (caller_of k) ≡ false → ours (receiver_of k) ≡ true → Goes o (with_done (with_call b (receiver_of k) u) (caller_of k) t number l)
@@ -496,7 +515,7 @@ module _ (ours : Ours) (plan : Network) (certificate : Certificate) where
               (λ name mine. ap (λ (d : Desk). if same_text name (receiver_of k) then u else d) (s.has.desks name mine) ∙ sym (other_desk (with_desk b.desks (receiver_of k) u) (caller_of k) t name mine away))
               (ap (λ (q : Bool). if q then Some next_end else o.ends number) (eq-eqb number number refl)
               ∙ sym (ap (λ (q : Bool). own_in q (ours (receiver_of l)) l) (ap ours caller_same ∙ away)
-              ∙ (ap (λ (q : Bool). own_in false q l) (ap ours receiver_same ∙ its) ∙ ap (λ (n : Text). Some (record { side = Acceptor; node = n; terminal = l.receiver })) receiver_same)))
+              ∙ (ap (λ (q : Bool). own_in false q l) (ap ours receiver_same ∙ its) ∙ ap (λ (n : Text). Some (end_at Acceptor n l.receiver)) receiver_same)))
               (λ n apart. ap (λ (q : Bool). if q then Some next_end else o.ends n) apart))
 
       -- ---- what another product writes
@@ -648,10 +667,10 @@ module _ (ours : Ours) (plan : Network) (certificate : Certificate) where
 
         by_own : (k : Channel) → map.get b.links i ≡ Some k → (c r : Bool) → own_in c r k ≡ Some e → ⊥
         by_own k at true r f =
-            let same : record { side = Requestor; node = caller_of k; terminal = k.caller } ≡ e = same_Some (record { side = Requestor; node = caller_of k; terminal = k.caller }) e f in
+            let same : end_at Requestor (caller_of k) k.caller ≡ e = same_Some (end_at Requestor (caller_of k) k.caller) e f in
             none (i, (k, at, ap (λ (z : OwnEnd). z.node) same ∙ named, ap (λ (z : OwnEnd). pending_of z.terminal.core.pending) same ∙ pends))
         by_own k at false true f =
-            let same : record { side = Acceptor; node = receiver_of k; terminal = k.receiver } ≡ e = same_Some (record { side = Acceptor; node = receiver_of k; terminal = k.receiver }) e f in
+            let same : end_at Acceptor (receiver_of k) k.receiver ≡ e = same_Some (end_at Acceptor (receiver_of k) k.receiver) e f in
             let g : Acceptor ≡ Requestor = ap (λ (z : OwnEnd). z.side) same ∙ calls in
             cc g
         by_own k at false false f = no_end e f
@@ -742,11 +761,11 @@ module _ (ours : Ours) (plan : Network) (certificate : Certificate) where
       own_gone its n k at there = elim (same_or_not texts (receiver_of k) node) [
         | inl called ↦
             let mine : ours (receiver_of k) ≡ true = ap ours called ∙ its in
-            ap (own.without_node node) (receiver_end n k at mine) ∙ ap (λ (c : Bool). if c then None else Some (record { side = Acceptor; node = receiver_of k; terminal = k.receiver })) (node_is (receiver_of k) called)
+            ap (own.without_node node) (receiver_end n k at mine) ∙ ap (λ (c : Bool). if c then None else Some (end_at Acceptor (receiver_of k) k.receiver)) (node_is (receiver_of k) called)
         | inr apart ↦
             let calls : caller_of k ≡ node = calls_there k there apart in
             let mine : ours (caller_of k) ≡ true = ap ours calls ∙ its in
-            ap (own.without_node node) (caller_end n k at mine) ∙ ap (λ (c : Bool). if c then None else Some (record { side = Requestor; node = caller_of k; terminal = k.caller })) (node_is (caller_of k) calls)
+            ap (own.without_node node) (caller_end n k at mine) ∙ ap (λ (c : Bool). if c then None else Some (end_at Requestor (caller_of k) k.caller)) (node_is (caller_of k) calls)
       ]
         where
           node_is : (name : Text) → name ≡ node → same_text name node ≡ true
@@ -1031,7 +1050,7 @@ module _ {L : Type 0} {l : Ghosts L} where
       let c = own_worlds_keep_the_claims ours plan certificate certified a.0 a.1 a.2 in (
         c.1,
         (λ name n is mine. sym ((c.3.desks name mine).0) ∙ (ap (λ (d : Desk). d.book) (a.3.desks name mine)
-        ∙ ap (λ (d : Desk). d.book) (r.3.2.desks name ∙ ap (λ (q : Option (Node L l)). desk_at (option_map seat_of q)) is))),
+            ∙ ap (λ (d : Desk). d.book) (r.3.2.desks name ∙ ap (λ (q : Option (Node L l)). desk_at (option_map seat_of q)) is))),
         (c.0, c.2),
         c.4,
       ))

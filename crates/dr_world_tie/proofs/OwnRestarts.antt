@@ -270,12 +270,17 @@ module _ (ours : Ours) (plan : Network) (certificate : Certificate) (b : OwnWorl
 
   callers : (n : ℕ) → Contains (callers_of w node) n → IsCaller node w n
   callers n among =
-      let c = (callers_are_those_who_call w node n).0 among in
-      (c.0, c.1, c.2, c.3, others c.0.caller (elim (cases_Bool (ours c.0.caller)) [
-        | inl mine ↦
-            absurd (false≢true (sym (receiver_away n c.0 c.1 mine) ∙ (ap ours c.2 ∙ own)))
-        | inr away ↦ away
-      ]))
+      let c = (callers_are_those_who_call w node n).0 among in (
+        c.0,
+        c.1,
+        c.2,
+        c.3,
+        others c.0.caller (elim (cases_Bool (ours c.0.caller)) [
+          | inl mine ↦
+              absurd (false≢true (sym (receiver_away n c.0 c.1 mine) ∙ (ap ours c.2 ∙ own)))
+          | inr away ↦ away
+        ]),
+      )
 
   all : AllLeft node w (callers_of w node)
   all = all_left node (callers_of w node) (as_pairs (callers_of w node) (restarts_in_order w node)) w
@@ -329,14 +334,13 @@ module _ (ours : Ours) (plan : Network) (certificate : Certificate) (b : OwnWorl
       by_of l at false e f =
           let same : l ≡ link = same_Some l link f in
           let none_of : is_of node (Some link) ≡ false =
-          subst (λ (z : Link). is_of node (Some z) ≡ false) same e in
-          (
+          subst (λ (z : Link). is_of node (Some z) ≡ false) same e in (
             sym (all.others n (λ among.
-            (let c = all.called n among in
-            let one : c.0 ≡ l = same_Some c.0 l (sym c.1 ∙ at) in
-            false≢true (sym e ∙ either (same_text l.caller node)
-            (named_node l.receiver (ap (λ (z : Link). z.receiver) (sym one) ∙ c.2))))))
-            ∙ (at ∙ f),
+                (let c = all.called n among in
+                let one : c.0 ≡ l = same_Some c.0 l (sym c.1 ∙ at) in
+                false≢true (sym e ∙ either (same_text l.caller node)
+                (named_node l.receiver (ap (λ (z : Link). z.receiver) (sym one) ∙ c.2))))))
+                ∙ (at ∙ f),
             first_false (same_text link.caller node) none_of,
           )
         where
