@@ -10,6 +10,7 @@ use Rattle.dr_ledger.specs.declared.item.Cause.{Cause}
 use Rattle.dr_ledger.specs.declared.item.Cause.TheVariants as cause
 use Rattle.dr_ledger.specs.declared.item.Progress.{Progress}
 use Rattle.dr_ledger.specs.declared.item.Progress.TheVariants as progress
+use Rattle.dr_ledger_views.specs.declared.moments.Origin.{Origin}
 use Rattle.dr_run_answer.specs.declared.association.OpenAssociation.{OpenAssociation}
 use Rattle.dr_run_answer.specs.declared.intake.Brought.{Brought}
 use Rattle.dr_run_answer.specs.declared.intake.Recent.{Recent}
@@ -69,10 +70,21 @@ abbrev pub row_line : Pair × Progress → Text
 row_line row =
     begun (codes "uid") row.0.0 ++ word (codes "dest") row.0.1 ++ progress_part row.1 ++ ended
 
--- the line of an instance: its data set is there; all its rows are over
-abbrev pub instance_line : Text → Bool → Bool → Text
-instance_line uid body over =
-    begun (codes "instance") uid ++ flag (codes "body") body ++ flag (codes "over") over ++ ended
+-- the moment (milliseconds) when an instance came, where it is known
+abbrev pub came_part : Option ℕ → Text
+came_part None = []
+came_part (Some moment) = number (codes "came") moment
+
+-- where an instance is from: its class, and when it came
+abbrev pub origin_part : Option Origin → Text
+origin_part None = []
+origin_part (Some origin) = word (codes "class") origin.class ++ came_part origin.moment
+
+-- the line of an instance: its data set is there; all its rows are over; where it is from
+abbrev pub instance_line : Text → Bool → Bool → Option Origin → Text
+instance_line uid body over origin =
+    begun (codes "instance") uid ++ flag (codes "body") body ++ flag (codes "over") over
+    ++ origin_part origin ++ ended
 
 -- a caller who brought it
 abbrev pub from_line : Text → Text

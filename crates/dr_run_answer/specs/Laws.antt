@@ -120,8 +120,12 @@ LinesAreWrittenSo =
     ≡ codes "dr_router_instances_total{caller=\"CT1\",answer=\"again\"} 3\n")
     × (bytes_of (record { caller = codes "CT1"; stored = 1; again = 2; refused = 3; bytes = 4 })
     ≡ codes "dr_router_stored_bytes_total{caller=\"CT1\"} 4\n")
-    × (instance_line (codes "1.2") true false
+    × (instance_line (codes "1.2") true false None
     ≡ codes "{\"instance\":\"1.2\",\"body\":true,\"over\":false}\n")
+    × (instance_line (codes "1.2") true false
+    (Some (record { class = codes "1.3"; moment = Some 7 }))
+    ≡ codes "{\"instance\":\"1.2\",\"body\":true,\"over\":false,\"class\":\"1.3\","
+    ++ codes "\"came\":7}\n")
     × (from_line (codes "CT1") ≡ codes "{\"from\":\"CT1\"}\n")
     × (own_row_line ((codes "1.2", codes "ARCH"), Waiting 3 9000)
     ≡ codes "{\"uid\":\"1.2\",\"dest\":\"ARCH\",\"state\":\"waiting\",\"tries\":3,\"due\":9000,"

@@ -1,14 +1,16 @@
 //! Lines of JSON.
 ghost use Rattle.std.specs.Prelude.{◌≡◌, ◌++◌, OnOk};
-ghost use Rattle.dr_run_answer.specs.Answers.{cause_part, done_line, due_part, fault_line};
+ghost use Rattle.dr_run_answer.specs.Answers.{came_part, cause_part, done_line, due_part, fault_line};
 ghost use Rattle.dr_run_answer.specs.Answers.{flag, held_part, instance_line, late_line};
-ghost use Rattle.dr_run_answer.specs.Answers.{line_of_node, line_of_queue, number, progress_part};
-ghost use Rattle.dr_run_answer.specs.Answers.{row_line, visit_part, waiting_part, well_line, word};
+ghost use Rattle.dr_run_answer.specs.Answers.{line_of_node, line_of_queue, number, origin_part};
+ghost use Rattle.dr_run_answer.specs.Answers.{progress_part, row_line, visit_part, waiting_part};
+ghost use Rattle.dr_run_answer.specs.Answers.{well_line, word};
 
 use dr_base::Text;
 use dr_base::fields::add_decimal;
 use dr_base_quoted::{put_quoted, put_text};
 use dr_ledger::{Cause, Progress};
+use dr_ledger_views::Origin;
 use std::alloc::AllocError;
 
 /// Which node it is: its name, the digest of its plan in lower-case hexadecimal digits, the version
@@ -173,14 +175,46 @@ pub fn put_row(
     Ok(())
 }
 
-/// Adds the line of an instance: whether its data set is there, and all its rows are over.
-pub fn put_instance(out: &mut Vec<u8>, uid: &Text, body: bool, over: bool) -> Result<(), AllocError>
-    ensures { OnOk result (out.new.items ≡ out.old.items ++ instance_line uid.now body over) }
+/// Adds when an instance came, where that is known.
+fn put_came(out: &mut Vec<u8>, moment: Option<u64>) -> Result<(), AllocError>
+    ensures { OnOk result (out.new.items ≡ out.old.items ++ came_part moment) }
+{
+    match moment {
+        Some(moment) => put_number(out, "came", moment),
+        None => Ok(()),
+    }
+}
+
+/// Adds where an instance is from, where that is known.
+fn put_origin(out: &mut Vec<u8>, origin: &Option<Origin>) -> Result<(), AllocError>
+    ensures { OnOk result (out.new.items ≡ out.old.items ++ origin_part origin.now) }
+{
+    match origin {
+        Some(origin) => {
+            put_named(out, "class", &origin.class)?;
+            put_came(out, origin.moment)
+        }
+        None => Ok(()),
+    }
+}
+
+/// Adds the line of an instance: whether its data set is there, whether all its rows are over, and
+/// where it is from.
+pub fn put_instance(
+    out: &mut Vec<u8>,
+    uid: &Text,
+    body: bool,
+    over: bool,
+    origin: &Option<Origin>,
+) -> Result<(), AllocError>
+    ensures { OnOk result
+        (out.new.items ≡ out.old.items ++ instance_line uid.now body over origin.now) }
 {
     out.extend_from_slice(b"{\"instance\":")?;
     put_text(out, uid)?;
     put_flag(out, "body", body)?;
     put_flag(out, "over", over)?;
+    put_origin(out, origin)?;
     out.extend_from_slice(b"}\n")?;
     Ok(())
 }
