@@ -4,7 +4,7 @@ ghost use Rattle.dr_run_answer.specs.Answers.{came_part, cause_part, done_line, 
 ghost use Rattle.dr_run_answer.specs.Answers.{flag, held_part, instance_line, late_line};
 ghost use Rattle.dr_run_answer.specs.Answers.{line_of_node, line_of_queue, number, origin_part};
 ghost use Rattle.dr_run_answer.specs.Answers.{progress_part, row_line, visit_part, waiting_part};
-ghost use Rattle.dr_run_answer.specs.Answers.{well_line, word};
+ghost use Rattle.dr_run_answer.specs.Answers.{waited_part, well_line, word};
 
 use dr_base::Text;
 use dr_base::fields::add_decimal;
@@ -60,6 +60,8 @@ pub struct Queue<'a> {
     pub held: u64,
     pub done: u64,
     pub due: Option<u64>,
+    /// For how many seconds the row that is there longest has waited, where one waits.
+    pub waited: Option<u64>,
     pub visit: Option<Visited>,
     pub visits: Visits,
 }
@@ -258,6 +260,16 @@ fn put_visit(out: &mut Vec<u8>, visit: Option<Visited>) -> Result<(), AllocError
     Ok(())
 }
 
+/// Adds for how long a row has waited, where one waits.
+fn put_waited(out: &mut Vec<u8>, waited: Option<u64>) -> Result<(), AllocError>
+    ensures { OnOk result (out.new.items ≡ out.old.items ++ waited_part waited) }
+{
+    match waited {
+        Some(seconds) => put_number(out, "waited", seconds),
+        None => Ok(()),
+    }
+}
+
 /// Adds the line of the rows to a node.
 pub fn put_queue(out: &mut Vec<u8>, queue: &Queue<'_>) -> Result<(), AllocError>
     ensures { OnOk result (out.new.items ≡ out.old.items ++ line_of_queue queue.now) }
@@ -268,6 +280,7 @@ pub fn put_queue(out: &mut Vec<u8>, queue: &Queue<'_>) -> Result<(), AllocError>
     put_number(out, "held", queue.held)?;
     put_number(out, "done", queue.done)?;
     put_due(out, queue.due)?;
+    put_waited(out, queue.waited)?;
     put_visit(out, queue.visit)?;
     out.extend_from_slice(b"}\n")?;
     Ok(())

@@ -213,11 +213,12 @@ module _ {L : Type 0} (site_of : L → Part) (book : L → Book) (stands : L →
 
 -- the figures of a queue are those that were counted of the rows to its node, and its visits are
 -- those that are known
-abbrev pub IsCounted : Text → HopTally → Option Visited → Visits → Queue → Type 0
-IsCounted dest tally visit visits queue =
+abbrev pub IsCounted : Text → HopTally → Option ℕ → Option Visited → Visits → Queue → Type 0
+IsCounted dest tally waited visit visits queue =
     (queue.dest.now ≡ dest) × (queue.waiting ≡ tally.waiting) × (queue.held ≡ tally.held)
     × (queue.done ≡ tally.done)
     × (queue.due ≡ tally.due)
+    × (queue.waited ≡ waited)
     × (queue.visit ≡ visit)
     × (queue.visits ≡ visits)
 

@@ -53,8 +53,14 @@ pub(crate) struct NodeReader<'a, R: Wait, L: Views, B: Sharing, H: House> {
 }
 
 /// How many rows are on their way to a node, as they were counted.
-fn queue_of(dest: &Text, tally: HopTally, visit: Option<Visited>, visits: Visits) -> Queue<'_>
-    ensures { IsCounted dest.now tally visit visits result }
+fn queue_of(
+    dest: &Text,
+    tally: HopTally,
+    waited: Option<u64>,
+    visit: Option<Visited>,
+    visits: Visits,
+) -> Queue<'_>
+    ensures { IsCounted dest.now tally waited visit visits result }
 {
     Queue {
         dest,
@@ -62,6 +68,7 @@ fn queue_of(dest: &Text, tally: HopTally, visit: Option<Visited>, visits: Visits
         held: tally.held,
         done: tally.done,
         due: tally.due,
+        waited,
         visit,
         visits,
     }
@@ -392,8 +399,9 @@ impl<'a, R: Wait, L: Views, B: Sharing, H: House> NodeReader<'a, R, L, B, H> {
         let mut queues = Vec::with_capacity(self.clerk.alloc, hops.len())?;
         for hop in hops {
             let tally = desk.tally(rt, &hop.dest)?;
+            let waited = self.waited(&hop.dest)?;
             let (visit, visits) = (house.visited(&hop.dest), house.visits(&hop.dest));
-            queues.push(queue_of(&hop.dest, tally, visit, visits))?;
+            queues.push(queue_of(&hop.dest, tally, waited, visit, visits))?;
         }
         Ok(queues)
     }
