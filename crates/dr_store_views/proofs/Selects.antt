@@ -118,9 +118,9 @@ pub page : Is text.page page_query names
 unfolding understood everything
 page = record { command = refl; listing = refl; plain = (refl, refl) }
 
--- ---- when an instance came
+-- ---- where an instance is from
 
-pub line_of : Is text.line_of (over 1 by_uid (col 1 0 ∷ [])) (codes "rowid" ∷ [])
+pub line_of : Is text.line_of (over 1 by_uid (col 1 0 ∷ col 1 2 ∷ [])) (codes "rowid" ∷ codes "class" ∷ [])
 unfolding understood everything
 line_of = record { command = refl; listing = refl; plain = (refl, refl) }
 
