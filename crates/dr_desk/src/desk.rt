@@ -7,7 +7,7 @@ use dr_base::{Seq, Text};
 use dr_cert::Sealed;
 use dr_ledger::{Arrived, Entry, Item, Job, Ledger, LedgerFault, LetsGo, Outcome, Progress};
 use dr_ledger_history::JournalLine;
-use dr_ledger_views::{Moments, Stage, Views};
+use dr_ledger_views::{Moments, Origin, Stage, Views};
 use dr_site::Site;
 
 /// A node's ledger, as the one who owns it calls it. It is a ledger itself: each call gives the
@@ -154,8 +154,8 @@ impl<L: Moments> Moments for Desk<L> {
         self.ledger.at(now);
     }
 
-    fn came_at(&mut self, uid: &Text) -> Result<Option<u64>, LedgerFault> {
-        self.ledger.came_at(uid)
+    fn origin_of(&mut self, uid: &Text) -> Result<Option<Origin>, LedgerFault> {
+        self.ledger.origin_of(uid)
     }
 }
 

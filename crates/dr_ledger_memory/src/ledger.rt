@@ -40,7 +40,7 @@ use dr_ledger_views::listing::{
     callers_of_all, count_all_arrivals, count_all_kept, count_all_rows, first_of_all, own_of_all,
     page_of_all,
 };
-use dr_ledger_views::{Moments, Stage, Views};
+use dr_ledger_views::{Moments, Origin, Stage, Views};
 use dr_route::Key;
 use dr_site::Site;
 use std::alloc::{AllocError, Global};
@@ -709,7 +709,7 @@ impl LetsGo for MemoryLedger {
 impl Moments for MemoryLedger {
     fn at(&mut self, _now: u64) {}
 
-    fn came_at(&mut self, _uid: &Text) -> Result<Option<u64>, LedgerFault> {
+    fn origin_of(&mut self, _uid: &Text) -> Result<Option<Origin>, LedgerFault> {
         Ok(None)
     }
 }

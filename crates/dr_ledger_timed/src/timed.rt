@@ -6,7 +6,7 @@ use dr_base::{Seq, Text};
 use dr_cert::Sealed;
 use dr_ledger::{Arrived, Entry, Item, Job, Ledger, LedgerFault, LetsGo, Outcome, Progress};
 use dr_ledger_history::JournalLine;
-use dr_ledger_views::{Moments, Stage, Views};
+use dr_ledger_views::{Moments, Origin, Stage, Views};
 use dr_site::Site;
 use std::time::Clock;
 
@@ -236,9 +236,9 @@ impl<'a, L: Moments, R: Clock> Moments for Timed<'a, L, R> {
         self.ledger.at(now);
     }
 
-    fn came_at(&mut self, uid: &Text) -> Result<Option<u64>, LedgerFault> {
+    fn origin_of(&mut self, uid: &Text) -> Result<Option<Origin>, LedgerFault> {
         let began = self.begin();
-        let answer = self.ledger.came_at(uid);
+        let answer = self.ledger.origin_of(uid);
         self.end(began);
         answer
     }

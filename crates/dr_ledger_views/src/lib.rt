@@ -1,5 +1,6 @@
 //! What is asked of a ledger without a list of all that it has: counts, the first moment at which a
-//! row is due, rows and lines of the journal in pages, who brought an instance, and when it came.
+//! row is due, rows and lines of the journal in pages, who brought an instance, and where it is
+//! from.
 //!
 //! What is shown of the book is said in `specs/Views.antt`. The trait `Views` stands over
 //! `Moments`, and that over `LetsGo`. In a list whose keys rise, what is of a key is found by a
@@ -14,6 +15,6 @@ mod stage;
 pub mod table;
 mod views;
 
-pub use moments::Moments;
+pub use moments::{Moments, Origin};
 pub use stage::{HopTally, Stage};
 pub use views::{Views, tally};

@@ -1,9 +1,17 @@
 //! Moments beside the lines of a journal.
 ghost use Rattle.std.specs.Prelude.{◌≡◌, ◌↔◌};
-ghost use Rattle.dr_ledger.specs.Replies.{Counts, LastsThrough};
+ghost use Rattle.dr_ledger.specs.Replies.{Counts, LastsThrough, Reads};
 
 use dr_base::Text;
 use dr_ledger::{LedgerFault, LetsGo};
+
+/// Where an instance is from, as people are told: its SOP class, and the moment (milliseconds since
+/// 1970) of the line by which it came first, where somebody told it.
+#[derive(Drop)]
+pub struct Origin {
+    pub class: Text,
+    pub moment: Option<u64>,
+}
 
 /// A ledger that is told the moment of what follows. Where its store has a place for it, it keeps
 /// the moment beside each line, so that people see when an instance came; no book has it.
@@ -19,9 +27,10 @@ pub trait Moments: LetsGo {
         ensures stands { Self.stands self.new ↔ Self.stands self.old }
         ensures trusts { Self.trusts self.new ↔ Self.trusts self.old };
 
-    /// The moment of the line by which the instance that is there came first; None where none is
-    /// there, or nobody told the moment. It only reads: Store and Memory.
-    fn came_at(&mut self, uid: &Text) -> Result<Option<u64>, LedgerFault>
+    /// Where the instance of this uid is from; None where none is there, or nobody can tell. It only
+    /// reads: Store and Memory.
+    fn origin_of(&mut self, uid: &Text) -> Result<Option<Origin>, LedgerFault>
+        ensures reply { Self.stands self.new → Reads result (λ origin. Unit {0}) }
         ensures same { Self.stands self.new
             → (Self.book self.new ≡ Self.book self.old)
             × (Self.bodies self.new ≡ Self.bodies self.old) }

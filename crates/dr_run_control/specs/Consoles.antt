@@ -14,6 +14,7 @@ use Rattle.dr_desk.specs.declared.receipt.Call.{Call}
 use Rattle.dr_desk.specs.declared.receipt.Call.TheVariants.{Requeuing, Dropping, Forgetting}
 use Rattle.dr_desk.specs.declared.receipt.Receipt.{Receipt}
 use Rattle.dr_desk.specs.declared.receipt.Reply.TheVariants.{Done}
+use Rattle.dr_ledger_views.specs.declared.moments.Origin.{Origin}
 use Rattle.dr_ledger_views.specs.declared.stage.HopTally.{HopTally}
 use Rattle.dr_ledger_views.specs.Views.{AreCallers, page_of, rows_of}
 use Rattle.dr_ledger.specs.Bodies.{Bodies}
@@ -236,11 +237,12 @@ module _ {L : Type 0} (site_of : L → Part) (book : L → Book) (stands : L →
 
 -- the figures of a queue are those that were counted of the rows to its node, and its visits are
 -- those that are known
-abbrev pub IsCounted : Text → HopTally → Option Visited → Visits → Queue → Type 0
-IsCounted dest tally visit visits queue =
+abbrev pub IsCounted : Text → HopTally → Option ℕ → Option Visited → Visits → Queue → Type 0
+IsCounted dest tally waited visit visits queue =
     (queue.dest.now ≡ dest) × (queue.waiting ≡ tally.waiting) × (queue.held ≡ tally.held)
     × (queue.done ≡ tally.done)
     × (queue.due ≡ tally.due)
+    × (queue.waited ≡ waited)
     × (queue.visit ≡ visit)
     × (queue.visits ≡ visits)
 
@@ -276,9 +278,12 @@ module _ {L : Type 0} (site_of : L → Part) (book : L → Book) (bodies : L →
     pub over : Bool
     pub callers : List Text
     pub rows : List Row
+    -- where it is from, of which nothing is said
+    pub origin : Option Origin
     pub parts : AreParts uid body over callers rows
     pub told : text
-        ≡ instance_line uid body over ++ flat_map from_line callers ++ flat_map own_row_line rows
+        ≡ instance_line uid body over origin ++ flat_map from_line callers
+        ++ flat_map own_row_line rows
 
   -- an instance of which nothing is told isn't there
   abbrev pub IsMissing : Text → Type 0

@@ -72,6 +72,24 @@ pub trait House {
     /// In which ways the visits to a node ended.
     fn visits(&self, dest: &Text) -> Visits;
 
+    /// Whether rows to a node may wait that aren't noted; from now on that is known to the one who
+    /// asks.
+    fn lacks_rows(&self, dest: &Text) -> bool;
+
+    /// A row to a node waits, of an instance that came at that moment, or since the node serves
+    /// where nobody knows. Where it is noted, the earlier moment stays.
+    ///
+    /// Errors: want of memory.
+    fn note_waiting(&self, dest: &Text, uid: &Text, moment: Option<u64>) -> Result<(), AllocError>;
+
+    /// A row to a node doesn't wait any more.
+    fn note_gone(&self, dest: &Text, uid: &Text);
+
+    /// Of the rows to a node that are noted, the UID of the one that waits longest, and since when.
+    ///
+    /// Errors: want of memory.
+    fn longest(&self, dest: &Text) -> Result<Option<(Text, u64)>, AllocError>;
+
     /// What goes on around the desk, at that moment.
     ///
     /// Errors: want of memory.

@@ -117,11 +117,17 @@ impl<'a, R: Wait, L: Ledger, B: Sharing, C: Clock, G: Monitor> Home<'a, R, L, B,
         came
     }
 
+    /// Wakes who sends to that node, to which rows were queued again.
+    fn wake_for(&self, dest: &Text) {
+        self.signal.doubt_waiting(self.rt, dest);
+        self.signal.ring(self.rt, Some(slice::from_ref(dest)));
+    }
+
     /// Wakes who sends, where something was ordered that is theirs.
     fn wake(&self, order: &Order) {
         match order {
-            Order::Requeue(row) => self.signal.ring(self.rt, Some(slice::from_ref(&row.dest))),
-            Order::RequeueAll(dest) => self.signal.ring(self.rt, Some(slice::from_ref(dest))),
+            Order::Requeue(row) => self.wake_for(&row.dest),
+            Order::RequeueAll(dest) => self.wake_for(dest),
             Order::Visit(dest) => self.signal.hurry(self.rt, dest),
             Order::GiveUp(_) | Order::Forget(_) => {}
         }
@@ -171,6 +177,23 @@ impl<'a, R: Wait, L: Ledger, B: Sharing, C: Clock, G: Monitor> House for Home<'a
 
     fn visits(&self, dest: &Text) -> Visits {
         self.signal.visits(self.rt, dest)
+    }
+
+    fn lacks_rows(&self, dest: &Text) -> bool {
+        self.signal.take_doubt(self.rt, dest)
+    }
+
+    fn note_waiting(&self, dest: &Text, uid: &Text, moment: Option<u64>) -> Result<(), AllocError> {
+        let moment = moment.unwrap_or(self.since);
+        self.signal.note_waiting(self.rt, dest, uid, moment)
+    }
+
+    fn note_gone(&self, dest: &Text, uid: &Text) {
+        self.signal.note_gone(self.rt, dest, uid);
+    }
+
+    fn longest(&self, dest: &Text) -> Result<Option<(Text, u64)>, AllocError> {
+        self.signal.longest(self.rt, dest)
     }
 
     fn around(&self, now: u64) -> Result<Around, AllocError> {

@@ -23,6 +23,7 @@
 //! loopback shows it.
 #![tactic(auto)]
 
+mod ages;
 mod asked;
 mod caller;
 mod control;

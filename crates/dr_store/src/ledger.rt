@@ -24,13 +24,13 @@ use dr_cert::Sealed;
 use dr_ledger::{Arrived, Entry, Item, Job, Ledger, LedgerFault, LetsGo, Outcome, Progress};
 use dr_ledger_history::JournalLine;
 use dr_ledger_journal::TellsJournal;
-use dr_ledger_views::{Moments, Stage, Views};
+use dr_ledger_views::{Moments, Origin, Stage, Views};
 use dr_site::Site;
 use dr_store_calls::{NextLine, adopt, arrive, forget, give_up, is_over, requeue, settle};
 use dr_store_reads::find_row;
 use dr_store_shelf::Shelf;
 use dr_store_views::{
-    callers_of, came_at, count_arrivals, count_kept, count_rows, first_moment, page, rows_of,
+    callers_of, count_arrivals, count_kept, count_rows, first_moment, origin_of, page, rows_of,
 };
 use sqlite::{Alter, Connection};
 use std::alloc::Global;
@@ -398,8 +398,8 @@ impl<S: Alter, B: Shelf> Moments for SqlLedger<S, B> {
         self.moment = Some(now);
     }
 
-    fn came_at(&mut self, uid: &Text) -> Result<Option<u64>, LedgerFault> {
-        let answer = came_at(&mut self.conn, uid);
+    fn origin_of(&mut self, uid: &Text) -> Result<Option<Origin>, LedgerFault> {
+        let answer = origin_of(&mut self.conn, self.alloc, uid);
         self.failures = counted(&answer, self.failures);
         answer
     }

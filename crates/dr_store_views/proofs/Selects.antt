@@ -145,9 +145,9 @@ pub targets_behind : Is text.targets_behind (spanned 12 1 all_targets_shown all_
 unfolding understood everything
 targets_behind = record { command = refl; listing = refl; plain = (refl, refl) }
 
--- ---- when an instance came
+-- ---- where an instance is from
 
-pub line_of : Is text.line_of (over 1 by_uid (col 1 0 ∷ [])) (codes "rowid" ∷ [])
+pub line_of : Is text.line_of (over 1 by_uid (col 1 0 ∷ col 1 2 ∷ [])) (codes "rowid" ∷ codes "class" ∷ [])
 unfolding understood everything
 line_of = record { command = refl; listing = refl; plain = (refl, refl) }
 

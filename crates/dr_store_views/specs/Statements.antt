@@ -17,9 +17,10 @@ abbrev pub rows_of : List ℕ
 rows_of = codes
     "SELECT uid, dest, state, tries, due, cause FROM queue WHERE uid = ?1 ORDER BY dest"
 
--- the number under which an instance stands, which is that of the line by which it came
+-- the number under which an instance stands, which is that of the line by which it came, and its
+-- class
 abbrev pub line_of : List ℕ
-line_of = codes "SELECT rowid FROM item WHERE uid = ?1"
+line_of = codes "SELECT rowid, class FROM item WHERE uid = ?1"
 
 -- the moment of that line, if it is of a first arrival of the instance
 abbrev pub moment_of : List ℕ

@@ -40,7 +40,7 @@ fn first_count(rows: &[Row]) -> Result<u64, LedgerFault>
 }
 
 /// The same, if there is a row.
-pub(crate) fn moment_in(rows: &[Row]) -> Result<Option<u64>, LedgerFault>
+fn moment_in(rows: &[Row]) -> Result<Option<u64>, LedgerFault>
     ensures { Reads result (IsMoment rows.now) }
 {
     let Some(row) = rows.first() else {

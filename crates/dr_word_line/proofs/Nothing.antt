@@ -30,6 +30,7 @@ module _ (words : List (Bor (List ℕ)))
   pub no_duty : (given : NodeFiles) (duty : Duty) → IsDutyOf words given duty → ⊥
   no_duty given duties.Make h = make given h
   no_duty given duties.List h = list given h
+  no_duty given duties.ListLong h = absurd h
   no_duty given duties.Summary h = summary given h
   no_duty given (duties.RequeueAll dest) h = requeue_all given dest h
   no_duty given (duties.Requeue uid dest) h = requeue given uid dest h

@@ -173,6 +173,7 @@ module _ (words : List Word) where
       subst (λ s. meant words ≡ asks.AtNode given (duties.Serve s)) (sym h.1)
       (subst (Means (asks.AtNode given (duties.Serve plain_serving))) (sym h.0.1)
       (subst (λ n. of_five n given.plan given.certificate given.node given.ledger ≡ asks.AtNode given (duties.Serve plain_serving)) (sym h.0.2) refl))
+  is_meant (asks.AtNode given duties.ListLong) h = absurd h
   is_meant (asks.AtNode given duties.Summary) h =
       subst (Means (asks.AtNode given duties.Summary)) (sym h.1.1)
       (at_ledger_6 h.1.0.now given h.0 h.1.5 (subst (λ n. of_six n given h.0 ≡ asks.AtNode given duties.Summary) (sym h.1.2) refl))

@@ -20,6 +20,7 @@ pub(crate) enum Choice {
     DryRun,
     Fails,
     Summary,
+    Long,
     IfHeld,
     At,
     AtNeeded,
@@ -64,6 +65,7 @@ impl<'a> Makes<Arg<'a>> for Choice {
             Choice::DryRun => Ok(dry_run(alloc)),
             Choice::Fails => Ok(fails(alloc)),
             Choice::Summary => Ok(summary(alloc)),
+            Choice::Long => long(alloc),
             Choice::IfHeld => if_held(alloc),
             Choice::At => Ok(at(alloc)),
             Choice::AtNeeded => Ok(at(alloc).required(true)),
@@ -168,6 +170,15 @@ fn summary<'a>(alloc: Global) -> Arg<'a> {
         .long("summary")
         .action(ArgAction::SetTrue)
         .help("prints how many there are instead")
+}
+
+/// The option of `list` for names of classes and for dates.
+fn long<'a>(alloc: Global) -> Result<Arg<'a>, AllocError> {
+    Arg::new(alloc, "LONG")
+        .long("long")
+        .action(ArgAction::SetTrue)
+        .help("prints names of classes and dates too")
+        .conflicts_with("SUMMARY")
 }
 
 /// The option of `list` for a no where a row is held.

@@ -175,6 +175,7 @@ fn duty_of<'a>(name: &str, given: &ArgMatches<'a>) -> Option<Duty<'a>> {
     match name {
         "new" => Some(Duty::Make),
         "list" if given.get_flag("SUMMARY") => Some(Duty::Summary),
+        "list" if given.get_flag("LONG") => Some(Duty::ListLong),
         "list" => Some(Duty::List),
         "requeue" => Some(requeue_of(given)),
         "drop" => Some(Duty::GiveUp(uid_of(given), dest_of(given))),

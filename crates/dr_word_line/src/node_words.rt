@@ -13,7 +13,13 @@ pub(crate) fn list<'a>(alloc: Global, values: &[Value<'a>]) -> Result<Command<'a
         "list",
         about,
         values,
-        &[Choice::Summary, Choice::IfHeld, Choice::At, Choice::AtToken],
+        &[
+            Choice::Summary,
+            Choice::Long,
+            Choice::IfHeld,
+            Choice::At,
+            Choice::AtToken,
+        ],
     )
 }
 

@@ -149,6 +149,8 @@ pub enum Duty<'a> {
     Make,
     /// To print what it has.
     List,
+    /// The same with names of classes and with dates.
+    ListLong,
     /// To print how much it has.
     Summary,
     /// To queue again the held row of the instance of this UID to that node.

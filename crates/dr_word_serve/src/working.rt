@@ -67,6 +67,7 @@ where
     match duty {
         Duty::Make => clerk.make(alloc, given),
         Duty::List => clerk.list(alloc, given),
+        Duty::ListLong => clerk.list_long(alloc, given),
         Duty::Summary => clerk.summarize(alloc, given),
         Duty::RequeueAll(dest) => clerk.requeue_all(alloc, given, dest),
         Duty::Requeue(uid, dest) => clerk.requeue(alloc, given, HeldRow { uid, dest }),

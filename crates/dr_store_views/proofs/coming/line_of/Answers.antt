@@ -4,7 +4,8 @@ use Rattle.sqlite.proofs.Callers.{IsPlain}
 use Rattle.dr_store_views.specs.Statements as text
 use Rattle.dr_store_reads.proofs.Outcomes.{decoded, reads_map, refused}
 use Rattle.dr_store_views.proofs.Selects as select
-use Rattle.dr_store_views.proofs.Counted.{number_first}
+use Rattle.dr_store_reads.specs.Queries.{first_of}
+use Rattle.dr_store_views.specs.Answers.{numbered}
 use Rattle.dr_store_views.proofs.coming.line_of.Goals as goal
 
 pub returns-in_err-rows : goal.returns-in_err-rows
@@ -16,6 +17,6 @@ returns g c =
     let rows = c.in_ok-rows.rows.items in
     record {
       asked = decoded _ (λ has. subst (λ s. IsPlain (understood s text.line_of)) (sym has.schema) select.line_of.plain)
-          (λ has shown. reads_map c.moment_in.result (λ n is. (rows, rw c.as_bytes.ensures at shown, is ∙ ap number_first c.as_slice.ensures.value)) c.moment_in.ensures)
+          (λ has shown. reads_map c.numbered_in.result (λ found is. (rows, rw c.as_bytes.ensures at shown, is ∙ ap (first_of numbered) c.as_slice.ensures.value)) c.numbered_in.ensures)
           c.in_ok-rows.ensures.asked;
     }
