@@ -1,5 +1,5 @@
 //! Why a node that runs doesn't do what it is asked or told.
-use std::alloc::AllocError;
+use std::alloc::{AllocError, AllocFailed};
 use std::fmt;
 use std::fmt::{Display, Formatter};
 
@@ -59,6 +59,17 @@ impl From<AllocError> for AskFault {
     ghost from_gives = { λ _ e. e ≡ Memory };
 
     fn from(_: AllocError) -> AskFault {
+        AskFault::Memory
+    }
+}
+
+impl<T: Drop> From<AllocFailed<T>> for AskFault {
+    ghost use Rattle.std.specs.Prelude.{◌≡◌};
+    ghost use Rattle.dr_run_ask.specs.declared.fault.AskFault.TheVariants.{Memory};
+
+    ghost from_gives = { λ _ e. e ≡ Memory };
+
+    fn from(_: AllocFailed<T>) -> AskFault {
         AskFault::Memory
     }
 }

@@ -1,7 +1,6 @@
 -- Journals of nodes that run, each cut somewhere, and what stands behind the cut.
 use Rattle.std.specs.Prelude.{◌≡◌, ◌≤◌, ℕ, Bool, false, cond, List, [], ◌∷◌, drop, take}
-use Rattle.std.specs.Prelude.{Contains}
-use Rattle.std.specs.List.{AllZip}
+use Rattle.std.specs.List.{AllByRecursion, AllZip}
 use Rattle.std.specs.Str.{bytes_eq}
 use Rattle.dr_base.specs.Texts.{Text}
 use Rattle.dr_plan_model.specs.Networks.{Network}
@@ -17,7 +16,7 @@ use Rattle.dr_word_audit.specs.Audits.{IsConclusion}
 use Rattle.dr_word_audit.specs.Places.{came_from, goes_on}
 use Rattle.dr_word_audit.specs.declared.audited.Audited.{Audited}
 use Rattle.dr_word_audit_at.specs.declared.cutting.MissingLine.{MissingLine}
-use Rattle.dr_word_audit_at.specs.declared.cutting.MissingLine.TheVariants as remedy
+use Rattle.dr_word_audit_at.specs.declared.cutting.MissingLine.TheVariants as missing
 
 -- ---- cuts
 
@@ -46,12 +45,12 @@ rest_named name (n ∷ ns) (node ∷ nodes) =
 
 -- a line says it: of an arrival of the uid from there, or of one that goes on to there
 abbrev pub mends : MissingLine → JournalLine → Bool
-mends (remedy.CameFrom uid from) line = came_from uid from (line_of line)
-mends (remedy.GoesOn uid to) line = goes_on uid to (line_of line)
+mends (missing.CameFrom uid from) line = came_from uid from (line_of line)
+mends (missing.GoesOn uid to) line = goes_on uid to (line_of line)
 
 -- none of these lines does
 abbrev pub MendsNowhere : MissingLine → List JournalLine → Type 0
-MendsNowhere what lines = (line : JournalLine) → Contains lines line → mends what line ≡ false
+MendsNowhere mend = AllByRecursion (λ line. mends mend line ≡ false)
 
 -- What would mend a mismatch, and at which node: an arrival of what is noted as taken, or a reason
 -- there for what came from there. What a journal shows by itself no other one mends.
@@ -59,8 +58,8 @@ abbrev pub IsFor : Mismatch → MissingLine → Text → Type 0
 IsFor (what.NoHistory node) mend at = ⊥
 IsFor (what.NoHop node uid to) mend at = ⊥
 IsFor (what.NotFair node uid to) mend at = ⊥
-IsFor (what.NoArrival node uid to) mend at = (mend ≡ remedy.CameFrom uid node) × (at ≡ to)
-IsFor (what.NoReason node uid from) mend at = (mend ≡ remedy.GoesOn uid node) × (at ≡ from)
+IsFor (what.NoArrival node uid to) mend at = (mend ≡ missing.CameFrom uid node) × (at ≡ to)
+IsFor (what.NoReason node uid from) mend at = (mend ≡ missing.GoesOn uid node) × (at ≡ from)
 
 abbrev pub HasNone : Mismatch → Type 0
 HasNone mismatch = (mend : MissingLine) (at : Text) → IsFor mismatch mend at → ⊥

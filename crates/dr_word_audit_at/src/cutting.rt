@@ -18,24 +18,22 @@ pub enum MissingLine {
 }
 
 /// Whether the line says it.
-fn mends(remedy: &MissingLine, line: &JournalLine) -> bool
-    ensures { result ≡ mends remedy.now line.now }
+fn mends(missing: &MissingLine, line: &JournalLine) -> bool
+    ensures { result ≡ mends missing.now line.now }
 {
-    match remedy {
+    match missing {
         MissingLine::CameFrom { uid, from } => came_from(uid, from, line),
         MissingLine::GoesOn { uid, to } => goes_on(uid, to, line),
     }
 }
 
 /// How many of the lines there are up to the first that says it.
-fn count_to(remedy: &MissingLine, lines: &[JournalLine]) -> Option<usize>
-    ensures { MatchOption result (MendsNowhere remedy.now lines.now) (λ n. 1 ≤ n) }
+fn count_to(missing: &MissingLine, lines: &[JournalLine]) -> Option<usize>
+    ensures { MatchOption result (MendsNowhere missing.now lines.now) (λ n. 1 ≤ n) }
 {
-    let mut count = 0;
-    for line in lines {
-        count += 1;
-        if mends(remedy, line) {
-            return Some(count);
+    for (i, line) in lines.iter().enumerate() {
+        if mends(missing, line) {
+            return Some(i + 1);
         }
     }
     None
@@ -53,11 +51,11 @@ fn behind(lines: &[JournalLine], count: usize) -> &[JournalLine]
 }
 
 /// How many lines of the journal there are up to the first behind the cut that says it.
-fn next_count(remedy: &MissingLine, lines: &[JournalLine], count: usize) -> Option<usize>
-    ensures { MatchOption result (MendsNowhere remedy.now (drop count lines.now))
+fn next_count(missing: &MissingLine, lines: &[JournalLine], count: usize) -> Option<usize>
+    ensures { MatchOption result (MendsNowhere missing.now (drop count lines.now))
         (λ n. count ≤ n) }
 {
-    match count_to(remedy, behind(lines, count)) {
+    match count_to(missing, behind(lines, count)) {
         Some(more) => Some(count.saturating_add(more)),
         None => None,
     }
@@ -66,18 +64,18 @@ fn next_count(remedy: &MissingLine, lines: &[JournalLine], count: usize) -> Opti
 /// The place of the node of that name whose journal says it behind its cut, and where its next cut
 /// is.
 pub(crate) fn next_cut(
-    remedy: &MissingLine,
+    missing: &MissingLine,
     name: &Text,
     counts: &[usize],
     read: &[NodeJournal],
 ) -> Option<(usize, usize)>
     requires { length counts.now ≡ length read.now }
-    ensures { MatchOption result (MendsNowhere remedy.now (rest_named name.now counts.now read.now))
+    ensures { MatchOption result (MendsNowhere missing.now (rest_named name.now counts.now read.now))
         (λ next. (next.0 < length counts.now) × (get_or counts.now next.0 0 ≤ next.1)) }
 {
     for place in 0..read.len() {
         if read[place].name == *name {
-            return cut_behind(remedy, read[place].lines.as_slice(), counts[place], place);
+            return cut_behind(missing, read[place].lines.as_slice(), counts[place], place);
         }
     }
     None
@@ -86,15 +84,15 @@ pub(crate) fn next_cut(
 /// The place, with how many lines of the journal there are up to the first behind the cut that says
 /// it.
 fn cut_behind(
-    remedy: &MissingLine,
+    missing: &MissingLine,
     lines: &[JournalLine],
     count: usize,
     place: usize,
 ) -> Option<(usize, usize)>
-    ensures { MatchOption result (MendsNowhere remedy.now (drop count lines.now))
+    ensures { MatchOption result (MendsNowhere missing.now (drop count lines.now))
         (λ next. (next.0 ≡ place) × (count ≤ next.1)) }
 {
-    match next_count(remedy, lines, count) {
+    match next_count(missing, lines, count) {
         Some(next) => Some((place, next)),
         None => None,
     }

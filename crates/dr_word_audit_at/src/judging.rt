@@ -48,10 +48,10 @@ fn further_for(
     ensures { IfOk result (λ next. MatchOption next (IsLacking counts.now read.now mismatch.now)
         (λ next. (next.0 < length counts.now) × (get_or counts.now next.0 0 ≤ next.1))) }
 {
-    let Some((remedy, name)) = missing_of(mismatch)? else {
+    let Some((missing, name)) = missing_of(mismatch)? else {
         return Ok(None);
     };
-    Ok(next_cut(&remedy, &name, counts, read))
+    Ok(next_cut(&missing, &name, counts, read))
 }
 
 /// The same of a verdict.

@@ -22,7 +22,7 @@ use dr_word_audit::printing::short_line;
 use dr_word_audit::{Audited, tell_audit, tell_verdict};
 use dr_word_line::RunningNodes;
 use dr_world_audit::audit::{AuditFault, AuditVerdict, NodeJournal};
-use std::alloc::{AllocError, Global};
+use std::alloc::{AllocError, AllocFailed, Global};
 use std::io;
 use std::io::Write;
 
@@ -46,6 +46,12 @@ impl<'a> From<Halt<'a>> for NodesStopped<'a> {
 
 impl<'a> From<AllocError> for NodesStopped<'a> {
     fn from(_: AllocError) -> NodesStopped<'a> {
+        NodesStopped::Memory
+    }
+}
+
+impl<'a, T: Drop> From<AllocFailed<T>> for NodesStopped<'a> {
+    fn from(_: AllocFailed<T>) -> NodesStopped<'a> {
         NodesStopped::Memory
     }
 }
