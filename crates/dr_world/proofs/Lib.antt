@@ -7,6 +7,7 @@ pub mod AtNodes
 pub mod LettingGo
 pub mod StayingAway
 pub mod Stepping
+pub mod Scanners
 pub mod Sited
 pub mod Noted
 pub mod Doing

@@ -1,7 +1,7 @@
 -- Scripts in which other products write: what ends of ours have of a world of bytes, what is asked
 -- of a script, and the four claims of ours.
-use Rattle.std.specs.Prelude.{◌≡◌, ℕ, Bool, true, false, List, [], ◌∷◌, ◌++◌, take, Option, None}
-use Rattle.std.specs.Prelude.{Some}
+use Rattle.std.specs.Prelude.{◌≡◌, ℕ, Bool, true, false, List, [], ◌∷◌, ◌++◌, length, take, Option}
+use Rattle.std.specs.Prelude.{None, Some}
 use Rattle.std.specs.List.{AllByRecursion}
 use Rattle.std.specs.FinMap as map
 use Rattle.std.specs.BTreeMap as tree
@@ -15,15 +15,18 @@ use Rattle.dr_pdu.specs.declared.pdu.Pdu.TheVariants as pdu
 use Rattle.dr_session.specs.Plays.{inputs_of}
 use Rattle.dr_plan_model.specs.Networks.{Network}
 use Rattle.dr_plan_sound.specs.declared.certificate.Certificate.{Certificate}
+use Rattle.dr_site.specs.Parts.{Part, IsPartOf}
 use Rattle.dr_node.specs.declared.node.Node.{Node}
 use Rattle.dr_world_model.specs.Worlds as model
 use Rattle.dr_world_model.specs.Among.{Act, HeadlineAmong, Ours, RunsAmong}
 use Rattle.dr_world_tie.specs.Channels.{Channel}
 use Rattle.dr_world_tie.specs.ByteWorlds.{Acceptor, ByteWorld, Move, Open, Requestor}
-use Rattle.dr_world_tie.specs.ByteWorlds.{StepNote, Steps, WorldStep, caller_of, is_over}
+use Rattle.dr_world_tie.specs.ByteWorlds.{StepNote, Steps, WorldStep, beginning, caller_of, is_over}
 use Rattle.dr_world_tie.specs.ByteWorlds.{receiver_of}
 use Rattle.dr_world_tie.specs.Foreign.{CallsAsNoneOfOurs, NoneCallsAsOurs}
 use Rattle.dr_world_tie.specs.ForeignWorlds.{OwnEnd, OwnWorld}
+use Rattle.dr_world_script.specs.declared.step.Side.TheVariants as side
+use Rattle.dr_world_script.specs.declared.step.Step.TheVariants as script
 use Rattle.dr_world.specs.declared.deed.Deed.{Deed}
 use Rattle.dr_world.specs.declared.deed.Deed.TheVariants as deed
 use Rattle.dr_world.specs.declared.world.World.{World}
@@ -122,3 +125,33 @@ pub record NamesAreLookedAt : Type 0 where
   pub own : (ours : Ours) (k : Channel) (rq : AssociateRq)
       → IsComing k (pdu.AssociateRq rq)
       → ours rq.front.calling ≡ true → NoneNamesOurs ours k → ⊥
+
+-- what another product sends over the first link, each PDU moved to the acceptor as it is written
+abbrev pub sendings : List Pdu → List Deed
+sendings [] = []
+sendings (p ∷ ps) =
+    deed.Bytes 1 side.Requestor (written p)
+    ∷ (deed.Step (script.Move 1 side.Acceptor (length (written p))) ∷ sendings ps)
+
+-- a PDU that an acceptor with that limit reads, and no request by a name of ours
+abbrev pub IsOfAnother : Ours → ℕ → Pdu → Type 0
+IsOfAnother ours limit p =
+    Fits p × MeetsLimit limit p × AllByRecursion (CallsAsNoneOfOurs ours) (inputs_of p)
+
+-- A script fits in which another product asks a node for an association, and sends what it wants.
+-- One fits not that opens a link between two of ours.
+pub record ScriptsFit : Type 0 where
+  pub scanner : (ours : Ours) (plan : Network) (certificate : Certificate) (from to : Text)
+      (pdus : List Pdu)
+      → ours from ≡ false
+      → ((site : Part)
+      → IsPartOf plan certificate site
+      → site.name ≡ to
+      → AllByRecursion (IsOfAnother ours site.max_pdu) pdus)
+      → FitsFrom ours plan certificate beginning
+      (deed.Step (script.Open from to) ∷ sendings pdus)
+  pub between : (ours : Ours) (plan : Network) (certificate : Certificate) (from to : Text)
+      (deeds : List Deed)
+      → ours from ≡ true → ours to ≡ true
+      → FitsFrom ours plan certificate beginning (deed.Step (script.Open from to) ∷ deeds)
+      → ⊥

@@ -1,5 +1,5 @@
 //! Laws: what is done to a world's contents is a step of the world of bytes beside it.
-ghost use Rattle.dr_world.specs.Among.{NamesAreLookedAt};
+ghost use Rattle.dr_world.specs.Among.{NamesAreLookedAt, ScriptsFit};
 ghost use Rattle.dr_world.specs.Ended.{MoveEndsPdu};
 ghost use Rattle.dr_world.specs.Laws.{AwayIsShown, DropIsShown, EndStaysOfItsSite, ForgetIsShown};
 ghost use Rattle.dr_world.specs.Laws.{MoveIsShown};
@@ -80,9 +80,11 @@ pub fn steps_alone_are_events()
 
 /// A script in which other products write is a run of the ends of ours alone, where no link is
 /// between two of ours and no request that comes to one of ours names one. So the four claims among
-/// others hold of our nodes' books. Which requests these are is told by the name of their caller.
+/// others hold of our nodes' books. Which requests these are is told by the name of their caller. A
+/// scanner of another make may send what it wants.
 pub fn others_are_played<L: Ledger>(_world: &World<L>)
     ensures runs { FitScriptsAreOwnRuns }
     ensures claims { FitScriptsKeepTheClaims _world.now }
     ensures names { NamesAreLookedAt }
+    ensures scripts { ScriptsFit }
 {}
