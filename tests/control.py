@@ -627,10 +627,12 @@ def backups():
         assert made and all(answer in (DONE, (409, '{"fault":"Q5 Busy"}\n')) for _, answer in answers), answers
         same(sorted(name for name in os.listdir(f'{room.folder}/copies') if re.fullmatch('GATE.db.[0-9]', name)), made)
         same(node.act('/stop'), DONE)
-        got = ended(node.process)
-        same(lines(room.at('list', 'GATE', ledger='copies/GATE.db').stdout), got)
+        ended(node.process)
         said = [event[3] for event in room.events('GATE') if event[2] == 'control' and event[3].startswith('backup ')]
-        assert re.fullmatch(f'backup copy="{copy}" lines=1 bytes=[0-9]+ milliseconds=[0-9]+', next(line for line in said if 'bytes=' in line)), said
+        told_of = re.fullmatch(f'backup copy="{copy}" lines=([0-9]+) bytes=[0-9]+ milliseconds=[0-9]+', next(line for line in said if 'bytes=' in line))
+        listed = lines(room.at('list', 'GATE', ledger='copies/GATE.db').stdout)
+        same([line.split('\t')[:4] for line in listed if line.startswith('row\t')], [['row', '1.2.3.4', 'ARCH', 'waiting']])
+        same(listed[-1], f'lines\t{told_of[1]}')
         assert f'backup copy="{room.folder}/GATE.db" fault="Q1 OwnFile"' in said, said
         assert any(line.startswith(f'backup copy="{room.folder}/nowhere/GATE.db" fault="Q7 NoCopy" error="') for line in said), said
 
