@@ -1,5 +1,5 @@
 -- Why a node's table is at fault where it says that the node listens.
-use Rattle.std.proofs.Common.{◌≡◌, refl, sym, ◌∙◌, subst, List, [], ◌∷◌, Option, None, Some, Bool, true, false, IsTrue, codes}
+use Rattle.std.proofs.Common.{◌≡◌, refl, sym, ◌∙◌, ap, subst, List, [], ◌∷◌, Option, None, Some, Bool, true, false, not, IsTrue, length, ◌==◌, codes}
 use Rattle.std.proofs.lemmas.Option.{none-some}
 use Rattle.toml.specs.Data.{Data, array, Items, no_items, item, Members, get_member}
 use Rattle.dr_base.specs.Texts.{Text}
@@ -9,15 +9,17 @@ use Rattle.dr_plan_model.specs.declared.listens.Listens.{Listens}
 use Rattle.dr_plan_model.specs.declared.listens.Listens.TheVariants.{Nowhere, At}
 use Rattle.dr_plan_model.specs.declared.plan.Format.{Format}
 use Rattle.dr_plan_model.specs.declared.plan.Format.TheVariants.{Three}
-use Rattle.dr_plan_text.specs.Fields.{SaysFormed, SaysSome, SaysTable, Given, GivenOr, IsListOf}
+use Rattle.dr_plan_text.specs.Fields.{SaysFormed, SaysSome, SaysTable, Given, GivenOr, IsListOf, ListsValues}
 use Rattle.dr_plan_text.specs.Listening.{CallsOnly, SaysListens, IsListens}
 use Rattle.dr_plan_text.specs.Tables.{IsAcceptTable}
 use Rattle.dr_plan_text.proofs.Listened.{calls_and_listens}
-use Rattle.dr_plan_text.proofs.ListenTexts.{some_listed}
+use Rattle.toml.specs.declared.value.Value.{Value}
+use Rattle.toml.specs.View.{items_view}
 use Rattle.dr_plan_text.specs.declared.words.NodeText.{NodeText}
 use Rattle.dr_plan_expand.specs.Tables.{IsShortRow, IsShortNode}
 use Rattle.dr_plan_expand.specs.declared.short.ShortNode.{ShortNode}
-use Rattle.dr_plan_places.specs.FieldFlaws.{IsAtFault, IsNodeOf}
+use Rattle.dr_plan_places.specs.FieldFlaws.{IsAtFault, IsNodeOf, items_at}
+use Rattle.dr_plan_places.proofs.FieldsFlawed.{not_both}
 use Rattle.dr_plan_places.specs.Listening.{IsListensOf, HasItems}
 
 -- where nothing to bind to is said, nothing is given
@@ -55,13 +57,25 @@ module _ (may : Bool) (format : Format) (fields : Members) where
   misbound no_call none other Nowhere same beside is = no_call (sym beside ∙ is.0.0)
   misbound no_call none other (At address bind) same beside is = none None bind (subst (λ (d : Option Data). GivenOr None (SaysSome (SaysFormed IsAddress)) d bind) same is.0.2)
 
+-- a list that says nothing has no item
+no_item : {X : Type 0} (Says : Data → X → Type 0) (d : Data) (items : Items) → d ≡ array items → ListsValues Says items [] → items_at (Some d) ≡ no_items
+no_item Says d no_items same lists = ap (λ (e : Data). items_at (Some e)) same
+no_item Says d (item first more) same lists = absurd lists
+
+nothing_listed : {X : Type 0} (Says : Data → X → Type 0) (field : Option Data) (rows : List X) → GivenOr [] (IsListOf Says) field rows → rows ≡ [] → items_at field ≡ no_items
+nothing_listed Says None rows says none = refl
+nothing_listed Says (Some d) rows says none = no_item Says d says.0 says.1 (subst (λ r. ListsValues Says says.0 r) none says.2)
+
 -- a node that only calls has no list of rows with a row in it
 none_accepted : {X : Type 0} (may : Bool) (Says : Data → X → Type 0) (other : Members) (place : Listens) (rows : List X) → CallsOnly other → IsListens may other place → MayAccept place rows
     → (field : Option Data) → HasItems field → GivenOr [] (IsListOf Says) field rows → ⊥
-none_accepted may Says other Nowhere rows calls is none field has says =
-    let given : IsListOf Says (array (item has.0 has.1)) rows = subst (λ (d : Option Data). GivenOr [] (IsListOf Says) d rows) has.2 says in
-    some_listed Says has.0 has.1 rows given none
+none_accepted may Says other Nowhere rows calls is none field has says = has (nothing_listed Says field rows says none)
 none_accepted may Says other (At address bind) rows calls is none field has says = absurd (calls_and_listens may other calls is.0)
+
+-- a slice of values with one in it is seen as a list with an item
+pub some_seen : (b : Bool) (values : List Value) → b ≡ (length values == 0) → IsTrue (not b) → items_view values ≡ no_items → ⊥
+some_seen b [] is some none = not_both b some (subst IsTrue (sym is) refl)
+some_seen b (value ∷ values) is some none = cc
 
 -- what is at fault in how a node listens is at fault in its table
 pub node_at : (format : Format) (fields : Members) (key : Text) → IsAtFault (IsListensOf false format) fields key → IsAtFault (IsNodeOf format) fields key

@@ -10,10 +10,10 @@ ghost use Rattle.dr_plan_places.specs.FieldFlaws.{IsAtFault};
 ghost use Rattle.dr_plan_places.specs.Listening.{IsListensOf, HasItems};
 
 use crate::keys::{misreads, misses};
+use crate::rows::items_of;
 use dr_plan_model::{Format, Listens};
 use dr_plan_text::fields::{Address, Formed, Maybe};
 use dr_plan_text::fits::listens_fits;
-use dr_plan_text::form::value_at;
 use dr_plan_text::listening::{calls_only, is_absent, says_listens};
 use std::alloc::{AllocError, Global};
 use toml::Table;
@@ -103,13 +103,7 @@ pub fn listening_fault(
 fn has_items(table: &Table, key: &str) -> bool
     ensures { IsTrue result → HasItems (get_member key.now (table_view table.now)) }
 {
-    let Some(value) = value_at(table, key) else {
-        return false;
-    };
-    match value.as_array() {
-        Some(items) => !items.is_empty(),
-        None => false,
-    }
+    !items_of(table, key).is_empty()
 }
 
 /// Whether the table is that of a node that only calls, with an accept row.
