@@ -70,7 +70,8 @@ pub(crate) fn next_cut(
     read: &[NodeJournal],
 ) -> Option<(usize, usize)>
     requires { length counts.now ≡ length read.now }
-    ensures { MatchOption result (MendsNowhere missing.now (rest_named name.now counts.now read.now))
+    ensures { MatchOption result
+        (MendsNowhere missing.now (rest_named name.now counts.now read.now))
         (λ next. (next.0 < length counts.now) × (get_or counts.now next.0 0 ≤ next.1)) }
 {
     for place in 0..read.len() {

@@ -1,4 +1,6 @@
-use Rattle.std.proofs.Common.{arith, sym, ◌∙◌}
+use Rattle.std.proofs.Common.{sym, subst, ◌∙◌, arith, refl}
+use Rattle.dr_word_audit_at.specs.Cuts.{MendsNowhere}
+use Rattle.dr_word_audit_at.proofs.Cutting.{no_rest, rest_here, rest_later}
 use Rattle.dr_word_audit_at.proofs.cutting.next_cut.Goals as goal
 
 pub loop-place-preserved : goal.loop-place-preserved
