@@ -48,7 +48,7 @@ _dr_router() {
         "stop 5" | "visit 5")
             mapfile -t COMPREPLY < <(compgen -W "--at" -- "$current") ;;
         "list 6")
-            mapfile -t COMPREPLY < <(compgen -W "--summary" -- "$current") ;;
+            mapfile -t COMPREPLY < <(compgen -W "--summary --long" -- "$current") ;;
         "diff 6")
             mapfile -t COMPREPLY < <(compgen -W "--fail-on-lost --json" -- "$current") ;;
         "lint 4")

@@ -44,6 +44,7 @@ def reads():
         listed = at(room, 'list', 'CT1', node.at, token=None)
         summed = at(room, 'list', 'CT1', node.at, '--summary', token=None)
         told(at(room, 'list', 'CT1', node.at, '--summary', '--fail-if-held', token=None), 1, summed.stdout.decode(), '')
+        same(at(room, 'list', 'CT1', node.at, '--long', token=None).returncode, 2)
         same((listed.returncode, summed.returncode, listed.stderr, summed.stderr), (0, 0, b'', b''))
         # without a token nothing can be told
         told(at(room, 'stop', 'CT1', node.at, token=None), 1, '', 'dr_router: H9 Closed\n')

@@ -8,6 +8,7 @@ at a time, while a peer stores.
                                ./test leaves out
 """
 import base64
+import contextlib
 import hashlib
 import http.client
 import json
@@ -15,6 +16,7 @@ import os
 import random
 import re
 import socket
+import sqlite3
 import subprocess
 import sys
 import threading
@@ -23,7 +25,7 @@ import types
 import urllib.parse
 
 sys.dont_write_bytecode = True
-from lib.nodes import LIMIT, PLAN, PROGRAM, TOP, Room, data_set, element, ended, free_port, lines, part10, run_cases, same, stop, told
+from lib.nodes import CT, LIMIT, PLAN, PROGRAM, TOP, Room, data_set, element, ended, free_port, lines, part10, run_cases, same, stop, told
 from lib.requestor import Requestor
 
 TOKEN = 'a token of more than sixteen bytes'
@@ -147,6 +149,7 @@ def reads():
         same([line for line in figures.splitlines() if not line.startswith('#')],
              ['dr_router_arrivals 1', 'dr_router_kept 0', 'dr_router_journal_lines 2', 'dr_router_store_failures 0',
               'dr_router_rows{dest="GATE",state="waiting"} 0', 'dr_router_rows{dest="GATE",state="held"} 1', 'dr_router_rows{dest="GATE",state="done"} 0',
+              'dr_router_oldest_waiting_seconds{dest="GATE"} 0',
               *(f'dr_router_visits_total{{dest="GATE",came="{came}"}} 0' for came in ('released', 'rejected', 'aborted', 'closed', 'unreached', 'failed')),
               'dr_router_associations 0', *locked])
         names = re.findall('^# TYPE ([a-z_]+) (?:gauge|counter)$', figures, re.M)
@@ -163,7 +166,7 @@ def page():
         same(status, 200)
         assert text.startswith('<!DOCTYPE html>\n') and text.endswith('</table>\n</body>\n</html>\n'), text
         assert '<h1 class="green">Nothing is held, and nothing waits</h1>' in text, text
-        assert '<tr><td>GATE</td><td>0</td><td>0</td><td>0</td><td>-</td><td>-</td><td></td></tr>' in text, text
+        assert '<tr><td>GATE</td><td>0</td><td>-</td><td>0</td><td>0</td><td>-</td><td>-</td><td></td></tr>' in text, text
         stop(node.process)
         hold(room)
         node = Asked(room, 'CT1', 0, token=False)
@@ -174,7 +177,7 @@ def page():
         link.close()
         same([came.getheader(name) for name in ('content-type', 'x-content-type-options')], ['text/html; charset=utf-8', 'nosniff'])
         assert '<h1 class="red">Rows are held</h1>' in text, text
-        assert '<tr><td>GATE</td><td>0</td><td>1</td><td>0</td><td>-</td><td>-</td><td></td></tr>' in text, text
+        assert '<tr><td>GATE</td><td>0</td><td>-</td><td>1</td><td>0</td><td>-</td><td>-</td><td></td></tr>' in text, text
         assert '<tr><td>1.2.3.4</td><td>GATE</td><td>status C0F1</td><td></td></tr>' in text, text
         # without a token nothing can be acted, so there are no buttons
         for none in '<script', '<form', 'http://', 'https://', 'src=', 'href=':
@@ -198,7 +201,8 @@ def acts():
             assert time.monotonic() < end, rows
             time.sleep(0.05)
         text = node.ask('GET', '/')[1]
-        assert '<h1 class="amber">Rows wait</h1>' in text and '<tr><td>GATE</td><td>1</td><td>0</td><td>0</td>' in text, text
+        assert '<h1 class="amber">Rows wait</h1>' in text, text
+        assert re.search('<tr><td>GATE</td><td>1</td><td>[0-9]+ s</td><td>0</td><td>0</td>', text), text
         same(node.act('/requeue', uid='1.2.3.4', dest='GATE'), (409, '{"fault":"G5 NotHeld"}\n'))
         same(node.act('/drop', uid='1.2.3.4', dest='GATE'), (409, '{"fault":"G5 NotHeld"}\n'))
         # GATE is there again, and refuses it again: each process is another one
@@ -218,6 +222,44 @@ def acts():
                     'drop dest="GATE" uid=1.2.3.4 fault="G5 NotHeld"', 'drop dest="GATE" uid=1.2.3.4', 'stop'])
 
 
+def without_origin(shown):
+    """What is shown of an instance, without its class, which is CT, and without the moment when it came, which was just now."""
+    same(shown[0].pop('class'), CT.decode())
+    came = shown[0].pop('came')
+    assert abs(time.time() * 1000 - came) < 60_000, came
+    return shown
+
+
+def ages():
+    """For how long the oldest row to a node has waited: from when its instance came, over an end of the node too, and from the start where
+    nobody noted when it came. It waits while GATE isn't there, and no more when GATE took it."""
+    with Room() as room:
+        room.put('image.dcm', part10(b'1.2.3.4'))
+        same(room.at('send', 'CT1', 'image.dcm').returncode, 0)
+        node = Asked(room, 'CT1', 0, token=False)
+        came = node.read('/instance/1.2.3.4')[0]['came']
+        assert 0 <= time.time() * 1000 - came < 60_000, came
+        time.sleep(max(0, came / 1000 + 2.5 - time.time()))
+        waited = node.read('/status')[1]['waited']
+        assert 0 <= time.time() - came / 1000 - waited < 2, waited
+        figures = node.ask('GET', '/metrics')[1]
+        assert int(re.search('^dr_router_oldest_waiting_seconds{dest="GATE"} ([0-9]+)$', figures, re.M)[1]) >= waited, figures
+        stop(node.process)
+        with contextlib.closing(sqlite3.connect(f'{room.folder}/CT1.db')) as file:
+            same(file.execute('SELECT moment FROM journal WHERE n = 1').fetchall(), [(came,)])
+            file.execute('UPDATE journal SET moment = NULL WHERE kind < 2')
+            file.commit()
+        begun = time.time()
+        node = Asked(room, 'CT1', 0, token=False)
+        same(node.read('/instance/1.2.3.4')[0], {'instance': '1.2.3.4', 'body': True, 'over': False, 'class': CT.decode()})
+        assert node.read('/status')[1]['waited'] <= time.time() - begun + 1
+        gate = room.serve('GATE', 0)
+        node.wait('/status', lambda lines: lines[1]['done'] == 1)
+        assert 'waited' not in node.read('/status')[1]
+        stop(node.process)
+        stop(gate)
+
+
 def orders():
     """All held rows of a node are queued again; an instance is looked at, dropped with a reason, and forgotten."""
     with Room() as room:
@@ -226,8 +268,8 @@ def orders():
         node = Asked(room, 'CT1', 0)
         row = {'uid': '1.2.3.0', 'dest': 'GATE', 'state': 'held', 'cause': 'C0F1'}
         whole = [{'instance': '1.2.3.0', 'body': True, 'over': False}, {'from': '-'}, row]
-        same(node.read('/instance/1.2.3.0'), whole)
-        same(node.read('/instance/1%2E2.3.0'), whole)
+        same(without_origin(node.read('/instance/1.2.3.0')), whole)
+        same(without_origin(node.read('/instance/1%2E2.3.0')), whole)
         for unknown in '1.2.3', '', '1.2.3.0/', '%00%ff%22%0a':
             same(node.ask('GET', f'/instance/{unknown}'), (404, '{"fault":"Instance"}\n'))
         same(node.ask('GET', '/instance'), (404, '{"fault":"Path"}\n'))
@@ -264,7 +306,7 @@ def orders():
         same(node.act('/drop', uid='1.2.3.0', dest='GATE', reason='twice\n"by hand"' + 200 * 'x'), DONE)
         # who brings what was given up brings it anew, so nobody is noted for it
         shown = [{'instance': '1.2.3.0', 'body': False, 'over': True}, {'uid': '1.2.3.0', 'dest': 'GATE', 'state': 'dropped'}]
-        same(node.read('/instance/1.2.3.0'), shown)
+        same(without_origin(node.read('/instance/1.2.3.0')), shown)
         same(node.act('/forget', uid='1.2.3.0'), DONE)
         same(node.ask('GET', '/instance/1.2.3.0'), (404, '{"fault":"Instance"}\n'))
         same(node.act('/stop'), DONE)
@@ -666,7 +708,7 @@ def main():
         return attack(*map(int, sys.argv[2:]))
     if sys.argv[1:] == ['--more']:
         return run_cases('control --more', flood_of_20_000)
-    return run_cases('control', reads, page, acts, orders, hurried, forms, associations, responses, refusals, places, hostile, flood)
+    return run_cases('control', reads, page, acts, ages, orders, hurried, forms, associations, responses, refusals, places, hostile, flood)
 
 
 if __name__ == '__main__':

@@ -8,6 +8,7 @@ node's file, a dead hop, repeats, reports that would replace a file, forged line
     tests/serving.py --more    cases that measure time and memory, which ./test leaves out
 """
 import contextlib
+import datetime
 import os
 import re
 import shutil
@@ -111,11 +112,24 @@ def held_rows():
         told(room.at('list', 'CT1', ledger='third.db'), 0, 'node\tCT1\nlines\t4\n', '')
         counts = 'node\tCT1\narrivals\t1\nkept\t0\nqueue\tGATE\twaiting\t{}\theld\t{}\tdone\t0\toldest\t{}\nlines\t{}\n'
         told(room.at('list', 'CT1', '--summary', ledger='second.db'), 0, counts.format(0, 1, '-', 2), '')
+        # the same with the class by its name and with dates: each line has those two more, and a row that was never tried isn't due at one
+        date = r'20\d\d-\d\d-\d\dT\d\d:\d\d:\d\d\.\d{3}Z'
+        long = room.at('list', 'CT1', '--long', ledger='second.db')
+        same(re.sub(date, 'DATE', long.stdout.decode()),
+             'node\tCT1\narrival\t-\t1.2.3.4\tCT Image Storage\tDATE\nrow\t1.2.3.4\tGATE\theld\tC0F1\tCT Image Storage\tDATE\nlines\t2\n')
+        came = datetime.datetime.fromisoformat(re.search(date, long.stdout.decode())[0])
+        assert abs((datetime.datetime.now(datetime.timezone.utc) - came).total_seconds()) < 60, came
+        same(room.at('list', 'CT1', '--long', '--summary', ledger='second.db').returncode, 2)
         told(room.at('requeue', 'CT1', '--all-held', 'ARCH', ledger='second.db'), 0, '', '')
         told(room.at('requeue', 'CT1', '--all-held', 'GATE', ledger='second.db'), 0, 'requeued\t1.2.3.4\n', '')
         told(room.at('requeue', 'CT1', '--all-held', 'GATE', ledger='second.db'), 0, '', '')
         summary = room.at('list', 'CT1', '--summary', ledger='second.db')
         same(re.sub(r'oldest\t\d+', 'oldest\tN', summary.stdout.decode()), counts.format(1, 0, 'N', 3))
+        long = room.at('list', 'CT1', '--long', ledger='second.db').stdout.decode()
+        assert 'row\t1.2.3.4\tGATE\twaiting\t0\t-\tCT Image Storage\tDATE\n' in re.sub(date, 'DATE', long), long
+        # every line has the moment of its call
+        with sqlite3.connect(f'{room.folder}/second.db') as ledger:
+            same([abs(time.time() * 1000 - moment) < 60_000 for moment, in ledger.execute('SELECT moment FROM journal ORDER BY n')], 3 * [True])
         same(room.at('requeue', 'CT1', '1.2.3.4', '--all-held', 'GATE').returncode, 2)
         same(room.at('requeue', 'CT1', '1.2.3.4').returncode, 2)
         same(room.at('requeue', 'CT1').returncode, 2)

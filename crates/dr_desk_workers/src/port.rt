@@ -38,8 +38,8 @@ impl<'a, R: Wait, L: Ledger, B: Sharing, G: Gate> SessionPort<'a, R, L, B, G> {
         }
     }
 
-    /// Tells for which nodes there may be new rows of an instance that came for the first time. Where
-    /// there was no memory to tell of which, or for which, nothing is told.
+    /// Tells for which nodes there may be new rows of an instance that came for the first time.
+    /// Where there was no memory to tell of which, or for which, nothing is told.
     fn tell_brought(
         &self,
         instance: &Result<Instance, AllocError>,

@@ -27,8 +27,8 @@ pub trait Moments: LetsGo {
         ensures stands { Self.stands self.new ↔ Self.stands self.old }
         ensures trusts { Self.trusts self.new ↔ Self.trusts self.old };
 
-    /// Where the instance of this uid is from; None where none is there, or nobody can tell. It only
-    /// reads: Store and Memory.
+    /// Where the instance of this uid is from; None where none is there, or nobody can tell. It
+    /// only reads: Store and Memory.
     fn origin_of(&mut self, uid: &Text) -> Result<Option<Origin>, LedgerFault>
         ensures reply { Self.stands self.new → Reads result (λ origin. Unit {0}) }
         ensures same { Self.stands self.new

@@ -1,6 +1,7 @@
 //! Lines of JSON.
 ghost use Rattle.std.specs.Prelude.{◌≡◌, ◌++◌, OnOk};
-ghost use Rattle.dr_run_answer.specs.Answers.{came_part, cause_part, done_line, due_part, fault_line};
+ghost use Rattle.dr_run_answer.specs.Answers.{came_part, cause_part, done_line, due_part};
+ghost use Rattle.dr_run_answer.specs.Answers.{fault_line};
 ghost use Rattle.dr_run_answer.specs.Answers.{flag, held_part, instance_line, late_line};
 ghost use Rattle.dr_run_answer.specs.Answers.{line_of_node, line_of_queue, number, origin_part};
 ghost use Rattle.dr_run_answer.specs.Answers.{progress_part, row_line, visit_part, waiting_part};

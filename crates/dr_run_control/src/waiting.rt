@@ -1,7 +1,7 @@
 //! For how long the row to a next node has waited that is there longest.
 //!
-//! A node notes each row that an arrival makes, and lets go of what doesn't wait any more. Rows from
-//! before, and those that were queued again, are looked up where it is asked.
+//! A node notes each row that an arrival makes, and lets go of what doesn't wait any more. Rows
+//! from before, and those that were queued again, are looked up where it is asked.
 use crate::console::House;
 use crate::reads::NodeReader;
 use dr_base::{Seq, Text};

@@ -12,7 +12,7 @@ use Rattle.sqlite_tied.specs.Listing.{count_rows}
 use Rattle.sqlite_value.specs.declared.keys.Key.{Key}
 use Rattle.sqlite_value.specs.Keys.{ascending}
 use Rattle.dr_store_views.specs.Statements as text
-use Rattle.dr_store_writes.proofs.Commands.{by_uid, over}
+use Rattle.dr_store_views.specs.Origins.{line_query, moment_query}
 use Rattle.dr_store_reads.proofs.Selects.{Is}
 
 -- how many rows of a table the conditions hold of
@@ -120,15 +120,10 @@ page = record { command = refl; listing = refl; plain = (refl, refl) }
 
 -- ---- where an instance is from
 
-pub line_of : Is text.line_of (over 1 by_uid (col 1 0 ∷ col 1 2 ∷ [])) (codes "rowid" ∷ codes "class" ∷ [])
+pub line_of : Is text.line_of line_query (codes "rowid" ∷ codes "class" ∷ [])
 unfolding understood everything
 line_of = record { command = refl; listing = refl; plain = (refl, refl) }
 
--- WHERE n = ?1 AND kind = 0 AND uid = ?2
-abbrev pub by_number : List Term
-by_number =
-    op2 (Compare Eq Binary) (col 1 0) (col 0 0) ∷ op2 (Compare Eq Binary) (col 1 2) (lit (Int (pos 0))) ∷ op2 (Compare Eq Binary) (col 1 4) (col 0 1) ∷ []
-
-pub moment_of : Is text.moment_of (over 11 by_number (col 1 7 ∷ [])) (codes "moment" ∷ [])
+pub moment_of : Is text.moment_of moment_query (codes "moment" ∷ [])
 unfolding understood everything
 moment_of = record { command = refl; listing = refl; plain = (refl, refl) }

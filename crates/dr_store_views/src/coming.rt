@@ -4,8 +4,8 @@ ghost use Rattle.sqlite.specs.Held.{state};
 ghost use Rattle.dr_ledger.specs.Replies.{Reads};
 ghost use Rattle.dr_store_schema.specs.Ledgers.{IsLedger};
 ghost use Rattle.dr_store_reads.specs.Queries.{Asked, first_of};
-ghost use Rattle.dr_store_views.specs.Answers.{IsLineShown, IsMomentShown, IsOriginShown};
-ghost use Rattle.dr_store_views.specs.Answers.{first_moment_in, numbered};
+ghost use Rattle.dr_store_views.specs.Origins.{IsLineOf, IsMomentOf, IsOriginOf, first_moment_in};
+ghost use Rattle.dr_store_views.specs.Origins.{numbered};
 
 use dr_base::Text;
 use dr_ledger::LedgerFault;
@@ -50,7 +50,7 @@ fn line_of<'x, S: Alter>(
     uid: &'x Text,
 ) -> Result<Option<(u64, Text)>, LedgerFault>
     ensures asked { Asked IsLedger result (state S.Store conn.old) (state S.Store conn.new)
-        (IsLineShown uid.now (state S.Store conn.old) (state S.Store conn.new)) }
+        (IsLineOf uid.now (state S.Store conn.old).now.trees) }
 {
     let rows = ask(
         conn,
@@ -67,7 +67,7 @@ fn moment_of<'x, S: Alter>(
     uid: &'x Text,
 ) -> Result<Option<u64>, LedgerFault>
     ensures asked { Asked IsLedger result (state S.Store conn.old) (state S.Store conn.new)
-        (IsMomentShown n uid.now (state S.Store conn.old) (state S.Store conn.new)) }
+        (IsMomentOf n uid.now (state S.Store conn.old).now.trees) }
 {
     let rows = ask(
         conn,
@@ -86,7 +86,7 @@ fn with_moment<'x, S: Alter>(
 ) -> Result<Option<Origin>, LedgerFault>
     ensures asked { Asked IsLedger result (state S.Store conn.old) (state S.Store conn.new)
         (λ origin. (moment : Option ℕ)
-        × IsMomentShown n uid.now (state S.Store conn.old) (state S.Store conn.new) moment
+        × IsMomentOf n uid.now (state S.Store conn.old).now.trees moment
         × (origin ≡ Some (record { class = class; moment = moment }))) }
 {
     match moment_of(conn, n, uid) {
@@ -103,7 +103,7 @@ pub fn origin_of<'x, S: Alter>(
     uid: &'x Text,
 ) -> Result<Option<Origin>, LedgerFault>
     ensures asked { Asked IsLedger result (state S.Store conn.old) (state S.Store conn.new)
-        (IsOriginShown uid.now (state S.Store conn.old) (state S.Store conn.new)) }
+        (IsOriginOf uid.now (state S.Store conn.old).now.trees) }
 {
     match line_of(conn, alloc, uid) {
         Ok(Some((n, class))) => with_moment(conn, n, uid, class),

@@ -13,7 +13,8 @@ use Rattle.dr_word_line.specs.declared.words.Task.TheVariants.{CheckInputAsJson,
 use Rattle.dr_word_line.specs.declared.words.Task.TheVariants.{CheckAllOfInput, CheckAllOfFile}
 use Rattle.dr_word_line.specs.declared.words.Task.TheVariants.{QuestionAsJson}
 use Rattle.dr_word_line.specs.declared.words.Duty.{Duty}
-use Rattle.dr_word_line.specs.declared.words.Duty.TheVariants.{List as ToList, ListLong, Summary, Requeue}
+use Rattle.dr_word_line.specs.declared.words.Duty.TheVariants.{List as ToList, ListLong, Summary}
+use Rattle.dr_word_line.specs.declared.words.Duty.TheVariants.{Requeue}
 use Rattle.dr_word_line.specs.declared.words.Duty.TheVariants.{RequeueAll, GiveUp, Forget, Make}
 use Rattle.dr_word_line.specs.declared.words.Duty.TheVariants.{Send, Serve}
 use Rattle.dr_word_line.specs.declared.words.Errand.{Errand}

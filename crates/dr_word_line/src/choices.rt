@@ -174,7 +174,8 @@ fn long<'a>(alloc: Global) -> Result<Arg<'a>, AllocError> {
         .long("long")
         .action(ArgAction::SetTrue)
         .help("prints names of classes and dates too")
-        .conflicts_with("SUMMARY")
+        .conflicts_with("SUMMARY")?
+        .conflicts_with("AT")
 }
 
 /// The option of `list` for a no where a row is held.

@@ -2,8 +2,9 @@
 //!
 //! `LedgerClerk` does them: `make` the word `new`; `list` and `requeue` the words of these names;
 //! `list_long`, `summarize` and `requeue_all` these with the options that print names and dates,
-//! that count what there is, and that take all held rows to a node; `give_up` and `forget` the words `drop` and `forget`. `put_queue_line` adds
-//! the line of the rows to a node to such a summary, of whatever node they are.
+//! that count what there is, and that take all held rows to a node; `give_up` and `forget` the
+//! words `drop` and `forget`. `put_queue_line` adds the line of the rows to a node to such a
+//! summary, of whatever node they are.
 //!
 //! By a `Registry` it comes to a ledger, as `open_node` of `dr_run_open` does.
 #![tactic(auto)]

@@ -7,15 +7,13 @@ use Rattle.dr_store_views.proofs.coming.with_moment.Goals as goal
 
 pub returns-in-Ok : goal.returns-in-Ok
 returns-in-Ok g c =
-    let old = state g.S.Store c.args.conn.now in
-    let new = state g.S.Store c.moment_of.new.conn in
+    let db = (state g.S.Store c.args.conn.now).now.trees in
     record {
-      asked = decoded {Q = IsTold c.args.n c.args.uid.now c.args.class old new} (Ok (Some (record { class = c.args.class; moment = c.in-Ok.moment }))) (λ has. has)
+      asked = decoded {Q = IsTold c.args.n c.args.uid.now c.args.class db} (Ok (Some (record { class = c.args.class; moment = c.in-Ok.moment }))) (λ has. has)
           (λ has told. (c.in-Ok.moment, told, refl)) c.in-Ok.ensures.asked;
     }
 
 pub returns-in-Err : goal.returns-in-Err
 returns-in-Err g c =
-    let old = state g.S.Store c.args.conn.now in
-    let new = state g.S.Store c.moment_of.new.conn in
-    record { asked = refused {B = Option Origin} {Q = IsTold c.args.n c.args.uid.now c.args.class old new} {r = Err c.in-Err.fault} (refl, refl) (λ has. has) c.in-Err.ensures.asked }
+    let db = (state g.S.Store c.args.conn.now).now.trees in
+    record { asked = refused {B = Option Origin} {Q = IsTold c.args.n c.args.uid.now c.args.class db} {r = Err c.in-Err.fault} (refl, refl) (λ has. has) c.in-Err.ensures.asked }
