@@ -16,7 +16,8 @@ use Rattle.dr_run_request.specs.declared.browser.Browser.{Browser}
 use Rattle.dr_run_request.specs.declared.route.Route.{Route}
 use Rattle.dr_run_request.specs.declared.route.Route.TheVariants.{Page, Status, Rows, Instance}
 use Rattle.dr_run_request.specs.declared.route.Route.TheVariants.{Journal, Metrics, Health, Requeue}
-use Rattle.dr_run_request.specs.declared.route.Route.TheVariants.{GiveUp, Forget, Visit, Backup, Stop}
+use Rattle.dr_run_request.specs.declared.route.Route.TheVariants.{GiveUp, Forget, Visit, Backup}
+use Rattle.dr_run_request.specs.declared.route.Route.TheVariants.{Stop}
 
 -- the path of a route; of an instance, what stands before its UID
 abbrev pub path_of : Route → Text

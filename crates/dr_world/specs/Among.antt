@@ -73,7 +73,10 @@ NoneNamesOurs ours k =
 abbrev pub StepFits : Ours → ByteWorld → WorldStep → Type 0
 StepFits ours b (Open from to) = ours from ≡ true → ours to ≡ false
 StepFits ours b (Move number Acceptor n) =
-    (k : Channel) → map.get b.links number ≡ Some k → ours (receiver_of k) ≡ true → NoneNamesOurs ours k
+    (k : Channel)
+    → map.get b.links number ≡ Some k
+    → ours (receiver_of k) ≡ true
+    → NoneNamesOurs ours k
 StepFits ours b step = Unit {0}
 
 -- Each deed is such, wherever those before it have led to, and none is a change of plan. Whatever
