@@ -178,7 +178,7 @@ alone_parsed = refl
 
 no_address_alone : (place : Listens) → IsListens false alone_members place → ⊥
 unfolding alone_members
-no_address_alone place is = unaddressed _ place refl refl is
+no_address_alone place is = unaddressed alone_members place refl refl is
 
 pub bind_alone : BindNeedsAddress
 bind_alone = λ plan w. let node = lone _ alone_members plan alone_parsed w in no_address_alone node.0.listens node.1.listens
