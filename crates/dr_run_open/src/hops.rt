@@ -1,5 +1,5 @@
 //! The hops that begin at a node.
-ghost use Rattle.std.specs.Prelude.{◌≡◌, ◌∷◌, [], IfOk, MatchOption};
+ghost use Rattle.std.specs.Prelude.{◌≡◌, ◌∷◌, ◌++◌, [], IfOk, OnOk, MatchOption};
 ghost use Rattle.std.specs.List.{list_any};
 ghost use Rattle.dr_site.specs.Parts.{ends_at};
 ghost use Rattle.dr_run_open.specs.Hops.{first_look, hop_at, hops_from};
@@ -55,6 +55,17 @@ fn hop_at(site: &Site, node: &Node) -> Result<Option<NextHop>, AllocError>
     Ok(Some(hop))
 }
 
+/// Adds the hop of a site to the node, where there is one.
+fn add_hop(hops: &mut Vec<NextHop>, site: &Site, node: &Node) -> Result<(), AllocError>
+    ensures { OnOk result (hops.new.items ≡ hops.old.items ++ hop_at site.now node.now) }
+{
+    let Some(hop) = hop_at(site, node)? else {
+        return Ok(());
+    };
+    hops.push(hop)?;
+    Ok(())
+}
+
 /// The hops of a site: the nodes of the plan to which it sends and that listen, in the order of the
 /// plan's text, each with its address.
 pub fn hops_of(alloc: Global, site: &Site, plan: &Plan) -> Result<Vec<NextHop>, AllocError>
@@ -62,9 +73,7 @@ pub fn hops_of(alloc: Global, site: &Site, plan: &Plan) -> Result<Vec<NextHop>, 
 {
     let mut hops = Vec::new(alloc);
     for node in plan.nodes() {
-        if let Some(hop) = hop_at(site, node)? {
-            hops.push(hop)?;
-        }
+        add_hop(&mut hops, site, node)?;
     }
     Ok(hops)
 }
