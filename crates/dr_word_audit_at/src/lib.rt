@@ -11,6 +11,7 @@
 pub mod cutting;
 mod figuring;
 pub mod judging;
+pub mod laws;
 mod paging;
 mod running;
 mod told;
