@@ -286,8 +286,8 @@ format_1_has_none plan formed one =
     let has = in_format One plan.format plan.nodes plan.flows one formed.in_format in (
       no_modality_prefix One (λ prefixes none. none) plan has,
       none_named StationPrefix plan
-      (each_rule (RuleFits One) (λ rule. prefix_of rule.station ≡ []) plan.nodes (λ rule fits. fits.1) has.each_rule)
-      (each_flow (λ flow. ValuesFit One flow.modalities flow.stations) (λ flow. listed_prefixes flow.stations ≡ []) plan.flows (λ flow fits. fits.1) has.each_flow),
+          (each_rule (RuleFits One) (λ rule. prefix_of rule.station ≡ []) plan.nodes (λ rule fits. fits.1) has.each_rule)
+          (each_flow (λ flow. ValuesFit One flow.modalities flow.stations) (λ flow. listed_prefixes flow.stations ≡ []) plan.flows (λ flow fits. fits.1) has.each_flow),
     )
 
 pub format_2_has_none : (plan : Network) → IsWellFormed plan → plan.format ≡ Two → (modalities_of plan).prefixes ≡ []

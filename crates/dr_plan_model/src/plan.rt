@@ -40,8 +40,8 @@ impl Clone for Node {
 }
 
 /// The format of a plan's text, which is also the version of its certificate's text. From format 2
-/// on a rule or a flow may name stations by what they begin with, and in format 3 modalities too. In
-/// format 3 a text may have names and lists that are put right before it is read as a plan.
+/// on a rule or a flow may name stations by what they begin with, and in format 3 modalities too.
+/// In format 3 a text may have names and lists that are put right before it is read as a plan.
 #[derive(Clone, Copy, PartialEq, Eq, Debug)]
 pub enum Format {
     One,

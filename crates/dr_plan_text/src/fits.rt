@@ -84,7 +84,8 @@ fn rules_fit(format: Format, rules: &[Rule]) -> bool
 }
 
 fn nodes_fit(format: Format, nodes: &[NodeText]) -> bool
-    ensures { IsTrue result ↔ All (λ node. All (λ rule. RuleFits format rule) node.rules) nodes.now }
+    ensures { IsTrue result
+        ↔ All (λ node. All (λ rule. RuleFits format rule) node.rules) nodes.now }
 {
     nodes
         .iter()

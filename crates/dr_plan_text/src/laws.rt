@@ -47,8 +47,8 @@ pub fn prefixes_of_modalities_are_of_format_3()
     ensures flow_of_2 { FlowModalityIsOfFormatThree }
 {}
 
-/// What names no modality and no station in any format: `*` alone, an asterisk elsewhere than at the
-/// end, and a prefix with a space at one of its ends.
+/// What names no modality and no station in any format: `*` alone, an asterisk elsewhere than at
+/// the end, and a prefix with a space at one of its ends.
 pub fn ill_formed_prefixes_name_none()
     ensures star { StarNamesNone }
     ensures inside { StarsInsideNameNone }

@@ -28,9 +28,9 @@ pub struct Literals {
     pub stations: FieldValues,
 }
 
-/// One part of a field, modality or station: a literal of the plan; the values that are no literal, and of whose
-/// prefixes this one of the plan is the longest, which are written as the prefix and `*`; or all
-/// others, which are written `*`.
+/// One part of a field, modality or station: a literal of the plan; the values that are no literal,
+/// and of whose prefixes this one of the plan is the longest, which are written as the prefix and
+/// `*`; or all others, which are written `*`.
 #[derive(Clone, PartialEq, Eq, PartialOrd, Ord, Debug, Drop)]
 pub enum OwnedField {
     Literal(Text),
