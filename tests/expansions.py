@@ -24,7 +24,7 @@ PROGRAM = sys.argv[1] if sys.argv[1:] else f"{TOP}/crates/dr_router/out/dr_route
 
 def as_sets(core):
     """A plan without the order of its tables."""
-    return ({(node["name"], node["address"], node["max_pdu"], frozenset(map(repr, (sorted(it.items()) for it in node["accept"]))),
+    return ({(node["name"], node.get("address"), node["max_pdu"], frozenset(map(repr, (sorted(it.items()) for it in node["accept"]))),
               frozenset(map(repr, (sorted(it.items()) for it in node["rule"])))) for node in core["node"]},
             sorted(repr(sorted(it.items())) for it in core["flow"]))
 
@@ -43,6 +43,26 @@ SMALL = [
     (FLOW.format('"A"', '"CT Image"'), "CT Image"),
     ('[set]\nct = ["@mr"]\n' + FLOW.format('"A"', '"@ct"'), "@mr"),
 ]
+
+# Where nodes listen, in one spelling: how each of these is written, the first as the expansion has it.
+PLACES = [
+    ['listens = false\n'],
+    ['address = "h:1"\n', 'address = "h:1"\nlistens = true\n', 'listens = true\naddress = "h:1"\n'],
+    ['address = "h:1"\nbind = "[::]:1"\n', 'bind = "[::]:1"\nlistens = true\naddress = "h:1"\n'],
+    ['address = "[2001:db8::1]:104"\n'],
+]
+
+# What no plan is, of a node A in format 3, with the place that is told.
+NO_PLACES = [
+    ('', 'address: it is missing'), ('bind = "h:1"\n', 'address: it is missing'), ('listens = true\n', 'address: it is missing'),
+    ('listens = false\naddress = "h:1"\n', 'address: it has to be'), ('listens = false\nbind = "h:1"\n', 'bind: it has to be'),
+    ('listens = "no"\n', 'listens: it has to be true or false'), ('address = "h:1"\nbind = "h"\n', 'bind: it has to be'),
+    (f'listens = false\n[[node.accept]]\nfrom = "*"\nclass = "1.2"\nsyntax = ["ExplicitVRLittleEndian"]\n', 'accept: it has to be'),
+]
+
+# And in format 2, which has none of these keys.
+EARLIER = [('listens = false\n', 'listens'), ('address = "h:1"\nlistens = true\n', 'listens'), ('address = "h:1"\nbind = "h:2"\n', 'bind')]
+
 
 # Plans at the most that one may stand for, and above it: 512 callers and classes in a rule, one node and the words of a group.
 RULE = '[[node.rule]]\nfrom = {}\nclass = {}\n'
@@ -136,8 +156,26 @@ def modalities_alike(room):
             yield f"modalities that begin alike: {what}: {printed!r} {told} {status}, and not {wanted}"
 
 
+def placed(place, form=3):
+    """A plan of one node, with these lines of where it listens."""
+    return f'format = {form}\n[[node]]\nname = "A"\n{place}'
+
+
+def places(room):
+    """What the program says otherwise of where nodes listen."""
+    cases = [(it, where, 3) for it, where in NO_PLACES] + [(it, f"{key}: it has to be left out before format 3", 2) for it, key in EARLIER]
+    for place, key, form in cases:
+        printed, told, status = asked(room, "check", plan=placed(place, form))
+        if (printed, status) != ("", 1) or not told.startswith("dr_router: L2 Field\n") or f'node 1 "A", {key}' not in told:
+            yield f"{place!r}: {printed!r} {told!r} {status}, and not {key}"
+
+
 def faults():
     """What isn't as it should be."""
+    for first, *others in PLACES:
+        for place in (first, *others):
+            if expanded(placed(place)) != placed(first).replace('\n[[', '\n\n[[') + "max_pdu = 16384\n":
+                yield f"{place!r} expands to {expanded(placed(place))!r}"
     for given, wanted in zip(LARGE, WITHIN):
         try:
             found = expanded(given) != ""
@@ -169,7 +207,7 @@ def compared(text, once):
     if not os.path.isfile(PROGRAM):
         print(f"expansions: {PROGRAM} isn't built: it isn't compared")
         return
-    for given in (text, once, *(f"format = 3\n{small}" for small, _ in SMALL), *LARGE):
+    for given in (text, once, *(f"format = 3\n{small}" for small, _ in SMALL), *LARGE, *(placed(it) for ways in PLACES for it in ways)):
         with tempfile.NamedTemporaryFile("w", suffix=".toml", encoding="utf-8") as file:
             file.write(given)
             file.flush()
@@ -182,13 +220,14 @@ def compared(text, once):
             yield f"the program's expansion is another one: {given}: {ran.stdout}{ran.stderr}"
     with tempfile.TemporaryDirectory() as room:
         yield from modalities_alike(room)
+        yield from places(room)
 
 
 def main():
     found = list(faults())
     for fault in found:
         print(f"expansions: {fault}")
-    print(f"{len(SMALL) + len(LARGE) + 2} expansions, {len(found)} faults")
+    print(f"{len(SMALL) + len(LARGE) + sum(map(len, PLACES)) + 2} expansions, {len(found)} faults")
     return 1 if found else 0
 
 

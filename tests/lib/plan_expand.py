@@ -166,7 +166,8 @@ def text_of(core):
     """The one spelling of a plan."""
     text = "format = 3\n"
     for node in core["node"]:
-        text += table("node", node, ["name", "address", "max_pdu"])
+        place = [key for key in ("listens", "address", "bind") if node.get(key, True) is not True]
+        text += table("node", node, ["name", *place, "max_pdu"])
         text += "".join(table("node.accept", row, ["from", "class", "syntax"]) for row in node["accept"])
         text += "".join(table("node.rule", rule, ["from", "class", "modality", "station", "to", "keep"]) for rule in node["rule"])
     for flow in core["flow"]:

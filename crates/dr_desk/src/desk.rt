@@ -6,7 +6,8 @@ ghost use Rattle.dr_ledger.specs.SiteRoutes.{site_routing};
 use dr_base::{Seq, Text};
 use dr_cert::Sealed;
 use dr_ledger::{Arrived, Entry, Item, Job, Ledger, LedgerFault, LetsGo, Outcome, Progress};
-use dr_ledger_views::{Stage, Views};
+use dr_ledger_history::JournalLine;
+use dr_ledger_views::{Moments, Origin, Stage, Views};
 use dr_site::Site;
 
 /// A node's ledger, as the one who owns it calls it. It is a ledger itself: each call gives the
@@ -148,6 +149,16 @@ impl<L: LetsGo> LetsGo for Desk<L> {
     }
 }
 
+impl<L: Moments> Moments for Desk<L> {
+    fn at(&mut self, now: u64) {
+        self.ledger.at(now);
+    }
+
+    fn origin_of(&mut self, uid: &Text) -> Result<Option<Origin>, LedgerFault> {
+        self.ledger.origin_of(uid)
+    }
+}
+
 impl<L: Views> Views for Desk<L> {
     fn count_arrivals(&mut self) -> Result<u64, LedgerFault> {
         self.ledger.count_arrivals()
@@ -181,5 +192,9 @@ impl<L: Views> Views for Desk<L> {
 
     fn callers_of(&mut self, uid: &Text) -> Result<Seq<Text>, LedgerFault> {
         self.ledger.callers_of(uid)
+    }
+
+    fn lines_behind(&mut self, after: u64, limit: u32) -> Result<Seq<JournalLine>, LedgerFault> {
+        self.ledger.lines_behind(after, limit)
     }
 }

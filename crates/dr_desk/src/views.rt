@@ -12,7 +12,8 @@ use crate::shared::SharedDesk;
 use crate::sharing::Sharing;
 use dr_base::{Seq, Text};
 use dr_ledger::{LedgerFault, Progress};
-use dr_ledger_views::{HopTally, Stage, Views, tally};
+use dr_ledger_history::JournalLine;
+use dr_ledger_views::{HopTally, Moments, Origin, Stage, Views, tally};
 use std::sync::Wait;
 
 impl<L: Views, B: Sharing> HeldDesk<L, B> {
@@ -77,6 +78,15 @@ impl<L: Views, B: Sharing> HeldDesk<L, B> {
         self.desk.page(dest, stage, after, limit)
     }
 
+    /// The ledger's `origin_of`.
+    fn origin_of(&mut self, uid: &Text) -> Result<Option<Origin>, LedgerFault>
+        ensures { Answered L.site L.book L.bodies L.stands L.failed B.site B.first
+            (λ l answer. Reads answer (λ origin. Unit {0}))
+            result self.old.desk.ledger self.new.desk.ledger }
+    {
+        self.desk.origin_of(uid)
+    }
+
     /// The ledger's `callers_of`.
     fn callers_of(&mut self, uid: &Text) -> Result<Seq<Text>, LedgerFault>
         ensures { Answered L.site L.book L.bodies L.stands L.failed B.site B.first
@@ -84,6 +94,15 @@ impl<L: Views, B: Sharing> HeldDesk<L, B> {
             result self.old.desk.ledger self.new.desk.ledger }
     {
         self.desk.callers_of(uid)
+    }
+
+    /// The ledger's `lines_behind`.
+    fn lines_behind(&mut self, after: u64, limit: u32) -> Result<Seq<JournalLine>, LedgerFault>
+        ensures { Answered L.site L.book L.bodies L.stands L.failed B.site B.first
+            (λ l answer. Reads answer (λ lines. Unit {0}))
+            result self.old.desk.ledger self.new.desk.ledger }
+    {
+        self.desk.lines_behind(after, limit)
     }
 }
 
@@ -149,11 +168,32 @@ impl<L: Views, B: Sharing> SharedDesk<L, B> {
         self.held.lock(rt).page(dest, stage, after, limit)
     }
 
+    /// The ledger's `origin_of`.
+    pub fn origin_of<R: Wait>(&self, rt: &R, uid: &Text) -> Result<Option<Origin>, LedgerFault>
+        ensures { Reading L.site L.book L.bodies L.stands L.failed B.site B.first
+            (λ l answer. Reads answer (λ origin. Unit {0})) result }
+    {
+        self.held.lock(rt).origin_of(uid)
+    }
+
     /// The ledger's `callers_of`.
     pub fn callers_of<R: Wait>(&self, rt: &R, uid: &Text) -> Result<Seq<Text>, LedgerFault>
         ensures { Reading L.site L.book L.bodies L.stands L.failed B.site B.first
             (λ l answer. Reads answer (AreCallers (L.book l).arrivals uid.now)) result }
     {
         self.held.lock(rt).callers_of(uid)
+    }
+
+    /// The ledger's `lines_behind`: at most `limit` lines are copied under the lock.
+    pub fn lines_behind<R: Wait>(
+        &self,
+        rt: &R,
+        after: u64,
+        limit: u32,
+    ) -> Result<Seq<JournalLine>, LedgerFault>
+        ensures { Reading L.site L.book L.bodies L.stands L.failed B.site B.first
+            (λ l answer. Reads answer (λ lines. Unit {0})) result }
+    {
+        self.held.lock(rt).lines_behind(after, limit)
     }
 }

@@ -1,5 +1,5 @@
 -- The forms of fields that a text's tables say.
-use Rattle.std.proofs.Common.{◌≢◌, sym, subst, List, [], ◌∷◌, Option, Some, None}
+use Rattle.std.proofs.Common.{◌≢◌, sym, subst, List, [], ◌∷◌, Option, Some, None, false}
 use Rattle.std.specs.Prelude.{All, AllPairs}
 use Rattle.std.proofs.lemmas.List.Elements.{All-nil, All-cons, All-head, All-tail}
 use Rattle.toml.specs.Data.{Data, Items, no_items, item, Members}
@@ -11,12 +11,17 @@ use Rattle.dr_route.specs.declared.rule.FieldPattern.TheVariants as field
 use Rattle.dr_plan_model.specs.Naming.{literal_of, prefix_of}
 use Rattle.std.specs.Prelude.{flat_map}
 use Rattle.dr_plan_model.specs.declared.plan.Values.TheVariants as values
-use Rattle.dr_plan_model.specs.Formed.{IsClass, IsLiteral, IsPrefix, IsAddress, HasForm, HasFieldForm, AreValues}
+use Rattle.dr_plan_model.specs.Formed.{IsClass, IsLiteral, IsPrefix, IsAddress, HasAddresses, HasForm, HasFieldForm, AreValues}
+use Rattle.dr_plan_model.specs.Listening.{MayAccept}
+use Rattle.dr_plan_model.specs.declared.listens.Listens.{Listens}
+use Rattle.dr_plan_model.specs.declared.listens.Listens.TheVariants.{Nowhere, At}
+use Rattle.dr_plan_text.specs.Listening.{IsListens}
+use Rattle.std.proofs.lemmas.Option.{none-some}
 use Rattle.dr_plan_text.specs.declared.words.AcceptText.{AcceptText}
 use Rattle.dr_plan_text.specs.declared.words.NodeText.{NodeText}
 use Rattle.dr_plan_text.specs.declared.words.FlowText.{FlowText}
 use Rattle.dr_plan_text.specs.declared.words.PlanText.{PlanText}
-use Rattle.dr_plan_text.specs.Fields.{SaysFormed, SaysPattern, SaysNamed, SaysField, SaysValues, SaysTable, SaysTextsOnce, ListsValues, IsListOf, IsSomeOf, Given, GivenOr}
+use Rattle.dr_plan_text.specs.Fields.{SaysFormed, SaysSome, SaysPattern, SaysNamed, SaysField, SaysValues, SaysTable, SaysTextsOnce, ListsValues, IsListOf, IsSomeOf, Given, GivenOr}
 use Rattle.dr_plan_text.specs.Tables.{IsAcceptTable, IsRuleTable, IsNodeTable, IsFlowTable, IsRoot}
 
 pub record RowForm (row : AcceptText) : Type 0 where
@@ -30,7 +35,8 @@ pub record RuleForm (rule : Rule) : Type 0 where
   pub station : HasFieldForm rule.station
 
 pub record NodeForm (node : NodeText) : Type 0 where
-  pub address : IsAddress node.address
+  pub addresses : HasAddresses node.listens
+  pub may_accept : MayAccept node.listens node.accepts
   pub accepts : All RowForm node.accepts
   pub rules : All RuleForm node.rules
 
@@ -112,9 +118,20 @@ rule_form d rule h = record {
   station = given_or field.Any SaysField HasFieldForm tt field_form _ rule.station h.2.station;
 }
 
+-- the address to which a node binds is one, where it is given
+bind_form : (address : Text) (bind : Option Text) (field : Option Data) → IsAddress address → GivenOr None (SaysSome (SaysFormed IsAddress)) field bind → HasAddresses (At address bind)
+bind_form address None field is h = is
+bind_form address (Some own) None is h = absurd (none-some own (sym h))
+bind_form address (Some own) (Some d) is h = (is, h.1)
+
+listens_form : (fields : Members) (place : Listens) → IsListens false fields place → HasAddresses place
+listens_form fields Nowhere h = tt
+listens_form fields (At address bind) h = bind_form address bind _ (given (SaysFormed IsAddress) IsAddress (λ d x g. g.1) _ address h.1) h.2
+
 node_form : SaysFormedAs (SaysTable IsNodeTable) NodeForm
 node_form d node h = record {
-  address = given (SaysFormed IsAddress) IsAddress (λ d x h. h.1) _ node.address h.2.address;
+  addresses = listens_form h.0 node.listens h.2.listens;
+  may_accept = h.2.may_accept;
   accepts = given_or [] (IsListOf (SaysTable IsAcceptTable)) (All RowForm) (All-nil RowForm) (list_form (SaysTable IsAcceptTable) RowForm row_form) _ node.accepts h.2.accept;
   rules = given_or [] (IsListOf (SaysTable IsRuleTable)) (All RuleForm) (All-nil RuleForm) (list_form (SaysTable IsRuleTable) RuleForm rule_form) _ node.rules h.2.rule;
 }

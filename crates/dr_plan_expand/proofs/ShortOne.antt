@@ -1,6 +1,6 @@
 -- Tables of format 3 say one thing each, and a plan means one plan.
-use Rattle.std.proofs.Common.{◌≡◌, refl, sym, ◌∙◌, ap, subst, inl, inr, List, [], ◌∷◌, Option, Some, None, flat_map, map}
-use Rattle.toml.specs.Data.{Data, string, integer, boolean, array, table, Members, no_members, member}
+use Rattle.std.proofs.Common.{◌≡◌, refl, sym, ◌∙◌, ap, subst, inl, inr, List, [], ◌∷◌, Option, Some, None, flat_map, map, true, codes}
+use Rattle.toml.specs.Data.{Data, string, integer, boolean, array, table, Members, no_members, member, get_member}
 use Rattle.dr_base.specs.Texts.{Text}
 use Rattle.dr_route.specs.declared.rule.Rule.{Rule}
 use Rattle.dr_route.specs.declared.rule.Pattern.{Pattern}
@@ -8,7 +8,10 @@ use Rattle.dr_route.specs.declared.rule.Pattern.TheVariants.{Any, Literal}
 use Rattle.dr_route.specs.declared.rule.FieldPattern.TheVariants as field
 use Rattle.dr_route.specs.declared.accept.Callers.{Callers}
 use Rattle.dr_route.specs.declared.accept.Callers.TheVariants as callers
-use Rattle.dr_plan_model.specs.Formed.{IsAddress}
+use Rattle.dr_plan_model.specs.Listening.{MayAccept}
+use Rattle.dr_plan_model.specs.declared.listens.Listens.{Listens}
+use Rattle.dr_plan_text.specs.Listening.{IsListens}
+use Rattle.dr_plan_text.proofs.Listened.{IsListens-one}
 use Rattle.dr_plan_text.specs.declared.words.AcceptText.{AcceptText}
 use Rattle.dr_plan_text.specs.declared.words.NodeText.{NodeText}
 use Rattle.dr_plan_text.specs.declared.words.FlowText.{FlowText}
@@ -108,11 +111,19 @@ rule_one fields x y a b =
 node_one : (fields : Members) (x y : ShortNode) → IsShortNode fields x → IsShortNode fields y → x ≡ y
 node_one fields x y a b =
     let name = Given-one (SaysFormed IsPlainWord) (SaysFormed-one IsPlainWord) _ x.name y.name a.name b.name in
-    let address = Given-one (SaysFormed IsAddress) (SaysFormed-one IsAddress) _ x.address y.address a.address b.address in
+    let listens = IsListens-one true fields x.listens y.listens a.listens b.listens in
     let max_pdu = GivenOr-one _ SaysNumber SaysNumber-one _ x.max_pdu y.max_pdu a.max_pdu b.max_pdu in
     let accepts = GivenOr-one [] (IsListOf (SaysTable IsShortRow)) (IsListOf-one (SaysTable IsShortRow) (SaysTable-one IsShortRow row_one)) _ x.accepts y.accepts a.accept b.accept in
     let rules = GivenOr-one [] (IsListOf (SaysTable IsShortRule)) (IsListOf-one (SaysTable IsShortRule) (SaysTable-one IsShortRule rule_one)) _ x.rules y.rules a.rule b.rule in
-    λ i. record { name = name i; address = address i; max_pdu = max_pdu i; accepts = accepts i; rules = rules i }
+    λ i. record { name = name i; listens = listens i; max_pdu = max_pdu i; accepts = accepts i; rules = rules i }
+
+-- where a node that listens nowhere has accept rows, the table says no node
+pub no_rows : (fields : Members) (listens : Listens) (accepts : List ShortRow) → IsListens true fields listens
+    → GivenOr [] (IsListOf (SaysTable IsShortRow)) (get_member (codes "accept") fields) accepts → (MayAccept listens accepts → ⊥) → (x : ShortNode) → IsShortNode fields x → ⊥
+no_rows fields listens accepts where_it rows may_not x is =
+    let same_place = IsListens-one true fields x.listens listens is.listens where_it in
+    let same_rows = GivenOr-one [] (IsListOf (SaysTable IsShortRow)) (IsListOf-one (SaysTable IsShortRow) (SaysTable-one IsShortRow row_one)) _ x.accepts accepts is.accept rows in
+    may_not (subst (λ (l : Listens). MayAccept l accepts) same_place (subst (λ (r : List ShortRow). MayAccept x.listens r) same_rows is.may_accept))
 
 flow_one : (fields : Members) (x y : ShortFlow) → IsShortFlow fields x → IsShortFlow fields y → x ≡ y
 flow_one fields x y a b =
@@ -159,7 +170,7 @@ module _ (l : Lookups) where
   whole_one node x y a b =
       let accepts = yields_one (YieldsRows l) rows_one node.accepts a.accepts b.accepts a.each_row b.each_row in
       let rules = yields_one (YieldsRules l) rules_one node.rules a.rules b.rules a.each_rule b.each_rule in
-      a.are ∙ ((λ i. record { name = node.name; address = node.address; max_pdu = node.max_pdu; accepts = accepts i; rules = rules i } ∷ []) ∙ sym b.are)
+      a.are ∙ ((λ i. record { name = node.name; listens = node.listens; max_pdu = node.max_pdu; accepts = accepts i; rules = rules i } ∷ []) ∙ sym b.are)
 
   flows_one : (flow : ShortFlow) (x y : List FlowText) → YieldsFlows l flow x → YieldsFlows l flow y → x ≡ y
   flows_one flow x y a b =

@@ -83,7 +83,7 @@ pub record YieldsRules (l : Lookups) (rule : ShortRule) (rules : List Rule) : Ty
 abbrev pub node_of : ShortNode → List AcceptText → List Rule → NodeText
 node_of node accepts rules = record {
   name = node.name;
-  address = node.address;
+  listens = node.listens;
   max_pdu = node.max_pdu;
   accepts = accepts;
   rules = rules;

@@ -1,5 +1,5 @@
 -- The one spelling of a plan of format 3 without names, sets, groups and lists.
-use Rattle.std.specs.Prelude.{Bool, if◌then◌else◌, List, [], ◌∷◌, ◌++◌, codes}
+use Rattle.std.specs.Prelude.{Bool, if◌then◌else◌, List, [], ◌∷◌, ◌++◌, Option, Some, None, codes}
 use Rattle.std.specs.Prelude.{map, flat_map}
 use Rattle.std.specs.Fmt.{signed_decimal}
 use Rattle.dr_base.specs.Texts.{Text}
@@ -11,6 +11,8 @@ use Rattle.dr_route.specs.declared.rule.FieldPattern.TheVariants as field
 use Rattle.dr_route.specs.declared.rule.Rule.{Rule}
 use Rattle.dr_route.specs.declared.accept.Callers.{Callers}
 use Rattle.dr_route.specs.declared.accept.Callers.TheVariants as callers
+use Rattle.dr_plan_model.specs.declared.listens.Listens.{Listens}
+use Rattle.dr_plan_model.specs.declared.listens.Listens.TheVariants.{Nowhere, At}
 use Rattle.dr_plan_model.specs.declared.plan.Values.{Values}
 use Rattle.dr_plan_model.specs.declared.plan.Values.TheVariants as values
 use Rattle.dr_plan_text.specs.declared.words.AcceptText.{AcceptText}
@@ -77,11 +79,25 @@ rule_text rule =
     ++ codes "\nto = " ++ list_text rule.to
     ++ codes "\nkeep = " ++ flag_text rule.keep ++ codes "\n"
 
+-- the address to which a node binds, where it is another one
+abbrev pub bind_text : Option Text → Text
+bind_text None = []
+bind_text (Some address) = codes "\nbind = " ++ in_quotes address
+
+-- the address at which a node listens, and the one to which it binds, where it is another one
+abbrev pub address_text : Text → Option Text → Text
+address_text address bind = codes "\naddress = " ++ in_quotes address ++ bind_text bind
+
+-- where a node listens
+abbrev pub listens_text : Listens → Text
+listens_text Nowhere = codes "\nlistens = false"
+listens_text (At address bind) = address_text address bind
+
 -- a node, with its accept rows and its rules
 abbrev pub node_text : NodeText → Text
 node_text node =
     codes "\n[[node]]\nname = " ++ in_quotes node.name
-    ++ codes "\naddress = " ++ in_quotes node.address
+    ++ listens_text node.listens
     ++ codes "\nmax_pdu = " ++ signed_decimal node.max_pdu ++ codes "\n"
     ++ flat_map row_text node.accepts ++ flat_map rule_text node.rules
 

@@ -13,6 +13,7 @@ mod known;
 pub mod laws;
 pub mod lookup;
 pub mod meant;
+mod named;
 mod pieces;
 pub mod short;
 mod spell;

@@ -17,6 +17,7 @@ use crate::short::{AnyWords, Definition, ShortFlow, ShortNode, ShortPlan, ShortR
 use crate::words::{Classes, Nodes, Syntaxes, copy_of};
 use crate::yields::{Yielding, all};
 use dr_base::{Seq, Text};
+use dr_plan_model::listens::copy_listens;
 use dr_plan_model::{Format, Values};
 use dr_plan_text::{AcceptText, FlowText, NodeText, PlanText};
 use dr_route::{Callers, FieldPattern, Pattern, Rule};
@@ -261,10 +262,10 @@ fn node_with(
     ensures { IfOk result (λ made. made ≡ node_of node.now accepts rules) }
 {
     let name = node.name.clone()?;
-    let address = node.address.clone()?;
+    let listens = copy_listens(&node.listens)?;
     Ok(NodeText {
         name,
-        address,
+        listens,
         max_pdu: node.max_pdu,
         accepts,
         rules,

@@ -4,11 +4,12 @@ ghost use Rattle.std.specs.Fmt.{signed_decimal};
 ghost use Rattle.dr_plan_expand.specs.Spelling.{further, list_text, starred};
 ghost use Rattle.dr_plan_expand.specs.Spelling.{pattern_text, field_text, callers_text};
 ghost use Rattle.dr_plan_expand.specs.Spelling.{values_text, flag_text};
+ghost use Rattle.dr_plan_expand.specs.Spelling.{bind_text, address_text, listens_text};
 
 use crate::words::copy_of;
 use dr_base::{Seq, Text};
 use dr_base_quoted::put_in_quotes;
-use dr_plan_model::Values;
+use dr_plan_model::{Listens, Values};
 use dr_route::{Callers, FieldPattern, FieldValues, Pattern};
 use std::alloc::{AllocError, Global};
 
@@ -130,6 +131,42 @@ pub fn add_values(alloc: Global, out: &mut Vec<u8>, values: &Values) -> Result<(
         Values::Listed(named) => {
             let texts = written(alloc, named)?;
             add_list(alloc, out, texts.as_slice())
+        }
+    }
+}
+
+/// The address to which a node binds, where it is another one.
+fn bound(alloc: Global, bind: &Option<Text>) -> Result<Vec<u8>, AllocError>
+    ensures { IfOk result (λ out. out.items ≡ bind_text bind.now) }
+{
+    let Some(address) = bind else {
+        return Ok(Vec::new(alloc));
+    };
+    let mut out = Vec::from_slice(alloc, b"\nbind = ")?;
+    put_in_quotes(&mut out, address)?;
+    Ok(out)
+}
+
+/// The address at which a node listens, and the one to which it binds, where it is another one.
+fn addressed(alloc: Global, address: &Text, bind: &Option<Text>) -> Result<Vec<u8>, AllocError>
+    ensures { IfOk result (λ out. out.items ≡ address_text address.now bind.now) }
+{
+    let mut out = Vec::from_slice(alloc, b"\naddress = ")?;
+    put_in_quotes(&mut out, address)?;
+    let more = bound(alloc, bind)?;
+    out.extend_from_slice(more.as_slice())?;
+    Ok(out)
+}
+
+/// Adds where a node listens.
+pub fn add_listens(alloc: Global, out: &mut Vec<u8>, listens: &Listens) -> Result<(), AllocError>
+    ensures { OnOk result (out.new.items ≡ out.old.items ++ listens_text listens.now) }
+{
+    match listens {
+        Listens::Nowhere => out.extend_from_slice(b"\nlistens = false"),
+        Listens::At { address, bind } => {
+            let text = addressed(alloc, address, bind)?;
+            out.extend_from_slice(text.as_slice())
         }
     }
 }

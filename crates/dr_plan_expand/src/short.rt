@@ -1,6 +1,6 @@
 //! A plan of format 3 as it is written, with its names and lists.
 use dr_base::{Seq, Text};
-use dr_plan_model::Values;
+use dr_plan_model::{Listens, Values};
 use dr_route::{Callers, FieldPattern};
 
 /// A name that the plan defines, and the words that it stands for: of a set classes, of a group
@@ -40,12 +40,12 @@ pub struct ShortRule {
     pub keep: bool,
 }
 
-/// A node: its name doesn't begin with `@`, its address has its form, and `max_pdu` (bytes) is any
-/// integer.
+/// A node: its name doesn't begin with `@`, its addresses have their form, and `max_pdu` (bytes) is
+/// any integer. Where it listens nowhere it has no accept row.
 #[derive(Drop)]
 pub struct ShortNode {
     pub name: Text,
-    pub address: Text,
+    pub listens: Listens,
     pub max_pdu: i64,
     pub accepts: Seq<ShortRow>,
     pub rules: Seq<ShortRule>,

@@ -4,7 +4,7 @@ ghost use Rattle.dr_plan_expand.specs.Spelling.{row_text, rule_text, node_text, 
 ghost use Rattle.dr_plan_expand.specs.Spelling.{plan_text};
 
 use crate::pieces::{
-    add_callers, add_field, add_flag, add_list, add_pattern, add_signed, add_values,
+    add_callers, add_field, add_flag, add_list, add_listens, add_pattern, add_signed, add_values,
 };
 use dr_base::Text;
 use dr_base_quoted::put_in_quotes;
@@ -74,8 +74,7 @@ fn spell_node(alloc: Global, node: &NodeText) -> Result<Vec<u8>, AllocError>
 {
     let mut out = Vec::from_slice(alloc, b"\n[[node]]\nname = ")?;
     put_in_quotes(&mut out, &node.name)?;
-    out.extend_from_slice(b"\naddress = ")?;
-    put_in_quotes(&mut out, &node.address)?;
+    add_listens(alloc, &mut out, &node.listens)?;
     out.extend_from_slice(b"\nmax_pdu = ")?;
     add_signed(&mut out, node.max_pdu)?;
     out.extend_from_slice(b"\n")?;

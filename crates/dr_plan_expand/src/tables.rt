@@ -10,10 +10,11 @@ use crate::fields::{AnyOrMore, Definitions, OneOrMore, Plain};
 use crate::short::{AnyWords, ShortFlow, ShortNode, ShortPlan, ShortRow, ShortRule};
 use dr_base::Seq;
 use dr_plan_text::fault::ReadFault;
-use dr_plan_text::fields::{Address, AnyCallers, AnyText, Flag, Formed, Number, TextsOnce};
+use dr_plan_text::fields::{AnyCallers, AnyText, Flag, Formed, Number, TextsOnce};
 use dr_plan_text::form::{
     ListOf, SomeOf, TableForm, TableOf, defaulted, has_only, required, value_at,
 };
+use dr_plan_text::listening::{listens_in, may_accept};
 use dr_plan_text::values::{AnyValue, AnyValues};
 use dr_route::FieldPattern;
 use std::alloc::Global;
@@ -74,19 +75,31 @@ impl TableForm for ShortNodeTable {
     ghost is_table = { IsShortNode };
 
     fn read_table(alloc: Global, table: &Table) -> Result<ShortNode, ReadFault> {
-        if !has_only(table, &["name", "address", "max_pdu", "accept", "rule"]) {
+        if !has_only(
+            table,
+            &[
+                "name", "address", "max_pdu", "accept", "rule", "listens", "bind",
+            ],
+        ) {
+            return Err(ReadFault::Field);
+        }
+        let name = required::<Formed<Plain>>(alloc, table, "name")?;
+        let listens = listens_in(alloc, table, true)?;
+        let max_pdu = defaulted::<Number>(alloc, table, "max_pdu", 16384)?;
+        let accepts = defaulted::<ListOf<TableOf<ShortRowTable>>>(
+            alloc,
+            table,
+            "accept",
+            Seq::new(alloc),
+        )?;
+        if !may_accept(&listens, &accepts) {
             return Err(ReadFault::Field);
         }
         Ok(ShortNode {
-            name: required::<Formed<Plain>>(alloc, table, "name")?,
-            address: required::<Formed<Address>>(alloc, table, "address")?,
-            max_pdu: defaulted::<Number>(alloc, table, "max_pdu", 16384)?,
-            accepts: defaulted::<ListOf<TableOf<ShortRowTable>>>(
-                alloc,
-                table,
-                "accept",
-                Seq::new(alloc),
-            )?,
+            name,
+            listens,
+            max_pdu,
+            accepts,
             rules: defaulted::<ListOf<TableOf<ShortRuleTable>>>(
                 alloc,
                 table,

@@ -1,7 +1,7 @@
 -- Well-formed plans: names, addresses, classes and literals, names that exist, and the limits of a
 -- plan.
 use Rattle.std.specs.Prelude.{◌≡◌, ◌≢◌, ℕ, ◌≤◌, ◌<◌, ◌+◌, ◌⊎◌, List, [], ◌∷◌, ◌++◌, length, codes}
-use Rattle.std.specs.Prelude.{All, AllPairs, Contains, sum_by}
+use Rattle.std.specs.Prelude.{All, AllPairs, Contains, Some, None, sum_by}
 use Rattle.std.specs.Str.Parse.{digits_value}
 use Rattle.dr_base.specs.Texts.{Text}
 use Rattle.dr_route.specs.declared.rule.Pattern.{Pattern}
@@ -18,6 +18,9 @@ use Rattle.dr_plan_model.specs.declared.plan.Values.{Values}
 use Rattle.dr_plan_model.specs.declared.plan.Values.TheVariants as values
 use Rattle.dr_plan_model.specs.declared.plan.Format.{Format}
 use Rattle.dr_plan_model.specs.declared.plan.Format.TheVariants.{One, Two, Three}
+use Rattle.dr_plan_model.specs.declared.listens.Listens.{Listens}
+use Rattle.dr_plan_model.specs.declared.listens.Listens.TheVariants.{Nowhere, At}
+use Rattle.dr_plan_model.specs.Listening.{ListensFits, MayAccept}
 use Rattle.dr_plan_model.specs.Naming.{prefix_of, listed_prefixes}
 
 -- no space stands at the start of the text, nor at its end
@@ -66,6 +69,12 @@ pub record IsAddress (text : Text) : Type 0 where
   pub printable : All (λ byte. (33 ≤ byte) × (byte < 127)) text
   pub short : length text ≤ 255
 
+-- the addresses of a node that listens are addresses
+abbrev pub HasAddresses : Listens → Type 0
+HasAddresses Nowhere = Unit {0}
+HasAddresses (At address None) = IsAddress address
+HasAddresses (At address (Some own)) = IsAddress address × IsAddress own
+
 -- no limit, or 1,024 to 1,048,576 bytes
 abbrev pub IsMaxPdu : ℕ → Type 0
 IsMaxPdu bytes = (bytes ≡ 0) ⊎ ((1024 ≤ bytes) × (bytes ≤ 1048576))
@@ -105,11 +114,12 @@ pub record IsAcceptRow (nodes : List Node) (row : AcceptRow) : Type 0 where
   pub some : row.syntaxes ≢ []
   pub apart : AllPairs (λ a b. a ≢ b) row.syntaxes
 
--- a node of a plan: its title, address and greatest length, its accept rows and its rules are each
--- of the right form
+-- a node of a plan: its title, its addresses and greatest length, its accept rows and its rules are
+-- each of the right form, and it accepts nothing where it listens nowhere
 pub record IsWellFormedNode (nodes : List Node) (node : Node) : Type 0 where
   pub name : IsName node.name
-  pub address : IsAddress node.address
+  pub addresses : HasAddresses node.listens
+  pub may_accept : MayAccept node.listens node.accepts
   pub max_pdu : IsMaxPdu node.max_pdu
   pub accepts : All (IsAcceptRow nodes) node.accepts
   pub rules : All (IsRuleOf nodes node.name) node.rules
@@ -159,7 +169,7 @@ pub record IsInFormat (format : Format) (nodes : List Node) (flows : List Flow) 
   pub each_flow : All (λ flow. ValuesFit format flow.modalities flow.stations) flows
 
 -- the nodes and flows of a plan of that format: at most 64 nodes, each name once, and at most 1,024
--- rules and flows together
+-- rules and flows together; the nodes listen as in that format
 pub record AreWellFormed (format : Format) (nodes : List Node) (flows : List Flow) : Type 0 where
   pub few_nodes : length nodes ≤ 64
   pub few_rules : sum_by (λ node. length node.rules) nodes + length flows ≤ 1024
@@ -167,3 +177,4 @@ pub record AreWellFormed (format : Format) (nodes : List Node) (flows : List Flo
   pub each_node : All (IsWellFormedNode nodes) nodes
   pub each_flow : All (IsWellFormedFlow nodes) flows
   pub in_format : IsInFormat format nodes flows
+  pub listen : All (λ node. ListensFits format node.listens) nodes

@@ -1,5 +1,5 @@
 -- Laws of walks.
-use Rattle.std.specs.Prelude.{◌≡◌, ◌↔◌, List, [], Contains}
+use Rattle.std.specs.Prelude.{◌≡◌, ◌≢◌, ◌↔◌, List, [], Contains, None}
 use Rattle.dr_base.specs.Texts.{Text}
 use Rattle.dr_route.specs.Routes.{local}
 use Rattle.dr_route.specs.Cells.{InField}
@@ -10,7 +10,9 @@ use Rattle.dr_route.specs.declared.cell.OwnedField.TheVariants as part
 use Rattle.dr_route.specs.declared.key.Key.{Key}
 use Rattle.dr_route.specs.declared.cell.OwnedCell.{OwnedCell}
 use Rattle.dr_plan_model.specs.Networks.{Network}
-use Rattle.dr_plan_model.specs.declared.plan.Format.TheVariants.{One, Two}
+use Rattle.dr_plan_model.specs.declared.plan.Format.TheVariants.{One, Two, Three}
+use Rattle.dr_plan_model.specs.declared.plan.Node.{Node}
+use Rattle.dr_plan_model.specs.declared.listens.Listens.TheVariants.{Nowhere, At}
 use Rattle.dr_plan_model.specs.Plans.{LiesIn, IsWellFormed, literals_of, modalities_of}
 use Rattle.dr_plan_model.specs.Plans.{stations_of}
 use Rattle.dr_plan_model.specs.Walks.{Sends, Keeps, IsEntry, IsWalk, IsReached}
@@ -112,3 +114,16 @@ FormatOneKeepsItsCells =
 abbrev pub FormatTwoKeepsItsModalities : Type 0
 FormatTwoKeepsItsModalities =
     (plan : Network) → IsWellFormed plan → plan.format ≡ Two → KeepsItsParts (modalities_of plan)
+
+-- a node of a plan that listens nowhere accepts nothing
+abbrev pub NowhereAcceptsNothing : Type 0
+NowhereAcceptsNothing =
+    (plan : Network) → IsWellFormed plan → (node : Node) → Contains plan.nodes node
+    → node.listens ≡ Nowhere → node.accepts ≡ []
+
+-- before format 3 each node of a plan listens, and binds to the address by which others reach it
+abbrev pub EarlierBindToTheirAddress : Type 0
+EarlierBindToTheirAddress =
+    (plan : Network) → IsWellFormed plan → plan.format ≢ Three
+    → (node : Node) → Contains plan.nodes node
+    → (address : Text) × (node.listens ≡ At address None)

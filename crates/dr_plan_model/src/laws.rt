@@ -4,6 +4,7 @@ ghost use Rattle.dr_plan_model.specs.Laws.{EnterAlike, WalkAlike, ReachAlike};
 ghost use Rattle.dr_plan_model.specs.Laws.{EachCellOfAPlanHasAKey};
 ghost use Rattle.dr_plan_model.specs.Laws.{FormatOneHasNoPrefix, FormatOneKeepsItsCells};
 ghost use Rattle.dr_plan_model.specs.Laws.{FormatTwoHasNoPrefix, FormatTwoKeepsItsModalities};
+ghost use Rattle.dr_plan_model.specs.Laws.{NowhereAcceptsNothing, EarlierBindToTheirAddress};
 
 /// Nothing is kept for the local caller, and nothing is sent to it.
 pub fn the_local_caller_is_no_node()
@@ -37,4 +38,11 @@ pub fn format_1_has_no_prefix()
 pub fn format_2_has_no_prefix_of_a_modality()
     ensures none { FormatTwoHasNoPrefix }
     ensures parts { FormatTwoKeepsItsModalities }
+{}
+
+/// A node of a plan that listens nowhere accepts nothing, and before format 3 each node listens
+/// where others reach it.
+pub fn what_accepts_listens()
+    ensures nowhere { NowhereAcceptsNothing }
+    ensures earlier { EarlierBindToTheirAddress }
 {}

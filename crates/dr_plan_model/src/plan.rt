@@ -7,6 +7,7 @@ ghost use Rattle.std.specs.Prelude.{IfOk, MatchOption};
 
 use crate::copies::{copy_accepts, copy_flows, copy_rules};
 use crate::listed::{Listed, all_listed};
+use crate::listens::{Listens, copy_listens};
 use dr_base::{Seq, Syntax, Text};
 use dr_route::{AcceptRow, FieldValues, Rule};
 use std::alloc::{AllocError, Global};
@@ -17,7 +18,7 @@ use std::marker::Model;
 #[derive(Debug, Drop)]
 pub struct Node {
     pub name: Text,
-    pub address: Text,
+    pub listens: Listens,
     pub max_pdu: u32,
     pub accepts: Seq<AcceptRow>,
     pub rules: Seq<Rule>,
@@ -31,7 +32,7 @@ impl Clone for Node {
     fn clone(&self) -> Result<Node, AllocError> {
         Ok(Node {
             name: self.name.clone()?,
-            address: self.address.clone()?,
+            listens: copy_listens(&self.listens)?,
             max_pdu: self.max_pdu,
             accepts: copy_accepts(&self.accepts)?,
             rules: copy_rules(&self.rules)?,
@@ -41,7 +42,8 @@ impl Clone for Node {
 
 /// The format of a plan's text, which is also the version of its certificate's text. From format 2
 /// on a rule or a flow may name stations by what they begin with, and in format 3 modalities too.
-/// In format 3 a text may have names and lists that are put right before it is read as a plan.
+/// In format 3 a text may have names and lists that are put right before it is read as a plan, and
+/// a node may listen nowhere, or elsewhere than others reach it.
 #[derive(Clone, Copy, PartialEq, Eq, Debug)]
 pub enum Format {
     One,
@@ -69,8 +71,9 @@ pub struct Flow {
 }
 
 /// A plan. Its names are names of its nodes, its literals are printable, it keeps the limits of
-/// plans, and it names no prefix that its format doesn't have. What its flows list is kept as sets
-/// too, in which a value is found sooner than in a list.
+/// plans, it names no prefix that its format doesn't have, and before format 3 each node listens
+/// where others reach it. What its flows list is kept as sets too, in which a value is found sooner
+/// than in a list.
 #[derive(Debug, Drop)]
 pub struct Plan {
     format: Format,

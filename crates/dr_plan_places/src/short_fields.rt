@@ -23,14 +23,19 @@ fn wanted_of_root(key: &str) -> &'static [u8] {
     }
 }
 
+/// What an address has to be.
+const ADDRESS: &[u8] =
+    b"\"host:port\" without blanks, with a port of up to 65535, and left out where listens is false";
+
 /// What a node's own fields have to be.
 fn wanted_of_node(key: &str) -> &'static [u8] {
     match key {
         "name" => b"a name in quotes, which doesn't begin with @",
-        "address" => b"\"host:port\" without blanks, with a port of up to 65535",
+        "address" | "bind" => ADDRESS,
         "max_pdu" => b"a whole number",
-        "accept" => b"tables [[node.accept]]",
+        "accept" => b"tables [[node.accept]], and left out where listens is false",
         "rule" => b"tables [[node.rule]]",
+        "listens" => b"true or false",
         _ => b"?",
     }
 }

@@ -1,16 +1,17 @@
 //! The forms of the text's tables.
-ghost use Rattle.dr_plan_text.specs.Tables.{IsAcceptTable, IsNodeTable, IsRoot};
-ghost use Rattle.dr_plan_places.specs.FieldFlaws.{IsRuleText, IsFlowOf};
+ghost use Rattle.dr_plan_text.specs.Tables.{IsAcceptTable, IsRoot};
+ghost use Rattle.dr_plan_places.specs.FieldFlaws.{IsRuleText, IsFlowOf, IsNodeOf};
 
 use crate::flaw::Inspected;
 use crate::keys::{
     misreads, misreads_modality, misreads_station, misses, misses_modalities, misses_stations,
     unknown_key,
 };
+use crate::listening::{calls_and_accepts, listening_fault};
 use dr_plan_model::Format;
 use dr_plan_text::fields::{
-    Address, AnyCallers, AnyText, Class, ClassPattern, Flag, FormatNumber, Formed, NamePattern,
-    Number, TextsOnce,
+    AnyCallers, AnyText, Class, ClassPattern, Flag, FormatNumber, Formed, NamePattern, Number,
+    TextsOnce,
 };
 use dr_plan_text::form::{ListOf, SomeOf, TableOf};
 use dr_plan_text::tables::{AcceptTable, FlowTable, NodeTable, RuleTable};
@@ -88,27 +89,35 @@ impl Inspected for RuleTable {
 impl Inspected for NodeTable {
     type Output = NodeText;
 
-    ghost is_table = { λ _. IsNodeTable };
+    ghost is_table = { IsNodeOf };
 
     fn unknown_in<'a>(table: &'a Table) -> Option<&'a str> {
-        unknown_key(table, &["name", "address", "max_pdu", "accept", "rule"])
+        unknown_key(
+            table,
+            &[
+                "name", "address", "max_pdu", "accept", "rule", "listens", "bind",
+            ],
+        )
     }
 
     fn fault_in(
         alloc: Global,
-        _format: Format,
+        format: Format,
         table: &Table,
     ) -> Result<Option<&'static str>, AllocError> {
         if misses::<AnyText>(alloc, table, "name")? {
             return Ok(Some("name"));
         }
-        if misses::<Formed<Address>>(alloc, table, "address")? {
-            return Ok(Some("address"));
+        if let Some(key) = listening_fault(alloc, format, table, false)? {
+            return Ok(Some(key));
         }
         if misreads::<Number>(alloc, table, "max_pdu")? {
             return Ok(Some("max_pdu"));
         }
         if misreads::<ListOf<TableOf<AcceptTable>>>(alloc, table, "accept")? {
+            return Ok(Some("accept"));
+        }
+        if calls_and_accepts(table) {
             return Ok(Some("accept"));
         }
         if misreads::<ListOf<TableOf<RuleTable>>>(alloc, table, "rule")? {

@@ -1,6 +1,6 @@
 -- The smallest plans that show something: two nodes, where instances enter at the first, which
 -- sends them to the second.
-use Rattle.std.specs.Prelude.{List, [], ◌∷◌, codes, true}
+use Rattle.std.specs.Prelude.{List, [], ◌∷◌, None, codes, true}
 use Rattle.dr_base.specs.Texts.{Text}
 use Rattle.dr_base.specs.declared.syntax.Syntax.TheVariants.{Explicit}
 use Rattle.dr_route.specs.declared.rule.FieldPattern.TheVariants as field
@@ -8,6 +8,7 @@ use Rattle.dr_route.specs.declared.rule.Pattern.TheVariants.{Any}
 use Rattle.dr_route.specs.declared.rule.Rule.{Rule}
 use Rattle.dr_route.specs.declared.accept.Callers.TheVariants as callers
 use Rattle.dr_route.specs.declared.accept.AcceptRow.{AcceptRow}
+use Rattle.dr_plan_model.specs.declared.listens.Listens.TheVariants.{At}
 use Rattle.dr_plan_model.specs.declared.plan.Node.{Node}
 use Rattle.dr_plan_model.specs.declared.plan.Flow.{Flow}
 use Rattle.dr_plan_model.specs.declared.plan.Values.TheVariants as values
@@ -41,14 +42,19 @@ images_from_all = record { «from» = callers.Any; class = image; syntaxes = Exp
 
 -- the node of the scanner, which takes nothing and has no rule
 abbrev pub the_scanner : Node
-the_scanner =
-    record { name = scanner; address = codes "ct1:104"; max_pdu = 0; accepts = []; rules = [] }
+the_scanner = record {
+  name = scanner;
+  listens = At (codes "ct1:104") None;
+  max_pdu = 0;
+  accepts = [];
+  rules = [];
+}
 
 -- the node of the archive, which takes CT images and has these rules
 abbrev pub the_archive : List Rule → Node
 the_archive rules = record {
   name = archive;
-  address = codes "arch:104";
+  listens = At (codes "arch:104") None;
   max_pdu = 0;
   accepts = images_from_all ∷ [];
   rules = rules;

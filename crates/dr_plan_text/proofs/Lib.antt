@@ -1,4 +1,5 @@
 pub mod Keys
+pub mod Listened
 pub mod Items
 pub mod Trimmed
 pub mod Ports
@@ -9,5 +10,6 @@ pub mod OfValues
 pub mod OnePlan
 pub mod SmallTexts
 pub mod PrefixTexts
+pub mod ListenTexts
 pub mod ModalityTexts
 pub mod Unnamed

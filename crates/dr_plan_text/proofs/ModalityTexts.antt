@@ -18,7 +18,7 @@ use Rattle.dr_plan_text.proofs.Trimmed.{trimmed}
 use Rattle.dr_plan_text.proofs.OfValues.{SaysFormat-one}
 use Rattle.dr_plan_text.proofs.OnePlan.{nodes_one, flows_one}
 use Rattle.dr_plan_text.proofs.PrefixTexts.{IsPlain, mr_is, class_is}
-use Rattle.dr_plan_text.proofs.SmallTexts.{RulesFit, FlowFits, address_is, the_tree}
+use Rattle.dr_plan_text.proofs.SmallTexts.{RulesFit, FlowFits, ListensOf, address_is, the_tree}
 
 pub c_is : IsPrefix (codes "C")
 c_is = record {
@@ -57,10 +57,11 @@ unfolding node_members
 node_said = record {
   only = ((1, lit< tt, refl), ((0, lit< tt, refl), ((4, lit< tt, refl), tt)));
   name = refl;
-  address = (refl, address_is);
+  listens = (refl, (refl, address_is), refl);
   max_pdu = refl;
   accept = refl;
   rule = (item (table rule_members) no_items, refl, ((rule_members, refl, rule_said), tt));
+  may_accept = tt;
 }
 
 rule_parsed : parse_document (third_format ++ modality_rule_text) ≡ Some (member (codes "format") (integer (pos 3)) (member (codes "node") node_array no_members))
@@ -89,6 +90,7 @@ rule_prefix = (
     fits = record {
       rules = All-cons (RulesFit Three) written_modality_node [] (All-cons (RuleFits Three) written_modality_rule [] (tt, tt) (All-nil (RuleFits Three))) (All-nil (RulesFit Three));
       flows = All-nil (FlowFits Three);
+      listen = All-cons (ListensOf Three) written_modality_node [] tt (All-nil (ListensOf Three));
     };
   },
 )
@@ -156,7 +158,7 @@ flow_prefix = (
     format = refl;
     node = refl;
     flow = flow_listed;
-    fits = record { rules = All-nil (RulesFit Three); flows = All-cons (FlowFits Three) written_modality_flow [] (tt, tt) (All-nil (FlowFits Three)) };
+    fits = record { rules = All-nil (RulesFit Three); flows = All-cons (FlowFits Three) written_modality_flow [] (tt, tt) (All-nil (FlowFits Three)); listen = All-nil (ListensOf Three) };
   },
 )
 

@@ -1,5 +1,5 @@
 -- Tables say one thing each, and a text writes one plan at most.
-use Rattle.std.proofs.Common.{◌≡◌, refl, sym, ◌∙◌, ap, subst, List, [], Option, Some, None, Bool, ℤ, codes}
+use Rattle.std.proofs.Common.{◌≡◌, refl, sym, ◌∙◌, ap, subst, List, [], Option, Some, None, Bool, false, ℤ, codes}
 use Rattle.std.proofs.lemmas.Option.{same_Some}
 use Rattle.toml.specs.Data.{Data, integer, boolean, array, table, Members, get_member}
 use Rattle.dr_base.specs.Texts.{Text}
@@ -13,7 +13,11 @@ use Rattle.dr_route.specs.declared.accept.Callers.TheVariants as callers
 use Rattle.dr_plan_model.specs.declared.plan.Values.{Values}
 use Rattle.dr_plan_model.specs.declared.plan.Format.{Format}
 use Rattle.dr_plan_model.specs.declared.plan.Format.TheVariants.{One}
-use Rattle.dr_plan_model.specs.Formed.{IsClass, IsAddress}
+use Rattle.dr_plan_model.specs.Formed.{IsClass}
+use Rattle.dr_plan_model.specs.Listening.{MayAccept}
+use Rattle.dr_plan_model.specs.declared.listens.Listens.{Listens}
+use Rattle.dr_plan_text.specs.Listening.{IsListens}
+use Rattle.dr_plan_text.proofs.Listened.{IsListens-one}
 use Rattle.dr_plan_text.specs.declared.words.AcceptText.{AcceptText}
 use Rattle.dr_plan_text.specs.declared.words.NodeText.{NodeText}
 use Rattle.dr_plan_text.specs.declared.words.FlowText.{FlowText}
@@ -82,18 +86,26 @@ rule_one fields x y a b =
     let keep = GivenOr-one _ SaysFlag SaysFlag-one _ x.keep y.keep a.keep b.keep in
     same_rule x.from y.from x.class y.class x.modality y.modality x.station y.station x.to y.to x.keep y.keep from class modality station to keep
 
-same_node : (name name2 : Text) (address address2 : Text) (max_pdu max_pdu2 : ℤ) (accepts accepts2 : List AcceptText) (rules rules2 : List Rule) → name ≡ name2 → address ≡ address2 → max_pdu ≡ max_pdu2 → accepts ≡ accepts2 → rules ≡ rules2 →
-    (let x : NodeText = record { name = name; address = address; max_pdu = max_pdu; accepts = accepts; rules = rules } in let y : NodeText = record { name = name2; address = address2; max_pdu = max_pdu2; accepts = accepts2; rules = rules2 } in x ≡ y)
-same_node name name2 address address2 max_pdu max_pdu2 accepts accepts2 rules rules2 e_name e_address e_max_pdu e_accepts e_rules = rw (e_name, e_address, e_max_pdu, e_accepts, e_rules) refl
+same_node : (name name2 : Text) (listens listens2 : Listens) (max_pdu max_pdu2 : ℤ) (accepts accepts2 : List AcceptText) (rules rules2 : List Rule) → name ≡ name2 → listens ≡ listens2 → max_pdu ≡ max_pdu2 → accepts ≡ accepts2 → rules ≡ rules2 →
+    (let x : NodeText = record { name = name; listens = listens; max_pdu = max_pdu; accepts = accepts; rules = rules } in let y : NodeText = record { name = name2; listens = listens2; max_pdu = max_pdu2; accepts = accepts2; rules = rules2 } in x ≡ y)
+same_node name name2 listens listens2 max_pdu max_pdu2 accepts accepts2 rules rules2 e_name e_listens e_max_pdu e_accepts e_rules = rw (e_name, e_listens, e_max_pdu, e_accepts, e_rules) refl
 
 node_one : (fields : Members) (x y : NodeText) → IsNodeTable fields x → IsNodeTable fields y → x ≡ y
 node_one fields x y a b =
     let name = Given-one SaysText SaysText-one _ x.name y.name a.name b.name in
-    let address = Given-one (SaysFormed IsAddress) (SaysFormed-one IsAddress) _ x.address y.address a.address b.address in
+    let listens = IsListens-one false fields x.listens y.listens a.listens b.listens in
     let max_pdu = GivenOr-one _ SaysNumber SaysNumber-one _ x.max_pdu y.max_pdu a.max_pdu b.max_pdu in
     let accepts = GivenOr-one [] (IsListOf (SaysTable IsAcceptTable)) (IsListOf-one (SaysTable IsAcceptTable) (SaysTable-one IsAcceptTable accept_one)) _ x.accepts y.accepts a.accept b.accept in
     let rules = GivenOr-one [] (IsListOf (SaysTable IsRuleTable)) (IsListOf-one (SaysTable IsRuleTable) (SaysTable-one IsRuleTable rule_one)) _ x.rules y.rules a.rule b.rule in
-    same_node x.name y.name x.address y.address x.max_pdu y.max_pdu x.accepts y.accepts x.rules y.rules name address max_pdu accepts rules
+    same_node x.name y.name x.listens y.listens x.max_pdu y.max_pdu x.accepts y.accepts x.rules y.rules name listens max_pdu accepts rules
+
+-- where a node that listens nowhere has accept rows, the table says no node
+pub no_rows : (fields : Members) (listens : Listens) (accepts : List AcceptText) → IsListens false fields listens
+    → GivenOr [] (IsListOf (SaysTable IsAcceptTable)) (get_member (codes "accept") fields) accepts → (MayAccept listens accepts → ⊥) → (x : NodeText) → IsNodeTable fields x → ⊥
+no_rows fields listens accepts where_it rows may_not x is =
+    let same_place = IsListens-one false fields x.listens listens is.listens where_it in
+    let same_rows = GivenOr-one [] (IsListOf (SaysTable IsAcceptTable)) (IsListOf-one (SaysTable IsAcceptTable) (SaysTable-one IsAcceptTable accept_one)) _ x.accepts accepts is.accept rows in
+    may_not (subst (λ (l : Listens). MayAccept l accepts) same_place (subst (λ (r : List AcceptText). MayAccept x.listens r) same_rows is.may_accept))
 
 same_flow : (at at2 : Text) (to to2 : Text) (classes classes2 : List Text) (syntaxes syntaxes2 : List Text) (modalities modalities2 : Values) (stations stations2 : Values) → at ≡ at2 → to ≡ to2 → classes ≡ classes2 → syntaxes ≡ syntaxes2 → modalities ≡ modalities2 → stations ≡ stations2 →
     (let x : FlowText = record { at = at; to = to; classes = classes; syntaxes = syntaxes; modalities = modalities; stations = stations } in let y : FlowText = record { at = at2; to = to2; classes = classes2; syntaxes = syntaxes2; modalities = modalities2; stations = stations2 } in x ≡ y)

@@ -16,7 +16,7 @@ use Rattle.dr_plan_text.specs.Tables.{IsRuleTable, IsNodeTable, IsFlowTable, IsR
 use Rattle.dr_plan_text.specs.Laws.{RulePrefixIsWritten, RulePrefixIsOfFormatTwo, FlowPrefixIsWritten, FlowPrefixIsOfFormatTwo, second_format, rule_text, written_rule, written_rule_node, flow_text, written_flow_text}
 use Rattle.dr_plan_text.proofs.Trimmed.{trimmed}
 use Rattle.dr_plan_text.proofs.OnePlan.{nodes_one, flows_one}
-use Rattle.dr_plan_text.proofs.SmallTexts.{RulesFit, FlowFits, address_is, the_tree}
+use Rattle.dr_plan_text.proofs.SmallTexts.{RulesFit, FlowFits, ListensOf, address_is, the_tree}
 
 -- a byte that a literal may have
 abbrev pub IsPlain : ℕ → Type 0
@@ -70,10 +70,11 @@ unfolding node_members
 node_said = record {
   only = ((1, lit< tt, refl), ((0, lit< tt, refl), ((4, lit< tt, refl), tt)));
   name = refl;
-  address = (refl, address_is);
+  listens = (refl, (refl, address_is), refl);
   max_pdu = refl;
   accept = refl;
   rule = (item (table rule_members) no_items, refl, ((rule_members, refl, rule_said), tt));
+  may_accept = tt;
 }
 
 rule_parsed : parse_document (second_format ++ rule_text) ≡ Some (member (codes "format") (integer (pos 2)) (member (codes "node") node_array no_members))
@@ -102,6 +103,7 @@ rule_prefix = (
     fits = record {
       rules = All-cons (RulesFit Two) written_rule_node [] (All-cons (RuleFits Two) written_rule [] (refl, tt) (All-nil (RuleFits Two))) (All-nil (RulesFit Two));
       flows = All-nil (FlowFits Two);
+      listen = All-cons (ListensOf Two) written_rule_node [] refl (All-nil (ListensOf Two));
     };
   },
 )
@@ -169,7 +171,7 @@ flow_prefix = (
     format = refl;
     node = refl;
     flow = flow_listed;
-    fits = record { rules = All-nil (RulesFit Two); flows = All-cons (FlowFits Two) written_flow_text [] (refl, tt) (All-nil (FlowFits Two)) };
+    fits = record { rules = All-nil (RulesFit Two); flows = All-cons (FlowFits Two) written_flow_text [] (refl, tt) (All-nil (FlowFits Two)); listen = All-nil (ListensOf Two) };
   },
 )
 

@@ -25,6 +25,11 @@ SaysText d text = d ≡ string text
 abbrev pub SaysFormed : (Text → Type 0) → Data → Text → Type 0
 SaysFormed IsFormed d text = (d ≡ string text) × IsFormed text
 
+-- what a value says, where one may be left out
+abbrev pub SaysSome : {X : Type 0} → (Data → X → Type 0) → Data → Option X → Type 0
+SaysSome Says d None = ⊥
+SaysSome Says d (Some x) = Says d x
+
 -- an integer says its number
 abbrev pub SaysNumber : Data → ℤ → Type 0
 SaysNumber d number = d ≡ integer number

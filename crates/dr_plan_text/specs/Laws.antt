@@ -1,11 +1,12 @@
 -- Laws of plans as they are written, and small texts.
-use Rattle.std.specs.Prelude.{◌≡◌, pos, false, [], ◌∷◌, ◌++◌, codes}
+use Rattle.std.specs.Prelude.{◌≡◌, pos, false, [], ◌∷◌, ◌++◌, None, Some, codes}
 use Rattle.toml.specs.Data.{string}
 use Rattle.dr_base.specs.Texts.{Text}
 use Rattle.dr_route.specs.declared.rule.Pattern.TheVariants.{Any}
 use Rattle.dr_route.specs.declared.rule.FieldPattern.{FieldPattern}
 use Rattle.dr_route.specs.declared.rule.FieldPattern.TheVariants as field
 use Rattle.dr_route.specs.declared.rule.Rule.{Rule}
+use Rattle.dr_plan_model.specs.declared.listens.Listens.TheVariants.{Nowhere, At}
 use Rattle.dr_plan_model.specs.declared.plan.Values.TheVariants as values
 use Rattle.dr_plan_model.specs.declared.plan.Format.TheVariants.{One, Two, Three}
 use Rattle.dr_plan_text.specs.declared.words.NodeText.{NodeText}
@@ -31,7 +32,7 @@ node_text = codes "[[node]]\nname = \"A\"\naddress = \"h:1\"\n"
 abbrev pub written_node_text : NodeText
 written_node_text = record {
   name = codes "A";
-  address = codes "h:1";
+  listens = At (codes "h:1") None;
   max_pdu = pos 16384;
   accepts = [];
   rules = [];
@@ -85,7 +86,7 @@ written_rule = record {
 abbrev pub written_rule_node : NodeText
 written_rule_node = record {
   name = codes "A";
-  address = codes "h:1";
+  listens = At (codes "h:1") None;
   max_pdu = pos 16384;
   accepts = [];
   rules = written_rule ∷ [];
@@ -149,7 +150,7 @@ written_modality_rule = record {
 abbrev pub written_modality_node : NodeText
 written_modality_node = record {
   name = codes "A";
-  address = codes "h:1";
+  listens = At (codes "h:1") None;
   max_pdu = pos 16384;
   accepts = [];
   rules = written_modality_rule ∷ [];
@@ -204,3 +205,67 @@ StarsInsideNameNone = NamesNone (codes "C*T") × NamesNone (codes "CT **")
 -- no space stands at an end of a prefix
 abbrev pub SpacesNameNone : Type 0
 SpacesNameNone = NamesNone (codes " CT*") × NamesNone (codes "CT *")
+
+-- the text of node A, which listens nowhere
+abbrev pub nowhere_text : Text
+nowhere_text = codes "[[node]]\nname = \"A\"\nlistens = false\n"
+
+-- its node as it is read
+abbrev pub written_nowhere : NodeText
+written_nowhere = record {
+  name = codes "A";
+  listens = Nowhere;
+  max_pdu = pos 16384;
+  accepts = [];
+  rules = [];
+}
+
+-- in format 3 the text writes it
+abbrev pub NowhereIsWritten : Type 0
+NowhereIsWritten = Writes (third_format ++ nowhere_text)
+    (record { format = Three; nodes = written_nowhere ∷ []; flows = [] })
+
+-- in format 2 it writes no plan
+abbrev pub NowhereIsOfFormatThree : Type 0
+NowhereIsOfFormatThree = WritesNone (second_format ++ nowhere_text)
+
+-- the text of node A, which others reach at port 1 of host h, and which binds to port 2 of it
+abbrev pub bound_text : Text
+bound_text = codes "[[node]]\nname = \"A\"\naddress = \"h:1\"\nbind = \"h:2\"\n"
+
+-- its node as it is read
+abbrev pub written_bound : NodeText
+written_bound = record {
+  name = codes "A";
+  listens = At (codes "h:1") (Some (codes "h:2"));
+  max_pdu = pos 16384;
+  accepts = [];
+  rules = [];
+}
+
+-- in format 3 the text writes it
+abbrev pub BindIsWritten : Type 0
+BindIsWritten = Writes (third_format ++ bound_text)
+    (record { format = Three; nodes = written_bound ∷ []; flows = [] })
+
+-- in format 2 it writes no plan
+abbrev pub BindIsOfFormatThree : Type 0
+BindIsOfFormatThree = WritesNone (second_format ++ bound_text)
+
+-- a text of format 3 with a node that binds, and has no address, writes no plan
+abbrev pub BindNeedsAddress : Type 0
+BindNeedsAddress =
+    WritesNone (third_format ++ codes "[[node]]\nname = \"A\"\nbind = \"h:2\"\n")
+
+-- nor does one with a node that listens nowhere and has an address
+abbrev pub NowhereHasNoAddress : Type 0
+NowhereHasNoAddress = WritesNone
+    (third_format ++ codes "[[node]]\nname = \"A\"\nlistens = false\naddress = \"h:1\"\n")
+
+-- an accept row
+abbrev pub accept_text : Text
+accept_text = codes "[[node.accept]]\nfrom = \"*\"\nclass = \"1\"\nsyntax = [\"1\"]\n"
+
+-- nor one with a node that listens nowhere and has an accept row
+abbrev pub NowhereHasNoRow : Type 0
+NowhereHasNoRow = WritesNone (third_format ++ nowhere_text ++ accept_text)

@@ -6,6 +6,7 @@ ghost use Rattle.dr_base.specs.Texts.{Text as Words};
 ghost use Rattle.dr_plan_model.specs.Formed.{IsClass, IsAddress};
 ghost use Rattle.dr_plan_text.specs.Fields.{SaysText, SaysFormed, SaysNumber, SaysFlag, SaysFormat};
 ghost use Rattle.dr_plan_text.specs.Fields.{SaysPattern, SaysCallers, SaysTextsOnce};
+ghost use Rattle.dr_plan_text.specs.Fields.{SaysSome};
 ghost use Rattle.dr_plan_text.specs.Fields.{star};
 ghost use Rattle.dr_plan_text.specs.declared.fault.ReadFault.TheVariants.{Field};
 
@@ -82,6 +83,20 @@ impl TextForm for Address {
 
     fn test(text: &[u8]) -> bool {
         is_address(text)
+    }
+}
+
+/// What a value says, where one may be left out.
+pub struct Maybe<F>(pub F);
+
+impl<F: Form> Form for Maybe<F> {
+    type Output = Option<F::Output>;
+
+    ghost says = { SaysSome F.says };
+
+    fn read(alloc: Global, value: &Value) -> Result<Option<F::Output>, ReadFault> {
+        let read = F::read(alloc, value)?;
+        Ok(Some(read))
     }
 }
 

@@ -1,11 +1,12 @@
-//! Whether a format has what a plan names for modality and for station.
+//! Whether a format has what a plan names for modality and for station, and how its nodes listen.
 ghost use Rattle.std.specs.Prelude.{◌≡◌, ◌↔◌, [], IsTrue, All};
+ghost use Rattle.dr_plan_model.specs.Listening.{ListensFits};
 ghost use Rattle.dr_plan_model.specs.Naming.{prefix_of, listed_prefixes};
 ghost use Rattle.dr_plan_model.specs.Formed.{ModalitiesFit, StationsFit, RuleFits, ValuesFit};
 ghost use Rattle.dr_plan_text.specs.Tables.{FitsFormat};
 
 use crate::words::{FlowText, NodeText, PlanText};
-use dr_plan_model::{Format, Values};
+use dr_plan_model::{Format, Listens, Values};
 use dr_route::{FieldPattern, Rule};
 
 /// Whether the pattern is no prefix.
@@ -105,9 +106,28 @@ fn flows_fit(format: Format, flows: &[FlowText]) -> bool
     flows.iter().all(|flow| flow_fits(format, flow))
 }
 
-/// Whether the plan's format has what its rules and flows name for modality and for station.
+/// Whether the format has how a node listens: before format 3 each does where others reach it.
+pub fn listens_fits(format: Format, listens: &Listens) -> bool
+    ensures { IsTrue result ↔ ListensFits format listens.now }
+{
+    match format {
+        Format::One | Format::Two => listens.is_at_its_address(),
+        Format::Three => true,
+    }
+}
+
+fn all_listen(format: Format, nodes: &[NodeText]) -> bool
+    ensures { IsTrue result ↔ All (λ node. ListensFits format node.listens) nodes.now }
+{
+    nodes.iter().all(|node| listens_fits(format, &node.listens))
+}
+
+/// Whether the plan's format has what its rules and flows name for modality and for station, and
+/// how its nodes listen.
 pub(crate) fn fits_format(plan: &PlanText) -> bool
     ensures { IsTrue result ↔ FitsFormat plan.now }
 {
-    nodes_fit(plan.format, plan.nodes.as_slice()) && flows_fit(plan.format, plan.flows.as_slice())
+    nodes_fit(plan.format, plan.nodes.as_slice())
+        && flows_fit(plan.format, plan.flows.as_slice())
+        && all_listen(plan.format, plan.nodes.as_slice())
 }

@@ -7,6 +7,9 @@ ghost use Rattle.dr_plan_text.specs.Laws.{FlowPrefixIsOfFormatTwo, StarNamesNone
 ghost use Rattle.dr_plan_text.specs.Laws.{StarsInsideNameNone, SpacesNameNone};
 ghost use Rattle.dr_plan_text.specs.Laws.{RuleModalityIsWritten, RuleModalityIsOfFormatThree};
 ghost use Rattle.dr_plan_text.specs.Laws.{FlowModalityIsWritten, FlowModalityIsOfFormatThree};
+ghost use Rattle.dr_plan_text.specs.Laws.{NowhereIsWritten, NowhereIsOfFormatThree, BindIsWritten};
+ghost use Rattle.dr_plan_text.specs.Laws.{BindIsOfFormatThree, BindNeedsAddress};
+ghost use Rattle.dr_plan_text.specs.Laws.{NowhereHasNoAddress, NowhereHasNoRow};
 
 /// A text writes one plan at most.
 pub fn a_text_writes_one_plan()
@@ -53,4 +56,17 @@ pub fn ill_formed_prefixes_name_none()
     ensures star { StarNamesNone }
     ensures inside { StarsInsideNameNone }
     ensures spaces { SpacesNameNone }
+{}
+
+/// In format 3 a node may listen nowhere, or bind elsewhere than others reach it, and the same
+/// texts of format 2 write no plan. Nor does a text of format 3 where a node binds and has no
+/// address, or where one listens nowhere and has an address or an accept row.
+pub fn nodes_listen_elsewhere_in_format_3()
+    ensures nowhere { NowhereIsWritten }
+    ensures nowhere_of_2 { NowhereIsOfFormatThree }
+    ensures bind { BindIsWritten }
+    ensures bind_of_2 { BindIsOfFormatThree }
+    ensures no_address { BindNeedsAddress }
+    ensures addressed { NowhereHasNoAddress }
+    ensures accepts { NowhereHasNoRow }
 {}

@@ -9,6 +9,7 @@ pub mod fits;
 pub mod form;
 pub mod forms;
 pub mod laws;
+pub mod listening;
 pub mod tables;
 mod text;
 pub mod values;

@@ -10,11 +10,13 @@
 mod access;
 mod acts;
 mod console;
+mod journal;
 pub mod laws;
 mod page;
 mod reads;
 mod reply;
 mod talking;
+mod waiting;
 
 pub use access::names_of;
 pub use console::{Around, Console, House};

@@ -8,12 +8,14 @@ use Rattle.dr_word_line.specs.declared.words.Task.TheVariants.{Verify}
 use Rattle.dr_word_line.specs.declared.words.Task.TheVariants.{Simulate, Echo}
 use Rattle.dr_word_line.specs.declared.words.Task.TheVariants.{Question as AsksQuestion, AtNode}
 use Rattle.dr_word_line.specs.declared.words.Task.TheVariants.{Adopt, Audit, AtRunning, AuditAmong}
+use Rattle.dr_word_line.specs.declared.words.Task.TheVariants.{AuditRunning}
 use Rattle.dr_word_line.specs.declared.words.Task.TheVariants.{Told, Import, Rehearse}
 use Rattle.dr_word_line.specs.declared.words.Task.TheVariants.{CheckInputAsJson, CheckFileAsJson}
 use Rattle.dr_word_line.specs.declared.words.Task.TheVariants.{CheckAllOfInput, CheckAllOfFile}
 use Rattle.dr_word_line.specs.declared.words.Task.TheVariants.{QuestionAsJson}
 use Rattle.dr_word_line.specs.declared.words.Duty.{Duty}
-use Rattle.dr_word_line.specs.declared.words.Duty.TheVariants.{List as ToList, Summary, Requeue}
+use Rattle.dr_word_line.specs.declared.words.Duty.TheVariants.{List as ToList, ListLong, Summary}
+use Rattle.dr_word_line.specs.declared.words.Duty.TheVariants.{Requeue}
 use Rattle.dr_word_line.specs.declared.words.Duty.TheVariants.{RequeueAll, GiveUp, Forget, Make}
 use Rattle.dr_word_line.specs.declared.words.Duty.TheVariants.{Send, Serve}
 use Rattle.dr_word_line.specs.declared.words.Errand.{Errand}
@@ -252,11 +254,12 @@ plain_serving = record {
   control = None;
 }
 
--- the words ask this of the node with these files; other ways of serving are asked for by options,
--- of which nothing is said here
+-- the words ask this of the node with these files; a long list and other ways of serving are asked
+-- for by options, of which nothing is said here
 abbrev pub IsDutyOf : List (Bor (List ℕ)) → NodeFiles → Duty → Type 0
 IsDutyOf words given Make = IsMakeOf words given
 IsDutyOf words given ToList = IsListOf words given
+IsDutyOf words given ListLong = ⊥
 IsDutyOf words given Summary = IsSummaryOf words given
 IsDutyOf words given (Requeue uid dest) = IsRequeueOf words given uid dest
 IsDutyOf words given (RequeueAll dest) = IsRequeueAllOf words given dest
@@ -309,6 +312,8 @@ IsErrandOf words given (errands.Forget uid) =
     IsToRunning (codes "forget") words given (uid ∷ []) × IsNoOption uid.now
 IsErrandOf words given (errands.Visit dest) =
     IsToRunning (codes "visit") words given (dest ∷ []) × IsNoOption dest.now
+IsErrandOf words given (errands.Backup copy) =
+    IsToRunning (codes "backup") words given (copy ∷ []) × IsNoOption copy.now
 IsErrandOf words given errands.Stop = IsToRunning (codes "stop") words given []
 
 -- the word adopt, the paths of a plan and its certificate, those of the next plan and its
@@ -338,9 +343,9 @@ IsAuditOf words given =
     × IsNoOption given.certificate.now
     × IsNoOption given.folder.now
 
--- the words are of a plain form, which asks for this; that nodes are of other makers, that nothing
--- is to be changed, that all faults are to be named, and that an answer is to be JSON is said by
--- options, of which nothing is said here
+-- the words are of a plain form, which asks for this; that nodes are of other makers, that nodes
+-- run which are to be audited, that nothing is to be changed, that all faults are to be named, and
+-- that an answer is to be JSON is said by options, of which nothing is said here
 abbrev pub Asks : List (Bor (List ℕ)) → Task → Type 0
 Asks words CheckInput = IsPlainCheck words
 Asks words (CheckFile plan) = IsCheckOf words plan
@@ -355,6 +360,7 @@ Asks words (AtRunning given errand) = IsErrandOf words given errand
 Asks words (Adopt change) = IsAdoptOf words change
 Asks words (Audit given) = IsAuditOf words given
 Asks words (AuditAmong given others) = ⊥
+Asks words (AuditRunning given) = ⊥
 Asks words (Rehearse change) = ⊥
 Asks words CheckInputAsJson = ⊥
 Asks words (CheckFileAsJson plan) = ⊥
