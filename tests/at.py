@@ -44,6 +44,7 @@ def reads():
         listed = at(room, 'list', 'CT1', node.at, token=None)
         summed = at(room, 'list', 'CT1', node.at, '--summary', token=None)
         told(at(room, 'list', 'CT1', node.at, '--summary', '--fail-if-held', token=None), 1, summed.stdout.decode(), '')
+        same(at(room, 'list', 'CT1', node.at, '--long', token=None).returncode, 2)
         same((listed.returncode, summed.returncode, listed.stderr, summed.stderr), (0, 0, b'', b''))
         # without a token nothing can be told
         told(at(room, 'stop', 'CT1', node.at, token=None), 1, '', 'dr_router: H9 Closed\n')
@@ -88,6 +89,14 @@ def acts():
         told(at(room, 'visit', 'CT1', node.at, 'GATE'), 0, 'visited\n', '')
         told(at(room, 'visit', 'CT1', node.at, 'ARCH'), 1, '', 'dr_router: H11 NoHop\n')
         told(at(room, 'visit', 'CT1', node.at, 'GATE', token=None), 1, '', 'dr_router: H10 Token\n')
+        copy = f'{room.folder}/copy & copy.db'
+        told(at(room, 'backup', 'CT1', node.at, copy, token=None), 1, '', 'dr_router: H10 Token\n')
+        told(at(room, 'backup', 'CT1', node.at, 'copy.db'), 1, '', 'dr_router: Q4 NoPath\n')
+        told(at(room, 'backup', 'CT1', node.at, f'{room.folder}/CT1.db'), 1, '', 'dr_router: Q1 OwnFile\n')
+        told(at(room, 'backup', 'CT1', node.at, f'{room.folder}/nowhere/copy.db'), 3, '', 'dr_router: Q7 NoCopy\n')
+        told(at(room, 'backup', 'CT1', node.at, copy), 0, 'copied\n', '')
+        told(at(room, 'backup', 'CT1', node.at, copy), 1, '', 'dr_router: Q3 IsThere\n')
+        same(lines(room.at('list', 'CT1', ledger=copy).stdout)[:1], ['node\tCT1'])
         told(at(room, 'stop', 'CT1', node.at), 0, 'stopped\n', '')
         same(ended(node.process)[:1], ['node\tCT1'])
         stop(gate)

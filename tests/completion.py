@@ -51,6 +51,8 @@ def main():
     compare('a running node', ['--at'], offered('stop', plan, 'certificate', 'GATE', ''))
     compare('a running node to visit from', ['--at'], offered('visit', plan, 'certificate', 'GATE', ''))
     compare('a node to visit', ['ARCH'], offered('visit', plan, 'certificate', 'GATE', '--at', '127.0.0.1:8042', '--token', 'token', 'A'))
+    compare('a running node to copy', ['--at'], offered('backup', plan, 'certificate', 'GATE', ''))
+    compare('a copy', ['plans/three-nodes.toml'], offered('backup', plan, 'certificate', 'GATE', '--at', '127.0.0.1:8042', '--token', 'token', 'plans/three-nodes.t'))
     compare('a token', ['--token'], offered('drop', plan, 'certificate', 'GATE', '--at', '127.0.0.1:8042', '--t'))
     compare('a token\'s file', ['plans/three-nodes.toml'], offered('stop', plan, 'certificate', 'GATE', '--at', '127.0.0.1:8042', '--token', 'plans/three-nodes.t'))
     compare('nothing behind all words', [''], offered('graph', plan, 'certificate', ''))

@@ -8,6 +8,7 @@ at a time, while a peer stores.
                                ./test leaves out
 """
 import base64
+import contextlib
 import hashlib
 import http.client
 import json
@@ -24,7 +25,7 @@ import types
 import urllib.parse
 
 sys.dont_write_bytecode = True
-from lib.nodes import LIMIT, PLAN, PROGRAM, TOP, Room, data_set, element, ended, free_port, lines, part10, run_cases, same, stop, told
+from lib.nodes import CT, LIMIT, PLAN, PROGRAM, TOP, Room, data_set, element, ended, free_port, lines, part10, run_cases, same, stop, told
 from lib.requestor import Requestor
 
 TOKEN = 'a token of more than sixteen bytes'
@@ -148,6 +149,7 @@ def reads():
         same([line for line in figures.splitlines() if not line.startswith('#')],
              ['dr_router_arrivals 1', 'dr_router_kept 0', 'dr_router_journal_lines 2', 'dr_router_store_failures 0',
               'dr_router_rows{dest="GATE",state="waiting"} 0', 'dr_router_rows{dest="GATE",state="held"} 1', 'dr_router_rows{dest="GATE",state="done"} 0',
+              'dr_router_oldest_waiting_seconds{dest="GATE"} 0',
               *(f'dr_router_visits_total{{dest="GATE",came="{came}"}} 0' for came in ('released', 'rejected', 'aborted', 'closed', 'unreached', 'failed')),
               'dr_router_associations 0', *locked])
         names = re.findall('^# TYPE ([a-z_]+) (?:gauge|counter)$', figures, re.M)
@@ -228,7 +230,7 @@ def page():
         same(status, 200)
         assert text.startswith('<!DOCTYPE html>\n') and text.endswith('</table>\n</body>\n</html>\n'), text
         assert '<h1 class="green">Nothing is held, and nothing waits</h1>' in text, text
-        assert '<tr><td>GATE</td><td>0</td><td>0</td><td>0</td><td>-</td><td>-</td><td></td></tr>' in text, text
+        assert '<tr><td>GATE</td><td>0</td><td>-</td><td>0</td><td>0</td><td>-</td><td>-</td><td></td></tr>' in text, text
         stop(node.process)
         hold(room)
         node = Asked(room, 'CT1', 0, token=False)
@@ -239,7 +241,7 @@ def page():
         link.close()
         same([came.getheader(name) for name in ('content-type', 'x-content-type-options')], ['text/html; charset=utf-8', 'nosniff'])
         assert '<h1 class="red">Rows are held</h1>' in text, text
-        assert '<tr><td>GATE</td><td>0</td><td>1</td><td>0</td><td>-</td><td>-</td><td></td></tr>' in text, text
+        assert '<tr><td>GATE</td><td>0</td><td>-</td><td>1</td><td>0</td><td>-</td><td>-</td><td></td></tr>' in text, text
         assert '<tr><td>1.2.3.4</td><td>GATE</td><td>status C0F1</td><td></td></tr>' in text, text
         # without a token nothing can be acted, so there are no buttons
         for none in '<script', '<form', 'http://', 'https://', 'src=', 'href=':
@@ -263,7 +265,8 @@ def acts():
             assert time.monotonic() < end, rows
             time.sleep(0.05)
         text = node.ask('GET', '/')[1]
-        assert '<h1 class="amber">Rows wait</h1>' in text and '<tr><td>GATE</td><td>1</td><td>0</td><td>0</td>' in text, text
+        assert '<h1 class="amber">Rows wait</h1>' in text, text
+        assert re.search('<tr><td>GATE</td><td>1</td><td>[0-9]+ s</td><td>0</td><td>0</td>', text), text
         same(node.act('/requeue', uid='1.2.3.4', dest='GATE'), (409, '{"fault":"G5 NotHeld"}\n'))
         same(node.act('/drop', uid='1.2.3.4', dest='GATE'), (409, '{"fault":"G5 NotHeld"}\n'))
         # GATE is there again, and refuses it again: each process is another one
@@ -283,6 +286,44 @@ def acts():
                     'drop dest="GATE" uid=1.2.3.4 fault="G5 NotHeld"', 'drop dest="GATE" uid=1.2.3.4', 'stop'])
 
 
+def without_origin(shown):
+    """What is shown of an instance, without its class, which is CT, and without the moment when it came, which was just now."""
+    same(shown[0].pop('class'), CT.decode())
+    came = shown[0].pop('came')
+    assert abs(time.time() * 1000 - came) < 60_000, came
+    return shown
+
+
+def ages():
+    """For how long the oldest row to a node has waited: from when its instance came, over an end of the node too, and from the start where
+    nobody noted when it came. It waits while GATE isn't there, and no more when GATE took it."""
+    with Room() as room:
+        room.put('image.dcm', part10(b'1.2.3.4'))
+        same(room.at('send', 'CT1', 'image.dcm').returncode, 0)
+        node = Asked(room, 'CT1', 0, token=False)
+        came = node.read('/instance/1.2.3.4')[0]['came']
+        assert 0 <= time.time() * 1000 - came < 60_000, came
+        time.sleep(max(0, came / 1000 + 2.5 - time.time()))
+        waited = node.read('/status')[1]['waited']
+        assert 0 <= time.time() - came / 1000 - waited < 2, waited
+        figures = node.ask('GET', '/metrics')[1]
+        assert int(re.search('^dr_router_oldest_waiting_seconds{dest="GATE"} ([0-9]+)$', figures, re.M)[1]) >= waited, figures
+        stop(node.process)
+        with contextlib.closing(sqlite3.connect(f'{room.folder}/CT1.db')) as file:
+            same(file.execute('SELECT moment FROM journal WHERE n = 1').fetchall(), [(came,)])
+            file.execute('UPDATE journal SET moment = NULL WHERE kind < 2')
+            file.commit()
+        begun = time.time()
+        node = Asked(room, 'CT1', 0, token=False)
+        same(node.read('/instance/1.2.3.4')[0], {'instance': '1.2.3.4', 'body': True, 'over': False, 'class': CT.decode()})
+        assert node.read('/status')[1]['waited'] <= time.time() - begun + 1
+        gate = room.serve('GATE', 0)
+        node.wait('/status', lambda lines: lines[1]['done'] == 1)
+        assert 'waited' not in node.read('/status')[1]
+        stop(node.process)
+        stop(gate)
+
+
 def orders():
     """All held rows of a node are queued again; an instance is looked at, dropped with a reason, and forgotten."""
     with Room() as room:
@@ -291,8 +332,8 @@ def orders():
         node = Asked(room, 'CT1', 0)
         row = {'uid': '1.2.3.0', 'dest': 'GATE', 'state': 'held', 'cause': 'C0F1'}
         whole = [{'instance': '1.2.3.0', 'body': True, 'over': False}, {'from': '-'}, row]
-        same(node.read('/instance/1.2.3.0'), whole)
-        same(node.read('/instance/1%2E2.3.0'), whole)
+        same(without_origin(node.read('/instance/1.2.3.0')), whole)
+        same(without_origin(node.read('/instance/1%2E2.3.0')), whole)
         for unknown in '1.2.3', '', '1.2.3.0/', '%00%ff%22%0a':
             same(node.ask('GET', f'/instance/{unknown}'), (404, '{"fault":"Instance"}\n'))
         same(node.ask('GET', '/instance'), (404, '{"fault":"Path"}\n'))
@@ -329,7 +370,7 @@ def orders():
         same(node.act('/drop', uid='1.2.3.0', dest='GATE', reason='twice\n"by hand"' + 200 * 'x'), DONE)
         # who brings what was given up brings it anew, so nobody is noted for it
         shown = [{'instance': '1.2.3.0', 'body': False, 'over': True}, {'uid': '1.2.3.0', 'dest': 'GATE', 'state': 'dropped'}]
-        same(node.read('/instance/1.2.3.0'), shown)
+        same(without_origin(node.read('/instance/1.2.3.0')), shown)
         same(node.act('/forget', uid='1.2.3.0'), DONE)
         same(node.ask('GET', '/instance/1.2.3.0'), (404, '{"fault":"Instance"}\n'))
         same(node.act('/stop'), DONE)
@@ -509,7 +550,7 @@ def refusals():
         form = urllib.parse.urlencode(row)
         node = Asked(room, 'CT1', 0, '--control-host', 'node.example')
         bearer = f'Bearer {TOKEN}'
-        for path in '/requeue', '/drop', '/forget', '/visit', '/stop':
+        for path in '/requeue', '/drop', '/forget', '/visit', '/backup', '/stop':
             same(node.ask('POST', path, row), (401, '{"fault":"Token"}\n'))
             for given in TOKEN, f'Basic {TOKEN}', f'bearer {TOKEN}', f'Bearer {TOKEN[:-1]}', f'Bearer {TOKEN}x', f'Bearer {TOKEN[:-1]}X', 'Bearer ', 'Bearer':
                 same(node.ask('POST', path, row, Authorization=given)[0], 401)
@@ -536,10 +577,64 @@ def refusals():
     with Room() as room:
         hold(room)
         node = Asked(room, 'CT1', 0, token=False)
-        for path in '/requeue', '/drop', '/forget', '/visit', '/stop':
+        for path in '/requeue', '/drop', '/forget', '/visit', '/backup', '/stop':
             same(node.ask('POST', path, row, Authorization=bearer), (403, '{"fault":"Closed"}\n'))
         same(node.read('/rows?dest=GATE&state=held')[0]['uid'], '1.2.3.4')
         stop(node.process)
+
+
+def backups():
+    """The ledger is copied to a path where nothing is, of the node's machine and from its root: two files, that nobody but their owner may read.
+    Where that is refused, or fails, nothing is there then that wasn't before."""
+    with Room() as room:
+        node = Asked(room, 'GATE', 0)
+        with Requestor(room.ports['GATE'], 'CT1', 'GATE') as link:
+            same(link.store(b'1.2.3.4', data_set(b'1.2.3.4')), 0)
+        os.mkdir(f'{room.folder}/copies')
+        for name in 'there.db', 'log.db-wal', 'part.db.part', 'late.db-wal.part':
+            room.put(f'copies/{name}', b'not to be lost')
+        os.symlink('nowhere', f'{room.folder}/copies/link.db')
+        os.symlink('GATE.db', f'{room.folder}/second.db')
+        before = sorted(os.listdir(room.folder)), sorted(os.listdir(f'{room.folder}/copies'))
+        copy = f'{room.folder}/copies/GATE.db'
+        same(node.ask('POST', '/backup', {'copy': copy}), (401, '{"fault":"Token"}\n'))
+        same(node.ask('GET', f'/backup?copy={copy}')[0], 405)
+        same(node.act('/backup'), (400, '{"fault":"Field"}\n'))
+        same(node.act('/backup', uid='1.2.3.4'), (400, '{"fault":"Field"}\n'))
+        for path in 'copy.db', '', './copy.db', '\udcff/copy.db':
+            same(node.act('/backup', copy=path.encode('utf-8', 'surrogateescape')), (400, '{"fault":"Q4 NoPath"}\n'))
+        for name in 'there', 'log', 'part', 'late', 'link':
+            same(node.act('/backup', copy=f'{room.folder}/copies/{name}.db'), (409, '{"fault":"Q3 IsThere"}\n'))
+        same(node.act('/backup', copy=f'{room.folder}/second.db'), (409, '{"fault":"Q3 IsThere"}\n'))
+        # the ledger's own names, whether a file has them or not, by whatever path, and what would be another ledger's log
+        for name in 'GATE.db', 'GATE.db-wal', 'GATE.db-journal', 'GATE.db-shm', 'GATE.db.new', 'GATE.db.data', 'copies/../GATE.db', 'copies/ARCH.db-wal', 'copies/ARCH.db-journal':
+            same(node.act('/backup', copy=f'{room.folder}/{name}'), (409, '{"fault":"Q1 OwnFile"}\n'))
+        same(node.act('/backup', copy=f'{room.folder}/nowhere/GATE.db'), (503, '{"fault":"Q7 NoCopy"}\n'))
+        same((sorted(os.listdir(room.folder)), sorted(os.listdir(f'{room.folder}/copies'))), before)
+        same(node.act('/backup', copy=copy), DONE)
+        same(sorted(set(os.listdir(f'{room.folder}/copies')) - set(before[1])), ['GATE.db', 'GATE.db-wal'])
+        for name in copy, f'{copy}-wal':
+            same(os.stat(name).st_mode & 0o777, 0o600)
+        same(node.act('/backup', copy=copy), (409, '{"fault":"Q3 IsThere"}\n'))
+        # of many at the same time the others are refused while one is made
+        answers = []
+        askers = [threading.Thread(target=lambda number=number: answers.append((number, node.act('/backup', copy=f'{copy}.{number}')))) for number in range(8)]
+        for asker in askers:
+            asker.start()
+        for asker in askers:
+            asker.join()
+        made = sorted(f'GATE.db.{number}' for number, answer in answers if answer == DONE)
+        assert made and all(answer in (DONE, (409, '{"fault":"Q5 Busy"}\n')) for _, answer in answers), answers
+        same(sorted(name for name in os.listdir(f'{room.folder}/copies') if re.fullmatch('GATE.db.[0-9]', name)), made)
+        same(node.act('/stop'), DONE)
+        ended(node.process)
+        said = [event[3] for event in room.events('GATE') if event[2] == 'control' and event[3].startswith('backup ')]
+        told_of = re.fullmatch(f'backup copy="{copy}" lines=([0-9]+) bytes=[0-9]+ milliseconds=[0-9]+', next(line for line in said if 'bytes=' in line))
+        listed = lines(room.at('list', 'GATE', ledger='copies/GATE.db').stdout)
+        same([line.split('\t')[:4] for line in listed if line.startswith('row\t')], [['row', '1.2.3.4', 'ARCH', 'waiting']])
+        same(listed[-1], f'lines\t{told_of[1]}')
+        assert f'backup copy="{room.folder}/GATE.db" fault="Q1 OwnFile"' in said, said
+        assert any(line.startswith(f'backup copy="{room.folder}/nowhere/GATE.db" fault="Q7 NoCopy" error="') for line in said), said
 
 
 def places():
@@ -731,7 +826,7 @@ def main():
         return attack(*map(int, sys.argv[2:]))
     if sys.argv[1:] == ['--more']:
         return run_cases('control --more', flood_of_20_000)
-    return run_cases('control', reads, journal, page, acts, orders, hurried, forms, associations, responses, refusals, places, hostile, flood)
+    return run_cases('control', reads, journal, page, acts, ages, orders, hurried, forms, associations, responses, refusals, backups, places, hostile, flood)
 
 
 if __name__ == '__main__':

@@ -8,6 +8,7 @@ node's file, a dead hop, repeats, reports that would replace a file, forged line
     tests/serving.py --more    cases that measure time and memory, which ./test leaves out
 """
 import contextlib
+import datetime
 import os
 import re
 import shutil
@@ -23,7 +24,7 @@ import time
 
 sys.dont_write_bytecode = True
 from lib.requestor import ABORT, ACCEPTED, DATA, REJECTED, RELEASED, Acceptor, Requestor, associate, command, context, hear, pdu, stored, values
-from lib.nodes import CT, EXPLICIT, IMPLICIT, LETS_GO, LIMIT, PROGRAM, Room, data_set, element, ended, lines, part10, run_cases, same, stop, told
+from lib.nodes import CT, EXPLICIT, IMPLICIT, LETS_GO, LIMIT, PLAN, PROGRAM, Room, data_set, element, ended, lines, part10, run_cases, same, stop, told
 
 
 def three_nodes():
@@ -76,6 +77,26 @@ def refusals():
         same(room.run('serve', 'plan', 'certificate', 'ARCH').returncode, 2)
 
 
+def listening_elsewhere():
+    """A node binds to `bind`, and others reach it at `address`; one that only calls sends, and has no door."""
+    with Room() as room:
+        ports, text = room.ports, room.text(PLAN[0])
+        text = text.replace(f'address = "127.0.0.1:{ports["CT1"]}"', 'listens = false')
+        gate = f'address = "127.0.0.1:{ports["GATE"]}"\n'
+        text = text.replace(gate, f'{gate}bind = "0.0.0.0:{ports["GATE"]}"\n')
+        room.put(PLAN[0], b'format = 3\n' + text.replace('format = 1\n', '').encode())
+        room.put(PLAN[1], room.run('check', PLAN[0]).stdout)
+        room.put('image.dcm', part10(b'1.2.3.4'))
+        told(room.at('serve', 'CT1'), 3, '', 'dr_router: CT1: Nowhere\n')
+        told(room.run('echo', PLAN[0], 'ARCH', 'CT1'), 1, '', 'dr_router: CT1: Nowhere\n')
+        arch, gate = room.serve('ARCH', 1), room.serve('GATE', 2)
+        with socket.create_connection(('127.0.0.2', ports['GATE'])):
+            pass
+        same(lines(room.at('send', 'CT1', 'image.dcm').stdout)[0], 'new')
+        same(ended(gate)[-2:], ['row\t1.2.3.4\tARCH\tdone', 'lines\t2'])
+        same(ended(arch)[-1], 'lines\t1')
+
+
 def dead_hop():
     """A hop that doesn't answer costs the row one try, which waits; a requeue of it is refused, since it isn't held."""
     with Room() as room:
@@ -111,11 +132,24 @@ def held_rows():
         told(room.at('list', 'CT1', ledger='third.db'), 0, 'node\tCT1\nlines\t4\n', '')
         counts = 'node\tCT1\narrivals\t1\nkept\t0\nqueue\tGATE\twaiting\t{}\theld\t{}\tdone\t0\toldest\t{}\nlines\t{}\n'
         told(room.at('list', 'CT1', '--summary', ledger='second.db'), 0, counts.format(0, 1, '-', 2), '')
+        # the same with the class by its name and with dates: each line has those two more, and a row that was never tried isn't due at one
+        date = r'20\d\d-\d\d-\d\dT\d\d:\d\d:\d\d\.\d{3}Z'
+        long = room.at('list', 'CT1', '--long', ledger='second.db')
+        same(re.sub(date, 'DATE', long.stdout.decode()),
+             'node\tCT1\narrival\t-\t1.2.3.4\tCT Image Storage\tDATE\nrow\t1.2.3.4\tGATE\theld\tC0F1\tCT Image Storage\tDATE\nlines\t2\n')
+        came = datetime.datetime.fromisoformat(re.search(date, long.stdout.decode())[0])
+        assert abs((datetime.datetime.now(datetime.timezone.utc) - came).total_seconds()) < 60, came
+        same(room.at('list', 'CT1', '--long', '--summary', ledger='second.db').returncode, 2)
         told(room.at('requeue', 'CT1', '--all-held', 'ARCH', ledger='second.db'), 0, '', '')
         told(room.at('requeue', 'CT1', '--all-held', 'GATE', ledger='second.db'), 0, 'requeued\t1.2.3.4\n', '')
         told(room.at('requeue', 'CT1', '--all-held', 'GATE', ledger='second.db'), 0, '', '')
         summary = room.at('list', 'CT1', '--summary', ledger='second.db')
         same(re.sub(r'oldest\t\d+', 'oldest\tN', summary.stdout.decode()), counts.format(1, 0, 'N', 3))
+        long = room.at('list', 'CT1', '--long', ledger='second.db').stdout.decode()
+        assert 'row\t1.2.3.4\tGATE\twaiting\t0\t-\tCT Image Storage\tDATE\n' in re.sub(date, 'DATE', long), long
+        # every line has the moment of its call
+        with sqlite3.connect(f'{room.folder}/second.db') as ledger:
+            same([abs(time.time() * 1000 - moment) < 60_000 for moment, in ledger.execute('SELECT moment FROM journal ORDER BY n')], 3 * [True])
         same(room.at('requeue', 'CT1', '1.2.3.4', '--all-held', 'GATE').returncode, 2)
         same(room.at('requeue', 'CT1', '1.2.3.4').returncode, 2)
         same(room.at('requeue', 'CT1').returncode, 2)
@@ -894,7 +928,7 @@ def main():
         sys.exit(f'{PROGRAM} is not built')
     if sys.argv[1:] == ['--more']:
         return run_cases('serving --more', rates_alone, many_transfers)
-    run_cases('serving', three_nodes, refusals, dead_hop, held_rows, events, reports, report_paths, forged, refused_contexts, few_workers, unasked, silent_associations,
+    run_cases('serving', three_nodes, refusals, listening_elsewhere, dead_hop, held_rows, events, reports, report_paths, forged, refused_contexts, few_workers, unasked, silent_associations,
               rejected_callers, hops_alone, slow_peers, deaf_peer, slow_reader, crowded, shut, stopped, cut_short, forgotten, killed)
 
 

@@ -7,7 +7,7 @@ use dr_base::{Seq, Text};
 use dr_cert::Sealed;
 use dr_ledger::{Arrived, Entry, Item, Job, Ledger, LedgerFault, LetsGo, Outcome, Progress};
 use dr_ledger_history::JournalLine;
-use dr_ledger_views::{Stage, Views};
+use dr_ledger_views::{Moments, Origin, Stage, Views};
 use dr_site::Site;
 
 /// A node's ledger, as the one who owns it calls it. It is a ledger itself: each call gives the
@@ -146,6 +146,16 @@ impl<L: LetsGo> LetsGo for Desk<L> {
 
     fn is_over(&mut self, uid: &Text) -> Result<bool, LedgerFault> {
         self.ledger.is_over(uid)
+    }
+}
+
+impl<L: Moments> Moments for Desk<L> {
+    fn at(&mut self, now: u64) {
+        self.ledger.at(now);
+    }
+
+    fn origin_of(&mut self, uid: &Text) -> Result<Option<Origin>, LedgerFault> {
+        self.ledger.origin_of(uid)
     }
 }
 

@@ -13,7 +13,7 @@ use crate::sharing::Sharing;
 use dr_base::{Seq, Text};
 use dr_ledger::{LedgerFault, Progress};
 use dr_ledger_history::JournalLine;
-use dr_ledger_views::{HopTally, Stage, Views, tally};
+use dr_ledger_views::{HopTally, Moments, Origin, Stage, Views, tally};
 use std::sync::Wait;
 
 impl<L: Views, B: Sharing> HeldDesk<L, B> {
@@ -76,6 +76,15 @@ impl<L: Views, B: Sharing> HeldDesk<L, B> {
             self.old.desk.ledger self.new.desk.ledger }
     {
         self.desk.page(dest, stage, after, limit)
+    }
+
+    /// The ledger's `origin_of`.
+    fn origin_of(&mut self, uid: &Text) -> Result<Option<Origin>, LedgerFault>
+        ensures { Answered L.site L.book L.bodies L.stands L.failed B.site B.first
+            (λ l answer. Reads answer (λ origin. Unit {0}))
+            result self.old.desk.ledger self.new.desk.ledger }
+    {
+        self.desk.origin_of(uid)
     }
 
     /// The ledger's `callers_of`.
@@ -157,6 +166,14 @@ impl<L: Views, B: Sharing> SharedDesk<L, B> {
             all ≡ page_of (map.entries (L.book l).rows) dest.now stage after.now limit)) result }
     {
         self.held.lock(rt).page(dest, stage, after, limit)
+    }
+
+    /// The ledger's `origin_of`.
+    pub fn origin_of<R: Wait>(&self, rt: &R, uid: &Text) -> Result<Option<Origin>, LedgerFault>
+        ensures { Reading L.site L.book L.bodies L.stands L.failed B.site B.first
+            (λ l answer. Reads answer (λ origin. Unit {0})) result }
+    {
+        self.held.lock(rt).origin_of(uid)
     }
 
     /// The ledger's `callers_of`.

@@ -60,6 +60,10 @@ pub trait Gate {
     /// all.
     fn queued(&self, _dests: Option<&[Text]>) {}
 
+    /// The first arrival of this instance from a caller was answered, by which there may be new
+    /// rows of it for these nodes.
+    fn brought(&self, _uid: &Text, _dests: &[Text]) {}
+
     /// An association was asked for, and accepted by this answer, or not.
     fn asked(&self, _session: u64, _request: &AssociateRq, _answer: Option<&AssociateAc>) {}
 

@@ -38,6 +38,22 @@ impl<'a, R: Wait, L: Ledger, B: Sharing, G: Gate> SessionPort<'a, R, L, B, G> {
         }
     }
 
+    /// Tells for which nodes there may be new rows of an instance that came for the first time.
+    /// Where there was no memory to tell of which, or for which, nothing is told.
+    fn tell_brought(
+        &self,
+        instance: &Result<Instance, AllocError>,
+        targets: &Result<Targets, AllocError>,
+        answer: Result<Arrived, LedgerFault>,
+    ) {
+        let Ok(Arrived::New) = answer else {
+            return;
+        };
+        if let (Ok(instance), Ok(targets)) = (instance, targets) {
+            self.gate.brought(&instance.uid, targets.to.as_slice());
+        }
+    }
+
     /// Tells for which nodes there may be rows now; for all, where there was no memory to tell
     /// which.
     fn tell_rows(&self, targets: Result<Targets, AllocError>) {
@@ -60,6 +76,7 @@ impl<'a, R: Wait, L: Ledger, B: Sharing, G: Gate> DeskPort for SessionPort<'a, R
         let answer = self.desk.arrive(self.rt, self.pass, caller, item);
         self.counts.note(answer.is_ok());
         self.gate.at(self.session, Point::Stored);
+        self.tell_brought(&instance, &targets, answer);
         self.tell_rows(targets);
         self.tell(caller, instance, answer);
         answer

@@ -40,7 +40,7 @@ use dr_ledger_views::listing::{
     callers_of_all, count_all_arrivals, count_all_kept, count_all_rows, first_of_all, own_of_all,
     page_of_all,
 };
-use dr_ledger_views::{Stage, Views};
+use dr_ledger_views::{Moments, Origin, Stage, Views};
 use dr_route::Key;
 use dr_site::Site;
 use std::alloc::{AllocError, Global};
@@ -702,6 +702,15 @@ impl LetsGo for MemoryLedger {
 
     fn is_over(&mut self, uid: &Text) -> Result<bool, LedgerFault> {
         Ok(self.is_over_with(uid))
+    }
+}
+
+/// It has no place for a moment.
+impl Moments for MemoryLedger {
+    fn at(&mut self, _now: u64) {}
+
+    fn origin_of(&mut self, _uid: &Text) -> Result<Option<Origin>, LedgerFault> {
+        Ok(None)
     }
 }
 

@@ -6,5 +6,5 @@ pub mod laws;
 mod lines;
 mod report;
 
-pub use lines::{put_moment, put_name, put_report};
+pub use lines::{put_cause, put_moment, put_name, put_report};
 pub use report::{report_of, report_text};

@@ -22,8 +22,8 @@ pub fn put_moment(out: &mut Vec<u8>, moment: Option<u64>) -> Result<(), AllocErr
     }
 }
 
-/// Adds why a row is held.
-fn put_cause(out: &mut Vec<u8>, cause: Cause) -> Result<(), AllocError>
+/// Adds why a row is held, as a field.
+pub fn put_cause(out: &mut Vec<u8>, cause: Cause) -> Result<(), AllocError>
     ensures { OnOk result (out.new.items ≡ out.old.items ++ next_field (cause_field cause)) }
 {
     match cause {

@@ -2,7 +2,8 @@
 //! longer, as a shared desk's, that is how long the lock is held.
 //!
 //! `Timed` is a ledger itself: it has the book, the data sets and the site of the ledger that it
-//! calls, and answers what that one does. What a `Meter` counts is claimed by no contract.
+//! calls, and answers what that one does. It tells that ledger the moment of each call by which a
+//! line may come. What a `Meter` counts is claimed by no contract.
 #![tactic(auto)]
 
 mod meter;

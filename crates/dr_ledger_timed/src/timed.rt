@@ -1,12 +1,12 @@
 //! A ledger whose calls are timed.
-ghost use Rattle.std.specs.Prelude.{◌≡◌};
+ghost use Rattle.std.specs.Prelude.{◌≡◌, ◌↔◌};
 
 use crate::meter::{Meter, moment};
 use dr_base::{Seq, Text};
 use dr_cert::Sealed;
 use dr_ledger::{Arrived, Entry, Item, Job, Ledger, LedgerFault, LetsGo, Outcome, Progress};
 use dr_ledger_history::JournalLine;
-use dr_ledger_views::{Stage, Views};
+use dr_ledger_views::{Moments, Origin, Stage, Views};
 use dr_site::Site;
 use std::time::Clock;
 
@@ -16,14 +16,22 @@ pub struct Timed<'a, L, R> {
     ledger: L,
     rt: &'a R,
     meter: &'a Meter,
+    /// The moment (milliseconds since 1970) at which the system's steady clock told 0.
+    zero: u64,
 }
 
 impl<'a, L, R: Clock> Timed<'a, L, R> {
-    /// That ledger, timed.
-    pub fn new(ledger: L, rt: &'a R, meter: &'a Meter) -> Timed<'a, L, R>
+    /// That ledger, timed, at the moment `now` (milliseconds since 1970).
+    pub fn new(ledger: L, rt: &'a R, meter: &'a Meter, now: u64) -> Timed<'a, L, R>
         ensures { result.ledger ≡ ledger }
     {
-        Timed { ledger, rt, meter }
+        let zero = now.saturating_sub(moment(rt) / 1000);
+        Timed {
+            ledger,
+            rt,
+            meter,
+            zero,
+        }
     }
 
     /// The ledger, given back.
@@ -44,7 +52,24 @@ impl<'a, L, R: Clock> Timed<'a, L, R> {
     }
 }
 
-impl<'a, L: Ledger, R: Clock> Ledger for Timed<'a, L, R> {
+impl<'a, L: Moments, R: Clock> Timed<'a, L, R> {
+    /// When a call begins by which a line may come; the ledger is told the moment.
+    fn begin_line(&mut self) -> u64
+        ensures site { L.site self.new.ledger ≡ L.site self.old.ledger }
+        ensures book { L.book self.new.ledger ≡ L.book self.old.ledger }
+        ensures bodies { L.bodies self.new.ledger ≡ L.bodies self.old.ledger }
+        ensures failed { L.failed self.new.ledger ≡ L.failed self.old.ledger }
+        ensures armed { L.armed self.new.ledger ≡ L.armed self.old.ledger }
+        ensures stands { L.stands self.new.ledger ↔ L.stands self.old.ledger }
+        ensures trusts { L.trusts self.new.ledger ↔ L.trusts self.old.ledger }
+    {
+        let began = self.begin();
+        self.ledger.at(self.zero.saturating_add(began / 1000));
+        began
+    }
+}
+
+impl<'a, L: Moments, R: Clock> Ledger for Timed<'a, L, R> {
     ghost site = { λ t. L.site t.ledger };
 
     ghost book = { λ t. L.book t.ledger };
@@ -64,7 +89,7 @@ impl<'a, L: Ledger, R: Clock> Ledger for Timed<'a, L, R> {
     ghost bodied = { λ t s. L.bodied t.ledger s };
 
     fn arrive(&mut self, caller: &Text, item: Item) -> Result<Arrived, LedgerFault> {
-        let began = self.begin();
+        let began = self.begin_line();
         let answer = self.ledger.arrive(caller, item);
         self.end(began);
         answer
@@ -98,7 +123,7 @@ impl<'a, L: Ledger, R: Clock> Ledger for Timed<'a, L, R> {
     }
 
     fn requeue(&mut self, uid: &Text, dest: &Text) -> Result<(), LedgerFault> {
-        let began = self.begin();
+        let began = self.begin_line();
         let answer = self.ledger.requeue(uid, dest);
         self.end(began);
         answer
@@ -168,7 +193,7 @@ impl<'a, L: Ledger, R: Clock> Ledger for Timed<'a, L, R> {
     }
 
     fn adopt(&mut self, next: &Sealed, own: Site) -> Result<(), LedgerFault> {
-        let began = self.begin();
+        let began = self.begin_line();
         let answer = self.ledger.adopt(next, own);
         self.end(began);
         answer
@@ -183,7 +208,7 @@ impl<'a, L: Ledger, R: Clock> Ledger for Timed<'a, L, R> {
     }
 }
 
-impl<'a, L: LetsGo, R: Clock> LetsGo for Timed<'a, L, R> {
+impl<'a, L: Moments, R: Clock> LetsGo for Timed<'a, L, R> {
     fn give_up(&mut self, uid: &Text, dest: &Text, now: u64) -> Result<(), LedgerFault> {
         let began = self.begin();
         let answer = self.ledger.give_up(uid, dest, now);
@@ -192,7 +217,7 @@ impl<'a, L: LetsGo, R: Clock> LetsGo for Timed<'a, L, R> {
     }
 
     fn forget(&mut self, uid: &Text) -> Result<(), LedgerFault> {
-        let began = self.begin();
+        let began = self.begin_line();
         let answer = self.ledger.forget(uid);
         self.end(began);
         answer
@@ -201,6 +226,19 @@ impl<'a, L: LetsGo, R: Clock> LetsGo for Timed<'a, L, R> {
     fn is_over(&mut self, uid: &Text) -> Result<bool, LedgerFault> {
         let began = self.begin();
         let answer = self.ledger.is_over(uid);
+        self.end(began);
+        answer
+    }
+}
+
+impl<'a, L: Moments, R: Clock> Moments for Timed<'a, L, R> {
+    fn at(&mut self, now: u64) {
+        self.ledger.at(now);
+    }
+
+    fn origin_of(&mut self, uid: &Text) -> Result<Option<Origin>, LedgerFault> {
+        let began = self.begin();
+        let answer = self.ledger.origin_of(uid);
         self.end(began);
         answer
     }

@@ -7,6 +7,7 @@ ghost use Rattle.dr_ledger_views.specs.Views.{AreCallers, IsLeast, IsTally, dues
 ghost use Rattle.dr_ledger_views.specs.Views.{page_of, rows_of};
 ghost use Rattle.std.specs.Prelude.{Some};
 
+use crate::moments::Moments;
 use crate::stage::{HopTally, Stage};
 use dr_base::{Seq, Text};
 use dr_ledger::{LedgerFault, LetsGo, Progress};
@@ -14,7 +15,7 @@ use dr_ledger_history::JournalLine;
 
 /// A ledger that answers what is asked without a list of all that it has. Each of these calls only
 /// reads, as those of `Ledger` do: Store and Memory.
-pub trait Views: LetsGo {
+pub trait Views: Moments {
     /// How many arrivals it notes: callers with the uids that they brought since the last adoption.
     fn count_arrivals(&mut self) -> Result<u64, LedgerFault>
         ensures reply { Self.stands self.new

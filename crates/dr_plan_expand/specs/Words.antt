@@ -47,6 +47,19 @@ abbrev pub Names : List (List Known) → Text → Text → Type 0
 Names tables word uid =
     (table : List Known) × IsFirst (HasSome word) tables table × HasUid table word uid
 
+-- in the table the first entry of this UID has this name
+abbrev pub HasName : List Known → Text → Text → Type 0
+HasName table uid name = (known : Known) × IsFirst (λ k. k.2 ≡ uid) table known × (name ≡ known.1)
+
+-- the table has an entry of this UID
+abbrev pub IsKnownIn : Text → List Known → Type 0
+IsKnownIn uid table = (name : Text) × HasName table uid name
+
+-- the tables call this UID so: the first of them that has an entry of it
+abbrev pub Calls : List (List Known) → Text → Text → Type 0
+Calls tables uid name =
+    (table : List Known) × IsFirst (IsKnownIn uid) tables table × HasName table uid name
+
 -- the first definition of this name has these words
 abbrev pub Defines : List Definition → Text → List Text → Type 0
 Defines definitions name words =

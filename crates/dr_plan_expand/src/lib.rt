@@ -13,6 +13,7 @@ mod known;
 pub mod laws;
 pub mod lookup;
 pub mod meant;
+mod named;
 mod pieces;
 pub mod short;
 mod spell;
@@ -23,4 +24,4 @@ pub mod words;
 pub mod yields;
 
 pub use fault::{ExpandFault, WordFault};
-pub use short::{Definition, ShortFlow, ShortNode, ShortPlan, ShortRow, ShortRule};
+pub use short::{AnyWords, Definition, ShortFlow, ShortNode, ShortPlan, ShortRow, ShortRule};

@@ -5,6 +5,7 @@ ghost use Rattle.dr_word_rehearse.specs.Looks.{IsFoundBy};
 ghost use Rattle.dr_router.specs.Opening.{HasLedgerIn, fault_of_database, fault_of_opening};
 
 use dr_base::Text;
+use dr_run_backup::{BackupFault, Backups, LedgerCopy, SystemBackups};
 use dr_run_files::Files;
 use dr_run_open::{Ledgers, Making, OpenFault};
 use dr_run_report::{FileId, Paths, ReportPlace, SystemPaths};
@@ -13,11 +14,13 @@ use dr_site::Site;
 use dr_store::SqlLedger;
 use dr_store_audit::{is_ours, lacking};
 use dr_store_open::{OpeningFault, ledger_on};
+use dr_store_shelf::InRow;
 use dr_word_check::Disk;
 use dr_word_rehearse::{Finds, LedgerFound};
 use sqlite::{Alter, Connection, Error, ErrorCode, File, FileStore};
 use std::alloc::Global;
 use std::io::ErrorKind;
+use std::time::Clock;
 use std::{fs, io};
 
 /// Where databases are opened by a path.
@@ -29,6 +32,9 @@ pub trait Databases {
 
     /// Whether something is there, or it can't be told.
     fn is_there(&self, path: &str) -> bool;
+
+    /// The present moment (milliseconds since 1970), if it can be told.
+    fn now(&self) -> Option<u64>;
 }
 
 /// The system's files.
@@ -49,14 +55,21 @@ impl<'a> Databases for SystemFiles<'a> {
             Err(error) => !matches!(error.kind(), ErrorKind::NotFound | ErrorKind::NotADirectory),
         }
     }
+
+    fn now(&self) -> Option<u64> {
+        let time = self.0.since_1970().ok()?;
+        u64::try_from(time.as_millis()).ok()
+    }
 }
 
-/// The system's files, as they are read and written by name, and asked before a report is written.
+/// The system's files, as they are read and written by name, asked before a report is written, and
+/// copied.
 #[derive(Drop)]
 pub struct SystemDisk<'a> {
     disk: Disk<'a>,
     paths: SystemPaths<'a>,
     tokens: SystemTokens<'a>,
+    copies: SystemBackups<'a>,
 }
 
 impl<'a> SystemDisk<'a> {
@@ -66,6 +79,7 @@ impl<'a> SystemDisk<'a> {
             disk: Disk::new(rt),
             paths: SystemPaths::new(rt),
             tokens: SystemTokens(rt),
+            copies: SystemBackups(rt),
         }
     }
 }
@@ -97,6 +111,17 @@ impl<'a> Paths for SystemDisk<'a> {
     }
 }
 
+impl<'a> Backups for SystemDisk<'a> {
+    fn copy_of(
+        &self,
+        alloc: Global,
+        ledger: &str,
+        path: &str,
+    ) -> Result<LedgerCopy<'_>, BackupFault> {
+        self.copies.copy_of(alloc, ledger, path)
+    }
+}
+
 impl<'a> Tokens for SystemDisk<'a> {
     fn token(&self, alloc: Global, path: &str) -> io::Result<Text> {
         self.tokens.token(alloc, path)
@@ -125,17 +150,18 @@ fn ledger_fault(fault: OpeningFault) -> OpenFault
     }
 }
 
-/// The ledger of a site over a connection to its database.
+/// The ledger of a site over a connection to its database, which is told the moment.
 fn ledger_over<S: Alter + Drop>(
     alloc: Global,
     conn: Connection<S>,
     site: Site,
-) -> Result<SqlLedger<S>, OpenFault>
+    now: Option<u64>,
+) -> Result<SqlLedger<S, InRow>, OpenFault>
     requires { conn.in_transaction ≡ false }
     ensures of { IfOk result (λ l. l.site ≡ site) }
     ensures is { IfOk result (λ l. HasLedgerIn l.site (state S.Store l.conn)) }
 {
-    match ledger_on(alloc, conn, site) {
+    match ledger_on(alloc, conn, site, now) {
         Ok(ledger) => Ok(ledger),
         Err(fault) => Err(ledger_fault(fault)),
     }
@@ -151,7 +177,7 @@ impl<D: Databases + Drop> Ledgers for StoredLedgers<D> {
     ghost use Rattle.sqlite.specs.Held.{state};
     ghost use Rattle.dr_router.specs.Opening.{HasLedgerIn};
 
-    type Ledger = SqlLedger<D::Store>;
+    type Ledger = SqlLedger<D::Store, InRow>;
 
     ghost opens = { λ files path ledger.
         HasLedgerIn ledger.site (state D.Store.Store ledger.conn) };
@@ -162,12 +188,12 @@ impl<D: Databases + Drop> Ledgers for StoredLedgers<D> {
         path: &str,
         site: Site,
         making: Making,
-    ) -> Result<SqlLedger<D::Store>, OpenFault> {
+    ) -> Result<SqlLedger<D::Store, InRow>, OpenFault> {
         if let Some(fault) = making.refusal(self.0.is_there(path)) {
             return Err(fault);
         }
         match self.0.open_database(path) {
-            Ok(conn) => ledger_over(alloc, conn, site),
+            Ok(conn) => ledger_over(alloc, conn, site, self.0.now()),
             Err(error) => Err(file_fault(&error)),
         }
     }
@@ -179,7 +205,8 @@ fn found_over<S: Alter + Drop>(
     alloc: Global,
     conn: Connection<S>,
     site: Site,
-) -> Result<LedgerFound<SqlLedger<S>>, OpenFault>
+    now: Option<u64>,
+) -> Result<LedgerFound<SqlLedger<S, InRow>>, OpenFault>
     requires { conn.in_transaction ≡ false }
     ensures { IfOk result (IsFoundBy (λ l. HasLedgerIn l.site (state S.Store l.conn)) (λ l. l.site)
         site) }
@@ -190,7 +217,7 @@ fn found_over<S: Alter + Drop>(
         }
         return Err(OpenFault::OtherSite);
     }
-    match ledger_over(alloc, conn, site) {
+    match ledger_over(alloc, conn, site, now) {
         Ok(ledger) => Ok(LedgerFound::Ledger(ledger)),
         Err(fault) => Err(fault),
     }
@@ -202,12 +229,12 @@ impl<D: Databases + Drop> Finds for StoredLedgers<D> {
         alloc: Global,
         path: &str,
         site: Site,
-    ) -> Result<LedgerFound<SqlLedger<D::Store>>, OpenFault> {
+    ) -> Result<LedgerFound<SqlLedger<D::Store, InRow>>, OpenFault> {
         if !self.0.is_there(path) {
             return Ok(LedgerFound::Nothing);
         }
         match self.0.open_database(path) {
-            Ok(conn) => found_over(alloc, conn, site),
+            Ok(conn) => found_over(alloc, conn, site, self.0.now()),
             Err(error) => Err(file_fault(&error)),
         }
     }

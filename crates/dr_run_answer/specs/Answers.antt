@@ -1,7 +1,7 @@
 -- What a running node answers, as lines: JSON's objects, and figures for Prometheus.
 use Rattle.std.specs.Prelude.{ℕ, ◌-◌, ◌*◌, ◌/◌, ◌%◌, ◌^◌, ◌==◌, min, ◌∷◌, ◌++◌, List, [], Bool}
 use Rattle.std.specs.Prelude.{Option}
-use Rattle.std.specs.Prelude.{None, Some, if◌then◌else◌}
+use Rattle.std.specs.Prelude.{None, Some, if◌then◌else◌, unwrap_or}
 use Rattle.std.specs.Prelude.{codes, decimal, flat_map}
 use Rattle.dr_base.specs.Texts.{Text}
 use Rattle.dr_ledger.specs.Pairs.{Pair}
@@ -10,6 +10,7 @@ use Rattle.dr_ledger.specs.declared.item.Cause.{Cause}
 use Rattle.dr_ledger.specs.declared.item.Cause.TheVariants as cause
 use Rattle.dr_ledger.specs.declared.item.Progress.{Progress}
 use Rattle.dr_ledger.specs.declared.item.Progress.TheVariants as progress
+use Rattle.dr_ledger_views.specs.declared.moments.Origin.{Origin}
 use Rattle.dr_run_answer.specs.declared.association.OpenAssociation.{OpenAssociation}
 use Rattle.dr_run_answer.specs.declared.intake.Brought.{Brought}
 use Rattle.dr_run_answer.specs.declared.intake.Recent.{Recent}
@@ -69,10 +70,21 @@ abbrev pub row_line : Pair × Progress → Text
 row_line row =
     begun (codes "uid") row.0.0 ++ word (codes "dest") row.0.1 ++ progress_part row.1 ++ ended
 
--- the line of an instance: its data set is there; all its rows are over
-abbrev pub instance_line : Text → Bool → Bool → Text
-instance_line uid body over =
-    begun (codes "instance") uid ++ flag (codes "body") body ++ flag (codes "over") over ++ ended
+-- the moment (milliseconds) when an instance came, where it is known
+abbrev pub came_part : Option ℕ → Text
+came_part None = []
+came_part (Some moment) = number (codes "came") moment
+
+-- where an instance is from: its class, and when it came
+abbrev pub origin_part : Option Origin → Text
+origin_part None = []
+origin_part (Some origin) = word (codes "class") origin.class ++ came_part origin.moment
+
+-- the line of an instance: its data set is there; all its rows are over; where it is from
+abbrev pub instance_line : Text → Bool → Bool → Option Origin → Text
+instance_line uid body over origin =
+    begun (codes "instance") uid ++ flag (codes "body") body ++ flag (codes "over") over
+    ++ origin_part origin ++ ended
 
 -- a caller who brought it
 abbrev pub from_line : Text → Text
@@ -124,16 +136,23 @@ abbrev pub visit_part : Option Visited → Text
 visit_part None = []
 visit_part (Some visit) = number (codes "visited") visit.at ++ word (codes "came") visit.came.now
 
+-- for how many seconds the row that is there longest has waited, where one waits
+abbrev pub waited_part : Option ℕ → Text
+waited_part None = []
+waited_part (Some seconds) = number (codes "waited") seconds
+
 -- the line of the rows to a node: how many wait, are held and are done
-abbrev pub queue_line : Text → ℕ → ℕ → ℕ → Option ℕ → Option Visited → Text
-queue_line dest waiting held done due visit =
+abbrev pub queue_line : Text → ℕ → ℕ → ℕ → Option ℕ → Option ℕ → Option Visited → Text
+queue_line dest waiting held done due waited visit =
     begun (codes "dest") dest ++ number (codes "waiting") waiting ++ number (codes "held") held
-    ++ number (codes "done") done ++ due_part due ++ visit_part visit ++ ended
+    ++ number (codes "done") done ++ due_part due ++ waited_part waited ++ visit_part visit
+    ++ ended
 
 -- the same of a queue
 abbrev pub line_of_queue : Queue → Text
 line_of_queue queue =
-    queue_line queue.dest.now queue.waiting queue.held queue.done queue.due queue.visit
+    queue_line queue.dest.now queue.waiting queue.held queue.done queue.due queue.waited
+    queue.visit
 
 -- the line of an association that is open
 abbrev pub association_line : OpenAssociation → Text
@@ -240,8 +259,26 @@ stages_of queue =
     ++ rows_figure queue.dest.now (codes "done") queue.done
 
 -- the same for each node
+abbrev pub stages_figures : List Queue → Text
+stages_figures queues = codes "# TYPE dr_router_rows gauge\n" ++ flat_map stages_of queues
+
+-- for how many seconds the row to a node that is there longest has waited; 0 where none waits
+abbrev pub age_figure : Text → Option ℕ → Text
+age_figure dest waited =
+    labelled (codes "dr_router_oldest_waiting_seconds") (codes "dest") dest (unwrap_or waited 0)
+
+-- the same of a queue
+abbrev pub age_of : Queue → Text
+age_of queue = age_figure queue.dest.now queue.waited
+
+-- the same for each node
+abbrev pub ages_figures : List Queue → Text
+ages_figures queues =
+    codes "# TYPE dr_router_oldest_waiting_seconds gauge\n" ++ flat_map age_of queues
+
+-- how many rows to each node there are, and for how long they have waited
 abbrev pub queues_figures : List Queue → Text
-queues_figures queues = codes "# TYPE dr_router_rows gauge\n" ++ flat_map stages_of queues
+queues_figures queues = stages_figures queues ++ ages_figures queues
 
 -- how many visits to a node ended so
 abbrev pub visits_figure : Text → Text → ℕ → Text

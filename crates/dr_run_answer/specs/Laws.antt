@@ -5,7 +5,7 @@ use Rattle.dr_base.specs.Texts.{Text}
 use Rattle.dr_ledger.specs.declared.item.Cause.TheVariants as cause
 use Rattle.dr_ledger.specs.declared.item.Progress.TheVariants.{Waiting, Held, Done}
 use Rattle.dr_ledger.specs.Books.{retried}
-use Rattle.dr_run_answer.specs.Answers.{brought_figure, bytes_of, fault_line, from_line}
+use Rattle.dr_run_answer.specs.Answers.{age_figure, brought_figure, bytes_of, fault_line, from_line}
 use Rattle.dr_run_answer.specs.Answers.{in_seconds}
 use Rattle.dr_run_answer.specs.Answers.{instance_line, last_try, late_line, node_line, own_row_line}
 use Rattle.dr_run_answer.specs.Answers.{queue_line, recent_line, row_line, rows_figure}
@@ -107,11 +107,17 @@ LinesAreWrittenSo =
     ++ codes "\"arrivals\":1,\"kept\":2,\"lines\":3,\"failures\":0}\n")
     × (recent_line (record { caller = codes "CT1"; modality = codes "CT"; stored = 4; refused = 1 })
     ≡ codes "{\"from\":\"CT1\",\"modality\":\"CT\",\"stored\":4,\"refused\":1}\n")
-    × (queue_line (codes "ARCH") 1 2 3 None None
+    × (queue_line (codes "ARCH") 1 2 3 None None None
     ≡ codes "{\"dest\":\"ARCH\",\"waiting\":1,\"held\":2,\"done\":3}\n")
-    × (queue_line (codes "ARCH") 1 2 3 (Some 7) None
+    × (queue_line (codes "ARCH") 1 2 3 (Some 7) None None
     ≡ codes "{\"dest\":\"ARCH\",\"waiting\":1,\"held\":2,\"done\":3,\"due\":7}\n")
     × (fault_line (codes "G5 NotHeld") ≡ codes "{\"fault\":\"G5 NotHeld\"}\n")
+    × (queue_line (codes "ARCH") 1 2 3 (Some 7) (Some 61) None
+    ≡ codes "{\"dest\":\"ARCH\",\"waiting\":1,\"held\":2,\"done\":3,\"due\":7,\"waited\":61}\n")
+    × (age_figure (codes "ARCH") (Some 61)
+    ≡ codes "dr_router_oldest_waiting_seconds{dest=\"ARCH\"} 61\n")
+    × (age_figure (codes "ARCH") None
+    ≡ codes "dr_router_oldest_waiting_seconds{dest=\"ARCH\"} 0\n")
     × (rows_figure (codes "ARCH") (codes "held") 2
     ≡ codes "dr_router_rows{dest=\"ARCH\",state=\"held\"} 2\n")
     × (visits_figure (codes "ARCH") (codes "unreached") 3
@@ -120,8 +126,12 @@ LinesAreWrittenSo =
     ≡ codes "dr_router_instances_total{caller=\"CT1\",answer=\"again\"} 3\n")
     × (bytes_of (record { caller = codes "CT1"; stored = 1; again = 2; refused = 3; bytes = 4 })
     ≡ codes "dr_router_stored_bytes_total{caller=\"CT1\"} 4\n")
-    × (instance_line (codes "1.2") true false
+    × (instance_line (codes "1.2") true false None
     ≡ codes "{\"instance\":\"1.2\",\"body\":true,\"over\":false}\n")
+    × (instance_line (codes "1.2") true false
+    (Some (record { class = codes "1.3"; moment = Some 7 }))
+    ≡ codes "{\"instance\":\"1.2\",\"body\":true,\"over\":false,\"class\":\"1.3\","
+    ++ codes "\"came\":7}\n")
     × (from_line (codes "CT1") ≡ codes "{\"from\":\"CT1\"}\n")
     × (own_row_line ((codes "1.2", codes "ARCH"), Waiting 3 9000)
     ≡ codes "{\"uid\":\"1.2\",\"dest\":\"ARCH\",\"state\":\"waiting\",\"tries\":3,\"due\":9000,"

@@ -1,7 +1,7 @@
 //! Figures in the text format of Prometheus.
 ghost use Rattle.std.specs.Prelude.{◌≡◌, ◌++◌, OnOk, decimal, flat_map};
 ghost use Rattle.dr_run_answer.specs.Answers.{figure, figure_head, figures, queues_figures};
-ghost use Rattle.dr_run_answer.specs.Answers.{rows_figure};
+ghost use Rattle.dr_run_answer.specs.Answers.{age_of, ages_figures, rows_figure, stages_figures};
 ghost use Rattle.dr_run_answer.specs.Answers.{labelled, open_figure, stages_of, twice_labelled};
 ghost use Rattle.dr_run_answer.specs.Answers.{label_part, other_part, value_part};
 ghost use Rattle.dr_run_answer.specs.Answers.{visits_figure, visits_figures, visits_of};
@@ -147,11 +147,53 @@ fn put_each(out: &mut Vec<u8>, queues: &[Queue<'_>]) -> Result<(), AllocError>
 }
 
 /// Adds how many rows to each node wait, are held and are done.
-pub fn put_queues(out: &mut Vec<u8>, queues: &[Queue<'_>]) -> Result<(), AllocError>
-    ensures { OnOk result (out.new.items ≡ out.old.items ++ queues_figures queues.now) }
+fn put_all_stages(out: &mut Vec<u8>, queues: &[Queue<'_>]) -> Result<(), AllocError>
+    ensures { OnOk result (out.new.items ≡ out.old.items ++ stages_figures queues.now) }
 {
     out.extend_from_slice(b"# TYPE dr_router_rows gauge\n")?;
     put_each(out, queues)?;
+    Ok(())
+}
+
+/// Adds for how long a row to a node has waited.
+fn put_age(out: &mut Vec<u8>, queue: &Queue<'_>) -> Result<(), AllocError>
+    ensures { OnOk result (out.new.items ≡ out.old.items ++ age_of queue.now) }
+{
+    let seconds = queue.waited.unwrap_or(0);
+    put_labelled(
+        out,
+        "dr_router_oldest_waiting_seconds",
+        "dest",
+        queue.dest,
+        seconds,
+    )
+}
+
+/// The same for each node.
+fn put_each_age(out: &mut Vec<u8>, queues: &[Queue<'_>]) -> Result<(), AllocError>
+    ensures { OnOk result (out.new.items ≡ out.old.items ++ flat_map age_of queues.now) }
+{
+    for queue in queues {
+        put_age(out, queue)?;
+    }
+    Ok(())
+}
+
+/// Adds for how long a row to each node has waited.
+fn put_ages(out: &mut Vec<u8>, queues: &[Queue<'_>]) -> Result<(), AllocError>
+    ensures { OnOk result (out.new.items ≡ out.old.items ++ ages_figures queues.now) }
+{
+    out.extend_from_slice(b"# TYPE dr_router_oldest_waiting_seconds gauge\n")?;
+    put_each_age(out, queues)?;
+    Ok(())
+}
+
+/// Adds how many rows to each node wait, are held and are done, and for how long they have waited.
+pub fn put_queues(out: &mut Vec<u8>, queues: &[Queue<'_>]) -> Result<(), AllocError>
+    ensures { OnOk result (out.new.items ≡ out.old.items ++ queues_figures queues.now) }
+{
+    put_all_stages(out, queues)?;
+    put_ages(out, queues)?;
     Ok(())
 }
 

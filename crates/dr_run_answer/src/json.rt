@@ -1,14 +1,17 @@
 //! Lines of JSON.
 ghost use Rattle.std.specs.Prelude.{◌≡◌, ◌++◌, OnOk};
-ghost use Rattle.dr_run_answer.specs.Answers.{cause_part, done_line, due_part, fault_line};
+ghost use Rattle.dr_run_answer.specs.Answers.{came_part, cause_part, done_line, due_part};
+ghost use Rattle.dr_run_answer.specs.Answers.{fault_line};
 ghost use Rattle.dr_run_answer.specs.Answers.{flag, held_part, instance_line, late_line};
-ghost use Rattle.dr_run_answer.specs.Answers.{line_of_node, line_of_queue, number, progress_part};
-ghost use Rattle.dr_run_answer.specs.Answers.{row_line, visit_part, waiting_part, well_line, word};
+ghost use Rattle.dr_run_answer.specs.Answers.{line_of_node, line_of_queue, number, origin_part};
+ghost use Rattle.dr_run_answer.specs.Answers.{progress_part, row_line, visit_part, waiting_part};
+ghost use Rattle.dr_run_answer.specs.Answers.{waited_part, well_line, word};
 
 use dr_base::Text;
 use dr_base::fields::add_decimal;
 use dr_base_quoted::{put_quoted, put_text};
 use dr_ledger::{Cause, Progress};
+use dr_ledger_views::Origin;
 use std::alloc::AllocError;
 
 /// Which node it is: its name, the digest of its plan in lower-case hexadecimal digits, the version
@@ -58,6 +61,8 @@ pub struct Queue<'a> {
     pub held: u64,
     pub done: u64,
     pub due: Option<u64>,
+    /// For how many seconds the row that is there longest has waited, where one waits.
+    pub waited: Option<u64>,
     pub visit: Option<Visited>,
     pub visits: Visits,
 }
@@ -173,14 +178,46 @@ pub fn put_row(
     Ok(())
 }
 
-/// Adds the line of an instance: whether its data set is there, and all its rows are over.
-pub fn put_instance(out: &mut Vec<u8>, uid: &Text, body: bool, over: bool) -> Result<(), AllocError>
-    ensures { OnOk result (out.new.items ≡ out.old.items ++ instance_line uid.now body over) }
+/// Adds when an instance came, where that is known.
+fn put_came(out: &mut Vec<u8>, moment: Option<u64>) -> Result<(), AllocError>
+    ensures { OnOk result (out.new.items ≡ out.old.items ++ came_part moment) }
+{
+    match moment {
+        Some(moment) => put_number(out, "came", moment),
+        None => Ok(()),
+    }
+}
+
+/// Adds where an instance is from, where that is known.
+fn put_origin(out: &mut Vec<u8>, origin: &Option<Origin>) -> Result<(), AllocError>
+    ensures { OnOk result (out.new.items ≡ out.old.items ++ origin_part origin.now) }
+{
+    match origin {
+        Some(origin) => {
+            put_named(out, "class", &origin.class)?;
+            put_came(out, origin.moment)
+        }
+        None => Ok(()),
+    }
+}
+
+/// Adds the line of an instance: whether its data set is there, whether all its rows are over, and
+/// where it is from.
+pub fn put_instance(
+    out: &mut Vec<u8>,
+    uid: &Text,
+    body: bool,
+    over: bool,
+    origin: &Option<Origin>,
+) -> Result<(), AllocError>
+    ensures { OnOk result
+        (out.new.items ≡ out.old.items ++ instance_line uid.now body over origin.now) }
 {
     out.extend_from_slice(b"{\"instance\":")?;
     put_text(out, uid)?;
     put_flag(out, "body", body)?;
     put_flag(out, "over", over)?;
+    put_origin(out, origin)?;
     out.extend_from_slice(b"}\n")?;
     Ok(())
 }
@@ -224,6 +261,16 @@ fn put_visit(out: &mut Vec<u8>, visit: Option<Visited>) -> Result<(), AllocError
     Ok(())
 }
 
+/// Adds for how long a row has waited, where one waits.
+fn put_waited(out: &mut Vec<u8>, waited: Option<u64>) -> Result<(), AllocError>
+    ensures { OnOk result (out.new.items ≡ out.old.items ++ waited_part waited) }
+{
+    match waited {
+        Some(seconds) => put_number(out, "waited", seconds),
+        None => Ok(()),
+    }
+}
+
 /// Adds the line of the rows to a node.
 pub fn put_queue(out: &mut Vec<u8>, queue: &Queue<'_>) -> Result<(), AllocError>
     ensures { OnOk result (out.new.items ≡ out.old.items ++ line_of_queue queue.now) }
@@ -234,6 +281,7 @@ pub fn put_queue(out: &mut Vec<u8>, queue: &Queue<'_>) -> Result<(), AllocError>
     put_number(out, "held", queue.held)?;
     put_number(out, "done", queue.done)?;
     put_due(out, queue.due)?;
+    put_waited(out, queue.waited)?;
     put_visit(out, queue.visit)?;
     out.extend_from_slice(b"}\n")?;
     Ok(())

@@ -12,7 +12,7 @@ use Rattle.dr_run_request.specs.declared.route.Route.TheVariants as routes
 use Rattle.dr_run_ask.specs.declared.call.HttpCall.{HttpCall}
 use Rattle.dr_run_ask.specs.declared.call.HttpCall.TheVariants.{Status, Rows, Journal, Requeue}
 use Rattle.dr_run_ask.specs.declared.call.HttpCall.TheVariants.{GiveUp, Forget}
-use Rattle.dr_run_ask.specs.declared.call.HttpCall.TheVariants.{Visit, Stop}
+use Rattle.dr_run_ask.specs.declared.call.HttpCall.TheVariants.{Visit, Backup, Stop}
 
 -- what it means at the node
 abbrev pub route_of : HttpCall → Route
@@ -23,6 +23,7 @@ route_of (Requeue form) = routes.Requeue
 route_of (GiveUp form) = routes.GiveUp
 route_of (Forget form) = routes.Forget
 route_of (Visit form) = routes.Visit
+route_of (Backup form) = routes.Backup
 route_of Stop = routes.Stop
 
 abbrev pub path_of : HttpCall → Text
@@ -41,14 +42,15 @@ form_of (Requeue form) = form.now
 form_of (GiveUp form) = form.now
 form_of (Forget form) = form.now
 form_of (Visit form) = form.now
+form_of (Backup form) = form.now
 form_of Stop = []
 
 -- an act is told by POST, and all else is asked by GET
 abbrev pub method_of : HttpCall → Text
 method_of call = asked.method_of (route_of call)
 
--- the forms of a row, of a row with a reason, of a node, of an instance, and of the rows to a node
--- behind a UID
+-- the forms of a row, of a row with a reason, of a node, of an instance, of a copy, and of the rows
+-- to a node behind a UID
 abbrev pub row_form : Text → Text → Text
 row_form uid dest = extend_pairs [] ((codes "uid", uid) ∷ (codes "dest", dest) ∷ [])
 
@@ -62,6 +64,9 @@ dest_form dest = extend_pairs [] ((codes "dest", dest) ∷ [])
 
 abbrev pub uid_form : Text → Text
 uid_form uid = extend_pairs [] ((codes "uid", uid) ∷ [])
+
+abbrev pub copy_form : Text → Text
+copy_form path = extend_pairs [] ((codes "copy", path) ∷ [])
 
 abbrev pub rows_form : Text → Text → Text
 rows_form dest after = extend_pairs [] ((codes "dest", dest) ∷ (codes "after", after) ∷ [])

@@ -1,6 +1,7 @@
 //! What a node that runs is asked and told.
 ghost use Rattle.std.specs.Prelude.{◌≡◌, IfOk, string_bytes};
-ghost use Rattle.dr_run_ask.specs.Calls.{dest_form, form_of, is_act, journal_form, method_of};
+ghost use Rattle.dr_run_ask.specs.Calls.{copy_form, dest_form, form_of, is_act, journal_form};
+ghost use Rattle.dr_run_ask.specs.Calls.{method_of};
 ghost use Rattle.dr_run_ask.specs.Calls.{path_of};
 ghost use Rattle.dr_run_ask.specs.Calls.{reason_form, route_of, row_form, rows_form, uid_form};
 
@@ -26,6 +27,8 @@ pub enum HttpCall<'a> {
     Forget(&'a str),
     /// To visit a node now.
     Visit(&'a str),
+    /// To copy its ledger.
+    Backup(&'a str),
     /// To end in order.
     Stop,
 }
@@ -43,6 +46,7 @@ impl<'a> HttpCall<'a> {
             HttpCall::GiveUp(_) => Route::GiveUp,
             HttpCall::Forget(_) => Route::Forget,
             HttpCall::Visit(_) => Route::Visit,
+            HttpCall::Backup(_) => Route::Backup,
             HttpCall::Stop => Route::Stop,
         }
     }
@@ -68,7 +72,8 @@ impl<'a> HttpCall<'a> {
         match self {
             HttpCall::Status | HttpCall::Stop => "",
             HttpCall::Rows(form) | HttpCall::Requeue(form) | HttpCall::GiveUp(form) => form,
-            HttpCall::Forget(form) | HttpCall::Visit(form) | HttpCall::Journal(form) => form,
+            HttpCall::Forget(form) | HttpCall::Visit(form) => form,
+            HttpCall::Journal(form) | HttpCall::Backup(form) => form,
         }
     }
 
@@ -113,6 +118,15 @@ pub fn uid_form(alloc: Global, uid: &str) -> Result<String, AllocError>
 {
     let mut form = Serializer::new(String::new(alloc));
     form.extend_pairs(&[("uid", uid)])?;
+    Ok(form.finish())
+}
+
+/// The form of a copy, by its path.
+pub fn copy_form(alloc: Global, path: &str) -> Result<String, AllocError>
+    ensures { IfOk result (λ form. string_bytes form ≡ copy_form path.now) }
+{
+    let mut form = Serializer::new(String::new(alloc));
+    form.extend_pairs(&[("copy", path)])?;
     Ok(form.finish())
 }
 

@@ -34,6 +34,18 @@ pub enum AskFault {
     NotHeld,
     /// The instance isn't over.
     NotOver,
+    /// The path of the copy is one that a ledger takes.
+    OwnFile,
+    /// Something is at the path of the copy.
+    IsThere,
+    /// The path of the copy doesn't begin at the root, or is no text.
+    NoPath,
+    /// The node is making another copy.
+    Busy,
+    /// Calls at the node would wait too long for the copy, or the node ends.
+    GivenUp,
+    /// The node couldn't read or write a file of the copy.
+    NoCopy,
     /// The node's store failed.
     Store,
     /// There was no memory.
@@ -80,6 +92,12 @@ impl AskFault {
             AskFault::Shrunk => "H12 Shrunk",
             AskFault::NotHeld => "G5 NotHeld",
             AskFault::NotOver => "G7 NotOver",
+            AskFault::OwnFile => "Q1 OwnFile",
+            AskFault::IsThere => "Q3 IsThere",
+            AskFault::NoPath => "Q4 NoPath",
+            AskFault::Busy => "Q5 Busy",
+            AskFault::GivenUp => "Q6 GivenUp",
+            AskFault::NoCopy => "Q7 NoCopy",
             AskFault::Store => "G3 Store",
             AskFault::Memory => "Memory",
         }

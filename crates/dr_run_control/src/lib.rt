@@ -16,6 +16,7 @@ mod page;
 mod reads;
 mod reply;
 mod talking;
+mod waiting;
 
 pub use access::names_of;
 pub use console::{Around, Console, House};

@@ -20,7 +20,7 @@ use crate::reply::{HttpReply, Media, misread, refused_by_ledger};
 use dr_base::{Seq, Text};
 use dr_desk::{SharedDesk, Sharing, Totals};
 use dr_ledger::{LedgerFault, Progress};
-use dr_ledger_views::{HopTally, Views};
+use dr_ledger_views::{HopTally, Origin, Views};
 use dr_run_answer::{
     Counts, Identity, Queue, Visited, Visits, put_associations, put_callers, put_figures,
     put_froms, put_instance, put_late, put_lock, put_node, put_open, put_own_rows, put_queue,
@@ -53,8 +53,14 @@ pub(crate) struct NodeReader<'a, R: Wait, L: Views, B: Sharing, H: House> {
 }
 
 /// How many rows are on their way to a node, as they were counted.
-fn queue_of(dest: &Text, tally: HopTally, visit: Option<Visited>, visits: Visits) -> Queue<'_>
-    ensures { IsCounted dest.now tally visit visits result }
+fn queue_of(
+    dest: &Text,
+    tally: HopTally,
+    waited: Option<u64>,
+    visit: Option<Visited>,
+    visits: Visits,
+) -> Queue<'_>
+    ensures { IsCounted dest.now tally waited visit visits result }
 {
     Queue {
         dest,
@@ -62,6 +68,7 @@ fn queue_of(dest: &Text, tally: HopTally, visit: Option<Visited>, visits: Visits
         held: tally.held,
         done: tally.done,
         due: tally.due,
+        waited,
         visit,
         visits,
     }
@@ -238,16 +245,17 @@ fn instance_lines(
     uid: &Text,
     body: bool,
     over: bool,
+    origin: &Option<Origin>,
     callers: &[Text],
     rows: &[((Text, Text), Progress)],
 ) -> Result<Vec<u8>, AllocError>
     ensures { IfOk result (λ text.
         text.items
-        ≡ instance_line uid.now body over ++ flat_map from_line callers.now
+        ≡ instance_line uid.now body over origin.now ++ flat_map from_line callers.now
         ++ flat_map own_row_line rows.now) }
 {
     let mut out = Vec::new(alloc);
-    put_instance(&mut out, uid, body, over)?;
+    put_instance(&mut out, uid, body, over, origin)?;
     put_froms(&mut out, callers)?;
     put_own_rows(&mut out, rows)?;
     Ok(out)
@@ -332,11 +340,13 @@ impl<'a, R: Wait, L: Views, B: Sharing> DeskClerk<'a, R, L, B> {
             IsTold L.site L.book L.bodies L.stands L.failed B.site B.first uid.now text.items) }
     {
         let (body, over, callers, rows) = self.parts_of(uid)?;
+        let origin = self.desk.origin_of(self.rt, uid)?;
         let text = instance_lines(
             self.alloc,
             uid,
             body,
             over,
+            &origin,
             callers.as_slice(),
             rows.as_slice(),
         )?;
@@ -389,8 +399,9 @@ impl<'a, R: Wait, L: Views, B: Sharing, H: House> NodeReader<'a, R, L, B, H> {
         let mut queues = Vec::with_capacity(self.clerk.alloc, hops.len())?;
         for hop in hops {
             let tally = desk.tally(rt, &hop.dest)?;
+            let waited = self.waited(&hop.dest)?;
             let (visit, visits) = (house.visited(&hop.dest), house.visits(&hop.dest));
-            queues.push(queue_of(&hop.dest, tally, visit, visits))?;
+            queues.push(queue_of(&hop.dest, tally, waited, visit, visits))?;
         }
         Ok(queues)
     }

@@ -46,6 +46,11 @@ abbrev pub due_words : ℕ → Option ℕ → Text
 due_words now None = codes "-"
 due_words now (Some due) = tried_words now due
 
+-- for how many seconds a row has waited, where one waits
+abbrev pub waited_words : Option ℕ → Text
+waited_words None = codes "-"
+waited_words (Some seconds) = decimal seconds ++ codes " s"
+
 -- how long ago that moment was
 abbrev pub ago_words : ℕ → ℕ → Text
 ago_words now at =
@@ -114,6 +119,7 @@ abbrev pub queue_cells : ℕ → Queue → Text
 queue_cells now queue = joined
     (codes "<tr><td>" ∷ in_markup queue.dest.now
     ∷ codes "</td><td>" ∷ decimal queue.waiting
+    ∷ codes "</td><td>" ∷ waited_words queue.waited
     ∷ codes "</td><td>" ∷ decimal queue.held
     ∷ codes "</td><td>" ∷ decimal queue.done
     ∷ codes "</td><td>" ∷ due_words now queue.due
@@ -220,7 +226,7 @@ figures name since now counts queues =
 
 abbrev pub queues_head : Text
 queues_head = codes
-    "<table><caption>Next nodes</caption>\n<tr><th>Node</th><th>Waiting</th><th>Held</th><th>Done</th><th>First due</th><th>Last visit</th><th></th></tr>\n"
+    "<table><caption>Next nodes</caption>\n<tr><th>Node</th><th>Waiting</th><th>Oldest</th><th>Held</th><th>Done</th><th>First due</th><th>Last visit</th><th></th></tr>\n"
 
 abbrev pub associations_head : Text
 associations_head = codes

@@ -1,7 +1,7 @@
 //! Pieces of a document.
 ghost use Rattle.std.specs.Prelude.{◌≡◌, ◌≤◌, ◌++◌, OnOk, codes, decimal, flat_map};
 ghost use Rattle.dr_run_page.specs.Documents.{ago_words, cause_words, due_words, moment_words};
-ghost use Rattle.dr_run_page.specs.Documents.{seconds, tried_words, visit_words};
+ghost use Rattle.dr_run_page.specs.Documents.{seconds, tried_words, visit_words, waited_words};
 ghost use Rattle.dr_run_page.specs.Pieces.{text_of};
 
 use crate::shown::put_shown;
@@ -22,6 +22,8 @@ pub(crate) enum Piece<'a> {
     Cause(Cause),
     /// Now, and from when on a row is due, if one is.
     Due(u64, Option<u64>),
+    /// For how many seconds a row has waited, where one waits.
+    Waited(Option<u64>),
     /// Now, and the last visit, if there was one.
     Visit(u64, Option<Visited>),
     /// Now, and a moment.
@@ -85,6 +87,19 @@ fn put_due(out: &mut Vec<u8>, now: u64, due: Option<u64>) -> Result<(), AllocErr
     }
 }
 
+/// Adds for how many seconds a row has waited.
+fn put_waited(out: &mut Vec<u8>, waited: Option<u64>) -> Result<(), AllocError>
+    ensures { OnOk result (out.new.items ≡ out.old.items ++ waited_words waited) }
+{
+    match waited {
+        None => out.extend_from_slice(b"-"),
+        Some(seconds) => {
+            add_decimal(out, seconds)?;
+            out.extend_from_slice(b" s")
+        }
+    }
+}
+
 /// Adds how long ago that moment was.
 fn put_ago(out: &mut Vec<u8>, now: u64, at: u64) -> Result<(), AllocError>
     ensures { OnOk result (out.new.items ≡ out.old.items ++ ago_words now at) }
@@ -118,6 +133,7 @@ fn put_piece(out: &mut Vec<u8>, piece: Piece<'_>) -> Result<(), AllocError>
         Piece::Number(value) => add_decimal(out, value),
         Piece::Cause(cause) => put_cause(out, cause),
         Piece::Due(now, due) => put_due(out, now, due),
+        Piece::Waited(waited) => put_waited(out, waited),
         Piece::Visit(now, visit) => put_visit(out, now, visit),
         Piece::Ago(now, at) => put_ago(out, now, at),
     }

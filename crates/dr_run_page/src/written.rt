@@ -112,6 +112,8 @@ fn put_queue_cells(out: &mut Vec<u8>, now: u64, queue: &Queue<'_>) -> Result<(),
             Piece::Markup("</td><td>"),
             Piece::Number(queue.waiting),
             Piece::Markup("</td><td>"),
+            Piece::Waited(queue.waited),
+            Piece::Markup("</td><td>"),
             Piece::Number(queue.held),
             Piece::Markup("</td><td>"),
             Piece::Number(queue.done),
@@ -310,7 +312,7 @@ pub fn put_document(
     put_head(out, shown.name)?;
     put_node(out, shown, queues)?;
     out.extend_from_slice(
-        b"<table><caption>Next nodes</caption>\n<tr><th>Node</th><th>Waiting</th><th>Held</th><th>Done</th><th>First due</th><th>Last visit</th><th></th></tr>\n",
+        b"<table><caption>Next nodes</caption>\n<tr><th>Node</th><th>Waiting</th><th>Oldest</th><th>Held</th><th>Done</th><th>First due</th><th>Last visit</th><th></th></tr>\n",
     )?;
     put_queues(out, shown.moment, shown.key, queues)?;
     out.extend_from_slice(

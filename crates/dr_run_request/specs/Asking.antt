@@ -16,7 +16,8 @@ use Rattle.dr_run_request.specs.declared.browser.Browser.{Browser}
 use Rattle.dr_run_request.specs.declared.route.Route.{Route}
 use Rattle.dr_run_request.specs.declared.route.Route.TheVariants.{Page, Status, Rows, Instance}
 use Rattle.dr_run_request.specs.declared.route.Route.TheVariants.{Journal, Metrics, Health, Requeue}
-use Rattle.dr_run_request.specs.declared.route.Route.TheVariants.{GiveUp, Forget, Visit, Stop}
+use Rattle.dr_run_request.specs.declared.route.Route.TheVariants.{GiveUp, Forget, Visit, Backup}
+use Rattle.dr_run_request.specs.declared.route.Route.TheVariants.{Stop}
 
 -- the path of a route; of an instance, what stands before its UID
 abbrev pub path_of : Route → Text
@@ -31,6 +32,7 @@ path_of Requeue = codes "/requeue"
 path_of GiveUp = codes "/drop"
 path_of Forget = codes "/forget"
 path_of Visit = codes "/visit"
+path_of Backup = codes "/backup"
 path_of Stop = codes "/stop"
 
 -- it changes something
@@ -46,6 +48,7 @@ is_act Requeue = true
 is_act GiveUp = true
 is_act Forget = true
 is_act Visit = true
+is_act Backup = true
 is_act Stop = true
 
 -- its path goes on with a UID
@@ -61,6 +64,7 @@ goes_on Requeue = false
 goes_on GiveUp = false
 goes_on Forget = false
 goes_on Visit = false
+goes_on Backup = false
 goes_on Stop = false
 
 -- the path is that one, or goes on behind it

@@ -4,7 +4,7 @@ ghost use Rattle.dr_run_request.specs.Asking.{IsAt, goes_on, is_act, method_of, 
 ghost use Rattle.dr_run_request.specs.declared.route.Route.{Route as RouteValue};
 ghost use Rattle.dr_run_request.specs.declared.route.Route.TheVariants as RouteValues;
 
-/// What may be asked of a running node: seven things to read, and five acts.
+/// What may be asked of a running node: seven things to read, and six acts.
 #[derive(Clone, Copy, PartialEq, Eq)]
 pub enum Route {
     /// The page for people.
@@ -29,6 +29,8 @@ pub enum Route {
     Forget,
     /// To visit a destination now.
     Visit,
+    /// To copy its ledger.
+    Backup,
     /// To end in order.
     Stop,
 }
@@ -42,6 +44,7 @@ impl Route {
             Route::Page | Route::Status | Route::Rows | Route::Instance => false,
             Route::Journal | Route::Metrics | Route::Health => false,
             Route::Requeue | Route::GiveUp | Route::Forget | Route::Visit | Route::Stop => true,
+            Route::Backup => true,
         }
     }
 
@@ -61,6 +64,7 @@ impl Route {
             Route::GiveUp => "/drop",
             Route::Forget => "/forget",
             Route::Visit => "/visit",
+            Route::Backup => "/backup",
             Route::Stop => "/stop",
         }
     }
@@ -149,6 +153,9 @@ fn act_at(path: &str) -> Option<Route>
     }
     if is_at(Route::Visit, path) {
         return Some(Route::Visit);
+    }
+    if is_at(Route::Backup, path) {
+        return Some(Route::Backup);
     }
     if is_at(Route::Stop, path) {
         return Some(Route::Stop);

@@ -110,6 +110,18 @@ pub(crate) fn dest_of(alloc: Global, form: &[u8]) -> Result<Text, FormFault>
     named_in(alloc, form, "dest")
 }
 
+/// The path of the copy that a form asks for.
+///
+/// Errors: Field where it names none; Memory.
+pub fn copy_of(alloc: Global, form: &[u8]) -> Result<Text, FormFault>
+    ensures { MatchResult result
+        (λ path. value_in form.now (codes "copy") ≡ Some path)
+        (λ why. why ≡ fault.Field
+        → (path : TextValue) → value_in form.now (codes "copy") ≡ Some path → ⊥) }
+{
+    named_in(alloc, form, "copy")
+}
+
 /// Why something is to be done, where a form says so.
 ///
 /// Errors: want of memory.

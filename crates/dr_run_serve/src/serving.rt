@@ -543,7 +543,9 @@ where
             L.stands l → ∥ IsJournalled (site_routing site) (L.book l) ∥₁) }
         ensures of { IfOk result (λ l. L.site l ≡ site) }
     {
-        let (timed, blank) = (Timed::new(ledger, self.rt, self.meter), Blank::new(65_536));
+        let now = self.means.clock.now();
+        let timed = Timed::new(ledger, self.rt, self.meter, now);
+        let blank = Blank::new(65_536);
         match self.share::<Timed<'a, L, R>, Brand>(timed, site, blank) {
             Ok(timed) => Ok(timed.into_ledger()),
             Err(fault) => Err(fault),

@@ -1,4 +1,5 @@
 //! What wakes those who send, and who tells of the node.
+use crate::ages::WaitingRows;
 use crate::intake::Intake;
 use crate::open::Open;
 use crate::sweep::OverInstance;
@@ -88,11 +89,12 @@ pub struct Bell {
     call: Mutex<WakeUp>,
     changed: Condvar,
     visits: Mutex<KnownVisits>,
+    waiting: Mutex<WaitingRows>,
 }
 
 impl Bell {
     /// Rows may be there from before.
-    fn new(hop: &NextHop) -> Result<Bell, AllocError> {
+    fn new(alloc: Global, hop: &NextHop) -> Result<Bell, AllocError> {
         Ok(Bell {
             dest: hop.dest.clone()?,
             call: Mutex::new(WakeUp {
@@ -107,6 +109,7 @@ impl Bell {
                 last: None,
                 visits: NONE,
             }),
+            waiting: Mutex::new(WaitingRows::new(alloc)),
         })
     }
 
@@ -200,7 +203,7 @@ impl Signal {
     pub fn new(alloc: Global, hops: &[NextHop], sweeps: bool) -> Result<Signal, AllocError> {
         let mut bells = Vec::with_capacity(alloc, hops.len())?;
         for hop in hops {
-            bells.push(Bell::new(hop)?)?;
+            bells.push(Bell::new(alloc, hop)?)?;
         }
         Ok(Signal {
             news: Mutex::new(News {
@@ -286,6 +289,55 @@ impl Signal {
             }
         }
         None
+    }
+
+    /// A row to that node waits, of an instance that is here since that moment.
+    ///
+    /// Errors: want of memory; then it will be looked up.
+    pub fn note_waiting<R: Wait>(
+        &self,
+        rt: &R,
+        dest: &Text,
+        uid: &Text,
+        moment: u64,
+    ) -> Result<(), AllocError> {
+        match self.bell_of(dest) {
+            Some(bell) => bell.waiting.lock(rt).note(uid, moment),
+            None => Ok(()),
+        }
+    }
+
+    /// A row to that node doesn't wait any more.
+    pub fn note_gone<R: Wait>(&self, rt: &R, dest: &Text, uid: &Text) {
+        if let Some(bell) = self.bell_of(dest) {
+            bell.waiting.lock(rt).note_gone(uid);
+        }
+    }
+
+    /// Rows to that node may wait that aren't noted.
+    pub fn doubt_waiting<R: Wait>(&self, rt: &R, dest: &Text) {
+        if let Some(bell) = self.bell_of(dest) {
+            bell.waiting.lock(rt).doubt();
+        }
+    }
+
+    /// Whether rows to that node may wait that aren't noted; that is known to the one who asks.
+    pub fn take_doubt<R: Wait>(&self, rt: &R, dest: &Text) -> bool {
+        match self.bell_of(dest) {
+            Some(bell) => bell.waiting.lock(rt).take_doubt(),
+            None => false,
+        }
+    }
+
+    /// Of the rows to that node that are noted, the UID of the one that waits longest, and since
+    /// when.
+    ///
+    /// Errors: want of memory.
+    pub fn longest<R: Wait>(&self, rt: &R, dest: &Text) -> Result<Option<(Text, u64)>, AllocError> {
+        match self.bell_of(dest) {
+            Some(bell) => bell.waiting.lock(rt).longest(),
+            None => Ok(None),
+        }
     }
 
     /// Somebody wants that node to be visited now.

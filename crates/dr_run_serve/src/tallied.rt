@@ -156,6 +156,9 @@ impl<'a, R: Wait, L: Ledger, B: Sharing, G: Log> DeskPort for SharedPort<'a, R, 
         if settled.is_ok() {
             let came = came_of(self.rt, self.desk, uid, dest, outcome);
             let is_done = matches!(came, Some(Progress::Done));
+            if !matches!(came, Some(Progress::Waiting { .. }) | None) {
+                self.signal.note_gone(self.rt, dest, uid);
+            }
             tell_row(self.log, uid, dest, outcome, came);
             if is_done {
                 self.signal.note_over(self.rt, uid, now);

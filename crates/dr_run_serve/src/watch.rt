@@ -45,6 +45,13 @@ impl<'a, R: Wait, C: Clock, G: Log> Gate for Watch<'a, R, C, G> {
         self.signal.ring(self.rt, dests);
     }
 
+    fn brought(&self, uid: &Text, dests: &[Text]) {
+        let now = self.clock.now();
+        for dest in dests {
+            let _noted = self.signal.note_waiting(self.rt, dest, uid, now);
+        }
+    }
+
     fn arrived(
         &self,
         session: u64,

@@ -16,7 +16,7 @@ use Rattle.dr_store_calls.specs.Calling.{IsLedgerOf}
 use Rattle.dr_store_calls.specs.AdoptionLaws.{AdoptedLedgersAreOfTheNext, AdoptionsAdopt}
 
 pub adoptions_adopt : AdoptionsAdopt
-adoptions_adopt old new plan n below w =
+adoptions_adopt old new plan n moment below w =
     let lines : lines_of new ≡ lines_of old ++ Adoption ∷ [] =
     (λ i. lines_in (w.targets i) (w.journal i)) ∙ lines_put (old 12) n _ (old 11) below in (
       λ i. record {
@@ -36,8 +36,8 @@ needed_still b bodies has = record {
 }
 
 pub adopted_ledgers_are_of_the_next : AdoptedLedgersAreOfTheNext
-adopted_ledgers_are_of_the_next part next old new plan n below l w =
-    let it = adoptions_adopt old new plan n below w in
+adopted_ledgers_are_of_the_next part next old new plan n moment below l w =
+    let it = adoptions_adopt old new plan n moment below w in
     let b = book_of old in
     record {
       ahead = λ m later. ap (λ rows. names_in rows m) w.targets ∙ l.ahead m (omega (arith, later));

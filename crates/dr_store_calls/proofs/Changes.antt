@@ -1,5 +1,5 @@
 -- An adoption as one transaction.
-use Rattle.std.proofs.Common.{◌≡◌, ◌≤◌, ◌+◌, ◌⊎◌, inl, inr, ℕ, pos, false, IsTrue, List, Result, Ok, Err, IfErr, refl, sym, ap, subst, ◌∙◌, arith}
+use Rattle.std.proofs.Common.{◌≡◌, ◌≤◌, ◌+◌, ◌⊎◌, inl, inr, ℕ, pos, false, IsTrue, List, Option, Result, Ok, Err, IfErr, refl, sym, ap, subst, ◌∙◌, arith}
 use Rattle.sqlite.specs.declared.types.Value.TheVariants.{Int}
 use Rattle.sqlite.specs.Effect.{Database}
 use Rattle.sqlite.specs.State.{State, HasCleanDisk}
@@ -39,14 +39,14 @@ cleared old mid new a d =
       },
     )
 
-pub noted : (plan : List ℕ) (n : ℕ) (old mid new : State) → SetsPlan plan old mid → AddsRow 11 (adopted_line n) mid new → GoesOn old new × NotesPlan plan n old.now.trees new.now.trees
-noted plan n old mid new s a =
+pub noted : (plan : List ℕ) (n : ℕ) (moment : Option ℕ) (old mid new : State) → SetsPlan plan old mid → AddsRow 11 (adopted_line n moment) mid new → GoesOn old new × NotesPlan plan n moment old.now.trees new.now.trees
+noted plan n moment old mid new s a =
     let x = s.others in
     let y = a.others in (
       goes_over old mid new s.goes_on a.goes_on,
       record {
         site = λ node was is. y.site (omega arith) ∙ s.site node was is;
-        journal = a.rows ∙ ap (put_row (adopted_line n)) (x.journal (omega arith));
+        journal = a.rows ∙ ap (put_row (adopted_line n moment)) (x.journal (omega arith));
         items = y.items (omega arith) ∙ x.items (omega arith);
         prints = y.prints (omega arith) ∙ x.prints (omega arith);
         arrivals = y.arrivals (omega arith) ∙ x.arrivals (omega arith);
@@ -60,14 +60,14 @@ noted plan n old mid new s a =
 pub owned_still : (old mid : State) → HasSite old.now.trees → GoesOn old mid × Clears old.now.trees mid.now.trees → GoesOn old mid × HasSite mid.now.trees
 owned_still old mid owned c = (c.0, (owned.0, owned.1, c.1.site ∙ owned.2))
 
-pub adopts : (plan : List ℕ) (n : ℕ) (old mid new : State) → GoesOn old mid × Clears old.now.trees mid.now.trees → GoesOn mid new × NotesPlan plan n mid.now.trees new.now.trees → IsMade n (AdoptsPlan plan n) old new
-adopts plan n old mid new one two =
+pub adopts : (plan : List ℕ) (n : ℕ) (moment : Option ℕ) (old mid new : State) → GoesOn old mid × Clears old.now.trees mid.now.trees → GoesOn mid new × NotesPlan plan n moment mid.now.trees new.now.trees → IsMade n (AdoptsPlan plan n moment) old new
+adopts plan n moment old mid new one two =
     let c = one.1 in
     let p = two.1 in
-    let journal : new.now.trees 11 ≡ put_row (adopted_line n) (old.now.trees 11) = p.journal ∙ ap (put_row (adopted_line n)) c.journal in
+    let journal : new.now.trees 11 ≡ put_row (adopted_line n moment) (old.now.trees 11) = p.journal ∙ ap (put_row (adopted_line n moment)) c.journal in
     record {
       goes_on = goes_over old mid new one.0 two.0;
-      line = record { row = adopted_line n; numbered = refl; journal = journal };
+      line = record { row = adopted_line n moment; numbered = refl; journal = journal };
       made = record {
         site = λ node was is. p.site node was (c.site ∙ is);
         items = p.items ∙ c.items;
@@ -114,16 +114,16 @@ module _ (n : ℕ) (part next : Part) (old new : State) (Asks : Trees → Type 0
 abbrev pub OwnedBy : Text → Trees → Type 0
 OwnedBy node base = (was : List ℕ) × IsSiteOf node was base
 
-module _ (n : ℕ) (part next : Part) (old new : State) (still : old.in_transaction ≡ false → new.in_transaction ≡ false) (node : Text) (named : node ≡ next.name) where
+module _ (n : ℕ) (part next : Part) (old new : State) (still : old.in_transaction ≡ false → new.in_transaction ≡ false) (node : Text) (named : node ≡ next.name) (moment : Option ℕ) where
   owned : IsReady n old → IsLedgerOf n part old.committed.trees → OwnedBy node old.committed.trees → HasSite old.committed.trees
   owned ready l asks = (node, asks.0, asks.1)
 
-  adopted_so : IsReady n old → IsLedgerOf n part old.committed.trees → OwnedBy node old.committed.trees → (db : Trees) → AdoptsPlan next.digest n old.committed.trees db → IsAdopted next old.committed.trees db
+  adopted_so : IsReady n old → IsLedgerOf n part old.committed.trees → OwnedBy node old.committed.trees → (db : Trees) → AdoptsPlan next.digest n moment old.committed.trees db → IsAdopted next old.committed.trees db
   adopted_so ready l asks db w =
-      let it = adoptions_adopt old.committed.trees db next.digest n (below_of n old ready) w in
+      let it = adoptions_adopt old.committed.trees db next.digest n moment (below_of n old ready) w in
       record { book = it.0; bodies = it.1; owner = subst (λ name. IsSiteOf name next.digest db) named (w.site node asks.0 asks.1) }
 
-  pub written_adopted : (r : Result (Unit {0}) LedgerFault) → IfErr r IsOwnFault → Written {E = LedgerFault} n HasSite (AdoptsPlan next.digest n) r old new → Adopted n part next r old new (OwnedBy node)
+  pub written_adopted : (r : Result (Unit {0}) LedgerFault) → IfErr r IsOwnFault → Written {E = LedgerFault} n HasSite (AdoptsPlan next.digest n moment) r old new → Adopted n part next r old new (OwnedBy node)
   written_adopted (Ok done) own w = record {
     clean = w.clean;
     was_open = w.was_open;
@@ -131,7 +131,7 @@ module _ (n : ℕ) (part next : Part) (old new : State) (still : old.in_transact
     lasts = λ clean k asks. (w.ok clean k.ready (before k asks)).0.is_open;
     kept = λ clean is_open k asks.
         let it = w.ok clean k.ready (before k asks) in
-        record { ready = it.0; ledger = adopted_ledgers_are_of_the_next part next old.committed.trees new.committed.trees next.digest n (below_of n old k.ready) k.ledger it.1 };
+        record { ready = it.0; ledger = adopted_ledgers_are_of_the_next part next old.committed.trees new.committed.trees next.digest n moment (below_of n old k.ready) k.ledger it.1 };
     answers = λ clean is_open k asks.
         let it = adopted_so k.ready k.ledger asks new.committed.trees (w.ok clean k.ready (before k asks)).1 in
         record { reply = it.book; bodies = it.bodies; owner = it.owner; same = tt };
@@ -144,7 +144,7 @@ module _ (n : ℕ) (part next : Part) (old new : State) (still : old.in_transact
       before : IsKept n part old → OwnedBy node old.committed.trees → HasSite old.now.trees
       before k asks = subst (λ (d : Database). HasSite d.trees) (sym k.ready.settled) (node, asks.0, asks.1)
   written_adopted (Err e) own w = refused_adopted n part next old new (OwnedBy node) e (λ clean is_open k. own)
-      (unmade_called {A = Unit {0}} n part HasSite (OwnedBy node) (AdoptsPlan next.digest n) Stood (IsAdopted next) old new still owned e own w adopted_so (λ asks. refl))
+      (unmade_called {A = Unit {0}} n part HasSite (OwnedBy node) (AdoptsPlan next.digest n moment) Stood (IsAdopted next) old new still owned e own w adopted_so (λ asks. refl))
 
 -- where nothing is tried
 pub not_adopted : (n : ℕ) (part next : Part) (s : State) (Asks : Trees → Type 0) → Adopted n part next (Err fault.Store) s s Asks

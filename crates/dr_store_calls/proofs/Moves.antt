@@ -106,12 +106,12 @@ settles n part base db uid dest tries due to what now needed early below l waits
       (answer, λ q body h. body_was base db (uid, dest) to line (not needed) q body w h),
     )
 
-pub requeues : (n : ℕ) (part : Part) (base db : Trees) (uid dest : Text) (why : Cause) → AreBelow n (base 11) → IsLedgerOf n part base → map.get (rows_of base) (uid, dest) ≡ Some (Held why)
-    → MovesOn (uid, dest) (Waiting 0 0) (requeued_line n uid dest) false base db
+pub requeues : (n : ℕ) (moment : Option ℕ) (part : Part) (base db : Trees) (uid dest : Text) (why : Cause) → AreBelow n (base 11) → IsLedgerOf n part base → map.get (rows_of base) (uid, dest) ≡ Some (Held why)
+    → MovesOn (uid, dest) (Waiting 0 0) (requeued_line n moment uid dest) false base db
     → IsLedgerOf (n + 1) part db × (Requeues uid dest (book_of base) (Ok tt) (book_of db) × OnlyLetsGo (bodies_of base) (bodies_of db))
-requeues n part base db uid dest why below l held w =
-    let line : Row = requeued_line n uid dest in
-    let book = requeuings_requeue base db n uid dest why false below held w in
+requeues n moment part base db uid dest why below l held w =
+    let line : Row = requeued_line n moment uid dest in
+    let book = requeuings_requeue base db n moment uid dest why false below held w in
     let answer : Requeues uid dest (book_of base) (Ok tt) (book_of db) = ((why, held), book) in
     let unfinished : is_queued (Held why) ≡ true = refl in
     let again : is_queued (Waiting 0 0) ≡ true = refl in (

@@ -96,11 +96,11 @@ still_bodied b bodies uid over has = record {
   there = λ u. let same = forgettings_need_the_same b uid over u in (λ body. same.1 ((has.there u).0 body), λ needed. (has.there u).1 (same.0 needed));
 }
 
-pub forgets : (n : ℕ) (part : Part) (base db : Trees) (uid : Text) → AreBelow n (base 11) → IsLedgerOf n part base → IsOver (book_of base) uid → TakesOut uid n base db
+pub forgets : (n : ℕ) (moment : Option ℕ) (part : Part) (base db : Trees) (uid : Text) → AreBelow n (base 11) → IsLedgerOf n part base → IsOver (book_of base) uid → TakesOut uid n moment base db
     → IsLedgerOf (n + 1) part db × (Forgets uid (book_of base) (Ok tt) (book_of db) × OnlyLetsGo (bodies_of base) (bodies_of db))
-forgets n part base db uid below l over w =
-    let book = forgettings_forget base db n uid below w in
-    let bodies = forgettings_let_no_data_set_go base db n uid l.bodied over w in
+forgets n moment part base db uid below l over w =
+    let book = forgettings_forget base db n moment uid below w in
+    let bodies = forgettings_let_no_data_set_go base db n moment uid l.bodied over w in
     let answer : Forgets uid (book_of base) (Ok tt) (book_of db) = (over, book) in (
       record {
         ahead = λ m later. ap (λ rows. names_in rows m) w.targets ∙ l.ahead m (omega (arith, later));

@@ -1,5 +1,6 @@
 -- What an adoption makes of the tables, and what its call shows.
-use Rattle.std.specs.Prelude.{◌≡◌, ◌≤◌, ◌⊎◌, ℕ, false, IsTrue, List, [], Result, OnErr, OnOk}
+use Rattle.std.specs.Prelude.{◌≡◌, ◌≤◌, ◌⊎◌, ℕ, false, IsTrue, List, [], Option, Result, OnErr}
+use Rattle.std.specs.Prelude.{OnOk}
 use Rattle.sqlite.specs.State.{State, HasCleanDisk}
 use Rattle.sqlite.specs.Tree.{Trees, put_row}
 use Rattle.sqlite_trees.specs.View.{doubt}
@@ -28,9 +29,9 @@ pub record Clears (old new : Trees) : Type 0 where
 
 -- the plan in force is this one, for the same node, and line n is an adoption; all other tables
 -- stay
-pub record NotesPlan (plan : List ℕ) (n : ℕ) (old new : Trees) : Type 0 where
+pub record NotesPlan (plan : List ℕ) (n : ℕ) (moment : Option ℕ) (old new : Trees) : Type 0 where
   pub site : (node : Text) (was : List ℕ) → IsSiteOf node was old → IsSiteOf node plan new
-  pub journal : new 11 ≡ put_row (adopted_line n) (old 11)
+  pub journal : new 11 ≡ put_row (adopted_line n moment) (old 11)
   pub items : new 1 ≡ old 1
   pub prints : new 3 ≡ old 3
   pub arrivals : new 5 ≡ old 5
@@ -38,16 +39,17 @@ pub record NotesPlan (plan : List ℕ) (n : ℕ) (old new : Trees) : Type 0 wher
   pub queue : new 9 ≡ old 9
   pub targets : new 12 ≡ old 12
 
--- An adoption of the plan with this SHA-256 as line n: arrivals and rows that are over have left,
--- the line stands in the journal, and the plan is in force for the same node. All else stays.
-pub record AdoptsPlan (plan : List ℕ) (n : ℕ) (old new : Trees) : Type 0 where
+-- An adoption of the plan with this SHA-256 as line n, at that moment: arrivals and rows that are
+-- over have left, the line stands in the journal, and the plan is in force for the same node. All
+-- else stays.
+pub record AdoptsPlan (plan : List ℕ) (n : ℕ) (moment : Option ℕ) (old new : Trees) : Type 0 where
   pub site : (node : Text) (was : List ℕ) → IsSiteOf node was old → IsSiteOf node plan new
   pub items : new 1 ≡ old 1
   pub prints : new 3 ≡ old 3
   pub arrivals : new 5 ≡ []
   pub kept : new 7 ≡ old 7
   pub rows : rows_of new ≡ not_over (rows_of old)
-  pub journal : new 11 ≡ put_row (adopted_line n) (old 11)
+  pub journal : new 11 ≡ put_row (adopted_line n moment) (old 11)
   pub targets : new 12 ≡ old 12
 
 -- ---- the call

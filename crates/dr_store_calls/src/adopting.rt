@@ -19,18 +19,23 @@ use sqlite::{Alter, Connection};
 use std::alloc::Global;
 
 /// Sets the plan in force as one transaction.
-fn write_plan<S: Alter>(conn: &mut Connection<S>, n: u64, digest: &[u8]) -> Result<(), LedgerFault>
+fn write_plan<S: Alter>(
+    conn: &mut Connection<S>,
+    n: u64,
+    moment: Option<u64>,
+    digest: &[u8],
+) -> Result<(), LedgerFault>
     requires { conn.old.in_transaction ≡ false }
     ensures idle { conn.new.in_transaction ≡ false }
     ensures number { OnOk result (n ≤ 2 ^ 62) }
     ensures fault { IfErr result IsOwnFault }
-    ensures written { Written n HasSite (AdoptsPlan digest.now n) result (state S.Store conn.old)
-        (state S.Store conn.new) }
+    ensures written { Written n HasSite (AdoptsPlan digest.now n moment) result
+        (state S.Store conn.old) (state S.Store conn.new) }
 {
     if n > MOST_LINES {
         return Err(LedgerFault::Store);
     }
-    let change = NewPlan { digest };
+    let change = NewPlan { digest, moment };
     match write(conn, n, &change) {
         Ok(()) => Ok(()),
         Err(error) => Err(fault_of(&error)),
@@ -41,6 +46,7 @@ fn write_plan<S: Alter>(conn: &mut Connection<S>, n: u64, digest: &[u8]) -> Resu
 fn adopt_at<S: Alter>(
     conn: &mut Connection<S>,
     n: u64,
+    moment: Option<u64>,
     next: &Site,
     node: &Text,
 ) -> Result<(), LedgerFault>
@@ -54,12 +60,12 @@ fn adopt_at<S: Alter>(
     if !node.is_same(next.name()) {
         return Err(LedgerFault::Store);
     }
-    write_plan(conn, n, next.digest())
+    write_plan(conn, n, moment, next.digest())
 }
 
-/// Adopts the plan of the next site of the tables' node, as line `n` of the journal: arrivals and
-/// done rows leave, and the tables are from now on those of a ledger of that site. Data sets stay,
-/// since just those are needed that were needed before.
+/// Adopts the plan of the next site of the tables' node, as line `n` of the journal, at that
+/// moment: arrivals and done rows leave, and the tables are from now on those of a ledger of that
+/// site. Data sets stay, since just those are needed that were needed before.
 ///
 /// Errors: Store, also where the tables aren't those of the next site's node, or the journal is
 /// full; Memory.
@@ -67,6 +73,7 @@ pub fn adopt<S: Alter>(
     conn: &mut Connection<S>,
     alloc: Global,
     n: u64,
+    moment: Option<u64>,
     next: &Site,
 ) -> Result<(), LedgerFault>
     requires { conn.old.in_transaction ≡ false }
@@ -76,7 +83,7 @@ pub fn adopt<S: Alter>(
     ensures idle { conn.new.in_transaction ≡ false }
 {
     match find_owner(conn, alloc) {
-        Ok(Some(owner)) => adopt_at(conn, n, next, &owner.node),
+        Ok(Some(owner)) => adopt_at(conn, n, moment, next, &owner.node),
         Ok(None) => Err(LedgerFault::Store),
         Err(fault) => Err(fault),
     }

@@ -55,6 +55,7 @@ pub fn repeat<'x, S: Alter>(
     let change = Repeating {
         caller: came.caller,
         item: came.instance,
+        moment: came.moment,
     };
     match written(conn, came.n, &change) {
         Ok(()) => Ok(Arrived::Again),
@@ -94,6 +95,7 @@ fn bring<'x, S: Alter>(
         dests,
         keeps,
         names,
+        moment: came.moment,
     };
     match written(conn, came.n, &change) {
         Ok(()) => Ok(Arrived::New),

@@ -4,6 +4,14 @@ use dr_ledger::Instance;
 use dr_route::Targets;
 use dr_site::Site;
 
+/// The line by which the journal is to tell of what comes.
+#[derive(Clone, Copy)]
+pub struct NextLine {
+    pub n: u64,
+    /// Its moment (milliseconds), if it is known.
+    pub moment: Option<u64>,
+}
+
 /// What a caller brings to a site.
 #[derive(Clone, Copy)]
 pub struct Delivery<'x> {
@@ -11,6 +19,8 @@ pub struct Delivery<'x> {
     pub site: &'x Site,
     /// The number of the line by which the journal is to tell of it.
     pub n: u64,
+    /// The moment of that line (milliseconds), if it is known.
+    pub moment: Option<u64>,
     /// Who brings it, `-` for what enters at the node itself.
     pub caller: &'x Text,
     /// What it is.

@@ -92,6 +92,7 @@ pub fn is_over<'x, S: Alter>(
 fn forget_if<'x, S: Alter>(
     conn: &mut Connection<S>,
     n: u64,
+    moment: Option<u64>,
     uid: &'x Text,
     over: bool,
 ) -> Result<(), LedgerFault>
@@ -106,7 +107,7 @@ fn forget_if<'x, S: Alter>(
     ensures idle { conn.new.in_transaction ≡ false }
 {
     if over {
-        let change = Forgetting { uid };
+        let change = Forgetting { uid, moment };
         return written(conn, n, &change);
     }
     Err(LedgerFault::NotOver)
@@ -120,6 +121,7 @@ pub fn forget<'x, S: Alter>(
     conn: &mut Connection<S>,
     alloc: Global,
     n: u64,
+    moment: Option<u64>,
     uid: &'x Text,
 ) -> Result<(), LedgerFault>
     requires idle { conn.old.in_transaction ≡ false }
@@ -133,7 +135,7 @@ pub fn forget<'x, S: Alter>(
     ensures idle { conn.new.in_transaction ≡ false }
 {
     match is_over(conn, alloc, uid) {
-        Ok(over) => forget_if(conn, n, uid, over),
+        Ok(over) => forget_if(conn, n, moment, uid, over),
         Err(fault) => Err(fault),
     }
 }

@@ -24,18 +24,23 @@ fn clear<S: Alter>(tx: &mut Transaction<'_, S>) -> Result<(), Error>
 }
 
 /// Sets the plan in force, and adds the line of its adoption.
-fn note_plan<'x, S: Alter>(tx: &mut Transaction<'_, S>, n: u64, plan: &'x [u8]) -> Result<(), Error>
+fn note_plan<'x, S: Alter>(
+    tx: &mut Transaction<'_, S>,
+    n: u64,
+    moment: Option<u64>,
+    plan: &'x [u8],
+) -> Result<(), Error>
     requires { n ≤ 2 ^ 62 }
     ensures same_reference { tx.new.conn.ghost_name ≡ tx.old.conn.ghost_name }
     ensures step { StatementStep result (state S.Store tx.old.conn.now)
         (state S.Store tx.new.conn.now)
         (HasSite (state S.Store tx.old.conn.now).now.trees
         → GoesOn (state S.Store tx.old.conn.now) (state S.Store tx.new.conn.now)
-        × NotesPlan plan.now n (state S.Store tx.old.conn.now).now.trees
+        × NotesPlan plan.now n moment (state S.Store tx.old.conn.now).now.trees
         (state S.Store tx.new.conn.now).now.trees) }
 {
     set_plan(tx, plan)?;
-    add_adopted(tx, n)?;
+    add_adopted(tx, n, moment)?;
     Ok(())
 }
 
@@ -44,6 +49,8 @@ fn note_plan<'x, S: Alter>(tx: &mut Transaction<'_, S>, n: u64, plan: &'x [u8]) 
 pub struct NewPlan<'x> {
     /// Its SHA-256.
     pub digest: &'x [u8],
+    /// The moment (milliseconds), if it is known.
+    pub moment: Option<u64>,
 }
 
 impl TableChange for NewPlan<'_> {
@@ -52,11 +59,11 @@ impl TableChange for NewPlan<'_> {
 
     ghost asks = { λ s. HasSite };
 
-    ghost makes = { λ s n. AdoptsPlan s.digest.now n };
+    ghost makes = { λ s n. AdoptsPlan s.digest.now n s.moment };
 
     fn run<S: Alter>(&self, tx: &mut Transaction<'_, S>, n: u64) -> Result<(), Error> {
         clear(tx)?;
-        note_plan(tx, n, self.digest)?;
+        note_plan(tx, n, self.moment, self.digest)?;
         Ok(())
     }
 }

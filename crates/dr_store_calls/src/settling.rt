@@ -119,6 +119,7 @@ pub fn settle<'x, S: Alter>(
 fn requeue_row<'x, S: Alter>(
     conn: &mut Connection<S>,
     n: u64,
+    moment: Option<u64>,
     uid: &'x Text,
     dest: &'x Text,
     why: Cause,
@@ -137,6 +138,7 @@ fn requeue_row<'x, S: Alter>(
         uid,
         dest,
         to: Progress::Waiting { tries: 0, due: 0 },
+        moment,
     };
     written(conn, n, &change)
 }
@@ -145,6 +147,7 @@ fn requeue_row<'x, S: Alter>(
 fn requeue_found<'x, S: Alter>(
     conn: &mut Connection<S>,
     n: u64,
+    moment: Option<u64>,
     uid: &'x Text,
     dest: &'x Text,
     found: Option<Progress>,
@@ -160,7 +163,7 @@ fn requeue_found<'x, S: Alter>(
     ensures idle { conn.new.in_transaction ≡ false }
 {
     match found {
-        Some(Progress::Held(why)) => requeue_row(conn, n, uid, dest, why),
+        Some(Progress::Held(why)) => requeue_row(conn, n, moment, uid, dest, why),
         Some(Progress::Waiting { .. }) => Err(LedgerFault::NotHeld),
         Some(Progress::Done) => Err(LedgerFault::NotHeld),
         Some(Progress::Dropped) => Err(LedgerFault::NotHeld),
@@ -174,6 +177,7 @@ fn requeue_found<'x, S: Alter>(
 pub fn requeue<'x, S: Alter>(
     conn: &mut Connection<S>,
     n: u64,
+    moment: Option<u64>,
     uid: &'x Text,
     dest: &'x Text,
 ) -> Result<(), LedgerFault>
@@ -188,7 +192,7 @@ pub fn requeue<'x, S: Alter>(
     ensures idle { conn.new.in_transaction ≡ false }
 {
     match find_row(conn, uid, dest) {
-        Ok(found) => requeue_found(conn, n, uid, dest, found),
+        Ok(found) => requeue_found(conn, n, moment, uid, dest, found),
         Err(fault) => Err(fault),
     }
 }

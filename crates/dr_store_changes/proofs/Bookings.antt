@@ -50,21 +50,21 @@ settlings_settle old new n uid dest tries due what now lets_go below waits w =
     (lines_moved old new (uid, dest) to n _ lets_go below w ∙ ap (λ what'. lines_of old ++ Settling uid dest what' now ∷ []) (outcome_back what))
 
 pub requeuings_requeue : RequeuingsRequeue
-requeuings_requeue old new n uid dest why lets_go below held w =
-    let line : Row = requeued_line n uid dest in
+requeuings_requeue old new n moment uid dest why lets_go below held w =
+    let line : Row = requeued_line n moment uid dest in
     let made = after (Requeuing uid dest) (book_of old) in
     book_moved old new (uid, dest) (Waiting 0 0) line lets_go made w refl refl refl
     (w.rows ∙ ap (λ o. requeued_row (rows_of old) (uid, dest) o) (sym held))
     (lines_moved old new (uid, dest) (Waiting 0 0) n _ lets_go below w)
 
 -- the line of an arrival has what came
-pub came : (item : Instance) (n kind : ℕ) (caller : Text) → instance_in (arrived_line n kind caller item) ≡ item
-came item n kind caller = λ i. record item { key = record item.key { syntax = cells_say_what_was_written.syntax item.key.syntax i } }
+pub came : (item : Instance) (n : ℕ) (moment : Option ℕ) (kind : ℕ) (caller : Text) → instance_in (arrived_line n moment kind caller item) ≡ item
+came item n moment kind caller = λ i. record item { key = record item.key { syntax = cells_say_what_was_written.syntax item.key.syntax i } }
 
 pub repeats_repeat : RepeatsRepeat
-repeats_repeat old new n caller item below w =
+repeats_repeat old new n moment caller item below w =
     let lines : lines_of new ≡ lines_of old ++ Repeat caller item ∷ [] =
-    (λ i. lines_in (w.targets i) (w.journal i)) ∙ lines_put (old 12) n _ (old 11) below ∙ ap (λ it. lines_of old ++ Repeat caller it ∷ []) (came item n 1 caller) in (
+    (λ i. lines_in (w.targets i) (w.journal i)) ∙ lines_put (old 12) n _ (old 11) below ∙ ap (λ it. lines_of old ++ Repeat caller it ∷ []) (came item n moment 1 caller) in (
       λ i. record {
         items = items_in (prints_in (w.prints i)) (w.items i);
         arrivals = arrivals_in (w.arrivals i);

@@ -106,8 +106,8 @@ not_kept uid db = record { kept = refl; site = refl; items = refl; prints = refl
 
 -- ---- its line
 
-pub line_added : (n : ℕ) (caller : Text) (item : Instance) (old new : State) → AddsRow 11 (arrived_line n 0 caller item) old new → GoesOn old new × AddsOnlyLine (arrived_line n 0 caller item) old.now.trees new.now.trees
-line_added n caller item old new adds = let m = only_line n (arrived_line n 0 caller item) old new refl adds in (m.goes_on, m.made)
+pub line_added : (n : ℕ) (moment : Option ℕ) (caller : Text) (item : Instance) (old new : State) → AddsRow 11 (arrived_line n moment 0 caller item) old new → GoesOn old new × AddsOnlyLine (arrived_line n moment 0 caller item) old.now.trees new.now.trees
+line_added n moment caller item old new adds = let m = only_line n (arrived_line n moment 0 caller item) old new refl adds in (m.goes_on, m.made)
 
 -- ---- all of it
 
@@ -122,14 +122,14 @@ rows_untouched how caller item body again old new taken has dest goes =
     let a = taken.2 in
     subst (λ rows. IsSome (map.get (rows_in rows) (item.uid, dest))) (sym (a.queue ∙ t.queue)) (has dest goes)
 
-abbrev pub LineWritten : Text → Instance → List Text → ℕ → Trees → Trees → Type 0
-LineWritten caller item names n = Then (AddsOnlyLine (arrived_line n 0 caller item)) (AddsTargets n names)
+abbrev pub LineWritten : Text → Instance → List Text → ℕ → Option ℕ → Trees → Trees → Type 0
+LineWritten caller item names n moment = Then (AddsOnlyLine (arrived_line n moment 0 caller item)) (AddsTargets n names)
 
-pub brought : (how : Taking) (caller : Text) (item : Instance) (body : List ℕ) (again dests : List Text) (keeps : Bool) (names : List Text) (n : ℕ) (old new : Trees)
-    → Then (Filled how caller item body again dests keeps) (LineWritten caller item names n) old new → Brings how caller item body again dests keeps names n old new
-brought how caller item body again dests keeps names n old new all =
+pub brought : (how : Taking) (caller : Text) (item : Instance) (body : List ℕ) (again dests : List Text) (keeps : Bool) (names : List Text) (n : ℕ) (moment : Option ℕ) (old new : Trees)
+    → Then (Filled how caller item body again dests keeps) (LineWritten caller item names n moment) old new → Brings how caller item body again dests keeps names n moment old new
+brought how caller item body again dests keeps names n moment old new all =
     let at : Pair = (caller, item.uid) in
-    let line : Row = arrived_line n 0 caller item in
+    let line : Row = arrived_line n moment 0 caller item in
     let filled = all.1 in
     let written = all.2 in
     let t = filled.1.1 in
@@ -153,9 +153,9 @@ brought how caller item body again dests keeps names n old new all =
       site = g.site ∙ l.site ∙ k.site ∙ r.site ∙ w.site ∙ a.site ∙ t.site;
     }
 
-pub arrival_made : (how : Taking) (caller : Text) (item : Instance) (body : List ℕ) (again dests : List Text) (keeps : Bool) (names : List Text) (n : ℕ) (old new : State)
-    → GoesOn old new × Then (Filled how caller item body again dests keeps) (LineWritten caller item names n) old.now.trees new.now.trees
-    → IsMade n (Brings how caller item body again dests keeps names n) old new
-arrival_made how caller item body again dests keeps names n old new all =
-    let made = brought how caller item body again dests keeps names n old.now.trees new.now.trees all.1 in
-    record { goes_on = all.0; line = record { row = arrived_line n 0 caller item; numbered = refl; journal = made.journal }; made = made }
+pub arrival_made : (how : Taking) (caller : Text) (item : Instance) (body : List ℕ) (again dests : List Text) (keeps : Bool) (names : List Text) (n : ℕ) (moment : Option ℕ) (old new : State)
+    → GoesOn old new × Then (Filled how caller item body again dests keeps) (LineWritten caller item names n moment) old.now.trees new.now.trees
+    → IsMade n (Brings how caller item body again dests keeps names n moment) old new
+arrival_made how caller item body again dests keeps names n moment old new all =
+    let made = brought how caller item body again dests keeps names n moment old.now.trees new.now.trees all.1 in
+    record { goes_on = all.0; line = record { row = arrived_line n moment 0 caller item; numbered = refl; journal = made.journal }; made = made }

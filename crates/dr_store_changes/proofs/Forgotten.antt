@@ -105,7 +105,7 @@ uid_left entry uid rows =
     map.get-retain_keys whole (is_other uid) q (λ x tie. ap (is_other uid) (sym (exact_bytes q x tie)))
     ∙ turned (eq_by_cmp text_cmp q uid) (map.get whole q) None ∙ sym (map.get-remove nat_list_cmp_total whole uid q))
 
-module _ (uid : Text) (old new : Trees) (n : ℕ) (w : TakesOut uid n old new) where
+module _ (uid : Text) (old new : Trees) (n : ℕ) (moment : Option ℕ) (w : TakesOut uid n moment old new) where
   contents_left : contents_in (new 1) ≡ map.remove (contents_in (old 1)) uid
   contents_left = ap contents_in w.items ∙ uid_left content_in uid (old 1)
 
@@ -152,8 +152,8 @@ module _ (uid : Text) (old new : Trees) (n : ℕ) (w : TakesOut uid n old new) w
 -- ---- the book
 
 pub forgettings_forget : ForgettingsForget
-forgettings_forget old new n uid below w = λ i. record {
-  items = items_left uid old new n w i;
+forgettings_forget old new n moment uid below w = λ i. record {
+  items = items_left uid old new n moment w i;
   arrivals = (ap arrivals_in w.arrivals ∙ set_left pairs_total pairs_exact (λ (at : Pair). is_other uid at.1) arrival_in (old 5)) i;
   kept = all_kept_in (w.kept i);
   rows = (ap rows_in w.rows ∙ map_left pairs_total pairs_exact (λ (at : Pair). is_other uid at.0) entry_in (old 9)) i;
@@ -169,7 +169,7 @@ not_needed b uid over needed = elim needed [
 ]
 
 pub forgettings_let_no_data_set_go : ForgettingsLetNoDataSetGo
-forgettings_let_no_data_set_go old new n uid has over w = bodies_left uid old new n w ∙ none_left (bodies_of old) uid (none (map.get (bodies_of old) uid) refl)
+forgettings_let_no_data_set_go old new n moment uid has over w = bodies_left uid old new n moment w ∙ none_left (bodies_of old) uid (none (map.get (bodies_of old) uid) refl)
   where
     none : (o : Option (List ℕ)) → map.get (bodies_of old) uid ≡ o → map.get (bodies_of old) uid ≡ None
     none None is = is
@@ -211,12 +211,12 @@ stock_left uid old mid new prints items =
       },
     )
 
-pub forgotten : (uid : Text) (n : ℕ) (old mid new : State) → GoesOn old mid × Then (DropsMoves uid) (DropsStock uid) old.now.trees mid.now.trees → AddsRow 11 (forgotten_line n uid) mid new → IsMade n (TakesOut uid n) old new
-forgotten uid n old mid new dropped adds =
+pub forgotten : (uid : Text) (n : ℕ) (moment : Option ℕ) (old mid new : State) → GoesOn old mid × Then (DropsMoves uid) (DropsStock uid) old.now.trees mid.now.trees → AddsRow 11 (forgotten_line n moment uid) mid new → IsMade n (TakesOut uid n moment) old new
+forgotten uid n moment old mid new dropped adds =
     let m = dropped.1.1 in
     let s = dropped.1.2 in
     let l = adds.others in
-    let line : Row = forgotten_line n uid in
+    let line : Row = forgotten_line n moment uid in
     let journal : new.now.trees 11 ≡ put_row line (old.now.trees 11) = adds.rows ∙ ap (put_row line) (s.journal ∙ m.journal) in
     record {
       goes_on = goes_over old mid new dropped.0 adds.goes_on;

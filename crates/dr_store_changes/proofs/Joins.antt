@@ -204,7 +204,7 @@ same_number : (n : ℕ) → (n == n) ≡ true
 same_number n = eq-eqb n n refl
 
 pub arrivals_arrive : ArrivalsArrive
-arrivals_arrive how old new n caller item body to keep below ahead known names w =
+arrivals_arrive how old new n moment caller item body to keep below ahead known names w =
     let others : (m : ℕ) → (n == m) ≡ false → names_in (new 12) m ≡ names_in (old 12) m = λ m is. w.targets m ∙ ap (λ b. cond b (with_names (names_in (old 12) m) (names_for keep to)) (names_in (old 12) m)) is in
     let its : names_in (new 12) n ≡ with_names map.empty (names_for keep to) =
     w.targets n ∙ ap (λ b. cond b (with_names (names_in (old 12) n) (names_for keep to)) (names_in (old 12) n)) (same_number n)
@@ -212,7 +212,7 @@ arrivals_arrive how old new n caller item body to keep below ahead known names w
     let lines : lines_of new ≡ lines_of old ++ Arrival caller item to keep ∷ [] =
     ap (λ rows. lines_in (new 12) rows) w.journal ∙ lines_put (new 12) n _ (old 11) below
     ∙ (λ i. lines_same (old 12) (new 12) n others (old 11) below i
-    ++ Arrival caller (came item n 0 caller i) ((ap (λ (s : NameSet). map.keys (map.remove s local)) its ∙ its_targets keep to names) i) ((ap (λ (s : NameSet). map.contains_key s local) its ∙ it_keeps keep to names) i) ∷ []) in
+    ++ Arrival caller (came item n moment 0 caller i) ((ap (λ (s : NameSet). map.keys (map.remove s local)) its ∙ its_targets keep to names) i) ((ap (λ (s : NameSet). map.contains_key s local) its ∙ it_keeps keep to names) i) ∷ []) in
     λ i. record {
       items = (w.items ∙ taken_is how (items_of old) item known) i;
       arrivals = w.arrivals i;

@@ -73,11 +73,12 @@ pub record KeepsIf (uid : Text) (keeps : Bool) (old new : Trees) : Type 0 where
 
 -- ---- all of it
 
--- A first arrival with line n: the item is there, and its data set if it comes; the caller has
--- brought it; it waits anew for each destination of `again`, and from now on for each of `dests`;
--- it is kept if it is to be; and the line goes on to these names, `-` standing for keeping.
+-- A first arrival with line n, at that moment: the item is there, and its data set if it comes; the
+-- caller has brought it; it waits anew for each destination of `again`, and from now on for each of
+-- `dests`; it is kept if it is to be; and the line goes on to these names, `-` standing for
+-- keeping.
 pub record Brings (how : Taking) (caller : Text) (item : Instance) (body : List ℕ)
-    (again dests : List Text) (keeps : Bool) (names : List Text) (n : ℕ)
+    (again dests : List Text) (keeps : Bool) (names : List Text) (n : ℕ) (moment : Option ℕ)
     (old new : Trees) : Type 0 where
   pub items : items_of new ≡ items_taken how (items_of old) item
   pub bodies : bodies_of new ≡ bodies_taken how (bodies_of old) item.uid body
@@ -86,7 +87,7 @@ pub record Brings (how : Taking) (caller : Text) (item : Instance) (body : List 
       ≡ with_rows (with_waiting (rows_of old) item.uid again) item.uid dests
   pub kept : all_kept_in (new 7)
       ≡ cond keeps (set.insert (all_kept_in (old 7)) item.uid) (all_kept_in (old 7))
-  pub journal : new 11 ≡ put_row (arrived_line n 0 caller item) (old 11)
+  pub journal : new 11 ≡ put_row (arrived_line n moment 0 caller item) (old 11)
   pub targets : (m : ℕ)
       → names_in (new 12) m
       ≡ cond (n == m) (with_names (names_in (old 12) m) names) (names_in (old 12) m)

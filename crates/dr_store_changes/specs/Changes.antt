@@ -1,5 +1,6 @@
 -- What the calls that write make of the tables.
 use Rattle.std.specs.Prelude.{◌≡◌, ◌==◌, ℕ, Bool, cond, filter, Contains, List, [], ◌∷◌, None}
+use Rattle.std.specs.Prelude.{Option}
 use Rattle.std.specs.FinSet as set
 use Rattle.std.specs.FinMap as map
 use Rattle.std.specs.FinMap.{FinMap}
@@ -235,14 +236,15 @@ pub record DropsStock (uid : Text) (old new : Trees) : Type 0 where
   pub journal : new 11 ≡ old 11
   pub targets : new 12 ≡ old 12
 
--- A forgetting with line n: the item has left, its print, its arrivals, whoever brought it, and its
--- rows, to whatever destination; and the line stands in the journal. All else stays.
-pub record TakesOut (uid : Text) (n : ℕ) (old new : Trees) : Type 0 where
+-- A forgetting with line n, at that moment: the item has left, its print, its arrivals, whoever
+-- brought it, and its rows, to whatever destination; and the line stands in the journal. All else
+-- stays.
+pub record TakesOut (uid : Text) (n : ℕ) (moment : Option ℕ) (old new : Trees) : Type 0 where
   pub items : new 1 ≡ filter (is_of_other 1 uid) (old 1)
   pub prints : new 3 ≡ filter (is_of_other 1 uid) (old 3)
   pub arrivals : new 5 ≡ filter (is_of_other 2 uid) (old 5)
   pub rows : new 9 ≡ filter (is_of_other 1 uid) (old 9)
-  pub journal : new 11 ≡ put_row (forgotten_line n uid) (old 11)
+  pub journal : new 11 ≡ put_row (forgotten_line n moment uid) (old 11)
   pub site : new 0 ≡ old 0
   pub kept : new 7 ≡ old 7
   pub targets : new 12 ≡ old 12

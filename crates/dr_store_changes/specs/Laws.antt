@@ -1,6 +1,7 @@
 -- Laws of the calls that write: what they make of the tables is what the ledger's call makes of the
 -- book.
-use Rattle.std.specs.Prelude.{◌≡◌, ◌&&◌, ℕ, Bool, true, false, not, List, Some}
+use Rattle.std.specs.Prelude.{◌≡◌, ◌&&◌, ℕ, Bool, true, false, not, List, Option}
+use Rattle.std.specs.Prelude.{Some}
 use Rattle.std.specs.FinMap as map
 use Rattle.std.specs.FinSet as set
 use Rattle.sqlite.specs.Order.{Row}
@@ -38,10 +39,11 @@ SettlingsSettle =
 -- Where a row is held, to let it wait again with the line of its requeuing is to queue it again.
 abbrev pub RequeuingsRequeue : Type 0
 RequeuingsRequeue =
-    (old new : Trees) (n : ℕ) (uid dest : Text) (why : Cause) (lets_go : Bool)
+    (old new : Trees) (n : ℕ) (moment : Option ℕ) (uid dest : Text) (why : Cause)
+    (lets_go : Bool)
     → AreBelow n (old 11)
     → map.get (rows_of old) (uid, dest) ≡ Some (Held why)
-    → MovesOn (uid, dest) (Waiting 0 0) (requeued_line n uid dest) lets_go old new
+    → MovesOn (uid, dest) (Waiting 0 0) (requeued_line n moment uid dest) lets_go old new
     → book_of new ≡ after (Requeuing uid dest) (book_of old)
 
 -- Where a row is held, to drop it and the arrivals of its instance, with the line of its dropping,
@@ -83,9 +85,9 @@ WhatIsNeededStaysAtADropping =
 -- The line of a repeat, with what came, is all that a repeat adds to the book.
 abbrev pub RepeatsRepeat : Type 0
 RepeatsRepeat =
-    (old new : Trees) (n : ℕ) (caller : Text) (item : Instance)
+    (old new : Trees) (n : ℕ) (moment : Option ℕ) (caller : Text) (item : Instance)
     → AreBelow n (old 11)
-    → AddsOnlyLine (arrived_line n 1 caller item) old new
+    → AddsOnlyLine (arrived_line n moment 1 caller item) old new
     → (book_of new ≡ after (Repeat caller item) (book_of old)) × (bodies_of new ≡ bodies_of old)
 
 -- An instance that comes from a caller for the first time, with rows for those of its destinations
@@ -93,14 +95,15 @@ RepeatsRepeat =
 -- with the line and its names: that is its arrival.
 abbrev pub ArrivalsArrive : Type 0
 ArrivalsArrive =
-    (how : Taking) (old new : Trees) (n : ℕ) (caller : Text) (item : Instance) (body : List ℕ)
-    (to : List Text) (keep : Bool)
+    (how : Taking) (old new : Trees) (n : ℕ) (moment : Option ℕ) (caller : Text)
+    (item : Instance) (body : List ℕ) (to : List Text) (keep : Bool)
     → AreBelow n (old 11) → GoNowhere n old
     → IsKnownFor how item (map.get (items_of old) item.uid)
     → AreTargets to
     → Brings how caller item body (given_up (rows_of old) item.uid to)
     (missing (rows_of old) item.uid to)
-    (keep && not (set.contains (all_kept_in (old 7)) item.uid)) (names_for keep to) n old new
+    (keep && not (set.contains (all_kept_in (old 7)) item.uid)) (names_for keep to) n moment
+    old new
     → book_of new ≡ after (Arrival caller item to keep) (book_of old)
 
 -- the data set comes just where the book that is made needs it and it isn't there
@@ -124,16 +127,16 @@ DataSetsCome =
 -- Where what is of an instance leaves, with the line of its forgetting, the instance is forgotten.
 abbrev pub ForgettingsForget : Type 0
 ForgettingsForget =
-    (old new : Trees) (n : ℕ) (uid : Text)
+    (old new : Trees) (n : ℕ) (moment : Option ℕ) (uid : Text)
     → AreBelow n (old 11)
-    → TakesOut uid n old new
+    → TakesOut uid n moment old new
     → book_of new ≡ after (Forgetting uid) (book_of old)
 
 -- An instance that is over has no data set, so the data sets stay as they were.
 abbrev pub ForgettingsLetNoDataSetGo : Type 0
 ForgettingsLetNoDataSetGo =
-    (old new : Trees) (n : ℕ) (uid : Text)
+    (old new : Trees) (n : ℕ) (moment : Option ℕ) (uid : Text)
     → HasCells (book_of old) (bodies_of old)
     → IsOver (book_of old) uid
-    → TakesOut uid n old new
+    → TakesOut uid n moment old new
     → bodies_of new ≡ bodies_of old

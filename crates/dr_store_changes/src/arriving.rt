@@ -134,6 +134,8 @@ pub fn add_targets<'x, S: Alter>(
 pub struct Repeating<'x> {
     pub caller: &'x Text,
     pub item: &'x Instance,
+    /// The moment (milliseconds), if it is known.
+    pub moment: Option<u64>,
     ghost size: { item.now.size ≤ 2 ^ 62 },
 }
 
@@ -143,10 +145,10 @@ impl TableChange for Repeating<'_> {
 
     ghost asks = { λ s db. Unit {0} };
 
-    ghost makes = { λ s n. AddsOnlyLine (arrived_line n 1 s.caller.now s.item.now) };
+    ghost makes = { λ s n. AddsOnlyLine (arrived_line n s.moment 1 s.caller.now s.item.now) };
 
     fn run<S: Alter>(&self, tx: &mut Transaction<'_, S>, n: u64) -> Result<(), Error> {
-        add_arrived(tx, n, 1, self.caller, self.item)?;
+        add_arrived(tx, n, self.moment, 1, self.caller, self.item)?;
         Ok(())
     }
 }

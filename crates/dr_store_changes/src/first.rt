@@ -143,6 +143,7 @@ fn queue<'x, S: Alter>(
 fn add_line<'x, S: Alter>(
     tx: &mut Transaction<'_, S>,
     n: u64,
+    moment: Option<u64>,
     caller: &'x Text,
     item: &'x Instance,
 ) -> Result<(), Error>
@@ -153,10 +154,10 @@ fn add_line<'x, S: Alter>(
         (state S.Store tx.new.conn.now)
         (Unit {0}
         → GoesOn (state S.Store tx.old.conn.now) (state S.Store tx.new.conn.now)
-        × AddsOnlyLine (arrived_line n 0 caller.now item.now)
+        × AddsOnlyLine (arrived_line n moment 0 caller.now item.now)
         (state S.Store tx.old.conn.now).now.trees (state S.Store tx.new.conn.now).now.trees) }
 {
-    add_arrived(tx, n, 0, caller, item)?;
+    add_arrived(tx, n, moment, 0, caller, item)?;
     Ok(())
 }
 
@@ -164,6 +165,7 @@ fn add_line<'x, S: Alter>(
 fn write_line<'x, S: Alter>(
     tx: &mut Transaction<'_, S>,
     n: u64,
+    moment: Option<u64>,
     caller: &'x Text,
     item: &'x Instance,
     names: &'x [Text],
@@ -175,10 +177,11 @@ fn write_line<'x, S: Alter>(
         (state S.Store tx.new.conn.now)
         (Unit {0}
         → GoesOn (state S.Store tx.old.conn.now) (state S.Store tx.new.conn.now)
-        × Then (AddsOnlyLine (arrived_line n 0 caller.now item.now)) (AddsTargets n names.now)
-        (state S.Store tx.old.conn.now).now.trees (state S.Store tx.new.conn.now).now.trees) }
+        × Then (AddsOnlyLine (arrived_line n moment 0 caller.now item.now))
+        (AddsTargets n names.now) (state S.Store tx.old.conn.now).now.trees
+        (state S.Store tx.new.conn.now).now.trees) }
 {
-    add_line(tx, n, caller, item)?;
+    add_line(tx, n, moment, caller, item)?;
     add_targets(tx, n, names)?;
     Ok(())
 }
@@ -201,6 +204,8 @@ pub struct Arriving<'x> {
     pub keeps: bool,
     /// Where its line goes on to, `-` standing for keeping.
     pub names: &'x [Text],
+    /// The moment (milliseconds), if it is known.
+    pub moment: Option<u64>,
     ghost size: { item.now.size ≤ 2 ^ 62 },
 }
 
@@ -239,11 +244,11 @@ impl TableChange for Arriving<'_> {
         AsksToTake s.taking s.item.now.uid db × HasRows s.item.now.uid s.again.now db };
 
     ghost makes = { λ s n. Brings s.taking s.caller.now s.item.now s.body.now s.again.now
-        s.dests.now s.keeps s.names.now n };
+        s.dests.now s.keeps s.names.now n s.moment };
 
     fn run<S: Alter>(&self, tx: &mut Transaction<'_, S>, n: u64) -> Result<(), Error> {
         self.fill(tx, n)?;
-        write_line(tx, n, self.caller, self.item, self.names)?;
+        write_line(tx, n, self.moment, self.caller, self.item, self.names)?;
         Ok(())
     }
 }

@@ -59,6 +59,8 @@ fn drop_all<'x, S: Alter>(tx: &mut Transaction<'_, S>, uid: &'x Text) -> Result<
 #[derive(Drop)]
 pub struct Forgetting<'x> {
     pub uid: &'x Text,
+    /// The moment (milliseconds), if it is known.
+    pub moment: Option<u64>,
 }
 
 impl TableChange for Forgetting<'_> {
@@ -66,11 +68,11 @@ impl TableChange for Forgetting<'_> {
 
     ghost asks = { λ s db. Unit {0} };
 
-    ghost makes = { λ s n. TakesOut s.uid.now n };
+    ghost makes = { λ s n. TakesOut s.uid.now n s.moment };
 
     fn run<S: Alter>(&self, tx: &mut Transaction<'_, S>, n: u64) -> Result<(), Error> {
         drop_all(tx, self.uid)?;
-        add_forgotten(tx, n, self.uid)?;
+        add_forgotten(tx, n, self.moment, self.uid)?;
         Ok(())
     }
 }

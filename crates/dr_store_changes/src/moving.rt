@@ -68,6 +68,7 @@ fn settle_and_let_go<'x, S: Alter>(
 fn requeue<'x, S: Alter>(
     tx: &mut Transaction<'_, S>,
     n: u64,
+    moment: Option<u64>,
     uid: &'x Text,
     dest: &'x Text,
     to: Progress,
@@ -78,11 +79,11 @@ fn requeue<'x, S: Alter>(
     ensures step { StatementStep result (state S.Store tx.old.conn.now)
         (state S.Store tx.new.conn.now)
         (HasRow (uid.now, dest.now) (state S.Store tx.old.conn.now).now.trees
-        → Moved (uid.now, dest.now) to (requeued_line n uid.now dest.now)
+        → Moved (uid.now, dest.now) to (requeued_line n moment uid.now dest.now)
         (state S.Store tx.old.conn.now) (state S.Store tx.new.conn.now)) }
 {
     set_row(tx, uid, dest, to)?;
-    add_requeued(tx, n, uid, dest)?;
+    add_requeued(tx, n, moment, uid, dest)?;
     Ok(())
 }
 
@@ -126,6 +127,8 @@ pub struct Requeuing<'x> {
     pub dest: &'x Text,
     /// How far it is then on its way to the destination.
     pub to: Progress,
+    /// The moment (milliseconds), if it is known.
+    pub moment: Option<u64>,
     ghost due: { due_of to ≤ 2 ^ 62 + 300000 },
 }
 
@@ -136,10 +139,10 @@ impl TableChange for Requeuing<'_> {
 
     ghost asks = { λ s. AsksForRow (s.uid.now, s.dest.now) };
 
-    ghost makes = { λ s n.
-        MovesOn (s.uid.now, s.dest.now) s.to (requeued_line n s.uid.now s.dest.now) false };
+    ghost makes = { λ s n. MovesOn (s.uid.now, s.dest.now) s.to
+        (requeued_line n s.moment s.uid.now s.dest.now) false };
 
     fn run<S: Alter>(&self, tx: &mut Transaction<'_, S>, n: u64) -> Result<(), Error> {
-        requeue(tx, n, self.uid, self.dest, self.to)
+        requeue(tx, n, self.moment, self.uid, self.dest, self.to)
     }
 }

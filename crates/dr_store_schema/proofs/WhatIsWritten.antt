@@ -1,5 +1,5 @@
 -- What is written into cells, and empty tables.
-use Rattle.std.proofs.Common.{◌≡◌, refl, sym, ap, ◌∙◌, ℕ, pos, Bool, true, false, cond, List, [], ◌∷◌, length, map as mapped, Option, None, arith}
+use Rattle.std.proofs.Common.{◌≡◌, refl, sym, ap, ◌∙◌, ℕ, pos, Bool, true, false, cond, List, [], ◌∷◌, length, map as mapped, Option, None, Some, ◌≤◌, ◌^◌, arith}
 use Rattle.std.specs.Cmp.Lexicographic.{nat_list_cmp_total}
 use Rattle.std.specs.declared.cmp.Ordering.{Ordering}
 use Rattle.std.specs.FinMap as map
@@ -7,6 +7,7 @@ use Rattle.std.specs.FinMap.{FinMap}
 use Rattle.std.specs.FinSet as set
 use Rattle.std.specs.Ordering.{nat_cmp}
 use Rattle.std.proofs.lemmas.Map.Lookups.{exact_bytes}
+use Rattle.std.proofs.Math.Nat.{min-eq_left}
 use Rattle.sqlite.specs.declared.types.Value.TheVariants.{Int}
 use Rattle.dr_base.specs.declared.syntax.Syntax.{Syntax}
 use Rattle.dr_base.specs.declared.syntax.Syntax.TheVariants.{Implicit, Explicit}
@@ -18,7 +19,7 @@ use Rattle.dr_ledger.specs.declared.item.Progress.TheVariants.{Waiting, Held, Do
 use Rattle.dr_base.specs.Texts.{text_cmp}
 use Rattle.dr_ledger.specs.Books.{Line}
 use Rattle.dr_store_schema.specs.Books.{bodies_by, is_whole}
-use Rattle.dr_store_schema.specs.Cells.{due_of, mark_of, outcome_in, outcome_value, progress_in, state_of, syntax_marked, tries_of, why_of}
+use Rattle.dr_store_schema.specs.Cells.{due_of, mark_of, moment_in, moment_value, outcome_in, outcome_value, progress_in, state_of, syntax_marked, tries_of, why_of}
 use Rattle.dr_store_schema.specs.Laws.{CellsSayWhatWasWritten, EmptyTablesAreEmpty}
 
 progress_back : (p : Progress) → progress_in (Int (pos (state_of p))) (Int (pos (tries_of p))) (Int (pos (due_of p))) (why_of p) ≡ p
@@ -37,8 +38,11 @@ syntax_back : (syntax : Syntax) → syntax_marked (mark_of syntax) ≡ syntax
 syntax_back Implicit = refl
 syntax_back Explicit = refl
 
+moment_back : (now : ℕ) → now ≤ 2 ^ 62 → moment_in (moment_value (Some now)) ≡ Some now
+moment_back now early = ap Some (min-eq_left early)
+
 pub cells_say_what_was_written : CellsSayWhatWasWritten
-cells_say_what_was_written = record { progress = progress_back; outcome = outcome_back; syntax = syntax_back }
+cells_say_what_was_written = record { progress = progress_back; outcome = outcome_back; syntax = syntax_back; moment = moment_back; no_moment = refl }
 
 abbrev wholes_none : FinMap text_cmp ℕ
 wholes_none = map.empty

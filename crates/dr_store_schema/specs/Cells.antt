@@ -1,5 +1,6 @@
 -- What the cells of a row say, and how a row's progress and an outcome are written into cells.
-use Rattle.std.specs.Prelude.{ℕ, zero, suc, ℤ, pos, negsuc, Bool, true, false, List, [], ◌∷◌}
+use Rattle.std.specs.Prelude.{ℕ, zero, suc, ℤ, pos, negsuc, ◌^◌, min, Bool, true, false, List, []}
+use Rattle.std.specs.Prelude.{◌∷◌, Option, None, Some}
 use Rattle.std.specs.Str.{bytes_eq}
 use Rattle.sqlite.specs.declared.types.Value.{Value}
 use Rattle.sqlite.specs.declared.types.Value.TheVariants.{Null, Int, Text, Real, Blob}
@@ -43,6 +44,21 @@ number_in (Int n) = natural n
 number_in (Real x) = 0
 number_in (Text t) = 0
 number_in (Blob b) = 0
+
+-- ---- moments (milliseconds since 1970). A line whose moment nobody told has NULL there.
+
+-- the moment of a cell
+abbrev pub moment_in : Value → Option ℕ
+moment_in Null = None
+moment_in (Int n) = Some (natural n)
+moment_in (Real x) = None
+moment_in (Text t) = None
+moment_in (Blob b) = None
+
+-- the cell of a moment; from 2^62 on all are one
+abbrev pub moment_value : Option ℕ → Value
+moment_value None = Null
+moment_value (Some now) = Int (pos (min now (2 ^ 62)))
 
 -- ---- transfer syntaxes: `I` is implicit VR little endian, `E` explicit
 

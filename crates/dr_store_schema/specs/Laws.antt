@@ -1,5 +1,5 @@
 -- Laws of the tables: what their texts make, and what stands in them.
-use Rattle.std.specs.Prelude.{◌≡◌, Ok, pos, []}
+use Rattle.std.specs.Prelude.{◌≡◌, ◌≤◌, ◌^◌, ℕ, Ok, pos, [], None, Some}
 use Rattle.std.specs.FinMap as map
 use Rattle.sqlite.specs.Compile.{table_defined_by}
 use Rattle.sqlite.specs.Given.{IsPlain}
@@ -11,7 +11,8 @@ use Rattle.dr_ledger.specs.declared.item.Outcome.{Outcome}
 use Rattle.dr_ledger.specs.declared.item.Progress.{Progress}
 use Rattle.dr_ledger.specs.Books.{empty_book}
 use Rattle.dr_store_schema.specs.Books.{bodies_of, book_of, lines_of}
-use Rattle.dr_store_schema.specs.Cells.{due_of, mark_of, outcome_in, outcome_value, progress_in}
+use Rattle.dr_store_schema.specs.Cells.{due_of, mark_of, moment_in, moment_value, outcome_in}
+use Rattle.dr_store_schema.specs.Cells.{outcome_value, progress_in}
 use Rattle.dr_store_schema.specs.Cells.{state_of, syntax_marked, tries_of, why_of}
 use Rattle.dr_store_schema.specs.Statements as text
 use Rattle.dr_store_schema.specs.Tables as table
@@ -86,6 +87,8 @@ pub record CellsSayWhatWasWritten : Type 0 where
       ≡ p
   pub outcome : (what : Outcome) → outcome_in (outcome_value what) ≡ what
   pub syntax : (syntax : Syntax) → syntax_marked (mark_of syntax) ≡ syntax
+  pub moment : (now : ℕ) → now ≤ 2 ^ 62 → moment_in (moment_value (Some now)) ≡ Some now
+  pub no_moment : moment_in (moment_value None) ≡ None
 
 -- empty tables are the book of a node to which nothing came
 pub record EmptyTablesAreEmpty : Type 0 where

@@ -66,11 +66,11 @@ insert_row =
     codes "INSERT INTO queue (uid, dest, state, tries, due, cause) VALUES (?1, ?2, 0, 0, 0, NULL)"
 
 -- the line of a first arrival (kind 0) or of a repeat (kind 1), whose outcome is what was answered:
--- 0 new, 1 again; with what came: what rules read of it, and the length and the SHA-256 of its data
--- set
+-- 0 new, 1 again; with its moment, and what came: what rules read of it, and the length and the
+-- SHA-256 of its data set
 abbrev pub insert_arrived : List ℕ
 insert_arrived = codes
-    "INSERT INTO journal (n, kind, caller, uid, dest, outcome, moment, class, syntax, modality, station, length, sha256) VALUES (?1, ?2, ?3, ?4, NULL, ?2, NULL, ?5, ?6, ?7, ?8, ?9, ?10)"
+    "INSERT INTO journal (n, kind, caller, uid, dest, outcome, moment, class, syntax, modality, station, length, sha256) VALUES (?1, ?2, ?3, ?4, NULL, ?2, ?5, ?6, ?7, ?8, ?9, ?10, ?11)"
 
 -- where the first arrival of this line goes on to
 abbrev pub insert_target : List ℕ
@@ -91,7 +91,7 @@ insert_settled = codes
 -- the line of a requeuing
 abbrev pub insert_requeued : List ℕ
 insert_requeued = codes
-    "INSERT INTO journal (n, kind, caller, uid, dest, outcome, moment) VALUES (?1, 3, NULL, ?2, ?3, NULL, NULL)"
+    "INSERT INTO journal (n, kind, caller, uid, dest, outcome, moment) VALUES (?1, 3, NULL, ?2, ?3, NULL, ?4)"
 
 -- the line of a dropping
 abbrev pub insert_dropped : List ℕ
@@ -119,7 +119,7 @@ drop_item = codes "DELETE FROM item WHERE uid = ?1"
 -- the line of a forgetting
 abbrev pub insert_forgotten : List ℕ
 insert_forgotten = codes
-    "INSERT INTO journal (n, kind, caller, uid, dest, outcome, moment) VALUES (?1, 5, NULL, ?2, NULL, NULL, NULL)"
+    "INSERT INTO journal (n, kind, caller, uid, dest, outcome, moment) VALUES (?1, 5, NULL, ?2, NULL, NULL, ?3)"
 
 -- ---- data sets
 
@@ -144,7 +144,7 @@ drop_over = codes "DELETE FROM queue WHERE state >= 2"
 -- the line of an adoption
 abbrev pub insert_adopted : List ℕ
 insert_adopted = codes
-    "INSERT INTO journal (n, kind, caller, uid, dest, outcome, moment) VALUES (?1, 4, NULL, NULL, NULL, NULL, NULL)"
+    "INSERT INTO journal (n, kind, caller, uid, dest, outcome, moment) VALUES (?1, 4, NULL, NULL, NULL, NULL, ?2)"
 
 -- whose ledger it is
 abbrev pub insert_site : List ℕ

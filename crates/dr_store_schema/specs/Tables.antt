@@ -155,7 +155,8 @@ queue = record {
 -- the accepted calls, numbered from 1; kind 0 is a first arrival, 1 a repeat, 2 a settling, 3 a
 -- requeuing, 4 an adoption, 5 a forgetting, 6 a dropping. The line of an arrival has the instance
 -- itself, which may have been forgotten since: what rules read of it, and its data set's length and
--- SHA-256.
+-- SHA-256. The moment (milliseconds since 1970) is a settling's and a dropping's own; each other
+-- line has that which the ledger was told last before it, or NULL.
 abbrev pub journal : Table
 journal = record {
   name = codes "journal";

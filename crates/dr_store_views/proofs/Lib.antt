@@ -1,4 +1,5 @@
 mod Brought
+mod Came
 mod Counted
 mod First
 mod Grouped

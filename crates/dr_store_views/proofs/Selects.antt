@@ -12,6 +12,7 @@ use Rattle.sqlite_tied.specs.Listing.{count_rows}
 use Rattle.sqlite_value.specs.declared.keys.Key.{Key}
 use Rattle.sqlite_value.specs.Keys.{ascending}
 use Rattle.dr_store_views.specs.Statements as text
+use Rattle.dr_store_views.specs.Origins.{line_query, moment_query}
 use Rattle.dr_store_reads.proofs.Selects.{Is}
 use Rattle.dr_store_lists.proofs.Wholes.{all_lines_order, all_lines_shown, all_targets_order, all_targets_shown}
 
@@ -143,3 +144,13 @@ lines_behind = record { command = refl; listing = refl; plain = (refl, refl) }
 pub targets_behind : Is text.targets_behind (spanned 12 1 all_targets_shown all_targets_order) (codes "n" ∷ codes "dest" ∷ [])
 unfolding understood everything
 targets_behind = record { command = refl; listing = refl; plain = (refl, refl) }
+
+-- ---- where an instance is from
+
+pub line_of : Is text.line_of line_query (codes "rowid" ∷ codes "class" ∷ [])
+unfolding understood everything
+line_of = record { command = refl; listing = refl; plain = (refl, refl) }
+
+pub moment_of : Is text.moment_of moment_query (codes "moment" ∷ [])
+unfolding understood everything
+moment_of = record { command = refl; listing = refl; plain = (refl, refl) }

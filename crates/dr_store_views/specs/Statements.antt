@@ -1,4 +1,4 @@
--- The texts of the queries of counts, of the first moment, and of pages.
+-- The texts of the queries of counts, of moments, and of pages.
 use Rattle.std.specs.Prelude.{List, ℕ, codes}
 
 abbrev pub count_arrivals : List ℕ
@@ -16,6 +16,15 @@ first_moment = codes "SELECT due FROM queue WHERE dest = ?1 AND state = 0 ORDER 
 abbrev pub rows_of : List ℕ
 rows_of = codes
     "SELECT uid, dest, state, tries, due, cause FROM queue WHERE uid = ?1 ORDER BY dest"
+
+-- the number under which an instance stands, which is that of the line by which it came, and its
+-- class
+abbrev pub line_of : List ℕ
+line_of = codes "SELECT rowid, class FROM item WHERE uid = ?1"
+
+-- the moment of that line, if it is of a first arrival of the instance
+abbrev pub moment_of : List ℕ
+moment_of = codes "SELECT moment FROM journal WHERE n = ?1 AND kind = 0 AND uid = ?2"
 
 -- who brought an instance
 abbrev pub callers_of : List ℕ

@@ -1,5 +1,5 @@
 -- Each INSERT is a row more.
-use Rattle.std.proofs.Common.{inl, inr, ℕ, ℤ, pos, List, [], ◌∷◌, Ok, Err, Result, OnOk, refl, arith}
+use Rattle.std.proofs.Common.{inl, inr, ℕ, ℤ, pos, List, [], ◌∷◌, Option, Ok, Err, Result, OnOk, refl, arith}
 use Rattle.sqlite.specs.declared.error.Error.{Error}
 use Rattle.sqlite.specs.declared.types.Value.TheVariants.{Blob, Int, Text}
 use Rattle.sqlite.specs.Edit.{next_rowid}
@@ -10,12 +10,12 @@ use Rattle.dr_ledger.specs.declared.item.Instance.{Instance}
 use Rattle.dr_ledger.specs.declared.item.Outcome.{Outcome}
 use Rattle.dr_ledger.specs.Pairs.{Pair}
 use Rattle.dr_route.specs.declared.key.Key.{Key}
-use Rattle.dr_store_schema.specs.Cells.{outcome_value}
+use Rattle.dr_store_schema.specs.Cells.{moment_value, outcome_value}
 use Rattle.dr_store_schema.specs.Ledgers.{IsCounted, IsLedger}
 use Rattle.dr_store_schema.specs.Statements as text
 use Rattle.dr_store_schema.specs.Tables as table
 use Rattle.dr_store_writes.specs.Effects.{AddsRow, AddsCells, item_row, print_cells, arrival_cells, kept_cells, new_cells, target_cells, arrived_line, dropped_line, settled_line, requeued_line, adopted_line, forgotten_line, instance_cells, site_row}
-use Rattle.dr_store_writes.proofs.Casts.{cast_null, cast_int, cast_outcome}
+use Rattle.dr_store_writes.proofs.Casts.{cast_null, cast_int, cast_moment, cast_outcome}
 use Rattle.dr_store_writes.proofs.Commands as command
 use Rattle.dr_store_writes.proofs.Inserted.{adds}
 
@@ -56,32 +56,32 @@ pub target_added : (old new : State) (n : ℕ) (dest : texts.Text) (r : Result �
 target_added old new n dest r has = under_its_id 12 (next_rowid (old.now.trees 12)) (target_cells n dest) old new text.insert_target (target_cells n dest) r (λ count h.
     adds old new text.insert_target (target_cells n dest) 7 command.target_terms 3 table.target_table (Int (next_rowid (old.now.trees 12)) ∷ target_cells n dest) count has command.insert_target.0 command.insert_target.1 refl (rw (cast_null, cast_int (pos n))) refl refl (inl (omega arith)) (inl (omega arith)) (inl (omega arith)) (inl (omega arith)) (λ e. absurd (omega (arith, e))) h)
 
-abbrev pub arrived_params : ℕ → ℕ → texts.Text → Instance → Row
-arrived_params n kind caller item = Int (pos n) ∷ Int (pos kind) ∷ Text caller ∷ Text item.uid ∷ instance_cells item
+abbrev pub arrived_params : ℕ → Option ℕ → ℕ → texts.Text → Instance → Row
+arrived_params n moment kind caller item = Int (pos n) ∷ Int (pos kind) ∷ Text caller ∷ Text item.uid ∷ moment_value moment ∷ instance_cells item
 
-pub arrived_added : (old new : State) (n kind : ℕ) (caller : texts.Text) (item : Instance) (r : Result ℕ Error) → IsLedger old.now → ExecutesInside 0 text.insert_arrived (arrived_params n kind caller item) old new r → OnOk r (AddsRow 11 (arrived_line n kind caller item) old new)
-arrived_added old new n kind caller item r has = under_its_number 11 (arrived_line n kind caller item) old new text.insert_arrived (arrived_params n kind caller item) r (λ count h.
-    adds old new text.insert_arrived (arrived_params n kind caller item) 6 command.arrived_terms 14 table.journal_table (arrived_line n kind caller item) count has command.insert_arrived.0 command.insert_arrived.1 refl (rw (cast_null, cast_int (pos n), cast_int (pos kind), cast_int (pos item.size))) refl refl (inl (omega arith)) (inl (omega arith)) (inl (omega arith)) (inl (omega arith)) (λ e. absurd (omega (arith, e))) h)
+pub arrived_added : (old new : State) (n : ℕ) (moment : Option ℕ) (kind : ℕ) (caller : texts.Text) (item : Instance) (r : Result ℕ Error) → IsLedger old.now → ExecutesInside 0 text.insert_arrived (arrived_params n moment kind caller item) old new r → OnOk r (AddsRow 11 (arrived_line n moment kind caller item) old new)
+arrived_added old new n moment kind caller item r has = under_its_number 11 (arrived_line n moment kind caller item) old new text.insert_arrived (arrived_params n moment kind caller item) r (λ count h.
+    adds old new text.insert_arrived (arrived_params n moment kind caller item) 6 command.arrived_terms 14 table.journal_table (arrived_line n moment kind caller item) count has command.insert_arrived.0 command.insert_arrived.1 refl (rw (cast_null, cast_int (pos n), cast_int (pos kind), cast_int (pos item.size), cast_moment moment)) refl refl (inl (omega arith)) (inl (omega arith)) (inl (omega arith)) (inl (omega arith)) (λ e. absurd (omega (arith, e))) h)
 
 pub settled_added : (old new : State) (n : ℕ) (uid dest : texts.Text) (what : Outcome) (now : ℕ) (r : Result ℕ Error) → IsLedger old.now → ExecutesInside 0 text.insert_settled (Int (pos n) ∷ Text uid ∷ Text dest ∷ outcome_value what ∷ Int (pos now) ∷ []) old new r → OnOk r (AddsRow 11 (settled_line n uid dest what now) old new)
 settled_added old new n uid dest what now r has = under_its_number 11 (settled_line n uid dest what now) old new text.insert_settled (Int (pos n) ∷ Text uid ∷ Text dest ∷ outcome_value what ∷ Int (pos now) ∷ []) r (λ count h.
     adds old new text.insert_settled (Int (pos n) ∷ Text uid ∷ Text dest ∷ outcome_value what ∷ Int (pos now) ∷ []) 6 command.settled_terms 14 table.journal_table (settled_line n uid dest what now) count has command.insert_settled.0 command.insert_settled.1 refl (rw (cast_null, cast_int (pos n), cast_int (pos 2), cast_int (pos now), cast_outcome what)) refl refl (inl (omega arith)) (inl (omega arith)) (inl (omega arith)) (inl (omega arith)) (λ e. absurd (omega (arith, e))) h)
 
-pub requeued_added : (old new : State) (n : ℕ) (uid dest : texts.Text) (r : Result ℕ Error) → IsLedger old.now → ExecutesInside 0 text.insert_requeued (Int (pos n) ∷ Text uid ∷ Text dest ∷ []) old new r → OnOk r (AddsRow 11 (requeued_line n uid dest) old new)
-requeued_added old new n uid dest r has = under_its_number 11 (requeued_line n uid dest) old new text.insert_requeued (Int (pos n) ∷ Text uid ∷ Text dest ∷ []) r (λ count h.
-    adds old new text.insert_requeued (Int (pos n) ∷ Text uid ∷ Text dest ∷ []) 6 command.requeued_terms 14 table.journal_table (requeued_line n uid dest) count has command.insert_requeued.0 command.insert_requeued.1 refl (rw (cast_null, cast_int (pos n), cast_int (pos 3))) refl refl (inl (omega arith)) (inl (omega arith)) (inl (omega arith)) (inl (omega arith)) (λ e. absurd (omega (arith, e))) h)
+pub requeued_added : (old new : State) (n : ℕ) (moment : Option ℕ) (uid dest : texts.Text) (r : Result ℕ Error) → IsLedger old.now → ExecutesInside 0 text.insert_requeued (Int (pos n) ∷ Text uid ∷ Text dest ∷ moment_value moment ∷ []) old new r → OnOk r (AddsRow 11 (requeued_line n moment uid dest) old new)
+requeued_added old new n moment uid dest r has = under_its_number 11 (requeued_line n moment uid dest) old new text.insert_requeued (Int (pos n) ∷ Text uid ∷ Text dest ∷ moment_value moment ∷ []) r (λ count h.
+    adds old new text.insert_requeued (Int (pos n) ∷ Text uid ∷ Text dest ∷ moment_value moment ∷ []) 6 command.requeued_terms 14 table.journal_table (requeued_line n moment uid dest) count has command.insert_requeued.0 command.insert_requeued.1 refl (rw (cast_null, cast_int (pos n), cast_int (pos 3), cast_moment moment)) refl refl (inl (omega arith)) (inl (omega arith)) (inl (omega arith)) (inl (omega arith)) (λ e. absurd (omega (arith, e))) h)
 
 pub dropped_added : (old new : State) (n : ℕ) (uid dest : texts.Text) (now : ℕ) (r : Result ℕ Error) → IsLedger old.now → ExecutesInside 0 text.insert_dropped (Int (pos n) ∷ Text uid ∷ Text dest ∷ Int (pos now) ∷ []) old new r → OnOk r (AddsRow 11 (dropped_line n uid dest now) old new)
 dropped_added old new n uid dest now r has = under_its_number 11 (dropped_line n uid dest now) old new text.insert_dropped (Int (pos n) ∷ Text uid ∷ Text dest ∷ Int (pos now) ∷ []) r (λ count h.
     adds old new text.insert_dropped (Int (pos n) ∷ Text uid ∷ Text dest ∷ Int (pos now) ∷ []) 6 command.dropped_terms 14 table.journal_table (dropped_line n uid dest now) count has command.insert_dropped.0 command.insert_dropped.1 refl (rw (cast_null, cast_int (pos n), cast_int (pos 6), cast_int (pos now))) refl refl (inl (omega arith)) (inl (omega arith)) (inl (omega arith)) (inl (omega arith)) (λ e. absurd (omega (arith, e))) h)
 
-pub adopted_added : (old new : State) (n : ℕ) (r : Result ℕ Error) → IsLedger old.now → ExecutesInside 0 text.insert_adopted (Int (pos n) ∷ []) old new r → OnOk r (AddsRow 11 (adopted_line n) old new)
-adopted_added old new n r has = under_its_number 11 (adopted_line n) old new text.insert_adopted (Int (pos n) ∷ []) r (λ count h.
-    adds old new text.insert_adopted (Int (pos n) ∷ []) 6 command.adopted_terms 14 table.journal_table (adopted_line n) count has command.insert_adopted.0 command.insert_adopted.1 refl (rw (cast_null, cast_int (pos n), cast_int (pos 4))) refl refl (inl (omega arith)) (inl (omega arith)) (inl (omega arith)) (inl (omega arith)) (λ e. absurd (omega (arith, e))) h)
+pub adopted_added : (old new : State) (n : ℕ) (moment : Option ℕ) (r : Result ℕ Error) → IsLedger old.now → ExecutesInside 0 text.insert_adopted (Int (pos n) ∷ moment_value moment ∷ []) old new r → OnOk r (AddsRow 11 (adopted_line n moment) old new)
+adopted_added old new n moment r has = under_its_number 11 (adopted_line n moment) old new text.insert_adopted (Int (pos n) ∷ moment_value moment ∷ []) r (λ count h.
+    adds old new text.insert_adopted (Int (pos n) ∷ moment_value moment ∷ []) 6 command.adopted_terms 14 table.journal_table (adopted_line n moment) count has command.insert_adopted.0 command.insert_adopted.1 refl (rw (cast_null, cast_int (pos n), cast_int (pos 4), cast_moment moment)) refl refl (inl (omega arith)) (inl (omega arith)) (inl (omega arith)) (inl (omega arith)) (λ e. absurd (omega (arith, e))) h)
 
-pub forgotten_added : (old new : State) (n : ℕ) (uid : texts.Text) (r : Result ℕ Error) → IsLedger old.now → ExecutesInside 0 text.insert_forgotten (Int (pos n) ∷ Text uid ∷ []) old new r → OnOk r (AddsRow 11 (forgotten_line n uid) old new)
-forgotten_added old new n uid r has = under_its_number 11 (forgotten_line n uid) old new text.insert_forgotten (Int (pos n) ∷ Text uid ∷ []) r (λ count h.
-    adds old new text.insert_forgotten (Int (pos n) ∷ Text uid ∷ []) 6 command.forgotten_terms 14 table.journal_table (forgotten_line n uid) count has command.insert_forgotten.0 command.insert_forgotten.1 refl (rw (cast_null, cast_int (pos n), cast_int (pos 5))) refl refl (inl (omega arith)) (inl (omega arith)) (inl (omega arith)) (inl (omega arith)) (λ e. absurd (omega (arith, e))) h)
+pub forgotten_added : (old new : State) (n : ℕ) (moment : Option ℕ) (uid : texts.Text) (r : Result ℕ Error) → IsLedger old.now → ExecutesInside 0 text.insert_forgotten (Int (pos n) ∷ Text uid ∷ moment_value moment ∷ []) old new r → OnOk r (AddsRow 11 (forgotten_line n moment uid) old new)
+forgotten_added old new n moment uid r has = under_its_number 11 (forgotten_line n moment uid) old new text.insert_forgotten (Int (pos n) ∷ Text uid ∷ moment_value moment ∷ []) r (λ count h.
+    adds old new text.insert_forgotten (Int (pos n) ∷ Text uid ∷ moment_value moment ∷ []) 6 command.forgotten_terms 14 table.journal_table (forgotten_line n moment uid) count has command.insert_forgotten.0 command.insert_forgotten.1 refl (rw (cast_null, cast_int (pos n), cast_int (pos 5), cast_moment moment)) refl refl (inl (omega arith)) (inl (omega arith)) (inl (omega arith)) (inl (omega arith)) (λ e. absurd (omega (arith, e))) h)
 
 pub site_added : (old new : State) (node : texts.Text) (plan : List ℕ) (r : Result ℕ Error) → IsLedger old.now → ExecutesInside 0 text.insert_site (Text node ∷ Blob plan ∷ []) old new r → OnOk r (AddsRow 0 (site_row node plan) old new)
 site_added old new node plan r has = under_its_number 0 (site_row node plan) old new text.insert_site (Text node ∷ Blob plan ∷ []) r (λ count h.

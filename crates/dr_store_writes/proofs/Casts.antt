@@ -1,5 +1,5 @@
 -- Values that a column takes as they are.
-use Rattle.std.proofs.Common.{◌≡◌, ℤ, pos, negsuc, Bool, true, false, cond, refl}
+use Rattle.std.proofs.Common.{◌≡◌, ◌^◌, ℕ, ℤ, pos, negsuc, Bool, true, false, cond, min, Option, None, Some, refl}
 use Rattle.sqlite.specs.Cast.{cast}
 use Rattle.sqlite.specs.declared.types.Value.{Value}
 use Rattle.sqlite.specs.declared.types.Value.TheVariants.{Null, Int}
@@ -11,7 +11,7 @@ use Rattle.dr_ledger.specs.declared.item.Outcome.{Outcome}
 use Rattle.dr_ledger.specs.declared.item.Outcome.TheVariants as outcome
 use Rattle.dr_ledger.specs.declared.item.Progress.{Progress}
 use Rattle.dr_ledger.specs.declared.item.Progress.TheVariants.{Waiting, Held, Done, Dropped}
-use Rattle.dr_store_schema.specs.Cells.{outcome_value, why_of}
+use Rattle.dr_store_schema.specs.Cells.{moment_value, outcome_value, why_of}
 
 either : (b : Bool) (x : Value) → cond b x x ≡ x
 either true x = refl
@@ -37,6 +37,10 @@ cast_outcome (outcome.Status status) = cast_int (pos status)
 cast_outcome outcome.Broken = cast_null
 cast_outcome outcome.NoContext = cast_int (negsuc 0)
 
+pub cast_moment : (moment : Option ℕ) → cast Integer (moment_value moment) ≡ moment_value moment
+cast_moment None = cast_null
+cast_moment (Some now) = cast_int (pos (min now (2 ^ 62)))
+
 pub bound_why : (p : Progress) → bound_value (why_of p) ≡ why_of p
 bound_why (Waiting tries due) = refl
 bound_why (Held (cause.Status status)) = refl
@@ -48,3 +52,7 @@ pub bound_outcome : (what : Outcome) → bound_value (outcome_value what) ≡ ou
 bound_outcome (outcome.Status status) = refl
 bound_outcome outcome.Broken = refl
 bound_outcome outcome.NoContext = refl
+
+pub bound_moment : (moment : Option ℕ) → bound_value (moment_value moment) ≡ moment_value moment
+bound_moment None = refl
+bound_moment (Some now) = refl

@@ -61,7 +61,7 @@ abbrev nothing_came : List Term
 nothing_came = lit Null ∷ lit Null ∷ lit Null ∷ lit Null ∷ lit Null ∷ lit Null ∷ []
 
 abbrev pub arrived_terms : List Term
-arrived_terms = col 0 0 ∷ lit Null ∷ col 0 1 ∷ col 0 2 ∷ col 0 3 ∷ lit Null ∷ col 0 1 ∷ lit Null ∷ col 0 4 ∷ col 0 5 ∷ col 0 6 ∷ col 0 7 ∷ col 0 8 ∷ col 0 9 ∷ []
+arrived_terms = col 0 0 ∷ lit Null ∷ col 0 1 ∷ col 0 2 ∷ col 0 3 ∷ lit Null ∷ col 0 1 ∷ col 0 4 ∷ col 0 5 ∷ col 0 6 ∷ col 0 7 ∷ col 0 8 ∷ col 0 9 ∷ col 0 10 ∷ []
 
 pub insert_arrived : Is text.insert_arrived (Insert 6 (Values arrived_terms 14))
 unfolding understood everything
@@ -75,7 +75,7 @@ unfolding understood everything
 insert_settled = (refl, (refl, refl))
 
 abbrev pub requeued_terms : List Term
-requeued_terms = col 0 0 ∷ lit Null ∷ lit (Int (pos 3)) ∷ lit Null ∷ col 0 1 ∷ col 0 2 ∷ lit Null ∷ lit Null ∷ nothing_came
+requeued_terms = col 0 0 ∷ lit Null ∷ lit (Int (pos 3)) ∷ lit Null ∷ col 0 1 ∷ col 0 2 ∷ lit Null ∷ col 0 3 ∷ nothing_came
 
 pub insert_requeued : Is text.insert_requeued (Insert 6 (Values requeued_terms 14))
 unfolding understood everything
@@ -89,14 +89,14 @@ unfolding understood everything
 insert_dropped = (refl, (refl, refl))
 
 abbrev pub adopted_terms : List Term
-adopted_terms = col 0 0 ∷ lit Null ∷ lit (Int (pos 4)) ∷ lit Null ∷ lit Null ∷ lit Null ∷ lit Null ∷ lit Null ∷ nothing_came
+adopted_terms = col 0 0 ∷ lit Null ∷ lit (Int (pos 4)) ∷ lit Null ∷ lit Null ∷ lit Null ∷ lit Null ∷ col 0 1 ∷ nothing_came
 
 pub insert_adopted : Is text.insert_adopted (Insert 6 (Values adopted_terms 14))
 unfolding understood everything
 insert_adopted = (refl, (refl, refl))
 
 abbrev pub forgotten_terms : List Term
-forgotten_terms = col 0 0 ∷ lit Null ∷ lit (Int (pos 5)) ∷ lit Null ∷ col 0 1 ∷ lit Null ∷ lit Null ∷ lit Null ∷ nothing_came
+forgotten_terms = col 0 0 ∷ lit Null ∷ lit (Int (pos 5)) ∷ lit Null ∷ col 0 1 ∷ lit Null ∷ lit Null ∷ col 0 2 ∷ nothing_came
 
 pub insert_forgotten : Is text.insert_forgotten (Insert 6 (Values forgotten_terms 14))
 unfolding understood everything

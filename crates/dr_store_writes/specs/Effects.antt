@@ -1,6 +1,6 @@
 -- What each statement of a ledger makes of its tables, inside a transaction.
 use Rattle.std.specs.Prelude.{◌≡◌, ◌≢◌, ℕ, ℤ, pos, Bool, false, filter, IsTrue, List, [], ◌∷◌}
-use Rattle.std.specs.Prelude.{IsSome, OnOk, Result}
+use Rattle.std.specs.Prelude.{IsSome, OnOk, Option, Result}
 use Rattle.std.specs.FinMap as map
 use Rattle.std.specs.FinMap.{FinMap}
 use Rattle.sqlite.specs.declared.types.Value.TheVariants.{Null, Int, Text, Blob}
@@ -17,7 +17,7 @@ use Rattle.dr_ledger.specs.Books.{is_other, not_over}
 use Rattle.dr_ledger.specs.Pairs.{Pair}
 use Rattle.dr_route.specs.declared.key.Key.{Key}
 use Rattle.dr_store_schema.specs.Books.{Print, contents_in, items_in, prints_in, rows_in, wholes_in}
-use Rattle.dr_store_schema.specs.Cells.{mark_of, outcome_value, text_in}
+use Rattle.dr_store_schema.specs.Cells.{mark_of, moment_value, outcome_value, text_in}
 use Rattle.dr_store_schema.specs.Ledgers.{IsLedger}
 
 -- the transaction goes on over a ledger's tables, and nothing is committed
@@ -94,7 +94,7 @@ target_cells n dest = Int (pos n) ∷ Text dest ∷ []
 abbrev pub site_row : texts.Text → List ℕ → Row
 site_row node plan = Int (pos 1) ∷ Null ∷ Text node ∷ Blob plan ∷ []
 
--- ---- the lines of the journal
+-- ---- the lines of the journal, each with its number and its moment, where one was told
 
 -- what rules read of an instance, and its data set's length and SHA-256
 abbrev pub instance_cells : Instance → Row
@@ -107,31 +107,34 @@ abbrev pub no_instance : Row
 no_instance = Null ∷ Null ∷ Null ∷ Null ∷ Null ∷ Null ∷ []
 
 -- kind 0 is a first arrival, 1 a repeat
-abbrev pub arrived_line : ℕ → ℕ → texts.Text → Instance → Row
-arrived_line n kind caller item =
+abbrev pub arrived_line : ℕ → Option ℕ → ℕ → texts.Text → Instance → Row
+arrived_line n moment kind caller item =
     Int (pos n) ∷ Null ∷ Int (pos kind) ∷ Text caller ∷ Text item.uid ∷ Null ∷ Int (pos kind)
-    ∷ Null ∷ instance_cells item
+    ∷ moment_value moment ∷ instance_cells item
 
 abbrev pub settled_line : ℕ → texts.Text → texts.Text → Outcome → ℕ → Row
 settled_line n uid dest what now =
     Int (pos n) ∷ Null ∷ Int (pos 2) ∷ Null ∷ Text uid ∷ Text dest ∷ outcome_value what
     ∷ Int (pos now) ∷ no_instance
 
-abbrev pub requeued_line : ℕ → texts.Text → texts.Text → Row
-requeued_line n uid dest =
-    Int (pos n) ∷ Null ∷ Int (pos 3) ∷ Null ∷ Text uid ∷ Text dest ∷ Null ∷ Null ∷ no_instance
+abbrev pub requeued_line : ℕ → Option ℕ → texts.Text → texts.Text → Row
+requeued_line n moment uid dest =
+    Int (pos n) ∷ Null ∷ Int (pos 3) ∷ Null ∷ Text uid ∷ Text dest ∷ Null ∷ moment_value moment
+    ∷ no_instance
 
 abbrev pub dropped_line : ℕ → texts.Text → texts.Text → ℕ → Row
 dropped_line n uid dest now =
     Int (pos n) ∷ Null ∷ Int (pos 6) ∷ Null ∷ Text uid ∷ Text dest ∷ Null ∷ Int (pos now)
     ∷ no_instance
 
-abbrev pub adopted_line : ℕ → Row
-adopted_line n = Int (pos n) ∷ Null ∷ Int (pos 4) ∷ Null ∷ Null ∷ Null ∷ Null ∷ Null ∷ no_instance
+abbrev pub adopted_line : ℕ → Option ℕ → Row
+adopted_line n moment =
+    Int (pos n) ∷ Null ∷ Int (pos 4) ∷ Null ∷ Null ∷ Null ∷ Null ∷ moment_value moment ∷ no_instance
 
-abbrev pub forgotten_line : ℕ → texts.Text → Row
-forgotten_line n uid =
-    Int (pos n) ∷ Null ∷ Int (pos 5) ∷ Null ∷ Text uid ∷ Null ∷ Null ∷ Null ∷ no_instance
+abbrev pub forgotten_line : ℕ → Option ℕ → texts.Text → Row
+forgotten_line n moment uid =
+    Int (pos n) ∷ Null ∷ Int (pos 5) ∷ Null ∷ Text uid ∷ Null ∷ Null ∷ moment_value moment
+    ∷ no_instance
 
 -- ---- rows that change or leave
 

@@ -8,7 +8,7 @@ ghost use Rattle.dr_store_writes.specs.Effects.{item_row, kept_cells, new_cells,
 ghost use Rattle.dr_store_writes.specs.Effects.{requeued_line};
 ghost use Rattle.dr_store_writes.specs.Effects.{settled_line, site_row, target_cells};
 
-use crate::cells::{number_cell, outcome_cell, syntax_cell};
+use crate::cells::{moment_cell, number_cell, outcome_cell, syntax_cell};
 use crate::running::run;
 use dr_base::Text;
 use dr_ledger::{Instance, Outcome};
@@ -157,10 +157,12 @@ pub fn add_target<'x, S: Alter>(
     )
 }
 
-/// The line of an arrival, with what came: kind 0 is a first one, 1 a repeat.
+/// The line of an arrival at a moment (milliseconds), if one is known, with what came: kind 0 is a
+/// first one, 1 a repeat.
 pub fn add_arrived<'x, S: Alter>(
     tx: &mut Transaction<'_, S>,
     n: u64,
+    moment: Option<u64>,
     kind: u64,
     caller: &'x Text,
     item: &'x Instance,
@@ -171,17 +173,18 @@ pub fn add_arrived<'x, S: Alter>(
     ensures same_reference { tx.new.conn.ghost_name ≡ tx.old.conn.ghost_name }
     ensures step { StatementStep result (state S.Store tx.old.conn.now)
         (state S.Store tx.new.conn.now)
-        (AddsRow 11 (arrived_line n kind caller.now item.now) (state S.Store tx.old.conn.now)
+        (AddsRow 11 (arrived_line n moment kind caller.now item.now) (state S.Store tx.old.conn.now)
         (state S.Store tx.new.conn.now)) }
 {
     run(
         tx,
-        "INSERT INTO journal (n, kind, caller, uid, dest, outcome, moment, class, syntax, modality, station, length, sha256) VALUES (?1, ?2, ?3, ?4, NULL, ?2, NULL, ?5, ?6, ?7, ?8, ?9, ?10)",
+        "INSERT INTO journal (n, kind, caller, uid, dest, outcome, moment, class, syntax, modality, station, length, sha256) VALUES (?1, ?2, ?3, ?4, NULL, ?2, ?5, ?6, ?7, ?8, ?9, ?10, ?11)",
         &[
             number_cell(n),
             number_cell(kind),
             ValueRef::Text(caller.as_bytes()),
             ValueRef::Text(item.uid.as_bytes()),
+            moment_cell(moment),
             ValueRef::Text(item.key.class.as_bytes()),
             syntax_cell(item.key.syntax),
             ValueRef::Blob(item.key.modality.as_bytes()),
@@ -222,10 +225,11 @@ pub fn add_settled<'x, S: Alter>(
     )
 }
 
-/// The line of a requeuing.
+/// The line of a requeuing at a moment (milliseconds), if one is known.
 pub fn add_requeued<'x, S: Alter>(
     tx: &mut Transaction<'_, S>,
     n: u64,
+    moment: Option<u64>,
     uid: &'x Text,
     dest: &'x Text,
 ) -> Result<usize, Error>
@@ -233,16 +237,17 @@ pub fn add_requeued<'x, S: Alter>(
     ensures same_reference { tx.new.conn.ghost_name ≡ tx.old.conn.ghost_name }
     ensures step { StatementStep result (state S.Store tx.old.conn.now)
         (state S.Store tx.new.conn.now)
-        (AddsRow 11 (requeued_line n uid.now dest.now) (state S.Store tx.old.conn.now)
+        (AddsRow 11 (requeued_line n moment uid.now dest.now) (state S.Store tx.old.conn.now)
         (state S.Store tx.new.conn.now)) }
 {
     run(
         tx,
-        "INSERT INTO journal (n, kind, caller, uid, dest, outcome, moment) VALUES (?1, 3, NULL, ?2, ?3, NULL, NULL)",
+        "INSERT INTO journal (n, kind, caller, uid, dest, outcome, moment) VALUES (?1, 3, NULL, ?2, ?3, NULL, ?4)",
         &[
             number_cell(n),
             ValueRef::Text(uid.as_bytes()),
             ValueRef::Text(dest.as_bytes()),
+            moment_cell(moment),
         ],
     )
 }
@@ -275,39 +280,48 @@ pub fn add_dropped<'x, S: Alter>(
     )
 }
 
-/// The line of an adoption.
-pub fn add_adopted<S: Alter>(tx: &mut Transaction<'_, S>, n: u64) -> Result<usize, Error>
+/// The line of an adoption at a moment (milliseconds), if one is known.
+pub fn add_adopted<S: Alter>(
+    tx: &mut Transaction<'_, S>,
+    n: u64,
+    moment: Option<u64>,
+) -> Result<usize, Error>
     requires { n ≤ 2 ^ 62 }
     ensures same_reference { tx.new.conn.ghost_name ≡ tx.old.conn.ghost_name }
     ensures step { StatementStep result (state S.Store tx.old.conn.now)
         (state S.Store tx.new.conn.now)
-        (AddsRow 11 (adopted_line n) (state S.Store tx.old.conn.now)
+        (AddsRow 11 (adopted_line n moment) (state S.Store tx.old.conn.now)
         (state S.Store tx.new.conn.now)) }
 {
     run(
         tx,
-        "INSERT INTO journal (n, kind, caller, uid, dest, outcome, moment) VALUES (?1, 4, NULL, NULL, NULL, NULL, NULL)",
-        &[number_cell(n)],
+        "INSERT INTO journal (n, kind, caller, uid, dest, outcome, moment) VALUES (?1, 4, NULL, NULL, NULL, NULL, ?2)",
+        &[number_cell(n), moment_cell(moment)],
     )
 }
 
-/// The line of a forgetting.
+/// The line of a forgetting at a moment (milliseconds), if one is known.
 pub fn add_forgotten<'x, S: Alter>(
     tx: &mut Transaction<'_, S>,
     n: u64,
+    moment: Option<u64>,
     uid: &'x Text,
 ) -> Result<usize, Error>
     requires { n ≤ 2 ^ 62 }
     ensures same_reference { tx.new.conn.ghost_name ≡ tx.old.conn.ghost_name }
     ensures step { StatementStep result (state S.Store tx.old.conn.now)
         (state S.Store tx.new.conn.now)
-        (AddsRow 11 (forgotten_line n uid.now) (state S.Store tx.old.conn.now)
+        (AddsRow 11 (forgotten_line n moment uid.now) (state S.Store tx.old.conn.now)
         (state S.Store tx.new.conn.now)) }
 {
     run(
         tx,
-        "INSERT INTO journal (n, kind, caller, uid, dest, outcome, moment) VALUES (?1, 5, NULL, ?2, NULL, NULL, NULL)",
-        &[number_cell(n), ValueRef::Text(uid.as_bytes())],
+        "INSERT INTO journal (n, kind, caller, uid, dest, outcome, moment) VALUES (?1, 5, NULL, ?2, NULL, NULL, ?3)",
+        &[
+            number_cell(n),
+            ValueRef::Text(uid.as_bytes()),
+            moment_cell(moment),
+        ],
     )
 }
 

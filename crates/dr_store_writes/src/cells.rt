@@ -2,8 +2,8 @@
 ghost use Rattle.std.specs.Prelude.{◌≡◌, ◌≤◌, ◌+◌, ◌^◌, pos};
 ghost use Rattle.sqlite_value.specs.Value.{owned};
 ghost use Rattle.sqlite.specs.declared.types.Value.TheVariants.{Int, Text as TextCell};
-ghost use Rattle.dr_store_schema.specs.Cells.{due_of, mark_of, outcome_value, state_of, tries_of};
-ghost use Rattle.dr_store_schema.specs.Cells.{why_of};
+ghost use Rattle.dr_store_schema.specs.Cells.{due_of, mark_of, moment_value, outcome_value};
+ghost use Rattle.dr_store_schema.specs.Cells.{state_of, tries_of, why_of};
 
 use dr_base::Syntax;
 use dr_ledger::{Cause, Outcome, Progress};
@@ -15,6 +15,19 @@ pub fn number_cell(n: u64) -> ValueRef<'static>
     ensures { owned result ≡ Int (pos n) }
 {
     ValueRef::Int(n as i64)
+}
+
+/// The last moment that is told from those behind it.
+const LAST_MOMENT: u64 = 1 << 62;
+
+/// A moment (milliseconds), if one is known.
+pub fn moment_cell(moment: Option<u64>) -> ValueRef<'static>
+    ensures { owned result ≡ moment_value moment }
+{
+    match moment {
+        Some(now) => number_cell(now.min(LAST_MOMENT)),
+        None => ValueRef::Null,
+    }
 }
 
 /// A transfer syntax as its mark.

@@ -9,10 +9,10 @@ ghost use Rattle.dr_word_line.specs.declared.words.Task.TheVariants as asks;
 ghost use Rattle.dr_word_route.specs.Tasks.{DoesOnPlans};
 
 use dr_ledger_journal::TellsJournal;
+use dr_run_backup::Backups;
 use dr_run_files::{Failure, Files};
 use dr_run_net::Network;
 use dr_run_open::Status;
-use dr_run_report::Paths;
 use dr_run_serve::{Ending, OwnPort, Tallied};
 use dr_run_token::Tokens;
 use dr_session::{Clock, DeskPort};
@@ -103,7 +103,7 @@ fn run_any<
     R: Read,
     W: Write,
     E: Write,
-    F: Files + Paths + Tokens + Sync,
+    F: Files + Backups + Tokens + Sync,
     O: Finds,
     N: Network + Sync,
     C: Clock + Sync,
@@ -183,7 +183,7 @@ pub fn run_words<
     R: Read,
     W: Write,
     E: Write,
-    F: Files + Paths + Tokens + Sync,
+    F: Files + Backups + Tokens + Sync,
     O: Finds,
     N: Network + Sync,
     C: Clock + Sync,

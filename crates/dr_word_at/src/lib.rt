@@ -1,5 +1,5 @@
-//! The words `list`, `requeue`, `drop`, `forget` and `stop` at a node that runs: clients of its
-//! control connection (`serve --control`).
+//! The words `list`, `requeue`, `drop`, `forget`, `visit`, `backup` and `stop` at a node that runs:
+//! clients of its control connection (`serve --control`).
 //!
 //! `ask_files` does them over files, tokens and a network. What a node is asked and told by a word,
 //! over anything that asks (`dr_run_ask`), is said by `run_errand` in `doing`.

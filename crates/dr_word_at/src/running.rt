@@ -22,8 +22,11 @@ pub fn status_of(fault: AskFault) -> Status
     ensures { result ≡ status_of fault }
 {
     match fault {
-        AskFault::NoConnection | AskFault::NoAnswer | AskFault::NoNodesAnswer | AskFault::Store =>
-            Status::InputOutput,
+        AskFault::NoConnection
+        | AskFault::NoAnswer
+        | AskFault::NoNodesAnswer
+        | AskFault::NoCopy
+        | AskFault::Store => Status::InputOutput,
         AskFault::Shrunk
         | AskFault::OtherNode
         | AskFault::OtherPlan
@@ -34,7 +37,12 @@ pub fn status_of(fault: AskFault) -> Status
         | AskFault::Token
         | AskFault::NoHop
         | AskFault::NotHeld
-        | AskFault::NotOver => Status::Refused,
+        | AskFault::NotOver
+        | AskFault::OwnFile
+        | AskFault::IsThere
+        | AskFault::NoPath
+        | AskFault::Busy
+        | AskFault::GivenUp => Status::Refused,
         AskFault::Memory => Status::Memory,
     }
 }

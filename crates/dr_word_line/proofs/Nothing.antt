@@ -30,6 +30,7 @@ module _ (words : List (Bor (List ℕ)))
   pub no_duty : (given : NodeFiles) (duty : Duty) → IsDutyOf words given duty → ⊥
   no_duty given duties.Make h = make given h
   no_duty given duties.List h = list given h
+  no_duty given duties.ListLong h = absurd h
   no_duty given duties.Summary h = summary given h
   no_duty given (duties.RequeueAll dest) h = requeue_all given dest h
   no_duty given (duties.Requeue uid dest) h = requeue given uid dest h
@@ -47,6 +48,7 @@ module _ (words : List (Bor (List ℕ)))
     (give_up : (given : RunningNode) (uid dest : Bor (List ℕ)) → IsErrandOf words given (errands.GiveUp uid dest) → ⊥)
     (forget : (given : RunningNode) (uid : Bor (List ℕ)) → IsErrandOf words given (errands.Forget uid) → ⊥)
     (visit : (given : RunningNode) (dest : Bor (List ℕ)) → IsErrandOf words given (errands.Visit dest) → ⊥)
+    (backup : (given : RunningNode) (copy : Bor (List ℕ)) → IsErrandOf words given (errands.Backup copy) → ⊥)
     (stop : (given : RunningNode) → IsErrandOf words given errands.Stop → ⊥) where
   pub no_errand : (given : RunningNode) (errand : Errand) → IsErrandOf words given errand → ⊥
   no_errand given errands.List h = list given h
@@ -58,6 +60,7 @@ module _ (words : List (Bor (List ℕ)))
   no_errand given (errands.GiveUpFor uid dest reason) h = absurd h
   no_errand given (errands.Forget uid) h = forget given uid h
   no_errand given (errands.Visit dest) h = visit given dest h
+  no_errand given (errands.Backup copy) h = backup given copy h
   no_errand given errands.Stop h = stop given h
 
 -- nothing is asked for, where nothing of each form is

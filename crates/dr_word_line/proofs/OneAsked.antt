@@ -77,7 +77,8 @@ of_eight word a b c d e f g =
 -- what nine words tell a running node
 abbrev of_nine : List ℕ → RunningNode → Word → Task
 of_nine word given h =
-    cond (initial word == 118) (asks.AtRunning given (errands.Visit h)) (asks.AtRunning given (errands.Forget h))
+    cond (initial word == 118) (asks.AtRunning given (errands.Visit h))
+    (cond (initial word == 98) (asks.AtRunning given (errands.Backup h)) (asks.AtRunning given (errands.Forget h)))
 
 -- what a running node is told of a row, by the word or by the option
 abbrev of_rows : List ℕ → RunningNode → Word → Word → Task
@@ -172,6 +173,7 @@ module _ (words : List Word) where
       subst (λ s. meant words ≡ asks.AtNode given (duties.Serve s)) (sym h.1)
       (subst (Means (asks.AtNode given (duties.Serve plain_serving))) (sym h.0.1)
       (subst (λ n. of_five n given.plan given.certificate given.node given.ledger ≡ asks.AtNode given (duties.Serve plain_serving)) (sym h.0.2) refl))
+  is_meant (asks.AtNode given duties.ListLong) h = absurd h
   is_meant (asks.AtNode given duties.Summary) h =
       subst (Means (asks.AtNode given duties.Summary)) (sym h.1.1)
       (at_ledger_6 h.1.0.now given h.0 h.1.5 (subst (λ n. of_six n given h.0 ≡ asks.AtNode given duties.Summary) (sym h.1.2) refl))
@@ -216,6 +218,12 @@ module _ (words : List Word) where
       (sym h.0.5)
       (subst (Means (asks.AtRunning (running given.plan given.certificate given.node given.at (Some h.0.1)) (errands.Visit dest))) (sym h.0.2.2)
       (subst (λ n. of_nine n (running given.plan given.certificate given.node given.at (Some h.0.1)) dest ≡ asks.AtRunning (running given.plan given.certificate given.node given.at (Some h.0.1)) (errands.Visit dest))
+      (sym h.0.2.3) refl))
+  is_meant (asks.AtRunning given (errands.Backup copy)) h =
+      subst (λ (token : Option Word). meant words ≡ asks.AtRunning (running given.plan given.certificate given.node given.at token) (errands.Backup copy))
+      (sym h.0.5)
+      (subst (Means (asks.AtRunning (running given.plan given.certificate given.node given.at (Some h.0.1)) (errands.Backup copy))) (sym h.0.2.2)
+      (subst (λ n. of_nine n (running given.plan given.certificate given.node given.at (Some h.0.1)) copy ≡ asks.AtRunning (running given.plan given.certificate given.node given.at (Some h.0.1)) (errands.Backup copy))
       (sym h.0.2.3) refl))
   is_meant (asks.AtRunning given (errands.GiveUpFor uid dest reason)) h = absurd h
   is_meant (asks.AtRunning given (errands.GiveUp uid dest)) h =

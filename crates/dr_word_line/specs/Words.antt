@@ -14,7 +14,8 @@ use Rattle.dr_word_line.specs.declared.words.Task.TheVariants.{CheckInputAsJson,
 use Rattle.dr_word_line.specs.declared.words.Task.TheVariants.{CheckAllOfInput, CheckAllOfFile}
 use Rattle.dr_word_line.specs.declared.words.Task.TheVariants.{QuestionAsJson}
 use Rattle.dr_word_line.specs.declared.words.Duty.{Duty}
-use Rattle.dr_word_line.specs.declared.words.Duty.TheVariants.{List as ToList, Summary, Requeue}
+use Rattle.dr_word_line.specs.declared.words.Duty.TheVariants.{List as ToList, ListLong, Summary}
+use Rattle.dr_word_line.specs.declared.words.Duty.TheVariants.{Requeue}
 use Rattle.dr_word_line.specs.declared.words.Duty.TheVariants.{RequeueAll, GiveUp, Forget, Make}
 use Rattle.dr_word_line.specs.declared.words.Duty.TheVariants.{Send, Serve}
 use Rattle.dr_word_line.specs.declared.words.Errand.{Errand}
@@ -253,11 +254,12 @@ plain_serving = record {
   control = None;
 }
 
--- the words ask this of the node with these files; other ways of serving are asked for by options,
--- of which nothing is said here
+-- the words ask this of the node with these files; a long list and other ways of serving are asked
+-- for by options, of which nothing is said here
 abbrev pub IsDutyOf : List (Bor (List ℕ)) → NodeFiles → Duty → Type 0
 IsDutyOf words given Make = IsMakeOf words given
 IsDutyOf words given ToList = IsListOf words given
+IsDutyOf words given ListLong = ⊥
 IsDutyOf words given Summary = IsSummaryOf words given
 IsDutyOf words given (Requeue uid dest) = IsRequeueOf words given uid dest
 IsDutyOf words given (RequeueAll dest) = IsRequeueAllOf words given dest
@@ -310,6 +312,8 @@ IsErrandOf words given (errands.Forget uid) =
     IsToRunning (codes "forget") words given (uid ∷ []) × IsNoOption uid.now
 IsErrandOf words given (errands.Visit dest) =
     IsToRunning (codes "visit") words given (dest ∷ []) × IsNoOption dest.now
+IsErrandOf words given (errands.Backup copy) =
+    IsToRunning (codes "backup") words given (copy ∷ []) × IsNoOption copy.now
 IsErrandOf words given errands.Stop = IsToRunning (codes "stop") words given []
 
 -- the word adopt, the paths of a plan and its certificate, those of the next plan and its

@@ -20,6 +20,7 @@ pub(crate) enum Choice {
     DryRun,
     Fails,
     Summary,
+    Long,
     IfHeld,
     At,
     AtNeeded,
@@ -30,6 +31,7 @@ pub(crate) enum Choice {
     Uid,
     Next,
     Visited,
+    Copy,
     Reason,
     Other,
     AllHeld,
@@ -63,6 +65,7 @@ impl<'a> Makes<Arg<'a>> for Choice {
             Choice::DryRun => Ok(dry_run(alloc)),
             Choice::Fails => Ok(fails(alloc)),
             Choice::Summary => Ok(summary(alloc)),
+            Choice::Long => long(alloc),
             Choice::IfHeld => if_held(alloc),
             Choice::At => Ok(at(alloc)),
             Choice::AtNeeded => Ok(at(alloc).required(true)),
@@ -73,6 +76,7 @@ impl<'a> Makes<Arg<'a>> for Choice {
             Choice::Uid => Ok(needed(alloc, "UID", "the SOP instance UID")),
             Choice::Next => Ok(needed(alloc, "DEST", "the node to which it is not to be sent")),
             Choice::Visited => Ok(needed(alloc, "DEST", "the node to which it is to send")),
+            Choice::Copy => Ok(copy(alloc)),
             Choice::Reason => reason(alloc),
             Choice::Other => Ok(other(alloc)),
             Choice::AllHeld => all_held(alloc),
@@ -168,6 +172,16 @@ fn summary<'a>(alloc: Global) -> Arg<'a> {
         .help("prints how many there are instead")
 }
 
+/// The option of `list` for names of classes and for dates.
+fn long<'a>(alloc: Global) -> Result<Arg<'a>, AllocError> {
+    Arg::new(alloc, "LONG")
+        .long("long")
+        .action(ArgAction::SetTrue)
+        .help("prints names of classes and dates too")
+        .conflicts_with("SUMMARY")?
+        .conflicts_with("AT")
+}
+
 /// The option of `list` for a no where a row is held.
 fn if_held<'a>(alloc: Global) -> Result<Arg<'a>, AllocError> {
     Arg::new(alloc, "IFHELD")
@@ -204,6 +218,15 @@ fn at_token<'a>(alloc: Global) -> Result<Arg<'a>, AllocError> {
         .value_name("FILE")
         .help("with --at: the file with the token, which nobody but its owner may read")
         .requires_arg("AT")
+}
+
+/// Where a ledger is copied to.
+fn copy<'a>(alloc: Global) -> Arg<'a> {
+    needed(
+        alloc,
+        "COPY",
+        "the path of the copy on the node's machine, from the root; nothing may be there",
+    )
 }
 
 /// Why a row is given up.

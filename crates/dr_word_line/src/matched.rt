@@ -175,6 +175,7 @@ fn duty_of<'a>(name: &str, given: &ArgMatches<'a>) -> Option<Duty<'a>> {
     match name {
         "new" => Some(Duty::Make),
         "list" if given.get_flag("SUMMARY") => Some(Duty::Summary),
+        "list" if given.get_flag("LONG") => Some(Duty::ListLong),
         "list" => Some(Duty::List),
         "requeue" => Some(requeue_of(given)),
         "drop" => Some(Duty::GiveUp(uid_of(given), dest_of(given))),
@@ -259,6 +260,7 @@ fn errand_of<'a>(name: &str, given: &ArgMatches<'a>) -> Errand<'a> {
         },
         "forget" => Errand::Forget(uid_of(given)),
         "visit" => Errand::Visit(dest_of(given)),
+        "backup" => Errand::Backup(given.get_str("COPY").unwrap_or("")),
         _ => Errand::Stop,
     }
 }

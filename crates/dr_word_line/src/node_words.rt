@@ -13,7 +13,13 @@ pub(crate) fn list<'a>(alloc: Global, values: &[Value<'a>]) -> Result<Command<'a
         "list",
         about,
         values,
-        &[Choice::Summary, Choice::IfHeld, Choice::At, Choice::AtToken],
+        &[
+            Choice::Summary,
+            Choice::Long,
+            Choice::IfHeld,
+            Choice::At,
+            Choice::AtToken,
+        ],
     )
 }
 
@@ -80,6 +86,18 @@ pub(crate) fn visit<'a>(alloc: Global) -> Result<Command<'a>, AllocError> {
         about,
         RUNNING,
         &[Choice::Visited, Choice::AtNeeded, Choice::AtToken],
+    )
+}
+
+/// The word `backup`.
+pub(crate) fn backup<'a>(alloc: Global) -> Result<Command<'a>, AllocError> {
+    let about = "Copies the ledger of a node that runs, which goes on";
+    word(
+        alloc,
+        "backup",
+        about,
+        RUNNING,
+        &[Choice::Copy, Choice::AtNeeded, Choice::AtToken],
     )
 }
 

@@ -149,6 +149,8 @@ pub enum Duty<'a> {
     Make,
     /// To print what it has.
     List,
+    /// The same with names of classes and with dates.
+    ListLong,
     /// To print how much it has.
     Summary,
     /// To queue again the held row of the instance of this UID to that node.
@@ -198,6 +200,8 @@ pub enum Errand<'a> {
     Forget(&'a str),
     /// To visit that node now.
     Visit(&'a str),
+    /// To copy its ledger to a file of that path.
+    Backup(&'a str),
     /// To end in order.
     Stop,
 }

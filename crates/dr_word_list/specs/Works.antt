@@ -54,6 +54,12 @@ module _ {L : Type 0} (HoldsPlan HoldsCertificate : Text → Type 0) (MayOpen : 
   Lists (Err (Refused fault)) = AtNode (λ old new. stands new → book new ≡ book old)
   Lists (Err halt) = HaltsAs HoldsPlan HoldsCertificate name halt
 
+  -- `list --long`: the node's book stays as it is, whatever is printed; or why nothing is
+  abbrev pub ListsLong : Result Text Halt → Type 0
+  ListsLong (Ok report) = AtNode (λ old new. stands new → book new ≡ book old)
+  ListsLong (Err (Refused fault)) = AtNode (λ old new. stands new → book new ≡ book old)
+  ListsLong (Err halt) = HaltsAs HoldsPlan HoldsCertificate name halt
+
   -- `requeue`: the row waits again, and that is printed; or the ledger's refusal, after which the
   -- book is as it was; or why it doesn't come to that
   abbrev pub Requeued : Text → Text → Result Text Halt → Type 0

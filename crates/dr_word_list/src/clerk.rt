@@ -5,7 +5,7 @@ ghost use Rattle.dr_run_open.specs.Ends.{Ends};
 ghost use Rattle.dr_run_open.specs.declared.halt.Halt.{Halt as HaltValue};
 ghost use Rattle.dr_word_list.specs.Requeuings.{RequeuedAll};
 ghost use Rattle.dr_word_list.specs.Summaries.{Summarizes};
-ghost use Rattle.dr_word_list.specs.Works.{Forgot, GaveUp, Lists, Made, Requeued};
+ghost use Rattle.dr_word_list.specs.Works.{Forgot, GaveUp, Lists, ListsLong, Made, Requeued};
 
 use crate::dropping::GivenUp;
 use crate::requeuing::HeldRow;
@@ -67,6 +67,21 @@ impl<F: Files, O: Ledgers, W: Write, E: Write> LedgerClerk<'_, F, O, W, E> {
             × Ends came (W.contents self.entry.output.now) (W.contents self.exit.0.now) status) }
     {
         let came = self.registry.list(alloc, given);
+        self.end(came)
+    }
+
+    /// Prints the long report of a node, whose plan, certificate and ledger are in these files.
+    ///
+    /// Errors: Stream, File.
+    pub fn list_long<'a>(self, alloc: Global, given: NodeFiles<'a>) -> Result<Status, Failure<'a>>
+        ensures { IfOk result (λ status. (came : Result Words HaltValue)
+            × ListsLong (F.holds self.entry.registry.files.now given.entry.plan.now)
+            (F.holds self.entry.registry.files.now given.entry.certificate.now)
+            (O.opens self.entry.registry.ledgers.now given.entry.ledger.now)
+            O.Ledger.site O.Ledger.book O.Ledger.stands given.entry.node.now came
+            × Ends came (W.contents self.entry.output.now) (W.contents self.exit.0.now) status) }
+    {
+        let came = self.registry.list_long(alloc, given);
         self.end(came)
     }
 

@@ -2,11 +2,12 @@
 ghost use Rattle.std.specs.Prelude.{◌≤◌, ◌^◌};
 ghost use Rattle.dr_word_list.specs.Requeuings.{RequeuedAll};
 ghost use Rattle.dr_word_list.specs.Summaries.{Summarizes};
-ghost use Rattle.dr_word_list.specs.Works.{Forgot, GaveUp, Lists, Made, Requeued};
+ghost use Rattle.dr_word_list.specs.Works.{Forgot, GaveUp, Lists, ListsLong, Made, Requeued};
 
 use crate::dropping::{GivenUp, give_row_up};
 use crate::forgetting::forget_instance;
 use crate::listing::list_opened;
+use crate::long::list_opened_long;
 use crate::making::line_of;
 use crate::requeuing::{HeldRow, requeue_row};
 use crate::requeuing_all::requeue_held;
@@ -54,6 +55,24 @@ impl<F: Files, O: Ledgers> Registry<'_, F, O> {
     {
         let mut opened = open_node(alloc, self.files, self.ledgers, given, Making::Never)?;
         let came = list_opened(alloc, &mut opened);
+        drop(opened);
+        match came {
+            Ok(report) => Ok(report),
+            Err(fault) => Err(Halt::Refused(fault)),
+        }
+    }
+
+    /// The long report of a node.
+    ///
+    /// Errors: those of `open_node`; Refused with Store or Memory.
+    pub(crate) fn list_long<'a>(self, alloc: Global, given: NodeFiles<'a>) -> Result<Text, Halt<'a>>
+        ensures { ListsLong (F.holds self.entry.files.now given.entry.plan.now)
+            (F.holds self.entry.files.now given.entry.certificate.now)
+            (O.opens self.entry.ledgers.now given.entry.ledger.now)
+            O.Ledger.site O.Ledger.book O.Ledger.stands given.entry.node.now result }
+    {
+        let mut opened = open_node(alloc, self.files, self.ledgers, given, Making::Never)?;
+        let came = list_opened_long(alloc, &mut opened);
         drop(opened);
         match came {
             Ok(report) => Ok(report),

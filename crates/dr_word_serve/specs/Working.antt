@@ -4,7 +4,8 @@ use Rattle.std.specs.declared.option.Option.{Option}
 use Rattle.dr_base.specs.Texts.{Text}
 use Rattle.dr_run_open.specs.declared.status.Status.{Status}
 use Rattle.dr_word_line.specs.declared.words.Duty.{Duty}
-use Rattle.dr_word_line.specs.declared.words.Duty.TheVariants.{List as ToList, Summary, Requeue}
+use Rattle.dr_word_line.specs.declared.words.Duty.TheVariants.{List as ToList, ListLong, Summary}
+use Rattle.dr_word_line.specs.declared.words.Duty.TheVariants.{Requeue}
 use Rattle.dr_word_line.specs.declared.words.Duty.TheVariants.{RequeueAll, GiveUp, Forget, Make}
 use Rattle.dr_word_line.specs.declared.words.Duty.TheVariants.{Send, Serve}
 use Rattle.dr_run_files.specs.declared.node.NodeFiles.{NodeFiles}
@@ -12,7 +13,7 @@ use Rattle.dr_ledger.specs.Books.{Book}
 use Rattle.dr_run_open.specs.Ends.{Ends}
 use Rattle.dr_word_list.specs.Requeuings.{RequeuedAll}
 use Rattle.dr_word_list.specs.Summaries.{Summarizes}
-use Rattle.dr_word_list.specs.Works.{Forgot, GaveUp, Lists, Made, Requeued}
+use Rattle.dr_word_list.specs.Works.{Forgot, GaveUp, Lists, ListsLong, Made, Requeued}
 use Rattle.dr_run_open.specs.declared.halt.Halt.{Halt}
 use Rattle.dr_run_open.specs.declared.hops.NextHop.{NextHop}
 use Rattle.dr_run_serve.specs.declared.tallied.OwnPort.{OwnPort}
@@ -36,6 +37,11 @@ module _ {L : Type 0} (holds : List ℕ → Text → Type 0) (opens : List ℕ �
       (came : Result Text Halt)
       × Lists (holds given.plan.now) (holds given.certificate.now) (opens given.ledger.now) site_of
       book stands given.node.now came
+      × Ends came old new status
+  Works ListLong old new status =
+      (came : Result Text Halt)
+      × ListsLong (holds given.plan.now) (holds given.certificate.now) (opens given.ledger.now)
+      site_of book stands given.node.now came
       × Ends came old new status
   Works Summary old new status =
       (came : Result Text Halt)

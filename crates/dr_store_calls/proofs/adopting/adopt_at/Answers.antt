@@ -15,6 +15,6 @@ returns-clause-adopted g c part =
     let r = c.write_plan.result in
     let old = state g.S.Store c.args.conn.now in
     let new = state g.S.Store c.write_plan.new.conn in
-    let Wrote : List ℕ → Type 0 = λ digest. Written n HasSite (AdoptsPlan digest n) r old new in
-    written_adopted n part c.args.next.now old new (λ h. c.write_plan.ensures.idle) c.args.node.now (c.is_same.ensures.0 c.if-not-is_same.false ∙ c.name.ensures) r c.write_plan.ensures.fault
+    let Wrote : List ℕ → Type 0 = λ digest. Written n HasSite (AdoptsPlan digest n c.args.moment) r old new in
+    written_adopted n part c.args.next.now old new (λ h. c.write_plan.ensures.idle) c.args.node.now (c.is_same.ensures.0 c.if-not-is_same.false ∙ c.name.ensures) c.args.moment r c.write_plan.ensures.fault
     (subst Wrote c.digest.ensures c.write_plan.ensures.written)

@@ -10,7 +10,7 @@ use Rattle.dr_store_changes.proofs.moving.requeue.Goals as goal
 pub returns-clause-step : goal.returns-clause-step
 returns-clause-step g c =
     let at : Pair = (c.args.uid.now, c.args.dest.now) in
-    let line : Row = requeued_line c.args.n c.args.uid.now c.args.dest.now in
+    let line : Row = requeued_line c.args.n c.args.moment c.args.uid.now c.args.dest.now in
     let old = state g.S.Store c.args.tx.now.conn.now in
     let mid = state g.S.Store c.set_row.new.tx.conn.now in
     let new = state g.S.Store c.add_requeued.new.tx.conn.now in

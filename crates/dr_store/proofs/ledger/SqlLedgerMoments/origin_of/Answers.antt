@@ -1,0 +1,43 @@
+use Rattle.std.proofs.Common.{Option, refl}
+use Rattle.sqlite.specs.Held.{state}
+use Rattle.sqlite.specs.Tree.{Trees}
+use Rattle.dr_ledger_views.specs.declared.moments.Origin.{Origin}
+use Rattle.dr_store_reads.proofs.Outcomes.{shown_as}
+use Rattle.dr_store_calls.proofs.Calls.{asked_looked}
+use Rattle.dr_store.proofs.Writes.{looked_books, looked_kept, looked_lasting, looked_reads, looked_safe}
+use Rattle.dr_store.proofs.ledger.SqlLedgerMoments.origin_of.Goals as goal
+
+pub invariant_of-self : goal.invariant_of-self
+invariant_of-self g c =
+    let n = c.args.self.now.next in
+    let part = c.args.self.now.site in
+    let r = c.origin_of-answer.result in
+    let old = state g.S.Store c.args.self.now.conn in
+    let new = state g.S.Store c.origin_of-answer.new.conn in
+    let Shows : Trees → Option Origin → Type 0 = λ base origin. Unit {0} in
+    let looked = asked_looked n part r old new Shows (shown_as r (λ has. has) (λ has origin shown. tt) c.origin_of-answer.ensures.asked) in
+    record {
+      idle = c.origin_of-answer.ensures.asked.idle c.args.self.now.idle;
+      kept = looked_kept n part r old new Shows c.args.self.now.kept looked;
+    }
+
+-- by hand: the search loses itself in what the trait asks
+pub returns : goal.returns
+returns g c =
+    let n = c.args.self.now.next in
+    let part = c.args.self.now.site in
+    let r = c.origin_of-answer.result in
+    let old = state g.S.Store c.args.self.now.conn in
+    let new = state g.S.Store c.origin_of-answer.new.conn in
+    let Shows : Trees → Option Origin → Type 0 = λ base origin. Unit {0} in
+    let looked = asked_looked n part r old new Shows (shown_as r (λ has. has) (λ has origin shown. tt) c.origin_of-answer.ensures.asked) in
+    let kept = c.args.self.now.kept in
+    record {
+      reply = λ safe. looked_reads n part r old new Shows kept looked (λ origin some. tt) safe.0;
+      same = λ safe. looked_books n part r old new Shows kept looked (g.B.Shelf.body_of c.args.self.now.shelf) safe.0;
+      counts = c.counted-self.ensures.counts;
+      armed = refl;
+      stood = λ safe. (looked_safe n part r old new Shows kept looked safe.0, safe.1);
+      lasts = looked_lasting n part r old new Shows kept looked (g.B.Shelf.is_clean c.args.self.now.shelf);
+      site = refl;
+    }
