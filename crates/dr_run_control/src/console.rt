@@ -60,6 +60,9 @@ pub trait House {
     /// asks.
     fn lacks_rows(&self, dest: &Text) -> bool;
 
+    /// Rows to a node may wait that aren't noted.
+    fn doubt_rows(&self, dest: &Text);
+
     /// A row to a node waits, of an instance that came at that moment, or since the node serves
     /// where nobody knows. Where it is noted, the earlier moment stays.
     ///

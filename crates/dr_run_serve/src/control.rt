@@ -139,6 +139,10 @@ impl<'a, R: Wait, G: Log> House for Home<'a, R, G> {
         self.signal.take_doubt(self.rt, dest)
     }
 
+    fn doubt_rows(&self, dest: &Text) {
+        self.signal.doubt_waiting(self.rt, dest);
+    }
+
     fn note_waiting(&self, dest: &Text, uid: &Text, moment: Option<u64>) -> Result<(), AllocError> {
         let moment = moment.unwrap_or(self.since);
         self.signal.note_waiting(self.rt, dest, uid, moment)
