@@ -5,6 +5,7 @@ ghost use Rattle.dr_word_rehearse.specs.Looks.{IsFoundBy};
 ghost use Rattle.dr_router.specs.Opening.{HasLedgerIn, fault_of_database, fault_of_opening};
 
 use dr_base::Text;
+use dr_run_backup::{BackupFault, Backups, LedgerCopy, SystemBackups};
 use dr_run_files::Files;
 use dr_run_open::{Ledgers, Making, OpenFault};
 use dr_run_report::{FileId, Paths, ReportPlace, SystemPaths};
@@ -13,6 +14,7 @@ use dr_site::Site;
 use dr_store::SqlLedger;
 use dr_store_audit::{is_ours, lacking};
 use dr_store_open::{OpeningFault, ledger_on};
+use dr_store_shelf::InRow;
 use dr_word_check::Disk;
 use dr_word_rehearse::{Finds, LedgerFound};
 use sqlite::{Alter, Connection, Error, ErrorCode, File, FileStore};
@@ -60,12 +62,14 @@ impl<'a> Databases for SystemFiles<'a> {
     }
 }
 
-/// The system's files, as they are read and written by name, and asked before a report is written.
+/// The system's files, as they are read and written by name, asked before a report is written, and
+/// copied.
 #[derive(Drop)]
 pub struct SystemDisk<'a> {
     disk: Disk<'a>,
     paths: SystemPaths<'a>,
     tokens: SystemTokens<'a>,
+    copies: SystemBackups<'a>,
 }
 
 impl<'a> SystemDisk<'a> {
@@ -75,6 +79,7 @@ impl<'a> SystemDisk<'a> {
             disk: Disk::new(rt),
             paths: SystemPaths::new(rt),
             tokens: SystemTokens(rt),
+            copies: SystemBackups(rt),
         }
     }
 }
@@ -103,6 +108,17 @@ impl<'a> Paths for SystemDisk<'a> {
 
     fn file_id(&self, path: &str) -> io::Result<Option<FileId>> {
         self.paths.file_id(path)
+    }
+}
+
+impl<'a> Backups for SystemDisk<'a> {
+    fn copy_of(
+        &self,
+        alloc: Global,
+        ledger: &str,
+        path: &str,
+    ) -> Result<LedgerCopy<'_>, BackupFault> {
+        self.copies.copy_of(alloc, ledger, path)
     }
 }
 
@@ -140,7 +156,7 @@ fn ledger_over<S: Alter + Drop>(
     conn: Connection<S>,
     site: Site,
     now: Option<u64>,
-) -> Result<SqlLedger<S>, OpenFault>
+) -> Result<SqlLedger<S, InRow>, OpenFault>
     requires { conn.in_transaction ≡ false }
     ensures of { IfOk result (λ l. l.site ≡ site) }
     ensures is { IfOk result (λ l. HasLedgerIn l.site (state S.Store l.conn)) }
@@ -161,7 +177,7 @@ impl<D: Databases + Drop> Ledgers for StoredLedgers<D> {
     ghost use Rattle.sqlite.specs.Held.{state};
     ghost use Rattle.dr_router.specs.Opening.{HasLedgerIn};
 
-    type Ledger = SqlLedger<D::Store>;
+    type Ledger = SqlLedger<D::Store, InRow>;
 
     ghost opens = { λ files path ledger.
         HasLedgerIn ledger.site (state D.Store.Store ledger.conn) };
@@ -172,7 +188,7 @@ impl<D: Databases + Drop> Ledgers for StoredLedgers<D> {
         path: &str,
         site: Site,
         making: Making,
-    ) -> Result<SqlLedger<D::Store>, OpenFault> {
+    ) -> Result<SqlLedger<D::Store, InRow>, OpenFault> {
         if let Some(fault) = making.refusal(self.0.is_there(path)) {
             return Err(fault);
         }
@@ -190,7 +206,7 @@ fn found_over<S: Alter + Drop>(
     conn: Connection<S>,
     site: Site,
     now: Option<u64>,
-) -> Result<LedgerFound<SqlLedger<S>>, OpenFault>
+) -> Result<LedgerFound<SqlLedger<S, InRow>>, OpenFault>
     requires { conn.in_transaction ≡ false }
     ensures { IfOk result (IsFoundBy (λ l. HasLedgerIn l.site (state S.Store l.conn)) (λ l. l.site)
         site) }
@@ -213,7 +229,7 @@ impl<D: Databases + Drop> Finds for StoredLedgers<D> {
         alloc: Global,
         path: &str,
         site: Site,
-    ) -> Result<LedgerFound<SqlLedger<D::Store>>, OpenFault> {
+    ) -> Result<LedgerFound<SqlLedger<D::Store, InRow>>, OpenFault> {
         if !self.0.is_there(path) {
             return Ok(LedgerFound::Nothing);
         }

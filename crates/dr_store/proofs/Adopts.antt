@@ -1,5 +1,5 @@
 -- An adoption by a ledger that keeps its tables.
-use Rattle.std.proofs.Common.{◌≡◌, ℕ, Result, Ok, Some, subst}
+use Rattle.std.proofs.Common.{◌≡◌, ℕ, List, Result, Ok, Some, subst}
 use Rattle.std.specs.FinMap as map
 use Rattle.sqlite.specs.State.{State}
 use Rattle.sqlite.specs.Tree.{Trees}
@@ -15,14 +15,14 @@ use Rattle.dr_store.proofs.Writes.{Done}
 abbrev pub Adoption : Result (Unit {0}) LedgerFault → Trees → Trees → Type 0
 Adoption r base db = Adopting (book_of base) r (book_of db) × OnlyLetsGo (bodies_of base) (bodies_of db)
 
-pub adopted : (n : ℕ) (part next : Part) (r : Result (Unit {0}) LedgerFault) (old new : State) → Adopted n part next r old new Nothing → Done n (advanced r n) part (site_after r next part) r old new (Adoption r) (IsAdopted next)
-adopted n part next r old new a = record {
+pub adopted : (Uses : List ℕ → Type 0) (Stands : List ℕ → List ℕ → Type 0) (n : ℕ) (part next : Part) (r : Result (Unit {0}) LedgerFault) (old new : State) → Adopted n part next r old new Nothing → Done Uses Stands n (advanced r n) part (site_after r next part) r old new (Adoption r) (IsAdopted next)
+adopted Uses Stands n part next r old new a = record {
   clean = a.clean;
   was_open = a.was_open;
   lasts = λ clean k. a.lasts clean k tt;
   kept = λ clean is_open k. a.kept clean is_open k tt;
   answers = λ clean is_open k.
-      let it = a.answers clean is_open k tt in
+      let it = a.answers clean is_open k.kept tt in
       (it.reply, λ uid body there. let P : Bodies → Type 0 = λ bodies. map.get bodies uid ≡ Some body in subst P it.bodies there);
   crash = λ clean k db left. a.crash clean k tt db left;
 }

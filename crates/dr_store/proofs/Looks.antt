@@ -6,9 +6,12 @@ use Rattle.dr_site.specs.Parts.{Part}
 use Rattle.dr_ledger.specs.declared.fault.LedgerFault.{LedgerFault}
 use Rattle.dr_ledger.specs.declared.fault.LedgerFault.TheVariants as fault
 use Rattle.dr_ledger.specs.Replies.{LastsAfter, Reads}
+use Rattle.dr_store_shelf.specs.declared.fault.ShelfFault.{ShelfFault}
+use Rattle.dr_store_shelf.specs.declared.fault.ShelfFault.TheVariants as shelf
 use Rattle.dr_store_schema.specs.Ledgers.{IsLedger}
 use Rattle.dr_store_reads.specs.Queries.{Asked, HasTables}
 use Rattle.dr_store_calls.specs.Calling.{Called, IsLedgerOf, IsOwnFault, Looked, Nothing}
+use Rattle.dr_store_calls.specs.Shelving.{fault_of_shelf}
 use Rattle.dr_store_calls.proofs.Calls.{asked_as, asked_looked, looked_failed, looked_read, looked_then, still_called}
 use Rattle.dr_store_calls.proofs.Reading.{reads_as}
 
@@ -39,6 +42,15 @@ lasts_any (Err fault.NotOver) P p = p
 own_reads : {B : Type 0} (e : LedgerFault) (Q : B → Type 0) → IsOwnFault e → Reads (Err e) Q
 own_reads {B} e Q (inl is) = let P : LedgerFault → Type 0 = λ x. Reads {A = B} (Err x) Q in subst P (sym is) tt
 own_reads {B} e Q (inr is) = let P : LedgerFault → Type 0 = λ x. Reads {A = B} (Err x) Q in subst P (sym is) tt
+
+-- a shelf that failed
+pub shelf_reads : {B : Type 0} (why : ShelfFault) (Q : B → Type 0) → Reads (Err (fault_of_shelf why)) Q
+shelf_reads (shelf.Io error) Q = tt
+shelf_reads shelf.Memory Q = tt
+shelf_reads shelf.Unusable Q = tt
+shelf_reads shelf.Full Q = tt
+shelf_reads shelf.NoCell Q = tt
+shelf_reads shelf.Unreadable Q = tt
 
 pub failed_as : {A B : Type 0} (n : ℕ) (part : Part) (e : LedgerFault) (old new : State) (Shows : Trees → A → Type 0) (Says : Trees → B → Type 0) → Looked {A = A} n part (Err e) old new Shows → Looked {A = B} n part (Err e) old new Says
 failed_as {A} {B} n part e old new Shows Says l =

@@ -16,37 +16,43 @@ use Rattle.dr_store_schema.specs.Books.{bodies_of, book_of, contents_in, instanc
 use Rattle.dr_store_changes.specs.Bringing.{HasCells}
 use Rattle.dr_store_changes.proofs.LettingGo.{body_at}
 use Rattle.dr_store_reads.specs.Queries.{IsFirstDue, IsJobOf}
-use Rattle.dr_store.specs.Owning.{HaveOwn}
-use Rattle.dr_store.specs.Reading.{NextsStored}
+use Rattle.dr_store.specs.Owning.{AreOwn, bodies_with}
+use Rattle.dr_store.specs.Reading.{NextsRead}
+use Rattle.dr_store.specs.Standing.{body_there}
 
 the_body : (w : Bool) (o : Option (List ℕ)) (body content : List ℕ) → o ≡ Some content → cond w o None ≡ Some body → body ≡ content
 the_body true o body content is h = inside body content (sym h ∙ is)
 the_body false o body content is h = absurd (let f : ⊥ = cc in f)
 
-next_is : (db : Trees) (dest : Text) (now : ℕ) (uid : Text) (job : Job) → HasCells (book_of db) (bodies_of db) → HaveOwn db → IsFirstDue db dest now (Some uid) → IsJobOf uid db (Some job)
-    → NextsWith (book_of db) (bodies_of db) dest now (Some job)
-next_is db dest now uid job cells owns first (uid_is, has, content) =
+next_is : (Stands : List ℕ → List ℕ → Type 0) (body_of : List ℕ → List ℕ) → ((cell bytes : List ℕ) → Stands cell bytes → body_of cell ≡ bytes) → (db : Trees) (dest : Text) (now : ℕ) (uid : Text) (stored job : Job)
+    → HasCells (book_of db) (bodies_of db) → AreOwn Stands (book_of db) (bodies_of db) → IsFirstDue db dest now (Some uid) → IsJobOf uid db (Some stored) → ((bytes : List ℕ) → Stands stored.body bytes → job.body ≡ bytes) → job.uid ≡ stored.uid → job.key ≡ stored.key
+    → NextsWith (book_of db) (bodies_with body_of db) dest now (Some job)
+next_is Stands body_of only db dest now uid stored job cells owns first (stored_is, has, content) read same_uid same_key =
+    let uid_is : job.uid ≡ uid = same_uid ∙ stored_is in
     let due = first.0 in
     let row = first.1.0 in
     let needed : IsNeeded (book_of db) uid = inr (dest, Waiting row.0 due, row.1, refl) in
     let there = (cells.there uid).1 needed in
-    let body : there.0 ≡ job.body = the_body (is_whole (map.get (wholes_in (db 3)) uid)) (map.get (contents_in (db 1)) uid) there.0 job.body content (sym (body_at (contents_in (db 1)) (wholes_in (db 3)) uid) ∙ there.1) in
+    let cell : there.0 ≡ stored.body = the_body (is_whole (map.get (wholes_in (db 3)) uid)) (map.get (contents_in (db 1)) uid) there.0 stored.body content (sym (body_at (contents_in (db 1)) (wholes_in (db 3)) uid) ∙ there.1) in
     let own = owns uid there.0 there.1 in
-    let known : Instance = instance_by (prints_of db) uid job.key in
+    let body : job.body ≡ own.0.body = read own.0.body (subst (λ bytes. Stands bytes own.0.body) cell own.2) in
+    let known : Instance = instance_by (prints_of db) uid stored.key in
     let same : known ≡ instance_of own.0 = inside known (instance_of own.0) (sym has ∙ own.3) in
-    let size : length job.body ≡ known.size = ap length (sym body ∙ sym own.2) ∙ sym (ap (λ (i : Instance). i.size) same) in
-    let digest : sha256 job.body ≡ known.digest = ap sha256 (sym body ∙ sym own.2) ∙ sym (ap (λ (i : Instance). i.digest) same) in
-    let is_known : instance_of job ≡ known = λ i. record { uid = uid_is i; key = job.key; size = size i; digest = digest i } in (
+    let size : length job.body ≡ known.size = ap length body ∙ sym (ap (λ (i : Instance). i.size) same) in
+    let digest : sha256 job.body ≡ known.digest = ap sha256 body ∙ sym (ap (λ (i : Instance). i.digest) same) in
+    let is_known : instance_of job ≡ known = λ i. record { uid = uid_is i; key = same_key i; size = size i; digest = digest i } in (
       record {
         due = due;
         row = subst (λ u. IsDue (book_of db) dest now u due) (sym uid_is) first.1;
         has = ap (map.get (items_of db)) uid_is ∙ has ∙ ap Some (sym is_known);
         least = λ other moment h. subst (λ u. IsNoLater (due, u) (moment, other)) (sym uid_is) (first.2 other moment h);
       },
-      ap (map.get (bodies_of db)) uid_is ∙ there.1 ∙ ap Some body,
+      ap (map.get (bodies_with body_of db)) uid_is ∙ body_there body_of db uid there.0 there.1 ∙ ap Some (only there.0 own.0.body own.2 ∙ sym body),
     )
 
--- what was found in its row is the next instance with its data set
-pub next_of : (db : Trees) (dest : Text) (now : ℕ) (job : Option Job) → HasCells (book_of db) (bodies_of db) → HaveOwn db → NextsStored db dest now job → NextsWith (book_of db) (bodies_of db) dest now job
-next_of db dest now None cells owns none = none
-next_of db dest now (Some job) cells owns stored = next_is db dest now job.uid job cells owns stored.0 stored.1
+-- what was found in its row, and read by its cell, is the next instance with its data set
+pub next_of : (Stands : List ℕ → List ℕ → Type 0) (body_of : List ℕ → List ℕ) → ((cell bytes : List ℕ) → Stands cell bytes → body_of cell ≡ bytes) → (db : Trees) (dest : Text) (now : ℕ) (job : Option Job)
+    → HasCells (book_of db) (bodies_of db) → AreOwn Stands (book_of db) (bodies_of db) → NextsRead Stands db dest now job → NextsWith (book_of db) (bodies_with body_of db) dest now job
+next_of Stands body_of only db dest now None cells owns none = none
+next_of Stands body_of only db dest now (Some job) cells owns (stored, found, by) =
+    next_is Stands body_of only db dest now stored.uid stored job cells owns found.0 found.1 by.read (ap (λ (j : Job). j.uid) by.same) (ap (λ (j : Job). j.key) by.same)

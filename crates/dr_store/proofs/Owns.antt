@@ -1,5 +1,7 @@
--- After each call the cells stand for the book's data sets as before it.
-use Rattle.std.proofs.Common.{◌≡◌, inl, inr, ℕ, List, Some, Result, Ok, Err, sym, ap, subst, ◌∙◌}
+-- After each call the cells are in use, and stand for the book's data sets, as before it.
+use Rattle.std.proofs.Common.{◌≡◌, inl, inr, ℕ, List, Option, Some, None, option_map, Result, Ok, Err, refl, sym, ap, subst, ◌∙◌}
+use Rattle.std.specs.Cmp.Lexicographic.{nat_list_cmp_total}
+use Rattle.std.proofs.lemmas.Map.Lookups.{exact_bytes}
 use Rattle.std.specs.FinMap as map
 use Rattle.sqlite.specs.Tree.{Trees}
 use Rattle.dr_base.specs.Texts.{Text}
@@ -13,6 +15,7 @@ use Rattle.dr_ledger.specs.declared.item.Instance.{Instance}
 use Rattle.dr_ledger.specs.declared.item.Outcome.{Outcome}
 use Rattle.dr_ledger.specs.Adopting.{Adopting}
 use Rattle.dr_ledger.specs.Bodies.{Bodies, IsNeeded, OnlyLetsGo, OnlyTakes}
+use Rattle.dr_store_shelf.specs.Shelves.{KeepsCells}
 use Rattle.dr_ledger.specs.Books.{Book, Forgetting, after}
 use Rattle.dr_ledger.specs.Items.{instance_of}
 use Rattle.dr_ledger.specs.Replies.{Arrives, Drops, Forgets, IsOver, Requeues, Settles, arrival_line}
@@ -23,16 +26,27 @@ use Rattle.dr_ledger.proofs.Maps.{filled_keeps, same_or_not, texts}
 use Rattle.dr_store_schema.specs.Books.{bodies_of, book_of, items_of}
 use Rattle.dr_store_changes.specs.Bringing.{HasCells}
 use Rattle.dr_store_changes.proofs.Forgotten.{not_needed}
-use Rattle.dr_store_calls.specs.Receiving.{AnswersTo, TakesItem}
-use Rattle.dr_store.specs.Owning.{AreOwn, HaveOwn, IsCellOf}
+use Rattle.dr_store_calls.specs.Shelving.{AnswersTo, TakesItem}
+use Rattle.dr_store.specs.Owning.{AreOwn, HaveOwn, bodies_with}
+use Rattle.dr_store.specs.Standing.{body_at, body_there, cell_at}
 
 -- ---- where the items stay
 
 -- where the items stay, and no cell comes
-less : (b c : Book) (old new : Bodies) → c.items ≡ b.items → OnlyLetsGo old new → AreOwn IsCellOf b old → AreOwn IsCellOf c new
+less : {Stands : List ℕ → List ℕ → Type 0} (b c : Book) (old new : Bodies) → c.items ≡ b.items → OnlyLetsGo old new → AreOwn Stands b old → AreOwn Stands c new
 less b c old new items lets own uid cell h =
     let it = own uid cell (lets uid cell h) in
     (it.0, it.1, it.2, ap (λ m. map.get m uid) items ∙ it.3)
+
+-- no cell comes
+fewer : {Uses : List ℕ → Type 0} {Stands : List ℕ → List ℕ → Type 0} (base db : Trees) → OnlyLetsGo (bodies_of base) (bodies_of db) → (AreOwn Stands (book_of base) (bodies_of base) → AreOwn Stands (book_of db) (bodies_of db)) → HaveOwn Uses Stands base → HaveOwn Uses Stands db
+fewer base db lets owns k = record { used = λ uid cell h. k.used uid cell (lets uid cell h); own = owns k.own }
+
+-- where no cell comes, no data set does
+pub lets_go_with : (body_of : List ℕ → List ℕ) (base db : Trees) → OnlyLetsGo (bodies_of base) (bodies_of db) → OnlyLetsGo (bodies_with body_of base) (bodies_with body_of db)
+lets_go_with body_of base db lets uid body h =
+    let at = cell_at body_of db uid body h in
+    body_there body_of base uid at.0 (lets uid at.0 at.1) ∙ ap Some at.2
 
 items_are : (b c : Book) → c ≡ b → c.items ≡ b.items
 items_are b c same = ap (λ (x : Book). x.items) same
@@ -47,10 +61,10 @@ settled_items uid dest outcome now b (Err fault.Conflict) c is = absurd is
 settled_items uid dest outcome now b (Err fault.NotHeld) c is = absurd is
 settled_items uid dest outcome now b (Err fault.NotOver) c is = absurd is
 
-pub settled : (uid dest : Text) (outcome : Outcome) (now : ℕ) (r : Result (Unit {0}) LedgerFault) (base db : Trees) → Settles uid dest outcome now (book_of base) r (book_of db) × OnlyLetsGo (bodies_of base) (bodies_of db)
-    → HaveOwn base → HaveOwn db
+pub settled : {Uses : List ℕ → Type 0} {Stands : List ℕ → List ℕ → Type 0} (uid dest : Text) (outcome : Outcome) (now : ℕ) (r : Result (Unit {0}) LedgerFault) (base db : Trees) → Settles uid dest outcome now (book_of base) r (book_of db) × OnlyLetsGo (bodies_of base) (bodies_of db)
+    → HaveOwn Uses Stands base → HaveOwn Uses Stands db
 settled uid dest outcome now r base db it own =
-    less (book_of base) (book_of db) (bodies_of base) (bodies_of db) (settled_items uid dest outcome now (book_of base) r (book_of db) it.0) it.1 own
+    fewer base db it.1 (less (book_of base) (book_of db) (bodies_of base) (bodies_of db) (settled_items uid dest outcome now (book_of base) r (book_of db) it.0) it.1) own
 
 requeued_items : (uid dest : Text) (b : Book) (r : Result (Unit {0}) LedgerFault) (c : Book) → Requeues uid dest b r c → c.items ≡ b.items
 requeued_items uid dest b (Ok done) c is = ap (λ (x : Book). x.items) is.1
@@ -62,8 +76,8 @@ requeued_items uid dest b (Err fault.Conflict) c is = absurd is
 requeued_items uid dest b (Err fault.NotWaiting) c is = absurd is
 requeued_items uid dest b (Err fault.NotOver) c is = absurd is
 
-pub requeued : (uid dest : Text) (r : Result (Unit {0}) LedgerFault) (base db : Trees) → Requeues uid dest (book_of base) r (book_of db) × OnlyLetsGo (bodies_of base) (bodies_of db) → HaveOwn base → HaveOwn db
-requeued uid dest r base db it own = less (book_of base) (book_of db) (bodies_of base) (bodies_of db) (requeued_items uid dest (book_of base) r (book_of db) it.0) it.1 own
+pub requeued : {Uses : List ℕ → Type 0} {Stands : List ℕ → List ℕ → Type 0} (uid dest : Text) (r : Result (Unit {0}) LedgerFault) (base db : Trees) → Requeues uid dest (book_of base) r (book_of db) × OnlyLetsGo (bodies_of base) (bodies_of db) → HaveOwn Uses Stands base → HaveOwn Uses Stands db
+requeued uid dest r base db it own = fewer base db it.1 (less (book_of base) (book_of db) (bodies_of base) (bodies_of db) (requeued_items uid dest (book_of base) r (book_of db) it.0) it.1) own
 
 dropped_items : (uid dest : Text) (now : ℕ) (b : Book) (r : Result (Unit {0}) LedgerFault) (c : Book) → Drops uid dest now b r c → c.items ≡ b.items
 dropped_items uid dest now b (Ok done) c is = ap (λ (x : Book). x.items) is.1
@@ -75,8 +89,8 @@ dropped_items uid dest now b (Err fault.Conflict) c is = absurd is
 dropped_items uid dest now b (Err fault.NotWaiting) c is = absurd is
 dropped_items uid dest now b (Err fault.NotOver) c is = absurd is
 
-pub dropped : (uid dest : Text) (now : ℕ) (r : Result (Unit {0}) LedgerFault) (base db : Trees) → Drops uid dest now (book_of base) r (book_of db) × OnlyLetsGo (bodies_of base) (bodies_of db) → HaveOwn base → HaveOwn db
-dropped uid dest now r base db it own = less (book_of base) (book_of db) (bodies_of base) (bodies_of db) (dropped_items uid dest now (book_of base) r (book_of db) it.0) it.1 own
+pub dropped : {Uses : List ℕ → Type 0} {Stands : List ℕ → List ℕ → Type 0} (uid dest : Text) (now : ℕ) (r : Result (Unit {0}) LedgerFault) (base db : Trees) → Drops uid dest now (book_of base) r (book_of db) × OnlyLetsGo (bodies_of base) (bodies_of db) → HaveOwn Uses Stands base → HaveOwn Uses Stands db
+dropped uid dest now r base db it own = fewer base db it.1 (less (book_of base) (book_of db) (bodies_of base) (bodies_of db) (dropped_items uid dest now (book_of base) r (book_of db) it.0) it.1) own
 
 adopted_items : (b : Book) (r : Result (Unit {0}) LedgerFault) (c : Book) → Adopting b r c → c.items ≡ b.items
 adopted_items b (Ok done) c is = ap (λ (x : Book). x.items) is
@@ -88,14 +102,14 @@ adopted_items b (Err fault.NotWaiting) c is = absurd is
 adopted_items b (Err fault.NotHeld) c is = absurd is
 adopted_items b (Err fault.NotOver) c is = absurd is
 
-pub keeps_at_adoption : (r : Result (Unit {0}) LedgerFault) (base db : Trees) → Adopting (book_of base) r (book_of db) × OnlyLetsGo (bodies_of base) (bodies_of db) → HaveOwn base → HaveOwn db
-keeps_at_adoption r base db it own = less (book_of base) (book_of db) (bodies_of base) (bodies_of db) (adopted_items (book_of base) r (book_of db) it.0) it.1 own
+pub keeps_at_adoption : {Uses : List ℕ → Type 0} {Stands : List ℕ → List ℕ → Type 0} (r : Result (Unit {0}) LedgerFault) (base db : Trees) → Adopting (book_of base) r (book_of db) × OnlyLetsGo (bodies_of base) (bodies_of db) → HaveOwn Uses Stands base → HaveOwn Uses Stands db
+keeps_at_adoption r base db it own = fewer base db it.1 (less (book_of base) (book_of db) (bodies_of base) (bodies_of db) (adopted_items (book_of base) r (book_of db) it.0) it.1) own
 
 -- ---- where an item leaves
 
 -- what is forgotten has no cell
-left : (uid : Text) (b : Book) (old new : Bodies) → HasCells b old → IsOver b uid → OnlyLetsGo old new → AreOwn IsCellOf b old → AreOwn IsCellOf (after (Forgetting uid) b) new
-left uid b old new has over lets own u cell h =
+left : {Stands : List ℕ → List ℕ → Type 0} (uid : Text) (b : Book) (old new : Bodies) → HasCells b old → IsOver b uid → OnlyLetsGo old new → AreOwn Stands b old → AreOwn Stands (after (Forgetting uid) b) new
+left {Stands} uid b old new has over lets own u cell h =
     let was = lets u cell h in
     let it = own u cell was in
     (it.0, it.1, it.2, item_stays b uid u (instance_of it.0) (other u cell was) it.3)
@@ -106,19 +120,19 @@ left uid b old new has over lets own u cell h =
       | inl same ↦ absurd (not_needed b uid over (subst (IsNeeded b) same ((has.there u).0 (cell, was))))
     ]
 
-forgotten_own : (uid : Text) (b : Book) (r : Result (Unit {0}) LedgerFault) (c : Book) (old new : Bodies) → HasCells b old → Forgets uid b r c → OnlyLetsGo old new → AreOwn IsCellOf b old → AreOwn IsCellOf c new
-forgotten_own uid b (Ok done) c old new has is lets own = subst (λ (x : Book). AreOwn IsCellOf x new) (sym is.1) (left uid b old new has is.0 lets own)
-forgotten_own uid b (Err fault.NotOver) c old new has is lets own = less b c old new (items_are b c is.1) lets own
-forgotten_own uid b (Err fault.Store) c old new has is lets own = less b c old new (items_are b c is) lets own
-forgotten_own uid b (Err fault.Memory) c old new has is lets own = less b c old new (items_are b c is) lets own
-forgotten_own uid b (Err fault.NoLine) c old new has is lets own = absurd is
-forgotten_own uid b (Err fault.Conflict) c old new has is lets own = absurd is
-forgotten_own uid b (Err fault.NotWaiting) c old new has is lets own = absurd is
-forgotten_own uid b (Err fault.NotHeld) c old new has is lets own = absurd is
+forgotten_own : {Stands : List ℕ → List ℕ → Type 0} (uid : Text) (b : Book) (r : Result (Unit {0}) LedgerFault) (c : Book) (old new : Bodies) → HasCells b old → Forgets uid b r c → OnlyLetsGo old new → AreOwn Stands b old → AreOwn Stands c new
+forgotten_own {Stands} uid b (Ok done) c old new has is lets own = subst (λ (x : Book). AreOwn Stands x new) (sym is.1) (left uid b old new has is.0 lets own)
+forgotten_own {Stands} uid b (Err fault.NotOver) c old new has is lets own = less b c old new (items_are b c is.1) lets own
+forgotten_own {Stands} uid b (Err fault.Store) c old new has is lets own = less b c old new (items_are b c is) lets own
+forgotten_own {Stands} uid b (Err fault.Memory) c old new has is lets own = less b c old new (items_are b c is) lets own
+forgotten_own {Stands} uid b (Err fault.NoLine) c old new has is lets own = absurd is
+forgotten_own {Stands} uid b (Err fault.Conflict) c old new has is lets own = absurd is
+forgotten_own {Stands} uid b (Err fault.NotWaiting) c old new has is lets own = absurd is
+forgotten_own {Stands} uid b (Err fault.NotHeld) c old new has is lets own = absurd is
 
-pub forgotten : (uid : Text) (r : Result (Unit {0}) LedgerFault) (base db : Trees) → HasCells (book_of base) (bodies_of base) → Forgets uid (book_of base) r (book_of db) × OnlyLetsGo (bodies_of base) (bodies_of db)
-    → HaveOwn base → HaveOwn db
-forgotten uid r base db has it own = forgotten_own uid (book_of base) r (book_of db) (bodies_of base) (bodies_of db) has it.0 it.1 own
+pub forgotten : {Uses : List ℕ → Type 0} {Stands : List ℕ → List ℕ → Type 0} (uid : Text) (r : Result (Unit {0}) LedgerFault) (base db : Trees) → HasCells (book_of base) (bodies_of base) → Forgets uid (book_of base) r (book_of db) × OnlyLetsGo (bodies_of base) (bodies_of db)
+    → HaveOwn Uses Stands base → HaveOwn Uses Stands db
+forgotten uid r base db has it own = fewer base db it.1 (forgotten_own uid (book_of base) r (book_of db) (bodies_of base) (bodies_of db) has it.0 it.1) own
 
 -- ---- where an item comes
 
@@ -137,16 +151,48 @@ items_stay routing caller item b (Err fault.NotWaiting) c is uid i h = absurd is
 items_stay routing caller item b (Err fault.NotHeld) c is uid i h = absurd is
 items_stay routing caller item b (Err fault.NotOver) c is uid i h = absurd is
 
-pub arrived : (part : Part) (caller : Text) (item : Job) (r : Result Arrived LedgerFault) (base db : Trees) → AnswersTo part caller item r base db → HaveOwn base → HaveOwn db
-arrived part caller item r base db it own uid cell h = elim (it.1 uid cell h) [
-  | inl was ↦ (let had = own uid cell was in
-      (had.0, had.1, had.2, items_stay (site_routing part) caller (instance_of item) (book_of base) r (book_of db) it.0 uid (instance_of had.0) had.3))
-  | inr new ↦ (item, new.2, sym new.1, ap (map.get (items_of db)) new.0 ∙ new.3)
-]
+-- ---- where the shelf changes
 
--- what comes is the item's data set
-pub only_takes : (item : Job) (base db : Trees) → TakesItem item base db → OnlyTakes item (bodies_of base) (bodies_of db)
-only_takes item base db takes uid body h = elim (takes uid body h) [
-  | inl was ↦ inl was
-  | inr new ↦ inr (new.0, new.1)
-]
+module _ {Used : List ℕ → Type 0} {Stood : List ℕ → List ℕ → Type 0} {Uses : List ℕ → Type 0} {Stands : List ℕ → List ℕ → Type 0} (keeps : KeepsCells Used Stood Uses Stands) where
+  pub still_own : (db : Trees) → HaveOwn Used Stood db → HaveOwn Uses Stands db
+  still_own db k = record {
+    used = λ uid cell h.
+        let it = k.own uid cell h in
+        (keeps cell it.0.body (k.used uid cell h) it.2).0;
+    own = λ uid cell h.
+        let it = k.own uid cell h in
+        (it.0, it.1, (keeps cell it.0.body (k.used uid cell h) it.2).1, it.3);
+  }
+
+  module _ (was_of body_of : List ℕ → List ℕ) (was_only : (cell bytes : List ℕ) → Stood cell bytes → was_of cell ≡ bytes) (only : (cell bytes : List ℕ) → Stands cell bytes → body_of cell ≡ bytes) where
+    -- a cell that was there stands for what it stood for
+    same_at : (db : Trees) → HaveOwn Used Stood db → (uid : Text) (cell : List ℕ) → map.get (bodies_of db) uid ≡ Some cell → body_of cell ≡ was_of cell
+    same_at db k uid cell h =
+        let it = k.own uid cell h in
+        only cell it.0.body (keeps cell it.0.body (k.used uid cell h) it.2).1 ∙ sym (was_only cell it.0.body it.2)
+
+    pub same_bodies : (db : Trees) → HaveOwn Used Stood db → bodies_with body_of db ≡ bodies_with was_of db
+    same_bodies db k = map.same_map nat_list_cmp_total exact_bytes _ _ (λ uid. body_at body_of db uid ∙ at uid (map.get (bodies_of db) uid) refl ∙ sym (body_at was_of db uid))
+      where
+        at : (uid : Text) (found : Option (List ℕ)) → map.get (bodies_of db) uid ≡ found → option_map body_of found ≡ option_map was_of found
+        at uid None is = refl
+        at uid (Some cell) is = ap Some (same_at db k uid cell is)
+
+    -- what comes is the item's data set
+    pub only_takes : (item : Job) (base db : Trees) → TakesItem Uses Stands item base db → HaveOwn Used Stood base → OnlyTakes item (bodies_with was_of base) (bodies_with body_of db)
+    only_takes item base db takes k uid body h =
+        let at = cell_at body_of db uid body h in
+        elim (takes uid at.0 at.1) [
+          | inl was ↦ inl (body_there was_of base uid at.0 was ∙ ap Some (sym (same_at base k uid at.0 was) ∙ at.2))
+          | inr new ↦ inr (new.0, sym at.2 ∙ only at.0 item.body new.2)
+        ]
+
+  pub arrived : (part : Part) (caller : Text) (item : Job) (r : Result Arrived LedgerFault) (base db : Trees) → AnswersTo Uses Stands part caller item r base db → HaveOwn Used Stood base → HaveOwn Uses Stands db
+  arrived part caller item r base db it k = record {
+    used = λ uid cell h. elim (it.1 uid cell h) [ inl was ↦ (still_own base k).used uid cell was | inr new ↦ new.1 ];
+    own = λ uid cell h. elim (it.1 uid cell h) [
+      | inl was ↦ (let had = (still_own base k).own uid cell was in
+          (had.0, had.1, had.2, items_stay (site_routing part) caller (instance_of item) (book_of base) r (book_of db) it.0 uid (instance_of had.0) had.3))
+      | inr new ↦ (item, new.3, new.2, ap (map.get (items_of db)) new.0 ∙ new.4)
+    ];
+  }

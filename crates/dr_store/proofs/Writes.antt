@@ -1,5 +1,5 @@
 -- Calls on a ledger that keeps its tables.
-use Rattle.std.proofs.Common.{◌≡◌, ◌≢◌, ◌⊎◌, inl, inr, ℕ, ◌+◌, ◌≤◌, ◌<◌, ◌^◌, ◌-◌, min, IsTrue, false, Result, Ok, Err, OnOk, eq-or-lt_of_le, refl, sym, ap, subst, ◌∙◌, arith}
+use Rattle.std.proofs.Common.{◌≡◌, ◌≢◌, ◌⊎◌, inl, inr, ℕ, List, ◌+◌, ◌≤◌, ◌<◌, ◌^◌, ◌-◌, min, IsTrue, false, Result, Ok, Err, OnOk, eq-or-lt_of_le, refl, sym, ap, subst, ◌∙◌, arith}
 use Rattle.std.proofs.Math.Logic.{∥∥₁_elim, ∥∥₁_map}
 use mathlib.Core.Bool.{Bool-set}
 use Rattle.std.proofs.Math.Nat.{min-eq_left, min-eq_right}
@@ -12,11 +12,11 @@ use Rattle.dr_ledger.specs.declared.fault.LedgerFault.{LedgerFault}
 use Rattle.dr_ledger.specs.declared.fault.LedgerFault.TheVariants as fault
 use Rattle.dr_ledger.specs.Refusals.{Arms}
 use Rattle.dr_ledger.specs.Replies.{Counts, HasRisen, IsLastingFault, PremiseLasts, LastsAfter, Reads}
-use Rattle.dr_store_schema.specs.Books.{bodies_of, book_of}
+use Rattle.dr_store_schema.specs.Books.{book_of}
 use Rattle.dr_store_calls.specs.Calling.{Called, IsKept, IsSafe, Looked, Nothing}
 use Rattle.dr_store_calls.proofs.Reading.{reads_as}
 use Rattle.dr_store.specs.Counting.{failures_after}
-use Rattle.dr_store.specs.Owning.{HaveOwn, KeepsOwn}
+use Rattle.dr_store.specs.Owning.{HaveOwn, KeepsOwn, bodies_with}
 use Rattle.dr_store.specs.Surviving.{Wrote}
 use Rattle.dr_store.proofs.Stable.{Stable}
 
@@ -62,50 +62,52 @@ reads_stable (Err fault.NotOver) Shows f h = ∥∥₁_elim h (λ x y. absurd x)
 
 -- ---- a call on a ledger that keeps its tables
 
--- What is known of a call on the tables of a ledger, which are those of this part's before it and of that one's after it.
-pub record Done {A : Type 0} (n m : ℕ) (part next : Part) (r : Result A LedgerFault) (old new : State) (Answers Makes : Trees → Trees → Type 0) : Type 0 where
+-- What is known of a call on the tables of a ledger, which are those of this part's before it and of that one's after it. Their cells are in use before it as `Uses` says, and stand for data sets as `Stands` says.
+pub record Done {A : Type 0} (Uses : List ℕ → Type 0) (Stands : List ℕ → List ℕ → Type 0) (n m : ℕ) (part next : Part) (r : Result A LedgerFault) (old new : State) (Answers Makes : Trees → Trees → Type 0) : Type 0 where
   pub clean : doubt old.is_clean ≤ doubt new.is_clean
   pub was_open : HasCleanDisk new → IsTrue new.is_open → IsTrue old.is_open
   pub lasts : HasCleanDisk new → IsKept n part old → LastsAfter r (IsTrue new.is_open)
   pub kept : HasCleanDisk new → IsTrue new.is_open → IsKept n part old → IsKept m next new
-  pub answers : HasCleanDisk new → IsTrue new.is_open → IsKept n part old → Answers old.committed.trees new.committed.trees
+  pub answers : HasCleanDisk new → IsTrue new.is_open → KeepsOwn Uses Stands n part old → Answers old.committed.trees new.committed.trees
   pub crash : HasCleanDisk new → IsKept n part old → (db : Trees) → new.may_leave db → old.may_leave db ⊎ Makes old.committed.trees db
 
-pub called : {A : Type 0} (n m : ℕ) (part : Part) (r : Result A LedgerFault) (old new : State) (Answers Makes : Trees → Trees → Type 0) → Called n m part r old new Nothing Answers Makes → Done n m part part r old new Answers Makes
-called n m part r old new Answers Makes c = record {
+pub called : {A : Type 0} (Uses : List ℕ → Type 0) (Stands : List ℕ → List ℕ → Type 0) (n m : ℕ) (part : Part) (r : Result A LedgerFault) (old new : State) (Answers Makes : Trees → Trees → Type 0) → Called n m part r old new Nothing Answers Makes
+    → Done Uses Stands n m part part r old new Answers Makes
+called Uses Stands n m part r old new Answers Makes c = record {
   clean = c.clean;
   was_open = c.was_open;
   lasts = λ clean k. c.lasts clean k tt;
   kept = λ clean is_open k. c.kept clean is_open k tt;
-  answers = λ clean is_open k. c.answers clean is_open k tt;
+  answers = λ clean is_open k. c.answers clean is_open k.kept tt;
   crash = λ clean k. c.crash clean k tt;
 }
 
--- what it answers says this too
-pub answering : {A : Type 0} (n m : ℕ) (part next : Part) (r : Result A LedgerFault) (old new : State) (Answers Says Makes : Trees → Trees → Type 0) → ((base db : Trees) → Answers base db → Says base db)
-    → Done n m part next r old new Answers Makes → Done n m part next r old new Says Makes
-answering n m part next r old new Answers Says Makes says d = record {
+-- what it answers says this too, where the cells stand for data sets
+pub answering : {A : Type 0} (Uses : List ℕ → Type 0) (Stands : List ℕ → List ℕ → Type 0) (n m : ℕ) (part next : Part) (r : Result A LedgerFault) (old new : State) (Answers Says Makes : Trees → Trees → Type 0)
+    → (HaveOwn Uses Stands old.committed.trees → Answers old.committed.trees new.committed.trees → Says old.committed.trees new.committed.trees) → Done Uses Stands n m part next r old new Answers Makes → Done Uses Stands n m part next r old new Says Makes
+answering Uses Stands n m part next r old new Answers Says Makes says d = record {
   clean = d.clean;
   was_open = d.was_open;
   lasts = d.lasts;
   kept = d.kept;
-  answers = λ clean is_open k. says old.committed.trees new.committed.trees (d.answers clean is_open k);
+  answers = λ clean is_open k. says k.own (d.answers clean is_open k);
   crash = d.crash;
 }
 
 is_open : (s : State) → ∥ IsTrue s.is_open ∥₁ → IsTrue s.is_open
 is_open s h = ∥∥₁_elim h (Bool-set _ _) (λ x. x)
 
-module _ {A : Type 0} (n m : ℕ) (part next : Part) (r : Result A LedgerFault) (old new : State) (Answers Makes : Trees → Trees → Type 0) (kept : IsSafe old → ∥ KeepsOwn n part old ∥₁)
-    (c : Done n m part next r old new Answers Makes) where
+module _ {A : Type 0} {Uses : List ℕ → Type 0} {Stands : List ℕ → List ℕ → Type 0} (n m : ℕ) (part next : Part) (r : Result A LedgerFault) (old new : State) (Answers Makes : Trees → Trees → Type 0) (kept : IsSafe old → ∥ KeepsOwn Uses Stands n part old ∥₁)
+    (c : Done Uses Stands n m part next r old new Answers Makes) where
   pub was_safe : IsSafe new → IsSafe old
   was_safe safe = (omega (arith, c.clean, safe.0), c.was_open safe.0 safe.1)
 
-  pub still_kept : (IsKept n part old → Answers old.committed.trees new.committed.trees → HaveOwn old.committed.trees → HaveOwn new.committed.trees) → IsSafe new → ∥ KeepsOwn m next new ∥₁
-  still_kept owns safe = ∥∥₁_map (kept (was_safe safe)) (λ k. record { kept = c.kept safe.0 safe.1 k.kept; own = owns k.kept (c.answers safe.0 safe.1 k.kept) k.own })
+  pub still_kept : (Uses' : List ℕ → Type 0) (Stands' : List ℕ → List ℕ → Type 0) → (IsKept n part old → Answers old.committed.trees new.committed.trees → HaveOwn Uses Stands old.committed.trees → HaveOwn Uses' Stands' new.committed.trees)
+      → IsSafe new → ∥ KeepsOwn Uses' Stands' m next new ∥₁
+  still_kept Uses' Stands' owns safe = ∥∥₁_map (kept (was_safe safe)) (λ k. record { kept = c.kept safe.0 safe.1 k.kept; own = owns k.kept (c.answers safe.0 safe.1 k) k.own })
 
   pub answered : Stable (Answers old.committed.trees new.committed.trees) → IsSafe new → Answers old.committed.trees new.committed.trees
-  answered stable safe = stable (∥∥₁_map (kept (was_safe safe)) (λ k. c.answers safe.0 safe.1 k.kept))
+  answered stable safe = stable (∥∥₁_map (kept (was_safe safe)) (λ k. c.answers safe.0 safe.1 k))
 
   pub lasting : PremiseLasts r (HasCleanDisk old) (HasCleanDisk new) (IsSafe old) (IsSafe new)
   lasting = record { trusted = λ clean. omega (arith, c.clean, clean); lasts = go r (λ clean safe. ∥∥₁_map (kept safe) (λ k. c.lasts clean k.kept)) }
@@ -122,8 +124,8 @@ module _ {A : Type 0} (n m : ℕ) (part next : Part) (r : Result A LedgerFault) 
 
 -- ---- a call that writes
 
-module _ {A : Type 0} (n m : ℕ) (part next : Part) (r : Result A LedgerFault) (old new : State) (Answers Makes : Trees → Trees → Type 0) (kept : IsSafe old → ∥ KeepsOwn n part old ∥₁)
-    (c : Done n m part next r old new Answers Makes)
+module _ {A : Type 0} {Uses : List ℕ → Type 0} {Stands : List ℕ → List ℕ → Type 0} (n m : ℕ) (part next : Part) (r : Result A LedgerFault) (old new : State) (Answers Makes : Trees → Trees → Type 0) (kept : IsSafe old → ∥ KeepsOwn Uses Stands n part old ∥₁)
+    (c : Done Uses Stands n m part next r old new Answers Makes)
     (was_settled : (db : Trees) → IsTrue old.is_open → old.may_leave db → db ≡ old.committed.trees)
     (is_settled : (db : Trees) → IsTrue new.is_open → new.may_leave db → db ≡ new.committed.trees)
     (answers : Stable (Answers old.committed.trees new.committed.trees)) where
@@ -145,34 +147,58 @@ module _ {A : Type 0} (n m : ℕ) (part next : Part) (r : Result A LedgerFault) 
         durable = stands r lasts.lasts;
       }
 
+-- ---- what is said of the tables and of a shelf
+
+-- the premise of a ledger over tables lasts with that of its shelf
+pub with_shelf : {A : Type 0} (r : Result A LedgerFault) (Was Is Trusted Trusts Stood Stands : Type 0) → (Is → Was) → PremiseLasts r Trusted Trusts Stood Stands → PremiseLasts r (Trusted × Was) (Trusts × Is) (Stood × Was) (Stands × Is)
+with_shelf {A} r Was Is Trusted Trusts Stood Stands was l = record { trusted = λ t. (l.trusted t.0, was t.1); lasts = go r l.lasts }
+  where
+    go : (q : Result A LedgerFault) → LastsAfter q (Trusts → Stood → Stands) → LastsAfter q (Trusts × Is → Stood × Was → Stands × Is)
+    go (Ok value) f = λ t s. (f t.0 s.0, t.1)
+    go (Err fault.Store) f = tt
+    go (Err fault.Memory) f = tt
+    go (Err fault.NoLine) f = λ t s. (f t.0 s.0, t.1)
+    go (Err fault.Conflict) f = λ t s. (f t.0 s.0, t.1)
+    go (Err fault.NotWaiting) f = λ t s. (f t.0 s.0, t.1)
+    go (Err fault.NotHeld) f = λ t s. (f t.0 s.0, t.1)
+    go (Err fault.NotOver) f = λ t s. (f t.0 s.0, t.1)
+
 -- ---- a call that reads
 
-module _ {A : Type 0} (n : ℕ) (part : Part) (r : Result A LedgerFault) (old new : State) (Shows : Trees → A → Type 0) (kept : IsSafe old → ∥ KeepsOwn n part old ∥₁) (l : Looked n part r old new Shows) where
+module _ {A : Type 0} {Uses : List ℕ → Type 0} {Stands : List ℕ → List ℕ → Type 0} (n : ℕ) (part : Part) (r : Result A LedgerFault) (old new : State) (Shows : Trees → A → Type 0) (kept : IsSafe old → ∥ KeepsOwn Uses Stands n part old ∥₁)
+    (l : Looked n part r old new Shows) where
   abbrev Same : Trees → Trees → Type 0
   Same base db = (db ≡ base) × Reads r (Shows base)
 
-  done : Done n n part part r old new Same (λ base db. ⊥)
-  done = called n n part r old new Same (λ base db. ⊥) l
+  done : Done Uses Stands n n part part r old new Same (λ base db. ⊥)
+  done = called Uses Stands n n part r old new Same (λ base db. ⊥) l
 
   pub looked_safe : IsSafe new → IsSafe old
   looked_safe = was_safe n n part part r old new Same (λ base db. ⊥) kept done
 
-  pub looked_kept : IsSafe new → ∥ KeepsOwn n part new ∥₁
-  looked_kept = still_kept n n part part r old new Same (λ base db. ⊥) kept done (λ k it own. subst HaveOwn (sym it.0) own)
+  -- where the shelf was read too
+  pub looked_kept_by : (Uses' : List ℕ → Type 0) (Stands' : List ℕ → List ℕ → Type 0) → (HaveOwn Uses Stands old.committed.trees → HaveOwn Uses' Stands' old.committed.trees) → IsSafe new → ∥ KeepsOwn Uses' Stands' n part new ∥₁
+  looked_kept_by Uses' Stands' still = still_kept n n part part r old new Same (λ base db. ⊥) kept done Uses' Stands' (λ k it own. subst (HaveOwn Uses' Stands') (sym it.0) (still own))
 
-  pub looked_lasting : PremiseLasts r (HasCleanDisk old) (HasCleanDisk new) (IsSafe old) (IsSafe new)
-  looked_lasting = lasting n n part part r old new Same (λ base db. ⊥) kept done
+  pub looked_kept : IsSafe new → ∥ KeepsOwn Uses Stands n part new ∥₁
+  looked_kept = looked_kept_by Uses Stands (λ own. own)
+
+  pub looked_lasting_by : (Was Is : Type 0) → (Is → Was) → PremiseLasts r (HasCleanDisk old × Was) (HasCleanDisk new × Is) (IsSafe old × Was) (IsSafe new × Is)
+  looked_lasting_by Was Is was = with_shelf r Was Is (HasCleanDisk old) (HasCleanDisk new) (IsSafe old) (IsSafe new) was (lasting n n part part r old new Same (λ base db. ⊥) kept done)
+
+  pub looked_lasting : (Clean : Type 0) → PremiseLasts r (HasCleanDisk old × Clean) (HasCleanDisk new × Clean) (IsSafe old × Clean) (IsSafe new × Clean)
+  looked_lasting Clean = looked_lasting_by Clean Clean (λ clean. clean)
 
   pub looked_same : IsSafe new → new.committed.trees ≡ old.committed.trees
   looked_same safe = ∥∥₁_elim (kept (looked_safe safe)) (Trees-set _ _) (λ k. (l.answers safe.0 safe.1 k.kept tt).0)
 
-  pub looked_books : IsSafe new → (book_of new.committed.trees ≡ book_of old.committed.trees) × (bodies_of new.committed.trees ≡ bodies_of old.committed.trees)
-  looked_books safe = (ap book_of (looked_same safe), ap bodies_of (looked_same safe))
+  pub looked_books : (body_of : List ℕ → List ℕ) → IsSafe new → (book_of new.committed.trees ≡ book_of old.committed.trees) × (bodies_with body_of new.committed.trees ≡ bodies_with body_of old.committed.trees)
+  looked_books body_of safe = (ap book_of (looked_same safe), ap (bodies_with body_of) (looked_same safe))
 
   pub looked_reads : ((a : A) → Stable (Shows old.committed.trees a)) → IsSafe new → Reads r (Shows old.committed.trees)
   looked_reads stable safe = reads_stable r (Shows old.committed.trees) stable (∥∥₁_map (kept (looked_safe safe)) (λ k. (l.answers safe.0 safe.1 k.kept tt).1))
 
   -- what it shows, where the cells stand for data sets
-  pub looked_says : (Says : A → Type 0) → (KeepsOwn n part old → (a : A) → Shows old.committed.trees a → Says a) → ((a : A) → Stable (Says a)) → IsSafe new → Reads r Says
+  pub looked_says : (Says : A → Type 0) → (KeepsOwn Uses Stands n part old → (a : A) → Shows old.committed.trees a → Says a) → ((a : A) → Stable (Says a)) → IsSafe new → Reads r Says
   looked_says Says says stable safe =
       reads_stable r Says stable (∥∥₁_map (kept (looked_safe safe)) (λ k. reads_as r (Shows old.committed.trees) Says (says k) (l.answers safe.0 safe.1 k.kept tt).1))

@@ -2,4 +2,5 @@ pub mod Counting
 pub mod Listing
 pub mod Owning
 pub mod Reading
+pub mod Standing
 pub mod Surviving

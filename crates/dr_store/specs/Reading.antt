@@ -1,5 +1,5 @@
--- What single queries show together.
-use Rattle.std.specs.Prelude.{◌≡◌, ◌≢◌, ℕ, Option, Some, None, Result, Ok, Err}
+-- What single queries show together, and what of it is read from the shelf.
+use Rattle.std.specs.Prelude.{◌≡◌, ◌≢◌, ℕ, List, Option, Some, None, Result, Ok, Err}
 use Rattle.sqlite.specs.Tree.{Trees}
 use Rattle.dr_base.specs.Texts.{Text}
 use Rattle.dr_ledger.specs.declared.content.Job.{Job}
@@ -20,6 +20,22 @@ abbrev pub NextsStored : Trees → Text → ℕ → Option Job → Type 0
 NextsStored db dest now None = IsFirstDue db dest now None
 NextsStored db dest now (Some job) =
     IsFirstDue db dest now (Some job.uid) × IsJobOf job.uid db (Some job)
+
+-- the same instance, with these bytes for its data set
+abbrev pub with_body : Job → List ℕ → Job
+with_body job body = record { uid = job.uid; key = job.key; body = body }
+
+-- The job was read by a cell: it is that of the cell, with the bytes for which the cell stands.
+pub record IsReadBy (Stands : List ℕ → List ℕ → Type 0) (stored job : Job) : Type 0 where
+  pub same : job ≡ with_body stored job.body
+  pub read : (bytes : List ℕ) → Stands stored.body bytes → job.body ≡ bytes
+
+-- the instance of the first row that is due, with its data set, which was read by the cell in its
+-- row, or none where no row is due
+abbrev pub NextsRead : (List ℕ → List ℕ → Type 0) → Trees → Text → ℕ → Option Job → Type 0
+NextsRead Stands db dest now None = IsFirstDue db dest now None
+NextsRead Stands db dest now (Some job) =
+    (stored : Job) × NextsStored db dest now (Some stored) × IsReadBy Stands stored job
 
 -- an arrival is refused just where another instance has its uid
 abbrev pub AdmitsKnown : Known → Result (Unit {0}) LedgerFault → Type 0

@@ -1,4 +1,4 @@
-//! The ledger of one node, in the tables of a database.
+//! The ledger of one node, in the tables of a database, with its data sets on a shelf.
 ghost use Rattle.std.specs.Prelude.{◌≡◌, ◌≤◌, ◌^◌, Ok, false};
 ghost use Rattle.sqlite.specs.Held.{state};
 ghost use Rattle.sqlite.specs.State.{HasCleanDisk};
@@ -7,18 +7,18 @@ ghost use Rattle.dr_ledger.specs.Bodies.{OnlyLetsGo, OnlyTakes};
 ghost use Rattle.dr_ledger.specs.Items.{instance_of};
 ghost use Rattle.dr_ledger.specs.Replies.{Arrives, Counts, Drops, Forgets, Requeues, Settles};
 ghost use Rattle.dr_ledger.specs.SiteRoutes.{site_routing};
-ghost use Rattle.dr_store_schema.specs.Books.{bodies_of, book_of};
+ghost use Rattle.dr_store_schema.specs.Books.{book_of};
 ghost use Rattle.dr_store_calls.specs.Adoptions.{IsAdopted};
 ghost use Rattle.dr_store_calls.specs.Calling.{IsSafe};
 ghost use Rattle.dr_store_calls.specs.Knowing.{IsAccepted};
 ghost use Rattle.dr_store.specs.Counting.{failures_after};
-ghost use Rattle.dr_store.specs.Owning.{KeepsOwn};
+ghost use Rattle.dr_store.specs.Owning.{KeepsOwn, bodies_with};
 ghost use Rattle.dr_store.specs.Surviving.{Wrote};
 
 use crate::counting::{counted, next_after};
 use crate::listing::{first_unfit, list_arrivals, list_kept, list_rows, list_rows_and_keys};
 use crate::reading::{admit, due_row, has_data_set, has_item, next_job};
-use crate::telling::{list_lines, tell_journal};
+use crate::telling::{list_lines, tell_behind, tell_journal};
 use dr_base::{Seq, Text};
 use dr_cert::Sealed;
 use dr_ledger::{Arrived, Entry, Item, Job, Ledger, LedgerFault, LetsGo, Outcome, Progress};
@@ -26,48 +26,59 @@ use dr_ledger_history::JournalLine;
 use dr_ledger_journal::TellsJournal;
 use dr_ledger_views::{Moments, Origin, Stage, Views};
 use dr_site::Site;
-use dr_store_calls::{adopt, arrive, forget, give_up, is_over, requeue, settle};
+use dr_store_calls::{NextLine, adopt, arrive, forget, give_up, is_over, requeue, settle};
 use dr_store_reads::find_row;
+use dr_store_shelf::Shelf;
 use dr_store_views::{
     callers_of, count_arrivals, count_kept, count_rows, first_moment, origin_of, page, rows_of,
 };
 use sqlite::{Alter, Connection};
 use std::alloc::Global;
 
-/// The ledger of one node, in the tables of a database. It counts the failures of its store, and
-/// has the moment that it was told last, if it was told one.
+/// The ledger of one node, in the tables of a database. Its data sets are on a shelf, and the
+/// tables have the cells that stand for them. It counts the failures of its store, and has the
+/// moment that it was told last, if it was told one.
 #[derive(Drop)]
-pub struct SqlLedger<S: Alter> {
+pub struct SqlLedger<S: Alter, B: Shelf> {
     alloc: Global,
     site: Site,
     conn: Connection<S>,
+    shelf: B,
     next: u64,
     moment: Option<u64>,
     failures: u64,
     ghost idle: { conn.in_transaction ≡ false },
-    ghost kept: { IsSafe (state S.Store conn) → ∥ KeepsOwn next site (state S.Store conn) ∥₁ },
+    ghost kept: { IsSafe (state S.Store conn)
+        → ∥ KeepsOwn (B.Shelf.uses shelf) (B.Shelf.stands shelf) next site
+        (state S.Store conn) ∥₁ },
 }
 
-impl<S: Alter> SqlLedger<S> {
-    /// The ledger of this site, over a connection to its tables; the number of its next line is
-    /// `next`, and the moment that it was told (milliseconds since 1970) is `moment`.
+impl<S: Alter, B: Shelf> SqlLedger<S, B> {
+    /// The ledger of this site, over a connection to its tables and the shelf of their cells; the
+    /// number of its next line is `next`, and the moment that it was told (milliseconds since 1970)
+    /// is `moment`.
     pub fn of(
         alloc: Global,
         conn: Connection<S>,
+        shelf: B,
         site: Site,
         next: u64,
         moment: Option<u64>,
-    ) -> SqlLedger<S>
+    ) -> SqlLedger<S, B>
         requires idle { conn.in_transaction ≡ false }
-        requires kept { IsSafe (state S.Store conn) → ∥ KeepsOwn next site (state S.Store conn) ∥₁ }
+        requires kept { IsSafe (state S.Store conn)
+            → ∥ KeepsOwn (B.Shelf.uses shelf) (B.Shelf.stands shelf) next site
+            (state S.Store conn) ∥₁ }
         ensures site { result.site ≡ site }
         ensures conn { result.conn ≡ conn }
+        ensures shelf { result.shelf ≡ shelf }
         ensures failures { result.failures ≡ 0 }
     {
         SqlLedger {
             alloc,
             site,
             conn,
+            shelf,
             next,
             moment,
             failures: 0,
@@ -83,6 +94,7 @@ impl<S: Alter> SqlLedger<S> {
             alloc: _,
             site: _,
             conn,
+            shelf: _,
             next: _,
             moment: _,
             failures: _,
@@ -91,23 +103,30 @@ impl<S: Alter> SqlLedger<S> {
     }
 
     /// Takes an item from a caller, as `Ledger::arrive` says, and survives a crash at any moment.
+    /// Its data set is put on the shelf before its line is committed.
     fn arrive_in(&mut self, caller: &Text, item: Item) -> Result<Arrived, LedgerFault>
         ensures wrote { Wrote result (state S.Store self.old.conn) (state S.Store self.new.conn)
             (λ base db. Arrives (site_routing self.old.site) caller.now (instance_of item)
             (book_of base) result (book_of db)
-            × OnlyTakes item (bodies_of base) (bodies_of db))
+            × OnlyTakes item (bodies_with (B.Shelf.body_of self.old.shelf) base)
+            (bodies_with (B.Shelf.body_of self.new.shelf) db))
             (λ base db. IsAccepted self.old.site caller.now (instance_of item) (book_of base)
             (book_of db)) }
+        ensures clean { B.Shelf.is_clean self.new.shelf → B.Shelf.is_clean self.old.shelf }
         ensures counted { self.new.failures ≡ failures_after result self.old.failures }
         ensures counts { Counts result self.old.failures self.new.failures }
         ensures site { self.new.site ≡ self.old.site }
     {
+        let line = NextLine {
+            n: self.next,
+            moment: self.moment,
+        };
         let answer = arrive(
             &mut self.conn,
+            &mut self.shelf,
             self.alloc,
             &self.site,
-            self.next,
-            self.moment,
+            line,
             caller,
             item,
         );
@@ -127,8 +146,10 @@ impl<S: Alter> SqlLedger<S> {
         requires { now ≤ 2 ^ 62 }
         ensures wrote { Wrote result (state S.Store self.old.conn) (state S.Store self.new.conn)
             (λ base db. Settles uid.now dest.now outcome now (book_of base) result (book_of db)
-            × OnlyLetsGo (bodies_of base) (bodies_of db))
+            × OnlyLetsGo (bodies_with (B.Shelf.body_of self.old.shelf) base)
+            (bodies_with (B.Shelf.body_of self.new.shelf) db))
             (λ base db. Settles uid.now dest.now outcome now (book_of base) (Ok tt) (book_of db)) }
+        ensures clean { B.Shelf.is_clean self.new.shelf → B.Shelf.is_clean self.old.shelf }
         ensures counted { self.new.failures ≡ failures_after result self.old.failures }
         ensures counts { Counts result self.old.failures self.new.failures }
         ensures site { self.new.site ≡ self.old.site }
@@ -143,8 +164,10 @@ impl<S: Alter> SqlLedger<S> {
     fn requeue_in(&mut self, uid: &Text, dest: &Text) -> Result<(), LedgerFault>
         ensures wrote { Wrote result (state S.Store self.old.conn) (state S.Store self.new.conn)
             (λ base db. Requeues uid.now dest.now (book_of base) result (book_of db)
-            × OnlyLetsGo (bodies_of base) (bodies_of db))
+            × OnlyLetsGo (bodies_with (B.Shelf.body_of self.old.shelf) base)
+            (bodies_with (B.Shelf.body_of self.new.shelf) db))
             (λ base db. Requeues uid.now dest.now (book_of base) (Ok tt) (book_of db)) }
+        ensures clean { B.Shelf.is_clean self.new.shelf → B.Shelf.is_clean self.old.shelf }
         ensures counted { self.new.failures ≡ failures_after result self.old.failures }
         ensures counts { Counts result self.old.failures self.new.failures }
         ensures site { self.new.site ≡ self.old.site }
@@ -160,8 +183,10 @@ impl<S: Alter> SqlLedger<S> {
         requires { now ≤ 2 ^ 62 }
         ensures wrote { Wrote result (state S.Store self.old.conn) (state S.Store self.new.conn)
             (λ base db. Drops uid.now dest.now now (book_of base) result (book_of db)
-            × OnlyLetsGo (bodies_of base) (bodies_of db))
+            × OnlyLetsGo (bodies_with (B.Shelf.body_of self.old.shelf) base)
+            (bodies_with (B.Shelf.body_of self.new.shelf) db))
             (λ base db. Drops uid.now dest.now now (book_of base) (Ok tt) (book_of db)) }
+        ensures clean { B.Shelf.is_clean self.new.shelf → B.Shelf.is_clean self.old.shelf }
         ensures counted { self.new.failures ≡ failures_after result self.old.failures }
         ensures counts { Counts result self.old.failures self.new.failures }
         ensures site { self.new.site ≡ self.old.site }
@@ -177,8 +202,10 @@ impl<S: Alter> SqlLedger<S> {
     fn forget_in(&mut self, uid: &Text) -> Result<(), LedgerFault>
         ensures wrote { Wrote result (state S.Store self.old.conn) (state S.Store self.new.conn)
             (λ base db. Forgets uid.now (book_of base) result (book_of db)
-            × OnlyLetsGo (bodies_of base) (bodies_of db))
+            × OnlyLetsGo (bodies_with (B.Shelf.body_of self.old.shelf) base)
+            (bodies_with (B.Shelf.body_of self.new.shelf) db))
             (λ base db. Forgets uid.now (book_of base) (Ok tt) (book_of db)) }
+        ensures clean { B.Shelf.is_clean self.new.shelf → B.Shelf.is_clean self.old.shelf }
         ensures counted { self.new.failures ≡ failures_after result self.old.failures }
         ensures counts { Counts result self.old.failures self.new.failures }
         ensures site { self.new.site ≡ self.old.site }
@@ -194,8 +221,10 @@ impl<S: Alter> SqlLedger<S> {
     fn adopt_in(&mut self, own: Site) -> Result<(), LedgerFault>
         ensures wrote { Wrote result (state S.Store self.old.conn) (state S.Store self.new.conn)
             (λ base db. Adopting (book_of base) result (book_of db)
-            × OnlyLetsGo (bodies_of base) (bodies_of db))
+            × OnlyLetsGo (bodies_with (B.Shelf.body_of self.old.shelf) base)
+            (bodies_with (B.Shelf.body_of self.new.shelf) db))
             (IsAdopted own) }
+        ensures clean { B.Shelf.is_clean self.new.shelf → B.Shelf.is_clean self.old.shelf }
         ensures counted { self.new.failures ≡ failures_after result self.old.failures }
         ensures counts { Counts result self.old.failures self.new.failures }
         ensures site { self.new.site ≡ site_after result own self.old.site }
@@ -218,39 +247,43 @@ fn take_over(site: &mut Site, own: Site, answer: &Result<(), LedgerFault>)
     }
 }
 
-impl<S: Alter> Ledger for SqlLedger<S> {
+impl<S: Alter, B: Shelf> Ledger for SqlLedger<S, B> {
     ghost use Rattle.std.specs.Prelude.{false};
     ghost use mathlib.Core.Logic.{∥∥₁_map};
     ghost use Rattle.sqlite.specs.Held.{state};
     ghost use Rattle.sqlite.specs.State.{HasCleanDisk};
-    ghost use Rattle.dr_store_schema.specs.Books.{bodies_of, book_of};
+    ghost use Rattle.dr_store_schema.specs.Books.{book_of};
     ghost use Rattle.dr_store_calls.specs.Calling.{IsSafe};
+    ghost use Rattle.dr_store.specs.Owning.{bodies_with};
+    ghost use Rattle.dr_store.specs.Standing.{has_bodies};
 
     ghost site = { λ l. l.site };
 
     ghost book = { λ l. book_of (state S.Store l.conn).committed.trees };
 
-    ghost bodies = { λ l. bodies_of (state S.Store l.conn).committed.trees };
+    ghost bodies = { λ l.
+        bodies_with (B.Shelf.body_of l.shelf) (state S.Store l.conn).committed.trees };
 
-    ghost trusts = { λ l. HasCleanDisk (state S.Store l.conn) };
+    ghost trusts = { λ l. HasCleanDisk (state S.Store l.conn) × B.Shelf.is_clean l.shelf };
 
-    ghost stands = { λ l. IsSafe (state S.Store l.conn) };
+    ghost stands = { λ l. IsSafe (state S.Store l.conn) × B.Shelf.is_clean l.shelf };
 
     ghost failed = { λ l. l.failures };
 
     ghost armed = { λ l. false };
 
-    ghost journalled = { λ l safe. ∥∥₁_map (l.kept safe) (λ k. k.kept.ledger.journalled) };
+    ghost journalled = { λ l safe. ∥∥₁_map (l.kept safe.0) (λ k. k.kept.ledger.journalled) };
 
-    ghost bodied = { λ l safe. ∥∥₁_map (l.kept safe) (λ k.
-        record { there = k.kept.ledger.bodied.there; own = k.own }) };
+    ghost bodied = { λ l safe. ∥∥₁_map (l.kept safe.0) (λ k.
+        has_bodies (B.Shelf.stands l.shelf) (B.Shelf.body_of l.shelf) (B.Shelf.only l.shelf)
+        (state S.Store l.conn).committed.trees k.kept.ledger.bodied k.own.own) };
 
     fn arrive(&mut self, caller: &Text, item: Item) -> Result<Arrived, LedgerFault> {
         self.arrive_in(caller, item)
     }
 
     fn next(&mut self, dest: &Text, now: u64) -> Result<Option<Job>, LedgerFault> {
-        let answer = next_job(&mut self.conn, self.alloc, dest, now);
+        let answer = next_job(&mut self.conn, &mut self.shelf, self.alloc, dest, now);
         self.failures = counted(&answer, self.failures);
         answer
     }
@@ -343,7 +376,7 @@ impl<S: Alter> Ledger for SqlLedger<S> {
     }
 }
 
-impl<S: Alter> LetsGo for SqlLedger<S> {
+impl<S: Alter, B: Shelf> LetsGo for SqlLedger<S, B> {
     fn give_up(&mut self, uid: &Text, dest: &Text, now: u64) -> Result<(), LedgerFault> {
         self.give_up_in(uid, dest, now)
     }
@@ -360,7 +393,7 @@ impl<S: Alter> LetsGo for SqlLedger<S> {
 }
 
 /// The moment stands beside each line that is written from then on.
-impl<S: Alter> Moments for SqlLedger<S> {
+impl<S: Alter, B: Shelf> Moments for SqlLedger<S, B> {
     fn at(&mut self, now: u64) {
         self.moment = Some(now);
     }
@@ -372,7 +405,7 @@ impl<S: Alter> Moments for SqlLedger<S> {
     }
 }
 
-impl<S: Alter> Views for SqlLedger<S> {
+impl<S: Alter, B: Shelf> Views for SqlLedger<S, B> {
     fn count_arrivals(&mut self) -> Result<u64, LedgerFault> {
         let answer = count_arrivals(&mut self.conn);
         self.failures = counted(&answer, self.failures);
@@ -420,9 +453,15 @@ impl<S: Alter> Views for SqlLedger<S> {
         self.failures = counted(&answer, self.failures);
         answer
     }
+
+    fn lines_behind(&mut self, after: u64, limit: u32) -> Result<Seq<JournalLine>, LedgerFault> {
+        let answer = tell_behind(&mut self.conn, self.alloc, after, limit);
+        self.failures = counted(&answer, self.failures);
+        answer
+    }
 }
 
-impl<S: Alter> TellsJournal for SqlLedger<S> {
+impl<S: Alter, B: Shelf> TellsJournal for SqlLedger<S, B> {
     fn journal(&mut self) -> Result<Seq<JournalLine>, LedgerFault> {
         let answer = tell_journal(&mut self.conn, self.alloc);
         self.failures = counted(&answer, self.failures);

@@ -1,21 +1,24 @@
 //! What the tables show of one instance, of one row, and of what is due.
-ghost use Rattle.std.specs.Prelude.{◌≡◌, ℕ, false};
+ghost use Rattle.std.specs.Prelude.{◌≡◌, ℕ, List, Some, false};
 ghost use Rattle.std.specs.FinMap as map;
 ghost use Rattle.sqlite.specs.Held.{state};
+ghost use Rattle.sqlite.specs.Tree.{Trees};
 ghost use Rattle.dr_site.specs.Parts.{Part};
 ghost use Rattle.dr_ledger.specs.Items.{instance_of};
-ghost use Rattle.dr_ledger.specs.Replies.{Admits, Dues};
+ghost use Rattle.dr_ledger.specs.Replies.{Admits, Dues, Reads};
 ghost use Rattle.dr_ledger.specs.SiteRoutes.{site_routing};
 ghost use Rattle.dr_site.specs.Routing.{HasLineFor};
 ghost use Rattle.dr_store_schema.specs.Books.{bodies_of, book_of, items_of};
 ghost use Rattle.dr_store_calls.specs.Calling.{Called, Looked, Nothing};
-ghost use Rattle.dr_store.specs.Reading.{AdmitsKnown, IsWholeJob, NextsStored};
+ghost use Rattle.dr_store_shelf.specs.Shelves.{KeepsCells};
+ghost use Rattle.dr_store.specs.Reading.{AdmitsKnown, IsWholeJob, NextsRead, NextsStored};
 
-use dr_base::Text;
+use dr_base::{Octets, Text};
 use dr_ledger::{Instance, Item, Job, LedgerFault};
 use dr_site::Site;
-use dr_store_calls::{Known, know};
+use dr_store_calls::{Known, know, shelf_fault};
 use dr_store_reads::{find_item, find_job, find_key, find_next};
+use dr_store_shelf::Shelf;
 use sqlite::{Alter, Connection};
 use std::alloc::Global;
 
@@ -73,8 +76,8 @@ fn job_of<S: Alter>(
 }
 
 /// What the first row for the destination, by (due, uid), that waits and is due at the moment `now`
-/// (milliseconds) is about, with its data set.
-pub fn next_job<S: Alter>(
+/// (milliseconds) is about, with what stands in its row for its data set.
+fn next_stored<S: Alter>(
     conn: &mut Connection<S>,
     alloc: Global,
     dest: &Text,
@@ -88,6 +91,67 @@ pub fn next_job<S: Alter>(
     match find_next(conn, alloc, dest, now) {
         Ok(Some(uid)) => job_of(conn, alloc, &uid),
         Ok(None) => Ok(None),
+        Err(fault) => Err(fault),
+    }
+}
+
+/// What is due, with its data set in the place of the cell that stood for it.
+fn read_by<B: Shelf>(shelf: &mut B, stored: Job) -> Result<Option<Job>, LedgerFault>
+    ensures read { (db : Trees) (dest : List ℕ) (now : ℕ) → NextsStored db dest now (Some stored)
+        → Reads result (λ job. B.Shelf.is_clean shelf.new
+        → NextsRead (B.Shelf.stands shelf.old) db dest now job) }
+    ensures keeps { KeepsCells (B.Shelf.uses shelf.old) (B.Shelf.stands shelf.old)
+        (B.Shelf.uses shelf.new) (B.Shelf.stands shelf.new) }
+    ensures clean { B.Shelf.is_clean shelf.new → B.Shelf.is_clean shelf.old }
+{
+    let Job { uid, key, body } = stored;
+    match shelf.get(body.into_vec()) {
+        Ok(bytes) => Ok(Some(Job {
+            uid,
+            key,
+            body: Octets::from_vec(bytes),
+        })),
+        Err(fault) => Err(shelf_fault(fault)),
+    }
+}
+
+/// The same, where a row is due.
+fn read_due<B: Shelf>(shelf: &mut B, due: Option<Job>) -> Result<Option<Job>, LedgerFault>
+    ensures read { (db : Trees) (dest : List ℕ) (now : ℕ) → NextsStored db dest now due
+        → Reads result (λ job. B.Shelf.is_clean shelf.new
+        → NextsRead (B.Shelf.stands shelf.old) db dest now job) }
+    ensures keeps { KeepsCells (B.Shelf.uses shelf.old) (B.Shelf.stands shelf.old)
+        (B.Shelf.uses shelf.new) (B.Shelf.stands shelf.new) }
+    ensures clean { B.Shelf.is_clean shelf.new → B.Shelf.is_clean shelf.old }
+{
+    match due {
+        Some(stored) => read_by(shelf, stored),
+        None => Ok(None),
+    }
+}
+
+/// What the first row for the destination, by (due, uid), that waits and is due at the moment `now`
+/// (milliseconds) is about, with its data set.
+pub fn next_job<S: Alter, B>(
+    conn: &mut Connection<S>,
+    shelf: &mut B,
+    alloc: Global,
+    dest: &Text,
+    now: u64,
+) -> Result<Option<Job>, LedgerFault>
+where
+    B: Shelf,
+    ensures looked { (n : ℕ) (part : Part)
+        → Looked n part result (state S.Store conn.old) (state S.Store conn.new)
+        (λ base job. B.Shelf.is_clean shelf.new
+        → NextsRead (B.Shelf.stands shelf.old) base dest.now now job) }
+    ensures keeps { KeepsCells (B.Shelf.uses shelf.old) (B.Shelf.stands shelf.old)
+        (B.Shelf.uses shelf.new) (B.Shelf.stands shelf.new) }
+    ensures clean { B.Shelf.is_clean shelf.new → B.Shelf.is_clean shelf.old }
+    ensures idle { conn.old.in_transaction ≡ false → conn.new.in_transaction ≡ false }
+{
+    match next_stored(conn, alloc, dest, now) {
+        Ok(due) => read_due(shelf, due),
         Err(fault) => Err(fault),
     }
 }

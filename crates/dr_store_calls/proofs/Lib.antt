@@ -6,4 +6,5 @@ pub mod Knows
 pub mod Moves
 pub mod Overs
 pub mod Reading
+pub mod Shelved
 pub mod Takings

@@ -37,7 +37,7 @@ use Rattle.sqlite.specs.State.{State}
 use Rattle.dr_store_calls.specs.declared.bringing.Delivery.{Delivery}
 use Rattle.dr_store_calls.specs.Calling.{Called, IsLedgerOf, IsOwnFault, Looked, Nothing, advanced}
 use Rattle.dr_store_calls.specs.Knowing.{FitsTables, IsThere}
-use Rattle.dr_store_calls.specs.Receiving.{AcceptsOne, AnswersTo, AnswersWith, IsDelivered, Receives, ReceivesAs, TakesOnly}
+use Rattle.dr_store_calls.specs.Receiving.{AcceptsOne, AnswersWith, IsDelivered, Receives, ReceivesAs, TakesOnly}
 use Rattle.dr_store_calls.proofs.Calls.{asked_as, called_as, looked_failed, looked_then, still_called}
 
 -- ---- a first arrival
@@ -88,7 +88,7 @@ module _ (n : ℕ) (moment : Option ℕ) (part : Part) (how : Taking) (caller : 
   has : map.get (items_of db) instance.uid ≡ Some instance
   has = ap (λ (b : Book). map.get b.items instance.uid) book ∙ filled_is texts (items_of base) instance.uid instance same
 
-  takes : TakesOnly instance cell base db
+  takes : TakesOnly (Ok New) instance cell base db
   takes uid there h = elim (cell_came how instance.uid cell (bodies_of base) uid there (ap (λ x. map.get x uid) (sym w.bodies) ∙ h)) [
     | inl was ↦ inl was
     | inr new ↦ inr (new.0, new.1, has)
@@ -99,7 +99,7 @@ module _ (n : ℕ) (moment : Option ℕ) (part : Part) (how : Taking) (caller : 
       w.targets m ∙ ap (λ b. cond b (with_names (names_in (base 12) m) (names_for keep to)) (names_in (base 12) m)) (ne_eqb n m (λ e. omega (arith, e, later)))
       ∙ l.ahead m (omega (arith, later))
 
-  pub arrives : IsLedgerOf (n + 1) part db × (Arrives (site_routing part) caller instance (book_of base) (Ok New) (book_of db) × TakesOnly instance cell base db)
+  pub arrives : IsLedgerOf (n + 1) part db × (Arrives (site_routing part) caller instance (book_of base) (Ok New) (book_of db) × TakesOnly (Ok New) instance cell base db)
   arrives = (
     record { ahead = ahead; journalled = (l.journalled.0, arrivals_are_journalled (site_routing part) l.journalled.0 caller instance (book_of base) (book_of db) (Ok New) l.journalled.1 answer); bodied = bodied },
     (answer, takes),
@@ -109,7 +109,7 @@ module _ (n : ℕ) (moment : Option ℕ) (part : Part) (how : Taking) (caller : 
 
 pub repeats : (n : ℕ) (moment : Option ℕ) (part : Part) (caller : Text) (instance : Instance) (cell : List ℕ) (whole : Bool) (base db : Trees) → HasLineFor part caller instance.key → AreBelow n (base 11) → IsLedgerOf n part base
     → IsThere base instance whole → set.contains (arrivals_in (base 5)) (caller, instance.uid) ≡ true → AddsOnlyLine (arrived_line n moment 1 caller instance) base db
-    → IsLedgerOf (n + 1) part db × (Arrives (site_routing part) caller instance (book_of base) (Ok Again) (book_of db) × TakesOnly instance cell base db)
+    → IsLedgerOf (n + 1) part db × (Arrives (site_routing part) caller instance (book_of base) (Ok Again) (book_of db) × TakesOnly (Ok Again) instance cell base db)
 repeats n moment part caller instance cell whole base db line below l was again w =
     let made = repeats_repeat base db n moment caller instance below w in
     let answer : Arrives (site_routing part) caller instance (book_of base) (Ok Again) (book_of db) = (
@@ -123,7 +123,7 @@ repeats n moment part caller instance cell whole base db line below l was again 
         journalled = (l.journalled.0, arrivals_are_journalled (site_routing part) l.journalled.0 caller instance (book_of base) (book_of db) (Ok Again) l.journalled.1 answer);
         bodied = subst (λ b. HasCells b (bodies_of db)) (sym made.0) (subst (λ x. HasCells (after (Repeat caller instance) (book_of base)) x) (sym made.1) has);
       },
-      (answer, λ other there h. inl (ap (λ x. map.get x other) (sym made.1) ∙ h)),
+      (answer, made.1),
     )
 
 -- ---- refusals
@@ -132,8 +132,8 @@ pub arrives_own : (part : Part) (caller : Text) (item : Instance) (b : Book) (e 
 arrives_own part caller item b e line (inl is) = subst (λ x. Arrives (site_routing part) caller item b (Err x) b) (sym is) (line, refl)
 arrives_own part caller item b e line (inr is) = subst (λ x. Arrives (site_routing part) caller item b (Err x) b) (sym is) (line, refl)
 
-pub takes_none : (instance : Instance) (cell : List ℕ) (db : Trees) → TakesOnly instance cell db db
-takes_none instance cell db uid there h = inl h
+pub takes_none : (e : LedgerFault) (instance : Instance) (cell : List ℕ) (db : Trees) → TakesOnly (Err e) instance cell db db
+takes_none e instance cell db = refl
 
 -- ---- a site sends nothing to the local caller
 
@@ -145,7 +145,7 @@ not_to_local part caller key site sends =
 -- ---- what is said of an arrival, whatever the tables have of it
 
 pub refused : (part : Part) (caller : Text) (instance : Instance) (cell : List ℕ) (e : LedgerFault) → HasLineFor part caller instance.key → IsOwnFault e → (db : Trees) → AnswersWith part caller instance cell (Err e) db db
-refused part caller instance cell e line own db = (arrives_own part caller instance (book_of db) e line own, takes_none instance cell db)
+refused part caller instance cell e line own db = (arrives_own part caller instance (book_of db) e line own, takes_none e instance cell db)
 
 module _ (came : Delivery) (old new : State) where
   -- where what is known couldn't be read
@@ -183,19 +183,3 @@ not_received came e s Asks answers lasts =
 -- where there is no memory
 pub no_memory : (came : Delivery) (s : State) (Asks : Trees → Type 0) → IsDelivered came → Receives came (Err fault.Memory) s s Asks
 no_memory came s Asks is = not_received came fault.Memory s Asks (λ db asks. refused came.site.now came.caller.now came.instance.now came.cell.now fault.Memory is.line (inr refl) db) (λ P h. tt)
-
--- ---- an item, whose own bytes are its cell
-
-pub takes_item : (n : ℕ) (part : Part) (caller : Text) (item : Job) (r : Result Arrived LedgerFault) (old new : State) (Makes : Trees → Trees → Type 0) → IsItem item
-    → Called n (advanced r n) part r old new Nothing (AnswersWith part caller (instance_of item) item.body r) Makes → Called n (advanced r n) part r old new Nothing (AnswersTo part caller item r) Makes
-takes_item n part caller item r old new Makes is c = record {
-  clean = c.clean;
-  was_open = c.was_open;
-  idle = c.idle;
-  lasts = c.lasts;
-  kept = c.kept;
-  answers = λ clean is_open k any.
-      let it = c.answers clean is_open k any in
-      (it.0, λ uid there h. elim (it.1 uid there h) [ inl was ↦ inl was | inr new ↦ inr (new.0, new.1, is, new.2) ]);
-  crash = c.crash;
-}

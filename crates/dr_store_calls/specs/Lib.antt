@@ -4,3 +4,4 @@ pub mod Calling
 pub mod Knowing
 pub mod Needs
 pub mod Receiving
+pub mod Shelving

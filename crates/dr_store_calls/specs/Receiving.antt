@@ -1,5 +1,5 @@
 -- What is brought to a site, and what is said of the calls that take it.
-use Rattle.std.specs.Prelude.{◌≡◌, ◌≤◌, ◌^◌, ◌⊎◌, ℕ, Bool, List, Some, Result, Ok}
+use Rattle.std.specs.Prelude.{◌≡◌, ◌≤◌, ◌^◌, ◌⊎◌, ℕ, Bool, List, Some, Result, Ok, Err}
 use Rattle.std.specs.FinMap as map
 use Rattle.std.specs.FinSet as set
 use Rattle.sqlite.specs.State.{State}
@@ -11,8 +11,9 @@ use Rattle.dr_site.specs.Routing.{HasLineFor}
 use Rattle.dr_ledger.specs.declared.content.Job.{Job}
 use Rattle.dr_ledger.specs.declared.fault.LedgerFault.{LedgerFault}
 use Rattle.dr_ledger.specs.declared.item.Arrived.{Arrived}
+use Rattle.dr_ledger.specs.declared.item.Arrived.TheVariants.{New, Again}
 use Rattle.dr_ledger.specs.declared.item.Instance.{Instance}
-use Rattle.dr_ledger.specs.Items.{IsItem, instance_of}
+use Rattle.dr_ledger.specs.Items.{instance_of}
 use Rattle.dr_ledger.specs.Replies.{Arrives}
 use Rattle.dr_ledger.specs.SiteRoutes.{site_routing}
 use Rattle.dr_store_schema.specs.Books.{all_kept_in, arrivals_in, bodies_of, book_of, items_of}
@@ -55,43 +56,29 @@ pub record IsFoundFor (uid : Text) (db : Trees) (first : FirstArrival) : Type 0 
 
 -- ---- the calls
 
--- each data set that is there after a call was there before, or is that of what was brought, an
--- item, under its uid, and the book has the item then
-abbrev pub TakesItem : Job → Trees → Trees → Type 0
-TakesItem item base db =
-    (uid : Text) (there : List ℕ)
-    → map.get (bodies_of db) uid ≡ Some there
-    → (map.get (bodies_of base) uid ≡ Some there)
-    ⊎ ((uid ≡ item.uid) × (there ≡ item.body) × IsItem item
-    × (map.get (items_of db) item.uid ≡ Some (instance_of item)))
-
--- book and data sets after an arrival with this answer
-abbrev pub AnswersTo : Part → Text → Job → Result Arrived LedgerFault → Trees → Trees → Type 0
-AnswersTo part caller item result base db =
-    Arrives (site_routing part) caller (instance_of item) (book_of base) result (book_of db)
-    × TakesItem item base db
-
 -- the book after an arrival that was accepted
 abbrev pub AcceptsItem : Part → Text → Job → Trees → Trees → Type 0
 AcceptsItem part caller item base db =
     IsAccepted part caller (instance_of item) (book_of base) (book_of db)
 
--- each cell that is there after a call was there before, or is this one, under the uid of this
--- instance, and the book has the instance then
-abbrev pub TakesOnly : Instance → List ℕ → Trees → Trees → Type 0
-TakesOnly instance cell base db =
+-- Each cell that is there after a first arrival was there before, or is this one, under the uid of
+-- this instance, and the book has the instance then. With any other answer all cells stay.
+abbrev pub TakesOnly : Result Arrived LedgerFault → Instance → List ℕ → Trees → Trees → Type 0
+TakesOnly (Ok New) instance cell base db =
     (uid : Text) (there : List ℕ)
     → map.get (bodies_of db) uid ≡ Some there
     → (map.get (bodies_of base) uid ≡ Some there)
     ⊎ ((uid ≡ instance.uid) × (there ≡ cell)
     × (map.get (items_of db) instance.uid ≡ Some instance))
+TakesOnly (Ok Again) instance cell base db = bodies_of db ≡ bodies_of base
+TakesOnly (Err why) instance cell base db = bodies_of db ≡ bodies_of base
 
 -- book and cells after an arrival with this answer of an instance with this cell
 abbrev pub AnswersWith : Part → Text → Instance → List ℕ → Result Arrived LedgerFault
     → Trees → Trees → Type 0
 AnswersWith part caller instance cell result base db =
     Arrives (site_routing part) caller instance (book_of base) result (book_of db)
-    × TakesOnly instance cell base db
+    × TakesOnly result instance cell base db
 
 -- the book after an arrival of the instance that was accepted
 abbrev pub AcceptsOne : Part → Text → Instance → Trees → Trees → Type 0

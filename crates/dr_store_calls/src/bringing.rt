@@ -4,6 +4,14 @@ use dr_ledger::Instance;
 use dr_route::Targets;
 use dr_site::Site;
 
+/// The line by which the journal is to tell of what comes.
+#[derive(Clone, Copy)]
+pub struct NextLine {
+    pub n: u64,
+    /// Its moment (milliseconds), if it is known.
+    pub moment: Option<u64>,
+}
+
 /// What a caller brings to a site.
 #[derive(Clone, Copy)]
 pub struct Delivery<'x> {

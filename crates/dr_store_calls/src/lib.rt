@@ -18,11 +18,13 @@ mod needs;
 mod plan;
 mod receiving;
 mod settling;
+mod shelving;
 mod writing;
 
 pub use adopting::adopt;
+pub use bringing::NextLine;
 pub use dropping::give_up;
 pub use forgetting::{forget, is_over};
 pub use knowing::{Known, know};
-pub use receiving::arrive;
 pub use settling::{requeue, settle};
+pub use shelving::{arrive, shelf_fault};

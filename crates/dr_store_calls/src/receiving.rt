@@ -6,17 +6,17 @@ ghost use Rattle.dr_ledger.specs.Replies.{Reads};
 ghost use Rattle.dr_site.specs.Parts.{Part};
 ghost use Rattle.dr_store_schema.specs.Books.{rows_of};
 ghost use Rattle.dr_store_changes.specs.Changes.{HasNeither};
-ghost use Rattle.dr_store_calls.specs.Calling.{Called, Looked, Nothing, advanced};
+ghost use Rattle.dr_store_calls.specs.Calling.{Looked, Nothing};
 ghost use Rattle.dr_store_calls.specs.Knowing.{IsWhatIsKnown, IsThere, chosen, is_chosen};
 ghost use Rattle.dr_store_calls.specs.Knowing.{taking_there};
-ghost use Rattle.dr_store_calls.specs.Receiving.{AcceptsItem, AnswersTo, AreTargetsOf, IsDelivered};
+ghost use Rattle.dr_store_calls.specs.Receiving.{AreTargetsOf, IsDelivered};
 ghost use Rattle.dr_store_calls.specs.Receiving.{IsFoundFor, IsThereFor, Receives};
 
 use crate::arriving::{bring_item, bring_new, repeat};
 use crate::bringing::{Delivery, FirstArrival, Queued};
 use crate::knowing::{Known, know};
 use dr_base::{Seq, Text};
-use dr_ledger::{Arrived, Item, LedgerFault, Progress};
+use dr_ledger::{Arrived, LedgerFault, Progress};
 use dr_route::Targets;
 use dr_site::Site;
 use dr_store_changes::Taking;
@@ -292,46 +292,5 @@ pub fn receive<'x, S: Alter>(
     match know(conn, alloc, came.instance) {
         Ok(known) => arrive_by(conn, alloc, came, known),
         Err(fault) => Err(fault),
-    }
-}
-
-/// Takes an item from a caller, `-` for what enters at the node itself.
-///
-/// Errors: NoLine, Conflict, Store and Memory, tested in this order; Store and Memory may come
-/// before a conflict is seen.
-pub fn arrive<'x, S: Alter>(
-    conn: &mut Connection<S>,
-    alloc: Global,
-    site: &Site,
-    n: u64,
-    moment: Option<u64>,
-    caller: &'x Text,
-    item: Item,
-) -> Result<Arrived, LedgerFault>
-    requires idle { conn.old.in_transaction ≡ false }
-    ensures called { Called n (advanced result n) site.now result (state S.Store conn.old)
-        (state S.Store conn.new) Nothing (AnswersTo site.now caller.now item result)
-        (AcceptsItem site.now caller.now item) }
-    ensures number { OnOk result (n ≤ 2 ^ 62) }
-    ensures idle { conn.new.in_transaction ≡ false }
-{
-    if !site.has_line(caller, item.key()) {
-        return Err(LedgerFault::NoLine);
-    }
-    match item.instance() {
-        Ok(instance) => {
-            // In the tables its data set's own bytes stand for it.
-            let job = item.into_job();
-            let came = Delivery {
-                site,
-                n,
-                moment,
-                caller,
-                instance: &instance,
-                cell: job.body.as_bytes(),
-            };
-            receive(conn, alloc, &came)
-        }
-        Err(_) => Err(LedgerFault::Memory),
     }
 }

@@ -21,5 +21,5 @@ mod sheets;
 mod testing;
 
 pub use fault::OpeningFault;
-pub use ledger::ledger_on;
+pub use ledger::{in_rows, ledger_on};
 pub use opening::{on, open};

@@ -45,6 +45,14 @@ IsWhyNotRead usable stands fault.Full = ⊥
 IsWhyNotRead usable stands fault.NoCell = stands → ⊥
 IsWhyNotRead usable stands fault.Unreadable = stands → ⊥
 
+-- Each cell that was in use and stood for some bytes is in use still, and stands for them.
+abbrev pub KeepsCells : (Used : List ℕ → Type 0)
+    → (Stood : List ℕ → List ℕ → Type 0)
+    → (Uses : List ℕ → Type 0)
+    → (Stands : List ℕ → List ℕ → Type 0) → Type 0
+KeepsCells Used Stood Uses Stands =
+    (cell bytes : List ℕ) → Used cell → Stood cell bytes → Uses cell × Stands cell bytes
+
 -- two cells name different places
 abbrev pub AreApart : List ℕ → List ℕ → Type 0
 AreApart cell other = (extent_in cell).at ≢ (extent_in other).at

@@ -13,6 +13,18 @@ pub enum BodyCell {
     Name(Vec<u8>),
 }
 
+impl BodyCell {
+    /// The bytes of the cell, which was given out for this data set.
+    pub fn bytes<'x>(&'x self, body: &'x [u8]) -> &'x [u8]
+        ensures { result.now ≡ bytes_of self.now body.now }
+    {
+        match self {
+            BodyCell::Itself => body,
+            BodyCell::Name(cell) => cell,
+        }
+    }
+}
+
 /// A place for data sets, which gives out a cell for each.
 ///
 /// A cell that is in use stands for the same bytes until it is let go, whatever else is put, read

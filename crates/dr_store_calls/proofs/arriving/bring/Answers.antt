@@ -39,7 +39,7 @@ returns-in-Ok-clause-called g c =
     let Made : List Text → List Text → List Text → Trees → Trees → Type 0 = λ ys ds names. Brings how caller item cell ys ds keeps names n c.args.came.now.moment in
     let Asks : Trees → Type 0 = λ base. FitsTables how caller item to keep again dests keeps base in
     let Makes : Trees → Trees → Type 0 = λ base db. Arrives (site_routing part) caller item (book_of base) (Ok New) (book_of db) in
-    let Answers : Trees → Trees → Type 0 = λ base db. Arrives (site_routing part) caller item (book_of base) (Ok New) (book_of db) × TakesOnly item cell base db in
+    let Answers : Trees → Trees → Type 0 = λ base db. Arrives (site_routing part) caller item (book_of base) (Ok New) (book_of db) × TakesOnly (Ok New) item cell base db in
     let Wants : List Text → Trees → Type 0 = λ ys db. AsksToTake how item.uid db × HasRows item.uid ys db in
     let W : List Text → List Text → List Text → Type 0 = λ ys ds names. Written {E = LedgerFault} n (Wants ys) (Made ys ds names) (Ok tt) old new in
     made_called n part (Wants again) Asks (Made again dests (names_for keep to)) Answers Makes old new (λ h. c.written.ensures.idle) (λ ready l fits. (fits.asks, rows_there old.committed.trees item.uid to again fits.again_are)) New
@@ -69,7 +69,7 @@ returns-in-Err-clause-called g c =
     let Asks : Trees → Type 0 = λ base. FitsTables how caller item to keep again dests keeps base in
     let Makes : Trees → Trees → Type 0 = λ base db. Arrives (site_routing part) caller item (book_of base) (Ok New) (book_of db) in
     let e = c.in-Err.fault in
-    let Answers : Trees → Trees → Type 0 = λ base db. Arrives (site_routing part) caller item (book_of base) (Err e) (book_of db) × TakesOnly item cell base db in
+    let Answers : Trees → Trees → Type 0 = λ base db. Arrives (site_routing part) caller item (book_of base) (Err e) (book_of db) × TakesOnly (Err e) item cell base db in
     let Wants : List Text → Trees → Type 0 = λ ys db. AsksToTake how item.uid db × HasRows item.uid ys db in
     let W : List Text → List Text → List Text → Type 0 = λ ys ds names. Written {E = LedgerFault} n (Wants ys) (Made ys ds names) (Err e) old new in
     unmade_called {A = Arrived} n part (Wants again) Asks (Made again dests (names_for keep to)) Answers Makes old new (λ h. c.written.ensures.idle) (λ ready l fits. (fits.asks, rows_there old.committed.trees item.uid to again fits.again_are)) e
@@ -79,4 +79,4 @@ returns-in-Err-clause-called g c =
     (subst (λ ys. W ys c.as_slice-dests.result.now c.args.names.now) c.as_slice-again.ensures c.in-Err.ensures.written)))
     (λ ready l fits db w.
     (arrives n c.args.came.now.moment part how caller item cell to keep again dests keeps old.committed.trees db c.requires.delivered.line c.requires.targets.to c.requires.targets.keep c.requires.targets.formed (below_of n old ready) l fits w).1.0)
-    (λ fits. (arrives_own part caller item (book_of old.committed.trees) e c.requires.delivered.line c.in-Err.ensures.fault, takes_none item cell old.committed.trees))
+    (λ fits. (arrives_own part caller item (book_of old.committed.trees) e c.requires.delivered.line c.in-Err.ensures.fault, takes_none e item cell old.committed.trees))

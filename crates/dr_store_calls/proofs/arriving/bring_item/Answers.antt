@@ -23,7 +23,7 @@ returns-in-Err-clause-called g c =
     let caller = c.args.came.now.caller.now in
     let item = c.args.came.now.instance.now in
     let cell = c.args.came.now.cell.now in
-    let Answers : Trees → Trees → Type 0 = λ base db. Arrives (site_routing part) caller item (book_of base) (Err fault.Memory) (book_of db) × TakesOnly item cell base db in
+    let Answers : Trees → Trees → Type 0 = λ base db. Arrives (site_routing part) caller item (book_of base) (Err fault.Memory) (book_of db) × TakesOnly (Err fault.Memory) item cell base db in
     let Makes : Trees → Trees → Type 0 = λ base db. Arrives (site_routing part) caller item (book_of base) (Ok New) (book_of db) in
     still_called {A = Arrived} c.args.came.now.n part (Err fault.Memory) (state g.S.Store c.args.conn.now) (λ base. FitsTables c.args.taking caller item c.args.targets.now.to c.args.targets.now.keep c.args.queued.now.again.now c.args.queued.now.dests.now c.args.keeps base) Answers Makes
-    (λ db fits. (arrives_own part caller item (book_of db) fault.Memory c.requires.delivered.line (inr refl), takes_none item cell db)) (λ P h. tt)
+    (λ db fits. (arrives_own part caller item (book_of db) fault.Memory c.requires.delivered.line (inr refl), takes_none fault.Memory item cell db)) (λ P h. tt)

@@ -29,7 +29,7 @@ returns-clause-called g c =
     let anew = c.new-none.result in
     let none : anew ≡ [] = c.new-none.ensures in
     let how : t ≡ taking_absent keep (length to == 0) = c.taking_of-taking.ensures ∙ ap (λ none. taking_absent keep none) c.is_empty.ensures in
-    let Answers : Trees → Trees → Type 0 = λ base db. Arrives (site_routing part) caller item (book_of base) r (book_of db) × TakesOnly item cell base db in
+    let Answers : Trees → Trees → Type 0 = λ base db. Arrives (site_routing part) caller item (book_of base) r (book_of db) × TakesOnly r item cell base db in
     let Makes : Trees → Trees → Type 0 = λ base db. Arrives (site_routing part) caller item (book_of base) (Ok New) (book_of db) in
     let Wants : Taking → List Text → Trees → Type 0 = λ how again base. FitsTables how caller item to keep again to keep base in
     asked_as n (advanced r n) part r (state g.S.Store c.args.conn.now) (state g.S.Store c.bring_item.new.conn) (Wants t anew) (HasNeither item.uid) Answers Makes

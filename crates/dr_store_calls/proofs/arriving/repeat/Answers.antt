@@ -29,7 +29,7 @@ returns-in-Ok-clause-called g c =
     let new = state g.S.Store c.written.new.conn in
     let Line : Trees → Trees → Type 0 = AddsOnlyLine (arrived_line n c.args.came.now.moment 1 caller item) in
     let Asks : Trees → Type 0 = λ base. IsThere base item c.args.whole × (set.contains (arrivals_in (base 5)) (caller, item.uid) ≡ true) in
-    let Answers : Trees → Trees → Type 0 = λ base db. Arrives (site_routing part) caller item (book_of base) (Ok Again) (book_of db) × TakesOnly item cell base db in
+    let Answers : Trees → Trees → Type 0 = λ base db. Arrives (site_routing part) caller item (book_of base) (Ok Again) (book_of db) × TakesOnly (Ok Again) item cell base db in
     let Makes : Trees → Trees → Type 0 = λ base db. Arrives (site_routing part) caller item (book_of base) (Ok Again) (book_of db) in
     made_called n part (λ db. Unit {0}) Asks Line Answers Makes old new (λ h. c.written.ensures.idle) (λ ready l asks. tt) Again
     c.in-Ok.ensures.written
@@ -47,9 +47,9 @@ returns-in-Err-clause-called g c =
     let new = state g.S.Store c.written.new.conn in
     let Line : Trees → Trees → Type 0 = AddsOnlyLine (arrived_line n c.args.came.now.moment 1 caller item) in
     let Asks : Trees → Type 0 = λ base. IsThere base item c.args.whole × (set.contains (arrivals_in (base 5)) (caller, item.uid) ≡ true) in
-    let Answers : Trees → Trees → Type 0 = λ base db. Arrives (site_routing part) caller item (book_of base) (Err e) (book_of db) × TakesOnly item cell base db in
+    let Answers : Trees → Trees → Type 0 = λ base db. Arrives (site_routing part) caller item (book_of base) (Err e) (book_of db) × TakesOnly (Err e) item cell base db in
     let Makes : Trees → Trees → Type 0 = λ base db. Arrives (site_routing part) caller item (book_of base) (Ok Again) (book_of db) in
     unmade_called {A = Arrived} n part (λ db. Unit {0}) Asks Line Answers Makes old new (λ h. c.written.ensures.idle) (λ ready l asks. tt) e c.in-Err.ensures.fault
     c.in-Err.ensures.written
     (λ ready l asks db w. (repeats n c.args.came.now.moment part caller item cell c.args.whole old.committed.trees db c.requires.delivered.line (below_of n old ready) l asks.0 asks.1 w).1.0)
-    (λ asks. (arrives_own part caller item (book_of old.committed.trees) e c.requires.delivered.line c.in-Err.ensures.fault, takes_none item cell old.committed.trees))
+    (λ asks. (arrives_own part caller item (book_of old.committed.trees) e c.requires.delivered.line c.in-Err.ensures.fault, takes_none e item cell old.committed.trees))

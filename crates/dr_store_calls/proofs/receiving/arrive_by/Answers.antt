@@ -20,7 +20,7 @@ returns-in-Other-clause-called g c =
     let came = c.args.came.now in
     let Knows : Known → Trees → Type 0 = λ what base. IsWhatIsKnown base came.instance.now what in
     not_received came fault.Conflict (state g.S.Store c.args.conn.now) (Knows c.args.known)
-    (λ db is. ((c.requires.delivered.line, subst (λ what. Knows what db) c.in-Other.is is, refl), λ uid body h. inl h)) (λ P h. h)
+    (λ db is. ((c.requires.delivered.line, subst (λ what. Knows what db) c.in-Other.is is, refl), refl)) (λ P h. h)
 
 pub returns-in-Same-clause-called : goal.returns-in-Same-clause-called
 returns-in-Same-clause-called g c =

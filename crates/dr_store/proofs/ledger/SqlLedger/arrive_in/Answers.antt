@@ -1,17 +1,17 @@
 use Rattle.std.proofs.Common.{◌≡◌, Ok, sym, subst}
 use Rattle.sqlite.specs.Held.{state}
 use Rattle.sqlite.specs.Tree.{Trees}
-use Rattle.dr_ledger.specs.Bodies.{OnlyLetsGo, OnlyTakes}
+use Rattle.dr_ledger.specs.Bodies.{OnlyTakes}
 use Rattle.dr_ledger.specs.Items.{instance_of}
-use Rattle.dr_ledger.specs.Replies.{Arrives, Requeues, Settles}
+use Rattle.dr_ledger.specs.Replies.{Arrives}
 use Rattle.dr_ledger.specs.SiteRoutes.{site_routing}
-use Rattle.dr_store_schema.specs.Books.{bodies_of, book_of}
+use Rattle.dr_store_schema.specs.Books.{book_of}
 use Rattle.dr_store_calls.specs.Calling.{IsSafe, advanced}
 use Rattle.dr_store_calls.specs.Knowing.{IsAccepted}
-use Rattle.dr_store_calls.specs.Receiving.{AnswersTo}
-use Rattle.dr_store.specs.Owning.{KeepsOwn}
+use Rattle.dr_store_calls.specs.Shelving.{AnswersTo}
+use Rattle.dr_store.specs.Owning.{KeepsOwn, bodies_with}
 use Rattle.dr_store.proofs.Owns.{arrived, only_takes}
-use Rattle.dr_store.proofs.Replies.{arrives, lets_go, requeues, settles, takes}
+use Rattle.dr_store.proofs.Replies.{arrives, takes}
 use Rattle.dr_store.proofs.Stable.{both}
 use Rattle.dr_store.proofs.Writes.{answering, called, still_kept, wrote}
 use Rattle.dr_store.proofs.ledger.SqlLedger.arrive_in.Goals as goal
@@ -25,13 +25,17 @@ invariant_of-self g c =
     let r = c.arrive-answer.result in
     let old = state g.S.Store c.args.self.now.conn in
     let new = state g.S.Store c.arrive-answer.new.conn in
-    let Answers : Trees → Trees → Type 0 = λ base db. AnswersTo part caller item r base db in
+    let Used = g.B.Shelf.uses c.args.self.now.shelf in
+    let Stood = g.B.Shelf.stands c.args.self.now.shelf in
+    let Uses = g.B.Shelf.uses c.arrive-answer.new.shelf in
+    let Stands = g.B.Shelf.stands c.arrive-answer.new.shelf in
+    let Cells : Trees → Trees → Type 0 = λ base db. AnswersTo Uses Stands part caller item r base db in
     let Makes : Trees → Trees → Type 0 = λ base db. IsAccepted part caller (instance_of item) (book_of base) (book_of db) in
-    let done = called n (advanced r n) part r old new Answers Makes c.arrive-answer.ensures.called in
+    let done = called Used Stood n (advanced r n) part r old new Cells Makes c.arrive-answer.ensures.called in
     record {
       idle = c.arrive-answer.ensures.idle;
-      kept = subst (λ m. IsSafe new → ∥ KeepsOwn m part new ∥₁) (sym c.next_after-self.ensures) (still_kept n (advanced r n) part part r old new Answers Makes c.args.self.now.kept done
-          (λ k it own. arrived part caller item r old.committed.trees new.committed.trees it own));
+      kept = subst (λ m. IsSafe new → ∥ KeepsOwn Uses Stands m part new ∥₁) (sym c.next_after-self.ensures) (still_kept n (advanced r n) part part r old new Cells Makes c.args.self.now.kept done Uses Stands
+          (λ k it own. arrived c.arrive-answer.ensures.keeps part caller item r old.committed.trees new.committed.trees it own));
     }
 
 pub returns-clause-wrote : goal.returns-clause-wrote
@@ -43,10 +47,16 @@ returns-clause-wrote g c =
     let r = c.arrive-answer.result in
     let old = state g.S.Store c.args.self.now.conn in
     let new = state g.S.Store c.arrive-answer.new.conn in
-    let All : Trees → Trees → Type 0 = λ base db. AnswersTo part caller item r base db in
-    let Answers : Trees → Trees → Type 0 = λ base db. Arrives (site_routing part) caller (instance_of item) (book_of base) r (book_of db) × OnlyTakes item (bodies_of base) (bodies_of db) in
+    let was = c.args.self.now.shelf in
+    let shelf = c.arrive-answer.new.shelf in
+    let was_of = g.B.Shelf.body_of was in
+    let body_of = g.B.Shelf.body_of shelf in
+    let Cells : Trees → Trees → Type 0 = λ base db. AnswersTo (g.B.Shelf.uses shelf) (g.B.Shelf.stands shelf) part caller item r base db in
+    let Answers : Trees → Trees → Type 0 = λ base db. Arrives (site_routing part) caller (instance_of item) (book_of base) r (book_of db) × OnlyTakes item (bodies_with was_of base) (bodies_with body_of db) in
     let Makes : Trees → Trees → Type 0 = λ base db. IsAccepted part caller (instance_of item) (book_of base) (book_of db) in
-    let done = answering n (advanced r n) part part r old new All Answers Makes (λ base db it. (it.0, only_takes item base db it.1)) (called n (advanced r n) part r old new All Makes c.arrive-answer.ensures.called) in
+    let done = answering (g.B.Shelf.uses was) (g.B.Shelf.stands was) n (advanced r n) part part r old new Cells Answers Makes
+    (λ own it. (it.0, only_takes c.arrive-answer.ensures.keeps was_of body_of (g.B.Shelf.only was) (g.B.Shelf.only shelf) item old.committed.trees new.committed.trees it.1 own))
+    (called (g.B.Shelf.uses was) (g.B.Shelf.stands was) n (advanced r n) part r old new Cells Makes c.arrive-answer.ensures.called) in
     wrote n (advanced r n) part part r old new Answers Makes c.args.self.now.kept done (λ db is_open left. g.met.S.Store.settled c.args.self.now.conn.store db is_open left)
     (λ db is_open left. g.met.S.Store.settled c.arrive-answer.new.conn.store db is_open left)
-    (both (arrives part caller (instance_of item) (book_of old.committed.trees) r (book_of new.committed.trees)) (takes item (bodies_of old.committed.trees) (bodies_of new.committed.trees)))
+    (both (arrives part caller (instance_of item) (book_of old.committed.trees) r (book_of new.committed.trees)) (takes item (bodies_with was_of old.committed.trees) (bodies_with body_of new.committed.trees)))

@@ -1,23 +1,25 @@
 use Rattle.std.proofs.Common.{◌≡◌, Ok, sym, subst}
 use Rattle.sqlite.specs.Held.{state}
 use Rattle.sqlite.specs.Tree.{Trees}
-use Rattle.dr_ledger.specs.Bodies.{OnlyLetsGo, OnlyTakes}
+use Rattle.dr_ledger.specs.Bodies.{OnlyLetsGo}
 use Rattle.dr_ledger.specs.Items.{instance_of}
 use Rattle.dr_ledger.specs.Replies.{Arrives, Requeues, Settles}
 use Rattle.dr_ledger.specs.SiteRoutes.{site_routing}
 use Rattle.dr_store_schema.specs.Books.{bodies_of, book_of}
 use Rattle.dr_store_calls.specs.Calling.{IsSafe, advanced}
 use Rattle.dr_store_calls.specs.Knowing.{IsAccepted}
-use Rattle.dr_store.specs.Owning.{KeepsOwn}
-use Rattle.dr_store.proofs.Owns.{settled}
+use Rattle.dr_store.specs.Owning.{KeepsOwn, bodies_with}
+use Rattle.dr_store.proofs.Owns.{lets_go_with, settled}
 use Rattle.dr_store.proofs.Replies.{accepted, arrives, lets_go, requeues, settles, takes}
 use Rattle.dr_store.proofs.Stable.{both}
-use Rattle.dr_store.proofs.Writes.{called, still_kept, wrote}
+use Rattle.dr_store.proofs.Writes.{answering, called, still_kept, wrote}
 use Rattle.dr_store.proofs.ledger.SqlLedger.settle_in.Goals as goal
 
 pub invariant_of-self : goal.invariant_of-self
 invariant_of-self g c =
     let n = c.args.self.now.next in
+    let Uses = g.B.Shelf.uses c.args.self.now.shelf in
+    let Stands = g.B.Shelf.stands c.args.self.now.shelf in
     let part = c.args.self.now.site in
     let uid = c.args.uid.now in
     let dest = c.args.dest.now in
@@ -28,16 +30,19 @@ invariant_of-self g c =
     let new = state g.S.Store c.settle-answer.new.conn in
     let Answers : Trees → Trees → Type 0 = λ base db. Settles uid dest outcome now (book_of base) r (book_of db) × OnlyLetsGo (bodies_of base) (bodies_of db) in
     let Makes : Trees → Trees → Type 0 = λ base db. Settles uid dest outcome now (book_of base) (Ok tt) (book_of db) in
-    let done = called n (advanced r n) part r old new Answers Makes (c.settle-answer.ensures.called part) in
+    let done = called Uses Stands n (advanced r n) part r old new Answers Makes (c.settle-answer.ensures.called part) in
     record {
       idle = c.settle-answer.ensures.idle;
-      kept = subst (λ m. IsSafe new → ∥ KeepsOwn m part new ∥₁) (sym c.next_after-self.ensures) (still_kept n (advanced r n) part part r old new Answers Makes c.args.self.now.kept done
+      kept = subst (λ m. IsSafe new → ∥ KeepsOwn Uses Stands m part new ∥₁) (sym c.next_after-self.ensures) (still_kept n (advanced r n) part part r old new Answers Makes c.args.self.now.kept done Uses Stands
           (λ k it own. settled uid dest outcome now r old.committed.trees new.committed.trees it own));
     }
 
 pub returns-clause-wrote : goal.returns-clause-wrote
 returns-clause-wrote g c =
     let n = c.args.self.now.next in
+    let Uses = g.B.Shelf.uses c.args.self.now.shelf in
+    let Stands = g.B.Shelf.stands c.args.self.now.shelf in
+    let body_of = g.B.Shelf.body_of c.args.self.now.shelf in
     let part = c.args.self.now.site in
     let uid = c.args.uid.now in
     let dest = c.args.dest.now in
@@ -46,9 +51,11 @@ returns-clause-wrote g c =
     let r = c.settle-answer.result in
     let old = state g.S.Store c.args.self.now.conn in
     let new = state g.S.Store c.settle-answer.new.conn in
-    let Answers : Trees → Trees → Type 0 = λ base db. Settles uid dest outcome now (book_of base) r (book_of db) × OnlyLetsGo (bodies_of base) (bodies_of db) in
+    let Cells : Trees → Trees → Type 0 = λ base db. Settles uid dest outcome now (book_of base) r (book_of db) × OnlyLetsGo (bodies_of base) (bodies_of db) in
+    let Answers : Trees → Trees → Type 0 = λ base db. Settles uid dest outcome now (book_of base) r (book_of db) × OnlyLetsGo (bodies_with body_of base) (bodies_with body_of db) in
     let Makes : Trees → Trees → Type 0 = λ base db. Settles uid dest outcome now (book_of base) (Ok tt) (book_of db) in
-    let done = called n (advanced r n) part r old new Answers Makes (c.settle-answer.ensures.called part) in
+    let done = answering Uses Stands n (advanced r n) part part r old new Cells Answers Makes (λ own it. (it.0, lets_go_with body_of old.committed.trees new.committed.trees it.1))
+    (called Uses Stands n (advanced r n) part r old new Cells Makes (c.settle-answer.ensures.called part)) in
     wrote n (advanced r n) part part r old new Answers Makes c.args.self.now.kept done (λ db is_open left. g.met.S.Store.settled c.args.self.now.conn.store db is_open left)
     (λ db is_open left. g.met.S.Store.settled c.settle-answer.new.conn.store db is_open left)
-    (both (settles uid dest outcome now (book_of old.committed.trees) r (book_of new.committed.trees)) (lets_go (bodies_of old.committed.trees) (bodies_of new.committed.trees)))
+    (both (settles uid dest outcome now (book_of old.committed.trees) r (book_of new.committed.trees)) (lets_go (bodies_with body_of old.committed.trees) (bodies_with body_of new.committed.trees)))

@@ -5,11 +5,11 @@ use Rattle.sqlite_trees.specs.Props.{Trees-set}
 use Rattle.dr_ledger.specs.Items.{instance_of}
 use Rattle.dr_ledger.specs.Replies.{Admits}
 use Rattle.dr_ledger.specs.SiteRoutes.{site_routing}
-use Rattle.dr_store_schema.specs.Books.{bodies_of, book_of}
-use Rattle.dr_store.specs.Owning.{HaveOwn}
+use Rattle.dr_store_schema.specs.Books.{book_of}
+use Rattle.dr_store.specs.Owning.{HaveOwn, bodies_with}
 use Rattle.dr_store.proofs.Replies.{admits}
 use Rattle.dr_store.proofs.Stable.{both, of_prop}
-use Rattle.dr_store.proofs.Writes.{answered, called, lasting, still_kept, was_safe}
+use Rattle.dr_store.proofs.Writes.{answered, called, lasting, still_kept, was_safe, with_shelf}
 use Rattle.dr_store.proofs.ledger.SqlLedgerLedger.admits.Goals as goal
 
 pub invariant_of-self : goal.invariant_of-self
@@ -23,9 +23,9 @@ invariant_of-self g c =
     let new = state g.S.Store c.admit-answer.new.conn in
     let Answers : Trees → Trees → Type 0 = λ base db. (db ≡ base) × Admits (site_routing part) caller item (book_of base) r in
     let None : Trees → Trees → Type 0 = λ base db. ⊥ in
-    let done = called n n part r old new Answers None (c.admit-answer.ensures.called n) in
+    let done = called (g.B.Shelf.uses c.args.self.now.shelf) (g.B.Shelf.stands c.args.self.now.shelf) n n part r old new Answers None (c.admit-answer.ensures.called n) in
     let kept = c.args.self.now.kept in
-    record { idle = c.admit-answer.ensures.idle c.args.self.now.idle; kept = still_kept n n part part r old new Answers None kept done (λ k it own. subst HaveOwn (sym it.0) own) }
+    record { idle = c.admit-answer.ensures.idle c.args.self.now.idle; kept = still_kept n n part part r old new Answers None kept done (g.B.Shelf.uses c.args.self.now.shelf) (g.B.Shelf.stands c.args.self.now.shelf) (λ k it own. subst (HaveOwn (g.B.Shelf.uses c.args.self.now.shelf) (g.B.Shelf.stands c.args.self.now.shelf)) (sym it.0) own) }
 
 -- by hand: the search loses itself in what the trait asks
 pub returns : goal.returns
@@ -39,15 +39,15 @@ returns g c =
     let new = state g.S.Store c.admit-answer.new.conn in
     let Answers : Trees → Trees → Type 0 = λ base db. (db ≡ base) × Admits (site_routing part) caller item (book_of base) r in
     let None : Trees → Trees → Type 0 = λ base db. ⊥ in
-    let done = called n n part r old new Answers None (c.admit-answer.ensures.called n) in
+    let done = called (g.B.Shelf.uses c.args.self.now.shelf) (g.B.Shelf.stands c.args.self.now.shelf) n n part r old new Answers None (c.admit-answer.ensures.called n) in
     let kept = c.args.self.now.kept in
     let told = answered n n part part r old new Answers None kept done (both (of_prop (Trees-set _ _)) (admits part caller item (book_of old.committed.trees) r)) in
     record {
-      reply = λ safe. (told safe).1;
-      same = λ safe. (ap book_of (told safe).0, ap bodies_of (told safe).0);
+      reply = λ safe. (told safe.0).1;
+      same = λ safe. (ap book_of (told safe.0).0, ap (bodies_with (g.B.Shelf.body_of c.args.self.now.shelf)) (told safe.0).0);
       counts = c.counted-self.ensures.counts;
       armed = refl;
-      stood = was_safe n n part part r old new Answers None kept done;
-      lasts = lasting n n part part r old new Answers None kept done;
+      stood = λ safe. (was_safe n n part part r old new Answers None kept done safe.0, safe.1);
+      lasts = with_shelf r _ _ _ _ _ _ (λ clean. clean) (lasting n n part part r old new Answers None kept done);
       site = refl;
     }

@@ -1,4 +1,4 @@
-use Rattle.dr_store.proofs.Writes.{arms}
+use Rattle.dr_store.proofs.Writes.{arms, with_shelf}
 use Rattle.dr_store.proofs.ledger.SqlLedgerLedger.adopt.Goals as goal
 
 -- by hand: the search loses itself in what the trait asks
@@ -7,11 +7,11 @@ returns g c =
     let e = c.adopt_in.ensures in
     let r = c.adopt_in.result in
     record {
-      reply = λ safe. (e.wrote.answers safe).0;
-      bodies = λ safe. (e.wrote.answers safe).1;
+      reply = λ safe. (e.wrote.answers safe.0).0;
+      bodies = λ safe. (e.wrote.answers safe.0).1;
       counts = e.counts;
       armed = λ safe. arms _ r;
-      stood = e.wrote.stood;
-      lasts = e.wrote.lasts;
+      stood = λ safe. (e.wrote.stood safe.0, e.clean safe.1);
+      lasts = with_shelf r _ _ _ _ _ _ e.clean e.wrote.lasts;
       site = e.site;
     }

@@ -1,13 +1,18 @@
-use Rattle.std.proofs.Common.{◌≡◌, ◌≤◌, ℕ, Bool, List, Option, refl, arith}
+use Rattle.std.proofs.Common.{Option, refl, ◌∙◌}
+use Rattle.std.proofs.Math.Logic.{∥∥₁_map}
 use Rattle.sqlite.specs.Held.{state}
 use Rattle.sqlite.specs.Tree.{Trees}
 use Rattle.dr_ledger.specs.declared.content.Job.{Job}
 use Rattle.dr_ledger.specs.Bodies.{NextsWith}
-use Rattle.dr_store_schema.specs.Books.{bodies_of, book_of}
-use Rattle.dr_store.specs.Reading.{NextsStored}
+use Rattle.dr_store_schema.specs.Books.{book_of}
+use Rattle.dr_store.specs.Owning.{bodies_with}
+use Rattle.dr_store.specs.Reading.{NextsRead}
 use Rattle.dr_store.proofs.Nexts.{next_of}
+use Rattle.dr_store.proofs.Owns.{same_bodies, still_own}
+use Rattle.dr_store.proofs.Sets.{coded_bodies}
 use Rattle.dr_store.proofs.Shown.{nexts}
-use Rattle.dr_store.proofs.Writes.{looked_books, looked_kept, looked_lasting, looked_safe, looked_says}
+use Rattle.dr_store.proofs.Stable.{by_code}
+use Rattle.dr_store.proofs.Writes.{looked_books, looked_kept_by, looked_lasting_by, looked_safe, looked_says}
 use Rattle.dr_store.proofs.ledger.SqlLedgerLedger.next.Goals as goal
 
 pub invariant_of-self : goal.invariant_of-self
@@ -19,10 +24,12 @@ invariant_of-self g c =
     let r = c.next_job-answer.result in
     let old = state g.S.Store c.args.self.now.conn in
     let new = state g.S.Store c.next_job-answer.new.conn in
-    let Shows : Trees → Option Job → Type 0 = λ base. NextsStored base dest now in
+    let was = c.args.self.now.shelf in
+    let shelf = c.next_job-answer.new.shelf in
+    let Shows : Trees → Option Job → Type 0 = λ base job. g.B.Shelf.is_clean shelf → NextsRead (g.B.Shelf.stands was) base dest now job in
     record {
       idle = c.next_job-answer.ensures.idle c.args.self.now.idle;
-      kept = looked_kept n part r old new Shows c.args.self.now.kept (c.next_job-answer.ensures.looked n part);
+      kept = looked_kept_by n part r old new Shows c.args.self.now.kept (c.next_job-answer.ensures.looked n part) (g.B.Shelf.uses shelf) (g.B.Shelf.stands shelf) (still_own c.next_job-answer.ensures.keeps old.committed.trees);
     }
 
 -- by hand: the search loses itself in what the trait asks
@@ -35,16 +42,28 @@ returns g c =
     let r = c.next_job-answer.result in
     let old = state g.S.Store c.args.self.now.conn in
     let new = state g.S.Store c.next_job-answer.new.conn in
-    let Shows : Trees → Option Job → Type 0 = λ base. NextsStored base dest now in
+    let was = c.args.self.now.shelf in
+    let shelf = c.next_job-answer.new.shelf in
+    let was_of = g.B.Shelf.body_of was in
+    let body_of = g.B.Shelf.body_of shelf in
+    let Stands = g.B.Shelf.stands was in
+    let Shows : Trees → Option Job → Type 0 = λ base job. g.B.Shelf.is_clean shelf → NextsRead Stands base dest now job in
     let kept = c.args.self.now.kept in
-    let looked = (c.next_job-answer.ensures.looked n part) in
+    let keeps = c.next_job-answer.ensures.keeps in
+    let looked = c.next_job-answer.ensures.looked n part in
+    let clean = c.next_job-answer.ensures.clean in
     record {
-      reply = looked_says n part r old new Shows kept looked (NextsWith (book_of old.committed.trees) (bodies_of old.committed.trees) dest now)
-          (λ k job stored. next_of old.committed.trees dest now job k.kept.ledger.bodied k.own stored) (nexts (book_of old.committed.trees) (bodies_of old.committed.trees) dest now);
-      same = looked_books n part r old new Shows kept looked;
+      reply = λ safe. looked_says n part r old new Shows kept looked (NextsWith (book_of old.committed.trees) (bodies_with was_of old.committed.trees) dest now)
+          (λ k job read. next_of Stands was_of (g.B.Shelf.only was) old.committed.trees dest now job k.kept.ledger.bodied k.own.own (read safe.1)) (nexts (book_of old.committed.trees) (bodies_with was_of old.committed.trees) dest now) safe.0;
+      same = λ safe.
+          let books = looked_books n part r old new Shows kept looked body_of safe.0 in (
+            books.0,
+            books.1 ∙ by_code coded_bodies (bodies_with body_of old.committed.trees) (bodies_with was_of old.committed.trees)
+                (∥∥₁_map (kept (looked_safe n part r old new Shows kept looked safe.0)) (λ k. same_bodies keeps was_of body_of (g.B.Shelf.only was) (g.B.Shelf.only shelf) old.committed.trees k.own)),
+          );
       counts = c.counted-self.ensures.counts;
       armed = refl;
-      stood = looked_safe n part r old new Shows kept looked;
-      lasts = looked_lasting n part r old new Shows kept looked;
+      stood = λ safe. (looked_safe n part r old new Shows kept looked safe.0, clean safe.1);
+      lasts = looked_lasting_by n part r old new Shows kept looked (g.B.Shelf.is_clean was) (g.B.Shelf.is_clean shelf) clean;
       site = refl;
     }

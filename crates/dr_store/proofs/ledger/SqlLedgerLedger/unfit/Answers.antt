@@ -47,13 +47,13 @@ returns g c =
     let P : Text → Type 0 = λ name. UnfitsOf Rows Keys plan name r answer in
     let told : UnfitsOf Rows Keys plan part.name r answer = subst P c.name.ensures c.first_unfit-answer.ensures in
     let read = looked_reads n part r old new Shows kept looked (λ l. both (by_code (coded_list (coded× coded_pair coded_progress)) _ _) (by_code (coded_list (coded× coded_text coded_key)) _ _)) in
-    let lasts = looked_lasting n part r old new Shows kept looked in
+    let lasts = looked_lasting n part r old new Shows kept looked (g.B.Shelf.is_clean c.args.self.now.shelf) in
     record {
-      reply = λ safe. answers Rows Keys plan part.name old.committed.trees r answer told (read safe);
-      same = looked_books n part r old new Shows kept looked;
+      reply = λ safe. answers Rows Keys plan part.name old.committed.trees r answer told (read safe.0);
+      same = λ safe. looked_books n part r old new Shows kept looked (g.B.Shelf.body_of c.args.self.now.shelf) safe.0;
       counts = c.counted-self.ensures.counts;
       armed = refl;
-      stood = looked_safe n part r old new Shows kept looked;
+      stood = λ safe. (looked_safe n part r old new Shows kept looked safe.0, safe.1);
       lasts = record { trusted = lasts.trusted; lasts = lasting Rows Keys plan part.name old.committed.trees r answer _ told lasts.lasts };
       site = refl;
     }
