@@ -6,7 +6,7 @@ _dr_router_nodes() {
 }
 
 _dr_router() {
-    local words="check expand import verify route graph lint expect diff simulate echo new serve send list requeue drop forget visit stop adopt audit help"
+    local words="check expand import verify route graph lint expect diff simulate echo new serve send list requeue drop forget visit backup stop adopt audit help"
     local current=${COMP_WORDS[COMP_CWORD]} word=${COMP_WORDS[1]} plan=${COMP_WORDS[2]}
     COMPREPLY=()
     if [ "$COMP_CWORD" -eq 1 ]; then
@@ -21,7 +21,7 @@ _dr_router() {
         mapfile -t COMPREPLY < <(compgen -f -- "$current")
         return
     fi
-    if [ "${COMP_WORDS[COMP_CWORD - 1]}" = "--token" ]; then
+    if [ "${COMP_WORDS[COMP_CWORD - 1]}" = "--token" ] || [ "$word $COMP_CWORD" = "backup 9" ]; then
         mapfile -t COMPREPLY < <(compgen -f -- "$current")
         return
     fi
@@ -31,21 +31,23 @@ _dr_router() {
         return
     fi
     case "$word $COMP_CWORD" in
-        "route 4" | "echo "[34] | "new 4" | "serve 4" | "send 4" | "list 4" | "requeue "[47] | "drop "[47] | "forget 4" | "visit 4" | "stop 4")
+        "route 4" | "echo "[34] | "new 4" | "serve 4" | "send 4" | "list 4" | "requeue "[47] | "drop "[47] | "forget 4" | "visit 4" | "backup 4" | "stop 4")
             local IFS=$'\n'
             mapfile -t COMPREPLY < <(compgen -W "$(_dr_router_nodes "$plan")" -- "$current") ;;
-        "check 2" | "expand 2" | "import 2" | "verify "[23] | "route "[235] | "graph "[23] | "lint "[23] | "expect "[234] | "diff "[2345] | "simulate "[234] | "echo 2" | "new "[235] | "serve "[235] | "send "[2356] | "list "[235] | "requeue "[235] | "drop "[235] | "forget "[235] | "visit "[23] | "stop "[23] | "adopt "[2345] | "audit "[23])
+        "check 2" | "expand 2" | "import 2" | "verify "[23] | "route "[235] | "graph "[23] | "lint "[23] | "expect "[234] | "diff "[2345] | "simulate "[234] | "echo 2" | "new "[235] | "serve "[235] | "send "[2356] | "list "[235] | "requeue "[235] | "drop "[235] | "forget "[235] | "visit "[23] | "backup "[23] | "stop "[23] | "adopt "[2345] | "audit "[23])
             mapfile -t COMPREPLY < <(compgen -f -- "$current") ;;
-        "audit "[68] | "audit 1"[02468])
-            local IFS=$'\n'
-            mapfile -t COMPREPLY < <(compgen -W "$(_dr_router_nodes "$plan")" -- "$current") ;;
-        "audit "[579] | "audit 1"[13579])
-            mapfile -t COMPREPLY < <(compgen -W "--other" -- "$current") ;;
+        "audit "[5-9] | "audit "[1-9][0-9])
+            local IFS=$'\n' before=${COMP_WORDS[COMP_CWORD - 1]}
+            if [ "$before" = "--other" ] || [ "$before" = "--at" ]; then
+                mapfile -t COMPREPLY < <(compgen -W "$(_dr_router_nodes "$plan")" -- "$current")
+            else
+                mapfile -t COMPREPLY < <(compgen -W "--other"$'\n'"--at"$'\n'"--token" -- "$current")
+            fi ;;
         "adopt 6" | "audit 4")
             mapfile -t COMPREPLY < <(compgen -d -- "$current") ;;
         "serve 6" | "serve 8" | "serve 1"[02468])
             mapfile -t COMPREPLY < <(compgen -W "--links --log --report --workers --memory --connect --request --write --message --idle --until-input-ends --must-exist --forget-after --forget-never --control --control-token --control-host --control-anyone" -- "$current") ;;
-        "stop 5" | "visit 5")
+        "stop 5" | "visit 5" | "backup 5")
             mapfile -t COMPREPLY < <(compgen -W "--at" -- "$current") ;;
         "list 6")
             mapfile -t COMPREPLY < <(compgen -W "--summary --long" -- "$current") ;;

@@ -1,16 +1,20 @@
 #!/usr/bin/env python3
 """Audits the ledgers of the sample plan's nodes, by `audit` of the built program: after nodes were killed, with a
-ledger that is lost, older than the others, another one's or changed, and with nodes of other makers.
+ledger that is lost, older than the others, another one's or changed, and with nodes of other makers. Then nodes that
+run, at rest and while images go on.
 
     tests/audit.py
 """
+import json
 import os
 import shutil
 import sqlite3
 import sys
 
 sys.dont_write_bytecode = True
-from lib.nodes import PLAN, TOP, Room, lines, part10, run_cases, same, told
+from at import Fake, whole
+from control import Asked, put_token, storing
+from lib.nodes import PLAN, TOP, Room, lines, part10, free_port, run_cases, same, stop, told
 
 NODES = 'CT1', 'GATE', 'ARCH'
 FIRST, SECOND = '1.2.3.4', '1.2.3.5'
@@ -279,5 +283,155 @@ def after_a_change_of_plan():
         holds(room.run(*by_next, '--other', 'HUB'), line('CT1', 0), line('GATE', 0), line('ARCH', 1, kept=1))
 
 
+# The sample plan with a node before the first one: what enters there comes by it, so that all three others can run.
+CLASS = 'class = "1.2.840.10008.5.1.4.1.1.2"\nsyntax = ["1.2.840.10008.1.2.1"]\n'
+FOUR = (
+    '[[node]]\nname = "MOD"\naddress = "127.0.0.1:1"\n'
+    '[[node]]\nname = "CT1"\naddress = "127.0.0.1:1"\n[[node.accept]]\nfrom = ["MOD"]\n' + CLASS + '[[node.rule]]\nfrom = "MOD"\nto = ["GATE"]\n'
+    '[[node]]\nname = "GATE"\naddress = "127.0.0.1:1"\n[[node.accept]]\nfrom = ["CT1"]\n' + CLASS + '[[node.rule]]\nfrom = "CT1"\nto = ["ARCH"]\n'
+    '[[node]]\nname = "ARCH"\naddress = "127.0.0.1:1"\n[[node.accept]]\nfrom = ["GATE"]\n' + CLASS + '[[node.rule]]\nkeep = true\n'
+    '[[flow]]\nat = "MOD"\nto = "CT1"\nclass = ["1.2.840.10008.5.1.4.1.1.2"]\nsyntax = ["1.2.840.10008.1.2.1"]\nmodality = ["CT"]\nstation = ["S1"]\n'
+)
+
+
+def at_words(nodes):
+    return [word for node, asked in nodes.items() for word in ('--at', f'{node}={asked.at}')]
+
+
+def audit_at(room, nodes, *more, plan=PLAN):
+    return room.run('audit', *plan, '--other', 'MOD', *at_words(nodes), *more)
+
+
+def at_rest(node):
+    """Waits until no row of a node waits."""
+    node.wait('/status', lambda told_lines: all(told_line.get('waiting', 0) == 0 for told_line in told_lines))
+
+
+def figures(told_line):
+    parts = told_line.split('\t')
+    return parts[1], {parts[at]: int(parts[at + 1]) for at in range(2, len(parts), 2)}
+
+
+def under_load():
+    """Three nodes are audited while images go through them: all holds, what is under way is told as rows that wait, and nothing as missing. At rest
+    the audit of the nodes prints what that of their files does."""
+    with Room(FOUR) as room:
+        nodes = {node: Asked(room, node, 0, token=False) for node in NODES}
+        holds(audit_at(room, nodes), *(line(node, 0) for node in NODES))
+        counts = []
+
+        def look():
+            while nodes['GATE'].read('/status')[0]['lines'] < 2_200 or len(counts) < 5:
+                run = audit_at(room, nodes)
+                same((run.returncode, run.stderr.decode()), (0, ''))
+                head, *rest = lines(run.stdout)
+                same(head, 'holds\t3')
+                found = dict(map(figures, rest))
+                # what came to a node and doesn't wait there is at the next one, or on its way into it
+                for first, then in ('CT1', 'GATE'), ('GATE', 'ARCH'):
+                    assert found[first]['arrivals'] - found[first]['waiting'] <= found[then]['arrivals'] <= found[first]['arrivals'], found
+                same(found['ARCH']['kept'], found['ARCH']['arrivals'])
+                counts.append(found['ARCH']['arrivals'])
+        stored, _ = storing(room, 2, 100, meanwhile=look, caller='MOD', called='CT1')
+        same(counts, sorted(counts))
+        for node in 'CT1', 'GATE':
+            at_rest(nodes[node])
+        running = audit_at(room, nodes)
+        for asked in nodes.values():
+            stop(asked.process)
+        same(lines(running.stdout), lines(audit(room, '--other', 'MOD').stdout))
+        holds(running, line('CT1', stored), line('GATE', stored), line('ARCH', stored, kept=stored))
+
+
+def what_is_lost_at_nodes():
+    """A node whose ledger was lost, or is older than its neighbours', is told while all run."""
+    with Room(FOUR) as room:
+        nodes = {node: Asked(room, node, 0, token=False) for node in NODES}
+        storing(room, 1, 0.5, caller='MOD', called='CT1')
+        for node in 'CT1', 'GATE':
+            at_rest(nodes[node])
+        same(audit_at(room, nodes).returncode, 0)
+        for node, code in ('ARCH', 'A5 NoArrival'), ('GATE', 'A6 NoReason'), ('CT1', 'A6 NoReason'):
+            stop(nodes[node].process)
+            put_away(room, node, node)
+            lose(room, node)
+            lost = {**nodes, node: Asked(room, node, 0, token=False)}
+            run = audit_at(room, lost)
+            same((node, run.returncode, run.stdout.startswith(f'no\t{code}\t'.encode())), (node, 1, True))
+            stop(lost[node].process)
+            put_back(room, node, node)
+            nodes[node] = Asked(room, node, 0, token=False)
+            same(audit_at(room, nodes).returncode, 0)
+        for asked in nodes.values():
+            stop(asked.process)
+
+
+def nodes_that_are_not_audited():
+    """A node that doesn't answer, is another one, has another plan, wants a token, tells fewer lines than before, or is named in no way or in two."""
+    with Room(FOUR) as room:
+        nodes = {node: Asked(room, node, 0, token=False) for node in NODES}
+        holds(audit_at(room, nodes), *(line(node, 0) for node in NODES))
+        refused(audit_at(room, {**nodes, 'GATE': nodes['ARCH']}), 1, 'H4 OtherNode', 'GATE')
+        refused(audit_at(room, nodes, '--at', f'GATE={nodes["GATE"].at}'), 1, 'Twice', 'GATE')
+        refused(audit_at(room, nodes, '--other', 'ARCH'), 1, 'Twice', 'ARCH')
+        refused(audit_at(room, nodes, '--at', f'HUB={nodes["GATE"].at}'), 1, 'NoNode', 'HUB')
+        refused(audit_at(room, nodes, '--other', 'HUB'), 1, 'NoNode', 'HUB')
+        refused(audit_at(room, nodes, '--at', nodes['GATE'].at), 1, 'NoNode', nodes['GATE'].at)
+        no(audit_at(room, {node: nodes[node] for node in ('CT1', 'GATE')}), 'A7 NoAddress', 'ARCH')
+        holds(room.run('audit', *PLAN, '--other=MOD', '--other=ARCH', f'--at=GATE={nodes["GATE"].at}', '--at', f'CT1={nodes["CT1"].at}'),
+              line('CT1', 0), line('GATE', 0))
+        # files are read, or nodes that run
+        same(room.run('audit', *PLAN, '.', *at_words(nodes)).returncode, 2)
+        # the same nodes by another plan, and one of them that was started with it
+        room.put_plan(room.text('plan') + '# another plan\n', ('next', 'next.certificate'))
+        refused(audit_at(room, nodes, plan=('next', 'next.certificate')), 1, 'H5 OtherPlan', 'CT1')
+        stop(nodes['GATE'].process)
+        other = Asked(room, 'GATE', 0, token=False, ledger='other.db', plan=('next', 'next.certificate'))
+        refused(audit_at(room, {**nodes, 'GATE': other}), 1, 'H5 OtherPlan', 'GATE')
+        stop(other.process)
+        guarded = Asked(room, 'GATE', 0, '--control-anyone')
+        refused(audit_at(room, {**nodes, 'GATE': guarded}), 1, 'H10 Token', 'GATE')
+        holds(audit_at(room, {**nodes, 'GATE': guarded}, '--token', 'token'), *(line(node, 0) for node in NODES))
+        put_token(room, 'another', text='another token of sixteen bytes\n')
+        refused(audit_at(room, {**nodes, 'GATE': guarded}, '--token', 'another'), 1, 'H10 Token', 'GATE')
+        told(audit_at(room, nodes, '--token', 'none'), 3, '', 'dr_router: none: no such file\n')
+        stop(guarded.process)
+        refused(audit_at(room, {**nodes, 'GATE': guarded}), 3, 'H1 NoConnection', 'GATE')
+        plan = nodes['CT1'].read('/status')[0]['plan']
+        head = {'node': 'GATE', 'plan': plan}
+        asked = []
+
+        def fewer(link, request):
+            asked.append(request)
+            link.sendall(whole(json.dumps({**head, 'lines': 3 - len(asked)}) + '\n'))
+        fake = Fake(fewer)
+        refused(audit_at(room, {**nodes, 'GATE': fake}), 1, 'H12 Shrunk', 'GATE')
+        fake.close()
+        adoption = {'line': 1, 'kind': 'adoption'}
+        for name, told_lines, status, fault in (
+            ('fewer lines than it told', [], 1, 'H12 Shrunk'),
+            ('another number', [{**adoption, 'line': 2}], 3, 'H3 NoNodesAnswer'),
+            ('no kind', [{'line': 1}], 3, 'H3 NoNodesAnswer'),
+            ('another kind', [{'line': 1, 'kind': 'magic'}], 3, 'H3 NoNodesAnswer'),
+            ('half a line', [{'line': 1, 'kind': 'settling', 'uid': '1.2'}], 3, 'H3 NoNodesAnswer'),
+            ('a wide character', [{'line': 1, 'kind': 'forgetting', 'uid': '\u20ac'}], 3, 'H3 NoNodesAnswer'),
+        ):
+            text = ''.join(json.dumps(told_line) + '\n' for told_line in [{**head, 'lines': 1}, *told_lines])
+            fake = Fake(lambda link, request, text=text: link.sendall(whole(text)))
+            run = audit_at(room, {**nodes, 'GATE': fake})
+            same((name, run.returncode, run.stdout, run.stderr.decode()), (name, status, b'', f'dr_router: {fault}\n  node GATE\n'))
+            fake.close()
+        # lines that are no history
+        text = ''.join(json.dumps(told_line) + '\n' for told_line in [{**head, 'lines': 1}, {'line': 1, 'kind': 'forgetting', 'uid': '1.2'}])
+        fake = Fake(lambda link, request: link.sendall(whole(text)))
+        no(audit_at(room, {**nodes, 'GATE': fake}), 'A2 NoHistory', 'GATE')
+        fake.close()
+        nobody = f'127.0.0.1:{free_port()}'
+        refused(room.run('audit', *PLAN, '--other', 'MOD', '--other', 'CT1', '--other', 'ARCH', '--at', f'GATE={nobody}'), 3, 'H1 NoConnection', 'GATE')
+        for asked_node in nodes.values():
+            stop(asked_node.process)
+
+
 if __name__ == '__main__':
-    run_cases('audit', after_kills, lost_files, old_backups, changed_rows, other_makers, files_of_others, after_a_change_of_plan)
+    run_cases('audit', after_kills, lost_files, old_backups, changed_rows, other_makers, files_of_others, after_a_change_of_plan,
+              under_load, what_is_lost_at_nodes, nodes_that_are_not_audited)

@@ -158,6 +158,70 @@ def reads():
         stop(node.process)
 
 
+def line_told(ledger, row):
+    """The line of a row of a ledger's journal, as a node tells it."""
+    n, kind, caller, uid, dest, outcome, moment, *key, length, digest = row
+    kinds = 'arrival', 'repeat', 'settling', 'requeuing', 'adoption', 'forgetting', 'dropping'
+    line = {'line': n, 'kind': kinds[kind]}
+    if kind in (0, 1):
+        uids = {'I': '1.2.840.10008.1.2', 'E': '1.2.840.10008.1.2.1'}
+        of, syntax, modality, station = key
+        line |= {'caller': caller, 'uid': uid, 'class': of, 'syntax': uids[syntax], 'modality': modality.decode('latin-1'),
+                 'station': station.decode('latin-1'), 'length': length, 'sha256': digest.hex()}
+    if kind == 0:
+        goals = [dest for dest, in ledger.execute('SELECT dest FROM target WHERE n = ? ORDER BY dest', (n,))]
+        line |= {'to': [dest for dest in goals if dest != '-'], 'keep': '-' in goals}
+    if kind in (2, 3, 6):
+        line |= {'uid': uid, 'dest': dest}
+    if kind == 2:
+        line |= {'outcome': 'broken' if outcome is None else 'no-context' if outcome < 0 else f'{outcome:04X}'}
+    if kind in (2, 6):
+        line |= {'moment': moment}
+    return line | ({'uid': uid} if kind == 5 else {})
+
+
+def journal_in(room, node):
+    """The journal in a node's file, as the node tells it."""
+    with sqlite3.connect(f'{room.folder}/{node}.db') as ledger:
+        rows = ledger.execute('SELECT n, kind, caller, uid, dest, outcome, moment, class, syntax, modality, station, length, sha256 FROM journal ORDER BY n').fetchall()
+        told_lines = [line_told(ledger, row) for row in rows]
+    ledger.close()
+    return told_lines
+
+
+def journal():
+    """The journal in pages, each line with its number, behind a line that tells whose it is and how many lines there are."""
+    with Room() as room:
+        hold(room, b'1.2.3.4', b'1.2.3.5')
+        node = Asked(room, 'CT1', 0)
+        same(node.act('/drop', uid='1.2.3.4', dest='GATE'), DONE)
+        same(node.act('/requeue', uid='1.2.3.5', dest='GATE'), DONE)
+        head, *whole = node.read('/journal')
+        status = node.read('/status')[0]
+        same(head, {name: status[name] for name in ('node', 'plan', 'lines')})
+        count = head['lines']
+        same([line['line'] for line in whole], list(range(1, count + 1)))
+        for limit in 1, 2, count - 1, count, count + 1, 1_000:
+            read = []
+            while len(read) < count:
+                read += node.read(f'/journal?after={len(read)}&limit={limit}')[1:][:limit]
+            same(read, whole)
+        same(node.read('/journal?after=1&limit=2'), [head, *whole[1:3]])
+        for after in count, count + 1, 2 ** 63 - 1, 2 ** 63, 2 ** 64 - 1:
+            same(node.read(f'/journal?after={after}'), [head])
+        for form in 'limit=0', 'limit=1001', 'limit=', 'limit=01', 'after=', 'after=-1', 'after=01', 'after=x', f'after={2 ** 64}', 'after=1%00':
+            same((form, node.ask('GET', f'/journal?{form}')), (form, (400, '{"fault":"Field"}\n')))
+        same(node.ask('POST', '/journal', {}), (405, '{"fault":"Method"}\n'))
+        same(node.ask('GET', '/journal/'), (404, '{"fault":"Path"}\n'))
+        stop(node.process)
+        same(journal_in(room, 'CT1'), whole)
+        same([line['kind'] for line in whole if line['uid'] == '1.2.3.4'][-1], 'dropping')
+        guarded = Asked(room, 'CT1', 0, '--control-anyone')
+        same(guarded.ask('GET', '/journal'), (401, '{"fault":"Token"}\n'))
+        same(guarded.ask('GET', '/journal', Authorization=f'Bearer {TOKEN}')[0], 200)
+        stop(guarded.process)
+
+
 def page():
     """The page for people: its light, its figures, rows that are held, and a UID that would be markup."""
     with Room() as room:
@@ -486,7 +550,7 @@ def refusals():
         form = urllib.parse.urlencode(row)
         node = Asked(room, 'CT1', 0, '--control-host', 'node.example')
         bearer = f'Bearer {TOKEN}'
-        for path in '/requeue', '/drop', '/forget', '/visit', '/stop':
+        for path in '/requeue', '/drop', '/forget', '/visit', '/backup', '/stop':
             same(node.ask('POST', path, row), (401, '{"fault":"Token"}\n'))
             for given in TOKEN, f'Basic {TOKEN}', f'bearer {TOKEN}', f'Bearer {TOKEN[:-1]}', f'Bearer {TOKEN}x', f'Bearer {TOKEN[:-1]}X', 'Bearer ', 'Bearer':
                 same(node.ask('POST', path, row, Authorization=given)[0], 401)
@@ -513,10 +577,64 @@ def refusals():
     with Room() as room:
         hold(room)
         node = Asked(room, 'CT1', 0, token=False)
-        for path in '/requeue', '/drop', '/forget', '/visit', '/stop':
+        for path in '/requeue', '/drop', '/forget', '/visit', '/backup', '/stop':
             same(node.ask('POST', path, row, Authorization=bearer), (403, '{"fault":"Closed"}\n'))
         same(node.read('/rows?dest=GATE&state=held')[0]['uid'], '1.2.3.4')
         stop(node.process)
+
+
+def backups():
+    """The ledger is copied to a path where nothing is, of the node's machine and from its root: two files, that nobody but their owner may read.
+    Where that is refused, or fails, nothing is there then that wasn't before."""
+    with Room() as room:
+        node = Asked(room, 'GATE', 0)
+        with Requestor(room.ports['GATE'], 'CT1', 'GATE') as link:
+            same(link.store(b'1.2.3.4', data_set(b'1.2.3.4')), 0)
+        os.mkdir(f'{room.folder}/copies')
+        for name in 'there.db', 'log.db-wal', 'part.db.part', 'late.db-wal.part':
+            room.put(f'copies/{name}', b'not to be lost')
+        os.symlink('nowhere', f'{room.folder}/copies/link.db')
+        os.symlink('GATE.db', f'{room.folder}/second.db')
+        before = sorted(os.listdir(room.folder)), sorted(os.listdir(f'{room.folder}/copies'))
+        copy = f'{room.folder}/copies/GATE.db'
+        same(node.ask('POST', '/backup', {'copy': copy}), (401, '{"fault":"Token"}\n'))
+        same(node.ask('GET', f'/backup?copy={copy}')[0], 405)
+        same(node.act('/backup'), (400, '{"fault":"Field"}\n'))
+        same(node.act('/backup', uid='1.2.3.4'), (400, '{"fault":"Field"}\n'))
+        for path in 'copy.db', '', './copy.db', '\udcff/copy.db':
+            same(node.act('/backup', copy=path.encode('utf-8', 'surrogateescape')), (400, '{"fault":"Q4 NoPath"}\n'))
+        for name in 'there', 'log', 'part', 'late', 'link':
+            same(node.act('/backup', copy=f'{room.folder}/copies/{name}.db'), (409, '{"fault":"Q3 IsThere"}\n'))
+        same(node.act('/backup', copy=f'{room.folder}/second.db'), (409, '{"fault":"Q3 IsThere"}\n'))
+        # the ledger's own names, whether a file has them or not, by whatever path, and what would be another ledger's log
+        for name in 'GATE.db', 'GATE.db-wal', 'GATE.db-journal', 'GATE.db-shm', 'GATE.db.new', 'GATE.db.data', 'copies/../GATE.db', 'copies/ARCH.db-wal', 'copies/ARCH.db-journal':
+            same(node.act('/backup', copy=f'{room.folder}/{name}'), (409, '{"fault":"Q1 OwnFile"}\n'))
+        same(node.act('/backup', copy=f'{room.folder}/nowhere/GATE.db'), (503, '{"fault":"Q7 NoCopy"}\n'))
+        same((sorted(os.listdir(room.folder)), sorted(os.listdir(f'{room.folder}/copies'))), before)
+        same(node.act('/backup', copy=copy), DONE)
+        same(sorted(set(os.listdir(f'{room.folder}/copies')) - set(before[1])), ['GATE.db', 'GATE.db-wal'])
+        for name in copy, f'{copy}-wal':
+            same(os.stat(name).st_mode & 0o777, 0o600)
+        same(node.act('/backup', copy=copy), (409, '{"fault":"Q3 IsThere"}\n'))
+        # of many at the same time the others are refused while one is made
+        answers = []
+        askers = [threading.Thread(target=lambda number=number: answers.append((number, node.act('/backup', copy=f'{copy}.{number}')))) for number in range(8)]
+        for asker in askers:
+            asker.start()
+        for asker in askers:
+            asker.join()
+        made = sorted(f'GATE.db.{number}' for number, answer in answers if answer == DONE)
+        assert made and all(answer in (DONE, (409, '{"fault":"Q5 Busy"}\n')) for _, answer in answers), answers
+        same(sorted(name for name in os.listdir(f'{room.folder}/copies') if re.fullmatch('GATE.db.[0-9]', name)), made)
+        same(node.act('/stop'), DONE)
+        ended(node.process)
+        said = [event[3] for event in room.events('GATE') if event[2] == 'control' and event[3].startswith('backup ')]
+        told_of = re.fullmatch(f'backup copy="{copy}" lines=([0-9]+) bytes=[0-9]+ milliseconds=[0-9]+', next(line for line in said if 'bytes=' in line))
+        listed = lines(room.at('list', 'GATE', ledger='copies/GATE.db').stdout)
+        same([line.split('\t')[:4] for line in listed if line.startswith('row\t')], [['row', '1.2.3.4', 'ARCH', 'waiting']])
+        same(listed[-1], f'lines\t{told_of[1]}')
+        assert f'backup copy="{room.folder}/GATE.db" fault="Q1 OwnFile"' in said, said
+        assert any(line.startswith(f'backup copy="{room.folder}/nowhere/GATE.db" fault="Q7 NoCopy" error="') for line in said), said
 
 
 def places():
@@ -599,12 +717,12 @@ def hostile():
         ended(node.process)
 
 
-def storing(room, callers, seconds, meanwhile=None):
+def storing(room, callers, seconds, meanwhile=None, caller='CT1', called='GATE'):
     """How many images peers store in that time, one association each, while something else is done; each is acknowledged."""
     counts, end = [0] * callers, [time.monotonic() + seconds]
 
     def store(peer):
-        with Requestor(room.ports['GATE'], 'CT1', 'GATE') as link:
+        with Requestor(room.ports[called], caller, called) as link:
             while time.monotonic() < end[0]:
                 uid = f'1.2.{os.getpid()}.{peer}.{time.monotonic_ns()}'.encode()
                 same(link.store(uid, data_set(uid)), 0)
@@ -708,7 +826,7 @@ def main():
         return attack(*map(int, sys.argv[2:]))
     if sys.argv[1:] == ['--more']:
         return run_cases('control --more', flood_of_20_000)
-    return run_cases('control', reads, page, acts, ages, orders, hurried, forms, associations, responses, refusals, places, hostile, flood)
+    return run_cases('control', reads, journal, page, acts, ages, orders, hurried, forms, associations, responses, refusals, backups, places, hostile, flood)
 
 
 if __name__ == '__main__':

@@ -5,8 +5,9 @@
 
 What it expands is its own expansion; plans/hospital-by-names.toml means what plans/hospital.toml says; small plans mean
 what is written beside them here; and each word that nobody defines is found. What the program expands is compared byte
-by byte, where it is built.
+by byte, where it is built; and so is what it says of plans whose modalities are prefixes, worked by hand.
 """
+import hashlib
 import json
 import os
 import subprocess
@@ -23,7 +24,7 @@ PROGRAM = sys.argv[1] if sys.argv[1:] else f"{TOP}/crates/dr_router/out/dr_route
 
 def as_sets(core):
     """A plan without the order of its tables."""
-    return ({(node["name"], node["address"], node["max_pdu"], frozenset(map(repr, (sorted(it.items()) for it in node["accept"]))),
+    return ({(node["name"], node.get("address"), node["max_pdu"], frozenset(map(repr, (sorted(it.items()) for it in node["accept"]))),
               frozenset(map(repr, (sorted(it.items()) for it in node["rule"])))) for node in core["node"]},
             sorted(repr(sorted(it.items())) for it in core["flow"]))
 
@@ -43,6 +44,26 @@ SMALL = [
     ('[set]\nct = ["@mr"]\n' + FLOW.format('"A"', '"@ct"'), "@mr"),
 ]
 
+# Where nodes listen, in one spelling: how each of these is written, the first as the expansion has it.
+PLACES = [
+    ['listens = false\n'],
+    ['address = "h:1"\n', 'address = "h:1"\nlistens = true\n', 'listens = true\naddress = "h:1"\n'],
+    ['address = "h:1"\nbind = "[::]:1"\n', 'bind = "[::]:1"\nlistens = true\naddress = "h:1"\n'],
+    ['address = "[2001:db8::1]:104"\n'],
+]
+
+# What no plan is, of a node A in format 3, with the place that is told.
+NO_PLACES = [
+    ('', 'address: it is missing'), ('bind = "h:1"\n', 'address: it is missing'), ('listens = true\n', 'address: it is missing'),
+    ('listens = false\naddress = "h:1"\n', 'address: it has to be'), ('listens = false\nbind = "h:1"\n', 'bind: it has to be'),
+    ('listens = "no"\n', 'listens: it has to be true or false'), ('address = "h:1"\nbind = "h"\n', 'bind: it has to be'),
+    (f'listens = false\n[[node.accept]]\nfrom = "*"\nclass = "1.2"\nsyntax = ["ExplicitVRLittleEndian"]\n', 'accept: it has to be'),
+]
+
+# And in format 2, which has none of these keys.
+EARLIER = [('listens = false\n', 'listens'), ('address = "h:1"\nlistens = true\n', 'listens'), ('address = "h:1"\nbind = "h:2"\n', 'bind')]
+
+
 # Plans at the most that one may stand for, and above it: 512 callers and classes in a rule, one node and the words of a group.
 RULE = '[[node.rule]]\nfrom = {}\nclass = {}\n'
 
@@ -60,8 +81,101 @@ LARGE = [f"format = 3\n{it}" for it in (
 WITHIN = [True, True, False, True, False, False, False, True, False, True, False]
 
 
+# ---- modalities that begin alike
+
+EXPLICIT = "1.2.840.10008.1.2.1"
+TAKES = f'[[node.accept]]\nfrom = "*"\nclass = "1.2"\nsyntax = ["{EXPLICIT}"]\n'
+BY_MODALITY = '[[node.rule]]\nmodality = "{}"\n{}\n'
+TO_ARCH, KEPT = 'to = ["ARCH"]', "keep = true"
+ENTERS = f'[[flow]]\nat = "CT1"\nto = "GATE"\nclass = ["1.2"]\nsyntax = ["{EXPLICIT}"]\nstation = "*"\nmodality = '
+
+
+def by_modality(*rules, enters=("C*",)):
+    """A plan whose GATE has these rules, each a modality and what is done with it; ARCH keeps all."""
+    gate = NODE.format("GATE") + TAKES + "".join(BY_MODALITY.format(*it) for it in rules)
+    arch = NODE.format("ARCH") + TAKES + f"[[node.rule]]\n{KEPT}\n"
+    return f'format = 3\n{NODE.format("CT1")}{gate}{arch}{ENTERS}{json.dumps(list(enters))}\n'
+
+
+OLD = by_modality(("C*", TO_ARCH), ("CR", KEPT))
+NEW = by_modality(("CT*", TO_ARCH), ("C*", KEPT))
+LOST = by_modality(("C*", TO_ARCH), enters=("M*", "C*"))
+
+# What OLD's certificate says behind the digest.
+LINES = "hop\tCT1\tGATE\t1\tPAIR\nhop\tGATE\tARCH\t1\tPAIR\n" + "".join(
+    f"line\t{caller}\t{node}\tPAIR\t{modality}\t*\t{rank}\n"
+    for caller, node, rank in (("-", "CT1", 2), ("CT1", "GATE", 1), ("GATE", "ARCH", 0)) for modality in ("C*", "CR")) + "end\n"
+ON_ITS_WAY = "rank\t2\nhop\tCT1\tGATE\t1\nhop\tGATE\tARCH\t1\n"
+
+# What is printed of OLD for an image of a modality: the longest prefix is its part, and rules of it and of the value both hold.
+ROUTES = [
+    ("CT", "cell\tPAIR\tC*\t*\n" + ON_ITS_WAY + "keep\tARCH\n", 0), ("C", "cell\tPAIR\tC*\t*\n" + ON_ITS_WAY + "keep\tARCH\n", 0),
+    ("CR", "cell\tPAIR\tCR\t*\n" + ON_ITS_WAY + "keep\tARCH\nkeep\tGATE\n", 0), ("MC", "no\tG1 NoLine\n", 1), ("", "no\tG1 NoLine\n", 1),
+]
+
+# Rows over OLD: of a prefix that the plan doesn't name it is asked as of one that it names.
+ROWS = [
+    ('modality = "C*"\nkeep = ["ARCH"]\n', "yes\n", 0), ('modality = "CR"\nkeep = ["ARCH", "GATE"]\n', "yes\n", 0),
+    ('modality = "CT"\nkeep = ["GATE"]\n', "no\t1\tkeep GATE\tCT1\tPAIR\tCT\t*\n", 1),
+    ('modality = "C*"\nkeep = ["GATE"]\n', "no\t1\tkeep GATE\tCT1\tPAIR\tC*\t*\n", 1),
+    ('modality = "CR*"\nkeep = ["GATE"]\n', "no\t1\tkeep GATE\tCT1\tPAIR\tCR*\t*\n", 1),
+    ('modality = "CR*"\nnever = ["ARCH"]\n', "no\t1\tnever ARCH\tCT1\tPAIR\tCR*\t*\n", 1), ('modality = "M*"\nkeep = ["ARCH"]\n', "no\t1\tnothing\n", 1),
+]
+
+# What changes from OLD to NEW, over the parts that neither tells apart.
+CHANGES = ["lost\tCT1\tPAIR\tCR\t*\tARCH", "lost\tCT1\tPAIR\tC*\t*\tARCH", "gained\tCT1\tPAIR\tC*\t*\tGATE", "gained\tCT1\tPAIR\tCT*\t*\tGATE"]
+REASON = 'of a modality that begins with "M" and a station that the plan doesn\'t name'
+
+
+def asked(room, word, *rest, **files):
+    """What the program prints for files of these texts, and its status."""
+    for name, text in files.items():
+        with open(f"{room}/{name}", "w", encoding="utf-8") as file:
+            file.write(text.replace("PAIR", f"1.2\t{EXPLICIT}"))
+    ran = subprocess.run([PROGRAM, word, *(f"{room}/{it}" for it in files), *rest], capture_output=True, text=True, check=False)
+    return ran.stdout.replace(f"1.2\t{EXPLICIT}", "PAIR"), ran.stderr, ran.returncode
+
+
+def certificate_of(text, lines):
+    return f"certificate\t3\nplan\t{hashlib.sha256(expanded(text).encode()).hexdigest()}\n{lines}"
+
+
+def modalities_alike(room):
+    """What the program says otherwise of plans whose modalities are prefixes."""
+    certificate = certificate_of(OLD, LINES)
+    own = {"plan": OLD, "certificate": certificate}
+    cases = [("check", (certificate, 0), asked(room, "check", plan=OLD)), ("verify", ("yes\n", 0), asked(room, "verify", **own))]
+    cases += [(f"route {it!r}", (wanted, status), asked(room, "route", "CT1", "1.2", EXPLICIT, it, "S1", **own)) for it, wanted, status in ROUTES]
+    cases += [(f"expect {it!r}", (wanted, status), asked(room, "expect", **own, rows=f"[[expect]]\n{it}")) for it, wanted, status in ROWS]
+    changed = asked(room, "diff", **own, next=NEW, next_certificate=asked(room, "check", plan=NEW)[0])
+    cases.append(("diff", (sorted(CHANGES), 0), (sorted(changed[0].splitlines()), *changed[1:])))
+    lost = asked(room, "check", plan=LOST)
+    cases += [("a dead end", ("no\tDeadEnd\tPAIR\tM*\t*\tCT1\tGATE\n", 1), lost), ("its reason", (True, 1), (REASON in lost[1], *lost[1:]))]
+    for what, wanted, (printed, told, status) in cases:
+        if (printed, status) != wanted:
+            yield f"modalities that begin alike: {what}: {printed!r} {told} {status}, and not {wanted}"
+
+
+def placed(place, form=3):
+    """A plan of one node, with these lines of where it listens."""
+    return f'format = {form}\n[[node]]\nname = "A"\n{place}'
+
+
+def places(room):
+    """What the program says otherwise of where nodes listen."""
+    cases = [(it, where, 3) for it, where in NO_PLACES] + [(it, f"{key}: it has to be left out before format 3", 2) for it, key in EARLIER]
+    for place, key, form in cases:
+        printed, told, status = asked(room, "check", plan=placed(place, form))
+        if (printed, status) != ("", 1) or not told.startswith("dr_router: L2 Field\n") or f'node 1 "A", {key}' not in told:
+            yield f"{place!r}: {printed!r} {told!r} {status}, and not {key}"
+
+
 def faults():
     """What isn't as it should be."""
+    for first, *others in PLACES:
+        for place in (first, *others):
+            if expanded(placed(place)) != placed(first).replace('\n[[', '\n\n[[') + "max_pdu = 16384\n":
+                yield f"{place!r} expands to {expanded(placed(place))!r}"
     for given, wanted in zip(LARGE, WITHIN):
         try:
             found = expanded(given) != ""
@@ -93,7 +207,7 @@ def compared(text, once):
     if not os.path.isfile(PROGRAM):
         print(f"expansions: {PROGRAM} isn't built: it isn't compared")
         return
-    for given in (text, once, *(f"format = 3\n{small}" for small, _ in SMALL), *LARGE):
+    for given in (text, once, *(f"format = 3\n{small}" for small, _ in SMALL), *LARGE, *(placed(it) for ways in PLACES for it in ways)):
         with tempfile.NamedTemporaryFile("w", suffix=".toml", encoding="utf-8") as file:
             file.write(given)
             file.flush()
@@ -104,13 +218,16 @@ def compared(text, once):
             wanted = "", 1
         if (ran.stdout, ran.returncode) != wanted:
             yield f"the program's expansion is another one: {given}: {ran.stdout}{ran.stderr}"
+    with tempfile.TemporaryDirectory() as room:
+        yield from modalities_alike(room)
+        yield from places(room)
 
 
 def main():
     found = list(faults())
     for fault in found:
         print(f"expansions: {fault}")
-    print(f"{len(SMALL) + len(LARGE) + 2} expansions, {len(found)} faults")
+    print(f"{len(SMALL) + len(LARGE) + sum(map(len, PLACES)) + 2} expansions, {len(found)} faults")
     return 1 if found else 0
 
 

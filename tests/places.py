@@ -63,6 +63,7 @@ PLACES = [
     ('station = ["S1"]', 'station = ["S1", "S*"]', 'L2 Field',
      'flow 1, station: it has to be "*" or a list of values of up to 64 characters, in format 2 also of prefixes with *, as "CT*"'),
     ('class = ["1.2.840.10008.5.1.4.1.1.2"]', 'class = []', 'L2 Field', 'flow 1, class: it has to be a list of SOP class UIDs'),
+    ('to = ["ARCH"]', 'modality = "C*"', 'L2 Field', 'node 2 "GATE", rule 1, modality: it has to be "*" or a value of up to 64 characters'),
     ('[[node]]', 'format = 4\n[[node]]', 'L2 Field', 'in front of all tables, format: it has to be the number 1, 2 or 3'),
     ('[[node]]', '"\\u001b[2J" = 2\n[[node]]', 'L2 Field', 'in front of all tables: no key "\\x1b[2J" is known here'),
 ]
@@ -112,7 +113,9 @@ SHORT_PLACES = [
     ('from = "CT1"', 'class = [1]', 'L2 Field', 'node 2 "GATE", rule 1, class: it has to be "*", a class or a set, or a list of them'),
     ('from = "CT1"', 'station = "S**"', 'L2 Field',
      'node 2 "GATE", rule 1, station: it has to be "*" or a value of up to 64 characters, or a prefix with *, as "CT*"'),
-    ('from = "CT1"', 'modality = "C*"', 'L2 Field', 'node 2 "GATE", rule 1, modality: it has to be "*" or a value of up to 64 characters'),
+    ('from = "CT1"', 'modality = "C*T"', 'L2 Field',
+     'node 2 "GATE", rule 1, modality: it has to be "*" or a value of up to 64 characters, or a prefix with *, as "CT*"'),
+    ('modality = ["CT"]', 'modality = ["C**"]', 'L2 Field', 'flow 1, modality: it has to be "*" or a list of values of up to 64 characters and of prefixes with *, as "CT*"'),
     ('to = ["ARCH"]', 'to = "ARCH"', 'L2 Field', 'node 2 "GATE", rule 1, to: it has to be a list of names and groups'),
     ('to = ["ARCH"]', 'modalty = "CT"', 'L2 Field', 'node 2 "GATE", rule 1: no key "modalty" is known here'),
     ('class = ["1.2.840.10008.5.1.4.1.1.2"]', 'class = []', 'L2 Field', f'flow 1, class: {CLASSES}'),

@@ -24,7 +24,7 @@ import time
 
 sys.dont_write_bytecode = True
 from lib.requestor import ABORT, ACCEPTED, DATA, REJECTED, RELEASED, Acceptor, Requestor, associate, command, context, hear, pdu, stored, values
-from lib.nodes import CT, EXPLICIT, IMPLICIT, LETS_GO, LIMIT, PROGRAM, Room, data_set, element, ended, lines, part10, run_cases, same, stop, told
+from lib.nodes import CT, EXPLICIT, IMPLICIT, LETS_GO, LIMIT, PLAN, PROGRAM, Room, data_set, element, ended, lines, part10, run_cases, same, stop, told
 
 
 def three_nodes():
@@ -75,6 +75,26 @@ def refusals():
         told(room.at('list', 'ARCH'), 0, 'node\tARCH\nlines\t0\n', '')
         same(room.run('serve', 'plan', 'certificate', 'ARCH', 'ARCH.db', '--links', '4294967296').returncode, 2)
         same(room.run('serve', 'plan', 'certificate', 'ARCH').returncode, 2)
+
+
+def listening_elsewhere():
+    """A node binds to `bind`, and others reach it at `address`; one that only calls sends, and has no door."""
+    with Room() as room:
+        ports, text = room.ports, room.text(PLAN[0])
+        text = text.replace(f'address = "127.0.0.1:{ports["CT1"]}"', 'listens = false')
+        gate = f'address = "127.0.0.1:{ports["GATE"]}"\n'
+        text = text.replace(gate, f'{gate}bind = "0.0.0.0:{ports["GATE"]}"\n')
+        room.put(PLAN[0], b'format = 3\n' + text.replace('format = 1\n', '').encode())
+        room.put(PLAN[1], room.run('check', PLAN[0]).stdout)
+        room.put('image.dcm', part10(b'1.2.3.4'))
+        told(room.at('serve', 'CT1'), 3, '', 'dr_router: CT1: Nowhere\n')
+        told(room.run('echo', PLAN[0], 'ARCH', 'CT1'), 1, '', 'dr_router: CT1: Nowhere\n')
+        arch, gate = room.serve('ARCH', 1), room.serve('GATE', 2)
+        with socket.create_connection(('127.0.0.2', ports['GATE'])):
+            pass
+        same(lines(room.at('send', 'CT1', 'image.dcm').stdout)[0], 'new')
+        same(ended(gate)[-2:], ['row\t1.2.3.4\tARCH\tdone', 'lines\t2'])
+        same(ended(arch)[-1], 'lines\t1')
 
 
 def dead_hop():
@@ -908,7 +928,7 @@ def main():
         sys.exit(f'{PROGRAM} is not built')
     if sys.argv[1:] == ['--more']:
         return run_cases('serving --more', rates_alone, many_transfers)
-    run_cases('serving', three_nodes, refusals, dead_hop, held_rows, events, reports, report_paths, forged, refused_contexts, few_workers, unasked, silent_associations,
+    run_cases('serving', three_nodes, refusals, listening_elsewhere, dead_hop, held_rows, events, reports, report_paths, forged, refused_contexts, few_workers, unasked, silent_associations,
               rejected_callers, hops_alone, slow_peers, deaf_peer, slow_reader, crowded, shut, stopped, cut_short, forgotten, killed)
 
 

@@ -274,9 +274,17 @@ TEXTS_OF_FORMAT_3 = [
     ('keep = true', f'keep = true\nclass = {many("@us", 300)}', 'L6 Limit'),
     ('at = "CT1"', f'at = ["@scanners", "{"N" * 129}"]', 'L6 Limit'),
     ('at = "CT1"', f'at = ["{"N" * 129}"]\ncolour = 1', 'L2 Field'),
-    # what format 2 has
+    # prefixes of stations, as in format 2, and of modalities
     ('station = ["S1"]', 'station = ["S1", "S*"]', None),
-    ('modality = ["CT"]', 'modality = ["CT*"]', 'L2 Field'),
+    ('modality = ["CT"]', 'modality = ["CT*", "MR"]', None),
+    ('modality = ["CT"]', 'modality = ["*"]', 'L2 Field'),
+    ('modality = ["CT"]', 'modality = ["C *"]', 'L2 Field'),
+    ('modality = ["CT"]', 'modality = "C*"', 'L2 Field'),
+    ('modality = ["CT"]', 'modality = ' + many('CT", "C*', 1024), None),
+    ('modality = ["CT"]', f'modality = {many("C*", 1025)}', 'L6 Limit'),
+    ('keep = true', 'modality = "C*"', None),
+    ('keep = true', 'modality = "C**"', 'L2 Field'),
+    ('keep = true', 'class = "1.2*"', 'L4 UnknownName'),
     ('keep = true', 'keep = true\ncolour = 1', 'L2 Field'),
     # the first fault in the order of the pages
     ('at = "CT1"', 'at = "@scanners"\ncolour = 1', 'L2 Field'),

@@ -112,6 +112,14 @@ def amount(words, defined, others=()):
     return number(sum(map(of, words)))
 
 
+def values_in(values):
+    """For how many modalities or stations a flow lists these."""
+    if values == "*":
+        return 1
+    prefixes = sum(it.endswith("*") for it in values)
+    return number(len(values) - prefixes) + number(prefixes)
+
+
 def size_of(plan):
     """How much a plan stands for."""
     sets, groups = plan.get("set", {}), plan.get("group", {})
@@ -126,10 +134,7 @@ def size_of(plan):
             callers, classes = rule.get("from", "*"), rule.get("class", "*")
             size += (1 if callers == "*" else nodes_in(callers)) * (1 if classes == "*" else classes_in(classes)) * (1 + nodes_in(rule.get("to", [])))
     for flow in plan.get("flow", []):
-        stations, modalities = flow["station"], flow["modality"]
-        prefixes = 0 if stations == "*" else sum(it.endswith("*") for it in stations)
-        lists = classes_in(flow["class"]) + amount(flow["syntax"], {}) + (1 if modalities == "*" else amount(modalities, {}))
-        lists += 1 if stations == "*" else number(len(stations) - prefixes) + number(prefixes)
+        lists = classes_in(flow["class"]) + amount(flow["syntax"], {}) + values_in(flow["modality"]) + values_in(flow["station"])
         size += nodes_in(flow["at"]) * nodes_in(flow["to"]) * (1 + lists)
     return size
 
@@ -145,11 +150,11 @@ def spelled(value):
     return "[" + ", ".join(spelled(it) for it in value) + "]"
 
 
-def apart(stations):
-    """Stations with the values before the prefixes."""
-    if stations == "*":
-        return stations
-    return [it for it in stations if not it.endswith("*")] + [it for it in stations if it.endswith("*")]
+def apart(values):
+    """Modalities or stations with the values before the prefixes."""
+    if values == "*":
+        return values
+    return [it for it in values if not it.endswith("*")] + [it for it in values if it.endswith("*")]
 
 
 def table(head, fields, keys):
@@ -161,11 +166,13 @@ def text_of(core):
     """The one spelling of a plan."""
     text = "format = 3\n"
     for node in core["node"]:
-        text += table("node", node, ["name", "address", "max_pdu"])
+        place = [key for key in ("listens", "address", "bind") if node.get(key, True) is not True]
+        text += table("node", node, ["name", *place, "max_pdu"])
         text += "".join(table("node.accept", row, ["from", "class", "syntax"]) for row in node["accept"])
         text += "".join(table("node.rule", rule, ["from", "class", "modality", "station", "to", "keep"]) for rule in node["rule"])
     for flow in core["flow"]:
-        text += table("flow", {**flow, "station": apart(flow["station"])}, ["at", "to", "class", "syntax", "modality", "station"])
+        whole = {**flow, "modality": apart(flow["modality"]), "station": apart(flow["station"])}
+        text += table("flow", whole, ["at", "to", "class", "syntax", "modality", "station"])
     return text
 
 

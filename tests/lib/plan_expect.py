@@ -15,7 +15,8 @@ def admits(pattern, value):
     return pattern == ANY or pattern == value
 
 
-def admits_station(pattern, value):
+def admits_field(pattern, value):
+    """The same for modality and station, of which a pattern may be a prefix."""
     return admits(pattern, value) or (pattern[-1:] == ANY and value.startswith(pattern[:-1]))
 
 
@@ -37,7 +38,8 @@ class Rows:
                 for modality in sorted(self.values('modality')) for station in sorted(self.values('station'))]
 
     def speaks(self, row, site, key):
-        return all(admits(row[it], value) for it, value in zip(('at', *FIELDS[:3]), (site, *key[:3]))) and admits_station(row['station'], key[3])
+        exactly = all(admits(row[it], value) for it, value in zip(('at', *FIELDS[:2]), (site, *key[:2])))
+        return exactly and all(admits_field(row[it], value) for it, value in zip(FIELDS[2:], key[2:]))
 
     def stops(self, site, key):
         """The stops of all walks."""
@@ -104,7 +106,7 @@ class Rows:
 
 def random_rows(dice):
     """One row to four, of the names and values of random plans."""
-    values = {'at': NAMES, 'class': CLASSES, 'syntax': SYNTAXES, 'modality': [*MODALITIES, 'US'], 'station': [*STATIONS, *PREFIXES, 'S1x', 'S1x*']}
+    values = {'at': NAMES, 'class': CLASSES, 'syntax': SYNTAXES, 'modality': [*MODALITIES, 'US', 'C*', 'Z*'], 'station': [*STATIONS, *PREFIXES, 'S1x', 'S1x*']}
     rows = []
     for _ in range(dice.choice([1, 1, 2, 4])):
         row = {field: dice.choice(of) for field, of in values.items() if dice.random() < (0.15 if field == 'at' else 0.25)}
@@ -164,7 +166,7 @@ class KeepersAlone(Rows):
 
 class PrefixIsAValue(Rows):
     def speaks(self, row, site, key):
-        return super().speaks(row | {'station': row['station'].removesuffix(ANY) or ANY}, site, key)
+        return super().speaks(row | {it: row[it].removesuffix(ANY) or ANY for it in FIELDS[2:]}, site, key)
 
 
 class LastMiss(Rows):
@@ -180,7 +182,7 @@ FILES = [
     (b'', 1), (b'# nothing\n', 1), (b'expect = []\n', 1), (b'[[expect]]\n', None), (b'[[expect]]\nkeep = ["A"]\nnever = []\n', None), (b'\xff', 1),
     (b'[[expect]]\n[[expect]\n', 2), (b'[[expect]]\nkeep = "A"\n', 1), (b'\n\n[[expect]]\nclass = "CT"\n', 3), (b'[[expect]]\nclass = "1.2"\n', None),
     (b'[[expect]]\n\n  [[expect]]\nsyntax = "1.2"\n[[expect]]\n', 3), (b'[[expect]]\nsyntax = "1.2.840.10008.1.2"\n', None), (b'[[expect]]\nstation = "a*b"\n', 1),
-    (b'[[expect]]\nstation = "ab*"\n', None), (b'[[expect]]\nmodality = "C*"\n', 1), (b'[[expect]]\nmodality = "*"\nstation = "*"\nat = "*"\n', None),
+    (b'[[expect]]\nstation = "ab*"\n', None), (b'[[expect]]\nmodality = "C*"\n', None), (b'[[expect]]\nmodality = "**"\n', 1), (b'[[expect]]\nmodality = "*"\nstation = "*"\nat = "*"\n', None),
     (b'[[expect]]\n[[expect]]\nnode = "A"\n', 2), (b'[[expect]]\n[other]\n', 1), (b'[[expect]]\nnever = [1]\n', 1), (b'[expect]\n', 1),
     (b'expect = [{keep = ["A"]}]\n', None), (b'[[expect]]\nat = 1\n', 1), (b'\n[[expect]]\nmodality = "' + 65 * b'x' + b'"\n', 2),
 ]

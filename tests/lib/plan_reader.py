@@ -35,9 +35,14 @@ def is_literal(text):
     return len(text) <= 64 and printable(text, 0x20, '*') and text == text.strip(' ')
 
 
-def is_station(text, form):
-    """A literal; from format 2 on a prefix too, which is written as a literal of one byte or more with `*` behind it."""
-    return is_literal(text) or (form != 1 and text[-1:] == '*' and text != '*' and is_literal(text[:-1]))
+# the first format in which a value of the field may be a prefix
+PREFIXES_FROM = {'modality': 3, 'station': 2}
+
+
+def is_value(field, text, form):
+    """A literal; in formats that have them a prefix too, which is written as a literal of one byte or more with `*` behind it."""
+    has_prefixes = form >= PREFIXES_FROM[field]
+    return is_literal(text) or (has_prefixes and text[-1:] == '*' and text != '*' and is_literal(text[:-1]))
 
 
 def is_class(text):
@@ -79,8 +84,7 @@ def read_rule(rule, form):
     rule = {'from': ANY, 'class': ANY, 'modality': ANY, 'station': ANY, 'to': [], 'keep': False} | rule
     need(all(isinstance(rule[it], str) for it in ('from', 'class', 'modality', 'station')))
     need(rule['class'] == ANY or is_class(rule['class']))
-    need(rule['modality'] == ANY or is_literal(rule['modality']))
-    need(rule['station'] == ANY or is_station(rule['station'], form))
+    need(all(rule[it] == ANY or is_value(it, rule[it], form) for it in PREFIXES_FROM))
     need(is_list(rule['to']) and type(rule['keep']) is bool)
     return rule
 
@@ -99,8 +103,7 @@ def read_flow(flow, form):
     need(isinstance(flow['at'], str) and isinstance(flow['to'], str))
     need(is_list(flow['class']) and flow['class'] and all(map(is_class, flow['class'])))
     need(is_list(flow['syntax']) and flow['syntax'])
-    need(flow['modality'] == ANY or (is_list(flow['modality']) and all(map(is_literal, flow['modality']))))
-    need(flow['station'] == ANY or (is_list(flow['station']) and all(is_station(it, form) for it in flow['station'])))
+    need(all(flow[field] == ANY or (is_list(flow[field]) and all(is_value(field, it, form) for it in flow[field])) for field in PREFIXES_FROM))
     return flow
 
 

@@ -5,6 +5,7 @@ NAMES = ['A', 'A B', 'B', 'C-', 'D', 'a', 'CT1', '-x', '*y']
 CLASSES = ['1', '1.2', '1.2.3']
 MODALITIES = ['CT', 'MR', '', '!', '(', '+', 'Z z']
 STATIONS = ['S1', 'S2', '', '#', '~']
+MODALITY_PREFIXES = ['C*', 'CT*', 'M*', '!*', 'Z*', '((*']
 PREFIXES = ['S*', 'S1*', 'S12*', '#*', 'S 1*', '~~*']
 
 
@@ -59,9 +60,11 @@ def random_plan(dice):
     """A plan of two to five nodes; seven in ten have no way back, and so no cycle."""
     names, classes = dice.sample(NAMES, dice.choice([2, 3, 3, 4, 4, 5])), dice.sample(CLASSES, dice.choice([1, 1, 2]))
     modalities, stations = dice.sample(MODALITIES, dice.choice([1, 2, 3])), dice.sample(STATIONS, dice.choice([1, 2]))
-    form = dice.choice([1, 1, 2])
-    if form == 2:
+    form = dice.choice([1, 1, 2, 3])
+    if form != 1:
         stations += dice.sample(PREFIXES, dice.choice([0, 1, 2, 3]))
+    if form == 3:
+        modalities += dice.sample(MODALITY_PREFIXES, dice.choice([0, 1, 2, 3]))
     forwards, all_taken, nodes, flows = dice.random() < 0.7, dice.random() < 0.75, [], []
     for place, name in enumerate(names):
         targets = [it for i, it in enumerate(names) if (i > place if forwards else i != place)]
@@ -240,7 +243,7 @@ class ShortTexts(OddTexts):
     def rule(self, name):
         targets = ['[]'] + [f'[{it}]' for it in self.names if it != name] + ['["@one"]'] * (name != self.names[0])
         return self.table('node.rule', [
-            ('from', ['"*"', self.nodes()], ['[]', '1']), ('class', ['"*"', self.classes()], ['[]', '1']), ('modality', ['"*"', '"CT"', '""'], ODD_LITERALS),
+            ('from', ['"*"', self.nodes()], ['[]', '1']), ('class', ['"*"', self.classes()], ['[]', '1']), ('modality', ['"*"', '"CT"', '"C*"'], ODD_LITERALS),
             ('station', ['"*"', '"S"', '"S*"'], ODD_LITERALS), ('to', targets, ['["@none"]', '"@one"', self.list_of(ODD_NAMES)]),
             ('keep', ['true', 'false'], ['1', '"true"']),
         ], may_lack=True)
@@ -249,7 +252,7 @@ class ShortTexts(OddTexts):
         at, to = self.dice.sample(self.names, 2)
         return self.table('flow', [
             ('at', [at, f'[{at}]', self.nodes(to)], ['[]', '1']), ('to', [to, f'[{to}]', self.nodes(at)], ['[]', '1']), ('class', [self.classes()], ['[]', '1']),
-            ('syntax', [self.syntaxes()], ['1']), ('modality', ['"*"', '["CT"]', '[]'], ['"CT"', '["*"]', '[1]']),
+            ('syntax', [self.syntaxes()], ['1']), ('modality', ['"*"', '["CT"]', '["C*","CT"]', '[]'], ['"CT"', '["*"]', '[1]']),
             ('station', ['"*"', '["S"]', '["S*","S"]'], ['"S*"', '["*"]', '[1]']),
         ])
 

@@ -1,20 +1,14 @@
 -- A rank found by the cell of a key.
-use Rattle.std.proofs.Common.{ℕ, List, Contains}
-use Rattle.std.specs.Prelude.{◌↔◌}
+use Rattle.std.proofs.Common.{ℕ, List}
 use Rattle.dr_base.specs.Texts.{Text}
-use Rattle.dr_route.specs.Cells.{InField, InStation, InCell}
+use Rattle.dr_route.specs.Cells.{InCell}
 use Rattle.dr_route.specs.Laws.{key_of}
 use Rattle.dr_route.specs.declared.key.Key.{Key}
-use Rattle.dr_route.specs.declared.cell.FieldValues.{FieldValues}
 use Rattle.dr_route.specs.declared.cell.Literals.{Literals}
-use Rattle.dr_route.specs.declared.cell.OwnedField.{OwnedField}
-use Rattle.dr_route.specs.declared.cell.OwnedField.TheVariants.{Literal, Rest}
-use Rattle.dr_route.specs.declared.cell.StationValues.{StationValues}
-use Rattle.dr_route.specs.declared.cell.OwnedStation.{OwnedStation}
-use Rattle.dr_route.specs.declared.cell.OwnedStation.TheVariants as station
 use Rattle.dr_route.specs.declared.cell.OwnedCell.{OwnedCell}
+use Rattle.dr_route.proofs.Agreement.{cell_alike}
 use Rattle.dr_plan_model.specs.Networks.{Network}
-use Rattle.dr_plan_model.specs.Plans.{IsWellFormed, LiesIn, literals_of}
+use Rattle.dr_plan_model.specs.Plans.{AreLiteralsOf, IsWellFormed, LiesIn, literals_of}
 use Rattle.dr_plan_model.specs.Walks.{IsReached}
 use Rattle.dr_plan_model.proofs.WalksAlike.{reach_alike, cell_has_a_key}
 use Rattle.dr_plan_sound.specs.declared.certificate.Stop.{Stop}
@@ -24,32 +18,9 @@ use Rattle.dr_plan_sound.specs.Ranked.{AreRanked}
 use Rattle.dr_plan_sound.proofs.RankedLines.{rank_holds, reached_has_line}
 use Rattle.dr_plan_entries.proofs.Entries.{cell_that_lies}
 use Rattle.dr_cert.specs.Indexing.{HasRank, HasNoLine}
-use Rattle.dr_cert.specs.Sealing.{AreLiteralsOf}
-
-pub field_alike : (a b : FieldValues) (field : OwnedField) (value : Text) → ((t : Text) → Contains a.literals t ↔ Contains b.literals t) → InField a field value → InField b field value
-field_alike a b (Literal literal) value same h = ((same literal).0 h.0, h.1)
-field_alike a b Rest value same h = λ among. h ((same value).1 among)
-
-pub station_alike : (a b : StationValues) (part : OwnedStation) (value : Text) → ((t : Text) → Contains a.literals t ↔ Contains b.literals t) → ((t : Text) → Contains a.prefixes t ↔ Contains b.prefixes t) →
-    InStation a part value → InStation b part value
-station_alike a b (station.Literal literal) value same alike h = ((same literal).0 h.0, h.1)
-station_alike a b (station.Prefix prefix) value same alike h = (
-  λ among. h.0 ((same value).1 among),
-  record {
-    among = (alike prefix).0 h.1.among;
-    begins = h.1.begins;
-    longest = λ other among begins. h.1.longest other ((alike other).1 among) begins;
-  },
-)
-station_alike a b station.Rest value same alike h = (λ among. h.0 ((same value).1 among), λ prefix among begins. h.1 prefix ((alike prefix).1 among) begins)
 
 pub lies_there : (plan : Network) (literals : Literals) (key : Key) (cell : OwnedCell) → AreLiteralsOf plan literals → InCell literals cell key → LiesIn plan cell key
-lies_there plan literals key cell are lies = record {
-  class = lies.class;
-  syntax = lies.syntax;
-  modality = field_alike literals.modalities (literals_of plan).modalities cell.modality key.modality are.modalities lies.modality;
-  station = station_alike literals.stations (literals_of plan).stations cell.station key.station are.stations are.prefixes lies.station;
-}
+lies_there plan literals key cell are lies = cell_alike literals (literals_of plan) are.same cell key lies
 
 module _ (plan : Network) (formed : IsWellFormed plan) (index : List Line) (ranked : AreRanked plan index) (key : Key) (cell : OwnedCell) (lies : LiesIn plan cell key) (caller node : Text) where
   pub rank_there : (rank : ℕ) → HasRank index (record { caller = caller; node = node; cell = cell }) rank → IsReached plan key caller node × IsRank plan key caller node rank

@@ -6,7 +6,6 @@ use Rattle.dr_base.specs.Texts.{Text}
 use Rattle.dr_base.specs.declared.syntax.Syntax.TheVariants.{Implicit}
 use Rattle.dr_route.specs.declared.cell.OwnedCell.{OwnedCell}
 use Rattle.dr_route.specs.declared.cell.OwnedField.TheVariants.{Rest}
-use Rattle.dr_route.specs.declared.cell.OwnedStation.TheVariants as station
 use Rattle.dr_plan_model.specs.Networks.{Network}
 use Rattle.dr_plan_model.specs.Plans.{IsWellFormed}
 use Rattle.dr_plan_sound.specs.declared.certificate.Line.{Line}
@@ -30,7 +29,7 @@ Visits start mid = VisitorGoesOn (λ (w : Walker). w.plan.now) IsWalking HasVisi
 
 -- some cell, for what holds whatever the cell
 any : OwnedCell
-any = record { class = []; syntax = Implicit; modality = Rest; station = station.Rest }
+any = record { class = []; syntax = Implicit; modality = Rest; station = Rest }
 
 pub same_lines : (start mid : Walker) → Visits start mid → mid.lines.now ≡ start.lines.now
 same_lines start mid went = (went.shown (record { lines = mid.lines; count = 18446744073709551616 }) [] any (refl, λ real. absurd (omega arith))).0

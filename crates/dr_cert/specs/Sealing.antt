@@ -1,11 +1,10 @@
 -- A plan with its certificate.
-use Rattle.std.specs.Prelude.{◌↔◌, ℕ, List, Contains, Option, Some, None}
+use Rattle.std.specs.Prelude.{ℕ, List, Option, Some, None}
 use Rattle.dr_base.specs.Texts.{Text}
 use Rattle.dr_route.specs.declared.key.Key.{Key}
-use Rattle.dr_route.specs.Cells.{AreInOrder}
 use Rattle.dr_route.specs.declared.cell.Literals.{Literals}
 use Rattle.dr_plan_model.specs.Networks.{Network}
-use Rattle.dr_plan_model.specs.Plans.{IsWellFormed, modalities_of, stations_of, prefixes_of}
+use Rattle.dr_plan_model.specs.Plans.{AreLiteralsOf, IsWellFormed}
 use Rattle.dr_plan_model.specs.Walks.{IsReached}
 use Rattle.dr_plan_sound.specs.declared.certificate.Line.{Line}
 use Rattle.dr_plan_sound.specs.declared.certificate.Certificate.{Certificate}
@@ -18,14 +17,6 @@ use Rattle.dr_cert.specs.Indexing.{AreSorted}
 pub record Certified : Type 0 where
   pub plan : Network
   pub certificate : Certificate
-
--- the modalities, stations and prefixes are those that the plan names, each in byte order
-pub record AreLiteralsOf (plan : Network) (literals : Literals) : Type 0 where
-  pub modalities : (t : Text)
-      → Contains literals.modalities.literals t ↔ Contains (modalities_of plan) t
-  pub stations : (t : Text) → Contains literals.stations.literals t ↔ Contains (stations_of plan) t
-  pub prefixes : (t : Text) → Contains literals.stations.prefixes t ↔ Contains (prefixes_of plan) t
-  pub ordered : AreInOrder literals
 
 -- what a sealed plan keeps: the plan is sound, this is its certificate, and its lines can be found
 -- by their stops

@@ -5,25 +5,20 @@ use Rattle.std.proofs.lemmas.List.Elements.{All-append}
 use Rattle.dr_base.specs.Texts.{Text}
 use Rattle.dr_base.specs.declared.syntax.Syntax.{Syntax}
 use Rattle.dr_base.specs.declared.syntax.Syntax.TheVariants.{Implicit, Explicit}
-use Rattle.dr_route.specs.Cells.{InField, InStation}
-use Rattle.dr_route.specs.Laws.{ArePlain, ArePlainStations, IsPart, IsStationPart, key_of}
+use Rattle.dr_route.specs.Cells.{InField}
+use Rattle.dr_route.specs.Laws.{ArePlainValues, IsPart, key_of}
 use Rattle.dr_route.specs.Routes.{local}
 use Rattle.dr_route.specs.declared.key.Key.{Key}
 use Rattle.dr_route.specs.declared.cell.FieldValues.{FieldValues}
-use Rattle.dr_route.specs.declared.cell.StationValues.{StationValues}
 use Rattle.dr_route.specs.declared.cell.OwnedField.{OwnedField}
 use Rattle.dr_route.specs.declared.cell.OwnedField.TheVariants as part
-use Rattle.dr_route.specs.declared.cell.OwnedStation.{OwnedStation}
-use Rattle.dr_route.specs.declared.cell.OwnedStation.TheVariants as station
-use Rattle.dr_route.proofs.Agreement.{part_has_value, station_has_value, some_part, some_station}
+use Rattle.dr_route.proofs.Agreement.{part_has_value, some_part}
 use Rattle.dr_plan_model.specs.Networks.{Network}
-use Rattle.dr_plan_model.specs.Plans.{IsWellFormed, modalities_of, stations_of, prefixes_of, literals_of}
-use Rattle.dr_plan_model.specs.Walks.{Flows, IsDestination, IsEntry, IsWalk, Keeps, last_place}
-use Rattle.dr_plan_model.specs.declared.literals.Attribute.TheVariants.{Modality}
-use Rattle.dr_plan_model.proofs.WalksAlike.{named_are_plain, no_rule_keeps, no_rule_sends, stations_are_plain}
-use Rattle.dr_cert_diff.specs.declared.change.RouteChange.{RouteChange}
+use Rattle.dr_plan_model.specs.Plans.{IsWellFormed, literals_of}
+use Rattle.dr_plan_model.specs.Walks.{IsDestination, IsEntry, IsWalk, Keeps, last_place}
+use Rattle.dr_plan_model.proofs.WalksAlike.{modalities_are_plain, no_rule_keeps, no_rule_sends, stations_are_plain}
 use Rattle.dr_cert_diff.specs.declared.parts.FieldParts.{FieldParts}
-use Rattle.dr_cert_diff.specs.Differing.{IsLost, LiesInBoth, literals_of_both}
+use Rattle.dr_cert_diff.specs.Differing.{IsLost, LiesInBoth, literals_of_both, values_of_both}
 use Rattle.dr_cert_diff.specs.Entering.{HasClasses, HasSites}
 use Rattle.dr_cert_diff.specs.Going.{ArePartsOf, AtClass, AtPair, AtSite, Over, cell_at}
 
@@ -39,46 +34,43 @@ pub destination_enters : (plan : Network) (site : Text) (key : Key) (dest : Text
 destination_enters plan site key dest d = kept_enters plan site key d.0 dest d.1 d.3
 
 -- ---- parts of both plans
-pub both_have_keys : (old new : Network) → IsWellFormed old → IsWellFormed new → (class : Text) (syntax : Syntax) (modality : OwnedField) (place : OwnedStation) →
-    IsPart (literals_of_both old new).modalities modality → IsStationPart (literals_of_both old new).stations place →
-    LiesInBoth old new (cell_at class syntax modality place) (key_of (cell_at class syntax modality place))
-both_have_keys old new formed_old formed_new class syntax modality place is_part is_place =
-    let of_old = stations_are_plain old formed_old in
-    let of_new = stations_are_plain new formed_new in
-    let plain : ArePlain (modalities_of old ++ modalities_of new) = All-append (λ (t : Text). All (λ byte. byte < 127) t) (modalities_of old) (modalities_of new) (named_are_plain old formed_old Modality) (named_are_plain new formed_new Modality) in
-    let stations : ArePlainStations (literals_of_both old new).stations = record {
-      literals = All-append (λ (t : Text). All (λ byte. byte < 127) t) (stations_of old) (stations_of new) of_old.literals of_new.literals;
-      prefixes = All-append (λ (t : Text). All (λ byte. byte < 127) t) (prefixes_of old) (prefixes_of new) of_old.prefixes of_new.prefixes;
-      some = All-append (λ (t : Text). t ≢ []) (prefixes_of old) (prefixes_of new) of_old.some of_new.some;
-    } in
+both_are_plain : (old new : FieldValues) → ArePlainValues old → ArePlainValues new → ArePlainValues (values_of_both old new)
+both_are_plain old new of_old of_new = record {
+  literals = All-append (λ (t : Text). All (λ byte. byte < 127) t) old.literals new.literals of_old.literals of_new.literals;
+  prefixes = All-append (λ (t : Text). All (λ byte. byte < 127) t) old.prefixes new.prefixes of_old.prefixes of_new.prefixes;
+  some = All-append (λ (t : Text). t ≢ []) old.prefixes new.prefixes of_old.some of_new.some;
+}
+
+pub both_have_keys : (old new : Network) → IsWellFormed old → IsWellFormed new → (class : Text) (syntax : Syntax) (modality station : OwnedField) →
+    IsPart (literals_of_both old new).modalities modality → IsPart (literals_of_both old new).stations station →
+    LiesInBoth old new (cell_at class syntax modality station) (key_of (cell_at class syntax modality station))
+both_have_keys old new formed_old formed_new class syntax modality station is_modality is_station =
+    let modalities = both_are_plain (literals_of old).modalities (literals_of new).modalities (modalities_are_plain old formed_old) (modalities_are_plain new formed_new) in
+    let stations = both_are_plain (literals_of old).stations (literals_of new).stations (stations_are_plain old formed_old) (stations_are_plain new formed_new) in
     record {
       class = refl;
       syntax = refl;
-      modality = part_has_value (literals_of_both old new).modalities modality plain is_part;
-      station = station_has_value (literals_of_both old new).stations place stations is_place;
+      modality = part_has_value (literals_of_both old new).modalities modality modalities is_modality;
+      station = part_has_value (literals_of_both old new).stations station stations is_station;
     }
 
-field_part : (values : FieldValues) (field : OwnedField) (v : Text) → InField values field v → IsPart values field
-field_part values (part.Literal literal) v lies = lies.0
-field_part values part.Rest v lies = tt
-
-station_part : (values : StationValues) (field : OwnedStation) (v : Text) → InStation values field v → IsStationPart values field
-station_part values (station.Literal literal) v lies = lies.0
-station_part values (station.Prefix prefix) v lies = lies.1.among
-station_part values station.Rest v lies = tt
+lies_in_part : (values : FieldValues) (field : OwnedField) (v : Text) → InField values field v → IsPart values field
+lies_in_part values (part.Literal literal) v lies = lies.0
+lies_in_part values (part.Prefix prefix) v lies = lies.1.among
+lies_in_part values part.Rest v lies = tt
 
 module _ (old new : Network) (parts : FieldParts) (are : ArePartsOf old new parts) where
   -- each key of a class and a transfer syntax is in a cell of these parts
   in_pair : (at site : Text) (key : Key) → site ≡ at → AtPair old new at key.class key.syntax parts site key
   in_pair at site key is =
       let modality = some_part (literals_of_both old new).modalities key.modality in
-      let place = some_station (literals_of_both old new).stations key.station in (
+      let station = some_part (literals_of_both old new).stations key.station in (
         modality.0,
-        (are.modalities modality.0).1 (field_part (literals_of_both old new).modalities modality.0 key.modality modality.1),
+        (are.modalities modality.0).1 (lies_in_part (literals_of_both old new).modalities modality.0 key.modality modality.1),
         (
-          place.0,
-          (are.stations place.0).1 (station_part (literals_of_both old new).stations place.0 key.station place.1),
-          (is, record { class = refl; syntax = refl; modality = modality.1; station = place.1 }),
+          station.0,
+          (are.stations station.0).1 (lies_in_part (literals_of_both old new).stations station.0 key.station station.1),
+          (is, record { class = refl; syntax = refl; modality = modality.1; station = station.1 }),
         ),
       )
 

@@ -6,14 +6,13 @@ use Rattle.std.proofs.lemmas.List.{take_more}
 use Rattle.std.proofs.lemmas.List.Elements.{All-push, Contains-push_cases, Contains-push, Contains-append_left, Contains-append_right, Contains-append_cases}
 use Rattle.dr_base.specs.Texts.{Text}
 use Rattle.dr_route.specs.Names.{HasName}
-use Rattle.dr_route.specs.Laws.{IsPart, IsStationPart}
+use Rattle.dr_route.specs.Cells.{SameValues}
+use Rattle.dr_route.specs.Laws.{IsPart}
 use Rattle.dr_route.specs.declared.cell.FieldValues.{FieldValues}
-use Rattle.dr_route.specs.declared.cell.StationValues.{StationValues}
 use Rattle.dr_route.specs.declared.cell.OwnedField.{OwnedField}
 use Rattle.dr_route.specs.declared.cell.OwnedField.TheVariants as part
-use Rattle.dr_route.specs.declared.cell.OwnedStation.{OwnedStation}
-use Rattle.dr_route.specs.declared.cell.OwnedStation.TheVariants as station
 use Rattle.dr_plan_model.proofs.Gathered.{nothing_in_nil, only_one, Contains-cons_cases, Contains-here, Contains-there}
+use Rattle.dr_cert_diff.specs.Differing.{values_of_both}
 
 -- one more of which it holds
 pub one_more_so : {X : Type 0} (P : X → Type 0) (xs : List X) (i : ℕ) (x : X) → i < length xs → x ≡ get_or xs i x → All P (take i xs) → P x → All P (take (i + 1) xs)
@@ -73,94 +72,94 @@ to_map f (y ∷ xs) x among = elim (Contains-cons_cases y xs x among) [
   | inr later ↦ Contains-there (f y) (map f xs) (f x) (to_map f xs x later)
 ]
 
-abbrev field_text : OwnedField → Text
-field_text (part.Literal t) = t
-field_text part.Rest = []
+abbrev text_in : OwnedField → Text
+text_in (part.Literal t) = t
+text_in (part.Prefix t) = t
+text_in part.Rest = []
 
-abbrev IsLiteralField : OwnedField → Type 0
-IsLiteralField (part.Literal t) = Unit {0}
-IsLiteralField part.Rest = ⊥
+abbrev IsSingle : OwnedField → Type 0
+IsSingle (part.Literal t) = Unit {0}
+IsSingle (part.Prefix t) = ⊥
+IsSingle part.Rest = ⊥
 
-pub field_parts : (values : List Text) (named : FieldValues) → ((t : Text) → Contains values t ↔ Contains named.literals t) → (items : List OwnedField) →
-    items ≡ map (λ t. part.Literal t) values ++ part.Rest ∷ [] → (field : OwnedField) → Contains items field ↔ IsPart named field
-field_parts values named same items are (part.Literal t) = (
-  λ among. elim (Contains-append_cases (map (λ (s : Text). part.Literal s) values) (part.Rest ∷ []) (part.Literal t) (subst (λ (xs : List OwnedField). Contains xs (part.Literal t)) are among)) [
-    | inl one ↦ (let m = from_map (λ (s : Text). part.Literal s) values (part.Literal t) one in (same t).0 (subst (Contains values) (ap field_text m.2) m.1))
-    | inr rest ↦ absurd (subst IsLiteralField (sym (only_one part.Rest (part.Literal t) rest)) tt)
-  ],
-  λ is. subst (λ (xs : List OwnedField). Contains xs (part.Literal t)) (sym are)
-      (Contains-append_left (map (λ (s : Text). part.Literal s) values) (part.Rest ∷ []) (part.Literal t) (to_map (λ (s : Text). part.Literal s) values t ((same t).1 is))),
-)
-field_parts values named same items are part.Rest = (
-  λ among. tt,
-  λ is. subst (λ (xs : List OwnedField). Contains xs part.Rest) (sym are) (Contains-append_right (map (λ (s : Text). part.Literal s) values) (part.Rest ∷ []) part.Rest (Contains-here part.Rest [])),
-)
-
-abbrev station_text : OwnedStation → Text
-station_text (station.Literal t) = t
-station_text (station.Prefix t) = t
-station_text station.Rest = []
-
-abbrev IsSingle : OwnedStation → Type 0
-IsSingle (station.Literal t) = Unit {0}
-IsSingle (station.Prefix t) = ⊥
-IsSingle station.Rest = ⊥
-
-abbrev IsUnder : OwnedStation → Type 0
-IsUnder (station.Literal t) = ⊥
-IsUnder (station.Prefix t) = Unit {0}
-IsUnder station.Rest = ⊥
+abbrev IsUnder : OwnedField → Type 0
+IsUnder (part.Literal t) = ⊥
+IsUnder (part.Prefix t) = Unit {0}
+IsUnder part.Rest = ⊥
 
 module _ (values prefixes : List Text) where
-  abbrev singles : List OwnedStation
-  singles = map (λ (s : Text). station.Literal s) values
+  abbrev singles : List OwnedField
+  singles = map (λ (s : Text). part.Literal s) values
 
-  abbrev unders : List OwnedStation
-  unders = map (λ (s : Text). station.Prefix s) prefixes
+  abbrev unders : List OwnedField
+  unders = map (λ (s : Text). part.Prefix s) prefixes
 
   -- a part is one of the three kinds
-  which : (place : OwnedStation) → Contains (singles ++ unders ++ station.Rest ∷ []) place → Contains singles place ⊎ (Contains unders place ⊎ (station.Rest ≡ place))
-  which place among = elim (Contains-append_cases (singles ++ unders) (station.Rest ∷ []) place among) [
-    | inl front ↦ elim (Contains-append_cases singles unders place front) [ inl one ↦ inl one | inr under ↦ inr (inl under) ]
-    | inr rest ↦ inr (inr (only_one station.Rest place rest))
+  which : (field : OwnedField) → Contains (singles ++ unders ++ part.Rest ∷ []) field → Contains singles field ⊎ (Contains unders field ⊎ (part.Rest ≡ field))
+  which field among = elim (Contains-append_cases (singles ++ unders) (part.Rest ∷ []) field among) [
+    | inl front ↦ elim (Contains-append_cases singles unders field front) [ inl one ↦ inl one | inr under ↦ inr (inl under) ]
+    | inr rest ↦ inr (inr (only_one part.Rest field rest))
   ]
 
-  pub place_parts : (named : StationValues) → ((t : Text) → Contains values t ↔ Contains named.literals t) → ((t : Text) → Contains prefixes t ↔ Contains named.prefixes t) → (items : List OwnedStation) →
-      items ≡ singles ++ unders ++ station.Rest ∷ [] → (place : OwnedStation) → Contains items place ↔ IsStationPart named place
-  place_parts named same same_prefixes items are (station.Literal t) = (
-    λ among. elim (which (station.Literal t) (subst (λ (xs : List OwnedStation). Contains xs (station.Literal t)) are among)) [
-      | inl one ↦ (let m = from_map (λ (s : Text). station.Literal s) values (station.Literal t) one in (same t).0 (subst (Contains values) (ap station_text m.2) m.1))
+  pub field_parts : (named : FieldValues) → ((t : Text) → Contains values t ↔ Contains named.literals t) → ((t : Text) → Contains prefixes t ↔ Contains named.prefixes t) → (items : List OwnedField) →
+      items ≡ singles ++ unders ++ part.Rest ∷ [] → (field : OwnedField) → Contains items field ↔ IsPart named field
+  field_parts named same same_prefixes items are (part.Literal t) = (
+    λ among. elim (which (part.Literal t) (subst (λ (xs : List OwnedField). Contains xs (part.Literal t)) are among)) [
+      | inl one ↦ (let m = from_map (λ (s : Text). part.Literal s) values (part.Literal t) one in (same t).0 (subst (Contains values) (ap text_in m.2) m.1))
       | inr other ↦ elim other [
-        | inl under ↦ (let m = from_map (λ (s : Text). station.Prefix s) prefixes (station.Literal t) under in absurd (subst IsSingle (sym m.2) tt))
+        | inl under ↦ (let m = from_map (λ (s : Text). part.Prefix s) prefixes (part.Literal t) under in absurd (subst IsSingle (sym m.2) tt))
         | inr rest ↦ absurd (subst IsSingle (sym rest) tt)
       ]
     ],
-    λ is. subst (λ (xs : List OwnedStation). Contains xs (station.Literal t)) (sym are)
-        (Contains-append_left (singles ++ unders) (station.Rest ∷ []) (station.Literal t) (Contains-append_left singles unders (station.Literal t) (to_map (λ (s : Text). station.Literal s) values t ((same t).1 is)))),
+    λ is. subst (λ (xs : List OwnedField). Contains xs (part.Literal t)) (sym are)
+        (Contains-append_left (singles ++ unders) (part.Rest ∷ []) (part.Literal t) (Contains-append_left singles unders (part.Literal t) (to_map (λ (s : Text). part.Literal s) values t ((same t).1 is)))),
   )
-  place_parts named same same_prefixes items are (station.Prefix t) = (
-    λ among. elim (which (station.Prefix t) (subst (λ (xs : List OwnedStation). Contains xs (station.Prefix t)) are among)) [
-      | inl one ↦ (let m = from_map (λ (s : Text). station.Literal s) values (station.Prefix t) one in absurd (subst IsUnder (sym m.2) tt))
+  field_parts named same same_prefixes items are (part.Prefix t) = (
+    λ among. elim (which (part.Prefix t) (subst (λ (xs : List OwnedField). Contains xs (part.Prefix t)) are among)) [
+      | inl one ↦ (let m = from_map (λ (s : Text). part.Literal s) values (part.Prefix t) one in absurd (subst IsUnder (sym m.2) tt))
       | inr other ↦ elim other [
-        | inl under ↦ (let m = from_map (λ (s : Text). station.Prefix s) prefixes (station.Prefix t) under in (same_prefixes t).0 (subst (Contains prefixes) (ap station_text m.2) m.1))
+        | inl under ↦ (let m = from_map (λ (s : Text). part.Prefix s) prefixes (part.Prefix t) under in (same_prefixes t).0 (subst (Contains prefixes) (ap text_in m.2) m.1))
         | inr rest ↦ absurd (subst IsUnder (sym rest) tt)
       ]
     ],
-    λ is. subst (λ (xs : List OwnedStation). Contains xs (station.Prefix t)) (sym are)
-        (Contains-append_left (singles ++ unders) (station.Rest ∷ []) (station.Prefix t) (Contains-append_right singles unders (station.Prefix t) (to_map (λ (s : Text). station.Prefix s) prefixes t ((same_prefixes t).1 is)))),
+    λ is. subst (λ (xs : List OwnedField). Contains xs (part.Prefix t)) (sym are)
+        (Contains-append_left (singles ++ unders) (part.Rest ∷ []) (part.Prefix t) (Contains-append_right singles unders (part.Prefix t) (to_map (λ (s : Text). part.Prefix s) prefixes t ((same_prefixes t).1 is)))),
   )
-  place_parts named same same_prefixes items are station.Rest = (
+  field_parts named same same_prefixes items are part.Rest = (
     λ among. tt,
-    λ is. subst (λ (xs : List OwnedStation). Contains xs station.Rest) (sym are) (Contains-append_right (singles ++ unders) (station.Rest ∷ []) station.Rest (Contains-here station.Rest [])),
+    λ is. subst (λ (xs : List OwnedField). Contains xs part.Rest) (sym are) (Contains-append_right (singles ++ unders) (part.Rest ∷ []) part.Rest (Contains-here part.Rest [])),
   )
 
+-- the lists have the same texts
+abbrev pub Same : List Text → List Text → Type 0
+Same xs ys = (t : Text) → Contains xs t ↔ Contains ys t
+
 -- what both name, as one list
-pub named_by_both : (values one other first second : List Text) → ((t : Text) → Contains values t ↔ (Contains one t ⊎ Contains other t)) → ((t : Text) → Contains one t ↔ Contains first t) →
-    ((t : Text) → Contains other t ↔ Contains second t) → (t : Text) → Contains values t ↔ Contains (first ++ second) t
-named_by_both values one other first second merged is_first is_second t = (
-  λ h. elim ((merged t).0 h) [
-    | inl a ↦ Contains-append_left first second t ((is_first t).0 a)
-    | inr b ↦ Contains-append_right first second t ((is_second t).0 b)
-  ],
-  λ h. (merged t).1 (elim (Contains-append_cases first second t h) [ inl a ↦ inl ((is_first t).1 a) | inr b ↦ inr ((is_second t).1 b) ]),
+pub named_by_both : (values one other : List Text) → ((t : Text) → Contains values t ↔ (Contains one t ⊎ Contains other t)) → Same values (one ++ other)
+named_by_both values one other merged t = (
+  λ h. elim ((merged t).0 h) [ inl a ↦ Contains-append_left one other t a | inr b ↦ Contains-append_right one other t b ],
+  λ h. (merged t).1 (Contains-append_cases one other t h),
 )
+
+same_through : (xs ys us vs : List Text) → Same xs us → Same ys vs → (t : Text) → Contains (xs ++ ys) t → Contains (us ++ vs) t
+same_through xs ys us vs first second t h = elim (Contains-append_cases xs ys t h) [
+  | inl a ↦ Contains-append_left us vs t ((first t).0 a)
+  | inr b ↦ Contains-append_right us vs t ((second t).0 b)
+]
+
+same_both : (xs ys us vs : List Text) → Same xs us → Same ys vs → Same (xs ++ ys) (us ++ vs)
+same_both xs ys us vs first second t = (
+  same_through xs ys us vs first second t,
+  same_through us vs xs ys (λ s. ((first s).1, (first s).0)) (λ s. ((second s).1, (second s).0)) t,
+)
+
+-- the parts of what both name, in whatever order they name it
+pub parts_alike : (a b c d : FieldValues) → SameValues a c → SameValues b d → (items : List OwnedField) →
+    ((field : OwnedField) → Contains items field ↔ IsPart (values_of_both a b) field) → (field : OwnedField) → Contains items field ↔ IsPart (values_of_both c d) field
+parts_alike a b c d first second items are (part.Literal t) =
+    let same = same_both a.literals b.literals c.literals d.literals first.literals second.literals t in
+    (λ h. same.0 ((are (part.Literal t)).0 h), λ h. (are (part.Literal t)).1 (same.1 h))
+parts_alike a b c d first second items are (part.Prefix t) =
+    let same = same_both a.prefixes b.prefixes c.prefixes d.prefixes first.prefixes second.prefixes t in
+    (λ h. same.0 ((are (part.Prefix t)).0 h), λ h. (are (part.Prefix t)).1 (same.1 h))
+parts_alike a b c d first second items are part.Rest = are part.Rest

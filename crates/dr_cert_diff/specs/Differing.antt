@@ -1,26 +1,29 @@
 -- What changes from one plan to another, over all keys and all nodes where they enter.
 use Rattle.std.specs.Prelude.{◌≡◌, ◌≢◌, ◌↔◌, ◌⊎◌, List, [], ◌++◌, Contains}
-use Rattle.dr_base.specs.Texts.{Text, IsInByteOrder}
+use Rattle.dr_base.specs.Texts.{Text}
 use Rattle.dr_route.specs.Routes.{local}
 use Rattle.dr_route.specs.Cells.{InCell}
 use Rattle.dr_route.specs.Laws.{key_of}
 use Rattle.dr_route.specs.declared.key.Key.{Key}
+use Rattle.dr_route.specs.declared.cell.FieldValues.{FieldValues}
 use Rattle.dr_route.specs.declared.cell.Literals.{Literals}
 use Rattle.dr_route.specs.declared.cell.OwnedCell.{OwnedCell}
 use Rattle.dr_plan_model.specs.Networks.{Network}
-use Rattle.dr_plan_model.specs.Plans.{modalities_of, stations_of, prefixes_of}
+use Rattle.dr_plan_model.specs.Plans.{literals_of}
 use Rattle.dr_plan_model.specs.Walks.{IsDestination}
 use Rattle.dr_cert_diff.specs.declared.change.RouteChange.{RouteChange}
 
--- the modalities and stations that the one plan or the other names, which part all keys into cells
--- that neither tells apart
+-- the literals and the prefixes of the one and of the other
+abbrev pub values_of_both : FieldValues → FieldValues → FieldValues
+values_of_both old new =
+    record { literals = old.literals ++ new.literals; prefixes = old.prefixes ++ new.prefixes }
+
+-- what the one plan or the other names for modality and for station, which parts all keys into
+-- cells that neither tells apart
 abbrev pub literals_of_both : Network → Network → Literals
 literals_of_both old new = record {
-  modalities = record { literals = modalities_of old ++ modalities_of new };
-  stations = record {
-    literals = stations_of old ++ stations_of new;
-    prefixes = prefixes_of old ++ prefixes_of new;
-  };
+  modalities = values_of_both (literals_of old).modalities (literals_of new).modalities;
+  stations = values_of_both (literals_of old).stations (literals_of new).stations;
 }
 
 -- the key lies in that cell of both plans

@@ -3,11 +3,10 @@ use Rattle.std.specs.Prelude.{◌≡◌, ◌↔◌, ◌⊎◌, List, Contains}
 use Rattle.dr_base.specs.Texts.{Text}
 use Rattle.dr_base.specs.declared.syntax.Syntax.{Syntax}
 use Rattle.dr_base.specs.declared.syntax.Syntax.TheVariants.{Implicit, Explicit}
-use Rattle.dr_route.specs.Laws.{IsPart, IsStationPart}
+use Rattle.dr_route.specs.Laws.{IsPart}
 use Rattle.dr_route.specs.declared.key.Key.{Key}
 use Rattle.dr_route.specs.declared.cell.OwnedCell.{OwnedCell}
 use Rattle.dr_route.specs.declared.cell.OwnedField.{OwnedField}
-use Rattle.dr_route.specs.declared.cell.OwnedStation.{OwnedStation}
 use Rattle.dr_plan_model.specs.Networks.{Network}
 use Rattle.dr_plan_model.specs.Walks.{IsEntry}
 use Rattle.dr_cert_diff.specs.declared.change.RouteChange.{RouteChange}
@@ -32,12 +31,12 @@ abbrev pub At : Network → Network → Text → OwnedCell → Text → Key → 
 At old new at cell site key = (site ≡ at) × LiesInBoth old new cell key
 
 -- the cell with this class and transfer syntax, and these parts
-abbrev pub cell_at : Text → Syntax → OwnedField → OwnedStation → OwnedCell
+abbrev pub cell_at : Text → Syntax → OwnedField → OwnedField → OwnedCell
 cell_at class syntax modality station =
     record { class = class; syntax = syntax; modality = modality; station = station }
 
 -- the keys of these cells
-abbrev pub AtModality : Network → Network → Text → Text → Syntax → List OwnedStation → OwnedField
+abbrev pub AtModality : Network → Network → Text → Text → Syntax → List OwnedField → OwnedField
     → Text → Key → Type 0
 AtModality old new at class syntax stations modality =
     Over stations (λ station. At old new at (cell_at class syntax modality station))
@@ -61,5 +60,5 @@ AtSite old new at site key = (site ≡ at) × (IsEntry old site key ⊎ IsEntry 
 pub record ArePartsOf (old new : Network) (parts : FieldParts) : Type 0 where
   pub modalities : (part : OwnedField)
       → Contains parts.modalities.items part ↔ IsPart (literals_of_both old new).modalities part
-  pub stations : (part : OwnedStation)
-      → Contains parts.stations.items part ↔ IsStationPart (literals_of_both old new).stations part
+  pub stations : (part : OwnedField)
+      → Contains parts.stations.items part ↔ IsPart (literals_of_both old new).stations part

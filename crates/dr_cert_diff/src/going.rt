@@ -11,7 +11,7 @@ use crate::entries::{classes_at, sites_of};
 use crate::parts::{FieldParts, parts_of};
 use dr_base::{Syntax, Text};
 use dr_cert::Sealed;
-use dr_route::{OwnedCell, OwnedField, OwnedStation};
+use dr_route::{OwnedCell, OwnedField};
 use std::alloc::{AllocError, Global};
 
 /// A class and a transfer syntax.
@@ -25,7 +25,7 @@ struct SyntaxPair<'a> {
 fn cell_of(
     pair: &SyntaxPair<'_>,
     modality: &OwnedField,
-    station: &OwnedStation,
+    station: &OwnedField,
 ) -> Result<OwnedCell, AllocError>
     ensures { IfOk result (λ cell.
         cell ≡ cell_at pair.now.class.now pair.now.syntax modality.now station.now) }
@@ -65,7 +65,7 @@ fn note_at(
     site: &Text,
     pair: &SyntaxPair<'_>,
     modality: &OwnedField,
-    station: &OwnedStation,
+    station: &OwnedField,
     changes: &mut Vec<RouteChange>,
 ) -> Result<(), AllocError>
     requires { LiesInBoth both.now.old.now.plan both.now.new.now.plan

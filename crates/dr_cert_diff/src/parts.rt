@@ -2,15 +2,17 @@
 ghost use Rattle.std.specs.Prelude.{◌≡◌, ◌++◌, ◌∷◌, [], IfOk, Contains, map};
 ghost use Rattle.std.specs.Prelude.{◌↔◌, ◌⊎◌};
 ghost use Rattle.dr_base.specs.Texts.{Text as Words};
+ghost use Rattle.dr_route.specs.Laws.{IsPart};
+ghost use Rattle.dr_route.specs.declared.cell.OwnedField.{OwnedField as Part};
 ghost use Rattle.dr_route.specs.declared.cell.OwnedField.TheVariants as field;
-ghost use Rattle.dr_route.specs.declared.cell.OwnedStation.TheVariants as station;
+ghost use Rattle.dr_cert_diff.specs.Differing.{values_of_both};
 ghost use Rattle.dr_cert_diff.specs.Going.{ArePartsOf};
 
 use dr_base::{Seq, Text};
 use dr_plan_model::Plan;
 use dr_plan_model::literals::literals;
 use dr_route::names::{add_names, names_in_order};
-use dr_route::{OwnedField, OwnedStation};
+use dr_route::{FieldValues, OwnedField};
 use std::alloc::{AllocError, Global};
 use std::collections::BTreeSet;
 
@@ -26,46 +28,48 @@ fn merged(alloc: Global, one: &[Text], other: &[Text]) -> Result<Seq<Text>, Allo
     Ok(all)
 }
 
-/// The parts of the modalities: each of these values, and all others.
-fn modality_parts(alloc: Global, values: &[Text]) -> Result<Vec<OwnedField>, AllocError>
-    ensures { IfOk result (λ v.
-        v.items ≡ map (λ t. field.Literal t) values.now ++ field.Rest ∷ []) }
+/// The parts of a field that are single values.
+fn single_parts(alloc: Global, values: &[Text]) -> Result<Vec<OwnedField>, AllocError>
+    ensures { IfOk result (λ v. v.items ≡ map (λ t. field.Literal t) values.now) }
 {
     let mut parts = Vec::new(alloc);
     for value in values {
         parts.push(OwnedField::Literal(value.clone()?))?;
     }
+    Ok(parts)
+}
+
+/// The parts of a field: each of these values, what begins with each of these prefixes, and all
+/// others.
+fn all_parts(
+    alloc: Global,
+    values: &[Text],
+    prefixes: &[Text],
+) -> Result<Vec<OwnedField>, AllocError>
+    ensures { IfOk result (λ v. v.items
+        ≡ map (λ t. field.Literal t) values.now ++ map (λ t. field.Prefix t) prefixes.now
+        ++ field.Rest ∷ []) }
+{
+    let mut parts = single_parts(alloc, values)?;
+    for prefix in prefixes {
+        parts.push(OwnedField::Prefix(prefix.clone()?))?;
+    }
     parts.push(OwnedField::Rest)?;
     Ok(parts)
 }
 
-/// The parts of the stations that are single values.
-fn single_parts(alloc: Global, values: &[Text]) -> Result<Vec<OwnedStation>, AllocError>
-    ensures { IfOk result (λ v. v.items ≡ map (λ t. station.Literal t) values.now) }
-{
-    let mut parts = Vec::new(alloc);
-    for value in values {
-        parts.push(OwnedStation::Literal(value.clone()?))?;
-    }
-    Ok(parts)
-}
-
-/// The parts of the stations: each of these values, what begins with each of these prefixes, and
-/// all others.
-fn station_parts(
+/// The parts of a field that neither what the one plan names nor what the other does tells apart.
+fn field_parts(
     alloc: Global,
-    values: &[Text],
-    prefixes: &[Text],
-) -> Result<Vec<OwnedStation>, AllocError>
-    ensures { IfOk result (λ v. v.items
-        ≡ map (λ t. station.Literal t) values.now ++ map (λ t. station.Prefix t) prefixes.now
-        ++ station.Rest ∷ []) }
+    one: &FieldValues,
+    other: &FieldValues,
+) -> Result<Vec<OwnedField>, AllocError>
+    ensures { IfOk result (λ v. (part : Part)
+        → Contains v.items part ↔ IsPart (values_of_both one.now other.now) part) }
 {
-    let mut parts = single_parts(alloc, values)?;
-    for prefix in prefixes {
-        parts.push(OwnedStation::Prefix(prefix.clone()?))?;
-    }
-    parts.push(OwnedStation::Rest)?;
+    let values = merged(alloc, one.literals.as_slice(), other.literals.as_slice())?;
+    let prefixes = merged(alloc, one.prefixes.as_slice(), other.prefixes.as_slice())?;
+    let parts = all_parts(alloc, values.as_slice(), prefixes.as_slice())?;
     Ok(parts)
 }
 
@@ -73,7 +77,7 @@ fn station_parts(
 #[derive(Drop)]
 pub struct FieldParts {
     pub modalities: Vec<OwnedField>,
-    pub stations: Vec<OwnedStation>,
+    pub stations: Vec<OwnedField>,
 }
 
 /// The parts that neither plan tells apart.
@@ -82,23 +86,8 @@ pub fn parts_of(alloc: Global, old: &Plan, new: &Plan) -> Result<FieldParts, All
 {
     let one = literals(alloc, old)?;
     let other = literals(alloc, new)?;
-    let modalities = merged(
-        alloc,
-        one.modalities.literals.as_slice(),
-        other.modalities.literals.as_slice(),
-    )?;
-    let stations = merged(
-        alloc,
-        one.stations.literals.as_slice(),
-        other.stations.literals.as_slice(),
-    )?;
-    let prefixes = merged(
-        alloc,
-        one.stations.prefixes.as_slice(),
-        other.stations.prefixes.as_slice(),
-    )?;
-    let modalities = modality_parts(alloc, modalities.as_slice())?;
-    let stations = station_parts(alloc, stations.as_slice(), prefixes.as_slice())?;
+    let modalities = field_parts(alloc, &one.modalities, &other.modalities)?;
+    let stations = field_parts(alloc, &one.stations, &other.stations)?;
     Ok(FieldParts {
         modalities,
         stations,

@@ -6,8 +6,7 @@ ghost use Rattle.dr_base.specs.Texts.{next_field};
 use crate::change::RouteChange;
 use dr_base::Text;
 use dr_base::fields::add_field;
-use dr_cert_text::add_station;
-use dr_plan_sound::field_bytes;
+use dr_cert_text::add_part;
 use dr_route::OwnedCell;
 use std::alloc::{AllocError, Global};
 
@@ -20,8 +19,8 @@ fn add_entry(out: &mut Vec<u8>, site: &Text, cell: &OwnedCell) -> Result<(), All
     add_field(out, site.as_bytes())?;
     add_field(out, cell.class.as_bytes())?;
     add_field(out, cell.syntax.uid())?;
-    add_field(out, field_bytes(&cell.modality))?;
-    add_station(out, &cell.station)?;
+    add_part(out, &cell.modality)?;
+    add_part(out, &cell.station)?;
     Ok(())
 }
 

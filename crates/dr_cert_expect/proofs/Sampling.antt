@@ -4,51 +4,35 @@ use Rattle.std.proofs.lemmas.List.{take_all}
 use Rattle.dr_base.specs.Texts.{Text, Begins}
 use Rattle.dr_base.specs.Syntaxes.{syntax_uid}
 use Rattle.dr_base.specs.declared.syntax.Syntax.{Syntax}
-use Rattle.dr_route.specs.Routes.{Matches, MatchesStation}
-use Rattle.dr_route.specs.Cells.{InCell, InField, InStation, IsLongest}
-use Rattle.dr_route.specs.Laws.{ArePlain, ArePlainStations, IsPart, IsStationPart, value_of, station_value_of}
+use Rattle.dr_route.specs.Routes.{Matches, MatchesField}
+use Rattle.dr_route.specs.Cells.{InField}
+use Rattle.dr_route.specs.Laws.{ArePlain, ArePlainValues, IsPart, value_of}
 use Rattle.dr_route.specs.declared.key.Key.{Key}
-use Rattle.dr_route.specs.declared.rule.Pattern.{Pattern}
-use Rattle.dr_route.specs.declared.rule.Pattern.TheVariants.{Any, Literal}
-use Rattle.dr_route.specs.declared.rule.StationPattern.{StationPattern}
-use Rattle.dr_route.specs.declared.rule.StationPattern.TheVariants as pattern
+use Rattle.dr_route.specs.declared.rule.FieldPattern.{FieldPattern}
+use Rattle.dr_route.specs.declared.rule.FieldPattern.TheVariants as pattern
 use Rattle.dr_route.specs.declared.cell.FieldValues.{FieldValues}
-use Rattle.dr_route.specs.declared.cell.StationValues.{StationValues}
 use Rattle.dr_route.specs.declared.cell.OwnedField.{OwnedField}
 use Rattle.dr_route.specs.declared.cell.OwnedField.TheVariants as part
-use Rattle.dr_route.specs.declared.cell.OwnedStation.{OwnedStation}
-use Rattle.dr_route.specs.declared.cell.OwnedStation.TheVariants as station
 use Rattle.dr_route.specs.declared.cell.OwnedCell.{OwnedCell}
-use Rattle.dr_route.proofs.Agreement.{begins_shorter, begins_through, not_ending_128, part_has_value, station_has_value}
+use Rattle.dr_route.proofs.Agreement.{begins_shorter, begins_through, not_ending_128, part_has_value}
 use Rattle.dr_route.proofs.Finding.{begins_length, beginning}
 use Rattle.dr_plan_model.specs.Networks.{Network}
 use Rattle.dr_plan_model.specs.Plans.{IsWellFormed, LiesIn, literals_of}
-use Rattle.dr_plan_model.specs.declared.literals.Attribute.TheVariants.{Modality}
-use Rattle.dr_plan_model.proofs.WalksAlike.{named_are_plain, stations_are_plain}
+use Rattle.dr_plan_model.proofs.WalksAlike.{modalities_are_plain, stations_are_plain}
 use Rattle.dr_plan_expect.specs.declared.words.Expectation.{Expectation}
 use Rattle.dr_cert_expect.specs.Expected.{SpeaksOf}
-use Rattle.dr_cert_expect.specs.Samples.{IsSample, IsSampleStation, sample_value}
+use Rattle.dr_cert_expect.specs.Samples.{IsSample, IsSampleValue}
 
 either : (a b : ℕ) → (a ≤ b) ⊎ (b < a)
 either zero b = inl (omega arith)
 either (suc a) zero = inr (omega arith)
 either (suc a) (suc b) = elim (either a b) [ inl h ↦ inl (omega (arith, h)) | inr h ↦ inr (omega (arith, h)) ]
 
--- ---- modalities
-field_part : (values : FieldValues) (field : OwnedField) (v : Text) → InField values field v → IsPart values field
-field_part values (part.Literal literal) v lies = lies.0
-field_part values part.Rest v lies = tt
-
-modality_sample : (values : FieldValues) (field : OwnedField) (pattern : Pattern) (v : Text) → ArePlain values.literals → InField values field v → Matches pattern v →
-    InField values field (sample_value pattern (value_of field)) × Matches pattern (sample_value pattern (value_of field))
-modality_sample values field Any v plain lies matches = (part_has_value values field plain (field_part values field v lies), tt)
-modality_sample values field (Literal literal) v plain lies matches = (subst (InField values field) (sym matches) lies, refl)
-
--- ---- stations
-station_part : (values : StationValues) (field : OwnedStation) (v : Text) → InStation values field v → IsStationPart values field
-station_part values (station.Literal literal) v lies = lies.0
-station_part values (station.Prefix prefix) v lies = lies.1.among
-station_part values station.Rest v lies = tt
+-- ---- values of a field
+lies_in_part : (values : FieldValues) (field : OwnedField) (v : Text) → InField values field v → IsPart values field
+lies_in_part values (part.Literal literal) v lies = lies.0
+lies_in_part values (part.Prefix prefix) v lies = lies.1.among
+lies_in_part values part.Rest v lies = tt
 
 -- what begins a text and the byte 128, and is printable, begins the text
 within : (texts : List Text) (plain : ArePlain texts) (other prefix : Text) → Contains texts other → Begins other (prefix ++ 128 ∷ []) → Begins other prefix
@@ -61,11 +45,11 @@ within texts plain other prefix among begins = elim (either (length other) (leng
       not_ending_128 texts prefix plain (subst (Contains texts) (sym all) among))
 ]
 
--- a prefix and the byte 128 lie where a station lies that begins with the prefix, unless the part's own station begins so
-under_prefix : (values : StationValues) (plain : ArePlainStations values) (field : OwnedStation) (prefix v : Text) → InStation values field v → Begins prefix v →
-    (Begins prefix (station_value_of field) → ⊥) → InStation values field (prefix ++ 128 ∷ [])
-under_prefix values plain (station.Literal literal) prefix v lies begins other = absurd (other (subst (Begins prefix) (sym lies.1) begins))
-under_prefix values plain (station.Prefix own) prefix v lies begins other =
+-- a prefix and the byte 128 lie where a value lies that begins with the prefix, unless the part's own value begins so
+under_prefix : (values : FieldValues) (plain : ArePlainValues values) (field : OwnedField) (prefix v : Text) → InField values field v → Begins prefix v →
+    (Begins prefix (value_of field) → ⊥) → InField values field (prefix ++ 128 ∷ [])
+under_prefix values plain (part.Literal literal) prefix v lies begins other = absurd (other (subst (Begins prefix) (sym lies.1) begins))
+under_prefix values plain (part.Prefix own) prefix v lies begins other =
     let own_begins : Begins own prefix = elim (either (length own) (length prefix)) [
       | inl few ↦ begins_shorter own prefix v lies.1.begins begins few
       | inr more ↦ absurd (other (begins_through prefix own (own ++ 128 ∷ []) (begins_shorter prefix own v begins lies.1.begins (omega (arith, more))) (128 ∷ [], refl)))
@@ -77,38 +61,38 @@ under_prefix values plain (station.Prefix own) prefix v lies begins other =
         longest = λ longer there is. lies.1.longest longer there (begins_through longer prefix v (within values.prefixes plain.prefixes longer prefix there is) begins);
       },
     )
-under_prefix values plain station.Rest prefix v lies begins other = (
+under_prefix values plain part.Rest prefix v lies begins other = (
   not_ending_128 values.literals prefix plain.literals,
   λ longer there is. lies.1 longer there (begins_through longer prefix v (within values.prefixes plain.prefixes longer prefix there is) begins),
 )
 
-station_sample : (values : StationValues) (plain : ArePlainStations values) (field : OwnedStation) (pattern : StationPattern) (v t : Text) → InStation values field v → MatchesStation pattern v →
-    IsSampleStation pattern (station_value_of field) t → InStation values field t × MatchesStation pattern t
-station_sample values plain field pattern.Any v t lies matches is =
-    (subst (InStation values field) (sym is) (station_has_value values field plain (station_part values field v lies)), tt)
-station_sample values plain field (pattern.Literal literal) v t lies matches is = (subst (InStation values field) (sym matches ∙ sym is) lies, sym is)
-station_sample values plain field (pattern.Prefix prefix) v t lies matches (inl is) =
-    (subst (InStation values field) (sym is.1) (station_has_value values field plain (station_part values field v lies)), subst (Begins prefix) (sym is.1) is.0)
-station_sample values plain field (pattern.Prefix prefix) v t lies matches (inr is) =
-    (subst (InStation values field) (sym is.1) (under_prefix values plain field prefix v lies matches is.0), subst (Begins prefix) (sym is.1) (128 ∷ [], refl))
+value_sample : (values : FieldValues) (plain : ArePlainValues values) (field : OwnedField) (pattern : FieldPattern) (v t : Text) → InField values field v → MatchesField pattern v →
+    IsSampleValue pattern (value_of field) t → InField values field t × MatchesField pattern t
+value_sample values plain field pattern.Any v t lies matches is =
+    (subst (InField values field) (sym is) (part_has_value values field plain (lies_in_part values field v lies)), tt)
+value_sample values plain field (pattern.Literal literal) v t lies matches is = (subst (InField values field) (sym matches ∙ sym is) lies, sym is)
+value_sample values plain field (pattern.Prefix prefix) v t lies matches (inl is) =
+    (subst (InField values field) (sym is.1) (part_has_value values field plain (lies_in_part values field v lies)), subst (Begins prefix) (sym is.1) is.0)
+value_sample values plain field (pattern.Prefix prefix) v t lies matches (inr is) =
+    (subst (InField values field) (sym is.1) (under_prefix values plain field prefix v lies matches is.0), subst (Begins prefix) (sym is.1) (128 ∷ [], refl))
 
 -- ---- keys
 pub sample_is : (plan : Network) → IsWellFormed plan → (row : Expectation) (cell : OwnedCell) (site : Text) (key sample : Key) → LiesIn plan cell key → SpeaksOf row site key →
     IsSample row cell sample → LiesIn plan cell sample × SpeaksOf row site sample
 sample_is plan formed row cell site key sample lies speaks is =
-    let modality = modality_sample (literals_of plan).modalities cell.modality row.modality key.modality (named_are_plain plan formed Modality) lies.modality speaks.modality in
-    let where_from = station_sample (literals_of plan).stations (stations_are_plain plan formed) cell.station row.station key.station sample.station lies.station speaks.station is.station in (
+    let modality = value_sample (literals_of plan).modalities (modalities_are_plain plan formed) cell.modality row.modality key.modality sample.modality lies.modality speaks.modality is.modality in
+    let station = value_sample (literals_of plan).stations (stations_are_plain plan formed) cell.station row.station key.station sample.station lies.station speaks.station is.station in (
       record {
         class = sym is.class;
         syntax = sym is.syntax;
-        modality = subst (InField (literals_of plan).modalities cell.modality) (sym is.modality) modality.0;
-        station = where_from.0;
+        modality = modality.0;
+        station = station.0;
       },
       record {
         at = speaks.at;
         class = subst (Matches row.class) (sym lies.class ∙ sym is.class) speaks.class;
         syntax = subst (λ (s : Syntax). Matches row.syntax (syntax_uid s)) (sym lies.syntax ∙ sym is.syntax) speaks.syntax;
-        modality = subst (Matches row.modality) (sym is.modality) modality.1;
-        station = where_from.1;
+        modality = modality.1;
+        station = station.1;
       },
     )

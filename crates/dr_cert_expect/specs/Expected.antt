@@ -2,7 +2,7 @@
 use Rattle.std.specs.Prelude.{◌≡◌, ℕ, ◌+◌, List, All, Contains, Option, Some, None, take, slice_get}
 use Rattle.dr_base.specs.Texts.{Text}
 use Rattle.dr_base.specs.Syntaxes.{syntax_uid}
-use Rattle.dr_route.specs.Routes.{local, Matches, MatchesStation}
+use Rattle.dr_route.specs.Routes.{local, Matches, MatchesField}
 use Rattle.dr_route.specs.declared.key.Key.{Key}
 use Rattle.dr_plan_model.specs.Networks.{Network}
 use Rattle.dr_plan_model.specs.Walks.{IsEntry, IsDestination}
@@ -17,8 +17,8 @@ pub record SpeaksOf (row : Expectation) (site : Text) (key : Key) : Type 0 where
   pub at : Matches row.at site
   pub class : Matches row.class key.class
   pub syntax : Matches row.syntax (syntax_uid key.syntax)
-  pub modality : Matches row.modality key.modality
-  pub station : MatchesStation row.station key.station
+  pub modality : MatchesField row.modality key.modality
+  pub station : MatchesField row.station key.station
 
 -- a case of the row: a key of which it speaks enters at the site
 abbrev pub IsCase : Network → Expectation → Text → Key → Type 0

@@ -2,7 +2,7 @@
 use Rattle.std.specs.Prelude.{◌≡◌, List, [], ◌∷◌}
 use Rattle.dr_base.specs.Texts.{Text}
 use Rattle.dr_route.specs.declared.rule.Pattern.TheVariants.{Any}
-use Rattle.dr_route.specs.declared.rule.StationPattern.TheVariants as station
+use Rattle.dr_route.specs.declared.rule.FieldPattern.TheVariants as field
 use Rattle.dr_plan_model.specs.Networks.{Network}
 use Rattle.dr_plan_sound.specs.Samples.{archive, keep_all, two_nodes}
 use Rattle.dr_plan_expect.specs.declared.words.Expectation.{Expectation}
@@ -30,8 +30,8 @@ of_all_keys keep never = record {
   at = Any;
   class = Any;
   syntax = Any;
-  modality = Any;
-  station = station.Any;
+  modality = field.Any;
+  station = field.Any;
   keep = keep;
   never = never;
 }

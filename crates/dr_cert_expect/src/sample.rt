@@ -1,33 +1,23 @@
 //! One key of a cell, of which a row speaks if it speaks of any.
 ghost use Rattle.std.specs.Prelude.{◌≡◌, IfOk};
-ghost use Rattle.dr_cert_expect.specs.Samples.{IsSample, IsSampleStation, sample_value};
+ghost use Rattle.dr_cert_expect.specs.Samples.{IsSample, IsSampleValue};
 
 use dr_base::Text;
 use dr_plan_expect::Expectation;
 use dr_route::cell::{key_in, value_under};
 use dr_route::rule::begins;
-use dr_route::{Key, OwnedCell, Pattern, StationPattern};
+use dr_route::{FieldPattern, Key, OwnedCell};
 use std::alloc::{AllocError, Global};
 
-/// The value that the pattern asks for, and else the cell's own.
-fn sample_modality(pattern: &Pattern, own: &Text) -> Result<Text, AllocError>
-    ensures { IfOk result (λ t. t ≡ sample_value pattern.now own.now) }
-{
-    match pattern {
-        Pattern::Any => own.clone(),
-        Pattern::Literal(literal) => literal.clone(),
-    }
-}
-
-/// The station that the pattern asks for, and else the cell's own; of a prefix the cell's own where
+/// The value that the pattern asks for, and else the cell's own; of a prefix the cell's own where
 /// it begins so.
-fn sample_station(alloc: Global, pattern: &StationPattern, own: &Text) -> Result<Text, AllocError>
-    ensures { IfOk result (IsSampleStation pattern.now own.now) }
+fn sample_value(alloc: Global, pattern: &FieldPattern, own: &Text) -> Result<Text, AllocError>
+    ensures { IfOk result (IsSampleValue pattern.now own.now) }
 {
     match pattern {
-        StationPattern::Any => own.clone(),
-        StationPattern::Literal(literal) => literal.clone(),
-        StationPattern::Prefix(prefix) => {
+        FieldPattern::Any => own.clone(),
+        FieldPattern::Literal(literal) => literal.clone(),
+        FieldPattern::Prefix(prefix) => {
             if begins(prefix, own) {
                 return own.clone();
             }
@@ -44,7 +34,7 @@ pub fn sample(alloc: Global, row: &Expectation, cell: &OwnedCell) -> Result<Key,
     Ok(Key {
         class: own.class.clone()?,
         syntax: own.syntax,
-        modality: sample_modality(&row.modality, &own.modality)?,
-        station: sample_station(alloc, &row.station, &own.station)?,
+        modality: sample_value(alloc, &row.modality, &own.modality)?,
+        station: sample_value(alloc, &row.station, &own.station)?,
     })
 }

@@ -6,7 +6,7 @@ ghost use Rattle.dr_cert_expect.specs.Expected.{SpeaksOf};
 
 use dr_base::{Syntax, Text};
 use dr_plan_expect::Expectation;
-use dr_route::rule::{matches, matches_station};
+use dr_route::rule::{matches, matches_field};
 use dr_route::{Key, Pattern};
 
 /// Whether the pattern admits the transfer syntax's UID.
@@ -26,6 +26,6 @@ pub fn speaks_of(row: &Expectation, site: &Text, key: &Key) -> bool
     matches(&row.at, site)
         && matches(&row.class, &key.class)
         && matches_syntax(&row.syntax, key.syntax)
-        && matches(&row.modality, &key.modality)
-        && matches_station(&row.station, &key.station)
+        && matches_field(&row.modality, &key.modality)
+        && matches_field(&row.station, &key.station)
 }

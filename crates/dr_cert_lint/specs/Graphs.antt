@@ -7,6 +7,8 @@ use Rattle.dr_route.specs.Routes.{KeepsBy}
 use Rattle.dr_route.specs.declared.key.Key.{Key}
 use Rattle.dr_plan_model.specs.Networks.{Network}
 use Rattle.dr_plan_model.specs.Walks.{IsReached}
+use Rattle.dr_plan_model.specs.declared.listens.Listens.{Listens}
+use Rattle.dr_plan_model.specs.declared.listens.Listens.TheVariants.{Nowhere, At}
 use Rattle.dr_plan_model.specs.declared.plan.Node.{Node}
 use Rattle.dr_plan_sound.specs.declared.certificate.Certificate.{Certificate}
 use Rattle.dr_cert_lint.specs.Bringing.{EntersAt}
@@ -30,12 +32,17 @@ label_start = codes " [label=" ++ (34 ∷ [])
 abbrev pub row_end : Text
 row_end = codes "];" ++ (10 ∷ [])
 
--- the row of a node: title and address, round corners where instances enter, and a double line
--- where they are kept
+-- where a node listens: the address by which others reach it, or that it only calls
+abbrev pub place_text : Listens → Text
+place_text Nowhere = codes "only calls"
+place_text (At address bind) = escaped address
+
+-- the row of a node: title and where it listens, round corners where instances enter, and a double
+-- line where they are kept
 abbrev pub vertex_row : Node → Bool → Bool → Text
 vertex_row node enters keeps =
     codes "  " ++ in_quotes node.name ++ label_start ++ escaped node.name ++ (92 ∷ codes "n")
-    ++ escaped node.address ++ (34 ∷ []) ++ (if enters then codes ", style=rounded" else [])
+    ++ place_text node.listens ++ (34 ∷ []) ++ (if enters then codes ", style=rounded" else [])
     ++ (if keeps then codes ", peripheries=2" else []) ++ row_end
 
 -- the row of a node of the plan

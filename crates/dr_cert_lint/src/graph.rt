@@ -2,7 +2,8 @@
 ghost use Rattle.std.specs.Prelude.{◌≡◌, ◌++◌, [], IfOk, OnOk, Contains, flat_map, if◌then◌else◌};
 ghost use Rattle.dr_base.specs.Texts.{Text as Words};
 ghost use Rattle.dr_cert_lint.specs.Edges.{AreEdges};
-ghost use Rattle.dr_cert_lint.specs.Graphs.{IsGraphText, IsVertexRow, edge_row, vertex_row};
+ghost use Rattle.dr_cert_lint.specs.Graphs.{IsGraphText, IsVertexRow, edge_row, place_text};
+ghost use Rattle.dr_cert_lint.specs.Graphs.{vertex_row};
 ghost use Rattle.dr_cert_lint.specs.Texts.{AreRows};
 
 use crate::edges::{Edge, edges_of};
@@ -12,7 +13,7 @@ use dr_base::Text;
 use dr_base::fields::add_decimal;
 use dr_base_quoted::{put_escaped, put_in_quotes};
 use dr_cert::Sealed;
-use dr_plan_model::Node;
+use dr_plan_model::{Listens, Node};
 use std::alloc::{AllocError, Global};
 
 const HEAD: &[u8] = b"digraph network {\n  rankdir=LR;\n  node [shape=box];\n";
@@ -27,6 +28,16 @@ fn add_if(out: &mut Vec<u8>, is_so: bool, text: &[u8]) -> Result<(), AllocError>
         return out.extend_from_slice(text);
     }
     Ok(())
+}
+
+/// Adds where a node listens.
+fn put_place(out: &mut Vec<u8>, listens: &Listens) -> Result<(), AllocError>
+    ensures { OnOk result (out.new.items ≡ out.old.items ++ place_text listens.now) }
+{
+    match listens {
+        Listens::Nowhere => out.extend_from_slice(b"only calls"),
+        Listens::At { address, .. } => put_escaped(out, address),
+    }
 }
 
 /// Adds the row of a node: one where instances enter has round corners, one that keeps them a
@@ -44,7 +55,7 @@ fn add_vertex_row(
     out.extend_from_slice(b" [label=\"")?;
     put_escaped(out, &node.name)?;
     out.extend_from_slice(b"\\n")?;
-    put_escaped(out, &node.address)?;
+    put_place(out, &node.listens)?;
     out.extend_from_slice(b"\"")?;
     add_if(out, enters, b", style=rounded")?;
     add_if(out, keeps, b", peripheries=2")?;
@@ -121,8 +132,8 @@ fn edges_in(alloc: Global, sealed: &Sealed) -> Result<Vec<Edge>, AllocError>
     Ok(edges)
 }
 
-/// The network of the plan as a graph for Graphviz: a vertex for each node, with its address, and
-/// an edge for each hop, with its number of presentation contexts.
+/// The network of the plan as a graph for Graphviz: a vertex for each node, with where it listens,
+/// and an edge for each hop, with its number of presentation contexts.
 ///
 /// Errors: want of memory.
 pub fn graph_text(alloc: Global, sealed: &Sealed) -> Result<Text, AllocError>

@@ -15,13 +15,11 @@ use Rattle.dr_base.specs.Syntaxes.{syntax_uid}
 use Rattle.dr_base.specs.declared.syntax.Syntax.{Syntax}
 use Rattle.dr_base.specs.declared.syntax.Syntax.TheVariants.{Implicit, Explicit}
 use Rattle.dr_route.specs.declared.cell.OwnedField.{OwnedField}
-use Rattle.dr_route.specs.declared.cell.OwnedField.TheVariants.{Literal, Rest}
-use Rattle.dr_route.specs.declared.cell.OwnedStation.{OwnedStation}
-use Rattle.dr_route.specs.declared.cell.OwnedStation.TheVariants as station
+use Rattle.dr_route.specs.declared.cell.OwnedField.TheVariants.{Literal, Prefix, Rest}
 use Rattle.dr_plan_sound.specs.declared.certificate.Line.{Line}
 use Rattle.dr_plan_sound.specs.declared.certificate.Hop.{Hop}
-use Rattle.dr_plan_sound.specs.Printed.{printed_field, printed_station, printed_line, printed_hop}
-use Rattle.dr_cert_text.specs.Printable.{IsPlain, IsPlainField, IsPlainStation, IsPrintableLine, IsPrintableHop}
+use Rattle.dr_plan_sound.specs.Printed.{printed_field, printed_line, printed_hop}
+use Rattle.dr_cert_text.specs.Printable.{IsPlain, IsPlainField, IsPrintableLine, IsPrintableHop}
 use Rattle.dr_cert_text.specs.Cuts.{cuts, grown, Lacks}
 use Rattle.dr_cert_text.proofs.Cuts.{cuts-at, cuts-last}
 
@@ -44,24 +42,19 @@ unfolding cuts grown
 uid_last Implicit = refl
 uid_last Explicit = refl
 
-field_cuts : (field : OwnedField) (rest : List ℕ) → IsPlainField field → cuts 9 (printed_field field ++ 9 ∷ rest) ≡ printed_field field ∷ cuts 9 rest
-unfolding cuts grown
-field_cuts (Literal literal) rest plain = cuts-at 9 literal rest (no_tab literal plain.0)
-field_cuts Rest rest plain = refl
-
 star_no_tab : (prefix : Text) → IsPlain prefix → All (λ b. b ≢ 9) (prefix ++ 42 ∷ [])
 star_no_tab prefix plain = All-append (λ b. b ≢ 9) prefix (42 ∷ []) (no_tab prefix plain) (All-cons (λ b. b ≢ 9) 42 [] (λ e. omega arith) (All-nil (λ b. b ≢ 9)))
 
-station_cuts : (part : OwnedStation) (rest : List ℕ) → IsPlainStation part → cuts 9 (printed_station part ++ 9 ∷ rest) ≡ printed_station part ∷ cuts 9 rest
+field_cuts : (part : OwnedField) (rest : List ℕ) → IsPlainField part → cuts 9 (printed_field part ++ 9 ∷ rest) ≡ printed_field part ∷ cuts 9 rest
 unfolding cuts grown
-station_cuts (station.Literal literal) rest plain = cuts-at 9 literal rest (no_tab literal plain.0)
-station_cuts (station.Prefix prefix) rest plain = cuts-at 9 (prefix ++ 42 ∷ []) rest (star_no_tab prefix plain.0)
-station_cuts station.Rest rest plain = refl
+field_cuts (Literal literal) rest plain = cuts-at 9 literal rest (no_tab literal plain.0)
+field_cuts (Prefix prefix) rest plain = cuts-at 9 (prefix ++ 42 ∷ []) rest (star_no_tab prefix plain.0)
+field_cuts Rest rest plain = refl
 
 -- the fields of a line, and of a hop
 abbrev pub line_fields : Line → List Text
 line_fields line = line.stop.caller ∷ line.stop.node ∷ line.stop.cell.class ∷ syntax_uid line.stop.cell.syntax ∷ printed_field line.stop.cell.modality
-    ∷ printed_station line.stop.cell.station ∷ decimal line.rank ∷ []
+    ∷ printed_field line.stop.cell.station ∷ decimal line.rank ∷ []
 
 abbrev pub hop_fields : Hop → List Text
 hop_fields hop = hop.from ∷ hop.to ∷ decimal hop.id ∷ hop.class ∷ syntax_uid hop.syntax ∷ []
@@ -99,9 +92,9 @@ five_cuts a b c d e ha hb hc hd he =
 pub line_cuts : (line : Line) → IsPrintableLine line → cuts 9 (printed_line line) ≡ line_fields line
 line_cuts line p =
     let cell = line.stop.cell in
-    seven_cuts line.stop.caller line.stop.node cell.class (syntax_uid cell.syntax) (printed_field cell.modality) (printed_station cell.station) (decimal line.rank)
+    seven_cuts line.stop.caller line.stop.node cell.class (syntax_uid cell.syntax) (printed_field cell.modality) (printed_field cell.station) (decimal line.rank)
     (λ rest. cuts-at 9 _ rest (no_tab _ p.caller)) (λ rest. cuts-at 9 _ rest (no_tab _ p.node)) (λ rest. cuts-at 9 _ rest (no_tab _ p.class)) (uid_cuts cell.syntax)
-    (λ rest. field_cuts cell.modality rest p.modality) (λ rest. station_cuts cell.station rest p.station) (cuts-last 9 _ (no_tab _ (decimal_plain line.rank p.rank)))
+    (λ rest. field_cuts cell.modality rest p.modality) (λ rest. field_cuts cell.station rest p.station) (cuts-last 9 _ (no_tab _ (decimal_plain line.rank p.rank)))
 
 pub hop_cuts : (hop : Hop) → IsPrintableHop hop → cuts 9 (printed_hop hop) ≡ hop_fields hop
 hop_cuts hop p =
@@ -118,25 +111,19 @@ long_same Explicit Explicit e = refl
 pub uid_same : (s t : Syntax) → syntax_uid s ≡ syntax_uid t → s ≡ t
 uid_same s t e = long_same s t (ap (λ (uid : List ℕ). length uid) e)
 
-field_same : (f g : OwnedField) → IsPlainField f → IsPlainField g → printed_field f ≡ printed_field g → f ≡ g
-field_same (Literal a) (Literal b) p q e = ap Literal e
-field_same (Literal a) Rest p q e = absurd (p.1 e)
-field_same Rest (Literal b) p q e = absurd (q.1 (sym e))
-field_same Rest Rest p q e = refl
-
 star_alone : (prefix : Text) → prefix ++ 42 ∷ [] ≡ 42 ∷ [] → prefix ≡ []
 star_alone prefix e = append_cancel_right prefix [] (42 ∷ []) e
 
-station_same : (f g : OwnedStation) → IsPlainStation f → IsPlainStation g → printed_station f ≡ printed_station g → f ≡ g
-station_same (station.Literal a) (station.Literal b) p q e = ap station.Literal e
-station_same (station.Literal a) (station.Prefix b) p q e = absurd (p.1 b e)
-station_same (station.Literal a) station.Rest p q e = absurd (p.1 [] e)
-station_same (station.Prefix a) (station.Literal b) p q e = absurd (q.1 a (sym e))
-station_same (station.Prefix a) (station.Prefix b) p q e = ap station.Prefix (append_cancel_right a b (42 ∷ []) e)
-station_same (station.Prefix a) station.Rest p q e = absurd (p.1 (star_alone a e))
-station_same station.Rest (station.Literal b) p q e = absurd (q.1 [] (sym e))
-station_same station.Rest (station.Prefix b) p q e = absurd (q.1 (star_alone b (sym e)))
-station_same station.Rest station.Rest p q e = refl
+field_same : (f g : OwnedField) → IsPlainField f → IsPlainField g → printed_field f ≡ printed_field g → f ≡ g
+field_same (Literal a) (Literal b) p q e = ap Literal e
+field_same (Literal a) (Prefix b) p q e = absurd (p.1 b e)
+field_same (Literal a) Rest p q e = absurd (p.1 [] e)
+field_same (Prefix a) (Literal b) p q e = absurd (q.1 a (sym e))
+field_same (Prefix a) (Prefix b) p q e = ap Prefix (append_cancel_right a b (42 ∷ []) e)
+field_same (Prefix a) Rest p q e = absurd (p.1 (star_alone a e))
+field_same Rest (Literal b) p q e = absurd (q.1 [] (sym e))
+field_same Rest (Prefix b) p q e = absurd (q.1 (star_alone b (sym e)))
+field_same Rest Rest p q e = refl
 
 pub same_line : (a b : Line) → IsPrintableLine a → IsPrintableLine b → printed_line a ≡ printed_line b → a ≡ b
 same_line a b pa pb e =
@@ -146,13 +133,13 @@ same_line a b pa pb e =
     let class : a.stop.cell.class ≡ b.stop.cell.class = cc in
     let uid : syntax_uid a.stop.cell.syntax ≡ syntax_uid b.stop.cell.syntax = cc in
     let modality : printed_field a.stop.cell.modality ≡ printed_field b.stop.cell.modality = cc in
-    let station : printed_station a.stop.cell.station ≡ printed_station b.stop.cell.station = cc in
+    let station : printed_field a.stop.cell.station ≡ printed_field b.stop.cell.station = cc in
     let digits : decimal a.rank ≡ decimal b.rank = cc in
     let small_a : a.rank ≤ 4294967295 = pa.rank in
     let small_b : b.rank ≤ 4294967295 = pb.rank in
     let syntax = uid_same a.stop.cell.syntax b.stop.cell.syntax uid in
     let modalities = field_same a.stop.cell.modality b.stop.cell.modality pa.modality pb.modality modality in
-    let stations = station_same a.stop.cell.station b.stop.cell.station pa.station pb.station station in
+    let stations = field_same a.stop.cell.station b.stop.cell.station pa.station pb.station station in
     let rank = decimal_injective a.rank b.rank (omega arith) (omega arith) digits in
     λ i. record { stop = record { caller = caller i; node = node i; cell = record { class = class i; syntax = syntax i; modality = modalities i; station = stations i } }; rank = rank i }
 
@@ -192,20 +179,16 @@ uid_lf : (syntax : Syntax) → Lacks 10 (syntax_uid syntax)
 uid_lf Implicit = tested (syntax_uid Implicit) refl
 uid_lf Explicit = tested (syntax_uid Explicit) refl
 
-field_lf : (field : OwnedField) → IsPlainField field → Lacks 10 (printed_field field)
+field_lf : (part : OwnedField) → IsPlainField part → Lacks 10 (printed_field part)
 field_lf (Literal literal) plain = no_lf literal plain.0
+field_lf (Prefix prefix) plain = All-append (λ b. b ≢ 10) prefix (42 ∷ []) (no_lf prefix plain.0) (All-cons (λ b. b ≢ 10) 42 [] (λ e. omega arith) (All-nil (λ b. b ≢ 10)))
 field_lf Rest plain = All-cons (λ b. b ≢ 10) 42 [] (λ e. omega arith) (All-nil (λ b. b ≢ 10))
-
-station_lf : (part : OwnedStation) → IsPlainStation part → Lacks 10 (printed_station part)
-station_lf (station.Literal literal) plain = no_lf literal plain.0
-station_lf (station.Prefix prefix) plain = All-append (λ b. b ≢ 10) prefix (42 ∷ []) (no_lf prefix plain.0) (All-cons (λ b. b ≢ 10) 42 [] (λ e. omega arith) (All-nil (λ b. b ≢ 10)))
-station_lf station.Rest plain = All-cons (λ b. b ≢ 10) 42 [] (λ e. omega arith) (All-nil (λ b. b ≢ 10))
 
 -- a printed line is one row, and a printed hop
 pub line_plain : (line : Line) → IsPrintableLine line → Lacks 10 (printed_line line)
 line_plain line p =
     join_lf _ _ (join_lf _ _ (join_lf _ _ (join_lf _ _ (join_lf _ _ (join_lf _ _ (no_lf _ p.caller) (no_lf _ p.node)) (no_lf _ p.class)) (uid_lf line.stop.cell.syntax))
-    (field_lf line.stop.cell.modality p.modality)) (station_lf line.stop.cell.station p.station)) (no_lf _ (decimal_plain line.rank p.rank))
+    (field_lf line.stop.cell.modality p.modality)) (field_lf line.stop.cell.station p.station)) (no_lf _ (decimal_plain line.rank p.rank))
 
 pub hop_plain : (hop : Hop) → IsPrintableHop hop → Lacks 10 (printed_hop hop)
 hop_plain hop p =

@@ -1,13 +1,12 @@
 -- What can be told from a text.
 use Rattle.std.specs.Prelude.{◌≡◌, ◌≢◌, ◌⊎◌, [], ◌∷◌, ◌++◌, codes, Result, Ok, Err}
 use Rattle.dr_base.specs.declared.syntax.Syntax.TheVariants.{Explicit}
-use Rattle.dr_route.specs.declared.cell.OwnedField.TheVariants.{Literal, Rest}
-use Rattle.dr_route.specs.declared.cell.OwnedStation.TheVariants as station
+use Rattle.dr_route.specs.declared.cell.OwnedField.TheVariants.{Literal, Prefix, Rest}
 use Rattle.dr_plan_model.specs.declared.plan.Format.TheVariants.{One, Two}
 use Rattle.dr_plan_sound.specs.declared.certificate.Line.{Line}
 use Rattle.dr_plan_sound.specs.declared.certificate.Hop.{Hop}
 use Rattle.dr_plan_sound.specs.declared.certificate.Certificate.{Certificate}
-use Rattle.dr_plan_sound.specs.Printed.{printed_field, printed_station, printed_line, printed_hop}
+use Rattle.dr_plan_sound.specs.Printed.{printed_field, printed_line, printed_hop}
 use Rattle.dr_cert_text.specs.declared.fault.CertificateFault.{CertificateFault}
 use Rattle.dr_cert_text.specs.declared.fault.CertificateFault.TheVariants.{Memory}
 use Rattle.dr_cert_text.specs.Reading.{Reads}
@@ -99,14 +98,14 @@ tab_in_the_receiver = record {
 abbrev pub TabsAreNotToldApart : Type 0
 TabsAreNotToldApart = printed_hop tab_in_the_sender ≡ printed_hop tab_in_the_receiver
 
--- a literal that is an asterisk would be printed as none of the plan's literals, so there is none
+-- a literal that is an asterisk would be printed as none of what the plan names, so there is none
 abbrev pub AnAsteriskIsNotTold : Type 0
 AnAsteriskIsNotTold = printed_field (Literal (codes "*")) ≡ printed_field Rest
 
 -- a literal with an asterisk at its end would be printed as a prefix, so there is none
 abbrev pub APrefixIsNotALiteral : Type 0
 APrefixIsNotALiteral =
-    printed_station (station.Prefix (codes "CT")) ≡ printed_station (station.Literal (codes "CT*"))
+    printed_field (Prefix (codes "CT")) ≡ printed_field (Literal (codes "CT*"))
 
 -- the text of a certificate for a plan of format 2 begins with `certificate`, a tab and 2
 abbrev pub FormatTwoIsVersionTwo : Type 0

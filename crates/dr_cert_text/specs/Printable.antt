@@ -2,9 +2,7 @@
 use Rattle.std.specs.Prelude.{◌≡◌, ◌≢◌, [], ◌++◌, ℕ, ◌<◌, ◌≤◌, List, length, codes, All}
 use Rattle.dr_base.specs.Texts.{Text}
 use Rattle.dr_route.specs.declared.cell.OwnedField.{OwnedField}
-use Rattle.dr_route.specs.declared.cell.OwnedField.TheVariants.{Literal, Rest}
-use Rattle.dr_route.specs.declared.cell.OwnedStation.{OwnedStation}
-use Rattle.dr_route.specs.declared.cell.OwnedStation.TheVariants as station
+use Rattle.dr_route.specs.declared.cell.OwnedField.TheVariants.{Literal, Prefix, Rest}
 use Rattle.dr_plan_sound.specs.declared.certificate.Line.{Line}
 use Rattle.dr_plan_sound.specs.declared.certificate.Hop.{Hop}
 use Rattle.dr_plan_sound.specs.declared.certificate.Certificate.{Certificate}
@@ -13,19 +11,14 @@ use Rattle.dr_plan_sound.specs.declared.certificate.Certificate.{Certificate}
 abbrev pub IsPlain : Text → Type 0
 IsPlain text = All (λ byte. (byte ≢ 9) × (byte ≢ 10)) text
 
--- the field can be told from its text: a literal isn't `*`, which stands for none of the plan's
--- literals
+-- the part of the modalities, or of the stations, can be told from its text: a literal doesn't end
+-- with `*`, which stands behind a prefix, and a prefix isn't empty, as `*` alone stands for the
+-- rest
 abbrev pub IsPlainField : OwnedField → Type 0
-IsPlainField (Literal literal) = IsPlain literal × (literal ≢ codes "*")
-IsPlainField Rest = Unit {0}
-
--- the part of the stations can be told from its text: a literal doesn't end with `*`, which stands
--- behind a prefix, and a prefix isn't empty, as `*` alone stands for the rest
-abbrev pub IsPlainStation : OwnedStation → Type 0
-IsPlainStation (station.Literal literal) =
+IsPlainField (Literal literal) =
     IsPlain literal × ((front : Text) → literal ≡ front ++ codes "*" → ⊥)
-IsPlainStation (station.Prefix prefix) = IsPlain prefix × (prefix ≢ [])
-IsPlainStation station.Rest = Unit {0}
+IsPlainField (Prefix prefix) = IsPlain prefix × (prefix ≢ [])
+IsPlainField Rest = Unit {0}
 
 -- a line that can be read back from its row: texts without tab and LF, and a rank of 32 bits
 pub record IsPrintableLine (line : Line) : Type 0 where
@@ -33,7 +26,7 @@ pub record IsPrintableLine (line : Line) : Type 0 where
   pub node : IsPlain line.stop.node
   pub class : IsPlain line.stop.cell.class
   pub modality : IsPlainField line.stop.cell.modality
-  pub station : IsPlainStation line.stop.cell.station
+  pub station : IsPlainField line.stop.cell.station
   pub rank : line.rank ≤ 4294967295
 
 -- a hop that can be read back from its row: texts without tab and LF, and an id of one byte

@@ -1,13 +1,13 @@
 //! Rows and fields of a text.
 ghost use Rattle.std.specs.Prelude.{◌≡◌, ◌++◌, ◌∷◌, [], ℕ, List, IfOk, MatchOption};
 ghost use Rattle.hex.specs.Hex.{encode_lower};
-ghost use Rattle.dr_plan_sound.specs.Printed.{printed_field, printed_station};
-ghost use Rattle.dr_cert_text.specs.Printable.{IsPlain, IsPlainField, IsPlainStation, IsDigest};
+ghost use Rattle.dr_plan_sound.specs.Printed.{printed_field};
+ghost use Rattle.dr_cert_text.specs.Printable.{IsPlain, IsPlainField, IsDigest};
 ghost use Rattle.dr_cert_text.specs.Cuts.{cuts, Lacks, SplitsAt, CutsField};
 ghost use Rattle.dr_cert_text.specs.Reading.{HasNone, IsReadBack};
 
 use dr_base::Text;
-use dr_route::{OwnedField, OwnedStation};
+use dr_route::OwnedField;
 use hex::FromHex;
 use memchr::memchr;
 use std::alloc::{AllocError, Global};
@@ -40,18 +40,6 @@ pub fn field_before_tab(row: &[u8]) -> Option<(&[u8], &[u8])>
     split_at_byte(row, TAB)
 }
 
-/// The part of the modalities that is printed so.
-pub fn read_field(alloc: Global, field: &[u8]) -> Result<OwnedField, AllocError>
-    requires { IsPlain field.now }
-    ensures { IfOk result (λ part. (printed_field part ≡ field.now) × IsPlainField part) }
-{
-    if field == b"*".as_slice() {
-        return Ok(OwnedField::Rest);
-    }
-    let literal = Text::copy_of(alloc, field)?;
-    Ok(OwnedField::Literal(literal))
-}
-
 /// What stands before these bytes, where the text ends with them.
 fn before<'a>(text: &'a [u8], end: &[u8]) -> Option<&'a [u8]>
     ensures { MatchOption result ((front : List ℕ) → text.now ≡ front ++ end.now → ⊥)
@@ -60,19 +48,19 @@ fn before<'a>(text: &'a [u8], end: &[u8]) -> Option<&'a [u8]>
     text.strip_suffix(end)
 }
 
-/// The part of the stations that is printed so: `*` is the rest, and another text with `*` at its
-/// end a prefix.
-pub fn read_station(alloc: Global, field: &[u8]) -> Result<OwnedStation, AllocError>
+/// The part of the modalities, or of the stations, that is printed so: `*` is the rest, and another
+/// text with `*` at its end a prefix.
+pub fn read_field(alloc: Global, field: &[u8]) -> Result<OwnedField, AllocError>
     requires { IsPlain field.now }
-    ensures { IfOk result (λ part. (printed_station part ≡ field.now) × IsPlainStation part) }
+    ensures { IfOk result (λ part. (printed_field part ≡ field.now) × IsPlainField part) }
 {
     match before(field, b"*") {
-        None => Ok(OwnedStation::Literal(Text::copy_of(alloc, field)?)),
+        None => Ok(OwnedField::Literal(Text::copy_of(alloc, field)?)),
         Some(prefix) => {
             if prefix.is_empty() {
-                return Ok(OwnedStation::Rest);
+                return Ok(OwnedField::Rest);
             }
-            Ok(OwnedStation::Prefix(Text::copy_of(alloc, prefix)?))
+            Ok(OwnedField::Prefix(Text::copy_of(alloc, prefix)?))
         }
     }
 }

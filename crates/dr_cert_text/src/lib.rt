@@ -16,7 +16,7 @@ mod writer;
 pub use fault::CertificateFault;
 pub use fields::split_at_byte;
 pub use order::{order_hops, order_lines};
-pub use printed::add_station;
+pub use printed::add_part;
 pub use reader::read_certificate;
 pub use sorted::{are_hops_in_order, are_lines_in_order};
 pub use writer::write_certificate;

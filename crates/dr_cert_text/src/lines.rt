@@ -7,11 +7,11 @@ ghost use Rattle.dr_cert_text.specs.Printable.{IsPrintableLine};
 ghost use Rattle.dr_cert_text.specs.Reading.{HasNone};
 
 use crate::fault::CertificateFault;
-use crate::fields::{field_before_tab, read_field, read_station};
-use crate::printed::{Printed, add_station};
+use crate::fields::{field_before_tab, read_field};
+use crate::printed::{Printed, add_part};
 use dr_base::fields::{add_field, add_number, read_small_number};
 use dr_base::{Syntax, Text};
-use dr_plan_sound::{Line, Stop, field_bytes};
+use dr_plan_sound::{Line, Stop};
 use dr_route::OwnedCell;
 use std::alloc::{AllocError, Global};
 
@@ -70,8 +70,8 @@ impl Printed for Line {
         add_field(out, stop.node.as_bytes())?;
         add_field(out, cell.class.as_bytes())?;
         add_field(out, cell.syntax.uid())?;
-        add_field(out, field_bytes(&cell.modality))?;
-        add_station(out, &cell.station)?;
+        add_part(out, &cell.modality)?;
+        add_part(out, &cell.station)?;
         add_number(out, u64::from(self.rank))
     }
 
@@ -81,7 +81,7 @@ impl Printed for Line {
         };
         let class = Text::copy_of(alloc, found.class)?;
         let modality = read_field(alloc, found.modality)?;
-        let station = read_station(alloc, found.station)?;
+        let station = read_field(alloc, found.station)?;
         let cell = OwnedCell {
             class,
             syntax: found.syntax,

@@ -1,12 +1,12 @@
 //! What a certificate's text has a row for.
 ghost use Rattle.std.specs.Prelude.{◌≡◌, [], ◌∷◌, ◌++◌, List, ℕ, OnOk};
-ghost use Rattle.dr_plan_sound.specs.Printed.{printed_station};
+ghost use Rattle.dr_plan_sound.specs.Printed.{printed_field};
 ghost use Rattle.dr_cert_text.specs.Cuts.{Lacks};
 ghost use Rattle.dr_cert_text.specs.Reading.{Reads};
 
 use crate::fault::CertificateFault;
 use dr_base::fields::add_field;
-use dr_route::OwnedStation;
+use dr_route::OwnedField;
 use std::alloc::{AllocError, Global};
 
 /// What a certificate's text has a row for.
@@ -34,17 +34,17 @@ pub trait Printed: Sized + Drop {
         ensures { Reads printed printable fields.now result };
 }
 
-/// Adds a tab and a part of the stations: a prefix has `*` behind it.
-pub fn add_station(out: &mut Vec<u8>, station: &OwnedStation) -> Result<(), AllocError>
-    ensures { OnOk result (out.new.items ≡ out.old.items ++ 9 ∷ printed_station station.now) }
+/// Adds a tab and a part of the modalities or of the stations: a prefix has `*` behind it.
+pub fn add_part(out: &mut Vec<u8>, part: &OwnedField) -> Result<(), AllocError>
+    ensures { OnOk result (out.new.items ≡ out.old.items ++ 9 ∷ printed_field part.now) }
 {
-    match station {
-        OwnedStation::Literal(literal) => add_field(out, literal.as_bytes()),
-        OwnedStation::Prefix(prefix) => {
+    match part {
+        OwnedField::Literal(literal) => add_field(out, literal.as_bytes()),
+        OwnedField::Prefix(prefix) => {
             add_field(out, prefix.as_bytes())?;
             out.push(b'*')?;
             Ok(())
         }
-        OwnedStation::Rest => add_field(out, b"*"),
+        OwnedField::Rest => add_field(out, b"*"),
     }
 }

@@ -2,7 +2,6 @@ pub mod Carried
 pub mod Entering
 pub mod Followed
 pub mod Gathering
-pub mod Lying
 pub mod PairSets
 pub mod Spreading
 pub mod TwoNodes

@@ -4,7 +4,7 @@ use Rattle.dr_base.specs.Texts.{Text}
 use Rattle.dr_base.specs.Syntaxes.{syntax_uid}
 use Rattle.dr_route.specs.declared.cell.OwnedCell.{OwnedCell}
 use Rattle.dr_plan_sound.specs.declared.certificate.Hop.{Hop}
-use Rattle.dr_plan_sound.specs.Printed.{printed_field, printed_station}
+use Rattle.dr_plan_sound.specs.Printed.{printed_field}
 use Rattle.dr_cert_trace.specs.declared.tracing.Journey.{Journey}
 
 -- `cell`, and then class, transfer syntax, modality and station, as a line of the certificate has
@@ -12,7 +12,7 @@ use Rattle.dr_cert_trace.specs.declared.tracing.Journey.{Journey}
 abbrev pub cell_row : OwnedCell → Text
 cell_row cell =
     codes "cell" ++ (9 ∷ cell.class) ++ (9 ∷ syntax_uid cell.syntax)
-    ++ (9 ∷ printed_field cell.modality) ++ (9 ∷ printed_station cell.station) ++ (10 ∷ [])
+    ++ (9 ∷ printed_field cell.modality) ++ (9 ∷ printed_field cell.station) ++ (10 ∷ [])
 
 -- `rank`, and how many hops there are at most
 abbrev pub rank_row : ℕ → Text

@@ -6,8 +6,8 @@ ghost use Rattle.dr_cert_trace.specs.Rows.{rank_row};
 use crate::tracing::Journey;
 use dr_base::Text;
 use dr_base::fields::add_field;
-use dr_cert_text::add_station;
-use dr_plan_sound::{Hop, field_bytes};
+use dr_cert_text::add_part;
+use dr_plan_sound::Hop;
 use dr_route::OwnedCell;
 use std::alloc::{AllocError, Global};
 
@@ -20,8 +20,8 @@ fn add_cell(out: &mut Vec<u8>, cell: &OwnedCell) -> Result<(), AllocError>
     out.extend_from_slice(b"cell")?;
     add_field(out, cell.class.as_bytes())?;
     add_field(out, cell.syntax.uid())?;
-    add_field(out, field_bytes(&cell.modality))?;
-    add_station(out, &cell.station)?;
+    add_part(out, &cell.modality)?;
+    add_part(out, &cell.station)?;
     out.push(LF)?;
     Ok(())
 }

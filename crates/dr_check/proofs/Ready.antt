@@ -1,6 +1,6 @@
 -- A checker that has visited all entries has the lines of the plan; they and their hops can be printed.
 use Rattle.std.proofs.Common.{◌≡◌, ◌≢◌, ℕ, ◌+◌, ◌*◌, ◌<◌, ◌≤◌, inl, inr, refl, sym, ◌∙◌, ap, subst, List, [], ◌∷◌, ◌++◌, length, Contains, Some, get_or, arith}
-use Rattle.std.specs.Prelude.{All, AllPairs, codes, ◌↔◌, slice_get}
+use Rattle.std.specs.Prelude.{All, AllPairs, ◌↔◌, slice_get}
 use Rattle.std.specs.Cmp.{IsTotalOrder}
 use Rattle.std.specs.Cmp.Lexicographic.{nat_list_cmp_total}
 use Rattle.std.proofs.lemmas.Cmp.{then_total, on_total}
@@ -14,15 +14,14 @@ use Rattle.dr_base.specs.declared.syntax.Syntax.{Syntax}
 use Rattle.dr_base.specs.declared.syntax.Syntax.TheVariants.{Implicit}
 use Rattle.dr_route.specs.declared.cell.OwnedCell.{OwnedCell}
 use Rattle.dr_route.specs.Routes.{local}
-use Rattle.dr_route.specs.Laws.{IsPart, IsStationPart, key_of}
-use Rattle.dr_route.specs.declared.cell.OwnedStation.{OwnedStation}
-use Rattle.dr_route.specs.declared.cell.OwnedStation.TheVariants as station
+use Rattle.dr_route.specs.Laws.{IsPart, key_of}
+use Rattle.dr_route.specs.declared.cell.FieldValues.{FieldValues}
 use Rattle.dr_route.specs.declared.key.Key.{Key}
 use Rattle.dr_route.specs.declared.cell.OwnedField.{OwnedField}
-use Rattle.dr_route.specs.declared.cell.OwnedField.TheVariants.{Literal, Rest}
-use Rattle.dr_plan_model.specs.declared.literals.Attribute.TheVariants.{Modality, Station, StationPrefix}
+use Rattle.dr_route.specs.declared.cell.OwnedField.TheVariants.{Literal, Prefix, Rest}
+use Rattle.dr_plan_model.specs.declared.literals.Attribute.TheVariants.{Modality, ModalityPrefix, Station, StationPrefix}
 use Rattle.dr_plan_model.specs.Networks.{Network}
-use Rattle.dr_plan_model.specs.Formed.{IsName, IsLiteral, IsClass, IsKnownName, IsWellFormedNode, IsWellFormedFlow}
+use Rattle.dr_plan_model.specs.Formed.{IsName, IsLiteral, IsPrefix, IsClass, IsKnownName, IsWellFormedNode, IsWellFormedFlow}
 use Rattle.dr_plan_model.specs.Plans.{IsWellFormed, literals_of}
 use Rattle.dr_plan_model.specs.Walks.{IsReached}
 use Rattle.dr_plan_model.specs.Laws.{IsCellOf}
@@ -33,7 +32,7 @@ use Rattle.dr_plan_sound.specs.Certificates.{HasHop}
 use Rattle.dr_plan_sound.specs.HopPairs.{OverHop, HasNumber, AreNumbered}
 use Rattle.dr_plan_sound.specs.Ranked.{AreRanked}
 use Rattle.dr_plan_sound.proofs.Hopping.{last_hop, reached_is_known, hop_pairs, over_hop}
-use Rattle.dr_cert_text.specs.Printable.{IsPlain, IsPlainField, IsPlainStation, IsPrintableLine, IsPrintableHop}
+use Rattle.dr_cert_text.specs.Printable.{IsPlain, IsPlainField, IsPrintableLine, IsPrintableHop}
 use Rattle.dr_plan_entries.specs.Visiting.{IsEntryCell}
 use Rattle.dr_check.specs.declared.checker.Checker.{Checker}
 use Rattle.dr_check.specs.Checking.{CheckerIsReady, HasVisited}
@@ -52,7 +51,7 @@ are_ranked c ready visited = record {
 
 -- some cell, for what holds whatever the cell
 any : OwnedCell
-any = record { class = []; syntax = Implicit; modality = Rest; station = station.Rest }
+any = record { class = []; syntax = Implicit; modality = Rest; station = Rest }
 
 at_most : (c : Checker) → CheckerIsReady c → length c.search.lines.items ≤ 65536
 at_most c ready =
@@ -83,21 +82,11 @@ plain_class text class = λ k d h. (
   (λ e. elim (class.digits k d h) [ inl digit ↦ (let a : 48 ≤ get_or text k d = digit.0 in omega arith) | inr dot ↦ (let a : get_or text k d ≡ 46 = dot in omega arith) ]),
 )
 
-plain_literal : (text : Text) → IsLiteral text → IsPlain text × (text ≢ codes "*")
-plain_literal text literal = (
-  (λ k d h. let p = literal.printable k d h in ((λ e. let a : 32 ≤ get_or text k d = p.0 in omega arith), (λ e. let a : 32 ≤ get_or text k d = p.0 in omega arith))),
-  (λ same.
-      let P : Text → Type 0 = λ t. All (λ byte. (32 ≤ byte) × (byte < 127) × (byte ≢ 42)) t in
-      let star = subst P same literal.printable in
-      (star 0 0 (omega arith)).2 refl),
-)
+plain_literal : (text : Text) → IsLiteral text → IsPlain text
+plain_literal text literal = λ k d h. let p = literal.printable k d h in ((λ e. let a : 32 ≤ get_or text k d = p.0 in omega arith), (λ e. let a : 32 ≤ get_or text k d = p.0 in omega arith))
 
 plain_local : IsPlain local
 plain_local = All-cons (λ (byte : ℕ). (byte ≢ 9) × (byte ≢ 10)) 45 [] ((λ e. let a : 45 ≡ 9 = e in omega arith), (λ e. let a : 45 ≡ 10 = e in omega arith)) (All-nil _)
-
-plain_part : (plan : Network) → IsWellFormed plan → (field : OwnedField) → IsPart (literals_of plan).modalities field → IsPlainField field
-plain_part plan formed (Literal literal) is = plain_literal literal (named_has_form plan formed Modality literal is)
-plain_part plan formed Rest is = tt
 
 -- no literal has an asterisk at its end
 no_star_behind : (text front : Text) → IsLiteral text → text ≡ front ++ 42 ∷ [] → ⊥
@@ -106,14 +95,12 @@ no_star_behind text front literal e =
     let Q : Text → Type 0 = λ t. All P t in
     (All-contains P (front ++ 42 ∷ []) 42 (subst Q e literal.printable) (Contains-push front 42)).2 refl
 
-plain_station : (plan : Network) → IsWellFormed plan → (part : OwnedStation) → IsStationPart (literals_of plan).stations part → IsPlainStation part
-plain_station plan formed (station.Literal literal) is =
-    let form = named_has_form plan formed Station literal is in
-    ((plain_literal literal form).0, λ front e. no_star_behind literal front form e)
-plain_station plan formed (station.Prefix prefix) is =
-    let form = named_has_form plan formed StationPrefix prefix is in
-    ((plain_literal prefix form.literal).0, form.some)
-plain_station plan formed station.Rest is = tt
+-- a part of a field can be told from its text, where the field's literals and prefixes are of the right form
+plain_part : (values : FieldValues) → ((t : Text) → Contains values.literals t → IsLiteral t) → ((t : Text) → Contains values.prefixes t → IsPrefix t) →
+    (part : OwnedField) → IsPart values part → IsPlainField part
+plain_part values literals prefixes (Literal literal) is = let form = literals literal is in (plain_literal literal form, λ front e. no_star_behind literal front form e)
+plain_part values literals prefixes (Prefix prefix) is = let form = prefixes prefix is in (plain_literal prefix form.literal, form.some)
+plain_part values literals prefixes Rest is = tt
 
 known_plain : (plan : Network) → IsWellFormed plan → (name : Text) → IsKnownName plan.nodes name → IsPlain name
 known_plain plan formed name known =
@@ -143,8 +130,8 @@ line_is_printable plan formed lines all few line among =
       caller = caller_plain plan formed (key_of line.stop.cell) line.stop.caller line.stop.node r;
       node = known_plain plan formed line.stop.node (reached_is_known plan formed (key_of line.stop.cell) line.stop.caller line.stop.node r);
       class = class_plain plan formed (key_of line.stop.cell) line.stop.caller line.stop.node r;
-      modality = plain_part plan formed line.stop.cell.modality cell.0;
-      station = plain_station plan formed line.stop.cell.station cell.1;
+      modality = plain_part (literals_of plan).modalities (named_has_form plan formed Modality) (named_has_form plan formed ModalityPrefix) line.stop.cell.modality cell.0;
+      station = plain_part (literals_of plan).stations (named_has_form plan formed Station) (named_has_form plan formed StationPrefix) line.stop.cell.station cell.1;
       rank = omega arith;
     }
 

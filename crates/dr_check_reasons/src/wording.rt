@@ -6,7 +6,7 @@ use dr_check::Fault;
 use dr_plan_model::Plan;
 use dr_plan_places::print::{add_index, add_quoted};
 use dr_route::cell::key_in;
-use dr_route::{Key, OwnedCell, OwnedField, OwnedStation};
+use dr_route::{Key, OwnedCell, OwnedField};
 use std::alloc::{AllocError, Global};
 
 /// Adds words.
@@ -19,30 +19,26 @@ fn add_name(out: &mut Vec<u8>, name: &Text) -> Result<(), AllocError> {
     add_quoted(out, name.as_bytes())
 }
 
-/// Adds the part of the modalities: its literal, or that the plan doesn't name it.
-fn add_modality(out: &mut Vec<u8>, part: &OwnedField) -> Result<(), AllocError> {
+/// Adds the part of the field of that name: its literal, what its values begin with, or that the
+/// plan doesn't name it.
+fn add_part(out: &mut Vec<u8>, field: &str, part: &OwnedField) -> Result<(), AllocError> {
     match part {
         OwnedField::Literal(literal) => {
-            add(out, "modality ")?;
+            add(out, field)?;
+            add(out, " ")?;
             add_name(out, literal)
         }
-        OwnedField::Rest => add(out, "a modality that the plan doesn't name"),
-    }
-}
-
-/// Adds the part of the stations: its literal, what its stations begin with, or that the plan
-/// doesn't name it.
-fn add_station(out: &mut Vec<u8>, part: &OwnedStation) -> Result<(), AllocError> {
-    match part {
-        OwnedStation::Literal(literal) => {
-            add(out, "station ")?;
-            add_name(out, literal)
-        }
-        OwnedStation::Prefix(prefix) => {
-            add(out, "a station that begins with ")?;
+        OwnedField::Prefix(prefix) => {
+            add(out, "a ")?;
+            add(out, field)?;
+            add(out, " that begins with ")?;
             add_name(out, prefix)
         }
-        OwnedStation::Rest => add(out, "a station that the plan doesn't name"),
+        OwnedField::Rest => {
+            add(out, "a ")?;
+            add(out, field)?;
+            add(out, " that the plan doesn't name")
+        }
     }
 }
 
@@ -53,9 +49,9 @@ fn add_cell(out: &mut Vec<u8>, cell: &OwnedCell) -> Result<(), AllocError> {
     add(out, " in transfer syntax ")?;
     out.extend_from_slice(cell.syntax.uid())?;
     add(out, ", of ")?;
-    add_modality(out, &cell.modality)?;
+    add_part(out, "modality", &cell.modality)?;
     add(out, " and ")?;
-    add_station(out, &cell.station)?;
+    add_part(out, "station", &cell.station)?;
     add(out, ".\n")
 }
 

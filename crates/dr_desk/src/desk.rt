@@ -6,6 +6,7 @@ ghost use Rattle.dr_ledger.specs.SiteRoutes.{site_routing};
 use dr_base::{Seq, Text};
 use dr_cert::Sealed;
 use dr_ledger::{Arrived, Entry, Item, Job, Ledger, LedgerFault, LetsGo, Outcome, Progress};
+use dr_ledger_history::JournalLine;
 use dr_ledger_views::{Moments, Origin, Stage, Views};
 use dr_site::Site;
 
@@ -191,5 +192,9 @@ impl<L: Views> Views for Desk<L> {
 
     fn callers_of(&mut self, uid: &Text) -> Result<Seq<Text>, LedgerFault> {
         self.ledger.callers_of(uid)
+    }
+
+    fn lines_behind(&mut self, after: u64, limit: u32) -> Result<Seq<JournalLine>, LedgerFault> {
+        self.ledger.lines_behind(after, limit)
     }
 }

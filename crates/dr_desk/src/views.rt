@@ -12,6 +12,7 @@ use crate::shared::SharedDesk;
 use crate::sharing::Sharing;
 use dr_base::{Seq, Text};
 use dr_ledger::{LedgerFault, Progress};
+use dr_ledger_history::JournalLine;
 use dr_ledger_views::{HopTally, Moments, Origin, Stage, Views, tally};
 use std::sync::Wait;
 
@@ -94,6 +95,15 @@ impl<L: Views, B: Sharing> HeldDesk<L, B> {
     {
         self.desk.callers_of(uid)
     }
+
+    /// The ledger's `lines_behind`.
+    fn lines_behind(&mut self, after: u64, limit: u32) -> Result<Seq<JournalLine>, LedgerFault>
+        ensures { Answered L.site L.book L.bodies L.stands L.failed B.site B.first
+            (λ l answer. Reads answer (λ lines. Unit {0}))
+            result self.old.desk.ledger self.new.desk.ledger }
+    {
+        self.desk.lines_behind(after, limit)
+    }
 }
 
 impl<L: Views, B: Sharing> SharedDesk<L, B> {
@@ -172,5 +182,18 @@ impl<L: Views, B: Sharing> SharedDesk<L, B> {
             (λ l answer. Reads answer (AreCallers (L.book l).arrivals uid.now)) result }
     {
         self.held.lock(rt).callers_of(uid)
+    }
+
+    /// The ledger's `lines_behind`: at most `limit` lines are copied under the lock.
+    pub fn lines_behind<R: Wait>(
+        &self,
+        rt: &R,
+        after: u64,
+        limit: u32,
+    ) -> Result<Seq<JournalLine>, LedgerFault>
+        ensures { Reading L.site L.book L.bodies L.stands L.failed B.site B.first
+            (λ l answer. Reads answer (λ lines. Unit {0})) result }
+    {
+        self.held.lock(rt).lines_behind(after, limit)
     }
 }

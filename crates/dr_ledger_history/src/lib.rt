@@ -3,6 +3,7 @@
 #![tactic(auto)]
 
 mod comparing;
+mod copies;
 pub mod history;
 pub mod laws;
 mod letting;
@@ -11,6 +12,7 @@ mod parts;
 mod site;
 mod trees;
 
+pub use copies::{copy_line, copy_page};
 pub use history::History;
 pub use line::{HistoryFault, JournalLine, entries_of};
 pub use trees::{put_uid, stands};

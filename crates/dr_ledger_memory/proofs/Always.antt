@@ -46,6 +46,17 @@ reads (Err fault.NotWaiting) Is h = absurd h
 reads (Err fault.NotHeld) Is h = absurd h
 reads (Err fault.NotOver) Is h = absurd h
 
+-- whatever it shows, it may be read
+pub reads_any : {A : Type 0} (r : Result A LedgerFault) (Is : A → Type 0) → ShowsOrFails r Is → Reads r (λ value. Unit {0})
+reads_any (Ok value) Is h = tt
+reads_any (Err fault.Memory) Is h = tt
+reads_any (Err fault.Store) Is h = absurd h
+reads_any (Err fault.NoLine) Is h = absurd h
+reads_any (Err fault.Conflict) Is h = absurd h
+reads_any (Err fault.NotWaiting) Is h = absurd h
+reads_any (Err fault.NotHeld) Is h = absurd h
+reads_any (Err fault.NotOver) Is h = absurd h
+
 pub shown_never : {A : Type 0} (r : Result A LedgerFault) (Is : A → Type 0) → ShowsOrFails r Is → NeverFails r
 shown_never (Ok value) Is h = tt
 shown_never (Err fault.Memory) Is h = tt

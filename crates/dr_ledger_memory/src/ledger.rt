@@ -1,6 +1,6 @@
 //! The ledger of one node in memory.
 ghost use Rattle.std.specs.Prelude.{◌≡◌, ◌↔◌, ◌≤◌, ◌^◌, IsTrue, IfOk, OnOk, ◌++◌, None, Ok, Some};
-ghost use Rattle.std.specs.Prelude.{T, false, map as mapped, option_copied, true};
+ghost use Rattle.std.specs.Prelude.{T, drop, false, map as mapped, option_copied, take, true};
 ghost use Rattle.std.specs.BTreeMap.{IsOrdered};
 ghost use Rattle.std.specs.FinMap as map;
 ghost use Rattle.std.specs.FinMap.{is_sorted};
@@ -35,7 +35,7 @@ use dr_ledger::{
     Arrived, Cause, Entry, Instance, Item, Job, Ledger, LedgerFault, LetsGo, Outcome, Progress,
     moved,
 };
-use dr_ledger_history::{JournalLine, entries_of};
+use dr_ledger_history::{JournalLine, copy_page, entries_of};
 use dr_ledger_views::listing::{
     callers_of_all, count_all_arrivals, count_all_kept, count_all_rows, first_of_all, own_of_all,
     page_of_all,
@@ -457,6 +457,16 @@ impl MemoryLedger {
         Ok(all)
     }
 
+    /// A page of the journal: the lines behind that number, so many at most.
+    fn some_lines(&self, after: u64, limit: u32) -> Result<Seq<JournalLine>, LedgerFault>
+        ensures { ShowsOrFails result (λ page.
+            page ≡ take limit (drop after self.now.parts.notes.items)) }
+    {
+        let notes = self.parts.notes.as_slice();
+        let page = copy_page(self.alloc, notes, after as usize, limit as usize)?;
+        Ok(page)
+    }
+
     /// The first row that waits or is held and that the next plan doesn't go on with.
     fn first_unfit(&self, next: &Sealed) -> Result<Option<(Text, Text)>, LedgerFault>
         ensures { ShowsOrFails result
@@ -738,5 +748,9 @@ impl Views for MemoryLedger {
 
     fn callers_of(&mut self, uid: &Text) -> Result<Seq<Text>, LedgerFault> {
         callers_of_all(self.alloc, self, uid)
+    }
+
+    fn lines_behind(&mut self, after: u64, limit: u32) -> Result<Seq<JournalLine>, LedgerFault> {
+        self.some_lines(after, limit)
     }
 }

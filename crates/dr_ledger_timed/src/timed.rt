@@ -5,6 +5,7 @@ use crate::meter::{Meter, moment};
 use dr_base::{Seq, Text};
 use dr_cert::Sealed;
 use dr_ledger::{Arrived, Entry, Item, Job, Ledger, LedgerFault, LetsGo, Outcome, Progress};
+use dr_ledger_history::JournalLine;
 use dr_ledger_views::{Moments, Origin, Stage, Views};
 use dr_site::Site;
 use std::time::Clock;
@@ -295,6 +296,13 @@ impl<'a, L: Views, R: Clock> Views for Timed<'a, L, R> {
     fn callers_of(&mut self, uid: &Text) -> Result<Seq<Text>, LedgerFault> {
         let began = self.begin();
         let answer = self.ledger.callers_of(uid);
+        self.end(began);
+        answer
+    }
+
+    fn lines_behind(&mut self, after: u64, limit: u32) -> Result<Seq<JournalLine>, LedgerFault> {
+        let began = self.begin();
+        let answer = self.ledger.lines_behind(after, limit);
         self.end(began);
         answer
     }

@@ -1,5 +1,6 @@
 //! What is asked of a ledger without a list of all that it has: counts, the first moment at which a
-//! row is due, rows in pages, who brought an instance, and where it is from.
+//! row is due, rows and lines of the journal in pages, who brought an instance, and where it is
+//! from.
 //!
 //! What is shown of the book is said in `specs/Views.antt`. The trait `Views` stands over
 //! `Moments`, and that over `LetsGo`. In a list whose keys rise, what is of a key is found by a

@@ -10,7 +10,8 @@ ghost use Rattle.std.specs.Prelude.{Some};
 use crate::moments::Moments;
 use crate::stage::{HopTally, Stage};
 use dr_base::{Seq, Text};
-use dr_ledger::{LedgerFault, Progress};
+use dr_ledger::{LedgerFault, LetsGo, Progress};
+use dr_ledger_history::JournalLine;
 
 /// A ledger that answers what is asked without a list of all that it has. Each of these calls only
 /// reads, as those of `Ledger` do: Store and Memory.
@@ -111,6 +112,20 @@ pub trait Views: Moments {
     fn callers_of(&mut self, uid: &Text) -> Result<Seq<Text>, LedgerFault>
         ensures reply { Self.stands self.new
             → Reads result (AreCallers (Self.book self.old).arrivals uid.now) }
+        ensures same { Self.stands self.new
+            → (Self.book self.new ≡ Self.book self.old)
+            × (Self.bodies self.new ≡ Self.bodies self.old) }
+        ensures counts { Counts result (Self.failed self.old) (Self.failed self.new) }
+        ensures armed { Self.armed self.new ≡ Self.armed self.old }
+        ensures stood { Self.stands self.new → Self.stands self.old }
+        ensures lasts { LastsThrough Self.trusts Self.stands self.old result self.new }
+        ensures site { Self.site self.new ≡ Self.site self.old };
+
+    /// The lines of the journal behind that number, in order, each with the instance that it is of:
+    /// so many at most. Lines are numbered from 1 on. Which ones they are isn't said here, but
+    /// tested.
+    fn lines_behind(&mut self, after: u64, limit: u32) -> Result<Seq<JournalLine>, LedgerFault>
+        ensures reply { Self.stands self.new → Reads result (λ lines. Unit {0}) }
         ensures same { Self.stands self.new
             → (Self.book self.new ≡ Self.book self.old)
             × (Self.bodies self.new ≡ Self.bodies self.old) }

@@ -7,5 +7,5 @@ mod read;
 
 pub use dr_plan_core::PlanFault;
 pub use dr_plan_model::literals::literals;
-pub use dr_plan_model::{Flow, Format, Node, Plan, Stations, Values};
+pub use dr_plan_model::{Flow, Format, Node, Plan, Values};
 pub use read::{core_of, read_plan};

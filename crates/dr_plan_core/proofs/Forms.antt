@@ -1,23 +1,27 @@
 -- The forms of fields that a text's tables say.
-use Rattle.std.proofs.Common.{◌≢◌, sym, subst, List, [], ◌∷◌, Option, Some, None}
+use Rattle.std.proofs.Common.{◌≢◌, sym, subst, List, [], ◌∷◌, Option, Some, None, false}
 use Rattle.std.specs.Prelude.{All, AllPairs}
 use Rattle.std.proofs.lemmas.List.Elements.{All-nil, All-cons, All-head, All-tail}
 use Rattle.toml.specs.Data.{Data, Items, no_items, item, Members}
 use Rattle.dr_base.specs.Texts.{Text}
 use Rattle.dr_route.specs.declared.rule.Rule.{Rule}
 use Rattle.dr_route.specs.declared.rule.Pattern.TheVariants.{Any, Literal}
-use Rattle.dr_route.specs.declared.rule.StationPattern.{StationPattern}
-use Rattle.dr_route.specs.declared.rule.StationPattern.TheVariants as station
-use Rattle.dr_plan_model.specs.Naming.{station_of, prefix_of}
-use Rattle.dr_plan_model.specs.declared.plan.Stations.TheVariants as stations
+use Rattle.dr_route.specs.declared.rule.FieldPattern.{FieldPattern}
+use Rattle.dr_route.specs.declared.rule.FieldPattern.TheVariants as field
+use Rattle.dr_plan_model.specs.Naming.{literal_of, prefix_of}
 use Rattle.std.specs.Prelude.{flat_map}
 use Rattle.dr_plan_model.specs.declared.plan.Values.TheVariants as values
-use Rattle.dr_plan_model.specs.Formed.{IsClass, IsLiteral, IsPrefix, IsAddress, HasForm, HasStationForm, AreLiterals, AreStations}
+use Rattle.dr_plan_model.specs.Formed.{IsClass, IsLiteral, IsPrefix, IsAddress, HasAddresses, HasForm, HasFieldForm, AreValues}
+use Rattle.dr_plan_model.specs.Listening.{MayAccept}
+use Rattle.dr_plan_model.specs.declared.listens.Listens.{Listens}
+use Rattle.dr_plan_model.specs.declared.listens.Listens.TheVariants.{Nowhere, At}
+use Rattle.dr_plan_text.specs.Listening.{IsListens}
+use Rattle.std.proofs.lemmas.Option.{none-some}
 use Rattle.dr_plan_text.specs.declared.words.AcceptText.{AcceptText}
 use Rattle.dr_plan_text.specs.declared.words.NodeText.{NodeText}
 use Rattle.dr_plan_text.specs.declared.words.FlowText.{FlowText}
 use Rattle.dr_plan_text.specs.declared.words.PlanText.{PlanText}
-use Rattle.dr_plan_text.specs.Fields.{SaysFormed, SaysPattern, SaysNamed, SaysStation, SaysValues, SaysStations, SaysTable, SaysTextsOnce, ListsValues, IsListOf, IsSomeOf, Given, GivenOr}
+use Rattle.dr_plan_text.specs.Fields.{SaysFormed, SaysSome, SaysPattern, SaysNamed, SaysField, SaysValues, SaysTable, SaysTextsOnce, ListsValues, IsListOf, IsSomeOf, Given, GivenOr}
 use Rattle.dr_plan_text.specs.Tables.{IsAcceptTable, IsRuleTable, IsNodeTable, IsFlowTable, IsRoot}
 
 pub record RowForm (row : AcceptText) : Type 0 where
@@ -27,19 +31,20 @@ pub record RowForm (row : AcceptText) : Type 0 where
 
 pub record RuleForm (rule : Rule) : Type 0 where
   pub class : HasForm IsClass rule.class
-  pub modality : HasForm IsLiteral rule.modality
-  pub station : HasStationForm rule.station
+  pub modality : HasFieldForm rule.modality
+  pub station : HasFieldForm rule.station
 
 pub record NodeForm (node : NodeText) : Type 0 where
-  pub address : IsAddress node.address
+  pub addresses : HasAddresses node.listens
+  pub may_accept : MayAccept node.listens node.accepts
   pub accepts : All RowForm node.accepts
   pub rules : All RuleForm node.rules
 
 pub record FlowForm (flow : FlowText) : Type 0 where
   pub classes : (flow.classes ≢ []) × All IsClass flow.classes
   pub syntaxes : flow.syntaxes ≢ []
-  pub modalities : AreLiterals flow.modalities
-  pub stations : AreStations flow.stations
+  pub modalities : AreValues flow.modalities
+  pub stations : AreValues flow.stations
 
 -- what a value says has the form
 abbrev SaysFormedAs : {X : Type 0} → (Data → X → Type 0) → (X → Type 0) → Type 0
@@ -66,42 +71,38 @@ pattern_form : (IsFormed : Text → Type 0) → SaysFormedAs (SaysPattern (SaysF
 pattern_form IsFormed d Any h = tt
 pattern_form IsFormed d (Literal literal) h = h.1.1
 
-named_form : SaysFormedAs SaysNamed HasStationForm
-named_form d station.Any h = absurd h
-named_form d (station.Literal literal) h = h.1
-named_form d (station.Prefix prefix) h = h.1
+named_form : SaysFormedAs SaysNamed HasFieldForm
+named_form d field.Any h = absurd h
+named_form d (field.Literal literal) h = h.1
+named_form d (field.Prefix prefix) h = h.1
 
-station_form : SaysFormedAs SaysStation HasStationForm
-station_form d station.Any h = tt
-station_form d (station.Literal literal) h = h.1
-station_form d (station.Prefix prefix) h = h.1
+field_form : SaysFormedAs SaysField HasFieldForm
+field_form d field.Any h = tt
+field_form d (field.Literal literal) h = h.1
+field_form d (field.Prefix prefix) h = h.1
 
--- the literals of stations in their form are literals, and their prefixes prefixes
-literals_form : (patterns : List StationPattern) → All HasStationForm patterns → All IsLiteral (flat_map station_of patterns)
+-- the literals of patterns in their form are literals, and their prefixes prefixes
+literals_form : (patterns : List FieldPattern) → All HasFieldForm patterns → All IsLiteral (flat_map literal_of patterns)
 literals_form [] all = All-nil IsLiteral
-literals_form (station.Any ∷ patterns) all = literals_form patterns (All-tail HasStationForm station.Any patterns all)
-literals_form (station.Literal literal ∷ patterns) all =
-    All-cons IsLiteral literal (flat_map station_of patterns) (All-head HasStationForm (station.Literal literal) patterns all)
-    (literals_form patterns (All-tail HasStationForm (station.Literal literal) patterns all))
-literals_form (station.Prefix prefix ∷ patterns) all = literals_form patterns (All-tail HasStationForm (station.Prefix prefix) patterns all)
+literals_form (field.Any ∷ patterns) all = literals_form patterns (All-tail HasFieldForm field.Any patterns all)
+literals_form (field.Literal literal ∷ patterns) all =
+    All-cons IsLiteral literal (flat_map literal_of patterns) (All-head HasFieldForm (field.Literal literal) patterns all)
+    (literals_form patterns (All-tail HasFieldForm (field.Literal literal) patterns all))
+literals_form (field.Prefix prefix ∷ patterns) all = literals_form patterns (All-tail HasFieldForm (field.Prefix prefix) patterns all)
 
-prefixes_form : (patterns : List StationPattern) → All HasStationForm patterns → All IsPrefix (flat_map prefix_of patterns)
+prefixes_form : (patterns : List FieldPattern) → All HasFieldForm patterns → All IsPrefix (flat_map prefix_of patterns)
 prefixes_form [] all = All-nil IsPrefix
-prefixes_form (station.Any ∷ patterns) all = prefixes_form patterns (All-tail HasStationForm station.Any patterns all)
-prefixes_form (station.Literal literal ∷ patterns) all = prefixes_form patterns (All-tail HasStationForm (station.Literal literal) patterns all)
-prefixes_form (station.Prefix prefix ∷ patterns) all =
-    All-cons IsPrefix prefix (flat_map prefix_of patterns) (All-head HasStationForm (station.Prefix prefix) patterns all)
-    (prefixes_form patterns (All-tail HasStationForm (station.Prefix prefix) patterns all))
+prefixes_form (field.Any ∷ patterns) all = prefixes_form patterns (All-tail HasFieldForm field.Any patterns all)
+prefixes_form (field.Literal literal ∷ patterns) all = prefixes_form patterns (All-tail HasFieldForm (field.Literal literal) patterns all)
+prefixes_form (field.Prefix prefix ∷ patterns) all =
+    All-cons IsPrefix prefix (flat_map prefix_of patterns) (All-head HasFieldForm (field.Prefix prefix) patterns all)
+    (prefixes_form patterns (All-tail HasFieldForm (field.Prefix prefix) patterns all))
 
-stations_form : SaysFormedAs SaysStations AreStations
-stations_form d stations.Any h = tt
-stations_form d (stations.Listed values) h =
-    let each = list_form SaysNamed HasStationForm named_form d h.0 h.1 in
-    (subst (λ (texts : List Text). All IsLiteral texts) (sym h.2) (literals_form h.0 each), subst (λ (texts : List Text). All IsPrefix texts) (sym h.3) (prefixes_form h.0 each))
-
-values_form : SaysFormedAs SaysValues AreLiterals
+values_form : SaysFormedAs SaysValues AreValues
 values_form d values.Any h = tt
-values_form d (values.Listed texts) h = list_form (SaysFormed IsLiteral) IsLiteral (λ d x h. h.1) d texts h
+values_form d (values.Listed own) h =
+    let each = list_form SaysNamed HasFieldForm named_form d h.0 h.1 in
+    (subst (λ (texts : List Text). All IsLiteral texts) (sym h.2) (literals_form h.0 each), subst (λ (texts : List Text). All IsPrefix texts) (sym h.3) (prefixes_form h.0 each))
 
 row_form : SaysFormedAs (SaysTable IsAcceptTable) RowForm
 row_form d row h = record {
@@ -113,13 +114,24 @@ row_form d row h = record {
 rule_form : SaysFormedAs (SaysTable IsRuleTable) RuleForm
 rule_form d rule h = record {
   class = given_or Any (SaysPattern (SaysFormed IsClass)) (HasForm IsClass) tt (pattern_form IsClass) _ rule.class h.2.class;
-  modality = given_or Any (SaysPattern (SaysFormed IsLiteral)) (HasForm IsLiteral) tt (pattern_form IsLiteral) _ rule.modality h.2.modality;
-  station = given_or station.Any SaysStation HasStationForm tt station_form _ rule.station h.2.station;
+  modality = given_or field.Any SaysField HasFieldForm tt field_form _ rule.modality h.2.modality;
+  station = given_or field.Any SaysField HasFieldForm tt field_form _ rule.station h.2.station;
 }
+
+-- the address to which a node binds is one, where it is given
+bind_form : (address : Text) (bind : Option Text) (field : Option Data) → IsAddress address → GivenOr None (SaysSome (SaysFormed IsAddress)) field bind → HasAddresses (At address bind)
+bind_form address None field is h = is
+bind_form address (Some own) None is h = absurd (none-some own (sym h))
+bind_form address (Some own) (Some d) is h = (is, h.1)
+
+listens_form : (fields : Members) (place : Listens) → IsListens false fields place → HasAddresses place
+listens_form fields Nowhere h = tt
+listens_form fields (At address bind) h = bind_form address bind _ (given (SaysFormed IsAddress) IsAddress (λ d x g. g.1) _ address h.1) h.2
 
 node_form : SaysFormedAs (SaysTable IsNodeTable) NodeForm
 node_form d node h = record {
-  address = given (SaysFormed IsAddress) IsAddress (λ d x h. h.1) _ node.address h.2.address;
+  addresses = listens_form h.0 node.listens h.2.listens;
+  may_accept = h.2.may_accept;
   accepts = given_or [] (IsListOf (SaysTable IsAcceptTable)) (All RowForm) (All-nil RowForm) (list_form (SaysTable IsAcceptTable) RowForm row_form) _ node.accepts h.2.accept;
   rules = given_or [] (IsListOf (SaysTable IsRuleTable)) (All RuleForm) (All-nil RuleForm) (list_form (SaysTable IsRuleTable) RuleForm rule_form) _ node.rules h.2.rule;
 }
@@ -128,8 +140,8 @@ flow_form : SaysFormedAs (SaysTable IsFlowTable) FlowForm
 flow_form d flow h = record {
   classes = given (IsSomeOf (SaysFormed IsClass)) (λ xs. (xs ≢ []) × All IsClass xs) (λ d xs h. (h.1, list_form (SaysFormed IsClass) IsClass (λ d x h. h.1) d xs h.0)) _ flow.classes h.2.class;
   syntaxes = given (IsSomeOf _) (λ xs. xs ≢ []) (λ d xs h. h.1) _ flow.syntaxes h.2.syntax;
-  modalities = given SaysValues AreLiterals values_form _ flow.modalities h.2.modality;
-  stations = given SaysStations AreStations stations_form _ flow.stations h.2.station;
+  modalities = given SaysValues AreValues values_form _ flow.modalities h.2.modality;
+  stations = given SaysValues AreValues values_form _ flow.stations h.2.station;
 }
 
 pub nodes_form : (root : Members) (plan : PlanText) → IsRoot root plan → All NodeForm plan.nodes

@@ -10,9 +10,9 @@ use Rattle.dr_route.specs.declared.accept.Callers.{Callers}
 use Rattle.dr_route.specs.declared.accept.AcceptRow.{AcceptRow}
 use Rattle.dr_route.specs.declared.rule.Rule.{Rule}
 use Rattle.dr_plan_model.specs.declared.plan.Node.{Node}
+use Rattle.dr_plan_model.specs.declared.listens.Listens.{Listens}
 use Rattle.dr_plan_model.specs.declared.plan.Flow.{Flow}
 use Rattle.dr_plan_model.specs.declared.plan.Values.{Values}
-use Rattle.dr_plan_model.specs.declared.plan.Stations.{Stations}
 use Rattle.dr_plan_model.specs.declared.plan.Format.{Format}
 use Rattle.dr_plan_model.specs.Networks.{Network}
 use Rattle.dr_plan_text.specs.declared.words.AcceptText.{AcceptText}
@@ -96,18 +96,18 @@ row_same : (x y : AcceptRow) → written_row x ≡ written_row y → x ≡ y
 row_same x y e = same_row x.from y.from x.class y.class x.syntaxes y.syntaxes (ap (λ (t : AcceptText). t.from) e) (ap (λ (t : AcceptText). t.class) e)
     (map_same syntax_uid uid_same x.syntaxes y.syntaxes (ap (λ (t : AcceptText). t.syntaxes) e))
 
-same_node : (name name2 : Text) (address address2 : Text) (max_pdu max_pdu2 : ℕ) (accepts accepts2 : List AcceptRow) (rules rules2 : List Rule) → name ≡ name2 → address ≡ address2 → max_pdu ≡ max_pdu2 → accepts ≡ accepts2 → rules ≡ rules2 →
-    (let x : Node = record { name = name; address = address; max_pdu = max_pdu; accepts = accepts; rules = rules } in let y : Node = record { name = name2; address = address2; max_pdu = max_pdu2; accepts = accepts2; rules = rules2 } in x ≡ y)
-same_node name name2 address address2 max_pdu max_pdu2 accepts accepts2 rules rules2 e_name e_address e_max_pdu e_accepts e_rules = rw (e_name, e_address, e_max_pdu, e_accepts, e_rules) refl
+same_node : (name name2 : Text) (listens listens2 : Listens) (max_pdu max_pdu2 : ℕ) (accepts accepts2 : List AcceptRow) (rules rules2 : List Rule) → name ≡ name2 → listens ≡ listens2 → max_pdu ≡ max_pdu2 → accepts ≡ accepts2 → rules ≡ rules2 →
+    (let x : Node = record { name = name; listens = listens; max_pdu = max_pdu; accepts = accepts; rules = rules } in let y : Node = record { name = name2; listens = listens2; max_pdu = max_pdu2; accepts = accepts2; rules = rules2 } in x ≡ y)
+same_node name name2 listens listens2 max_pdu max_pdu2 accepts accepts2 rules rules2 e_name e_listens e_max_pdu e_accepts e_rules = rw (e_name, e_listens, e_max_pdu, e_accepts, e_rules) refl
 
 node_same : (x y : Node) → written_node x ≡ written_node y → x ≡ y
 node_same x y e =
     let numbers : pos x.max_pdu ≡ pos y.max_pdu = ap (λ (t : NodeText). t.max_pdu) e in
     let max_pdu : x.max_pdu ≡ y.max_pdu = cc in
-    same_node x.name y.name x.address y.address x.max_pdu y.max_pdu x.accepts y.accepts x.rules y.rules (ap (λ (t : NodeText). t.name) e) (ap (λ (t : NodeText). t.address) e) max_pdu
+    same_node x.name y.name x.listens y.listens x.max_pdu y.max_pdu x.accepts y.accepts x.rules y.rules (ap (λ (t : NodeText). t.name) e) (ap (λ (t : NodeText). t.listens) e) max_pdu
     (map_same written_row row_same x.accepts y.accepts (ap (λ (t : NodeText). t.accepts) e)) (ap (λ (t : NodeText). t.rules) e)
 
-same_flow : (at at2 : Text) (to to2 : Text) (classes classes2 : List Text) (syntaxes syntaxes2 : List Syntax) (modalities modalities2 : Values) (stations stations2 : Stations) → at ≡ at2 → to ≡ to2 → classes ≡ classes2 → syntaxes ≡ syntaxes2 → modalities ≡ modalities2 → stations ≡ stations2 →
+same_flow : (at at2 : Text) (to to2 : Text) (classes classes2 : List Text) (syntaxes syntaxes2 : List Syntax) (modalities modalities2 : Values) (stations stations2 : Values) → at ≡ at2 → to ≡ to2 → classes ≡ classes2 → syntaxes ≡ syntaxes2 → modalities ≡ modalities2 → stations ≡ stations2 →
     (let x : Flow = record { at = at; to = to; classes = classes; syntaxes = syntaxes; modalities = modalities; stations = stations } in let y : Flow = record { at = at2; to = to2; classes = classes2; syntaxes = syntaxes2; modalities = modalities2; stations = stations2 } in x ≡ y)
 same_flow at at2 to to2 classes classes2 syntaxes syntaxes2 modalities modalities2 stations stations2 e_at e_to e_classes e_syntaxes e_modalities e_stations = rw (e_at, e_to, e_classes, e_syntaxes, e_modalities, e_stations) refl
 

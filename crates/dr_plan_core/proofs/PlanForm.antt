@@ -14,9 +14,10 @@ use Rattle.dr_route.specs.declared.accept.AcceptRow.{AcceptRow}
 use Rattle.dr_plan_model.specs.declared.plan.Node.{Node}
 use Rattle.dr_plan_model.specs.declared.plan.Flow.{Flow}
 use Rattle.dr_plan_model.specs.declared.plan.Format.{Format}
-use Rattle.dr_plan_model.specs.declared.plan.Format.TheVariants.{One, Two, Three}
-use Rattle.dr_plan_model.specs.Formed.{IsName, IsMaxPdu, IsKnownName, HasForm, IsRuleOf, AreKnownCallers, IsAcceptRow, IsWellFormedNode, IsWellFormedFlow, IsInFormat, AreWellFormed}
-use Rattle.dr_plan_model.specs.Naming.{prefix_of, listed_prefixes}
+use Rattle.dr_plan_model.specs.Formed.{IsName, IsMaxPdu, IsKnownName, HasForm, IsRuleOf, AreKnownCallers, IsAcceptRow, IsWellFormedNode, IsWellFormedFlow, IsInFormat, RuleFits, ValuesFit, AreWellFormed}
+use Rattle.dr_plan_model.specs.Listening.{ListensFits, MayAccept}
+use Rattle.dr_plan_model.specs.declared.listens.Listens.{Listens}
+use Rattle.dr_plan_model.specs.declared.listens.Listens.TheVariants.{Nowhere, At}
 use Rattle.dr_plan_text.specs.declared.words.NodeText.{NodeText}
 use Rattle.dr_plan_text.specs.declared.words.FlowText.{FlowText}
 use Rattle.dr_plan_text.specs.declared.words.PlanText.{PlanText}
@@ -36,14 +37,12 @@ known_name format nodes flows name among =
     let node = Contains-unmap written_node nodes text.0 text.1 in
     (node.0, node.1, ap (λ (n : NodeText). n.name) node.2 ∙ text.2)
 
--- in format 1 no rule and no flow of the text names a prefix, nor then of the plan
+-- the format has what the text names, and then what the plan does
 in_format : (format : Format) (nodes : List Node) (flows : List Flow) → FitsFormat (the_plan format nodes flows) → IsInFormat format nodes flows
-in_format One nodes flows fits = (
-  All-unmap written_node (λ (n : NodeText). All (λ (r : Rule). prefix_of r.station ≡ []) n.rules) nodes fits.rules,
-  All-unmap written_flow (λ (f : FlowText). listed_prefixes f.stations ≡ []) flows fits.flows,
-)
-in_format Two nodes flows fits = tt
-in_format Three nodes flows fits = tt
+in_format format nodes flows fits = record {
+  rules = All-unmap written_node (λ (n : NodeText). All (RuleFits format) n.rules) nodes fits.rules;
+  flows = All-unmap written_flow (λ (f : FlowText). ValuesFit format f.modalities f.stations) flows fits.flows;
+}
 
 module _ (format : Format) (nodes : List Node) (flows : List Flow) where
   abbrev Known : Text → Type 0
@@ -83,11 +82,18 @@ module _ (format : Format) (nodes : List Node) (flows : List Flow) where
   max_pdu : (bytes : ℕ) (n : NodeText) → n.max_pdu ≡ pos bytes → HasMaxPdu n → IsMaxPdu bytes
   max_pdu bytes n e has = let same : bytes ≡ has.bytes = (let both : pos bytes ≡ pos has.bytes = sym e ∙ has.is in cc) in rw same has.in_range
 
+  -- a node that listens nowhere and accepts nothing as it is written accepts nothing
+  may_accept : (place : Listens) (rows : List AcceptRow) → MayAccept place (map written_row rows) → MayAccept place rows
+  may_accept Nowhere [] may = refl
+  may_accept Nowhere (r ∷ rows) may = cc
+  may_accept (At address bind) rows may = tt
+
   node : (n : Node) → NodeForm (written_node n) → EachNameOfNode IsName (written_node n) → HasMaxPdu (written_node n) → EachNameOfNode Known (written_node n) →
       All (λ (r : Rule). All (λ to. to ≢ n.name) r.to) n.rules → IsWellFormedNode nodes n
   node n form names pdu knows apart = record {
     name = names.name;
-    address = form.address;
+    addresses = form.addresses;
+    may_accept = may_accept n.listens n.accepts form.may_accept;
     max_pdu = max_pdu n.max_pdu (written_node n) refl pdu;
     accepts = λ k d h. row (get_or n.accepts k d) (All-unmap written_row RowForm n.accepts form.accepts k d h) (All-unmap written_row (λ r. EachCaller Known r.from) n.accepts knows.accepts k d h);
     rules = λ k d h. rule n.name (get_or n.rules k d) (form.rules k d h) (knows.rules k d h) (apart k d h);
@@ -122,6 +128,7 @@ module _ (format : Format) (nodes : List Node) (flows : List Flow) where
         each_node = λ k d h. node (get_or nodes k d) (node_forms k d h) (names k d h) (pdus k d h) (knows k d h) (apart k d h);
         each_flow = λ k d h. flow (get_or flows k d) (flow_forms k d h) (flow_names k d h) (flows_apart k d h);
         in_format = in_format format nodes flows is.fits;
+        listen = All-unmap written_node (λ (n : NodeText). ListensFits format n.listens) nodes is.fits.listen;
       }
     where
       map_map : (ns : List Node) → map (λ (n : NodeText). n.name) (map written_node ns) ≡ map (λ (n : Node). n.name) ns

@@ -19,7 +19,7 @@ written_row row =
 abbrev pub written_node : Node → NodeText
 written_node node = record {
   name = node.name;
-  address = node.address;
+  listens = node.listens;
   max_pdu = pos node.max_pdu;
   accepts = map written_row node.accepts;
   rules = node.rules;

@@ -7,8 +7,9 @@ pub fn a_core_has_one_answer()
 {}
 
 /// The plan of a text that is read as it stands is well-formed: its names, literals, classes and
-/// addresses have their forms, its names are names of its nodes, nothing goes to its own node, it
-/// keeps the limits, and in format 1 it names no prefix.
+/// addresses have their forms, its names are names of its nodes, nothing goes to its own node, a
+/// node that listens nowhere accepts nothing, it keeps the limits, and its format has what it names
+/// and how its nodes listen.
 pub fn cores_are_well_formed()
     ensures { CoresAreWellFormed }
 {}

@@ -58,14 +58,14 @@ fn node_of(alloc: Global, node: NodeText) -> Result<Node, AllocError>
 {
     let NodeText {
         name,
-        address,
+        listens,
         max_pdu,
         accepts,
         rules,
     } = node;
     Ok(Node {
         name,
-        address,
+        listens,
         max_pdu: max_pdu as u32,
         accepts: rows_of(alloc, accepts)?,
         rules,

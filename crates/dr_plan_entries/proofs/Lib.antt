@@ -1,6 +1,5 @@
 pub mod Entries
 pub mod FieldLemmas
-pub mod StationLemmas
 pub mod Narrowing
 pub mod Visits
 pub mod Orders

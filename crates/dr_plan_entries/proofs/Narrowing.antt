@@ -6,19 +6,15 @@ use Rattle.std.proofs.lemmas.List.Elements.{Contains-push, Contains-push_cases, 
 use Rattle.dr_base.specs.Texts.{Text}
 use Rattle.dr_route.specs.declared.cell.OwnedField.{OwnedField}
 use Rattle.dr_route.specs.declared.cell.OwnedField.TheVariants.{Literal}
-use Rattle.dr_route.specs.declared.cell.OwnedStation.{OwnedStation}
-use Rattle.dr_route.specs.declared.cell.OwnedStation.TheVariants as station
-use Rattle.dr_route.specs.declared.cell.StationValues.{StationValues}
+use Rattle.dr_route.specs.declared.cell.FieldValues.{FieldValues}
 use Rattle.dr_plan_model.specs.declared.plan.Flow.{Flow}
 use Rattle.dr_plan_model.specs.declared.plan.Values.{Values}
 use Rattle.dr_plan_model.specs.declared.plan.Values.TheVariants as values
-use Rattle.dr_plan_model.specs.declared.plan.Stations.{Stations}
-use Rattle.dr_plan_model.specs.declared.plan.Stations.TheVariants as stations
-use Rattle.dr_plan_model.specs.Naming.{listed, listed_stations, listed_prefixes}
+use Rattle.dr_plan_model.specs.Naming.{listed_literals, listed_prefixes}
 use Rattle.dr_plan_model.specs.Walks.{BeginsOne}
 use Rattle.dr_plan_model.proofs.Gathered.{nothing_in_nil}
 use Rattle.dr_plan_entries.specs.declared.narrow.Part.{Part}
-use Rattle.dr_plan_entries.specs.Entering.{AdmitsField, AdmitsStation, SpeaksOf, AreNarrowed}
+use Rattle.dr_plan_entries.specs.Entering.{AdmitsField, SpeaksOf, AreNarrowed}
 
 pub narrowed_none : (flows : List Flow) (part : Part) → AreNarrowed flows [] part []
 narrowed_none flows part k = (λ h. absurd (nothing_in_nil k h), λ h. absurd (nothing_in_nil k h.0))
@@ -52,16 +48,10 @@ narrowed_passed_over flows among found part place flow at fails so_far k = (
   ],
 )
 
--- a literal is taken in where the flow lists it
-pub admits_literal : (v : Values) (texts : List Text) (field : OwnedField) (literal : Text) → v ≡ values.Listed texts → field ≡ Literal literal → AdmitsField v field ↔ Contains (listed v) literal
-admits_literal v texts field literal is lit =
-    let P : Values → Type 0 = λ x. AdmitsField x field ↔ Contains (listed x) literal in
-    let Q : OwnedField → Type 0 = λ f. AdmitsField (values.Listed texts) f ↔ Contains texts literal in
-    subst P (sym is) (subst Q (sym lit) (λ h. h, λ h. h))
-
-pub admits_station_literal : (s : Stations) (own : StationValues) (one : OwnedStation) (literal : Text) → s ≡ stations.Listed own → one ≡ station.Literal literal →
-    AdmitsStation s one ↔ (Contains (listed_stations s) literal ⊎ BeginsOne (listed_prefixes s) literal)
-admits_station_literal s own one literal is lit =
-    let P : Stations → Type 0 = λ x. AdmitsStation x one ↔ (Contains (listed_stations x) literal ⊎ BeginsOne (listed_prefixes x) literal) in
-    let Q : OwnedStation → Type 0 = λ f. AdmitsStation (stations.Listed own) f ↔ (Contains own.literals literal ⊎ BeginsOne own.prefixes literal) in
+-- a literal is taken in where the flow lists it, or what it begins with
+pub admits_literal : (v : Values) (own : FieldValues) (one : OwnedField) (literal : Text) → v ≡ values.Listed own → one ≡ Literal literal →
+    AdmitsField v one ↔ (Contains (listed_literals v) literal ⊎ BeginsOne (listed_prefixes v) literal)
+admits_literal v own one literal is lit =
+    let P : Values → Type 0 = λ x. AdmitsField x one ↔ (Contains (listed_literals x) literal ⊎ BeginsOne (listed_prefixes x) literal) in
+    let Q : OwnedField → Type 0 = λ f. AdmitsField (values.Listed own) f ↔ (Contains own.literals literal ⊎ BeginsOne own.prefixes literal) in
     subst P (sym is) (subst Q (sym lit) (λ h. h, λ h. h))

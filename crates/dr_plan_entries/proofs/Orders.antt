@@ -14,19 +14,18 @@ use Rattle.dr_base.specs.Texts.{Text, text_cmp, IsInByteOrder}
 use Rattle.dr_base.specs.Syntaxes.{syntax_uid}
 use Rattle.dr_base.specs.declared.syntax.Syntax.{Syntax}
 use Rattle.dr_base.specs.declared.syntax.Syntax.TheVariants.{Implicit, Explicit}
-use Rattle.dr_route.specs.Laws.{IsPart, IsStationPart}
+use Rattle.dr_route.specs.Laws.{IsPart}
 use Rattle.dr_route.specs.declared.cell.OwnedCell.{OwnedCell}
+use Rattle.dr_route.specs.declared.cell.FieldValues.{FieldValues}
 use Rattle.dr_route.specs.declared.cell.OwnedField.{OwnedField}
-use Rattle.dr_route.specs.declared.cell.OwnedField.TheVariants.{Literal, Rest}
-use Rattle.dr_route.specs.declared.cell.OwnedStation.{OwnedStation}
-use Rattle.dr_route.specs.declared.cell.OwnedStation.TheVariants as station
-use Rattle.dr_plan_model.specs.declared.literals.Attribute.TheVariants.{Modality, Station, StationPrefix}
+use Rattle.dr_route.specs.declared.cell.OwnedField.TheVariants.{Literal, Prefix, Rest}
+use Rattle.dr_plan_model.specs.declared.literals.Attribute.TheVariants.{Modality, ModalityPrefix, Station, StationPrefix}
 use Rattle.dr_plan_model.specs.Networks.{Network}
-use Rattle.dr_plan_model.specs.Formed.{IsLiteral}
+use Rattle.dr_plan_model.specs.Formed.{IsLiteral, IsPrefix}
 use Rattle.dr_plan_model.specs.Laws.{IsCellOf}
 use Rattle.dr_plan_model.specs.Plans.{IsWellFormed, literals_of}
 use Rattle.dr_plan_model.proofs.WalksAlike.{named_has_form}
-use Rattle.dr_plan_sound.specs.Printed.{printed_field, printed_station}
+use Rattle.dr_plan_sound.specs.Printed.{printed_field}
 use Rattle.dr_plan_entries.specs.InOrder.{IsLess, ComesBefore, IsInPrintedOrder}
 use Rattle.dr_plan_entries.specs.Laws.{BeforeGoesOn, OneIsBefore}
 use Rattle.dr_plan_entries.proofs.Entries.{cell_that_lies}
@@ -103,10 +102,10 @@ byte_order_is_printed texts ordered = λ i j d lt long less.
 -- cells of the same values are the same
 pub same_cell : (c d : OwnedCell) → c.class ≡ d.class → c.syntax ≡ d.syntax → c.modality ≡ d.modality → c.station ≡ d.station → c ≡ d
 same_cell c d a b m e =
-    let mk : Text → Syntax → OwnedField → OwnedStation → OwnedCell = λ k s f t. record { class = k; syntax = s; modality = f; station = t } in
+    let mk : Text → Syntax → OwnedField → OwnedField → OwnedCell = λ k s f t. record { class = k; syntax = s; modality = f; station = t } in
     ap (λ (x : Text). mk x c.syntax c.modality c.station) a
     ∙ (ap (λ (x : Syntax). mk d.class x c.modality c.station) b
-    ∙ (ap (λ (x : OwnedField). mk d.class d.syntax x c.station) m ∙ ap (λ (x : OwnedStation). mk d.class d.syntax d.modality x) e))
+    ∙ (ap (λ (x : OwnedField). mk d.class d.syntax x c.station) m ∙ ap (λ (x : OwnedField). mk d.class d.syntax d.modality x) e))
 
 -- ---- where one entry comes before another, and they are alike up to here
 pub by_site : (s t : Text) (c d : OwnedCell) → ComesBefore s c t d → IsLess s t ⊎ (s ≡ t)
@@ -116,16 +115,16 @@ abbrev CellBefore : OwnedCell → OwnedCell → Type 0
 CellBefore c d = IsLess c.class d.class ⊎ ((c.class ≡ d.class)
     × (IsLess (syntax_uid c.syntax) (syntax_uid d.syntax) ⊎ ((c.syntax ≡ d.syntax)
     × (IsLess (printed_field c.modality) (printed_field d.modality) ⊎ ((c.modality ≡ d.modality)
-    × IsLess (printed_station c.station) (printed_station d.station))))))
+    × IsLess (printed_field c.station) (printed_field d.station))))))
 
 abbrev SyntaxBefore : OwnedCell → OwnedCell → Type 0
 SyntaxBefore c d = IsLess (syntax_uid c.syntax) (syntax_uid d.syntax) ⊎ ((c.syntax ≡ d.syntax)
     × (IsLess (printed_field c.modality) (printed_field d.modality) ⊎ ((c.modality ≡ d.modality)
-    × IsLess (printed_station c.station) (printed_station d.station))))
+    × IsLess (printed_field c.station) (printed_field d.station))))
 
 abbrev ModalityBefore : OwnedCell → OwnedCell → Type 0
 ModalityBefore c d = IsLess (printed_field c.modality) (printed_field d.modality) ⊎ ((c.modality ≡ d.modality)
-    × IsLess (printed_station c.station) (printed_station d.station))
+    × IsLess (printed_field c.station) (printed_field d.station))
 
 at_site : (s t : Text) (c d : OwnedCell) → s ≡ t → ComesBefore s c t d → CellBefore c d
 at_site s t c d same before = elim before [ inl less ↦ absurd (same_is_not_less s t same less) | inr rest ↦ rest.1 ]
@@ -150,14 +149,14 @@ pub by_modality : (s t : Text) (c d : OwnedCell) → s ≡ t → c.class ≡ d.c
 by_modality s t c d site class syntax before = elim (at_syntax s t c d site class syntax before) [ inl less ↦ inl less | inr rest ↦ inr rest.0 ]
 
 pub by_station : (s t : Text) (c d : OwnedCell) → s ≡ t → c.class ≡ d.class → c.syntax ≡ d.syntax → c.modality ≡ d.modality → ComesBefore s c t d →
-    IsLess (printed_station c.station) (printed_station d.station)
+    IsLess (printed_field c.station) (printed_field d.station)
 by_station s t c d site class syntax same before = elim (at_syntax s t c d site class syntax before) [
   | inl less ↦ absurd (same_is_not_less (printed_field c.modality) (printed_field d.modality) (ap printed_field same) less)
   | inr rest ↦ rest.1
 ]
 
 pub not_before_itself : (site : Text) (cell : OwnedCell) → ComesBefore site cell site cell → ⊥
-not_before_itself site cell before = not_less_itself (printed_station cell.station) (by_station site site cell cell refl refl refl refl before)
+not_before_itself site cell before = not_less_itself (printed_field cell.station) (by_station site site cell cell refl refl refl refl before)
 
 -- ---- what comes before what comes before
 lex_onward : {A : Type 0} (text : A → Text) (x y z : A) (P Q R : Type 0) → (P → Q → R) → IsLess (text x) (text y) ⊎ ((x ≡ y) × P) → IsLess (text y) (text z) ⊎ ((y ≡ z) × Q) →
@@ -173,7 +172,7 @@ before_onward s t u c d e a b =
     (λ p q. lex_onward (λ x. x) c.class d.class e.class (SyntaxBefore c d) (SyntaxBefore d e) (SyntaxBefore c e)
     (λ v w. lex_onward syntax_uid c.syntax d.syntax e.syntax (ModalityBefore c d) (ModalityBefore d e) (ModalityBefore c e)
     (λ m n. lex_onward printed_field c.modality d.modality e.modality _ _ _
-    (λ x y. less_onward (printed_station c.station) (printed_station d.station) (printed_station e.station) x y) m n) v w) p q) a b
+    (λ x y. less_onward (printed_field c.station) (printed_field d.station) (printed_field e.station) x y) m n) v w) p q) a b
 
 -- ---- of two entries one comes before the other
 lex_cases : {A : Type 0} (text : A → Text) (x y : A) (P S Q : Type 0) → (text x ≡ text y → x ≡ y) → P ⊎ (S ⊎ Q) →
@@ -206,33 +205,34 @@ no_star_behind text front literal e =
 
 module _ (plan : Network) (formed : IsWellFormed plan) where
   -- parts of a plan are told by how they are printed
-  field_told : (f g : OwnedField) → IsPart (literals_of plan).modalities f → IsPart (literals_of plan).modalities g → printed_field f ≡ printed_field g → f ≡ g
-  field_told (Literal a) (Literal b) p q e = ap (λ (t : Text). Literal t) e
-  field_told (Literal a) Rest p q e = absurd (no_star_behind a [] (named_has_form plan formed Modality a p) e)
-  field_told Rest (Literal b) p q e = absurd (no_star_behind b [] (named_has_form plan formed Modality b q) (sym e))
-  field_told Rest Rest p q e = refl
+  told : (values : FieldValues) → ((t : Text) → Contains values.literals t → IsLiteral t) → ((t : Text) → Contains values.prefixes t → IsPrefix t) →
+      (f g : OwnedField) → IsPart values f → IsPart values g → printed_field f ≡ printed_field g → f ≡ g
+  told values literals prefixes (Literal a) (Literal b) p q e = ap (λ (t : Text). Literal t) e
+  told values literals prefixes (Literal a) (Prefix b) p q e = absurd (no_star_behind a b (literals a p) e)
+  told values literals prefixes (Literal a) Rest p q e = absurd (no_star_behind a [] (literals a p) e)
+  told values literals prefixes (Prefix a) (Literal b) p q e = absurd (no_star_behind b a (literals b q) (sym e))
+  told values literals prefixes (Prefix a) (Prefix b) p q e = ap (λ (t : Text). Prefix t) (append_cancel_right a b (42 ∷ []) e)
+  told values literals prefixes (Prefix a) Rest p q e = absurd ((prefixes a p).some (append_cancel_right a [] (42 ∷ []) e))
+  told values literals prefixes Rest (Literal b) p q e = absurd (no_star_behind b [] (literals b q) (sym e))
+  told values literals prefixes Rest (Prefix b) p q e = absurd ((prefixes b q).some (append_cancel_right b [] (42 ∷ []) (sym e)))
+  told values literals prefixes Rest Rest p q e = refl
 
-  station_told : (f g : OwnedStation) → IsStationPart (literals_of plan).stations f → IsStationPart (literals_of plan).stations g → printed_station f ≡ printed_station g → f ≡ g
-  station_told (station.Literal a) (station.Literal b) p q e = ap (λ (t : Text). station.Literal t) e
-  station_told (station.Literal a) (station.Prefix b) p q e = absurd (no_star_behind a b (named_has_form plan formed Station a p) e)
-  station_told (station.Literal a) station.Rest p q e = absurd (no_star_behind a [] (named_has_form plan formed Station a p) e)
-  station_told (station.Prefix a) (station.Literal b) p q e = absurd (no_star_behind b a (named_has_form plan formed Station b q) (sym e))
-  station_told (station.Prefix a) (station.Prefix b) p q e = ap (λ (t : Text). station.Prefix t) (append_cancel_right a b (42 ∷ []) e)
-  station_told (station.Prefix a) station.Rest p q e = absurd ((named_has_form plan formed StationPrefix a p).some (append_cancel_right a [] (42 ∷ []) e))
-  station_told station.Rest (station.Literal b) p q e = absurd (no_star_behind b [] (named_has_form plan formed Station b q) (sym e))
-  station_told station.Rest (station.Prefix b) p q e = absurd ((named_has_form plan formed StationPrefix b q).some (append_cancel_right b [] (42 ∷ []) (sym e)))
-  station_told station.Rest station.Rest p q e = refl
+  modality_told : (f g : OwnedField) → IsPart (literals_of plan).modalities f → IsPart (literals_of plan).modalities g → printed_field f ≡ printed_field g → f ≡ g
+  modality_told = told (literals_of plan).modalities (named_has_form plan formed Modality) (named_has_form plan formed ModalityPrefix)
 
-  stations_cases : (f g : OwnedStation) → IsStationPart (literals_of plan).stations f → IsStationPart (literals_of plan).stations g →
-      IsLess (printed_station f) (printed_station g) ⊎ ((f ≡ g) ⊎ IsLess (printed_station g) (printed_station f))
-  stations_cases f g p q = elim (less_cases (printed_station f) (printed_station g)) [
+  station_told : (f g : OwnedField) → IsPart (literals_of plan).stations f → IsPart (literals_of plan).stations g → printed_field f ≡ printed_field g → f ≡ g
+  station_told = told (literals_of plan).stations (named_has_form plan formed Station) (named_has_form plan formed StationPrefix)
+
+  stations_cases : (f g : OwnedField) → IsPart (literals_of plan).stations f → IsPart (literals_of plan).stations g →
+      IsLess (printed_field f) (printed_field g) ⊎ ((f ≡ g) ⊎ IsLess (printed_field g) (printed_field f))
+  stations_cases f g p q = elim (less_cases (printed_field f) (printed_field g)) [
     | inl less ↦ inl less
     | inr other ↦ elim other [ inl alike ↦ inr (inl (station_told f g p q alike)) | inr more ↦ inr (inr more) ]
   ]
 
   pub cells_cases : (s t : Text) (c d : OwnedCell) → IsCellOf plan c → IsCellOf plan d → ComesBefore s c t d ⊎ (((s ≡ t) × (c ≡ d)) ⊎ ComesBefore t d s c)
   cells_cases s t c d is_c is_d =
-      let modality = lex_cases printed_field c.modality d.modality _ (c.station ≡ d.station) _ (field_told c.modality d.modality is_c.0 is_d.0) (stations_cases c.station d.station is_c.1 is_d.1) in
+      let modality = lex_cases printed_field c.modality d.modality _ (c.station ≡ d.station) _ (modality_told c.modality d.modality is_c.0 is_d.0) (stations_cases c.station d.station is_c.1 is_d.1) in
       let syntax = lex_cases syntax_uid c.syntax d.syntax (ModalityBefore c d) _ (ModalityBefore d c) (λ e. long_same c.syntax d.syntax (ap (λ (uid : Text). length uid) e)) modality in
       let class = lex_cases (λ x. x) c.class d.class (SyntaxBefore c d) _ (SyntaxBefore d c) (λ e. e) syntax in
       elim (lex_cases (λ x. x) s t (CellBefore c d) _ (CellBefore d c) (λ e. e) class) [

@@ -9,89 +9,65 @@ use Rattle.std.proofs.lemmas.List.Elements.{Contains-push_cases}
 use Rattle.dr_base.specs.Texts.{Text, IsInByteOrder}
 use Rattle.dr_route.specs.declared.cell.OwnedField.{OwnedField}
 use Rattle.dr_route.specs.declared.cell.OwnedField.TheVariants as part
-use Rattle.dr_route.specs.declared.cell.OwnedStation.{OwnedStation}
-use Rattle.dr_route.specs.declared.cell.OwnedStation.TheVariants as station
-use Rattle.dr_route.specs.declared.cell.StationValues.{StationValues}
-use Rattle.dr_route.specs.Laws.{IsPart, IsStationPart}
+use Rattle.dr_route.specs.declared.cell.FieldValues.{FieldValues}
+use Rattle.dr_route.specs.Laws.{IsPart}
 use Rattle.dr_plan_model.specs.Networks.{Network}
-use Rattle.dr_plan_model.specs.Plans.{literals_of}
 use Rattle.dr_plan_model.specs.declared.plan.Flow.{Flow}
 use Rattle.dr_plan_model.specs.declared.plan.Values.{Values}
 use Rattle.dr_plan_model.specs.declared.plan.Values.TheVariants as values
-use Rattle.dr_plan_model.specs.declared.plan.Stations.{Stations}
-use Rattle.dr_plan_model.specs.declared.plan.Stations.TheVariants as stations
 use Rattle.dr_plan_model.specs.declared.listed.Listed.{Listed}
 use Rattle.dr_plan_model.specs.declared.literals.Attribute.TheVariants as attribute
-use Rattle.dr_plan_model.specs.Naming.{listed, listed_stations}
+use Rattle.dr_plan_model.specs.Naming.{listed_literals}
 use Rattle.dr_plan_model.specs.Listings.{IsListedBy}
 use Rattle.dr_plan_model.specs.Walks.{BeginsOne}
 use Rattle.dr_plan_model.proofs.Gathered.{nothing_in_nil, Contains-cons_cases, Contains-here, Contains-there}
 use Rattle.dr_plan_model.proofs.WalksAlike.{flow_names}
-use Rattle.dr_plan_sound.specs.Printed.{printed_field, printed_station}
+use Rattle.dr_plan_sound.specs.Printed.{printed_field}
 use Rattle.dr_plan_entries.specs.declared.rows.FlowSide.{FlowSide}
 use Rattle.dr_plan_entries.specs.declared.rows.FlowSide.TheVariants.{Modality, Station}
-use Rattle.dr_plan_entries.specs.Entering.{AdmitsField, AdmitsStation, IsLiteralOf}
+use Rattle.dr_plan_entries.specs.Entering.{AdmitsField, IsLiteralOf}
 use Rattle.dr_plan_entries.specs.InOrder.{IsLess, IsInPrintedOrder}
-use Rattle.dr_plan_entries.specs.Listing.{IsStationOf, TakesListed, TakesListedStations, TakesAtMost, TakesJust, SomeLists, AreNamed, IsFieldRow, IsStationRow}
+use Rattle.dr_plan_entries.specs.Listing.{TakesListed, TakesAtMost, TakesJust, SomeLists, AreNamed, IsRow, values_of, named_of, set_of, listed_of}
 use Rattle.dr_plan_entries.proofs.Orders.{byte_order_is_printed}
 
 -- ---- what one flow lists
-own_fields : (texts : List Text) (field : OwnedField) → AdmitsField (values.Listed texts) field → IsLiteralOf texts field
-own_fields texts (part.Literal literal) h = h
-own_fields texts part.Rest h = h
-
-pub takes_listed : (v : Values) (texts : List Text) → v ≡ values.Listed texts → TakesListed v (listed v)
-takes_listed v texts is = let P : Values → Type 0 = λ x. TakesListed x (listed x) in subst P (sym is) (own_fields texts)
-
 no_prefix : (prefixes : List Text) (t : Text) → length prefixes ≡ 0 → BeginsOne prefixes t → ⊥
 no_prefix prefixes t none begun = let lt : begun.1.0 < length prefixes = begun.1.1 in omega (arith, none, lt)
 
-own_stations : (own : StationValues) → length own.prefixes ≡ 0 → (one : OwnedStation) → AdmitsStation (stations.Listed own) one → IsStationOf own.literals one
-own_stations own none (station.Literal literal) (inl h) = h
-own_stations own none (station.Literal literal) (inr begun) = absurd (no_prefix own.prefixes literal none begun)
-own_stations own none (station.Prefix prefix) begun = absurd (no_prefix own.prefixes prefix none begun)
-own_stations own none station.Rest h = h
+own_literals : (own : FieldValues) → length own.prefixes ≡ 0 → (one : OwnedField) → AdmitsField (values.Listed own) one → IsLiteralOf own.literals one
+own_literals own none (part.Literal literal) (inl h) = h
+own_literals own none (part.Literal literal) (inr begun) = absurd (no_prefix own.prefixes literal none begun)
+own_literals own none (part.Prefix prefix) begun = absurd (no_prefix own.prefixes prefix none begun)
+own_literals own none part.Rest h = h
 
-pub takes_listed_stations : (s : Stations) (own : StationValues) → s ≡ stations.Listed own → length own.prefixes ≡ 0 → TakesListedStations s (listed_stations s)
-takes_listed_stations s own is none = let P : Stations → Type 0 = λ x. TakesListedStations x (listed_stations x) in subst P (sym is) (own_stations own none)
+pub takes_listed : (v : Values) (own : FieldValues) → v ≡ values.Listed own → length own.prefixes ≡ 0 → TakesListed v (listed_literals v)
+takes_listed v own is none = let P : Values → Type 0 = λ x. TakesListed x (listed_literals x) in subst P (sym is) (own_literals own none)
 
 pub is_none : (texts : List Text) → (length texts == 0) ≡ true → length texts ≡ 0
 is_none [] e = refl
 is_none (t ∷ texts) e = absurd (false≢true (sym (eqb-suc-zero (length texts)) ∙ e))
 
 -- ---- more literals
-field_moves : (xs ys : List Text) (field : OwnedField) → ((t : Text) → Contains xs t → Contains ys t) → IsLiteralOf xs field → IsLiteralOf ys field
-field_moves xs ys (part.Literal literal) all h = all literal h
-field_moves xs ys part.Rest all h = h
-
-station_moves : (xs ys : List Text) (one : OwnedStation) → ((t : Text) → Contains xs t → Contains ys t) → IsStationOf xs one → IsStationOf ys one
-station_moves xs ys (station.Literal literal) all h = all literal h
-station_moves xs ys (station.Prefix prefix) all h = h
-station_moves xs ys station.Rest all h = h
+literal_moves : (xs ys : List Text) (one : OwnedField) → ((t : Text) → Contains xs t → Contains ys t) → IsLiteralOf xs one → IsLiteralOf ys one
+literal_moves xs ys (part.Literal literal) all h = all literal h
+literal_moves xs ys (part.Prefix prefix) all h = h
+literal_moves xs ys part.Rest all h = h
 
 pub at_most_moves : (side : FlowSide) (flow : Flow) (xs ys : List Text) → ((t : Text) → Contains xs t → Contains ys t) → TakesAtMost side flow xs → TakesAtMost side flow ys
-at_most_moves Modality flow xs ys all h = λ field admitted. field_moves xs ys field all (h field admitted)
-at_most_moves Station flow xs ys all h = λ one admitted. station_moves xs ys one all (h one admitted)
+at_most_moves side flow xs ys all h = λ one admitted. literal_moves xs ys one all (h one admitted)
 
-pub just_modalities : (side : FlowSide) (flow : Flow) (sets : Listed) (texts : List Text) → side ≡ Modality → IsListedBy flow sets → texts ≡ sets.modalities → TakesListed flow.modalities (listed flow.modalities) →
-    TakesJust side flow texts
-just_modalities side flow sets texts is by same takes =
-    let J : FlowSide → Type 0 = λ s. TakesJust s flow texts in
-    let C : Text → List Text → Type 0 = λ t ts. Contains ts t in
-    subst J (sym is) (record {
-      named = λ t h. (by.modalities t).0 (subst (C t) same h);
-      most = at_most_moves Modality flow (listed flow.modalities) texts (λ t h. subst (C t) (sym same) ((by.modalities t).1 h)) takes;
-    })
+-- the set of what a flow lists has just that
+in_set : (side : FlowSide) (flow : Flow) (sets : Listed) → IsListedBy flow sets → (t : Text) → Contains (set_of side sets) t ↔ Contains (listed_of side flow) t
+in_set Modality flow sets by = by.modalities
+in_set Station flow sets by = by.stations
 
-pub just_stations : (side : FlowSide) (flow : Flow) (sets : Listed) (texts : List Text) → side ≡ Station → IsListedBy flow sets → texts ≡ sets.stations →
-    TakesListedStations flow.stations (listed_stations flow.stations) → TakesJust side flow texts
-just_stations side flow sets texts is by same takes =
-    let J : FlowSide → Type 0 = λ s. TakesJust s flow texts in
+pub lists_just : (side : FlowSide) (flow : Flow) (sets : Listed) (texts : List Text) → IsListedBy flow sets → texts ≡ set_of side sets → TakesListed (values_of side flow) (listed_of side flow) → TakesJust side flow texts
+lists_just side flow sets texts by same takes =
     let C : Text → List Text → Type 0 = λ t ts. Contains ts t in
-    subst J (sym is) (record {
-      named = λ t h. (by.stations t).0 (subst (C t) same h);
-      most = at_most_moves Station flow (listed_stations flow.stations) texts (λ t h. subst (C t) (sym same) ((by.stations t).1 h)) takes;
-    })
+    record {
+      named = λ t h. (in_set side flow sets by t).0 (subst (C t) same h);
+      most = at_most_moves side flow (listed_of side flow) texts (λ t h. subst (C t) (sym same) ((in_set side flow sets by t).1 h)) takes;
+    }
 
 -- ---- the flows at one place after another
 -- the literals are ones that flows at the places list, and the flows at those passed so far take in no others
@@ -161,40 +137,28 @@ mapped_order {X} text f names is ordered = λ i j d lt long less.
     byte_order_is_printed names ordered i j [] lt below (subst Q (at i (omega (arith, lt, below))) (subst P (at j below) less))
 
 -- a row for some flows is one for fewer of them
-pub fewer_flows : (plan : Network) (among here : List ℕ) (row : List OwnedStation) → ((k : ℕ) → Contains here k → Contains among k) → IsStationRow plan among row → IsStationRow plan here row
-fewer_flows plan among here row of_them is = record { parts = is.parts; whole = λ k flow one has at admitted part. is.whole k flow one (of_them k has) at admitted part; ordered = is.ordered }
+pub fewer_flows : (side : FlowSide) (plan : Network) (among here : List ℕ) (row : List OwnedField) → ((k : ℕ) → Contains here k → Contains among k) → IsRow side plan among row → IsRow side plan here row
+fewer_flows side plan among here row of_them is = record { parts = is.parts; whole = λ k flow one has at admitted part. is.whole k flow one (of_them k has) at admitted part; ordered = is.ordered }
 
-module _ (plan : Network) (among : List ℕ) where
-  -- the literals that flows list are a row of parts
-  pub named_fields : (names : List Text) → AreNamed Modality plan.flows among names → IsFieldRow plan among (map (λ l. part.Literal l) names)
-  named_fields names named = record {
-    parts = λ field h.
-        let found = from_mapped (λ l. part.Literal l) names field h in
-        let lists = named.named found.0 found.1 in
-        let flow : Flow = lists.2.0 in
-        let among_flows : Contains plan.flows flow = (lists.0, slice_get_within plan.flows lists.0 flow lists.2.1, get_or_from_slice_get plan.flows lists.0 flow flow lists.2.1) in
-        let P : OwnedField → Type 0 = λ f. IsPart (literals_of plan).modalities f in
-        subst P found.2 (flow_names plan attribute.Modality flow found.0 among_flows lists.2.2);
-    whole = λ k flow field has at admitted is. in_row field (named.most k flow has at field admitted);
-    ordered = mapped_order printed_field (λ l. part.Literal l) names (λ t. refl) named.ordered;
-  } where
-    in_row : (field : OwnedField) → IsLiteralOf names field → Contains (map (λ l. part.Literal l) names) field
-    in_row (part.Literal literal) h = to_mapped (λ l. part.Literal l) names literal h
-    in_row part.Rest h = absurd h
+-- what a flow lists of an attribute the plan names
+flow_names_it : (side : FlowSide) (plan : Network) (flow : Flow) (t : Text) → Contains plan.flows flow → Contains (listed_of side flow) t → Contains (named_of side plan).literals t
+flow_names_it Modality plan flow t has = flow_names plan attribute.Modality flow t has
+flow_names_it Station plan flow t has = flow_names plan attribute.Station flow t has
 
-  pub named_stations : (names : List Text) → AreNamed Station plan.flows among names → IsStationRow plan among (map (λ l. station.Literal l) names)
-  named_stations names named = record {
-    parts = λ one h.
-        let found = from_mapped (λ l. station.Literal l) names one h in
-        let lists = named.named found.0 found.1 in
-        let flow : Flow = lists.2.0 in
-        let among_flows : Contains plan.flows flow = (lists.0, slice_get_within plan.flows lists.0 flow lists.2.1, get_or_from_slice_get plan.flows lists.0 flow flow lists.2.1) in
-        let P : OwnedStation → Type 0 = λ f. IsStationPart (literals_of plan).stations f in
-        subst P found.2 (flow_names plan attribute.Station flow found.0 among_flows lists.2.2);
-    whole = λ k flow one has at admitted is. in_row one (named.most k flow has at one admitted);
-    ordered = mapped_order printed_station (λ l. station.Literal l) names (λ t. refl) named.ordered;
-  } where
-    in_row : (one : OwnedStation) → IsStationOf names one → Contains (map (λ l. station.Literal l) names) one
-    in_row (station.Literal literal) h = to_mapped (λ l. station.Literal l) names literal h
-    in_row (station.Prefix prefix) h = absurd h
-    in_row station.Rest h = absurd h
+-- the literals that flows list are a row of parts
+pub named_parts : (side : FlowSide) (plan : Network) (among : List ℕ) (names : List Text) → AreNamed side plan.flows among names → IsRow side plan among (map (λ l. part.Literal l) names)
+named_parts side plan among names named = record {
+  parts = λ one h.
+      let found = from_mapped (λ l. part.Literal l) names one h in
+      let lists = named.named found.0 found.1 in
+      let flow : Flow = lists.2.0 in
+      let among_flows : Contains plan.flows flow = (lists.0, slice_get_within plan.flows lists.0 flow lists.2.1, get_or_from_slice_get plan.flows lists.0 flow flow lists.2.1) in
+      let P : OwnedField → Type 0 = λ f. IsPart (named_of side plan) f in
+      subst P found.2 (flow_names_it side plan flow found.0 among_flows lists.2.2);
+  whole = λ k flow one has at admitted is. in_row one (named.most k flow has at one admitted);
+  ordered = mapped_order printed_field (λ l. part.Literal l) names (λ t. refl) named.ordered;
+} where
+  in_row : (one : OwnedField) → IsLiteralOf names one → Contains (map (λ l. part.Literal l) names) one
+  in_row (part.Literal literal) h = to_mapped (λ l. part.Literal l) names literal h
+  in_row (part.Prefix prefix) h = absurd h
+  in_row part.Rest h = absurd h

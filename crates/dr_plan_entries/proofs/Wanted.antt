@@ -6,7 +6,6 @@ use Rattle.dr_base.specs.Texts.{Text}
 use Rattle.dr_base.specs.declared.syntax.Syntax.{Syntax}
 use Rattle.dr_route.specs.declared.cell.OwnedCell.{OwnedCell}
 use Rattle.dr_route.specs.declared.cell.OwnedField.{OwnedField}
-use Rattle.dr_route.specs.declared.cell.OwnedStation.{OwnedStation}
 use Rattle.dr_plan_model.specs.declared.plan.Flow.{Flow}
 use Rattle.dr_plan_model.specs.Networks.{Network}
 use Rattle.dr_plan_model.specs.Laws.{IsCellOf}
@@ -88,7 +87,7 @@ module _ (plan : Network) where
       ((w.1.0, (w.1.1.0, (w.1.1.1.0, w.1.1.1.1, picked_back plan.flows among here (λ f. AdmitsField f.modalities modality) x picks w.1.1.1.2))), w.0)
 
   -- ---- one cell
-  pub is_wanted : (site class : Text) (syntax : Syntax) (modality : OwnedField) (station : OwnedStation) (among : List ℕ) (cell : OwnedCell) (k : ℕ) (flow : Flow) →
+  pub is_wanted : (site class : Text) (syntax : Syntax) (modality : OwnedField) (station : OwnedField) (among : List ℕ) (cell : OwnedCell) (k : ℕ) (flow : Flow) →
       cell ≡ record { class = class; syntax = syntax; modality = modality; station = station } → IsCellOf plan (record { class = class; syntax = syntax; modality = modality; station = station }) →
       Contains among k → slice_get plan.flows k ≡ Some flow → FitsAll flow site class syntax modality station → WantsStation plan site class syntax modality station among site cell
   is_wanted site class syntax modality station among cell k flow same is has at fits =

@@ -3,44 +3,32 @@ use Rattle.std.specs.Prelude.{◌≡◌, ℕ, ◌<◌, ◌↔◌, ◌⊎◌, Lis
 use Rattle.dr_base.specs.Texts.{Text}
 use Rattle.dr_base.specs.declared.syntax.Syntax.{Syntax}
 use Rattle.dr_route.specs.declared.cell.OwnedField.{OwnedField}
-use Rattle.dr_route.specs.declared.cell.OwnedField.TheVariants.{Literal, Rest}
+use Rattle.dr_route.specs.declared.cell.OwnedField.TheVariants.{Literal, Prefix, Rest}
 use Rattle.dr_route.specs.declared.cell.OwnedCell.{OwnedCell}
 use Rattle.dr_route.specs.declared.cell.FieldValues.{FieldValues}
-use Rattle.dr_route.specs.declared.cell.OwnedStation.{OwnedStation}
-use Rattle.dr_route.specs.declared.cell.OwnedStation.TheVariants as station
-use Rattle.dr_route.specs.declared.cell.StationValues.{StationValues}
-use Rattle.dr_route.specs.Laws.{IsPart, IsStationPart}
+use Rattle.dr_route.specs.Laws.{IsPart}
 use Rattle.dr_plan_model.specs.Networks.{Network}
 use Rattle.dr_plan_model.specs.Laws.{IsCellOf}
 use Rattle.dr_plan_model.specs.Plans.{literals_of}
 use Rattle.dr_plan_model.specs.declared.plan.Flow.{Flow}
 use Rattle.dr_plan_model.specs.Walks.{BeginsOne}
-use Rattle.dr_plan_model.specs.declared.plan.Stations.{Stations}
-use Rattle.dr_plan_model.specs.declared.plan.Stations.TheVariants as stations
 use Rattle.dr_plan_model.specs.declared.plan.Values.{Values}
 use Rattle.dr_plan_model.specs.declared.plan.Values.TheVariants as values
-use Rattle.dr_plan_sound.specs.Printed.{printed_field, printed_station}
+use Rattle.dr_plan_sound.specs.Printed.{printed_field}
 use Rattle.dr_plan_entries.specs.InOrder.{IsInPrintedOrder}
-use Rattle.dr_plan_entries.specs.declared.stations.ShownStations.{ShownStations}
+use Rattle.dr_plan_entries.specs.declared.fields.ShownPart.{ShownPart}
 use Rattle.dr_plan_entries.specs.declared.narrow.Part.{Part}
 use Rattle.dr_plan_entries.specs.declared.narrow.Part.TheVariants as part
 
--- the values of a flow take in the part of the field: all of them do where any value will, else
--- only listed literals
+-- the values of a flow take in the part of the field: all of them do where any value will; else a
+-- literal is listed or begins with a listed prefix, and a prefix begins with a listed one, as all
+-- of its values then do
 abbrev pub AdmitsField : Values → OwnedField → Type 0
 AdmitsField values.Any field = Unit {0}
-AdmitsField (values.Listed texts) (Literal literal) = Contains texts literal
-AdmitsField (values.Listed texts) Rest = ⊥
-
--- the stations of a flow take in the part: all of them do where any value will; else a literal is
--- listed or begins with a listed prefix, and a prefix begins with a listed one, as all of its
--- values then do
-abbrev pub AdmitsStation : Stations → OwnedStation → Type 0
-AdmitsStation stations.Any part = Unit {0}
-AdmitsStation (stations.Listed values) (station.Literal literal) =
-    Contains values.literals literal ⊎ BeginsOne values.prefixes literal
-AdmitsStation (stations.Listed values) (station.Prefix prefix) = BeginsOne values.prefixes prefix
-AdmitsStation (stations.Listed values) station.Rest = ⊥
+AdmitsField (values.Listed own) (Literal literal) =
+    Contains own.literals literal ⊎ BeginsOne own.prefixes literal
+AdmitsField (values.Listed own) (Prefix prefix) = BeginsOne own.prefixes prefix
+AdmitsField (values.Listed own) Rest = ⊥
 
 -- the flow speaks of the value: the site, a class, a transfer syntax, or a part of modality or
 -- station
@@ -49,7 +37,7 @@ SpeaksOf flow (part.Site site) = flow.at ≡ site.now
 SpeaksOf flow (part.Class class) = Contains flow.classes class.now
 SpeaksOf flow (part.Syntax syntax) = Contains flow.syntaxes syntax
 SpeaksOf flow (part.Modality field) = AdmitsField flow.modalities field.now
-SpeaksOf flow (part.Station part) = AdmitsStation flow.stations part.now
+SpeaksOf flow (part.Station part) = AdmitsField flow.stations part.now
 
 -- the flow at that place of the list speaks of the value
 abbrev pub SpeaksAt : List Flow → ℕ → Part → Type 0
@@ -75,7 +63,7 @@ pub record TakesIn (flow : Flow) (cell : OwnedCell) : Type 0 where
   pub class : Contains flow.classes cell.class
   pub syntax : Contains flow.syntaxes cell.syntax
   pub modality : AdmitsField flow.modalities cell.modality
-  pub station : AdmitsStation flow.stations cell.station
+  pub station : AdmitsField flow.stations cell.station
 
 -- a flow at one of the places takes in the keys of the cell
 abbrev pub SomeTakes : List Flow → List ℕ → OwnedCell → Type 0
@@ -113,7 +101,7 @@ WantsModality plan site class syntax modality among s c =
     (c.modality ≡ modality) × WantsSyntax plan site class syntax among s c
 
 -- the entry at one site of one class, transfer syntax and parts of modality and station: one cell
-abbrev pub WantsStation : Network → Text → Text → Syntax → OwnedField → OwnedStation → List ℕ → Text
+abbrev pub WantsStation : Network → Text → Text → Syntax → OwnedField → OwnedField → List ℕ → Text
     → OwnedCell → Type 0
 WantsStation plan site class syntax modality station among s c =
     (c.station ≡ station) × WantsModality plan site class syntax modality among s c
@@ -121,33 +109,29 @@ WantsStation plan site class syntax modality station among s c =
 -- the part of the field is one of these literals
 abbrev pub IsLiteralOf : List Text → OwnedField → Type 0
 IsLiteralOf literals (Literal literal) = Contains literals literal
+IsLiteralOf literals (Prefix prefix) = ⊥
 IsLiteralOf literals Rest = ⊥
 
--- the list has just the parts of a field of the plan: its literals, and the rest
+-- the list has just the parts of a field of the plan: its literals, its prefixes, and the rest
 abbrev pub ArePartsOf : FieldValues → List OwnedField → Type 0
 ArePartsOf values fields = (field : OwnedField) → Contains fields field ↔ IsPart values field
 
--- the list has just the parts of the stations of the plan: its literals, its prefixes, and the rest
-abbrev pub AreStationParts : StationValues → List OwnedStation → Type 0
-AreStationParts values parts =
-    (part : OwnedStation) → Contains parts part ↔ IsStationPart values part
-
--- the part of the stations, without its text
-abbrev pub part_of : ShownStations → OwnedStation
+-- the part of the field, without its text
+abbrev pub part_of : ShownPart → OwnedField
 part_of shown = shown.part
 
 -- the text is the one by which the part is printed
-abbrev pub HasItsText : ShownStations → Type 0
-HasItsText shown = shown.text ≡ printed_station shown.part
+abbrev pub HasItsText : ShownPart → Type 0
+HasItsText shown = shown.text ≡ printed_field shown.part
 
 -- the two lists have just the parts of a plan's modality and of its station, in the order in which
 -- they are printed
-abbrev pub HasParts : Network → List OwnedField → List OwnedStation → Type 0
+abbrev pub HasParts : Network → List OwnedField → List OwnedField → Type 0
 HasParts plan modalities stations =
     ArePartsOf (literals_of plan).modalities modalities
-    × AreStationParts (literals_of plan).stations stations
+    × ArePartsOf (literals_of plan).stations stations
     × IsInPrintedOrder printed_field modalities
-    × IsInPrintedOrder printed_station stations
+    × IsInPrintedOrder printed_field stations
 
 -- each class of a flow at one of the places is in the row
 abbrev pub HasClasses : List Flow → List ℕ → List Text → Type 0
@@ -178,6 +162,6 @@ FitsModality flow site class syntax modality =
 
 -- the flow is at the site and takes in the class, the transfer syntax and the parts of modality and
 -- station
-abbrev pub FitsAll : Flow → Text → Text → Syntax → OwnedField → OwnedStation → Type 0
+abbrev pub FitsAll : Flow → Text → Text → Syntax → OwnedField → OwnedField → Type 0
 FitsAll flow site class syntax modality station =
-    AdmitsStation flow.stations station × FitsModality flow site class syntax modality
+    AdmitsField flow.stations station × FitsModality flow site class syntax modality

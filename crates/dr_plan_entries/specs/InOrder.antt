@@ -4,7 +4,7 @@ use Rattle.std.specs.declared.cmp.Ordering.TheVariants.{Less}
 use Rattle.dr_base.specs.Texts.{Text, text_cmp}
 use Rattle.dr_base.specs.Syntaxes.{syntax_uid}
 use Rattle.dr_route.specs.declared.cell.OwnedCell.{OwnedCell}
-use Rattle.dr_plan_sound.specs.Printed.{printed_field, printed_station}
+use Rattle.dr_plan_sound.specs.Printed.{printed_field}
 
 -- the one text is less than the other, byte by byte
 abbrev pub IsLess : Text → Text → Type 0
@@ -18,7 +18,7 @@ ComesBefore s c t d = IsLess s t ⊎ ((s ≡ t)
     × (IsLess c.class d.class ⊎ ((c.class ≡ d.class)
     × (IsLess (syntax_uid c.syntax) (syntax_uid d.syntax) ⊎ ((c.syntax ≡ d.syntax)
     × (IsLess (printed_field c.modality) (printed_field d.modality) ⊎ ((c.modality ≡ d.modality)
-    × IsLess (printed_station c.station) (printed_station d.station))))))))
+    × IsLess (printed_field c.station) (printed_field d.station))))))))
 
 -- the items stand in the byte order of what they are printed as: none is less than one that stands
 -- before it

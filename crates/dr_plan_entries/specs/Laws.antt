@@ -4,9 +4,7 @@ use Rattle.dr_base.specs.Texts.{Text}
 use Rattle.dr_base.specs.declared.syntax.Syntax.TheVariants.{Implicit, Explicit}
 use Rattle.dr_route.specs.declared.cell.OwnedCell.{OwnedCell}
 use Rattle.dr_route.specs.declared.cell.OwnedField.{OwnedField}
-use Rattle.dr_route.specs.declared.cell.OwnedField.TheVariants.{Literal, Rest}
-use Rattle.dr_route.specs.declared.cell.OwnedStation.{OwnedStation}
-use Rattle.dr_route.specs.declared.cell.OwnedStation.TheVariants as station
+use Rattle.dr_route.specs.declared.cell.OwnedField.TheVariants.{Literal, Prefix, Rest}
 use Rattle.dr_plan_model.specs.Networks.{Network}
 use Rattle.dr_plan_model.specs.Plans.{IsWellFormed}
 use Rattle.dr_plan_entries.specs.InOrder.{ComesBefore}
@@ -33,7 +31,7 @@ OneIsBefore =
 -- Implicit comes before Explicit, whatever the modalities and stations are
 abbrev pub ImplicitIsFirst : Type 0
 ImplicitIsFirst =
-    (site class : Text) (m n : OwnedField) (p q : OwnedStation)
+    (site class : Text) (m n : OwnedField) (p q : OwnedField)
     → ComesBefore site (record { class = class; syntax = Implicit; modality = m; station = p }) site
     (record { class = class; syntax = Explicit; modality = n; station = q })
 
@@ -41,7 +39,7 @@ ImplicitIsFirst =
 -- literal !
 abbrev pub RestIsAmongLiterals : Type 0
 RestIsAmongLiterals =
-    (site class : Text) (p q : OwnedStation)
+    (site class : Text) (p q : OwnedField)
     → ComesBefore site (record { class = class; syntax = Implicit; modality = Rest; station = p })
     site (record { class = class; syntax = Implicit; modality = Literal (codes "CT"); station = q })
     × (ComesBefore site (record { class = class; syntax = Implicit; modality = Rest; station = p })
@@ -57,24 +55,24 @@ PrefixIsAmongLiterals =
       class = class;
       syntax = Implicit;
       modality = m;
-      station = station.Literal (codes "CT");
+      station = Literal (codes "CT");
     }) site
     (record {
       class = class;
       syntax = Implicit;
       modality = m;
-      station = station.Prefix (codes "CT");
+      station = Prefix (codes "CT");
     })
     × ComesBefore site
     (record {
       class = class;
       syntax = Implicit;
       modality = m;
-      station = station.Prefix (codes "CT");
+      station = Prefix (codes "CT");
     }) site
     (record {
       class = class;
       syntax = Implicit;
       modality = m;
-      station = station.Literal (codes "CT1");
+      station = Literal (codes "CT1");
     })

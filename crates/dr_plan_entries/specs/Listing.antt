@@ -2,46 +2,47 @@
 use Rattle.std.specs.Prelude.{◌≡◌, ℕ, List, Contains, Some, slice_get}
 use Rattle.dr_base.specs.Texts.{Text, IsInByteOrder}
 use Rattle.dr_route.specs.declared.cell.OwnedField.{OwnedField}
-use Rattle.dr_route.specs.declared.cell.OwnedStation.{OwnedStation}
-use Rattle.dr_route.specs.declared.cell.OwnedStation.TheVariants as station
-use Rattle.dr_route.specs.Laws.{IsPart, IsStationPart}
+use Rattle.dr_route.specs.declared.cell.FieldValues.{FieldValues}
+use Rattle.dr_route.specs.Laws.{IsPart}
 use Rattle.dr_plan_model.specs.Networks.{Network}
 use Rattle.dr_plan_model.specs.Plans.{literals_of}
+use Rattle.dr_plan_model.specs.declared.listed.Listed.{Listed}
 use Rattle.dr_plan_model.specs.declared.plan.Flow.{Flow}
 use Rattle.dr_plan_model.specs.declared.plan.Values.{Values}
-use Rattle.dr_plan_model.specs.declared.plan.Stations.{Stations}
-use Rattle.dr_plan_model.specs.Naming.{listed, listed_stations}
-use Rattle.dr_plan_sound.specs.Printed.{printed_field, printed_station}
-use Rattle.dr_plan_entries.specs.Entering.{AdmitsField, AdmitsStation, IsLiteralOf}
+use Rattle.dr_plan_model.specs.Naming.{listed_literals}
+use Rattle.dr_plan_sound.specs.Printed.{printed_field}
+use Rattle.dr_plan_entries.specs.Entering.{AdmitsField, IsLiteralOf}
 use Rattle.dr_plan_entries.specs.InOrder.{IsInPrintedOrder}
 use Rattle.dr_plan_entries.specs.declared.rows.FlowSide.{FlowSide}
 use Rattle.dr_plan_entries.specs.declared.rows.FlowSide.TheVariants.{Modality, Station}
-
--- the part of the stations is one of these literals
-abbrev pub IsStationOf : List Text → OwnedStation → Type 0
-IsStationOf literals (station.Literal literal) = Contains literals literal
-IsStationOf literals (station.Prefix prefix) = ⊥
-IsStationOf literals station.Rest = ⊥
 
 -- the values take in these literals at most
 abbrev pub TakesListed : Values → List Text → Type 0
 TakesListed values literals =
     (field : OwnedField) → AdmitsField values field → IsLiteralOf literals field
 
--- the stations take in these literals at most
-abbrev pub TakesListedStations : Stations → List Text → Type 0
-TakesListedStations stations literals =
-    (part : OwnedStation) → AdmitsStation stations part → IsStationOf literals part
+-- what a flow says of the attribute
+abbrev pub values_of : FlowSide → Flow → Values
+values_of Modality flow = flow.modalities
+values_of Station flow = flow.stations
+
+-- what the plan names of the attribute
+abbrev pub named_of : FlowSide → Network → FieldValues
+named_of Modality plan = (literals_of plan).modalities
+named_of Station plan = (literals_of plan).stations
+
+-- the set of the single values that a flow lists of the attribute
+abbrev pub set_of : FlowSide → Listed → List Text
+set_of Modality sets = sets.modalities
+set_of Station sets = sets.stations
 
 -- the flow takes in these literals at most, of the one attribute
 abbrev pub TakesAtMost : FlowSide → Flow → List Text → Type 0
-TakesAtMost Modality flow literals = TakesListed flow.modalities literals
-TakesAtMost Station flow literals = TakesListedStations flow.stations literals
+TakesAtMost side flow literals = TakesListed (values_of side flow) literals
 
--- what the flow lists of the attribute
+-- the single values that the flow lists of the attribute
 abbrev pub listed_of : FlowSide → Flow → List Text
-listed_of Modality flow = listed flow.modalities
-listed_of Station flow = listed_stations flow.stations
+listed_of side flow = listed_literals (values_of side flow)
 
 -- the flow lists these literals, and takes in no others
 pub record TakesJust (side : FlowSide) (flow : Flow) (literals : List Text) : Type 0 where
@@ -64,26 +65,15 @@ pub record AreNamed (side : FlowSide) (flows : List Flow) (among : List ℕ)
       → TakesAtMost side flow literals
   pub ordered : IsInByteOrder literals
 
--- a row of parts of the plan's modalities, in the order in which they are printed, that has all
--- those that the flows at the places take in
-pub record IsFieldRow (plan : Network) (among : List ℕ) (row : List OwnedField) : Type 0 where
-  pub parts : (field : OwnedField) → Contains row field → IsPart (literals_of plan).modalities field
-  pub whole : (k : ℕ) (flow : Flow) (field : OwnedField)
+-- a row of parts of the plan's modalities, or of its stations, in the order in which they are
+-- printed, that has all those that the flows at the places take in
+pub record IsRow (side : FlowSide) (plan : Network) (among : List ℕ)
+    (row : List OwnedField) : Type 0 where
+  pub parts : (part : OwnedField) → Contains row part → IsPart (named_of side plan) part
+  pub whole : (k : ℕ) (flow : Flow) (part : OwnedField)
       → Contains among k
       → slice_get plan.flows k ≡ Some flow
-      → AdmitsField flow.modalities field
-      → IsPart (literals_of plan).modalities field
-      → Contains row field
-  pub ordered : IsInPrintedOrder printed_field row
-
--- the same of the stations
-pub record IsStationRow (plan : Network) (among : List ℕ) (row : List OwnedStation) : Type 0 where
-  pub parts : (part : OwnedStation) → Contains row part
-      → IsStationPart (literals_of plan).stations part
-  pub whole : (k : ℕ) (flow : Flow) (part : OwnedStation)
-      → Contains among k
-      → slice_get plan.flows k ≡ Some flow
-      → AdmitsStation flow.stations part
-      → IsStationPart (literals_of plan).stations part
+      → AdmitsField (values_of side flow) part
+      → IsPart (named_of side plan) part
       → Contains row part
-  pub ordered : IsInPrintedOrder printed_station row
+  pub ordered : IsInPrintedOrder printed_field row

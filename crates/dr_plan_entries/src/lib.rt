@@ -6,7 +6,6 @@ mod fields;
 pub mod laws;
 mod narrow;
 mod rows;
-mod stations;
 mod sweep;
 mod visit;
 

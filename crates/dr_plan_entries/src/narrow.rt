@@ -2,22 +2,21 @@
 ghost use Rattle.std.specs.Prelude.{◌≡◌, ◌↔◌, IsTrue, IfOk, MatchOption, Contains, Some, slice_get};
 ghost use Rattle.std.specs.Prelude.{ℕ, false};
 ghost use Rattle.dr_route.specs.declared.cell.OwnedField.{OwnedField as FieldValue};
-ghost use Rattle.dr_route.specs.declared.cell.OwnedStation.{OwnedStation as StationValue};
 ghost use Rattle.dr_route.specs.declared.cell.OwnedCell.{OwnedCell as CellValue};
 ghost use Rattle.dr_base.specs.Texts.{Text as Words, IsInByteOrder};
 ghost use Rattle.dr_plan_model.specs.declared.plan.Flow.{Flow as FlowValue};
-ghost use Rattle.dr_plan_model.specs.Naming.{listed as listed_by, listed_stations};
+ghost use Rattle.dr_plan_model.specs.Naming.{listed_literals};
 ghost use Rattle.dr_plan_model.specs.Listings.{IsListedBy, AreListedBy};
 ghost use Rattle.dr_route.specs.Cells.{owned_field};
-ghost use Rattle.dr_plan_entries.specs.Entering.{AdmitsField, AdmitsStation, SpeaksOf, SpeaksAt};
+ghost use Rattle.dr_plan_entries.specs.Entering.{AdmitsField, SpeaksOf, SpeaksAt};
 ghost use Rattle.dr_plan_entries.specs.Entering.{NoneSpeaks, TakesIn, AreNarrowed};
 ghost use Rattle.dr_plan_entries.specs.Entering.{AllBelow};
 
 use dr_base::{Syntax, Text};
 use dr_plan_model::sending::begins_one;
-use dr_plan_model::{Flow, Listed, Stations, Values};
+use dr_plan_model::{Flow, Listed, Values};
+use dr_route::OwnedField;
 use dr_route::names::is_in_set;
-use dr_route::{OwnedField, OwnedStation};
 use std::alloc::{AllocError, Global};
 
 /// One of the values that make a cell.
@@ -27,38 +26,25 @@ pub enum Part<'a> {
     Class(&'a Text),
     Syntax(Syntax),
     Modality(&'a OwnedField),
-    Station(&'a OwnedStation),
+    Station(&'a OwnedField),
 }
 
-/// Whether the flow's values take in the part of the field; what it lists is this set.
-fn admits(values: &Values, set: &[Text], field: &OwnedField) -> bool
-    requires same { (t : Words) → Contains set.now t ↔ Contains (listed_by values.now) t }
+/// Whether the flow's values take in the part of the field: a prefix is taken in where it begins
+/// with a listed one. The single values that it lists are this set.
+fn admits(values: &Values, set: &[Text], part: &OwnedField) -> bool
+    requires same { (t : Words) → Contains set.now t ↔ Contains (listed_literals values.now) t }
     requires ordered { IsInByteOrder set.now }
-    ensures { IsTrue result ↔ AdmitsField values.now field.now }
+    ensures { IsTrue result ↔ AdmitsField values.now part.now }
 {
-    match (values, field) {
-        (Values::Any, _) => true,
-        (Values::Listed(_), OwnedField::Literal(literal)) => is_in_set(set, literal),
-        (Values::Listed(_), OwnedField::Rest) => false,
-    }
-}
-
-/// Whether the flow's stations take in the part: a prefix is taken in where it begins with a listed
-/// one. The single stations that it lists are this set.
-fn admits_station(stations: &Stations, set: &[Text], part: &OwnedStation) -> bool
-    requires same { (t : Words) → Contains set.now t ↔ Contains (listed_stations stations.now) t }
-    requires ordered { IsInByteOrder set.now }
-    ensures { IsTrue result ↔ AdmitsStation stations.now part.now }
-{
-    let Stations::Listed(values) = stations else {
+    let Values::Listed(own) = values else {
         return true;
     };
     match part {
-        OwnedStation::Literal(literal) => {
-            is_in_set(set, literal) || begins_one(values.prefixes.as_slice(), literal)
+        OwnedField::Literal(literal) => {
+            is_in_set(set, literal) || begins_one(own.prefixes.as_slice(), literal)
         }
-        OwnedStation::Prefix(prefix) => begins_one(values.prefixes.as_slice(), prefix),
-        OwnedStation::Rest => false,
+        OwnedField::Prefix(prefix) => begins_one(own.prefixes.as_slice(), prefix),
+        OwnedField::Rest => false,
     }
 }
 
@@ -72,7 +58,7 @@ fn speaks_of(flow: &Flow, listed: &Listed, part: &Part<'_>) -> bool
         Part::Class(class) => flow.classes.as_slice().contains(class),
         Part::Syntax(syntax) => flow.syntaxes.as_slice().contains(syntax),
         Part::Modality(field) => admits(&flow.modalities, listed.modalities.as_slice(), field),
-        Part::Station(part) => admits_station(&flow.stations, listed.stations.as_slice(), part),
+        Part::Station(field) => admits(&flow.stations, listed.stations.as_slice(), field),
     }
 }
 
@@ -121,7 +107,7 @@ pub fn first_that_speaks(
 fn may_enter(flow: &Flow) -> bool
     ensures { result ≡ false → (cell : CellValue) → TakesIn flow.now cell → ⊥ }
 {
-    !is_empty(&flow.modalities) && !has_no_station(&flow.stations)
+    !is_empty(&flow.modalities) && !is_empty(&flow.stations)
 }
 
 /// Whether the values are a list of none.
@@ -130,17 +116,7 @@ fn is_empty(values: &Values) -> bool
 {
     match values {
         Values::Any => false,
-        Values::Listed(texts) => texts.is_empty(),
-    }
-}
-
-/// Whether the stations are a list of none.
-fn has_no_station(stations: &Stations) -> bool
-    ensures { IsTrue result → (part : StationValue) → AdmitsStation stations.now part → ⊥ }
-{
-    match stations {
-        Stations::Any => false,
-        Stations::Listed(values) => values.literals.is_empty() && values.prefixes.is_empty(),
+        Values::Listed(own) => own.literals.is_empty() && own.prefixes.is_empty(),
     }
 }
 

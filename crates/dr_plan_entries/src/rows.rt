@@ -2,19 +2,18 @@
 ghost use Rattle.std.specs.Prelude.{◌≡◌, ◌↔◌, ◌⊎◌, IsTrue, IfOk, OnOk, MatchOption, Contains, map};
 ghost use Rattle.dr_base.specs.Texts.{Text as Words};
 ghost use Rattle.dr_route.specs.declared.cell.OwnedField.TheVariants as part;
-ghost use Rattle.dr_route.specs.declared.cell.OwnedStation.TheVariants as station;
-ghost use Rattle.dr_plan_model.specs.Naming.{listed as listed_by, listed_stations};
+ghost use Rattle.dr_plan_model.specs.Naming.{listed_literals};
 ghost use Rattle.dr_plan_model.specs.Listings.{IsListedBy, AreListedBy};
 ghost use Rattle.dr_route.specs.Names.{HasName};
 ghost use Rattle.dr_plan_entries.specs.Entering.{AllBelow};
-ghost use Rattle.dr_plan_entries.specs.Listing.{TakesListed, TakesListedStations, TakesJust};
-ghost use Rattle.dr_plan_entries.specs.Listing.{AreNamed};
+ghost use Rattle.dr_plan_entries.specs.Listing.{TakesListed, TakesJust, AreNamed};
+ghost use Rattle.dr_plan_entries.specs.Listing.{values_of, set_of};
 
 use dr_base::same::are_same;
 use dr_base::{Seq, Text};
-use dr_plan_model::{Flow, Listed, Stations, Values};
+use dr_plan_model::{Flow, Listed, Values};
+use dr_route::OwnedField;
 use dr_route::names::{add_names, names_in_order};
-use dr_route::{OwnedField, OwnedStation};
 use std::alloc::{AllocError, Global};
 use std::collections::BTreeSet;
 
@@ -25,23 +24,33 @@ pub enum FlowSide {
     Station,
 }
 
-/// Whether the modalities are a list.
+/// Whether the values are a list without prefixes.
 fn is_list(values: &Values) -> bool
-    ensures { IsTrue result → TakesListed values.now (listed_by values.now) }
+    ensures { IsTrue result → TakesListed values.now (listed_literals values.now) }
 {
     match values {
         Values::Any => false,
-        Values::Listed(_) => true,
+        Values::Listed(own) => own.prefixes.is_empty(),
     }
 }
 
-/// Whether the stations are a list without prefixes.
-fn is_station_list(stations: &Stations) -> bool
-    ensures { IsTrue result → TakesListedStations stations.now (listed_stations stations.now) }
+/// What the flow says of it.
+fn said_of<'a>(flow: &'a Flow, side: FlowSide) -> &'a Values
+    ensures { result.now ≡ values_of side flow.now }
 {
-    match stations {
-        Stations::Any => false,
-        Stations::Listed(values) => values.prefixes.is_empty(),
+    match side {
+        FlowSide::Modality => &flow.modalities,
+        FlowSide::Station => &flow.stations,
+    }
+}
+
+/// The set of the single values that the flow lists of it.
+fn listed_of<'a>(listed: &'a Listed, side: FlowSide) -> &'a [Text]
+    ensures { result.now ≡ set_of side listed.now }
+{
+    match side {
+        FlowSide::Modality => listed.modalities.as_slice(),
+        FlowSide::Station => listed.stations.as_slice(),
     }
 }
 
@@ -50,20 +59,10 @@ fn listed_alone<'a>(flow: &Flow, listed: &'a Listed, side: FlowSide) -> Option<&
     requires { IsListedBy flow.now listed.now }
     ensures { MatchOption result (Unit {0}) (λ texts. TakesJust side flow.now texts.now) }
 {
-    match side {
-        FlowSide::Modality => {
-            if is_list(&flow.modalities) {
-                return Some(listed.modalities.as_slice());
-            }
-            None
-        }
-        FlowSide::Station => {
-            if is_station_list(&flow.stations) {
-                return Some(listed.stations.as_slice());
-            }
-            None
-        }
+    if is_list(said_of(flow, side)) {
+        return Some(listed_of(listed, side));
     }
+    None
 }
 
 /// Adds the texts to the names, unless they are the last ones, which are there already.
@@ -111,26 +110,14 @@ pub fn names_in(
     Ok(Some(names))
 }
 
-/// The parts of modality that these literals are.
-pub fn fields_from(alloc: Global, literals: Seq<Text>) -> Result<Vec<OwnedField>, AllocError>
+/// The parts of a field that these literals are.
+pub fn parts_from(alloc: Global, literals: Seq<Text>) -> Result<Vec<OwnedField>, AllocError>
     ensures { IfOk result (λ v. v.items ≡ map (λ l. part.Literal l) literals) }
 {
-    let fields: Vec<OwnedField> = literals
+    let parts: Vec<OwnedField> = literals
         .into_vec()
         .into_iter()
         .map(|literal| OwnedField::Literal(literal))
         .collect(alloc)?;
-    Ok(fields)
-}
-
-/// The parts of station that these literals are.
-pub fn stations_from(alloc: Global, literals: Seq<Text>) -> Result<Vec<OwnedStation>, AllocError>
-    ensures { IfOk result (λ v. v.items ≡ map (λ l. station.Literal l) literals) }
-{
-    let stations: Vec<OwnedStation> = literals
-        .into_vec()
-        .into_iter()
-        .map(|literal| OwnedStation::Literal(literal))
-        .collect(alloc)?;
-    Ok(stations)
+    Ok(parts)
 }

@@ -2,25 +2,25 @@
 ghost use Rattle.std.specs.Prelude.{◌≡◌, ◌↔◌, ◌<◌, IfOk, Contains, ℕ, Some, slice_get, length};
 ghost use Rattle.dr_base.specs.Texts.{Text as Words, IsInByteOrder};
 ghost use Rattle.dr_plan_model.specs.Plans.{IsWellFormed, literals_of};
-ghost use Rattle.dr_route.specs.Laws.{IsPart, IsStationPart};
+ghost use Rattle.dr_route.specs.Laws.{IsPart};
 ghost use Rattle.dr_plan_model.specs.declared.plan.Flow.{Flow as FlowValue};
 ghost use Rattle.dr_plan_entries.specs.Entering.{AllBelow, EachSpeaks, HasParts};
 ghost use Rattle.dr_plan_entries.specs.Entering.{HasClasses, HasSites, FitsAll, FitsClass};
 ghost use Rattle.dr_plan_entries.specs.Entering.{FitsModality, FitsSyntax, WantsSite, WantsClass};
 ghost use Rattle.dr_plan_entries.specs.Entering.{WantsSyntax, WantsModality, WantsStation};
-ghost use Rattle.dr_plan_entries.specs.Listing.{IsFieldRow, IsStationRow};
+ghost use Rattle.dr_plan_entries.specs.Listing.{IsRow};
+ghost use Rattle.dr_plan_entries.specs.declared.rows.FlowSide.TheVariants.{Modality, Station};
 ghost use Rattle.dr_plan_entries.specs.Visiting.{AfterVisits, IsEntryCell};
 
 use crate::fields::parts_of;
 use crate::narrow::{Part, first_that_speaks, narrowed, places_of};
-use crate::rows::{FlowSide, fields_from, names_in, stations_from};
-use crate::stations::stations_of;
+use crate::rows::{FlowSide, names_in, parts_from};
 use crate::visit::EntryVisitor;
 use dr_base::{Seq, Syntax, Text};
 use dr_plan_model::literals::literals;
 use dr_plan_model::{Flow, Plan};
 use dr_route::names::{add_names, names_in_order};
-use dr_route::{OwnedCell, OwnedField, OwnedStation};
+use dr_route::{OwnedCell, OwnedField};
 use std::alloc::{AllocError, Global};
 use std::collections::BTreeSet;
 use std::slice;
@@ -31,7 +31,7 @@ struct EntrySweep<'a> {
     alloc: Global,
     plan: &'a Plan,
     modalities: Seq<OwnedField>,
-    stations: Seq<OwnedStation>,
+    stations: Seq<OwnedField>,
 }
 
 /// Where images enter a plan, and in which class and transfer syntax they do.
@@ -74,7 +74,7 @@ fn cell_from(
     class: &Text,
     syntax: Syntax,
     modality: &OwnedField,
-    station: &OwnedStation,
+    station: &OwnedField,
 ) -> Result<OwnedCell, AllocError>
     ensures { IfOk result (λ c. c
         ≡ record {
@@ -92,7 +92,7 @@ fn cell_from(
     })
 }
 
-fn copy_stations(stations: &Seq<OwnedStation>) -> Result<Seq<OwnedStation>, AllocError>
+fn copy_stations(stations: &Seq<OwnedField>) -> Result<Seq<OwnedField>, AllocError>
     ensures { IfOk result (λ copy. copy ≡ stations.now) }
 {
     let copy = stations.clone()?;
@@ -102,10 +102,10 @@ fn copy_stations(stations: &Seq<OwnedStation>) -> Result<Seq<OwnedStation>, Allo
 impl<'a> EntrySweep<'a> {
     /// The stations that the flows at the places list, where they take in no others, and else all
     /// that the plan names.
-    fn stations_for(&self, among: &[usize]) -> Result<Seq<OwnedStation>, AllocError>
+    fn stations_for(&self, among: &[usize]) -> Result<Seq<OwnedField>, AllocError>
         requires parts { HasParts self.now.plan.now self.now.modalities self.now.stations }
         requires below { AllBelow among.now self.now.plan.now.flows }
-        ensures { IfOk result (IsStationRow self.now.plan.now among.now) }
+        ensures { IfOk result (IsRow Station self.now.plan.now among.now) }
     {
         let named = names_in(
             self.alloc,
@@ -118,7 +118,7 @@ impl<'a> EntrySweep<'a> {
             let all = copy_stations(&self.stations)?;
             return Ok(all);
         };
-        let row = stations_from(self.alloc, names)?;
+        let row = parts_from(self.alloc, names)?;
         Ok(Seq::from_vec(row))
     }
 
@@ -128,13 +128,13 @@ impl<'a> EntrySweep<'a> {
         visitor: &mut V,
         entrance: &Entrance<'_>,
         modality: &OwnedField,
-        station: &OwnedStation,
+        station: &OwnedField,
         among: &[usize],
     ) -> Result<Option<V::Finding>, AllocError>
         requires plan { V.plan visitor.old ≡ self.now.plan.now }
         requires ready { V.is_ready visitor.old }
         requires modality_part { IsPart (literals_of self.now.plan.now).modalities modality.now }
-        requires station_part { IsStationPart (literals_of self.now.plan.now).stations station.now }
+        requires station_part { IsPart (literals_of self.now.plan.now).stations station.now }
         requires fit { (flow : FlowValue) → (k : ℕ) → Contains among.now k
             → slice_get self.now.plan.now.flows k ≡ Some flow
             → FitsModality flow entrance.now.site.now entrance.now.class.now entrance.now.syntax
@@ -160,13 +160,13 @@ impl<'a> EntrySweep<'a> {
         visitor: &mut V,
         entrance: &Entrance<'_>,
         modality: &OwnedField,
-        row: &[OwnedStation],
+        row: &[OwnedField],
         among: &[usize],
     ) -> Result<Option<V::Finding>, AllocError>
         requires plan { V.plan visitor.old ≡ self.now.plan.now }
         requires ready { V.is_ready visitor.old }
         requires modality_part { IsPart (literals_of self.now.plan.now).modalities modality.now }
-        requires row { IsStationRow self.now.plan.now among.now row.now }
+        requires row { IsRow Station self.now.plan.now among.now row.now }
         requires fit { (flow : FlowValue) → (k : ℕ) → Contains among.now k
             → slice_get self.now.plan.now.flows k ≡ Some flow
             → FitsModality flow entrance.now.site.now entrance.now.class.now entrance.now.syntax
@@ -221,7 +221,7 @@ impl<'a> EntrySweep<'a> {
             let found = self.visit_stations(visitor, entrance, modality, all, among)?;
             return Ok(found);
         };
-        let row = stations_from(self.alloc, names)?;
+        let row = parts_from(self.alloc, names)?;
         let listed = row.as_slice();
         let found = self.visit_stations(visitor, entrance, modality, listed, among)?;
         Ok(found)
@@ -234,7 +234,7 @@ impl<'a> EntrySweep<'a> {
         visitor: &mut V,
         entrance: &Entrance<'_>,
         modality: &OwnedField,
-        row: &[OwnedStation],
+        row: &[OwnedField],
         among: &[usize],
         are_all: bool,
     ) -> Result<Option<V::Finding>, AllocError>
@@ -242,7 +242,7 @@ impl<'a> EntrySweep<'a> {
         requires ready { V.is_ready visitor.old }
         requires parts { HasParts self.now.plan.now self.now.modalities self.now.stations }
         requires modality_part { IsPart (literals_of self.now.plan.now).modalities modality.now }
-        requires row { IsStationRow self.now.plan.now among.now row.now }
+        requires row { IsRow Station self.now.plan.now among.now row.now }
         requires fit { (flow : FlowValue) → (k : ℕ) → Contains among.now k
             → slice_get self.now.plan.now.flows k ≡ Some flow
             → FitsModality flow entrance.now.site.now entrance.now.class.now entrance.now.syntax
@@ -268,14 +268,14 @@ impl<'a> EntrySweep<'a> {
         visitor: &mut V,
         entrance: &Entrance<'_>,
         row: &[OwnedField],
-        stations: &[OwnedStation],
+        stations: &[OwnedField],
         among: &[usize],
     ) -> Result<Option<V::Finding>, AllocError>
         requires plan { V.plan visitor.old ≡ self.now.plan.now }
         requires ready { V.is_ready visitor.old }
         requires parts { HasParts self.now.plan.now self.now.modalities self.now.stations }
-        requires row { IsFieldRow self.now.plan.now among.now row.now }
-        requires stations { IsStationRow self.now.plan.now among.now stations.now }
+        requires row { IsRow Modality self.now.plan.now among.now row.now }
+        requires stations { IsRow Station self.now.plan.now among.now stations.now }
         requires fit { (flow : FlowValue) → (k : ℕ) → Contains among.now k
             → slice_get self.now.plan.now.flows k ≡ Some flow
             → FitsSyntax flow entrance.now.site.now entrance.now.class.now entrance.now.syntax }
@@ -338,7 +338,7 @@ impl<'a> EntrySweep<'a> {
             let found = self.visit_modalities(visitor, entrance, all, stations, among)?;
             return Ok(found);
         };
-        let row = fields_from(self.alloc, names)?;
+        let row = parts_from(self.alloc, names)?;
         let listed = row.as_slice();
         let found = self.visit_modalities(visitor, entrance, listed, stations, among)?;
         Ok(found)
@@ -493,7 +493,7 @@ pub fn visit_entries<V: EntryVisitor>(
         alloc,
         plan,
         modalities: parts_of(alloc, &literals.modalities)?,
-        stations: stations_of(alloc, &literals.stations)?,
+        stations: parts_of(alloc, &literals.stations)?,
     };
     let found = sweep.visit_all(visitor)?;
     Ok(found)

@@ -12,15 +12,15 @@ use Rattle.dr_base.specs.Texts.{Text}
 use Rattle.dr_route.specs.declared.rule.Rule.{Rule}
 use Rattle.dr_route.specs.declared.rule.Pattern.{Pattern}
 use Rattle.dr_route.specs.declared.rule.Pattern.TheVariants.{Literal}
-use Rattle.dr_plan_model.specs.declared.plan.Values.{Values}
-use Rattle.dr_plan_model.specs.declared.plan.Values.TheVariants as values
+use Rattle.dr_plan_expand.specs.declared.short.AnyWords.{AnyWords}
+use Rattle.dr_plan_expand.specs.declared.short.AnyWords.TheVariants as any
 use Rattle.dr_plan_text.specs.declared.words.NodeText.{NodeText}
 use Rattle.dr_plan_text.specs.declared.words.FlowText.{FlowText}
 use Rattle.dr_plan_text.specs.declared.words.PlanText.{PlanText}
 use Rattle.dr_plan_expand.specs.Lists.{Yields}
 use Rattle.dr_plan_expand.specs.Words.{Known, OfSet, Defines, IsPlainWord, IsSet, YieldsClass, YieldsOfSet, YieldsClasses, YieldsNodes}
 use Rattle.dr_plan_expand.specs.Meanings.{Lookups, lookups_of, ArePatterns, YieldsRules, YieldsNode, YieldsFlows, Means, rule_of, node_of, flow_of}
-use Rattle.dr_plan_expand.specs.Amounts.{most, too_much, list_amount, defined_size, one_if_in, usual_size, marked_size, word_size, word_nodes, word_classes, words_size, values_size, rule_size, node_size, lists_size, flow_size, IsWithin}
+use Rattle.dr_plan_expand.specs.Amounts.{most, too_much, list_amount, defined_size, one_if_in, usual_size, marked_size, word_size, word_nodes, word_classes, words_size, any_size, rule_size, node_size, lists_size, flow_size, IsWithin}
 use Rattle.dr_plan_expand.specs.Laws.{rule_count}
 use Rattle.dr_plan_expand.specs.declared.short.Definition.{Definition}
 use Rattle.dr_plan_expand.specs.declared.short.ShortRule.{ShortRule}
@@ -129,9 +129,9 @@ classes_within tables usual sets word uids y = word_within (λ name. defined_siz
     (λ plain. elim y [ inl set ↦ absurd (plain set.0 set.1) | inr itself ↦ no_more _ _ (ap length itself.1.2) ])
 
 patterns_within : (Of : Text → List Text → Type 0) (size : Text → ℕ) → ((word : Text) (here : List Text) → Of word here → size word ≤ 1024 → length here ≤ size word) →
-    (field : Values) (patterns : List Pattern) → ArePatterns Of field patterns → values_size size field ≤ most → length patterns ≤ values_size size field
-patterns_within Of size each values.Any patterns are le = no_more _ _ (ap length are)
-patterns_within Of size each (values.Listed words) patterns are le =
+    (field : AnyWords) (patterns : List Pattern) → ArePatterns Of field patterns → any_size size field ≤ most → length patterns ≤ any_size size field
+patterns_within Of size each any.Any patterns are le = no_more _ _ (ap length are)
+patterns_within Of size each (any.Listed words) patterns are le =
     let long : length patterns ≡ length are.0 = ap length are.2 ∙ length-map are.0 Literal in
     let less = words_within Of size each words are.0 are.1 le in
     omega arith
@@ -172,7 +172,7 @@ module _ (l : Lookups) where
   rules_within rule rules y le =
       let long : length rules ≡ length y.froms * length y.classes =
       ap length y.are ∙ flat_long (λ from. map (rule_of rule y.to from) y.classes) (length y.classes) (λ from. length-map y.classes (rule_of rule y.to from)) y.froms in
-      let less = volume (length y.froms) (length y.classes) (values_size (word_nodes l.groups) rule.from) (values_size (word_classes l.usual l.sets) rule.classes)
+      let less = volume (length y.froms) (length y.classes) (any_size (word_nodes l.groups) rule.from) (any_size (word_classes l.usual l.sets) rule.classes)
       (1 + words_size (word_nodes l.groups) rule.to) (omega arith)
       (patterns_within (YieldsNodes l.groups) (word_nodes l.groups) (nodes_within l.groups) rule.from y.froms y.each_caller)
       (patterns_within (YieldsClasses l.classes l.usual l.sets) (word_classes l.usual l.sets) (classes_within l.classes l.usual l.sets) rule.classes y.classes y.each_class) le in

@@ -4,12 +4,12 @@ use Rattle.std.specs.Prelude.{Result, IfOk, IfErr}
 use Rattle.std.proofs.lemmas.Option.{none-some, same_Some}
 use Rattle.toml.specs.Data.{Data, string, integer, float, boolean, datetime, array, table, as_str}
 use Rattle.dr_base.specs.Texts.{Text}
-use Rattle.dr_plan_model.specs.declared.plan.Values.{Values}
-use Rattle.dr_plan_model.specs.declared.plan.Values.TheVariants as values
 use Rattle.dr_plan_text.specs.Fields.{SaysText, IsSomeOf, star}
 use Rattle.dr_plan_text.specs.declared.fault.ReadFault.{ReadFault}
 use Rattle.dr_plan_text.specs.declared.fault.ReadFault.TheVariants.{Field}
 use Rattle.dr_plan_expand.specs.Fields.{SaysWords, SaysAnyWords}
+use Rattle.dr_plan_expand.specs.declared.short.AnyWords.{AnyWords}
+use Rattle.dr_plan_expand.specs.declared.short.AnyWords.TheVariants as any
 
 -- a list of words says them
 pub listed_words : (d : Data) (r : Result (List Text) ReadFault) → IfOk r (IsSomeOf SaysText d) → IfOk r (SaysWords d)
@@ -28,9 +28,9 @@ pub no_words : (d : Data) (r : Result (List Text) ReadFault) → None ≡ as_str
 no_words d (Ok words) no_text h = tt
 no_words d (Err e) no_text h = λ is words. no_word d words no_text (h is words)
 
-pub no_any_words : (d : Data) → (d ≡ star → ⊥) → ((words : List Text) → SaysWords d words → ⊥) → (x : Values) → SaysAnyWords d x → ⊥
-no_any_words d no_star none values.Any says = no_star says
-no_any_words d no_star none (values.Listed words) says = none words says.1
+pub no_any_words : (d : Data) → (d ≡ star → ⊥) → ((words : List Text) → SaysWords d words → ⊥) → (x : AnyWords) → SaysAnyWords d x → ⊥
+no_any_words d no_star none any.Any says = no_star says
+no_any_words d no_star none (any.Listed words) says = none words says.1
 
 -- a value with this text is that text
 pub text_of : (d : Data) (text : Text) → Some text ≡ as_str d → d ≡ string text

@@ -1,29 +1,32 @@
 -- Tables of format 3 say one thing each, and a plan means one plan.
-use Rattle.std.proofs.Common.{◌≡◌, refl, sym, ◌∙◌, ap, subst, inl, inr, List, [], ◌∷◌, Option, Some, None, flat_map, map}
-use Rattle.toml.specs.Data.{Data, string, integer, boolean, array, table, Members, no_members, member}
+use Rattle.std.proofs.Common.{◌≡◌, refl, sym, ◌∙◌, ap, subst, inl, inr, List, [], ◌∷◌, Option, Some, None, flat_map, map, true, codes}
+use Rattle.toml.specs.Data.{Data, string, integer, boolean, array, table, Members, no_members, member, get_member}
 use Rattle.dr_base.specs.Texts.{Text}
 use Rattle.dr_route.specs.declared.rule.Rule.{Rule}
 use Rattle.dr_route.specs.declared.rule.Pattern.{Pattern}
 use Rattle.dr_route.specs.declared.rule.Pattern.TheVariants.{Any, Literal}
-use Rattle.dr_route.specs.declared.rule.StationPattern.TheVariants as station
+use Rattle.dr_route.specs.declared.rule.FieldPattern.TheVariants as field
 use Rattle.dr_route.specs.declared.accept.Callers.{Callers}
 use Rattle.dr_route.specs.declared.accept.Callers.TheVariants as callers
-use Rattle.dr_plan_model.specs.declared.plan.Values.{Values}
-use Rattle.dr_plan_model.specs.declared.plan.Values.TheVariants as values
-use Rattle.dr_plan_model.specs.Formed.{IsLiteral, IsAddress}
+use Rattle.dr_plan_model.specs.Listening.{MayAccept}
+use Rattle.dr_plan_model.specs.declared.listens.Listens.{Listens}
+use Rattle.dr_plan_text.specs.Listening.{IsListens}
+use Rattle.dr_plan_text.proofs.Listened.{IsListens-one}
 use Rattle.dr_plan_text.specs.declared.words.AcceptText.{AcceptText}
 use Rattle.dr_plan_text.specs.declared.words.NodeText.{NodeText}
 use Rattle.dr_plan_text.specs.declared.words.FlowText.{FlowText}
 use Rattle.dr_plan_text.specs.declared.words.PlanText.{PlanText}
-use Rattle.dr_plan_text.specs.Fields.{SaysText, SaysFormed, SaysNumber, SaysFlag, SaysPattern, SaysStation, SaysValues, SaysStations, SaysCallers, SaysTextsOnce, SaysTable, IsListOf, IsSomeOf, GivenOr, star}
+use Rattle.dr_plan_text.specs.Fields.{SaysText, SaysFormed, SaysNumber, SaysFlag, SaysField, SaysValues, SaysCallers, SaysTextsOnce, SaysTable, IsListOf, IsSomeOf, GivenOr, star}
 use Rattle.dr_plan_text.proofs.OneAnswer.{SaysOne, SaysText-one, SaysFormed-one, IsListOf-one, IsSomeOf-one, Given-one}
-use Rattle.dr_plan_text.proofs.OfStations.{SaysStation-one, SaysStations-one}
+use Rattle.dr_plan_text.proofs.OfValues.{SaysField-one, SaysValues-one}
 use Rattle.dr_plan_expand.specs.Words.{IsPlainWord, YieldsClasses, YieldsNodes, YieldsSyntax}
 use Rattle.dr_plan_expand.specs.Fields.{SaysWords, SaysAnyWords, AreDefinitions}
 use Rattle.dr_plan_expand.specs.Tables.{IsShortRow, IsShortRule, IsShortNode, IsShortFlow, IsShortPlan}
 use Rattle.dr_plan_expand.specs.Meanings.{Lookups, IsCallers, ArePatterns, YieldsRows, YieldsRules, YieldsNode, YieldsFlows, Means, lookups_of, row_of, rule_of, flow_of}
 use Rattle.dr_plan_expand.specs.Spelling.{plan_text}
 use Rattle.dr_plan_expand.specs.Expanding.{StandsFor}
+use Rattle.dr_plan_expand.specs.declared.short.AnyWords.{AnyWords}
+use Rattle.dr_plan_expand.specs.declared.short.AnyWords.TheVariants as any
 use Rattle.dr_plan_expand.specs.declared.short.Definition.{Definition}
 use Rattle.dr_plan_expand.specs.declared.short.ShortRow.{ShortRow}
 use Rattle.dr_plan_expand.specs.declared.short.ShortRule.{ShortRule}
@@ -40,20 +43,8 @@ SaysNumber-one d x y a b = let same : integer x ≡ integer y = sym a ∙ b in c
 SaysFlag-one : SaysOne SaysFlag
 SaysFlag-one d x y a b = let same : boolean x ≡ boolean y = sym a ∙ b in cc
 
-SaysPattern-one : (Says : Data → Text → Type 0) → SaysOne Says → SaysOne (SaysPattern Says)
-SaysPattern-one Says one d Any Any a b = refl
-SaysPattern-one Says one d Any (Literal y) a b = absurd (b.0 a)
-SaysPattern-one Says one d (Literal x) Any a b = absurd (a.0 b)
-SaysPattern-one Says one d (Literal x) (Literal y) a b = ap Literal (one d x y a.1 b.1)
-
 SaysTextsOnce-one : SaysOne SaysTextsOnce
 SaysTextsOnce-one d xs ys a b = IsSomeOf-one SaysText SaysText-one d xs ys a.0 b.0
-
-SaysValues-one : SaysOne SaysValues
-SaysValues-one d values.Any values.Any a b = refl
-SaysValues-one d values.Any (values.Listed ys) a b = absurd (let both : star ≡ array b.0 = sym a ∙ b.1 in cc)
-SaysValues-one d (values.Listed xs) values.Any a b = absurd (let both : star ≡ array a.0 = sym b ∙ a.1 in cc)
-SaysValues-one d (values.Listed xs) (values.Listed ys) a b = ap values.Listed (IsListOf-one (SaysFormed IsLiteral) (SaysFormed-one IsLiteral) d xs ys a b)
 
 SaysCallers-one : SaysOne SaysCallers
 SaysCallers-one d callers.Any callers.Any a b = refl
@@ -74,10 +65,10 @@ SaysWords-one d xs ys a b = elim a [
 ]
 
 SaysAnyWords-one : SaysOne SaysAnyWords
-SaysAnyWords-one d values.Any values.Any a b = refl
-SaysAnyWords-one d values.Any (values.Listed ys) a b = absurd (b.0 a)
-SaysAnyWords-one d (values.Listed xs) values.Any a b = absurd (a.0 b)
-SaysAnyWords-one d (values.Listed xs) (values.Listed ys) a b = ap values.Listed (SaysWords-one d xs ys a.1 b.1)
+SaysAnyWords-one d any.Any any.Any a b = refl
+SaysAnyWords-one d any.Any (any.Listed ys) a b = absurd (b.0 a)
+SaysAnyWords-one d (any.Listed xs) any.Any a b = absurd (a.0 b)
+SaysAnyWords-one d (any.Listed xs) (any.Listed ys) a b = ap any.Listed (SaysWords-one d xs ys a.1 b.1)
 
 GivenOr-one : {X : Type 0} (default : X) (Says : Data → X → Type 0) → SaysOne Says → (field : Option Data) (x y : X) → GivenOr default Says field x → GivenOr default Says field y → x ≡ y
 GivenOr-one default Says one None x y a b = a ∙ sym b
@@ -109,10 +100,10 @@ row_one fields x y a b =
 
 rule_one : (fields : Members) (x y : ShortRule) → IsShortRule fields x → IsShortRule fields y → x ≡ y
 rule_one fields x y a b =
-    let from = GivenOr-one values.Any SaysAnyWords SaysAnyWords-one _ x.from y.from a.from b.from in
-    let classes = GivenOr-one values.Any SaysAnyWords SaysAnyWords-one _ x.classes y.classes a.class b.class in
-    let modality = GivenOr-one Any (SaysPattern (SaysFormed IsLiteral)) (SaysPattern-one (SaysFormed IsLiteral) (SaysFormed-one IsLiteral)) _ x.modality y.modality a.modality b.modality in
-    let station = GivenOr-one station.Any SaysStation SaysStation-one _ x.station y.station a.station b.station in
+    let from = GivenOr-one any.Any SaysAnyWords SaysAnyWords-one _ x.from y.from a.from b.from in
+    let classes = GivenOr-one any.Any SaysAnyWords SaysAnyWords-one _ x.classes y.classes a.class b.class in
+    let modality = GivenOr-one field.Any SaysField SaysField-one _ x.modality y.modality a.modality b.modality in
+    let station = GivenOr-one field.Any SaysField SaysField-one _ x.station y.station a.station b.station in
     let to = GivenOr-one [] (IsListOf SaysText) (IsListOf-one SaysText SaysText-one) _ x.to y.to a.to b.to in
     let keep = GivenOr-one _ SaysFlag SaysFlag-one _ x.keep y.keep a.keep b.keep in
     λ i. record { from = from i; classes = classes i; modality = modality i; station = station i; to = to i; keep = keep i }
@@ -120,11 +111,19 @@ rule_one fields x y a b =
 node_one : (fields : Members) (x y : ShortNode) → IsShortNode fields x → IsShortNode fields y → x ≡ y
 node_one fields x y a b =
     let name = Given-one (SaysFormed IsPlainWord) (SaysFormed-one IsPlainWord) _ x.name y.name a.name b.name in
-    let address = Given-one (SaysFormed IsAddress) (SaysFormed-one IsAddress) _ x.address y.address a.address b.address in
+    let listens = IsListens-one true fields x.listens y.listens a.listens b.listens in
     let max_pdu = GivenOr-one _ SaysNumber SaysNumber-one _ x.max_pdu y.max_pdu a.max_pdu b.max_pdu in
     let accepts = GivenOr-one [] (IsListOf (SaysTable IsShortRow)) (IsListOf-one (SaysTable IsShortRow) (SaysTable-one IsShortRow row_one)) _ x.accepts y.accepts a.accept b.accept in
     let rules = GivenOr-one [] (IsListOf (SaysTable IsShortRule)) (IsListOf-one (SaysTable IsShortRule) (SaysTable-one IsShortRule rule_one)) _ x.rules y.rules a.rule b.rule in
-    λ i. record { name = name i; address = address i; max_pdu = max_pdu i; accepts = accepts i; rules = rules i }
+    λ i. record { name = name i; listens = listens i; max_pdu = max_pdu i; accepts = accepts i; rules = rules i }
+
+-- where a node that listens nowhere has accept rows, the table says no node
+pub no_rows : (fields : Members) (listens : Listens) (accepts : List ShortRow) → IsListens true fields listens
+    → GivenOr [] (IsListOf (SaysTable IsShortRow)) (get_member (codes "accept") fields) accepts → (MayAccept listens accepts → ⊥) → (x : ShortNode) → IsShortNode fields x → ⊥
+no_rows fields listens accepts where_it rows may_not x is =
+    let same_place = IsListens-one true fields x.listens listens is.listens where_it in
+    let same_rows = GivenOr-one [] (IsListOf (SaysTable IsShortRow)) (IsListOf-one (SaysTable IsShortRow) (SaysTable-one IsShortRow row_one)) _ x.accepts accepts is.accept rows in
+    may_not (subst (λ (l : Listens). MayAccept l accepts) same_place (subst (λ (r : List ShortRow). MayAccept x.listens r) same_rows is.may_accept))
 
 flow_one : (fields : Members) (x y : ShortFlow) → IsShortFlow fields x → IsShortFlow fields y → x ≡ y
 flow_one fields x y a b =
@@ -133,7 +132,7 @@ flow_one fields x y a b =
     let classes = Given-one SaysWords SaysWords-one _ x.classes y.classes a.class b.class in
     let syntaxes = Given-one (IsSomeOf SaysText) (IsSomeOf-one SaysText SaysText-one) _ x.syntaxes y.syntaxes a.syntax b.syntax in
     let modalities = Given-one SaysValues SaysValues-one _ x.modalities y.modalities a.modality b.modality in
-    let stations = Given-one SaysStations SaysStations-one _ x.stations y.stations a.station b.station in
+    let stations = Given-one SaysValues SaysValues-one _ x.stations y.stations a.station b.station in
     λ i. record { at = at i; to = to i; classes = classes i; syntaxes = syntaxes i; modalities = modalities i; stations = stations i }
 
 pub short_one : (fields : Members) (x y : ShortPlan) → IsShortPlan fields x → IsShortPlan fields y → x ≡ y
@@ -148,9 +147,9 @@ callers_one : (groups : List Definition) (from x y : Callers) → IsCallers grou
 callers_one groups callers.Any x y a b = a ∙ sym b
 callers_one groups (callers.Listed words) x y a b = a.2 ∙ (ap callers.Listed (yields_one (YieldsNodes groups) (nodes_one groups) words a.0 b.0 a.1 b.1) ∙ sym b.2)
 
-patterns_one : (Of : Text → List Text → Type 0) → ((w : Text) (a b : List Text) → Of w a → Of w b → a ≡ b) → (words : Values) (x y : List Pattern) → ArePatterns Of words x → ArePatterns Of words y → x ≡ y
-patterns_one Of one values.Any x y a b = a ∙ sym b
-patterns_one Of one (values.Listed words) x y a b = a.2 ∙ (ap (map Literal) (yields_one Of one words a.0 b.0 a.1 b.1) ∙ sym b.2)
+patterns_one : (Of : Text → List Text → Type 0) → ((w : Text) (a b : List Text) → Of w a → Of w b → a ≡ b) → (words : AnyWords) (x y : List Pattern) → ArePatterns Of words x → ArePatterns Of words y → x ≡ y
+patterns_one Of one any.Any x y a b = a ∙ sym b
+patterns_one Of one (any.Listed words) x y a b = a.2 ∙ (ap (map Literal) (yields_one Of one words a.0 b.0 a.1 b.1) ∙ sym b.2)
 
 module _ (l : Lookups) where
   rows_one : (row : ShortRow) (x y : List AcceptText) → YieldsRows l row x → YieldsRows l row y → x ≡ y
@@ -171,7 +170,7 @@ module _ (l : Lookups) where
   whole_one node x y a b =
       let accepts = yields_one (YieldsRows l) rows_one node.accepts a.accepts b.accepts a.each_row b.each_row in
       let rules = yields_one (YieldsRules l) rules_one node.rules a.rules b.rules a.each_rule b.each_rule in
-      a.are ∙ ((λ i. record { name = node.name; address = node.address; max_pdu = node.max_pdu; accepts = accepts i; rules = rules i } ∷ []) ∙ sym b.are)
+      a.are ∙ ((λ i. record { name = node.name; listens = node.listens; max_pdu = node.max_pdu; accepts = accepts i; rules = rules i } ∷ []) ∙ sym b.are)
 
   flows_one : (flow : ShortFlow) (x y : List FlowText) → YieldsFlows l flow x → YieldsFlows l flow y → x ≡ y
   flows_one flow x y a b =

@@ -7,10 +7,10 @@ use Rattle.dr_route.specs.declared.accept.Callers.{Callers}
 use Rattle.dr_route.specs.declared.accept.Callers.TheVariants as callers
 use Rattle.dr_plan_model.specs.declared.plan.Values.{Values}
 use Rattle.dr_plan_model.specs.declared.plan.Values.TheVariants as values
-use Rattle.dr_plan_model.specs.declared.plan.Stations.{Stations}
-use Rattle.dr_plan_model.specs.declared.plan.Stations.TheVariants as stations
 use Rattle.dr_plan_expand.specs.Words.{OfSet}
 use Rattle.dr_plan_expand.specs.Meanings.{Lookups, lookups_of}
+use Rattle.dr_plan_expand.specs.declared.short.AnyWords.{AnyWords}
+use Rattle.dr_plan_expand.specs.declared.short.AnyWords.TheVariants as any
 use Rattle.dr_plan_expand.specs.declared.short.Definition.{Definition}
 use Rattle.dr_plan_expand.specs.declared.short.ShortRow.{ShortRow}
 use Rattle.dr_plan_expand.specs.declared.short.ShortRule.{ShortRule}
@@ -67,15 +67,15 @@ abbrev pub callers_size : List Definition → Callers → ℕ
 callers_size groups callers.Any = 1
 callers_size groups (callers.Listed words) = words_size (word_nodes groups) words
 
-abbrev pub values_size : (Text → ℕ) → Values → ℕ
-values_size size values.Any = 1
-values_size size (values.Listed words) = words_size size words
+abbrev pub any_size : (Text → ℕ) → AnyWords → ℕ
+any_size size any.Any = 1
+any_size size (any.Listed words) = words_size size words
 
--- how many stations a flow lists
-abbrev pub stations_size : Stations → ℕ
-stations_size stations.Any = 1
-stations_size (stations.Listed values) =
-    list_amount (length values.literals) + list_amount (length values.prefixes)
+-- how many modalities, or how many stations, a flow lists
+abbrev pub values_size : Values → ℕ
+values_size values.Any = 1
+values_size (values.Listed own) =
+    list_amount (length own.literals) + list_amount (length own.prefixes)
 
 -- a row: one for each class, and each with its callers and transfer syntaxes
 abbrev pub row_size : Lookups → ShortRow → ℕ
@@ -86,8 +86,8 @@ row_size l row =
 -- a rule: one for each caller and class, and each with its targets
 abbrev pub rule_size : Lookups → ShortRule → ℕ
 rule_size l rule =
-    values_size (word_nodes l.groups) rule.from
-    * values_size (word_classes l.usual l.sets) rule.classes
+    any_size (word_nodes l.groups) rule.from
+    * any_size (word_classes l.usual l.sets) rule.classes
     * (1 + words_size (word_nodes l.groups) rule.to)
 
 -- a node, with its rows and rules
@@ -100,8 +100,8 @@ abbrev pub lists_size : Lookups → ShortFlow → ℕ
 lists_size l flow =
     1 + (words_size (word_classes l.usual l.sets) flow.classes
     + words_size (word_nodes []) flow.syntaxes
-    + values_size (word_nodes []) flow.modalities
-    + stations_size flow.stations)
+    + values_size flow.modalities
+    + values_size flow.stations)
 
 -- a flow: one for each node where it enters and each to which it goes, and each with its lists
 abbrev pub flow_size : Lookups → ShortFlow → ℕ

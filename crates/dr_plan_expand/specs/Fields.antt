@@ -2,9 +2,9 @@
 use Rattle.std.specs.Prelude.{◌≡◌, ◌≢◌, ◌⊎◌, List, [], ◌∷◌}
 use Rattle.toml.specs.Data.{Data, string, Members, no_members, member}
 use Rattle.dr_base.specs.Texts.{Text}
-use Rattle.dr_plan_model.specs.declared.plan.Values.{Values}
-use Rattle.dr_plan_model.specs.declared.plan.Values.TheVariants as values
 use Rattle.dr_plan_text.specs.Fields.{SaysText, IsSomeOf, star}
+use Rattle.dr_plan_expand.specs.declared.short.AnyWords.{AnyWords}
+use Rattle.dr_plan_expand.specs.declared.short.AnyWords.TheVariants as any
 use Rattle.dr_plan_expand.specs.declared.short.Definition.{Definition}
 
 -- one word, or a list of one word or more
@@ -13,9 +13,9 @@ SaysWords d words =
     ((word : Text) × (d ≡ string word) × (words ≡ word ∷ [])) ⊎ IsSomeOf SaysText d words
 
 -- `*`, or words
-abbrev pub SaysAnyWords : Data → Values → Type 0
-SaysAnyWords d values.Any = d ≡ star
-SaysAnyWords d (values.Listed words) = (d ≢ star) × SaysWords d words
+abbrev pub SaysAnyWords : Data → AnyWords → Type 0
+SaysAnyWords d any.Any = d ≡ star
+SaysAnyWords d (any.Listed words) = (d ≢ star) × SaysWords d words
 
 -- the key defines its name by its value, a list of one word or more
 pub record IsDefinition (key : Text) (value : Data) (definition : Definition) : Type 0 where

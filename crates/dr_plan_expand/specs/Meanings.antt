@@ -6,8 +6,6 @@ use Rattle.dr_route.specs.declared.rule.Pattern.TheVariants.{Any, Literal}
 use Rattle.dr_route.specs.declared.rule.Rule.{Rule}
 use Rattle.dr_route.specs.declared.accept.Callers.{Callers}
 use Rattle.dr_route.specs.declared.accept.Callers.TheVariants as callers
-use Rattle.dr_plan_model.specs.declared.plan.Values.{Values}
-use Rattle.dr_plan_model.specs.declared.plan.Values.TheVariants as values
 use Rattle.dr_plan_model.specs.declared.plan.Format.TheVariants.{Three}
 use Rattle.dr_plan_text.specs.declared.words.AcceptText.{AcceptText}
 use Rattle.dr_plan_text.specs.declared.words.NodeText.{NodeText}
@@ -16,6 +14,8 @@ use Rattle.dr_plan_text.specs.declared.words.PlanText.{PlanText}
 use Rattle.dr_plan_expand.specs.Lists.{Yields}
 use Rattle.dr_plan_expand.specs.Standard.{class_tables, syntax_tables, usual_tables}
 use Rattle.dr_plan_expand.specs.Words.{Known, OfSet, YieldsClasses, YieldsNodes, YieldsSyntax}
+use Rattle.dr_plan_expand.specs.declared.short.AnyWords.{AnyWords}
+use Rattle.dr_plan_expand.specs.declared.short.AnyWords.TheVariants as any
 use Rattle.dr_plan_expand.specs.declared.short.Definition.{Definition}
 use Rattle.dr_plan_expand.specs.declared.short.ShortRow.{ShortRow}
 use Rattle.dr_plan_expand.specs.declared.short.ShortRule.{ShortRule}
@@ -53,9 +53,9 @@ pub record YieldsRows (l : Lookups) (row : ShortRow) (rows : List AcceptText) : 
   pub are : rows ≡ map (row_of from syntaxes) classes
 
 -- the patterns of a field of a rule: any, or one for each text that the words stand for
-abbrev pub ArePatterns : (Text → List Text → Type 0) → Values → List Pattern → Type 0
-ArePatterns Of values.Any patterns = patterns ≡ Any ∷ []
-ArePatterns Of (values.Listed words) patterns =
+abbrev pub ArePatterns : (Text → List Text → Type 0) → AnyWords → List Pattern → Type 0
+ArePatterns Of any.Any patterns = patterns ≡ Any ∷ []
+ArePatterns Of (any.Listed words) patterns =
     (texts : List Text) × Yields Of words texts × (patterns ≡ map Literal texts)
 
 -- a rule with these targets, for one caller and one class
@@ -83,7 +83,7 @@ pub record YieldsRules (l : Lookups) (rule : ShortRule) (rules : List Rule) : Ty
 abbrev pub node_of : ShortNode → List AcceptText → List Rule → NodeText
 node_of node accepts rules = record {
   name = node.name;
-  address = node.address;
+  listens = node.listens;
   max_pdu = node.max_pdu;
   accepts = accepts;
   rules = rules;

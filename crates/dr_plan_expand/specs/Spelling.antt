@@ -1,20 +1,20 @@
 -- The one spelling of a plan of format 3 without names, sets, groups and lists.
-use Rattle.std.specs.Prelude.{Bool, if◌then◌else◌, List, [], ◌∷◌, ◌++◌, codes}
+use Rattle.std.specs.Prelude.{Bool, if◌then◌else◌, List, [], ◌∷◌, ◌++◌, Option, Some, None, codes}
 use Rattle.std.specs.Prelude.{map, flat_map}
 use Rattle.std.specs.Fmt.{signed_decimal}
 use Rattle.dr_base.specs.Texts.{Text}
 use Rattle.dr_base_quoted.specs.Escaping.{in_quotes}
 use Rattle.dr_route.specs.declared.rule.Pattern.{Pattern}
 use Rattle.dr_route.specs.declared.rule.Pattern.TheVariants.{Any, Literal}
-use Rattle.dr_route.specs.declared.rule.StationPattern.{StationPattern}
-use Rattle.dr_route.specs.declared.rule.StationPattern.TheVariants as station
+use Rattle.dr_route.specs.declared.rule.FieldPattern.{FieldPattern}
+use Rattle.dr_route.specs.declared.rule.FieldPattern.TheVariants as field
 use Rattle.dr_route.specs.declared.rule.Rule.{Rule}
 use Rattle.dr_route.specs.declared.accept.Callers.{Callers}
 use Rattle.dr_route.specs.declared.accept.Callers.TheVariants as callers
+use Rattle.dr_plan_model.specs.declared.listens.Listens.{Listens}
+use Rattle.dr_plan_model.specs.declared.listens.Listens.TheVariants.{Nowhere, At}
 use Rattle.dr_plan_model.specs.declared.plan.Values.{Values}
 use Rattle.dr_plan_model.specs.declared.plan.Values.TheVariants as values
-use Rattle.dr_plan_model.specs.declared.plan.Stations.{Stations}
-use Rattle.dr_plan_model.specs.declared.plan.Stations.TheVariants as stations
 use Rattle.dr_plan_text.specs.declared.words.AcceptText.{AcceptText}
 use Rattle.dr_plan_text.specs.declared.words.NodeText.{NodeText}
 use Rattle.dr_plan_text.specs.declared.words.FlowText.{FlowText}
@@ -42,26 +42,21 @@ pattern_text (Literal literal) = in_quotes literal
 abbrev pub starred : Text → Text
 starred prefix = prefix ++ 42 ∷ []
 
--- the station of a rule
-abbrev pub station_text : StationPattern → Text
-station_text station.Any = star_text
-station_text (station.Literal literal) = in_quotes literal
-station_text (station.Prefix prefix) = in_quotes (starred prefix)
+-- the modality or the station of a rule
+abbrev pub field_text : FieldPattern → Text
+field_text field.Any = star_text
+field_text (field.Literal literal) = in_quotes literal
+field_text (field.Prefix prefix) = in_quotes (starred prefix)
 
 -- the callers of an accept row
 abbrev pub callers_text : Callers → Text
 callers_text callers.Any = star_text
 callers_text (callers.Listed names) = list_text names
 
--- the modalities of a flow
+-- the modalities or the stations of a flow: the values, and then the prefixes
 abbrev pub values_text : Values → Text
 values_text values.Any = star_text
-values_text (values.Listed texts) = list_text texts
-
--- the stations of a flow: the values, and then the prefixes
-abbrev pub stations_text : Stations → Text
-stations_text stations.Any = star_text
-stations_text (stations.Listed named) = list_text (named.literals ++ map starred named.prefixes)
+values_text (values.Listed named) = list_text (named.literals ++ map starred named.prefixes)
 
 -- true or false
 abbrev pub flag_text : Bool → Text
@@ -79,16 +74,30 @@ abbrev pub rule_text : Rule → Text
 rule_text rule =
     codes "\n[[node.rule]]\nfrom = " ++ pattern_text rule.from
     ++ codes "\nclass = " ++ pattern_text rule.class
-    ++ codes "\nmodality = " ++ pattern_text rule.modality
-    ++ codes "\nstation = " ++ station_text rule.station
+    ++ codes "\nmodality = " ++ field_text rule.modality
+    ++ codes "\nstation = " ++ field_text rule.station
     ++ codes "\nto = " ++ list_text rule.to
     ++ codes "\nkeep = " ++ flag_text rule.keep ++ codes "\n"
+
+-- the address to which a node binds, where it is another one
+abbrev pub bind_text : Option Text → Text
+bind_text None = []
+bind_text (Some address) = codes "\nbind = " ++ in_quotes address
+
+-- the address at which a node listens, and the one to which it binds, where it is another one
+abbrev pub address_text : Text → Option Text → Text
+address_text address bind = codes "\naddress = " ++ in_quotes address ++ bind_text bind
+
+-- where a node listens
+abbrev pub listens_text : Listens → Text
+listens_text Nowhere = codes "\nlistens = false"
+listens_text (At address bind) = address_text address bind
 
 -- a node, with its accept rows and its rules
 abbrev pub node_text : NodeText → Text
 node_text node =
     codes "\n[[node]]\nname = " ++ in_quotes node.name
-    ++ codes "\naddress = " ++ in_quotes node.address
+    ++ listens_text node.listens
     ++ codes "\nmax_pdu = " ++ signed_decimal node.max_pdu ++ codes "\n"
     ++ flat_map row_text node.accepts ++ flat_map rule_text node.rules
 
@@ -100,7 +109,7 @@ flow_text flow =
     ++ codes "\nclass = " ++ list_text flow.classes
     ++ codes "\nsyntax = " ++ list_text flow.syntaxes
     ++ codes "\nmodality = " ++ values_text flow.modalities
-    ++ codes "\nstation = " ++ stations_text flow.stations ++ codes "\n"
+    ++ codes "\nstation = " ++ values_text flow.stations ++ codes "\n"
 
 -- the plan: its format, its nodes, and its flows
 abbrev pub plan_text : PlanText → Text

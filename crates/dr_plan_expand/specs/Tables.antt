@@ -1,17 +1,17 @@
 -- What the tables of a text of format 3 say.
-use Rattle.std.specs.Prelude.{◌≡◌, pos, false, List, [], ◌∷◌, Some, codes}
+use Rattle.std.specs.Prelude.{◌≡◌, pos, true, false, List, [], ◌∷◌, Some, codes}
 use Rattle.toml.specs.Data.{Members, get_member, integer}
 use Rattle.dr_base.specs.Texts.{Text}
-use Rattle.dr_route.specs.declared.rule.Pattern.TheVariants.{Any}
-use Rattle.dr_route.specs.declared.rule.StationPattern.TheVariants as station
-use Rattle.dr_plan_model.specs.declared.plan.Values.TheVariants as values
-use Rattle.dr_plan_model.specs.Formed.{IsLiteral, IsAddress}
-use Rattle.dr_plan_text.specs.Fields.{SaysText, SaysFormed, SaysNumber, SaysFlag, SaysPattern}
-use Rattle.dr_plan_text.specs.Fields.{SaysStation, SaysValues, SaysStations, SaysCallers, SaysTable}
+use Rattle.dr_route.specs.declared.rule.FieldPattern.TheVariants as field
+use Rattle.dr_plan_model.specs.Listening.{MayAccept}
+use Rattle.dr_plan_text.specs.Listening.{IsListens}
+use Rattle.dr_plan_text.specs.Fields.{SaysText, SaysFormed, SaysNumber, SaysFlag, SaysField}
+use Rattle.dr_plan_text.specs.Fields.{SaysValues, SaysCallers, SaysTable}
 use Rattle.dr_plan_text.specs.Fields.{SaysTextsOnce, IsListOf, IsSomeOf, Given, GivenOr, HasOnly}
 use Rattle.dr_plan_text.specs.Tables.{accept_keys, rule_keys, node_keys, flow_keys}
 use Rattle.dr_plan_expand.specs.Fields.{SaysWords, SaysAnyWords, AreDefinitions}
 use Rattle.dr_plan_expand.specs.Words.{IsPlainWord}
+use Rattle.dr_plan_expand.specs.declared.short.AnyWords.TheVariants as any
 use Rattle.dr_plan_expand.specs.declared.short.ShortRow.{ShortRow}
 use Rattle.dr_plan_expand.specs.declared.short.ShortRule.{ShortRule}
 use Rattle.dr_plan_expand.specs.declared.short.ShortNode.{ShortNode}
@@ -28,25 +28,26 @@ pub record IsShortRow (fields : Members) (row : ShortRow) : Type 0 where
 -- the table says the rule: what isn't given is any value, no target, and not kept
 pub record IsShortRule (fields : Members) (rule : ShortRule) : Type 0 where
   pub only : HasOnly rule_keys fields
-  pub from : GivenOr values.Any SaysAnyWords (get_member (codes "from") fields) rule.from
-  pub class : GivenOr values.Any SaysAnyWords (get_member (codes "class") fields) rule.classes
-  pub modality : GivenOr Any (SaysPattern (SaysFormed IsLiteral))
-      (get_member (codes "modality") fields) rule.modality
-  pub station : GivenOr station.Any SaysStation (get_member (codes "station") fields) rule.station
+  pub from : GivenOr any.Any SaysAnyWords (get_member (codes "from") fields) rule.from
+  pub class : GivenOr any.Any SaysAnyWords (get_member (codes "class") fields) rule.classes
+  pub modality : GivenOr field.Any SaysField (get_member (codes "modality") fields) rule.modality
+  pub station : GivenOr field.Any SaysField (get_member (codes "station") fields) rule.station
   pub to : GivenOr [] (IsListOf SaysText) (get_member (codes "to") fields) rule.to
   pub keep : GivenOr false SaysFlag (get_member (codes "keep") fields) rule.keep
 
--- the table says the node: name and address have to be given, and the name doesn't begin with `@`;
--- `max_pdu` is 16,384 where it isn't given
+-- the table says the node: its name has to be given, which doesn't begin with `@`, and its address
+-- where it listens, which may be said; `max_pdu` is 16,384 where it isn't given, and what listens
+-- nowhere has no accept row
 pub record IsShortNode (fields : Members) (node : ShortNode) : Type 0 where
   pub only : HasOnly node_keys fields
   pub name : Given (SaysFormed IsPlainWord) (get_member (codes "name") fields) node.name
-  pub address : Given (SaysFormed IsAddress) (get_member (codes "address") fields) node.address
+  pub listens : IsListens true fields node.listens
   pub max_pdu : GivenOr (pos 16384) SaysNumber (get_member (codes "max_pdu") fields) node.max_pdu
   pub accept : GivenOr [] (IsListOf (SaysTable IsShortRow)) (get_member (codes "accept") fields)
       node.accepts
   pub rule :
       GivenOr [] (IsListOf (SaysTable IsShortRule)) (get_member (codes "rule") fields) node.rules
+  pub may_accept : MayAccept node.listens node.accepts
 
 -- the table says the flow: each of its six values has to be given
 pub record IsShortFlow (fields : Members) (flow : ShortFlow) : Type 0 where
@@ -56,7 +57,7 @@ pub record IsShortFlow (fields : Members) (flow : ShortFlow) : Type 0 where
   pub class : Given SaysWords (get_member (codes "class") fields) flow.classes
   pub syntax : Given (IsSomeOf SaysText) (get_member (codes "syntax") fields) flow.syntaxes
   pub modality : Given SaysValues (get_member (codes "modality") fields) flow.modalities
-  pub station : Given SaysStations (get_member (codes "station") fields) flow.stations
+  pub station : Given SaysValues (get_member (codes "station") fields) flow.stations
 
 -- the keys of a text of format 3 as a whole
 abbrev pub short_keys : List Text

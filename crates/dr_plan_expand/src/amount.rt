@@ -3,7 +3,7 @@ ghost use Rattle.std.specs.Prelude.{◌≡◌, ◌+◌, ◌*◌, ◌<◌, ◌≤
 ghost use Rattle.std.specs.Prelude.{length, map, nat_le, sum_by};
 ghost use Rattle.dr_plan_expand.specs.Amounts.{too_much, list_amount, defined_size, one_if_in};
 ghost use Rattle.dr_plan_expand.specs.Amounts.{usual_size, word_nodes, word_classes, callers_size};
-ghost use Rattle.dr_plan_expand.specs.Amounts.{values_size, stations_size, row_size, rule_size};
+ghost use Rattle.dr_plan_expand.specs.Amounts.{any_size, values_size, row_size, rule_size};
 ghost use Rattle.dr_plan_expand.specs.Amounts.{node_size, flow_size, definition_size};
 ghost use Rattle.dr_plan_expand.specs.Amounts.{definitions_size, plan_size, lists_size, IsWithin};
 ghost use Rattle.dr_plan_expand.specs.Seen.{seen};
@@ -12,10 +12,10 @@ ghost use Rattle.dr_plan_expand.specs.Words.{of_set, of_sets};
 use crate::known::{OfSet, SetTable};
 use crate::lookup::{standard_tables, tables_of};
 use crate::meant::Tables;
-use crate::short::{Definition, ShortFlow, ShortNode, ShortPlan, ShortRow, ShortRule};
+use crate::short::{AnyWords, Definition, ShortFlow, ShortNode, ShortPlan, ShortRow, ShortRule};
 use crate::words::{after_mark, defined};
 use dr_base::Text;
-use dr_plan_model::{Stations, Values};
+use dr_plan_model::Values;
 use dr_route::Callers;
 
 /// The most that a plan may stand for.
@@ -231,27 +231,25 @@ fn callers_count(groups: &[Definition], from: &Callers) -> usize
     }
 }
 
-/// For how many values those of a field stand.
-fn values_count<A: Amounting<Element = Text>>(way: &A, values: &Values) -> usize
-    ensures is { result ≡ values_size (A.amount way.now) values.now }
+/// For how many values those of a field of a rule stand.
+fn any_count<A: Amounting<Element = Text>>(way: &A, words: &AnyWords) -> usize
+    ensures is { result ≡ any_size (A.amount way.now) words.now }
     ensures small { result ≤ too_much }
 {
-    match values {
-        Values::Any => 1,
-        Values::Listed(words) => count(way, words.as_slice()),
+    match words {
+        AnyWords::Any => 1,
+        AnyWords::Listed(listed) => count(way, listed.as_slice()),
     }
 }
 
-/// How many stations a flow lists.
-fn stations_count(stations: &Stations) -> usize
-    ensures is { result ≡ stations_size stations.now }
+/// How many modalities, or how many stations, a flow lists.
+fn values_count(values: &Values) -> usize
+    ensures is { result ≡ values_size values.now }
     ensures small { result ≤ too_much + too_much }
 {
-    match stations {
-        Stations::Any => 1,
-        Stations::Listed(values) => {
-            list_of(values.literals.len()) + list_of(values.prefixes.len())
-        }
+    match values {
+        Values::Any => 1,
+        Values::Listed(own) => list_of(own.literals.len()) + list_of(own.prefixes.len()),
     }
 }
 
@@ -286,9 +284,9 @@ impl<'a> Amounting for Rules<'a> {
     fn spend(&self, rule: &ShortRule, room: usize) -> Option<usize> {
         let tables = self.0;
         let nodes = NodeWords(tables.groups);
-        let from = values_count(&nodes, &rule.from);
+        let from = any_count(&nodes, &rule.from);
         let way = ClassWords(tables.usual, tables.sets);
-        let classes = values_count(&way, &rule.classes);
+        let classes = any_count(&way, &rule.classes);
         let to = count(&nodes, rule.to.as_slice());
         take_volume(room, from, classes, 1 + to)
     }
@@ -319,8 +317,8 @@ fn listed_of(tables: Tables<'_>, flow: &ShortFlow) -> usize
     let plain = NodeWords(&[]);
     let classes = count(&way, flow.classes.as_slice());
     let syntaxes = count(&plain, flow.syntaxes.as_slice());
-    let modalities = values_count(&plain, &flow.modalities);
-    1 + (classes + syntaxes + modalities + stations_count(&flow.stations))
+    let modalities = values_count(&flow.modalities);
+    1 + (classes + syntaxes + modalities + values_count(&flow.stations))
 }
 
 /// Flows.

@@ -8,10 +8,9 @@ ghost use Rattle.dr_plan_expand.specs.Fields.{AreDefinitions};
 ghost use Rattle.dr_plan_expand.specs.declared.short.Definition.{Definition as Defined};
 ghost use Rattle.dr_plan_text.specs.declared.fault.ReadFault.TheVariants.{Field};
 
-use crate::short::Definition;
+use crate::short::{AnyWords, Definition};
 use crate::words::after_mark;
 use dr_base::{Seq, Text};
-use dr_plan_model::Values;
 use dr_plan_text::fault::ReadFault;
 use dr_plan_text::fields::{AnyText, TextForm, is_star};
 use dr_plan_text::form::{Form, SomeOf, TableForm};
@@ -55,16 +54,16 @@ impl Form for OneOrMore {
 pub struct AnyOrMore;
 
 impl Form for AnyOrMore {
-    type Output = Values;
+    type Output = AnyWords;
 
     ghost says = { SaysAnyWords };
 
-    fn read(alloc: Global, value: &Value) -> Result<Values, ReadFault> {
+    fn read(alloc: Global, value: &Value) -> Result<AnyWords, ReadFault> {
         if is_star(value) {
-            return Ok(Values::Any);
+            return Ok(AnyWords::Any);
         }
         let words = OneOrMore::read(alloc, value)?;
-        Ok(Values::Listed(words))
+        Ok(AnyWords::Listed(words))
     }
 }
 

@@ -24,4 +24,4 @@ pub mod words;
 pub mod yields;
 
 pub use fault::{ExpandFault, WordFault};
-pub use short::{Definition, ShortFlow, ShortNode, ShortPlan, ShortRow, ShortRule};
+pub use short::{AnyWords, Definition, ShortFlow, ShortNode, ShortPlan, ShortRow, ShortRule};

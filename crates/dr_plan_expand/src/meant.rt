@@ -13,13 +13,14 @@ ghost use Rattle.dr_plan_expand.specs.declared.fault.WordFault.TheVariants.{Unkn
 use crate::fault::WordFault;
 use crate::known::{SetTable, Table};
 use crate::lookup::{standard_tables, tables_of};
-use crate::short::{Definition, ShortFlow, ShortNode, ShortPlan, ShortRow, ShortRule};
+use crate::short::{AnyWords, Definition, ShortFlow, ShortNode, ShortPlan, ShortRow, ShortRule};
 use crate::words::{Classes, Nodes, Syntaxes, copy_of};
 use crate::yields::{Yielding, all};
 use dr_base::{Seq, Text};
-use dr_plan_model::{Format, Stations, Values};
+use dr_plan_model::listens::copy_listens;
+use dr_plan_model::{Format, Values};
 use dr_plan_text::{AcceptText, FlowText, NodeText, PlanText};
-use dr_route::{Callers, Pattern, Rule, StationPattern};
+use dr_route::{Callers, FieldPattern, Pattern, Rule};
 use std::alloc::{AllocError, Global};
 
 /// What the words of a plan are looked up in.
@@ -127,19 +128,19 @@ fn literals(alloc: Global, texts: &[Text]) -> Result<Seq<Pattern>, AllocError>
 fn patterns_of<Y: Yielding<Element = Text, Thing = Text>>(
     way: &Y,
     alloc: Global,
-    words: &Values,
+    words: &AnyWords,
 ) -> Result<Seq<Pattern>, WordFault>
     ensures ok { IfOk result (ArePatterns (Y.yields way.now) words.now) }
     ensures unknown { IfErr result (λ e. e ≡ Unknown → (patterns : List Pat)
         → ArePatterns (Y.yields way.now) words.now patterns → ⊥) }
 {
     match words {
-        Values::Any => {
+        AnyWords::Any => {
             let mut patterns = Seq::new(alloc);
             patterns.push(Pattern::Any)?;
             Ok(patterns)
         }
-        Values::Listed(words) => {
+        AnyWords::Listed(words) => {
             let texts = all(way, alloc, words.as_slice())?;
             Ok(literals(alloc, texts.as_slice())?)
         }
@@ -154,8 +155,8 @@ fn copy_pattern(pattern: &Pattern) -> Result<Pattern, AllocError>
     Ok(copy)
 }
 
-/// A copy of what a rule asks of the station.
-fn copy_station(pattern: &StationPattern) -> Result<StationPattern, AllocError>
+/// A copy of what a rule asks of the modality or of the station.
+fn copy_field(pattern: &FieldPattern) -> Result<FieldPattern, AllocError>
     ensures { IfOk result (λ copy. copy ≡ pattern.now) }
 {
     let copy = pattern.clone()?;
@@ -174,8 +175,8 @@ fn rule_with(
 {
     let from = copy_pattern(from)?;
     let class = copy_pattern(class)?;
-    let modality = copy_pattern(&rule.modality)?;
-    let station = copy_station(&rule.station)?;
+    let modality = copy_field(&rule.modality)?;
+    let station = copy_field(&rule.station)?;
     let to = copy_of(alloc, to)?;
     Ok(Rule {
         from,
@@ -261,10 +262,10 @@ fn node_with(
     ensures { IfOk result (λ made. made ≡ node_of node.now accepts rules) }
 {
     let name = node.name.clone()?;
-    let address = node.address.clone()?;
+    let listens = copy_listens(&node.listens)?;
     Ok(NodeText {
         name,
-        address,
+        listens,
         max_pdu: node.max_pdu,
         accepts,
         rules,
@@ -292,19 +293,11 @@ impl<'a> Yielding for WholeNodes<'a> {
     }
 }
 
-/// A copy of the modalities of a flow.
+/// A copy of the modalities or of the stations of a flow.
 fn copy_values(values: &Values) -> Result<Values, AllocError>
     ensures { IfOk result (λ copy. copy ≡ values.now) }
 {
     let copy = values.clone()?;
-    Ok(copy)
-}
-
-/// A copy of the stations of a flow.
-fn copy_stations(stations: &Stations) -> Result<Stations, AllocError>
-    ensures { IfOk result (λ copy. copy ≡ stations.now) }
-{
-    let copy = stations.clone()?;
     Ok(copy)
 }
 
@@ -331,7 +324,7 @@ fn flow_with(
     let classes = copy_of(alloc, sent.classes)?;
     let syntaxes = copy_of(alloc, sent.syntaxes)?;
     let modalities = copy_values(&flow.modalities)?;
-    let stations = copy_stations(&flow.stations)?;
+    let stations = copy_values(&flow.stations)?;
     Ok(FlowText {
         at,
         to,

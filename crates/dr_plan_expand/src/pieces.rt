@@ -2,14 +2,15 @@
 ghost use Rattle.std.specs.Prelude.{◌≡◌, ◌++◌, OnOk, IfOk, map, flat_map};
 ghost use Rattle.std.specs.Fmt.{signed_decimal};
 ghost use Rattle.dr_plan_expand.specs.Spelling.{further, list_text, starred};
-ghost use Rattle.dr_plan_expand.specs.Spelling.{pattern_text, station_text, callers_text};
-ghost use Rattle.dr_plan_expand.specs.Spelling.{values_text, stations_text, flag_text};
+ghost use Rattle.dr_plan_expand.specs.Spelling.{pattern_text, field_text, callers_text};
+ghost use Rattle.dr_plan_expand.specs.Spelling.{values_text, flag_text};
+ghost use Rattle.dr_plan_expand.specs.Spelling.{bind_text, address_text, listens_text};
 
 use crate::words::copy_of;
 use dr_base::{Seq, Text};
 use dr_base_quoted::put_in_quotes;
-use dr_plan_model::{Stations, Values};
-use dr_route::{Callers, Pattern, StationPattern, StationValues};
+use dr_plan_model::{Listens, Values};
+use dr_route::{Callers, FieldPattern, FieldValues, Pattern};
 use std::alloc::{AllocError, Global};
 
 const STAR: u8 = 42;
@@ -78,18 +79,14 @@ fn with_star(alloc: Global, prefix: &Text) -> Result<Text, AllocError>
     Ok(Text::from_vec(bytes))
 }
 
-/// Adds what a rule asks of the station.
-pub fn add_station(
-    alloc: Global,
-    out: &mut Vec<u8>,
-    pattern: &StationPattern,
-) -> Result<(), AllocError>
-    ensures { OnOk result (out.new.items ≡ out.old.items ++ station_text pattern.now) }
+/// Adds what a rule asks of the modality or of the station.
+pub fn add_field(alloc: Global, out: &mut Vec<u8>, pattern: &FieldPattern) -> Result<(), AllocError>
+    ensures { OnOk result (out.new.items ≡ out.old.items ++ field_text pattern.now) }
 {
     match pattern {
-        StationPattern::Any => out.extend_from_slice(ANY),
-        StationPattern::Literal(literal) => put_in_quotes(out, literal),
-        StationPattern::Prefix(prefix) => {
+        FieldPattern::Any => out.extend_from_slice(ANY),
+        FieldPattern::Literal(literal) => put_in_quotes(out, literal),
+        FieldPattern::Prefix(prefix) => {
             let text = with_star(alloc, prefix)?;
             put_in_quotes(out, &text)
         }
@@ -106,16 +103,6 @@ pub fn add_callers(alloc: Global, out: &mut Vec<u8>, callers: &Callers) -> Resul
     }
 }
 
-/// Adds the modalities of a flow.
-pub fn add_values(alloc: Global, out: &mut Vec<u8>, values: &Values) -> Result<(), AllocError>
-    ensures { OnOk result (out.new.items ≡ out.old.items ++ values_text values.now) }
-{
-    match values {
-        Values::Any => out.extend_from_slice(ANY),
-        Values::Listed(texts) => add_list(alloc, out, texts.as_slice()),
-    }
-}
-
 /// Adds prefixes with the asterisk behind each.
 fn add_starred(alloc: Global, out: &mut Vec<Text>, prefixes: &[Text]) -> Result<(), AllocError>
     ensures { OnOk result (out.new.items ≡ out.old.items ++ map starred prefixes.now) }
@@ -126,8 +113,8 @@ fn add_starred(alloc: Global, out: &mut Vec<Text>, prefixes: &[Text]) -> Result<
     Ok(())
 }
 
-/// The stations that are named, as they are written: the values, and then the prefixes.
-fn written(alloc: Global, named: &StationValues) -> Result<Seq<Text>, AllocError>
+/// What is named, as it is written: the values, and then the prefixes.
+fn written(alloc: Global, named: &FieldValues) -> Result<Seq<Text>, AllocError>
     ensures { IfOk result (λ texts. texts ≡ named.now.literals ++ map starred named.now.prefixes) }
 {
     let mut texts = copy_of(alloc, named.literals.as_slice())?.into_vec();
@@ -135,15 +122,51 @@ fn written(alloc: Global, named: &StationValues) -> Result<Seq<Text>, AllocError
     Ok(Seq::from_vec(texts))
 }
 
-/// Adds the stations of a flow.
-pub fn add_stations(alloc: Global, out: &mut Vec<u8>, stations: &Stations) -> Result<(), AllocError>
-    ensures { OnOk result (out.new.items ≡ out.old.items ++ stations_text stations.now) }
+/// Adds the modalities or the stations of a flow.
+pub fn add_values(alloc: Global, out: &mut Vec<u8>, values: &Values) -> Result<(), AllocError>
+    ensures { OnOk result (out.new.items ≡ out.old.items ++ values_text values.now) }
 {
-    match stations {
-        Stations::Any => out.extend_from_slice(ANY),
-        Stations::Listed(named) => {
+    match values {
+        Values::Any => out.extend_from_slice(ANY),
+        Values::Listed(named) => {
             let texts = written(alloc, named)?;
             add_list(alloc, out, texts.as_slice())
+        }
+    }
+}
+
+/// The address to which a node binds, where it is another one.
+fn bound(alloc: Global, bind: &Option<Text>) -> Result<Vec<u8>, AllocError>
+    ensures { IfOk result (λ out. out.items ≡ bind_text bind.now) }
+{
+    let Some(address) = bind else {
+        return Ok(Vec::new(alloc));
+    };
+    let mut out = Vec::from_slice(alloc, b"\nbind = ")?;
+    put_in_quotes(&mut out, address)?;
+    Ok(out)
+}
+
+/// The address at which a node listens, and the one to which it binds, where it is another one.
+fn addressed(alloc: Global, address: &Text, bind: &Option<Text>) -> Result<Vec<u8>, AllocError>
+    ensures { IfOk result (λ out. out.items ≡ address_text address.now bind.now) }
+{
+    let mut out = Vec::from_slice(alloc, b"\naddress = ")?;
+    put_in_quotes(&mut out, address)?;
+    let more = bound(alloc, bind)?;
+    out.extend_from_slice(more.as_slice())?;
+    Ok(out)
+}
+
+/// Adds where a node listens.
+pub fn add_listens(alloc: Global, out: &mut Vec<u8>, listens: &Listens) -> Result<(), AllocError>
+    ensures { OnOk result (out.new.items ≡ out.old.items ++ listens_text listens.now) }
+{
+    match listens {
+        Listens::Nowhere => out.extend_from_slice(b"\nlistens = false"),
+        Listens::At { address, bind } => {
+            let text = addressed(alloc, address, bind)?;
+            out.extend_from_slice(text.as_slice())
         }
     }
 }

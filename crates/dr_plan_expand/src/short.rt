@@ -1,7 +1,7 @@
 //! A plan of format 3 as it is written, with its names and lists.
 use dr_base::{Seq, Text};
-use dr_plan_model::{Stations, Values};
-use dr_route::{Callers, Pattern, StationPattern};
+use dr_plan_model::{Listens, Values};
+use dr_route::{Callers, FieldPattern};
 
 /// A name that the plan defines, and the words that it stands for: of a set classes, of a group
 /// nodes.
@@ -20,24 +20,32 @@ pub struct ShortRow {
     pub syntaxes: Seq<Text>,
 }
 
+/// What a rule names its callers or its classes by.
+#[derive(Drop)]
+pub enum AnyWords {
+    /// Any; it is written `*`.
+    Any,
+    Listed(Seq<Text>),
+}
+
 /// A rule: its callers, classes and targets are any words, and modality and station have their
 /// forms.
 #[derive(Drop)]
 pub struct ShortRule {
-    pub from: Values,
-    pub classes: Values,
-    pub modality: Pattern,
-    pub station: StationPattern,
+    pub from: AnyWords,
+    pub classes: AnyWords,
+    pub modality: FieldPattern,
+    pub station: FieldPattern,
     pub to: Seq<Text>,
     pub keep: bool,
 }
 
-/// A node: its name doesn't begin with `@`, its address has its form, and `max_pdu` (bytes) is any
-/// integer.
+/// A node: its name doesn't begin with `@`, its addresses have their form, and `max_pdu` (bytes) is
+/// any integer. Where it listens nowhere it has no accept row.
 #[derive(Drop)]
 pub struct ShortNode {
     pub name: Text,
-    pub address: Text,
+    pub listens: Listens,
     pub max_pdu: i64,
     pub accepts: Seq<ShortRow>,
     pub rules: Seq<ShortRule>,
@@ -52,7 +60,7 @@ pub struct ShortFlow {
     pub classes: Seq<Text>,
     pub syntaxes: Seq<Text>,
     pub modalities: Values,
-    pub stations: Stations,
+    pub stations: Values,
 }
 
 /// The sets, groups, nodes and flows of a text of format 3, in its order; the sets and the groups

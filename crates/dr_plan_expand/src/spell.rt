@@ -4,7 +4,7 @@ ghost use Rattle.dr_plan_expand.specs.Spelling.{row_text, rule_text, node_text, 
 ghost use Rattle.dr_plan_expand.specs.Spelling.{plan_text};
 
 use crate::pieces::{
-    add_callers, add_flag, add_list, add_pattern, add_signed, add_station, add_stations, add_values,
+    add_callers, add_field, add_flag, add_list, add_listens, add_pattern, add_signed, add_values,
 };
 use dr_base::Text;
 use dr_base_quoted::put_in_quotes;
@@ -46,9 +46,9 @@ fn spell_rule(alloc: Global, rule: &Rule) -> Result<Vec<u8>, AllocError>
     out.extend_from_slice(b"\nclass = ")?;
     add_pattern(&mut out, &rule.class)?;
     out.extend_from_slice(b"\nmodality = ")?;
-    add_pattern(&mut out, &rule.modality)?;
+    add_field(alloc, &mut out, &rule.modality)?;
     out.extend_from_slice(b"\nstation = ")?;
-    add_station(alloc, &mut out, &rule.station)?;
+    add_field(alloc, &mut out, &rule.station)?;
     out.extend_from_slice(b"\nto = ")?;
     add_list(alloc, &mut out, rule.to.as_slice())?;
     out.extend_from_slice(b"\nkeep = ")?;
@@ -74,8 +74,7 @@ fn spell_node(alloc: Global, node: &NodeText) -> Result<Vec<u8>, AllocError>
 {
     let mut out = Vec::from_slice(alloc, b"\n[[node]]\nname = ")?;
     put_in_quotes(&mut out, &node.name)?;
-    out.extend_from_slice(b"\naddress = ")?;
-    put_in_quotes(&mut out, &node.address)?;
+    add_listens(alloc, &mut out, &node.listens)?;
     out.extend_from_slice(b"\nmax_pdu = ")?;
     add_signed(&mut out, node.max_pdu)?;
     out.extend_from_slice(b"\n")?;
@@ -110,7 +109,7 @@ fn spell_flow(alloc: Global, flow: &FlowText) -> Result<Vec<u8>, AllocError>
     out.extend_from_slice(b"\nmodality = ")?;
     add_values(alloc, &mut out, &flow.modalities)?;
     out.extend_from_slice(b"\nstation = ")?;
-    add_stations(alloc, &mut out, &flow.stations)?;
+    add_values(alloc, &mut out, &flow.stations)?;
     out.extend_from_slice(b"\n")?;
     Ok(out)
 }

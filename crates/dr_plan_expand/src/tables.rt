@@ -7,18 +7,16 @@ ghost use Rattle.dr_plan_expand.specs.declared.short.ShortPlan.{ShortPlan as Sho
 ghost use Rattle.dr_plan_text.specs.declared.fault.ReadFault.TheVariants.{Field};
 
 use crate::fields::{AnyOrMore, Definitions, OneOrMore, Plain};
-use crate::short::{ShortFlow, ShortNode, ShortPlan, ShortRow, ShortRule};
+use crate::short::{AnyWords, ShortFlow, ShortNode, ShortPlan, ShortRow, ShortRule};
 use dr_base::Seq;
-use dr_plan_model::Values;
 use dr_plan_text::fault::ReadFault;
-use dr_plan_text::fields::{
-    Address, AnyCallers, AnyText, AnyValues, Flag, Formed, LiteralPattern, Number, TextsOnce,
-};
+use dr_plan_text::fields::{AnyCallers, AnyText, Flag, Formed, Number, TextsOnce};
 use dr_plan_text::form::{
     ListOf, SomeOf, TableForm, TableOf, defaulted, has_only, required, value_at,
 };
-use dr_plan_text::stations::{AnyStation, AnyStations};
-use dr_route::{Pattern, StationPattern};
+use dr_plan_text::listening::{listens_in, may_accept};
+use dr_plan_text::values::{AnyValue, AnyValues};
+use dr_route::FieldPattern;
 use std::alloc::Global;
 use toml::Table;
 
@@ -58,10 +56,10 @@ impl TableForm for ShortRuleTable {
             return Err(ReadFault::Field);
         }
         Ok(ShortRule {
-            from: defaulted::<AnyOrMore>(alloc, table, "from", Values::Any)?,
-            classes: defaulted::<AnyOrMore>(alloc, table, "class", Values::Any)?,
-            modality: defaulted::<LiteralPattern>(alloc, table, "modality", Pattern::Any)?,
-            station: defaulted::<AnyStation>(alloc, table, "station", StationPattern::Any)?,
+            from: defaulted::<AnyOrMore>(alloc, table, "from", AnyWords::Any)?,
+            classes: defaulted::<AnyOrMore>(alloc, table, "class", AnyWords::Any)?,
+            modality: defaulted::<AnyValue>(alloc, table, "modality", FieldPattern::Any)?,
+            station: defaulted::<AnyValue>(alloc, table, "station", FieldPattern::Any)?,
             to: defaulted::<ListOf<AnyText>>(alloc, table, "to", Seq::new(alloc))?,
             keep: defaulted::<Flag>(alloc, table, "keep", false)?,
         })
@@ -77,19 +75,31 @@ impl TableForm for ShortNodeTable {
     ghost is_table = { IsShortNode };
 
     fn read_table(alloc: Global, table: &Table) -> Result<ShortNode, ReadFault> {
-        if !has_only(table, &["name", "address", "max_pdu", "accept", "rule"]) {
+        if !has_only(
+            table,
+            &[
+                "name", "address", "max_pdu", "accept", "rule", "listens", "bind",
+            ],
+        ) {
+            return Err(ReadFault::Field);
+        }
+        let name = required::<Formed<Plain>>(alloc, table, "name")?;
+        let listens = listens_in(alloc, table, true)?;
+        let max_pdu = defaulted::<Number>(alloc, table, "max_pdu", 16384)?;
+        let accepts = defaulted::<ListOf<TableOf<ShortRowTable>>>(
+            alloc,
+            table,
+            "accept",
+            Seq::new(alloc),
+        )?;
+        if !may_accept(&listens, &accepts) {
             return Err(ReadFault::Field);
         }
         Ok(ShortNode {
-            name: required::<Formed<Plain>>(alloc, table, "name")?,
-            address: required::<Formed<Address>>(alloc, table, "address")?,
-            max_pdu: defaulted::<Number>(alloc, table, "max_pdu", 16384)?,
-            accepts: defaulted::<ListOf<TableOf<ShortRowTable>>>(
-                alloc,
-                table,
-                "accept",
-                Seq::new(alloc),
-            )?,
+            name,
+            listens,
+            max_pdu,
+            accepts,
             rules: defaulted::<ListOf<TableOf<ShortRuleTable>>>(
                 alloc,
                 table,
@@ -121,7 +131,7 @@ impl TableForm for ShortFlowTable {
             classes: required::<OneOrMore>(alloc, table, "class")?,
             syntaxes: required::<SomeOf<AnyText>>(alloc, table, "syntax")?,
             modalities: required::<AnyValues>(alloc, table, "modality")?,
-            stations: required::<AnyStations>(alloc, table, "station")?,
+            stations: required::<AnyValues>(alloc, table, "station")?,
         })
     }
 }

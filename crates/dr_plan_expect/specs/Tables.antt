@@ -4,9 +4,9 @@ use Rattle.toml.specs.Data.{Members, get_member}
 use Rattle.dr_base.specs.Texts.{Text}
 use Rattle.dr_base.specs.Syntaxes.{IsSyntax}
 use Rattle.dr_route.specs.declared.rule.Pattern.TheVariants.{Any}
-use Rattle.dr_route.specs.declared.rule.StationPattern.TheVariants as station
-use Rattle.dr_plan_model.specs.Formed.{IsClass, IsLiteral}
-use Rattle.dr_plan_text.specs.Fields.{SaysText, SaysFormed, SaysPattern, SaysStation, SaysTable}
+use Rattle.dr_route.specs.declared.rule.FieldPattern.TheVariants as field
+use Rattle.dr_plan_model.specs.Formed.{IsClass}
+use Rattle.dr_plan_text.specs.Fields.{SaysText, SaysFormed, SaysPattern, SaysField, SaysTable}
 use Rattle.dr_plan_text.specs.Fields.{IsListOf, IsSomeOf, Given, GivenOr, HasOnly}
 use Rattle.dr_plan_expect.specs.declared.words.Expectation.{Expectation}
 
@@ -24,9 +24,8 @@ pub record IsExpectTable (fields : Members) (row : Expectation) : Type 0 where
       GivenOr Any (SaysPattern (SaysFormed IsClass)) (get_member (codes "class") fields) row.class
   pub syntax : GivenOr Any (SaysPattern (SaysFormed IsSyntax)) (get_member (codes "syntax") fields)
       row.syntax
-  pub modality : GivenOr Any (SaysPattern (SaysFormed IsLiteral))
-      (get_member (codes "modality") fields) row.modality
-  pub station : GivenOr station.Any SaysStation (get_member (codes "station") fields) row.station
+  pub modality : GivenOr field.Any SaysField (get_member (codes "modality") fields) row.modality
+  pub station : GivenOr field.Any SaysField (get_member (codes "station") fields) row.station
   pub keep : GivenOr [] (IsListOf SaysText) (get_member (codes "keep") fields) row.keep
   pub never : GivenOr [] (IsListOf SaysText) (get_member (codes "never") fields) row.never
 

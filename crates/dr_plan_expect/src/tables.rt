@@ -9,12 +9,10 @@ ghost use Rattle.dr_plan_text.specs.declared.fault.ReadFault.TheVariants.{Field}
 use crate::words::Expectation;
 use dr_base::{Seq, Syntax};
 use dr_plan_text::fault::ReadFault;
-use dr_plan_text::fields::{
-    AnyText, ClassPattern, Formed, LiteralPattern, NamePattern, PatternOf, TextForm,
-};
+use dr_plan_text::fields::{AnyText, ClassPattern, Formed, NamePattern, PatternOf, TextForm};
 use dr_plan_text::form::{ListOf, SomeOf, TableForm, TableOf, defaulted, has_only, required};
-use dr_plan_text::stations::AnyStation;
-use dr_route::{Pattern, StationPattern};
+use dr_plan_text::values::AnyValue;
+use dr_route::{FieldPattern, Pattern};
 use std::alloc::Global;
 use toml::Table;
 
@@ -55,8 +53,8 @@ impl TableForm for ExpectTable {
                 "syntax",
                 Pattern::Any,
             )?,
-            modality: defaulted::<LiteralPattern>(alloc, table, "modality", Pattern::Any)?,
-            station: defaulted::<AnyStation>(alloc, table, "station", StationPattern::Any)?,
+            modality: defaulted::<AnyValue>(alloc, table, "modality", FieldPattern::Any)?,
+            station: defaulted::<AnyValue>(alloc, table, "station", FieldPattern::Any)?,
             keep: defaulted::<ListOf<AnyText>>(alloc, table, "keep", Seq::new(alloc))?,
             never: defaulted::<ListOf<AnyText>>(alloc, table, "never", Seq::new(alloc))?,
         })

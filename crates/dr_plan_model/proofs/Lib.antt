@@ -1,4 +1,5 @@
 pub mod Flowing
 pub mod Gathered
 pub mod WalksAlike
+pub mod NodesListen
 pub mod SetLemmas

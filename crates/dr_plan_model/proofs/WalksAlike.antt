@@ -7,37 +7,31 @@ use Rattle.std.proofs.lemmas.List.Elements.{Contains-append_left, Contains-appen
 use Rattle.dr_base.specs.Texts.{Text}
 use Rattle.dr_base.specs.declared.syntax.Syntax.{Syntax}
 use Rattle.dr_route.specs.Routes.{local, SendsBy, KeepsBy}
-use Rattle.dr_route.specs.Cells.{InField, InStation}
-use Rattle.dr_route.specs.Laws.{IsKnown, IsKnownStation, IsKnownRule, ArePlain, ArePlainStations, key_of}
+use Rattle.dr_route.specs.Cells.{InField}
+use Rattle.dr_route.specs.Laws.{IsKnown, IsKnownRule, ArePlain, ArePlainValues, key_of}
 use Rattle.dr_route.specs.declared.key.Key.{Key}
 use Rattle.dr_route.specs.declared.rule.Rule.{Rule}
-use Rattle.dr_route.specs.declared.rule.Pattern.{Pattern}
-use Rattle.dr_route.specs.declared.rule.Pattern.TheVariants.{Any, Literal}
-use Rattle.dr_route.specs.declared.rule.StationPattern.{StationPattern}
-use Rattle.dr_route.specs.declared.rule.StationPattern.TheVariants as pattern
-use Rattle.dr_route.specs.declared.cell.StationValues.{StationValues}
-use Rattle.dr_route.specs.declared.cell.OwnedStation.{OwnedStation}
-use Rattle.dr_route.specs.declared.cell.OwnedStation.TheVariants as station
+use Rattle.dr_route.specs.declared.rule.FieldPattern.{FieldPattern}
+use Rattle.dr_route.specs.declared.rule.FieldPattern.TheVariants as pattern
+use Rattle.dr_route.specs.declared.cell.FieldValues.{FieldValues}
 use Rattle.dr_route.specs.declared.cell.OwnedField.{OwnedField}
 use Rattle.dr_route.specs.declared.cell.OwnedField.TheVariants as part
 use Rattle.dr_route.specs.declared.cell.OwnedCell.{OwnedCell}
-use Rattle.dr_route.proofs.Agreement.{sends_agree, keeps_agree, part_has_value, station_has_value, prefix_agrees}
+use Rattle.dr_route.proofs.Agreement.{sends_agree, keeps_agree, part_has_value, prefix_agrees}
 use Rattle.dr_plan_model.specs.declared.plan.Node.{Node}
 use Rattle.dr_plan_model.specs.declared.plan.Flow.{Flow}
 use Rattle.dr_plan_model.specs.declared.plan.Values.{Values}
 use Rattle.dr_plan_model.specs.declared.plan.Values.TheVariants as values
 use Rattle.dr_plan_model.specs.declared.literals.Attribute.{Attribute}
-use Rattle.dr_plan_model.specs.declared.plan.Stations.{Stations}
-use Rattle.dr_plan_model.specs.declared.plan.Stations.TheVariants as stations
 use Rattle.dr_plan_model.specs.declared.plan.Format.{Format}
-use Rattle.dr_plan_model.specs.declared.plan.Format.TheVariants.{One}
-use Rattle.dr_plan_model.specs.declared.literals.Attribute.TheVariants.{Modality, Station, StationPrefix}
+use Rattle.dr_plan_model.specs.declared.plan.Format.TheVariants.{One, Two}
+use Rattle.dr_plan_model.specs.declared.literals.Attribute.TheVariants.{Modality, ModalityPrefix, Station, StationPrefix}
 use Rattle.dr_plan_model.specs.Networks.{Network}
-use Rattle.dr_plan_model.specs.Formed.{IsLiteral, IsPrefix, HasStationForm, AreStations, IsInFormat, IsKnownName, IsWellFormedNode, IsWellFormedFlow, IsRuleOf, AreLiterals, HasForm}
-use Rattle.dr_plan_model.specs.Naming.{literal_of, station_of, prefix_of, listed, listed_stations, listed_prefixes, named_by_rule, named_by_flow, named_by_rules, named_by_flows}
-use Rattle.dr_plan_model.specs.Plans.{IsWellFormed, IsNode, named_in, stations_of, prefixes_of, literals_of, LiesIn}
-use Rattle.dr_plan_model.specs.Walks.{IsListed, IsStationListed, FlowBrings, Flows, Sends, Keeps, IsWalk, IsEntry, IsReached}
-use Rattle.dr_plan_model.specs.Laws.{IsCellOf, InPlainField}
+use Rattle.dr_plan_model.specs.Formed.{IsLiteral, IsPrefix, HasFieldForm, AreValues, ModalitiesFit, RuleFits, ValuesFit, IsInFormat, IsKnownName, IsWellFormedNode, IsWellFormedFlow, IsRuleOf}
+use Rattle.dr_plan_model.specs.Naming.{literal_of, prefix_of, listed_literals, listed_prefixes, named_by_rule, named_by_flow, named_by_rules, named_by_flows}
+use Rattle.dr_plan_model.specs.Plans.{IsWellFormed, IsNode, named_in, modalities_of, stations_of, literals_of, LiesIn}
+use Rattle.dr_plan_model.specs.Walks.{IsListed, FlowBrings, Flows, Sends, Keeps, IsWalk, IsEntry, IsReached}
+use Rattle.dr_plan_model.specs.Laws.{IsCellOf, InPlainField, KeepsItsParts}
 use Rattle.dr_plan_model.proofs.Gathered.{Contains-flat_map, Contains-here, Contains-there, Contains-flat_map_from, nothing_in_nil, only_one}
 
 -- ---- what each element has, all have
@@ -66,15 +60,11 @@ one_node plan formed name a b is_a is_b =
     ]
 
 -- ---- the literals of rules and flows are the plan's
-known_pattern : (literals : List Text) (pattern : Pattern) → ((t : Text) → Contains (literal_of pattern) t → Contains literals t) → IsKnown (record { literals = literals }) pattern
-known_pattern literals Any all = tt
-known_pattern literals (Literal literal) all = all literal (Contains-here literal [])
-
-known_station : (values : StationValues) (pattern : StationPattern) → ((t : Text) → Contains (station_of pattern) t → Contains values.literals t) →
-    ((t : Text) → Contains (prefix_of pattern) t → Contains values.prefixes t) → IsKnownStation values pattern
-known_station values pattern.Any all each = tt
-known_station values (pattern.Literal literal) all each = all literal (Contains-here literal [])
-known_station values (pattern.Prefix prefix) all each = each prefix (Contains-here prefix [])
+known_pattern : (values : FieldValues) (pattern : FieldPattern) → ((t : Text) → Contains (literal_of pattern) t → Contains values.literals t) →
+    ((t : Text) → Contains (prefix_of pattern) t → Contains values.prefixes t) → IsKnown values pattern
+known_pattern values pattern.Any all each = tt
+known_pattern values (pattern.Literal literal) all each = all literal (Contains-here literal [])
+known_pattern values (pattern.Prefix prefix) all each = each prefix (Contains-here prefix [])
 
 rule_names : (plan : Network) (attribute : Attribute) (node : Node) (rule : Rule) (t : Text) → Contains plan.nodes node → Contains node.rules rule →
     Contains (named_by_rule attribute rule) t → Contains (named_in attribute plan) t
@@ -85,8 +75,8 @@ rule_names plan attribute node rule t has_node has_rule has_text =
 
 pub known_rules : (plan : Network) (node : Node) → Contains plan.nodes node → All (IsKnownRule (literals_of plan)) node.rules
 known_rules plan node has_node = all_from_each (IsKnownRule (literals_of plan)) node.rules (λ rule has_rule. (
-  known_pattern (named_in Modality plan) rule.modality (λ t. rule_names plan Modality node rule t has_node has_rule),
-  known_station (literals_of plan).stations rule.station (λ t. rule_names plan Station node rule t has_node has_rule) (λ t. rule_names plan StationPrefix node rule t has_node has_rule),
+  known_pattern (literals_of plan).modalities rule.modality (λ t. rule_names plan Modality node rule t has_node has_rule) (λ t. rule_names plan ModalityPrefix node rule t has_node has_rule),
+  known_pattern (literals_of plan).stations rule.station (λ t. rule_names plan Station node rule t has_node has_rule) (λ t. rule_names plan StationPrefix node rule t has_node has_rule),
 ))
 
 pub flow_names : (plan : Network) (attribute : Attribute) (flow : Flow) (t : Text) → Contains plan.flows flow → Contains (named_by_flow attribute flow) t → Contains (named_in attribute plan) t
@@ -94,31 +84,25 @@ flow_names plan attribute flow t has_flow has_text =
     Contains-append_right _ _ t (Contains-flat_map (λ (f : Flow). named_by_flow attribute f) plan.flows flow t has_flow has_text)
 
 -- ---- keys of one cell
-listed_alike : (literals : List Text) (field : OwnedField) (texts : Values) (v w : Text) → ((t : Text) → Contains (listed texts) t → Contains literals t) →
-    InField (record { literals = literals }) field v → InField (record { literals = literals }) field w → IsListed texts v → IsListed texts w
-listed_alike literals field values.Any v w known a b h = tt
-listed_alike literals (part.Literal literal) (values.Listed texts) v w known a b h =
-    let P : Text → Type 0 = λ t. Contains texts t in subst P (sym a.1 ∙ b.1) h
-listed_alike literals part.Rest (values.Listed texts) v w known a b h = absurd (a (known v h))
-
-stations_listed_alike : (values : StationValues) (part : OwnedStation) (listed : Stations) (v w : Text) → ((t : Text) → Contains (listed_stations listed) t → Contains values.literals t) →
-    ((t : Text) → Contains (listed_prefixes listed) t → Contains values.prefixes t) →
-    InStation values part v → InStation values part w → IsStationListed listed v → IsStationListed listed w
-stations_listed_alike values part stations.Any v w known each a b h = tt
-stations_listed_alike values part (stations.Listed own) v w known each a b (inl one) = inl (same_literal part a b one) where
-  same_literal : (part : OwnedStation) → InStation values part v → InStation values part w → Contains own.literals v → Contains own.literals w
-  same_literal (station.Literal literal) a b one = let P : Text → Type 0 = λ t. Contains own.literals t in subst P (sym a.1 ∙ b.1) one
-  same_literal (station.Prefix prefix) a b one = absurd (a.0 (known v one))
-  same_literal station.Rest a b one = absurd (a.0 (known v one))
-stations_listed_alike values part (stations.Listed own) v w known each a b (inr begun) =
-    inr (begun.0, begun.1, prefix_agrees values part begun.0 v w (each begun.0 begun.1) a b begun.2)
+listed_alike : (all : FieldValues) (lot : OwnedField) (listed : Values) (v w : Text) → ((t : Text) → Contains (listed_literals listed) t → Contains all.literals t) →
+    ((t : Text) → Contains (listed_prefixes listed) t → Contains all.prefixes t) →
+    InField all lot v → InField all lot w → IsListed listed v → IsListed listed w
+listed_alike all lot values.Any v w known each a b h = tt
+listed_alike all lot (values.Listed own) v w known each a b (inl one) = inl (same_literal lot a b one) where
+  same_literal : (one : OwnedField) → InField all one v → InField all one w → Contains own.literals v → Contains own.literals w
+  same_literal (part.Literal literal) a b one = let P : Text → Type 0 = λ t. Contains own.literals t in subst P (sym a.1 ∙ b.1) one
+  same_literal (part.Prefix prefix) a b one = absurd (a.0 (known v one))
+  same_literal part.Rest a b one = absurd (a.0 (known v one))
+listed_alike all lot (values.Listed own) v w known each a b (inr begun) =
+    inr (begun.0, begun.1, prefix_agrees all lot begun.0 v w (each begun.0 begun.1) a b begun.2)
 
 pub fits_alike : (plan : Network) (cell : OwnedCell) (k l : Key) → LiesIn plan cell k → LiesIn plan cell l → (flow : Flow) → Contains plan.flows flow → FlowBrings flow k → FlowBrings flow l
 fits_alike plan cell k l a b flow has_flow fit = record {
   class = let P : Text → Type 0 = λ t. Contains flow.classes t in subst P (sym a.class ∙ b.class) fit.class;
   syntax = let P : Syntax → Type 0 = λ t. Contains flow.syntaxes t in subst P (sym a.syntax ∙ b.syntax) fit.syntax;
-  modality = listed_alike (named_in Modality plan) cell.modality flow.modalities k.modality l.modality (λ t. flow_names plan Modality flow t has_flow) a.modality b.modality fit.modality;
-  station = stations_listed_alike (literals_of plan).stations cell.station flow.stations k.station l.station (λ t. flow_names plan Station flow t has_flow) (λ t. flow_names plan StationPrefix flow t has_flow)
+  modality = listed_alike (literals_of plan).modalities cell.modality flow.modalities k.modality l.modality (λ t. flow_names plan Modality flow t has_flow) (λ t. flow_names plan ModalityPrefix flow t has_flow)
+      a.modality b.modality fit.modality;
+  station = listed_alike (literals_of plan).stations cell.station flow.stations k.station l.station (λ t. flow_names plan Station flow t has_flow) (λ t. flow_names plan StationPrefix flow t has_flow)
       a.station b.station fit.station;
 }
 
@@ -187,46 +171,41 @@ local_never_sent_to plan formed name caller key sent = not_known_local plan form
 is_plain : (text : Text) → IsLiteral text → All (λ byte. byte < 127) text
 is_plain text literal = λ k d h. (literal.printable k d h).1
 
-pattern_is_literal : (pattern : Pattern) → HasForm IsLiteral pattern → (t : Text) → Contains (literal_of pattern) t → IsLiteral t
-pattern_is_literal Any form t among = absurd (nothing_in_nil t among)
-pattern_is_literal (Literal literal) form t among = let P : Text → Type 0 = λ x. IsLiteral x in subst P (only_one literal t among) form
+pattern_is_literal : (pattern : FieldPattern) → HasFieldForm pattern → (t : Text) → Contains (literal_of pattern) t → IsLiteral t
+pattern_is_literal pattern.Any form t among = absurd (nothing_in_nil t among)
+pattern_is_literal (pattern.Literal literal) form t among = let P : Text → Type 0 = λ x. IsLiteral x in subst P (only_one literal t among) form
+pattern_is_literal (pattern.Prefix prefix) form t among = absurd (nothing_in_nil t among)
 
-values_are_literals : (texts : Values) → AreLiterals texts → (t : Text) → Contains (listed texts) t → IsLiteral t
-values_are_literals values.Any form t among = absurd (nothing_in_nil t among)
-values_are_literals (values.Listed texts) form t among = All-contains IsLiteral texts t form among
-
-station_is_literal : (pattern : StationPattern) → HasStationForm pattern → (t : Text) → Contains (station_of pattern) t → IsLiteral t
-station_is_literal pattern.Any form t among = absurd (nothing_in_nil t among)
-station_is_literal (pattern.Literal literal) form t among = let P : Text → Type 0 = λ x. IsLiteral x in subst P (only_one literal t among) form
-station_is_literal (pattern.Prefix prefix) form t among = absurd (nothing_in_nil t among)
-
-prefix_is_prefix : (pattern : StationPattern) → HasStationForm pattern → (t : Text) → Contains (prefix_of pattern) t → IsPrefix t
+prefix_is_prefix : (pattern : FieldPattern) → HasFieldForm pattern → (t : Text) → Contains (prefix_of pattern) t → IsPrefix t
 prefix_is_prefix pattern.Any form t among = absurd (nothing_in_nil t among)
 prefix_is_prefix (pattern.Literal literal) form t among = absurd (nothing_in_nil t among)
 prefix_is_prefix (pattern.Prefix prefix) form t among = let P : Text → Type 0 = λ x. IsPrefix x in subst P (only_one prefix t among) form
 
-stations_are_literals : (stations : Stations) → AreStations stations → (t : Text) → Contains (listed_stations stations) t → IsLiteral t
-stations_are_literals stations.Any form t among = absurd (nothing_in_nil t among)
-stations_are_literals (stations.Listed values) form t among = All-contains IsLiteral values.literals t form.0 among
+values_are_literals : (stations : Values) → AreValues stations → (t : Text) → Contains (listed_literals stations) t → IsLiteral t
+values_are_literals values.Any form t among = absurd (nothing_in_nil t among)
+values_are_literals (values.Listed own) form t among = All-contains IsLiteral own.literals t form.0 among
 
-prefixes_are_prefixes : (stations : Stations) → AreStations stations → (t : Text) → Contains (listed_prefixes stations) t → IsPrefix t
-prefixes_are_prefixes stations.Any form t among = absurd (nothing_in_nil t among)
-prefixes_are_prefixes (stations.Listed values) form t among = All-contains IsPrefix values.prefixes t form.1 among
+prefixes_are_prefixes : (stations : Values) → AreValues stations → (t : Text) → Contains (listed_prefixes stations) t → IsPrefix t
+prefixes_are_prefixes values.Any form t among = absurd (nothing_in_nil t among)
+prefixes_are_prefixes (values.Listed own) form t among = All-contains IsPrefix own.prefixes t form.1 among
 
 -- what a text of the plan is, by what it is named for
 abbrev pub IsOf : Attribute → Text → Type 0
 IsOf Modality t = IsLiteral t
+IsOf ModalityPrefix t = IsPrefix t
 IsOf Station t = IsLiteral t
 IsOf StationPrefix t = IsPrefix t
 
 rule_has_form : (nodes : List Node) (name : Text) (attribute : Attribute) (rule : Rule) → IsRuleOf nodes name rule → (t : Text) → Contains (named_by_rule attribute rule) t → IsOf attribute t
 rule_has_form nodes name Modality rule is t among = pattern_is_literal rule.modality is.modality t among
-rule_has_form nodes name Station rule is t among = station_is_literal rule.station is.station t among
+rule_has_form nodes name ModalityPrefix rule is t among = prefix_is_prefix rule.modality is.modality t among
+rule_has_form nodes name Station rule is t among = pattern_is_literal rule.station is.station t among
 rule_has_form nodes name StationPrefix rule is t among = prefix_is_prefix rule.station is.station t among
 
 flow_has_form : (nodes : List Node) (attribute : Attribute) (flow : Flow) → IsWellFormedFlow nodes flow → (t : Text) → Contains (named_by_flow attribute flow) t → IsOf attribute t
 flow_has_form nodes Modality flow is t among = values_are_literals flow.modalities is.modalities t among
-flow_has_form nodes Station flow is t among = stations_are_literals flow.stations is.stations t among
+flow_has_form nodes ModalityPrefix flow is t among = prefixes_are_prefixes flow.modalities is.modalities t among
+flow_has_form nodes Station flow is t among = values_are_literals flow.stations is.stations t among
 flow_has_form nodes StationPrefix flow is t among = prefixes_are_prefixes flow.stations is.stations t among
 
 -- each text that the plan names is a literal, or a prefix
@@ -247,57 +226,96 @@ named_has_form plan formed attribute t among =
 
 is_plain_of : (attribute : Attribute) (t : Text) → IsOf attribute t → All (λ byte. byte < 127) t
 is_plain_of Modality t is = is_plain t is
+is_plain_of ModalityPrefix t is = is_plain t is.literal
 is_plain_of Station t is = is_plain t is
 is_plain_of StationPrefix t is = is_plain t is.literal
 
 pub named_are_plain : (plan : Network) → IsWellFormed plan → (attribute : Attribute) → ArePlain (named_in attribute plan)
 named_are_plain plan formed attribute = all_from_each (All (λ byte. byte < 127)) (named_in attribute plan) (λ t among. is_plain_of attribute t (named_has_form plan formed attribute t among))
 
-pub stations_are_plain : (plan : Network) → IsWellFormed plan → ArePlainStations (literals_of plan).stations
+pub modalities_are_plain : (plan : Network) → IsWellFormed plan → ArePlainValues (modalities_of plan)
+modalities_are_plain plan formed = record {
+  literals = named_are_plain plan formed Modality;
+  prefixes = named_are_plain plan formed ModalityPrefix;
+  some = all_from_each (λ t. t ≢ []) (named_in ModalityPrefix plan) (λ t among. (named_has_form plan formed ModalityPrefix t among).some);
+}
+
+pub stations_are_plain : (plan : Network) → IsWellFormed plan → ArePlainValues (stations_of plan)
 stations_are_plain plan formed = record {
   literals = named_are_plain plan formed Station;
   prefixes = named_are_plain plan formed StationPrefix;
-  some = all_from_each (λ t. t ≢ []) (prefixes_of plan) (λ t among. (named_has_form plan formed StationPrefix t among).some);
+  some = all_from_each (λ t. t ≢ []) (named_in StationPrefix plan) (λ t among. (named_has_form plan formed StationPrefix t among).some);
 }
 
--- ---- format 1
+-- ---- formats
 none_in_each : {X : Type 0} (f : X → List Text) (xs : List X) → All (λ x. f x ≡ []) xs → flat_map f xs ≡ []
 none_in_each f [] none = refl
 none_in_each f (x ∷ xs) none = rw (All-head (λ y. f y ≡ []) x xs none, none_in_each f xs (All-tail (λ y. f y ≡ []) x xs none)) refl
 
-none_in_format_1 : (format : Format) (nodes : List Node) (flows : List Flow) → format ≡ One → IsInFormat format nodes flows → IsInFormat One nodes flows
-none_in_format_1 format nodes flows one is = let P : Format → Type 0 = λ f. IsInFormat f nodes flows in subst P one is
-
-pub format_1_has_none : (plan : Network) → IsWellFormed plan → plan.format ≡ One → prefixes_of plan ≡ []
-format_1_has_none plan formed one =
-    let none = none_in_format_1 plan.format plan.nodes plan.flows one formed.in_format in
-    let ruled : flat_map (λ (n : Node). named_by_rules StationPrefix n.rules) plan.nodes ≡ [] =
-    none_in_each (λ (n : Node). named_by_rules StationPrefix n.rules) plan.nodes
-    (all_from_each (λ n. named_by_rules StationPrefix n.rules ≡ []) plan.nodes (λ n among. none_in_each (λ (r : Rule). named_by_rule StationPrefix r) n.rules
-    (All-contains (λ (node : Node). All (λ rule. prefix_of rule.station ≡ []) node.rules) plan.nodes n none.0 among))) in
-    let flowed : named_by_flows StationPrefix plan.flows ≡ [] = none_in_each (λ (f : Flow). named_by_flow StationPrefix f) plan.flows none.1 in
+-- where no rule and no flow names a value of the attribute, the plan names none
+none_named : (attribute : Attribute) (plan : Network) → All (λ node. All (λ rule. named_by_rule attribute rule ≡ []) node.rules) plan.nodes →
+    All (λ flow. named_by_flow attribute flow ≡ []) plan.flows → named_in attribute plan ≡ []
+none_named attribute plan of_rules of_flows =
+    let ruled : flat_map (λ (n : Node). named_by_rules attribute n.rules) plan.nodes ≡ [] =
+    none_in_each (λ (n : Node). named_by_rules attribute n.rules) plan.nodes
+    (all_from_each (λ n. named_by_rules attribute n.rules ≡ []) plan.nodes (λ n among. none_in_each (λ (r : Rule). named_by_rule attribute r) n.rules
+    (All-contains (λ (node : Node). All (λ rule. named_by_rule attribute rule ≡ []) node.rules) plan.nodes n of_rules among))) in
+    let flowed : named_by_flows attribute plan.flows ≡ [] = none_in_each (λ (f : Flow). named_by_flow attribute f) plan.flows of_flows in
     rw (ruled, flowed) refl
 
+-- what the format has of each rule and each flow, all have
+each_rule : (P Q : Rule → Type 0) (nodes : List Node) → ((rule : Rule) → P rule → Q rule) → All (λ node. All P node.rules) nodes → All (λ node. All Q node.rules) nodes
+each_rule P Q nodes f all = all_from_each (λ node. All Q node.rules) nodes (λ node among. all_from_each Q node.rules
+    (λ rule has. f rule (All-contains P node.rules rule (All-contains (λ (n : Node). All P n.rules) nodes node all among) has)))
+
+each_flow : (P Q : Flow → Type 0) (flows : List Flow) → ((flow : Flow) → P flow → Q flow) → All P flows → All Q flows
+each_flow P Q flows f all = all_from_each Q flows (λ flow among. f flow (All-contains P flows flow all among))
+
+in_format : (format own : Format) (nodes : List Node) (flows : List Flow) → own ≡ format → IsInFormat own nodes flows → IsInFormat format nodes flows
+in_format format own nodes flows is has = let P : Format → Type 0 = λ f. IsInFormat f nodes flows in subst P is has
+
+-- a format without prefixes of modalities has none in its rules and flows
+no_modality_prefix : (format : Format) → ((prefixes : List Text) → ModalitiesFit format prefixes → prefixes ≡ []) →
+    (plan : Network) → IsInFormat format plan.nodes plan.flows → (modalities_of plan).prefixes ≡ []
+no_modality_prefix format none plan has = none_named ModalityPrefix plan
+    (each_rule (RuleFits format) (λ rule. prefix_of rule.modality ≡ []) plan.nodes (λ rule fits. none (prefix_of rule.modality) fits.0) has.each_rule)
+    (each_flow (λ flow. ValuesFit format flow.modalities flow.stations) (λ flow. listed_prefixes flow.modalities ≡ []) plan.flows (λ flow fits. none (listed_prefixes flow.modalities) fits.0) has.each_flow)
+
+pub format_1_has_none : (plan : Network) → IsWellFormed plan → plan.format ≡ One → ((modalities_of plan).prefixes ≡ []) × ((stations_of plan).prefixes ≡ [])
+format_1_has_none plan formed one =
+    let has = in_format One plan.format plan.nodes plan.flows one formed.in_format in (
+      no_modality_prefix One (λ prefixes none. none) plan has,
+      none_named StationPrefix plan
+          (each_rule (RuleFits One) (λ rule. prefix_of rule.station ≡ []) plan.nodes (λ rule fits. fits.1) has.each_rule)
+          (each_flow (λ flow. ValuesFit One flow.modalities flow.stations) (λ flow. listed_prefixes flow.stations ≡ []) plan.flows (λ flow fits. fits.1) has.each_flow),
+    )
+
+pub format_2_has_none : (plan : Network) → IsWellFormed plan → plan.format ≡ Two → (modalities_of plan).prefixes ≡ []
+format_2_has_none plan formed two = no_modality_prefix Two (λ prefixes none. none) plan (in_format Two plan.format plan.nodes plan.flows two formed.in_format)
+
 -- where no prefix is named, the parts are the literals and the rest
-plain_parts : (values : StationValues) → values.prefixes ≡ [] → (part : OwnedStation) (value : Text) → InStation values part value ↔ InPlainField values.literals part value
-plain_parts values none (station.Literal literal) value = (λ h. h, λ h. h)
-plain_parts values none (station.Prefix prefix) value = (
+plain_parts : (values : FieldValues) → values.prefixes ≡ [] → (part : OwnedField) (value : Text) → InField values part value ↔ InPlainField values.literals part value
+plain_parts values none (part.Literal literal) value = (λ h. h, λ h. h)
+plain_parts values none (part.Prefix prefix) value = (
   λ h. nothing_in_nil prefix (let P : List Text → Type 0 = λ ts. Contains ts prefix in subst P none h.1.among),
   λ h. absurd h,
 )
-plain_parts values none station.Rest value = (
+plain_parts values none part.Rest value = (
   λ h. h.0,
   λ h. (h, λ prefix among begins. nothing_in_nil prefix (let P : List Text → Type 0 = λ ts. Contains ts prefix in subst P none among)),
 )
 
-pub format_1_keeps : (plan : Network) → IsWellFormed plan → plan.format ≡ One →
-    (part : OwnedStation) (value : Text) → InStation (literals_of plan).stations part value ↔ InPlainField (stations_of plan) part value
-format_1_keeps plan formed one part value = plain_parts (literals_of plan).stations (format_1_has_none plan formed one) part value
+pub format_1_keeps : (plan : Network) → IsWellFormed plan → plan.format ≡ One → KeepsItsParts (modalities_of plan) × KeepsItsParts (stations_of plan)
+format_1_keeps plan formed one =
+    let none = format_1_has_none plan formed one in (plain_parts (modalities_of plan) none.0, plain_parts (stations_of plan) none.1)
+
+pub format_2_keeps : (plan : Network) → IsWellFormed plan → plan.format ≡ Two → KeepsItsParts (modalities_of plan)
+format_2_keeps plan formed two = plain_parts (modalities_of plan) (format_2_has_none plan formed two)
 
 pub cell_has_a_key : (plan : Network) → IsWellFormed plan → (cell : OwnedCell) → IsCellOf plan cell → LiesIn plan cell (key_of cell)
 cell_has_a_key plan formed cell is = record {
   class = refl;
   syntax = refl;
-  modality = part_has_value (literals_of plan).modalities cell.modality (named_are_plain plan formed Modality) is.0;
-  station = station_has_value (literals_of plan).stations cell.station (stations_are_plain plan formed) is.1;
+  modality = part_has_value (literals_of plan).modalities cell.modality (modalities_are_plain plan formed) is.0;
+  station = part_has_value (literals_of plan).stations cell.station (stations_are_plain plan formed) is.1;
 }

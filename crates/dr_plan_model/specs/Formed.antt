@@ -1,13 +1,13 @@
 -- Well-formed plans: names, addresses, classes and literals, names that exist, and the limits of a
 -- plan.
 use Rattle.std.specs.Prelude.{◌≡◌, ◌≢◌, ℕ, ◌≤◌, ◌<◌, ◌+◌, ◌⊎◌, List, [], ◌∷◌, ◌++◌, length, codes}
-use Rattle.std.specs.Prelude.{All, AllPairs, Contains, sum_by}
+use Rattle.std.specs.Prelude.{All, AllPairs, Contains, Some, None, sum_by}
 use Rattle.std.specs.Str.Parse.{digits_value}
 use Rattle.dr_base.specs.Texts.{Text}
 use Rattle.dr_route.specs.declared.rule.Pattern.{Pattern}
 use Rattle.dr_route.specs.declared.rule.Pattern.TheVariants.{Any, Literal}
-use Rattle.dr_route.specs.declared.rule.StationPattern.{StationPattern}
-use Rattle.dr_route.specs.declared.rule.StationPattern.TheVariants as station
+use Rattle.dr_route.specs.declared.rule.FieldPattern.{FieldPattern}
+use Rattle.dr_route.specs.declared.rule.FieldPattern.TheVariants as field
 use Rattle.dr_route.specs.declared.rule.Rule.{Rule}
 use Rattle.dr_route.specs.declared.accept.Callers.{Callers}
 use Rattle.dr_route.specs.declared.accept.Callers.TheVariants as callers
@@ -16,10 +16,11 @@ use Rattle.dr_plan_model.specs.declared.plan.Node.{Node}
 use Rattle.dr_plan_model.specs.declared.plan.Flow.{Flow}
 use Rattle.dr_plan_model.specs.declared.plan.Values.{Values}
 use Rattle.dr_plan_model.specs.declared.plan.Values.TheVariants as values
-use Rattle.dr_plan_model.specs.declared.plan.Stations.{Stations}
-use Rattle.dr_plan_model.specs.declared.plan.Stations.TheVariants as stations
 use Rattle.dr_plan_model.specs.declared.plan.Format.{Format}
 use Rattle.dr_plan_model.specs.declared.plan.Format.TheVariants.{One, Two, Three}
+use Rattle.dr_plan_model.specs.declared.listens.Listens.{Listens}
+use Rattle.dr_plan_model.specs.declared.listens.Listens.TheVariants.{Nowhere, At}
+use Rattle.dr_plan_model.specs.Listening.{ListensFits, MayAccept}
 use Rattle.dr_plan_model.specs.Naming.{prefix_of, listed_prefixes}
 
 -- no space stands at the start of the text, nor at its end
@@ -41,7 +42,7 @@ pub record IsLiteral (text : Text) : Type 0 where
   pub printable : All (λ byte. (32 ≤ byte) × (byte < 127) × (byte ≢ 42)) text
   pub trimmed : IsTrimmed text
 
--- what stations are named by that begin with it: a literal of one byte or more
+-- what values are named by that begin with it: a literal of one byte or more
 pub record IsPrefix (text : Text) : Type 0 where
   pub literal : IsLiteral text
   pub some : text ≢ []
@@ -68,6 +69,12 @@ pub record IsAddress (text : Text) : Type 0 where
   pub printable : All (λ byte. (33 ≤ byte) × (byte < 127)) text
   pub short : length text ≤ 255
 
+-- the addresses of a node that listens are addresses
+abbrev pub HasAddresses : Listens → Type 0
+HasAddresses Nowhere = Unit {0}
+HasAddresses (At address None) = IsAddress address
+HasAddresses (At address (Some own)) = IsAddress address × IsAddress own
+
 -- no limit, or 1,024 to 1,048,576 bytes
 abbrev pub IsMaxPdu : ℕ → Type 0
 IsMaxPdu bytes = (bytes ≡ 0) ⊎ ((1024 ≤ bytes) × (bytes ≤ 1048576))
@@ -81,18 +88,18 @@ abbrev pub HasForm : (Text → Type 0) → Pattern → Type 0
 HasForm P Any = Unit {0}
 HasForm P (Literal literal) = P literal
 
--- the station's pattern has a literal or a prefix of the right form, if it has one
-abbrev pub HasStationForm : StationPattern → Type 0
-HasStationForm station.Any = Unit {0}
-HasStationForm (station.Literal literal) = IsLiteral literal
-HasStationForm (station.Prefix prefix) = IsPrefix prefix
+-- the pattern of a field has a literal or a prefix of the right form, if it has one
+abbrev pub HasFieldForm : FieldPattern → Type 0
+HasFieldForm field.Any = Unit {0}
+HasFieldForm (field.Literal literal) = IsLiteral literal
+HasFieldForm (field.Prefix prefix) = IsPrefix prefix
 
 -- a rule of the node of that name: it doesn't send to its own node
 pub record IsRuleOf (nodes : List Node) (name : Text) (rule : Rule) : Type 0 where
   pub from : HasForm (IsKnownName nodes) rule.from
   pub class : HasForm IsClass rule.class
-  pub modality : HasForm IsLiteral rule.modality
-  pub station : HasStationForm rule.station
+  pub modality : HasFieldForm rule.modality
+  pub station : HasFieldForm rule.station
   pub to : All (λ target. IsKnownName nodes target × (target ≢ name)) rule.to
 
 -- the callers of an accept row are all, or names of nodes of the plan
@@ -107,24 +114,20 @@ pub record IsAcceptRow (nodes : List Node) (row : AcceptRow) : Type 0 where
   pub some : row.syntaxes ≢ []
   pub apart : AllPairs (λ a b. a ≢ b) row.syntaxes
 
--- a node of a plan: its title, address and greatest length, its accept rows and its rules are each
--- of the right form
+-- a node of a plan: its title, its addresses and greatest length, its accept rows and its rules are
+-- each of the right form, and it accepts nothing where it listens nowhere
 pub record IsWellFormedNode (nodes : List Node) (node : Node) : Type 0 where
   pub name : IsName node.name
-  pub address : IsAddress node.address
+  pub addresses : HasAddresses node.listens
+  pub may_accept : MayAccept node.listens node.accepts
   pub max_pdu : IsMaxPdu node.max_pdu
   pub accepts : All (IsAcceptRow nodes) node.accepts
   pub rules : All (IsRuleOf nodes node.name) node.rules
 
--- the values of a flow are all, or literals of the right form
-abbrev pub AreLiterals : Values → Type 0
-AreLiterals values.Any = Unit {0}
-AreLiterals (values.Listed texts) = All IsLiteral texts
-
--- the stations of a flow are all, or literals and prefixes of the right form
-abbrev pub AreStations : Stations → Type 0
-AreStations stations.Any = Unit {0}
-AreStations (stations.Listed values) = All IsLiteral values.literals × All IsPrefix values.prefixes
+-- the values of a flow are all, or literals and prefixes of the right form
+abbrev pub AreValues : Values → Type 0
+AreValues values.Any = Unit {0}
+AreValues (values.Listed own) = All IsLiteral own.literals × All IsPrefix own.prefixes
 
 -- a flow of a plan: from one node to another, with classes, transfer syntaxes, and values of the
 -- right form
@@ -134,19 +137,39 @@ pub record IsWellFormedFlow (nodes : List Node) (flow : Flow) : Type 0 where
   pub apart : flow.at ≢ flow.to
   pub classes : (flow.classes ≢ []) × All IsClass flow.classes
   pub syntaxes : flow.syntaxes ≢ []
-  pub modalities : AreLiterals flow.modalities
-  pub stations : AreStations flow.stations
+  pub modalities : AreValues flow.modalities
+  pub stations : AreValues flow.stations
 
--- the format has what the nodes and flows name: in format 1 there is no prefix
-abbrev pub IsInFormat : Format → List Node → List Flow → Type 0
-IsInFormat One nodes flows =
-    All (λ node. All (λ rule. prefix_of rule.station ≡ []) node.rules) nodes
-    × All (λ flow. listed_prefixes flow.stations ≡ []) flows
-IsInFormat Two nodes flows = Unit {0}
-IsInFormat Three nodes flows = Unit {0}
+-- the format has these prefixes of modalities: from format 3 on there are some
+abbrev pub ModalitiesFit : Format → List Text → Type 0
+ModalitiesFit One prefixes = prefixes ≡ []
+ModalitiesFit Two prefixes = prefixes ≡ []
+ModalitiesFit Three prefixes = Unit {0}
+
+-- the format has these prefixes of stations: from format 2 on there are some
+abbrev pub StationsFit : Format → List Text → Type 0
+StationsFit One prefixes = prefixes ≡ []
+StationsFit Two prefixes = Unit {0}
+StationsFit Three prefixes = Unit {0}
+
+-- the format has the prefixes that the rule names
+abbrev pub RuleFits : Format → Rule → Type 0
+RuleFits format rule =
+    ModalitiesFit format (prefix_of rule.modality) × StationsFit format (prefix_of rule.station)
+
+-- the format has the prefixes of these values of a flow
+abbrev pub ValuesFit : Format → Values → Values → Type 0
+ValuesFit format modalities stations =
+    ModalitiesFit format (listed_prefixes modalities)
+    × StationsFit format (listed_prefixes stations)
+
+-- the format has what the nodes and flows name
+pub record IsInFormat (format : Format) (nodes : List Node) (flows : List Flow) : Type 0 where
+  pub each_rule : All (λ node. All (RuleFits format) node.rules) nodes
+  pub each_flow : All (λ flow. ValuesFit format flow.modalities flow.stations) flows
 
 -- the nodes and flows of a plan of that format: at most 64 nodes, each name once, and at most 1,024
--- rules and flows together
+-- rules and flows together; the nodes listen as in that format
 pub record AreWellFormed (format : Format) (nodes : List Node) (flows : List Flow) : Type 0 where
   pub few_nodes : length nodes ≤ 64
   pub few_rules : sum_by (λ node. length node.rules) nodes + length flows ≤ 1024
@@ -154,3 +177,4 @@ pub record AreWellFormed (format : Format) (nodes : List Node) (flows : List Flo
   pub each_node : All (IsWellFormedNode nodes) nodes
   pub each_flow : All (IsWellFormedFlow nodes) flows
   pub in_format : IsInFormat format nodes flows
+  pub listen : All (λ node. ListensFits format node.listens) nodes

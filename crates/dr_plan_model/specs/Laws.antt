@@ -1,16 +1,20 @@
 -- Laws of walks.
-use Rattle.std.specs.Prelude.{◌≡◌, ◌↔◌, List, [], Contains}
+use Rattle.std.specs.Prelude.{◌≡◌, ◌≢◌, ◌↔◌, List, [], Contains, None}
 use Rattle.dr_base.specs.Texts.{Text}
 use Rattle.dr_route.specs.Routes.{local}
-use Rattle.dr_route.specs.Cells.{InStation}
-use Rattle.dr_route.specs.Laws.{IsPart, IsStationPart, key_of}
-use Rattle.dr_route.specs.declared.cell.OwnedStation.{OwnedStation}
-use Rattle.dr_route.specs.declared.cell.OwnedStation.TheVariants as station
+use Rattle.dr_route.specs.Cells.{InField}
+use Rattle.dr_route.specs.Laws.{IsPart, key_of}
+use Rattle.dr_route.specs.declared.cell.FieldValues.{FieldValues}
+use Rattle.dr_route.specs.declared.cell.OwnedField.{OwnedField}
+use Rattle.dr_route.specs.declared.cell.OwnedField.TheVariants as part
 use Rattle.dr_route.specs.declared.key.Key.{Key}
 use Rattle.dr_route.specs.declared.cell.OwnedCell.{OwnedCell}
 use Rattle.dr_plan_model.specs.Networks.{Network}
-use Rattle.dr_plan_model.specs.declared.plan.Format.TheVariants.{One}
-use Rattle.dr_plan_model.specs.Plans.{LiesIn, IsWellFormed, literals_of, stations_of, prefixes_of}
+use Rattle.dr_plan_model.specs.declared.plan.Format.TheVariants.{One, Two, Three}
+use Rattle.dr_plan_model.specs.declared.plan.Node.{Node}
+use Rattle.dr_plan_model.specs.declared.listens.Listens.TheVariants.{Nowhere, At}
+use Rattle.dr_plan_model.specs.Plans.{LiesIn, IsWellFormed, literals_of, modalities_of}
+use Rattle.dr_plan_model.specs.Plans.{stations_of}
 use Rattle.dr_plan_model.specs.Walks.{Sends, Keeps, IsEntry, IsWalk, IsReached}
 
 -- what enters at the node itself isn't kept there
@@ -68,7 +72,7 @@ ReachAlike =
 abbrev pub IsCellOf : Network → OwnedCell → Type 0
 IsCellOf plan cell =
     IsPart (literals_of plan).modalities cell.modality
-    × IsStationPart (literals_of plan).stations cell.station
+    × IsPart (literals_of plan).stations cell.station
 
 -- each cell of a plan has a key of bytes
 abbrev pub EachCellOfAPlanHasAKey : Type 0
@@ -79,18 +83,47 @@ EachCellOfAPlanHasAKey =
 -- a plan of format 1 names no prefix
 abbrev pub FormatOneHasNoPrefix : Type 0
 FormatOneHasNoPrefix =
-    (plan : Network) → IsWellFormed plan → plan.format ≡ One → prefixes_of plan ≡ []
+    (plan : Network) → IsWellFormed plan → plan.format ≡ One
+    → ((modalities_of plan).prefixes ≡ []) × ((stations_of plan).prefixes ≡ [])
 
--- the parts of the stations where there are no prefixes: one of these literals, or none of them
-abbrev pub InPlainField : List Text → OwnedStation → Text → Type 0
-InPlainField literals (station.Literal literal) value =
+-- a plan of format 2 names no prefix of a modality
+abbrev pub FormatTwoHasNoPrefix : Type 0
+FormatTwoHasNoPrefix =
+    (plan : Network) → IsWellFormed plan → plan.format ≡ Two → (modalities_of plan).prefixes ≡ []
+
+-- the parts of a field where there are no prefixes: one of these literals, or none of them
+abbrev pub InPlainField : List Text → OwnedField → Text → Type 0
+InPlainField literals (part.Literal literal) value =
     Contains literals literal × (literal ≡ value)
-InPlainField literals (station.Prefix prefix) value = ⊥
-InPlainField literals station.Rest value = Contains literals value → ⊥
+InPlainField literals (part.Prefix prefix) value = ⊥
+InPlainField literals part.Rest value = Contains literals value → ⊥
 
--- the stations of a plan of format 1 lie in the parts in which they lay before there were prefixes
+-- the values lie in the parts in which they lay before there were prefixes
+abbrev pub KeepsItsParts : FieldValues → Type 0
+KeepsItsParts values =
+    (part : OwnedField) (value : Text)
+    → InField values part value ↔ InPlainField values.literals part value
+
+-- a plan of format 1 has the cells that it had before there were prefixes
 abbrev pub FormatOneKeepsItsCells : Type 0
 FormatOneKeepsItsCells =
     (plan : Network) → IsWellFormed plan → plan.format ≡ One
-    → (part : OwnedStation) (value : Text)
-    → InStation (literals_of plan).stations part value ↔ InPlainField (stations_of plan) part value
+    → KeepsItsParts (modalities_of plan) × KeepsItsParts (stations_of plan)
+
+-- a plan of format 2 has the parts of modalities that it had before there were prefixes of these
+abbrev pub FormatTwoKeepsItsModalities : Type 0
+FormatTwoKeepsItsModalities =
+    (plan : Network) → IsWellFormed plan → plan.format ≡ Two → KeepsItsParts (modalities_of plan)
+
+-- a node of a plan that listens nowhere accepts nothing
+abbrev pub NowhereAcceptsNothing : Type 0
+NowhereAcceptsNothing =
+    (plan : Network) → IsWellFormed plan → (node : Node) → Contains plan.nodes node
+    → node.listens ≡ Nowhere → node.accepts ≡ []
+
+-- before format 3 each node of a plan listens, and binds to the address by which others reach it
+abbrev pub EarlierBindToTheirAddress : Type 0
+EarlierBindToTheirAddress =
+    (plan : Network) → IsWellFormed plan → plan.format ≢ Three
+    → (node : Node) → Contains plan.nodes node
+    → (address : Text) × (node.listens ≡ At address None)

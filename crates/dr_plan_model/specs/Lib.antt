@@ -1,5 +1,6 @@
 pub mod Formed
 pub mod Laws
+pub mod Listening
 pub mod Listings
 pub mod Naming
 pub mod Networks

@@ -2,14 +2,15 @@
 use Rattle.std.specs.Prelude.{◌≡◌, List, ◌++◌, Contains, flat_map, map as mapped}
 use Rattle.std.specs.Prelude.{IsPermutation, IsSorted}
 use Rattle.dr_base.specs.Texts.{Text, text_cmp}
+use Rattle.dr_route.specs.declared.cell.FieldValues.{FieldValues}
 use Rattle.dr_route.specs.declared.cell.Literals.{Literals}
 use Rattle.dr_route.specs.declared.cell.OwnedCell.{OwnedCell}
 use Rattle.dr_route.specs.declared.key.Key.{Key}
-use Rattle.dr_route.specs.Cells.{InCell}
+use Rattle.dr_route.specs.Cells.{InCell, SameLiterals, AreInOrder}
 use Rattle.dr_plan_model.specs.declared.plan.Node.{Node}
 use Rattle.dr_plan_model.specs.declared.literals.Attribute.{Attribute}
-use Rattle.dr_plan_model.specs.declared.literals.Attribute.TheVariants.{Modality, Station}
-use Rattle.dr_plan_model.specs.declared.literals.Attribute.TheVariants.{StationPrefix}
+use Rattle.dr_plan_model.specs.declared.literals.Attribute.TheVariants.{Modality, ModalityPrefix}
+use Rattle.dr_plan_model.specs.declared.literals.Attribute.TheVariants.{Station, StationPrefix}
 use Rattle.dr_plan_model.specs.Networks.{Network}
 use Rattle.dr_plan_model.specs.Naming.{named_by_rules, named_by_flows}
 use Rattle.dr_plan_model.specs.Formed.{AreWellFormed}
@@ -42,24 +43,28 @@ named_in attribute plan =
     flat_map (λ (node : Node). named_by_rules attribute node.rules) plan.nodes
     ++ named_by_flows attribute plan.flows
 
--- the modalities that the plan names
-abbrev pub modalities_of : Network → List Text
-modalities_of plan = named_in Modality plan
+-- what the plan names for modality
+abbrev pub modalities_of : Network → FieldValues
+modalities_of plan = record {
+  literals = named_in Modality plan;
+  prefixes = named_in ModalityPrefix plan;
+}
 
--- the single stations that the plan names
-abbrev pub stations_of : Network → List Text
-stations_of plan = named_in Station plan
-
--- what the plan names stations by that begin with it
-abbrev pub prefixes_of : Network → List Text
-prefixes_of plan = named_in StationPrefix plan
+-- what the plan names for station
+abbrev pub stations_of : Network → FieldValues
+stations_of plan = record {
+  literals = named_in Station plan;
+  prefixes = named_in StationPrefix plan;
+}
 
 -- the modalities and stations that the plan names, which part all keys into cells
 abbrev pub literals_of : Network → Literals
-literals_of plan = record {
-  modalities = record { literals = modalities_of plan };
-  stations = record { literals = stations_of plan; prefixes = prefixes_of plan };
-}
+literals_of plan = record { modalities = modalities_of plan; stations = stations_of plan }
+
+-- the values are those that the plan names, each in byte order and each once
+pub record AreLiteralsOf (plan : Network) (literals : Literals) : Type 0 where
+  pub same : SameLiterals literals (literals_of plan)
+  pub ordered : AreInOrder literals
 
 -- the key lies in that cell of the plan
 abbrev pub LiesIn : Network → OwnedCell → Key → Type 0

@@ -8,26 +8,18 @@ use Rattle.dr_plan_model.specs.declared.plan.Node.{Node}
 use Rattle.dr_plan_model.specs.declared.plan.Flow.{Flow}
 use Rattle.dr_plan_model.specs.declared.plan.Values.{Values}
 use Rattle.dr_plan_model.specs.declared.plan.Values.TheVariants as values
-use Rattle.dr_plan_model.specs.declared.plan.Stations.{Stations}
-use Rattle.dr_plan_model.specs.declared.plan.Stations.TheVariants as stations
 use Rattle.dr_plan_model.specs.Networks.{Network}
 use Rattle.dr_plan_model.specs.Plans.{IsNode}
-
--- the modality is one that the flow speaks of: any one, or a listed one
-abbrev pub IsListed : Values → Text → Type 0
-IsListed values.Any value = Unit {0}
-IsListed (values.Listed texts) value = Contains texts value
 
 -- the value begins with one of the prefixes
 abbrev pub BeginsOne : List Text → Text → Type 0
 BeginsOne prefixes value = (prefix : Text) × Contains prefixes prefix × Begins prefix value
 
--- the station is one that the flow speaks of: any one, a listed one, or one that begins with a
--- listed prefix
-abbrev pub IsStationListed : Stations → Text → Type 0
-IsStationListed stations.Any value = Unit {0}
-IsStationListed (stations.Listed values) value =
-    Contains values.literals value ⊎ BeginsOne values.prefixes value
+-- the value is one that the flow speaks of: any one, a listed one, or one that begins with a listed
+-- prefix
+abbrev pub IsListed : Values → Text → Type 0
+IsListed values.Any value = Unit {0}
+IsListed (values.Listed own) value = Contains own.literals value ⊎ BeginsOne own.prefixes value
 
 -- the flow brings the key: its class, transfer syntax, modality and station are ones that the flow
 -- speaks of
@@ -35,7 +27,7 @@ pub record FlowBrings (flow : Flow) (key : Key) : Type 0 where
   pub class : Contains flow.classes key.class
   pub syntax : Contains flow.syntaxes key.syntax
   pub modality : IsListed flow.modalities key.modality
-  pub station : IsStationListed flow.stations key.station
+  pub station : IsListed flow.stations key.station
 
 -- some flow of the list, at the site and to that node, fits the key
 abbrev pub FlowsAmong : List Flow → Text → Key → Text → Type 0

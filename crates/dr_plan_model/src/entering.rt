@@ -3,13 +3,12 @@
 ghost use Rattle.std.specs.Prelude.{◌≡◌, ◌↔◌, ◌⊎◌, IsTrue, IfOk, Contains, false};
 ghost use Rattle.dr_base.specs.Texts.{Text as Words, IsInByteOrder};
 ghost use Rattle.dr_route.specs.Names.{HasName};
-ghost use Rattle.dr_plan_model.specs.Naming.{listed, listed_stations};
+ghost use Rattle.dr_plan_model.specs.Naming.{listed_literals};
 ghost use Rattle.dr_plan_model.specs.Listings.{IsListedBy, AreListedBy};
-ghost use Rattle.dr_plan_model.specs.Walks.{FlowBrings, IsListed, IsStationListed, Flows};
-ghost use Rattle.dr_plan_model.specs.Walks.{FlowsAmong};
+ghost use Rattle.dr_plan_model.specs.Walks.{FlowBrings, IsListed, Flows, FlowsAmong};
 
 use crate::listed::Listed;
-use crate::plan::{Flow, Plan, Stations, Values};
+use crate::plan::{Flow, Plan, Values};
 use crate::sending::begins_one;
 use dr_base::{Seq, Text};
 use dr_route::Key;
@@ -18,28 +17,16 @@ use std::alloc::{AllocError, Global};
 use std::collections::BTreeSet;
 use std::slice;
 
-/// Whether the modality is one that the flow speaks of.
+/// Whether the value is one that the flow speaks of. The single values that it lists are this set.
 fn is_listed_in(values: &Values, set: &[Text], value: &Text) -> bool
-    requires same { (t : Words) → Contains set.now t ↔ Contains (listed values.now) t }
+    requires same { (t : Words) → Contains set.now t ↔ Contains (listed_literals values.now) t }
     requires ordered { IsInByteOrder set.now }
     ensures { IsTrue result ↔ IsListed values.now value.now }
 {
     match values {
         Values::Any => true,
-        Values::Listed(_) => is_in_set(set, value),
-    }
-}
-
-/// Whether the station is one that the flow speaks of.
-fn is_station_listed_in(stations: &Stations, set: &[Text], value: &Text) -> bool
-    requires same { (t : Words) → Contains set.now t ↔ Contains (listed_stations stations.now) t }
-    requires ordered { IsInByteOrder set.now }
-    ensures { IsTrue result ↔ IsStationListed stations.now value.now }
-{
-    match stations {
-        Stations::Any => true,
-        Stations::Listed(values) => {
-            is_in_set(set, value) || begins_one(values.prefixes.as_slice(), value)
+        Values::Listed(own) => {
+            is_in_set(set, value) || begins_one(own.prefixes.as_slice(), value)
         }
     }
 }
@@ -56,7 +43,7 @@ fn fits_by(flow: &Flow, listed: &Listed, key: &Key) -> bool
             listed.modalities.as_slice(),
             &key.modality,
         )
-        && is_station_listed_in(&flow.stations, listed.stations.as_slice(), &key.station)
+        && is_listed_in(&flow.stations, listed.stations.as_slice(), &key.station)
 }
 
 /// Whether the flow brings the key in at the site, and to a node that isn't among the names.

@@ -3,6 +3,8 @@ ghost use Rattle.dr_plan_model.specs.Laws.{LocalNeverKeeps, LocalIsNoNode, SendA
 ghost use Rattle.dr_plan_model.specs.Laws.{EnterAlike, WalkAlike, ReachAlike};
 ghost use Rattle.dr_plan_model.specs.Laws.{EachCellOfAPlanHasAKey};
 ghost use Rattle.dr_plan_model.specs.Laws.{FormatOneHasNoPrefix, FormatOneKeepsItsCells};
+ghost use Rattle.dr_plan_model.specs.Laws.{FormatTwoHasNoPrefix, FormatTwoKeepsItsModalities};
+ghost use Rattle.dr_plan_model.specs.Laws.{NowhereAcceptsNothing, EarlierBindToTheirAddress};
 
 /// Nothing is kept for the local caller, and nothing is sent to it.
 pub fn the_local_caller_is_no_node()
@@ -24,9 +26,23 @@ pub fn each_cell_has_a_key()
     ensures { EachCellOfAPlanHasAKey }
 {}
 
-/// A plan of format 1 names no prefix of stations, and its cells are those that there were before
+/// A plan of format 1 names no prefix, and its cells are those that there were before
 /// there were prefixes.
 pub fn format_1_has_no_prefix()
     ensures none { FormatOneHasNoPrefix }
     ensures cells { FormatOneKeepsItsCells }
+{}
+
+/// A plan of format 2 names no prefix of modalities, and the parts of its modalities are those that
+/// there were before there were such prefixes.
+pub fn format_2_has_no_prefix_of_a_modality()
+    ensures none { FormatTwoHasNoPrefix }
+    ensures parts { FormatTwoKeepsItsModalities }
+{}
+
+/// A node of a plan that listens nowhere accepts nothing, and before format 3 each node listens
+/// where others reach it.
+pub fn what_accepts_listens()
+    ensures nowhere { NowhereAcceptsNothing }
+    ensures earlier { EarlierBindToTheirAddress }
 {}

@@ -6,6 +6,7 @@ pub mod copies;
 mod entering;
 pub mod laws;
 mod listed;
+pub mod listens;
 pub mod literals;
 mod names;
 pub mod plan;
@@ -13,5 +14,6 @@ mod same;
 pub mod sending;
 
 pub use listed::Listed;
+pub use listens::Listens;
 pub use names::names_of;
-pub use plan::{Flow, Format, Node, Plan, Stations, Values};
+pub use plan::{Flow, Format, Node, Plan, Values};

@@ -2,13 +2,13 @@
 ghost use Rattle.std.specs.Prelude.{◌≢◌, [], IfOk, OnErr};
 ghost use Rattle.dr_plan_model.specs.Listings.{IsListedBy, AreListedBy};
 
-use crate::literals::{modalities_in, stations_in};
+use crate::literals::literals_in;
 use crate::plan::Flow;
 use dr_base::{Seq, Text};
 use dr_route::names::set_of;
 use std::alloc::{AllocError, Global};
 
-/// The modalities and the single stations that a flow lists, each as a set: in byte order and each
+/// The single modalities and stations that a flow lists, each as a set: in byte order and each
 /// once.
 #[derive(Clone, Debug, Drop)]
 pub struct Listed {
@@ -20,8 +20,8 @@ pub struct Listed {
 fn listed_by(alloc: Global, flow: &Flow) -> Result<Listed, AllocError>
     ensures { IfOk result (IsListedBy flow.now) }
 {
-    let modalities = set_of(alloc, modalities_in(&flow.modalities))?;
-    let stations = set_of(alloc, stations_in(&flow.stations))?;
+    let modalities = set_of(alloc, literals_in(&flow.modalities))?;
+    let stations = set_of(alloc, literals_in(&flow.stations))?;
     Ok(Listed {
         modalities,
         stations,

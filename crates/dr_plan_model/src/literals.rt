@@ -2,16 +2,15 @@
 ghost use Rattle.std.specs.Prelude.{◌≡◌, ◌↔◌, ◌⊎◌, IfOk, OnOk, Contains, flat_map};
 ghost use Rattle.dr_base.specs.Texts.{Text as Words, IsInByteOrder};
 ghost use Rattle.dr_route.specs.Names.{HasName};
-ghost use Rattle.dr_route.specs.Cells.{AreInOrder};
-ghost use Rattle.dr_plan_model.specs.Naming.{literal_of, station_of, prefix_of, listed};
-ghost use Rattle.dr_plan_model.specs.Naming.{listed_stations, listed_prefixes, named_by_rule};
-ghost use Rattle.dr_plan_model.specs.Naming.{named_by_flow, named_by_rules, named_by_flows};
-ghost use Rattle.dr_plan_model.specs.Plans.{modalities_of, stations_of, prefixes_of, named_in};
+ghost use Rattle.dr_plan_model.specs.Naming.{literal_of, prefix_of, listed_literals};
+ghost use Rattle.dr_plan_model.specs.Naming.{listed_prefixes, named_by_rule, named_by_flow};
+ghost use Rattle.dr_plan_model.specs.Naming.{named_by_rules, named_by_flows};
+ghost use Rattle.dr_plan_model.specs.Plans.{named_in, AreLiteralsOf};
 
-use crate::plan::{Flow, Plan, Stations, Values};
+use crate::plan::{Flow, Plan, Values};
 use dr_base::{Seq, Text};
 use dr_route::names::{add_names, names_in_order};
-use dr_route::{FieldValues, Literals, Pattern, Rule, StationPattern, StationValues};
+use dr_route::{FieldPattern, FieldValues, Literals, Rule};
 use std::alloc::{AllocError, Global};
 use std::collections::BTreeSet;
 use std::slice;
@@ -21,6 +20,8 @@ use std::slice;
 pub enum Attribute {
     /// Modality (0008,0060).
     Modality,
+    /// What modalities begin with.
+    ModalityPrefix,
     /// Station name (0008,1010).
     Station,
     /// What station names begin with.
@@ -28,64 +29,44 @@ pub enum Attribute {
 }
 
 /// The literal of the pattern, if it has one.
-fn literal_in(pattern: &Pattern) -> &[Text]
+fn literal_in(pattern: &FieldPattern) -> &[Text]
     ensures { result.now ≡ literal_of pattern.now }
 {
     match pattern {
-        Pattern::Any => &[],
-        Pattern::Literal(literal) => slice::from_ref(literal),
+        FieldPattern::Any => &[],
+        FieldPattern::Literal(literal) => slice::from_ref(literal),
+        FieldPattern::Prefix(_) => &[],
     }
 }
 
-/// The literal of the station's pattern, if it has one.
-fn station_in(pattern: &StationPattern) -> &[Text]
-    ensures { result.now ≡ station_of pattern.now }
-{
-    match pattern {
-        StationPattern::Any => &[],
-        StationPattern::Literal(literal) => slice::from_ref(literal),
-        StationPattern::Prefix(_) => &[],
-    }
-}
-
-/// The prefix of the station's pattern, if it has one.
-fn prefix_in(pattern: &StationPattern) -> &[Text]
+/// The prefix of the pattern, if it has one.
+fn prefix_in(pattern: &FieldPattern) -> &[Text]
     ensures { result.now ≡ prefix_of pattern.now }
 {
     match pattern {
-        StationPattern::Any => &[],
-        StationPattern::Literal(_) => &[],
-        StationPattern::Prefix(prefix) => slice::from_ref(prefix),
+        FieldPattern::Any => &[],
+        FieldPattern::Literal(_) => &[],
+        FieldPattern::Prefix(prefix) => slice::from_ref(prefix),
     }
 }
 
-/// The modalities that a flow lists.
-pub(crate) fn modalities_in(values: &Values) -> &[Text]
-    ensures { result.now ≡ listed values.now }
+/// The single values that a flow lists.
+pub(crate) fn literals_in(values: &Values) -> &[Text]
+    ensures { result.now ≡ listed_literals values.now }
 {
     match values {
         Values::Any => &[],
-        Values::Listed(texts) => texts.as_slice(),
+        Values::Listed(own) => own.literals.as_slice(),
     }
 }
 
-/// The single stations that a flow lists.
-pub(crate) fn stations_in(stations: &Stations) -> &[Text]
-    ensures { result.now ≡ listed_stations stations.now }
+/// The prefixes that a flow lists.
+fn prefixes_in(values: &Values) -> &[Text]
+    ensures { result.now ≡ listed_prefixes values.now }
 {
-    match stations {
-        Stations::Any => &[],
-        Stations::Listed(values) => values.literals.as_slice(),
-    }
-}
-
-/// The prefixes of stations that a flow lists.
-fn prefixes_in(stations: &Stations) -> &[Text]
-    ensures { result.now ≡ listed_prefixes stations.now }
-{
-    match stations {
-        Stations::Any => &[],
-        Stations::Listed(values) => values.prefixes.as_slice(),
+    match values {
+        Values::Any => &[],
+        Values::Listed(own) => own.prefixes.as_slice(),
     }
 }
 
@@ -96,7 +77,8 @@ impl Attribute {
     {
         match self {
             Attribute::Modality => literal_in(&rule.modality),
-            Attribute::Station => station_in(&rule.station),
+            Attribute::ModalityPrefix => prefix_in(&rule.modality),
+            Attribute::Station => literal_in(&rule.station),
             Attribute::StationPrefix => prefix_in(&rule.station),
         }
     }
@@ -106,8 +88,9 @@ impl Attribute {
         ensures { result.now ≡ named_by_flow self flow.now }
     {
         match self {
-            Attribute::Modality => modalities_in(&flow.modalities),
-            Attribute::Station => stations_in(&flow.stations),
+            Attribute::Modality => literals_in(&flow.modalities),
+            Attribute::ModalityPrefix => prefixes_in(&flow.modalities),
+            Attribute::Station => literals_in(&flow.stations),
             Attribute::StationPrefix => prefixes_in(&flow.stations),
         }
     }
@@ -162,21 +145,16 @@ fn named(alloc: Global, plan: &Plan, attribute: Attribute) -> Result<Seq<Text>, 
     Ok(literals)
 }
 
-/// What the plan names for modality and for station, in rules and in flows: modalities, single
-/// stations and prefixes of stations, each in byte order and each once.
+/// What the plan names for modality and for station, in rules and in flows: single values and
+/// prefixes, each in byte order and each once.
 pub fn literals(alloc: Global, plan: &Plan) -> Result<Literals, AllocError>
-    ensures modalities { IfOk result (λ l.
-        (t : Words) → Contains l.modalities.literals t ↔ Contains (modalities_of plan.now) t) }
-    ensures stations { IfOk result (λ l.
-        (t : Words) → Contains l.stations.literals t ↔ Contains (stations_of plan.now) t) }
-    ensures prefixes { IfOk result (λ l.
-        (t : Words) → Contains l.stations.prefixes t ↔ Contains (prefixes_of plan.now) t) }
-    ensures ordered { IfOk result AreInOrder }
+    ensures { IfOk result (AreLiteralsOf plan.now) }
 {
     let modalities = FieldValues {
         literals: named(alloc, plan, Attribute::Modality)?,
+        prefixes: named(alloc, plan, Attribute::ModalityPrefix)?,
     };
-    let stations = StationValues {
+    let stations = FieldValues {
         literals: named(alloc, plan, Attribute::Station)?,
         prefixes: named(alloc, plan, Attribute::StationPrefix)?,
     };

@@ -7,8 +7,9 @@ ghost use Rattle.std.specs.Prelude.{IfOk, MatchOption};
 
 use crate::copies::{copy_accepts, copy_flows, copy_rules};
 use crate::listed::{Listed, all_listed};
+use crate::listens::{Listens, copy_listens};
 use dr_base::{Seq, Syntax, Text};
-use dr_route::{AcceptRow, Rule, StationValues};
+use dr_route::{AcceptRow, FieldValues, Rule};
 use std::alloc::{AllocError, Global};
 use std::marker::Model;
 
@@ -17,7 +18,7 @@ use std::marker::Model;
 #[derive(Debug, Drop)]
 pub struct Node {
     pub name: Text,
-    pub address: Text,
+    pub listens: Listens,
     pub max_pdu: u32,
     pub accepts: Seq<AcceptRow>,
     pub rules: Seq<Rule>,
@@ -31,7 +32,7 @@ impl Clone for Node {
     fn clone(&self) -> Result<Node, AllocError> {
         Ok(Node {
             name: self.name.clone()?,
-            address: self.address.clone()?,
+            listens: copy_listens(&self.listens)?,
             max_pdu: self.max_pdu,
             accepts: copy_accepts(&self.accepts)?,
             rules: copy_rules(&self.rules)?,
@@ -40,8 +41,9 @@ impl Clone for Node {
 }
 
 /// The format of a plan's text, which is also the version of its certificate's text. From format 2
-/// on a rule or a flow may name stations by what they begin with; in format 3 a text may have names
-/// and lists that are put right before it is read as a plan.
+/// on a rule or a flow may name stations by what they begin with, and in format 3 modalities too.
+/// In format 3 a text may have names and lists that are put right before it is read as a plan, and
+/// a node may listen nowhere, or elsewhere than others reach it.
 #[derive(Clone, Copy, PartialEq, Eq, Debug)]
 pub enum Format {
     One,
@@ -49,20 +51,12 @@ pub enum Format {
     Three,
 }
 
-/// The modalities that a flow speaks of.
+/// The values of one field, modality or station, that a flow speaks of.
 #[derive(Clone, Debug, Drop)]
 pub enum Values {
     /// Any value; it is written `*`.
     Any,
-    Listed(Seq<Text>),
-}
-
-/// The stations that a flow speaks of.
-#[derive(Clone, Debug, Drop)]
-pub enum Stations {
-    /// Any value; it is written `*`.
-    Any,
-    Listed(StationValues),
+    Listed(FieldValues),
 }
 
 /// What enters at a node itself, and the node that it goes to first.
@@ -73,12 +67,13 @@ pub struct Flow {
     pub classes: Seq<Text>,
     pub syntaxes: Seq<Syntax>,
     pub modalities: Values,
-    pub stations: Stations,
+    pub stations: Values,
 }
 
 /// A plan. Its names are names of its nodes, its literals are printable, it keeps the limits of
-/// plans, and in format 1 it names no prefix. What its flows list is kept as sets too, in which a
-/// value is found sooner than in a list.
+/// plans, it names no prefix that its format doesn't have, and before format 3 each node listens
+/// where others reach it. What its flows list is kept as sets too, in which a value is found sooner
+/// than in a list.
 #[derive(Debug, Drop)]
 pub struct Plan {
     format: Format,

@@ -1,22 +1,12 @@
 //! Whether two values are the same, part by part.
-use crate::plan::{Flow, Stations, Values};
+use crate::plan::{Flow, Values};
 use dr_base::same::{Same, are_same};
 
 impl Same for Values {
     fn is_same(&self, other: &Values) -> bool {
         match (self, other) {
             (Values::Any, Values::Any) => true,
-            (Values::Listed(one), Values::Listed(two)) => are_same(one.as_slice(), two.as_slice()),
-            _ => false,
-        }
-    }
-}
-
-impl Same for Stations {
-    fn is_same(&self, other: &Stations) -> bool {
-        match (self, other) {
-            (Stations::Any, Stations::Any) => true,
-            (Stations::Listed(one), Stations::Listed(two)) => one.is_same(two),
+            (Values::Listed(one), Values::Listed(two)) => one.is_same(two),
             _ => false,
         }
     }

@@ -2,12 +2,11 @@
 ghost use Rattle.std.specs.Prelude.{◌≡◌, ◌↔◌, ◌⊎◌, IsTrue, IfOk, OnOk, Contains, false};
 ghost use Rattle.dr_base.specs.Texts.{Text as Words, IsInByteOrder};
 ghost use Rattle.dr_route.specs.Names.{HasName};
-ghost use Rattle.dr_plan_model.specs.Walks.{FlowBrings, IsListed, IsStationListed, BeginsOne};
-ghost use Rattle.dr_plan_model.specs.Walks.{FlowsAmong};
+ghost use Rattle.dr_plan_model.specs.Walks.{FlowBrings, IsListed, BeginsOne, FlowsAmong};
 ghost use Rattle.dr_plan_model.specs.Walks.{Sends, Keeps, Accepts};
 
 use crate::entering::first_targets;
-use crate::plan::{Flow, Plan, Stations, Values};
+use crate::plan::{Flow, Plan, Values};
 use dr_base::{Seq, Syntax, Text};
 use dr_route::names::{add_names, has_name, names_in_order};
 use dr_route::rule::begins;
@@ -15,16 +14,6 @@ use dr_route::{Key, Targets, is_local, routing};
 use std::alloc::{AllocError, Global};
 use std::collections::BTreeSet;
 use std::slice;
-
-/// Whether the modality is one that the flow speaks of.
-fn is_listed(values: &Values, value: &Text) -> bool
-    ensures { IsTrue result ↔ IsListed values.now value.now }
-{
-    match values {
-        Values::Any => true,
-        Values::Listed(texts) => texts.as_slice().contains(value),
-    }
-}
 
 /// Whether the value begins with one of the prefixes.
 pub fn begins_one(prefixes: &[Text], value: &Text) -> bool
@@ -38,15 +27,14 @@ pub fn begins_one(prefixes: &[Text], value: &Text) -> bool
     false
 }
 
-/// Whether the station is one that the flow speaks of.
-fn is_station_listed(stations: &Stations, value: &Text) -> bool
-    ensures { IsTrue result ↔ IsStationListed stations.now value.now }
+/// Whether the value is one that the flow speaks of.
+fn is_listed(values: &Values, value: &Text) -> bool
+    ensures { IsTrue result ↔ IsListed values.now value.now }
 {
-    match stations {
-        Stations::Any => true,
-        Stations::Listed(values) => {
-            values.literals.as_slice().contains(value)
-                || begins_one(values.prefixes.as_slice(), value)
+    match values {
+        Values::Any => true,
+        Values::Listed(own) => {
+            own.literals.as_slice().contains(value) || begins_one(own.prefixes.as_slice(), value)
         }
     }
 }
@@ -59,7 +47,7 @@ pub fn fits(flow: &Flow, key: &Key) -> bool
     flow.syntaxes.as_slice().contains(&key.syntax)
         && flow.classes.as_slice().contains(&key.class)
         && is_listed(&flow.modalities, &key.modality)
-        && is_station_listed(&flow.stations, &key.station)
+        && is_listed(&flow.stations, &key.station)
 }
 
 /// Whether the flow brings the key in at the site.

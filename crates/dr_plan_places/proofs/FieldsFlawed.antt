@@ -39,10 +39,10 @@ module _ {X : Type 0} (IsTable : Members → X → Type 0) (fields : Members) wh
   -- a field that has to stand there, and says nothing
   pub missed : {Y : Type 0} (Says : Data → Y → Type 0) (part : X → Y) (key : Text) → ((other : Members) (x : X) → IsTable other x → Given Says (get_member key other) (part x))
       → ((y : Y) → Given Says (get_member key fields) y → ⊥) → IsAtFault IsTable fields key
-  missed Says part key gives refuted = λ other x same is. refuted (part x) (subst (λ (d : Option Data). Given Says d (part x)) same (gives other x is))
+  missed Says part key gives refuted = λ other x same beside is. refuted (part x) (subst (λ (d : Option Data). Given Says d (part x)) same (gives other x is))
 
   -- a field that may be left out, and says nothing
   pub misread : {Y : Type 0} (default : Y) (Says : Data → Y → Type 0) (part : X → Y) (key : Text)
       → ((other : Members) (x : X) → IsTable other x → GivenOr default Says (get_member key other) (part x))
       → ((default y : Y) → GivenOr default Says (get_member key fields) y → ⊥) → IsAtFault IsTable fields key
-  misread default Says part key gives refuted = λ other x same is. refuted default (part x) (subst (λ (d : Option Data). GivenOr default Says d (part x)) same (gives other x is))
+  misread default Says part key gives refuted = λ other x same beside is. refuted default (part x) (subst (λ (d : Option Data). GivenOr default Says d (part x)) same (gives other x is))

@@ -1,6 +1,7 @@
 mod Exceeding
 pub mod ByName
 pub mod FieldsFlawed
+pub mod ListenFlawed
 pub mod Flawed
 pub mod Indices
 pub mod Refuted

@@ -2,16 +2,17 @@
 use Rattle.std.proofs.Common.{◌≡◌, refl, sym, ap, ◌∙◌, subst, ℕ, pos, Option, [], ◌∷◌, codes, get_or, Contains, arith, inl, inr, lit<}
 use Rattle.std.specs.Prelude.{All}
 use Rattle.std.proofs.lemmas.List.Elements.{All-nil}
-use Rattle.dr_route.specs.declared.rule.Rule.{Rule}
-use Rattle.dr_route.specs.declared.rule.StationPattern.{StationPattern}
-use Rattle.dr_route.specs.declared.rule.StationPattern.TheVariants as station
+use Rattle.dr_route.specs.declared.rule.FieldPattern.{FieldPattern}
+use Rattle.dr_route.specs.declared.rule.FieldPattern.TheVariants as field
 use Rattle.dr_plan_model.specs.declared.plan.Format.TheVariants.{One}
 use Rattle.dr_plan_model.specs.Naming.{prefix_of}
 use Rattle.dr_plan_text.specs.declared.words.NodeText.{NodeText}
 use Rattle.dr_plan_text.specs.declared.words.FlowText.{FlowText}
-use Rattle.dr_plan_text.specs.Fields.{PatternFits, StationsFit, GivenOr, SaysStation}
+use Rattle.dr_plan_model.specs.Formed.{RuleFits, ValuesFit}
+use Rattle.dr_plan_model.specs.Listening.{ListensFits}
+use Rattle.dr_plan_text.specs.Fields.{GivenOr, SaysField}
 use Rattle.dr_plan_text.specs.Laws.{written_rule}
-use Rattle.dr_plan_text.proofs.OfStations.{no_format, SaysStation-one}
+use Rattle.dr_plan_text.proofs.OfValues.{no_format, SaysField-one}
 use Rattle.dr_plan_text.proofs.PrefixTexts.{ct_is}
 use Rattle.toml.specs.Data.{Data, integer, string, no_members}
 use Rattle.dr_base.specs.Texts.{Text}
@@ -36,12 +37,12 @@ pub colour_is_unknown : ColourIsUnknown
 colour_is_unknown = unknown IsRoot coloured root_keys (codes "colour") (λ other x is. is.only) refl no_colour
 
 pub format_is_not_missing : FormatIsNotMissing
-format_is_not_missing = λ h. h.0 no_members (record { format = One; nodes = []; flows = [] }) refl (record {
+format_is_not_missing = λ h. h.0 no_members (record { format = One; nodes = []; flows = [] }) refl refl (record {
   only = tt;
   format = refl;
   node = refl;
   flow = refl;
-  fits = record { rules = All-nil (λ (node : NodeText). All (λ (rule : Rule). PatternFits One rule.station) node.rules); flows = All-nil (λ (flow : FlowText). StationsFit One flow.stations) };
+  fits = record { rules = All-nil (λ (node : NodeText). All (RuleFits One) node.rules); flows = All-nil (λ (flow : FlowText). ValuesFit One flow.modalities flow.stations); listen = All-nil (λ (node : NodeText). ListensFits One node.listens) };
 })
 
 apart_numbers : (x y : ℕ) → (x ≡ y → ⊥) → integer (pos x) ≡ integer (pos y) → ⊥
@@ -49,7 +50,7 @@ apart_numbers x y apart e = let same : pos x ≡ pos y = cc in let numbers : x �
 
 pub fourth_format_is_ill_formed : FourthFormatIsIllFormed
 fourth_format_is_ill_formed = (
-  λ other plan same is.
+  λ other plan same beside is.
       let P : Option Data → Type 0 = λ value. IsFormat value plan.format in
       no_format (integer (pos 4)) (apart_numbers 4 1 (λ e. omega arith)) (apart_numbers 4 2 (λ e. omega arith)) (apart_numbers 4 3 (λ e. omega arith)) plan.format (subst P same is.format),
   refl,
@@ -57,12 +58,12 @@ fourth_format_is_ill_formed = (
 
 pub prefix_is_ill_formed_in_format_1 : PrefixIsIllFormedInFormatOne
 prefix_is_ill_formed_in_format_1 = (
-  λ other rule same is.
-      let P : Option Data → Type 0 = λ value. GivenOr station.Any SaysStation value rule.station in
-      let one : rule.station ≡ station.Prefix (codes "CT") =
-      SaysStation-one (string (codes "CT*")) rule.station (station.Prefix (codes "CT")) (subst P same is.0.station) (refl, ct_is) in
-      let Q : StationPattern → Type 0 = λ pattern. prefix_of pattern ≡ [] in
-      let none : codes "CT" ∷ [] ≡ [] = subst Q one is.1 in
+  λ other rule same beside is.
+      let P : Option Data → Type 0 = λ value. GivenOr field.Any SaysField value rule.station in
+      let one : rule.station ≡ field.Prefix (codes "CT") =
+      SaysField-one (string (codes "CT*")) rule.station (field.Prefix (codes "CT")) (subst P same is.0.station) (refl, ct_is) in
+      let Q : FieldPattern → Type 0 = λ pattern. prefix_of pattern ≡ [] in
+      let none : codes "CT" ∷ [] ≡ [] = subst Q one is.1.1 in
       cc,
   refl,
 )
@@ -79,4 +80,4 @@ prefixed_rule = record {
 }
 
 pub prefix_is_of_format_2 : PrefixIsOfFormatTwo
-prefix_is_of_format_2 = λ h. h.0 prefixed written_rule refl (prefixed_rule, tt)
+prefix_is_of_format_2 = λ h. h.0 prefixed written_rule refl refl (prefixed_rule, (refl, tt))

@@ -3,11 +3,12 @@ use Rattle.std.specs.Prelude.{◌≡◌, ℕ, Option, None, Some, IsSome, codes}
 use Rattle.toml.specs.Data.{Data, Items, no_items, Members, as_array, as_table, get_item}
 use Rattle.toml.specs.Data.{get_member}
 use Rattle.dr_base.specs.Texts.{Text}
-use Rattle.dr_route.specs.declared.rule.Rule.{Rule as RuleText}
 use Rattle.dr_plan_model.specs.declared.plan.Format.{Format}
 use Rattle.dr_plan_model.specs.declared.plan.Format.TheVariants.{One, Two, Three}
 use Rattle.dr_plan_text.specs.declared.words.FlowText.{FlowText}
-use Rattle.dr_plan_text.specs.Fields.{PatternFits, StationsFit}
+use Rattle.dr_plan_model.specs.Formed.{RuleFits, ValuesFit}
+use Rattle.dr_plan_model.specs.Listening.{ListensFits}
+use Rattle.dr_plan_text.specs.declared.words.NodeText.{NodeText}
 use Rattle.dr_plan_text.specs.Tables.{IsAcceptTable, IsRuleTable, IsNodeTable, IsFlowTable, IsRoot}
 use Rattle.dr_plan_text.specs.Tables.{IsFormat}
 use Rattle.dr_plan_places.specs.declared.flaw.Flaw.{Flaw}
@@ -18,11 +19,15 @@ use Rattle.dr_plan_places.specs.declared.field_place.FieldPlace.TheVariants.{Roo
 use Rattle.dr_plan_places.specs.declared.field_place.NodePart.{NodePart}
 use Rattle.dr_plan_places.specs.declared.field_place.NodePart.TheVariants.{Own, AcceptRow, Rule}
 
--- whatever else stands in a table: where at this key it has what these fields have, it isn't of the
--- form
+-- whatever else stands in a table: where it has what these fields have at this key and at
+-- `listens`, on which other keys of a node rest, it isn't of the form
 abbrev pub IsAtFault : {X : Type 0} → (Members → X → Type 0) → Members → Text → Type 0
 IsAtFault {X} IsTable fields key =
-    (other : Members) (x : X) → get_member key other ≡ get_member key fields → IsTable other x → ⊥
+    (other : Members) (x : X)
+    → get_member key other ≡ get_member key fields
+    → get_member (codes "listens") other ≡ get_member (codes "listens") fields
+    → IsTable other x
+    → ⊥
 
 -- a field stands at this key, at which no table of the form has one
 abbrev pub IsUnknown : {X : Type 0} → (Members → X → Type 0) → Members → Text → Type 0
@@ -64,24 +69,29 @@ IsRow key fields index row = table_in (get_item index (items_at (get_member key 
 abbrev pub InRow : (Members → Type 0) → Text → Members → ℕ → Type 0
 InRow P key fields index = (row : Members) × IsRow key fields index row × P row
 
+-- the table says a node of a text of that format
+abbrev pub IsNodeOf : Format → Members → NodeText → Type 0
+IsNodeOf format fields node = IsNodeTable fields node × ListensFits format node.listens
+
 -- the table says a rule of a text of that format
 abbrev pub IsRuleText : Format → Members → RuleText → Type 0
-IsRuleText format fields rule = IsRuleTable fields rule × PatternFits format rule.station
+IsRuleText format fields rule = IsRuleTable fields rule × RuleFits format rule
 
 -- the table says a flow of a text of that format
 abbrev pub IsFlowOf : Format → Members → FlowText → Type 0
-IsFlowOf format fields flow = IsFlowTable fields flow × StationsFit format flow.stations
+IsFlowOf format fields flow =
+    IsFlowTable fields flow × ValuesFit format flow.modalities flow.stations
 
--- the format as which the tables of a text are looked at: 1 where the text's format is 1, and 2 or
--- 3 where it is another one, be that no format at all
+-- the format as which the tables of a text are looked at: that of the text, and 3 where it is
+-- neither 1 nor 2, be that no format at all
 abbrev pub IsReadAs : Option Data → Format → Type 0
 IsReadAs value One = IsFormat value One
-IsReadAs value Two = IsFormat value One → ⊥
-IsReadAs value Three = IsFormat value One → ⊥
+IsReadAs value Two = IsFormat value Two
+IsReadAs value Three = (IsFormat value One → ⊥) × (IsFormat value Two → ⊥)
 
 -- the flaw stands in this part of the node's table, in a text of that format
 abbrev pub IsInNode : Format → Members → NodePart → Flaw → Type 0
-IsInNode format node Own flaw = HasFlaw IsNodeTable node flaw
+IsInNode format node Own flaw = HasFlaw (IsNodeOf format) node flaw
 IsInNode format node (AcceptRow index) flaw =
     InRow (λ row. HasFlaw IsAcceptTable row flaw) (codes "accept") node index
 IsInNode format node (Rule index) flaw =

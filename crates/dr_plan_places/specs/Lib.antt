@@ -1,5 +1,6 @@
 pub mod Excess
 pub mod FieldFlaws
+pub mod Listening
 pub mod Firsts
 pub mod Flaws
 pub mod Laws

@@ -3,8 +3,8 @@ use Rattle.std.specs.Prelude.{◌≡◌, ℕ, List, Some, slice_get}
 use Rattle.dr_base.specs.Texts.{Text}
 use Rattle.dr_route.specs.declared.accept.Callers.{Callers}
 use Rattle.dr_route.specs.declared.accept.Callers.TheVariants as callers
-use Rattle.dr_plan_model.specs.declared.plan.Values.{Values}
-use Rattle.dr_plan_model.specs.declared.plan.Values.TheVariants as values
+use Rattle.dr_plan_expand.specs.declared.short.AnyWords.{AnyWords}
+use Rattle.dr_plan_expand.specs.declared.short.AnyWords.TheVariants as any
 use Rattle.dr_plan_expand.specs.Meanings.{Lookups, lookups_of}
 use Rattle.dr_plan_expand.specs.Words.{YieldsClasses, YieldsNodes}
 use Rattle.dr_plan_expand.specs.declared.short.ShortRow.{ShortRow}
@@ -37,9 +37,9 @@ IsAmongCallers callers.Any word = ⊥
 IsAmongCallers (callers.Listed words) word = IsAmong words word
 
 -- the word stands in a field of a rule
-abbrev pub IsAmongValues : Values → Text → Type 0
-IsAmongValues values.Any word = ⊥
-IsAmongValues (values.Listed words) word = IsAmong words word
+abbrev pub IsAmongWords : AnyWords → Text → Type 0
+IsAmongWords any.Any word = ⊥
+IsAmongWords (any.Listed words) word = IsAmong words word
 
 -- the word of this field of the row stands for nothing
 abbrev pub IsInRow : Lookups → ShortRow → WordKey → Text → Type 0
@@ -50,8 +50,8 @@ IsInRow l row At word = ⊥
 
 -- the word of this field of the rule does
 abbrev pub IsInRule : Lookups → ShortRule → WordKey → Text → Type 0
-IsInRule l rule From word = IsAmongValues rule.from word × IsNoNode l word
-IsInRule l rule Class word = IsAmongValues rule.classes word × IsNoClass l word
+IsInRule l rule From word = IsAmongWords rule.from word × IsNoNode l word
+IsInRule l rule Class word = IsAmongWords rule.classes word × IsNoClass l word
 IsInRule l rule To word = IsAmong rule.to word × IsNoNode l word
 IsInRule l rule At word = ⊥
 

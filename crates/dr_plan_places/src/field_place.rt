@@ -78,14 +78,14 @@ impl TableSearch for FlawOfNode {
     }
 }
 
-/// The format as which the text's tables are looked at: that of the text, and 2 where the text says
+/// The format as which the text's tables are looked at: that of the text, and 3 where the text says
 /// none that there is, so that a prefix is no fault beside that of the format.
 fn format_of(alloc: Global, root: &Table) -> Result<Format, AllocError>
     ensures { IfOk result (IsReadAs (get_member (codes "format") (table_view root.now))) }
 {
     match defaulted::<FormatNumber>(alloc, root, "format", Format::One) {
         Ok(format) => Ok(format),
-        Err(ReadFault::Field) => Ok(Format::Two),
+        Err(ReadFault::Field) => Ok(Format::Three),
         Err(ReadFault::Memory) => Err(AllocError),
     }
 }

@@ -25,6 +25,7 @@ fn wanted_of_node(key: &str) -> &'static [u8] {
         "max_pdu" => b"a whole number",
         "accept" => b"tables [[node.accept]]",
         "rule" => b"tables [[node.rule]]",
+        "listens" | "bind" => b"left out before format 3",
         _ => b"?",
     }
 }

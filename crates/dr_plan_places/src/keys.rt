@@ -2,16 +2,17 @@
 ghost use Rattle.std.specs.Prelude.{◌≡◌, IfOk, IfSome, IsTrue, IsSome, Contains, codes, map};
 ghost use Rattle.toml.specs.Data.{get_member};
 ghost use Rattle.toml.specs.View.{table_view};
-ghost use Rattle.dr_route.specs.declared.rule.StationPattern.{StationPattern};
-ghost use Rattle.dr_plan_model.specs.declared.plan.Stations.{Stations};
-ghost use Rattle.dr_plan_text.specs.Fields.{Given, GivenOr, PatternFits, SaysStation, SaysStations};
-ghost use Rattle.dr_plan_text.specs.Fields.{StationsFit};
+ghost use Rattle.dr_route.specs.declared.rule.FieldPattern.{FieldPattern};
+ghost use Rattle.dr_plan_model.specs.declared.plan.Values.{Values};
+ghost use Rattle.dr_plan_model.specs.Formed.{ModalitiesFit, StationsFit};
+ghost use Rattle.dr_plan_model.specs.Naming.{prefix_of, listed_prefixes};
+ghost use Rattle.dr_plan_text.specs.Fields.{Given, GivenOr, SaysField, SaysValues};
 
 use dr_plan_model::Format;
 use dr_plan_text::fault::ReadFault;
-use dr_plan_text::fits::{pattern_fits, stations_fit};
+use dr_plan_text::fits::{modalities_fit, modality_fits, station_fits, stations_fit};
 use dr_plan_text::form::{Form, is_among, required, value_at};
-use dr_plan_text::stations::{AnyStation, AnyStations};
+use dr_plan_text::values::{AnyValue, AnyValues};
 use std::alloc::{AllocError, Global};
 use toml::Table;
 
@@ -48,20 +49,56 @@ pub fn misreads<F: Form>(alloc: Global, table: &Table, key: &str) -> Result<bool
     }
 }
 
+/// Whether the modality of a rule is ill-formed: also where it is a prefix, and the format has
+/// none.
+///
+/// Errors: want of memory.
+pub fn misreads_modality(alloc: Global, format: Format, table: &Table) -> Result<bool, AllocError>
+    ensures { IfOk result (λ b. IsTrue b
+        → (default x : FieldPattern)
+        → GivenOr default SaysField (get_member (codes "modality") (table_view table.now)) x
+        → ModalitiesFit format (prefix_of x) → ⊥) }
+{
+    let Some(value) = value_at(table, "modality") else {
+        return Ok(false);
+    };
+    match AnyValue::read(alloc, value) {
+        Ok(pattern) => Ok(!modality_fits(format, &pattern)),
+        Err(ReadFault::Field) => Ok(true),
+        Err(ReadFault::Memory) => Err(AllocError),
+    }
+}
+
 /// Whether the station of a rule is ill-formed: also where it is a prefix, and the format has none.
 ///
 /// Errors: want of memory.
 pub fn misreads_station(alloc: Global, format: Format, table: &Table) -> Result<bool, AllocError>
     ensures { IfOk result (λ b. IsTrue b
-        → (default x : StationPattern)
-        → GivenOr default SaysStation (get_member (codes "station") (table_view table.now)) x
-        → PatternFits format x → ⊥) }
+        → (default x : FieldPattern)
+        → GivenOr default SaysField (get_member (codes "station") (table_view table.now)) x
+        → StationsFit format (prefix_of x) → ⊥) }
 {
     let Some(value) = value_at(table, "station") else {
         return Ok(false);
     };
-    match AnyStation::read(alloc, value) {
-        Ok(pattern) => Ok(!pattern_fits(format, &pattern)),
+    match AnyValue::read(alloc, value) {
+        Ok(pattern) => Ok(!station_fits(format, &pattern)),
+        Err(ReadFault::Field) => Ok(true),
+        Err(ReadFault::Memory) => Err(AllocError),
+    }
+}
+
+/// Whether the modalities of a flow are missing or ill-formed: also where one is a prefix, and the
+/// format has none.
+///
+/// Errors: want of memory.
+pub fn misses_modalities(alloc: Global, format: Format, table: &Table) -> Result<bool, AllocError>
+    ensures { IfOk result (λ b. IsTrue b → (x : Values)
+        → Given SaysValues (get_member (codes "modality") (table_view table.now)) x
+        → ModalitiesFit format (listed_prefixes x) → ⊥) }
+{
+    match required::<AnyValues>(alloc, table, "modality") {
+        Ok(values) => Ok(!modalities_fit(format, &values)),
         Err(ReadFault::Field) => Ok(true),
         Err(ReadFault::Memory) => Err(AllocError),
     }
@@ -72,12 +109,12 @@ pub fn misreads_station(alloc: Global, format: Format, table: &Table) -> Result<
 ///
 /// Errors: want of memory.
 pub fn misses_stations(alloc: Global, format: Format, table: &Table) -> Result<bool, AllocError>
-    ensures { IfOk result (λ b. IsTrue b → (x : Stations)
-        → Given SaysStations (get_member (codes "station") (table_view table.now)) x
-        → StationsFit format x → ⊥) }
+    ensures { IfOk result (λ b. IsTrue b → (x : Values)
+        → Given SaysValues (get_member (codes "station") (table_view table.now)) x
+        → StationsFit format (listed_prefixes x) → ⊥) }
 {
-    match required::<AnyStations>(alloc, table, "station") {
-        Ok(stations) => Ok(!stations_fit(format, &stations)),
+    match required::<AnyValues>(alloc, table, "station") {
+        Ok(values) => Ok(!stations_fit(format, &values)),
         Err(ReadFault::Field) => Ok(true),
         Err(ReadFault::Memory) => Err(AllocError),
     }

@@ -16,6 +16,7 @@ mod flaws;
 mod keys;
 pub mod laws;
 mod limits;
+mod listening;
 mod names;
 mod nodes;
 mod own;

@@ -22,7 +22,7 @@ pub trait TableSearch {
 }
 
 /// The items of the array at a key; none where there is no array.
-fn items_of<'a>(table: &'a Table, key: &str) -> &'a [Value]
+pub fn items_of<'a>(table: &'a Table, key: &str) -> &'a [Value]
     ensures { items_view result.now ≡ items_at (get_member key.now (table_view table.now)) }
 {
     let Some(value) = value_at(table, key) else {

@@ -23,14 +23,19 @@ fn wanted_of_root(key: &str) -> &'static [u8] {
     }
 }
 
+/// What an address has to be.
+const ADDRESS: &[u8] =
+    b"\"host:port\" without blanks, with a port of up to 65535, and left out where listens is false";
+
 /// What a node's own fields have to be.
 fn wanted_of_node(key: &str) -> &'static [u8] {
     match key {
         "name" => b"a name in quotes, which doesn't begin with @",
-        "address" => b"\"host:port\" without blanks, with a port of up to 65535",
+        "address" | "bind" => ADDRESS,
         "max_pdu" => b"a whole number",
-        "accept" => b"tables [[node.accept]]",
+        "accept" => b"tables [[node.accept]], and left out where listens is false",
         "rule" => b"tables [[node.rule]]",
+        "listens" => b"true or false",
         _ => b"?",
     }
 }
@@ -50,8 +55,8 @@ fn wanted_of_rule(key: &str) -> &'static [u8] {
     match key {
         "from" => b"\"*\", a name or a group, or a list of them",
         "class" => b"\"*\", a class or a set, or a list of them",
-        "modality" => b"\"*\" or a value of up to 64 characters",
-        "station" => b"\"*\" or a value of up to 64 characters, or a prefix with *, as \"CT*\"",
+        "modality" | "station" =>
+            b"\"*\" or a value of up to 64 characters, or a prefix with *, as \"CT*\"",
         "to" => b"a list of names and groups",
         "keep" => b"true or false",
         _ => b"?",
@@ -64,8 +69,7 @@ fn wanted_of_flow(key: &str) -> &'static [u8] {
         "at" | "to" => b"a name or a group in quotes, or a list of them",
         "class" => b"a class or a set in quotes, or a list of them",
         "syntax" => b"a list of transfer syntaxes",
-        "modality" => b"\"*\" or a list of values of up to 64 characters",
-        "station" =>
+        "modality" | "station" =>
             b"\"*\" or a list of values of up to 64 characters and of prefixes with *, as \"CT*\"",
         _ => b"?",
     }

@@ -4,17 +4,16 @@ ghost use Rattle.dr_plan_expand.specs.Tables.{IsShortPlan};
 
 use crate::flaw::Inspected;
 use crate::keys::{misreads, misses, unknown_key};
+use crate::listening::{calls_and_accepts, listening_fault};
 use dr_plan_expand::fields::{AnyOrMore, Definitions, OneOrMore, Plain};
 use dr_plan_expand::tables::{
     ShortFlowTable, ShortNodeTable, ShortPlanTable, ShortRowTable, ShortRuleTable,
 };
 use dr_plan_expand::{ShortFlow, ShortNode, ShortPlan, ShortRow, ShortRule};
 use dr_plan_model::Format;
-use dr_plan_text::fields::{
-    Address, AnyCallers, AnyText, AnyValues, Flag, Formed, LiteralPattern, Number, TextsOnce,
-};
+use dr_plan_text::fields::{AnyCallers, AnyText, Flag, Formed, Number, TextsOnce};
 use dr_plan_text::form::{ListOf, SomeOf, TableOf};
-use dr_plan_text::stations::{AnyStation, AnyStations};
+use dr_plan_text::values::{AnyValue, AnyValues};
 use std::alloc::{AllocError, Global};
 use toml::Table;
 
@@ -68,10 +67,10 @@ impl Inspected for ShortRuleTable {
         if misreads::<AnyOrMore>(alloc, table, "class")? {
             return Ok(Some("class"));
         }
-        if misreads::<LiteralPattern>(alloc, table, "modality")? {
+        if misreads::<AnyValue>(alloc, table, "modality")? {
             return Ok(Some("modality"));
         }
-        if misreads::<AnyStation>(alloc, table, "station")? {
+        if misreads::<AnyValue>(alloc, table, "station")? {
             return Ok(Some("station"));
         }
         if misreads::<ListOf<AnyText>>(alloc, table, "to")? {
@@ -90,7 +89,12 @@ impl Inspected for ShortNodeTable {
     ghost is_table = { λ _. IsShortNode };
 
     fn unknown_in<'a>(table: &'a Table) -> Option<&'a str> {
-        unknown_key(table, &["name", "address", "max_pdu", "accept", "rule"])
+        unknown_key(
+            table,
+            &[
+                "name", "address", "max_pdu", "accept", "rule", "listens", "bind",
+            ],
+        )
     }
 
     fn fault_in(
@@ -101,13 +105,16 @@ impl Inspected for ShortNodeTable {
         if misses::<Formed<Plain>>(alloc, table, "name")? {
             return Ok(Some("name"));
         }
-        if misses::<Formed<Address>>(alloc, table, "address")? {
-            return Ok(Some("address"));
+        if let Some(key) = listening_fault(alloc, Format::Three, table, true)? {
+            return Ok(Some(key));
         }
         if misreads::<Number>(alloc, table, "max_pdu")? {
             return Ok(Some("max_pdu"));
         }
         if misreads::<ListOf<TableOf<ShortRowTable>>>(alloc, table, "accept")? {
+            return Ok(Some("accept"));
+        }
+        if calls_and_accepts(table) {
             return Ok(Some("accept"));
         }
         if misreads::<ListOf<TableOf<ShortRuleTable>>>(alloc, table, "rule")? {
@@ -149,7 +156,7 @@ impl Inspected for ShortFlowTable {
         if misses::<AnyValues>(alloc, table, "modality")? {
             return Ok(Some("modality"));
         }
-        if misses::<AnyStations>(alloc, table, "station")? {
+        if misses::<AnyValues>(alloc, table, "station")? {
             return Ok(Some("station"));
         }
         Ok(None)

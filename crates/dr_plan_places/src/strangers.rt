@@ -2,7 +2,7 @@
 ghost use Rattle.std.specs.Prelude.{◌≡◌, IfOk, IfSome, List, Some, slice_get};
 ghost use Rattle.dr_base.specs.Texts.{Text as Words};
 ghost use Rattle.dr_plan_expand.specs.Seen.{seen};
-ghost use Rattle.dr_plan_places.specs.Strangers.{IsAmong, IsAmongCallers, IsAmongValues, IsNoNode};
+ghost use Rattle.dr_plan_places.specs.Strangers.{IsAmong, IsAmongCallers, IsAmongWords, IsNoNode};
 ghost use Rattle.dr_plan_places.specs.Strangers.{IsInRow, IsInRule, IsInFlow, IsInPart};
 ghost use Rattle.dr_plan_places.specs.Strangers.{IsStrangerAt, IsStranger};
 
@@ -12,8 +12,7 @@ use dr_plan_expand::lookup::{standard_tables, tables_of};
 use dr_plan_expand::meant::Tables;
 use dr_plan_expand::words::{Classes, Nodes};
 use dr_plan_expand::yields::Yielding;
-use dr_plan_expand::{ShortFlow, ShortNode, ShortPlan, ShortRow, ShortRule, WordFault};
-use dr_plan_model::Values;
+use dr_plan_expand::{AnyWords, ShortFlow, ShortNode, ShortPlan, ShortRow, ShortRule, WordFault};
 use dr_route::Callers;
 use std::alloc::{AllocError, Global};
 
@@ -132,19 +131,19 @@ fn among_callers(
 }
 
 /// The first word of a rule's field that yields nothing.
-fn among_values<Y: Yielding<Element = Text, Thing = Text>>(
+fn among_words<Y: Yielding<Element = Text, Thing = Text>>(
     way: &Y,
     alloc: Global,
     key: WordKey,
-    values: &Values,
+    words: &AnyWords,
 ) -> Result<Option<Stranger>, AllocError>
     ensures { IfOk result (λ found. IfSome found (λ stranger. (stranger.key ≡ key)
-        × IsAmongValues values.now stranger.word
+        × IsAmongWords words.now stranger.word
         × ((things : List Words) → Y.yields way.now stranger.word things → ⊥))) }
 {
-    match values {
-        Values::Any => Ok(None),
-        Values::Listed(words) => stranger_among(way, alloc, key, words.as_slice()),
+    match words {
+        AnyWords::Any => Ok(None),
+        AnyWords::Listed(listed) => stranger_among(way, alloc, key, listed.as_slice()),
     }
 }
 
@@ -183,11 +182,11 @@ impl<'a> Hunt for InRules<'a> {
     fn hunt(&self, alloc: Global, rule: &ShortRule) -> Result<Option<Stranger>, AllocError> {
         let tables = self.0;
         let nodes = Nodes(tables.groups);
-        if let Some(found) = among_values(&nodes, alloc, WordKey::From, &rule.from)? {
+        if let Some(found) = among_words(&nodes, alloc, WordKey::From, &rule.from)? {
             return Ok(Some(found));
         }
         let way = Classes(tables.classes, tables.usual, tables.sets);
-        if let Some(found) = among_values(&way, alloc, WordKey::Class, &rule.classes)? {
+        if let Some(found) = among_words(&way, alloc, WordKey::Class, &rule.classes)? {
             return Ok(Some(found));
         }
         stranger_among(&nodes, alloc, WordKey::To, rule.to.as_slice())

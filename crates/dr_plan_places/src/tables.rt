@@ -1,13 +1,17 @@
 //! The forms of the text's tables.
-ghost use Rattle.dr_plan_text.specs.Tables.{IsAcceptTable, IsNodeTable, IsRoot};
-ghost use Rattle.dr_plan_places.specs.FieldFlaws.{IsRuleText, IsFlowOf};
+ghost use Rattle.dr_plan_text.specs.Tables.{IsAcceptTable, IsRoot};
+ghost use Rattle.dr_plan_places.specs.FieldFlaws.{IsRuleText, IsFlowOf, IsNodeOf};
 
 use crate::flaw::Inspected;
-use crate::keys::{misreads, misreads_station, misses, misses_stations, unknown_key};
+use crate::keys::{
+    misreads, misreads_modality, misreads_station, misses, misses_modalities, misses_stations,
+    unknown_key,
+};
+use crate::listening::{calls_and_accepts, listening_fault};
 use dr_plan_model::Format;
 use dr_plan_text::fields::{
-    Address, AnyCallers, AnyText, AnyValues, Class, ClassPattern, Flag, FormatNumber, Formed,
-    LiteralPattern, NamePattern, Number, TextsOnce,
+    AnyCallers, AnyText, Class, ClassPattern, Flag, FormatNumber, Formed, NamePattern, Number,
+    TextsOnce,
 };
 use dr_plan_text::form::{ListOf, SomeOf, TableOf};
 use dr_plan_text::tables::{AcceptTable, FlowTable, NodeTable, RuleTable};
@@ -66,7 +70,7 @@ impl Inspected for RuleTable {
         if misreads::<ClassPattern>(alloc, table, "class")? {
             return Ok(Some("class"));
         }
-        if misreads::<LiteralPattern>(alloc, table, "modality")? {
+        if misreads_modality(alloc, format, table)? {
             return Ok(Some("modality"));
         }
         if misreads_station(alloc, format, table)? {
@@ -85,27 +89,35 @@ impl Inspected for RuleTable {
 impl Inspected for NodeTable {
     type Output = NodeText;
 
-    ghost is_table = { λ _. IsNodeTable };
+    ghost is_table = { IsNodeOf };
 
     fn unknown_in<'a>(table: &'a Table) -> Option<&'a str> {
-        unknown_key(table, &["name", "address", "max_pdu", "accept", "rule"])
+        unknown_key(
+            table,
+            &[
+                "name", "address", "max_pdu", "accept", "rule", "listens", "bind",
+            ],
+        )
     }
 
     fn fault_in(
         alloc: Global,
-        _format: Format,
+        format: Format,
         table: &Table,
     ) -> Result<Option<&'static str>, AllocError> {
         if misses::<AnyText>(alloc, table, "name")? {
             return Ok(Some("name"));
         }
-        if misses::<Formed<Address>>(alloc, table, "address")? {
-            return Ok(Some("address"));
+        if let Some(key) = listening_fault(alloc, format, table, false)? {
+            return Ok(Some(key));
         }
         if misreads::<Number>(alloc, table, "max_pdu")? {
             return Ok(Some("max_pdu"));
         }
         if misreads::<ListOf<TableOf<AcceptTable>>>(alloc, table, "accept")? {
+            return Ok(Some("accept"));
+        }
+        if calls_and_accepts(table) {
             return Ok(Some("accept"));
         }
         if misreads::<ListOf<TableOf<RuleTable>>>(alloc, table, "rule")? {
@@ -144,7 +156,7 @@ impl Inspected for FlowTable {
         if misses::<SomeOf<AnyText>>(alloc, table, "syntax")? {
             return Ok(Some("syntax"));
         }
-        if misses::<AnyValues>(alloc, table, "modality")? {
+        if misses_modalities(alloc, format, table)? {
             return Ok(Some("modality"));
         }
         if misses_stations(alloc, format, table)? {

@@ -4,5 +4,6 @@ pub mod PairLists
 pub mod Pigeons
 pub mod RankedLines
 pub mod Ranks
+pub mod Reaching
 pub mod SameStops
 pub mod TwoNodes

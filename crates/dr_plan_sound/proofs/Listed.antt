@@ -8,22 +8,20 @@ use Rattle.std.proofs.lemmas.List.Elements.{Contains-append_left, Contains-appen
 use Rattle.dr_base.specs.Texts.{Text, Begins}
 use Rattle.dr_base.specs.declared.syntax.Syntax.{Syntax}
 use Rattle.dr_base.specs.declared.syntax.Syntax.TheVariants.{Implicit, Explicit}
-use Rattle.dr_route.specs.Routes.{local, Matches, MatchesStation, Holds, SendsBy}
+use Rattle.dr_route.specs.Routes.{local, Matches, MatchesField, Holds, SendsBy}
 use Rattle.dr_route.specs.declared.key.Key.{Key}
 use Rattle.dr_route.specs.declared.rule.Pattern.{Pattern}
 use Rattle.dr_route.specs.declared.rule.Pattern.TheVariants.{Any, Literal}
-use Rattle.dr_route.specs.declared.rule.StationPattern.{StationPattern}
-use Rattle.dr_route.specs.declared.rule.StationPattern.TheVariants as station
+use Rattle.dr_route.specs.declared.rule.FieldPattern.{FieldPattern}
+use Rattle.dr_route.specs.declared.rule.FieldPattern.TheVariants as field
 use Rattle.dr_route.specs.declared.rule.Rule.{Rule}
 use Rattle.dr_route.proofs.Finding.{beginning, begins_first}
 use Rattle.dr_plan_model.specs.declared.plan.Node.{Node}
 use Rattle.dr_plan_model.specs.declared.plan.Flow.{Flow}
 use Rattle.dr_plan_model.specs.declared.plan.Values.{Values}
 use Rattle.dr_plan_model.specs.declared.plan.Values.TheVariants as values
-use Rattle.dr_plan_model.specs.declared.plan.Stations.{Stations}
-use Rattle.dr_plan_model.specs.declared.plan.Stations.TheVariants as stations
 use Rattle.dr_plan_model.specs.Networks.{Network}
-use Rattle.dr_plan_model.specs.Walks.{IsListed, IsStationListed, BeginsOne, FlowBrings, FlowsAmong, Sends}
+use Rattle.dr_plan_model.specs.Walks.{IsListed, BeginsOne, FlowBrings, FlowsAmong, Sends}
 use Rattle.dr_plan_model.proofs.Gathered.{nothing_in_nil, only_one, Contains-cons_cases, Contains-there, Contains-here}
 
 -- it holds or it doesn't
@@ -82,18 +80,14 @@ begins prefix value = decided_by
     (λ b. beginning prefix value b)
     (same_text (take (length prefix) value) prefix)
 
-matches_station : (pattern : StationPattern) (value : Text) → Decided (MatchesStation pattern value)
-matches_station station.Any value = inl tt
-matches_station (station.Literal literal) value = same_text literal value
-matches_station (station.Prefix prefix) value = begins prefix value
+matches_field : (pattern : FieldPattern) (value : Text) → Decided (MatchesField pattern value)
+matches_field field.Any value = inl tt
+matches_field (field.Literal literal) value = same_text literal value
+matches_field (field.Prefix prefix) value = begins prefix value
 
 holds : (rule : Rule) (caller : Text) (key : Key) → Decided (Holds rule caller key)
 holds rule caller key = decided_by (λ h. (h.0, h.1.0, h.1.1.0, h.1.1.1.0, h.1.1.1.1)) (λ h. (h.0, (h.1, (h.2, (h.3, h.4)))))
-    (both (other_text caller local) (both (matches rule.from caller) (both (matches rule.class key.class) (both (matches rule.modality key.modality) (matches_station rule.station key.station)))))
-
-is_listed : (list : Values) (value : Text) → Decided (IsListed list value)
-is_listed values.Any value = inl tt
-is_listed (values.Listed texts) value = among same_text texts value
+    (both (other_text caller local) (both (matches rule.from caller) (both (matches rule.class key.class) (both (matches_field rule.modality key.modality) (matches_field rule.station key.station)))))
 
 either : {P Q : Type 0} → Decided P → Decided Q → Decided (P ⊎ Q)
 either (inl p) d = inl (inl p)
@@ -110,15 +104,15 @@ begins_one (prefix ∷ prefixes) value = decided_by
     ])
     (either (begins prefix value) (begins_one prefixes value))
 
-is_station_listed : (list : Stations) (value : Text) → Decided (IsStationListed list value)
-is_station_listed stations.Any value = inl tt
-is_station_listed (stations.Listed values) value = either (among same_text values.literals value) (begins_one values.prefixes value)
+is_listed : (list : Values) (value : Text) → Decided (IsListed list value)
+is_listed values.Any value = inl tt
+is_listed (values.Listed own) value = either (among same_text own.literals value) (begins_one own.prefixes value)
 
 fits : (flow : Flow) (key : Key) → Decided (FlowBrings flow key)
 fits flow key = decided_by
     (λ h. record { class = h.0; syntax = h.1.0; modality = h.1.1.0; station = h.1.1.1 })
     (λ h. (h.class, (h.syntax, (h.modality, h.station))))
-    (both (among same_text flow.classes key.class) (both (among same_syntax flow.syntaxes key.syntax) (both (is_listed flow.modalities key.modality) (is_station_listed flow.stations key.station))))
+    (both (among same_text flow.classes key.class) (both (among same_syntax flow.syntaxes key.syntax) (both (is_listed flow.modalities key.modality) (is_listed flow.stations key.station))))
 
 -- lists of nothing, of two lists together, and of a list where something holds
 none_listed : {P : Text → Type 0} → ((t : Text) → P t → ⊥) → Listing P

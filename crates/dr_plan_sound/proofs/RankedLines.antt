@@ -11,7 +11,7 @@ use Rattle.dr_route.specs.Routes.{local}
 use Rattle.dr_route.specs.Laws.{key_of}
 use Rattle.dr_route.specs.declared.key.Key.{Key}
 use Rattle.dr_route.specs.declared.cell.OwnedCell.{OwnedCell}
-use Rattle.dr_route.proofs.Agreement.{some_part, some_station}
+use Rattle.dr_route.proofs.Agreement.{some_part}
 use Rattle.dr_plan_model.specs.Networks.{Network}
 use Rattle.dr_plan_model.specs.Plans.{LiesIn, IsWellFormed, literals_of}
 use Rattle.dr_plan_model.specs.Walks.{Sends, Keeps, Accepts, IsWalk, places, last_place, IsReached}
@@ -25,7 +25,7 @@ use Rattle.dr_plan_sound.specs.Ranked.{line_at, AreRanked}
 pub some_cell : (plan : Network) (key : Key) → (cell : OwnedCell) × LiesIn plan cell key
 some_cell plan key =
     let modality = some_part (literals_of plan).modalities key.modality in
-    let station = some_station (literals_of plan).stations key.station in (
+    let station = some_part (literals_of plan).stations key.station in (
       record { class = key.class; syntax = key.syntax; modality = modality.0; station = station.0 },
       record { class = refl; syntax = refl; modality = modality.1; station = station.1 },
     )

@@ -15,10 +15,7 @@ use Rattle.dr_base.specs.contracts.syntax.SyntaxOrd.TheImpl as syntaxes
 use Rattle.dr_route.specs.contracts.cell.OwnedFieldOrd.TheImpl as fields
 use Rattle.dr_route.specs.contracts.cell.OwnedCellOrd.TheImpl as cells
 use Rattle.dr_route.specs.declared.cell.OwnedField.{OwnedField}
-use Rattle.dr_route.specs.declared.cell.OwnedField.TheVariants.{Literal, Rest}
-use Rattle.dr_route.specs.contracts.cell.OwnedStationOrd.TheImpl as stations
-use Rattle.dr_route.specs.declared.cell.OwnedStation.{OwnedStation}
-use Rattle.dr_route.specs.declared.cell.OwnedStation.TheVariants as station
+use Rattle.dr_route.specs.declared.cell.OwnedField.TheVariants.{Literal, Prefix, Rest}
 use Rattle.dr_route.specs.declared.cell.OwnedCell.{OwnedCell}
 use Rattle.dr_plan_sound.specs.declared.certificate.Stop.{Stop}
 use Rattle.dr_plan_sound.specs.contracts.certificate.StopOrd.TheImpl.Laws as laws
@@ -37,34 +34,28 @@ syntax_exact Explicit Explicit e = refl
 
 field_exact : (a b : OwnedField) → fields.cmp-value.it a b ≡ Equal → a ≡ b
 field_exact (Literal a) (Literal b) e = ap (λ (t : Text). Literal t) (exact_bytes a b e)
+field_exact (Literal a) (Prefix b) e = absurd (cc e)
 field_exact (Literal a) Rest e = absurd (cc e)
+field_exact (Prefix a) (Literal b) e = absurd (cc e)
+field_exact (Prefix a) (Prefix b) e = ap (λ (t : Text). Prefix t) (exact_bytes a b e)
+field_exact (Prefix a) Rest e = absurd (cc e)
 field_exact Rest (Literal b) e = absurd (cc e)
+field_exact Rest (Prefix b) e = absurd (cc e)
 field_exact Rest Rest e = refl
-
-station_exact : (a b : OwnedStation) → stations.cmp-value.it a b ≡ Equal → a ≡ b
-station_exact (station.Literal a) (station.Literal b) e = ap (λ (t : Text). station.Literal t) (exact_bytes a b e)
-station_exact (station.Literal a) (station.Prefix b) e = absurd (cc e)
-station_exact (station.Literal a) station.Rest e = absurd (cc e)
-station_exact (station.Prefix a) (station.Literal b) e = absurd (cc e)
-station_exact (station.Prefix a) (station.Prefix b) e = ap (λ (t : Text). station.Prefix t) (exact_bytes a b e)
-station_exact (station.Prefix a) station.Rest e = absurd (cc e)
-station_exact station.Rest (station.Literal b) e = absurd (cc e)
-station_exact station.Rest (station.Prefix b) e = absurd (cc e)
-station_exact station.Rest station.Rest e = refl
 
 cell_exact : (a b : OwnedCell) → cells.cmp-value.it a b ≡ Equal → a ≡ b
 cell_exact a b e =
     let c = then_equal (text_cmp a.class b.class) _ e in
     let s = then_equal (syntaxes.cmp-value.it a.syntax b.syntax) _ c.1 in
-    let m = then_equal (fields.cmp-value.it a.modality b.modality) (stations.cmp-value.it a.station b.station) s.1 in
+    let m = then_equal (fields.cmp-value.it a.modality b.modality) (fields.cmp-value.it a.station b.station) s.1 in
     let class : a.class ≡ b.class = exact_bytes a.class b.class c.0 in
     let syntax : a.syntax ≡ b.syntax = syntax_exact a.syntax b.syntax s.0 in
     let modality : a.modality ≡ b.modality = field_exact a.modality b.modality m.0 in
-    let station : a.station ≡ b.station = station_exact a.station b.station m.1 in
-    let mk : Text → Syntax → OwnedField → OwnedStation → OwnedCell = λ c s m t. record { class = c; syntax = s; modality = m; station = t } in
+    let station : a.station ≡ b.station = field_exact a.station b.station m.1 in
+    let mk : Text → Syntax → OwnedField → OwnedField → OwnedCell = λ c s m t. record { class = c; syntax = s; modality = m; station = t } in
     ap (λ (x : Text). mk x a.syntax a.modality a.station) class
     ∙ (ap (λ (x : Syntax). mk b.class x a.modality a.station) syntax
-    ∙ (ap (λ (x : OwnedField). mk b.class b.syntax x a.station) modality ∙ ap (λ (x : OwnedStation). mk b.class b.syntax b.modality x) station))
+    ∙ (ap (λ (x : OwnedField). mk b.class b.syntax x a.station) modality ∙ ap (λ (x : OwnedField). mk b.class b.syntax b.modality x) station))
 
 pub stop_exact : (a b : Stop) → stop_cmp a b ≡ Equal → a ≡ b
 stop_exact a b e =

@@ -1,11 +1,13 @@
 -- Laws of sound plans and certificates.
-use Rattle.std.specs.Prelude.{ℕ, ◌≤◌, ◌↔◌, List, Contains, length}
+use Rattle.std.specs.Prelude.{◌≡◌, ℕ, ◌≤◌, ◌↔◌, List, Contains, Some, length}
 use Rattle.dr_base.specs.Texts.{Text}
 use Rattle.dr_base.specs.declared.syntax.Syntax.{Syntax}
 use Rattle.dr_route.specs.declared.key.Key.{Key}
 use Rattle.dr_plan_model.specs.Networks.{Network}
-use Rattle.dr_plan_model.specs.Plans.{IsWellFormed}
-use Rattle.dr_plan_model.specs.Walks.{IsReached}
+use Rattle.dr_plan_model.specs.Listening.{address_of}
+use Rattle.dr_plan_model.specs.Plans.{IsNode, IsWellFormed}
+use Rattle.dr_plan_model.specs.Walks.{Goes, IsReached}
+use Rattle.dr_plan_model.specs.declared.plan.Node.{Node}
 use Rattle.dr_plan_sound.specs.declared.certificate.Line.{Line}
 use Rattle.dr_plan_sound.specs.Soundness.{IsSound, IsRank}
 use Rattle.dr_plan_sound.specs.Certificates.{HasLine, AreHopPairs}
@@ -41,3 +43,11 @@ SoundPlansHaveRanks =
     → (key : Key) (caller name : Text)
     → IsReached plan key caller name
     → (rank : ℕ) × IsRank plan key caller name rank
+
+-- in a sound plan, what goes over a hop goes to a node that listens
+abbrev pub HopsLeadToAddresses : Type 0
+HopsLeadToAddresses =
+    (plan : Network) → IsWellFormed plan → IsSound plan
+    → (key : Key) (from to : Text) → Goes plan key from to
+    → (node : Node) → IsNode plan to node
+    → (address : Text) × (address_of node.listens ≡ Some address)

@@ -4,24 +4,16 @@ use Rattle.std.specs.Fmt.{decimal}
 use Rattle.dr_base.specs.Texts.{Text}
 use Rattle.dr_base.specs.Syntaxes.{syntax_uid}
 use Rattle.dr_route.specs.declared.cell.OwnedField.{OwnedField}
-use Rattle.dr_route.specs.declared.cell.OwnedField.TheVariants.{Literal, Rest}
-use Rattle.dr_route.specs.declared.cell.OwnedStation.{OwnedStation}
-use Rattle.dr_route.specs.declared.cell.OwnedStation.TheVariants as station
+use Rattle.dr_route.specs.declared.cell.OwnedField.TheVariants.{Literal, Prefix, Rest}
 use Rattle.dr_plan_sound.specs.declared.certificate.Line.{Line}
 use Rattle.dr_plan_sound.specs.declared.certificate.Hop.{Hop}
 
--- a part of the modalities as it is printed: a literal as it is, none of the plan's literals as an
--- asterisk
+-- a part of the modalities, or of the stations, as it is printed: a literal as it is, a prefix with
+-- an asterisk behind it, and what has neither as an asterisk
 abbrev pub printed_field : OwnedField → Text
 printed_field (Literal literal) = literal
+printed_field (Prefix prefix) = prefix ++ codes "*"
 printed_field Rest = codes "*"
-
--- a part of the stations as it is printed: a literal as it is, a prefix with an asterisk behind it,
--- and what has neither as an asterisk
-abbrev pub printed_station : OwnedStation → Text
-printed_station (station.Literal literal) = literal
-printed_station (station.Prefix prefix) = prefix ++ codes "*"
-printed_station station.Rest = codes "*"
 
 -- a line as it is printed: caller, node, class, transfer syntax, modality, station and rank, joined
 -- by tabs
@@ -29,7 +21,7 @@ abbrev pub printed_line : Line → Text
 printed_line line =
     line.stop.caller ++ (9 ∷ line.stop.node) ++ (9 ∷ line.stop.cell.class)
     ++ (9 ∷ syntax_uid line.stop.cell.syntax) ++ (9 ∷ printed_field line.stop.cell.modality)
-    ++ (9 ∷ printed_station line.stop.cell.station) ++ (9 ∷ decimal line.rank)
+    ++ (9 ∷ printed_field line.stop.cell.station) ++ (9 ∷ decimal line.rank)
 
 -- a hop as it is printed: sender, receiver, id, class and transfer syntax, joined by tabs
 abbrev pub printed_hop : Hop → Text

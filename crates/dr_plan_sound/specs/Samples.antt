@@ -1,18 +1,18 @@
 -- The smallest plans that show something: two nodes, where instances enter at the first, which
 -- sends them to the second.
-use Rattle.std.specs.Prelude.{List, [], ◌∷◌, codes, true}
+use Rattle.std.specs.Prelude.{List, [], ◌∷◌, None, codes, true}
 use Rattle.dr_base.specs.Texts.{Text}
 use Rattle.dr_base.specs.declared.syntax.Syntax.TheVariants.{Explicit}
+use Rattle.dr_route.specs.declared.rule.FieldPattern.TheVariants as field
 use Rattle.dr_route.specs.declared.rule.Pattern.TheVariants.{Any}
 use Rattle.dr_route.specs.declared.rule.Rule.{Rule}
 use Rattle.dr_route.specs.declared.accept.Callers.TheVariants as callers
 use Rattle.dr_route.specs.declared.accept.AcceptRow.{AcceptRow}
+use Rattle.dr_plan_model.specs.declared.listens.Listens.TheVariants.{At}
 use Rattle.dr_plan_model.specs.declared.plan.Node.{Node}
 use Rattle.dr_plan_model.specs.declared.plan.Flow.{Flow}
 use Rattle.dr_plan_model.specs.declared.plan.Values.TheVariants as values
-use Rattle.dr_plan_model.specs.declared.plan.Stations.TheVariants as stations
 use Rattle.dr_plan_model.specs.declared.plan.Format.TheVariants.{One}
-use Rattle.dr_route.specs.declared.rule.StationPattern.TheVariants as station
 use Rattle.dr_plan_model.specs.Networks.{Network}
 use Rattle.dr_plan_sound.specs.Soundness.{IsSound}
 use Rattle.dr_base.specs.Standard.{image}
@@ -30,8 +30,8 @@ abbrev pub keep_all : Rule
 keep_all = record {
   «from» = Any;
   class = Any;
-  modality = Any;
-  station = station.Any;
+  modality = field.Any;
+  station = field.Any;
   to = [];
   keep = true;
 }
@@ -42,14 +42,19 @@ images_from_all = record { «from» = callers.Any; class = image; syntaxes = Exp
 
 -- the node of the scanner, which takes nothing and has no rule
 abbrev pub the_scanner : Node
-the_scanner =
-    record { name = scanner; address = codes "ct1:104"; max_pdu = 0; accepts = []; rules = [] }
+the_scanner = record {
+  name = scanner;
+  listens = At (codes "ct1:104") None;
+  max_pdu = 0;
+  accepts = [];
+  rules = [];
+}
 
 -- the node of the archive, which takes CT images and has these rules
 abbrev pub the_archive : List Rule → Node
 the_archive rules = record {
   name = archive;
-  address = codes "arch:104";
+  listens = At (codes "arch:104") None;
   max_pdu = 0;
   accepts = images_from_all ∷ [];
   rules = rules;
@@ -63,7 +68,7 @@ the_flow = record {
   classes = image ∷ [];
   syntaxes = Explicit ∷ [];
   modalities = values.Any;
-  stations = stations.Any;
+  stations = values.Any;
 }
 
 -- the plan of the two nodes and the flow, with these rules of the archive

@@ -2,6 +2,7 @@
 ghost use Rattle.dr_plan_sound.specs.HopLists.{HopsHaveLists};
 ghost use Rattle.dr_plan_sound.specs.Laws.{RankedLinesAreTheLines, ShownPairsAreTheHops};
 ghost use Rattle.dr_plan_sound.specs.Laws.{RankedLinesAreSound, SoundPlansHaveRanks};
+ghost use Rattle.dr_plan_sound.specs.Laws.{HopsLeadToAddresses};
 ghost use Rattle.dr_plan_sound.specs.Samples.{TwoNodesAreSound, WithoutKeepTheyAreNot};
 
 /// Lines that are right one by one are exactly the plan's lines, and their ranks are the greatest.
@@ -34,4 +35,9 @@ pub fn two_nodes_are_sound()
 /// Where the archive doesn't keep, the plan isn't sound.
 pub fn without_keep_they_are_not()
     ensures { WithoutKeepTheyAreNot }
+{}
+
+/// In a sound plan each hop over which something goes leads to a node that listens.
+pub fn hops_lead_to_addresses()
+    ensures { HopsLeadToAddresses }
 {}

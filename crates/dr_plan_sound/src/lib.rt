@@ -5,8 +5,6 @@
 pub mod certificate;
 pub mod copies;
 pub mod laws;
-mod printed;
 mod same;
 
 pub use certificate::{Certificate, Hop, Line, Stop};
-pub use printed::field_bytes;

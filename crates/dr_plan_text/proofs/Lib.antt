@@ -1,12 +1,15 @@
 pub mod Keys
+pub mod Listened
 pub mod Items
 pub mod Trimmed
 pub mod Ports
 pub mod Refusals
 pub mod Repeats
 pub mod OneAnswer
-pub mod OfStations
+pub mod OfValues
 pub mod OnePlan
 pub mod SmallTexts
 pub mod PrefixTexts
+pub mod ListenTexts
+pub mod ModalityTexts
 pub mod Unnamed

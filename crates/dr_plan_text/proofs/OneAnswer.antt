@@ -5,10 +5,7 @@ use Rattle.toml.specs.Data.{Data, string, array, Items, no_items, item}
 use Rattle.dr_base.specs.Texts.{Text}
 use Rattle.dr_route.specs.declared.accept.Callers.{Callers}
 use Rattle.dr_route.specs.declared.accept.Callers.TheVariants as callers
-use Rattle.dr_plan_model.specs.declared.plan.Values.{Values}
-use Rattle.dr_plan_model.specs.declared.plan.Values.TheVariants as values
-use Rattle.dr_plan_model.specs.Formed.{IsLiteral}
-use Rattle.dr_plan_text.specs.Fields.{SaysText, SaysFormed, SaysValues, SaysCallers, ListsValues, IsListOf, IsSomeOf, Given, star}
+use Rattle.dr_plan_text.specs.Fields.{SaysText, SaysFormed, SaysCallers, ListsValues, IsListOf, IsSomeOf, Given, star}
 
 -- what a value says, it alone says
 abbrev pub SaysOne : {X : Type 0} → (Data → X → Type 0) → Type 0
@@ -41,14 +38,10 @@ pub Given-one : {X : Type 0} (Says : Data → X → Type 0) → SaysOne Says →
 Given-one Says one None x y a b = absurd a
 Given-one Says one (Some d) x y a b = one d x y a b
 
--- a value that is no `*`, and no list either, says no callers and no values
+-- a value that is no `*`, and no list either, says no callers
 pub no_callers : (d : Data) → (d ≡ star → ⊥) → ((names : List Text) → IsListOf SaysText d names → ⊥) → (x : Callers) → SaysCallers d x → ⊥
 no_callers d no_star no_list callers.Any says = no_star says
 no_callers d no_star no_list (callers.Listed names) says = no_list names says
-
-pub no_values : (d : Data) → (d ≡ star → ⊥) → ((texts : List Text) → IsListOf (SaysFormed IsLiteral) d texts → ⊥) → (x : Values) → SaysValues d x → ⊥
-no_values d no_star no_list values.Any says = no_star says
-no_values d no_star no_list (values.Listed texts) says = no_list texts says
 
 pub is_nil : {X : Type 0} (xs : List X) → true ≡ (length xs == 0) → xs ≡ []
 is_nil [] e = refl

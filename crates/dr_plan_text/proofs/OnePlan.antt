@@ -1,29 +1,31 @@
 -- Tables say one thing each, and a text writes one plan at most.
-use Rattle.std.proofs.Common.{◌≡◌, refl, sym, ◌∙◌, ap, subst, List, [], Option, Some, None, Bool, ℤ, codes}
+use Rattle.std.proofs.Common.{◌≡◌, refl, sym, ◌∙◌, ap, subst, List, [], Option, Some, None, Bool, false, ℤ, codes}
 use Rattle.std.proofs.lemmas.Option.{same_Some}
 use Rattle.toml.specs.Data.{Data, integer, boolean, array, table, Members, get_member}
 use Rattle.dr_base.specs.Texts.{Text}
 use Rattle.dr_route.specs.declared.rule.Rule.{Rule}
 use Rattle.dr_route.specs.declared.rule.Pattern.{Pattern}
 use Rattle.dr_route.specs.declared.rule.Pattern.TheVariants.{Any, Literal}
-use Rattle.dr_route.specs.declared.rule.StationPattern.{StationPattern}
-use Rattle.dr_route.specs.declared.rule.StationPattern.TheVariants as station
+use Rattle.dr_route.specs.declared.rule.FieldPattern.{FieldPattern}
+use Rattle.dr_route.specs.declared.rule.FieldPattern.TheVariants as field
 use Rattle.dr_route.specs.declared.accept.Callers.{Callers}
 use Rattle.dr_route.specs.declared.accept.Callers.TheVariants as callers
 use Rattle.dr_plan_model.specs.declared.plan.Values.{Values}
-use Rattle.dr_plan_model.specs.declared.plan.Values.TheVariants as values
-use Rattle.dr_plan_model.specs.declared.plan.Stations.{Stations}
 use Rattle.dr_plan_model.specs.declared.plan.Format.{Format}
 use Rattle.dr_plan_model.specs.declared.plan.Format.TheVariants.{One}
-use Rattle.dr_plan_model.specs.Formed.{IsClass, IsLiteral, IsAddress}
+use Rattle.dr_plan_model.specs.Formed.{IsClass}
+use Rattle.dr_plan_model.specs.Listening.{MayAccept}
+use Rattle.dr_plan_model.specs.declared.listens.Listens.{Listens}
+use Rattle.dr_plan_text.specs.Listening.{IsListens}
+use Rattle.dr_plan_text.proofs.Listened.{IsListens-one}
 use Rattle.dr_plan_text.specs.declared.words.AcceptText.{AcceptText}
 use Rattle.dr_plan_text.specs.declared.words.NodeText.{NodeText}
 use Rattle.dr_plan_text.specs.declared.words.FlowText.{FlowText}
 use Rattle.dr_plan_text.specs.declared.words.PlanText.{PlanText}
-use Rattle.dr_plan_text.specs.Fields.{SaysText, SaysFormed, SaysNumber, SaysFlag, SaysFormat, SaysPattern, SaysStation, SaysValues, SaysStations, SaysCallers, SaysTextsOnce, SaysTable, IsListOf, IsSomeOf, GivenOr, star}
+use Rattle.dr_plan_text.specs.Fields.{SaysText, SaysFormed, SaysNumber, SaysFlag, SaysFormat, SaysPattern, SaysField, SaysValues, SaysCallers, SaysTextsOnce, SaysTable, IsListOf, IsSomeOf, GivenOr, star}
 use Rattle.dr_plan_text.specs.Tables.{IsAcceptTable, IsRuleTable, IsNodeTable, IsFlowTable, IsRoot, IsFormat, FitsFormat, Writes}
 use Rattle.dr_plan_text.proofs.OneAnswer.{SaysOne, SaysText-one, SaysFormed-one, IsListOf-one, IsSomeOf-one, Given-one}
-use Rattle.dr_plan_text.proofs.OfStations.{SaysFormat-one, SaysStation-one, SaysStations-one}
+use Rattle.dr_plan_text.proofs.OfValues.{SaysFormat-one, SaysField-one, SaysValues-one}
 
 SaysNumber-one : SaysOne SaysNumber
 SaysNumber-one d x y a b = let same : integer x ≡ integer y = sym a ∙ b in cc
@@ -39,12 +41,6 @@ SaysPattern-one Says one d (Literal x) (Literal y) a b = ap Literal (one d x y a
 
 SaysTextsOnce-one : SaysOne SaysTextsOnce
 SaysTextsOnce-one d xs ys a b = IsSomeOf-one SaysText SaysText-one d xs ys a.0 b.0
-
-SaysValues-one : SaysOne SaysValues
-SaysValues-one d values.Any values.Any a b = refl
-SaysValues-one d values.Any (values.Listed ys) a b = absurd (let both : star ≡ array b.0 = sym a ∙ b.1 in cc)
-SaysValues-one d (values.Listed xs) values.Any a b = absurd (let both : star ≡ array a.0 = sym b ∙ a.1 in cc)
-SaysValues-one d (values.Listed xs) (values.Listed ys) a b = ap values.Listed (IsListOf-one (SaysFormed IsLiteral) (SaysFormed-one IsLiteral) d xs ys a b)
 
 SaysCallers-one : SaysOne SaysCallers
 SaysCallers-one d callers.Any callers.Any a b = refl
@@ -76,7 +72,7 @@ accept_one fields x y a b =
     let syntaxes = Given-one SaysTextsOnce SaysTextsOnce-one _ x.syntaxes y.syntaxes a.syntax b.syntax in
     same_accept x.from y.from x.class y.class x.syntaxes y.syntaxes from class syntaxes
 
-same_rule : (from from2 : Pattern) (class class2 : Pattern) (modality modality2 : Pattern) (station station2 : StationPattern) (to to2 : List Text) (keep keep2 : Bool) → from ≡ from2 → class ≡ class2 → modality ≡ modality2 → station ≡ station2 → to ≡ to2 → keep ≡ keep2 →
+same_rule : (from from2 : Pattern) (class class2 : Pattern) (modality modality2 : FieldPattern) (station station2 : FieldPattern) (to to2 : List Text) (keep keep2 : Bool) → from ≡ from2 → class ≡ class2 → modality ≡ modality2 → station ≡ station2 → to ≡ to2 → keep ≡ keep2 →
     (let x : Rule = record { from = from; class = class; modality = modality; station = station; to = to; keep = keep } in let y : Rule = record { from = from2; class = class2; modality = modality2; station = station2; to = to2; keep = keep2 } in x ≡ y)
 same_rule from from2 class class2 modality modality2 station station2 to to2 keep keep2 e_from e_class e_modality e_station e_to e_keep = rw (e_from, e_class, e_modality, e_station, e_to, e_keep) refl
 
@@ -84,26 +80,34 @@ rule_one : (fields : Members) (x y : Rule) → IsRuleTable fields x → IsRuleTa
 rule_one fields x y a b =
     let from = GivenOr-one Any (SaysPattern SaysText) (SaysPattern-one SaysText SaysText-one) _ x.from y.from a.from b.from in
     let class = GivenOr-one Any (SaysPattern (SaysFormed IsClass)) (SaysPattern-one (SaysFormed IsClass) (SaysFormed-one IsClass)) _ x.class y.class a.class b.class in
-    let modality = GivenOr-one Any (SaysPattern (SaysFormed IsLiteral)) (SaysPattern-one (SaysFormed IsLiteral) (SaysFormed-one IsLiteral)) _ x.modality y.modality a.modality b.modality in
-    let station = GivenOr-one station.Any SaysStation SaysStation-one _ x.station y.station a.station b.station in
+    let modality = GivenOr-one field.Any SaysField SaysField-one _ x.modality y.modality a.modality b.modality in
+    let station = GivenOr-one field.Any SaysField SaysField-one _ x.station y.station a.station b.station in
     let to = GivenOr-one [] (IsListOf SaysText) (IsListOf-one SaysText SaysText-one) _ x.to y.to a.to b.to in
     let keep = GivenOr-one _ SaysFlag SaysFlag-one _ x.keep y.keep a.keep b.keep in
     same_rule x.from y.from x.class y.class x.modality y.modality x.station y.station x.to y.to x.keep y.keep from class modality station to keep
 
-same_node : (name name2 : Text) (address address2 : Text) (max_pdu max_pdu2 : ℤ) (accepts accepts2 : List AcceptText) (rules rules2 : List Rule) → name ≡ name2 → address ≡ address2 → max_pdu ≡ max_pdu2 → accepts ≡ accepts2 → rules ≡ rules2 →
-    (let x : NodeText = record { name = name; address = address; max_pdu = max_pdu; accepts = accepts; rules = rules } in let y : NodeText = record { name = name2; address = address2; max_pdu = max_pdu2; accepts = accepts2; rules = rules2 } in x ≡ y)
-same_node name name2 address address2 max_pdu max_pdu2 accepts accepts2 rules rules2 e_name e_address e_max_pdu e_accepts e_rules = rw (e_name, e_address, e_max_pdu, e_accepts, e_rules) refl
+same_node : (name name2 : Text) (listens listens2 : Listens) (max_pdu max_pdu2 : ℤ) (accepts accepts2 : List AcceptText) (rules rules2 : List Rule) → name ≡ name2 → listens ≡ listens2 → max_pdu ≡ max_pdu2 → accepts ≡ accepts2 → rules ≡ rules2 →
+    (let x : NodeText = record { name = name; listens = listens; max_pdu = max_pdu; accepts = accepts; rules = rules } in let y : NodeText = record { name = name2; listens = listens2; max_pdu = max_pdu2; accepts = accepts2; rules = rules2 } in x ≡ y)
+same_node name name2 listens listens2 max_pdu max_pdu2 accepts accepts2 rules rules2 e_name e_listens e_max_pdu e_accepts e_rules = rw (e_name, e_listens, e_max_pdu, e_accepts, e_rules) refl
 
 node_one : (fields : Members) (x y : NodeText) → IsNodeTable fields x → IsNodeTable fields y → x ≡ y
 node_one fields x y a b =
     let name = Given-one SaysText SaysText-one _ x.name y.name a.name b.name in
-    let address = Given-one (SaysFormed IsAddress) (SaysFormed-one IsAddress) _ x.address y.address a.address b.address in
+    let listens = IsListens-one false fields x.listens y.listens a.listens b.listens in
     let max_pdu = GivenOr-one _ SaysNumber SaysNumber-one _ x.max_pdu y.max_pdu a.max_pdu b.max_pdu in
     let accepts = GivenOr-one [] (IsListOf (SaysTable IsAcceptTable)) (IsListOf-one (SaysTable IsAcceptTable) (SaysTable-one IsAcceptTable accept_one)) _ x.accepts y.accepts a.accept b.accept in
     let rules = GivenOr-one [] (IsListOf (SaysTable IsRuleTable)) (IsListOf-one (SaysTable IsRuleTable) (SaysTable-one IsRuleTable rule_one)) _ x.rules y.rules a.rule b.rule in
-    same_node x.name y.name x.address y.address x.max_pdu y.max_pdu x.accepts y.accepts x.rules y.rules name address max_pdu accepts rules
+    same_node x.name y.name x.listens y.listens x.max_pdu y.max_pdu x.accepts y.accepts x.rules y.rules name listens max_pdu accepts rules
 
-same_flow : (at at2 : Text) (to to2 : Text) (classes classes2 : List Text) (syntaxes syntaxes2 : List Text) (modalities modalities2 : Values) (stations stations2 : Stations) → at ≡ at2 → to ≡ to2 → classes ≡ classes2 → syntaxes ≡ syntaxes2 → modalities ≡ modalities2 → stations ≡ stations2 →
+-- where a node that listens nowhere has accept rows, the table says no node
+pub no_rows : (fields : Members) (listens : Listens) (accepts : List AcceptText) → IsListens false fields listens
+    → GivenOr [] (IsListOf (SaysTable IsAcceptTable)) (get_member (codes "accept") fields) accepts → (MayAccept listens accepts → ⊥) → (x : NodeText) → IsNodeTable fields x → ⊥
+no_rows fields listens accepts where_it rows may_not x is =
+    let same_place = IsListens-one false fields x.listens listens is.listens where_it in
+    let same_rows = GivenOr-one [] (IsListOf (SaysTable IsAcceptTable)) (IsListOf-one (SaysTable IsAcceptTable) (SaysTable-one IsAcceptTable accept_one)) _ x.accepts accepts is.accept rows in
+    may_not (subst (λ (l : Listens). MayAccept l accepts) same_place (subst (λ (r : List AcceptText). MayAccept x.listens r) same_rows is.may_accept))
+
+same_flow : (at at2 : Text) (to to2 : Text) (classes classes2 : List Text) (syntaxes syntaxes2 : List Text) (modalities modalities2 : Values) (stations stations2 : Values) → at ≡ at2 → to ≡ to2 → classes ≡ classes2 → syntaxes ≡ syntaxes2 → modalities ≡ modalities2 → stations ≡ stations2 →
     (let x : FlowText = record { at = at; to = to; classes = classes; syntaxes = syntaxes; modalities = modalities; stations = stations } in let y : FlowText = record { at = at2; to = to2; classes = classes2; syntaxes = syntaxes2; modalities = modalities2; stations = stations2 } in x ≡ y)
 same_flow at at2 to to2 classes classes2 syntaxes syntaxes2 modalities modalities2 stations stations2 e_at e_to e_classes e_syntaxes e_modalities e_stations = rw (e_at, e_to, e_classes, e_syntaxes, e_modalities, e_stations) refl
 
@@ -114,7 +118,7 @@ flow_one fields x y a b =
     let classes = Given-one (IsSomeOf (SaysFormed IsClass)) (IsSomeOf-one (SaysFormed IsClass) (SaysFormed-one IsClass)) _ x.classes y.classes a.class b.class in
     let syntaxes = Given-one (IsSomeOf SaysText) (IsSomeOf-one SaysText SaysText-one) _ x.syntaxes y.syntaxes a.syntax b.syntax in
     let modalities = Given-one SaysValues SaysValues-one _ x.modalities y.modalities a.modality b.modality in
-    let stations = Given-one SaysStations SaysStations-one _ x.stations y.stations a.station b.station in
+    let stations = Given-one SaysValues SaysValues-one _ x.stations y.stations a.station b.station in
     same_flow x.at y.at x.to y.to x.classes y.classes x.syntaxes y.syntaxes x.modalities y.modalities x.stations y.stations at to classes syntaxes modalities stations
 
 pub format_one : (fields : Members) (x y : Format) → IsFormat (get_member (codes "format") fields) x → IsFormat (get_member (codes "format") fields) y → x ≡ y

@@ -5,21 +5,21 @@ use Rattle.std.proofs.lemmas.List.Elements.{All-nil, All-cons}
 use Rattle.toml.specs.Data.{Data, string, integer, array, table, no_items, item, Members, no_members, member}
 use Rattle.toml.specs.Parse.{parse_document}
 use Rattle.toml.proofs.OnLiterals.{toml_on_literals}
-use Rattle.dr_route.specs.declared.rule.StationPattern.TheVariants as station
+use Rattle.dr_route.specs.declared.rule.FieldPattern.TheVariants as field
 use Rattle.dr_plan_model.specs.declared.plan.Format.{Format}
 use Rattle.dr_plan_model.specs.declared.plan.Format.TheVariants.{One, Two}
-use Rattle.dr_plan_model.specs.Formed.{IsLiteral, IsPrefix, IsClass, IsDigit}
+use Rattle.dr_plan_model.specs.Formed.{IsLiteral, IsPrefix, IsClass, IsDigit, RuleFits}
 use Rattle.dr_plan_text.specs.declared.words.NodeText.{NodeText}
 use Rattle.dr_plan_text.specs.declared.words.FlowText.{FlowText}
-use Rattle.dr_plan_text.specs.Fields.{SaysStations, SaysTable, IsListOf}
+use Rattle.dr_plan_text.specs.Fields.{SaysValues, SaysTable, IsListOf}
 use Rattle.dr_plan_text.specs.Tables.{IsRuleTable, IsNodeTable, IsFlowTable, IsRoot}
 use Rattle.dr_plan_text.specs.Laws.{RulePrefixIsWritten, RulePrefixIsOfFormatTwo, FlowPrefixIsWritten, FlowPrefixIsOfFormatTwo, second_format, rule_text, written_rule, written_rule_node, flow_text, written_flow_text}
 use Rattle.dr_plan_text.proofs.Trimmed.{trimmed}
 use Rattle.dr_plan_text.proofs.OnePlan.{nodes_one, flows_one}
-use Rattle.dr_plan_text.proofs.SmallTexts.{StationOf, RulesFit, StationsOf, address_is, the_tree}
+use Rattle.dr_plan_text.proofs.SmallTexts.{RulesFit, FlowFits, ListensOf, address_is, the_tree}
 
 -- a byte that a literal may have
-abbrev IsPlain : ℕ → Type 0
+abbrev pub IsPlain : ℕ → Type 0
 IsPlain byte = (32 ≤ byte) × (byte < 127) × (byte ≡ 42 → ⊥)
 
 two_bytes : (a b : ℕ) → IsPlain a → IsPlain b → (a ≡ 32 → ⊥) → (b ≡ 32 → ⊥) → IsLiteral (a ∷ b ∷ [])
@@ -35,10 +35,10 @@ ct_is = record {
   some = λ e. cc;
 }
 
-mr_is : IsLiteral (codes "MR")
+pub mr_is : IsLiteral (codes "MR")
 mr_is = two_bytes 77 82 (lit≤ tt, lit< tt, λ e. omega arith) (lit≤ tt, lit< tt, λ e. omega arith) (λ e. omega arith) (λ e. omega arith)
 
-class_is : IsClass (codes "1")
+pub class_is : IsClass (codes "1")
 class_is =
     let P : ℕ → Type 0 = λ byte. IsDigit byte ⊎ (byte ≡ 46) in
     record { some = λ e. cc; short = lit≤ tt; digits = All-cons P 49 [] (inl (lit≤ tt, lit≤ tt)) (All-nil P) }
@@ -70,10 +70,11 @@ unfolding node_members
 node_said = record {
   only = ((1, lit< tt, refl), ((0, lit< tt, refl), ((4, lit< tt, refl), tt)));
   name = refl;
-  address = (refl, address_is);
+  listens = (refl, (refl, address_is), refl);
   max_pdu = refl;
   accept = refl;
   rule = (item (table rule_members) no_items, refl, ((rule_members, refl, rule_said), tt));
+  may_accept = tt;
 }
 
 rule_parsed : parse_document (second_format ++ rule_text) ≡ Some (member (codes "format") (integer (pos 2)) (member (codes "node") node_array no_members))
@@ -100,8 +101,9 @@ rule_prefix = (
     node = node_listed;
     flow = refl;
     fits = record {
-      rules = All-cons (RulesFit Two) written_rule_node [] (All-cons (StationOf Two) written_rule [] tt (All-nil (StationOf Two))) (All-nil (RulesFit Two));
-      flows = All-nil (StationsOf Two);
+      rules = All-cons (RulesFit Two) written_rule_node [] (All-cons (RuleFits Two) written_rule [] (refl, tt) (All-nil (RuleFits Two))) (All-nil (RulesFit Two));
+      flows = All-nil (FlowFits Two);
+      listen = All-cons (ListensOf Two) written_rule_node [] refl (All-nil (ListensOf Two));
     };
   },
 )
@@ -115,7 +117,7 @@ rule_of_1 = λ plan w.
     let Q : Format → Type 0 = λ format. All (RulesFit format) plan.nodes in
     let R : List NodeText → Type 0 = λ all. All (RulesFit One) all in
     let fits : All (RulesFit One) (written_rule_node ∷ []) = subst R nodes (subst Q is.format is.fits.rules) in
-    let none : codes "CT" ∷ [] ≡ [] = fits 0 written_rule_node (lit< tt) 0 written_rule (lit< tt) in
+    let none : codes "CT" ∷ [] ≡ [] = (fits 0 written_rule_node (lit< tt) 0 written_rule (lit< tt)).1 in
     cc
 
 flow_members : Members
@@ -126,9 +128,9 @@ flow_members = member (codes "at") (string (codes "A")) (member (codes "class") 
 flow_array : Data
 flow_array = array (item (table flow_members) no_items)
 
-stations_said : SaysStations (array (item (string (codes "MR")) (item (string (codes "CT*")) no_items))) written_flow_text.stations
+stations_said : SaysValues (array (item (string (codes "MR")) (item (string (codes "CT*")) no_items))) written_flow_text.stations
 stations_said = (
-  station.Literal (codes "MR") ∷ station.Prefix (codes "CT") ∷ [],
+  field.Literal (codes "MR") ∷ field.Prefix (codes "CT") ∷ [],
   (item (string (codes "MR")) (item (string (codes "CT*")) no_items), refl, ((refl, mr_is), ((refl, ct_is), tt))),
   refl,
   refl,
@@ -169,7 +171,7 @@ flow_prefix = (
     format = refl;
     node = refl;
     flow = flow_listed;
-    fits = record { rules = All-nil (RulesFit Two); flows = All-cons (StationsOf Two) written_flow_text [] tt (All-nil (StationsOf Two)) };
+    fits = record { rules = All-nil (RulesFit Two); flows = All-cons (FlowFits Two) written_flow_text [] (refl, tt) (All-nil (FlowFits Two)); listen = All-nil (ListensOf Two) };
   },
 )
 
@@ -179,8 +181,8 @@ flow_of_1 = λ plan w.
     let P : Members → Type 0 = λ fields. IsRoot fields plan in
     let is : IsRoot root plan = subst P (the_tree flow_text root w.0 flow_of_1_parsed w.1.1) w.2 in
     let flows : plan.flows ≡ written_flow_text ∷ [] = flows_one root plan.flows (written_flow_text ∷ []) is.flow flow_listed in
-    let Q : Format → Type 0 = λ format. All (StationsOf format) plan.flows in
-    let R : List FlowText → Type 0 = λ all. All (StationsOf One) all in
-    let fits : All (StationsOf One) (written_flow_text ∷ []) = subst R flows (subst Q is.format is.fits.flows) in
-    let none : codes "CT" ∷ [] ≡ [] = fits 0 written_flow_text (lit< tt) in
+    let Q : Format → Type 0 = λ format. All (FlowFits format) plan.flows in
+    let R : List FlowText → Type 0 = λ all. All (FlowFits One) all in
+    let fits : All (FlowFits One) (written_flow_text ∷ []) = subst R flows (subst Q is.format is.fits.flows) in
+    let none : codes "CT" ∷ [] ≡ [] = (fits 0 written_flow_text (lit< tt)).1 in
     cc

@@ -1,42 +1,46 @@
 -- Small texts, read by computation.
-use Rattle.std.proofs.Common.{◌≡◌, ℕ, ◌<◌, ◌≤◌, refl, sym, ◌∙◌, ap, subst, pos, inl, inr, List, [], ◌∷◌, codes, Some, get_or, Contains, arith, lit<, lit≤}
+use Rattle.std.proofs.Common.{◌≡◌, ℕ, ◌<◌, ◌≤◌, refl, sym, ◌∙◌, ap, subst, pos, inl, inr, List, [], ◌∷◌, codes, Option, Some, None, false, get_or, Contains, arith, lit<, lit≤}
 use Rattle.std.specs.Prelude.{All}
-use Rattle.std.proofs.lemmas.Option.{same_Some}
-use Rattle.toml.specs.Data.{string, integer, array, table, Items, no_items, item, Members, no_members, member, get_member}
+use Rattle.std.proofs.lemmas.Option.{none-some, same_Some}
+use Rattle.toml.specs.Data.{Data, string, integer, boolean, array, table, Items, no_items, item, Members, no_members, member, get_member}
 use Rattle.toml.specs.Parse.{parse_document}
 use Rattle.toml.proofs.OnLiterals.{toml_on_literals}
 use Rattle.dr_base.specs.Texts.{Text}
 use Rattle.dr_route.specs.declared.rule.Rule.{Rule}
 use Rattle.dr_plan_model.specs.declared.plan.Format.{Format}
 use Rattle.dr_plan_model.specs.declared.plan.Format.TheVariants.{One}
-use Rattle.dr_plan_model.specs.Formed.{IsAddress, IsDigit}
+use Rattle.dr_plan_model.specs.Formed.{IsAddress, IsDigit, RuleFits, ValuesFit}
 use Rattle.std.specs.Str.Parse.{digits_value}
 use Rattle.std.proofs.lemmas.List.Elements.{All-nil, All-cons}
 use Rattle.dr_plan_model.proofs.Gathered.{Contains-cons_cases, only_one}
 use Rattle.dr_plan_text.specs.declared.words.NodeText.{NodeText}
 use Rattle.dr_plan_text.specs.declared.words.FlowText.{FlowText}
 use Rattle.dr_plan_text.specs.declared.words.PlanText.{PlanText}
-use Rattle.dr_plan_text.specs.Fields.{SaysTable, ListsValues, IsListOf, GivenOr, HasOnly, PatternFits, StationsFit}
-use Rattle.dr_plan_text.proofs.OfStations.{no_format}
+use Rattle.dr_plan_model.specs.Listening.{ListensFits}
+use Rattle.dr_plan_model.specs.declared.listens.Listens.{Listens}
+use Rattle.dr_plan_model.specs.declared.listens.Listens.TheVariants.{Nowhere, At}
+use Rattle.dr_plan_text.specs.Listening.{IsListens}
+use Rattle.dr_plan_text.specs.Fields.{SaysFormed, SaysTable, ListsValues, IsListOf, Given, GivenOr, HasOnly}
+use Rattle.dr_plan_text.proofs.OfValues.{no_format}
 use Rattle.dr_plan_text.proofs.Refusals.{nothing_parsed}
 use Rattle.dr_plan_text.proofs.Ports.{small_port, no_colon}
 use Rattle.dr_plan_text.specs.Tables.{IsNodeTable, IsFormat, Writes, root_keys}
 use Rattle.dr_plan_text.specs.Laws.{EmptyTextWritesNothing, NodeIsWritten, KeyIsUnknown, FormatIsOther, AddressIsMissing, PortIsTooHigh, node_text, written_node_text}
 
--- a rule's station fits the format
-abbrev pub StationOf : Format → Rule → Type 0
-StationOf format rule = PatternFits format rule.station
-
--- the stations of a node's rules do
+-- a node's rules fit the format
 abbrev pub RulesFit : Format → NodeText → Type 0
-RulesFit format node = All (StationOf format) node.rules
+RulesFit format node = All (RuleFits format) node.rules
 
--- those of a flow do
-abbrev pub StationsOf : Format → FlowText → Type 0
-StationsOf format flow = StationsFit format flow.stations
+-- a flow does
+abbrev pub FlowFits : Format → FlowText → Type 0
+FlowFits format flow = ValuesFit format flow.modalities flow.stations
+
+-- the format has how the node listens
+abbrev pub ListensOf : Format → NodeText → Type 0
+ListensOf format node = ListensFits format node.listens
 
 pub empty_text : EmptyTextWritesNothing
-empty_text = (no_members, (([], (refl, refl)), nothing_parsed), record { only = tt; format = refl; node = refl; flow = refl; fits = record { rules = All-nil (RulesFit One); flows = All-nil (StationsOf One) } })
+empty_text = (no_members, (([], (refl, refl)), nothing_parsed), record { only = tt; format = refl; node = refl; flow = refl; fits = record { rules = All-nil (RulesFit One); flows = All-nil (FlowFits One); listen = All-nil (ListensOf One) } })
 
 node_members : Members
 node_members = member (codes "address") (string (codes "h:1")) (member (codes "name") (string (codes "A")) no_members)
@@ -64,10 +68,11 @@ unfolding node_members
 node_said = record {
   only = ((1, lit< tt, refl), ((0, lit< tt, refl), tt));
   name = refl;
-  address = (refl, address_is);
+  listens = (refl, (refl, address_is), refl);
   max_pdu = refl;
   accept = refl;
   rule = refl;
+  may_accept = tt;
 }
 
 pub one_node : NodeIsWritten
@@ -80,7 +85,7 @@ one_node = (
     format = refl;
     node = (item (table node_members) no_items, refl, ((node_members, refl, node_said), tt));
     flow = refl;
-    fits = record { rules = All-cons (RulesFit One) written_node_text [] (All-nil (StationOf One)) (All-nil (RulesFit One)); flows = All-nil (StationsOf One) };
+    fits = record { rules = All-cons (RulesFit One) written_node_text [] (All-nil (RuleFits One)) (All-nil (RulesFit One)); flows = All-nil (FlowFits One); listen = All-cons (ListensOf One) written_node_text [] refl (All-nil (ListensOf One)) };
   },
 )
 
@@ -124,7 +129,7 @@ other_format = λ plan w.
     no_format (integer (pos 4)) (apart_numbers 4 1 (λ e. omega arith)) (apart_numbers 4 2 (λ e. omega arith)) (apart_numbers 4 3 (λ e. omega arith)) plan.format (subst P same w.2.format)
 
 -- the one node of a text that says one node, if it says any
-the_node : (fields : Members) (nodes : List NodeText) → IsListOf (SaysTable IsNodeTable) (array (item (table fields) no_items)) nodes → (node : NodeText) × IsNodeTable fields node
+pub the_node : (fields : Members) (nodes : List NodeText) → IsListOf (SaysTable IsNodeTable) (array (item (table fields) no_items)) nodes → (node : NodeText) × IsNodeTable fields node
 the_node fields nodes says = first nodes (let same : item (table fields) no_items ≡ says.0 = (let e = says.1 in cc) in let P : Items → Type 0 = λ items. ListsValues (SaysTable IsNodeTable) items nodes in subst P (sym same) says.2)
   where
     first : (nodes : List NodeText) → ListsValues (SaysTable IsNodeTable) (item (table fields) no_items) nodes → (node : NodeText) × IsNodeTable fields node
@@ -142,8 +147,13 @@ name_parsed : parse_document (codes "[[node]]\nname = \"A\"\n") ≡ Some (member
 unfolding toml_on_literals
 name_parsed = refl
 
+-- where no address is given, and nothing says that the node only calls
+pub unaddressed : (fields : Members) (place : Listens) → get_member (codes "listens") fields ≡ None → get_member (codes "address") fields ≡ None → IsListens false fields place → ⊥
+unaddressed fields Nowhere silent none is = none-some (boolean false) (sym silent ∙ is.0)
+unaddressed fields (At address bind) silent none is = subst (λ (d : Option Data). Given (SaysFormed IsAddress) d address) none is.1
+
 pub no_address : AddressIsMissing
-no_address = λ plan w. (lone_node _ _ plan name_parsed w).1.address
+no_address = λ plan w. let node = lone_node _ _ plan name_parsed w in unaddressed (member (codes "name") (string (codes "A")) no_members) node.0.listens refl refl node.1.listens
 
 high_fields : Members
 high_fields = member (codes "address") (string (codes "h:65536")) (member (codes "name") (string (codes "A")) no_members)
@@ -152,9 +162,10 @@ high_parsed : parse_document (codes "[[node]]\nname = \"A\"\naddress = \"h:65536
 unfolding toml_on_literals high_fields
 high_parsed = refl
 
-high_address : (node : NodeText) → IsNodeTable high_fields node → (string (codes "h:65536") ≡ string node.address) × IsAddress node.address
+high_address : (place : Listens) → IsListens false high_fields place → (address : Text) × (string (codes "h:65536") ≡ string address) × IsAddress address
 unfolding high_fields
-high_address node is = is.address
+high_address Nowhere is = absurd (none-some (boolean false) is.0)
+high_address (At address bind) is = (address, is.1.0, is.1.1)
 
 five_digits : All IsDigit (codes "65536")
 five_digits = All-cons IsDigit 54 (codes "5536") (lit≤ tt, lit≤ tt) (All-cons IsDigit 53 (codes "536") (lit≤ tt, lit≤ tt) (All-cons IsDigit 53 (codes "36") (lit≤ tt, lit≤ tt)
@@ -163,9 +174,9 @@ five_digits = All-cons IsDigit 54 (codes "5536") (lit≤ tt, lit≤ tt) (All-con
 pub high_port : PortIsTooHigh
 high_port = λ plan w.
     let node = lone_node _ high_fields plan high_parsed w in
-    let address = high_address node.0 node.1 in
-    let e = address.0 in
-    let same : codes "h:65536" ≡ node.0.address = cc in
-    let is : IsAddress (codes "h:65536") = subst IsAddress (sym same) address.1 in
+    let address = high_address node.0.listens node.1.listens in
+    let e = address.1 in
+    let same : codes "h:65536" ≡ address.0 = cc in
+    let is : IsAddress (codes "h:65536") = subst IsAddress (sym same) address.2 in
     let small : digits_value 10 (codes "65536") ≤ 65535 = small_port (codes "h:65536") (codes "h") (codes "65536") (refl, no_colon (codes "65536") five_digits) is in
     omega arith

@@ -1,11 +1,11 @@
--- Texts that name no station.
+-- Texts that name no value.
 use Rattle.std.proofs.Common.{◌≡◌, ◌<◌, ◌≤◌, refl, sym, ◌∙◌, ap, subst, ℕ, [], ◌∷◌, ◌++◌, codes, length, get_or, Contains, arith, length-append, lit<}
 use Rattle.std.proofs.lemmas.List.{append_cancel_right, get_or_push}
 use Rattle.std.proofs.lemmas.List.Elements.{All-contains}
 use Rattle.dr_base.specs.Texts.{Text}
 use Rattle.dr_plan_model.specs.Formed.{IsLiteral, IsPrefix}
 use Rattle.dr_plan_text.specs.Laws.{StarNamesNone, StarsInsideNameNone, SpacesNameNone}
-use Rattle.dr_plan_text.proofs.OfStations.{no_text_named}
+use Rattle.dr_plan_text.proofs.OfValues.{no_text_named}
 
 -- no literal has an asterisk
 no_star_within : (text : Text) → Contains text 42 → IsLiteral text → ⊥

@@ -6,17 +6,15 @@ use Rattle.toml.specs.Data.{Members, no_members, member}
 use Rattle.dr_base.specs.Texts.{Text}
 use Rattle.dr_route.specs.declared.rule.Pattern.{Pattern}
 use Rattle.dr_route.specs.declared.rule.Pattern.TheVariants as pattern
-use Rattle.dr_route.specs.declared.rule.StationPattern.{StationPattern}
-use Rattle.dr_route.specs.declared.rule.StationPattern.TheVariants as station
+use Rattle.dr_route.specs.declared.rule.FieldPattern.{FieldPattern}
+use Rattle.dr_route.specs.declared.rule.FieldPattern.TheVariants as field
 use Rattle.dr_route.specs.declared.accept.Callers.{Callers}
 use Rattle.dr_route.specs.declared.accept.Callers.TheVariants as callers
 use Rattle.dr_plan_model.specs.declared.plan.Values.{Values}
 use Rattle.dr_plan_model.specs.declared.plan.Values.TheVariants as values
-use Rattle.dr_plan_model.specs.declared.plan.Stations.{Stations}
-use Rattle.dr_plan_model.specs.declared.plan.Stations.TheVariants as stations
 use Rattle.dr_plan_model.specs.declared.plan.Format.{Format}
 use Rattle.dr_plan_model.specs.declared.plan.Format.TheVariants.{One, Two, Three}
-use Rattle.dr_plan_model.specs.Naming.{station_of, prefix_of, listed_prefixes}
+use Rattle.dr_plan_model.specs.Naming.{literal_of, prefix_of}
 use Rattle.dr_plan_model.specs.Formed.{IsLiteral, IsPrefix}
 
 -- a string says its text
@@ -26,6 +24,11 @@ SaysText d text = d ≡ string text
 -- a string says its text, which has to be of that form
 abbrev pub SaysFormed : (Text → Type 0) → Data → Text → Type 0
 SaysFormed IsFormed d text = (d ≡ string text) × IsFormed text
+
+-- what a value says, where one may be left out
+abbrev pub SaysSome : {X : Type 0} → (Data → X → Type 0) → Data → Option X → Type 0
+SaysSome Says d None = ⊥
+SaysSome Says d (Some x) = Says d x
 
 -- an integer says its number
 abbrev pub SaysNumber : Data → ℤ → Type 0
@@ -73,44 +76,27 @@ abbrev pub SaysPattern : (Data → Text → Type 0) → Data → Pattern → Typ
 SaysPattern Says d pattern.Any = d ≡ star
 SaysPattern Says d (pattern.Literal literal) = (d ≢ star) × Says d literal
 
--- a station that is named: a literal, or a prefix with `*` behind it
-abbrev pub SaysNamed : Data → StationPattern → Type 0
-SaysNamed d station.Any = ⊥
-SaysNamed d (station.Literal literal) = (d ≡ string literal) × IsLiteral literal
-SaysNamed d (station.Prefix prefix) = (d ≡ string (prefix ++ 42 ∷ [])) × IsPrefix prefix
+-- a value that is named: a literal, or a prefix with `*` behind it
+abbrev pub SaysNamed : Data → FieldPattern → Type 0
+SaysNamed d field.Any = ⊥
+SaysNamed d (field.Literal literal) = (d ≡ string literal) × IsLiteral literal
+SaysNamed d (field.Prefix prefix) = (d ≡ string (prefix ++ 42 ∷ [])) × IsPrefix prefix
 
--- the station of a rule: `*`, or one that is named
-abbrev pub SaysStation : Data → StationPattern → Type 0
-SaysStation d station.Any = d ≡ star
-SaysStation d (station.Literal literal) = SaysNamed d (station.Literal literal)
-SaysStation d (station.Prefix prefix) = SaysNamed d (station.Prefix prefix)
+-- the modality or the station of a rule: `*`, or one that is named
+abbrev pub SaysField : Data → FieldPattern → Type 0
+SaysField d field.Any = d ≡ star
+SaysField d (field.Literal literal) = SaysNamed d (field.Literal literal)
+SaysField d (field.Prefix prefix) = SaysNamed d (field.Prefix prefix)
 
--- the stations of a flow: `*`, or a list of named ones, of which the literals and the prefixes are
--- kept apart, each in the list's order
-abbrev pub SaysStations : Data → Stations → Type 0
-SaysStations d stations.Any = d ≡ star
-SaysStations d (stations.Listed values) =
-    (patterns : List StationPattern)
-    × IsListOf SaysNamed d patterns
-    × (values.literals ≡ flat_map station_of patterns)
-    × (values.prefixes ≡ flat_map prefix_of patterns)
-
--- the format has the station of a rule: in format 1 there is no prefix
-abbrev pub PatternFits : Format → StationPattern → Type 0
-PatternFits One pattern = prefix_of pattern ≡ []
-PatternFits Two pattern = Unit {0}
-PatternFits Three pattern = Unit {0}
-
--- the format has the stations of a flow: in format 1 there is no prefix
-abbrev pub StationsFit : Format → Stations → Type 0
-StationsFit One listed = listed_prefixes listed ≡ []
-StationsFit Two listed = Unit {0}
-StationsFit Three listed = Unit {0}
-
--- the values of a flow for modality: `*`, or a list of literals
+-- the modalities or the stations of a flow: `*`, or a list of named ones, of which the literals and
+-- the prefixes are kept apart, each in the list's order
 abbrev pub SaysValues : Data → Values → Type 0
 SaysValues d values.Any = d ≡ star
-SaysValues d (values.Listed texts) = IsListOf (SaysFormed IsLiteral) d texts
+SaysValues d (values.Listed own) =
+    (patterns : List FieldPattern)
+    × IsListOf SaysNamed d patterns
+    × (own.literals ≡ flat_map literal_of patterns)
+    × (own.prefixes ≡ flat_map prefix_of patterns)
 
 -- the callers of an accept row: `*`, or a list of names
 abbrev pub SaysCallers : Data → Callers → Type 0

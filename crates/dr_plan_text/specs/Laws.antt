@@ -1,14 +1,14 @@
 -- Laws of plans as they are written, and small texts.
-use Rattle.std.specs.Prelude.{◌≡◌, pos, false, [], ◌∷◌, ◌++◌, codes}
+use Rattle.std.specs.Prelude.{◌≡◌, pos, false, [], ◌∷◌, ◌++◌, None, Some, codes}
 use Rattle.toml.specs.Data.{string}
 use Rattle.dr_base.specs.Texts.{Text}
 use Rattle.dr_route.specs.declared.rule.Pattern.TheVariants.{Any}
-use Rattle.dr_route.specs.declared.rule.StationPattern.{StationPattern}
-use Rattle.dr_route.specs.declared.rule.StationPattern.TheVariants as station
+use Rattle.dr_route.specs.declared.rule.FieldPattern.{FieldPattern}
+use Rattle.dr_route.specs.declared.rule.FieldPattern.TheVariants as field
 use Rattle.dr_route.specs.declared.rule.Rule.{Rule}
+use Rattle.dr_plan_model.specs.declared.listens.Listens.TheVariants.{Nowhere, At}
 use Rattle.dr_plan_model.specs.declared.plan.Values.TheVariants as values
-use Rattle.dr_plan_model.specs.declared.plan.Stations.TheVariants as stations
-use Rattle.dr_plan_model.specs.declared.plan.Format.TheVariants.{One, Two}
+use Rattle.dr_plan_model.specs.declared.plan.Format.TheVariants.{One, Two, Three}
 use Rattle.dr_plan_text.specs.declared.words.NodeText.{NodeText}
 use Rattle.dr_plan_text.specs.declared.words.FlowText.{FlowText}
 use Rattle.dr_plan_text.specs.declared.words.PlanText.{PlanText}
@@ -32,7 +32,7 @@ node_text = codes "[[node]]\nname = \"A\"\naddress = \"h:1\"\n"
 abbrev pub written_node_text : NodeText
 written_node_text = record {
   name = codes "A";
-  address = codes "h:1";
+  listens = At (codes "h:1") None;
   max_pdu = pos 16384;
   accepts = [];
   rules = [];
@@ -76,8 +76,8 @@ abbrev pub written_rule : Rule
 written_rule = record {
   from = Any;
   class = Any;
-  modality = Any;
-  station = station.Prefix (codes "CT");
+  modality = field.Any;
+  station = field.Prefix (codes "CT");
   to = [];
   keep = false;
 }
@@ -86,7 +86,7 @@ written_rule = record {
 abbrev pub written_rule_node : NodeText
 written_rule_node = record {
   name = codes "A";
-  address = codes "h:1";
+  listens = At (codes "h:1") None;
   max_pdu = pos 16384;
   accepts = [];
   rules = written_rule ∷ [];
@@ -114,7 +114,7 @@ written_flow_text = record {
   classes = codes "1" ∷ [];
   syntaxes = codes "1" ∷ [];
   modalities = values.Any;
-  stations = stations.Listed (record { literals = codes "MR" ∷ []; prefixes = codes "CT" ∷ [] });
+  stations = values.Listed (record { literals = codes "MR" ∷ []; prefixes = codes "CT" ∷ [] });
 }
 
 -- in format 2 the text with the flow writes it
@@ -126,9 +126,73 @@ FlowPrefixIsWritten = Writes (second_format ++ flow_text)
 abbrev pub FlowPrefixIsOfFormatTwo : Type 0
 FlowPrefixIsOfFormatTwo = WritesNone flow_text
 
--- the text names no station: it is neither a literal nor a prefix with an asterisk behind it
+-- the first line of a text of format 3
+abbrev pub third_format : Text
+third_format = codes "format = 3\n"
+
+-- the text of node A with a rule for the modalities that begin with C
+abbrev pub modality_rule_text : Text
+modality_rule_text = codes
+    "[[node]]\nname = \"A\"\naddress = \"h:1\"\n[[node.rule]]\nmodality = \"C*\"\n"
+
+-- the rule as it is read
+abbrev pub written_modality_rule : Rule
+written_modality_rule = record {
+  from = Any;
+  class = Any;
+  modality = field.Prefix (codes "C");
+  station = field.Any;
+  to = [];
+  keep = false;
+}
+
+-- its node as it is read
+abbrev pub written_modality_node : NodeText
+written_modality_node = record {
+  name = codes "A";
+  listens = At (codes "h:1") None;
+  max_pdu = pos 16384;
+  accepts = [];
+  rules = written_modality_rule ∷ [];
+}
+
+-- in format 3 the text with that rule writes it
+abbrev pub RuleModalityIsWritten : Type 0
+RuleModalityIsWritten = Writes (third_format ++ modality_rule_text)
+    (record { format = Three; nodes = written_modality_node ∷ []; flows = [] })
+
+-- in format 2 it writes no plan
+abbrev pub RuleModalityIsOfFormatThree : Type 0
+RuleModalityIsOfFormatThree = WritesNone (second_format ++ modality_rule_text)
+
+-- the text of a flow for the modality MR, and for those that begin with C
+abbrev pub modality_flow_text : Text
+modality_flow_text = codes
+    "[[flow]]\nat = \"A\"\nto = \"B\"\nclass = [\"1\"]\nsyntax = [\"1\"]\nmodality = [\"MR\", \"C*\"]\nstation = \"*\"\n"
+
+-- the flow as it is read
+abbrev pub written_modality_flow : FlowText
+written_modality_flow = record {
+  at = codes "A";
+  to = codes "B";
+  classes = codes "1" ∷ [];
+  syntaxes = codes "1" ∷ [];
+  modalities = values.Listed (record { literals = codes "MR" ∷ []; prefixes = codes "C" ∷ [] });
+  stations = values.Any;
+}
+
+-- in format 3 the text with that flow writes it
+abbrev pub FlowModalityIsWritten : Type 0
+FlowModalityIsWritten = Writes (third_format ++ modality_flow_text)
+    (record { format = Three; nodes = []; flows = written_modality_flow ∷ [] })
+
+-- in format 2 it writes no plan
+abbrev pub FlowModalityIsOfFormatThree : Type 0
+FlowModalityIsOfFormatThree = WritesNone (second_format ++ modality_flow_text)
+
+-- the text names no value: it is neither a literal nor a prefix with an asterisk behind it
 abbrev NamesNone : Text → Type 0
-NamesNone text = (pattern : StationPattern) → SaysNamed (string text) pattern → ⊥
+NamesNone text = (pattern : FieldPattern) → SaysNamed (string text) pattern → ⊥
 
 -- the asterisk alone names none, so that a list can't have it
 abbrev pub StarNamesNone : Type 0
@@ -141,3 +205,67 @@ StarsInsideNameNone = NamesNone (codes "C*T") × NamesNone (codes "CT **")
 -- no space stands at an end of a prefix
 abbrev pub SpacesNameNone : Type 0
 SpacesNameNone = NamesNone (codes " CT*") × NamesNone (codes "CT *")
+
+-- the text of node A, which listens nowhere
+abbrev pub nowhere_text : Text
+nowhere_text = codes "[[node]]\nname = \"A\"\nlistens = false\n"
+
+-- its node as it is read
+abbrev pub written_nowhere : NodeText
+written_nowhere = record {
+  name = codes "A";
+  listens = Nowhere;
+  max_pdu = pos 16384;
+  accepts = [];
+  rules = [];
+}
+
+-- in format 3 the text writes it
+abbrev pub NowhereIsWritten : Type 0
+NowhereIsWritten = Writes (third_format ++ nowhere_text)
+    (record { format = Three; nodes = written_nowhere ∷ []; flows = [] })
+
+-- in format 2 it writes no plan
+abbrev pub NowhereIsOfFormatThree : Type 0
+NowhereIsOfFormatThree = WritesNone (second_format ++ nowhere_text)
+
+-- the text of node A, which others reach at port 1 of host h, and which binds to port 2 of it
+abbrev pub bound_text : Text
+bound_text = codes "[[node]]\nname = \"A\"\naddress = \"h:1\"\nbind = \"h:2\"\n"
+
+-- its node as it is read
+abbrev pub written_bound : NodeText
+written_bound = record {
+  name = codes "A";
+  listens = At (codes "h:1") (Some (codes "h:2"));
+  max_pdu = pos 16384;
+  accepts = [];
+  rules = [];
+}
+
+-- in format 3 the text writes it
+abbrev pub BindIsWritten : Type 0
+BindIsWritten = Writes (third_format ++ bound_text)
+    (record { format = Three; nodes = written_bound ∷ []; flows = [] })
+
+-- in format 2 it writes no plan
+abbrev pub BindIsOfFormatThree : Type 0
+BindIsOfFormatThree = WritesNone (second_format ++ bound_text)
+
+-- a text of format 3 with a node that binds, and has no address, writes no plan
+abbrev pub BindNeedsAddress : Type 0
+BindNeedsAddress =
+    WritesNone (third_format ++ codes "[[node]]\nname = \"A\"\nbind = \"h:2\"\n")
+
+-- nor does one with a node that listens nowhere and has an address
+abbrev pub NowhereHasNoAddress : Type 0
+NowhereHasNoAddress = WritesNone
+    (third_format ++ codes "[[node]]\nname = \"A\"\nlistens = false\naddress = \"h:1\"\n")
+
+-- an accept row
+abbrev pub accept_text : Text
+accept_text = codes "[[node.accept]]\nfrom = \"*\"\nclass = \"1\"\nsyntax = [\"1\"]\n"
+
+-- nor one with a node that listens nowhere and has an accept row
+abbrev pub NowhereHasNoRow : Type 0
+NowhereHasNoRow = WritesNone (third_format ++ nowhere_text ++ accept_text)

@@ -7,14 +7,16 @@ use Rattle.toml.specs.Parse.{parse_document}
 use Rattle.dr_base.specs.Texts.{Text}
 use Rattle.dr_route.specs.declared.rule.Rule.{Rule}
 use Rattle.dr_route.specs.declared.rule.Pattern.TheVariants.{Any}
-use Rattle.dr_route.specs.declared.rule.StationPattern.TheVariants as station
+use Rattle.dr_route.specs.declared.rule.FieldPattern.TheVariants as field
 use Rattle.dr_plan_model.specs.declared.plan.Format.{Format}
 use Rattle.dr_plan_model.specs.declared.plan.Format.TheVariants.{One}
-use Rattle.dr_plan_model.specs.Formed.{IsClass, IsLiteral, IsAddress}
+use Rattle.dr_plan_model.specs.Formed.{IsClass, RuleFits, ValuesFit}
+use Rattle.dr_plan_model.specs.Listening.{ListensFits, MayAccept}
 use Rattle.dr_plan_text.specs.Fields.{SaysText, SaysFormed, SaysNumber, SaysFlag, SaysFormat}
-use Rattle.dr_plan_text.specs.Fields.{SaysPattern, SaysStation, SaysValues, SaysStations}
-use Rattle.dr_plan_text.specs.Fields.{SaysCallers, SaysTable, SaysTextsOnce, IsListOf, IsSomeOf}
-use Rattle.dr_plan_text.specs.Fields.{Given, GivenOr, HasOnly, PatternFits, StationsFit}
+use Rattle.dr_plan_text.specs.Fields.{SaysPattern, SaysField, SaysValues, SaysCallers}
+use Rattle.dr_plan_text.specs.Fields.{SaysTable, SaysTextsOnce, IsListOf, IsSomeOf, Given, GivenOr}
+use Rattle.dr_plan_text.specs.Fields.{HasOnly}
+use Rattle.dr_plan_text.specs.Listening.{IsListens}
 use Rattle.dr_plan_text.specs.declared.words.AcceptText.{AcceptText}
 use Rattle.dr_plan_text.specs.declared.words.NodeText.{NodeText}
 use Rattle.dr_plan_text.specs.declared.words.FlowText.{FlowText}
@@ -45,26 +47,29 @@ pub record IsRuleTable (fields : Members) (rule : Rule) : Type 0 where
   pub from : GivenOr Any (SaysPattern SaysText) (get_member (codes "from") fields) rule.from
   pub class :
       GivenOr Any (SaysPattern (SaysFormed IsClass)) (get_member (codes "class") fields) rule.class
-  pub modality : GivenOr Any (SaysPattern (SaysFormed IsLiteral))
-      (get_member (codes "modality") fields) rule.modality
-  pub station : GivenOr station.Any SaysStation (get_member (codes "station") fields) rule.station
+  pub modality : GivenOr field.Any SaysField (get_member (codes "modality") fields) rule.modality
+  pub station : GivenOr field.Any SaysField (get_member (codes "station") fields) rule.station
   pub to : GivenOr [] (IsListOf SaysText) (get_member (codes "to") fields) rule.to
   pub keep : GivenOr false SaysFlag (get_member (codes "keep") fields) rule.keep
 
 -- the keys of a node, `[[node]]`
 abbrev pub node_keys : List Text
-node_keys = codes "name" ∷ codes "address" ∷ codes "max_pdu" ∷ codes "accept" ∷ codes "rule" ∷ []
+node_keys =
+    codes "name" ∷ codes "address" ∷ codes "max_pdu" ∷ codes "accept" ∷ codes "rule"
+    ∷ codes "listens" ∷ codes "bind" ∷ []
 
--- the table says the node: name and address have to be given; `max_pdu` is 16,384 where it isn't
+-- the table says the node: its name has to be given, and its address where it listens; `max_pdu` is
+-- 16,384 where it isn't given, and what listens nowhere has no accept row
 pub record IsNodeTable (fields : Members) (node : NodeText) : Type 0 where
   pub only : HasOnly node_keys fields
   pub name : Given SaysText (get_member (codes "name") fields) node.name
-  pub address : Given (SaysFormed IsAddress) (get_member (codes "address") fields) node.address
+  pub listens : IsListens false fields node.listens
   pub max_pdu : GivenOr (pos 16384) SaysNumber (get_member (codes "max_pdu") fields) node.max_pdu
   pub accept : GivenOr [] (IsListOf (SaysTable IsAcceptTable)) (get_member (codes "accept") fields)
       node.accepts
   pub rule :
       GivenOr [] (IsListOf (SaysTable IsRuleTable)) (get_member (codes "rule") fields) node.rules
+  pub may_accept : MayAccept node.listens node.accepts
 
 -- the keys of a flow, `[[flow]]`
 abbrev pub flow_keys : List Text
@@ -80,16 +85,18 @@ pub record IsFlowTable (fields : Members) (flow : FlowText) : Type 0 where
   pub class : Given (IsSomeOf (SaysFormed IsClass)) (get_member (codes "class") fields) flow.classes
   pub syntax : Given (IsSomeOf SaysText) (get_member (codes "syntax") fields) flow.syntaxes
   pub modality : Given SaysValues (get_member (codes "modality") fields) flow.modalities
-  pub station : Given SaysStations (get_member (codes "station") fields) flow.stations
+  pub station : Given SaysValues (get_member (codes "station") fields) flow.stations
 
 -- the format, which is 1 where the text doesn't say it
 abbrev pub IsFormat : Option Data → Format → Type 0
 IsFormat value format = GivenOr One SaysFormat value format
 
--- the plan's format has what its rules and flows name for station
+-- the plan's format has what its rules and flows name for modality and for station, and how its
+-- nodes listen
 pub record FitsFormat (plan : PlanText) : Type 0 where
-  pub rules : All (λ node. All (λ rule. PatternFits plan.format rule.station) node.rules) plan.nodes
-  pub flows : All (λ flow. StationsFit plan.format flow.stations) plan.flows
+  pub rules : All (λ node. All (λ rule. RuleFits plan.format rule) node.rules) plan.nodes
+  pub flows : All (λ flow. ValuesFit plan.format flow.modalities flow.stations) plan.flows
+  pub listen : All (λ node. ListensFits plan.format node.listens) plan.nodes
 
 -- the keys of the text as a whole
 abbrev pub root_keys : List Text

@@ -3,17 +3,18 @@ ghost use Rattle.std.specs.Prelude.{◌≡◌, ◌≢◌, ◌↔◌, IfOk, OnOk,
 ghost use Rattle.toml.specs.Data.{integer};
 ghost use Rattle.toml.specs.View.{view};
 ghost use Rattle.dr_base.specs.Texts.{Text as Words};
-ghost use Rattle.dr_plan_model.specs.Formed.{IsClass, IsLiteral, IsAddress};
+ghost use Rattle.dr_plan_model.specs.Formed.{IsClass, IsAddress};
 ghost use Rattle.dr_plan_text.specs.Fields.{SaysText, SaysFormed, SaysNumber, SaysFlag, SaysFormat};
-ghost use Rattle.dr_plan_text.specs.Fields.{SaysPattern, SaysValues, SaysCallers, SaysTextsOnce};
+ghost use Rattle.dr_plan_text.specs.Fields.{SaysPattern, SaysCallers, SaysTextsOnce};
+ghost use Rattle.dr_plan_text.specs.Fields.{SaysSome};
 ghost use Rattle.dr_plan_text.specs.Fields.{star};
 ghost use Rattle.dr_plan_text.specs.declared.fault.ReadFault.TheVariants.{Field};
 
 use crate::fault::ReadFault;
 use crate::form::{Form, ListOf, SomeOf};
-use crate::forms::{is_address, is_class, is_literal};
+use crate::forms::{is_address, is_class};
 use dr_base::{Seq, Text};
-use dr_plan_model::{Format, Values};
+use dr_plan_model::Format;
 use dr_route::{Callers, Pattern};
 use std::alloc::{AllocError, Global};
 use std::collections::BTreeSet;
@@ -74,17 +75,6 @@ impl TextForm for Class {
     }
 }
 
-/// The value of a modality.
-pub struct Literal;
-
-impl TextForm for Literal {
-    ghost is_formed = { IsLiteral };
-
-    fn test(text: &[u8]) -> bool {
-        is_literal(text)
-    }
-}
-
 /// A host and a port.
 pub struct Address;
 
@@ -93,6 +83,20 @@ impl TextForm for Address {
 
     fn test(text: &[u8]) -> bool {
         is_address(text)
+    }
+}
+
+/// What a value says, where one may be left out.
+pub struct Maybe<F>(pub F);
+
+impl<F: Form> Form for Maybe<F> {
+    type Output = Option<F::Output>;
+
+    ghost says = { SaysSome F.says };
+
+    fn read(alloc: Global, value: &Value) -> Result<Option<F::Output>, ReadFault> {
+        let read = F::read(alloc, value)?;
+        Ok(Some(read))
     }
 }
 
@@ -182,25 +186,6 @@ pub type NamePattern = PatternOf<AnyText>;
 
 /// `*`, or a class.
 pub type ClassPattern = PatternOf<Formed<Class>>;
-
-/// `*`, or the value of a modality.
-pub type LiteralPattern = PatternOf<Formed<Literal>>;
-
-/// `*`, or a list of literals.
-pub struct AnyValues;
-
-impl Form for AnyValues {
-    type Output = Values;
-
-    ghost says = { SaysValues };
-
-    fn read(alloc: Global, value: &Value) -> Result<Values, ReadFault> {
-        if is_star(value) {
-            return Ok(Values::Any);
-        }
-        Ok(Values::Listed(ListOf::<Formed<Literal>>::read(alloc, value)?))
-    }
-}
 
 /// `*`, or a list of names.
 pub struct AnyCallers;

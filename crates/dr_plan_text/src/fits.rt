@@ -1,37 +1,60 @@
-//! Whether a format has what a plan names for station.
+//! Whether a format has what a plan names for modality and for station, and how its nodes listen.
 ghost use Rattle.std.specs.Prelude.{◌≡◌, ◌↔◌, [], IsTrue, All};
+ghost use Rattle.dr_plan_model.specs.Listening.{ListensFits};
 ghost use Rattle.dr_plan_model.specs.Naming.{prefix_of, listed_prefixes};
-ghost use Rattle.dr_plan_text.specs.Fields.{PatternFits, StationsFit};
+ghost use Rattle.dr_plan_model.specs.Formed.{ModalitiesFit, StationsFit, RuleFits, ValuesFit};
 ghost use Rattle.dr_plan_text.specs.Tables.{FitsFormat};
 
 use crate::words::{FlowText, NodeText, PlanText};
-use dr_plan_model::{Format, Stations};
-use dr_route::{Rule, StationPattern};
+use dr_plan_model::{Format, Listens, Values};
+use dr_route::{FieldPattern, Rule};
 
 /// Whether the pattern is no prefix.
-fn has_no_prefix(pattern: &StationPattern) -> bool
+fn has_no_prefix(pattern: &FieldPattern) -> bool
     ensures { IsTrue result ↔ (prefix_of pattern.now ≡ []) }
 {
     match pattern {
-        StationPattern::Any => true,
-        StationPattern::Literal(_) => true,
-        StationPattern::Prefix(_) => false,
+        FieldPattern::Any => true,
+        FieldPattern::Literal(_) => true,
+        FieldPattern::Prefix(_) => false,
     }
 }
 
 /// Whether no prefix is listed.
-fn list_no_prefix(stations: &Stations) -> bool
-    ensures { IsTrue result ↔ (listed_prefixes stations.now ≡ []) }
+fn list_no_prefix(values: &Values) -> bool
+    ensures { IsTrue result ↔ (listed_prefixes values.now ≡ []) }
 {
-    match stations {
-        Stations::Any => true,
-        Stations::Listed(values) => values.prefixes.is_empty(),
+    match values {
+        Values::Any => true,
+        Values::Listed(own) => own.prefixes.is_empty(),
     }
 }
 
-/// Whether the format has the pattern: in format 1 there is no prefix.
-pub fn pattern_fits(format: Format, pattern: &StationPattern) -> bool
-    ensures { IsTrue result ↔ PatternFits format pattern.now }
+/// Whether the format has the modality of a rule: only format 3 has prefixes of modalities.
+pub fn modality_fits(format: Format, pattern: &FieldPattern) -> bool
+    ensures { IsTrue result ↔ ModalitiesFit format (prefix_of pattern.now) }
+{
+    match format {
+        Format::One => has_no_prefix(pattern),
+        Format::Two => has_no_prefix(pattern),
+        Format::Three => true,
+    }
+}
+
+/// Whether the format has the modalities of a flow.
+pub fn modalities_fit(format: Format, values: &Values) -> bool
+    ensures { IsTrue result ↔ ModalitiesFit format (listed_prefixes values.now) }
+{
+    match format {
+        Format::One => list_no_prefix(values),
+        Format::Two => list_no_prefix(values),
+        Format::Three => true,
+    }
+}
+
+/// Whether the format has the station of a rule: format 1 has no prefixes.
+pub fn station_fits(format: Format, pattern: &FieldPattern) -> bool
+    ensures { IsTrue result ↔ StationsFit format (prefix_of pattern.now) }
 {
     match format {
         Format::One => has_no_prefix(pattern),
@@ -39,42 +62,72 @@ pub fn pattern_fits(format: Format, pattern: &StationPattern) -> bool
     }
 }
 
-/// Whether the format has what a flow names for station: in format 1 there is no prefix.
-pub fn stations_fit(format: Format, stations: &Stations) -> bool
-    ensures { IsTrue result ↔ StationsFit format stations.now }
+/// Whether the format has the stations of a flow.
+pub fn stations_fit(format: Format, values: &Values) -> bool
+    ensures { IsTrue result ↔ StationsFit format (listed_prefixes values.now) }
 {
     match format {
-        Format::One => list_no_prefix(stations),
+        Format::One => list_no_prefix(values),
         Format::Two | Format::Three => true,
     }
 }
 
-fn rules_fit(format: Format, rules: &[Rule]) -> bool
-    ensures { IsTrue result ↔ All (λ rule. PatternFits format rule.station) rules.now }
+fn rule_fits(format: Format, rule: &Rule) -> bool
+    ensures { IsTrue result ↔ RuleFits format rule.now }
 {
-    rules.iter().all(|rule| pattern_fits(format, &rule.station))
+    modality_fits(format, &rule.modality) && station_fits(format, &rule.station)
+}
+
+fn rules_fit(format: Format, rules: &[Rule]) -> bool
+    ensures { IsTrue result ↔ All (λ rule. RuleFits format rule) rules.now }
+{
+    rules.iter().all(|rule| rule_fits(format, rule))
 }
 
 fn nodes_fit(format: Format, nodes: &[NodeText]) -> bool
     ensures { IsTrue result
-        ↔ All (λ node. All (λ rule. PatternFits format rule.station) node.rules) nodes.now }
+        ↔ All (λ node. All (λ rule. RuleFits format rule) node.rules) nodes.now }
 {
     nodes
         .iter()
         .all(|node| rules_fit(format, node.rules.as_slice()))
 }
 
-fn flows_fit(format: Format, flows: &[FlowText]) -> bool
-    ensures { IsTrue result ↔ All (λ flow. StationsFit format flow.stations) flows.now }
+fn flow_fits(format: Format, flow: &FlowText) -> bool
+    ensures { IsTrue result ↔ ValuesFit format flow.now.modalities flow.now.stations }
 {
-    flows
-        .iter()
-        .all(|flow| stations_fit(format, &flow.stations))
+    modalities_fit(format, &flow.modalities) && stations_fit(format, &flow.stations)
 }
 
-/// Whether the plan's format has what its rules and flows name for station.
+fn flows_fit(format: Format, flows: &[FlowText]) -> bool
+    ensures { IsTrue result
+        ↔ All (λ flow. ValuesFit format flow.modalities flow.stations) flows.now }
+{
+    flows.iter().all(|flow| flow_fits(format, flow))
+}
+
+/// Whether the format has how a node listens: before format 3 each does where others reach it.
+pub fn listens_fits(format: Format, listens: &Listens) -> bool
+    ensures { IsTrue result ↔ ListensFits format listens.now }
+{
+    match format {
+        Format::One | Format::Two => listens.is_at_its_address(),
+        Format::Three => true,
+    }
+}
+
+fn all_listen(format: Format, nodes: &[NodeText]) -> bool
+    ensures { IsTrue result ↔ All (λ node. ListensFits format node.listens) nodes.now }
+{
+    nodes.iter().all(|node| listens_fits(format, &node.listens))
+}
+
+/// Whether the plan's format has what its rules and flows name for modality and for station, and
+/// how its nodes listen.
 pub(crate) fn fits_format(plan: &PlanText) -> bool
     ensures { IsTrue result ↔ FitsFormat plan.now }
 {
-    nodes_fit(plan.format, plan.nodes.as_slice()) && flows_fit(plan.format, plan.flows.as_slice())
+    nodes_fit(plan.format, plan.nodes.as_slice())
+        && flows_fit(plan.format, plan.flows.as_slice())
+        && all_listen(plan.format, plan.nodes.as_slice())
 }

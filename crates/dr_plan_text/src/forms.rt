@@ -42,7 +42,7 @@ pub(crate) fn is_literal(text: &[u8]) -> bool
     is_plain(text) && is_trimmed(text)
 }
 
-/// Whether it is a literal of one byte or more, by which stations are named that begin with it.
+/// Whether it is a literal of one byte or more, by which values are named that begin with it.
 pub(crate) fn is_prefix(text: &[u8]) -> bool
     ensures { IsTrue result ↔ IsPrefix text.now }
 {

@@ -5,6 +5,11 @@ ghost use Rattle.dr_plan_text.specs.Laws.{AddressIsMissing, PortIsTooHigh, RuleP
 ghost use Rattle.dr_plan_text.specs.Laws.{RulePrefixIsOfFormatTwo, FlowPrefixIsWritten};
 ghost use Rattle.dr_plan_text.specs.Laws.{FlowPrefixIsOfFormatTwo, StarNamesNone};
 ghost use Rattle.dr_plan_text.specs.Laws.{StarsInsideNameNone, SpacesNameNone};
+ghost use Rattle.dr_plan_text.specs.Laws.{RuleModalityIsWritten, RuleModalityIsOfFormatThree};
+ghost use Rattle.dr_plan_text.specs.Laws.{FlowModalityIsWritten, FlowModalityIsOfFormatThree};
+ghost use Rattle.dr_plan_text.specs.Laws.{NowhereIsWritten, NowhereIsOfFormatThree, BindIsWritten};
+ghost use Rattle.dr_plan_text.specs.Laws.{BindIsOfFormatThree, BindNeedsAddress};
+ghost use Rattle.dr_plan_text.specs.Laws.{NowhereHasNoAddress, NowhereHasNoRow};
 
 /// A text writes one plan at most.
 pub fn a_text_writes_one_plan()
@@ -36,10 +41,32 @@ pub fn prefixes_are_of_format_2()
     ensures flow_of_1 { FlowPrefixIsOfFormatTwo }
 {}
 
-/// What names no station in any format: `*` alone, an asterisk elsewhere than at the end, and a
-/// prefix with a space at one of its ends.
+/// In format 3 a rule and a flow may name modalities by what they begin with, and the same texts of
+/// format 2 write no plan.
+pub fn prefixes_of_modalities_are_of_format_3()
+    ensures rule { RuleModalityIsWritten }
+    ensures rule_of_2 { RuleModalityIsOfFormatThree }
+    ensures flow { FlowModalityIsWritten }
+    ensures flow_of_2 { FlowModalityIsOfFormatThree }
+{}
+
+/// What names no modality and no station in any format: `*` alone, an asterisk elsewhere than at
+/// the end, and a prefix with a space at one of its ends.
 pub fn ill_formed_prefixes_name_none()
     ensures star { StarNamesNone }
     ensures inside { StarsInsideNameNone }
     ensures spaces { SpacesNameNone }
+{}
+
+/// In format 3 a node may listen nowhere, or bind elsewhere than others reach it, and the same
+/// texts of format 2 write no plan. Nor does a text of format 3 where a node binds and has no
+/// address, or where one listens nowhere and has an address or an accept row.
+pub fn nodes_listen_elsewhere_in_format_3()
+    ensures nowhere { NowhereIsWritten }
+    ensures nowhere_of_2 { NowhereIsOfFormatThree }
+    ensures bind { BindIsWritten }
+    ensures bind_of_2 { BindIsOfFormatThree }
+    ensures no_address { BindNeedsAddress }
+    ensures addressed { NowhereHasNoAddress }
+    ensures accepts { NowhereHasNoRow }
 {}

@@ -1,6 +1,6 @@
 //! A plan as its text writes it: the tables and fields that TOML shows, each of its own form, while
-//! names, transfer syntaxes and lengths are still as they were written. In format 2 a station may
-//! be named by what it begins with.
+//! names, transfer syntaxes and lengths are still as they were written. From format 2
+//! on a station may be named by what it begins with, and in format 3 a modality too.
 #![tactic(auto)]
 
 pub mod fault;
@@ -9,9 +9,10 @@ pub mod fits;
 pub mod form;
 pub mod forms;
 pub mod laws;
-pub mod stations;
+pub mod listening;
 pub mod tables;
 mod text;
+pub mod values;
 mod words;
 
 pub use fault::TextFault;

@@ -9,16 +9,17 @@ ghost use Rattle.dr_plan_text.specs.declared.words.PlanText.{PlanText as Written
 
 use crate::fault::ReadFault;
 use crate::fields::{
-    Address, AnyCallers, AnyText, AnyValues, Class, ClassPattern, Flag, FormatNumber, Formed,
-    LiteralPattern, NamePattern, Number, TextsOnce,
+    AnyCallers, AnyText, Class, ClassPattern, Flag, FormatNumber, Formed, NamePattern, Number,
+    TextsOnce,
 };
 use crate::fits::fits_format;
 use crate::form::{ListOf, SomeOf, TableForm, TableOf, defaulted, has_only, required};
-use crate::stations::{AnyStation, AnyStations};
+use crate::listening::{listens_in, may_accept};
+use crate::values::{AnyValue, AnyValues};
 use crate::words::{AcceptText, FlowText, NodeText, PlanText};
 use dr_base::Seq;
 use dr_plan_model::Format;
-use dr_route::{Pattern, Rule, StationPattern};
+use dr_route::{FieldPattern, Pattern, Rule};
 use std::alloc::Global;
 use toml::Table;
 
@@ -60,8 +61,8 @@ impl TableForm for RuleTable {
         Ok(Rule {
             from: defaulted::<NamePattern>(alloc, table, "from", Pattern::Any)?,
             class: defaulted::<ClassPattern>(alloc, table, "class", Pattern::Any)?,
-            modality: defaulted::<LiteralPattern>(alloc, table, "modality", Pattern::Any)?,
-            station: defaulted::<AnyStation>(alloc, table, "station", StationPattern::Any)?,
+            modality: defaulted::<AnyValue>(alloc, table, "modality", FieldPattern::Any)?,
+            station: defaulted::<AnyValue>(alloc, table, "station", FieldPattern::Any)?,
             to: defaulted::<ListOf<AnyText>>(alloc, table, "to", Seq::new(alloc))?,
             keep: defaulted::<Flag>(alloc, table, "keep", false)?,
         })
@@ -77,19 +78,31 @@ impl TableForm for NodeTable {
     ghost is_table = { IsNodeTable };
 
     fn read_table(alloc: Global, table: &Table) -> Result<NodeText, ReadFault> {
-        if !has_only(table, &["name", "address", "max_pdu", "accept", "rule"]) {
+        if !has_only(
+            table,
+            &[
+                "name", "address", "max_pdu", "accept", "rule", "listens", "bind",
+            ],
+        ) {
+            return Err(ReadFault::Field);
+        }
+        let name = required::<AnyText>(alloc, table, "name")?;
+        let listens = listens_in(alloc, table, false)?;
+        let max_pdu = defaulted::<Number>(alloc, table, "max_pdu", 16384)?;
+        let accepts = defaulted::<ListOf<TableOf<AcceptTable>>>(
+            alloc,
+            table,
+            "accept",
+            Seq::new(alloc),
+        )?;
+        if !may_accept(&listens, &accepts) {
             return Err(ReadFault::Field);
         }
         Ok(NodeText {
-            name: required::<AnyText>(alloc, table, "name")?,
-            address: required::<Formed<Address>>(alloc, table, "address")?,
-            max_pdu: defaulted::<Number>(alloc, table, "max_pdu", 16384)?,
-            accepts: defaulted::<ListOf<TableOf<AcceptTable>>>(
-                alloc,
-                table,
-                "accept",
-                Seq::new(alloc),
-            )?,
+            name,
+            listens,
+            max_pdu,
+            accepts,
             rules: defaulted::<ListOf<TableOf<RuleTable>>>(alloc, table, "rule", Seq::new(alloc))?,
         })
     }
@@ -116,7 +129,7 @@ impl TableForm for FlowTable {
             classes: required::<SomeOf<Formed<Class>>>(alloc, table, "class")?,
             syntaxes: required::<SomeOf<AnyText>>(alloc, table, "syntax")?,
             modalities: required::<AnyValues>(alloc, table, "modality")?,
-            stations: required::<AnyStations>(alloc, table, "station")?,
+            stations: required::<AnyValues>(alloc, table, "station")?,
         })
     }
 }

@@ -1,6 +1,6 @@
 //! The parts of a plan, as they are written.
 use dr_base::{Seq, Text};
-use dr_plan_model::{Format, Stations, Values};
+use dr_plan_model::{Format, Listens, Values};
 use dr_route::{Callers, Rule};
 
 /// A row of a node's accept list: `from` and the transfer syntaxes are any texts, `class` has its
@@ -12,12 +12,13 @@ pub struct AcceptText {
     pub syntaxes: Seq<Text>,
 }
 
-/// A node: its address has its form, its name is any text, and `max_pdu` (bytes) any integer. In
-/// its rules the names are any texts, and class, modality and station have their forms.
+/// A node: its addresses have their form, its name is any text, and `max_pdu` (bytes) any integer.
+/// In its rules the names are any texts, and class, modality and station have their forms. Where it
+/// listens nowhere it has no accept row.
 #[derive(Debug, Drop)]
 pub struct NodeText {
     pub name: Text,
-    pub address: Text,
+    pub listens: Listens,
     pub max_pdu: i64,
     pub accepts: Seq<AcceptText>,
     pub rules: Seq<Rule>,
@@ -32,11 +33,12 @@ pub struct FlowText {
     pub classes: Seq<Text>,
     pub syntaxes: Seq<Text>,
     pub modalities: Values,
-    pub stations: Stations,
+    pub stations: Values,
 }
 
-/// The format of a plan's text, and its nodes and flows in the order of the text. In format 1 they
-/// name no prefix.
+/// The format of a plan's text, and its nodes and flows in the order of the text. They name no
+/// prefix that the format doesn't have, and before format 3 each node listens where others reach
+/// it.
 #[derive(Debug, Drop)]
 pub struct PlanText {
     pub format: Format,

@@ -8,31 +8,19 @@ use Rattle.std.proofs.lemmas.Slice.Eq.{bytes_eq-Decides}
 use Rattle.std.specs.Str.{bytes_eq}
 use Rattle.std.proofs.lemmas.List.Elements.{All-head, All-tail, All-contains, Contains-append_left, Contains-append_right, Contains-append_cases, Contains-push, Contains-push_cases}
 use Rattle.dr_base.specs.Texts.{Text, Begins}
-use Rattle.dr_route.specs.Routes.{Matches, MatchesStation, Holds, SendsBy, KeepsBy}
-use Rattle.dr_route.specs.Cells.{InField, InStation, IsLongest, HasNoPrefix, InCell}
-use Rattle.dr_route.specs.Laws.{IsKnown, IsKnownStation, IsKnownRule, IsPart, IsStationPart, ArePlain, ArePlainStations, value_of, station_value_of}
+use Rattle.dr_route.specs.Routes.{Matches, MatchesField, Holds, SendsBy, KeepsBy}
+use Rattle.dr_route.specs.Cells.{InField, IsLongest, HasNoPrefix, InCell, SameValues, SameLiterals}
+use Rattle.dr_route.specs.Laws.{IsKnown, IsKnownRule, IsPart, ArePlain, ArePlainValues, value_of}
 use Rattle.dr_route.specs.declared.key.Key.{Key}
 use Rattle.dr_route.specs.declared.rule.Rule.{Rule}
-use Rattle.dr_route.specs.declared.rule.Pattern.{Pattern}
-use Rattle.dr_route.specs.declared.rule.Pattern.TheVariants.{Any, Literal}
 use Rattle.dr_route.specs.declared.cell.FieldValues.{FieldValues}
 use Rattle.dr_route.specs.declared.cell.Literals.{Literals}
 use Rattle.dr_route.specs.declared.cell.OwnedField.{OwnedField}
 use Rattle.dr_route.specs.declared.cell.OwnedField.TheVariants as part
-use Rattle.dr_route.specs.declared.rule.StationPattern.{StationPattern}
-use Rattle.dr_route.specs.declared.rule.StationPattern.TheVariants as pattern
-use Rattle.dr_route.specs.declared.cell.StationValues.{StationValues}
-use Rattle.dr_route.specs.declared.cell.OwnedStation.{OwnedStation}
-use Rattle.dr_route.specs.declared.cell.OwnedStation.TheVariants as station
+use Rattle.dr_route.specs.declared.rule.FieldPattern.{FieldPattern}
+use Rattle.dr_route.specs.declared.rule.FieldPattern.TheVariants as pattern
 use Rattle.dr_route.specs.declared.cell.OwnedCell.{OwnedCell}
 use Rattle.dr_route.proofs.Finding.{begins_length, beginning, begins_first, all_within, AreWithin, within_less, longest_found, none_begins}
-
--- a pattern of the plan admits all values of one part of a field, or none of them
-pub patterns_agree : (values : FieldValues) (field : OwnedField) (pattern : Pattern) (v w : Text) → IsKnown values pattern →
-    InField values field v → InField values field w → Matches pattern v → Matches pattern w
-patterns_agree values field Any v w known a b m = tt
-patterns_agree values (part.Literal literal) (Literal l) v w known a b m = m ∙ (sym a.1 ∙ b.1)
-patterns_agree values part.Rest (Literal l) v w known a b m = absurd (a (rw (← m) known))
 
 -- of two texts with which a value begins, the longer begins with the shorter
 pub begins_shorter : (short long value : Text) → Begins short value → Begins long value → length short ≤ length long → Begins short long
@@ -46,27 +34,27 @@ pub begins_through : (short long value : Text) → Begins short long → Begins 
 begins_through short long value s l =
     (s.0 ++ l.0, l.1 ∙ (ap (λ (t : Text). t ++ l.0) s.1 ∙ append_assoc short s.0 l.0))
 
--- a station of a part with a longest prefix begins with each shorter prefix with which another begins
-pub prefix_agrees : (values : StationValues) (part : OwnedStation) (prefix v w : Text) → Contains values.prefixes prefix →
-    InStation values part v → InStation values part w → Begins prefix v → Begins prefix w
-prefix_agrees values (station.Literal literal) prefix v w known a b m = let P : Text → Type 0 = λ t. Begins prefix t in subst P (sym a.1 ∙ b.1) m
-prefix_agrees values (station.Prefix long) prefix v w known a b m =
+-- a value of a part with a longest prefix begins with each shorter prefix with which another begins
+pub prefix_agrees : (values : FieldValues) (part : OwnedField) (prefix v w : Text) → Contains values.prefixes prefix →
+    InField values part v → InField values part w → Begins prefix v → Begins prefix w
+prefix_agrees values (part.Literal literal) prefix v w known a b m = let P : Text → Type 0 = λ t. Begins prefix t in subst P (sym a.1 ∙ b.1) m
+prefix_agrees values (part.Prefix long) prefix v w known a b m =
     begins_through prefix long w (begins_shorter prefix long v m a.1.begins (a.1.longest prefix known m)) b.1.begins
-prefix_agrees values station.Rest prefix v w known a b m = absurd (a.1 prefix known m)
+prefix_agrees values part.Rest prefix v w known a b m = absurd (a.1 prefix known m)
 
--- a station of a part that is a literal of the plan is the part's only one
-pub literal_agrees : (values : StationValues) (part : OwnedStation) (literal v w : Text) → Contains values.literals literal →
-    InStation values part v → InStation values part w → literal ≡ v → literal ≡ w
-literal_agrees values (station.Literal l) literal v w known a b m = m ∙ (sym a.1 ∙ b.1)
-literal_agrees values (station.Prefix prefix) literal v w known a b m = absurd (a.0 (subst (Contains values.literals) m known))
-literal_agrees values station.Rest literal v w known a b m = absurd (a.0 (subst (Contains values.literals) m known))
+-- a value of a part that is a literal of the plan is the part's only one
+pub literal_agrees : (values : FieldValues) (part : OwnedField) (literal v w : Text) → Contains values.literals literal →
+    InField values part v → InField values part w → literal ≡ v → literal ≡ w
+literal_agrees values (part.Literal l) literal v w known a b m = m ∙ (sym a.1 ∙ b.1)
+literal_agrees values (part.Prefix prefix) literal v w known a b m = absurd (a.0 (subst (Contains values.literals) m known))
+literal_agrees values part.Rest literal v w known a b m = absurd (a.0 (subst (Contains values.literals) m known))
 
--- a pattern of the plan admits all stations of one part, or none of them
-pub station_patterns_agree : (values : StationValues) (part : OwnedStation) (pattern : StationPattern) (v w : Text) → IsKnownStation values pattern →
-    InStation values part v → InStation values part w → MatchesStation pattern v → MatchesStation pattern w
-station_patterns_agree values part pattern.Any v w known a b m = tt
-station_patterns_agree values part (pattern.Literal literal) v w known a b m = literal_agrees values part literal v w known a b m
-station_patterns_agree values part (pattern.Prefix prefix) v w known a b m = prefix_agrees values part prefix v w known a b m
+-- a pattern of the plan admits all values of one part, or none of them
+pub patterns_agree : (values : FieldValues) (part : OwnedField) (pattern : FieldPattern) (v w : Text) → IsKnown values pattern →
+    InField values part v → InField values part w → MatchesField pattern v → MatchesField pattern w
+patterns_agree values part pattern.Any v w known a b m = tt
+patterns_agree values part (pattern.Literal literal) v w known a b m = literal_agrees values part literal v w known a b m
+patterns_agree values part (pattern.Prefix prefix) v w known a b m = prefix_agrees values part prefix v w known a b m
 
 pub holds_agrees : (literals : Literals) (cell : OwnedCell) (k l : Key) → InCell literals cell k → InCell literals cell l →
     (rule : Rule) → IsKnownRule literals rule → (caller : Text) → Holds rule caller k → Holds rule caller l
@@ -75,7 +63,7 @@ holds_agrees literals cell k l a b rule known caller h = (
   h.1,
   let P : Text → Type 0 = λ v. Matches rule.class v in subst P (sym a.class ∙ b.class) h.2,
   patterns_agree literals.modalities cell.modality rule.modality k.modality l.modality known.0 a.modality b.modality h.3,
-  station_patterns_agree literals.stations cell.station rule.station k.station l.station known.1 a.station b.station h.4,
+  patterns_agree literals.stations cell.station rule.station k.station l.station known.1 a.station b.station h.4,
 )
 
 pub sends_agree : (literals : Literals) (cell : OwnedCell) (k l : Key) → InCell literals cell k → InCell literals cell l →
@@ -97,10 +85,6 @@ not_128 literals plain among =
     let bytes : P (128 ∷ []) = All-contains P literals (128 ∷ []) plain among in
     let small : 128 < 127 = All-head (λ byte. byte < 127) 128 [] bytes in omega arith
 
-pub part_has_value : (values : FieldValues) (field : OwnedField) → ArePlain values.literals → IsPart values field → InField values field (value_of field)
-part_has_value values (part.Literal literal) plain is = (is, refl)
-part_has_value values part.Rest plain is = not_128 values.literals plain
-
 -- a text with the byte 128 at its end is no printable one
 pub not_ending_128 : (texts : List Text) (text : Text) → ArePlain texts → Contains texts (text ++ 128 ∷ []) → ⊥
 not_ending_128 texts text plain among =
@@ -118,9 +102,9 @@ shorter_or_all prefix text byte b = elim (cases_lt (length text) (length prefix)
   | inr few ↦ inl (omega (arith, few))
 ]
 
-pub station_has_value : (values : StationValues) (part : OwnedStation) → ArePlainStations values → IsStationPart values part → InStation values part (station_value_of part)
-station_has_value values (station.Literal literal) plain is = (is, refl)
-station_has_value values (station.Prefix prefix) plain is = (
+pub part_has_value : (values : FieldValues) (part : OwnedField) → ArePlainValues values → IsPart values part → InField values part (value_of part)
+part_has_value values (part.Literal literal) plain is = (is, refl)
+part_has_value values (part.Prefix prefix) plain is = (
   not_ending_128 values.literals prefix plain.literals,
   record {
     among = is;
@@ -131,7 +115,7 @@ station_has_value values (station.Prefix prefix) plain is = (
     ];
   },
 )
-station_has_value values station.Rest plain is = (
+part_has_value values part.Rest plain is = (
   not_128 values.literals plain.literals,
   λ prefix there begins. elim (shorter_or_all prefix [] 128 begins) [
     | inl few ↦ All-contains (λ p. p ≢ []) values.prefixes prefix plain.some there (empty prefix few)
@@ -175,13 +159,6 @@ among_or_not (t ∷ texts) text = elim (same_text_or_not t text) [
   ]
 ]
 
--- each value lies in some part of its field
-pub some_part : (values : FieldValues) (value : Text) → (field : OwnedField) × InField values field value
-some_part values value = elim (among_or_not values.literals value) [
-  | inl among ↦ (part.Literal value, (among, refl))
-  | inr not_among ↦ (part.Rest, not_among)
-]
-
 -- the longest prefix of a value among those of at most that length, or that it has none of them
 longest_or_none : (prefixes : List Text) (value : Text) (n : ℕ) → n ≤ length value → AreWithin prefixes value n →
     ((prefix : Text) × IsLongest prefixes prefix value) ⊎ HasNoPrefix prefixes value
@@ -198,39 +175,70 @@ longest_or_none prefixes value (suc n) fits within = elim (among_or_not prefixes
       (within_less prefixes value n (subst (AreWithin prefixes value) one_more within) (λ there. not_there (subst P (sym one_more) there))))
 ]
 
--- each station lies in some part of the stations
-pub some_station : (values : StationValues) (value : Text) → (part : OwnedStation) × InStation values part value
-some_station values value = elim (among_or_not values.literals value) [
-  | inl among ↦ (station.Literal value, (among, refl))
+-- each value lies in some part of its field
+pub some_part : (values : FieldValues) (value : Text) → (part : OwnedField) × InField values part value
+some_part values value = elim (among_or_not values.literals value) [
+  | inl among ↦ (part.Literal value, (among, refl))
   | inr not_among ↦ elim (longest_or_none values.prefixes value (length value) (omega arith) (all_within values.prefixes value)) [
-    | inl long ↦ (station.Prefix long.0, (not_among, long.1))
-    | inr none ↦ (station.Rest, (not_among, none))
+    | inl long ↦ (part.Prefix long.0, (not_among, long.1))
+    | inr none ↦ (part.Rest, (not_among, none))
   ]
 ]
 
--- no station lies in two parts
-pub one_station : (values : StationValues) (a b : OwnedStation) (value : Text) → InStation values a value → InStation values b value → a ≡ b
-one_station values (station.Literal l) (station.Literal m) value a b = ap (λ (t : Text). station.Literal t) (a.1 ∙ sym b.1)
-one_station values (station.Literal l) (station.Prefix q) value a b = absurd (b.0 (subst (Contains values.literals) a.1 a.0))
-one_station values (station.Literal l) station.Rest value a b = absurd (b.0 (subst (Contains values.literals) a.1 a.0))
-one_station values (station.Prefix p) (station.Literal m) value a b = absurd (a.0 (subst (Contains values.literals) b.1 b.0))
-one_station values (station.Prefix p) (station.Prefix q) value a b = ap (λ (t : Text). station.Prefix t) (longest_is_one values.prefixes p q value a.1 b.1)
-one_station values (station.Prefix p) station.Rest value a b = absurd (b.1 p a.1.among a.1.begins)
-one_station values station.Rest (station.Literal m) value a b = absurd (a.0 (subst (Contains values.literals) b.1 b.0))
-one_station values station.Rest (station.Prefix q) value a b = absurd (a.1 q b.1.among b.1.begins)
-one_station values station.Rest station.Rest value a b = refl
+-- no value lies in two parts of its field
+pub one_part : (values : FieldValues) (a b : OwnedField) (value : Text) → InField values a value → InField values b value → a ≡ b
+one_part values (part.Literal l) (part.Literal m) value a b = ap (λ (t : Text). part.Literal t) (a.1 ∙ sym b.1)
+one_part values (part.Literal l) (part.Prefix q) value a b = absurd (b.0 (subst (Contains values.literals) a.1 a.0))
+one_part values (part.Literal l) part.Rest value a b = absurd (b.0 (subst (Contains values.literals) a.1 a.0))
+one_part values (part.Prefix p) (part.Literal m) value a b = absurd (a.0 (subst (Contains values.literals) b.1 b.0))
+one_part values (part.Prefix p) (part.Prefix q) value a b = ap (λ (t : Text). part.Prefix t) (longest_is_one values.prefixes p q value a.1 b.1)
+one_part values (part.Prefix p) part.Rest value a b = absurd (b.1 p a.1.among a.1.begins)
+one_part values part.Rest (part.Literal m) value a b = absurd (a.0 (subst (Contains values.literals) b.1 b.0))
+one_part values part.Rest (part.Prefix q) value a b = absurd (a.1 q b.1.among b.1.begins)
+one_part values part.Rest part.Rest value a b = refl
 
-one_field : (values : FieldValues) (a b : OwnedField) (value : Text) → InField values a value → InField values b value → a ≡ b
-one_field values (part.Literal l) (part.Literal m) value a b = ap (λ (t : Text). part.Literal t) (a.1 ∙ sym b.1)
-one_field values (part.Literal l) part.Rest value a b = absurd (b (subst (Contains values.literals) a.1 a.0))
-one_field values part.Rest (part.Literal m) value a b = absurd (a (subst (Contains values.literals) b.1 b.0))
-one_field values part.Rest part.Rest value a b = refl
+-- a part doesn't depend on the order of the values
+pub field_alike : (a b : FieldValues) → SameValues a b → (part : OwnedField) (value : Text) → InField a part value → InField b part value
+field_alike a b same (part.Literal literal) value h = ((same.literals literal).0 h.0, h.1)
+field_alike a b same (part.Prefix prefix) value h = (
+  λ among. h.0 ((same.literals value).1 among),
+  record {
+    among = (same.prefixes prefix).0 h.1.among;
+    begins = h.1.begins;
+    longest = λ other among begins. h.1.longest other ((same.prefixes other).1 among) begins;
+  },
+)
+field_alike a b same part.Rest value h = (
+  λ among. h.0 ((same.literals value).1 among),
+  λ prefix among begins. h.1 prefix ((same.prefixes prefix).1 among) begins,
+)
+
+-- nor does a cell
+pub cell_alike : (a b : Literals) → SameLiterals a b → (cell : OwnedCell) (key : Key) → InCell a cell key → InCell b cell key
+cell_alike a b same cell key h = record {
+  class = h.class;
+  syntax = h.syntax;
+  modality = field_alike a.modalities b.modalities same.modalities cell.modality key.modality h.modality;
+  station = field_alike a.stations b.stations same.stations cell.station key.station h.station;
+}
+
+-- the other way round
+pub same_turned : (a b : Literals) → SameLiterals a b → SameLiterals b a
+same_turned a b same = record {
+  modalities = values_turned a.modalities b.modalities same.modalities;
+  stations = values_turned a.stations b.stations same.stations;
+} where
+  values_turned : (a b : FieldValues) → SameValues a b → SameValues b a
+  values_turned a b same = record {
+    literals = λ t. ((same.literals t).1, (same.literals t).0);
+    prefixes = λ t. ((same.prefixes t).1, (same.prefixes t).0);
+  }
 
 -- no key lies in two cells
 pub one_cell : (literals : Literals) (key : Key) (a b : OwnedCell) → InCell literals a key → InCell literals b key → a ≡ b
 one_cell literals key a b x y =
     let class : a.class ≡ b.class = x.class ∙ sym y.class in
     let syntax : a.syntax ≡ b.syntax = x.syntax ∙ sym y.syntax in
-    let modality = one_field literals.modalities a.modality b.modality key.modality x.modality y.modality in
-    let station = one_station literals.stations a.station b.station key.station x.station y.station in
+    let modality = one_part literals.modalities a.modality b.modality key.modality x.modality y.modality in
+    let station = one_part literals.stations a.station b.station key.station x.station y.station in
     λ i. record { class = class i; syntax = syntax i; modality = modality i; station = station i }

@@ -1,36 +1,21 @@
--- Cells: the keys with one class, one transfer syntax, for modality one literal of the plan or none
--- of them, and for station one literal, the values under one prefix, or none of them.
-use Rattle.std.specs.Prelude.{◌≡◌, ◌≤◌, List, length, Contains}
+-- Cells: the keys with one class, one transfer syntax, and for modality and for station one literal
+-- of the plan, the values under one of its prefixes, or none of them.
+use Rattle.std.specs.Prelude.{◌≡◌, ◌↔◌, ◌≤◌, List, length, Contains}
 use Rattle.dr_base.specs.Texts.{Text, IsInByteOrder, Begins}
 use Rattle.dr_route.specs.declared.key.Key.{Key}
 use Rattle.dr_route.specs.declared.cell.FieldValues.{FieldValues}
-use Rattle.dr_route.specs.declared.cell.StationValues.{StationValues}
 use Rattle.dr_route.specs.declared.cell.Literals.{Literals}
-use Rattle.dr_route.specs.declared.cell.OwnedStation.{OwnedStation}
-use Rattle.dr_route.specs.declared.cell.OwnedStation.TheVariants as station
-use Rattle.dr_route.specs.declared.cell.Station.{Station}
-use Rattle.dr_route.specs.declared.cell.Station.TheVariants as borrowed_station
 use Rattle.dr_route.specs.declared.cell.OwnedField.{OwnedField}
-use Rattle.dr_route.specs.declared.cell.OwnedField.TheVariants.{Literal, Rest}
-use Rattle.dr_route.specs.declared.cell.OwnedCell.{OwnedCell}
+use Rattle.dr_route.specs.declared.cell.OwnedField.TheVariants.{Literal, Prefix, Rest}
 use Rattle.dr_route.specs.declared.cell.Field.{Field}
 use Rattle.dr_route.specs.declared.cell.Field.TheVariants as borrowed
+use Rattle.dr_route.specs.declared.cell.OwnedCell.{OwnedCell}
 
 -- the part of a field that a borrowed one stands for
 abbrev pub owned_field : Field → OwnedField
 owned_field (borrowed.Literal literal) = Literal literal.now
+owned_field (borrowed.Prefix prefix) = Prefix prefix.now
 owned_field borrowed.Rest = Rest
-
--- the value lies in that part of the field
-abbrev pub InField : FieldValues → OwnedField → Text → Type 0
-InField values (Literal literal) value = Contains values.literals literal × (literal ≡ value)
-InField values Rest value = Contains values.literals value → ⊥
-
--- the part of the stations that a borrowed one stands for
-abbrev pub owned_station : Station → OwnedStation
-owned_station (borrowed_station.Literal literal) = station.Literal literal.now
-owned_station (borrowed_station.Prefix prefix) = station.Prefix prefix.now
-owned_station borrowed_station.Rest = station.Rest
 
 -- the value begins with this prefix of the list, and with no longer one
 pub record IsLongest (prefixes : List Text) (prefix value : Text) : Type 0 where
@@ -43,21 +28,35 @@ pub record IsLongest (prefixes : List Text) (prefix value : Text) : Type 0 where
 abbrev pub HasNoPrefix : List Text → Text → Type 0
 HasNoPrefix prefixes value = (prefix : Text) → Contains prefixes prefix → Begins prefix value → ⊥
 
--- the value lies in that part of the stations: it is the literal; or it is no literal, and the part
+-- the value lies in that part of the field: it is the literal; or it is no literal, and the part
 -- is its longest prefix or, if it has none, the rest
-abbrev pub InStation : StationValues → OwnedStation → Text → Type 0
-InStation values (station.Literal literal) value =
+abbrev pub InField : FieldValues → OwnedField → Text → Type 0
+InField values (Literal literal) value =
     Contains values.literals literal × (literal ≡ value)
-InStation values (station.Prefix prefix) value =
+InField values (Prefix prefix) value =
     (Contains values.literals value → ⊥) × IsLongest values.prefixes prefix value
-InStation values station.Rest value =
+InField values Rest value =
     (Contains values.literals value → ⊥) × HasNoPrefix values.prefixes value
+
+-- the same literals, and the same prefixes
+pub record SameValues (a b : FieldValues) : Type 0 where
+  pub literals : (text : Text) → Contains a.literals text ↔ Contains b.literals text
+  pub prefixes : (text : Text) → Contains a.prefixes text ↔ Contains b.prefixes text
+
+-- the same values for each field
+pub record SameLiterals (a b : Literals) : Type 0 where
+  pub modalities : SameValues a.modalities b.modalities
+  pub stations : SameValues a.stations b.stations
+
+-- the literals and the prefixes of a field stand in byte order, each once
+pub record IsOrdered (values : FieldValues) : Type 0 where
+  pub literals : IsInByteOrder values.literals
+  pub prefixes : IsInByteOrder values.prefixes
 
 -- the values that the plan names for each field stand in byte order, each once
 pub record AreInOrder (literals : Literals) : Type 0 where
-  pub modalities : IsInByteOrder literals.modalities.literals
-  pub stations : IsInByteOrder literals.stations.literals
-  pub prefixes : IsInByteOrder literals.stations.prefixes
+  pub modalities : IsOrdered literals.modalities
+  pub stations : IsOrdered literals.stations
 
 -- the key lies in the cell: same class and transfer syntax, and modality and station in the cell's
 -- parts
@@ -65,4 +64,4 @@ pub record InCell (literals : Literals) (cell : OwnedCell) (key : Key) : Type 0 
   pub class : cell.class ≡ key.class
   pub syntax : cell.syntax ≡ key.syntax
   pub modality : InField literals.modalities cell.modality key.modality
-  pub station : InStation literals.stations cell.station key.station
+  pub station : InField literals.stations cell.station key.station

@@ -2,41 +2,31 @@
 use Rattle.std.specs.Prelude.{◌≡◌, ◌≢◌, ◌<◌, List, ◌∷◌, [], ◌++◌, Contains, All}
 use Rattle.dr_base.specs.Texts.{Text}
 use Rattle.dr_route.specs.Routes.{local, Holds, SendsBy, KeepsBy}
-use Rattle.dr_route.specs.Cells.{IsLongest, InCell}
+use Rattle.dr_route.specs.Cells.{IsLongest, InCell, SameLiterals}
 use Rattle.dr_route.specs.declared.key.Key.{Key}
 use Rattle.dr_route.specs.declared.rule.Rule.{Rule}
-use Rattle.dr_route.specs.declared.rule.Pattern.{Pattern}
-use Rattle.dr_route.specs.declared.rule.Pattern.TheVariants.{Any, Literal}
-use Rattle.dr_route.specs.declared.rule.StationPattern.{StationPattern}
-use Rattle.dr_route.specs.declared.rule.StationPattern.TheVariants as pattern
+use Rattle.dr_route.specs.declared.rule.FieldPattern.{FieldPattern}
+use Rattle.dr_route.specs.declared.rule.FieldPattern.TheVariants as pattern
 use Rattle.dr_route.specs.declared.cell.FieldValues.{FieldValues}
-use Rattle.dr_route.specs.declared.cell.StationValues.{StationValues}
-use Rattle.dr_route.specs.declared.cell.OwnedStation.{OwnedStation}
-use Rattle.dr_route.specs.declared.cell.OwnedStation.TheVariants as station
-use Rattle.dr_route.specs.declared.cell.Literals.{Literals}
 use Rattle.dr_route.specs.declared.cell.OwnedField.{OwnedField}
 use Rattle.dr_route.specs.declared.cell.OwnedField.TheVariants as part
+use Rattle.dr_route.specs.declared.cell.Literals.{Literals}
 use Rattle.dr_route.specs.declared.cell.OwnedCell.{OwnedCell}
 
 -- no rule holds for what enters at the node itself
 abbrev pub LocalIsNobody : Type 0
 LocalIsNobody = (rule : Rule) (key : Key) → Holds rule local key → ⊥
 
--- the literal of the pattern is one that the plan names for the field
-abbrev pub IsKnown : FieldValues → Pattern → Type 0
-IsKnown values Any = Unit {0}
-IsKnown values (Literal literal) = Contains values.literals literal
-
--- the literal of the pattern, or its prefix, is one that the plan names for the station
-abbrev pub IsKnownStation : StationValues → StationPattern → Type 0
-IsKnownStation values pattern.Any = Unit {0}
-IsKnownStation values (pattern.Literal literal) = Contains values.literals literal
-IsKnownStation values (pattern.Prefix prefix) = Contains values.prefixes prefix
+-- the literal of the pattern, or its prefix, is one that the plan names for the field
+abbrev pub IsKnown : FieldValues → FieldPattern → Type 0
+IsKnown values pattern.Any = Unit {0}
+IsKnown values (pattern.Literal literal) = Contains values.literals literal
+IsKnown values (pattern.Prefix prefix) = Contains values.prefixes prefix
 
 -- what a rule asks of modality and station is among what the plan names
 abbrev pub IsKnownRule : Literals → Rule → Type 0
 IsKnownRule literals rule =
-    IsKnown literals.modalities rule.modality × IsKnownStation literals.stations rule.station
+    IsKnown literals.modalities rule.modality × IsKnown literals.stations rule.station
 
 -- keys of one cell are sent to the same nodes by rules whose literals the plan names
 abbrev pub AgreeInSends : Type 0
@@ -66,6 +56,12 @@ CellsAreApart =
     (literals : Literals) (key : Key) (a b : OwnedCell)
     → InCell literals a key → InCell literals b key → a ≡ b
 
+-- the same values make the same cells
+abbrev pub SameValuesMakeSameCells : Type 0
+SameValuesMakeSameCells =
+    (a b : Literals) → SameLiterals a b → (cell : OwnedCell) (key : Key)
+    → InCell a cell key → InCell b cell key
+
 -- no value has two longest prefixes
 abbrev pub LongestIsOne : Type 0
 LongestIsOne =
@@ -78,28 +74,18 @@ LongestIsOne =
 abbrev pub ArePlain : List Text → Type 0
 ArePlain texts = All (All (λ byte. byte < 127)) texts
 
--- a part of the field: a literal that the plan names, or the rest
+-- a part of the field: a literal that the plan names, a prefix that it names, or the rest
 abbrev pub IsPart : FieldValues → OwnedField → Type 0
 IsPart values (part.Literal literal) = Contains values.literals literal
+IsPart values (part.Prefix prefix) = Contains values.prefixes prefix
 IsPart values part.Rest = Unit {0}
 
--- a part of the stations: a literal that the plan names, a prefix that it names, or the rest
-abbrev pub IsStationPart : StationValues → OwnedStation → Type 0
-IsStationPart values (station.Literal literal) = Contains values.literals literal
-IsStationPart values (station.Prefix prefix) = Contains values.prefixes prefix
-IsStationPart values station.Rest = Unit {0}
-
--- a value of the part: the literal, or the text of the one byte 128, which no literal has
+-- a value of the part: the literal; the prefix and the byte 128, which no literal and no prefix
+-- has; or the text of this byte alone
 abbrev pub value_of : OwnedField → Text
 value_of (part.Literal literal) = literal
+value_of (part.Prefix prefix) = prefix ++ (128 ∷ [])
 value_of part.Rest = 128 ∷ []
-
--- a station of the part: the literal; the prefix and the byte 128, which no literal and no prefix
--- has; or the text of this byte alone
-abbrev pub station_value_of : OwnedStation → Text
-station_value_of (station.Literal literal) = literal
-station_value_of (station.Prefix prefix) = prefix ++ (128 ∷ [])
-station_value_of station.Rest = 128 ∷ []
 
 -- one key of the cell, which stands for all of them
 abbrev pub key_of : OwnedCell → Key
@@ -107,11 +93,11 @@ key_of cell = record {
   class = cell.class;
   syntax = cell.syntax;
   modality = value_of cell.modality;
-  station = station_value_of cell.station;
+  station = value_of cell.station;
 }
 
--- the stations that a plan names are printable ASCII, and no prefix is empty
-pub record ArePlainStations (values : StationValues) : Type 0 where
+-- what a plan names for a field is printable ASCII, and no prefix is empty
+pub record ArePlainValues (values : FieldValues) : Type 0 where
   pub literals : ArePlain values.literals
   pub prefixes : ArePlain values.prefixes
   pub some : All (λ prefix. prefix ≢ []) values.prefixes
@@ -120,8 +106,8 @@ pub record ArePlainStations (values : StationValues) : Type 0 where
 abbrev pub EachCellHasAKey : Type 0
 EachCellHasAKey =
     (literals : Literals) (cell : OwnedCell)
-    → ArePlain literals.modalities.literals
-    → ArePlainStations literals.stations
+    → ArePlainValues literals.modalities
+    → ArePlainValues literals.stations
     → IsPart literals.modalities cell.modality
-    → IsStationPart literals.stations cell.station
+    → IsPart literals.stations cell.station
     → InCell literals cell (key_of cell)

@@ -1,12 +1,12 @@
 -- What the rules of a node, and its accept rows, say of a key.
-use Rattle.std.specs.Prelude.{◌≡◌, ◌≢◌, List, [], ◌∷◌, ◌++◌, codes, Contains, ◌⊎◌, IsTrue}
+use Rattle.std.specs.Prelude.{◌≡◌, ◌≢◌, List, [], ◌∷◌, codes, Contains, ◌⊎◌, IsTrue}
 use Rattle.dr_base.specs.Texts.{Text, Begins}
 use Rattle.dr_base.specs.declared.syntax.Syntax.{Syntax}
 use Rattle.dr_route.specs.declared.key.Key.{Key}
 use Rattle.dr_route.specs.declared.rule.Pattern.{Pattern}
 use Rattle.dr_route.specs.declared.rule.Pattern.TheVariants.{Any, Literal}
-use Rattle.dr_route.specs.declared.rule.StationPattern.{StationPattern}
-use Rattle.dr_route.specs.declared.rule.StationPattern.TheVariants as station
+use Rattle.dr_route.specs.declared.rule.FieldPattern.{FieldPattern}
+use Rattle.dr_route.specs.declared.rule.FieldPattern.TheVariants as field
 use Rattle.dr_route.specs.declared.rule.Rule.{Rule}
 use Rattle.dr_route.specs.declared.accept.Callers.{Callers}
 use Rattle.dr_route.specs.declared.accept.Callers.TheVariants as callers
@@ -21,19 +21,19 @@ abbrev pub Matches : Pattern → Text → Type 0
 Matches Any value = Unit {0}
 Matches (Literal literal) value = literal ≡ value
 
--- the pattern admits the station
-abbrev pub MatchesStation : StationPattern → Text → Type 0
-MatchesStation station.Any value = Unit {0}
-MatchesStation (station.Literal literal) value = literal ≡ value
-MatchesStation (station.Prefix prefix) value = Begins prefix value
+-- the pattern admits the value of its field
+abbrev pub MatchesField : FieldPattern → Text → Type 0
+MatchesField field.Any value = Unit {0}
+MatchesField (field.Literal literal) value = literal ≡ value
+MatchesField (field.Prefix prefix) value = Begins prefix value
 
 -- the rule holds for what the caller brings
 abbrev pub Holds : Rule → Text → Key → Type 0
 Holds rule caller key =
     (caller ≢ local) × Matches rule.from caller
     × Matches rule.class key.class
-    × Matches rule.modality key.modality
-    × MatchesStation rule.station key.station
+    × MatchesField rule.modality key.modality
+    × MatchesField rule.station key.station
 
 -- some rule that holds for what the caller brings names the node among its targets
 abbrev pub SendsBy : List Rule → Text → Key → Text → Type 0

@@ -1,12 +1,9 @@
 //! Cells: the sets of keys that no rule of a plan tells apart.
 ghost use Rattle.std.specs.Prelude.{◌≡◌, IfOk};
 ghost use Rattle.std.specs.Prelude.{◌++◌, ◌∷◌, []};
-ghost use Rattle.dr_base.specs.Texts.{IsInByteOrder};
-ghost use Rattle.dr_route.specs.Cells.{AreInOrder, InCell, InField, InStation, owned_field};
-ghost use Rattle.dr_route.specs.Cells.{owned_station};
-ghost use Rattle.dr_route.specs.Laws.{key_of, value_of, station_value_of};
+ghost use Rattle.dr_route.specs.Cells.{AreInOrder, IsOrdered, InCell, InField, owned_field};
+ghost use Rattle.dr_route.specs.Laws.{key_of, value_of};
 ghost use Rattle.dr_route.specs.contracts.cell.OwnedFieldOrd.TheImpl as fields;
-ghost use Rattle.dr_route.specs.contracts.cell.OwnedStationOrd.TheImpl as stations;
 ghost use Rattle.dr_route.specs.contracts.cell.OwnedCellOrd.TheImpl as cells;
 
 use crate::key::Key;
@@ -16,16 +13,10 @@ use std::alloc::{AllocError, Global};
 use std::cmp::Ordering;
 use std::marker::Model;
 
-/// The values that a plan names for modality.
+/// The values that a plan, or one of its flows, names for one field, modality or station: single
+/// values, and what values begin with.
 #[derive(Clone, Debug, Drop)]
 pub struct FieldValues {
-    pub literals: Seq<Text>,
-}
-
-/// The values that a plan, or one of its flows, names for station: single values, and what values
-/// begin with.
-#[derive(Clone, Debug, Drop)]
-pub struct StationValues {
     pub literals: Seq<Text>,
     pub prefixes: Seq<Text>,
 }
@@ -34,22 +25,14 @@ pub struct StationValues {
 #[derive(Clone, Debug, Drop)]
 pub struct Literals {
     pub modalities: FieldValues,
-    pub stations: StationValues,
+    pub stations: FieldValues,
 }
 
-/// One part of the modalities: a literal of the plan, or all values that are none of its literals,
-/// which is written `*`.
+/// One part of a field, modality or station: a literal of the plan; the values that are no literal,
+/// and of whose prefixes this one of the plan is the longest, which are written as the prefix and
+/// `*`; or all others, which are written `*`.
 #[derive(Clone, PartialEq, Eq, PartialOrd, Ord, Debug, Drop)]
 pub enum OwnedField {
-    Literal(Text),
-    Rest,
-}
-
-/// One part of the stations: a literal of the plan; the values that are no literal, and of whose
-/// prefixes this one of the plan is the longest, which are written as the prefix and `*`; or all
-/// others, which are written `*`.
-#[derive(Clone, PartialEq, Eq, PartialOrd, Ord, Debug, Drop)]
-pub enum OwnedStation {
     Literal(Text),
     Prefix(Text),
     Rest,
@@ -62,19 +45,12 @@ pub struct OwnedCell {
     pub class: Text,
     pub syntax: Syntax,
     pub modality: OwnedField,
-    pub station: OwnedStation,
+    pub station: OwnedField,
 }
 
-/// A part of the modalities, by reference to the plan's literal.
+/// A part of a field, by reference to the plan's literal or prefix.
 #[derive(Drop)]
 pub enum Field<'a> {
-    Literal(&'a Text),
-    Rest,
-}
-
-/// A part of the stations, by reference to the plan's literal or prefix.
-#[derive(Drop)]
-pub enum Station<'a> {
     Literal(&'a Text),
     Prefix(&'a Text),
     Rest,
@@ -86,12 +62,12 @@ pub struct Cell<'a> {
     class: &'a Text,
     syntax: Syntax,
     modality: Field<'a>,
-    station: Station<'a>,
+    station: Field<'a>,
 }
 
 impl<'a> Model for Cell<'a> {
     ghost use Rattle.dr_route.specs.declared.cell.OwnedCell.{OwnedCell};
-    ghost use Rattle.dr_route.specs.Cells.{owned_field, owned_station};
+    ghost use Rattle.dr_route.specs.Cells.{owned_field};
 
     ghost Value = { OwnedCell };
 
@@ -99,35 +75,22 @@ impl<'a> Model for Cell<'a> {
       class = c.class.now;
       syntax = c.syntax;
       modality = owned_field c.modality;
-      station = owned_station c.station;
+      station = owned_field c.station;
     } };
 }
 
-/// The part of the modalities that the value lies in. It takes no memory: a binary search over the
-/// literals.
+/// The part of the field that the value lies in. It takes no memory: a binary search over the
+/// literals, and one over the prefixes for each beginning of the value.
 pub fn field_of<'a>(values: &'a FieldValues, value: &Text) -> Field<'a>
-    requires { IsInByteOrder values.now.literals }
+    requires { IsOrdered values.now }
     ensures { InField values.now (owned_field result) value.now }
 {
-    match find(values.literals.as_slice(), value.as_bytes()) {
-        Some(literal) => Field::Literal(literal),
-        None => Field::Rest,
-    }
-}
-
-/// The part of the stations that the value lies in. It takes no memory: a binary search over the
-/// literals, and one over the prefixes for each beginning of the value.
-pub fn station_of<'a>(values: &'a StationValues, value: &Text) -> Station<'a>
-    requires literals { IsInByteOrder values.now.literals }
-    requires prefixes { IsInByteOrder values.now.prefixes }
-    ensures { InStation values.now (owned_station result) value.now }
-{
     if let Some(literal) = find(values.literals.as_slice(), value.as_bytes()) {
-        return Station::Literal(literal);
+        return Field::Literal(literal);
     }
     match longest(values.prefixes.as_slice(), value.as_bytes()) {
-        Some(prefix) => Station::Prefix(prefix),
-        None => Station::Rest,
+        Some(prefix) => Field::Prefix(prefix),
+        None => Field::Rest,
     }
 }
 
@@ -140,7 +103,7 @@ pub fn cell_of<'a>(literals: &'a Literals, key: &'a Key) -> Cell<'a>
         class: &key.class,
         syntax: key.syntax,
         modality: field_of(&literals.modalities, &key.modality),
-        station: station_of(&literals.stations, &key.station),
+        station: field_of(&literals.stations, &key.station),
     }
 }
 
@@ -152,23 +115,11 @@ fn owned_part(field: &Field<'_>) -> Result<OwnedField, AllocError>
             let text: &Text = literal;
             Ok(OwnedField::Literal(text.clone()?))
         }
-        Field::Rest => Ok(OwnedField::Rest),
-    }
-}
-
-fn owned_station_part(station: &Station<'_>) -> Result<OwnedStation, AllocError>
-    ensures { IfOk result (λ s. s ≡ owned_station station.now) }
-{
-    match station {
-        Station::Literal(literal) => {
-            let text: &Text = literal;
-            Ok(OwnedStation::Literal(text.clone()?))
-        }
-        Station::Prefix(prefix) => {
+        Field::Prefix(prefix) => {
             let text: &Text = prefix;
-            Ok(OwnedStation::Prefix(text.clone()?))
+            Ok(OwnedField::Prefix(text.clone()?))
         }
-        Station::Rest => Ok(OwnedStation::Rest),
+        Field::Rest => Ok(OwnedField::Rest),
     }
 }
 
@@ -181,56 +132,34 @@ impl<'a> Cell<'a> {
             class: self.class.clone()?,
             syntax: self.syntax,
             modality: owned_part(&self.modality)?,
-            station: owned_station_part(&self.station)?,
+            station: owned_part(&self.station)?,
         })
     }
 }
 
-/// The part of the modalities by reference.
+/// The part of the field by reference.
 fn borrowed_part(field: &OwnedField) -> Field<'_>
     ensures { owned_field result ≡ field.now }
 {
     match field {
         OwnedField::Literal(literal) => Field::Literal(literal),
+        OwnedField::Prefix(prefix) => Field::Prefix(prefix),
         OwnedField::Rest => Field::Rest,
     }
 }
 
-/// The part of the stations by reference.
-fn borrowed_station_part(station: &OwnedStation) -> Station<'_>
-    ensures { owned_station result ≡ station.now }
-{
-    match station {
-        OwnedStation::Literal(literal) => Station::Literal(literal),
-        OwnedStation::Prefix(prefix) => Station::Prefix(prefix),
-        OwnedStation::Rest => Station::Rest,
-    }
-}
-
-/// How the part of the modalities compares to one by reference.
+/// How the part of the field compares to one by reference.
 fn compared_part(part: &OwnedField, field: &Field<'_>) -> Ordering
     ensures { result ≡ fields.cmp-value.it part.now (owned_field field.now) }
 {
     match (part, field) {
         (OwnedField::Literal(literal), Field::Literal(other)) => literal.cmp(other),
-        (OwnedField::Literal(_), Field::Rest) => Ordering::Less,
-        (OwnedField::Rest, Field::Literal(_)) => Ordering::Greater,
+        (OwnedField::Prefix(prefix), Field::Prefix(other)) => prefix.cmp(other),
         (OwnedField::Rest, Field::Rest) => Ordering::Equal,
-    }
-}
-
-/// How the part of the stations compares to one by reference.
-fn compared_station_part(part: &OwnedStation, station: &Station<'_>) -> Ordering
-    ensures { result ≡ stations.cmp-value.it part.now (owned_station station.now) }
-{
-    match (part, station) {
-        (OwnedStation::Literal(literal), Station::Literal(other)) => literal.cmp(other),
-        (OwnedStation::Prefix(prefix), Station::Prefix(other)) => prefix.cmp(other),
-        (OwnedStation::Rest, Station::Rest) => Ordering::Equal,
-        (OwnedStation::Literal(_), _) => Ordering::Less,
-        (OwnedStation::Prefix(_), Station::Literal(_)) => Ordering::Greater,
-        (OwnedStation::Prefix(_), Station::Rest) => Ordering::Less,
-        (OwnedStation::Rest, _) => Ordering::Greater,
+        (OwnedField::Literal(_), _) => Ordering::Less,
+        (OwnedField::Prefix(_), Field::Literal(_)) => Ordering::Greater,
+        (OwnedField::Prefix(_), Field::Rest) => Ordering::Less,
+        (OwnedField::Rest, _) => Ordering::Greater,
     }
 }
 
@@ -243,7 +172,7 @@ impl OwnedCell {
             class: &self.class,
             syntax: self.syntax,
             modality: borrowed_part(&self.modality),
-            station: borrowed_station_part(&self.station),
+            station: borrowed_part(&self.station),
         }
     }
 
@@ -253,20 +182,9 @@ impl OwnedCell {
     {
         self.class.cmp(other.class).then(
             self.syntax.cmp(&other.syntax).then(compared_part(&self.modality, &other.modality).then(
-                compared_station_part(&self.station, &other.station),
+                compared_part(&self.station, &other.station),
             )),
         )
-    }
-}
-
-/// A value of the part of the field: its literal, or the text of the one byte 128, which no literal
-/// has.
-fn value_in(alloc: Global, field: &OwnedField) -> Result<Text, AllocError>
-    ensures { IfOk result (λ t. t ≡ value_of field.now) }
-{
-    match field {
-        OwnedField::Literal(literal) => literal.clone(),
-        OwnedField::Rest => Text::copy_of(alloc, &[128]),
     }
 }
 
@@ -279,15 +197,15 @@ pub fn value_under(alloc: Global, prefix: &Text) -> Result<Text, AllocError>
     Ok(Text::from_vec(bytes))
 }
 
-/// A station of the part: its literal; or its prefix and the byte 128, which no literal and no
+/// A value of the part: its literal; or its prefix and the byte 128, which no literal and no
 /// prefix has; or the text of this byte.
-fn station_value_in(alloc: Global, station: &OwnedStation) -> Result<Text, AllocError>
-    ensures { IfOk result (λ t. t ≡ station_value_of station.now) }
+fn value_in(alloc: Global, field: &OwnedField) -> Result<Text, AllocError>
+    ensures { IfOk result (λ t. t ≡ value_of field.now) }
 {
-    match station {
-        OwnedStation::Literal(literal) => literal.clone(),
-        OwnedStation::Prefix(prefix) => value_under(alloc, prefix),
-        OwnedStation::Rest => Text::copy_of(alloc, &[128]),
+    match field {
+        OwnedField::Literal(literal) => literal.clone(),
+        OwnedField::Prefix(prefix) => value_under(alloc, prefix),
+        OwnedField::Rest => Text::copy_of(alloc, &[128]),
     }
 }
 
@@ -299,6 +217,6 @@ pub fn key_in(alloc: Global, cell: &OwnedCell) -> Result<Key, AllocError>
         class: cell.class.clone()?,
         syntax: cell.syntax,
         modality: value_in(alloc, &cell.modality)?,
-        station: station_value_in(alloc, &cell.station)?,
+        station: value_in(alloc, &cell.station)?,
     })
 }

@@ -1,6 +1,7 @@
 //! Laws of rules and cells: what a reader may take from the definitions.
 ghost use Rattle.dr_route.specs.Laws.{LocalIsNobody, AgreeInSends, AgreeInKeeps, CellsCover};
 ghost use Rattle.dr_route.specs.Laws.{CellsAreApart, LongestIsOne, EachCellHasAKey};
+ghost use Rattle.dr_route.specs.Laws.{SameValuesMakeSameCells};
 
 /// No rule speaks of what enters at a node itself: `*` doesn't match the local caller, and nothing
 /// is kept or sent by a rule for it.
@@ -19,6 +20,11 @@ pub fn keys_of_one_cell_agree()
 pub fn each_key_lies_in_one_cell()
     ensures some { CellsCover }
     ensures one { CellsAreApart }
+{}
+
+/// In whatever order a plan's values stand, its cells are the same.
+pub fn the_same_values_make_the_same_cells()
+    ensures { SameValuesMakeSameCells }
 {}
 
 /// A value begins with one longest prefix at most.

@@ -17,9 +17,6 @@ mod same;
 mod search;
 
 pub use accept::{AcceptRow, Callers, accepts};
-pub use cell::{
-    Cell, Field, FieldValues, Literals, OwnedCell, OwnedField, OwnedStation, Station,
-    StationValues, cell_of,
-};
+pub use cell::{Cell, Field, FieldValues, Literals, OwnedCell, OwnedField, cell_of, field_of};
 pub use key::Key;
-pub use rule::{Pattern, Rule, StationPattern, Targets, holds, is_local};
+pub use rule::{FieldPattern, Pattern, Rule, Targets, holds, is_local};

@@ -1,12 +1,12 @@
 //! The rules of a node.
 ghost use Rattle.std.specs.Prelude.{◌≡◌, ◌↔◌, ◌++◌, IsTrue, MatchOption};
 ghost use Rattle.dr_base.specs.Texts.{Text as Words, Begins};
-ghost use Rattle.dr_route.specs.Routes.{local, Matches, MatchesStation, Holds};
+ghost use Rattle.dr_route.specs.Routes.{local, Matches, MatchesField, Holds};
 
 use crate::key::Key;
 use dr_base::{Seq, Text};
 
-/// What a rule asks of one value.
+/// What a rule asks of the caller, or of the class.
 #[derive(Clone, Debug, Drop)]
 pub enum Pattern {
     /// Any value; it is written `*`.
@@ -15,15 +15,15 @@ pub enum Pattern {
     Literal(Text),
 }
 
-/// What a rule asks of the station.
+/// What a rule asks of one field, modality or station.
 #[derive(Clone, Debug, Drop)]
-pub enum StationPattern {
+pub enum FieldPattern {
     /// Any value; it is written `*`.
     Any,
     /// Just this value.
     Literal(Text),
-    /// Each value that begins with this text; it is written with `*` behind it, in plans of
-    /// format 2.
+    /// Each value that begins with this text; it is written with `*` behind it. Plans have such
+    /// stations from format 2 on, and such modalities in format 3.
     Prefix(Text),
 }
 
@@ -33,8 +33,8 @@ pub enum StationPattern {
 pub struct Rule {
     pub from: Pattern,
     pub class: Pattern,
-    pub modality: Pattern,
-    pub station: StationPattern,
+    pub modality: FieldPattern,
+    pub station: FieldPattern,
     pub to: Seq<Text>,
     pub keep: bool,
 }
@@ -82,14 +82,14 @@ pub fn begins(prefix: &Text, value: &Text) -> bool
     }
 }
 
-/// Whether the pattern admits the station.
-pub fn matches_station(pattern: &StationPattern, value: &Text) -> bool
-    ensures { IsTrue result ↔ MatchesStation pattern.now value.now }
+/// Whether the pattern admits the value of its field.
+pub fn matches_field(pattern: &FieldPattern, value: &Text) -> bool
+    ensures { IsTrue result ↔ MatchesField pattern.now value.now }
 {
     match pattern {
-        StationPattern::Any => true,
-        StationPattern::Literal(literal) => literal == value,
-        StationPattern::Prefix(prefix) => begins(prefix, value),
+        FieldPattern::Any => true,
+        FieldPattern::Literal(literal) => literal == value,
+        FieldPattern::Prefix(prefix) => begins(prefix, value),
     }
 }
 
@@ -101,6 +101,6 @@ pub fn holds(rule: &Rule, caller: &Text, key: &Key) -> bool
     !is_local(caller)
         && matches(&rule.from, caller)
         && matches(&rule.class, &key.class)
-        && matches(&rule.modality, &key.modality)
-        && matches_station(&rule.station, &key.station)
+        && matches_field(&rule.modality, &key.modality)
+        && matches_field(&rule.station, &key.station)
 }

@@ -1,7 +1,7 @@
 //! Whether two values are the same, part by part.
 use crate::accept::{AcceptRow, Callers};
-use crate::cell::{Literals, StationValues};
-use crate::rule::{Pattern, Rule, StationPattern};
+use crate::cell::{FieldValues, Literals};
+use crate::rule::{FieldPattern, Pattern, Rule};
 use dr_base::same::{Same, are_same};
 
 impl Same for Pattern {
@@ -14,19 +14,19 @@ impl Same for Pattern {
     }
 }
 
-impl Same for StationPattern {
-    fn is_same(&self, other: &StationPattern) -> bool {
+impl Same for FieldPattern {
+    fn is_same(&self, other: &FieldPattern) -> bool {
         match (self, other) {
-            (StationPattern::Any, StationPattern::Any) => true,
-            (StationPattern::Literal(one), StationPattern::Literal(two)) => one.is_same(two),
-            (StationPattern::Prefix(one), StationPattern::Prefix(two)) => one.is_same(two),
+            (FieldPattern::Any, FieldPattern::Any) => true,
+            (FieldPattern::Literal(one), FieldPattern::Literal(two)) => one.is_same(two),
+            (FieldPattern::Prefix(one), FieldPattern::Prefix(two)) => one.is_same(two),
             _ => false,
         }
     }
 }
 
-impl Same for StationValues {
-    fn is_same(&self, other: &StationValues) -> bool {
+impl Same for FieldValues {
+    fn is_same(&self, other: &FieldValues) -> bool {
         are_same(self.literals.as_slice(), other.literals.as_slice())
             && are_same(self.prefixes.as_slice(), other.prefixes.as_slice())
     }
@@ -66,9 +66,6 @@ impl Same for AcceptRow {
 
 impl Same for Literals {
     fn is_same(&self, other: &Literals) -> bool {
-        are_same(
-            self.modalities.literals.as_slice(),
-            other.modalities.literals.as_slice(),
-        ) && self.stations.is_same(&other.stations)
+        self.modalities.is_same(&other.modalities) && self.stations.is_same(&other.stations)
     }
 }

@@ -5,6 +5,7 @@ ghost use Rattle.dr_word_rehearse.specs.Looks.{IsFoundBy};
 ghost use Rattle.dr_router.specs.Opening.{HasLedgerIn, fault_of_database, fault_of_opening};
 
 use dr_base::Text;
+use dr_run_backup::{BackupFault, Backups, LedgerCopy, SystemBackups};
 use dr_run_files::Files;
 use dr_run_open::{Ledgers, Making, OpenFault};
 use dr_run_report::{FileId, Paths, ReportPlace, SystemPaths};
@@ -61,12 +62,14 @@ impl<'a> Databases for SystemFiles<'a> {
     }
 }
 
-/// The system's files, as they are read and written by name, and asked before a report is written.
+/// The system's files, as they are read and written by name, asked before a report is written, and
+/// copied.
 #[derive(Drop)]
 pub struct SystemDisk<'a> {
     disk: Disk<'a>,
     paths: SystemPaths<'a>,
     tokens: SystemTokens<'a>,
+    copies: SystemBackups<'a>,
 }
 
 impl<'a> SystemDisk<'a> {
@@ -76,6 +79,7 @@ impl<'a> SystemDisk<'a> {
             disk: Disk::new(rt),
             paths: SystemPaths::new(rt),
             tokens: SystemTokens(rt),
+            copies: SystemBackups(rt),
         }
     }
 }
@@ -104,6 +108,17 @@ impl<'a> Paths for SystemDisk<'a> {
 
     fn file_id(&self, path: &str) -> io::Result<Option<FileId>> {
         self.paths.file_id(path)
+    }
+}
+
+impl<'a> Backups for SystemDisk<'a> {
+    fn copy_of(
+        &self,
+        alloc: Global,
+        ledger: &str,
+        path: &str,
+    ) -> Result<LedgerCopy<'_>, BackupFault> {
+        self.copies.copy_of(alloc, ledger, path)
     }
 }
 

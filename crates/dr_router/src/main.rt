@@ -15,10 +15,10 @@ use crate::events::EventLog;
 use crate::files::{Databases, StoredLedgers, SystemDisk, SystemFiles};
 use crate::input::InputEnd;
 use crate::over::{ClockAt, Machine, run_on};
+use dr_run_backup::Backups;
 use dr_run_files::Files;
 use dr_run_net::{Cut, Sockets, SystemClock};
 use dr_run_open::Status;
-use dr_run_report::Paths;
 use dr_run_token::Tokens;
 use dr_word_check::{given_words, tell_unread_words};
 use std::process::ExitCode;
@@ -32,7 +32,7 @@ use std::{io, time};
 fn run_over_files<
     'x,
     T: Threads + Wait + Sync + time::Clock,
-    F: Files + Paths + Tokens + Sync + Drop,
+    F: Files + Backups + Tokens + Sync + Drop,
     D: Databases + Drop,
 >(
     rt: &'x HostRuntime,

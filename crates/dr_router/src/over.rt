@@ -1,10 +1,10 @@
 //! The program over anything that it can run on.
 use crate::files::{Databases, StoredLedgers};
 use dr_ledger_journal::TellsJournal;
+use dr_run_backup::Backups;
 use dr_run_files::Files;
 use dr_run_net::Network;
 use dr_run_open::Status;
-use dr_run_report::Paths;
 use dr_run_serve::Ending;
 use dr_run_token::Tokens;
 use dr_session::Clock;
@@ -49,7 +49,7 @@ fn run_over<
     R: Read,
     W: Write,
     E: Write,
-    F: Files + Paths + Tokens + Sync,
+    F: Files + Backups + Tokens + Sync,
     O: Finds,
     N: Network + Sync,
     C: Clock + Sync,
@@ -78,7 +78,7 @@ pub fn run_on<
     R: Read,
     W: Write,
     E: Write,
-    F: Files + Paths + Tokens + Sync + Drop,
+    F: Files + Backups + Tokens + Sync + Drop,
     D: Databases + Drop,
     N: Network + Sync + Drop,
     C: Clock + Sync + Drop,

@@ -1,5 +1,6 @@
 pub mod Chained
 mod Counted
+mod Journaled
 mod Lines
 mod Responded
 mod Statuses

@@ -1,4 +1,5 @@
 pub mod Answers
 pub mod Intakes
+pub mod Journals
 pub mod Laws
 pub mod Responses

@@ -78,7 +78,7 @@ pub(crate) fn put_number(out: &mut Vec<u8>, name: &str, value: u64) -> Result<()
 }
 
 /// Adds a text behind its name.
-fn put_word(out: &mut Vec<u8>, name: &str, value: &[u8]) -> Result<(), AllocError>
+pub(crate) fn put_word(out: &mut Vec<u8>, name: &str, value: &[u8]) -> Result<(), AllocError>
     ensures { OnOk result (out.new.items ≡ out.old.items ++ word name.now value.now) }
 {
     out.extend_from_slice(b",\"")?;
@@ -95,14 +95,14 @@ pub(crate) fn put_named(out: &mut Vec<u8>, name: &str, value: &Text) -> Result<(
 }
 
 /// The same of words.
-fn put_said(out: &mut Vec<u8>, name: &str, value: &str) -> Result<(), AllocError>
+pub(crate) fn put_said(out: &mut Vec<u8>, name: &str, value: &str) -> Result<(), AllocError>
     ensures { OnOk result (out.new.items ≡ out.old.items ++ word name.now value.now) }
 {
     put_word(out, name, value.as_bytes())
 }
 
 /// Adds whether something is so, behind its name.
-fn put_flag(out: &mut Vec<u8>, name: &str, value: bool) -> Result<(), AllocError>
+pub(crate) fn put_flag(out: &mut Vec<u8>, name: &str, value: bool) -> Result<(), AllocError>
     ensures { OnOk result (out.new.items ≡ out.old.items ++ flag name.now value) }
 {
     out.extend_from_slice(b",\"")?;

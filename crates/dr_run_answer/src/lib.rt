@@ -17,6 +17,7 @@ mod association;
 mod figures;
 mod instance;
 mod intake;
+mod journal;
 mod json;
 pub mod laws;
 pub mod noted;
@@ -28,6 +29,7 @@ pub use association::{OpenAssociation, put_associations};
 pub use figures::{put_figures, put_open, put_queues, put_visits};
 pub use instance::{put_froms, put_own_rows};
 pub use intake::{Brought, Recent, put_callers, put_recents, put_stored_bytes};
+pub use journal::{put_journal_head, put_lines};
 pub use json::{
     Counts, Identity, Queue, Visited, Visits, put_done, put_fault, put_instance, put_late,
     put_node, put_queue, put_row, put_well,

@@ -9,7 +9,7 @@ use Rattle.form_urlencoded.proofs.FormLemmas.{All-byte_serialize, IsSerializedBy
 use Rattle.form_urlencoded.proofs.OnLiterals.{form_urlencoded_on_literals}
 use Rattle.dr_base.specs.Texts.{Text}
 use Rattle.dr_run_request.specs.Forms.{first_value, value_in}
-use Rattle.dr_run_ask.specs.Calls.{dest_form, reason_form, row_form, rows_form, uid_form}
+use Rattle.dr_run_ask.specs.Calls.{copy_form, dest_form, reason_form, row_form, rows_form, uid_form}
 use Rattle.dr_run_ask.specs.Laws.{AreBytes, ReadsTwo}
 
 abbrev Pair : Type 0
@@ -103,6 +103,10 @@ reason_name : byte_serialize (codes "reason") ≡ codes "reason"
 unfolding form_urlencoded_on_literals
 reason_name = refl
 
+copy_name : byte_serialize (codes "copy") ≡ codes "copy"
+unfolding form_urlencoded_on_literals
+copy_name = refl
+
 after_name : byte_serialize (codes "after") ≡ codes "after"
 unfolding form_urlencoded_on_literals
 after_name = refl
@@ -145,6 +149,9 @@ dest_pairs dest = one_is (codes "dest", dest) ∙ ap (λ (n : List ℕ). (n, byt
 uid_pairs : (uid : Text) → raw_pairs (uid_form uid) ≡ (codes "uid", byte_serialize uid) ∷ []
 uid_pairs uid = one_is (codes "uid", uid) ∙ ap (λ (n : List ℕ). (n, byte_serialize uid) ∷ []) uid_name
 
+copy_pairs : (path : Text) → raw_pairs (copy_form path) ≡ (codes "copy", byte_serialize path) ∷ []
+copy_pairs path = one_is (codes "copy", path) ∙ ap (λ (n : List ℕ). (n, byte_serialize path) ∷ []) copy_name
+
 pub row_read : (uid dest : Text) → AreBytes uid → AreBytes dest
     → ReadsTwo (row_form uid dest) (codes "uid") uid (codes "dest") dest
     × (value_in (row_form uid dest) (codes "reason") ≡ None)
@@ -180,3 +187,6 @@ dest_read dest a = (
 
 pub uid_read : (uid : Text) → AreBytes uid → value_in (uid_form uid) (codes "uid") ≡ Some uid
 uid_read uid a = says _ (codes "uid") uid _ (uid_pairs uid) refl a
+
+pub copy_read : (path : Text) → AreBytes path → value_in (copy_form path) (codes "copy") ≡ Some path
+copy_read path a = says _ (codes "copy") path _ (copy_pairs path) refl a

@@ -1,5 +1,5 @@
 -- What a node that runs is asked and told, and the bytes of the requests.
-use Rattle.std.specs.Prelude.{Bool, List, [], ◌∷◌, ◌++◌, codes, decimal}
+use Rattle.std.specs.Prelude.{ℕ, Bool, List, [], ◌∷◌, ◌++◌, codes, decimal}
 use Rattle.std.specs.Prelude.{length}
 use Rattle.std.specs.Prelude.{Option, None, Some, option_map, if◌then◌else◌}
 use Rattle.form_urlencoded.specs.Form.{extend_pairs}
@@ -10,18 +10,20 @@ use Rattle.dr_run_request.specs.Asking as asked
 use Rattle.dr_run_request.specs.declared.route.Route.{Route}
 use Rattle.dr_run_request.specs.declared.route.Route.TheVariants as routes
 use Rattle.dr_run_ask.specs.declared.call.HttpCall.{HttpCall}
-use Rattle.dr_run_ask.specs.declared.call.HttpCall.TheVariants.{Status, Rows, Requeue, GiveUp}
-use Rattle.dr_run_ask.specs.declared.call.HttpCall.TheVariants.{Forget}
-use Rattle.dr_run_ask.specs.declared.call.HttpCall.TheVariants.{Visit, Stop}
+use Rattle.dr_run_ask.specs.declared.call.HttpCall.TheVariants.{Status, Rows, Journal, Requeue}
+use Rattle.dr_run_ask.specs.declared.call.HttpCall.TheVariants.{GiveUp, Forget}
+use Rattle.dr_run_ask.specs.declared.call.HttpCall.TheVariants.{Visit, Backup, Stop}
 
 -- what it means at the node
 abbrev pub route_of : HttpCall → Route
 route_of Status = routes.Status
 route_of (Rows form) = routes.Rows
+route_of (Journal form) = routes.Journal
 route_of (Requeue form) = routes.Requeue
 route_of (GiveUp form) = routes.GiveUp
 route_of (Forget form) = routes.Forget
 route_of (Visit form) = routes.Visit
+route_of (Backup form) = routes.Backup
 route_of Stop = routes.Stop
 
 abbrev pub path_of : HttpCall → Text
@@ -35,18 +37,20 @@ is_act call = asked.is_act (route_of call)
 abbrev pub form_of : HttpCall → Text
 form_of Status = []
 form_of (Rows form) = form.now
+form_of (Journal form) = form.now
 form_of (Requeue form) = form.now
 form_of (GiveUp form) = form.now
 form_of (Forget form) = form.now
 form_of (Visit form) = form.now
+form_of (Backup form) = form.now
 form_of Stop = []
 
 -- an act is told by POST, and all else is asked by GET
 abbrev pub method_of : HttpCall → Text
 method_of call = asked.method_of (route_of call)
 
--- the forms of a row, of a row with a reason, of a node, of an instance, and of the rows to a node
--- behind a UID
+-- the forms of a row, of a row with a reason, of a node, of an instance, of a copy, and of the rows
+-- to a node behind a UID
 abbrev pub row_form : Text → Text → Text
 row_form uid dest = extend_pairs [] ((codes "uid", uid) ∷ (codes "dest", dest) ∷ [])
 
@@ -61,8 +65,15 @@ dest_form dest = extend_pairs [] ((codes "dest", dest) ∷ [])
 abbrev pub uid_form : Text → Text
 uid_form uid = extend_pairs [] ((codes "uid", uid) ∷ [])
 
+abbrev pub copy_form : Text → Text
+copy_form path = extend_pairs [] ((codes "copy", path) ∷ [])
+
 abbrev pub rows_form : Text → Text → Text
 rows_form dest after = extend_pairs [] ((codes "dest", dest) ∷ (codes "after", after) ∷ [])
+
+-- the form of the lines of a journal behind a number
+abbrev pub journal_form : ℕ → Text
+journal_form after = extend_pairs [] ((codes "after", decimal after) ∷ [])
 
 -- the form stands behind the path of what is asked, and in the body of what is told
 abbrev pub query_of : Text → Text

@@ -13,7 +13,10 @@ use Rattle.dr_run_ask.specs.declared.fault.AskFault.TheVariants.{NoConnection, N
 use Rattle.dr_run_ask.specs.declared.fault.AskFault.TheVariants.{NoNodesAnswer, OtherNode}
 use Rattle.dr_run_ask.specs.declared.fault.AskFault.TheVariants.{OtherPlan, NoRequest, Host}
 use Rattle.dr_run_ask.specs.declared.fault.AskFault.TheVariants.{Unknown, Closed, Token, NoHop}
-use Rattle.dr_run_ask.specs.declared.fault.AskFault.TheVariants.{NotHeld, NotOver, Store, Memory}
+use Rattle.dr_run_ask.specs.declared.fault.AskFault.TheVariants.{Shrunk, NotHeld, NotOver, Store}
+use Rattle.dr_run_ask.specs.declared.fault.AskFault.TheVariants.{Memory}
+use Rattle.dr_run_ask.specs.declared.fault.AskFault.TheVariants.{OwnFile, IsThere, NoPath, Busy}
+use Rattle.dr_run_ask.specs.declared.fault.AskFault.TheVariants.{GivenUp, NoCopy}
 
 -- the answer's first line is of the node of that name, and, where it tells the digest of its plan,
 -- of that plan
@@ -52,8 +55,15 @@ name_told Unknown = Some (codes "Path")
 name_told Closed = Some (codes "Closed")
 name_told Token = Some (codes "Token")
 name_told NoHop = Some (codes "Hop")
+name_told Shrunk = None
 name_told NotHeld = Some (codes "G5 NotHeld")
 name_told NotOver = Some (codes "G7 NotOver")
+name_told OwnFile = Some (codes "Q1 OwnFile")
+name_told IsThere = Some (codes "Q3 IsThere")
+name_told NoPath = Some (codes "Q4 NoPath")
+name_told Busy = Some (codes "Q5 Busy")
+name_told GivenUp = Some (codes "Q6 GivenUp")
+name_told NoCopy = Some (codes "Q7 NoCopy")
 name_told Store = Some (codes "G3 Store")
 name_told Memory = Some (codes "Memory")
 

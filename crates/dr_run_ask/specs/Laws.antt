@@ -6,8 +6,8 @@ use Rattle.dr_run_request.specs.Asking as asked
 use Rattle.dr_run_request.specs.declared.route.Route.{Route}
 use Rattle.dr_run_request.specs.declared.route.Route.TheVariants as routes
 use Rattle.dr_run_request.specs.Forms.{value_in}
-use Rattle.dr_run_ask.specs.Calls.{dest_form, is_act, method_of, path_of, reason_form, row_form}
-use Rattle.dr_run_ask.specs.Calls.{rows_form, uid_form}
+use Rattle.dr_run_ask.specs.Calls.{copy_form, dest_form, is_act, method_of, path_of, reason_form}
+use Rattle.dr_run_ask.specs.Calls.{row_form, rows_form, uid_form}
 use Rattle.dr_run_ask.specs.declared.call.HttpCall.{HttpCall}
 use Rattle.dr_run_ask.specs.declared.call.HttpCall.TheVariants as calls
 
@@ -24,10 +24,12 @@ CallsAreRoutes =
     IsOfRoute calls.Status routes.Status
     × IsOfRoute calls.Stop routes.Stop
     × ((form : Bor (List ℕ)) → IsOfRoute (calls.Rows form) routes.Rows)
+    × ((form : Bor (List ℕ)) → IsOfRoute (calls.Journal form) routes.Journal)
     × ((form : Bor (List ℕ)) → IsOfRoute (calls.Requeue form) routes.Requeue)
     × ((form : Bor (List ℕ)) → IsOfRoute (calls.GiveUp form) routes.GiveUp)
     × ((form : Bor (List ℕ)) → IsOfRoute (calls.Forget form) routes.Forget)
     × ((form : Bor (List ℕ)) → IsOfRoute (calls.Visit form) routes.Visit)
+    × ((form : Bor (List ℕ)) → IsOfRoute (calls.Backup form) routes.Backup)
 
 -- a text is of bytes
 abbrev pub AreBytes : Text → Type 0
@@ -55,3 +57,4 @@ FormsAreRead =
     → (value_in (dest_form dest) (codes "uid") ≡ None)
     × (value_in (dest_form dest) (codes "dest") ≡ Some dest))
     × ((uid : Text) → AreBytes uid → value_in (uid_form uid) (codes "uid") ≡ Some uid)
+    × ((path : Text) → AreBytes path → value_in (copy_form path) (codes "copy") ≡ Some path)

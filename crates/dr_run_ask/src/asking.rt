@@ -90,7 +90,7 @@ fn test_plan(value: &Value, digest: &Text) -> Result<(), AskFault>
 /// Whether the answer's first line is of the node that is meant.
 ///
 /// Errors: OtherNode, OtherPlan, NoNodesAnswer, Memory.
-fn judge(alloc: Global, answer: &HttpAnswer, meant: Meant<'_>) -> Result<(), AskFault>
+pub fn judge(alloc: Global, answer: &HttpAnswer, meant: Meant<'_>) -> Result<(), AskFault>
     ensures { IfOk result
         (λ _. IsOf meant.entry.name.now meant.entry.digest.now answer.now.body.items) }
 {
@@ -141,11 +141,39 @@ fn ledger_fault(name: &[u8]) -> Option<AskFault>
     None
 }
 
+/// Why it doesn't copy its ledger, by that name.
+fn copy_fault(name: &[u8]) -> Option<AskFault>
+    ensures { IfSome result (λ fault. name_told fault ≡ Some name.now) }
+{
+    if is_same(name, b"Q1 OwnFile") {
+        return Some(AskFault::OwnFile);
+    }
+    if is_same(name, b"Q3 IsThere") {
+        return Some(AskFault::IsThere);
+    }
+    if is_same(name, b"Q4 NoPath") {
+        return Some(AskFault::NoPath);
+    }
+    if is_same(name, b"Q5 Busy") {
+        return Some(AskFault::Busy);
+    }
+    if is_same(name, b"Q6 GivenUp") {
+        return Some(AskFault::GivenUp);
+    }
+    if is_same(name, b"Q7 NoCopy") {
+        return Some(AskFault::NoCopy);
+    }
+    None
+}
+
 /// The fault of that name.
 fn fault_named(name: &[u8]) -> AskFault
     ensures { (result ≡ faults.NoNodesAnswer) ⊎ (name_told result ≡ Some name.now) }
 {
     if let Some(fault) = request_fault(name) {
+        return fault;
+    }
+    if let Some(fault) = copy_fault(name) {
         return fault;
     }
     match ledger_fault(name) {

@@ -1,6 +1,8 @@
 //! What a node that runs is asked and told.
 ghost use Rattle.std.specs.Prelude.{◌≡◌, IfOk, string_bytes};
-ghost use Rattle.dr_run_ask.specs.Calls.{dest_form, form_of, is_act, method_of, path_of};
+ghost use Rattle.dr_run_ask.specs.Calls.{copy_form, dest_form, form_of, is_act, journal_form};
+ghost use Rattle.dr_run_ask.specs.Calls.{method_of};
+ghost use Rattle.dr_run_ask.specs.Calls.{path_of};
 ghost use Rattle.dr_run_ask.specs.Calls.{reason_form, route_of, row_form, rows_form, uid_form};
 
 use dr_run_request::Route;
@@ -15,6 +17,8 @@ pub enum HttpCall<'a> {
     Status,
     /// The rows to a node, behind a UID.
     Rows(&'a str),
+    /// Lines of its journal, behind a number.
+    Journal(&'a str),
     /// To queue held rows again.
     Requeue(&'a str),
     /// To give a held row up.
@@ -23,6 +27,8 @@ pub enum HttpCall<'a> {
     Forget(&'a str),
     /// To visit a node now.
     Visit(&'a str),
+    /// To copy its ledger.
+    Backup(&'a str),
     /// To end in order.
     Stop,
 }
@@ -35,10 +41,12 @@ impl<'a> HttpCall<'a> {
         match self {
             HttpCall::Status => Route::Status,
             HttpCall::Rows(_) => Route::Rows,
+            HttpCall::Journal(_) => Route::Journal,
             HttpCall::Requeue(_) => Route::Requeue,
             HttpCall::GiveUp(_) => Route::GiveUp,
             HttpCall::Forget(_) => Route::Forget,
             HttpCall::Visit(_) => Route::Visit,
+            HttpCall::Backup(_) => Route::Backup,
             HttpCall::Stop => Route::Stop,
         }
     }
@@ -65,6 +73,7 @@ impl<'a> HttpCall<'a> {
             HttpCall::Status | HttpCall::Stop => "",
             HttpCall::Rows(form) | HttpCall::Requeue(form) | HttpCall::GiveUp(form) => form,
             HttpCall::Forget(form) | HttpCall::Visit(form) => form,
+            HttpCall::Journal(form) | HttpCall::Backup(form) => form,
         }
     }
 
@@ -112,11 +121,31 @@ pub fn uid_form(alloc: Global, uid: &str) -> Result<String, AllocError>
     Ok(form.finish())
 }
 
+/// The form of a copy, by its path.
+pub fn copy_form(alloc: Global, path: &str) -> Result<String, AllocError>
+    ensures { IfOk result (λ form. string_bytes form ≡ copy_form path.now) }
+{
+    let mut form = Serializer::new(String::new(alloc));
+    form.extend_pairs(&[("copy", path)])?;
+    Ok(form.finish())
+}
+
 /// The form of the rows to a node behind a UID.
 pub fn rows_form(alloc: Global, dest: &str, after: &str) -> Result<String, AllocError>
     ensures { IfOk result (λ form. string_bytes form ≡ rows_form dest.now after.now) }
 {
     let mut form = Serializer::new(String::new(alloc));
     form.extend_pairs(&[("dest", dest), ("after", after)])?;
+    Ok(form.finish())
+}
+
+/// The form of the lines of a journal behind a number.
+pub fn journal_form(alloc: Global, after: u64) -> Result<String, AllocError>
+    ensures { IfOk result (λ form. string_bytes form ≡ journal_form after) }
+{
+    let mut digits = itoa::Buffer::new();
+    let after = digits.format(after);
+    let mut form = Serializer::new(String::new(alloc));
+    form.extend_pairs(&[("after", after)])?;
     Ok(form.finish())
 }

@@ -1,5 +1,5 @@
 //! Why a node that runs doesn't do what it is asked or told.
-use std::alloc::AllocError;
+use std::alloc::{AllocError, AllocFailed};
 use std::fmt;
 use std::fmt::{Display, Formatter};
 
@@ -28,10 +28,24 @@ pub enum AskFault {
     Token,
     /// The node sends nothing to the one that it is to visit.
     NoHop,
+    /// The node's journal has fewer lines than it told before.
+    Shrunk,
     /// The row isn't held.
     NotHeld,
     /// The instance isn't over.
     NotOver,
+    /// The path of the copy is one that a ledger takes.
+    OwnFile,
+    /// Something is at the path of the copy.
+    IsThere,
+    /// The path of the copy doesn't begin at the root, or is no text.
+    NoPath,
+    /// The node is making another copy.
+    Busy,
+    /// Calls at the node would wait too long for the copy, or the node ends.
+    GivenUp,
+    /// The node couldn't read or write a file of the copy.
+    NoCopy,
     /// The node's store failed.
     Store,
     /// There was no memory.
@@ -45,6 +59,17 @@ impl From<AllocError> for AskFault {
     ghost from_gives = { λ _ e. e ≡ Memory };
 
     fn from(_: AllocError) -> AskFault {
+        AskFault::Memory
+    }
+}
+
+impl<T: Drop> From<AllocFailed<T>> for AskFault {
+    ghost use Rattle.std.specs.Prelude.{◌≡◌};
+    ghost use Rattle.dr_run_ask.specs.declared.fault.AskFault.TheVariants.{Memory};
+
+    ghost from_gives = { λ _ e. e ≡ Memory };
+
+    fn from(_: AllocFailed<T>) -> AskFault {
         AskFault::Memory
     }
 }
@@ -64,8 +89,15 @@ impl AskFault {
             AskFault::Closed => "H9 Closed",
             AskFault::Token => "H10 Token",
             AskFault::NoHop => "H11 NoHop",
+            AskFault::Shrunk => "H12 Shrunk",
             AskFault::NotHeld => "G5 NotHeld",
             AskFault::NotOver => "G7 NotOver",
+            AskFault::OwnFile => "Q1 OwnFile",
+            AskFault::IsThere => "Q3 IsThere",
+            AskFault::NoPath => "Q4 NoPath",
+            AskFault::Busy => "Q5 Busy",
+            AskFault::GivenUp => "Q6 GivenUp",
+            AskFault::NoCopy => "Q7 NoCopy",
             AskFault::Store => "G3 Store",
             AskFault::Memory => "Memory",
         }

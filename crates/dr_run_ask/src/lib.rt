@@ -16,8 +16,10 @@ mod lines;
 mod request;
 
 pub use answer::{HttpAnswer, MOST, answer_in};
-pub use asking::{Asks, Meant, refusal, see, tell};
-pub use call::{HttpCall, dest_form, reason_form, row_form, rows_form, uid_form};
+pub use asking::{Asks, Meant, judge, refusal, see, tell};
+pub use call::{
+    HttpCall, copy_form, dest_form, journal_form, reason_form, row_form, rows_form, uid_form,
+};
 pub use fault::AskFault;
-pub use lines::{first_value, number_at, text_at, value_of};
+pub use lines::{first_value, flag_at, number_at, text_at, value_of};
 pub use request::request_bytes;

@@ -1,5 +1,6 @@
 -- What is told of a request.
 use Rattle.std.proofs.Common.{◌≡◌, inl, inr, ℕ, List, refl, sym, ◌∙◌, ap, arith, Result, Ok, Err}
+use Rattle.http.specs.Request.{body_of}
 use Rattle.http.specs.declared.request.Request.{Request}
 use Rattle.dr_base.specs.Texts.{Text}
 use Rattle.dr_desk.specs.Receipts.{LeavesReceipts, Notes}
@@ -10,9 +11,9 @@ use Rattle.dr_ledger.specs.Books.{Book, Line}
 use Rattle.dr_ledger.specs.declared.fault.LedgerFault.{LedgerFault}
 use Rattle.dr_ledger.specs.declared.fault.LedgerFault.TheVariants as ledger
 use Rattle.dr_run_answer.specs.Answers.{done_line, fault_line}
-use Rattle.dr_run_control.specs.Consoles.{Acts, Answers, Misreads, NotesIf, Tells}
+use Rattle.dr_run_control.specs.Consoles.{Acts, Answers, Copying, Misreads, NotesIf, Tells, TellsCopy}
 use Rattle.dr_run_control.specs.Laws.{Does, DoneWasDone, ElseNothing}
-use Rattle.dr_run_control.specs.Replies.{IsToldIn, line_of_answer, name_of_form, name_of_refusal, status_of_answer, status_of_fault, status_of_form}
+use Rattle.dr_run_control.specs.Replies.{IsToldIn, line_of_answer, line_of_backup, name_of_form, name_of_refusal, status_of_answer, status_of_fault, status_of_form}
 use Rattle.dr_run_open.specs.declared.hops.NextHop.{NextHop}
 use Rattle.dr_run_request.specs.Orders.{IsAsked}
 use Rattle.dr_run_request.specs.declared.admission.Access.{Access}
@@ -69,18 +70,25 @@ module _ {L : Type 0} (site_of : L → Part) (book : L → Book) (stands : L →
   tells_on hops asked given status written text body count now receipts kept w t (inr m) =
       inr (record { why = m.why; misreads = m.misreads; status_is = w ∙ m.status_is; told = told_on (fault_line (name_of_form m.why)) text body m.told t; leaves = m.leaves })
 
+  copied_on : (copies : Copying) (given : Text) (status written : ℕ) (text body : Text) → written ≡ status → IsToldIn text body → TellsCopy copies given status text → TellsCopy copies given written body
+  copied_on copies given status written text body w t (inl (path, came, names, is, status_is, told)) =
+      inl (path, came, names, is, w ∙ status_is, told_on (line_of_backup came) text body told t)
+  copied_on copies given status written text body w t (inr (why, none, status_is, told)) =
+      inr (why, none, w ∙ status_is, told_on (fault_line (name_of_form why)) text body told t)
+
   -- the answer as it is written
-  pub answers_on : (access : Access) (browser : Option Browser) (hops : List NextHop) (request : Request (List ℕ)) (status written : ℕ) (text body : Text) (count now : ℕ) (receipts kept : List Receipt) → written ≡ status → IsToldIn text body
-      → Answers site_of book stands failed own first access browser hops request status text count receipts now kept → Answers site_of book stands failed own first access browser hops request written body count receipts now kept
-  answers_on access browser hops request status written text body count now receipts kept w t (inl h) =
+  pub answers_on : (copies : Copying) (access : Access) (browser : Option Browser) (hops : List NextHop) (request : Request (List ℕ)) (status written : ℕ) (text body : Text) (count now : ℕ) (receipts kept : List Receipt) → written ≡ status → IsToldIn text body
+      → Answers site_of book stands failed own first copies access browser hops request status text count receipts now kept → Answers site_of book stands failed own first copies access browser hops request written body count receipts now kept
+  answers_on copies access browser hops request status written text body count now receipts kept w t (inl h) =
       inl (record { why = h.why; admits = h.admits; status_is = w ∙ h.status_is; told = told_on (fault_line (name_of_refusal h.why)) text body h.told t; leaves = h.leaves })
-  answers_on access browser hops request status written text body count now receipts kept w t (inr (inl (asked, gives, admits, tells))) =
+  answers_on copies access browser hops request status written text body count now receipts kept w t (inr (inl (asked, gives, admits, tells))) =
       inr (inl (asked, gives, admits, tells_on hops asked _ status written text body count now receipts kept w t tells))
-  answers_on access browser hops request status written text body count now receipts kept w t (inr (inr h)) = inr (inr (record {
+  answers_on copies access browser hops request status written text body count now receipts kept w t (inr (inr h)) = inr (inr (record {
     asked = h.asked;
     admits = h.admits;
     other = h.other;
     stops = λ stop. (w ∙ (h.stops stop).0, told_on done_line text body (h.stops stop).1 t);
+    copied = λ copy. copied_on copies (body_of request) status written text body w t (h.copied copy);
     leaves = h.leaves;
   }))
 

@@ -28,9 +28,12 @@ use Rattle.dr_run_answer.specs.declared.json.Queue.{Queue}
 use Rattle.dr_run_answer.specs.declared.json.Visited.{Visited}
 use Rattle.dr_run_answer.specs.declared.json.Visits.{Visits}
 use Rattle.dr_run_control.specs.Replies.{IsToldIn, line_of_answer, name_of_form, name_of_refusal}
-use Rattle.dr_run_control.specs.Replies.{status_of_answer, status_of_form, status_of_refusal}
+use Rattle.dr_run_control.specs.Replies.{line_of_backup, status_of_answer, status_of_backup}
+use Rattle.dr_run_control.specs.Replies.{status_of_form, status_of_refusal}
+use Rattle.dr_run_backup.specs.declared.fault.BackupFault.{BackupFault}
 use Rattle.dr_run_open.specs.declared.hops.NextHop.{NextHop}
 use Rattle.dr_run_request.specs.Asking.{AdmitsRequest}
+use Rattle.dr_run_request.specs.Forms.{value_in}
 use Rattle.dr_run_request.specs.Orders.{IsAsked}
 use Rattle.dr_run_request.specs.declared.admission.Access.{Access}
 use Rattle.dr_run_request.specs.declared.admission.Refused.{Refused}
@@ -50,12 +53,14 @@ gives_order route.Page = false
 gives_order route.Status = false
 gives_order route.Rows = false
 gives_order route.Instance = false
+gives_order route.Journal = false
 gives_order route.Metrics = false
 gives_order route.Health = false
 gives_order route.Requeue = true
 gives_order route.GiveUp = true
 gives_order route.Forget = true
 gives_order route.Visit = true
+gives_order route.Backup = false
 gives_order route.Stop = false
 
 -- why a form isn't understood: it orders nothing, or there was no memory
@@ -113,15 +118,34 @@ pub record IsRefused (access : Access) (browser : Option Browser) (request : Req
   pub told : IsToldIn (fault_line (name_of_refusal why)) text
   pub leaves : LeavesReceipts count receipts now kept
 
+-- what may have come of a copy to that path
+abbrev pub Copying : Type 1
+Copying = Text → Result (Unit {0}) BackupFault → Type 0
+
+-- A copy is asked for by a form: what came of the one to the path that it names is told; or it
+-- names none, or there was no memory.
+abbrev pub TellsCopy : Copying → Text → ℕ → Text → Type 0
+TellsCopy copies form status text =
+    ((path : Text) × (came : Result (Unit {0}) BackupFault)
+    × (value_in form (codes "copy") ≡ Some path)
+    × copies path came
+    × (status ≡ status_of_backup came)
+    × IsToldIn (line_of_backup came) text)
+    ⊎ ((why : FormFault)
+    × (why ≡ fault.Field → (path : Text) → value_in form (codes "copy") ≡ Some path → ⊥)
+    × (status ≡ status_of_form why)
+    × IsToldIn (fault_line (name_of_form why)) text)
+
 -- No order is given: to no row anything is done. Where the node is told to end, the answer says
--- that this is done.
-pub record IsLooked (access : Access) (browser : Option Browser) (request : Request (List ℕ))
-    (status : ℕ) (text : Text)
+-- that this is done; where it is to copy its ledger, what came of that.
+pub record IsLooked (copies : Copying) (access : Access) (browser : Option Browser)
+    (request : Request (List ℕ)) (status : ℕ) (text : Text)
     (count : ℕ) (receipts : List Receipt) (now : ℕ) (kept : List Receipt) : Type 0 where
   pub asked : Route
   pub admits : AdmitsRequest access browser (head_of request) (body_of request) (Ok asked)
   pub other : gives_order asked ≡ false
   pub stops : asked ≡ route.Stop → (status ≡ 200) × IsToldIn done_line text
+  pub copied : asked ≡ route.Backup → TellsCopy copies (body_of request) status text
   pub leaves : LeavesReceipts count receipts now kept
 
 -- Who is to be visited is none to whom this node sends: nothing is done.
@@ -201,15 +225,15 @@ module _ {L : Type 0} (site_of : L → Part) (book : L → Book) (stands : L →
 
   -- What comes of a request at a pass of the desk: it mayn't be asked; it gives an order, and that
   -- is done, or it is said why not; or it gives none.
-  abbrev pub Answers : Access → Option Browser → List NextHop → Request (List ℕ) → ℕ → Text
-      → ℕ → List Receipt → ℕ → List Receipt → Type 0
-  Answers access browser hops request status text count receipts now kept =
+  abbrev pub Answers : Copying → Access → Option Browser → List NextHop → Request (List ℕ)
+      → ℕ → Text → ℕ → List Receipt → ℕ → List Receipt → Type 0
+  Answers copies access browser hops request status text count receipts now kept =
       IsRefused access browser request status text count receipts now kept
       ⊎ (((asked : Route)
       × (gives_order asked ≡ true)
       × AdmitsRequest access browser (head_of request) (body_of request) (Ok asked)
       × Tells hops asked (body_of request) status text count receipts now kept)
-      ⊎ IsLooked access browser request status text count receipts now kept)
+      ⊎ IsLooked copies access browser request status text count receipts now kept)
 
 -- the figures of a queue are those that were counted of the rows to its node, and its visits are
 -- those that are known

@@ -4,6 +4,9 @@ use Rattle.dr_base.specs.Texts.{Text}
 use Rattle.dr_ledger.specs.declared.fault.LedgerFault.{LedgerFault}
 use Rattle.dr_ledger.specs.declared.fault.LedgerFault.TheVariants as ledger
 use Rattle.dr_run_answer.specs.Answers.{done_line, fault_line}
+use Rattle.dr_run_backup.specs.Faults.{name_of_copy}
+use Rattle.dr_run_backup.specs.declared.fault.BackupFault.{BackupFault}
+use Rattle.dr_run_backup.specs.declared.fault.BackupFault.TheVariants as copy
 use Rattle.dr_run_open.specs.Codes.{code_of}
 use Rattle.dr_run_request.specs.declared.admission.Refused.{Refused}
 use Rattle.dr_run_request.specs.declared.admission.Refused.TheVariants as refused
@@ -34,6 +37,17 @@ status_of_fault ledger.NotOver = 409
 status_of_fault ledger.Store = 503
 status_of_fault ledger.Memory = 503
 
+-- the status of a copy that wasn't made: its path is none, or it is in conflict with what is there
+-- or goes on, or it may be better later
+abbrev pub status_of_copy : BackupFault → ℕ
+status_of_copy copy.NoPath = 400
+status_of_copy copy.OwnFile = 409
+status_of_copy copy.IsThere = 409
+status_of_copy copy.Busy = 409
+status_of_copy copy.GivenUp = 503
+status_of_copy (copy.NoCopy error) = 503
+status_of_copy copy.Memory = 503
+
 -- the name of a refusal
 abbrev pub name_of_refusal : Refused → Text
 name_of_refusal refused.Host = codes "Host"
@@ -58,6 +72,15 @@ status_of_answer (Err why) = status_of_fault why
 abbrev pub line_of_answer : Result (Unit {0}) LedgerFault → Text
 line_of_answer (Ok done) = done_line
 line_of_answer (Err why) = fault_line (code_of why)
+
+-- the status by which what came of a copy is told, and the line
+abbrev pub status_of_backup : Result (Unit {0}) BackupFault → ℕ
+status_of_backup (Ok done) = 200
+status_of_backup (Err why) = status_of_copy why
+
+abbrev pub line_of_backup : Result (Unit {0}) BackupFault → Text
+line_of_backup (Ok done) = done_line
+line_of_backup (Err why) = fault_line (name_of_copy why)
 
 -- the text is that line; or it is none, where there was no memory for it
 abbrev pub IsToldIn : Text → Text → Type 0

@@ -1,14 +1,16 @@
 //! A service that answers requests of a node's control connection.
 ghost use Rattle.std.specs.List.{list_any};
 ghost use Rattle.std.specs.Prelude.{◌≡◌, ◌↔◌, IsTrue, codes};
+ghost use Rattle.http.specs.Request.{body_of};
 ghost use Rattle.dr_run_answer.specs.Answers.{done_line, fault_line};
 ghost use Rattle.dr_run_control.specs.Consoles.{Answers, Comes, Goes, Tells, gives_order};
-ghost use Rattle.dr_run_control.specs.Consoles.{goes_to};
-ghost use Rattle.dr_run_control.specs.Replies.{IsToldIn, line_of_answer, status_of_answer};
+ghost use Rattle.dr_run_control.specs.Consoles.{TellsCopy, goes_to};
+ghost use Rattle.dr_run_control.specs.Replies.{IsToldIn, line_of_answer, line_of_backup};
+ghost use Rattle.dr_run_control.specs.Replies.{status_of_answer, status_of_backup};
 ghost use Rattle.dr_run_request.specs.declared.route.Route.TheVariants as RouteValue;
 
 use crate::reads::{DeskClerk, NodeReader, ServingSince};
-use crate::reply::{HttpReply, Media, misread, refusal, refused_by_ledger, respond};
+use crate::reply::{HttpReply, Media, misread, refusal, refused_by_ledger, respond, uncopied};
 use bytes::Bytes;
 use dr_base::Text;
 use dr_desk::{Pass, SharedDesk, Sharing};
@@ -16,9 +18,10 @@ use dr_ledger::LedgerFault;
 use dr_ledger_timed::Timing;
 use dr_ledger_views::Views;
 use dr_run_answer::{Brought, OpenAssociation, Recent, ResponseCount, Visited, Visits, put_done};
+use dr_run_backup::BackupFault;
 use dr_run_open::NextHop;
 use dr_run_request::{
-    Access, Browser, Order, Refused, Route, admit, is_of_page, order_of, reason_of,
+    Access, Browser, Order, Refused, Route, admit, copy_of, is_of_page, order_of, reason_of,
 };
 use dr_session::Clock;
 use http::{Request, StatusCode};
@@ -41,6 +44,19 @@ pub struct Around {
 /// The node around the desk: it is told of what is done there, and tells what the desk doesn't
 /// know.
 pub trait House {
+    ghost use Rattle.std.specs.Prelude.{ℕ, List, Result};
+    ghost use Rattle.dr_run_backup.specs.declared.fault.BackupFault.{BackupFault as FaultValue};
+
+    // What came of a copy of the ledger to that path.
+    ghost copies: { Self → List ℕ → Result (Unit {0}) FaultValue → Type 0 };
+
+    /// Copies the node's ledger to that path. All calls of the desk may wait meanwhile, so none may
+    /// be under way.
+    ///
+    /// Errors: those of `BackupFault`.
+    fn back_up(&self, path: &Text) -> Result<(), BackupFault>
+        ensures { copies self.now path.now result };
+
     /// An order was done, or refused by the ledger; with the reason that was given for it.
     fn acted(&self, order: &Order, reason: Option<&Text>, fault: Option<LedgerFault>);
 
@@ -59,6 +75,9 @@ pub trait House {
     /// Whether rows to a node may wait that aren't noted; from now on that is known to the one who
     /// asks.
     fn lacks_rows(&self, dest: &Text) -> bool;
+
+    /// Rows to a node may wait that aren't noted.
+    fn doubt_rows(&self, dest: &Text);
 
     /// A row to a node waits, of an instance that came at that moment, or since the node serves
     /// where nobody knows. Where it is noted, the earlier moment stays.
@@ -147,6 +166,17 @@ fn nowhere(alloc: Global) -> HttpReply
     HttpReply::of_fault(alloc, StatusCode::NOT_FOUND, "Hop")
 }
 
+/// The reply to what came of a copy.
+fn told_of_copy(alloc: Global, came: Result<(), BackupFault>) -> HttpReply
+    ensures status { result.status ≡ status_of_backup came }
+    ensures text { IsToldIn (line_of_backup came) result.text.items }
+{
+    match came {
+        Ok(()) => done(alloc),
+        Err(fault) => uncopied(alloc, fault),
+    }
+}
+
 /// Whether the node sends to that one.
 fn is_hop(hops: &[NextHop], dest: &Text) -> bool
     ensures { result ≡ list_any (goes_to dest.now) hops.now }
@@ -173,8 +203,8 @@ fn gives_order(route: Route) -> bool
 {
     match route {
         Route::Requeue | Route::GiveUp | Route::Forget | Route::Visit => true,
-        Route::Page | Route::Status | Route::Rows | Route::Instance | Route::Metrics => false,
-        Route::Health | Route::Stop => false,
+        Route::Page | Route::Status | Route::Rows | Route::Instance | Route::Journal => false,
+        Route::Metrics | Route::Health | Route::Backup | Route::Stop => false,
     }
 }
 
@@ -206,10 +236,24 @@ impl<'a, R: Wait, L: Views, B: Sharing, C: Clock, H: House> Console<'a, R, L, B,
         }
     }
 
+    /// Copies the ledger to the path that a form names.
+    fn back_up(&self, form: &[u8]) -> HttpReply
+        ensures { TellsCopy (H.copies self.now.house.now) form.now result.status
+            result.text.items }
+    {
+        match copy_of(self.alloc, form) {
+            Ok(path) => told_of_copy(self.alloc, self.house.back_up(&path)),
+            Err(fault) => misread(self.alloc, fault),
+        }
+    }
+
     /// The reply to what changes no row.
     fn look(&self, route: Route, request: &Request<Bytes>) -> HttpReply
-        ensures { route ≡ RouteValue.Stop
+        ensures stops { route ≡ RouteValue.Stop
             → (result.status ≡ 200) × IsToldIn done_line result.text.items }
+        ensures copied { route ≡ RouteValue.Backup
+            → TellsCopy (H.copies self.now.house.now) (body_of request.now) result.status
+            result.text.items }
     {
         let (version, since) = (self.version, self.since);
         let node = self.reader();
@@ -217,8 +261,10 @@ impl<'a, R: Wait, L: Views, B: Sharing, C: Clock, H: House> Console<'a, R, L, B,
             Route::Page => node.read_page(since, self.browser),
             Route::Rows => node.clerk.read_rows(query_of(request)),
             Route::Instance => node.clerk.read_instance(request.uri().path()),
+            Route::Journal => node.clerk.read_journal(query_of(request)),
             Route::Status => node.read_status(ServingSince { version, since }),
             Route::Metrics => node.read_figures(),
+            Route::Backup => self.back_up(request.body().as_slice()),
             Route::Stop => {
                 self.house.stop();
                 done(self.alloc)
@@ -268,6 +314,7 @@ impl<'a, R: Wait, L: Views, B: Sharing, C: Clock, H: House> Console<'a, R, L, B,
     /// The reply to a request: an order is done where it may, and what mayn't is refused.
     fn answer(&mut self, request: &Request<Bytes>) -> HttpReply
         ensures answers { Answers L.site L.book L.stands L.failed B.site B.first
+            (H.copies self.old.house.now)
             self.old.access.now self.old.browser.now self.old.hops.now request.now
             result.status result.text.items
             self.old.pass.now.made.count self.old.pass.now.receipts.items
@@ -295,7 +342,7 @@ impl<'a, R: Wait, L: Views, B: Sharing, C: Clock, H: House> Service for Console<
     ghost use Rattle.dr_run_control.specs.Consoles.{Answers};
 
     ghost answers = { λ s request response t.
-        Answers L.site L.book L.stands L.failed B.site B.first
+        Answers L.site L.book L.stands L.failed B.site B.first (H.copies s.house.now)
         s.access.now s.browser.now s.hops.now request response.status response.body.items
         s.pass.now.made.count s.pass.now.receipts.items
         t.pass.now.made.count t.pass.now.receipts.items

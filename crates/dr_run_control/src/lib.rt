@@ -10,6 +10,7 @@
 mod access;
 mod acts;
 mod console;
+mod journal;
 pub mod laws;
 mod page;
 mod reads;

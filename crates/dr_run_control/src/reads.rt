@@ -213,7 +213,7 @@ pub(crate) struct ServingSince<'a> {
 }
 
 /// A digest in lower-case hexadecimal digits.
-fn digits_of(alloc: Global, digest: &[u8; 32]) -> Result<String, AllocError>
+pub(crate) fn digits_of(alloc: Global, digest: &[u8; 32]) -> Result<String, AllocError>
     ensures { IfOk result (λ digits. string_bytes digits ≡ encode_lower digest.now) }
 {
     hex::encode(alloc, digest.as_slice())

@@ -3,13 +3,16 @@ ghost use Rattle.std.specs.Prelude.{◌≡◌, ◌++◌, [], IsTrue, Ok, OnOk};
 ghost use Rattle.http_header.specs.FieldName.{is_header_name};
 ghost use Rattle.http_header.specs.FieldValue.{is_visible_text};
 ghost use Rattle.dr_run_answer.specs.Answers.{fault_line};
+ghost use Rattle.dr_run_backup.specs.Faults.{name_of_copy};
 ghost use Rattle.dr_run_open.specs.Codes.{code_of};
 ghost use Rattle.dr_run_control.specs.Replies.{IsToldIn, name_of_form, name_of_refusal};
-ghost use Rattle.dr_run_control.specs.Replies.{status_of_fault, status_of_form, status_of_refusal};
+ghost use Rattle.dr_run_control.specs.Replies.{status_of_copy, status_of_fault, status_of_form};
+ghost use Rattle.dr_run_control.specs.Replies.{status_of_refusal};
 
 use bytes::Bytes;
 use dr_ledger::LedgerFault;
 use dr_run_answer::put_fault;
+use dr_run_backup::BackupFault;
 use dr_run_open::code_of;
 use dr_run_request::{FormFault, Refused};
 use http::{HeaderName, HeaderValue, StatusCode};
@@ -160,6 +163,27 @@ pub(crate) fn refused_by_ledger(alloc: Global, fault: LedgerFault) -> HttpReply
     ensures text { IsToldIn (fault_line (code_of fault)) result.text.items }
 {
     HttpReply::of_fault(alloc, status_of_fault(fault), code_of(fault))
+}
+
+/// The status of a copy that wasn't made.
+fn status_of_copy(fault: BackupFault) -> StatusCode
+    ensures { result ≡ status_of_copy fault }
+{
+    match fault {
+        BackupFault::NoPath => StatusCode::BAD_REQUEST,
+        BackupFault::OwnFile | BackupFault::IsThere | BackupFault::Busy => StatusCode::CONFLICT,
+        BackupFault::GivenUp | BackupFault::NoCopy(_) | BackupFault::Memory => {
+            StatusCode::SERVICE_UNAVAILABLE
+        }
+    }
+}
+
+/// The reply where no copy was made.
+pub(crate) fn uncopied(alloc: Global, fault: BackupFault) -> HttpReply
+    ensures status { result.status ≡ status_of_copy fault }
+    ensures text { IsToldIn (fault_line (name_of_copy fault)) result.text.items }
+{
+    HttpReply::of_fault(alloc, status_of_copy(fault), fault.name())
 }
 
 /// Adds a field.

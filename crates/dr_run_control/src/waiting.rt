@@ -58,6 +58,17 @@ impl<'a, R: Wait, L: Views, B: Sharing, H: House> NodeReader<'a, R, L, B, H> {
         Ok(())
     }
 
+    /// The same; where that fails, rows may still wait that aren't noted.
+    ///
+    /// Errors: Store, Memory.
+    fn note_again(&self, dest: &Text) -> Result<(), LedgerFault> {
+        let noted = self.note_all(dest);
+        if noted.is_err() {
+            self.house.doubt_rows(dest);
+        }
+        noted
+    }
+
     /// Whether a row waits.
     ///
     /// Errors: Store, Memory.
@@ -88,7 +99,7 @@ impl<'a, R: Wait, L: Views, B: Sharing, H: House> NodeReader<'a, R, L, B, H> {
     /// Errors: Store, Memory.
     pub(crate) fn waited(&self, dest: &Text) -> Result<Option<u64>, LedgerFault> {
         if self.house.lacks_rows(dest) {
-            self.note_all(dest)?;
+            self.note_again(dest)?;
         }
         match self.first_noted(dest)? {
             Some(moment) => Ok(Some(self.moment.saturating_sub(moment) / 1_000)),

@@ -18,6 +18,17 @@ IsTail tail =
 abbrev pub IsOwnName : Text → Text → Type 0
 IsOwnName database name = (tail : Text) × IsTail tail × (name ≡ database ++ tail)
 
+-- the name ends so
+abbrev pub EndsWith : Text → Text → Type 0
+EndsWith name end = (front : Text) × (name ≡ front ++ end)
+
+-- SQLite would take the name for the log, the index of the log or the journal of a rollback of the
+-- database that has the name before that
+abbrev pub IsBesideDatabase : Text → Type 0
+IsBesideDatabase name =
+    EndsWith name (codes "-wal")
+    ⊎ (EndsWith name (codes "-shm") ⊎ EndsWith name (codes "-journal"))
+
 -- such a name, also with `.new` behind it, as a file has it that is to take the other's place
 abbrev pub IsLedgerName : Text → Text → Type 0
 IsLedgerName database name =

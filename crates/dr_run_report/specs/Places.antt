@@ -1,4 +1,4 @@
--- Whether a report may take the place of what is at a path.
+-- Whether a report may take the place of what is at a path, and whether a copy may be made there.
 use Rattle.std.specs.Prelude.{◌≡◌, ◌⊎◌, List, Contains, Result, Ok, Err}
 use Rattle.dr_run_report.specs.Names.{IsLedgerName}
 use Rattle.dr_run_report.specs.declared.judging.FileId.{FileId}
@@ -6,7 +6,7 @@ use Rattle.dr_run_report.specs.declared.judging.PathTarget.{PathTarget}
 use Rattle.dr_run_report.specs.declared.judging.PathTarget.TheVariants.{Nothing, Report, Other}
 use Rattle.dr_run_report.specs.declared.judging.ReportPlace.{ReportPlace}
 use Rattle.dr_run_report.specs.declared.judging.ReportFault.{ReportFault}
-use Rattle.dr_run_report.specs.declared.judging.ReportFault.TheVariants.{OwnFile, NoReport}
+use Rattle.dr_run_report.specs.declared.judging.ReportFault.TheVariants.{OwnFile, NoReport, IsThere}
 use Rattle.dr_run_report.specs.declared.judging.Spot.{Spot}
 
 -- one of the files has this device and number
@@ -48,3 +48,15 @@ JudgesPlace ledgers files place (Ok done) = (IsOwn ledgers files place → ⊥) 
 JudgesPlace ledgers files place (Err OwnFile) = IsOwn ledgers files place
 JudgesPlace ledgers files place (Err NoReport) =
     (IsOwn ledgers files place → ⊥) × (HasRoom place.found → ⊥)
+JudgesPlace ledgers files place (Err IsThere) = ⊥
+
+-- What is answered of a place at which a file of a copy is to be made: it may just where the ledger
+-- doesn't take the name and nothing is there, not even a link. That the ledger takes it comes
+-- first.
+abbrev pub JudgesNew : List Spot → ReportPlace → Result (Unit {0}) ReportFault → Type 0
+JudgesNew ledgers place (Ok done) =
+    (IsTakenBy ledgers place.spot → ⊥) × (place.found ≡ Nothing)
+JudgesNew ledgers place (Err OwnFile) = IsTakenBy ledgers place.spot
+JudgesNew ledgers place (Err NoReport) = ⊥
+JudgesNew ledgers place (Err IsThere) =
+    (IsTakenBy ledgers place.spot → ⊥) × (place.found ≡ Nothing → ⊥)

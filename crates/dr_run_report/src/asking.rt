@@ -1,5 +1,6 @@
-//! What is asked of a file system before a report is written.
-use crate::judging::{FileId, ReportFault, ReportPlace, Spot, judge};
+//! What is asked of a file system before a report is written, or a copy is made.
+use crate::judging::{FileId, ReportFault, ReportPlace, Spot, judge, judge_new};
+use crate::names::is_beside_database;
 use std::alloc::{AllocError, Global};
 use std::io;
 use std::io::ErrorKind;
@@ -43,6 +44,10 @@ const TAILS: [&str; 10] = [
 /// and then.
 const ENDS: [&str; 2] = [".new", ""];
 
+/// What the files of a copy have behind its path: the database and its log, while they are written,
+/// and then.
+const COPY_ENDS: [&str; 4] = [".part", "-wal.part", "", "-wal"];
+
 /// A path with something behind it.
 fn path_of(alloc: Global, path: &str, tail: &str) -> Result<String, AllocError> {
     let mut whole = String::new(alloc);
@@ -56,6 +61,7 @@ fn error_of(fault: ReportFault) -> io::Error {
     match fault {
         ReportFault::OwnFile => io::Error::new(ErrorKind::InvalidInput, "Q1 OwnFile"),
         ReportFault::NoReport => io::Error::new(ErrorKind::InvalidInput, "Q2 NoReport"),
+        ReportFault::IsThere => io::Error::new(ErrorKind::InvalidInput, "Q3 IsThere"),
     }
 }
 
@@ -142,4 +148,49 @@ pub fn test_path<P: Paths>(
         }
     }
     Ok(())
+}
+
+/// Tests whether a file of a copy may be made at a path.
+///
+/// Errors: OwnFile, IsThere; those of the file system.
+fn test_new<P: Paths>(
+    alloc: Global,
+    paths: &P,
+    ledgers: &[Spot],
+    path: &str,
+) -> io::Result<Result<(), ReportFault>> {
+    let place = paths.place(alloc, path)?;
+    Ok(judge_new(ledgers, &place))
+}
+
+/// Whether a database of that path would be taken for the log of another.
+fn is_beside_another<P: Paths>(alloc: Global, paths: &P, path: &str) -> io::Result<bool> {
+    let place = paths.place(alloc, path)?;
+    Ok(is_beside_database(place.spot.name.as_bytes()))
+}
+
+/// Tests whether the ledger may be copied to a path: by `judge_new`, of each file that the copy
+/// takes, and of those that are written before. The path is no name that SQLite would take for a
+/// file beside another database.
+///
+/// Errors: OwnFile, IsThere; those of the file system, also where the copy's folder isn't there;
+/// want of memory.
+pub fn test_copy<P: Paths>(
+    alloc: Global,
+    paths: &P,
+    ledger: &str,
+    copy: &str,
+) -> io::Result<Result<(), ReportFault>> {
+    if is_beside_another(alloc, paths, copy)? {
+        return Ok(Err(ReportFault::OwnFile));
+    }
+    let databases = database_paths(alloc, paths, ledger)?;
+    let spots = spots_of(alloc, paths, databases.as_slice())?;
+    for end in COPY_ENDS {
+        let path = path_of(alloc, copy, end)?;
+        if let Err(fault) = test_new(alloc, paths, spots.as_slice(), path.as_str())? {
+            return Ok(Err(fault));
+        }
+    }
+    Ok(Ok(()))
 }

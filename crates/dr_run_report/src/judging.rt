@@ -1,7 +1,8 @@
 //! Whether a report may take the place of what is at a path.
 ghost use Rattle.std.specs.Prelude.{◌≡◌, ◌↔◌, IsTrue};
 ghost use Rattle.dr_run_report.specs.Places.{HasRoom, IsAmong, IsFileOf, IsOwn, IsTakenBy};
-ghost use Rattle.dr_run_report.specs.Places.{JudgesPlace, TakesName};
+ghost use Rattle.dr_run_report.specs.Places.{JudgesNew, JudgesPlace, TakesName};
+ghost use Rattle.dr_run_report.specs.declared.judging.PathTarget.TheVariants.{Nothing};
 
 use crate::names::is_ledger_name;
 use dr_base::Text;
@@ -41,7 +42,7 @@ pub struct ReportPlace {
     pub found: PathTarget,
 }
 
-/// Why a report can't be written to a path.
+/// Why a report, or a copy of the ledger, can't be written to a path.
 #[derive(Clone, Copy, PartialEq, Eq, Debug, Error)]
 pub enum ReportFault {
     /// The ledger takes the file or the name, or it is the plan or the certificate.
@@ -50,6 +51,9 @@ pub enum ReportFault {
     /// What is there isn't a report.
     #[error("Q2 NoReport")]
     NoReport,
+    /// Something is there, and a copy would take its place.
+    #[error("Q3 IsThere")]
+    IsThere,
 }
 
 fn is_id(this: &FileId, that: &FileId) -> bool
@@ -135,4 +139,30 @@ pub fn judge(ledgers: &[Spot], files: &[FileId], place: &ReportPlace) -> Result<
         return Ok(());
     }
     Err(ReportFault::NoReport)
+}
+
+/// Whether nothing was found.
+fn is_nothing(found: &PathTarget) -> bool
+    ensures { IsTrue result ↔ (found.now ≡ Nothing) }
+{
+    match found {
+        PathTarget::Nothing => true,
+        PathTarget::Report(_) | PathTarget::Other(_) => false,
+    }
+}
+
+/// Whether a file of a copy of the ledger may be made at the place: the ledger's database stands at
+/// these spots (as it is named, and where links lead).
+///
+/// Errors: OwnFile, IsThere.
+pub fn judge_new(ledgers: &[Spot], place: &ReportPlace) -> Result<(), ReportFault>
+    ensures { JudgesNew ledgers.now place.now result }
+{
+    if is_taken(ledgers, &place.spot) {
+        return Err(ReportFault::OwnFile);
+    }
+    if is_nothing(&place.found) {
+        return Ok(());
+    }
+    Err(ReportFault::IsThere)
 }

@@ -1,6 +1,7 @@
 //! The names that a ledger takes in the folder of its database.
 ghost use Rattle.std.specs.Prelude.{◌≡◌, ◌++◌, ◌↔◌, ℕ, List, IsTrue, MatchOption};
-ghost use Rattle.dr_run_report.specs.Names.{IsLedgerName, IsOwnName, IsTail};
+ghost use Rattle.dr_run_report.specs.Names.{EndsWith, IsBesideDatabase, IsLedgerName, IsOwnName};
+ghost use Rattle.dr_run_report.specs.Names.{IsTail};
 
 /// What follows the front, where the text begins with it.
 fn after<'a>(front: &[u8], text: &'a [u8]) -> Option<&'a [u8]>
@@ -75,4 +76,24 @@ pub fn is_ledger_name(database: &[u8], name: &[u8]) -> bool
         Some(front) => is_own_name(database, front),
         None => false,
     }
+}
+
+/// Whether a name ends so.
+fn ends_with(end: &[u8], name: &[u8]) -> bool
+    ensures { IsTrue result ↔ EndsWith name.now end.now }
+{
+    match before(end, name) {
+        Some(_) => true,
+        None => false,
+    }
+}
+
+/// Whether SQLite would take the name for a file beside some database: its log, the index of the
+/// log, or the journal of a rollback.
+pub fn is_beside_database(name: &[u8]) -> bool
+    ensures { IsTrue result ↔ IsBesideDatabase name.now }
+{
+    ends_with(b"-wal".as_slice(), name)
+        || ends_with(b"-shm".as_slice(), name)
+        || ends_with(b"-journal".as_slice(), name)
 }

@@ -15,8 +15,9 @@ use Rattle.dr_run_request.specs.declared.admission.Refused.TheVariants as refuse
 use Rattle.dr_run_request.specs.declared.browser.Browser.{Browser}
 use Rattle.dr_run_request.specs.declared.route.Route.{Route}
 use Rattle.dr_run_request.specs.declared.route.Route.TheVariants.{Page, Status, Rows, Instance}
-use Rattle.dr_run_request.specs.declared.route.Route.TheVariants.{Metrics, Health, Requeue, GiveUp}
-use Rattle.dr_run_request.specs.declared.route.Route.TheVariants.{Forget, Visit, Stop}
+use Rattle.dr_run_request.specs.declared.route.Route.TheVariants.{Journal, Metrics, Health, Requeue}
+use Rattle.dr_run_request.specs.declared.route.Route.TheVariants.{GiveUp, Forget, Visit, Backup}
+use Rattle.dr_run_request.specs.declared.route.Route.TheVariants.{Stop}
 
 -- the path of a route; of an instance, what stands before its UID
 abbrev pub path_of : Route → Text
@@ -24,12 +25,14 @@ path_of Page = codes "/"
 path_of Status = codes "/status"
 path_of Rows = codes "/rows"
 path_of Instance = codes "/instance/"
+path_of Journal = codes "/journal"
 path_of Metrics = codes "/metrics"
 path_of Health = codes "/health"
 path_of Requeue = codes "/requeue"
 path_of GiveUp = codes "/drop"
 path_of Forget = codes "/forget"
 path_of Visit = codes "/visit"
+path_of Backup = codes "/backup"
 path_of Stop = codes "/stop"
 
 -- it changes something
@@ -38,12 +41,14 @@ is_act Page = false
 is_act Status = false
 is_act Rows = false
 is_act Instance = false
+is_act Journal = false
 is_act Metrics = false
 is_act Health = false
 is_act Requeue = true
 is_act GiveUp = true
 is_act Forget = true
 is_act Visit = true
+is_act Backup = true
 is_act Stop = true
 
 -- its path goes on with a UID
@@ -52,12 +57,14 @@ goes_on Page = false
 goes_on Status = false
 goes_on Rows = false
 goes_on Instance = true
+goes_on Journal = false
 goes_on Metrics = false
 goes_on Health = false
 goes_on Requeue = false
 goes_on GiveUp = false
 goes_on Forget = false
 goes_on Visit = false
+goes_on Backup = false
 goes_on Stop = false
 
 -- the path is that one, or goes on behind it

@@ -3,10 +3,12 @@ use Rattle.std.specs.Prelude.{◌≡◌, ◌≤◌, ◌++◌, ℕ, List, [], ◌
 use Rattle.std.specs.Prelude.{Option, None, Some, option_map, if◌then◌else◌}
 use Rattle.form_urlencoded.specs.Form.{decode, raw_pairs}
 use Rattle.percent_encoding.specs.Percent.{percent_decode}
+use Rattle.dr_base.specs.Numbers.{IsNumeral}
 use Rattle.dr_base.specs.Texts.{Text}
 use Rattle.dr_run_request.specs.declared.wanted.RowName.{RowName}
 use Rattle.dr_ledger_views.specs.declared.stage.Stage.{Stage}
 use Rattle.dr_ledger_views.specs.declared.stage.Stage.TheVariants.{Waiting, Held, Done, Dropped}
+use Rattle.dr_run_request.specs.declared.lines.LinesWanted.{LinesWanted}
 use Rattle.dr_run_request.specs.declared.wanted.Wanted.{Wanted}
 
 -- the value of the first pair of that name
@@ -52,6 +54,18 @@ Wants form wanted =
     (value_in form (codes "dest") ≡ Some wanted.dest)
     × StageOf (value_in form (codes "state")) wanted.stage
     × (value_in form (codes "after") ≡ wanted.after)
+    × LimitOf (value_in form (codes "limit")) wanted.limit
+
+-- the number of a word in decimal digits, of 64 bits at most; 0 where there is no word
+abbrev pub NumberOf : Option Text → ℕ → Type 0
+NumberOf None number = number ≡ 0
+NumberOf (Some word) number = IsNumeral 64 number word
+
+-- the lines of a journal that a form asks for: behind the number that it names, and as many as it
+-- names
+abbrev pub WantsLines : Text → LinesWanted → Type 0
+WantsLines form wanted =
+    NumberOf (value_in form (codes "after")) wanted.after
     × LimitOf (value_in form (codes "limit")) wanted.limit
 
 -- the instance that a path names, behind what stands before its UID

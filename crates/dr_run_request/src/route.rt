@@ -4,7 +4,7 @@ ghost use Rattle.dr_run_request.specs.Asking.{IsAt, goes_on, is_act, method_of, 
 ghost use Rattle.dr_run_request.specs.declared.route.Route.{Route as RouteValue};
 ghost use Rattle.dr_run_request.specs.declared.route.Route.TheVariants as RouteValues;
 
-/// What may be asked of a running node: six things to read, and five acts.
+/// What may be asked of a running node: seven things to read, and six acts.
 #[derive(Clone, Copy, PartialEq, Eq)]
 pub enum Route {
     /// The page for people.
@@ -15,6 +15,8 @@ pub enum Route {
     Rows,
     /// The rows of an instance.
     Instance,
+    /// Lines of its journal.
+    Journal,
     /// Its figures, for Prometheus.
     Metrics,
     /// Whether it is well.
@@ -27,6 +29,8 @@ pub enum Route {
     Forget,
     /// To visit a destination now.
     Visit,
+    /// To copy its ledger.
+    Backup,
     /// To end in order.
     Stop,
 }
@@ -38,8 +42,9 @@ impl Route {
     {
         match self {
             Route::Page | Route::Status | Route::Rows | Route::Instance => false,
-            Route::Metrics | Route::Health => false,
+            Route::Journal | Route::Metrics | Route::Health => false,
             Route::Requeue | Route::GiveUp | Route::Forget | Route::Visit | Route::Stop => true,
+            Route::Backup => true,
         }
     }
 
@@ -52,12 +57,14 @@ impl Route {
             Route::Status => "/status",
             Route::Rows => "/rows",
             Route::Instance => "/instance/",
+            Route::Journal => "/journal",
             Route::Metrics => "/metrics",
             Route::Health => "/health",
             Route::Requeue => "/requeue",
             Route::GiveUp => "/drop",
             Route::Forget => "/forget",
             Route::Visit => "/visit",
+            Route::Backup => "/backup",
             Route::Stop => "/stop",
         }
     }
@@ -117,6 +124,9 @@ fn reading_at(path: &str) -> Option<Route>
     if is_at(Route::Instance, path) {
         return Some(Route::Instance);
     }
+    if is_at(Route::Journal, path) {
+        return Some(Route::Journal);
+    }
     if is_at(Route::Metrics, path) {
         return Some(Route::Metrics);
     }
@@ -143,6 +153,9 @@ fn act_at(path: &str) -> Option<Route>
     }
     if is_at(Route::Visit, path) {
         return Some(Route::Visit);
+    }
+    if is_at(Route::Backup, path) {
+        return Some(Route::Backup);
     }
     if is_at(Route::Stop, path) {
         return Some(Route::Stop);

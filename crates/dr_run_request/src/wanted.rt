@@ -110,6 +110,18 @@ pub(crate) fn dest_of(alloc: Global, form: &[u8]) -> Result<Text, FormFault>
     named_in(alloc, form, "dest")
 }
 
+/// The path of the copy that a form asks for.
+///
+/// Errors: Field where it names none; Memory.
+pub fn copy_of(alloc: Global, form: &[u8]) -> Result<Text, FormFault>
+    ensures { MatchResult result
+        (λ path. value_in form.now (codes "copy") ≡ Some path)
+        (λ why. why ≡ fault.Field
+        → (path : TextValue) → value_in form.now (codes "copy") ≡ Some path → ⊥) }
+{
+    named_in(alloc, form, "copy")
+}
+
 /// Why something is to be done, where a form says so.
 ///
 /// Errors: want of memory.
@@ -205,7 +217,7 @@ fn limit_of(word: &[u8]) -> Result<u32, FormFault>
 /// How many rows a form asks for: a whole page where it names no number.
 ///
 /// Errors: Field where it names what is no number from 1 to 1,000.
-fn limit_in(word: &Option<Text>) -> Result<u32, FormFault>
+pub(crate) fn limit_in(word: &Option<Text>) -> Result<u32, FormFault>
     ensures { MatchResult result
         (LimitOf word.now)
         (λ why. (why ≡ fault.Field) × ((n : ℕ) → LimitOf word.now n → ⊥)) }

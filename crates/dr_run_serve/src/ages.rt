@@ -32,6 +32,13 @@ impl WaitingRows {
         lacked
     }
 
+    /// Notes a row.
+    fn put(&mut self, uid: &Text, moment: u64) -> Result<(), AllocError> {
+        let uid = uid.clone()?;
+        let _known = self.rows.insert(uid, moment)?;
+        Ok(())
+    }
+
     /// A row waits, of an instance that is here since that moment. Where it is noted, the earlier
     /// moment stays. Where others aren't noted, or there is no memory for it, nothing is: all will
     /// be looked up when somebody asks.
@@ -43,10 +50,7 @@ impl WaitingRows {
             Some(known) => moment.min(*known),
             None => moment,
         };
-        let noted = uid.clone().and_then(|uid| {
-            let _known = self.rows.insert(uid, moment)?;
-            Ok(())
-        });
+        let noted = self.put(uid, moment);
         if noted.is_err() {
             self.lacks = true;
         }

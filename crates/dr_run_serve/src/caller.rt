@@ -8,8 +8,8 @@ use std::time::Duration;
 /// From the accept on a request has so many milliseconds to come whole.
 pub const ASKED: u64 = 5_000;
 
-/// And so many its answer to be taken.
-pub const ANSWERED: u64 = 30_000;
+/// And so many its answer to be taken, once it is there.
+const ANSWERED: u64 = 30_000;
 
 /// How much time is left until a moment.
 ///
@@ -39,14 +39,38 @@ impl<'a, C: Clock> Read for CallerInput<'a, C> {
     }
 }
 
-/// What a caller is sent, until that moment, and whether its first bytes were written that say that
-/// it was answered well.
+/// What a caller is sent, until when, and whether its first bytes were written that say that it was
+/// answered well.
 #[derive(Drop)]
 pub struct Outgoing<'a, C: Clock> {
     pub stream: &'a TcpStream,
     pub clock: &'a C,
-    pub until: u64,
+    until: Option<u64>,
     pub well: bool,
+}
+
+impl<'a, C: Clock> Outgoing<'a, C> {
+    /// Nothing was sent yet.
+    pub fn new(stream: &'a TcpStream, clock: &'a C) -> Outgoing<'a, C> {
+        Outgoing {
+            stream,
+            clock,
+            until: None,
+            well: false,
+        }
+    }
+
+    /// Until when it is sent: from its first bytes on it has its time.
+    fn end(&mut self) -> u64 {
+        match self.until {
+            Some(until) => until,
+            None => {
+                let until = self.clock.now().saturating_add(ANSWERED);
+                self.until = Some(until);
+                until
+            }
+        }
+    }
 }
 
 /// Whether the bytes begin an answer that is no refusal: one of the statuses 200 to 399 (RFC 9112
@@ -57,7 +81,8 @@ fn begins_well(piece: &[u8]) -> bool {
 
 impl<'a, C: Clock> Write for Outgoing<'a, C> {
     fn write(&mut self, piece: &[u8]) -> io::Result<usize> {
-        let left = left(self.clock, self.until)?;
+        let until = self.end();
+        let left = left(self.clock, until)?;
         self.stream.set_write_timeout(Some(left))?;
         self.well = self.well || begins_well(piece);
         let mut stream = self.stream;

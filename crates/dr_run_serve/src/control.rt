@@ -1,21 +1,23 @@
 //! The control connection of a node that runs: who asks over it what the node has, and tells it to
 //! act.
-use crate::caller::{ANSWERED, ASKED, CallerInput, Outgoing, drain};
-use crate::events::{tell_act, tell_refused, tell_told_to_stop};
+use crate::caller::{ASKED, CallerInput, Outgoing, drain};
+use crate::copying::{Copied, Copier};
+use crate::events::{tell_act, tell_copied, tell_refused, tell_told_to_stop, tell_uncopied};
 use crate::live::LiveNode;
+use crate::monitor::Monitor;
 use crate::signal::Signal;
 use crate::stop::{StopSign, Terms};
 use dr_base::Text;
 use dr_desk::{Pass, SharedDesk, Sharing};
 use dr_desk_workers::WorkersFault;
-use dr_ledger::LedgerFault;
+use dr_ledger::{Ledger, LedgerFault};
 use dr_ledger_timed::Meter;
 use dr_ledger_views::Views;
 use dr_run_answer::{Visited, Visits};
+use dr_run_backup::BackupFault;
 use dr_run_control::{Around, Console, House, talk};
 use dr_run_request::{Access, Browser, Order, Refused};
 use dr_session::Clock;
-use log::Log;
 use std::alloc::{AllocError, Global};
 use std::hash::{BuildHasher, RandomState};
 use std::net::{Shutdown, TcpListener, TcpStream};
@@ -78,19 +80,43 @@ impl ControlPort {
     }
 }
 
-/// The node around the desk: it wakes who sends, knows of their visits, and is told to end.
+/// The node around the desk: it wakes who sends, knows of their visits, copies the ledger, one copy
+/// at a time, and is told to end.
 #[derive(Drop)]
-struct Home<'a, R: Wait, G: Log> {
+struct Home<'a, R: Wait, L: Ledger, B: Sharing, C: Clock, G: Monitor> {
     rt: &'a R,
     alloc: Global,
+    desk: &'a SharedDesk<L, B>,
     signal: &'a Signal,
     meter: &'a Meter,
     stop: &'a StopSign,
+    clock: &'a C,
     log: &'a G,
     since: u64,
+    is_copying: AtomicBool,
 }
 
-impl<'a, R: Wait, G: Log> Home<'a, R, G> {
+impl<'a, R: Wait, L: Ledger, B: Sharing, C: Clock, G: Monitor> Home<'a, R, L, B, C, G> {
+    /// Backups the ledger to that path, if no copy is being made.
+    ///
+    /// Errors: those of `BackupFault`.
+    fn copy_alone(&self, path: &Text) -> Result<Copied, BackupFault> {
+        if self.is_copying.swap(true, Ordering::SeqCst) {
+            return Err(BackupFault::Busy);
+        }
+        let copier = Copier {
+            rt: self.rt,
+            alloc: self.alloc,
+            desk: self.desk,
+            signal: self.signal,
+            clock: self.clock,
+            log: self.log,
+        };
+        let came = copier.copy_to(path);
+        self.is_copying.store(false, Ordering::SeqCst);
+        came
+    }
+
     /// Wakes who sends to that node, to which rows were queued again.
     fn wake_for(&self, dest: &Text) {
         self.signal.doubt_waiting(self.rt, dest);
@@ -108,7 +134,25 @@ impl<'a, R: Wait, G: Log> Home<'a, R, G> {
     }
 }
 
-impl<'a, R: Wait, G: Log> House for Home<'a, R, G> {
+impl<'a, R: Wait, L: Ledger, B: Sharing, C: Clock, G: Monitor> House for Home<'a, R, L, B, C, G> {
+    // What a file system does isn't known to contracts.
+    ghost copies = { λ home path came. Unit {0} };
+
+    fn back_up(&self, path: &Text) -> Result<(), BackupFault> {
+        let began = self.clock.now();
+        match self.copy_alone(path) {
+            Ok(copied) => {
+                let spent = self.clock.now().saturating_sub(began);
+                tell_copied(self.log, path, copied, spent);
+                Ok(())
+            }
+            Err(fault) => {
+                tell_uncopied(self.log, path, fault);
+                Err(fault)
+            }
+        }
+    }
+
     fn acted(&self, order: &Order, reason: Option<&Text>, fault: Option<LedgerFault>) {
         match fault {
             None => self.wake(order),
@@ -137,6 +181,10 @@ impl<'a, R: Wait, G: Log> House for Home<'a, R, G> {
 
     fn lacks_rows(&self, dest: &Text) -> bool {
         self.signal.take_doubt(self.rt, dest)
+    }
+
+    fn doubt_rows(&self, dest: &Text) {
+        self.signal.doubt_waiting(self.rt, dest);
     }
 
     fn note_waiting(&self, dest: &Text, uid: &Text, moment: Option<u64>) -> Result<(), AllocError> {
@@ -196,27 +244,21 @@ fn browser_of(alloc: Global, port: &ControlPort) -> Option<Browser> {
 }
 
 /// Answers one who asks, and lets go of the connection. Whether it was answered well.
-fn answer_caller<R: Wait, L: Views, B: Sharing, C: Clock, G: Log>(
+fn answer_caller<R: Wait, L: Views, B: Sharing, C: Clock, G: Monitor>(
     node: &LiveNode<'_, R, L, B, C, G>,
     pass: &mut Pass<B>,
     port: &ControlPort,
     browser: &Option<Browser>,
-    house: &Home<'_, R, G>,
+    house: &Home<'_, R, L, B, C, G>,
     stream: &TcpStream,
 ) -> bool {
     let (alloc, clock) = (node.alloc, node.clock);
-    let now = clock.now();
     let mut incoming = CallerInput {
         stream,
         clock,
-        until: now + ASKED,
+        until: clock.now() + ASKED,
     };
-    let mut outgoing = Outgoing {
-        stream,
-        clock,
-        until: now + ANSWERED,
-        well: false,
-    };
+    let mut outgoing = Outgoing::new(stream, clock);
     let mut console = Console {
         rt: node.rt,
         alloc,
@@ -238,12 +280,12 @@ fn answer_caller<R: Wait, L: Views, B: Sharing, C: Clock, G: Log>(
 }
 
 /// Answers those who ask, one after the other, until nobody is accepted any more.
-fn answer_callers<R: Wait + time::Clock, L: Views, B: Sharing, C: Clock, G: Log>(
+fn answer_callers<R: Wait + time::Clock, L: Views, B: Sharing, C: Clock, G: Monitor>(
     node: &LiveNode<'_, R, L, B, C, G>,
     pass: &mut Pass<B>,
     port: &ControlPort,
     browser: &Option<Browser>,
-    house: &Home<'_, R, G>,
+    house: &Home<'_, R, L, B, C, G>,
 ) {
     let rt = node.rt;
     for _ in rt.forever() {
@@ -271,7 +313,7 @@ pub fn answer_all<
     L: Views + Drop + Send,
     B: Sharing + Send + Sync,
     C: Clock + Sync,
-    G: Log + Sync,
+    G: Monitor + Sync,
 >(
     node: &LiveNode<'_, R, L, B, C, G>,
     passes: Vec<Pass<B>>,
@@ -289,11 +331,14 @@ pub fn answer_all<
     let house = Home {
         rt: node.rt,
         alloc: node.alloc,
+        desk: node.desk,
         signal: node.signal,
         meter: node.meter,
         stop: terms.stop,
+        clock: node.clock,
         log: node.log,
         since,
+        is_copying: AtomicBool::new(false),
     };
     let browser = browser_of(node.alloc, port);
     thread::for_each_mut(

@@ -4,12 +4,14 @@
 //! `report`, `listener`) and what happened, with its parts as
 //! `key=value`. Of an instance only the UID is told. What a peer sent, as a title or a UID, goes
 //! through `Escaped`, so that it can't begin a line or end a quote.
+use crate::copying::Copied;
 use crate::visit::Visit;
 use dr_base::Text;
 use dr_desk_workers::Tally;
 use dr_ledger::{Arrived, Instance, LedgerFault, Outcome, Progress};
 use dr_route::Key;
 use dr_run_answer::ResponseCount;
+use dr_run_backup::BackupFault;
 use dr_run_control::name_of_refusal;
 use dr_run_open::code_of;
 use dr_run_request::{Order, Refused, RowName};
@@ -501,6 +503,31 @@ pub fn tell_act<G: Log>(log: &G, order: &Order, reason: Option<&Text>, fault: Op
             let fault = code_of(fault);
             warn!(log; target: "control", "{order}{reason} fault=\"{fault}\"");
         }
+    }
+}
+
+/// Tells that the ledger was copied to a path, as somebody asked for over the control connection,
+/// and how many milliseconds that took.
+pub fn tell_copied<G: Log>(log: &G, path: &Text, copied: Copied, spent: u64) {
+    let copy = Escaped(path.as_bytes());
+    let Copied { lines, bytes } = copied;
+    info!(
+        log; target: "control",
+        "backup copy=\"{copy}\" lines={lines} bytes={bytes} milliseconds={spent}"
+    );
+}
+
+/// Tells that it wasn't copied, and why.
+pub fn tell_uncopied<G: Log>(log: &G, path: &Text, fault: BackupFault) {
+    let copy = Escaped(path.as_bytes());
+    match fault {
+        BackupFault::NoCopy(error) => {
+            warn!(
+                log; target: "control",
+                "backup copy=\"{copy}\" fault=\"{fault}\" error=\"{error}\""
+            );
+        }
+        fault => warn!(log; target: "control", "backup copy=\"{copy}\" fault=\"{fault}\""),
     }
 }
 

@@ -10,7 +10,7 @@
 //! A node that is asked to (`StopSign`) ends in order: what is under way has 10 s.
 //!
 //! Where there is a `ControlPort`, those who ask over it are answered by `dr_run_control`, 16 at a
-//! time, each within 30 s.
+//! time; who takes an answer has 30 s for it. A copy of the ledger is made there, too (`copying`).
 //!
 //! A node whose store is shut (`shutting`) ends: its log says so once, no more connections are
 //! accepted, and those that are served end.
@@ -27,6 +27,7 @@ mod ages;
 mod asked;
 mod caller;
 mod control;
+mod copying;
 mod events;
 mod intake;
 mod keeper;

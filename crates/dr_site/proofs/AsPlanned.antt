@@ -6,14 +6,12 @@ use Rattle.std.proofs.lemmas.Bool.{cases_Bool, false≢true}
 use Rattle.std.proofs.lemmas.Slice.Eq.{bytes_eq-Decides}
 use Rattle.dr_base.specs.Texts.{Text}
 use Rattle.dr_route.specs.Routes.{SendsBy, KeepsBy}
-use Rattle.dr_route.specs.Cells.{InCell}
 use Rattle.dr_route.specs.declared.key.Key.{Key}
-use Rattle.dr_route.specs.declared.cell.Literals.{Literals}
-use Rattle.dr_route.specs.declared.cell.OwnedCell.{OwnedCell}
+use Rattle.dr_route.proofs.Agreement.{cell_alike, same_turned}
 use Rattle.dr_plan_model.specs.declared.plan.Node.{Node}
 use Rattle.dr_plan_model.specs.declared.plan.Flow.{Flow}
 use Rattle.dr_plan_model.specs.Networks.{Network}
-use Rattle.dr_plan_model.specs.Plans.{LiesIn, literals_of}
+use Rattle.dr_plan_model.specs.Plans.{literals_of}
 use Rattle.dr_plan_model.specs.Walks.{FlowsAmong, Sends, Keeps, IsReached}
 use Rattle.dr_plan_model.proofs.Gathered.{nothing_in_nil, Contains-cons_cases, Contains-there, Contains-here}
 use Rattle.dr_plan_model.proofs.WalksAlike.{reach_alike}
@@ -21,8 +19,7 @@ use Rattle.dr_plan_sound.specs.declared.certificate.Line.{Line}
 use Rattle.dr_plan_sound.specs.declared.certificate.Certificate.{Certificate}
 use Rattle.dr_plan_sound.proofs.RankedLines.{some_cell}
 use Rattle.dr_plan_sound.proofs.Ranks.{sound_has_rank}
-use Rattle.dr_cert.specs.Sealing.{AreLiteralsOf}
-use Rattle.dr_cert.proofs.Ranking.{field_alike, station_alike}
+use Rattle.dr_cert.proofs.Ranking.{lies_there}
 use Rattle.dr_site.specs.Parts.{Part, IsPartOf, is_at, is_of}
 use Rattle.dr_site.specs.Sites.{IsCertified}
 use Rattle.dr_site.specs.Routing.{HasLineFor, SendsFrom, KeepsAt}
@@ -54,33 +51,12 @@ keeps_by test (y ∷ ys) x h passes = elim (cases_Bool (test y)) [
 pub same_name : (a b : Text) → a ≡ b → bytes_eq a b ≡ true
 same_name a b h = (bytes_eq-Decides a b).1 h
 
--- the same values make the same parts
-swapped : (v w : List Text) → ((t : Text) → Contains v t ↔ Contains w t) → (t : Text) → Contains w t ↔ Contains v t
-swapped v w same t = ((same t).1, (same t).0)
-
-cell_there : (plan : Network) (literals : Literals) → AreLiteralsOf plan literals → (cell : OwnedCell) (key : Key) → InCell literals cell key → LiesIn plan cell key
-cell_there plan literals are cell key h = record {
-  class = h.class;
-  syntax = h.syntax;
-  modality = field_alike literals.modalities (literals_of plan).modalities cell.modality key.modality are.modalities h.modality;
-  station = station_alike literals.stations (literals_of plan).stations cell.station key.station are.stations are.prefixes h.station;
-}
-
-cell_back : (plan : Network) (literals : Literals) → AreLiteralsOf plan literals → (cell : OwnedCell) (key : Key) → LiesIn plan cell key → InCell literals cell key
-cell_back plan literals are cell key h = record {
-  class = h.class;
-  syntax = h.syntax;
-  modality = field_alike (literals_of plan).modalities literals.modalities cell.modality key.modality (swapped literals.modalities.literals (literals_of plan).modalities.literals are.modalities) h.modality;
-  station = station_alike (literals_of plan).stations literals.stations cell.station key.station (swapped literals.stations.literals (literals_of plan).stations.literals are.stations)
-      (swapped literals.stations.prefixes (literals_of plan).stations.prefixes are.prefixes) h.station;
-}
-
 pub lines_as_planned : (plan : Network) (certificate : Certificate) (part : Part) → IsCertified plan certificate → IsPartOf plan certificate part →
     (caller : Text) (key : Key) → HasLineFor part caller key ↔ IsReached plan key caller part.name
 lines_as_planned plan certificate part sealed is caller key = (
   λ h.
       let line = h.0 in
-      let lies = cell_there plan part.literals is.literals line.stop.cell key h.4 in
+      let lies = lies_there plan part.literals key line.stop.cell is.literals h.4 in
       let own = kept_by (is_of part.name) certificate.lines line (is.lines.sound line h.1) in
       let has = (sealed.certified.lines line).0 own.0 in
       let comes = reach_alike plan line.stop.cell has.0 key has.1 lies line.stop.caller line.stop.node has.2 in
@@ -94,7 +70,7 @@ lines_as_planned plan certificate part sealed is caller key = (
       let among = (sealed.certified.lines line).1 (key, cell.1, reached, rank.1) in
       let own = keeps_by (is_of part.name) certificate.lines line among (same_name part.name part.name refl) in
       let found = is.lines.whole line.stop (rank.0, own) in
-      (record { stop = line.stop; rank = found.0 }, found.1, refl, refl, cell_back plan part.literals is.literals cell.0 key cell.1),
+      (record { stop = line.stop; rank = found.0 }, found.1, refl, refl, cell_alike (literals_of plan) part.literals (same_turned part.literals (literals_of plan) is.literals.same) cell.0 key cell.1),
 )
 
 flows_there : (flows : List Flow) (name : Text) (key : Key) (to : Text) → FlowsAmong (filter (is_at name) flows) name key to → FlowsAmong flows name key to

@@ -1,15 +1,14 @@
 -- A site is put together from its node's rows.
 use Rattle.std.proofs.Common.{◌≡◌, ℕ, sym, ◌∙◌, ap, subst, List}
-use Rattle.std.specs.Prelude.{filter, Contains, ◌↔◌}
+use Rattle.std.specs.Prelude.{filter}
 use Rattle.dr_base.specs.Texts.{Text}
 use Rattle.dr_route.specs.declared.rule.Rule.{Rule}
 use Rattle.dr_route.specs.declared.accept.AcceptRow.{AcceptRow}
-use Rattle.dr_route.specs.Cells.{AreInOrder}
 use Rattle.dr_route.specs.declared.cell.Literals.{Literals}
 use Rattle.dr_plan_model.specs.declared.plan.Node.{Node}
 use Rattle.dr_plan_model.specs.declared.plan.Flow.{Flow}
 use Rattle.dr_plan_model.specs.Networks.{Network}
-use Rattle.dr_plan_model.specs.Plans.{IsTheNode, modalities_of, stations_of, prefixes_of}
+use Rattle.dr_plan_model.specs.Plans.{AreLiteralsOf, IsTheNode}
 use Rattle.dr_plan_sound.specs.declared.certificate.Line.{Line}
 use Rattle.dr_plan_sound.specs.declared.certificate.Hop.{Hop}
 use Rattle.dr_plan_sound.specs.declared.certificate.Certificate.{Certificate}
@@ -32,12 +31,10 @@ pub assembled : (plan : Network) (certificate : Certificate) (name : Text) (node
     {all_lines : List Line} → all_lines ≡ certificate.lines → {own : List Line} → own ≡ filter (is_of name) all_lines →
     {own_slice : List Line} → own_slice ≡ own → IsIndexOf own_slice lines →
     {all_hops : List Hop} → all_hops ≡ certificate.hops → AreHopsFrom name all_hops hops →
-    ((t : Text) → Contains literals.modalities.literals t ↔ Contains (modalities_of plan) t) →
-    ((t : Text) → Contains literals.stations.literals t ↔ Contains (stations_of plan) t) →
-    ((t : Text) → Contains literals.stations.prefixes t ↔ Contains (prefixes_of plan) t) → AreInOrder literals →
+    AreLiteralsOf plan literals →
     IsPartOf plan certificate (record { name = n; max_pdu = max_pdu; digest = digest; rules = rules; accepts = accepts; flows = flows; lines = lines; hops = hops; literals = literals })
 assembled plan certificate name node is_node n max_pdu digest rules accepts flows lines hops literals named long of_plan by_rules by_accepts
-    all_flows at_flows all_lines own slice index all_hops from_hops modalities stations prefixes ordered =
+    all_flows at_flows all_lines own slice index all_hops from_hops values =
     let P : Text → Type 0 = λ m. IsPartOf plan certificate (record { name = m; max_pdu = max_pdu; digest = digest; rules = rules; accepts = accepts; flows = flows; lines = lines; hops = hops; literals = literals }) in
     let Q : List Line → Type 0 = λ ls. IsIndexOf ls lines in
     let R : List Hop → Type 0 = λ hs. AreHopsFrom name hs hops in
@@ -47,5 +44,5 @@ assembled plan certificate name node is_node n max_pdu digest rules accepts flow
       flows = at_flows ∙ ap (filter (is_at name)) all_flows;
       lines = subst Q (slice ∙ (own ∙ ap (filter (is_of name)) all_lines)) index;
       hops = subst R all_hops from_hops;
-      literals = record { modalities = modalities; stations = stations; prefixes = prefixes; ordered = ordered };
+      literals = values;
     })

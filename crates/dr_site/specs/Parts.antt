@@ -9,12 +9,11 @@ use Rattle.dr_route.specs.declared.cell.Literals.{Literals}
 use Rattle.dr_plan_model.specs.declared.plan.Node.{Node}
 use Rattle.dr_plan_model.specs.declared.plan.Flow.{Flow}
 use Rattle.dr_plan_model.specs.Networks.{Network}
-use Rattle.dr_plan_model.specs.Plans.{IsTheNode}
+use Rattle.dr_plan_model.specs.Plans.{AreLiteralsOf, IsTheNode}
 use Rattle.dr_plan_sound.specs.declared.certificate.Line.{Line}
 use Rattle.dr_plan_sound.specs.declared.certificate.Hop.{Hop}
 use Rattle.dr_plan_sound.specs.declared.certificate.Certificate.{Certificate}
 use Rattle.dr_cert.specs.Indexing.{IsIndexOf}
-use Rattle.dr_cert.specs.Sealing.{AreLiteralsOf}
 
 -- what one node works by, its part of a plan and of the certificate, as contracts see a site
 pub record Part : Type 0 where

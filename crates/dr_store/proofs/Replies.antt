@@ -11,13 +11,10 @@ use Rattle.dr_route.specs.declared.cell.FieldValues.{FieldValues}
 use Rattle.dr_route.specs.declared.cell.Literals.{Literals}
 use Rattle.dr_route.specs.declared.cell.OwnedCell.{OwnedCell}
 use Rattle.dr_route.specs.declared.cell.OwnedField.{OwnedField}
-use Rattle.dr_route.specs.declared.cell.OwnedField.TheVariants.{Literal, Rest}
+use Rattle.dr_route.specs.declared.cell.OwnedField.TheVariants.{Literal, Prefix, Rest}
 use Rattle.dr_route.specs.declared.key.Key.{Key}
-use Rattle.dr_route.specs.declared.cell.StationValues.{StationValues}
-use Rattle.dr_route.specs.declared.cell.OwnedStation.{OwnedStation}
-use Rattle.dr_route.specs.declared.cell.OwnedStation.TheVariants as station
-use Rattle.dr_route.specs.Cells.{InCell, InField, InStation}
-use Rattle.dr_route.proofs.Agreement.{some_station, one_station}
+use Rattle.dr_route.specs.Cells.{InCell, InField}
+use Rattle.dr_route.proofs.Agreement.{some_part, one_part}
 use Rattle.dr_plan_sound.specs.declared.certificate.Line.{Line as Ranked}
 use Rattle.dr_site.specs.Parts.{Part}
 use Rattle.dr_site.specs.Routing.{HasLineFor}
@@ -38,7 +35,7 @@ use Rattle.dr_ledger.specs.SiteRoutes.{site_routing}
 use Rattle.dr_ledger.proofs.Growing.{inside}
 use Rattle.dr_store_calls.specs.Knowing.{IsAccepted}
 use Rattle.dr_store.proofs.Sets.{coded_bodies, coded_book, coded_instance, coded_text}
-use Rattle.dr_store.proofs.Stable.{Stable, both, by_code, each, either, is_in, first_in, later_in, in_cases, never, not_in_none, of_dec, of_prop, tested, three}
+use Rattle.dr_store.proofs.Stable.{Stable, both, by_code, each, either, first_in, later_in, in_cases, never, not_in_none, of_dec, of_prop, tested, three}
 use Rattle.std.specs.Coded.{coded_list, coded_option, coded_ℕ}
 
 nothing : {P : Type 0} → Stable ⊥ → ∥ P ∥₁ → (P → ⊥) → ⊥
@@ -58,60 +55,56 @@ refuted : {P : Type 0} → Dec P → Dec (P → ⊥)
 refuted (yes p) = no (λ n. n p)
 refuted (no n) = yes n
 
-in_field : (values : FieldValues) (field : OwnedField) (value : Text) → Dec (InField values field value)
-in_field values (Literal literal) value = in_both (is_in (tested coded_text) values.literals literal) (tested coded_text literal value)
-in_field values Rest value = refuted (is_in (tested coded_text) values.literals value)
+abbrev IsLiteralPart : OwnedField → Type 0
+IsLiteralPart (Literal l) = Unit {0}
+IsLiteralPart (Prefix p) = ⊥
+IsLiteralPart Rest = ⊥
 
-abbrev IsLiteralPart : OwnedStation → Type 0
-IsLiteralPart (station.Literal l) = Unit {0}
-IsLiteralPart (station.Prefix p) = ⊥
-IsLiteralPart station.Rest = ⊥
+abbrev IsRestPart : OwnedField → Type 0
+IsRestPart (Literal l) = ⊥
+IsRestPart (Prefix p) = ⊥
+IsRestPart Rest = Unit {0}
 
-abbrev IsRestPart : OwnedStation → Type 0
-IsRestPart (station.Literal l) = ⊥
-IsRestPart (station.Prefix p) = ⊥
-IsRestPart station.Rest = Unit {0}
+abbrev text_in : OwnedField → Text
+text_in (Literal l) = l
+text_in (Prefix p) = p
+text_in Rest = []
 
-abbrev text_in : OwnedStation → Text
-text_in (station.Literal l) = l
-text_in (station.Prefix p) = p
-text_in station.Rest = []
-
-same_part : (a b : OwnedStation) → Dec (a ≡ b)
-same_part (station.Literal a) (station.Literal b) = go (tested coded_text a b)
+same_part : (a b : OwnedField) → Dec (a ≡ b)
+same_part (Literal a) (Literal b) = go (tested coded_text a b)
   where
-    go : Dec (a ≡ b) → Dec (station.Literal a ≡ station.Literal b)
-    go (yes h) = yes (ap (λ (t : Text). station.Literal t) h)
+    go : Dec (a ≡ b) → Dec (Literal a ≡ Literal b)
+    go (yes h) = yes (ap (λ (t : Text). Literal t) h)
     go (no n) = no (λ e. n (ap text_in e))
-same_part (station.Literal a) (station.Prefix b) = no (λ e. subst IsLiteralPart e tt)
-same_part (station.Literal a) station.Rest = no (λ e. subst IsLiteralPart e tt)
-same_part (station.Prefix a) (station.Literal b) = no (λ e. subst IsLiteralPart (sym e) tt)
-same_part (station.Prefix a) (station.Prefix b) = go (tested coded_text a b)
+same_part (Literal a) (Prefix b) = no (λ e. subst IsLiteralPart e tt)
+same_part (Literal a) Rest = no (λ e. subst IsLiteralPart e tt)
+same_part (Prefix a) (Literal b) = no (λ e. subst IsLiteralPart (sym e) tt)
+same_part (Prefix a) (Prefix b) = go (tested coded_text a b)
   where
-    go : Dec (a ≡ b) → Dec (station.Prefix a ≡ station.Prefix b)
-    go (yes h) = yes (ap (λ (t : Text). station.Prefix t) h)
+    go : Dec (a ≡ b) → Dec (Prefix a ≡ Prefix b)
+    go (yes h) = yes (ap (λ (t : Text). Prefix t) h)
     go (no n) = no (λ e. n (ap text_in e))
-same_part (station.Prefix a) station.Rest = no (λ e. subst IsRestPart (sym e) tt)
-same_part station.Rest (station.Literal b) = no (λ e. subst IsLiteralPart (sym e) tt)
-same_part station.Rest (station.Prefix b) = no (λ e. subst IsRestPart e tt)
-same_part station.Rest station.Rest = yes refl
+same_part (Prefix a) Rest = no (λ e. subst IsRestPart (sym e) tt)
+same_part Rest (Literal b) = no (λ e. subst IsLiteralPart (sym e) tt)
+same_part Rest (Prefix b) = no (λ e. subst IsRestPart e tt)
+same_part Rest Rest = yes refl
 
 -- a value lies in one part, so that it lies in another where that is the same
-in_station : (values : StationValues) (part : OwnedStation) (value : Text) → Dec (InStation values part value)
-in_station values part value = go (some_station values value)
+in_field : (values : FieldValues) (part : OwnedField) (value : Text) → Dec (InField values part value)
+in_field values part value = go (some_part values value)
   where
-    decided : (own : OwnedStation) → InStation values own value → Dec (own ≡ part) → Dec (InStation values part value)
-    decided own lies (yes same) = yes (let P : OwnedStation → Type 0 = λ p. InStation values p value in subst P same lies)
-    decided own lies (no other) = no (λ there. other (one_station values own part value lies there))
+    decided : (own : OwnedField) → InField values own value → Dec (own ≡ part) → Dec (InField values part value)
+    decided own lies (yes same) = yes (let P : OwnedField → Type 0 = λ p. InField values p value in subst P same lies)
+    decided own lies (no other) = no (λ there. other (one_part values own part value lies there))
 
-    go : (own : OwnedStation) × InStation values own value → Dec (InStation values part value)
+    go : (own : OwnedField) × InField values own value → Dec (InField values part value)
     go found = decided found.0 found.1 (same_part found.0 part)
 
 in_cell : (literals : Literals) (cell : OwnedCell) (key : Key) → Dec (InCell literals cell key)
 in_cell literals cell key = go (in_both (tested coded_text cell.class key.class) (in_both (tested syntax_row.the_row.coded cell.syntax key.syntax)
-    (in_both (in_field literals.modalities cell.modality key.modality) (in_station literals.stations cell.station key.station))))
+    (in_both (in_field literals.modalities cell.modality key.modality) (in_field literals.stations cell.station key.station))))
   where
-    go : Dec ((cell.class ≡ key.class) × ((cell.syntax ≡ key.syntax) × (InField literals.modalities cell.modality key.modality × InStation literals.stations cell.station key.station))) → Dec (InCell literals cell key)
+    go : Dec ((cell.class ≡ key.class) × ((cell.syntax ≡ key.syntax) × (InField literals.modalities cell.modality key.modality × InField literals.stations cell.station key.station))) → Dec (InCell literals cell key)
     go (yes h) = yes (record { class = h.0; syntax = h.1.0; modality = h.1.1.0; station = h.1.1.1 })
     go (no n) = no (λ c. n (c.class, (c.syntax, (c.modality, c.station))))
 

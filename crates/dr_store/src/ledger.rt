@@ -18,7 +18,7 @@ ghost use Rattle.dr_store.specs.Surviving.{Wrote};
 use crate::counting::{counted, next_after};
 use crate::listing::{first_unfit, list_arrivals, list_kept, list_rows, list_rows_and_keys};
 use crate::reading::{admit, due_row, has_data_set, has_item, next_job};
-use crate::telling::{list_lines, tell_journal};
+use crate::telling::{list_lines, tell_behind, tell_journal};
 use dr_base::{Seq, Text};
 use dr_cert::Sealed;
 use dr_ledger::{Arrived, Entry, Item, Job, Ledger, LedgerFault, LetsGo, Outcome, Progress};
@@ -452,6 +452,12 @@ impl<S: Alter, B: Shelf> Views for SqlLedger<S, B> {
 
     fn callers_of(&mut self, uid: &Text) -> Result<Seq<Text>, LedgerFault> {
         let answer = callers_of(&mut self.conn, self.alloc, uid);
+        self.failures = counted(&answer, self.failures);
+        answer
+    }
+
+    fn lines_behind(&mut self, after: u64, limit: u32) -> Result<Seq<JournalLine>, LedgerFault> {
+        let answer = tell_behind(&mut self.conn, self.alloc, after, limit);
         self.failures = counted(&answer, self.failures);
         answer
     }

@@ -16,6 +16,7 @@ use dr_ledger_history::{JournalLine, entries_of};
 use dr_store_audit::goals::are_by_line;
 use dr_store_audit::lines::line_for;
 use dr_store_lists::{JournalRow, all_notes, all_targets};
+use dr_store_views::{goals_behind, notes_behind};
 use sqlite::{Alter, Connection};
 use std::alloc::{AllocError, Global};
 
@@ -80,6 +81,45 @@ pub fn tell_journal<S: Alter>(
 {
     match all_notes(conn, alloc) {
         Ok(notes) => tell_notes(conn, alloc, notes.as_slice()),
+        Err(fault) => Err(fault),
+    }
+}
+
+/// The lines of these notes, whose numbers lie behind the one and up to the other, by the goals of
+/// such numbers.
+fn tell_notes_behind<S: Alter>(
+    conn: &mut Connection<S>,
+    alloc: Global,
+    after: u64,
+    last: u64,
+    notes: &[(u64, JournalRow)],
+) -> Result<Seq<JournalLine>, LedgerFault>
+    ensures looked { (n : ℕ) (part : Part)
+        → Looked n part result (state S.Store conn.old) (state S.Store conn.new)
+        (λ base all. Unit {0}) }
+    ensures idle { conn.old.in_transaction ≡ false → conn.new.in_transaction ≡ false }
+{
+    match goals_behind(conn, alloc, after, last) {
+        Ok(goals) => lines_by(alloc, notes, goals.as_slice()),
+        Err(fault) => Err(fault),
+    }
+}
+
+/// The lines of the journal behind a number, in order, so many at most.
+pub fn tell_behind<S: Alter>(
+    conn: &mut Connection<S>,
+    alloc: Global,
+    after: u64,
+    limit: u32,
+) -> Result<Seq<JournalLine>, LedgerFault>
+    ensures looked { (n : ℕ) (part : Part)
+        → Looked n part result (state S.Store conn.old) (state S.Store conn.new)
+        (λ base all. Unit {0}) }
+    ensures idle { conn.old.in_transaction ≡ false → conn.new.in_transaction ≡ false }
+{
+    let last = after.saturating_add(u64::from(limit));
+    match notes_behind(conn, alloc, after, last) {
+        Ok(notes) => tell_notes_behind(conn, alloc, after, last, notes.as_slice()),
         Err(fault) => Err(fault),
     }
 }

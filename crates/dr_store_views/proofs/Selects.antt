@@ -14,6 +14,7 @@ use Rattle.sqlite_value.specs.Keys.{ascending}
 use Rattle.dr_store_views.specs.Statements as text
 use Rattle.dr_store_views.specs.Origins.{line_query, moment_query}
 use Rattle.dr_store_reads.proofs.Selects.{Is}
+use Rattle.dr_store_lists.proofs.Wholes.{all_lines_order, all_lines_shown, all_targets_order, all_targets_shown}
 
 -- how many rows of a table the conditions hold of
 abbrev pub counted : ℕ → List Term → Query
@@ -117,6 +118,32 @@ page_query = ordered behind entry_shown ((col 1 1, ascending Binary) ∷ []) (co
 pub page : Is text.page page_query names
 unfolding understood everything
 page = record { command = refl; listing = refl; plain = (refl, refl) }
+
+-- WHERE n > ?1 AND n <= ?2, of the column that has a line's number
+abbrev pub in_span : ℕ → List Term
+in_span place = op2 (Compare Gt Binary) (col 1 place) (col 0 0) ∷ op2 (Compare Le Binary) (col 1 place) (col 0 1) ∷ []
+
+-- the rows of a table in that span
+abbrev pub spanned : ℕ → ℕ → List Term → List (Term × Key) → Query
+spanned tree place shown order = record {
+  from = inner tree end;
+  filter = in_span place;
+  group = None;
+  project = shown;
+  distinct = false;
+  collations = [];
+  order = order;
+  limit = lit (Int (negsuc 0));
+  offset = lit (Int (pos 0));
+}
+
+pub lines_behind : Is text.lines_behind (spanned 11 0 all_lines_shown all_lines_order) (codes "n" ∷ codes "kind" ∷ codes "caller" ∷ codes "uid" ∷ codes "dest" ∷ codes "outcome" ∷ codes "moment" ∷ codes "class" ∷ codes "syntax" ∷ codes "modality" ∷ codes "station" ∷ codes "length" ∷ codes "sha256" ∷ [])
+unfolding understood everything
+lines_behind = record { command = refl; listing = refl; plain = (refl, refl) }
+
+pub targets_behind : Is text.targets_behind (spanned 12 1 all_targets_shown all_targets_order) (codes "n" ∷ codes "dest" ∷ [])
+unfolding understood everything
+targets_behind = record { command = refl; listing = refl; plain = (refl, refl) }
 
 -- ---- where an instance is from
 

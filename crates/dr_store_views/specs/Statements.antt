@@ -34,3 +34,13 @@ callers_of = codes "SELECT caller FROM arrival WHERE uid = ?1 ORDER BY caller"
 abbrev pub page : List ℕ
 page = codes
     "SELECT uid, dest, state, tries, due, cause FROM queue WHERE dest = ?1 AND state >= ?2 AND state <= ?3 AND uid > ?4 ORDER BY uid LIMIT ?5"
+
+-- the lines of the journal behind one number and up to the other
+abbrev pub lines_behind : List ℕ
+lines_behind = codes
+    "SELECT n, kind, caller, uid, dest, outcome, moment, class, syntax, modality, station, length, sha256 FROM journal WHERE n > ?1 AND n <= ?2 ORDER BY n"
+
+-- where the first arrivals among them go on to
+abbrev pub targets_behind : List ℕ
+targets_behind = codes
+    "SELECT n, dest FROM target WHERE n > ?1 AND n <= ?2 ORDER BY n, dest"

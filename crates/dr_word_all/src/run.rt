@@ -9,16 +9,17 @@ ghost use Rattle.dr_word_line.specs.declared.words.Task.TheVariants as asks;
 ghost use Rattle.dr_word_route.specs.Tasks.{DoesOnPlans};
 
 use dr_ledger_journal::TellsJournal;
+use dr_run_backup::Backups;
 use dr_run_files::{Failure, Files};
 use dr_run_net::Network;
 use dr_run_open::Status;
-use dr_run_report::Paths;
 use dr_run_serve::{Ending, OwnPort, Tallied};
 use dr_run_token::Tokens;
 use dr_session::{Clock, DeskPort};
 use dr_word_adopt::adopt_files;
 use dr_word_at::{Way, ask_files};
 use dr_word_audit::audit_files;
+use dr_word_audit_at::audit_running;
 use dr_word_check::tell_failure;
 use dr_word_echo::{EchoNodes, echo_files};
 use dr_word_import::import_file;
@@ -102,7 +103,7 @@ fn run_any<
     R: Read,
     W: Write,
     E: Write,
-    F: Files + Paths + Tokens + Sync,
+    F: Files + Backups + Tokens + Sync,
     O: Finds,
     N: Network + Sync,
     C: Clock + Sync,
@@ -129,6 +130,10 @@ where
         (R.remaining input.old) asked.entry (W.contents output.old) (W.contents output.new)) }
 {
     let (files, ledgers) = (system.files, system.ledgers);
+    let way = Way {
+        network: system.network,
+        clock: system.clock,
+    };
     match asked {
         Task::Echo(plan, caller, called) => {
             let nodes = EchoNodes {
@@ -148,12 +153,9 @@ where
         }
         Task::AtNode(given, duty) => work_files(rt, alloc, system, given, duty, output, faults),
         Task::AtRunning(given, errand) => {
-            let way = Way {
-                network: system.network,
-                clock: system.clock,
-            };
             ask_files(alloc, files, given, errand, way, output, faults)
         }
+        Task::AuditRunning(given) => audit_running(alloc, files, given, way, output, faults),
         Task::Adopt(change) => adopt_files(alloc, files, ledgers, change, output, faults),
         Task::Rehearse(change) => rehearse_files(alloc, files, ledgers, change, output, faults),
         Task::Import(path) => import_file(alloc, files, path, output, faults),
@@ -167,15 +169,8 @@ where
         }
         Task::Audit(given) => audit_files(alloc, files, ledgers, given, &[], output, faults),
         Task::AuditAmong(given, others) => {
-            audit_files(
-                alloc,
-                files,
-                ledgers,
-                given,
-                others.as_slice(),
-                output,
-                faults,
-            )
+            let others = others.as_slice();
+            audit_files(alloc, files, ledgers, given, others, output, faults)
         }
         other => run_offline(alloc, other, input, output, faults, files),
     }
@@ -188,7 +183,7 @@ pub fn run_words<
     R: Read,
     W: Write,
     E: Write,
-    F: Files + Paths + Tokens + Sync,
+    F: Files + Backups + Tokens + Sync,
     O: Finds,
     N: Network + Sync,
     C: Clock + Sync,

@@ -2,7 +2,7 @@
 use Rattle.std.specs.Prelude.{◌≡◌, ◌⊎◌, ℕ, List, codes, Result, Ok, Err, IsErr}
 use Rattle.std.specs.Borrow.{Bor}
 use Rattle.dr_base.specs.Texts.{Text}
-use Rattle.dr_run_ask.specs.Calls.{dest_form, reason_form, row_form, uid_form}
+use Rattle.dr_run_ask.specs.Calls.{copy_form, dest_form, reason_form, row_form, uid_form}
 use Rattle.dr_run_ask.specs.Conversations.{OnlyReads, Tells}
 use Rattle.dr_run_ask.specs.declared.answer.HttpAnswer.{HttpAnswer}
 use Rattle.dr_run_ask.specs.declared.call.HttpCall.{HttpCall}
@@ -16,11 +16,12 @@ use Rattle.dr_word_line.specs.declared.words.Errand.{Errand}
 use Rattle.dr_word_line.specs.declared.words.Errand.TheVariants as errands
 
 -- the exit status: 3 where no answer came, 1 where the node or its ledger refuses, but for a store
--- that failed, and for want of memory; as of a ledger in a file
+-- or a copy's file that failed, and for want of memory; as of a ledger in a file
 abbrev pub status_of : AskFault → Ending
 status_of faults.NoConnection = ends.InputOutput
 status_of faults.NoAnswer = ends.InputOutput
 status_of faults.NoNodesAnswer = ends.InputOutput
+status_of faults.Shrunk = ends.Refused
 status_of faults.OtherNode = ends.Refused
 status_of faults.OtherPlan = ends.Refused
 status_of faults.NoRequest = ends.Refused
@@ -31,6 +32,12 @@ status_of faults.Token = ends.Refused
 status_of faults.NoHop = ends.Refused
 status_of faults.NotHeld = ends.Refused
 status_of faults.NotOver = ends.Refused
+status_of faults.OwnFile = ends.Refused
+status_of faults.IsThere = ends.Refused
+status_of faults.NoPath = ends.Refused
+status_of faults.Busy = ends.Refused
+status_of faults.GivenUp = ends.Refused
+status_of faults.NoCopy = ends.InputOutput
 status_of faults.Store = ends.InputOutput
 status_of faults.Memory = ends.Memory
 
@@ -71,6 +78,8 @@ module _ {S : Type 0} (answers : S → HttpCall → Result HttpAnswer AskFault �
       (reason_form uid.now dest.now reason.now) calls.GiveUp (codes "dropped\n") old came new
   Runs name digest (errands.Visit dest) old came new =
       Acts name digest (dest_form dest.now) calls.Visit (codes "visited\n") old came new
+  Runs name digest (errands.Backup copy) old came new =
+      Acts name digest (copy_form copy.now) calls.Backup (codes "copied\n") old came new
   Runs name digest (errands.Forget uid) old came new =
       Acts name digest (uid_form uid.now) calls.Forget (codes "forgotten\n") old came new
   Runs name digest errands.Stop old came new =

@@ -12,6 +12,17 @@ use std::io::ErrorKind;
 /// From the connect on an answer has so many milliseconds to come whole.
 const WAIT: u64 = 10_000;
 
+/// And that to a copy so many: all of a ledger has to be written to a disk.
+const COPY_WAIT: u64 = 600_000;
+
+/// For how many milliseconds the answer is awaited.
+fn wait_of(call: HttpCall<'_>) -> u64 {
+    match call {
+        HttpCall::Backup(_) => COPY_WAIT,
+        _ => WAIT,
+    }
+}
+
 /// Asks at an address, with a token where there is one.
 #[derive(Drop)]
 pub struct Caller<'a, N: Network, C: Clock> {
@@ -106,7 +117,7 @@ impl<'a, N: Network, C: Clock> Asks for Caller<'a, N, C> {
 
     fn ask(&mut self, call: HttpCall<'_>) -> Result<HttpAnswer, AskFault> {
         let bytes = request_bytes(self.alloc, self.at, self.token, call)?;
-        let until = self.clock.now().saturating_add(WAIT);
+        let until = self.clock.now().saturating_add(wait_of(call));
         let mut link = connect(self.alloc, self.network, self.at)?;
         let answer = exchange(self.alloc, &mut link, self.clock, bytes.as_slice(), until)?;
         Ok(answer)

@@ -1,6 +1,6 @@
 //! What a node that runs is asked and told by a word.
 ghost use Rattle.std.specs.Prelude.{◌≡◌, codes};
-ghost use Rattle.dr_run_ask.specs.Calls.{dest_form, reason_form, row_form, uid_form};
+ghost use Rattle.dr_run_ask.specs.Calls.{copy_form, dest_form, reason_form, row_form, uid_form};
 ghost use Rattle.dr_run_ask.specs.Conversations.{OnlyReads};
 ghost use Rattle.dr_run_ask.specs.declared.call.HttpCall.TheVariants as calls;
 ghost use Rattle.dr_word_at.specs.Errands.{Acts, Does, Runs};
@@ -8,7 +8,8 @@ ghost use Rattle.dr_word_at.specs.Errands.{Acts, Does, Runs};
 use crate::listing::{list_of, summary_of};
 use dr_base::Text;
 use dr_run_ask::{
-    AskFault, Asks, HttpCall, Meant, dest_form, reason_form, row_form, see, tell, uid_form,
+    AskFault, Asks, HttpCall, Meant, copy_form, dest_form, reason_form, row_form, see, tell,
+    uid_form,
 };
 use dr_run_open::{NextHop, Status};
 use dr_word_line::Errand;
@@ -222,6 +223,26 @@ fn visit_node<A: Asks>(
     act(alloc, node, meant, call, "visited\n")
 }
 
+/// Has a node copy its ledger.
+///
+/// Errors: those of `act`.
+fn back_up<A: Asks>(
+    alloc: Global,
+    node: &mut A,
+    meant: Meant<'_>,
+    copy: &str,
+) -> Result<ErrandOutcome, AskFault>
+    ensures { Acts A.answers meant.entry.name.now meant.entry.digest.now (copy_form copy.now)
+        calls.Backup (codes "copied\n") node.old result node.new }
+{
+    let form = match copy_form(alloc, copy) {
+        Ok(form) => form,
+        Err(AllocError) => return Err(AskFault::Memory),
+    };
+    let call = HttpCall::Backup(form.as_str());
+    act(alloc, node, meant, call, "copied\n")
+}
+
 /// Forgets an instance.
 ///
 /// Errors: those of `act`.
@@ -267,6 +288,7 @@ pub fn run_errand<A: Asks>(
         ),
         Errand::Forget(uid) => forget_instance(alloc, node, meant, uid),
         Errand::Visit(dest) => visit_node(alloc, node, meant, dest),
+        Errand::Backup(copy) => back_up(alloc, node, meant, copy),
         Errand::Stop => act(alloc, node, meant, HttpCall::Stop, "stopped\n"),
     }
 }

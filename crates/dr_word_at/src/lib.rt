@@ -1,5 +1,5 @@
-//! The words `list`, `requeue`, `drop`, `forget` and `stop` at a node that runs: clients of its
-//! control connection (`serve --control`).
+//! The words `list`, `requeue`, `drop`, `forget`, `visit`, `backup` and `stop` at a node that runs:
+//! clients of its control connection (`serve --control`).
 //!
 //! `ask_files` does them over files, tokens and a network. What a node is asked and told by a word,
 //! over anything that asks (`dr_run_ask`), is said by `run_errand` in `doing`.
@@ -11,4 +11,6 @@ mod listing;
 mod running;
 mod shown;
 
-pub use running::{Way, ask_files};
+pub use caller::Caller;
+pub use running::{Way, ask_files, digest_of, status_of, token_at};
+pub use shown::{number_in, text_in};

@@ -18,13 +18,17 @@ use std::alloc::{AllocError, Global};
 use std::io::Write;
 
 /// The status with which the program ends where that is told.
-fn status_of(fault: AskFault) -> Status
+pub fn status_of(fault: AskFault) -> Status
     ensures { result ≡ status_of fault }
 {
     match fault {
-        AskFault::NoConnection | AskFault::NoAnswer | AskFault::NoNodesAnswer | AskFault::Store =>
-            Status::InputOutput,
-        AskFault::OtherNode
+        AskFault::NoConnection
+        | AskFault::NoAnswer
+        | AskFault::NoNodesAnswer
+        | AskFault::NoCopy
+        | AskFault::Store => Status::InputOutput,
+        AskFault::Shrunk
+        | AskFault::OtherNode
         | AskFault::OtherPlan
         | AskFault::NoRequest
         | AskFault::Host
@@ -33,7 +37,12 @@ fn status_of(fault: AskFault) -> Status
         | AskFault::Token
         | AskFault::NoHop
         | AskFault::NotHeld
-        | AskFault::NotOver => Status::Refused,
+        | AskFault::NotOver
+        | AskFault::OwnFile
+        | AskFault::IsThere
+        | AskFault::NoPath
+        | AskFault::Busy
+        | AskFault::GivenUp => Status::Refused,
         AskFault::Memory => Status::Memory,
     }
 }
@@ -105,7 +114,7 @@ struct NodeMeant {
 /// The digest of the plan, in lower-case hexadecimal digits.
 ///
 /// Errors: want of memory.
-fn digest_of(alloc: Global, sealed: &Sealed) -> Result<Text, AllocError> {
+pub fn digest_of(alloc: Global, sealed: &Sealed) -> Result<Text, AllocError> {
     let digits = hex::encode(alloc, sealed.plan().digest().as_slice())?;
     Text::copy_of(alloc, digits.as_bytes())
 }
@@ -144,17 +153,17 @@ fn place_of<'a, F: Files>(
 /// The token of a file, where one is given.
 ///
 /// Errors: File.
-fn token_of<'a, F: Tokens>(
+pub fn token_at<'a, F: Tokens>(
     alloc: Global,
     files: &F,
     path: Option<&'a str>,
-) -> Result<Option<Text>, ErrandStopped<'a>> {
+) -> Result<Option<Text>, Halt<'a>> {
     let Some(path) = path else {
         return Ok(None);
     };
     match files.token(alloc, path) {
         Ok(token) => Ok(Some(token)),
-        Err(error) => Err(ErrandStopped::Halted(Halt::Failed(Failure::File(path, error)))),
+        Err(error) => Err(Halt::Failed(Failure::File(path, error))),
     }
 }
 
@@ -185,7 +194,7 @@ fn ask_at<'x, N: Network, C: Clock>(
 
 /// What an errand comes to at the node that runs at an address.
 ///
-/// Errors: those of `place_of` and `token_of`; those of `run_errand`.
+/// Errors: those of `place_of` and `token_at`; those of `run_errand`.
 fn come<'a, F: Files + Tokens, N: Network, C: Clock>(
     alloc: Global,
     files: &F,
@@ -194,7 +203,7 @@ fn come<'a, F: Files + Tokens, N: Network, C: Clock>(
     way: Way<'_, N, C>,
 ) -> Result<ErrandOutcome, ErrandStopped<'a>> {
     let place = place_of(alloc, files, given)?;
-    let token = token_of(alloc, files, given.token)?;
+    let token = token_at(alloc, files, given.token)?;
     let at = Text::copy_of(alloc, given.at.as_bytes())?;
     let outcome = ask_at(alloc, way, &at, token.as_ref(), &place, errand)?;
     Ok(outcome)

@@ -18,7 +18,7 @@ const LF: u8 = 10;
 /// What a member says that is a number.
 ///
 /// Errors: NoNodesAnswer where it says none.
-pub(crate) fn number_in(value: &Value, name: &str) -> Result<u64, AskFault>
+pub fn number_in(value: &Value, name: &str) -> Result<u64, AskFault>
     ensures { IfOk result (λ number. number_at name.now (view value.now) ≡ Some number) }
 {
     match number_at(value, name) {
@@ -30,7 +30,7 @@ pub(crate) fn number_in(value: &Value, name: &str) -> Result<u64, AskFault>
 /// What a member says that is a text.
 ///
 /// Errors: NoNodesAnswer where it says none.
-pub(crate) fn text_in<'v>(value: &'v Value, name: &str) -> Result<&'v str, AskFault>
+pub fn text_in<'v>(value: &'v Value, name: &str) -> Result<&'v str, AskFault>
     ensures { IfOk result (λ text. text_at name.now (view value.now) ≡ Some text.now) }
 {
     match text_at(value, name) {

@@ -50,7 +50,7 @@ fn tell_mismatch(
 }
 
 /// What is printed of a verdict.
-fn tell_verdict(
+pub fn tell_verdict(
     alloc: Global,
     verdict: &AuditVerdict,
     journals: &[NodeJournal],
@@ -200,7 +200,7 @@ where
 }
 
 /// Writes what the audit comes to.
-fn tell_audit<'a, W: Write>(audited: &Audited, output: &mut W) -> Result<Status, Failure<'a>>
+pub fn tell_audit<'a, W: Write>(audited: &Audited, output: &mut W) -> Result<Status, Failure<'a>>
     ensures { IfOk result
         (EndsAudit (Ok audited.now) (W.contents output.old) (W.contents output.new)) }
 {

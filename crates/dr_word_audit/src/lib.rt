@@ -10,11 +10,12 @@
 
 mod audited;
 mod auditing;
-mod counting;
-mod figuring;
-mod naming;
-mod placing;
-mod printing;
+pub mod counting;
+pub mod figuring;
+pub mod naming;
+pub mod placing;
+pub mod printing;
 mod reading;
 
-pub use auditing::audit_files;
+pub use audited::Audited;
+pub use auditing::{audit_files, tell_audit, tell_verdict};

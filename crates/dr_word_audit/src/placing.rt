@@ -14,7 +14,7 @@ use dr_ledger_history::JournalLine;
 use dr_world_audit::audit::{Mismatch, NodeJournal, is_fair};
 
 /// Whether the line is of an arrival of the UID that goes on to there.
-fn goes_on(uid: &Text, to: &Text, line: &JournalLine) -> bool
+pub fn goes_on(uid: &Text, to: &Text, line: &JournalLine) -> bool
     ensures { result ≡ is_to uid.now to.now (line_of line.now) }
 {
     match line {
@@ -41,7 +41,7 @@ fn is_brought(uid: &Text, from: &Text, caller: &Text, instance: &Instance) -> bo
 }
 
 /// Whether by the line the UID arrived from there.
-fn came_from(uid: &Text, from: &Text, line: &JournalLine) -> bool
+pub fn came_from(uid: &Text, from: &Text, line: &JournalLine) -> bool
     ensures { result ≡ is_from uid.now from.now (line_of line.now) }
 {
     match line {

@@ -35,7 +35,7 @@ fn line_head(alloc: Global, code: &[u8], node: &Text) -> Result<Vec<u8>, AllocEr
 }
 
 /// That it doesn't hold at the node.
-fn short_line(alloc: Global, code: &[u8], node: &Text) -> Result<Text, AllocError>
+pub fn short_line(alloc: Global, code: &[u8], node: &Text) -> Result<Text, AllocError>
     ensures { IfOk result (λ line. line ≡ shorter code.now node.now) }
 {
     let mut out = line_head(alloc, code, node)?;

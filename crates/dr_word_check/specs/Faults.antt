@@ -4,7 +4,7 @@ use Rattle.std.specs.Prelude.{List, [], ◌∷◌, ◌++◌, codes, flat_map}
 use Rattle.dr_base.specs.Texts.{Text}
 use Rattle.dr_base.specs.Syntaxes.{syntax_uid}
 use Rattle.dr_route.specs.declared.cell.OwnedCell.{OwnedCell}
-use Rattle.dr_plan_sound.specs.Printed.{printed_field, printed_station}
+use Rattle.dr_plan_sound.specs.Printed.{printed_field}
 use Rattle.dr_check.specs.declared.fault.Fault.{Fault}
 use Rattle.dr_check.specs.declared.fault.Fault.TheVariants.{NoContext, Cycle, DeadEnd}
 use Rattle.dr_check.specs.declared.fault.Fault.TheVariants.{TooManyContexts}
@@ -18,7 +18,7 @@ tabbed fields = flat_map (λ field. 9 ∷ field) fields
 abbrev pub walk_fields : OwnedCell → List Text → Text
 walk_fields cell walk =
     (9 ∷ cell.class) ++ (9 ∷ syntax_uid cell.syntax) ++ (9 ∷ printed_field cell.modality)
-    ++ (9 ∷ printed_station cell.station) ++ tabbed walk
+    ++ (9 ∷ printed_field cell.station) ++ tabbed walk
 
 -- the fields of a fault: its name and its parts, such as `Cycle` with a walk that comes back
 abbrev pub fault_fields : Fault → Text

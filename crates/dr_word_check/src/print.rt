@@ -4,9 +4,8 @@ ghost use Rattle.dr_word_check.specs.Faults.{tabbed, walk_fields, fault_fields, 
 
 use dr_base::Text;
 use dr_base::fields::add_field;
-use dr_cert_text::add_station;
+use dr_cert_text::add_part;
 use dr_check::Fault;
-use dr_plan_sound::field_bytes;
 use dr_route::OwnedCell;
 use std::alloc::{AllocError, Global};
 
@@ -28,8 +27,8 @@ fn add_walk(line: &mut Vec<u8>, cell: &OwnedCell, walk: &[Text]) -> Result<(), A
 {
     add_field(line, cell.class.as_bytes())?;
     add_field(line, cell.syntax.uid())?;
-    add_field(line, field_bytes(&cell.modality))?;
-    add_station(line, &cell.station)?;
+    add_part(line, &cell.modality)?;
+    add_part(line, &cell.station)?;
     add_fields(line, walk)
 }
 

@@ -208,7 +208,8 @@ pub fn run_asked<'a, R: Read, W: Write, E: Write, F: Files>(
         | Task::Adopt(_)
         | Task::Rehearse(_)
         | Task::Audit(_)
-        | Task::AuditAmong(_, _) => { Ok(tell_other_word(faults)?) }
+        | Task::AuditAmong(_, _)
+        | Task::AuditRunning(_) => { Ok(tell_other_word(faults)?) }
         Task::Told(error) => Ok(tell_words(&error, output, faults)?),
     }
 }

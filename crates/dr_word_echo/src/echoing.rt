@@ -41,6 +41,7 @@ fn tell_outcome<W: Write, E: Write>(
             output.write_all(line.as_bytes())
         }
         EchoOutcome::NoNode => writeln!(faults, "dr_router: NoNode"),
+        EchoOutcome::Nowhere => writeln!(faults, "dr_router: {called}: Nowhere"),
         EchoOutcome::Unreached(error) => writeln!(faults, "dr_router: {called}: {error}"),
         EchoOutcome::Failed(fault) => writeln!(faults, "dr_router: {fault}"),
         EchoOutcome::Memory => writeln!(faults, "dr_router: Memory"),

@@ -20,6 +20,8 @@ pub enum EchoOutcome {
     Answered(Echoed),
     /// One of the two is no node of the plan.
     NoNode,
+    /// The other node listens nowhere.
+    Nowhere,
     /// The other node's address can't be reached.
     Unreached(io::Error),
     /// Why the session didn't end as an association does.
@@ -40,6 +42,7 @@ impl EchoOutcome {
                 _ => Status::Refused,
             },
             EchoOutcome::NoNode => Status::Refused,
+            EchoOutcome::Nowhere => Status::Refused,
             EchoOutcome::Unreached(_) => Status::InputOutput,
             EchoOutcome::Failed(_) => Status::InputOutput,
             EchoOutcome::Memory => Status::Memory,
@@ -122,7 +125,10 @@ fn outcome_between<N: Network, C: Clock>(
     let Some(node) = known_node(plan, called) else {
         return EchoOutcome::NoNode;
     };
-    ask(alloc, caller, called, &node.address, network, clock)
+    let Some(address) = node.listens.address() else {
+        return EchoOutcome::Nowhere;
+    };
+    ask(alloc, caller, called, address, network, clock)
 }
 
 /// What comes of an echo from the node of the first name to that of the second.

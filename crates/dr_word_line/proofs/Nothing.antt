@@ -48,6 +48,7 @@ module _ (words : List (Bor (List ℕ)))
     (give_up : (given : RunningNode) (uid dest : Bor (List ℕ)) → IsErrandOf words given (errands.GiveUp uid dest) → ⊥)
     (forget : (given : RunningNode) (uid : Bor (List ℕ)) → IsErrandOf words given (errands.Forget uid) → ⊥)
     (visit : (given : RunningNode) (dest : Bor (List ℕ)) → IsErrandOf words given (errands.Visit dest) → ⊥)
+    (backup : (given : RunningNode) (copy : Bor (List ℕ)) → IsErrandOf words given (errands.Backup copy) → ⊥)
     (stop : (given : RunningNode) → IsErrandOf words given errands.Stop → ⊥) where
   pub no_errand : (given : RunningNode) (errand : Errand) → IsErrandOf words given errand → ⊥
   no_errand given errands.List h = list given h
@@ -59,6 +60,7 @@ module _ (words : List (Bor (List ℕ)))
   no_errand given (errands.GiveUpFor uid dest reason) h = absurd h
   no_errand given (errands.Forget uid) h = forget given uid h
   no_errand given (errands.Visit dest) h = visit given dest h
+  no_errand given (errands.Backup copy) h = backup given copy h
   no_errand given errands.Stop h = stop given h
 
 -- nothing is asked for, where nothing of each form is
@@ -100,6 +102,7 @@ module _ (words : List (Bor (List ℕ)))
   nothing_asked (asks.Adopt change) h = adopt change h
   nothing_asked (asks.Audit given) h = audit given h
   nothing_asked (asks.AuditAmong given others) h = absurd h
+  nothing_asked (asks.AuditRunning given) h = absurd h
   nothing_asked (asks.Rehearse change) h = absurd h
   nothing_asked asks.CheckInputAsJson h = absurd h
   nothing_asked (asks.CheckFileAsJson plan) h = absurd h

@@ -77,7 +77,8 @@ of_eight word a b c d e f g =
 -- what nine words tell a running node
 abbrev of_nine : List ℕ → RunningNode → Word → Task
 of_nine word given h =
-    cond (initial word == 118) (asks.AtRunning given (errands.Visit h)) (asks.AtRunning given (errands.Forget h))
+    cond (initial word == 118) (asks.AtRunning given (errands.Visit h))
+    (cond (initial word == 98) (asks.AtRunning given (errands.Backup h)) (asks.AtRunning given (errands.Forget h)))
 
 -- what a running node is told of a row, by the word or by the option
 abbrev of_rows : List ℕ → RunningNode → Word → Word → Task
@@ -218,6 +219,12 @@ module _ (words : List Word) where
       (subst (Means (asks.AtRunning (running given.plan given.certificate given.node given.at (Some h.0.1)) (errands.Visit dest))) (sym h.0.2.2)
       (subst (λ n. of_nine n (running given.plan given.certificate given.node given.at (Some h.0.1)) dest ≡ asks.AtRunning (running given.plan given.certificate given.node given.at (Some h.0.1)) (errands.Visit dest))
       (sym h.0.2.3) refl))
+  is_meant (asks.AtRunning given (errands.Backup copy)) h =
+      subst (λ (token : Option Word). meant words ≡ asks.AtRunning (running given.plan given.certificate given.node given.at token) (errands.Backup copy))
+      (sym h.0.5)
+      (subst (Means (asks.AtRunning (running given.plan given.certificate given.node given.at (Some h.0.1)) (errands.Backup copy))) (sym h.0.2.2)
+      (subst (λ n. of_nine n (running given.plan given.certificate given.node given.at (Some h.0.1)) copy ≡ asks.AtRunning (running given.plan given.certificate given.node given.at (Some h.0.1)) (errands.Backup copy))
+      (sym h.0.2.3) refl))
   is_meant (asks.AtRunning given (errands.GiveUpFor uid dest reason)) h = absurd h
   is_meant (asks.AtRunning given (errands.GiveUp uid dest)) h =
       subst (λ (token : Option Word). meant words ≡ asks.AtRunning (running given.plan given.certificate given.node given.at token) (errands.GiveUp uid dest)) (sym h.0.5)
@@ -241,6 +248,7 @@ module _ (words : List Word) where
       subst (Means (asks.Audit given)) (sym h.1)
       (subst (λ n. of_four n given.plan given.certificate given.folder ≡ asks.Audit given) (sym h.2) refl)
   is_meant (asks.AuditAmong given others) h = absurd h
+  is_meant (asks.AuditRunning given) h = absurd h
   is_meant (asks.Rehearse change) h = absurd h
   is_meant asks.CheckInputAsJson h = absurd h
   is_meant (asks.CheckFileAsJson plan) h = absurd h

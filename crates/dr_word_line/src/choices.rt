@@ -24,12 +24,14 @@ pub(crate) enum Choice {
     IfHeld,
     At,
     AtNeeded,
+    AtEach,
     AtToken,
     Row,
     Dest,
     Uid,
     Next,
     Visited,
+    Copy,
     Reason,
     Other,
     AllHeld,
@@ -67,12 +69,14 @@ impl<'a> Makes<Arg<'a>> for Choice {
             Choice::IfHeld => if_held(alloc),
             Choice::At => Ok(at(alloc)),
             Choice::AtNeeded => Ok(at(alloc).required(true)),
+            Choice::AtEach => Ok(at_each(alloc)),
             Choice::AtToken => at_token(alloc),
             Choice::Row => row(alloc),
             Choice::Dest => Ok(dest(alloc)),
             Choice::Uid => Ok(needed(alloc, "UID", "the SOP instance UID")),
             Choice::Next => Ok(needed(alloc, "DEST", "the node to which it is not to be sent")),
             Choice::Visited => Ok(needed(alloc, "DEST", "the node to which it is to send")),
+            Choice::Copy => Ok(copy(alloc)),
             Choice::Reason => reason(alloc),
             Choice::Other => Ok(other(alloc)),
             Choice::AllHeld => all_held(alloc),
@@ -196,6 +200,16 @@ fn at<'a>(alloc: Global) -> Arg<'a> {
         .help("in the place of DB: asks the node that runs, by its control connection there")
 }
 
+/// Where nodes that run are asked.
+fn at_each<'a>(alloc: Global) -> Arg<'a> {
+    Arg::new(alloc, "AT")
+        .long("at")
+        .action(ArgAction::Append)
+        .value_name("NAME=HOST:PORT")
+        .allow_hyphen_values(true)
+        .help("in the place of DIR: the node that runs, and its control connection; once for each")
+}
+
 /// The token that a node that runs asks for.
 fn at_token<'a>(alloc: Global) -> Result<Arg<'a>, AllocError> {
     Arg::new(alloc, "TOKEN")
@@ -204,6 +218,15 @@ fn at_token<'a>(alloc: Global) -> Result<Arg<'a>, AllocError> {
         .value_name("FILE")
         .help("with --at: the file with the token, which nobody but its owner may read")
         .requires_arg("AT")
+}
+
+/// Where a ledger is copied to.
+fn copy<'a>(alloc: Global) -> Arg<'a> {
+    needed(
+        alloc,
+        "COPY",
+        "the path of the copy on the node's machine, from the root; nothing may be there",
+    )
 }
 
 /// Why a row is given up.

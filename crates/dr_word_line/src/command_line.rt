@@ -1,6 +1,7 @@
 //! The command line as clap knows it: its words in their order.
 use crate::node_words::{
-    adopt, audit, forget, give_up, list, make_ledger, requeue, send, serve, stop, visit,
+    adopt, audit, audit_running, backup, forget, give_up, list, make_ledger, requeue, send, serve,
+    stop, visit,
 };
 use crate::parts::{LEDGER, Makes, RUNNING, add_all};
 use crate::plan_words::{
@@ -42,6 +43,7 @@ enum Verb {
     Drop,
     Forget,
     Visit,
+    Backup,
     Stop,
     Adopt,
     Audit,
@@ -67,6 +69,7 @@ const VERBS: &[Verb] = &[
     Verb::Drop,
     Verb::Forget,
     Verb::Visit,
+    Verb::Backup,
     Verb::Stop,
     Verb::Adopt,
     Verb::Audit,
@@ -94,6 +97,7 @@ impl<'a> Makes<Command<'a>> for Verb {
             Verb::Drop => give_up(alloc, LEDGER),
             Verb::Forget => forget(alloc, LEDGER),
             Verb::Visit => visit(alloc),
+            Verb::Backup => backup(alloc),
             Verb::Stop => stop(alloc),
             Verb::Adopt => adopt(alloc),
             Verb::Audit => audit(alloc),
@@ -117,7 +121,9 @@ const RUNNING_VERBS: &[Running] = &[
     Running(Verb::Drop),
     Running(Verb::Forget),
     Running(Verb::Visit),
+    Running(Verb::Backup),
     Running(Verb::Stop),
+    Running(Verb::Audit),
 ];
 
 impl<'a> Makes<Command<'a>> for Running {
@@ -127,6 +133,7 @@ impl<'a> Makes<Command<'a>> for Running {
             Verb::Requeue => requeue(alloc, RUNNING),
             Verb::Drop => give_up(alloc, RUNNING),
             Verb::Forget => forget(alloc, RUNNING),
+            Verb::Audit => audit_running(alloc),
             other => other.make(alloc),
         }
     }

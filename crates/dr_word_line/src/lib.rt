@@ -20,6 +20,6 @@ mod words;
 
 pub use reading::read_words;
 pub use words::{
-    Controlled, Duty, Errand, KeyWords, NextPlan, PlanChange, Question, RunningNode, Serving,
-    SiteFiles, Task, VERSION, Verbosity, Waits,
+    Controlled, Duty, Errand, KeyWords, NextPlan, PlanChange, Question, RunningNode, RunningNodes,
+    Serving, SiteFiles, Task, VERSION, Verbosity, Waits,
 };

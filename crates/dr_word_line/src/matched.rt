@@ -2,8 +2,9 @@
 
 use crate::command_line::{command_line, running_line};
 use crate::words::{
-    Controlled, Duty, Errand, KeyWords, NextPlan, PlanChange, Question, RunningNode, Serving,
-    SiteFiles, Task, USUAL_DAYS, USUAL_MEMORY, USUAL_WAITS, USUAL_WORKERS, Verbosity, Waits,
+    Controlled, Duty, Errand, KeyWords, NextPlan, PlanChange, Question, RunningNode, RunningNodes,
+    Serving, SiteFiles, Task, USUAL_DAYS, USUAL_MEMORY, USUAL_WAITS, USUAL_WORKERS, Verbosity,
+    Waits,
 };
 use clap::ArgMatches;
 use dr_run_files::NodeFiles;
@@ -259,6 +260,7 @@ fn errand_of<'a>(name: &str, given: &ArgMatches<'a>) -> Errand<'a> {
         },
         "forget" => Errand::Forget(uid_of(given)),
         "visit" => Errand::Visit(dest_of(given)),
+        "backup" => Errand::Backup(given.get_str("COPY").unwrap_or("")),
         _ => Errand::Stop,
     }
 }
@@ -273,6 +275,22 @@ fn names_running(words: &[&str]) -> bool {
     false
 }
 
+/// Which nodes that run are to be audited, as clap has read it.
+fn audit_at<'a>(alloc: Global, given: &ArgMatches<'a>) -> Result<Task<'a>, AllocError> {
+    let others = others_of(alloc, given)?;
+    let mut running = Vec::new(alloc);
+    if let Some(nodes) = given.get_strs("AT") {
+        running.extend_from_slice(nodes)?;
+    }
+    Ok(Task::AuditRunning(RunningNodes {
+        plan: given.get_str("PLAN").unwrap_or(""),
+        certificate: given.get_str("CERT").unwrap_or(""),
+        running,
+        others,
+        token: given.get_str("TOKEN"),
+    }))
+}
+
 /// What clap makes of words about a node that runs.
 fn read_at<'a>(alloc: Global, words: &'a [&'a str]) -> Result<Task<'a>, AllocError> {
     let line = running_line(alloc)?;
@@ -283,6 +301,9 @@ fn read_at<'a>(alloc: Global, words: &'a [&'a str]) -> Result<Task<'a>, AllocErr
     let Some((name, given)) = matches.subcommand() else {
         return Ok(Task::CheckInput);
     };
+    if name == "audit" {
+        return audit_at(alloc, given);
+    }
     let running = RunningNode {
         plan: given.get_str("PLAN").unwrap_or(""),
         certificate: given.get_str("CERT").unwrap_or(""),

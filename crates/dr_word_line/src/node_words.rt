@@ -1,6 +1,6 @@
 //! The words about nodes, as clap knows them.
 use crate::choices::Choice;
-use crate::parts::{CERTIFICATE, LEDGER, PLAN, RUNNING, Value};
+use crate::parts::{CERTIFICATE, LEDGER, PLAN, RUNNING, SEALED, Value};
 use crate::plan_words::word;
 use clap::Command;
 use std::alloc::{AllocError, Global};
@@ -89,6 +89,18 @@ pub(crate) fn visit<'a>(alloc: Global) -> Result<Command<'a>, AllocError> {
     )
 }
 
+/// The word `backup`.
+pub(crate) fn backup<'a>(alloc: Global) -> Result<Command<'a>, AllocError> {
+    let about = "Copies the ledger of a node that runs, which goes on";
+    word(
+        alloc,
+        "backup",
+        about,
+        RUNNING,
+        &[Choice::Copy, Choice::AtNeeded, Choice::AtToken],
+    )
+}
+
 /// The word `stop`.
 pub(crate) fn stop<'a>(alloc: Global) -> Result<Command<'a>, AllocError> {
     let about = "Ends a node that runs, in order";
@@ -139,7 +151,19 @@ pub(crate) fn audit<'a>(alloc: Global) -> Result<Command<'a>, AllocError> {
             CERTIFICATE,
             ("DIR", "the folder with the ledger of each node"),
         ],
-        &[Choice::Other],
+        &[Choice::Other, Choice::AtEach, Choice::AtToken],
+    )
+}
+
+/// The word `audit` for nodes that run.
+pub(crate) fn audit_running<'a>(alloc: Global) -> Result<Command<'a>, AllocError> {
+    let about = "Audits the journals of all nodes of a plan, while they run";
+    word(
+        alloc,
+        "audit",
+        about,
+        SEALED,
+        &[Choice::Other, Choice::AtEach, Choice::AtToken],
     )
 }
 

@@ -157,6 +157,23 @@ fn read_visiting<'a>(words: &'a [&'a str]) -> Option<Task<'a>>
     }
 }
 
+/// Where to words tell a running node to copy its ledger, if they are of that form.
+fn read_backup<'a>(words: &'a [&'a str]) -> Option<Task<'a>>
+    ensures asked { IfSome result (λ asked. Asks words.now asked) }
+    ensures backup { IfNone result
+        ((given : RunningNodeValue) (copy : Bor (List ℕ))
+        → IsErrandOf words.now given (errands.Backup copy)
+        → ⊥) }
+{
+    let Some((given, more)) = to_running("backup", words) else {
+        return None;
+    };
+    match more {
+        [copy] if is_no_option(copy) => Some(Task::AtRunning(given, Errand::Backup(copy))),
+        _ => None,
+    }
+}
+
 /// Whether words tell a running node to end.
 fn read_stopping<'a>(words: &'a [&'a str]) -> Option<Task<'a>>
     ensures asked { IfSome result (λ asked. Asks words.now asked) }
@@ -193,6 +210,9 @@ pub(crate) fn read_running<'a>(words: &'a [&'a str]) -> Option<Task<'a>>
         return Some(asked);
     }
     if let Some(asked) = read_visiting(words) {
+        return Some(asked);
+    }
+    if let Some(asked) = read_backup(words) {
         return Some(asked);
     }
     match read_stopping(words) {

@@ -200,8 +200,22 @@ pub enum Errand<'a> {
     Forget(&'a str),
     /// To visit that node now.
     Visit(&'a str),
+    /// To copy its ledger to a file of that path.
+    Backup(&'a str),
     /// To end in order.
     Stop,
+}
+
+/// All nodes of a plan, of which some run: the paths of the plan and its certificate, the names of
+/// those that run, each with the address of its control connection behind a `=`, the names of those
+/// that are of other makers, and the path of the token.
+#[derive(Drop)]
+pub struct RunningNodes<'a> {
+    pub plan: &'a str,
+    pub certificate: &'a str,
+    pub running: Vec<&'a str>,
+    pub others: Vec<&'a str>,
+    pub token: Option<&'a str>,
 }
 
 /// What the words ask for.
@@ -248,6 +262,8 @@ pub enum Task<'a> {
     Audit(SiteFiles<'a>),
     /// The same of all nodes but those of these names, which are of other makers.
     AuditAmong(SiteFiles<'a>, Vec<&'a str>),
+    /// To audit the journals of nodes that run.
+    AuditRunning(RunningNodes<'a>),
     /// Help, or nothing that the program knows.
     Told(Error),
 }

@@ -49,7 +49,7 @@ module _ {L : Type 0} (HoldsPlan HoldsCertificate : Text → Type 0) (MayOpen : 
     unheard Receipt h = absurd h
     unheard Memory h = absurd h
 
-    -- neither does a node whose address can't be listened at
+    -- neither does a node that listens nowhere, or whose address can't be bound to
     pub unheard_serves : (halt : Halt) → IsUnheard sealed.plan site.name halt → Serves HoldsPlan HoldsCertificate MayOpen site_of book stands name (Err halt)
     unheard_serves halt h = unopened_serves halt (unheard halt h)
 

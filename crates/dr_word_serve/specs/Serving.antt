@@ -23,8 +23,8 @@ Grew site name before after text =
     × ∥ IsJournalled (site_routing site) after ∥₁
     × IsReportOf name after text
 
--- why nothing listens at the node of that name: no node of the plan has it, or its address can't be
--- listened at
+-- why nothing listens at the node of that name: no node of the plan has it, it listens nowhere, or
+-- its address can't be bound to
 abbrev pub IsUnheard : Network → Text → Halt → Type 0
 IsUnheard plan name NoNode = NamesNoNode plan name
 IsUnheard plan name (Failed failure) = Unit {0}

@@ -12,6 +12,8 @@ use dr_base::Text;
 use dr_ledger::LedgerFault;
 use dr_ledger_report::report_of;
 use dr_ledger_views::Views;
+use dr_plan_model::Listens;
+use dr_run_backup::Backups;
 use dr_run_files::{Failure, Files, NodeFiles};
 use dr_run_net::{Limits, Listening, Network};
 use dr_run_open::{Halt, Ledgers, Making, NextHop, Opened, Status, finish, hops_of, open_node};
@@ -26,7 +28,7 @@ use dr_site::Site;
 use dr_word_line::{Serving, Verbosity, Waits};
 use log::{LevelFilter, Log, Logged, info};
 use std::alloc::{AllocError, Global};
-use std::io::Write;
+use std::io::{ErrorKind, Write};
 use std::sync::{Arc, Wait};
 use std::thread::Threads;
 use std::{io, time};
@@ -51,9 +53,28 @@ fn unserved<'a>(fault: ServeFault) -> Halt<'a>
     }
 }
 
+/// What binds to the address of a node, where it has one.
+///
+/// Errors: Failed with the node's name where it listens nowhere, or its address can't be bound to.
+fn bind_node<'a, N: Network>(
+    alloc: Global,
+    network: &N,
+    listens: &Listens,
+    node: &'a str,
+) -> Result<N::Listener, Failure<'a>> {
+    let Some(address) = listens.door() else {
+        return Err(Failure::File(node, io::Error::new(ErrorKind::InvalidInput, "Nowhere")));
+    };
+    match network.listen(alloc, address) {
+        Ok(listener) => Ok(listener),
+        Err(error) => Err(Failure::File(node, error)),
+    }
+}
+
 /// Where the site's node listens, by the sealed plan.
 ///
-/// Errors: NoNode; Failed with the node's name where its address can't be listened at.
+/// Errors: NoNode; Failed with the node's name where it listens nowhere, or its address can't be
+/// bound to.
 fn listen_at<'a, L: Views + Drop, N: Network>(
     alloc: Global,
     opened: &Opened<L>,
@@ -65,9 +86,9 @@ fn listen_at<'a, L: Views + Drop, N: Network>(
     let Some(node_there) = opened.sealed.plan().node(opened.site.name()) else {
         return Err(Halt::NoNode);
     };
-    match network.listen(alloc, &node_there.address) {
+    match bind_node(alloc, network, &node_there.listens, node) {
         Ok(listener) => Ok(listener),
-        Err(error) => Err(Halt::Failed(Failure::File(node, error))),
+        Err(failure) => Err(Halt::Failed(failure)),
     }
 }
 
@@ -249,8 +270,8 @@ fn terms_of<'x>(
 
 /// Opens a node and serves at its address, seen by a monitor; the report of what it then has.
 ///
-/// Errors: those of `open_node`; Failed with the node's name where its address can't be listened
-/// at; those of `serve_opened`.
+/// Errors: those of `open_node`; Failed with the node's name where it listens nowhere, or its
+/// address can't be bound to; those of `serve_opened`.
 fn serve_node<
     'a,
     R: Threads + Wait + Sync + time::Clock,
@@ -421,12 +442,12 @@ where
 /// named for it, the node may be asked there what it has, and told to act.
 ///
 /// Errors: Stream, also where the system gives no thread for the input; File; File with the node's
-/// name where its address can't be listened at, with the report's path where no report may be
-/// written there, and with the control's address where nothing may listen there.
+/// name where it listens nowhere or its address can't be bound to, with the report's path where no
+/// report may be written there, and with the control's address where nothing may listen there.
 pub fn serve_files<
     'a,
     R: Threads + Wait + Sync + time::Clock,
-    F: Files + Paths + Sync,
+    F: Files + Backups + Sync,
     O: Ledgers,
     N: Network + Sync,
     C: Clock + Sync,
@@ -460,6 +481,7 @@ where
         log: &logged,
         files: system.files,
         path: serving.report,
+        ledger: given.ledger,
     };
     let came = serve_until_ended(rt, alloc, system, &monitor, given, serving)?;
     finish(came, output, faults)

@@ -6,10 +6,10 @@ ghost use Rattle.dr_word_serve.specs.Working.{Works};
 use crate::running::serve_files;
 use crate::submitting::send_files;
 use crate::surrounding::System;
+use dr_run_backup::Backups;
 use dr_run_files::{Failure, Files, NodeFiles};
 use dr_run_net::Network;
 use dr_run_open::{Ledgers, Status};
-use dr_run_report::Paths;
 use dr_run_serve::{Ending, OwnPort, Tallied};
 use dr_session::{Clock, DeskPort};
 use dr_word_line::Duty;
@@ -27,7 +27,7 @@ use std::time;
 pub fn work_files<
     'a,
     R: Threads + Wait + Sync + time::Clock,
-    F: Files + Paths + Sync,
+    F: Files + Backups + Sync,
     O: Ledgers,
     N: Network + Sync,
     C: Clock + Sync,

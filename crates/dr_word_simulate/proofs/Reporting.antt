@@ -63,6 +63,7 @@ reported_after {L} {l} plan certificate deeds changes w text run reported =
             ap (λ d. d.book) (r.3.2.desks name ∙ ap (λ o. desk_at (option_map seat_of o)) h.1) ∙ h.2;
       });
       holds = λ none. ∥∥₁_map (run.1 none) (λ v. (v.0, (λ name book of. v.2 name (find name book of).0 (find name book of).1 ∙ (find name book of).2), v.3, v.4));
+      among = λ ours fits. ∥∥₁_map (run.2 ours fits) (λ v. (v.0, (λ name book of mine. v.1 name (find name book of).0 (find name book of).1 mine ∙ (find name book of).2), v.2, v.3));
     }
 
 -- one more change is told

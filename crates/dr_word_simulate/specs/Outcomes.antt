@@ -23,7 +23,7 @@ use Rattle.dr_word_simulate.specs.declared.outcome.PlayOutcome.TheVariants.{Half
 
 -- The text is a script, its files have the plans that it names, and this is the report of the nodes
 -- of a world to which it leads from the beginning of the plan's world; the headline's claims hold
--- of that world, where no other product writes in the script.
+-- of that world, where no other product writes in the script, and of our nodes, where it fits them.
 pub record IsSimulated (Holds : Text → Text → Type 0) (plan : Network) (certificate : Certificate)
     (text report : Text) : Type 0 where
   pub acts : List Act

@@ -1,13 +1,15 @@
 -- The report of the nodes of a plan after a script was played.
-use Rattle.std.specs.Prelude.{◌≡◌, List, [], ◌∷◌, ◌++◌, codes, Option, Some}
+use Rattle.std.specs.Prelude.{◌≡◌, List, [], ◌∷◌, ◌++◌, codes, true, Option, Some}
 use Rattle.dr_base.specs.Texts.{Text}
 use Rattle.dr_plan_model.specs.Networks.{Network}
 use Rattle.dr_plan_sound.specs.declared.certificate.Certificate.{Certificate}
 use Rattle.dr_ledger.specs.Books.{Book}
+use Rattle.dr_world_model.specs.Among.{Act, HeadlineAmong, Ours, RunsAmong}
 use Rattle.dr_world_model.specs.Claims.{Headline}
 use Rattle.dr_world_model.specs.Events.{HasNode}
 use Rattle.dr_world_model.specs.Worlds as model
 use Rattle.dr_world_tie.specs.ByteWorlds.{ByteWorld, beginning}
+use Rattle.dr_world.specs.Among.{FitsFrom}
 use Rattle.dr_world.specs.declared.changing.Change.{Change}
 use Rattle.dr_world.specs.declared.changing.Change.TheVariants.{Adopted, Skipped, Unfit}
 use Rattle.dr_world.specs.declared.deed.Deed.{Deed}
@@ -43,6 +45,18 @@ HoldsOfBooks plan taken books =
     × ComesBy plan taken world
     × Headline (in_force plan taken) world
 
+-- the four claims among others hold of our nodes' books: of a world of messages that has them, to
+-- which events and what other products do lead from the start
+abbrev pub HoldsOfOurs : Ours → Network → Books → Type 0
+HoldsOfOurs ours plan books =
+    (world : model.World)
+    × ((name : Text) (book : Book)
+    → books name ≡ Some book
+    → ours name ≡ true
+    → world.books name ≡ book)
+    × ((acts : List Act) × RunsAmong ours plan model.start acts plan world)
+    × HeadlineAmong ours plan world
+
 -- what is told of a change of plan: why it wasn't made, a line
 abbrev pub note_of : Change → Text
 note_of Adopted = []
@@ -56,7 +70,8 @@ notes_of (change ∷ changes) = note_of change ++ notes_of changes
 
 -- The text is what is told of the changes, and behind it the report of the nodes' books after the
 -- deeds, in byte order of the nodes' names; the headline holds of them, where no other product
--- writes.
+-- writes. Whichever nodes are ours, the four claims among others hold of theirs, where the deeds
+-- fit.
 pub record IsReportAfter (plan : Network) (certificate : Certificate) (deeds : List Deed)
     (report : Text) : Type 0 where
   pub changes : List Change
@@ -66,6 +81,9 @@ pub record IsReportAfter (plan : Network) (certificate : Certificate) (deeds : L
   pub reported : IsReportOfAll books lines
   pub after : ∥ AreBooksAfter plan certificate deeds changes books ∥₁
   pub holds : NoneWrites deeds → ∥ HoldsOfBooks plan (taken_in deeds changes) books ∥₁
+  pub among : (ours : Ours)
+      → FitsFrom ours plan certificate beginning deeds
+      → ∥ HoldsOfOurs ours plan books ∥₁
 
 -- why there is no report: there is no memory, or a store failed; in a change of plan, where the
 -- deeds have one

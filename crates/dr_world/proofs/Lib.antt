@@ -1,4 +1,5 @@
 pub mod Adopting
+pub mod Among
 pub mod Beginning
 pub mod Calling
 pub mod Counted
@@ -6,6 +7,7 @@ pub mod AtNodes
 pub mod LettingGo
 pub mod StayingAway
 pub mod Stepping
+pub mod Scanners
 pub mod Sited
 pub mod Noted
 pub mod Doing

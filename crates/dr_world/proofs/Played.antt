@@ -50,6 +50,7 @@ use Rattle.dr_world.specs.Others.{NoneWrites, Writes, WritesAt, WritesAtIn}
 use Rattle.dr_world.specs.Runs.{IsReached, step_of}
 use Rattle.dr_world.specs.Shows.{Contents, IsSeated, ShowsBytes, desk_at}
 use Rattle.dr_world.specs.Whole.{AllStand, StepsTo, contents, noted}
+use Rattle.dr_world.proofs.Among.{fit_scripts_keep_the_claims}
 use Rattle.dr_world.proofs.Rewriting.{stood, written_beside}
 
 -- ---- one deed behind others
@@ -279,8 +280,11 @@ module _ {L : Type 0} {l : Ghosts L} where
   pub run_of : (plan : Network) (certificate : Certificate) → IsCertified plan certificate → (first last : World L l) (deeds : List Deed) (changes : List Change)
       → IsReached plan certificate [] first → PlaysAll deeds changes first last → AllStand last → IsRunOf plan certificate deeds changes last
   run_of plan certificate certified first last deeds changes reached plays all =
-      let played : IsPlayed plan certificate deeds changes last = plays plan certificate certified [] [] (begun plan certificate first reached) in
-      (played all, λ none. deeds_keep_the_headline last plan certificate certified deeds changes played none all)
+      let played : IsPlayed plan certificate deeds changes last = plays plan certificate certified [] [] (begun plan certificate first reached) in (
+        played all,
+        (λ none. deeds_keep_the_headline last plan certificate certified deeds changes played none all),
+        (λ ours fits. fit_scripts_keep_the_claims last ours plan certificate certified deeds changes (played all) fits),
+      )
 
 -- ---- a world that keeps no fault
 

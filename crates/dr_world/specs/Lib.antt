@@ -1,4 +1,5 @@
 pub mod Adopted
+pub mod Among
 pub mod Shows
 pub mod Forgotten
 pub mod Laws

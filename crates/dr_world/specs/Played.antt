@@ -9,12 +9,14 @@ use Rattle.dr_plan_sound.specs.declared.certificate.Certificate.{Certificate}
 use Rattle.dr_cert.specs.Sealing.{Certified}
 use Rattle.dr_site.specs.Sites.{IsCertified}
 use Rattle.dr_node.specs.declared.node.Node.{Node}
+use Rattle.dr_world_model.specs.Among.{Ours}
 use Rattle.dr_world_model.specs.Worlds as model
 use Rattle.dr_world_model.specs.Claims.{Headline}
 use Rattle.dr_world_model.specs.Events.{HasNode}
 use Rattle.dr_world_model.specs.Runs.{Action, Adopt as Adopting, Occurs, Runs}
 use Rattle.dr_world_tie.specs.ByteWorlds.{ByteWorld, StepNote, Steps, beginning}
 use Rattle.dr_world_tie.specs.Changes.{AllAreOver, TakesPlan}
+use Rattle.dr_world_tie.specs.ForeignWorlds.{OwnRuns, OwnStep, OwnWorld, own_beginning}
 use Rattle.dr_world_tie.specs.Shown.{ComesAbout, RunsOf}
 use Rattle.dr_world_script.specs.declared.step.Side.{Side}
 use Rattle.dr_world_script.specs.declared.step.Step.{Step}
@@ -27,6 +29,7 @@ use Rattle.dr_world.specs.declared.fault.WorldFault.TheVariants as fault
 use Rattle.dr_world.specs.declared.steps.StepNote.{StepNote as Note}
 use Rattle.dr_world.specs.declared.world.World.{World}
 use Rattle.dr_world.specs.Adopted.{AllStay, ChangesTo, IsFirstUnfit}
+use Rattle.dr_world.specs.Among.{FitsFrom, HasOurEnds, HoldsAmong}
 use Rattle.dr_world.specs.Ends.{named}
 use Rattle.dr_world.specs.Others.{NoneWrites, Writes, WritesAt}
 use Rattle.dr_world.specs.Runs.{IsBeside, step_of}
@@ -172,12 +175,16 @@ PlaysAll done told old new =
 
 -- A world that just these deeds have made of the plan, and nothing else is asked: they lead to it
 -- from the beginning, and each change came to what stands for it. Where no other product writes,
--- the headline's four claims hold of its nodes' books by the plan in force.
+-- the headline's four claims hold of its nodes' books by the plan in force. Whichever nodes are
+-- ours, the four claims among others hold of their books, where the deeds fit.
 abbrev pub IsRunOf : {L : Type 0} {l : Ghosts L}
     → Network → Certificate → List Deed → List Change → World L l → Type 0
 IsRunOf plan certificate deeds changes w =
     WasPlayed plan certificate deeds changes w
     × (NoneWrites deeds → HoldsBy plan (taken_in deeds changes) w)
+    × ((ours : Ours)
+    → FitsFrom ours plan certificate beginning deeds
+    → HoldsAmong ours plan w)
 
 -- ---- why not all is played
 
@@ -250,3 +257,25 @@ StepsAloneRun =
 -- And where no plan was taken, events alone have led to the world of messages.
 abbrev pub EventsAloneLead : Type 0
 EventsAloneLead = (plan : Network) (v : model.World) → ComesBy plan [] v → ComesAbout plan v
+
+-- A script that fits nodes of ours is a run of their ends alone.
+abbrev pub FitScriptsAreOwnRuns : Type 0
+FitScriptsAreOwnRuns =
+    (ours : Ours) (plan last : Network) (certificate its : Certificate)
+    (deeds : List Deed) (changes : List Change) (b : ByteWorld)
+    → IsCertified plan certificate
+    → FitsFrom ours plan certificate beginning deeds
+    → PlaysThrough plan certificate beginning deeds changes last its b
+    → (steps : List OwnStep) × (o : OwnWorld)
+    × OwnRuns ours plan certificate own_beginning steps o
+    × HasOurEnds ours b o
+
+-- So the four claims among others hold of their books, whatever the other products write.
+abbrev pub FitScriptsKeepTheClaims : {L : Type 0} {l : Ghosts L} → World L l → Type 0
+FitScriptsKeepTheClaims w =
+    (ours : Ours) (plan : Network) (certificate : Certificate)
+    → IsCertified plan certificate
+    → (deeds : List Deed) (changes : List Change)
+    → WasPlayed plan certificate deeds changes w
+    → FitsFrom ours plan certificate beginning deeds
+    → HoldsAmong ours plan w

@@ -1,4 +1,5 @@
 //! Laws: what is done to a world's contents is a step of the world of bytes beside it.
+ghost use Rattle.dr_world.specs.Among.{NamesAreLookedAt, ScriptsFit};
 ghost use Rattle.dr_world.specs.Ended.{MoveEndsPdu};
 ghost use Rattle.dr_world.specs.Laws.{AwayIsShown, DropIsShown, EndStaysOfItsSite, ForgetIsShown};
 ghost use Rattle.dr_world.specs.Laws.{MoveIsShown};
@@ -6,6 +7,7 @@ ghost use Rattle.dr_world.specs.Laws.{NewIsBeginning, OtherLinksAreCounted, Refu
 ghost use Rattle.dr_world.specs.Laws.{RequeueIsShown, StrangerIsSkipped, SubmitIsShown};
 ghost use Rattle.dr_world.specs.Laws.{TickIsShown, UnderWayStays};
 ghost use Rattle.dr_world.specs.Played.{ChangesGoOn, DeedsKeepTheHeadline, EventsAloneLead};
+ghost use Rattle.dr_world.specs.Played.{FitScriptsAreOwnRuns, FitScriptsKeepTheClaims};
 ghost use Rattle.dr_world.specs.Played.{StepsAloneRun, StepsGoOn, WritesGoOn};
 
 use crate::world::World;
@@ -74,4 +76,15 @@ pub fn changes_keep_the_headline<L: Ledger>(_world: &World<L>)
 pub fn steps_alone_are_events()
     ensures steps { StepsAloneRun }
     ensures events { EventsAloneLead }
+{}
+
+/// A script in which other products write is a run of the ends of ours alone, where no link is
+/// between two of ours and no request that comes to one of ours names one. So the four claims among
+/// others hold of our nodes' books. Which requests these are is told by the name of their caller. A
+/// scanner of another make may send what it wants.
+pub fn others_are_played<L: Ledger>(_world: &World<L>)
+    ensures runs { FitScriptsAreOwnRuns }
+    ensures claims { FitScriptsKeepTheClaims _world.now }
+    ensures names { NamesAreLookedAt }
+    ensures scripts { ScriptsFit }
 {}

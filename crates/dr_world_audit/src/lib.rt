@@ -6,10 +6,9 @@ pub mod audit;
 mod comparing;
 mod fault;
 mod hop;
-mod line;
 mod reading;
 mod replay;
 mod standing;
 mod trail;
 
-pub use replay::count_past;
+pub use replay::{count_past, tell_past};

@@ -9,9 +9,8 @@ ghost use Rattle.dr_ledger_history.specs.Told.{IsToldSince};
 ghost use Rattle.dr_world_audit.specs.Replays.{TellsAll, TellsAllSince, is_an_adoption};
 ghost use Rattle.dr_world_journals.specs.Journals.{until_adoption};
 
-use crate::line::copy_line;
 use crate::trail::{Trail, note};
-use dr_ledger_history::{History, HistoryFault, JournalLine};
+use dr_ledger_history::{History, HistoryFault, JournalLine, copy_line};
 use dr_site::Site;
 use std::alloc::Global;
 

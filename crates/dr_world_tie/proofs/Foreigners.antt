@@ -152,7 +152,7 @@ only_then w v u number next name first later keeps = record {
       omega (arith, a, b));
 }
 
-are_kept :
+pub are_kept :
     (w : World) (name : Text) (number : Option ℕ) (came : Came) (acts : List Act) (next : Option ℕ)
     → AreActs w name number came acts next
     → Keeps number next
@@ -216,12 +216,12 @@ pub record Ready (ours : Ours) (plan : Network) (w : World) (number : ℕ) (link
   pub rest : (world.time ≡ w.time) × (world.stood ≡ w.stood)
   pub opened : world.opened ≡ w.opened
 
-none_waits : (uid dest : Text) → IsWaiting empty_book uid dest → ⊥
+pub none_waits : (uid dest : Text) → IsWaiting empty_book uid dest → ⊥
 none_waits uid dest (tries, due, e) =
     (let f : None ≡ Some (Waiting tries due) = sym (map_of.get-empty pair_cmp (uid, dest)) ∙ e in
     absurd (cc f))
 
-same_books : (books : Text → Book) (name other : Text)
+pub same_books : (books : Text → Book) (name other : Text)
     → books_with books name (books name) other ≡ books other
 same_books books name other = elim (same_or_not texts other name) [
   | inl same ↦ subst

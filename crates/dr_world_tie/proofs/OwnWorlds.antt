@@ -16,8 +16,9 @@ use Rattle.dr_ledger.specs.Items.{instance_of}
 use Rattle.dr_pdu.specs.Feeding.{fresh}
 use Rattle.dr_session.specs.Ends.{accepting, requesting}
 use Rattle.dr_ledger.proofs.Maps.{get_other, same_or_not, texts, ties_itself}
+use Rattle.dr_session.specs.declared.ends.Input.{Input}
 use Rattle.dr_session.specs.declared.ends.Input.TheVariants as input
-use Rattle.dr_world_model.specs.Worlds.{Link, World, start}
+use Rattle.dr_world_model.specs.Worlds.{Link, World, same_text, start}
 use Rattle.dr_world_model.specs.Worlds.{Stage, Asking, Answering, Rejecting, Open, Storing}
 use Rattle.dr_world_model.specs.Worlds.{Replying, Gone}
 use Rattle.dr_world_model.specs.Steps.{IsLink, NoneIsPending, pending}
@@ -37,24 +38,28 @@ use Rattle.dr_ledger.specs.declared.item.Outcome.TheVariants.{Broken}
 use Rattle.dr_world_tie.specs.Channels.{LiveTerminal}
 use Rattle.dr_world_tie.specs.Nodes.{GivesUpAt, HappensAt, OnlyAt}
 use Rattle.dr_world_tie.specs.Ties.{IsDeskOf, with_desk}
-use Rattle.dr_world_tie.specs.Foreign.{Came, ComeAll, OnlyOf, OthersHaveNone, ShowsForeign}
+use Rattle.dr_world_tie.specs.Foreign.{CallsAsNoneOfOurs, Came, ComeAll, OnlyOf, OthersHaveNone}
+use Rattle.dr_world_tie.specs.Foreign.{ShowsForeign}
 use Rattle.dr_world_tie.specs.ForeignCalls.{CallsIn, LeadsTo, ShowsCall, acts_of, acts_of_all}
 use Rattle.dr_world_tie.specs.ForeignCalls.{CallsAt, IsCallOf, acts_of_push}
 use Rattle.dr_world_tie.specs.ForeignWorlds.{OwnEnd, OwnWorld, with_end, with_done, own_beginning}
-use Rattle.dr_world_tie.specs.ForeignWorlds.{OwnStep, Listens, Opens, Hears, Pushes, Releases}
-use Rattle.dr_world_tie.specs.ForeignWorlds.{Submits, Passes, HearsWhat, IsAskedFor}
+use Rattle.dr_world_tie.specs.ForeignWorlds.{OwnStep, Listens, Opens, Hears, Meets}
+use Rattle.dr_world_tie.specs.ForeignWorlds.{Submits, Passes, HearsWhat, MeetsWhat}
 use Rattle.dr_world_tie.specs.ForeignWorlds.{BeginsListening, BeginsCalling, DoesAlone}
-use Rattle.dr_world_tie.specs.ForeignWorlds.{OthersAreNotHere, OursCanListen}
+use Rattle.dr_world_tie.specs.ForeignWorlds.{EndsAreAskedSo, OthersAreNotHere, OursCanListen}
 use Rattle.dr_world_tie.specs.ForeignWorlds.{Forgets, NoneAwaits}
-use Rattle.dr_world_tie.specs.ForeignWorlds.{GivesUp, OwnSteps, PutsBack, Refuses, StaysAway}
+use Rattle.dr_world_tie.specs.ForeignWorlds.{GivesUp, OwnSteps, PutsBack, Refuses, Restarts}
+use Rattle.dr_world_tie.specs.ForeignWorlds.{StaysAway}
 use Rattle.dr_world_tie.specs.ForeignWorlds.{OwnRuns, ShowsBy, ShowsOwn, OwnWorldsKeepTheClaims}
-use Rattle.dr_world_tie.proofs.Foreigners.{acceptors_begin, all_only, all_run, only_none, runs_on}
+use Rattle.dr_world_tie.proofs.Foreigners.{acceptors_begin, all_only, all_run, are_kept, only_none}
+use Rattle.dr_world_tie.proofs.Foreigners.{one_input_comes, runs_on}
 use Rattle.dr_world_tie.proofs.ForeignPushes.{one_push_comes, requestors_begin}
 use Rattle.dr_world_tie.proofs.ForeignReplies.{one_answer_comes}
 use Rattle.dr_world_tie.proofs.LinksToOthers.{what_acceptors_hear, what_requestors_hear}
 use Rattle.dr_world_tie.proofs.Nodes.{giving_up_is_drop, refusing_is_refuse}
 use Rattle.dr_world_tie.proofs.Nodes.{requeueing_is_requeue, staying_away_is_stay_away}
 use Rattle.dr_world_tie.proofs.Nodes.{forgetting_is_forget, submitting_takes}
+use Rattle.dr_world_tie.proofs.OwnRestarts.{restart_is_shown, without_is}
 use Rattle.dr_world_tie.proofs.Foreigners.{all_kept, one_link}
 
 -- a number from then on is the one before, or a new one
@@ -339,7 +344,7 @@ module _ (ours : Ours) (plan : Network) (certificate : Certificate) where
               others = others;
               desk = shows.desks h.end.node own;
               shows = shown;
-            } h.moment came h.acts h.left h.after h.none h.hears in
+            } h.moment came h.acts h.left h.after (h.none e) h.hears in
             let core_is : a.0 ≡ h.core = same_Some a.0 h.core (sym a.1 ∙ h.lives) in
             let all = a.2.4 in
             let v : World = a.2.2 in
@@ -482,11 +487,11 @@ module _ (ours : Ours) (plan : Network) (certificate : Certificate) where
         (shows.ends i e there)
 
     pushes : (i : ℕ) (new : OwnWorld)
-        → IsAskedFor ours plan certificate b i input.PushAsked new
+        → MeetsWhat ours plan certificate b i input.PushAsked new
         → Acts w new
     pushes i new h =
         let own = shows.own i h.end h.there in
-        let shown = shown_call i h.end h.there h.calls in
+        let shown = shown_call i h.end h.there h.may in
         let a = one_push_comes ours plan certificate h.end.node w shown.0 h.end.terminal
         (b.desks h.end.node) record {
           own = own;
@@ -494,25 +499,88 @@ module _ (ours : Ours) (plan : Network) (certificate : Certificate) where
           shows = shown.2;
         } h.moment (h.now ∙ sym shows.time) h.effect h.after h.reacts in
         as_new new _ h.is
-        (finishes i h.end own shown.0 shown.1 h.calls (acts_of_push shown.0 a.0) a.1 h.after
+        (finishes i h.end own shown.0 shown.1 h.may (acts_of_push shown.0 a.0) a.1 h.after
         (record { core = h.effect.core; ear = h.end.terminal.ear }) a.2 a.4)
 
-    releases : (i : ℕ) (new : OwnWorld)
-        → IsAskedFor ours plan certificate b i input.ReleaseAsked new
+    -- a requestor is told something else
+    tells : (i : ℕ) (what : Input) (new : OwnWorld) → what ≢ input.PushAsked
+        → (h : MeetsWhat ours plan certificate b i what new)
+        → h.end.side ≡ Requestor
         → Acts w new
-    releases i new h =
+    tells i what new other h calls =
         let own = shows.own i h.end h.there in
-        let shown = shown_call i h.end h.there h.calls in
+        let shown = shown_call i h.end h.there calls in
         let a = one_answer_comes ours plan certificate certified h.end.node w shown.0 h.end.terminal
         (b.desks h.end.node) record {
           own = own;
           desk = shows.desks h.end.node own;
           shows = shown.2;
-        } h.moment (h.now ∙ sym shows.time) input.ReleaseAsked
-        (λ e. cc e) h.effect h.after h.reacts in
+        } h.moment (h.now ∙ sym shows.time) what other h.effect h.after h.reacts in
         as_new new _ h.is
-        (finishes i h.end own shown.0 shown.1 h.calls (acts_of shown.0 a.0) a.1 h.after
+        (finishes i h.end own shown.0 shown.1 calls (acts_of shown.0 a.0) a.1 h.after
         (record { core = h.effect.core; ear = h.end.terminal.ear }) a.2 a.4)
+
+    -- an acceptor is
+    told : (i : ℕ) (what : Input) (new : OwnWorld)
+        → CallsAsNoneOfOurs ours what
+        → (h : MeetsWhat ours plan certificate b i what new)
+        → h.end.side ≡ Acceptor
+        → Acts w new
+    told i what new none h listens =
+        let own = shows.own i h.end h.there in
+        let shown :
+        ShowsForeign ours plan certificate h.end.node w (shows.numbers i) h.end.terminal = subst
+        (λ (z : Side).
+        ShowsBy ours plan certificate w (shows.numbers i) z h.end.node h.end.terminal) listens
+        (shows.ends i h.end h.there) in
+        let a = one_input_comes ours plan certificate certified h.end.node w (shows.numbers i)
+        h.end.terminal (b.desks h.end.node) record {
+          own = own;
+          others = others;
+          desk = shows.desks h.end.node own;
+          shows = shown;
+        } h.moment what none h.effect h.after h.reacts in
+        let k : LiveTerminal = record { core = h.effect.core; ear = h.end.terminal.ear } in
+        as_new new _ h.is (
+          a.1,
+          a.2,
+          a.4.runs,
+          done b w shows i h.end.node own a.2 a.3 a.4.only a.4.counted h.after a.6.desk h.end.side k
+              (are_kept w h.end.node (shows.numbers i) a.0 a.1 a.3 a.4.are)
+              (subst
+              (λ (z : Side). ShowsBy ours plan certificate a.2 a.3 z h.end.node k) (sym listens)
+              a.6.shows),
+        )
+
+    either : (i : ℕ) (what : Input) (new : OwnWorld)
+        → what ≢ input.PushAsked
+        → CallsAsNoneOfOurs ours what
+        → MeetsWhat ours plan certificate b i what new
+        → Acts w new
+    either i what new other none h = by_side h.end.side refl
+      where
+        by_side : (side : Side) → h.end.side ≡ side → Acts w new
+        by_side Requestor e = tells i what new other h e
+        by_side Acceptor e = told i what new none h e
+
+    meets : (i : ℕ) (what : Input) (new : OwnWorld)
+        → MeetsWhat ours plan certificate b i what new
+        → Acts w new
+    meets i input.PushAsked new h = pushes i new h
+    meets i input.ReleaseAsked new h = tells i input.ReleaseAsked new (λ e. cc e) h h.may
+    meets i input.AbortAsked new h = either i input.AbortAsked new (λ e. cc e) tt h
+    meets i input.Ended new h = either i input.Ended new (λ e. cc e) tt h
+    meets i input.Late new h = either i input.Late new (λ e. cc e) tt h
+    meets i (input.Request rq) new h = absurd h.may
+    meets i (input.Acceptance ac) new h = absurd h.may
+    meets i (input.Rejection rj) new h = absurd h.may
+    meets i (input.Value value) new h = absurd h.may
+    meets i input.NoValue new h = absurd h.may
+    meets i input.ReleaseRq new h = absurd h.may
+    meets i input.ReleaseRp new h = absurd h.may
+    meets i (input.Abort a) new h = absurd h.may
+    meets i input.Unknown new h = absurd h.may
+    meets i input.Invalid new h = absurd h.may
 
     -- links stay as they are
     shown_as : (v : World) → v.links ≡ w.links
@@ -610,7 +678,7 @@ module _ (ours : Ours) (plan : Network) (certificate : Certificate) where
         (one_link w number s.2.1.0 link at there) s.2.1.2 in
         let stands : CallsAt true link.stage link.receiver a.1.terminal.core = subst
         (λ (c : Bool). CallsAt c link.stage link.receiver a.1.terminal.core) on call.stands in
-        none a.0 a.1 a.2 (sym call.caller ∙ caller)
+        none a.0 a.1 a.2 (sym call.caller ∙ caller) a.4
         (pend_by link.stage link.receiver a.1.terminal.core item stands pend
         ∙ ap (λ (u : Text). Some u) same)
 
@@ -620,8 +688,7 @@ module _ (ours : Ours) (plan : Network) (certificate : Certificate) where
     one_step (Listens i node) new h = listens i node new h
     one_step (Opens i node dest) new h = opens i node dest new h
     one_step (Hears i came) new h = hears i came new h
-    one_step (Pushes i) new h = pushes i new h
-    one_step (Releases i) new h = releases i new h
+    one_step (Meets i what) new h = meets i what new h
     one_step (Submits node item) new h = alone node _ new h
         (Take node (instance_of item) h.does.0) h.own
         (submitting_takes plan w node item (b.desks node) h.after h.does.0 h.is_node
@@ -651,6 +718,8 @@ module _ (ours : Ours) (plan : Network) (certificate : Certificate) where
     one_step (Refuses node) new h = alone node _ new h (Refuse node) tt
         (subst (λ (d : Desk). HappensAt plan w (Refuse node) node d) (sym h.does)
         (refusing_is_refuse plan w node (b.desks node) h.is_node (shows.desks node h.own)))
+    one_step (Restarts node) new h = as_new new _ h.is
+        (restart_is_shown ours plan certificate b w shows others node h.own)
     one_step (Passes ms) new h = passes ms new h
 
   -- ---- any steps
@@ -708,4 +777,17 @@ others_are_not_here = record {
   listens = λ ours plan certificate b new number node away h. false≢true (sym away ∙ h.own);
   calls = λ ours plan certificate b new number node dest own h. false≢true (sym h.away ∙ own);
   takes = λ ours plan certificate b new node item away h. false≢true (sym away ∙ h.own);
+}
+
+pub ends_are_asked_so : EndsAreAskedSo
+ends_are_asked_so = record {
+  sends = λ ours plan certificate b new number e at accepts h.
+      (let same : h.end ≡ e = same_Some h.end e (sym h.there ∙ at) in
+      let f : Acceptor ≡ Requestor = sym accepts ∙ (ap (λ (z : OwnEnd). z.side) (sym same) ∙ h.may) in
+      cc f);
+  anew = λ ours plan certificate b new node h number e at named.
+      (let was = without_is node (b.ends number) e
+      (sym (ap (λ (z : OwnWorld). z.ends number) h.is) ∙ at) in
+      false≢true (sym was.1
+      ∙ (ap (λ (z : Text). same_text z node) named ∙ ties_itself texts node)));
 }

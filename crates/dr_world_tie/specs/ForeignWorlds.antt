@@ -17,7 +17,8 @@ use Rattle.dr_nego.specs.Proposing.{IsProposal}
 use Rattle.dr_session.specs.declared.ends.Core.{Core}
 use Rattle.dr_session.specs.declared.ends.Heard.{Heard}
 use Rattle.dr_session.specs.declared.ends.Input.{Input}
-use Rattle.dr_session.specs.declared.ends.Input.TheVariants.{PushAsked, ReleaseAsked}
+use Rattle.dr_session.specs.declared.ends.Input.TheVariants.{AbortAsked, Ended, Late, PushAsked}
+use Rattle.dr_session.specs.declared.ends.Input.TheVariants.{ReleaseAsked}
 use Rattle.dr_session.specs.declared.ends.Effect.{Effect}
 use Rattle.dr_session.specs.declared.ends.LinkAction.{LinkAction}
 use Rattle.dr_session.specs.declared.ends.Moment.{Moment}
@@ -26,7 +27,7 @@ use Rattle.dr_session.specs.Ends.{Terminal as End, HearsOf, accepting, requestin
 use Rattle.dr_session.specs.Ledgers.{desk}
 use Rattle.dr_session.specs.Pendings.{pending_of}
 use Rattle.dr_session.specs.Plays.{Reacts, at_moment}
-use Rattle.dr_world_model.specs.Worlds.{Link, World, start}
+use Rattle.dr_world_model.specs.Worlds.{Link, World, same_text, start}
 use Rattle.dr_world_model.specs.Calls.{Answer}
 use Rattle.dr_ledger.specs.Replies.{Reply}
 use Rattle.dr_world_model.specs.Events.{HasNode}
@@ -73,8 +74,8 @@ pub data OwnStep : Type 0 where
   Listens : (number : ℕ) → (node : Text) → OwnStep  -- another product connects
   Opens : (number : ℕ) → (node : Text) → (dest : Text) → OwnStep  -- a node calls another product
   Hears : (number : ℕ) → (came : Heard) → OwnStep  -- something comes over a connection
-  Pushes : (number : ℕ) → OwnStep  -- a row is pushed
-  Releases : (number : ℕ) → OwnStep  -- the release is asked for
+  -- something is asked of an end, or happens to it
+  Meets : (number : ℕ) → (input : Input) → OwnStep
   Submits : (node : Text) → (item : Job) → OwnStep  -- an instance enters at a node
   -- a node comes to no link: a row is settled as broken
   StaysAway : (node : Text) → (uid : Text) → (dest : Text) → OwnStep
@@ -83,13 +84,29 @@ pub data OwnStep : Type 0 where
   -- a node forgets what is over, where no requestor of it awaits an answer about it
   Forgets : (node : Text) → (uid : Text) → OwnStep
   Refuses : (node : Text) → OwnStep  -- a node's store is to refuse its next line
+  Restarts : (node : Text) → OwnStep  -- a node starts anew, and its links are gone
   Passes : (ms : ℕ) → OwnStep  -- time passes
 
--- no end of the node has a store of the uid pending
+-- an end of another node stays
+abbrev pub without_node : Text → Option OwnEnd → Option OwnEnd
+without_node node None = None
+without_node node (Some e) = if same_text e.node node then None else Some e
+
+-- no requestor of the node has a store of the uid pending
 abbrev pub NoneAwaits : OwnWorld → Text → Text → Type 0
 NoneAwaits b node uid =
-    (i : ℕ) (e : OwnEnd) → b.ends i ≡ Some e → e.node ≡ node
+    (i : ℕ) (e : OwnEnd) → b.ends i ≡ Some e → e.node ≡ node → e.side ≡ Requestor
     → pending_of e.terminal.core.pending ≢ Some uid
+
+-- A requestor is asked to send a row, or for the release; any end to abort. The connection ends, or
+-- the end is late. What comes as bytes is heard, and nothing of this.
+abbrev pub MayMeet : Input → Side → Type 0
+MayMeet PushAsked side = side ≡ Requestor
+MayMeet ReleaseAsked side = side ≡ Requestor
+MayMeet AbortAsked side = Unit {0}
+MayMeet Ended side = Unit {0}
+MayMeet Late side = Unit {0}
+MayMeet input side = ⊥
 
 module _ (ours : Ours) (plan : Network) (certificate : Certificate) where
   -- an end of ours that listens to a fresh connection
@@ -132,7 +149,7 @@ module _ (ours : Ours) (plan : Network) (certificate : Certificate) where
         (old.desks node)
 
   -- whatever comes to an end while memory lasts, of any moment's count of other associations; no
-  -- request names one of ours as its caller
+  -- request that comes to an acceptor names one of ours as its caller
   pub record HearsWhat (old : OwnWorld) (number : ℕ) (came : Heard) (new : OwnWorld) : Type 0 where
     pub end : OwnEnd
     pub there : old.ends number ≡ Some end
@@ -142,7 +159,7 @@ module _ (ours : Ours) (plan : Network) (certificate : Certificate) where
     pub left : End
     pub core : Core
     pub after : Desk
-    pub none : NoneComesAsOurs ours end.terminal.ear came left.ear
+    pub none : end.side ≡ Acceptor → NoneComesAsOurs ours end.terminal.ear came left.ear
     pub hears : HearsOf (LedgerStep plan end.node) came moment (end_of end.terminal)
         (old.desks end.node)
         (Ok acts)
@@ -157,12 +174,12 @@ module _ (ours : Ours) (plan : Network) (certificate : Certificate) where
         })
         after
 
-  -- a requestor is asked to send a row, or for the release
-  pub record IsAskedFor (old : OwnWorld) (number : ℕ) (input : Input)
+  -- something is asked of an end, or happens to it
+  pub record MeetsWhat (old : OwnWorld) (number : ℕ) (input : Input)
       (new : OwnWorld) : Type 0 where
     pub end : OwnEnd
     pub there : old.ends number ≡ Some end
-    pub calls : end.side ≡ Requestor
+    pub may : MayMeet input end.side
     pub moment : Moment
     pub now : moment.now ≡ old.time
     pub effect : Effect
@@ -193,13 +210,22 @@ module _ (ours : Ours) (plan : Network) (certificate : Certificate) where
           ends = old.ends;
         }
 
+  -- a node of ours starts anew: its ends are gone, and nothing is settled
+  pub record StartsAnew (old : OwnWorld) (node : Text) (new : OwnWorld) : Type 0 where
+    pub own : ours node ≡ true
+    pub is : new
+        ≡ record {
+          time = old.time;
+          desks = old.desks;
+          ends = λ number. without_node node (old.ends number);
+        }
+
   -- the step leads from the one world to the other
   abbrev pub OwnSteps : OwnWorld → OwnStep → OwnWorld → Type 0
   OwnSteps old (Listens number node) new = BeginsListening old number node new
   OwnSteps old (Opens number node dest) new = BeginsCalling old number node dest new
   OwnSteps old (Hears number came) new = HearsWhat old number came new
-  OwnSteps old (Pushes number) new = IsAskedFor old number PushAsked new
-  OwnSteps old (Releases number) new = IsAskedFor old number ReleaseAsked new
+  OwnSteps old (Meets number input) new = MeetsWhat old number input new
   OwnSteps old (Submits node item) new = DoesAlone old node
       (λ s t. (reply : Reply) × LedgerStep plan node s (Arrive local item) (Arrival reply) t)
       new
@@ -215,6 +241,7 @@ module _ (ours : Ours) (plan : Network) (certificate : Certificate) where
       NoneAwaits old node uid
       × DoesAlone old node (λ s t. (answer : Answer) × ForgetsAt s uid answer t) new
   OwnSteps old (Refuses node) new = DoesAlone old node (λ s t. t ≡ desk s.book true) new
+  OwnSteps old (Restarts node) new = StartsAnew old node new
   OwnSteps old (Passes ms) new =
       new ≡ record { time = min (old.time + ms) (2 ^ 62); desks = old.desks; ends = old.ends }
 
@@ -285,3 +312,14 @@ pub record OthersAreNotHere : Type 0 where
   pub takes : (ours : Ours) (plan : Network) (certificate : Certificate) (b new : OwnWorld)
       (node : Text) (item : Job)
       → ours node ≡ false → OwnSteps ours plan certificate b (Submits node item) new → ⊥
+
+-- An acceptor is never asked to send, and no end of a node that starts anew is left.
+pub record EndsAreAskedSo : Type 0 where
+  pub sends : (ours : Ours) (plan : Network) (certificate : Certificate) (b new : OwnWorld)
+      (number : ℕ) (e : OwnEnd)
+      → b.ends number ≡ Some e → e.side ≡ Acceptor
+      → OwnSteps ours plan certificate b (Meets number PushAsked) new → ⊥
+  pub anew : (ours : Ours) (plan : Network) (certificate : Certificate) (b new : OwnWorld)
+      (node : Text)
+      → OwnSteps ours plan certificate b (Restarts node) new
+      → (number : ℕ) (e : OwnEnd) → new.ends number ≡ Some e → e.node ≡ node → ⊥

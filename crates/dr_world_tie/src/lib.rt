@@ -27,8 +27,8 @@ ghost use Rattle.dr_world_tie.specs.ForeignCalls.{LettingGoIsNothing, OneAnswerC
 ghost use Rattle.dr_world_tie.specs.ForeignCalls.{OnePushComes, RequestorsBegin};
 ghost use Rattle.dr_world_tie.specs.ForeignCalls.{ResponsesAreReplies};
 ghost use Rattle.dr_world_tie.specs.ForeignLinks.{WhatAcceptorsHear, WhatRequestorsHear};
-ghost use Rattle.dr_world_tie.specs.ForeignWorlds.{OthersAreNotHere, OursCanListen};
-ghost use Rattle.dr_world_tie.specs.ForeignWorlds.{OwnWorldsKeepTheClaims};
+ghost use Rattle.dr_world_tie.specs.ForeignWorlds.{EndsAreAskedSo, OthersAreNotHere};
+ghost use Rattle.dr_world_tie.specs.ForeignWorlds.{OursCanListen, OwnWorldsKeepTheClaims};
 ghost use Rattle.dr_world_tie.specs.Moves.{CallerMoves, ReceiverMoves};
 ghost use Rattle.dr_world_tie.specs.Nodes.{ForgettingIsForget, GivingUpIsDrop, RefusingIsRefuse};
 ghost use Rattle.dr_world_tie.specs.Nodes.{RequeueingIsRequeue, StayingAwayIsStayAway};
@@ -245,4 +245,5 @@ pub fn claims_hold_among_others()
     ensures claims { OwnWorldsKeepTheClaims }
     ensures listens { OursCanListen }
     ensures others { OthersAreNotHere }
+    ensures asked { EndsAreAskedSo }
 {}

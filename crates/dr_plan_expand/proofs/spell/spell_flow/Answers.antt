@@ -4,7 +4,7 @@ use Rattle.dr_plan_expand.proofs.spell.spell_flow.Goals as goal
 pub returns : goal.returns
 returns c = rw (
   c.in_ok-extend_from_slice-6.ensures.items,
-  c.in_ok-add_stations.ensures,
+  c.in_ok-add_values-2.ensures,
   c.in_ok-extend_from_slice-5.ensures.items,
   c.in_ok-add_values.ensures,
   c.in_ok-extend_from_slice-4.ensures.items,

@@ -1,4 +1,4 @@
-use Rattle.std.proofs.Common.{refl, sym, ◌∙◌, subst, List, Contains}
+use Rattle.std.proofs.Common.{refl, sym, ◌∙◌, subst, Contains}
 use Rattle.std.proofs.lemmas.Bool.{false≢true}
 use Rattle.dr_base.specs.Texts.{Text}
 use Rattle.dr_route.proofs.names.is_in_set.Goals as goal

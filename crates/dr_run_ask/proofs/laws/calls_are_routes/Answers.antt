@@ -10,4 +10,5 @@ returns c = (
   (λ form. (refl, refl, refl)),
   (λ form. (refl, refl, refl)),
   (λ form. (refl, refl, refl)),
+  (λ form. (refl, refl, refl)),
 )

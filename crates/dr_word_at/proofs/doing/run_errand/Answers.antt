@@ -37,3 +37,9 @@ returns-in-Visit g c =
     as_asked g.A.Asks.answers c.args.meant.name.now c.args.meant.digest.now c.args.node.now
     c.visit_node.new.node c.visit_node.result c.args.errand
     (errands.Visit c.in-Visit.dest) c.in-Visit.is c.visit_node.ensures
+
+pub returns-in-Backup : goal.returns-in-Backup
+returns-in-Backup g c =
+    as_asked g.A.Asks.answers c.args.meant.name.now c.args.meant.digest.now c.args.node.now
+    c.back_up.new.node c.back_up.result c.args.errand
+    (errands.Backup c.in-Backup.copy) c.in-Backup.is c.back_up.ensures

@@ -8,7 +8,8 @@ use Rattle.dr_plan_entries.specs.Entering.{AdmitsField, AllBelow, WantsSyntax, W
 use Rattle.dr_plan_entries.specs.Visiting.{VisitorGoesOn}
 use Rattle.dr_plan_entries.proofs.Orders.{by_modality}
 use Rattle.dr_plan_entries.proofs.Visits.{Picks, picked_is, picked_below, one_more, all_of_them, went_on, found_in_row}
-use Rattle.dr_plan_entries.specs.Listing.{IsStationRow}
+use Rattle.dr_plan_entries.specs.Listing.{IsRow}
+use Rattle.dr_plan_entries.specs.declared.rows.FlowSide.TheVariants.{Station}
 use Rattle.dr_plan_entries.proofs.RowLemmas.{fewer_flows}
 use Rattle.dr_plan_entries.proofs.Wanted.{modality_in, modality_out}
 use Rattle.dr_plan_entries.proofs.sweep.EntrySweep.visit_modalities.Goals as goal
@@ -33,11 +34,11 @@ visit_left-requires-clause-below g c =
 pub visit_left-requires-clause-row : goal.visit_left-requires-clause-row
 visit_left-requires-clause-row g c =
     let S : Flow → Type 0 = λ f. AdmitsField f.modalities c.modality-item.result in
-    let P : List ℕ → Type 0 = λ ks. IsStationRow c.args.self.now.plan.now ks c.args.stations.now in
+    let P : List ℕ → Type 0 = λ ks. IsRow Station c.args.self.now.plan.now ks c.args.stations.now in
     let Q : List Flow → Type 0 = λ fs. Picks fs c.args.among.now S c.in_ok-here.here.items in
     let picks = subst Q c.flows.ensures.same c.in_ok-here.ensures in
     subst P (sym c.as_slice-left.ensures.value)
-    (fewer_flows c.args.self.now.plan.now c.args.among.now c.in_ok-here.here.items c.args.stations.now (λ k has. ((picks k).0 has).0) c.requires.stations)
+    (fewer_flows Station c.args.self.now.plan.now c.args.among.now c.in_ok-here.here.items c.args.stations.now (λ k has. ((picks k).0 has).0) c.requires.stations)
 
 pub loop-modality-preserved : goal.loop-modality-preserved
 loop-modality-preserved g c =

@@ -1,14 +1,14 @@
 use Rattle.std.proofs.Common.{◌∙◌, ℕ, sym, subst, List}
 use Rattle.std.specs.Prelude.{Option, MatchOption}
 use Rattle.dr_base.specs.Texts.{Text}
-use Rattle.dr_route.specs.declared.cell.OwnedStation.{OwnedStation}
+use Rattle.dr_route.specs.declared.cell.OwnedField.{OwnedField}
 use Rattle.dr_plan_model.specs.declared.plan.Flow.{Flow}
 use Rattle.dr_plan_model.specs.Networks.{Network}
 use Rattle.dr_plan_model.specs.Listings.{AreListedBy}
 use Rattle.dr_plan_entries.specs.Entering.{AllBelow}
 use Rattle.dr_plan_entries.specs.declared.rows.FlowSide.TheVariants.{Station}
-use Rattle.dr_plan_entries.specs.Listing.{AreNamed, IsStationRow}
-use Rattle.dr_plan_entries.proofs.RowLemmas.{named_stations}
+use Rattle.dr_plan_entries.specs.Listing.{AreNamed, IsRow}
+use Rattle.dr_plan_entries.proofs.RowLemmas.{named_parts}
 use Rattle.dr_plan_entries.proofs.sweep.EntrySweep.visit_modality.Goals as goal
 
 pub names_in-requires-clause-below : goal.names_in-requires-clause-below
@@ -24,5 +24,5 @@ visit_stations-requires-2-clause-row g c =
     let O : Option (List Text) → Type 0 = λ o. MatchOption o (Unit {0}) (λ names. AreNamed Station c.flows.result.now among names) in
     let named : AreNamed Station c.flows.result.now among c.in-Some.names = subst O c.in-Some.is c.in_ok-named.ensures in
     let F : List Flow → Type 0 = λ fs. AreNamed Station fs among c.in-Some.names in
-    let R : List OwnedStation → Type 0 = λ row. IsStationRow plan among row in
-    subst R (sym (c.as_slice-listed.ensures.value ∙ c.in_ok-row.ensures)) (named_stations plan among c.in-Some.names (subst F c.flows.ensures.same named))
+    let R : List OwnedField → Type 0 = λ row. IsRow Station plan among row in
+    subst R (sym (c.as_slice-listed.ensures.value ∙ c.in_ok-row.ensures)) (named_parts Station plan among c.in-Some.names (subst F c.flows.ensures.same named))

@@ -7,8 +7,8 @@ use Rattle.dr_plan_model.specs.Networks.{Network}
 use Rattle.dr_plan_model.specs.Listings.{AreListedBy}
 use Rattle.dr_plan_entries.specs.Entering.{AllBelow}
 use Rattle.dr_plan_entries.specs.declared.rows.FlowSide.TheVariants.{Modality}
-use Rattle.dr_plan_entries.specs.Listing.{AreNamed, IsFieldRow}
-use Rattle.dr_plan_entries.proofs.RowLemmas.{named_fields}
+use Rattle.dr_plan_entries.specs.Listing.{AreNamed, IsRow}
+use Rattle.dr_plan_entries.proofs.RowLemmas.{named_parts}
 use Rattle.dr_plan_entries.proofs.sweep.EntrySweep.visit_syntax.Goals as goal
 
 pub names_in-requires-clause-below : goal.names_in-requires-clause-below
@@ -24,5 +24,5 @@ visit_modalities-requires-2-clause-row g c =
     let O : Option (List Text) → Type 0 = λ o. MatchOption o (Unit {0}) (λ names. AreNamed Modality c.flows.result.now among names) in
     let named : AreNamed Modality c.flows.result.now among c.in-Some.names = subst O c.in-Some.is c.in_ok-named.ensures in
     let F : List Flow → Type 0 = λ fs. AreNamed Modality fs among c.in-Some.names in
-    let R : List OwnedField → Type 0 = λ row. IsFieldRow plan among row in
-    subst R (sym (c.as_slice-listed.ensures.value ∙ c.in_ok-row.ensures)) (named_fields plan among c.in-Some.names (subst F c.flows.ensures.same named))
+    let R : List OwnedField → Type 0 = λ row. IsRow Modality plan among row in
+    subst R (sym (c.as_slice-listed.ensures.value ∙ c.in_ok-row.ensures)) (named_parts Modality plan among c.in-Some.names (subst F c.flows.ensures.same named))

@@ -1,6 +1,6 @@
 use Rattle.std.proofs.lemmas.Bool.{false≢true}
 use Rattle.toml.specs.View.{view}
-use Rattle.dr_plan_text.proofs.OfStations.{no_format}
+use Rattle.dr_plan_text.proofs.OfValues.{no_format}
 use Rattle.dr_plan_text.proofs.fields.FormatNumberForm.read.Goals as goal
 
 pub returns-clause-field : goal.returns-clause-field

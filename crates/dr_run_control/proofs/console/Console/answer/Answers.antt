@@ -24,4 +24,4 @@ returns-then-gives_order-clause-access g c = c.obey.ensures.access
 
 pub returns-clause-answers : goal.returns-clause-answers
 returns-clause-answers g c =
-    inr (inr (record { asked = c.in-Ok.route; admits = c.in-Ok.ensures; other = sym c.gives_order.ensures ∙ c.if-gives_order.false; stops = c.look.ensures; leaves = (refl, refl) }))
+    inr (inr (record { asked = c.in-Ok.route; admits = c.in-Ok.ensures; other = sym c.gives_order.ensures ∙ c.if-gives_order.false; stops = c.look.ensures.stops; copied = c.look.ensures.copied; leaves = (refl, refl) }))

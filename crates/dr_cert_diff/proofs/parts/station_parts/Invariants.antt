@@ -1,7 +1,0 @@
-use Rattle.std.proofs.Common.{◌≡◌, ◌++◌, take}
-use Rattle.std.specs.Prelude.{map}
-use Rattle.dr_route.specs.declared.cell.OwnedStation.TheVariants as station
-use Rattle.dr_cert_diff.proofs.parts.station_parts.Given as goal
-
-abbrev pub invariant-loop-prefix : goal.invariant-loop-prefix
-invariant-loop-prefix l = l.parts.items ≡ map (λ t. station.Literal t) l.fn.values ++ map (λ t. station.Prefix t) (take l.prefix-index l.fn.prefixes)

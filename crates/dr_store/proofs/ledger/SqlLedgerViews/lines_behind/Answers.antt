@@ -1,0 +1,40 @@
+use Rattle.std.proofs.Common.{List, refl}
+use Rattle.sqlite.specs.Held.{state}
+use Rattle.sqlite.specs.Tree.{Trees}
+use Rattle.dr_ledger_history.specs.declared.line.JournalLine.{JournalLine}
+use Rattle.dr_store.proofs.Writes.{looked_books, looked_kept, looked_lasting, looked_reads, looked_safe}
+use Rattle.dr_store.proofs.ledger.SqlLedgerViews.lines_behind.Goals as goal
+
+pub invariant_of-self : goal.invariant_of-self
+invariant_of-self g c =
+    let n = c.args.self.now.next in
+    let part = c.args.self.now.site in
+    let r = c.tell_behind-answer.result in
+    let old = state g.S.Store c.args.self.now.conn in
+    let new = state g.S.Store c.tell_behind-answer.new.conn in
+    let Shows : Trees → List JournalLine → Type 0 = λ base all. Unit {0} in
+    record {
+      idle = c.tell_behind-answer.ensures.idle c.args.self.now.idle;
+      kept = looked_kept n part r old new Shows c.args.self.now.kept (c.tell_behind-answer.ensures.looked n part);
+    }
+
+-- by hand: the search loses itself in what the trait asks
+pub returns : goal.returns
+returns g c =
+    let n = c.args.self.now.next in
+    let part = c.args.self.now.site in
+    let r = c.tell_behind-answer.result in
+    let old = state g.S.Store c.args.self.now.conn in
+    let new = state g.S.Store c.tell_behind-answer.new.conn in
+    let Shows : Trees → List JournalLine → Type 0 = λ base all. Unit {0} in
+    let kept = c.args.self.now.kept in
+    let looked = c.tell_behind-answer.ensures.looked n part in
+    record {
+      reply = looked_reads n part r old new Shows kept looked (λ all h. tt);
+      same = looked_books n part r old new Shows kept looked;
+      counts = c.counted-self.ensures.counts;
+      armed = refl;
+      stood = looked_safe n part r old new Shows kept looked;
+      lasts = looked_lasting n part r old new Shows kept looked;
+      site = refl;
+    }

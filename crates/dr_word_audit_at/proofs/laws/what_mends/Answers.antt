@@ -1,0 +1,5 @@
+use Rattle.dr_word_audit_at.proofs.Laws.{mending_is_right}
+use Rattle.dr_word_audit_at.proofs.laws.what_mends.Goals as goal
+
+pub returns : goal.returns
+returns c = mending_is_right

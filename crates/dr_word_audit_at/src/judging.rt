@@ -1,0 +1,118 @@
+//! The audit of journals of nodes that run.
+ghost use Rattle.std.specs.Prelude.{◌≡◌, ◌<◌, ◌≤◌, IfOk, MatchOption, get_or, length};
+ghost use Rattle.dr_world_audit.specs.Sites.{Audits};
+ghost use Rattle.dr_word_audit_at.specs.Cuts.{HasNone, IsFinal, IsFor, IsJudged, IsLacking, cuts};
+
+use crate::cutting::{MissingLine, cut_all, next_cut};
+use dr_base::Text;
+use dr_cert::Sealed;
+use dr_world_audit::audit::{AuditFault, AuditVerdict, Mismatch, NodeJournal, audit};
+use std::alloc::{AllocError, Global};
+
+/// The journals that were audited, each cut somewhere, and what the audit comes to.
+#[derive(Drop)]
+pub struct Judged {
+    pub journals: Vec<NodeJournal>,
+    pub verdict: AuditVerdict,
+}
+
+/// What would mend a mismatch, and at which node it would stand; None where nothing would.
+fn missing_of(mismatch: &Mismatch) -> Result<Option<(MissingLine, Text)>, AllocError>
+    ensures { IfOk result (λ found. MatchOption found (HasNone mismatch.now)
+        (λ both. IsFor mismatch.now both.0 both.1)) }
+{
+    match mismatch {
+        Mismatch::NoHistory { .. } => Ok(None),
+        Mismatch::NoHop { .. } => Ok(None),
+        Mismatch::NotFair { .. } => Ok(None),
+        Mismatch::NoArrival { node, uid, to } => {
+            let (uid, from, at) = (uid.clone()?, node.clone()?, to.clone()?);
+            Ok(Some((MissingLine::CameFrom { uid, from }, at)))
+        }
+        Mismatch::NoReason { node, uid, from } => {
+            let (uid, to, at) = (uid.clone()?, node.clone()?, from.clone()?);
+            Ok(Some((MissingLine::GoesOn { uid, to }, at)))
+        }
+    }
+}
+
+/// Which journal is to be cut further on, and where, so that the mismatch is mended.
+///
+/// Errors: want of memory.
+fn further_for(
+    mismatch: &Mismatch,
+    counts: &[usize],
+    read: &[NodeJournal],
+) -> Result<Option<(usize, usize)>, AllocError>
+    requires { length counts.now ≡ length read.now }
+    ensures { IfOk result (λ next. MatchOption next (IsLacking counts.now read.now mismatch.now)
+        (λ next. (next.0 < length counts.now) × (get_or counts.now next.0 0 ≤ next.1))) }
+{
+    let Some((missing, name)) = missing_of(mismatch)? else {
+        return Ok(None);
+    };
+    Ok(next_cut(&missing, &name, counts, read))
+}
+
+/// The same of a verdict.
+///
+/// Errors: want of memory.
+fn further(
+    verdict: &AuditVerdict,
+    counts: &[usize],
+    read: &[NodeJournal],
+) -> Result<Option<(usize, usize)>, AllocError>
+    requires { length counts.now ≡ length read.now }
+    ensures { IfOk result (λ next. MatchOption next (IsFinal counts.now read.now verdict.now)
+        (λ next. (next.0 < length counts.now) × (get_or counts.now next.0 0 ≤ next.1))) }
+{
+    match verdict {
+        AuditVerdict::Holds => Ok(None),
+        AuditVerdict::No(mismatch) => further_for(mismatch, counts, read),
+    }
+}
+
+/// The journals cut at these numbers, with the verdict on them.
+///
+/// Errors: those of `audit`.
+fn judge_at(
+    alloc: Global,
+    sealed: &Sealed,
+    counts: &[usize],
+    read: &[NodeJournal],
+) -> Result<Judged, AuditFault>
+    requires { length counts.now ≡ length read.now }
+    ensures { IfOk result (λ judged.
+        (judged.journals.items ≡ cuts counts.now read.now)
+        × Audits sealed.now.plan judged.journals.items judged.verdict) }
+{
+    let journals = cut_all(alloc, counts, read)?;
+    let verdict = audit(alloc, sealed, journals.as_slice())?;
+    Ok(Judged { journals, verdict })
+}
+
+/// Audits journals that were read of nodes that run, of which so many lines were there first. They
+/// are cut there; and as long as a line behind the cuts mends what doesn't match, the cut of its
+/// journal is put behind it.
+///
+/// Errors: those of `audit`; Memory.
+pub fn judge(
+    alloc: Global,
+    sealed: &Sealed,
+    first: Vec<usize>,
+    read: &[NodeJournal],
+) -> Result<Judged, AuditFault>
+    requires { length first.items ≡ length read.now }
+    ensures { IfOk result (λ judged.
+        IsJudged sealed.now.plan first.items read.now judged.journals.items judged.verdict) }
+{
+    let mut counts = first;
+    for _round in 0..u64::MAX {
+        let judged = judge_at(alloc, sealed, counts.as_slice(), read)?;
+        match further(&judged.verdict, counts.as_slice(), read)? {
+            Some((place, count)) => counts[place] = count,
+            None => return Ok(judged),
+        }
+    }
+    Err(AuditFault::Memory)
+}
