@@ -7,12 +7,11 @@ ghost use Rattle.dr_run_answer.specs.Journals.{names_text, outcome_text, row_par
 ghost use Rattle.dr_run_answer.specs.Answers.{word};
 ghost use Rattle.dr_ledger_history.specs.declared.line.JournalLine.TheVariants as told;
 ghost use Rattle.hex.specs.Hex.{encode_lower};
-ghost use Rattle.dr_base.specs.Syntaxes.{syntax_uid};
 ghost use Rattle.std.specs.Prelude.{codes};
 
 use crate::json::{put_flag, put_named, put_number, put_said, put_word};
 use dr_base::fields::add_decimal;
-use dr_base::{Seq, Syntax, Text};
+use dr_base::{Seq, Text};
 use dr_base_quoted::put_text;
 use dr_ledger::{Instance, Outcome};
 use dr_ledger_history::JournalLine;
@@ -87,20 +86,12 @@ fn put_goals(out: &mut Vec<u8>, to: &Seq<Text>, keep: bool) -> Result<(), AllocE
     Ok(())
 }
 
-/// Adds a transfer syntax.
-fn put_syntax(out: &mut Vec<u8>, syntax: Syntax) -> Result<(), AllocError>
-    ensures { OnOk result
-        (out.new.items ≡ out.old.items ++ word (codes "syntax") (syntax_uid syntax)) }
-{
-    put_word(out, "syntax", syntax.uid())
-}
-
 /// Adds what rules read of an instance.
 fn put_key(out: &mut Vec<u8>, instance: &Instance) -> Result<(), AllocError>
     ensures { OnOk result (out.new.items ≡ out.old.items ++ key_part instance.now) }
 {
     put_named(out, "class", &instance.key.class)?;
-    put_syntax(out, instance.key.syntax)?;
+    put_word(out, "syntax", instance.key.syntax.uid())?;
     put_named(out, "modality", &instance.key.modality)?;
     put_named(out, "station", &instance.key.station)?;
     Ok(())
