@@ -11,4 +11,5 @@ returns c = (
   (λ form. (refl, refl, refl)),
   (λ form. (refl, refl, refl)),
   (λ form. (refl, refl, refl)),
+  (λ form. (refl, refl, refl)),
 )
