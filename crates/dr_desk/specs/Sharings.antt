@@ -14,7 +14,7 @@ nobody = record {
   lines = [];
   hops = [];
   literals = record {
-    modalities = record { literals = [] };
+    modalities = record { literals = []; prefixes = [] };
     stations = record { literals = []; prefixes = [] };
   };
 }

@@ -54,11 +54,11 @@ pub fn copy_line(line: &JournalLine) -> Result<JournalLine, AllocError>
 pub fn copy_lines(alloc: Global, lines: &[JournalLine]) -> Result<Seq<JournalLine>, AllocError>
     ensures { IfOk result (λ copies. copies ≡ lines.now) }
 {
-    let mut copies = Seq::new(alloc);
+    let mut copies = Vec::new(alloc);
     for line in lines {
         copies.push(copy_line(line)?)?;
     }
-    Ok(copies)
+    Ok(Seq::from_vec(copies))
 }
 
 /// The lines behind so many.

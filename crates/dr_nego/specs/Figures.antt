@@ -42,7 +42,7 @@ archive_site = record {
   lines = [];
   hops = [];
   literals = record {
-    modalities = record { literals = [] };
+    modalities = record { literals = []; prefixes = [] };
     stations = record { literals = []; prefixes = [] };
   };
 }

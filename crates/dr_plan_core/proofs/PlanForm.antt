@@ -40,8 +40,8 @@ known_name format nodes flows name among =
 -- the format has what the text names, and then what the plan does
 in_format : (format : Format) (nodes : List Node) (flows : List Flow) → FitsFormat (the_plan format nodes flows) → IsInFormat format nodes flows
 in_format format nodes flows fits = record {
-  rules = All-unmap written_node (λ (n : NodeText). All (RuleFits format) n.rules) nodes fits.rules;
-  flows = All-unmap written_flow (λ (f : FlowText). ValuesFit format f.modalities f.stations) flows fits.flows;
+  each_rule = All-unmap written_node (λ (n : NodeText). All (RuleFits format) n.rules) nodes fits.rules;
+  each_flow = All-unmap written_flow (λ (f : FlowText). ValuesFit format f.modalities f.stations) flows fits.flows;
 }
 
 module _ (format : Format) (nodes : List Node) (flows : List Flow) where

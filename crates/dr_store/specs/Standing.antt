@@ -1,6 +1,6 @@
 -- What the data sets of tables are, by their cells.
 use Rattle.std.proofs.Common.{◌≡◌, ℕ, Bool, true, false, cond, List, [], ◌∷◌, Option, Some, None}
-use Rattle.std.proofs.Common.{option_map, refl, sym, ap, ◌∙◌, map as mapped}
+use Rattle.std.proofs.Common.{option_map, unwrap_or, refl, sym, ap, ◌∙◌, map as mapped}
 use Rattle.std.specs.Cmp.Lexicographic.{nat_list_cmp_total}
 use Rattle.std.specs.FinMap as map
 use Rattle.std.specs.FinMap.{find}
@@ -41,7 +41,7 @@ module _ (body_of : List ℕ → List ℕ) where
   cell_at db uid body h = at (map.get (bodies_of db) uid) refl (sym (body_at db uid) ∙ h)
     where
       the : (a b : List ℕ) → Some a ≡ Some b → a ≡ b
-      the a b e = cc
+      the a b e = ap (λ found. unwrap_or found []) e
 
       at : (found : Option (List ℕ)) → map.get (bodies_of db) uid ≡ found
           → option_map body_of found ≡ Some body

@@ -85,8 +85,10 @@ impl<S: Alter, B: Shelf> SqlLedger<S, B> {
         }
     }
 
-    /// Its connection, with no transaction begun; the ledger ends.
+    /// Its connection, with no transaction begun; the ledger ends, and its shelf with it.
     pub fn into_connection(self) -> Connection<S>
+    where
+        B: Drop,
         ensures conn { result ≡ self.conn }
         ensures idle { result.in_transaction ≡ false }
     {

@@ -1,12 +1,13 @@
 -- Journals that are cut one after another, and what stands behind a cut.
-use Rattle.std.proofs.Common.{◌≡◌, ◌∙◌, ◌<◌, ◌≤◌, ◌+◌, ℕ, zero, suc, Bool, true, false, cond, List, [], ◌∷◌, ◌++◌, append_assoc, append-nil, drop, get_or, length, set, refl, sym, ap, subst, arith}
+use Rattle.std.proofs.Common.{◌≡◌, ◌∙◌, ◌<◌, ◌≤◌, ◌+◌, ℕ, zero, suc, Bool, true, false, cond, Option, None, Some, MatchOption, List, [], ◌∷◌, ◌++◌, append_assoc, append-nil, drop, get_or, length, set, refl, sym, ap, subst, arith}
 use Rattle.std.proofs.lemmas.List.{drop_all, drop_more}
 use Rattle.std.specs.List.{AllZip}
 use Rattle.std.specs.Str.{bytes_eq}
 use Rattle.dr_base.specs.Texts.{Text}
 use Rattle.dr_ledger_history.specs.declared.line.JournalLine.{JournalLine}
 use Rattle.dr_world_audit.specs.declared.audit.NodeJournal.{NodeJournal}
-use Rattle.dr_word_audit_at.specs.Cuts.{AreNoEarlier, cut_at, cuts, rest_named}
+use Rattle.dr_word_audit_at.specs.declared.cutting.MissingLine.{MissingLine}
+use Rattle.dr_word_audit_at.specs.Cuts.{AreNoEarlier, MendsNowhere, cut_at, cuts, rest_named}
 
 module _ (counts : List ℕ) (read : List NodeJournal) (i : ℕ) (d n : ℕ) (e node : NodeJournal) (few : i < length counts) (lt : i < length read) (at : n ≡ get_or counts i d) (is : node ≡ get_or read i e) where
   count_cut : drop i counts ≡ n ∷ drop (i + 1) counts
@@ -48,6 +49,13 @@ none_rest name (n ∷ ns) (x ∷ xs) e = absurd cc
 
 pub no_rest : (name : Text) (counts : List ℕ) (read : List NodeJournal) (i : ℕ) (rest : List JournalLine) → length read ≤ i → rest ≡ rest_named name (drop i counts) (drop i read) → rest ≡ []
 no_rest name counts read i rest le so_far = so_far ∙ none_rest name (drop i counts) (drop i read) (drop_all i read le)
+
+-- what mends at the cut of one node mends, or mends nowhere, behind the cut of the node of its name
+pub found_cut : (mend : MissingLine) (counts : List ℕ) (place n : ℕ) (lines rest : List JournalLine) (found : Option (ℕ × ℕ)) → place < length counts → n ≡ get_or counts place 0 → rest ≡ drop n lines
+    → MatchOption found (MendsNowhere mend (drop n lines)) (λ next. (next.0 ≡ place) × (n ≤ next.1)) → MatchOption found (MendsNowhere mend rest) (λ next. (next.0 < length counts) × (get_or counts next.0 0 ≤ next.1))
+found_cut mend counts place n lines rest None few at is h = subst (MendsNowhere mend) (sym is) h
+found_cut mend counts place n lines rest (Some next) few at is h =
+    (subst (λ p. p < length counts) (sym h.0) few, subst (λ p. get_or counts p 0 ≤ next.1) (sym h.0) (subst (λ m. m ≤ next.1) at h.1))
 
 -- ---- cuts that are put further on
 

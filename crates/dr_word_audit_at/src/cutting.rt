@@ -61,27 +61,6 @@ fn next_count(missing: &MissingLine, lines: &[JournalLine], count: usize) -> Opt
     }
 }
 
-/// The place of the node of that name whose journal says it behind its cut, and where its next cut
-/// is.
-pub(crate) fn next_cut(
-    missing: &MissingLine,
-    name: &Text,
-    counts: &[usize],
-    read: &[NodeJournal],
-) -> Option<(usize, usize)>
-    requires { length counts.now ≡ length read.now }
-    ensures { MatchOption result
-        (MendsNowhere missing.now (rest_named name.now counts.now read.now))
-        (λ next. (next.0 < length counts.now) × (get_or counts.now next.0 0 ≤ next.1)) }
-{
-    for place in 0..read.len() {
-        if read[place].name == *name {
-            return cut_behind(missing, read[place].lines.as_slice(), counts[place], place);
-        }
-    }
-    None
-}
-
 /// The place, with how many lines of the journal there are up to the first behind the cut that says
 /// it.
 fn cut_behind(
@@ -97,6 +76,28 @@ fn cut_behind(
         Some(next) => Some((place, next)),
         None => None,
     }
+}
+
+/// The place of the node of that name whose journal says it behind its cut, and where its next cut
+/// is.
+pub(crate) fn next_cut(
+    missing: &MissingLine,
+    name: &Text,
+    counts: &[usize],
+    read: &[NodeJournal],
+) -> Option<(usize, usize)>
+    requires { length counts.now ≡ length read.now }
+    ensures { MatchOption result
+        (MendsNowhere missing.now (rest_named name.now counts.now read.now))
+        (λ next. (next.0 < length counts.now) × (get_or counts.now next.0 0 ≤ next.1)) }
+{
+    for place in 0..read.len() {
+        let node = &read[place];
+        if node.name == *name {
+            return cut_behind(missing, node.lines.as_slice(), counts[place], place);
+        }
+    }
+    None
 }
 
 /// The first lines of a journal, so many.

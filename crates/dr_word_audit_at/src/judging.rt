@@ -4,6 +4,7 @@ ghost use Rattle.dr_world_audit.specs.Sites.{Audits};
 ghost use Rattle.dr_word_audit_at.specs.Cuts.{HasNone, IsFinal, IsFor, IsJudged, IsLacking, cuts};
 
 use crate::cutting::{MissingLine, cut_all, next_cut};
+use crate::moving::first_cuts;
 use dr_base::Text;
 use dr_cert::Sealed;
 use dr_world_audit::audit::{AuditFault, AuditVerdict, Mismatch, NodeJournal, audit};
@@ -106,7 +107,7 @@ pub fn judge(
     ensures { IfOk result (λ judged.
         IsJudged sealed.now.plan first.items read.now judged.journals.items judged.verdict) }
 {
-    let mut counts = first;
+    let mut counts = first_cuts(alloc, read, first)?;
     for _round in 0..u64::MAX {
         let judged = judge_at(alloc, sealed, counts.as_slice(), read)?;
         match further(&judged.verdict, counts.as_slice(), read)? {

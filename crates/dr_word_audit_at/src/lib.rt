@@ -12,6 +12,7 @@ pub mod cutting;
 mod figuring;
 pub mod judging;
 pub mod laws;
+mod moving;
 mod paging;
 mod running;
 mod told;

@@ -29,13 +29,21 @@ pub fn put_class(out: &mut Vec<u8>, class: &Text) -> Result<(), AllocError> {
     }
 }
 
+/// The moment from which on a row is due that waits; None where it was never tried.
+fn known(due: u64) -> Option<u64> {
+    if due == 0 {
+        return None;
+    }
+    Some(due)
+}
+
 /// Adds how far a row is, with dates.
 fn put_stage(out: &mut Vec<u8>, progress: Progress) -> Result<(), AllocError> {
     match progress {
         Progress::Waiting { tries, due } => {
             add_field(out, b"waiting")?;
             add_number(out, tries as u64)?;
-            put_date(out, Some(due).filter(|due| *due > 0))
+            put_date(out, known(due))
         }
         Progress::Held(cause) => {
             add_field(out, b"held")?;

@@ -62,7 +62,7 @@ site_in None = record {
   lines = [];
   hops = [];
   literals = record {
-    modalities = record { literals = [] };
+    modalities = record { literals = []; prefixes = [] };
     stations = record { literals = []; prefixes = [] };
   };
 }

@@ -1,13 +1,32 @@
-use Rattle.std.proofs.Common.{sym, subst, ◌∙◌, arith, refl}
-use Rattle.dr_word_audit_at.specs.Cuts.{MendsNowhere}
-use Rattle.dr_word_audit_at.proofs.Cutting.{no_rest, rest_here, rest_later}
+use Rattle.std.proofs.Common.{◌≡◌, ◌∙◌, ◌<◌, ◌≤◌, List, drop, get_or, length, refl, sym, ap, subst, arith}
+use Rattle.dr_ledger_history.specs.declared.line.JournalLine.{JournalLine}
+use Rattle.dr_word_audit_at.specs.Cuts.{MendsNowhere, rest_named}
+use Rattle.dr_word_audit_at.proofs.Cutting.{found_cut, no_rest, rest_here, rest_later}
 use Rattle.dr_word_audit_at.proofs.cutting.next_cut.Goals as goal
 
 pub loop-place-preserved : goal.loop-place-preserved
-loop-place-preserved c = ?
+loop-place-preserved c =
+    let counts = c.args.counts.now in
+    let read = c.args.read.now in
+    let i = c.loop-place.place in
+    let few : i < length counts = omega (arith, c.requires, c.loop-place-test.true) in
+    rest_later counts read i 0 (get_or counts i 0) _ c.index-read-place.result few c.loop-place-test.true refl c.index-read-place.is c.args.name.now (rest_named c.args.name.now counts read) (sym c.eq.ensures ∙ c.if-eq.false) c.loop-place.invariant
 
 pub returns-then-eq : goal.returns-then-eq
-returns-then-eq c = ?
+returns-then-eq c =
+    let counts = c.args.counts.now in
+    let read = c.args.read.now in
+    let i = c.loop-place.place in
+    let few : i < length counts = omega (arith, c.requires, c.loop-place-test.true) in
+    let rest = rest_named c.args.name.now counts read in
+    let here = rest_here counts read i 0 (get_or counts i 0) _ c.index-read-place.result few c.loop-place-test.true refl c.index-read-place.is c.args.name.now rest (sym c.eq.ensures ∙ c.if-eq.true) c.loop-place.invariant in
+    found_cut c.args.missing.now counts i (get_or counts i 0) c.as_slice.result.now rest c.cut_behind.result few refl (here ∙ ap (λ (ls : List JournalLine). drop (get_or counts i 0) ls) (sym c.as_slice.ensures)) c.cut_behind.ensures
 
 pub returns : goal.returns
-returns c = ?
+returns c =
+    let counts = c.args.counts.now in
+    let read = c.args.read.now in
+    let i = c.loop-place.place in
+    let rest = rest_named c.args.name.now counts read in
+    let over : length read ≤ i = omega (arith, c.loop-place-test.false) in
+    subst (MendsNowhere c.args.missing.now) (sym (no_rest c.args.name.now counts read i rest over c.loop-place.invariant)) tt

@@ -30,11 +30,11 @@ returns g c =
     let kept = c.args.self.now.kept in
     let looked = c.tell_behind-answer.ensures.looked n part in
     record {
-      reply = looked_reads n part r old new Shows kept looked (λ all h. tt);
-      same = looked_books n part r old new Shows kept looked;
+      reply = λ safe. looked_reads n part r old new Shows kept looked (λ all h. tt) safe.0;
+      same = λ safe. looked_books n part r old new Shows kept looked (g.B.Shelf.body_of c.args.self.now.shelf) safe.0;
       counts = c.counted-self.ensures.counts;
       armed = refl;
-      stood = looked_safe n part r old new Shows kept looked;
-      lasts = looked_lasting n part r old new Shows kept looked;
+      stood = λ safe. (looked_safe n part r old new Shows kept looked safe.0, safe.1);
+      lasts = looked_lasting n part r old new Shows kept looked (g.B.Shelf.is_clean c.args.self.now.shelf);
       site = refl;
     }
