@@ -13,17 +13,21 @@ use Rattle.dr_store_changes.specs.Bringing.{HasCells}
 use Rattle.dr_store.specs.Owning.{AreOwn, bodies_with, body_under}
 
 module _ (body_of : List ℕ → List ℕ) where
+  -- the first of two, or what is found behind it
+  under_first : (b : Bool) (cell : List ℕ) (rest found : Option (List ℕ))
+      → rest ≡ option_map body_of found
+      → cond b (Some (body_of cell)) rest ≡ option_map body_of (cond b (Some cell) found)
+  under_first true cell rest found is = refl
+  under_first false cell rest found is = is
+
   found_under : (uid : Text) (es : List (Text × List ℕ))
       → find text_cmp uid (mapped (body_under body_of) es)
       ≡ option_map body_of (find text_cmp uid es)
   found_under uid [] = refl
-  found_under uid (e ∷ es) = at (eq_by_cmp text_cmp uid e.0)
-    where
-      at : (b : Bool)
-          → cond b (Some (body_of e.1)) (find text_cmp uid (mapped (body_under body_of) es))
-          ≡ option_map body_of (cond b (Some e.1) (find text_cmp uid es))
-      at true = refl
-      at false = found_under uid es
+  found_under uid (e ∷ es) =
+      under_first (eq_by_cmp text_cmp uid e.0) e.1
+      (find text_cmp uid (mapped (body_under body_of) es)) (find text_cmp uid es)
+      (found_under uid es)
 
   -- what stands at a uid
   pub body_at : (db : Trees) (uid : Text)
