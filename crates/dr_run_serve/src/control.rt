@@ -97,7 +97,7 @@ struct Home<'a, R: Wait, L: Ledger, B: Sharing, C: Clock, G: Monitor> {
 }
 
 impl<'a, R: Wait, L: Ledger, B: Sharing, C: Clock, G: Monitor> Home<'a, R, L, B, C, G> {
-    /// Backups the ledger to that path, if no copy is being made.
+    /// Copies the ledger to that path, if no copy is being made.
     ///
     /// Errors: those of `BackupFault`.
     fn copy_alone(&self, path: &Text) -> Result<Copied, BackupFault> {
