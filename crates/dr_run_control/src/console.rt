@@ -82,7 +82,7 @@ pub trait House {
     fn visits(&self, dest: &Text) -> Visits;
 
     /// From where rows to a node are to be looked up that may wait and aren't noted; None where all
-    /// are.
+    /// are. It is asked where rows wait.
     ///
     /// Errors: want of memory.
     fn search_rows(&self, dest: &Text) -> Result<Option<RowSearch>, AllocError>;

@@ -46,12 +46,13 @@ impl WaitingRows {
         self.after = Some(Text::empty(self.alloc));
     }
 
-    /// From where rows are to be looked up that may wait and aren't noted; None where all are.
+    /// From where rows are to be looked up that may wait and aren't noted; None where all are. It
+    /// is asked where rows wait: where none is noted, all are looked up again.
     ///
     /// Errors: want of memory.
     pub fn search(&mut self) -> Result<Option<RowSearch>, AllocError> {
         self.is_asked = true;
-        if self.is_full && self.ages.is_empty() {
+        if self.ages.is_empty() && (self.is_full || self.after.is_none()) {
             self.is_full = false;
             self.doubt();
         }
