@@ -565,27 +565,27 @@ module _ (ours : Ours) (plan : Network) (certificate : Certificate) where
 
     module _ (from to : Text) (fits : StepFits ours b (bytes.Open from to)) (caller receiver : Part) (rq : AssociateRq) (hop : Hop) (is_from : IsPartOf plan certificate caller) (named_from : caller.name ≡ from)
         (is_to : IsPartOf plan certificate receiver) (named_to : receiver.name ≡ to) (hop_is : IsHopTo caller to hop) (proposal : IsProposal caller to rq) where
-      abbrev number : ℕ
-      number = b.opened + 1
+      abbrev next_number : ℕ
+      next_number = b.opened + 1
 
-      abbrev l : Channel
-      l = opened_between caller receiver rq b.time
+      abbrev fresh_link : Channel
+      fresh_link = opened_between caller receiver rq b.time
 
-      free : o.ends number ≡ None
-      free = (s.fresh number (omega arith)).1
+      free : o.ends next_number ≡ None
+      free = (s.fresh next_number (omega arith)).1
 
-      single : ours (caller_of l) ≡ true → ours (receiver_of l) ≡ false
-      single its = ap ours named_to ∙ fits (sym (ap ours named_from) ∙ its)
+      single_now : ours (caller_of fresh_link) ≡ true → ours (receiver_of fresh_link) ≡ false
+      single_now its = ap ours named_to ∙ fits (sym (ap ours named_from) ∙ its)
 
-      none_above : (n : ℕ) → number < n → n ≢ number
-      none_above n less same = (let a : number < n = less in let c : n ≡ number = same in omega (arith, a, c))
+      none_above : (n : ℕ) → next_number < n → n ≢ next_number
+      none_above n less same = (let a : next_number < n = less in let c : n ≡ next_number = same in omega (arith, a, c))
 
-      linked : (next : OwnWorld) → next.time ≡ o.time → ((name : Text) → ours name ≡ true → next.desks name ≡ b.desks name) → next.ends number ≡ own_of ours l
-          → ((n : ℕ) → (n == number) ≡ false → next.ends n ≡ o.ends n) → Stands (record { time = b.time; desks = b.desks; links = map.insert b.links number l; opened = number }) next
-      linked next time same its others = changed b o s number l single number (omega arith) none_above b.desks next (time ∙ s.has.time) same its others
+      linked : (next : OwnWorld) → next.time ≡ o.time → ((name : Text) → ours name ≡ true → next.desks name ≡ b.desks name) → next.ends next_number ≡ own_of ours fresh_link
+          → ((n : ℕ) → (n == next_number) ≡ false → next.ends n ≡ o.ends n) → Stands (record { time = b.time; desks = b.desks; links = map.insert b.links next_number fresh_link; opened = next_number }) next
+      linked next time same its others = changed b o s next_number fresh_link single_now next_number (omega arith) none_above b.desks next (time ∙ s.has.time) same its others
 
-      neither : ours caller.name ≡ false → ours receiver.name ≡ false → own_of ours l ≡ None
-      neither away too = ap (λ (q : Bool). own_in q (ours (receiver_of l)) l) away ∙ ap (λ (q : Bool). own_in false q l) too
+      neither_end : ours caller.name ≡ false → ours receiver.name ≡ false → own_of ours fresh_link ≡ None
+      neither_end away too = ap (λ (q : Bool). own_in q (ours (receiver_of fresh_link)) fresh_link) away ∙ ap (λ (q : Bool). own_in false q fresh_link) too
 
       kept_desk : (node name : Text) → ours name ≡ true → with_desk o.desks node (o.desks node) name ≡ b.desks name
       kept_desk node name mine = elim (same_or_not texts name node) [
@@ -593,16 +593,16 @@ module _ (ours : Ours) (plan : Network) (certificate : Certificate) where
         | inr apart ↦ ap (λ (q : Bool). if q then o.desks node else o.desks name) apart ∙ s.has.desks name mine
       ]
 
-      calls : ours caller.name ≡ true → Goes o (record { time = b.time; desks = b.desks; links = map.insert b.links number l; opened = number })
+      calls : ours caller.name ≡ true → Goes o (record { time = b.time; desks = b.desks; links = map.insert b.links next_number fresh_link; opened = next_number })
       calls its =
           let over = (pairs_as_planned plan certificate caller certified is_from to hop.class hop.syntax).0 (hop, (hop_to caller to hop).1 hop_is, refl, refl) in
           let goes : IsHop plan caller.name to = (over.0, over.2) in
           let away : ours to ≡ false = fits (sym (ap ours named_from) ∙ its) in
           let core : Core = requesting (Some caller) to rq o.time in
           let e : OwnEnd = record { side = Requestor; node = caller.name; terminal = record { core = core; ear = fresh caller.max_pdu } } in
-          let next : OwnWorld = own.with_done o number e (o.desks caller.name) in
+          let next : OwnWorld = own.with_done o next_number e (o.desks caller.name) in
           let e_of : ℕ → Text → Option OwnEnd = λ time dest. Some (record { side = Requestor; node = caller.name; terminal = record { core = requesting (Some caller) dest rq time; ear = fresh caller.max_pdu } }) in
-          one o next (own.Opens number caller.name to) (record { time = b.time; desks = b.desks; links = map.insert b.links number l; opened = number }) (record {
+          one o next (own.Opens next_number caller.name to) (record { time = b.time; desks = b.desks; links = map.insert b.links next_number fresh_link; opened = next_number }) (record {
             free = free;
             own = its;
             away = away;
@@ -614,28 +614,28 @@ module _ (ours : Ours) (plan : Network) (certificate : Certificate) where
             proposal = proposal;
             is = refl;
           }) (linked next refl (kept_desk caller.name)
-          (ap (λ (q : Bool). if q then Some e else o.ends number) (eq-eqb number number refl)
-          ∙ (ap (λ (z : ℕ). e_of z to) s.has.time ∙ (ap (e_of b.time) (sym named_to) ∙ sym (ap (λ (q : Bool). own_in q (ours (receiver_of l)) l) its))))
+          (ap (λ (q : Bool). if q then Some e else o.ends next_number) (eq-eqb next_number next_number refl)
+          ∙ (ap (λ (z : ℕ). e_of z to) s.has.time ∙ (ap (e_of b.time) (sym named_to) ∙ sym (ap (λ (q : Bool). own_in q (ours (receiver_of fresh_link)) fresh_link) its))))
           (λ n apart. ap (λ (q : Bool). if q then Some e else o.ends n) apart))
 
-      listens : ours caller.name ≡ false → ours receiver.name ≡ true → Goes o (record { time = b.time; desks = b.desks; links = map.insert b.links number l; opened = number })
+      listens : ours caller.name ≡ false → ours receiver.name ≡ true → Goes o (record { time = b.time; desks = b.desks; links = map.insert b.links next_number fresh_link; opened = next_number })
       listens away its =
           let e_of : ℕ → OwnEnd = λ time. record { side = Acceptor; node = receiver.name; terminal = record { core = accepting receiver time; ear = fresh receiver.max_pdu } } in
           let e : OwnEnd = e_of o.time in
-          let next : OwnWorld = own.with_done o number e (o.desks receiver.name) in
-          one o next (own.Listens number receiver.name) (record { time = b.time; desks = b.desks; links = map.insert b.links number l; opened = number })
+          let next : OwnWorld = own.with_done o next_number e (o.desks receiver.name) in
+          one o next (own.Listens next_number receiver.name) (record { time = b.time; desks = b.desks; links = map.insert b.links next_number fresh_link; opened = next_number })
           (record { free = free; own = its; site = receiver; part = is_to; named = refl; is = refl })
           (linked next refl (kept_desk receiver.name)
-          (ap (λ (q : Bool). if q then Some e else o.ends number) (eq-eqb number number refl)
-          ∙ (ap (λ (z : ℕ). Some (e_of z)) s.has.time ∙ sym (ap (λ (q : Bool). own_in q (ours (receiver_of l)) l) away ∙ ap (λ (q : Bool). own_in false q l) its)))
+          (ap (λ (q : Bool). if q then Some e else o.ends next_number) (eq-eqb next_number next_number refl)
+          ∙ (ap (λ (z : ℕ). Some (e_of z)) s.has.time ∙ sym (ap (λ (q : Bool). own_in q (ours (receiver_of fresh_link)) fresh_link) away ∙ ap (λ (q : Bool). own_in false q fresh_link) its)))
           (λ n apart. ap (λ (q : Bool). if q then Some e else o.ends n) apart))
 
-      linked_so : Goes o (record { time = b.time; desks = b.desks; links = map.insert b.links number l; opened = number })
+      linked_so : Goes o (record { time = b.time; desks = b.desks; links = map.insert b.links next_number fresh_link; opened = next_number })
       linked_so = elim (cases_Bool (ours caller.name)) [
         | inl its ↦ calls its
         | inr away ↦ elim (cases_Bool (ours receiver.name)) [
           | inl also ↦ listens away also
-          | inr too ↦ ([], o, refl, linked o refl (λ name mine. s.has.desks name mine) (free ∙ sym (neither away too)) (λ n apart. refl))
+          | inr too ↦ ([], o, refl, linked o refl (λ name mine. s.has.desks name mine) (free ∙ sym (neither_end away too)) (λ n apart. refl))
         ]
       ]
 
