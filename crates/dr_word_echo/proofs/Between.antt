@@ -14,9 +14,9 @@ use Rattle.dr_word_echo.specs.declared.outcome.EchoOutcome.TheVariants.{Answered
 pub between : {L : Type 0} (connects : Text → Result L Error → Type 0) (hears : L → Heard → L → Type 0) (sends : L → List ℕ → Bool → L → Type 0) (closes : L → L → Type 0) (tells : ℕ → Type 0)
     (plan : Network) (caller called : Text) (x y : Node) → IsTheNode plan caller x → IsTheNode plan called y → (address : Text) → address_of y.listens ≡ Some address → (outcome : EchoOutcome)
     → IsAskedAt connects hears sends closes tells caller called address outcome → IsOutcomeOf connects hears sends closes tells plan caller called outcome
-between connects hears sends closes tells plan caller called x y is_x is_y address at (Answered echoed) asked = (x, y, is_x, is_y, address, at, asked)
-between connects hears sends closes tells plan caller called x y is_x is_y address at (Failed why) asked = (x, y, is_x, is_y, address, at, asked)
-between connects hears sends closes tells plan caller called x y is_x is_y address at (Unreached error) asked = (x, y, is_x, is_y, address, at, asked)
+between connects hears sends closes tells plan caller called x y is_x is_y address at (Answered echoed) asked = (x, y, is_x, is_y, (address, at, asked))
+between connects hears sends closes tells plan caller called x y is_x is_y address at (Failed why) asked = (x, y, is_x, is_y, (address, at, asked))
+between connects hears sends closes tells plan caller called x y is_x is_y address at (Unreached error) asked = (x, y, is_x, is_y, (address, at, asked))
 between connects hears sends closes tells plan caller called x y is_x is_y address at Memory asked = tt
 between connects hears sends closes tells plan caller called x y is_x is_y address at NoNode asked = absurd asked
 between connects hears sends closes tells plan caller called x y is_x is_y address at Nowhere asked = absurd asked
