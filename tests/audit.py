@@ -321,7 +321,7 @@ def under_load():
         counts = []
 
         def look():
-            while nodes['GATE'].read('/status')[0]['lines'] < 2_200 or len(counts) < 5:
+            while nodes['GATE'].read('/status')[0]['lines'] < 1_100 or len(counts) < 5:
                 run = audit_at(room, nodes)
                 same((run.returncode, run.stderr.decode()), (0, ''))
                 head, *rest = lines(run.stdout)
