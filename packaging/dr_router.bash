@@ -5,6 +5,44 @@ _dr_router_nodes() {
     sed -n 's/^ *name *= *"\([^"]*\)".*/\1/p' "$1" 2>/dev/null
 }
 
+# What the words of an audit before the last are of: `running` nodes, `files` in a folder, or either.
+_dr_router_audited() {
+    local index before=
+    for ((index = 4; index < COMP_CWORD; index++)); do
+        local given=${COMP_WORDS[index]}
+        case "$given" in
+            --at | --at=* | --token | --token=*)
+                echo running
+                return ;;
+        esac
+    done
+    for ((index = 4; index < COMP_CWORD; index++)); do
+        local given=${COMP_WORDS[index]}
+        if [ "${given#-}" = "$given" ] && [ "$before" != "--other" ]; then
+            echo files
+            return
+        fi
+        before=$given
+    done
+    echo either
+}
+
+# What is offered for the word of an audit behind the certificate: a folder of ledgers, or nodes that run, not both.
+_dr_router_audit() {
+    local IFS=$'\n' before=${COMP_WORDS[COMP_CWORD - 1]}
+    if [ "$before" = "--other" ] || [ "$before" = "--at" ]; then
+        compgen -W "$(_dr_router_nodes "${COMP_WORDS[2]}")" -- "$1"
+        return
+    fi
+    case "$(_dr_router_audited)" in
+        running) compgen -W "--other"$'\n'"--at"$'\n'"--token" -- "$1" ;;
+        files) compgen -W "--other" -- "$1" ;;
+        either)
+            compgen -W "--other"$'\n'"--at" -- "$1"
+            compgen -d -- "$1" ;;
+    esac
+}
+
 _dr_router() {
     local words="check expand import verify route graph lint expect diff simulate echo new serve send list requeue drop forget visit backup stop adopt audit help"
     local current=${COMP_WORDS[COMP_CWORD]} word=${COMP_WORDS[1]} plan=${COMP_WORDS[2]}
@@ -25,6 +63,10 @@ _dr_router() {
         mapfile -t COMPREPLY < <(compgen -f -- "$current")
         return
     fi
+    if [ "$word" = "audit" ] && [ "$COMP_CWORD" -gt 3 ]; then
+        mapfile -t COMPREPLY < <(_dr_router_audit "$current")
+        return
+    fi
     if [ "${COMP_WORDS[5]}" = "--at" ] && [ "$COMP_CWORD" -gt 6 ]; then
         local IFS=$'\n'
         mapfile -t COMPREPLY < <(compgen -W "--token"$'\n'"--summary"$'\n'"--fail-if-held"$'\n'"--all-held"$'\n'"--reason"$'\n'"$(_dr_router_nodes "$plan")" -- "$current")
@@ -36,14 +78,7 @@ _dr_router() {
             mapfile -t COMPREPLY < <(compgen -W "$(_dr_router_nodes "$plan")" -- "$current") ;;
         "check 2" | "expand 2" | "import 2" | "verify "[23] | "route "[235] | "graph "[23] | "lint "[23] | "expect "[234] | "diff "[2345] | "simulate "[234] | "echo 2" | "new "[235] | "serve "[235] | "send "[2356] | "list "[235] | "requeue "[235] | "drop "[235] | "forget "[235] | "visit "[23] | "backup "[23] | "stop "[23] | "adopt "[2345] | "audit "[23])
             mapfile -t COMPREPLY < <(compgen -f -- "$current") ;;
-        "audit "[5-9] | "audit "[1-9][0-9])
-            local IFS=$'\n' before=${COMP_WORDS[COMP_CWORD - 1]}
-            if [ "$before" = "--other" ] || [ "$before" = "--at" ]; then
-                mapfile -t COMPREPLY < <(compgen -W "$(_dr_router_nodes "$plan")" -- "$current")
-            else
-                mapfile -t COMPREPLY < <(compgen -W "--other"$'\n'"--at"$'\n'"--token" -- "$current")
-            fi ;;
-        "adopt 6" | "audit 4")
+        "adopt 6")
             mapfile -t COMPREPLY < <(compgen -d -- "$current") ;;
         "serve 6" | "serve 8" | "serve 1"[02468])
             mapfile -t COMPREPLY < <(compgen -W "--links --log --report --workers --memory --connect --request --write --message --idle --until-input-ends --must-exist --forget-after --forget-never --control --control-token --control-host --control-anyone" -- "$current") ;;

@@ -10,6 +10,7 @@ import os
 import shutil
 import sqlite3
 import sys
+import time
 
 sys.dont_write_bytecode = True
 from at import Fake, whole
@@ -17,6 +18,8 @@ from control import Asked, put_token, storing
 from lib.nodes import PLAN, TOP, Room, lines, part10, free_port, run_cases, same, stop, told
 
 NODES = 'CT1', 'GATE', 'ARCH'
+# For how many seconds images come at most, while nodes are audited.
+MOST_SECONDS = 300
 FIRST, SECOND = '1.2.3.4', '1.2.3.5'
 # One row of each table changed, and a row more or less, each so that the tables no longer say what the journal's lines make.
 CHANGES = (
@@ -321,7 +324,9 @@ def under_load():
         counts = []
 
         def look():
-            while nodes['GATE'].read('/status')[0]['lines'] < 1_100 or len(counts) < 5:
+            end = time.monotonic() + MOST_SECONDS
+            while (read := nodes['GATE'].read('/status')[0]['lines']) < 1_100 or len(counts) < 5:
+                assert time.monotonic() < end, (read, counts)
                 run = audit_at(room, nodes)
                 same((run.returncode, run.stderr.decode()), (0, ''))
                 head, *rest = lines(run.stdout)
@@ -332,7 +337,7 @@ def under_load():
                     assert found[first]['arrivals'] - found[first]['waiting'] <= found[then]['arrivals'] <= found[first]['arrivals'], found
                 same(found['ARCH']['kept'], found['ARCH']['arrivals'])
                 counts.append(found['ARCH']['arrivals'])
-        stored, _ = storing(room, 2, 100, meanwhile=look, caller='MOD', called='CT1')
+        stored, _ = storing(room, 2, MOST_SECONDS, meanwhile=look, caller='MOD', called='CT1')
         same(counts, sorted(counts))
         for node in 'CT1', 'GATE':
             at_rest(nodes[node])

@@ -189,6 +189,14 @@ def journal_in(room, node):
     return told_lines
 
 
+def wait_until_tried(node, tries=1):
+    """Waits until the row to GATE, which isn't there, was tried so often: its next try is a second later, then two, then four."""
+    end = time.monotonic() + LIMIT
+    while not (rows := node.read('/rows?dest=GATE&state=waiting')) or rows[0]['tries'] < tries:
+        assert time.monotonic() < end, rows
+        time.sleep(0.05)
+
+
 def journal():
     """The journal in pages, each line with its number, behind a line that tells whose it is and how many lines there are."""
     with Room() as room:
@@ -196,6 +204,8 @@ def journal():
         node = Asked(room, 'CT1', 0)
         same(node.act('/drop', uid='1.2.3.4', dest='GATE'), DONE)
         same(node.act('/requeue', uid='1.2.3.5', dest='GATE'), DONE)
+        # each try is a line: the next one is four seconds later
+        wait_until_tried(node, 3)
         head, *whole = node.read('/journal')
         status = node.read('/status')[0]
         same(head, {name: status[name] for name in ('node', 'plan', 'lines')})
@@ -214,7 +224,7 @@ def journal():
         same(node.ask('POST', '/journal', {}), (405, '{"fault":"Method"}\n'))
         same(node.ask('GET', '/journal/'), (404, '{"fault":"Path"}\n'))
         stop(node.process)
-        same(journal_in(room, 'CT1'), whole)
+        same(journal_in(room, 'CT1')[:count], whole)
         same([line['kind'] for line in whole if line['uid'] == '1.2.3.4'][-1], 'dropping')
         guarded = Asked(room, 'CT1', 0, '--control-anyone')
         same(guarded.ask('GET', '/journal'), (401, '{"fault":"Token"}\n'))
@@ -260,10 +270,7 @@ def acts():
         same(node.act('/requeue', uid='1.2.3.4'), (400, '{"fault":"Field"}\n'))
         # GATE isn't there any more, so that the row waits
         same(node.act('/requeue', uid='1.2.3.4', dest='GATE'), (200, '{"done":true}\n'))
-        end = time.monotonic() + LIMIT
-        while not (rows := node.read('/rows?dest=GATE&state=waiting')) or not rows[0]['tries']:
-            assert time.monotonic() < end, rows
-            time.sleep(0.05)
+        wait_until_tried(node)
         text = node.ask('GET', '/')[1]
         assert '<h1 class="amber">Rows wait</h1>' in text, text
         assert re.search('<tr><td>GATE</td><td>1</td><td>[0-9]+ s</td><td>0</td><td>0</td>', text), text
@@ -271,6 +278,7 @@ def acts():
         same(node.act('/drop', uid='1.2.3.4', dest='GATE'), (409, '{"fault":"G5 NotHeld"}\n'))
         # GATE is there again, and refuses it again: each process is another one
         gate = room.serve('GATE', 0)
+        end = time.monotonic() + LIMIT
         while not node.read('/rows?dest=GATE&state=held'):
             assert time.monotonic() < end
             time.sleep(0.05)
@@ -732,8 +740,10 @@ def storing(room, callers, seconds, meanwhile=None, caller='CT1', called='GATE')
         peer.start()
     begun = time.monotonic()
     if meanwhile:
-        meanwhile()
-        end[0] = time.monotonic()
+        try:
+            meanwhile()
+        finally:
+            end[0] = time.monotonic()
     for peer in peers:
         peer.join()
     return sum(counts), sum(counts) / (time.monotonic() - begun)

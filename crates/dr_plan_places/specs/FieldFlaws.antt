@@ -3,6 +3,7 @@ use Rattle.std.specs.Prelude.{◌≡◌, ℕ, Option, None, Some, IsSome, codes}
 use Rattle.toml.specs.Data.{Data, Items, no_items, Members, as_array, as_table, get_item}
 use Rattle.toml.specs.Data.{get_member}
 use Rattle.dr_base.specs.Texts.{Text}
+use Rattle.dr_route.specs.declared.rule.Rule.{Rule as RuleText}
 use Rattle.dr_plan_model.specs.declared.plan.Format.{Format}
 use Rattle.dr_plan_model.specs.declared.plan.Format.TheVariants.{One, Two, Three}
 use Rattle.dr_plan_text.specs.declared.words.FlowText.{FlowText}

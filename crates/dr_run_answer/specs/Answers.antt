@@ -1,7 +1,7 @@
 -- What a running node answers, as lines: JSON's objects, and figures for Prometheus.
 use Rattle.std.specs.Prelude.{ℕ, ◌-◌, ◌*◌, ◌/◌, ◌%◌, ◌^◌, ◌==◌, min, ◌∷◌, ◌++◌, List, [], Bool}
 use Rattle.std.specs.Prelude.{Option}
-use Rattle.std.specs.Prelude.{None, Some, if◌then◌else◌, unwrap_or}
+use Rattle.std.specs.Prelude.{None, Some, if◌then◌else◌}
 use Rattle.std.specs.Prelude.{codes, decimal, flat_map}
 use Rattle.dr_base.specs.Texts.{Text}
 use Rattle.dr_ledger.specs.Pairs.{Pair}
@@ -262,14 +262,21 @@ stages_of queue =
 abbrev pub stages_figures : List Queue → Text
 stages_figures queues = codes "# TYPE dr_router_rows gauge\n" ++ flat_map stages_of queues
 
--- for how many seconds the row to a node that is there longest has waited; 0 where none waits
-abbrev pub age_figure : Text → Option ℕ → Text
-age_figure dest waited =
-    labelled (codes "dr_router_oldest_waiting_seconds") (codes "dest") dest (unwrap_or waited 0)
+-- for how many seconds the row to a node has waited that is there longest, as it is told where so
+-- many wait: 0 where none does, and nothing where it isn't known of any
+abbrev pub age_told : ℕ → Option ℕ → Option ℕ
+age_told waiting (Some seconds) = Some seconds
+age_told waiting None = if waiting == 0 then Some 0 else None
 
--- the same of a queue
+-- the figure of it
+abbrev pub age_figure : Text → Option ℕ → Text
+age_figure dest None = []
+age_figure dest (Some seconds) =
+    labelled (codes "dr_router_oldest_waiting_seconds") (codes "dest") dest seconds
+
+-- that of a queue
 abbrev pub age_of : Queue → Text
-age_of queue = age_figure queue.dest.now queue.waited
+age_of queue = age_figure queue.dest.now (age_told queue.waiting queue.waited)
 
 -- the same for each node
 abbrev pub ages_figures : List Queue → Text

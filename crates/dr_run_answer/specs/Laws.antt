@@ -5,8 +5,8 @@ use Rattle.dr_base.specs.Texts.{Text}
 use Rattle.dr_ledger.specs.declared.item.Cause.TheVariants as cause
 use Rattle.dr_ledger.specs.declared.item.Progress.TheVariants.{Waiting, Held, Done}
 use Rattle.dr_ledger.specs.Books.{retried}
-use Rattle.dr_run_answer.specs.Answers.{age_figure, brought_figure, bytes_of, fault_line, from_line}
-use Rattle.dr_run_answer.specs.Answers.{in_seconds}
+use Rattle.dr_run_answer.specs.Answers.{age_figure, age_told, brought_figure, bytes_of, fault_line}
+use Rattle.dr_run_answer.specs.Answers.{from_line, in_seconds}
 use Rattle.dr_run_answer.specs.Answers.{instance_line, last_try, late_line, node_line, own_row_line}
 use Rattle.dr_run_answer.specs.Answers.{queue_line, recent_line, row_line, rows_figure}
 use Rattle.dr_run_answer.specs.Answers.{visits_figure}
@@ -116,8 +116,9 @@ LinesAreWrittenSo =
     ≡ codes "{\"dest\":\"ARCH\",\"waiting\":1,\"held\":2,\"done\":3,\"due\":7,\"waited\":61}\n")
     × (age_figure (codes "ARCH") (Some 61)
     ≡ codes "dr_router_oldest_waiting_seconds{dest=\"ARCH\"} 61\n")
-    × (age_figure (codes "ARCH") None
+    × (age_figure (codes "ARCH") (age_told 0 None)
     ≡ codes "dr_router_oldest_waiting_seconds{dest=\"ARCH\"} 0\n")
+    × (age_figure (codes "ARCH") (age_told 1 None) ≡ [])
     × (rows_figure (codes "ARCH") (codes "held") 2
     ≡ codes "dr_router_rows{dest=\"ARCH\",state=\"held\"} 2\n")
     × (visits_figure (codes "ARCH") (codes "unreached") 3

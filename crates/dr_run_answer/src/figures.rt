@@ -1,7 +1,8 @@
 //! Figures in the text format of Prometheus.
 ghost use Rattle.std.specs.Prelude.{◌≡◌, ◌++◌, OnOk, decimal, flat_map};
 ghost use Rattle.dr_run_answer.specs.Answers.{figure, figure_head, figures, queues_figures};
-ghost use Rattle.dr_run_answer.specs.Answers.{age_of, ages_figures, rows_figure, stages_figures};
+ghost use Rattle.dr_run_answer.specs.Answers.{age_figure, age_of, age_told, ages_figures};
+ghost use Rattle.dr_run_answer.specs.Answers.{rows_figure, stages_figures};
 ghost use Rattle.dr_run_answer.specs.Answers.{labelled, open_figure, stages_of, twice_labelled};
 ghost use Rattle.dr_run_answer.specs.Answers.{label_part, other_part, value_part};
 ghost use Rattle.dr_run_answer.specs.Answers.{visits_figure, visits_figures, visits_of};
@@ -155,18 +156,38 @@ fn put_all_stages(out: &mut Vec<u8>, queues: &[Queue<'_>]) -> Result<(), AllocEr
     Ok(())
 }
 
-/// Adds for how long a row to a node has waited.
+/// For how many seconds a row to a node has waited, as it is told where so many wait.
+fn age_told(waiting: u64, waited: Option<u64>) -> Option<u64>
+    ensures { result ≡ age_told waiting waited }
+{
+    match waited {
+        Some(seconds) => Some(seconds),
+        None => { if waiting == 0 { Some(0) } else { None } }
+    }
+}
+
+/// Adds for how many seconds a row to a node has waited, where that is known.
+fn put_known_age(out: &mut Vec<u8>, dest: &Text, seconds: Option<u64>) -> Result<(), AllocError>
+    ensures { OnOk result (out.new.items ≡ out.old.items ++ age_figure dest.now seconds) }
+{
+    match seconds {
+        Some(seconds) => put_labelled(
+            out,
+            "dr_router_oldest_waiting_seconds",
+            "dest",
+            dest,
+            seconds,
+        ),
+        None => Ok(()),
+    }
+}
+
+/// Adds for how long a row to a node has waited, where that is known.
 fn put_age(out: &mut Vec<u8>, queue: &Queue<'_>) -> Result<(), AllocError>
     ensures { OnOk result (out.new.items ≡ out.old.items ++ age_of queue.now) }
 {
-    let seconds = queue.waited.unwrap_or(0);
-    put_labelled(
-        out,
-        "dr_router_oldest_waiting_seconds",
-        "dest",
-        queue.dest,
-        seconds,
-    )
+    let seconds = age_told(queue.waiting, queue.waited);
+    put_known_age(out, queue.dest, seconds)
 }
 
 /// The same for each node.

@@ -1,6 +1,6 @@
 //! A copy of a ledger while it is made.
 use crate::fault::BackupFault;
-use crate::pair::{FileEnds, FilePair, UNDER_WAY, made_pair, opened, path_of};
+use crate::pair::{FilePair, UNDER_WAY, WHOLE, made_pair, opened, path_of};
 use std::alloc::{AllocError, Global};
 use std::fs::File;
 use std::io::{Read, Seek, SeekFrom, Write};
@@ -26,9 +26,13 @@ pub struct LedgerCopy<'a> {
     from: FilePair,
     to: FilePair,
     path: String,
-    ends: FileEnds,
+    /// Whether each of its files has the name of its own, too.
+    is_log_named: bool,
+    is_database_named: bool,
     piece: Vec<u8>,
     head: [u8; HEAD],
+    /// What was read of the log.
+    log: Vec<u8>,
 }
 
 /// A buffer.
@@ -59,7 +63,7 @@ fn begin(from: &mut File, to: &mut File) -> io::Result<()> {
     Ok(())
 }
 
-/// Backups the next piece; says whether there was one.
+/// Copies the next piece; says whether there was one.
 fn copy_next(from: &mut File, to: &mut File, piece: &mut [u8]) -> io::Result<bool> {
     let count = from.read(piece)?;
     if count == 0 {
@@ -97,9 +101,11 @@ impl<'a> LedgerCopy<'a> {
             from,
             to,
             path: own,
-            ends: UNDER_WAY,
+            is_log_named: false,
+            is_database_named: false,
             piece,
             head: [0; HEAD],
+            log: Vec::new(alloc),
         })
     }
 
@@ -128,7 +134,7 @@ impl<'a> LedgerCopy<'a> {
         Ok(())
     }
 
-    /// Backups the next piece of the database; says whether there was one.
+    /// Copies the next piece of the database; says whether there was one.
     ///
     /// Errors: NoCopy, Memory.
     pub fn copy_database(&mut self) -> Result<bool, BackupFault> {
@@ -137,21 +143,34 @@ impl<'a> LedgerCopy<'a> {
         Ok(is_more)
     }
 
-    /// Begins the log, from its first byte on.
+    /// Begins the log, from its first byte on: there is room in memory for what it has now.
     ///
     /// Errors: NoCopy, Memory.
     pub fn begin_log(&mut self) -> Result<(), BackupFault> {
-        begin(&mut self.from.log, &mut self.to.log)?;
+        let Ok(length) = usize::try_from(self.from.log.metadata()?.len()) else {
+            return Err(BackupFault::Memory);
+        };
+        self.log = Vec::with_capacity(self.alloc, length)?;
+        self.from.log.seek(SeekFrom::Start(0))?;
         Ok(())
     }
 
-    /// Backups the next piece of the log; says whether there was one.
+    /// Reads the next piece of the log into memory; says whether there was one. Nothing is written,
+    /// so that a copy's disk that hangs holds up nobody who waits for this.
     ///
     /// Errors: NoCopy, Memory.
-    pub fn copy_log(&mut self) -> Result<bool, BackupFault> {
-        let (from, to) = (&mut self.from.log, &mut self.to.log);
-        let is_more = copy_next(from, to, self.piece.as_mut_slice())?;
-        Ok(is_more)
+    pub fn read_log(&mut self) -> Result<bool, BackupFault> {
+        let count = self.from.log.read(self.piece.as_mut_slice())?;
+        self.log.extend_from_slice(&self.piece[..count])?;
+        Ok(count != 0)
+    }
+
+    /// Writes the log that was read.
+    ///
+    /// Errors: NoCopy, Memory.
+    pub fn write_log(&mut self) -> Result<(), BackupFault> {
+        self.to.log.write_all(self.log.as_slice())?;
+        Ok(())
     }
 
     /// How many bytes the copy has.
@@ -163,21 +182,23 @@ impl<'a> LedgerCopy<'a> {
         Ok(database.saturating_add(log))
     }
 
-    /// One of its files takes the name with nothing but that behind the path.
-    fn rename(&self, end: &str, last: &str) -> io::Result<()> {
+    /// One of its files gets the name with that behind the path, too. Nothing is replaced.
+    ///
+    /// Errors: AlreadyExists, where something is there; those of the system.
+    fn link(&self, end: &str, last: &str) -> io::Result<()> {
         let now = path_of(self.alloc, self.path.as_str(), end)?;
         let then = path_of(self.alloc, self.path.as_str(), last)?;
-        fs::rename(self.system, now.as_str(), then.as_str())
+        fs::hard_link(self.system, now.as_str(), then.as_str())
     }
 
     /// Both files are on the disk, the log in its place before the database that needs it.
     fn settle(&mut self) -> io::Result<()> {
         self.to.log.sync_all()?;
         self.to.database.sync_all()?;
-        self.rename(self.ends.log, "-wal")?;
-        self.ends.log = "-wal";
-        self.rename(self.ends.database, "")?;
-        self.ends.database = "";
+        self.link(UNDER_WAY.log, WHOLE.log)?;
+        self.is_log_named = true;
+        self.link(UNDER_WAY.database, WHOLE.database)?;
+        self.is_database_named = true;
         fs::open(self.system, folder_of(self.path.as_str()))?.sync_all()
     }
 
@@ -188,14 +209,23 @@ impl<'a> LedgerCopy<'a> {
         }
     }
 
-    /// The copy is whole: it takes its names, and is on the disk. Where that fails, nothing of it
-    /// is left.
+    /// Takes away the names that its files had while it was made.
+    fn remove_parts(&self) {
+        self.remove(UNDER_WAY.database);
+        self.remove(UNDER_WAY.log);
+    }
+
+    /// The copy is whole: it takes its names, and is on the disk. Where that fails, what was made
+    /// of it is taken away, and nothing else.
     ///
-    /// Errors: NoCopy, Memory.
+    /// Errors: IsThere, where something came to one of its names meanwhile; NoCopy, Memory.
     pub fn keep(self) -> Result<(), BackupFault> {
         let mut copy = self;
         match copy.settle() {
-            Ok(()) => Ok(()),
+            Ok(()) => {
+                copy.remove_parts();
+                Ok(())
+            }
             Err(error) => {
                 copy.discard();
                 Err(BackupFault::from(error))
@@ -203,9 +233,14 @@ impl<'a> LedgerCopy<'a> {
         }
     }
 
-    /// There is to be no copy: what was made of it is taken away.
+    /// There is to be no copy: what was made of it is taken away, the database before its log.
     pub fn discard(self) {
-        self.remove(self.ends.database);
-        self.remove(self.ends.log);
+        if self.is_database_named {
+            self.remove(WHOLE.database);
+        }
+        if self.is_log_named {
+            self.remove(WHOLE.log);
+        }
+        self.remove_parts();
     }
 }

@@ -8,7 +8,8 @@ use std::fmt::{Display, Formatter};
 use std::io::ErrorKind;
 use std::{fmt, io};
 
-/// Why a ledger isn't copied. Nothing is at the copy's path then that wasn't there.
+/// Why a ledger isn't copied. What was made of the copy is taken away then, as far as the system
+/// lets that be done.
 #[derive(Clone, Copy, Debug)]
 pub enum BackupFault {
     /// The ledger takes the name, or it would belong to the database of another.

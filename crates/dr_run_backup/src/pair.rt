@@ -76,3 +76,9 @@ pub(crate) const UNDER_WAY: FileEnds = FileEnds {
     database: ".part",
     log: "-wal.part",
 };
+
+/// When it is whole.
+pub(crate) const WHOLE: FileEnds = FileEnds {
+    database: "",
+    log: "-wal",
+};

@@ -41,6 +41,15 @@ pub struct Around {
     pub lock: Timing,
 }
 
+/// From where rows to a node are to be looked up.
+#[derive(Drop)]
+pub struct RowSearch {
+    /// How often all of them had to be looked up again.
+    pub round: u64,
+    /// The UID behind which the next ones are.
+    pub after: Text,
+}
+
 /// The node around the desk: it is told of what is done there, and tells what the desk doesn't
 /// know.
 pub trait House {
@@ -72,12 +81,14 @@ pub trait House {
     /// In which ways the visits to a node ended.
     fn visits(&self, dest: &Text) -> Visits;
 
-    /// Whether rows to a node may wait that aren't noted; from now on that is known to the one who
-    /// asks.
-    fn lacks_rows(&self, dest: &Text) -> bool;
+    /// From where rows to a node are to be looked up that may wait and aren't noted; None where all
+    /// are. It is asked where rows wait.
+    ///
+    /// Errors: want of memory.
+    fn search_rows(&self, dest: &Text) -> Result<Option<RowSearch>, AllocError>;
 
-    /// Rows to a node may wait that aren't noted.
-    fn doubt_rows(&self, dest: &Text);
+    /// In that round of a search, rows to a node were noted up to a UID; all, where it is None.
+    fn note_search(&self, dest: &Text, round: u64, last: Option<Text>);
 
     /// A row to a node waits, of an instance that came at that moment, or since the node serves
     /// where nobody knows. Where it is noted, the earlier moment stays.

@@ -19,6 +19,6 @@ mod talking;
 mod waiting;
 
 pub use access::names_of;
-pub use console::{Around, Console, House};
+pub use console::{Around, Console, House, RowSearch};
 pub use reply::name_of_refusal;
 pub use talking::talk;

@@ -399,7 +399,7 @@ impl<'a, R: Wait, L: Views, B: Sharing, H: House> NodeReader<'a, R, L, B, H> {
         let mut queues = Vec::with_capacity(self.clerk.alloc, hops.len())?;
         for hop in hops {
             let tally = desk.tally(rt, &hop.dest)?;
-            let waited = self.waited(&hop.dest)?;
+            let waited = self.waited(&hop.dest, tally.waiting)?;
             let (visit, visits) = (house.visited(&hop.dest), house.visits(&hop.dest));
             queues.push(queue_of(&hop.dest, tally, waited, visit, visits))?;
         }

@@ -1,7 +1,8 @@
 //! For how long the row to a next node has waited that is there longest.
 //!
 //! A node notes each row that an arrival makes, and lets go of what doesn't wait any more. Rows
-//! from before, and those that were queued again, are looked up where it is asked.
+//! from before, and those that were queued again, are looked up where it is asked, some at each
+//! question.
 use crate::console::House;
 use crate::reads::NodeReader;
 use dr_base::{Seq, Text};
@@ -12,6 +13,10 @@ use std::sync::Wait;
 
 /// So many rows are read at a time.
 const PAGE: u32 = 1_000;
+
+/// So many pages are looked up for one question, so that its answer comes soon however many rows
+/// wait: each of them costs two queries. The next question goes on from there.
+const PAGES: u32 = 2;
 
 /// So many rows that don't wait any more are looked at, at most.
 const LOOKS: u32 = 1_000;
@@ -42,31 +47,31 @@ impl<'a, R: Wait, L: Views, B: Sharing, H: House> NodeReader<'a, R, L, B, H> {
         Ok(last)
     }
 
-    /// Notes all rows to a node that wait. The lock is given back between one look and the next.
+    /// Looks up a page of the rows to a node that may wait and aren't noted. Whether there was one.
     ///
-    /// Errors: Store, Memory.
-    fn note_all(&self, dest: &Text) -> Result<(), LedgerFault> {
+    /// Errors: Store, Memory; the next one who asks looks at the same page.
+    fn search_page(&self, dest: &Text) -> Result<bool, LedgerFault> {
         let (rt, desk) = (self.clerk.rt, self.clerk.desk);
-        let mut after = Text::empty(self.clerk.alloc);
-        for _ in 0..u64::MAX {
-            let page = desk.page(rt, dest, Some(Stage::Waiting), &after, PAGE)?;
-            let Some(last) = self.note_page(dest, &page)? else {
-                return Ok(());
-            };
-            after = last;
-        }
-        Ok(())
+        let Some(search) = self.house.search_rows(dest)? else {
+            return Ok(false);
+        };
+        let page = desk.page(rt, dest, Some(Stage::Waiting), &search.after, PAGE)?;
+        let last = self.note_page(dest, &page)?;
+        self.house.note_search(dest, search.round, last);
+        Ok(true)
     }
 
-    /// The same; where that fails, rows may still wait that aren't noted.
+    /// Looks up the next of the rows to a node that may wait and aren't noted. The lock is given
+    /// back between one look and the next.
     ///
     /// Errors: Store, Memory.
-    fn note_again(&self, dest: &Text) -> Result<(), LedgerFault> {
-        let noted = self.note_all(dest);
-        if noted.is_err() {
-            self.house.doubt_rows(dest);
+    fn search_some(&self, dest: &Text) -> Result<(), LedgerFault> {
+        for _ in 0..PAGES {
+            if !self.search_page(dest)? {
+                return Ok(());
+            }
         }
-        noted
+        Ok(())
     }
 
     /// Whether a row waits.
@@ -77,7 +82,9 @@ impl<'a, R: Wait, L: Views, B: Sharing, H: House> NodeReader<'a, R, L, B, H> {
         Ok(matches!(row, Some(Progress::Waiting { .. })))
     }
 
-    /// Since when the row to a node waits that is there longest, as far as rows are noted.
+    /// Since when the row to a node waits that is there longest, as far as rows are noted. Those
+    /// that don't wait any more are noted no more. Where there are too many of these, the next one
+    /// is told, of which it isn't known whether it waits; so who asks again comes to one that does.
     ///
     /// Errors: Store, Memory.
     fn first_noted(&self, dest: &Text) -> Result<Option<u64>, LedgerFault> {
@@ -90,17 +97,21 @@ impl<'a, R: Wait, L: Views, B: Sharing, H: House> NodeReader<'a, R, L, B, H> {
             }
             self.house.note_gone(dest, &uid);
         }
-        Ok(None)
+        match self.house.longest(dest)? {
+            Some((_, moment)) => Ok(Some(moment)),
+            None => Ok(None),
+        }
     }
 
-    /// For how many seconds the row to a node has waited that is there longest; None where none
-    /// waits.
+    /// For how many seconds the row to a node has waited that is there longest, as far as rows are
+    /// noted; None where none waits, or none of those that do is noted.
     ///
     /// Errors: Store, Memory.
-    pub(crate) fn waited(&self, dest: &Text) -> Result<Option<u64>, LedgerFault> {
-        if self.house.lacks_rows(dest) {
-            self.note_again(dest)?;
+    pub(crate) fn waited(&self, dest: &Text, waiting: u64) -> Result<Option<u64>, LedgerFault> {
+        if waiting == 0 {
+            return Ok(None);
         }
+        self.search_some(dest)?;
         match self.first_noted(dest)? {
             Some(moment) => Ok(Some(self.moment.saturating_sub(moment) / 1_000)),
             None => Ok(None),

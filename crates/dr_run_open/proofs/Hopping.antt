@@ -1,5 +1,5 @@
 -- The hops to nodes, one after another.
-use Rattle.std.proofs.Common.{◌≡◌, ℕ, ◌+◌, ◌<◌, refl, sym, ◌∙◌, ap, subst, List, [], ◌∷◌, ◌++◌, Bool, true, false, Option, None, Some, take, length, get_or, flat_map}
+use Rattle.std.proofs.Common.{◌≡◌, ℕ, ◌+◌, ◌<◌, ◌∙◌, ap, List, [], ◌∷◌, ◌++◌, true, false, None, Some, take, length, get_or}
 use Rattle.std.specs.Prelude.{if◌then◌else◌}
 use Rattle.std.proofs.lemmas.List.{append-nil, take_more}
 use Rattle.std.proofs.lemmas.Grind.{flat_map-append}
@@ -8,7 +8,6 @@ use Rattle.dr_plan_model.specs.Listening.{address_of}
 use Rattle.dr_plan_model.specs.declared.plan.Node.{Node}
 use Rattle.dr_site.specs.Parts.{Part}
 use Rattle.dr_run_open.specs.Hops.{is_reached, first_look, hop_by, hop_at, hops_from}
-use Rattle.dr_run_open.specs.declared.hops.NextHop.{NextHop}
 
 pub one_more : (site : Part) (nodes : List Node) (i : ℕ) (node : Node) → i < length nodes → node ≡ get_or nodes i node →
     hops_from site (take (i + 1) nodes) ≡ hops_from site (take i nodes) ++ hop_at site node
@@ -24,7 +23,7 @@ no_address site node none = ap (hop_by site node.name) none
 
 -- nor is one that the site doesn't reach
 pub not_reached : (site : Part) (node : Node) (address : Text) → address_of node.listens ≡ Some address → is_reached site node.name ≡ false → hop_at site node ≡ []
-not_reached site node address at no = ap (hop_by site node.name) at ∙ (λ i. if no i then first_look node.name address ∷ [] else [])
+not_reached site node address at never = ap (hop_by site node.name) at ∙ (λ i. if never i then first_look node.name address ∷ [] else [])
 
 pub reached : (site : Part) (node : Node) (address : Text) → address_of node.listens ≡ Some address → is_reached site node.name ≡ true → hop_at site node ≡ first_look node.name address ∷ []
 reached site node address at yes_so = ap (hop_by site node.name) at ∙ (λ i. if yes_so i then first_look node.name address ∷ [] else [])

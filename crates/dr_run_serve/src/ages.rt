@@ -1,81 +1,150 @@
 //! The rows to a next node that wait, and since when each of their instances is here.
 use dr_base::Text;
+use dr_run_control::RowSearch;
 use std::alloc::{AllocError, Global};
-use std::collections::BTreeMap;
+use std::collections::{BTreeMap, BTreeSet};
 
-/// Rows to one node that wait, by the UIDs of their instances.
+/// So many rows to a node are noted, those that wait longest: they take some 25 MB.
+const MOST: usize = 100_000;
+
+/// Rows to one node that wait. Where there are more than are noted, none of the others has waited
+/// for longer.
 #[derive(Drop)]
 pub struct WaitingRows {
-    rows: BTreeMap<Text, u64>,
-    /// Whether rows may wait that aren't noted.
-    lacks: bool,
+    alloc: Global,
+    /// Since when each of them waits.
+    moments: BTreeMap<Text, u64>,
+    /// The same, first of all the one that waits longest.
+    ages: BTreeSet<(u64, Text)>,
+    /// Whether somebody has asked. Before, nothing is noted.
+    is_asked: bool,
+    /// Whether there was no room for a row since rows were looked up.
+    is_full: bool,
+    /// How often all rows had to be looked up again.
+    round: u64,
+    /// Behind which UID rows may wait that aren't noted; None where there are none.
+    after: Option<Text>,
 }
 
 impl WaitingRows {
     /// None is noted; some may be there from before.
     pub fn new(alloc: Global) -> WaitingRows {
         WaitingRows {
-            rows: BTreeMap::new(alloc),
-            lacks: true,
+            alloc,
+            moments: BTreeMap::new(alloc),
+            ages: BTreeSet::new(alloc),
+            is_asked: false,
+            is_full: false,
+            round: 0,
+            after: Some(Text::empty(alloc)),
         }
     }
 
-    /// Rows may wait that aren't noted.
+    /// Rows may wait that aren't noted, wherever they are.
     pub fn doubt(&mut self) {
-        self.lacks = true;
+        self.round = self.round.saturating_add(1);
+        self.after = Some(Text::empty(self.alloc));
     }
 
-    /// Whether rows may wait that aren't noted; that is known to the one who asks.
-    pub fn take_doubt(&mut self) -> bool {
-        let lacked = self.lacks;
-        self.lacks = false;
-        lacked
+    /// From where rows are to be looked up that may wait and aren't noted; None where all are. It
+    /// is asked where rows wait: where none is noted, all are looked up again.
+    ///
+    /// Errors: want of memory.
+    pub fn search(&mut self) -> Result<Option<RowSearch>, AllocError> {
+        self.is_asked = true;
+        if self.ages.is_empty() && (self.is_full || self.after.is_none()) {
+            self.is_full = false;
+            self.doubt();
+        }
+        match &self.after {
+            Some(after) => Ok(Some(RowSearch {
+                round: self.round,
+                after: after.clone()?,
+            })),
+            None => Ok(None),
+        }
+    }
+
+    /// In that round rows were noted up to a UID, or all of them. Where another round has begun
+    /// meanwhile, nothing changes.
+    pub fn note_search(&mut self, round: u64, last: Option<Text>) {
+        if self.round == round {
+            self.after = last;
+        }
+    }
+
+    /// Whether a row that waits since then is none of those that are noted: it is there already
+    /// with an earlier moment, or there was no room for others that have waited for longer.
+    fn is_known(&self, uid: &Text, moment: u64) -> bool {
+        match self.moments.get(uid) {
+            Some(known) => *known <= moment,
+            None => self.is_full && self.is_youngest(moment),
+        }
+    }
+
+    /// Whether no row that is noted waits since later.
+    fn is_youngest(&self, moment: u64) -> bool {
+        match self.ages.last() {
+            Some((youngest, _)) => *youngest <= moment,
+            None => true,
+        }
+    }
+
+    /// Where there are too many rows, the one that waits since last is noted no more.
+    fn make_room(&mut self) {
+        if self.ages.len() <= MOST {
+            return;
+        }
+        self.is_full = true;
+        if let Some((_, uid)) = self.ages.pop_last() {
+            let _gone = self.moments.remove(&uid);
+        }
     }
 
     /// Notes a row.
     fn put(&mut self, uid: &Text, moment: u64) -> Result<(), AllocError> {
-        let uid = uid.clone()?;
-        let _known = self.rows.insert(uid, moment)?;
+        self.note_gone(uid);
+        let _is_new = self.ages.insert((moment, uid.clone()?))?;
+        let _known = self.moments.insert(uid.clone()?, moment)?;
+        self.make_room();
         Ok(())
     }
 
+    /// Nothing is noted any more, and all will be looked up when somebody asks.
+    fn forget_all(&mut self) {
+        self.moments.clear();
+        self.ages.clear();
+        self.doubt();
+    }
+
     /// A row waits, of an instance that is here since that moment. Where it is noted, the earlier
-    /// moment stays. Where others aren't noted, or there is no memory for it, nothing is: all will
-    /// be looked up when somebody asks.
+    /// moment stays. Before anybody has asked nothing is noted.
+    ///
+    /// Errors: want of memory; then all will be looked up when somebody asks.
     pub fn note(&mut self, uid: &Text, moment: u64) -> Result<(), AllocError> {
-        if self.lacks {
+        if !self.is_asked || self.is_known(uid, moment) {
             return Ok(());
         }
-        let moment = match self.rows.get(uid) {
-            Some(known) => moment.min(*known),
-            None => moment,
-        };
         let noted = self.put(uid, moment);
         if noted.is_err() {
-            self.lacks = true;
+            self.forget_all();
         }
         noted
     }
 
     /// A row doesn't wait any more.
     pub fn note_gone(&mut self, uid: &Text) {
-        let _gone = self.rows.remove(uid);
+        if let Some((uid, moment)) = self.moments.remove_entry(uid) {
+            let _gone = self.ages.remove(&(moment, uid));
+        }
     }
 
     /// The UID of the row that waits longest, and since when.
+    ///
+    /// Errors: want of memory.
     pub fn longest(&self) -> Result<Option<(Text, u64)>, AllocError> {
-        let mut longest: Option<(&Text, u64)> = None;
-        for (uid, moment) in self.rows.iter() {
-            let is_longer = match longest {
-                Some((_, known)) => *moment < known,
-                None => true,
-            };
-            if is_longer {
-                longest = Some((uid, *moment));
-            }
-        }
-        match longest {
-            Some((uid, moment)) => Ok(Some((uid.clone()?, moment))),
+        match self.ages.first() {
+            Some((moment, uid)) => Ok(Some((uid.clone()?, *moment))),
             None => Ok(None),
         }
     }

@@ -15,7 +15,7 @@ use dr_ledger_timed::Meter;
 use dr_ledger_views::Views;
 use dr_run_answer::{Visited, Visits};
 use dr_run_backup::BackupFault;
-use dr_run_control::{Around, Console, House, talk};
+use dr_run_control::{Around, Console, House, RowSearch, talk};
 use dr_run_request::{Access, Browser, Order, Refused};
 use dr_session::Clock;
 use std::alloc::{AllocError, Global};
@@ -97,7 +97,7 @@ struct Home<'a, R: Wait, L: Ledger, B: Sharing, C: Clock, G: Monitor> {
 }
 
 impl<'a, R: Wait, L: Ledger, B: Sharing, C: Clock, G: Monitor> Home<'a, R, L, B, C, G> {
-    /// Backups the ledger to that path, if no copy is being made.
+    /// Copies the ledger to that path, if no copy is being made.
     ///
     /// Errors: those of `BackupFault`.
     fn copy_alone(&self, path: &Text) -> Result<Copied, BackupFault> {
@@ -179,12 +179,12 @@ impl<'a, R: Wait, L: Ledger, B: Sharing, C: Clock, G: Monitor> House for Home<'a
         self.signal.visits(self.rt, dest)
     }
 
-    fn lacks_rows(&self, dest: &Text) -> bool {
-        self.signal.take_doubt(self.rt, dest)
+    fn search_rows(&self, dest: &Text) -> Result<Option<RowSearch>, AllocError> {
+        self.signal.search_rows(self.rt, dest)
     }
 
-    fn doubt_rows(&self, dest: &Text) {
-        self.signal.doubt_waiting(self.rt, dest);
+    fn note_search(&self, dest: &Text, round: u64, last: Option<Text>) {
+        self.signal.note_search(self.rt, dest, round, last);
     }
 
     fn note_waiting(&self, dest: &Text, uid: &Text, moment: Option<u64>) -> Result<(), AllocError> {

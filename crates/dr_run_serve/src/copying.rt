@@ -16,6 +16,9 @@ const STILL: u64 = 20_000;
 /// So often a copy is tried for which calls wait next to nothing.
 const TRIES: u32 = 3;
 
+/// Where these tries together took so many milliseconds, calls would wait in vain for another one.
+const TRIED: u64 = 60_000;
+
 /// A copy that was made: how many lines its journal has, and how many bytes it takes.
 #[derive(Clone, Copy)]
 pub struct Copied {
@@ -45,11 +48,10 @@ impl<'a, R: Wait, L: Ledger, B: Sharing, C: Clock, G: Monitor> Copier<'a, R, L, 
         Ok(())
     }
 
-    /// Backups the database, until that moment at the latest.
+    /// Copies the database that was begun, until that moment at the latest.
     ///
     /// Errors: GivenUp, NoCopy, Memory.
     fn copy_database(&self, copy: &mut LedgerCopy<'_>, until: u64) -> Result<(), BackupFault> {
-        copy.begin_database()?;
         for _ in 0..u64::MAX {
             if !copy.copy_database()? {
                 return Ok(());
@@ -59,13 +61,13 @@ impl<'a, R: Wait, L: Ledger, B: Sharing, C: Clock, G: Monitor> Copier<'a, R, L, 
         Err(BackupFault::GivenUp)
     }
 
-    /// Backups the log, until that moment at the latest.
+    /// Reads the log, until that moment at the latest.
     ///
     /// Errors: GivenUp, NoCopy, Memory.
-    fn copy_log(&self, copy: &mut LedgerCopy<'_>, until: u64) -> Result<(), BackupFault> {
+    fn read_log(&self, copy: &mut LedgerCopy<'_>, until: u64) -> Result<(), BackupFault> {
         copy.begin_log()?;
         for _ in 0..u64::MAX {
-            if !copy.copy_log()? {
+            if !copy.read_log()? {
                 return Ok(());
             }
             self.test_time(until)?;
@@ -83,8 +85,9 @@ impl<'a, R: Wait, L: Ledger, B: Sharing, C: Clock, G: Monitor> Copier<'a, R, L, 
         noted
     }
 
-    /// Backups the log to the database that was copied since its head was noted, where it has the
-    /// same head; how many lines the copy has then. Calls wait meanwhile.
+    /// Adds the log to the database that was copied since its head was noted, where it has the same
+    /// head; how many lines the copy has then. Calls wait while it is read, and not while it is
+    /// written.
     ///
     /// Errors: GivenUp, NoCopy, Memory.
     fn add_log(&self, copy: &mut LedgerCopy<'_>) -> Result<Option<u64>, BackupFault> {
@@ -93,33 +96,44 @@ impl<'a, R: Wait, L: Ledger, B: Sharing, C: Clock, G: Monitor> Copier<'a, R, L, 
             return Ok(None);
         }
         let until = self.clock.now().saturating_add(STILL);
-        self.copy_log(copy, until)?;
-        Ok(Some(still.line_count()))
+        self.read_log(copy, until)?;
+        let lines = still.line_count();
+        drop(still);
+        copy.write_log()?;
+        Ok(Some(lines))
     }
 
-    /// Backups both files while calls wait; how many lines the copy has.
+    /// Copies both files; how many lines the copy has. Calls wait while the database is copied, and
+    /// the log is read.
     ///
     /// Errors: GivenUp, NoCopy, Memory.
     fn copy_both(&self, copy: &mut LedgerCopy<'_>) -> Result<u64, BackupFault> {
+        copy.begin_database()?;
         let still = self.desk.still(self.rt);
         let until = self.clock.now().saturating_add(STILL);
         self.copy_database(copy, until)?;
-        self.copy_log(copy, until)?;
-        Ok(still.line_count())
+        self.read_log(copy, until)?;
+        let lines = still.line_count();
+        drop(still);
+        copy.write_log()?;
+        Ok(lines)
     }
 
     /// Fills a copy; how many lines it has. Calls wait for the log alone, where that is the same
-    /// one before and after the database was copied; else for both files.
+    /// one before and after the database was copied; else for the database, too.
     ///
-    /// Errors: GivenUp, NoCopy, Memory.
+    /// Errors: GivenUp, also where calls would wait in vain; NoCopy, Memory.
     fn fill(&self, copy: &mut LedgerCopy<'_>) -> Result<u64, BackupFault> {
+        let until = self.clock.now().saturating_add(TRIED);
         for _ in 0..TRIES {
             self.note_log(copy)?;
+            copy.begin_database()?;
             self.copy_database(copy, u64::MAX)?;
             if let Some(lines) = self.add_log(copy)? {
                 return Ok(lines);
             }
         }
+        self.test_time(until)?;
         self.copy_both(copy)
     }
 
@@ -132,7 +146,7 @@ impl<'a, R: Wait, L: Ledger, B: Sharing, C: Clock, G: Monitor> Copier<'a, R, L, 
         Ok(Copied { lines, bytes })
     }
 
-    /// Backups the ledger to that path. Where that fails, nothing of it is left there.
+    /// Copies the ledger to that path. Where that fails, what was made of it is taken away.
     ///
     /// Errors: NoPath, OwnFile, IsThere, GivenUp, NoCopy, Memory.
     pub fn copy_to(&self, path: &Text) -> Result<Copied, BackupFault> {

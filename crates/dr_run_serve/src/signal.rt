@@ -5,6 +5,7 @@ use crate::open::Open;
 use crate::sweep::OverInstance;
 use dr_base::Text;
 use dr_run_answer::{Visited, Visits};
+use dr_run_control::RowSearch;
 use dr_run_open::NextHop;
 use std::alloc::{AllocError, Global};
 use std::collections::VecDeque;
@@ -321,11 +322,25 @@ impl Signal {
         }
     }
 
-    /// Whether rows to that node may wait that aren't noted; that is known to the one who asks.
-    pub fn take_doubt<R: Wait>(&self, rt: &R, dest: &Text) -> bool {
+    /// From where rows to that node are to be looked up that may wait and aren't noted; None where
+    /// all are.
+    ///
+    /// Errors: want of memory.
+    pub fn search_rows<R: Wait>(
+        &self,
+        rt: &R,
+        dest: &Text,
+    ) -> Result<Option<RowSearch>, AllocError> {
         match self.bell_of(dest) {
-            Some(bell) => bell.waiting.lock(rt).take_doubt(),
-            None => false,
+            Some(bell) => bell.waiting.lock(rt).search(),
+            None => Ok(None),
+        }
+    }
+
+    /// In that round of a search, rows to that node were noted up to a UID, or all of them.
+    pub fn note_search<R: Wait>(&self, rt: &R, dest: &Text, round: u64, last: Option<Text>) {
+        if let Some(bell) = self.bell_of(dest) {
+            bell.waiting.lock(rt).note_search(round, last);
         }
     }
 

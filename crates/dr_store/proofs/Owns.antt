@@ -33,8 +33,8 @@ use Rattle.dr_store.specs.Standing.{body_at, body_there, cell_at}
 -- ---- where the items stay
 
 -- where the items stay, and no cell comes
-less : {Stands : List ℕ → List ℕ → Type 0} (b c : Book) (old new : Bodies) → c.items ≡ b.items → OnlyLetsGo old new → AreOwn Stands b old → AreOwn Stands c new
-less b c old new items lets own uid cell h =
+less : (Stands : List ℕ → List ℕ → Type 0) (b c : Book) (old new : Bodies) → c.items ≡ b.items → OnlyLetsGo old new → AreOwn Stands b old → AreOwn Stands c new
+less Stands b c old new items lets own uid cell h =
     let it = own uid cell (lets uid cell h) in
     (it.0, it.1, it.2, ap (λ m. map.get m uid) items ∙ it.3)
 
@@ -63,8 +63,8 @@ settled_items uid dest outcome now b (Err fault.NotOver) c is = absurd is
 
 pub settled : {Uses : List ℕ → Type 0} {Stands : List ℕ → List ℕ → Type 0} (uid dest : Text) (outcome : Outcome) (now : ℕ) (r : Result (Unit {0}) LedgerFault) (base db : Trees) → Settles uid dest outcome now (book_of base) r (book_of db) × OnlyLetsGo (bodies_of base) (bodies_of db)
     → HaveOwn Uses Stands base → HaveOwn Uses Stands db
-settled uid dest outcome now r base db it own =
-    fewer base db it.1 (less (book_of base) (book_of db) (bodies_of base) (bodies_of db) (settled_items uid dest outcome now (book_of base) r (book_of db) it.0) it.1) own
+settled {Stands = Stands} uid dest outcome now r base db it own =
+    fewer base db it.1 (less Stands (book_of base) (book_of db) (bodies_of base) (bodies_of db) (settled_items uid dest outcome now (book_of base) r (book_of db) it.0) it.1) own
 
 requeued_items : (uid dest : Text) (b : Book) (r : Result (Unit {0}) LedgerFault) (c : Book) → Requeues uid dest b r c → c.items ≡ b.items
 requeued_items uid dest b (Ok done) c is = ap (λ (x : Book). x.items) is.1
@@ -77,7 +77,7 @@ requeued_items uid dest b (Err fault.NotWaiting) c is = absurd is
 requeued_items uid dest b (Err fault.NotOver) c is = absurd is
 
 pub requeued : {Uses : List ℕ → Type 0} {Stands : List ℕ → List ℕ → Type 0} (uid dest : Text) (r : Result (Unit {0}) LedgerFault) (base db : Trees) → Requeues uid dest (book_of base) r (book_of db) × OnlyLetsGo (bodies_of base) (bodies_of db) → HaveOwn Uses Stands base → HaveOwn Uses Stands db
-requeued uid dest r base db it own = fewer base db it.1 (less (book_of base) (book_of db) (bodies_of base) (bodies_of db) (requeued_items uid dest (book_of base) r (book_of db) it.0) it.1) own
+requeued {Stands = Stands} uid dest r base db it own = fewer base db it.1 (less Stands (book_of base) (book_of db) (bodies_of base) (bodies_of db) (requeued_items uid dest (book_of base) r (book_of db) it.0) it.1) own
 
 dropped_items : (uid dest : Text) (now : ℕ) (b : Book) (r : Result (Unit {0}) LedgerFault) (c : Book) → Drops uid dest now b r c → c.items ≡ b.items
 dropped_items uid dest now b (Ok done) c is = ap (λ (x : Book). x.items) is.1
@@ -90,7 +90,7 @@ dropped_items uid dest now b (Err fault.NotWaiting) c is = absurd is
 dropped_items uid dest now b (Err fault.NotOver) c is = absurd is
 
 pub dropped : {Uses : List ℕ → Type 0} {Stands : List ℕ → List ℕ → Type 0} (uid dest : Text) (now : ℕ) (r : Result (Unit {0}) LedgerFault) (base db : Trees) → Drops uid dest now (book_of base) r (book_of db) × OnlyLetsGo (bodies_of base) (bodies_of db) → HaveOwn Uses Stands base → HaveOwn Uses Stands db
-dropped uid dest now r base db it own = fewer base db it.1 (less (book_of base) (book_of db) (bodies_of base) (bodies_of db) (dropped_items uid dest now (book_of base) r (book_of db) it.0) it.1) own
+dropped {Stands = Stands} uid dest now r base db it own = fewer base db it.1 (less Stands (book_of base) (book_of db) (bodies_of base) (bodies_of db) (dropped_items uid dest now (book_of base) r (book_of db) it.0) it.1) own
 
 adopted_items : (b : Book) (r : Result (Unit {0}) LedgerFault) (c : Book) → Adopting b r c → c.items ≡ b.items
 adopted_items b (Ok done) c is = ap (λ (x : Book). x.items) is
@@ -103,13 +103,13 @@ adopted_items b (Err fault.NotHeld) c is = absurd is
 adopted_items b (Err fault.NotOver) c is = absurd is
 
 pub keeps_at_adoption : {Uses : List ℕ → Type 0} {Stands : List ℕ → List ℕ → Type 0} (r : Result (Unit {0}) LedgerFault) (base db : Trees) → Adopting (book_of base) r (book_of db) × OnlyLetsGo (bodies_of base) (bodies_of db) → HaveOwn Uses Stands base → HaveOwn Uses Stands db
-keeps_at_adoption r base db it own = fewer base db it.1 (less (book_of base) (book_of db) (bodies_of base) (bodies_of db) (adopted_items (book_of base) r (book_of db) it.0) it.1) own
+keeps_at_adoption {Stands = Stands} r base db it own = fewer base db it.1 (less Stands (book_of base) (book_of db) (bodies_of base) (bodies_of db) (adopted_items (book_of base) r (book_of db) it.0) it.1) own
 
 -- ---- where an item leaves
 
 -- what is forgotten has no cell
-left : {Stands : List ℕ → List ℕ → Type 0} (uid : Text) (b : Book) (old new : Bodies) → HasCells b old → IsOver b uid → OnlyLetsGo old new → AreOwn Stands b old → AreOwn Stands (after (Forgetting uid) b) new
-left {Stands} uid b old new has over lets own u cell h =
+left : (Stands : List ℕ → List ℕ → Type 0) (uid : Text) (b : Book) (old new : Bodies) → HasCells b old → IsOver b uid → OnlyLetsGo old new → AreOwn Stands b old → AreOwn Stands (after (Forgetting uid) b) new
+left Stands uid b old new has over lets own u cell h =
     let was = lets u cell h in
     let it = own u cell was in
     (it.0, it.1, it.2, item_stays b uid u (instance_of it.0) (other u cell was) it.3)
@@ -120,19 +120,19 @@ left {Stands} uid b old new has over lets own u cell h =
       | inl same ↦ absurd (not_needed b uid over (subst (IsNeeded b) same ((has.there u).0 (cell, was))))
     ]
 
-forgotten_own : {Stands : List ℕ → List ℕ → Type 0} (uid : Text) (b : Book) (r : Result (Unit {0}) LedgerFault) (c : Book) (old new : Bodies) → HasCells b old → Forgets uid b r c → OnlyLetsGo old new → AreOwn Stands b old → AreOwn Stands c new
-forgotten_own {Stands} uid b (Ok done) c old new has is lets own = subst (λ (x : Book). AreOwn Stands x new) (sym is.1) (left uid b old new has is.0 lets own)
-forgotten_own {Stands} uid b (Err fault.NotOver) c old new has is lets own = less b c old new (items_are b c is.1) lets own
-forgotten_own {Stands} uid b (Err fault.Store) c old new has is lets own = less b c old new (items_are b c is) lets own
-forgotten_own {Stands} uid b (Err fault.Memory) c old new has is lets own = less b c old new (items_are b c is) lets own
-forgotten_own {Stands} uid b (Err fault.NoLine) c old new has is lets own = absurd is
-forgotten_own {Stands} uid b (Err fault.Conflict) c old new has is lets own = absurd is
-forgotten_own {Stands} uid b (Err fault.NotWaiting) c old new has is lets own = absurd is
-forgotten_own {Stands} uid b (Err fault.NotHeld) c old new has is lets own = absurd is
+forgotten_own : (Stands : List ℕ → List ℕ → Type 0) (uid : Text) (b : Book) (r : Result (Unit {0}) LedgerFault) (c : Book) (old new : Bodies) → HasCells b old → Forgets uid b r c → OnlyLetsGo old new → AreOwn Stands b old → AreOwn Stands c new
+forgotten_own Stands uid b (Ok done) c old new has is lets own = subst (λ (x : Book). AreOwn Stands x new) (sym is.1) (left Stands uid b old new has is.0 lets own)
+forgotten_own Stands uid b (Err fault.NotOver) c old new has is lets own = less Stands b c old new (items_are b c is.1) lets own
+forgotten_own Stands uid b (Err fault.Store) c old new has is lets own = less Stands b c old new (items_are b c is) lets own
+forgotten_own Stands uid b (Err fault.Memory) c old new has is lets own = less Stands b c old new (items_are b c is) lets own
+forgotten_own Stands uid b (Err fault.NoLine) c old new has is lets own = absurd is
+forgotten_own Stands uid b (Err fault.Conflict) c old new has is lets own = absurd is
+forgotten_own Stands uid b (Err fault.NotWaiting) c old new has is lets own = absurd is
+forgotten_own Stands uid b (Err fault.NotHeld) c old new has is lets own = absurd is
 
 pub forgotten : {Uses : List ℕ → Type 0} {Stands : List ℕ → List ℕ → Type 0} (uid : Text) (r : Result (Unit {0}) LedgerFault) (base db : Trees) → HasCells (book_of base) (bodies_of base) → Forgets uid (book_of base) r (book_of db) × OnlyLetsGo (bodies_of base) (bodies_of db)
     → HaveOwn Uses Stands base → HaveOwn Uses Stands db
-forgotten uid r base db has it own = fewer base db it.1 (forgotten_own uid (book_of base) r (book_of db) (bodies_of base) (bodies_of db) has it.0 it.1) own
+forgotten {Stands = Stands} uid r base db has it own = fewer base db it.1 (forgotten_own Stands uid (book_of base) r (book_of db) (bodies_of base) (bodies_of db) has it.0 it.1) own
 
 -- ---- where an item comes
 

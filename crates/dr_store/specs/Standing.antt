@@ -1,6 +1,7 @@
 -- What the data sets of tables are, by their cells.
 use Rattle.std.proofs.Common.{◌≡◌, ℕ, Bool, true, false, cond, List, [], ◌∷◌, Option, Some, None}
-use Rattle.std.proofs.Common.{option_map, unwrap_or, refl, sym, ap, ◌∙◌, map as mapped}
+use Rattle.std.proofs.Common.{option_map, is_some, unwrap_or, refl, sym, ap, ◌∙◌}
+use Rattle.std.proofs.Common.{map as mapped}
 use Rattle.std.specs.Cmp.Lexicographic.{nat_list_cmp_total}
 use Rattle.std.specs.FinMap as map
 use Rattle.std.specs.FinMap.{find}
@@ -13,17 +14,21 @@ use Rattle.dr_store_changes.specs.Bringing.{HasCells}
 use Rattle.dr_store.specs.Owning.{AreOwn, bodies_with, body_under}
 
 module _ (body_of : List ℕ → List ℕ) where
+  -- the first of two, or what is found behind it
+  under_first : (b : Bool) (cell : List ℕ) (rest found : Option (List ℕ))
+      → rest ≡ option_map body_of found
+      → cond b (Some (body_of cell)) rest ≡ option_map body_of (cond b (Some cell) found)
+  under_first true cell rest found is = refl
+  under_first false cell rest found is = is
+
   found_under : (uid : Text) (es : List (Text × List ℕ))
       → find text_cmp uid (mapped (body_under body_of) es)
       ≡ option_map body_of (find text_cmp uid es)
   found_under uid [] = refl
-  found_under uid (e ∷ es) = at (eq_by_cmp text_cmp uid e.0)
-    where
-      at : (b : Bool)
-          → cond b (Some (body_of e.1)) (find text_cmp uid (mapped (body_under body_of) es))
-          ≡ option_map body_of (cond b (Some e.1) (find text_cmp uid es))
-      at true = refl
-      at false = found_under uid es
+  found_under uid (e ∷ es) =
+      under_first (eq_by_cmp text_cmp uid e.0) e.1
+      (find text_cmp uid (mapped (body_under body_of) es)) (find text_cmp uid es)
+      (found_under uid es)
 
   -- what stands at a uid
   pub body_at : (db : Trees) (uid : Text)
@@ -33,6 +38,15 @@ module _ (body_of : List ℕ → List ℕ) where
       (mapped (body_under body_of) (map.entries (bodies_of db))) uid
       ∙ found_under uid (map.entries (bodies_of db))
       ∙ ap (option_map body_of) (sym (map.get-entries (bodies_of db) uid))
+
+  some_under : (found : Option (List ℕ)) → is_some (option_map body_of found) ≡ is_some found
+  some_under None = refl
+  some_under (Some cell) = refl
+
+  -- a data set is there just where its cell is
+  pub there_at : (db : Trees) (uid : Text)
+      → map.contains_key (bodies_with body_of db) uid ≡ map.contains_key (bodies_of db) uid
+  there_at db uid = ap is_some (body_at db uid) ∙ some_under (map.get (bodies_of db) uid)
 
   -- a data set that is there is one for which a cell stands
   pub cell_at : (db : Trees) (uid : Text) (body : List ℕ)

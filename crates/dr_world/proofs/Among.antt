@@ -451,72 +451,77 @@ module _ (ours : Ours) (plan : Network) (certificate : Certificate) where
 
       -- ---- both ends have their connections ended
 
-      closes : (new : ByteWorld) → bytes.Closes plan b number k new → Goes o new
-      closes new (early, late, x, y, t, u, early_is, late_is, r, c, is) = as_new o new (with_done (with_call b (receiver_of k) u) (caller_of k) t number l) is (elim (cases_Bool (ours (caller_of k))) [
-        | inl its ↦ ours_calls its
-        | inr away ↦ elim (cases_Bool (ours (receiver_of k))) [
-          | inl also ↦ ours_receives away also
-          | inr too ↦ (
-            [],
-            o,
-            refl,
-            changed b o s number l single b.opened (omega arith) known desks o s.has.time (both_away away too)
-                (s.has.ends number k at ∙ (neither k away too ∙ sym (neither l (ap ours caller_same ∙ away) (ap ours receiver_same ∙ too)))) (λ n apart. refl),
-          )
+      module _ (early late : Moment) (x y : Effect) (t u : Desk) (early_is : early.now ≡ b.time) (late_is : late.now ≡ b.time) (r : IsEnded (LedgerStep plan (receiver_of k)) k.receiver.core early (b.desks (receiver_of k)) y u)
+          (c : IsEnded (LedgerStep plan (caller_of k)) k.caller.core late (with_desk b.desks (receiver_of k) u (caller_of k)) x t) where
+        abbrev l : Channel
+        l = closed k x y
+
+        abbrev desks : Text → Desk
+        desks = with_desk (with_desk b.desks (receiver_of k) u) (caller_of k) t
+
+        ended_keeps : (node : Text) (core : Core) (moment : Moment) (d : Desk) (z : Effect) (v : Desk) → IsEnded (LedgerStep plan node) core moment d z v → z.core.site ≡ core.site
+        ended_keeps node core moment d z v (inl reacts) = reacts_keep (LedgerStep plan node) core (at_moment moment input.Ended) d z v reacts
+        ended_keeps node core moment d z v (inr (gone, same, still)) = ap (λ (q : Effect). q.core.site) same
+
+        caller_same : caller_of l ≡ caller_of k
+        caller_same = ap (λ (p : Option Part). (site_in p).name) (ended_keeps (caller_of k) k.caller.core late (with_desk b.desks (receiver_of k) u (caller_of k)) x t c)
+
+        receiver_same : receiver_of l ≡ receiver_of k
+        receiver_same = ap (λ (p : Option Part). (site_in p).name) (ended_keeps (receiver_of k) k.receiver.core early (b.desks (receiver_of k)) y u r)
+
+        single : ours (caller_of l) ≡ true → ours (receiver_of l) ≡ false
+        single its = ap ours receiver_same ∙ s.apart number k at (sym (ap ours caller_same) ∙ its)
+
+        both_away : ours (caller_of k) ≡ false → ours (receiver_of k) ≡ false → (name : Text) → ours name ≡ true → o.desks name ≡ desks name
+        both_away away too name mine = s.has.desks name mine ∙ (sym (other_desk b.desks (receiver_of k) u name mine too) ∙ sym (other_desk (with_desk b.desks (receiver_of k) u) (caller_of k) t name mine away))
+
+        neither : (z : Channel) → ours (caller_of z) ≡ false → ours (receiver_of z) ≡ false → own_of ours z ≡ None
+        neither z away too = ap (λ (q : Bool). own_in q (ours (receiver_of z)) z) away ∙ ap (λ (q : Bool). own_in false q z) too
+
+        ours_calls : ours (caller_of k) ≡ true → Goes o (with_done (with_call b (receiver_of k) u) (caller_of k) t number l)
+        ours_calls its =
+            let away : ours (receiver_of k) ≡ false = s.apart number k at its in
+            let e : OwnEnd = record { side = Requestor; node = caller_of k; terminal = k.caller } in
+            let desk_is : with_desk b.desks (receiver_of k) u (caller_of k) ≡ o.desks (caller_of k) = other_desk b.desks (receiver_of k) u (caller_of k) its away ∙ sym (s.has.desks (caller_of k) its) in
+            let h = ended_step o number e (caller_end its) late (late_is ∙ sym s.has.time) x t (subst (λ (d : Desk). IsEnded (LedgerStep plan (caller_of k)) k.caller.core late d x t) desk_is c) in
+            let next_end : OwnEnd = record { side = Requestor; node = caller_of k; terminal = record { core = x.core; ear = k.caller.ear } } in
+            let next : OwnWorld = own.with_done o number next_end t in
+            one o next h.0 (with_done (with_call b (receiver_of k) u) (caller_of k) t number l) h.1 (changed b o s number l single b.opened (omega arith) known desks next s.has.time
+            (λ name mine. ap (λ (d : Desk). if same_text name (caller_of k) then t else d) (s.has.desks name mine ∙ sym (other_desk b.desks (receiver_of k) u name mine away)))
+            (ap (λ (q : Bool). if q then Some next_end else o.ends number) (eq-eqb number number refl)
+            ∙ sym (ap (λ (q : Bool). own_in q (ours (receiver_of l)) l) (ap ours caller_same ∙ its) ∙ ap (λ (n : Text). Some (end_at Requestor n l.caller)) caller_same))
+            (λ n apart. ap (λ (q : Bool). if q then Some next_end else o.ends n) apart))
+
+        ours_receives : ours (caller_of k) ≡ false → ours (receiver_of k) ≡ true → Goes o (with_done (with_call b (receiver_of k) u) (caller_of k) t number l)
+        ours_receives away its =
+            let e : OwnEnd = record { side = Acceptor; node = receiver_of k; terminal = k.receiver } in
+            let h = ended_step o number e (receiver_end its) early (early_is ∙ sym s.has.time) y u (subst (λ (d : Desk). IsEnded (LedgerStep plan (receiver_of k)) k.receiver.core early d y u) (sym (s.has.desks (receiver_of k) its)) r) in
+            let next_end : OwnEnd = record { side = Acceptor; node = receiver_of k; terminal = record { core = y.core; ear = k.receiver.ear } } in
+            let next : OwnWorld = own.with_done o number next_end u in
+            one o next h.0 (with_done (with_call b (receiver_of k) u) (caller_of k) t number l) h.1 (changed b o s number l single b.opened (omega arith) known desks next s.has.time
+            (λ name mine. ap (λ (d : Desk). if same_text name (receiver_of k) then u else d) (s.has.desks name mine) ∙ sym (other_desk (with_desk b.desks (receiver_of k) u) (caller_of k) t name mine away))
+            (ap (λ (q : Bool). if q then Some next_end else o.ends number) (eq-eqb number number refl)
+            ∙ sym (ap (λ (q : Bool). own_in q (ours (receiver_of l)) l) (ap ours caller_same ∙ away)
+            ∙ (ap (λ (q : Bool). own_in false q l) (ap ours receiver_same ∙ its) ∙ ap (λ (n : Text). Some (end_at Acceptor n l.receiver)) receiver_same)))
+            (λ n apart. ap (λ (q : Bool). if q then Some next_end else o.ends n) apart))
+
+        both_closed : Goes o (with_done (with_call b (receiver_of k) u) (caller_of k) t number (closed k x y))
+        both_closed = elim (cases_Bool (ours (caller_of k))) [
+          | inl its ↦ ours_calls its
+          | inr away ↦ elim (cases_Bool (ours (receiver_of k))) [
+            | inl also ↦ ours_receives away also
+            | inr too ↦ (
+              [],
+              o,
+              refl,
+              changed b o s number l single b.opened (omega arith) known desks o s.has.time (both_away away too)
+                  (s.has.ends number k at ∙ (neither k away too ∙ sym (neither l (ap ours caller_same ∙ away) (ap ours receiver_same ∙ too)))) (λ n apart. refl),
+            )
+          ]
         ]
-      ])
-        where
-          l : Channel
-          l = closed k x y
 
-          desks : Text → Desk
-          desks = with_desk (with_desk b.desks (receiver_of k) u) (caller_of k) t
-
-          ended_keeps : (node : Text) (core : Core) (moment : Moment) (d : Desk) (z : Effect) (v : Desk) → IsEnded (LedgerStep plan node) core moment d z v → z.core.site ≡ core.site
-          ended_keeps node core moment d z v (inl reacts) = reacts_keep (LedgerStep plan node) core (at_moment moment input.Ended) d z v reacts
-          ended_keeps node core moment d z v (inr (gone, same, still)) = ap (λ (q : Effect). q.core.site) same
-
-          caller_same : caller_of l ≡ caller_of k
-          caller_same = ap (λ (p : Option Part). (site_in p).name) (ended_keeps (caller_of k) k.caller.core late (with_desk b.desks (receiver_of k) u (caller_of k)) x t c)
-
-          receiver_same : receiver_of l ≡ receiver_of k
-          receiver_same = ap (λ (p : Option Part). (site_in p).name) (ended_keeps (receiver_of k) k.receiver.core early (b.desks (receiver_of k)) y u r)
-
-          single : ours (caller_of l) ≡ true → ours (receiver_of l) ≡ false
-          single its = ap ours receiver_same ∙ s.apart number k at (sym (ap ours caller_same) ∙ its)
-
-          both_away : ours (caller_of k) ≡ false → ours (receiver_of k) ≡ false → (name : Text) → ours name ≡ true → o.desks name ≡ desks name
-          both_away away too name mine = s.has.desks name mine ∙ (sym (other_desk b.desks (receiver_of k) u name mine too) ∙ sym (other_desk (with_desk b.desks (receiver_of k) u) (caller_of k) t name mine away))
-
-          neither : (z : Channel) → ours (caller_of z) ≡ false → ours (receiver_of z) ≡ false → own_of ours z ≡ None
-          neither z away too = ap (λ (q : Bool). own_in q (ours (receiver_of z)) z) away ∙ ap (λ (q : Bool). own_in false q z) too
-
-          ours_calls : ours (caller_of k) ≡ true → Goes o (with_done (with_call b (receiver_of k) u) (caller_of k) t number l)
-          ours_calls its =
-              let away : ours (receiver_of k) ≡ false = s.apart number k at its in
-              let e : OwnEnd = record { side = Requestor; node = caller_of k; terminal = k.caller } in
-              let desk_is : with_desk b.desks (receiver_of k) u (caller_of k) ≡ o.desks (caller_of k) = other_desk b.desks (receiver_of k) u (caller_of k) its away ∙ sym (s.has.desks (caller_of k) its) in
-              let h = ended_step o number e (caller_end its) late (late_is ∙ sym s.has.time) x t (subst (λ (d : Desk). IsEnded (LedgerStep plan (caller_of k)) k.caller.core late d x t) desk_is c) in
-              let next_end : OwnEnd = record { side = Requestor; node = caller_of k; terminal = record { core = x.core; ear = k.caller.ear } } in
-              let next : OwnWorld = own.with_done o number next_end t in
-              one o next h.0 (with_done (with_call b (receiver_of k) u) (caller_of k) t number l) h.1 (changed b o s number l single b.opened (omega arith) known desks next s.has.time
-              (λ name mine. ap (λ (d : Desk). if same_text name (caller_of k) then t else d) (s.has.desks name mine ∙ sym (other_desk b.desks (receiver_of k) u name mine away)))
-              (ap (λ (q : Bool). if q then Some next_end else o.ends number) (eq-eqb number number refl)
-              ∙ sym (ap (λ (q : Bool). own_in q (ours (receiver_of l)) l) (ap ours caller_same ∙ its) ∙ ap (λ (n : Text). Some (end_at Requestor n l.caller)) caller_same))
-              (λ n apart. ap (λ (q : Bool). if q then Some next_end else o.ends n) apart))
-
-          ours_receives : ours (caller_of k) ≡ false → ours (receiver_of k) ≡ true → Goes o (with_done (with_call b (receiver_of k) u) (caller_of k) t number l)
-          ours_receives away its =
-              let e : OwnEnd = record { side = Acceptor; node = receiver_of k; terminal = k.receiver } in
-              let h = ended_step o number e (receiver_end its) early (early_is ∙ sym s.has.time) y u (subst (λ (d : Desk). IsEnded (LedgerStep plan (receiver_of k)) k.receiver.core early d y u) (sym (s.has.desks (receiver_of k) its)) r) in
-              let next_end : OwnEnd = record { side = Acceptor; node = receiver_of k; terminal = record { core = y.core; ear = k.receiver.ear } } in
-              let next : OwnWorld = own.with_done o number next_end u in
-              one o next h.0 (with_done (with_call b (receiver_of k) u) (caller_of k) t number l) h.1 (changed b o s number l single b.opened (omega arith) known desks next s.has.time
-              (λ name mine. ap (λ (d : Desk). if same_text name (receiver_of k) then u else d) (s.has.desks name mine) ∙ sym (other_desk (with_desk b.desks (receiver_of k) u) (caller_of k) t name mine away))
-              (ap (λ (q : Bool). if q then Some next_end else o.ends number) (eq-eqb number number refl)
-              ∙ sym (ap (λ (q : Bool). own_in q (ours (receiver_of l)) l) (ap ours caller_same ∙ away)
-              ∙ (ap (λ (q : Bool). own_in false q l) (ap ours receiver_same ∙ its) ∙ ap (λ (n : Text). Some (end_at Acceptor n l.receiver)) receiver_same)))
-              (λ n apart. ap (λ (q : Bool). if q then Some next_end else o.ends n) apart))
+      closes : (new : ByteWorld) → bytes.Closes plan b number k new → Goes o new
+      closes new (early, late, x, y, t, u, early_is, late_is, r, c, is) = as_new o new (with_done (with_call b (receiver_of k) u) (caller_of k) t number (closed k x y)) is (both_closed early late x y t u early_is late_is r c)
 
       -- ---- what another product writes
 
@@ -558,80 +563,86 @@ module _ (ours : Ours) (plan : Network) (certificate : Certificate) where
 
     -- ---- opening
 
-    opens : (from to : Text) → StepFits ours b (bytes.Open from to) → (new : ByteWorld) → bytes.Opens plan certificate b from to new → Goes o new
-    opens from to fits new (caller, receiver, rq, hop, is_from, named_from, is_to, named_to, hop_is, proposal, is) = as_new o new (record { time = b.time; desks = b.desks; links = map.insert b.links number l; opened = number }) is
-        (elim (cases_Bool (ours caller.name)) [
-          | inl its ↦ calls its
-          | inr away ↦ elim (cases_Bool (ours receiver.name)) [
-            | inl also ↦ listens away also
-            | inr too ↦ ([], o, refl, linked o refl (λ name mine. s.has.desks name mine) (free ∙ sym (neither away too)) (λ n apart. refl))
-          ]
-        ])
-      where
-        number : ℕ
-        number = b.opened + 1
+    module _ (from to : Text) (fits : StepFits ours b (bytes.Open from to)) (caller receiver : Part) (rq : AssociateRq) (hop : Hop) (is_from : IsPartOf plan certificate caller) (named_from : caller.name ≡ from)
+        (is_to : IsPartOf plan certificate receiver) (named_to : receiver.name ≡ to) (hop_is : IsHopTo caller to hop) (proposal : IsProposal caller to rq) where
+      abbrev next_number : ℕ
+      next_number = b.opened + 1
 
-        l : Channel
-        l = opened_between caller receiver rq b.time
+      abbrev fresh_link : Channel
+      fresh_link = opened_between caller receiver rq b.time
 
-        free : o.ends number ≡ None
-        free = (s.fresh number (omega arith)).1
+      free : o.ends next_number ≡ None
+      free = (s.fresh next_number (omega arith)).1
 
-        single : ours (caller_of l) ≡ true → ours (receiver_of l) ≡ false
-        single its = ap ours named_to ∙ fits (sym (ap ours named_from) ∙ its)
+      single_now : ours (caller_of fresh_link) ≡ true → ours (receiver_of fresh_link) ≡ false
+      single_now its = ap ours named_to ∙ fits (sym (ap ours named_from) ∙ its)
 
-        none_above : (n : ℕ) → number < n → n ≢ number
-        none_above n less same = (let a : number < n = less in let c : n ≡ number = same in omega (arith, a, c))
+      none_above : (n : ℕ) → next_number < n → n ≢ next_number
+      none_above n less same = (let a : next_number < n = less in let c : n ≡ next_number = same in omega (arith, a, c))
 
-        linked : (next : OwnWorld) → next.time ≡ o.time → ((name : Text) → ours name ≡ true → next.desks name ≡ b.desks name) → next.ends number ≡ own_of ours l
-            → ((n : ℕ) → (n == number) ≡ false → next.ends n ≡ o.ends n) → Stands (record { time = b.time; desks = b.desks; links = map.insert b.links number l; opened = number }) next
-        linked next time same its others = changed b o s number l single number (omega arith) none_above b.desks next (time ∙ s.has.time) same its others
+      linked : (next : OwnWorld) → next.time ≡ o.time → ((name : Text) → ours name ≡ true → next.desks name ≡ b.desks name) → next.ends next_number ≡ own_of ours fresh_link
+          → ((n : ℕ) → (n == next_number) ≡ false → next.ends n ≡ o.ends n) → Stands (record { time = b.time; desks = b.desks; links = map.insert b.links next_number fresh_link; opened = next_number }) next
+      linked next time same its others = changed b o s next_number fresh_link single_now next_number (omega arith) none_above b.desks next (time ∙ s.has.time) same its others
 
-        neither : ours caller.name ≡ false → ours receiver.name ≡ false → own_of ours l ≡ None
-        neither away too = ap (λ (q : Bool). own_in q (ours (receiver_of l)) l) away ∙ ap (λ (q : Bool). own_in false q l) too
+      neither_end : ours caller.name ≡ false → ours receiver.name ≡ false → own_of ours fresh_link ≡ None
+      neither_end away too = ap (λ (q : Bool). own_in q (ours (receiver_of fresh_link)) fresh_link) away ∙ ap (λ (q : Bool). own_in false q fresh_link) too
 
-        kept_desk : (node name : Text) → ours name ≡ true → with_desk o.desks node (o.desks node) name ≡ b.desks name
-        kept_desk node name mine = elim (same_or_not texts name node) [
-          | inl same ↦ ap (λ (q : Bool). if q then o.desks node else o.desks name) (ap (λ (z : Text). same_text z node) same ∙ ties_itself texts node) ∙ (ap o.desks (sym same) ∙ s.has.desks name mine)
-          | inr apart ↦ ap (λ (q : Bool). if q then o.desks node else o.desks name) apart ∙ s.has.desks name mine
+      kept_desk : (node name : Text) → ours name ≡ true → with_desk o.desks node (o.desks node) name ≡ b.desks name
+      kept_desk node name mine = elim (same_or_not texts name node) [
+        | inl same ↦ ap (λ (q : Bool). if q then o.desks node else o.desks name) (ap (λ (z : Text). same_text z node) same ∙ ties_itself texts node) ∙ (ap o.desks (sym same) ∙ s.has.desks name mine)
+        | inr apart ↦ ap (λ (q : Bool). if q then o.desks node else o.desks name) apart ∙ s.has.desks name mine
+      ]
+
+      calls : ours caller.name ≡ true → Goes o (record { time = b.time; desks = b.desks; links = map.insert b.links next_number fresh_link; opened = next_number })
+      calls its =
+          let over = (pairs_as_planned plan certificate caller certified is_from to hop.class hop.syntax).0 (hop, (hop_to caller to hop).1 hop_is, refl, refl) in
+          let goes : IsHop plan caller.name to = (over.0, over.2) in
+          let away : ours to ≡ false = fits (sym (ap ours named_from) ∙ its) in
+          let core : Core = requesting (Some caller) to rq o.time in
+          let e : OwnEnd = record { side = Requestor; node = caller.name; terminal = record { core = core; ear = fresh caller.max_pdu } } in
+          let next : OwnWorld = own.with_done o next_number e (o.desks caller.name) in
+          let e_of : ℕ → Text → Option OwnEnd = λ time dest. Some (record { side = Requestor; node = caller.name; terminal = record { core = requesting (Some caller) dest rq time; ear = fresh caller.max_pdu } }) in
+          one o next (own.Opens next_number caller.name to) (record { time = b.time; desks = b.desks; links = map.insert b.links next_number fresh_link; opened = next_number }) (record {
+            free = free;
+            own = its;
+            away = away;
+            hop = goes;
+            site = caller;
+            part = is_from;
+            named = refl;
+            rq = rq;
+            proposal = proposal;
+            is = refl;
+          }) (linked next refl (kept_desk caller.name)
+          (ap (λ (q : Bool). if q then Some e else o.ends next_number) (eq-eqb next_number next_number refl)
+          ∙ (ap (λ (z : ℕ). e_of z to) s.has.time ∙ (ap (e_of b.time) (sym named_to) ∙ sym (ap (λ (q : Bool). own_in q (ours (receiver_of fresh_link)) fresh_link) its))))
+          (λ n apart. ap (λ (q : Bool). if q then Some e else o.ends n) apart))
+
+      listens : ours caller.name ≡ false → ours receiver.name ≡ true → Goes o (record { time = b.time; desks = b.desks; links = map.insert b.links next_number fresh_link; opened = next_number })
+      listens away its =
+          let e_of : ℕ → OwnEnd = λ time. record { side = Acceptor; node = receiver.name; terminal = record { core = accepting receiver time; ear = fresh receiver.max_pdu } } in
+          let e : OwnEnd = e_of o.time in
+          let next : OwnWorld = own.with_done o next_number e (o.desks receiver.name) in
+          one o next (own.Listens next_number receiver.name) (record { time = b.time; desks = b.desks; links = map.insert b.links next_number fresh_link; opened = next_number })
+          (record { free = free; own = its; site = receiver; part = is_to; named = refl; is = refl })
+          (linked next refl (kept_desk receiver.name)
+          (ap (λ (q : Bool). if q then Some e else o.ends next_number) (eq-eqb next_number next_number refl)
+          ∙ (ap (λ (z : ℕ). Some (e_of z)) s.has.time ∙ sym (ap (λ (q : Bool). own_in q (ours (receiver_of fresh_link)) fresh_link) away ∙ ap (λ (q : Bool). own_in false q fresh_link) its)))
+          (λ n apart. ap (λ (q : Bool). if q then Some e else o.ends n) apart))
+
+      linked_so : Goes o (record { time = b.time; desks = b.desks; links = map.insert b.links next_number fresh_link; opened = next_number })
+      linked_so = elim (cases_Bool (ours caller.name)) [
+        | inl its ↦ calls its
+        | inr away ↦ elim (cases_Bool (ours receiver.name)) [
+          | inl also ↦ listens away also
+          | inr too ↦ ([], o, refl, linked o refl (λ name mine. s.has.desks name mine) (free ∙ sym (neither_end away too)) (λ n apart. refl))
         ]
+      ]
 
-        calls : ours caller.name ≡ true → Goes o (record { time = b.time; desks = b.desks; links = map.insert b.links number l; opened = number })
-        calls its =
-            let over = (pairs_as_planned plan certificate caller certified is_from to hop.class hop.syntax).0 (hop, (hop_to caller to hop).1 hop_is, refl, refl) in
-            let goes : IsHop plan caller.name to = (over.0, over.2) in
-            let away : ours to ≡ false = fits (sym (ap ours named_from) ∙ its) in
-            let core : Core = requesting (Some caller) to rq o.time in
-            let e : OwnEnd = record { side = Requestor; node = caller.name; terminal = record { core = core; ear = fresh caller.max_pdu } } in
-            let next : OwnWorld = own.with_done o number e (o.desks caller.name) in
-            let e_of : ℕ → Text → Option OwnEnd = λ time dest. Some (record { side = Requestor; node = caller.name; terminal = record { core = requesting (Some caller) dest rq time; ear = fresh caller.max_pdu } }) in
-            one o next (own.Opens number caller.name to) (record { time = b.time; desks = b.desks; links = map.insert b.links number l; opened = number }) (record {
-              free = free;
-              own = its;
-              away = away;
-              hop = goes;
-              site = caller;
-              part = is_from;
-              named = refl;
-              rq = rq;
-              proposal = proposal;
-              is = refl;
-            }) (linked next refl (kept_desk caller.name)
-            (ap (λ (q : Bool). if q then Some e else o.ends number) (eq-eqb number number refl)
-            ∙ (ap (λ (z : ℕ). e_of z to) s.has.time ∙ (ap (e_of b.time) (sym named_to) ∙ sym (ap (λ (q : Bool). own_in q (ours (receiver_of l)) l) its))))
-            (λ n apart. ap (λ (q : Bool). if q then Some e else o.ends n) apart))
-
-        listens : ours caller.name ≡ false → ours receiver.name ≡ true → Goes o (record { time = b.time; desks = b.desks; links = map.insert b.links number l; opened = number })
-        listens away its =
-            let e_of : ℕ → OwnEnd = λ time. record { side = Acceptor; node = receiver.name; terminal = record { core = accepting receiver time; ear = fresh receiver.max_pdu } } in
-            let e : OwnEnd = e_of o.time in
-            let next : OwnWorld = own.with_done o number e (o.desks receiver.name) in
-            one o next (own.Listens number receiver.name) (record { time = b.time; desks = b.desks; links = map.insert b.links number l; opened = number })
-            (record { free = free; own = its; site = receiver; part = is_to; named = refl; is = refl })
-            (linked next refl (kept_desk receiver.name)
-            (ap (λ (q : Bool). if q then Some e else o.ends number) (eq-eqb number number refl)
-            ∙ (ap (λ (z : ℕ). Some (e_of z)) s.has.time ∙ sym (ap (λ (q : Bool). own_in q (ours (receiver_of l)) l) away ∙ ap (λ (q : Bool). own_in false q l) its)))
-            (λ n apart. ap (λ (q : Bool). if q then Some e else o.ends n) apart))
+    opens : (from to : Text) → StepFits ours b (bytes.Open from to) → (new : ByteWorld) → bytes.Opens plan certificate b from to new → Goes o new
+    opens from to fits new (caller, receiver, rq, hop, is_from, named_from, is_to, named_to, hop_is, proposal, is) =
+        as_new o new (record { time = b.time; desks = b.desks; links = map.insert b.links (b.opened + 1) (opened_between caller receiver rq b.time); opened = b.opened + 1 }) is
+        (linked_so from to fits caller receiver rq hop is_from named_from is_to named_to hop_is proposal)
 
     -- ---- forgetting
 

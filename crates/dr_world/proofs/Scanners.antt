@@ -120,7 +120,7 @@ module _ (ours : Ours) (plan : Network) (certificate : Certificate) where
 
     moved_ready : (b new : ByteWorld) (note : StepNote) → ((k : Channel) → map.get b.links 1 ≡ Some k → IsWritten k) → (q : Option Channel) → map.get b.links 1 ≡ q
         → bytes.LinkStep q b note new (λ k. bytes.Moves plan b 1 k Acceptor (length (written p)) note new) → IsReady new ps
-    moved_ready b new note all None none h k at = absurd (no_link b k none (sym (ap (λ (z : ByteWorld). map.get z.links 1) h.1) ∙ at))
+    moved_ready b new note all None none h = λ k at. absurd (no_link b k none (sym (ap (λ (z : ByteWorld). map.get z.links 1) h.1) ∙ at))
     moved_ready b new note all (Some k) at h = reads_if b new note k at (all k at) (is_over k.receiver.core) h
 
   sends : (pdus : List Pdu) (b : ByteWorld) → IsReady b pdus → FitsFrom ours plan certificate b (sendings pdus)
@@ -151,6 +151,6 @@ scripts_fit = record {
     by : (ours : Ours) (plan : Network) (certificate : Certificate) (from to : Text) (pdus : List Pdu) → ((site : Part) → IsPartOf plan certificate site → site.name ≡ to → AllByRecursion (IsOfAnother ours site.max_pdu) pdus)
         → (note : StepNote) (mid : ByteWorld) → Steps plan certificate bytes.beginning (bytes.Open from to) note mid → IsReady ours plan certificate mid pdus
     by ours plan certificate from to pdus each note mid (inl h) = opened_ready ours plan certificate from to pdus each mid h.1
-    by ours plan certificate from to pdus each note mid (inr h) k at =
+    by ours plan certificate from to pdus each note mid (inr h) = λ k at.
         let none : map.get bytes.beginning.links 1 ≡ None = map.get-empty nat_cmp 1 in
         absurd (no_link ours plan certificate bytes.beginning k none (sym (ap (λ (z : ByteWorld). map.get z.links 1) h.1.1) ∙ at))

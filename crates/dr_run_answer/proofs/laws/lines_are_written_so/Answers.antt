@@ -5,4 +5,4 @@ use Rattle.dr_run_answer.proofs.laws.lines_are_written_so.Goals as goal
 
 pub returns : goal.returns
 unfolding digits hex_on_literals
-returns c = (refl, refl, refl, refl, refl, refl, refl, refl, refl, refl, refl, refl, refl, refl, refl, refl, refl, refl)
+returns c = (refl, refl, refl, refl, refl, refl, refl, refl, refl, refl, refl, refl, refl, refl, refl, refl, refl, refl, refl, refl, refl, refl, refl)

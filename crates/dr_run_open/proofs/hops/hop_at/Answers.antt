@@ -8,9 +8,9 @@ returns-in_default c = no_address c.args.site.now c.args.node.now c.in_default.e
 
 pub returns-then-not-leads_to : goal.returns-then-not-leads_to
 returns-then-not-leads_to c =
-    not_reached c.args.site.now c.args.node.now c.in-Some.address.now c.in-Some.ensures (sym (rw c.hops.ensures at c.if-not-leads_to.ensures))
+    not_reached c.args.site.now c.args.node.now c.in-Some.address.now c.in-Some.ensures (sym (rw c.hops.ensures.same at c.if-not-leads_to.ensures))
 
 pub returns : goal.returns
 returns c =
-    reached c.args.site.now c.args.node.now c.in-Some.address.now c.in-Some.ensures (sym (rw c.hops.ensures at c.if-not-leads_to.ensures))
+    reached c.args.site.now c.args.node.now c.in-Some.address.now c.in-Some.ensures (sym (rw c.hops.ensures.same at c.if-not-leads_to.ensures))
     ∙ ap (λ (h : NextHop). h ∷ []) (sym c.in_ok-hop.ensures)

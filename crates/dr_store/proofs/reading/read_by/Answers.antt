@@ -20,6 +20,6 @@ returns-in-Ok-clause-read g c db dest now found clean = (
 
 pub returns-in-Err-clause-read : goal.returns-in-Err-clause-read
 returns-in-Err-clause-read g c db dest now found =
-    let Says : Option Job → Type 0 = λ job. g.B.Shelf.is_clean c.get.new.shelf → NextsRead (g.B.Shelf.stands c.args.shelf.now) db dest now job in
+    let Says : Option Job → Type 0 = λ job. g.B.Shelf.is_clean c.get.new.self → NextsRead (g.B.Shelf.stands c.args.shelf.now) db dest now job in
     let P : LedgerFault → Type 0 = λ e. Reads {A = Option Job} (Err e) Says in
     subst P (sym c.shelf_fault.ensures) (shelf_reads c.in-Err.fault Says)
