@@ -325,7 +325,7 @@ def under_load():
 
         def look():
             end = time.monotonic() + MOST_SECONDS
-            while (read := nodes['GATE'].read('/status')[0]['lines']) < 2_200 or len(counts) < 5:
+            while (read := nodes['GATE'].read('/status')[0]['lines']) < 1_100 or len(counts) < 5:
                 assert time.monotonic() < end, (read, counts)
                 run = audit_at(room, nodes)
                 same((run.returncode, run.stderr.decode()), (0, ''))

@@ -1,2 +1,2 @@
-mod Cutting
-mod Laws
+mod CutJournals
+mod CutsBegin

@@ -1,7 +1,7 @@
 use Rattle.std.proofs.Common.{◌≡◌, ◌∙◌, ◌<◌, ◌≤◌, List, drop, get_or, length, refl, sym, ap, subst, arith}
 use Rattle.dr_ledger_history.specs.declared.line.JournalLine.{JournalLine}
 use Rattle.dr_word_audit_at.specs.Cuts.{MendsNowhere, rest_named}
-use Rattle.dr_word_audit_at.proofs.Cutting.{found_cut, no_rest, rest_here, rest_later}
+use Rattle.dr_word_audit_at.proofs.CutJournals.{found_cut, no_rest, rest_here, rest_later}
 use Rattle.dr_word_audit_at.proofs.cutting.next_cut.Goals as goal
 
 pub loop-place-preserved : goal.loop-place-preserved

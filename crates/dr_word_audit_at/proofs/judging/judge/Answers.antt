@@ -1,6 +1,6 @@
 use Rattle.std.proofs.Common.{◌≡◌, ◌∙◌, length, sym}
 use Rattle.std.proofs.lemmas.List.{length-set}
-use Rattle.dr_word_audit_at.proofs.Cutting.{further_on}
+use Rattle.dr_word_audit_at.proofs.CutJournals.{further_on}
 use Rattle.dr_word_audit_at.proofs.judging.judge.Goals as goal
 
 pub loop-round-init : goal.loop-round-init

@@ -1,4 +1,4 @@
-use Rattle.dr_word_audit_at.proofs.Laws.{cuts_begin, whole_is_a_cut}
+use Rattle.dr_word_audit_at.proofs.CutsBegin.{cuts_begin, whole_is_a_cut}
 use Rattle.dr_word_audit_at.proofs.laws.cuts_are_beginnings.Goals as goal
 
 pub returns-clause-begins : goal.returns-clause-begins

@@ -1,4 +1,4 @@
-use Rattle.dr_word_audit_at.proofs.Cutting.{no_earlier}
+use Rattle.dr_word_audit_at.proofs.CutJournals.{no_earlier}
 use Rattle.dr_word_audit_at.proofs.moving.first_cuts.Goals as goal
 
 pub returns-clause-later : goal.returns-clause-later
