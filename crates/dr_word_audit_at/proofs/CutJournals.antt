@@ -1,7 +1,6 @@
 -- Journals that are cut one after another, and what stands behind a cut.
-use Rattle.std.proofs.Common.{◌≡◌, ◌∙◌, ◌<◌, ◌≤◌, ◌+◌, ℕ, zero, suc, Bool, true, false, cond, Option, None, Some, MatchOption, List, [], ◌∷◌, ◌++◌, append_assoc, append-nil, drop, get_or, length, set, refl, sym, ap, subst, arith}
+use Rattle.std.proofs.Common.{◌≡◌, ◌∙◌, ◌<◌, ◌≤◌, ◌+◌, ℕ, zero, suc, true, false, cond, Option, None, Some, MatchOption, List, [], ◌∷◌, ◌++◌, append_assoc, append-nil, drop, get_or, length, set, refl, sym, ap, subst, arith}
 use Rattle.std.proofs.lemmas.List.{drop_all, drop_more}
-use Rattle.std.specs.List.{AllZip}
 use Rattle.std.specs.Str.{bytes_eq}
 use Rattle.dr_base.specs.Texts.{Text}
 use Rattle.dr_ledger_history.specs.declared.line.JournalLine.{JournalLine}

@@ -1,5 +1,5 @@
 -- Laws of journals that are cut.
-use Rattle.std.proofs.Common.{◌≡◌, ◌∙◌, ◌≤◌, ℕ, Bool, true, false, ◌&&◌, List, [], ◌∷◌, drop, length, refl, sym, ap, arith}
+use Rattle.std.proofs.Common.{◌≡◌, Bool, true, false, ◌&&◌, ◌||◌, drop, length, refl, sym, arith}
 use Rattle.std.proofs.lemmas.List.{take-append-drop, take_all}
 use Rattle.std.proofs.lemmas.Slice.Eq.{bytes_eq-Decides}
 use Rattle.std.specs.Str.{bytes_eq}
@@ -22,7 +22,7 @@ no_and false = refl
 pub mending_is_right : MendingIsRight
 mending_is_right from to item keep = (
   λ i. same item.uid i && same from i,
-  λ i. same item.uid i && same to i,
+  λ i. same item.uid i && (same to i || false),
   no_and (bytes_eq item.uid item.uid),
   refl,
 )

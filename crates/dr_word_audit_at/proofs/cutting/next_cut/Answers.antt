@@ -1,4 +1,4 @@
-use Rattle.std.proofs.Common.{◌≡◌, ◌∙◌, ◌<◌, ◌≤◌, List, drop, get_or, length, refl, sym, ap, subst, arith}
+use Rattle.std.proofs.Common.{◌∙◌, ◌<◌, ◌≤◌, List, drop, get_or, length, refl, sym, ap, subst, arith}
 use Rattle.dr_ledger_history.specs.declared.line.JournalLine.{JournalLine}
 use Rattle.dr_word_audit_at.specs.Cuts.{MendsNowhere, rest_named}
 use Rattle.dr_word_audit_at.proofs.CutJournals.{found_cut, no_rest, rest_here, rest_later}
