@@ -21,7 +21,7 @@ import sys
 
 sys.dont_write_bytecode = True
 from lib.plan_model import REST, Model
-from lib.plan_reader import EXPLICIT, IMPLICIT, read_plan
+from lib.plan_reader import EXPLICIT, IMPLICIT, read_text
 
 TOP = os.path.dirname(os.path.dirname(os.path.abspath(__file__)))
 MEMORY, TABLES = f'{TOP}/tests/played/ledger', f'{TOP}/tests/played/tables'
@@ -75,7 +75,7 @@ def shown(item):
 
 class Site:
     def __init__(self, text, node):
-        self.text, self.node, self.model = text, node, Model(text, *read_plan(text))
+        self.text, self.node, self.model = text, node, Model(*read_text(text))
         self.stops = self.model.reached()
 
     def is_same(self, other):

@@ -19,7 +19,7 @@ import tempfile
 
 sys.dont_write_bytecode = True
 from lib.plan_model import REST, Fault, Model
-from lib.plan_reader import EXPLICIT, IMPLICIT, Refused, read_plan
+from lib.plan_reader import EXPLICIT, IMPLICIT, Refused, read_text
 from lib.plan_texts import KEEP, flow_of, plan_text, random_plan, taking
 from lib.script_world import Item, World
 
@@ -75,7 +75,7 @@ def sound_plan(dice):
         for node in range(text.count(b'"h:1"')):
             text = text.replace(b'"h:1"', b'"h:2"\nmax_pdu = %d' % dice.choice([0, 1024, 1025, 1030, 16384]), 1)
         try:
-            model = Model(text, *read_plan(text))
+            model = Model(*read_text(text))
             certificate, is_yes = model.check()
         except Refused:
             continue
@@ -98,7 +98,7 @@ def next_plan(dice, text):
         text = text[:text.rindex(b'[[flow]]')]
     else:
         return sound_plan(dice)
-    model = Model(text, *read_plan(text))
+    model = Model(*read_text(text))
     certificate, is_yes = model.check()
     return (text, certificate, model) if is_yes and has_entries(model) else sound_plan(dice)
 
@@ -259,7 +259,7 @@ def run(room, files):
 def full_node(happened):
     """One association more than a node takes: the last is rejected."""
     text = plan_text([('CT1', [], []), ('ARCH', taking(['1.2']), [KEEP])], [flow_of('CT1', 'ARCH', ['1.2'], ['CT'], ['S1'])])
-    model = Model(text, *read_plan(text))
+    model = Model(*read_text(text))
     play = Play(text, model, random.Random(0), happened, frozenset())
     key = ('1.2', EXPLICIT, 'CT', 'S1')
     play.do('submit', 'CT1', Item('9', key, data_set('9', key, b'')))
