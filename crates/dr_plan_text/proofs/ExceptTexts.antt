@@ -23,7 +23,7 @@ use Rattle.dr_plan_text.proofs.Unnamed.{no_star_within}
 use Rattle.dr_plan_text.proofs.ListenTexts.{lone}
 use Rattle.dr_plan_text.proofs.SmallTexts.{RulesFit, FlowFits, ListensOf, address_is, the_tree}
 
-ct9_is : IsLiteral (codes "CT9")
+pub ct9_is : IsLiteral (codes "CT9")
 ct9_is = record {
   short = lit≤ tt;
   printable = All-cons IsPlain 67 (codes "T9") (lit≤ tt, lit< tt, λ e. omega arith) (All-cons IsPlain 84 (codes "9") (lit≤ tt, lit< tt, λ e. omega arith)
