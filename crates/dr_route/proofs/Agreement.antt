@@ -77,7 +77,7 @@ holds_agrees literals cell k l a b rule known caller h = (
   h.1,
   let P : Text → Type 0 = λ v. Matches rule.class v in subst P (sym a.class ∙ b.class) h.2,
   patterns_agree literals.modalities cell.modality rule.modality k.modality l.modality known.0 a.modality b.modality h.3,
-  stations_agree literals.stations cell.station rule k.station l.station known.1 known.2 a.station b.station (h.4, h.5),
+  stations_agree literals.stations cell.station rule k.station l.station known.1 known.2 a.station b.station h.4,
 )
 
 pub sends_agree : (literals : Literals) (cell : OwnedCell) (k l : Key) → InCell literals cell k → InCell literals cell l →

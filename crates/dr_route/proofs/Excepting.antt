@@ -15,12 +15,12 @@ nothing_there : (text : Text) → Contains [] text → ⊥
 nothing_there text among = let lt : among.0 < 0 = among.1 in omega arith
 
 pub excepted : (rule : Rule) (caller : Text) (key : Key) → Contains rule.except key.station → Holds rule caller key → ⊥
-excepted rule caller key there h = h.5 there
+excepted rule caller key there h = h.4.1 there
 
 pub others : (rule : Rule) (caller : Text) (key : Key) → (Contains rule.except key.station → ⊥) → Holds rule caller key ↔ Holds (record rule { except = [] }) caller key
 others rule caller key free = (
-  λ h. (h.0, h.1, h.2, h.3, h.4, nothing_there key.station),
-  λ h. (h.0, h.1, h.2, h.3, h.4, free),
+  λ h. (h.0, h.1, h.2, h.3, (h.4.0, nothing_there key.station)),
+  λ h. (h.0, h.1, h.2, h.3, (h.4.0, free)),
 )
 
 pub none : (rule : Rule) (station : Text) → rule.except ≡ [] → TakesStation rule station ↔ MatchesField rule.station station
@@ -42,9 +42,8 @@ figure = (
     tt,
     tt,
     tt,
-    (codes "1", refl),
-    λ among. false≢true ((bytes_eq-Decides (codes "CT9") (codes "CT1")).1 (one (codes "CT1") among)),
+    ((codes "1", refl), λ among. false≢true ((bytes_eq-Decides (codes "CT9") (codes "CT1")).1 (one (codes "CT1") among))),
   ),
-  λ h. h.5 (Contains-push [] (codes "CT9")),
-  λ h. false≢true ((bytes_eq-Decides (codes "MR") (codes "CT")).1 (beginning (codes "CT") (codes "MR1") h.4)),
+  λ h. h.4.1 (Contains-push [] (codes "CT9")),
+  λ h. false≢true ((bytes_eq-Decides (codes "MR") (codes "CT")).1 (beginning (codes "CT") (codes "MR1") h.4.0)),
 )
