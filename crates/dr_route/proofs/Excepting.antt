@@ -1,12 +1,12 @@
 -- What exceptions take from a rule.
-use Rattle.std.proofs.Common.{◌≡◌, ◌<◌, List, [], ◌∷◌, Contains, inl, inr, refl, sym, subst, codes, arith}
+use Rattle.std.proofs.Common.{◌≡◌, ◌<◌, List, [], ◌∷◌, Contains, inl, inr, refl, subst, codes, arith}
 use Rattle.std.specs.Prelude.{◌↔◌}
 use Rattle.std.proofs.lemmas.Bool.{false≢true}
 use Rattle.std.proofs.lemmas.Slice.Eq.{bytes_eq-Decides}
 use Rattle.std.proofs.lemmas.List.Elements.{Contains-push, Contains-push_cases}
 use Rattle.dr_base.specs.Texts.{Text}
 use Rattle.dr_route.specs.Routes.{local, MatchesField, TakesStation, Holds}
-use Rattle.dr_route.specs.Laws.{all_but_ct9, key_at, HoldsForAllButOne}
+use Rattle.dr_route.specs.Laws.{HoldsForAllButOne}
 use Rattle.dr_route.specs.declared.key.Key.{Key}
 use Rattle.dr_route.specs.declared.rule.Rule.{Rule}
 use Rattle.dr_route.proofs.Finding.{beginning}
