@@ -316,17 +316,17 @@ format_1_has_none plan formed one =
 pub format_2_has_none : (plan : Network) → IsWellFormed plan → plan.format ≡ Two → (modalities_of plan).prefixes ≡ []
 format_2_has_none plan formed two = no_modality_prefix Two (λ prefixes none. none) plan (in_format Two plan.format plan.nodes plan.flows two formed.in_format)
 
-no_exceptions : (format : Format) (rule : Rule) → format ≢ Three → ExceptionsFit format rule → rule.except ≡ []
-no_exceptions One rule early fits = fits
-no_exceptions Two rule early fits = fits
-no_exceptions Three rule early fits = absurd (early refl)
+no_exceptions : (format : Format) (except : List Text) → format ≢ Three → ExceptionsFit format except → except ≡ []
+no_exceptions One except early fits = fits
+no_exceptions Two except early fits = fits
+no_exceptions Three except early fits = absurd (early refl)
 
 -- before format 3 there are no exceptions
 pub earlier_have_none : (plan : Network) → IsWellFormed plan → plan.format ≢ Three → (node : Node) (rule : Rule) → Contains plan.nodes node → Contains node.rules rule → rule.except ≡ []
 earlier_have_none plan formed early node rule has_node has_rule =
     let fits = All-contains (RuleFits plan.format) node.rules rule
     (All-contains (λ (n : Node). All (RuleFits plan.format) n.rules) plan.nodes node formed.in_format.each_rule has_node) has_rule in
-    no_exceptions plan.format rule early fits.2
+    no_exceptions plan.format rule.except early fits.2
 
 -- where no prefix is named, the parts are the literals and the rest
 plain_parts : (values : FieldValues) → values.prefixes ≡ [] → (part : OwnedField) (value : Text) → InField values part value ↔ InPlainField values.literals part value

@@ -153,18 +153,16 @@ StationsFit One prefixes = prefixes ≡ []
 StationsFit Two prefixes = Unit {0}
 StationsFit Three prefixes = Unit {0}
 
--- the format has the exceptions of the rule: in format 3 there are some
-abbrev pub ExceptionsFit : Format → Rule → Type 0
-ExceptionsFit One rule = rule.except ≡ []
-ExceptionsFit Two rule = rule.except ≡ []
-ExceptionsFit Three rule = Unit {0}
+-- the format has these exceptions of a rule: in format 3 there are some, as prefixes of modalities
+abbrev pub ExceptionsFit : Format → List Text → Type 0
+ExceptionsFit format except = ModalitiesFit format except
 
 -- the format has the prefixes that the rule names, and its exceptions
 abbrev pub RuleFits : Format → Rule → Type 0
 RuleFits format rule =
     ModalitiesFit format (prefix_of rule.modality)
     × StationsFit format (prefix_of rule.station)
-    × ExceptionsFit format rule
+    × ExceptionsFit format rule.except
 
 -- the format has the prefixes of these values of a flow
 abbrev pub ValuesFit : Format → Values → Values → Type 0
