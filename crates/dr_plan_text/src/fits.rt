@@ -99,13 +99,17 @@ fn rules_fit(format: Format, rules: &[Rule]) -> bool
     rules.iter().all(|rule| rule_fits(format, rule))
 }
 
+fn node_fits(format: Format, node: &NodeText) -> bool
+    ensures { IsTrue result ↔ All (λ rule. RuleFits format rule) node.now.rules }
+{
+    rules_fit(format, node.rules.as_slice())
+}
+
 fn nodes_fit(format: Format, nodes: &[NodeText]) -> bool
     ensures { IsTrue result
         ↔ All (λ node. All (λ rule. RuleFits format rule) node.rules) nodes.now }
 {
-    nodes
-        .iter()
-        .all(|node| rules_fit(format, node.rules.as_slice()))
+    nodes.iter().all(|node| node_fits(format, node))
 }
 
 fn flow_fits(format: Format, flow: &FlowText) -> bool
