@@ -1,10 +1,10 @@
 -- What a call on a desk that threads share came to. Another thread may call before it and after it:
 -- so its answer is said of two states of the ledger, one before the ledger's own call and one
 -- after.
-use Rattle.std.specs.Prelude.{◌≡◌, ◌⊎◌, ◌∷◌, ◌++◌, [], ◌-◌, ◌^◌, ℕ, List, length, Result, Ok, Err}
+use Rattle.std.specs.Prelude.{◌≡◌, ◌≤◌, ◌⊎◌, ◌∷◌, ◌++◌, [], ℕ, List, length, Result, Ok, Err}
 use Rattle.dr_ledger.specs.declared.fault.LedgerFault.{LedgerFault}
 use Rattle.dr_ledger.specs.declared.fault.LedgerFault.TheVariants as fault
-use Rattle.dr_ledger.specs.Books.{Book, Line}
+use Rattle.dr_ledger.specs.Books.{Book, Line, most_lines}
 use Rattle.dr_ledger.specs.Replies.{Counts}
 use Rattle.dr_site.specs.Parts.{Part}
 use Rattle.dr_desk.specs.declared.receipt.Call.{Call}
@@ -36,11 +36,11 @@ module _ {L : Type 0} (site_of : L → Part) (book : L → Book) (stands : L →
       (stands new → Says (book old) (Err why) (book new))
       × Counts {A = A} (Err why) (failed old) (failed new)
 
-  -- no line more can be numbered, which counts as a failed store: the ledger isn't called
+  -- its journal is full, which counts as a failed store: the ledger isn't called
   abbrev pub IsFull : LedgerFault → L → L → Type 0
   IsFull why old new =
       (why ≡ fault.Store) × (new ≡ old)
-      × (stands old → length (book old).lines ≡ 2 ^ 64 - 1)
+      × (stands old → most_lines ≤ length (book old).lines)
 
   -- the ledger refused the call, or it wasn't called, since its journal is full
   abbrev pub Refuses : {A : Type 0} (Says : Book → Result A LedgerFault → Book → Type 0)
