@@ -21,13 +21,14 @@ module _ {L : Type 0} (site_of : L → Part) (book : L → Book) (stands : L →
   IsShared ledger = (site_of ledger ≡ own) × (stands ledger → BeginWith first (book ledger).lines)
 
   -- the ledger's call was accepted with that answer, and its line is the last one, which has that
-  -- number
+  -- number; it isn't beyond those with which a journal is full
   abbrev pub Accepts : {A : Type 0} (Says : Book → Result A LedgerFault → Book → Type 0)
       → A → ℕ → L → L → Type 0
   Accepts Says answer number old new =
       IsShared old
       × (stands new
       → Says (book old) (Ok answer) (book new) × (number ≡ length (book new).lines))
+      × (number ≤ most_lines)
 
   -- the ledger's call was refused so
   abbrev pub SaysNo : {A : Type 0} (Says : Book → Result A LedgerFault → Book → Type 0)
