@@ -29,8 +29,8 @@ module _ {L : Type 0} (site_of : L → Part) (book : L → Book) (stands : L →
     (failed : L → ℕ) (own : Part) (first : List Line) where
   -- The desk is called once for the first one, which has been over since that moment or longer: it
   -- is forgotten, or refused for that reason.
-  pub record Asks (since : ℕ) (one : OverInstance) (s : State) (answer : Result (Unit {0}) LedgerFault)
-      (t : State) : Type 0 where
+  pub record Asks (since : ℕ) (one : OverInstance) (s : State)
+      (answer : Result (Unit {0}) LedgerFault) (t : State) : Type 0 where
     pub long : one.at ≤ since
     pub asked : Calls site_of book stands failed own first (Forgets one.uid) (Forgetting one.uid)
         answer s.0 s.1 t.0 t.1
