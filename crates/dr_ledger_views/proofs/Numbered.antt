@@ -1,5 +1,5 @@
 -- Lines that are counted, and those of them whose numbers lie in a span.
-use Rattle.std.proofs.Common.{◌≡◌, ℕ, zero, suc, ◌+◌, ◌-◌, ◌<◌, ◌≤◌, Bool, true, false, ◌&&◌, cond, T, List, [], ◌∷◌, map as mapped, filter, take, drop, refl, sym, ap, subst, ◌∙◌, arith, true≢false}
+use Rattle.std.proofs.Common.{◌≡◌, ℕ, zero, suc, ◌+◌, ◌-◌, ◌^◌, ◌<◌, ◌≤◌, min, Bool, true, false, ◌&&◌, cond, T, List, [], ◌∷◌, map as mapped, filter, take, drop, refl, sym, ap, subst, ◌∙◌, arith, true≢false}
 use Rattle.std.specs.declared.cmp.Ordering.{Ordering}
 use Rattle.std.specs.declared.cmp.Ordering.TheVariants.{Less, Equal, Greater}
 use Rattle.std.specs.Cmp.{ranks}
@@ -75,6 +75,13 @@ lies_within after last n is = go (nat_cmp n after) refl (nat_cmp n last) refl is
         let a : after < n = ordered n after Greater low in
         let b : n ≡ last = ordered n last Equal high in (a, omega (arith, b))
     go Greater low Greater high both = absurd (true≢false (sym both))
+
+-- a number that is no greater than another one less 1
+least_is : (a b : ℕ) → min a b ≤ b
+least_is a b = omega arith
+
+pub last_fits : (after limit : ℕ) → last_of after limit < 2 ^ 63
+last_fits after limit = let it = least_is (after + limit) (2 ^ 63 - 1) in omega (arith, it)
 
 -- ---- lines that are counted
 
