@@ -153,7 +153,7 @@ no_bytes (act.Step step) (w, fields, e, f) =
     spelled_beside w same
 
 one_byte : (a : Act) → Tells (codes "answer\t2\t00") a → ⊥
-unfolding cuts grown
+unfolding cuts grown decode_pairs
 one_byte (act.Adopt plan certificate) tells =
     let h : adopt_word ∷ plan ∷ certificate ∷ [] ≡ foreign_spelled called.Answer ∷ codes "2" ∷ codes "00" ∷ [] = sym tells in
     let same : adopt_word ≡ foreign_spelled called.Answer = cc in
@@ -175,7 +175,6 @@ one_byte (act.Foreign what) (v, others, e, f) =
     short (subst P same (subst Q rest f))
   where
     short : FollowsForeign called.Answer (codes "2" ∷ codes "00" ∷ []) what → ⊥
-    unfolding decode_pairs
     short (link, status, field, hex, e, d, numbered, (high, low, decoded, a)) =
         let h : codes "2" ∷ codes "00" ∷ [] ≡ field ∷ hex ∷ [] = d in
         let same : codes "00" ≡ hex = cc in
