@@ -27,8 +27,8 @@ pub enum Usual {
     Images,
 }
 
-/// A device of the table: its AE title, where it listens, which is nowhere where it only calls, what
-/// it is for, and what it sends.
+/// A device of the table: its AE title, where it listens, which is nowhere where it only calls,
+/// what it is for, and what it sends.
 #[derive(Drop)]
 pub struct Device {
     pub name: Text,
