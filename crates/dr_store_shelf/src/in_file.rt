@@ -86,7 +86,7 @@ impl<D: Disk> Shelf for InFile<D> {
 
     ghost apart = { AreApart };
 
-    ghost mutual = { apart_from_each_other };
+    ghost swaps = { apart_from_each_other };
 
     ghost passes = { λ it. Passes it.key };
 

@@ -17,7 +17,7 @@ impl Shelf for InRow {
 
     ghost apart = { λ _ _. Unit {0} };
 
-    ghost mutual = { λ _ _ apart. apart };
+    ghost swaps = { λ _ _ apart. apart };
 
     ghost passes = { λ _ cell bytes. cell ≡ bytes };
 

@@ -44,7 +44,7 @@ pub trait Shelf {
     ghost apart: { List ℕ → List ℕ → Type 0 };
 
     // Then the other can be let go without the one.
-    ghost mutual: { (cell other : List ℕ) → apart cell other → apart other cell };
+    ghost swaps: { (cell other : List ℕ) → apart cell other → apart other cell };
 
     // These bytes pass the test that the cell has for them.
     ghost passes: { Self → List ℕ → List ℕ → Type 0 };
