@@ -79,7 +79,8 @@ module _ {Apart : List ℕ → List ℕ → Type 0} {Used : List ℕ → Type 0}
   stands_for uid cell h =
       let was = goes.lets uid cell h in
       let it = k.own uid cell was in
-      (it.0, it.1, it.2, it.3, goes.keeps k.apart uid cell it.0.body h (k.used uid cell was) it.2)
+      let both = goes.keeps k.apart uid cell it.0.body h (k.used uid cell was) it.2 in
+      (it.0, it.1, it.2, it.3, both.0, both.1)
 
   pub let_go_own : items_of db ≡ items_of base → HaveOwn Uses Stands Apart db
   let_go_own items = record {
