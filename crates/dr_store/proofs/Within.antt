@@ -47,11 +47,11 @@ module _ (db : Trees) (after last : ℕ) (goals : List Goal) (are : AreGoalsWith
   counted_are : (n : ℕ) (notes : List (ℕ × JournalRow)) → after ≤ n → CountsUp n last notes → counted n (lines_told goals notes) ≡ mapped (λ (e : ℕ × JournalRow). (e.0, line_of (db 12) e.0 e.1)) notes
   counted_are n [] le up = refl
   counted_are n (e ∷ notes) le up =
-      let is : e.0 ≡ n + 1 = up.1.0 in
+      let is : e.0 ≡ n + 1 = up.1 in
       let low : n < last = up.0 in
       let lies : is_within after last e.0 ≡ true = within after last e.0 (omega (arith, is, le)) (omega (arith, is, low)) in
       let first : (n + 1, line_told goals e.0 e.1) ≡ (e.0, line_of (db 12) e.0 e.1) = λ i. (sym is i, line_is e.0 lies e.1 i) in
-      let more = counted_are (n + 1) notes (omega (arith, le)) up.1.1 in
+      let more = counted_are (n + 1) notes (omega (arith, le)) up.2 in
       λ i. first i ∷ more i
 
   pub told_within : (lines : List Line) (notes : List (ℕ × JournalRow)) → AreNotesWithin db after last notes → lines ≡ lines_told goals notes → counted after lines ≡ lines_within after last (numbered_of db)
