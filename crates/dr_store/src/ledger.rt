@@ -449,6 +449,11 @@ impl<S: Alter, B: Shelf> Moments for SqlLedger<S, B> {
 }
 
 impl<S: Alter, B: Shelf> Views for SqlLedger<S, B> {
+    ghost use Rattle.sqlite.specs.Held.{state};
+    ghost use Rattle.dr_store_views.specs.Spans.{numbered_of};
+
+    ghost numbered = { λ l. numbered_of (state S.Store l.conn).committed.trees };
+
     fn count_arrivals(&mut self) -> Result<u64, LedgerFault> {
         let answer = count_arrivals(&mut self.conn);
         self.failures = counted(&answer, self.failures);
