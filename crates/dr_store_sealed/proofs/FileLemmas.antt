@@ -1,0 +1,69 @@
+-- What a write, a cut and a sync leave of the bytes before them.
+use Rattle.std.proofs.Common.{◌≡◌, ℕ, ◌+◌, ◌-◌, ◌<◌, ◌≤◌, min, List, [], ◌++◌, length, slice_index, refl, sym, ◌∙◌, ap, subst, inl, inr, arith}
+use Rattle.std.proofs.lemmas.Bool.{cases_lt}
+use Rattle.std.proofs.lemmas.List.{get_or_append_left, get_or-append_right, length-append}
+use Rattle.sqlite_disk.specs.Disk.{Cut, Follows, Holds, Only, Torn}
+use Rattle.dr_store_sealed.specs.Files.{Lasts}
+
+pub holds_torn : (n size from : ℕ) (old new bytes : List ℕ) → from + length bytes ≤ n → Torn n size old new → Holds old from bytes → Holds new from bytes
+holds_torn n size from old new bytes before torn holds =
+    record {
+      within = omega (arith, holds.within, torn.no_shorter);
+      each = λ i low. torn.below (from + i) (omega (arith, holds.within, low)) (omega (arith, before, low)) ∙ holds.each i low;
+    }
+
+pub holds_cut : (n from : ℕ) (old new bytes : List ℕ) → from + length bytes ≤ n → Cut n old new → Holds old from bytes → Holds new from bytes
+holds_cut n from old new bytes before cut holds =
+    record {
+      within = omega (arith, holds.within, cut.no_shorter, before);
+      each = λ i low. cut.below (from + i) (omega (arith, holds.within, low)) (omega (arith, before, low)) ∙ holds.each i low;
+    }
+
+pub lasts_torn : (n size from : ℕ) (old new bytes : List ℕ) (was is : List ℕ → Type 0) → from + length bytes ≤ n → Torn n size old new → Follows (Torn n size) was is → Lasts old was from bytes → Lasts new is from bytes
+lasts_torn n size from old new bytes was is before torn follows lasts =
+    record {
+      now = holds_torn n size from old new bytes before torn lasts.now;
+      after_crash = λ left may.
+          let (there, may_there, step) = follows left may in
+          holds_torn n size from there left bytes before step (lasts.after_crash there may_there);
+    }
+
+pub lasts_cut : (n from : ℕ) (old new bytes : List ℕ) (was is : List ℕ → Type 0) → from + length bytes ≤ n → Cut n old new → Follows (Cut n) was is → Lasts old was from bytes → Lasts new is from bytes
+lasts_cut n from old new bytes was is before cut follows lasts =
+    record {
+      now = holds_cut n from old new bytes before cut lasts.now;
+      after_crash = λ left may.
+          let (there, may_there, step) = follows left may in
+          holds_cut n from there left bytes before step (lasts.after_crash there may_there);
+    }
+
+pub lasts_fewer : (from : ℕ) (old new bytes : List ℕ) (was is : List ℕ → Type 0) → new ≡ old → ((left : List ℕ) → is left → was left) → Lasts old was from bytes → Lasts new is from bytes
+lasts_fewer from old new bytes was is same fewer lasts =
+    record {
+      now = subst (λ file. Holds file from bytes) (sym same) lasts.now;
+      after_crash = λ left may. lasts.after_crash left (fewer left may);
+    }
+
+pub lasts_synced : (from : ℕ) (seen bytes : List ℕ) (is : List ℕ → Type 0) → Only seen is → Holds seen from bytes → Lasts seen is from bytes
+lasts_synced from seen bytes is only holds =
+    record { now = holds; after_crash = λ left may. subst (λ file. Holds file from bytes) (sym (only left may)) holds }
+
+-- what stands behind other bytes is there with them
+pub holds_both : (file : List ℕ) (from : ℕ) (xs ys : List ℕ) → Holds file from xs → Holds file (from + length xs) ys → Holds file from (xs ++ ys)
+holds_both file from xs ys first later =
+    let size = length-append xs ys in
+    record {
+      within = omega (arith, later.within, size);
+      each = λ i low.
+          elim (cases_lt i (length xs)) [
+            | inl before ↦ first.each i before ∙ sym (get_or_append_left xs ys 0 i before)
+            | inr over ↦
+                let place : from + length xs + (i - length xs) ≡ from + i = omega (arith, over) in
+                ap (slice_index file) (sym place)
+                ∙ later.each (i - length xs) (omega (arith, over, low, size))
+                ∙ sym (get_or-append_right xs ys (length xs) i 0 refl over)
+          ];
+    }
+
+pub holds_none : (file : List ℕ) (from : ℕ) → from ≤ length file → Holds file from []
+holds_none file from within = record { within = omega (arith, within); each = λ i low. absurd (omega (arith, low)) }
