@@ -94,3 +94,12 @@ entry_pushed s last new done i line bytes more at one count has lines room next 
       pushed ∙ ap (λ t. t ++ entry_of last.chain line) has ∙ added,
       All-push IsLine done line lines is,
     )
+
+-- where bytes end that were made for a file
+pub placed :
+    (s last : Seal) (done : List (List ℕ)) (bytes : List ℕ)
+    → last ≡ seal_after s done → last.number ≡ s.number → bytes ≡ bytes_of s.chain done
+    → last.offset ≡ s.offset + length bytes
+placed s last done bytes at one has =
+    let same : (seal_after s done).number ≡ s.number = sym (ap (λ (a : Seal). a.number) at) ∙ one in
+    ap (λ (a : Seal). a.offset) at ∙ offset_after s done same ∙ ap (λ t. s.offset + length t) (sym has)

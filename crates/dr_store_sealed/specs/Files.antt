@@ -1,7 +1,6 @@
 -- The lines that a file has, whatever a crash does.
 use Rattle.std.specs.Prelude.{◌≡◌, ℕ, ◌+◌, ◌<◌, ◌≤◌, List, length, IsTrue}
 use Rattle.sqlite_disk.specs.Disk.{Holds}
-use Rattle.sqlite_disk.specs.declared.Disk.{Ghosts}
 use Rattle.dr_store_sealed.specs.declared.seal.Seal.{Seal}
 use Rattle.dr_store_sealed.specs.Lines.{bytes_of, mark_of}
 use Rattle.dr_store_sealed.specs.Seals.{seal_after}

@@ -1,4 +1,5 @@
 pub mod Files
+pub mod Held
 pub mod Lines
 pub mod Refusals
 pub mod Seals

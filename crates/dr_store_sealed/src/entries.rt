@@ -44,6 +44,39 @@ pub fn is_line(line: &[u8]) -> bool
     line.len() <= LONGEST && memchr(END, line).is_none()
 }
 
+/// What is behind a line that goes behind the seal into the seal's file, and the seal behind both.
+pub fn behind_line(
+    alloc: Global,
+    seal: &Seal,
+    line: &[u8],
+) -> Result<(Vec<u8>, Seal), SealFault>
+    requires { seal.now.offset < full }
+    ensures mark { IfOk result (λ made.
+        made.0.items ≡ mark_of (next_chain seal.now.chain line.now)) }
+    ensures seal { IfOk result (λ made. made.1 ≡ next_seal seal.now line.now) }
+    ensures line { IfOk result (λ made. IsLine line.now) }
+    ensures why { IfErr result (IsWhyNoEntry seal.now line.now) }
+{
+    if !is_line(line) {
+        return Err(SealFault::Unfit);
+    }
+    let Some(count) = seal.count.checked_add(1) else {
+        return Err(SealFault::Uncounted);
+    };
+    let chain = chain_of(&seal.chain, line);
+    let behind = mark(alloc, &chain)?;
+    let Some(offset) = seal.offset.checked_add(line.len() + behind.len()) else {
+        return Err(SealFault::Uncounted);
+    };
+    let last = Seal {
+        count,
+        chain,
+        number: seal.number,
+        offset,
+    };
+    Ok((behind, last))
+}
+
 /// Adds a line behind the seal, whose file takes it, and answers the seal behind the line.
 fn push_entry(bytes: &mut Vec<u8>, seal: &Seal, line: &[u8]) -> Result<Seal, SealFault>
     requires { seal.now.offset < full }
@@ -53,26 +86,11 @@ fn push_entry(bytes: &mut Vec<u8>, seal: &Seal, line: &[u8]) -> Result<Seal, Sea
     ensures line { IfOk result (λ last. IsLine line.now) }
     ensures why { IfErr result (IsWhyNoEntry seal.now line.now) }
 {
-    if !is_line(line) {
-        return Err(SealFault::Unfit);
-    }
-    let Some(count) = seal.count.checked_add(1) else {
-        return Err(SealFault::Uncounted);
-    };
     let alloc = *bytes.allocator();
-    let chain = chain_of(&seal.chain, line);
-    let behind = mark(alloc, &chain)?;
+    let (behind, last) = behind_line(alloc, seal, line)?;
     bytes.extend_from_slice(line)?;
     bytes.extend_from_slice(&behind)?;
-    let Some(offset) = seal.offset.checked_add(line.len() + behind.len()) else {
-        return Err(SealFault::Uncounted);
-    };
-    Ok(Seal {
-        count,
-        chain,
-        number: seal.number,
-        offset,
-    })
+    Ok(last)
 }
 
 /// The bytes of as many of the lines as begin in the seal's file, and the seal behind them.
@@ -84,6 +102,8 @@ pub fn entries_of(
     ensures takes { IfOk result (λ made. TakesLines seal.now lines.now made.1) }
     ensures bytes { IfOk result (λ made. made.0.items
         ≡ bytes_of seal.now.chain (lines_between seal.now made.1 lines.now)) }
+    ensures place { IfOk result (λ made.
+        made.1.offset ≡ seal.now.offset + length made.0.items) }
     ensures lines { IfOk result (λ made. All IsLine (lines_between seal.now made.1 lines.now)) }
     ensures why { IfErr result (IsWhyNoEntries seal.now lines.now) }
 {

@@ -2,7 +2,7 @@ use Rattle.std.proofs.Common.{rules, ◌≡◌, ◌+◌, ◌<◌, ◌++◌, List
 use Rattle.std.proofs.lemmas.List.{take_more}
 use Rattle.dr_store_sealed.specs.Lines.{IsLine, bytes_of, entry_of}
 use Rattle.dr_store_sealed.specs.Seals.{full, next_seal, seal_after}
-use Rattle.dr_store_sealed.proofs.SealLemmas.{entry_pushed}
+use Rattle.dr_store_sealed.proofs.SealLemmas.{entry_pushed, placed}
 use Rattle.dr_store_sealed.proofs.entries.entries_of.Goals as goal
 
 pub loop-line-preserved : goal.loop-line-preserved
@@ -25,3 +25,17 @@ loop-line-preserved c =
     (subst (λ t. new ≡ next_seal c.loop-line.last t) is c.in_ok-last.ensures.seal)
     (subst (λ t. bytes ≡ c.loop-line.bytes.items ++ entry_of c.loop-line.last.chain t) is c.in_ok-last.ensures.bytes)
     (subst IsLine is c.in_ok-last.ensures.line))
+
+pub returns-clause-place : goal.returns-clause-place
+returns-clause-place c =
+    let s = c.args.seal.now in
+    let done = take c.loop-line.line-index c.args.lines.now in
+    placed s c.loop-line.last done c.loop-line.bytes.items
+    c.loop-line.invariant.0 c.loop-line.invariant.1 c.loop-line.invariant.3
+
+pub returns-then-is_full-clause-place : goal.returns-then-is_full-clause-place
+returns-then-is_full-clause-place c =
+    let s = c.args.seal.now in
+    let done = take c.loop-line.line-index c.args.lines.now in
+    placed s c.loop-line.last done c.loop-line.bytes.items
+    c.loop-line.invariant.0 c.loop-line.invariant.1 c.loop-line.invariant.3
