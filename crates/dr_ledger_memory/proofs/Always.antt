@@ -1,5 +1,5 @@
 -- What holds of a ledger whose store never fails, whatever it answers.
-use Rattle.std.proofs.Common.{false, Result, Ok, Err, refl, subst, arith}
+use Rattle.std.proofs.Common.{false, Result, Ok, Err, inr, refl, subst, arith}
 use Rattle.dr_ledger.specs.declared.fault.LedgerFault.{LedgerFault}
 use Rattle.dr_ledger.specs.declared.fault.LedgerFault.TheVariants as fault
 use Rattle.dr_base.specs.Texts.{Text}
@@ -11,7 +11,7 @@ use Rattle.dr_ledger.specs.Replies.{Admits, Arrives, Counts, PremiseLasts, Lasts
 use Rattle.dr_ledger_memory.specs.Sound.{NeverFails, ShowsOrFails}
 
 pub counts : {A : Type 0} (r : Result A LedgerFault) → NeverFails r → Counts r 0 0
-counts {A = A} r never = record { never_falls = omega arith; has_cause = λ e. absurd (let P : Result A LedgerFault → Type 0 = λ x. NeverFails x in subst P e never) }
+counts {A = A} r never = record { never_falls = omega arith; no_other = inr refl; has_cause = λ e. absurd (let P : Result A LedgerFault → Type 0 = λ x. NeverFails x in subst P e never) }
 
 pub arms : {A : Type 0} (Would : Type 0) (r : Result A LedgerFault) → NeverFails r → Arms Would false r false
 arms Would (Ok value) n = (refl, refl)

@@ -1,4 +1,6 @@
 //! The one who has a node forget what has been over for long.
+ghost use Rattle.dr_run_serve.specs.Sweeps.{ForgetsFirst};
+
 use crate::events::{tell_forgotten, tell_unswept};
 use crate::live::LiveNode;
 use crate::signal::Signal;
@@ -146,8 +148,36 @@ fn take_in<R: Wait>(rt: &R, sweep: &mut Sweep, signal: &Signal) {
     }
 }
 
-/// Forgets those that have been over since that moment or longer, the longest first; how many there
-/// were. One that is to be sent again isn't over, and is taken in again when it is.
+/// Forgets the first of those that have been over since that moment or longer; None where there is
+/// none. The ledger decides whether it is over: else it is let go here alone, and false answered.
+/// One that is to be sent again isn't over, and is taken in again when it is.
+///
+/// Errors: Store, Memory; then it stays the first.
+fn forget_first<R: Wait, L: LetsGo, B: Sharing>(
+    rt: &R,
+    desk: &SharedDesk<L, B>,
+    pass: &mut Pass<B>,
+    sweep: &mut Sweep,
+    since: u64,
+) -> Result<Option<bool>, LedgerFault>
+    ensures { ForgetsFirst L.site L.book L.stands L.failed B.site B.first since
+        sweep.old.queue.items (pass.old.made.count, pass.old.receipts.items) result
+        sweep.new.queue.items (pass.new.made.count, pass.new.receipts.items) }
+{
+    let Some(uid) = sweep.first_due(since) else {
+        return Ok(None);
+    };
+    let is_forgotten = match desk.forget(rt, pass, uid) {
+        Ok(()) => true,
+        Err(LedgerFault::NotOver) => false,
+        Err(fault) => return Err(fault),
+    };
+    let _gone = sweep.queue.pop_front();
+    Ok(Some(is_forgotten))
+}
+
+/// Forgets those that have been over since that moment or longer, the longest first, so many at
+/// most; how many there were.
 ///
 /// Errors: Store, Memory; then what wasn't forgotten is tried again at the next turn.
 fn forget_due<R: Wait, L: LetsGo, B: Sharing>(
@@ -159,15 +189,10 @@ fn forget_due<R: Wait, L: LetsGo, B: Sharing>(
 ) -> Result<u64, LedgerFault> {
     let mut count = 0u64;
     for _ in 0..MOST {
-        let Some(uid) = sweep.first_due(since) else {
-            return Ok(count);
-        };
-        match desk.forget(rt, pass, uid) {
-            Ok(()) => count = count.saturating_add(1),
-            Err(LedgerFault::NotOver) => {}
-            Err(fault) => return Err(fault),
+        match forget_first(rt, desk, pass, sweep, since)? {
+            None => return Ok(count),
+            Some(is_forgotten) => count = count.saturating_add(u64::from(is_forgotten)),
         }
-        let _gone = sweep.queue.pop_front();
     }
     Ok(count)
 }

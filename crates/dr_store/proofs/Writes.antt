@@ -23,20 +23,20 @@ use Rattle.dr_store.proofs.Stable.{Stable}
 -- ---- what holds of any answer
 
 pub counts : {A : Type 0} (r : Result A LedgerFault) (before now : ℕ) → now ≡ failures_after r before → before ≤ 2 ^ 64 - 1 → Counts r before now
-counts (Ok value) before now is low = record { never_falls = omega (arith, is); has_cause = λ e. absurd (let f : ⊥ = cc in f) }
-counts (Err fault.Store) before now is low = record { never_falls = omega (arith, is, low); has_cause = λ e. risen before now is low }
+counts (Ok value) before now is low = record { never_falls = omega (arith, is); has_cause = λ e. absurd (let f : ⊥ = cc in f); no_other = inr is }
+counts (Err fault.Store) before now is low = record { never_falls = omega (arith, is, low); has_cause = λ e. risen before now is low; no_other = inl refl }
   where
     risen : (before now : ℕ) → now ≡ min (2 ^ 64 - 1) (before + 1) → before ≤ 2 ^ 64 - 1 → HasRisen before now
     risen before now is low = elim (eq-or-lt_of_le low) [
       | inl full ↦ inr (is ∙ min-eq_left (omega (arith, full)))
       | inr room ↦ inl (let e : now ≡ before + 1 = is ∙ min-eq_right (omega (arith, room)) in omega (arith, e))
     ]
-counts (Err fault.NoLine) before now is low = record { never_falls = omega (arith, is); has_cause = λ e. absurd (let f : ⊥ = cc in f) }
-counts (Err fault.Conflict) before now is low = record { never_falls = omega (arith, is); has_cause = λ e. absurd (let f : ⊥ = cc in f) }
-counts (Err fault.NotWaiting) before now is low = record { never_falls = omega (arith, is); has_cause = λ e. absurd (let f : ⊥ = cc in f) }
-counts (Err fault.NotHeld) before now is low = record { never_falls = omega (arith, is); has_cause = λ e. absurd (let f : ⊥ = cc in f) }
-counts (Err fault.NotOver) before now is low = record { never_falls = omega (arith, is); has_cause = λ e. absurd (let f : ⊥ = cc in f) }
-counts (Err fault.Memory) before now is low = record { never_falls = omega (arith, is); has_cause = λ e. absurd (let f : ⊥ = cc in f) }
+counts (Err fault.NoLine) before now is low = record { never_falls = omega (arith, is); has_cause = λ e. absurd (let f : ⊥ = cc in f); no_other = inr is }
+counts (Err fault.Conflict) before now is low = record { never_falls = omega (arith, is); has_cause = λ e. absurd (let f : ⊥ = cc in f); no_other = inr is }
+counts (Err fault.NotWaiting) before now is low = record { never_falls = omega (arith, is); has_cause = λ e. absurd (let f : ⊥ = cc in f); no_other = inr is }
+counts (Err fault.NotHeld) before now is low = record { never_falls = omega (arith, is); has_cause = λ e. absurd (let f : ⊥ = cc in f); no_other = inr is }
+counts (Err fault.NotOver) before now is low = record { never_falls = omega (arith, is); has_cause = λ e. absurd (let f : ⊥ = cc in f); no_other = inr is }
+counts (Err fault.Memory) before now is low = record { never_falls = omega (arith, is); has_cause = λ e. absurd (let f : ⊥ = cc in f); no_other = inr is }
 
 -- no call is told to be refused
 pub arms : {A : Type 0} (Would : Type 0) (r : Result A LedgerFault) → Arms Would false r false

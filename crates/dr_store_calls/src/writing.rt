@@ -4,13 +4,10 @@ ghost use Rattle.sqlite.specs.Held.{state};
 ghost use Rattle.dr_store_changes.specs.Writing.{Written};
 ghost use Rattle.dr_store_calls.specs.Calling.{IsOwnFault};
 
-use dr_ledger::LedgerFault;
+use dr_ledger::{LedgerFault, MOST_LINES};
 use dr_store_changes::{TableChange, write};
 use dr_store_reads::fault_of;
 use sqlite::{Alter, Connection};
-
-/// A journal is full with so many lines.
-pub(crate) const MOST_LINES: u64 = 1 << 62;
 
 /// Writes a change as one transaction, whose commit is its last call of the database.
 ///
