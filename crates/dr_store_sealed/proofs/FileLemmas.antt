@@ -1,9 +1,11 @@
 -- What a write, a cut and a sync leave of the bytes before them.
 use Rattle.std.proofs.Common.{◌≡◌, ℕ, ◌+◌, ◌-◌, ◌<◌, ◌≤◌, min, List, [], ◌++◌, length, slice_index, refl, sym, ◌∙◌, ap, subst, inl, inr, arith}
 use Rattle.std.proofs.lemmas.Bool.{cases_lt}
-use Rattle.std.proofs.lemmas.List.{get_or_append_left, get_or-append_right, length-append}
+use Rattle.std.proofs.lemmas.List.{ext_get_or, get_or_append_left, get_or-append_right, length-append}
 use Rattle.sqlite_disk.specs.Disk.{Cut, Follows, Holds, Only, Torn}
-use Rattle.dr_store_sealed.specs.Files.{Lasts}
+use Rattle.dr_store_sealed.specs.Files.{EndsAs, Lasts}
+use Rattle.dr_store_sealed.specs.declared.seal.Seal.{Seal}
+use Rattle.dr_store_sealed.specs.Lines.{mark_of}
 
 pub holds_torn : (n size from : ℕ) (old new bytes : List ℕ) → from + length bytes ≤ n → Torn n size old new → Holds old from bytes → Holds new from bytes
 holds_torn n size from old new bytes before torn holds =
@@ -67,3 +69,24 @@ holds_both file from xs ys first later =
 
 pub holds_none : (file : List ℕ) (from : ℕ) → from ≤ length file → Holds file from []
 holds_none file from within = record { within = omega (arith, within); each = λ i low. absurd (omega (arith, low)) }
+
+pub same_held : (file : List ℕ) (at there : ℕ) (xs ys : List ℕ) → at ≡ there → length xs ≡ length ys → Holds file at xs → Holds file there ys → xs ≡ ys
+same_held file at there xs ys place size first other =
+    ext_get_or 0 xs ys size (λ i low.
+        sym (first.each i low) ∙ ap (λ n. slice_index file (n + i)) place ∙ other.each i (omega (arith, low, size)))
+
+-- a seal's last chain, read where it is to be
+pub ends_read : (seen found : List ℕ) (seal : Seal) (at : ℕ) → at + length found ≡ seal.offset → found ≡ mark_of seal.chain → (0 < length found → Holds seen at found) → EndsAs seen seal
+ends_read seen found seal at place is read some =
+    let size : length found ≡ length (mark_of seal.chain) = ap (λ (t : List ℕ). length t) is in
+    let filled : 0 < length (mark_of seal.chain) = omega arith in (
+      at,
+      (let e : at + length (mark_of seal.chain) ≡ seal.offset = omega (arith, place, size) in e),
+      subst (λ t. Holds seen at t) is (read (omega (arith, size, filled))),
+    )
+
+-- another one
+pub ends_otherwise : (seen found : List ℕ) (seal : Seal) (at : ℕ) → at + length (mark_of seal.chain) ≡ seal.offset → 0 < seal.offset → length found ≡ length (mark_of seal.chain) → (found ≡ mark_of seal.chain → ⊥) → Holds seen at found → EndsAs seen seal → ⊥
+ends_otherwise seen found seal at place some size differs read ends =
+    let (there, other, holds) = ends some in
+    differs (same_held seen at there found (mark_of seal.chain) (let e : at ≡ there = omega (arith, place, other) in e) size read holds)

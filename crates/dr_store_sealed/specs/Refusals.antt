@@ -28,6 +28,14 @@ module _ {D : Type 0} (g : Ghosts D) where
   IsWhyNotPut old new (fault.Io error) = MoreFaults (g.faults old) (g.faults new)
   IsWhyNotPut old new other = ⊥
 
+  -- why so many bytes at that place were not read
+  abbrev pub IsWhyNoPiece : ℕ → ℕ → D → D → SealFault → Type 0
+  IsWhyNoPiece at size old new (fault.Io error) =
+      IsTrue (g.is_clean old) → at + size ≤ length (g.seen old)
+      → MoreFaults (g.faults old) (g.faults new)
+  IsWhyNoPiece at size old new fault.Memory = new ≡ old
+  IsWhyNoPiece at size old new other = ⊥
+
   -- why the last line's chain was not found to be the seal's
   abbrev pub IsWhyNoEnd : Seal → D → D → SealFault → Type 0
   IsWhyNoEnd seal old new (fault.Io error) =

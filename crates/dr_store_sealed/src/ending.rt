@@ -6,6 +6,7 @@ ghost use Rattle.dr_store_sealed.specs.Refusals.{IsWhyNotPut, IsWhyNoEnd};
 
 use crate::entries::mark;
 use crate::fault::SealFault;
+use crate::piece::{are_alike, read_piece};
 use crate::seal::Seal;
 use sqlite_disk::Disk;
 use std::alloc::Global;
@@ -56,13 +57,12 @@ pub fn test_end<D: Disk>(alloc: Global, file: &mut D, seal: &Seal) -> Result<(),
     if seal.offset == 0 {
         return Ok(());
     }
-    let behind = mark(alloc, &seal.chain)?;
-    let Some(at) = seal.offset.checked_sub(behind.len()) else {
+    let wanted = mark(alloc, &seal.chain)?;
+    let Some(at) = seal.offset.checked_sub(wanted.len()) else {
         return Err(SealFault::OtherChain);
     };
-    let mut found = vec![in alloc; 0u8; behind.len()]?;
-    file.read_at(at, &mut found)?;
-    if found != behind {
+    let found = read_piece(alloc, file, at, wanted.len())?;
+    if !are_alike(&found, &wanted) {
         return Err(SealFault::OtherChain);
     }
     Ok(())

@@ -13,6 +13,7 @@ use crate::ending::put_end;
 use crate::entries::entries_of;
 use crate::fault::SealFault;
 use crate::fitting::fit;
+use crate::piece::read_piece;
 use crate::reading::lines_in;
 use crate::seal::Seal;
 use dr_base::Text;
@@ -92,8 +93,7 @@ impl<D: Disk> LineFile<D> {
             return Err(SealFault::Unusable);
         }
         let size = PIECE.min(self.seal.offset - from.offset);
-        let mut piece = vec![in alloc; 0u8; size]?;
-        self.disk.read_at(from.offset, &mut piece)?;
+        let piece = read_piece(alloc, &mut self.disk, from.offset, size)?;
         let (lines, last) = lines_in(alloc, &piece, from)?;
         if lines.is_empty() {
             return Err(SealFault::Broken);

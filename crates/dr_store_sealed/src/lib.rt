@@ -10,6 +10,7 @@ mod entries;
 mod fault;
 mod file;
 mod fitting;
+mod piece;
 mod reading;
 mod seal;
 

@@ -7,6 +7,7 @@ ghost use Rattle.dr_store_sealed.specs.Seals.{next_seal};
 
 use crate::entries::{END, behind_line};
 use crate::fault::SealFault;
+use crate::piece::are_alike;
 use crate::seal::Seal;
 use dr_base::Text;
 use memchr::memchr;
@@ -31,7 +32,7 @@ fn line_in(alloc: Global, entry: &[u8], seal: &Seal) -> Result<(Text, Seal), Sea
     };
     let line = &entry[..size];
     let (behind, last) = behind_line(alloc, seal, line)?;
-    if &entry[size..] != behind.as_slice() {
+    if !are_alike(&entry[size..], &behind) {
         return Err(SealFault::Broken);
     }
     let text = Text::copy_of(alloc, line)?;
