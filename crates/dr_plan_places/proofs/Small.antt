@@ -20,7 +20,7 @@ use Rattle.dr_base.specs.Texts.{Text}
 use Rattle.dr_plan_model.proofs.Gathered.{Contains-cons_cases, only_one}
 use Rattle.dr_plan_text.specs.Tables.{IsRoot, IsRuleTable, IsFormat, root_keys}
 use Rattle.dr_plan_places.proofs.FieldsFlawed.{unknown}
-use Rattle.dr_plan_places.specs.Laws.{ColourIsUnknown, FormatIsNotMissing, FourthFormatIsIllFormed, PrefixIsIllFormedInFormatOne, PrefixIsOfFormatTwo, ExceptionIsIllFormedInFormatTwo, ExceptionIsOfFormatThree, coloured, prefixed, excepting}
+use Rattle.dr_plan_places.specs.Laws.{ColourIsUnknown, FormatIsNotMissing, FourthFormatIsIllFormed, PrefixIsIllFormedInFormatOne, PrefixIsOfFormatTwo, ExceptionIsIllFormedInFormatTwo, ExceptionIsFineInFormatThree, coloured, prefixed, excepting}
 
 first_byte : (x y : Text) (a b : ℕ) → get_or x 0 0 ≡ a → get_or y 0 0 ≡ b → (a ≡ b → ⊥) → x ≡ y → ⊥
 first_byte x y a b at bt apart same = apart (sym at ∙ (ap (λ (t : Text). get_or t 0 0) same ∙ bt))
@@ -105,5 +105,5 @@ excepting_rule = record {
   keep = refl;
 }
 
-pub exception_is_of_format_3 : ExceptionIsOfFormatThree
+pub exception_is_of_format_3 : ExceptionIsFineInFormatThree
 exception_is_of_format_3 = λ h. h.0 excepting written_except_rule refl refl (excepting_rule, (tt, tt, tt))

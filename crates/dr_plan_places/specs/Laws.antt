@@ -74,5 +74,5 @@ abbrev pub ExceptionIsIllFormedInFormatTwo : Type 0
 ExceptionIsIllFormedInFormatTwo = HasFlaw (IsRuleText Two) excepting except_flaw
 
 -- in a text of format 3 it isn't
-abbrev pub ExceptionIsOfFormatThree : Type 0
-ExceptionIsOfFormatThree = HasFlaw (IsRuleText Three) excepting except_flaw → ⊥
+abbrev pub ExceptionIsFineInFormatThree : Type 0
+ExceptionIsFineInFormatThree = HasFlaw (IsRuleText Three) excepting except_flaw → ⊥

@@ -3,7 +3,7 @@ ghost use Rattle.dr_plan_places.specs.Laws.{ColourIsUnknown, FormatIsNotMissing,
 ghost use Rattle.dr_plan_places.specs.Laws.{PrefixIsIllFormedInFormatOne, PrefixIsOfFormatTwo};
 ghost use Rattle.dr_plan_places.specs.Laws.{FourthFormatIsIllFormed, ShortPlacesRefute};
 ghost use Rattle.dr_plan_places.specs.Laws.{ExceptionIsIllFormedInFormatTwo};
-ghost use Rattle.dr_plan_places.specs.Laws.{ExceptionIsOfFormatThree};
+ghost use Rattle.dr_plan_places.specs.Laws.{ExceptionIsFineInFormatThree};
 
 /// Tables with a flaw at any place write no plan, and in format 3 say none.
 pub fn places_refute()
@@ -21,5 +21,5 @@ pub fn small_tables_have_flaws()
     ensures prefix { PrefixIsIllFormedInFormatOne }
     ensures prefix_of_2 { PrefixIsOfFormatTwo }
     ensures except { ExceptionIsIllFormedInFormatTwo }
-    ensures except_of_3 { ExceptionIsOfFormatThree }
+    ensures except_of_3 { ExceptionIsFineInFormatThree }
 {}
