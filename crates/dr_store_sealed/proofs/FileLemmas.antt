@@ -1,7 +1,7 @@
 -- What a write, a cut and a sync leave of the bytes before them.
-use Rattle.std.proofs.Common.{◌≡◌, ℕ, ◌+◌, ◌-◌, ◌<◌, ◌≤◌, min, List, [], ◌++◌, length, slice_index, refl, sym, ◌∙◌, ap, subst, inl, inr, arith}
+use Rattle.std.proofs.Common.{◌≡◌, ℕ, ◌+◌, ◌-◌, ◌<◌, ◌≤◌, min, List, [], ◌++◌, length, slice_index, take, drop, length-take, length-drop, Result, Ok, Err, OnOk, refl, sym, ◌∙◌, ap, subst, inl, inr, arith}
 use Rattle.std.proofs.lemmas.Bool.{cases_lt}
-use Rattle.std.proofs.lemmas.List.{ext_get_or, get_or_append_left, get_or-append_right, length-append}
+use Rattle.std.proofs.lemmas.List.{ext_get_or, get_or_append_left, get_or-append-add, get_or-append_right, get_or-drop, get_or-take, length-append}
 use Rattle.sqlite_disk.specs.Disk.{Cut, Follows, Holds, Only, Torn}
 use Rattle.dr_store_sealed.specs.Files.{EndsAs, Lasts}
 use Rattle.dr_store_sealed.specs.declared.seal.Seal.{Seal}
@@ -66,6 +66,51 @@ holds_both file from xs ys first later =
                 ∙ sym (get_or-append_right xs ys (length xs) i 0 refl over)
           ];
     }
+
+pub holds_right : (file : List ℕ) (from : ℕ) (xs ys : List ℕ) → Holds file from (xs ++ ys) → Holds file (from + length xs) ys
+holds_right file from xs ys both =
+    let size = length-append xs ys in
+    record {
+      within = omega (arith, both.within, size);
+      each = λ i low.
+          let place : from + (length xs + i) ≡ from + length xs + i = omega arith in
+          ap (slice_index file) (sym place)
+          ∙ both.each (length xs + i) (omega (arith, low, size))
+          ∙ get_or-append-add xs ys i 0;
+    }
+
+-- bytes at a place of bytes that a file has
+pub holds_within : (file : List ℕ) (from : ℕ) (piece : List ℕ) (at : ℕ) (bytes : List ℕ) → Holds file from piece → Holds piece at bytes → Holds file (from + at) bytes
+holds_within file from piece at bytes outer inner =
+    record {
+      within = omega (arith, outer.within, inner.within);
+      each = λ i low.
+          let place : from + (at + i) ≡ from + at + i = omega arith in
+          ap (slice_index file) (sym place)
+          ∙ outer.each (at + i) (omega (arith, low, inner.within))
+          ∙ inner.each i low;
+    }
+
+-- a part of bytes is there
+pub holds_part : (bytes : List ℕ) (from size : ℕ) → from + size ≤ length bytes → Holds bytes from (take size (drop from bytes))
+holds_part bytes from size within =
+    let len : length (take size (drop from bytes)) ≡ size = omega (arith, within, length-take size (drop from bytes), length-drop from bytes) in
+    record {
+      within = omega (arith, len, within);
+      each = λ i low.
+          sym (get_or-take size (drop from bytes) i 0 (omega (arith, low, len)) ∙ get_or-drop from bytes i 0);
+    }
+
+pub lasts_both : (seen : List ℕ) (is : List ℕ → Type 0) (from : ℕ) (xs ys : List ℕ) → Lasts seen is from xs → Lasts seen is (from + length xs) ys → Lasts seen is from (xs ++ ys)
+lasts_both seen is from xs ys first later =
+    record {
+      now = holds_both seen from xs ys first.now later.now;
+      after_crash = λ left may. holds_both left from xs ys (first.after_crash left may) (later.after_crash left may);
+    }
+
+pub on_ok : {A E P : Type 0} (r : Result A E) → P → OnOk r P
+on_ok (Ok value) h = h
+on_ok (Err e) h = tt
 
 pub holds_none : (file : List ℕ) (from : ℕ) → from ≤ length file → Holds file from []
 holds_none file from within = record { within = omega (arith, within); each = λ i low. absurd (omega (arith, low)) }

@@ -35,18 +35,31 @@ stays : (b : Bool) (n offset size last : ℕ) → (if b then n + 1 else n) ≤ l
 stays true n offset size last low same = absurd (omega (arith, low, same))
 stays false n offset size last low same = refl
 
+-- one line on in the same file
+pub in_step : (s : Seal) (x : List ℕ) (xs : List (List ℕ)) → (seal_after s (x ∷ xs)).number ≡ s.number
+    → ((next_seal s x).number ≡ s.number) × ((next_seal s x).offset ≡ s.offset + length (entry_of s.chain x))
+in_step s x xs same =
+    let next = next_seal s x in
+    let up = number_rises next xs in
+    let low = rises (nat_le full s.offset) s.number in (
+      (let e : next.number ≡ s.number = omega (arith, same, up, low) in e),
+      stays (nat_le full s.offset) s.number s.offset (length (entry_of s.chain x)) (seal_after next xs).number up same,
+    )
+
 -- in one file the bytes are as many as lie between the two places
 pub offset_after : (s : Seal) (xs : List (List ℕ)) → (seal_after s xs).number ≡ s.number → (seal_after s xs).offset ≡ s.offset + length (bytes_of s.chain xs)
 offset_after s [] same = omega arith
 offset_after s (x ∷ xs) same =
+    let step = in_step s x xs same in
     let next = next_seal s x in
-    let size = length (entry_of s.chain x) in
-    let up = number_rises next xs in
-    let low = rises (nat_le full s.offset) s.number in
-    let here : next.offset ≡ s.offset + size = stays (nat_le full s.offset) s.number s.offset size (seal_after next xs).number up same in
-    let later : (seal_after next xs).offset ≡ next.offset + length (bytes_of next.chain xs) = offset_after next xs (omega (arith, same, up, low)) in
+    let later : (seal_after next xs).offset ≡ next.offset + length (bytes_of next.chain xs) = offset_after next xs (same ∙ sym step.0) in
     let all = length-append (entry_of s.chain x) (bytes_of next.chain xs) in
-    omega (arith, here, later, all)
+    omega (arith, step.1, later, all)
+
+pub reaches : (a b : Seal) (xs : List (List ℕ)) → Spans a xs b → a.offset + length (bytes_of a.chain xs) ≡ b.offset
+reaches a b xs spans =
+    let same : (seal_after a xs).number ≡ a.number = sym (ap (λ (s : Seal). s.number) spans.after) ∙ spans.one_file in
+    sym (offset_after a xs same) ∙ sym (ap (λ (s : Seal). s.offset) spans.after)
 
 pub spans_more : (a b c : Seal) (xs ys : List (List ℕ)) → Spans a xs b → Spans b ys c → Spans a (xs ++ ys) c
 spans_more a b c xs ys first later =

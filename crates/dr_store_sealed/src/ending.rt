@@ -35,6 +35,7 @@ pub fn put_end<D: Disk>(
         → Lasts (D.Disk.seen file.new) (D.Disk.may_leave file.new) from kept }
     ensures clean { IsTrue (D.Disk.is_clean file.new) → IsTrue (D.Disk.is_clean file.old) }
     ensures usable { OnOk result (IsTrue (D.Disk.is_usable file.new)) }
+    ensures faults { OnOk result (D.Disk.faults file.new ≡ D.Disk.faults file.old) }
     ensures why { IfErr result (IsWhyNotPut D.Disk file.old file.new) }
 {
     file.write_at(at, bytes)?;
@@ -52,6 +53,7 @@ pub fn test_end<D: Disk>(alloc: Global, file: &mut D, seal: &Seal) -> Result<(),
     ensures leaves { (c : List ℕ) → D.Disk.may_leave file.new c → D.Disk.may_leave file.old c }
     ensures clean { IsTrue (D.Disk.is_clean file.new) → IsTrue (D.Disk.is_clean file.old) }
     ensures usable { IsTrue (D.Disk.is_usable file.new) }
+    ensures faults { OnOk result (D.Disk.faults file.new ≡ D.Disk.faults file.old) }
     ensures why { IfErr result (IsWhyNoEnd D.Disk seal.now file.old file.new) }
 {
     if seal.offset == 0 {

@@ -41,6 +41,5 @@ pub fn fit<D: Disk>(alloc: Global, file: &mut D, seal: &Seal) -> Result<(), Seal
         return Err(SealFault::Short);
     }
     test_end(alloc, file, seal)?;
-    put_end(file, seal.offset, &[], seal.offset)?;
-    Ok(())
+    put_end(file, seal.offset, &[], seal.offset)
 }

@@ -8,8 +8,10 @@
 mod ending;
 mod entries;
 mod fault;
+pub mod figures;
 mod file;
 mod fitting;
+pub mod laws;
 mod piece;
 mod reading;
 mod seal;

@@ -1,5 +1,5 @@
 //! Pieces of a file, and whether bytes are the same.
-ghost use Rattle.std.specs.Prelude.{◌≡◌, ◌↔◌, ◌<◌, ℕ, List, length, IsTrue, IfErr, IfOk};
+ghost use Rattle.std.specs.Prelude.{◌≡◌, ◌↔◌, ◌<◌, ℕ, List, length, IsTrue, IfErr, IfOk, OnOk};
 ghost use Rattle.sqlite_disk.specs.Disk.{Holds};
 ghost use Rattle.dr_store_sealed.specs.Refusals.{IsWhyNoPiece};
 
@@ -29,6 +29,7 @@ pub fn read_piece<D: Disk>(
     ensures leaves { (c : List ℕ) → D.Disk.may_leave file.new c → D.Disk.may_leave file.old c }
     ensures clean { IsTrue (D.Disk.is_clean file.new) → IsTrue (D.Disk.is_clean file.old) }
     ensures usable { IsTrue (D.Disk.is_usable file.new) }
+    ensures faults { OnOk result (D.Disk.faults file.new ≡ D.Disk.faults file.old) }
     ensures why { IfErr result (IsWhyNoPiece D.Disk at size file.old file.new) }
 {
     let mut piece = vec![in alloc; 0u8; size]?;
