@@ -46,16 +46,16 @@ reads (Err fault.NotWaiting) Is h = absurd h
 reads (Err fault.NotHeld) Is h = absurd h
 reads (Err fault.NotOver) Is h = absurd h
 
--- whatever it shows, it may be read
-pub reads_any : {A : Type 0} (r : Result A LedgerFault) (Is : A → Type 0) → ShowsOrFails r Is → Reads r (λ value. Unit {0})
-reads_any (Ok value) Is h = tt
-reads_any (Err fault.Memory) Is h = tt
-reads_any (Err fault.Store) Is h = absurd h
-reads_any (Err fault.NoLine) Is h = absurd h
-reads_any (Err fault.Conflict) Is h = absurd h
-reads_any (Err fault.NotWaiting) Is h = absurd h
-reads_any (Err fault.NotHeld) Is h = absurd h
-reads_any (Err fault.NotOver) Is h = absurd h
+-- what it shows says something else
+pub reads_as : {A : Type 0} (r : Result A LedgerFault) (Is Says : A → Type 0) → ((value : A) → Is value → Says value) → ShowsOrFails r Is → Reads r Says
+reads_as (Ok value) Is Says f h = f value h
+reads_as (Err fault.Memory) Is Says f h = tt
+reads_as (Err fault.Store) Is Says f h = absurd h
+reads_as (Err fault.NoLine) Is Says f h = absurd h
+reads_as (Err fault.Conflict) Is Says f h = absurd h
+reads_as (Err fault.NotWaiting) Is Says f h = absurd h
+reads_as (Err fault.NotHeld) Is Says f h = absurd h
+reads_as (Err fault.NotOver) Is Says f h = absurd h
 
 pub shown_never : {A : Type 0} (r : Result A LedgerFault) (Is : A → Type 0) → ShowsOrFails r Is → NeverFails r
 shown_never (Ok value) Is h = tt
