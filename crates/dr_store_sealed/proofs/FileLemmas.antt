@@ -1,11 +1,13 @@
 -- What a write, a cut and a sync leave of the bytes before them.
-use Rattle.std.proofs.Common.{◌≡◌, ℕ, ◌+◌, ◌-◌, ◌<◌, ◌≤◌, min, List, [], ◌++◌, length, slice_index, take, drop, length-take, length-drop, Result, Ok, Err, OnOk, refl, sym, ◌∙◌, ap, subst, inl, inr, arith}
+use Rattle.std.proofs.Common.{◌≡◌, ℕ, ◌+◌, ◌-◌, ◌<◌, ◌≤◌, min, List, [], ◌++◌, length, slice_index, Result, Ok, Err, OnOk, refl, sym, ◌∙◌, ap, subst, inl, inr, arith}
 use Rattle.std.proofs.lemmas.Bool.{cases_lt}
-use Rattle.std.proofs.lemmas.List.{ext_get_or, get_or_append_left, get_or-append-add, get_or-append_right, get_or-drop, get_or-take, length-append}
+use Rattle.std.proofs.lemmas.List.{ext_get_or, get_or_append_left, get_or-append-add, get_or-append_right, length-append}
 use Rattle.sqlite_disk.specs.Disk.{Cut, Follows, Holds, Only, Torn}
-use Rattle.dr_store_sealed.specs.Files.{EndsAs, Lasts}
+use Rattle.dr_store_sealed.specs.Files.{EndsAs, Lasts, Spans}
 use Rattle.dr_store_sealed.specs.declared.seal.Seal.{Seal}
-use Rattle.dr_store_sealed.specs.Lines.{mark_of}
+use Rattle.dr_store_sealed.specs.Lines.{bytes_of, mark_of}
+use Rattle.dr_store_sealed.specs.Seals.{seal_after}
+use Rattle.dr_store_sealed.proofs.SealLemmas.{bytes_more, reaches}
 
 pub holds_torn : (n size from : ℕ) (old new bytes : List ℕ) → from + length bytes ≤ n → Torn n size old new → Holds old from bytes → Holds new from bytes
 holds_torn n size from old new bytes before torn holds =
@@ -79,27 +81,21 @@ holds_right file from xs ys both =
           ∙ get_or-append-add xs ys i 0;
     }
 
--- bytes at a place of bytes that a file has
-pub holds_within : (file : List ℕ) (from : ℕ) (piece : List ℕ) (at : ℕ) (bytes : List ℕ) → Holds file from piece → Holds piece at bytes → Holds file (from + at) bytes
-holds_within file from piece at bytes outer inner =
+-- what bytes begin with that a file has
+pub holds_start : (file : List ℕ) (from : ℕ) (piece bytes : List ℕ) → Holds file from piece → Holds piece 0 bytes → Holds file from bytes
+holds_start file from piece bytes outer inner =
     record {
       within = omega (arith, outer.within, inner.within);
-      each = λ i low.
-          let place : from + (at + i) ≡ from + at + i = omega arith in
-          ap (slice_index file) (sym place)
-          ∙ outer.each (at + i) (omega (arith, low, inner.within))
-          ∙ inner.each i low;
+      each = λ i low. outer.each i (omega (arith, low, inner.within)) ∙ inner.each i low;
     }
 
--- a part of bytes is there
-pub holds_part : (bytes : List ℕ) (from size : ℕ) → from + size ≤ length bytes → Holds bytes from (take size (drop from bytes))
-holds_part bytes from size within =
-    let len : length (take size (drop from bytes)) ≡ size = omega (arith, within, length-take size (drop from bytes), length-drop from bytes) in
-    record {
-      within = omega (arith, len, within);
-      each = λ i low.
-          sym (get_or-take size (drop from bytes) i 0 (omega (arith, low, len)) ∙ get_or-drop from bytes i 0);
-    }
+pub holds_front : (file xs ys : List ℕ) → file ≡ xs ++ ys → Holds file 0 xs
+holds_front file xs ys is =
+    let P : List ℕ → Type 0 = λ t. Holds t 0 xs in
+    subst P (sym is) (record {
+      within = omega (arith, length-append xs ys);
+      each = λ i low. get_or_append_left xs ys 0 i low;
+    })
 
 pub lasts_both : (seen : List ℕ) (is : List ℕ → Type 0) (from : ℕ) (xs ys : List ℕ) → Lasts seen is from xs → Lasts seen is (from + length xs) ys → Lasts seen is from (xs ++ ys)
 lasts_both seen is from xs ys first later =
@@ -118,7 +114,7 @@ holds_none file from within = record { within = omega (arith, within); each = λ
 pub same_held : (file : List ℕ) (at there : ℕ) (xs ys : List ℕ) → at ≡ there → length xs ≡ length ys → Holds file at xs → Holds file there ys → xs ≡ ys
 same_held file at there xs ys place size first other =
     ext_get_or 0 xs ys size (λ i low.
-        sym (first.each i low) ∙ ap (λ n. slice_index file (n + i)) place ∙ other.each i (omega (arith, low, size)))
+    sym (first.each i low) ∙ ap (λ n. slice_index file (n + i)) place ∙ other.each i (omega (arith, low, size)))
 
 -- a seal's last chain, read where it is to be
 pub ends_read : (seen found : List ℕ) (seal : Seal) (at : ℕ) → at + length found ≡ seal.offset → found ≡ mark_of seal.chain → (0 < length found → Holds seen at found) → EndsAs seen seal
@@ -135,3 +131,15 @@ pub ends_otherwise : (seen found : List ℕ) (seal : Seal) (at : ℕ) → at + l
 ends_otherwise seen found seal at place some size differs read ends =
     let (there, other, holds) = ends some in
     differs (same_held seen at there found (mark_of seal.chain) (let e : at ≡ there = omega (arith, place, other) in e) size read holds)
+
+-- lines behind those that a file has
+pub lasts_more : (seen : List ℕ) (is : List ℕ → Type 0) (start s : Seal) (before more : List (List ℕ)) → Spans start before s
+    → Lasts seen is start.offset (bytes_of start.chain before) → Lasts seen is s.offset (bytes_of s.chain more)
+    → Lasts seen is start.offset (bytes_of start.chain (before ++ more))
+lasts_more seen is start s before more spans first later =
+    let place : start.offset + length (bytes_of start.chain before) ≡ s.offset = reaches start s before spans in
+    let chain : s.chain ≡ (seal_after start before).chain = ap (λ (a : Seal). a.chain) spans.after in
+    let there = subst (λ n. Lasts seen is n (bytes_of (seal_after start before).chain more)) (sym place)
+    (subst (λ t. Lasts seen is s.offset (bytes_of t more)) chain later) in
+    subst (λ t. Lasts seen is start.offset t) (sym (bytes_more start before more))
+    (lasts_both seen is start.offset (bytes_of start.chain before) (bytes_of (seal_after start before).chain more) first there)

@@ -5,7 +5,6 @@ use Rattle.std.proofs.Common.{refl, sym, ◌∙◌, ap, subst, inl, inr, arith}
 use Rattle.std.proofs.lemmas.Bool.{cases_lt, le-leb}
 use Rattle.std.proofs.lemmas.List.{append_assoc, append-nil, length-append, get_or_past}
 use Rattle.std.proofs.lemmas.List.Elements.{All-append, All-cons, All-from_recursion, All-head, All-nil, All-tail}
-use Rattle.std.specs.List.{ByRecursion}
 use Rattle.hex.specs.Hex.{encode_lower, encode_with, lower_digits}
 use Rattle.hex.proofs.HexLemmas.{length-encode_with}
 use Rattle.sha2.specs.Sha256.{sha256}
@@ -91,8 +90,10 @@ same_body a b line other same =
     omega (
       arith,
       (let e : length (body_of (sha256 a) line) ≡ length (body_of (sha256 b) other) = ap (λ (t : List ℕ). length t) same in e),
-      length-append line (32 ∷ encode_lower (sha256 a)), length-append other (32 ∷ encode_lower (sha256 b)),
-      hex_size a, hex_size b,
+      length-append line (32 ∷ encode_lower (sha256 a)),
+      length-append other (32 ∷ encode_lower (sha256 b)),
+      hex_size a,
+      hex_size b,
     ) in
     (same_front line other (32 ∷ encode_lower (sha256 a)) (32 ∷ encode_lower (sha256 b)) size same).0
 
@@ -139,7 +140,9 @@ one_sealed content lines others seal known known' is is' =
     let same : seal_after first_seal lines ≡ seal_after first_seal others = sym is ∙ is' in
     let count : length lines ≡ length others =
     omega (
-      arith, count_after first_seal lines, count_after first_seal others,
+      arith,
+      count_after first_seal lines,
+      count_after first_seal others,
       (let e : (seal_after first_seal lines).count ≡ (seal_after first_seal others).count = ap (λ (s : Seal). s.count) same in e),
     ) in
     (one_past content first_seal first_seal lines others refl known known' count (ap (λ (s : Seal). s.chain) same)).1
@@ -199,3 +202,13 @@ last_mark seen s last x (y ∷ ys) has = last_mark seen (next_seal s x) last y y
 pub ends_in_seal : (seen : List ℕ) (start last : Seal) (lines : List (List ℕ)) → start.offset ≡ 0 → HasLines seen start lines last → EndsAs seen last
 ends_in_seal seen start last [] begins has some = absurd (omega (arith, begins, some, (let e : last.offset ≡ start.offset = ap (λ (s : Seal). s.offset) has.spans.after in e)))
 ends_in_seal seen start last (x ∷ xs) begins has some = last_mark seen start last x xs has
+
+pub entry_size : (chain line : List ℕ) → length (entry_of chain line) ≡ length line + 66
+entry_size chain line =
+    let text = chain ++ line in
+    omega (
+      arith,
+      length-append line (mark_of (sha256 text)),
+      length-append (32 ∷ encode_lower (sha256 text)) (10 ∷ []),
+      hex_size text,
+    )

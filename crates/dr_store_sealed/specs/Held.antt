@@ -21,10 +21,15 @@ module _ {D : Type 0} {g : Ghosts D} where
   abbrev pub shown : LineFile D g → List ℕ
   shown it = g.seen it.disk
 
-  -- from `start` up to its seal it has just these lines, now and after a crash at this moment
+  -- behind `start` it has these lines, now and after a crash at this moment
+  abbrev pub StillHas : LineFile D g → Seal → List (List ℕ) → Type 0
+  StillHas it start lines =
+      Lasts (g.seen it.disk) (g.may_leave it.disk) start.offset (bytes_of start.chain lines)
+
+  -- these are all its lines, from `start` up to its seal, now and after a crash at this moment
   pub record IsHeld (it : LineFile D g) (start : Seal) (lines : List (List ℕ)) : Type 0 where
     pub spans : Spans start lines it.seal
-    pub lasts : Lasts (g.seen it.disk) (g.may_leave it.disk) start.offset (bytes_of start.chain lines)
+    pub lasts : StillHas it start lines
 
   -- no wrong answer of the medium has been taken as true
   abbrev pub IsClean : LineFile D g → Type 0

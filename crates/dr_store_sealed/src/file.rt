@@ -6,7 +6,8 @@ ghost use Rattle.dr_store_sealed.specs.declared.seal.Seal.{Seal};
 ghost use Rattle.dr_store_sealed.specs.Files.{EndsAs, HasLines};
 ghost use Rattle.dr_store_sealed.specs.Lines.{IsLine};
 ghost use Rattle.dr_store_sealed.specs.Seals.{TakesLines, lines_between};
-ghost use Rattle.dr_store_sealed.specs.Held.{IsClean, IsHeld, IsUsable, disk_of, seal_of, shown};
+ghost use Rattle.dr_store_sealed.specs.Held.{IsClean, IsHeld, IsUsable, StillHas, disk_of};
+ghost use Rattle.dr_store_sealed.specs.Held.{seal_of, shown};
 ghost use Rattle.dr_store_sealed.specs.Held.{IsWhyNotAppended};
 
 use crate::ending::put_end;
@@ -15,7 +16,7 @@ use crate::fault::SealFault;
 use crate::fitting::fit;
 use crate::piece::read_piece;
 use crate::reading::lines_in;
-use crate::seal::Seal;
+use crate::seal::{Seal, are_one};
 use dr_base::Text;
 use sqlite_disk::{Crash, Disk};
 use std::alloc::Global;
@@ -54,8 +55,8 @@ impl<D: Disk> LineFile<D> {
         ensures ends { OnOk result (length (shown self.new) ≡ (seal_of self.new).offset) }
         ensures synced { OnOk result (Only (shown self.new) (D.Disk.may_leave (disk_of self.new))) }
         ensures unsealed { OnErr result (seal_of self.new ≡ seal_of self.old) }
-        ensures keeps { OnErr result ((start : Seal) (before : List (List ℕ))
-            → IsHeld self.old start before → IsHeld self.new start before) }
+        ensures keeps { (start : Seal) (before : List (List ℕ))
+            → IsHeld self.old start before → StillHas self.new start before }
         ensures clean { IsClean self.new → IsClean self.old }
         ensures usable { OnOk result (IsUsable self.new) }
         ensures why { IfErr result (IsWhyNotAppended lines.now self.old self.new) }
@@ -72,11 +73,7 @@ impl<D: Disk> LineFile<D> {
     /// The next lines behind `from`, a place before the seal's where a line begins, and the seal
     /// behind them: as many as a piece of the file has. Each has the chain that follows from the
     /// line before it.
-    pub fn read_from(
-        &mut self,
-        alloc: Global,
-        from: &Seal,
-    ) -> Result<(Vec<Text>, Seal), SealFault>
+    pub fn read_from(&mut self, alloc: Global, from: &Seal) -> Result<(Vec<Text>, Seal), SealFault>
         requires { from.now.offset < (seal_of self.old).offset }
         ensures reads { IfOk result (λ read.
             IsClean self.new → HasLines (shown self.new) from.now read.0.items read.1) }
@@ -120,7 +117,7 @@ impl<D: Disk> LineFile<D> {
             drop(lines);
             at = next;
         }
-        if at != self.seal {
+        if !are_one(&at, &self.seal) {
             return Err(SealFault::OtherChain);
         }
         Ok(())
