@@ -3,7 +3,7 @@ use Rattle.std.proofs.Common.{◌≡◌, ℕ, ◌+◌, ◌-◌, ◌<◌, ◌≤�
 use Rattle.std.proofs.lemmas.Bool.{cases_lt}
 use Rattle.std.proofs.lemmas.List.{ext_get_or, get_or_append_left, get_or-append-add, get_or-append_right, length-append}
 use Rattle.sqlite_disk.specs.Disk.{Cut, Follows, Holds, Only, Torn}
-use Rattle.dr_store_sealed.specs.Files.{EndsAs, Lasts, Spans}
+use Rattle.dr_store_sealed.specs.Files.{EndsAs, Endures, Spans}
 use Rattle.dr_store_sealed.specs.declared.seal.Seal.{Seal}
 use Rattle.dr_store_sealed.specs.Lines.{bytes_of, mark_of}
 use Rattle.dr_store_sealed.specs.Seals.{seal_after}
@@ -23,33 +23,33 @@ holds_cut n from old new bytes before cut holds =
       each = λ i low. cut.below (from + i) (omega (arith, holds.within, low)) (omega (arith, before, low)) ∙ holds.each i low;
     }
 
-pub lasts_torn : (n size from : ℕ) (old new bytes : List ℕ) (was is : List ℕ → Type 0) → from + length bytes ≤ n → Torn n size old new → Follows (Torn n size) was is → Lasts old was from bytes → Lasts new is from bytes
-lasts_torn n size from old new bytes was is before torn follows lasts =
+pub endures_torn : (n size from : ℕ) (old new bytes : List ℕ) (was is : List ℕ → Type 0) → from + length bytes ≤ n → Torn n size old new → Follows (Torn n size) was is → Endures old was from bytes → Endures new is from bytes
+endures_torn n size from old new bytes was is before torn follows old_part =
     record {
-      now = holds_torn n size from old new bytes before torn lasts.now;
+      now = holds_torn n size from old new bytes before torn old_part.now;
       after_crash = λ left may.
           let (there, may_there, step) = follows left may in
-          holds_torn n size from there left bytes before step (lasts.after_crash there may_there);
+          holds_torn n size from there left bytes before step (old_part.after_crash there may_there);
     }
 
-pub lasts_cut : (n from : ℕ) (old new bytes : List ℕ) (was is : List ℕ → Type 0) → from + length bytes ≤ n → Cut n old new → Follows (Cut n) was is → Lasts old was from bytes → Lasts new is from bytes
-lasts_cut n from old new bytes was is before cut follows lasts =
+pub endures_cut : (n from : ℕ) (old new bytes : List ℕ) (was is : List ℕ → Type 0) → from + length bytes ≤ n → Cut n old new → Follows (Cut n) was is → Endures old was from bytes → Endures new is from bytes
+endures_cut n from old new bytes was is before cut follows old_part =
     record {
-      now = holds_cut n from old new bytes before cut lasts.now;
+      now = holds_cut n from old new bytes before cut old_part.now;
       after_crash = λ left may.
           let (there, may_there, step) = follows left may in
-          holds_cut n from there left bytes before step (lasts.after_crash there may_there);
+          holds_cut n from there left bytes before step (old_part.after_crash there may_there);
     }
 
-pub lasts_fewer : (from : ℕ) (old new bytes : List ℕ) (was is : List ℕ → Type 0) → new ≡ old → ((left : List ℕ) → is left → was left) → Lasts old was from bytes → Lasts new is from bytes
-lasts_fewer from old new bytes was is same fewer lasts =
+pub endures_fewer : (from : ℕ) (old new bytes : List ℕ) (was is : List ℕ → Type 0) → new ≡ old → ((left : List ℕ) → is left → was left) → Endures old was from bytes → Endures new is from bytes
+endures_fewer from old new bytes was is same fewer old_part =
     record {
-      now = subst (λ file. Holds file from bytes) (sym same) lasts.now;
-      after_crash = λ left may. lasts.after_crash left (fewer left may);
+      now = subst (λ file. Holds file from bytes) (sym same) old_part.now;
+      after_crash = λ left may. old_part.after_crash left (fewer left may);
     }
 
-pub lasts_synced : (from : ℕ) (seen bytes : List ℕ) (is : List ℕ → Type 0) → Only seen is → Holds seen from bytes → Lasts seen is from bytes
-lasts_synced from seen bytes is only holds =
+pub endures_synced : (from : ℕ) (seen bytes : List ℕ) (is : List ℕ → Type 0) → Only seen is → Holds seen from bytes → Endures seen is from bytes
+endures_synced from seen bytes is only holds =
     record { now = holds; after_crash = λ left may. subst (λ file. Holds file from bytes) (sym (only left may)) holds }
 
 -- what stands behind other bytes is there with them
@@ -86,7 +86,8 @@ pub holds_start : (file : List ℕ) (from : ℕ) (piece bytes : List ℕ) → Ho
 holds_start file from piece bytes outer inner =
     record {
       within = omega (arith, outer.within, inner.within);
-      each = λ i low. outer.each i (omega (arith, low, inner.within)) ∙ inner.each i low;
+      each = λ i low. outer.each i (omega (arith, low, inner.within))
+          ∙ ap (slice_index piece) (let e : i ≡ 0 + i = omega arith in e) ∙ inner.each i low;
     }
 
 pub holds_front : (file xs ys : List ℕ) → file ≡ xs ++ ys → Holds file 0 xs
@@ -94,11 +95,11 @@ holds_front file xs ys is =
     let P : List ℕ → Type 0 = λ t. Holds t 0 xs in
     subst P (sym is) (record {
       within = omega (arith, length-append xs ys);
-      each = λ i low. get_or_append_left xs ys 0 i low;
+      each = λ i low. ap (slice_index (xs ++ ys)) (let e : 0 + i ≡ i = omega arith in e) ∙ get_or_append_left xs ys 0 i low;
     })
 
-pub lasts_both : (seen : List ℕ) (is : List ℕ → Type 0) (from : ℕ) (xs ys : List ℕ) → Lasts seen is from xs → Lasts seen is (from + length xs) ys → Lasts seen is from (xs ++ ys)
-lasts_both seen is from xs ys first later =
+pub endures_both : (seen : List ℕ) (is : List ℕ → Type 0) (from : ℕ) (xs ys : List ℕ) → Endures seen is from xs → Endures seen is (from + length xs) ys → Endures seen is from (xs ++ ys)
+endures_both seen is from xs ys first later =
     record {
       now = holds_both seen from xs ys first.now later.now;
       after_crash = λ left may. holds_both left from xs ys (first.after_crash left may) (later.after_crash left may);
@@ -133,13 +134,13 @@ ends_otherwise seen found seal at place some size differs read ends =
     differs (same_held seen at there found (mark_of seal.chain) (let e : at ≡ there = omega (arith, place, other) in e) size read holds)
 
 -- lines behind those that a file has
-pub lasts_more : (seen : List ℕ) (is : List ℕ → Type 0) (start s : Seal) (before more : List (List ℕ)) → Spans start before s
-    → Lasts seen is start.offset (bytes_of start.chain before) → Lasts seen is s.offset (bytes_of s.chain more)
-    → Lasts seen is start.offset (bytes_of start.chain (before ++ more))
-lasts_more seen is start s before more spans first later =
+pub endures_more : (seen : List ℕ) (is : List ℕ → Type 0) (start s : Seal) (before more : List (List ℕ)) → Spans start before s
+    → Endures seen is start.offset (bytes_of start.chain before) → Endures seen is s.offset (bytes_of s.chain more)
+    → Endures seen is start.offset (bytes_of start.chain (before ++ more))
+endures_more seen is start s before more spans first later =
     let place : start.offset + length (bytes_of start.chain before) ≡ s.offset = reaches start s before spans in
     let chain : s.chain ≡ (seal_after start before).chain = ap (λ (a : Seal). a.chain) spans.after in
-    let there = subst (λ n. Lasts seen is n (bytes_of (seal_after start before).chain more)) (sym place)
-    (subst (λ t. Lasts seen is s.offset (bytes_of t more)) chain later) in
-    subst (λ t. Lasts seen is start.offset t) (sym (bytes_more start before more))
-    (lasts_both seen is start.offset (bytes_of start.chain before) (bytes_of (seal_after start before).chain more) first there)
+    let there = subst (λ n. Endures seen is n (bytes_of (seal_after start before).chain more)) (sym place)
+    (subst (λ t. Endures seen is s.offset (bytes_of t more)) chain later) in
+    subst (λ t. Endures seen is start.offset t) (sym (bytes_more start before more))
+    (endures_both seen is start.offset (bytes_of start.chain before) (bytes_of (seal_after start before).chain more) first there)

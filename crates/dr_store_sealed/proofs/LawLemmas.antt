@@ -13,9 +13,9 @@ use Rattle.sqlite_disk.specs.Disk.{Holds}
 use Rattle.dr_store_sealed.specs.declared.seal.Seal.{Seal}
 use Rattle.dr_store_sealed.specs.Files.{EndsAs, HasLines, Spans}
 use Rattle.dr_store_sealed.specs.Laws.{AreOfOneText}
-use Rattle.dr_store_sealed.specs.Lines.{IsLine, bytes_of, entry_of, mark_of, next_chain}
+use Rattle.dr_store_sealed.specs.Lines.{IsOneLine, bytes_of, entry_of, mark_of, next_chain}
 use Rattle.dr_store_sealed.specs.Seals.{first_seal, full, next_seal, seal_after, turned}
-use Rattle.dr_store_sealed.proofs.FileLemmas.{holds_both, holds_right}
+use Rattle.dr_store_sealed.proofs.FileLemmas.{holds_both, holds_none, holds_right}
 use Rattle.dr_store_sealed.proofs.SealLemmas.{bytes_more, count_after, in_step, reaches, spans_more}
 
 abbrev IsPlain : ℕ → Type 0
@@ -69,7 +69,7 @@ plain_hex (b ∷ rest) =
 abbrev body_of : List ℕ → List ℕ → List ℕ
 body_of chain line = line ++ 32 ∷ encode_lower chain
 
-plain_body : (chain line : List ℕ) → IsLine line → All IsPlain (body_of chain line)
+plain_body : (chain line : List ℕ) → IsOneLine line → All IsPlain (body_of chain line)
 plain_body chain line is =
     All-append IsPlain line (32 ∷ encode_lower chain) is.one (All-cons IsPlain 32 (encode_lower chain) (omega arith) (plain_hex chain))
 
@@ -103,7 +103,7 @@ never_empty chain line rest same =
     let mark = length-append line (mark_of (next_chain chain line)) in
     omega (arith, all, mark, (let e : 0 ≡ length (entry_of chain line ++ rest) = ap (λ (t : List ℕ). length t) same in e))
 
-pub one_list : (chain : List ℕ) (lines others : List (List ℕ)) → All IsLine lines → All IsLine others → bytes_of chain lines ≡ bytes_of chain others → lines ≡ others
+pub one_list : (chain : List ℕ) (lines others : List (List ℕ)) → All IsOneLine lines → All IsOneLine others → bytes_of chain lines ≡ bytes_of chain others → lines ≡ others
 one_list chain [] [] are are' same = refl
 one_list chain [] (y ∷ ys) are are' same = absurd (never_empty chain y (bytes_of (next_chain chain y) ys) same)
 one_list chain (x ∷ xs) [] are are' same = absurd (never_empty chain x (bytes_of (next_chain chain x) xs) (sym same))
@@ -111,11 +111,11 @@ one_list chain (x ∷ xs) (y ∷ ys) are are' same =
     let cx = next_chain chain x in
     let cy = next_chain chain y in
     let parts = same_line (body_of cx x) (body_of cy y) (bytes_of cx xs) (bytes_of cy ys)
-    (plain_body cx x (All-head IsLine x xs are)) (plain_body cy y (All-head IsLine y ys are'))
+    (plain_body cx x (All-head IsOneLine x xs are)) (plain_body cy y (All-head IsOneLine y ys are'))
     (sym (entry_ends cx x (bytes_of cx xs)) ∙ same ∙ entry_ends cy y (bytes_of cy ys)) in
     let line : x ≡ y = same_body (chain ++ x) (chain ++ y) x y parts.0 in
     let rest : bytes_of cx xs ≡ bytes_of cx ys = parts.1 ∙ ap (λ t. bytes_of (next_chain chain t) ys) (sym line) in
-    cons_same x y xs ys line (one_list cx xs ys (All-tail IsLine x xs are) (All-tail IsLine y ys are') rest)
+    cons_same x y xs ys line (one_list cx xs ys (All-tail IsOneLine x xs are) (All-tail IsOneLine y ys are') rest)
 
 -- lines that lead from chains of one length to one chain
 pub one_past :
@@ -212,3 +212,10 @@ entry_size chain line =
       length-append (32 ∷ encode_lower (sha256 text)) (10 ∷ []),
       hex_size text,
     )
+
+pub no_lines : (seen : List ℕ) (start : Seal) → start.offset ≡ 0 → HasLines seen start [] start
+no_lines seen start begins =
+    record {
+      spans = record { after = refl; one_file = refl };
+      bytes = holds_none seen start.offset (omega (arith, begins));
+    }

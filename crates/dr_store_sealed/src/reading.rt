@@ -2,7 +2,7 @@
 ghost use Rattle.std.specs.Prelude.{◌≡◌, ◌+◌, ◌<◌, ◌≤◌, ◌++◌, ℕ, List, All, length, IfOk, IfSome};
 ghost use Rattle.sqlite_disk.specs.Disk.{Holds};
 ghost use Rattle.dr_store_sealed.specs.Files.{Spans};
-ghost use Rattle.dr_store_sealed.specs.Lines.{IsLine, bytes_of, entry_of};
+ghost use Rattle.dr_store_sealed.specs.Lines.{IsOneLine, bytes_of, entry_of};
 ghost use Rattle.dr_store_sealed.specs.Seals.{next_seal};
 
 use crate::entries::{END, behind_line};
@@ -22,7 +22,7 @@ fn line_in(alloc: Global, entry: &[u8], seal: &Seal) -> Result<(Text, Seal), Sea
     ensures entry { IfOk result (λ read. entry.now ≡ entry_of seal.now.chain read.0) }
     ensures seal { IfOk result (λ read. read.1 ≡ next_seal seal.now read.0) }
     ensures one_file { IfOk result (λ read. read.1.number ≡ seal.now.number) }
-    ensures line { IfOk result (λ read. IsLine read.0) }
+    ensures line { IfOk result (λ read. IsOneLine read.0) }
 {
     if seal.is_full() {
         return Err(SealFault::Broken);
@@ -54,7 +54,7 @@ pub fn lines_in(alloc: Global, piece: &[u8], from: &Seal) -> Result<(Vec<Text>, 
     ensures spans { IfOk result (λ read. Spans from.now read.0.items read.1) }
     ensures bytes { IfOk result (λ read.
         Holds piece.now 0 (bytes_of from.now.chain read.0.items)) }
-    ensures lines { IfOk result (λ read. All IsLine read.0.items) }
+    ensures lines { IfOk result (λ read. All IsOneLine read.0.items) }
 {
     let mut lines = Vec::new(alloc);
     let mut last = *from;

@@ -1,6 +1,6 @@
 use Rattle.std.proofs.Common.{rules, ◌≡◌, ◌++◌, [], ◌∷◌, List, ℕ, All, sym, subst}
 use Rattle.dr_store_sealed.specs.Files.{Spans}
-use Rattle.dr_store_sealed.specs.Lines.{IsLine, bytes_of}
+use Rattle.dr_store_sealed.specs.Lines.{IsOneLine, bytes_of}
 use Rattle.dr_store_sealed.proofs.FileLemmas.{holds_front}
 use Rattle.dr_store_sealed.proofs.SealLemmas.{line_pushed}
 use Rattle.dr_store_sealed.proofs.reading.lines_in.Goals as goal
@@ -15,7 +15,7 @@ loop-entry-preserved c =
     let later = c.in-Some.later.now in
     let before = c.loop-entry.invariant in
     let P : List (List ℕ) → Type 0 = λ ls.
-    (piece ≡ bytes_of from.chain ls ++ later) × Spans from ls next × All IsLine ls in
+    (piece ≡ bytes_of from.chain ls ++ later) × Spans from ls next × All IsOneLine ls in
     subst P (sym c.in_ok-push.ensures.items)
     (line_pushed from c.loop-entry.last next done line piece c.loop-entry.rest.now c.in-Some.entry.now later
     before.0 before.1 before.2 c.in-Some.ensures.whole
