@@ -52,6 +52,25 @@ PLACES = [
     ['address = "[2001:db8::1]:104"\n'],
 ]
 
+# What a rule excepts, in one spelling: how each of these is written, the first as the expansion has it.
+EXCEPTIONS = [
+    ['to = ["B"]\n', 'to = ["B"]\nexcept = []\n'],
+    ['except = ["CT8", "CT9"]\nto = ["B"]\n', 'to = ["B"]\nexcept = ["CT9", "CT8"]\n', 'except = ["CT9", "CT8", "CT9", "CT8"]\nto = ["B"]\n'],
+    ['except = ["", "\\"", "CT 9", "CT9", "a"]\nto = ["B"]\n', 'except = ["a", "CT9", "", "CT 9", "\\""]\nto = ["B"]\n'],
+]
+
+
+def excepting(lines):
+    """A rule of format 3 for two callers and two classes, with these lines."""
+    return f'format = 3\n{NODE.format("A")}[[node.rule]]\nfrom = ["B", "C"]\nclass = ["1.2", "1.3"]\nstation = "CT*"\n{lines}'
+
+
+def each_excepting(lines):
+    """What it stands for."""
+    rules = [f'\n[[node.rule]]\nfrom = "{it}"\nclass = "{uid}"\nmodality = "*"\nstation = "CT*"\n{lines}keep = false\n' for it in "BC" for uid in ("1.2", "1.3")]
+    return f'format = 3\n\n{NODE.format("A")}max_pdu = 16384\n{"".join(rules)}'
+
+
 # What no plan is, of a node A in format 3, with the place that is told.
 NO_PLACES = [
     ('', 'address: it is missing'), ('bind = "h:1"\n', 'address: it is missing'), ('listens = true\n', 'address: it is missing'),
@@ -176,6 +195,10 @@ def faults():
         for place in (first, *others):
             if expanded(placed(place)) != placed(first).replace('\n[[', '\n\n[[') + "max_pdu = 16384\n":
                 yield f"{place!r} expands to {expanded(placed(place))!r}"
+    for first, *others in EXCEPTIONS:
+        for lines in (first, *others):
+            if expanded(excepting(lines)) != each_excepting(first):
+                yield f"{lines!r} expands to {expanded(excepting(lines))!r}"
     for given, wanted in zip(LARGE, WITHIN):
         try:
             found = expanded(given) != ""
@@ -207,7 +230,7 @@ def compared(text, once):
     if not os.path.isfile(PROGRAM):
         print(f"expansions: {PROGRAM} isn't built: it isn't compared")
         return
-    for given in (text, once, *(f"format = 3\n{small}" for small, _ in SMALL), *LARGE, *(placed(it) for ways in PLACES for it in ways)):
+    for given in (text, once, *(f"format = 3\n{small}" for small, _ in SMALL), *LARGE, *(placed(it) for ways in PLACES for it in ways), *(excepting(it) for ways in EXCEPTIONS for it in ways)):
         with tempfile.NamedTemporaryFile("w", suffix=".toml", encoding="utf-8") as file:
             file.write(given)
             file.flush()
@@ -227,7 +250,7 @@ def main():
     found = list(faults())
     for fault in found:
         print(f"expansions: {fault}")
-    print(f"{len(SMALL) + len(LARGE) + sum(map(len, PLACES)) + 2} expansions, {len(found)} faults")
+    print(f"{len(SMALL) + len(LARGE) + sum(map(len, PLACES + EXCEPTIONS)) + 2} expansions, {len(found)} faults")
     return 1 if found else 0
 
 

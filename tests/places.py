@@ -64,6 +64,8 @@ PLACES = [
      'flow 1, station: it has to be "*" or a list of values of up to 64 characters, in format 2 also of prefixes with *, as "CT*"'),
     ('class = ["1.2.840.10008.5.1.4.1.1.2"]', 'class = []', 'L2 Field', 'flow 1, class: it has to be a list of SOP class UIDs'),
     ('to = ["ARCH"]', 'modality = "C*"', 'L2 Field', 'node 2 "GATE", rule 1, modality: it has to be "*" or a value of up to 64 characters'),
+    ('to = ["ARCH"]', 'except = ["S1"]', 'L2 Field', 'node 2 "GATE", rule 1, except: it has to be left out before format 3'),
+    ('to = ["ARCH"]', 'except = []', 'L2 Field', 'node 2 "GATE", rule 1, except: it has to be left out before format 3'),
     ('[[node]]', 'format = 4\n[[node]]', 'L2 Field', 'in front of all tables, format: it has to be the number 1, 2 or 3'),
     ('[[node]]', '"\\u001b[2J" = 2\n[[node]]', 'L2 Field', 'in front of all tables: no key "\\x1b[2J" is known here'),
 ]
@@ -76,6 +78,7 @@ def many(word, count):
 
 OVER = ': with it the plan stands for more than 262144 words, a list for more than 1024, or a word has more than 128 bytes'
 GROUP = 'is a group that nobody defines'
+STATIONS = 'it has to be a list of values of up to 64 characters, without *'
 CLASSES = 'it has to be a class or a set in quotes, or a list of them'
 UNSPELLED = ('each field is of its form, but a word has a character that isn\'t printable, a group has a group in it, '
              'or an accept row gives a transfer syntax twice')
@@ -98,6 +101,7 @@ SHORT_PLACES = [
     ('from = "CT1"', f'from = {many("CT1", 1025)}', 'L6 Limit', f'node 2 "GATE"{OVER}'),
     ('to = ["ARCH"]', f'to = {many("ARCH", 1024)}\nclass = {many("1.2", 256)}', 'L6 Limit', f'node 2 "GATE"{OVER}'),
     ('keep = true', f'keep = true\nto = ["{"N" * 129}"]', 'L6 Limit', f'node 3 "ARCH"{OVER}'),
+    ('keep = true', 'keep = true\nexcept = [' + ', '.join(f'"S{n}"' for n in range(1025)) + ']', 'L6 Limit', f'node 3 "ARCH"{OVER}'),
     ('at = "CT1"', f'at = "{"N" * 129}"', 'L6 Limit', f'flow 1{OVER}'),
     ('[[flow]]', f'[group]\nall = ["{"N" * 129}"]\n[[flow]]', 'L6 Limit', f'in front of all tables{OVER}'),
     # fields
@@ -117,6 +121,9 @@ SHORT_PLACES = [
      'node 2 "GATE", rule 1, modality: it has to be "*" or a value of up to 64 characters, or a prefix with *, as "CT*"'),
     ('modality = ["CT"]', 'modality = ["C**"]', 'L2 Field', 'flow 1, modality: it has to be "*" or a list of values of up to 64 characters and of prefixes with *, as "CT*"'),
     ('to = ["ARCH"]', 'to = "ARCH"', 'L2 Field', 'node 2 "GATE", rule 1, to: it has to be a list of names and groups'),
+    ('to = ["ARCH"]', 'except = "S1"', 'L2 Field', f'node 2 "GATE", rule 1, except: {STATIONS}'),
+    ('to = ["ARCH"]', 'except = ["S1", "S*"]', 'L2 Field', f'node 2 "GATE", rule 1, except: {STATIONS}'),
+    ('to = ["ARCH"]', 'except = ["S1", " S1"]\nto = 1', 'L2 Field', f'node 2 "GATE", rule 1, except: {STATIONS}'),
     ('to = ["ARCH"]', 'modalty = "CT"', 'L2 Field', 'node 2 "GATE", rule 1: no key "modalty" is known here'),
     ('class = ["1.2.840.10008.5.1.4.1.1.2"]', 'class = []', 'L2 Field', f'flow 1, class: {CLASSES}'),
     ('at = "CT1"', 'at = 1', 'L2 Field', 'flow 1, at: it has to be a name or a group in quotes, or a list of them'),

@@ -227,6 +227,10 @@ def compare_worked(it):
         it.verdict('its certificate as version 1', 'C2 OtherPlan', text.encode(), written_for(text.encode(), rows))
         it.verdict('its certificate as version 3', 'C2 OtherPlan', text.encode(), written_for(text.encode(), rows, 3))
         it.verdict('a version 4', 'C1 Text', text.encode(), written_for(text.encode(), rows, 4))
+    for text, rows in worked.SOUND_IN_FORMAT_3:
+        certificate = written_for(read_text(text.encode())[0], rows, 3)
+        it.compare('a sound plan with exceptions', (certificate, b'', 0), run('check', given=text.encode()))
+        it.verdict('its certificate', 'yes', text.encode(), certificate)
     core = read_text(worked.SHORT.encode())[0]
     certificate = written_for(core, worked.THREE_NODES, 3)
     for what, text in (('a sound plan of format 3', worked.SHORT.encode()), ('its expansion', core), ('with a comment', b'# so\n' + worked.SHORT.encode())):

@@ -1,4 +1,5 @@
 """Plans and certificates that are worked by hand, with what the program is to answer; for plans.py."""
+import json
 
 PLAN = '''\
 [[node]]
@@ -119,6 +120,8 @@ TEXTS = [
     ('keep = true', 'modality = "A "', 'L2 Field'),
     ('keep = true', 'modality = "A\\u007F"', 'L2 Field'),
     ('keep = true', 'modality = []', 'L2 Field'),
+    ('keep = true', 'except = ["S1"]', 'L2 Field'),
+    ('keep = true', 'except = []', 'L2 Field'),
     ('keep = true', 'from = ["CT1"]', 'L2 Field'),
     ('keep = true', 'to = []', None),
     ('keep = true', 'to = "CT1"', 'L2 Field'),
@@ -202,6 +205,8 @@ TEXTS_OF_FORMAT_2 = [
     ('keep = true', 'modality = "S*"', 'L2 Field'),
     ('from = "CT1"', 'from = "CT*"', 'L4 UnknownNode'),
     ('class = ["1.2.840.10008.5.1.4.1.1.2"]', 'class = ["1.2*"]', 'L2 Field'),
+    ('keep = true', 'station = "S*"\nexcept = ["S1"]', 'L2 Field'),
+    ('keep = true', 'keep = true\nexcept = []', 'L2 Field'),
 ]
 
 
@@ -285,6 +290,26 @@ TEXTS_OF_FORMAT_3 = [
     ('keep = true', 'modality = "C*"', None),
     ('keep = true', 'modality = "C**"', 'L2 Field'),
     ('keep = true', 'class = "1.2*"', 'L4 UnknownName'),
+    # stations that a rule excepts
+    ('keep = true', 'keep = true\nexcept = []', None),
+    ('keep = true', 'keep = true\nexcept = ["S2"]', None),
+    ('keep = true', 'keep = true\nexcept = ["S2", "", "S 3", "S2"]', None),
+    ('keep = true', 'keep = true\nstation = "S*"\nexcept = ["S2", "T1"]', None),
+    ('keep = true', 'keep = true\nstation = "S1"\nexcept = ["S1"]', None),
+    ('keep = true', 'keep = true\nexcept = "S2"', 'L2 Field'),
+    ('keep = true', 'keep = true\nexcept = "*"', 'L2 Field'),
+    ('keep = true', 'keep = true\nexcept = ["*"]', 'L2 Field'),
+    ('keep = true', 'keep = true\nexcept = ["S2*"]', 'L2 Field'),
+    ('keep = true', 'keep = true\nexcept = ["S2", " S3"]', 'L2 Field'),
+    ('keep = true', 'keep = true\nexcept = ["S2 "]', 'L2 Field'),
+    ('keep = true', 'keep = true\nexcept = [2]', 'L2 Field'),
+    ('keep = true', 'keep = true\nexcept = ["@ct"]', None),
+    ('keep = true', f'keep = true\nexcept = ["{64 * "S"}"]', None),
+    ('keep = true', f'keep = true\nexcept = ["{65 * "S"}"]', 'L2 Field'),
+    ('keep = true', f'keep = true\nexcept = {many("S2", 1025)}', None),
+    ('keep = true', f'keep = true\nexcept = {json.dumps([f"S{n}" for n in range(1024)])}', None),
+    ('keep = true', f'keep = true\nexcept = {json.dumps([f"S{n}" for n in range(1025)])}', 'L6 Limit'),
+    ('modality = ["CT"]', 'modality = ["CT"]\nexcept = ["S1"]', 'L2 Field'),
     ('keep = true', 'keep = true\ncolour = 1', 'L2 Field'),
     # the first fault in the order of the pages
     ('at = "CT1"', 'at = "@scanners"\ncolour = 1', 'L2 Field'),
@@ -352,6 +377,7 @@ WRONG_SYNTAX = changed(PLAN, (ACCEPTS, OTHER_SYNTAX))
 NOWHERE = changed(PLAN, (KEEP, ''))
 SHORT = changed('format = 3\n[group]\nscanners = ["CT1"]\n' + PLAN, (CT, CT_NAME), ('at = "CT1"', 'at = "@scanners"'))
 STATIONS = changed('format = 2\n' + PLAN, ('station = ["S1"]', 'station = ["CT*"]'))
+EXCEPTING = changed('format = 3\n' + PLAN, ('station = ["S1"]', 'station = ["CT*"]'), (TO_ARCH, 'station = "CT*"\nexcept = ["CT9"]\nto = ["ARCH"]\n'))
 
 
 def sent(*stations):
@@ -377,6 +403,11 @@ UNSOUND = [
     (sent('CT'), 'no\tDeadEnd\tKEY\tCT\tCT*\tCT1\tGATE\n'),
     # entries are taken in the order of what is printed: ! comes before *
     (changed(sent('CT1*'), ('["CT*"]', '["CT*", "CT!"]')), 'no\tDeadEnd\tKEY\tCT\tCT!\tCT1\tGATE\n'),
+    # what a rule excepts isn't sent on, be there one exception or more, in whatever order
+    (EXCEPTING, 'no\tDeadEnd\tKEY\tCT\tCT9\tCT1\tGATE\n'),
+    (changed(EXCEPTING, ('["CT9"]', '["CT9", "CT8", "CT9"]')), 'no\tDeadEnd\tKEY\tCT\tCT8\tCT1\tGATE\n'),
+    # a rule that excepts its own station holds for nothing
+    (changed(EXCEPTING, ('station = "CT*"\nexcept', 'station = "CT9"\nexcept')), 'no\tDeadEnd\tKEY\tCT\tCT*\tCT1\tGATE\n'),
     # where the last node neither accepts nor does anything, the hop is what is shown
     (changed(PLAN, ('"1.2.840.10008.1.2.1"]\n' + KEEP, '"1.2.840.10008.1.2"]\n')), 'no\tNoContext\tKEY\tCT\tS1\tCT1\tGATE\tARCH\n'),
 ]
@@ -427,6 +458,30 @@ SOUND_IN_FORMAT_2 = [
     ('format = 2\n' + PLAN, THREE_NODES),
     (sent('CT1*', 'CT*'), six_lines('CT*', 'CT1*')),
     (sent('CT', 'CT*'), six_lines('CT', 'CT*')),
+]
+
+CAUGHT = changed(EXCEPTING, ('to = ["ARCH"]\n', 'to = ["ARCH"]\n' + rule(station='"CT9"', keep='true') + '\n'))
+TWO_WAYS = '''\
+hop	CT1	GATE	1	KEY
+hop	GATE	ARCH	1	KEY
+line	-	CT1	KEY	CT	CT*	2
+line	-	CT1	KEY	CT	CT9	1
+line	CT1	GATE	KEY	CT	CT*	1
+line	CT1	GATE	KEY	CT	CT9	0
+line	GATE	ARCH	KEY	CT	CT*	0
+end
+'''
+
+# sound plans of format 3 with exceptions, and their certificates behind the digest of their expansions
+SOUND_IN_FORMAT_3 = [
+    (CAUGHT, TWO_WAYS),
+    (changed(CAUGHT, ('["CT9"]', '["CT9", "CT9"]')), TWO_WAYS),
+    # an exception takes nothing from another rule: all that hold are done
+    (changed(EXCEPTING, ('to = ["ARCH"]\n', 'to = ["ARCH"]\n' + rule(to='["ARCH"]') + '\n')), six_lines('CT*', 'CT9')),
+    # one of a station that doesn't begin so has a part of its own, to which nothing comes
+    (changed(EXCEPTING, ('["CT9"]', '["MR9"]')), THREE_NODES.replace('S1', 'CT*')),
+    # an empty list excepts nothing
+    (changed(EXCEPTING, ('["CT9"]', '[]')), THREE_NODES.replace('S1', 'CT*')),
 ]
 
 FIRST, SECOND = THREE_NODES.splitlines(True)[:2]

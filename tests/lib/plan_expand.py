@@ -74,6 +74,11 @@ def any_or(value, means):
     return ["*"] if value == "*" else means(listed(value))
 
 
+def as_set(stations):
+    """What a rule excepts, in byte order and each once."""
+    return sorted(set(stations), key=str.encode)
+
+
 def core_of(plan):
     """The plan without names, sets, groups and lists."""
     sets, groups = plan.get("set", {}), plan.get("group", {})
@@ -85,7 +90,7 @@ def core_of(plan):
             syntaxes = [SYNTAXES.get(it, it) for it in row["syntax"]]
             rows += [{"from": callers, "class": it, "syntax": syntaxes} for it in classes_of(listed(row["class"]), sets)]
         for rule in node.get("rule", []):
-            whole = {"modality": "*", "station": "*", "keep": False, **rule, "to": nodes_of(rule.get("to", []), groups)}
+            whole = {"modality": "*", "station": "*", "keep": False, **rule, "except": as_set(rule.get("except", [])), "to": nodes_of(rule.get("to", []), groups)}
             rules += [{**whole, "from": caller, "class": it} for caller in any_or(rule.get("from", "*"), lambda w: nodes_of(w, groups))
                       for it in any_or(rule.get("class", "*"), lambda w: classes_of(w, sets))]
         nodes.append({"max_pdu": 16384, **node, "accept": rows, "rule": rules})
@@ -132,7 +137,8 @@ def size_of(plan):
             size += classes_in(row["class"]) * (1 + callers + amount(row["syntax"], {}))
         for rule in node.get("rule", []):
             callers, classes = rule.get("from", "*"), rule.get("class", "*")
-            size += (1 if callers == "*" else nodes_in(callers)) * (1 if classes == "*" else classes_in(classes)) * (1 + nodes_in(rule.get("to", [])))
+            each = 1 + number(len(as_set(rule.get("except", [])))) + nodes_in(rule.get("to", []))
+            size += (1 if callers == "*" else nodes_in(callers)) * (1 if classes == "*" else classes_in(classes)) * each
     for flow in plan.get("flow", []):
         lists = classes_in(flow["class"]) + amount(flow["syntax"], {}) + values_in(flow["modality"]) + values_in(flow["station"])
         size += nodes_in(flow["at"]) * nodes_in(flow["to"]) * (1 + lists)
@@ -169,7 +175,8 @@ def text_of(core):
         place = [key for key in ("listens", "address", "bind") if node.get(key, True) is not True]
         text += table("node", node, ["name", *place, "max_pdu"])
         text += "".join(table("node.accept", row, ["from", "class", "syntax"]) for row in node["accept"])
-        text += "".join(table("node.rule", rule, ["from", "class", "modality", "station", "to", "keep"]) for rule in node["rule"])
+        for rule in node["rule"]:
+            text += table("node.rule", rule, ["from", "class", "modality", "station", *["except"] * (rule["except"] != []), "to", "keep"])
     for flow in core["flow"]:
         whole = {**flow, "modality": apart(flow["modality"]), "station": apart(flow["station"])}
         text += table("flow", whole, ["at", "to", "class", "syntax", "modality", "station"])

@@ -44,7 +44,11 @@ class Model:
 
     def literals(self, field):
         rules = {rule[field] for node in self.nodes.values() for rule in node['rule']} - {ANY}
-        return rules.union(*(it[field] for it in self.flows if it[field] != ANY))
+        return rules.union(*(it[field] for it in self.flows if it[field] != ANY), self.excepted(field))
+
+    def excepted(self, field):
+        """What rules except."""
+        return {it for node in self.nodes.values() for rule in node['rule'] for it in rule.get('except', []) if field == 'station'}
 
     # ---- what nodes do
 
@@ -60,7 +64,8 @@ class Model:
 
     def holds(self, rule, caller, cell):
         wanted = (('from', caller), ('class', cell[0]), ('modality', cell[2]), ('station', cell[3]))
-        return caller != LOCAL and all(rule[it] == ANY or self.takes_in(rule[it], value) for it, value in wanted)
+        excepted = cell[3] is not REST and cell[3] in rule.get('except', [])
+        return caller != LOCAL and not excepted and all(rule[it] == ANY or self.takes_in(rule[it], value) for it, value in wanted)
 
     def held(self, node, caller, cell):
         return [it for it in self.nodes[node]['rule'] if self.holds(it, caller, cell)]
@@ -297,6 +302,33 @@ def of_a_flow_ignored(field):
     return Wrong
 
 
+class ExceptionsIgnored(Model):
+    def holds(self, rule, caller, cell):
+        return super().holds(rule | {'except': []}, caller, cell)
+
+
+class ExceptionsByBeginning(Model):
+    """A rule excepts what begins with a station that it excepts, too."""
+
+    def holds(self, rule, caller, cell):
+        begins = any(cell[3] is not REST and cell[3].startswith(it) for it in rule.get('except', []))
+        return not begins and super().holds(rule, caller, cell)
+
+
+class ExceptionsUnnamed(Model):
+    """What rules except isn't among the plan's stations."""
+
+    def excepted(self, field):
+        return set()
+
+
+class ExceptionsOfFlows(Model):
+    """What some rule excepts doesn't enter."""
+
+    def fits(self, flow, cell):
+        return cell[3] not in self.excepted('station') and super().fits(flow, cell)
+
+
 class FirstRuleAlone(Model):
     def held(self, node, caller, cell):
         return super().held(node, caller, cell)[:1]
@@ -443,7 +475,7 @@ class PrefixesWithoutTheirStar(Model):
 
 
 WRONG = {it.__name__: it for it in (
-    FromOfARowIgnored, ClassOfARowIgnored, SyntaxOfARowIgnored, FirstRuleAlone, FirstFlowAlone, EachRuleKeeps,
+    FromOfARowIgnored, ClassOfARowIgnored, SyntaxOfARowIgnored, ExceptionsIgnored, ExceptionsByBeginning, ExceptionsUnnamed, ExceptionsOfFlows, FirstRuleAlone, FirstFlowAlone, EachRuleKeeps,
     KeepingEndsAWalk, RulesForTheLocalCaller, LiteralsPooled, EntriesReversed, RestLast, RestFirst, ExplicitFirst,
     NodesInThePlansOrder, TargetsReversed, LastOverfullHop, PairsBySyntax, IdsWithoutGaps, DeadEndFirst,
     CycleByNode, ShortestWalk, NodesCounted, EntriesAreAccepted, OnePairMore, OnePairLess, PrefixIsItself, PrefixBeforeALiteral, ShortestPrefix, VersionOne, PrefixesWithoutTheirStar,

@@ -79,9 +79,15 @@ def read_accept(row):
     return row
 
 
+def are_stations(value):
+    """A list of single stations, which may be empty."""
+    return is_list(value) and all(map(is_literal, value))
+
+
 def read_rule(rule, form):
-    need(set(rule) <= {'from', 'class', 'modality', 'station', 'to', 'keep'})
-    rule = {'from': ANY, 'class': ANY, 'modality': ANY, 'station': ANY, 'to': [], 'keep': False} | rule
+    need(set(rule) <= {'from', 'class', 'modality', 'station', 'to', 'keep', 'except'})
+    need('except' not in rule or (form == 3 and are_stations(rule['except']) and rule['except']))
+    rule = {'from': ANY, 'class': ANY, 'modality': ANY, 'station': ANY, 'except': [], 'to': [], 'keep': False} | rule
     need(all(isinstance(rule[it], str) for it in ('from', 'class', 'modality', 'station')))
     need(rule['class'] == ANY or is_class(rule['class']))
     need(all(rule[it] == ANY or is_value(it, rule[it], form) for it in PREFIXES_FROM))
@@ -146,10 +152,13 @@ def need_short(root):
         need(is_list(node.get('accept', []), dict) and is_list(node.get('rule', []), dict))
         for row in node.get('accept', []):
             need(is_words(row.get('class')))
+        rules = []
         for rule in node.get('rule', []):
             need(all(is_words(rule.get(it, ANY)) for it in ('from', 'class')))
+            need(are_stations(rule.get('except', [])))
+            rules.append({key: it for key, it in rule.items() if (key, it) != ('except', [])} | {'from': ANY, 'class': ANY})
         plain = [{**row, 'class': '1'} for row in node.get('accept', [])]
-        read_node({**node, 'accept': plain, 'rule': [{**rule, 'from': ANY, 'class': ANY} for rule in node.get('rule', [])]}, 3)
+        read_node({**node, 'accept': plain, 'rule': rules}, 3)
     for flow in flows:
         need(all(is_words(flow.get(it)) for it in ('at', 'to', 'class')))
         read_flow({**flow, 'at': 'A', 'to': 'A', 'class': ['1']}, 3)

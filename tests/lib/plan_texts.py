@@ -7,6 +7,7 @@ MODALITIES = ['CT', 'MR', '', '!', '(', '+', 'Z z']
 STATIONS = ['S1', 'S2', '', '#', '~']
 MODALITY_PREFIXES = ['C*', 'CT*', 'M*', '!*', 'Z*', '((*']
 PREFIXES = ['S*', 'S1*', 'S12*', '#*', 'S 1*', '~~*']
+EXCEPTED = ['S12', 'S1', 'S', '']
 
 
 def quoted(value):
@@ -34,12 +35,14 @@ def some(dice, of, counts):
     return [dice.choice(of) for _ in range(dice.choice(counts))] if of else []
 
 
-def random_rule(dice, names, targets, classes, modalities, stations):
+def random_rule(dice, names, targets, classes, modalities, stations, form):
     rule = {
         'from': dice.choice([ANY, ANY, dice.choice(names)]), 'class': dice.choice([ANY, ANY, dice.choice(classes)]),
         'modality': dice.choice([ANY, dice.choice(modalities)]), 'station': dice.choice([ANY, ANY, dice.choice(stations)]),
     }
     rule = {field: it for field, it in rule.items() if it != ANY or dice.random() < 0.2}
+    if form == 3 and dice.random() < 0.4:
+        rule['except'] = some(dice, [*EXCEPTED, *(it for it in stations if it[-1:] != ANY)], [1, 1, 2])
     return rule | {'to': some(dice, targets, [0, 1, 1, 2]), 'keep': dice.random() < 0.5}
 
 
@@ -68,7 +71,7 @@ def random_plan(dice):
     forwards, all_taken, nodes, flows = dice.random() < 0.7, dice.random() < 0.75, [], []
     for place, name in enumerate(names):
         targets = [it for i, it in enumerate(names) if (i > place if forwards else i != place)]
-        rules = [random_rule(dice, names, targets, classes, modalities, stations) for _ in range(dice.randrange(4))]
+        rules = [random_rule(dice, names, targets, classes, modalities, stations, form) for _ in range(dice.randrange(4))]
         rules += [{'keep': True}] if dice.random() < 0.6 else []
         nodes.append((name, random_accepts(dice, names, classes, all_taken), rules))
     for _ in range(dice.randrange(5)):
@@ -187,7 +190,7 @@ class OddTexts:
             ('from', ['"*"', *self.names], ODD_NAMES), ('class', ['"*"', '"1.2"'], ODD_CLASSES), ('modality', ['"*"', '"CT"', '""'], ODD_LITERALS),
             ('station', ['"*"', '"S"'], ODD_LITERALS), ('to', targets, [self.list_of(ODD_NAMES), self.list_of(self.names), '"A"']),
             ('keep', ['true', 'false'], ['1', '"true"']),
-        ], may_lack=True)
+        ], may_lack=True) + ('except = ["S"]\n' if self.happens(0.2) else '')
 
     def node(self, name):
         limits = [('max_pdu', ['0', '1024', '1048576'], ODD_LIMITS)] if self.dice.random() < 0.3 else []
@@ -245,6 +248,7 @@ class ShortTexts(OddTexts):
         return self.table('node.rule', [
             ('from', ['"*"', self.nodes()], ['[]', '1']), ('class', ['"*"', self.classes()], ['[]', '1']), ('modality', ['"*"', '"CT"', '"C*"'], ODD_LITERALS),
             ('station', ['"*"', '"S"', '"S*"'], ODD_LITERALS), ('to', targets, ['["@none"]', '"@one"', self.list_of(ODD_NAMES)]),
+            ('except', ['[]', '["S"]', '["S1","","S","S1"]'], ['"S"', '[1]', self.list_of(ODD_LITERALS)]),
             ('keep', ['true', 'false'], ['1', '"true"']),
         ], may_lack=True)
 

@@ -13,7 +13,7 @@ use Rattle.dr_route.specs.Routes.{local}
 use Rattle.dr_route.specs.declared.key.Key.{Key}
 use Rattle.dr_plan_model.specs.Networks.{Network}
 use Rattle.dr_plan_model.specs.Walks.{Flows, GoesOver, IsDestination, IsEntry, IsReached, IsWalk, Keeps, Sends, last_place}
-use Rattle.dr_plan_model.proofs.Gathered.{only_one, Contains-here, Contains-there}
+use Rattle.dr_plan_model.proofs.Gathered.{only_one, Contains-here, Contains-there, nothing_in_nil}
 use Rattle.dr_plan_model.proofs.WalksAlike.{no_rule_keeps}
 use Rattle.dr_plan_sound.specs.Certificates.{AreHopPairs, HasHop, pair_cmp}
 use Rattle.dr_plan_sound.specs.Samples.{scanner, archive, keep_all, the_scanner, the_archive, the_flow, two_nodes}
@@ -122,7 +122,7 @@ module _ (modality station : Text) where
       ∙ (ap (λ (c : Text). mk hop.from hop.to hop.id c Explicit) (sym is.1) ∙ ap (λ (s : Syntax). mk hop.from hop.to hop.id hop.class s) (sym is.2))))
 
   kept : Keeps plan archive scanner key
-  kept = (the_archive (keep_all ∷ []), (Contains-there the_scanner (the_archive (keep_all ∷ []) ∷ []) (the_archive (keep_all ∷ [])) (Contains-here (the_archive (keep_all ∷ [])) []), refl), inl ((scanner_is_somebody, tt, tt, tt, tt), refl))
+  kept = (the_archive (keep_all ∷ []), (Contains-there the_scanner (the_archive (keep_all ∷ []) ∷ []) (the_archive (keep_all ∷ [])) (Contains-here (the_archive (keep_all ∷ [])) []), refl), inl ((scanner_is_somebody, tt, tt, tt, (tt, λ among. nothing_in_nil station among)), refl))
 
   is_kept : IsDestination plan local scanner key archive
   is_kept = (archive ∷ [], (sent, tt), refl, kept)

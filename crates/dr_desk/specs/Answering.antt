@@ -1,10 +1,10 @@
 -- What a call on a desk that threads share came to. Another thread may call before it and after it:
 -- so its answer is said of two states of the ledger, one before the ledger's own call and one
 -- after.
-use Rattle.std.specs.Prelude.{◌≡◌, ◌⊎◌, ◌∷◌, ◌++◌, [], ◌-◌, ◌^◌, ℕ, List, length, Result, Ok, Err}
+use Rattle.std.specs.Prelude.{◌≡◌, ◌≤◌, ◌⊎◌, ◌∷◌, ◌++◌, [], ℕ, List, length, Result, Ok, Err}
 use Rattle.dr_ledger.specs.declared.fault.LedgerFault.{LedgerFault}
 use Rattle.dr_ledger.specs.declared.fault.LedgerFault.TheVariants as fault
-use Rattle.dr_ledger.specs.Books.{Book, Line}
+use Rattle.dr_ledger.specs.Books.{Book, Line, most_lines}
 use Rattle.dr_ledger.specs.Replies.{Counts}
 use Rattle.dr_site.specs.Parts.{Part}
 use Rattle.dr_desk.specs.declared.receipt.Call.{Call}
@@ -21,13 +21,14 @@ module _ {L : Type 0} (site_of : L → Part) (book : L → Book) (stands : L →
   IsShared ledger = (site_of ledger ≡ own) × (stands ledger → BeginWith first (book ledger).lines)
 
   -- the ledger's call was accepted with that answer, and its line is the last one, which has that
-  -- number
+  -- number; it isn't beyond those with which a journal is full
   abbrev pub Accepts : {A : Type 0} (Says : Book → Result A LedgerFault → Book → Type 0)
       → A → ℕ → L → L → Type 0
   Accepts Says answer number old new =
       IsShared old
       × (stands new
       → Says (book old) (Ok answer) (book new) × (number ≡ length (book new).lines))
+      × (number ≤ most_lines)
 
   -- the ledger's call was refused so
   abbrev pub SaysNo : {A : Type 0} (Says : Book → Result A LedgerFault → Book → Type 0)
@@ -36,11 +37,11 @@ module _ {L : Type 0} (site_of : L → Part) (book : L → Book) (stands : L →
       (stands new → Says (book old) (Err why) (book new))
       × Counts {A = A} (Err why) (failed old) (failed new)
 
-  -- no line more can be numbered, which counts as a failed store: the ledger isn't called
+  -- its journal is full, which counts as a failed store: the ledger isn't called
   abbrev pub IsFull : LedgerFault → L → L → Type 0
   IsFull why old new =
       (why ≡ fault.Store) × (new ≡ old)
-      × (stands old → length (book old).lines ≡ 2 ^ 64 - 1)
+      × (stands old → most_lines ≤ length (book old).lines)
 
   -- the ledger refused the call, or it wasn't called, since its journal is full
   abbrev pub Refuses : {A : Type 0} (Says : Book → Result A LedgerFault → Book → Type 0)

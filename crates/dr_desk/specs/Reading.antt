@@ -5,7 +5,7 @@ use Rattle.std.specs.FinMap as map
 use Rattle.std.specs.FinSet as set
 use Rattle.dr_ledger.specs.declared.fault.LedgerFault.{LedgerFault}
 use Rattle.dr_ledger.specs.Bodies.{Bodies}
-use Rattle.dr_ledger.specs.Books.{Book, Line}
+use Rattle.dr_ledger.specs.Books.{Book, Line, most_lines}
 use Rattle.dr_ledger.specs.Pairs.{pair_cmp}
 use Rattle.dr_ledger.specs.Replies.{AreKept, Counts, Lists}
 use Rattle.dr_site.specs.Parts.{Part}
@@ -48,7 +48,7 @@ module _ {L : Type 0} (site_of : L → Part) (book : L → Book) (bodies : L →
   abbrev pub HasFailed : ℕ → ℕ → L → Type 0
   HasFailed full count ledger =
       (count ≡ min (2 ^ 64 - 1) (failed ledger + full))
-      × (1 ≤ full → stands ledger → length (book ledger).lines ≡ 2 ^ 64 - 1)
+      × (1 ≤ full → stands ledger → most_lines ≤ length (book ledger).lines)
 
   -- the same, at some moment
   abbrev pub Failing : ℕ → Type 0

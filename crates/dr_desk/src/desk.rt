@@ -160,6 +160,8 @@ impl<L: Moments> Moments for Desk<L> {
 }
 
 impl<L: Views> Views for Desk<L> {
+    ghost numbered = { λ d. L.numbered d.ledger };
+
     fn count_arrivals(&mut self) -> Result<u64, LedgerFault> {
         self.ledger.count_arrivals()
     }

@@ -5,6 +5,7 @@ ghost use Rattle.std.specs.FinMap as map;
 ghost use Rattle.std.proofs.Props.{props};
 ghost use Rattle.dr_ledger.specs.Adopting.{Unfits};
 ghost use Rattle.dr_ledger.specs.Bodies.{NextsWith};
+ghost use Rattle.dr_ledger.specs.Books.{most_lines};
 ghost use Rattle.dr_ledger.specs.Items.{instance_of};
 ghost use Rattle.dr_ledger.specs.Histories.{IsJournalled};
 ghost use Rattle.dr_ledger.specs.Pairs.{pair_cmp};
@@ -23,7 +24,9 @@ use crate::pass::{Made, Pass, TooManyPasses};
 use crate::sharing::Sharing;
 use dr_base::{Seq, Text};
 use dr_cert::Sealed;
-use dr_ledger::{Arrived, Entry, Item, Job, Ledger, LedgerFault, LetsGo, Outcome, Progress};
+use dr_ledger::{
+    Arrived, Entry, Item, Job, Ledger, LedgerFault, LetsGo, MOST_LINES, Outcome, Progress,
+};
 use std::alloc::Global;
 use std::sync::ledger::{Book, Share};
 
@@ -46,7 +49,7 @@ pub(crate) struct HeldDesk<L: Ledger, B: Sharing> {
     pub ghost parts: { rest.parts + passes ≡ B.all },
     pub ghost idle: { rest.amount ≡ 0 },
     pub ghost all_is: { B.all ≡ 65536 },
-    pub ghost none_left: { 1 ≤ full → number ≡ 2 ^ 64 - 1 },
+    pub ghost none_left: { 1 ≤ full → most_lines ≤ number },
     pub ghost total: { length kept + tally.total ≡ number },
     pub ghost of: { L.site desk.ledger ≡ B.site } by { Prim.hlevel props },
     pub ghost history: { L.stands desk.ledger
@@ -81,9 +84,9 @@ fn holdings_of<L: Ledger>(ledger: &mut L, lines: u64) -> Result<Holdings, Ledger
 }
 
 impl<L: Ledger, B: Sharing> HeldDesk<L, B> {
-    /// No line more can be numbered: that counts as a failed store.
+    /// The journal is full: that counts as a failed store.
     fn refuse(&mut self) -> LedgerFault
-        requires { self.old.number ≡ 2 ^ 64 - 1 }
+        requires { most_lines ≤ self.old.number }
         ensures store { result ≡ LedgerFault.Store }
         ensures desk { self.new.desk ≡ self.old.desk }
     {
@@ -109,7 +112,7 @@ impl<L: Ledger, B: Sharing> HeldDesk<L, B> {
             (Arrives (site_routing B.site) caller.now (instance_of item))
             why self.old.desk.ledger self.new.desk.ledger) }
     {
-        if self.number == u64::MAX {
+        if self.number >= MOST_LINES {
             return Err(self.refuse());
         }
         let HeldDesk {
@@ -143,7 +146,7 @@ impl<L: Ledger, B: Sharing> HeldDesk<L, B> {
             (Settles uid.now dest.now outcome now)
             why self.old.desk.ledger self.new.desk.ledger) }
     {
-        if self.number == u64::MAX {
+        if self.number >= MOST_LINES {
             return Err(self.refuse());
         }
         let HeldDesk {
@@ -174,7 +177,7 @@ impl<L: Ledger, B: Sharing> HeldDesk<L, B> {
             (Requeues uid.now dest.now)
             why self.old.desk.ledger self.new.desk.ledger) }
     {
-        if self.number == u64::MAX {
+        if self.number >= MOST_LINES {
             return Err(self.refuse());
         }
         let HeldDesk {
@@ -393,7 +396,7 @@ impl<L: LetsGo, B: Sharing> HeldDesk<L, B> {
             (Drops uid.now dest.now now)
             why self.old.desk.ledger self.new.desk.ledger) }
     {
-        if self.number == u64::MAX {
+        if self.number >= MOST_LINES {
             return Err(self.refuse());
         }
         let HeldDesk {
@@ -418,7 +421,7 @@ impl<L: LetsGo, B: Sharing> HeldDesk<L, B> {
             (Forgets uid.now)
             why self.old.desk.ledger self.new.desk.ledger) }
     {
-        if self.number == u64::MAX {
+        if self.number >= MOST_LINES {
             return Err(self.refuse());
         }
         let HeldDesk {

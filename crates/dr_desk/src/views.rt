@@ -1,7 +1,9 @@
 //! What a shared desk shows without a list of all that its ledger has.
-ghost use Rattle.std.specs.Prelude.{◌≡◌, IfOk};
+ghost use Rattle.std.specs.Prelude.{◌≡◌, IfOk, map as mapped};
 ghost use Rattle.std.specs.FinMap as map;
 ghost use Rattle.dr_ledger.specs.Replies.{Reads};
+ghost use Rattle.dr_ledger_history.specs.Lines.{line_of};
+ghost use Rattle.dr_ledger_views.specs.Numbers.{AreBehind};
 ghost use Rattle.dr_ledger_views.specs.Views.{AreCallers, IsLeast, IsTally, dues, page_of};
 ghost use Rattle.dr_ledger_views.specs.Views.{rows_of};
 ghost use Rattle.dr_desk.specs.Reading.{Answered, AreBookTotals, Failing, HasFailed, Reading};
@@ -99,7 +101,8 @@ impl<L: Views, B: Sharing> HeldDesk<L, B> {
     /// The ledger's `lines_behind`.
     fn lines_behind(&mut self, after: u64, limit: u32) -> Result<Seq<JournalLine>, LedgerFault>
         ensures { Answered L.site L.book L.bodies L.stands L.failed B.site B.first
-            (λ l answer. Reads answer (λ lines. Unit {0}))
+            (λ l answer. Reads answer (λ lines.
+            AreBehind after limit (L.numbered l) (mapped line_of lines)))
             result self.old.desk.ledger self.new.desk.ledger }
     {
         self.desk.lines_behind(after, limit)
@@ -192,7 +195,8 @@ impl<L: Views, B: Sharing> SharedDesk<L, B> {
         limit: u32,
     ) -> Result<Seq<JournalLine>, LedgerFault>
         ensures { Reading L.site L.book L.bodies L.stands L.failed B.site B.first
-            (λ l answer. Reads answer (λ lines. Unit {0})) result }
+            (λ l answer. Reads answer (λ lines.
+            AreBehind after limit (L.numbered l) (mapped line_of lines))) result }
     {
         self.held.lock(rt).lines_behind(after, limit)
     }

@@ -1,5 +1,5 @@
 -- What holds of a ledger whose store never fails, whatever it answers.
-use Rattle.std.proofs.Common.{false, Result, Ok, Err, refl, subst, arith}
+use Rattle.std.proofs.Common.{false, Result, Ok, Err, inr, refl, subst, arith}
 use Rattle.dr_ledger.specs.declared.fault.LedgerFault.{LedgerFault}
 use Rattle.dr_ledger.specs.declared.fault.LedgerFault.TheVariants as fault
 use Rattle.dr_base.specs.Texts.{Text}
@@ -11,7 +11,7 @@ use Rattle.dr_ledger.specs.Replies.{Admits, Arrives, Counts, PremiseLasts, Lasts
 use Rattle.dr_ledger_memory.specs.Sound.{NeverFails, ShowsOrFails}
 
 pub counts : {A : Type 0} (r : Result A LedgerFault) → NeverFails r → Counts r 0 0
-counts {A = A} r never = record { never_falls = omega arith; has_cause = λ e. absurd (let P : Result A LedgerFault → Type 0 = λ x. NeverFails x in subst P e never) }
+counts {A = A} r never = record { never_falls = omega arith; no_other = inr refl; has_cause = λ e. absurd (let P : Result A LedgerFault → Type 0 = λ x. NeverFails x in subst P e never) }
 
 pub arms : {A : Type 0} (Would : Type 0) (r : Result A LedgerFault) → NeverFails r → Arms Would false r false
 arms Would (Ok value) n = (refl, refl)
@@ -46,16 +46,16 @@ reads (Err fault.NotWaiting) Is h = absurd h
 reads (Err fault.NotHeld) Is h = absurd h
 reads (Err fault.NotOver) Is h = absurd h
 
--- whatever it shows, it may be read
-pub reads_any : {A : Type 0} (r : Result A LedgerFault) (Is : A → Type 0) → ShowsOrFails r Is → Reads r (λ value. Unit {0})
-reads_any (Ok value) Is h = tt
-reads_any (Err fault.Memory) Is h = tt
-reads_any (Err fault.Store) Is h = absurd h
-reads_any (Err fault.NoLine) Is h = absurd h
-reads_any (Err fault.Conflict) Is h = absurd h
-reads_any (Err fault.NotWaiting) Is h = absurd h
-reads_any (Err fault.NotHeld) Is h = absurd h
-reads_any (Err fault.NotOver) Is h = absurd h
+-- what it shows says something else
+pub reads_as : {A : Type 0} (r : Result A LedgerFault) (Is Says : A → Type 0) → ((value : A) → Is value → Says value) → ShowsOrFails r Is → Reads r Says
+reads_as (Ok value) Is Says f h = f value h
+reads_as (Err fault.Memory) Is Says f h = tt
+reads_as (Err fault.Store) Is Says f h = absurd h
+reads_as (Err fault.NoLine) Is Says f h = absurd h
+reads_as (Err fault.Conflict) Is Says f h = absurd h
+reads_as (Err fault.NotWaiting) Is Says f h = absurd h
+reads_as (Err fault.NotHeld) Is Says f h = absurd h
+reads_as (Err fault.NotOver) Is Says f h = absurd h
 
 pub shown_never : {A : Type 0} (r : Result A LedgerFault) (Is : A → Type 0) → ShowsOrFails r Is → NeverFails r
 shown_never (Ok value) Is h = tt

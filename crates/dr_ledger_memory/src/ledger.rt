@@ -1,5 +1,6 @@
 //! The ledger of one node in memory.
-ghost use Rattle.std.specs.Prelude.{◌≡◌, ◌↔◌, ◌≤◌, ◌^◌, IsTrue, IfOk, OnOk, ◌++◌, None, Ok, Some};
+ghost use Rattle.std.specs.Prelude.{◌≡◌, ◌↔◌, ◌≤◌, ◌-◌, ◌^◌, IsTrue, IfOk, OnOk, ◌++◌, None, Ok};
+ghost use Rattle.std.specs.Prelude.{Some};
 ghost use Rattle.std.specs.Prelude.{T, drop, false, map as mapped, option_copied, take, true};
 ghost use Rattle.std.specs.BTreeMap.{IsOrdered};
 ghost use Rattle.std.specs.FinMap as map;
@@ -17,6 +18,7 @@ ghost use Rattle.dr_ledger.specs.Replies.{IsAdmitted, IsOver};
 ghost use Rattle.dr_ledger.specs.Replies.{Lists, Requeues, Settles, entry_of};
 ghost use Rattle.dr_ledger.specs.Pairs.{pair_cmp};
 ghost use Rattle.dr_ledger.specs.SiteRoutes.{site_routing};
+ghost use Rattle.dr_ledger_views.specs.Numbers.{last_of};
 ghost use Rattle.dr_ledger_memory.specs.Changes.{at};
 ghost use Rattle.dr_ledger_memory.specs.Contents.{content, data_sets, own_rows};
 ghost use Rattle.dr_ledger_memory.specs.Entries.{rows_in};
@@ -40,7 +42,7 @@ use dr_ledger_views::listing::{
     callers_of_all, count_all_arrivals, count_all_kept, count_all_rows, first_of_all, own_of_all,
     page_of_all,
 };
-use dr_ledger_views::{Moments, Origin, Stage, Views};
+use dr_ledger_views::{Moments, Origin, Stage, Views, last_behind};
 use dr_route::Key;
 use dr_site::Site;
 use std::alloc::{AllocError, Global};
@@ -460,10 +462,11 @@ impl MemoryLedger {
     /// A page of the journal: the lines behind that number, so many at most.
     fn some_lines(&self, after: u64, limit: u32) -> Result<Seq<JournalLine>, LedgerFault>
         ensures { ShowsOrFails result (λ page.
-            page ≡ take limit (drop after self.now.parts.notes.items)) }
+            page ≡ take (last_of after limit - after) (drop after self.now.parts.notes.items)) }
     {
         let notes = self.parts.notes.as_slice();
-        let page = copy_page(self.alloc, notes, after as usize, limit as usize)?;
+        let count = last_behind(after, limit).saturating_sub(after);
+        let page = copy_page(self.alloc, notes, after as usize, count as usize)?;
         Ok(page)
     }
 
@@ -716,6 +719,11 @@ impl Moments for MemoryLedger {
 
 /// Each of these answers is read off a list of all that there is.
 impl Views for MemoryLedger {
+    ghost use Rattle.dr_ledger_views.specs.Numbers.{counted};
+    ghost use Rattle.dr_ledger_memory.specs.Contents.{content};
+
+    ghost numbered = { λ l. counted 0 (content l.parts).lines };
+
     fn count_arrivals(&mut self) -> Result<u64, LedgerFault> {
         count_all_arrivals(self)
     }

@@ -245,6 +245,8 @@ impl<'a, L: Moments, R: Clock> Moments for Timed<'a, L, R> {
 }
 
 impl<'a, L: Views, R: Clock> Views for Timed<'a, L, R> {
+    ghost numbered = { λ t. L.numbered t.ledger };
+
     fn count_arrivals(&mut self) -> Result<u64, LedgerFault> {
         let began = self.begin();
         let answer = self.ledger.count_arrivals();

@@ -4,6 +4,7 @@ mod Figures
 mod Least
 mod Pages
 mod Paged
+pub mod Numbered
 pub mod Ordered
 pub mod Pairs
 pub mod Searching

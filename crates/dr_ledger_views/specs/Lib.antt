@@ -1,4 +1,5 @@
 pub mod Earlier
 pub mod Laws
+pub mod Numbers
 pub mod Tables
 pub mod Views

@@ -2,9 +2,9 @@
 //! row is due, rows and lines of the journal in pages, who brought an instance, and where it is
 //! from.
 //!
-//! What is shown of the book is said in `specs/Views.antt`. The trait `Views` stands over
-//! `Moments`, and that over `LetsGo`. In a list whose keys rise, what is of a key is found by a
-//! search (`table`).
+//! What is shown of the book is said in `specs/Views.antt`, and of its lines by their numbers in
+//! `specs/Numbers.antt`. The trait `Views` stands over `Moments`, and that over `LetsGo`. In a list
+//! whose keys rise, what is of a key is found by a search (`table`).
 #![tactic(auto)]
 
 pub mod laws;
@@ -17,4 +17,4 @@ mod views;
 
 pub use moments::{Moments, Origin};
 pub use stage::{HopTally, Stage};
-pub use views::{Views, tally};
+pub use views::{Views, last_behind, tally};

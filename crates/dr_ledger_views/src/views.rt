@@ -1,8 +1,11 @@
 //! What is asked of a ledger without a list of all that it has.
-ghost use Rattle.std.specs.Prelude.{◌≡◌};
+ghost use Rattle.std.specs.Prelude.{◌≡◌, ℕ, List, map as mapped};
 ghost use Rattle.std.specs.FinMap as map;
 ghost use Rattle.std.specs.FinSet as set;
 ghost use Rattle.dr_ledger.specs.Replies.{Counts, LastsThrough, Reads};
+ghost use Rattle.dr_ledger.specs.Books.{Line};
+ghost use Rattle.dr_ledger_history.specs.Lines.{line_of};
+ghost use Rattle.dr_ledger_views.specs.Numbers.{AreBehind, HaveNumbers, last_of};
 ghost use Rattle.dr_ledger_views.specs.Views.{AreCallers, IsLeast, IsTally, dues, how_many};
 ghost use Rattle.dr_ledger_views.specs.Views.{page_of, rows_of};
 ghost use Rattle.std.specs.Prelude.{Some};
@@ -16,6 +19,9 @@ use dr_ledger_history::JournalLine;
 /// A ledger that answers what is asked without a list of all that it has. Each of these calls only
 /// reads, as those of `Ledger` do: Store and Memory.
 pub trait Views: Moments {
+    // The lines of the journal with their numbers.
+    ghost numbered: { Self → List (ℕ × Line) };
+
     /// How many arrivals it notes: callers with the uids that they brought since the last adoption.
     fn count_arrivals(&mut self) -> Result<u64, LedgerFault>
         ensures reply { Self.stands self.new
@@ -121,11 +127,14 @@ pub trait Views: Moments {
         ensures lasts { LastsThrough Self.trusts Self.stands self.old result self.new }
         ensures site { Self.site self.new ≡ Self.site self.old };
 
-    /// The lines of the journal behind that number, in order, each with the instance that it is of:
-    /// so many at most. Lines are numbered from 1 on. Which ones they are isn't said here, but
-    /// tested.
+    /// The lines of the journal whose numbers lie behind that one, in order, each with the instance
+    /// that it is of: so many at most. Their numbers follow it and one another. Where a number is
+    /// missing among them, it is a fault of the store: Store.
     fn lines_behind(&mut self, after: u64, limit: u32) -> Result<Seq<JournalLine>, LedgerFault>
-        ensures reply { Self.stands self.new → Reads result (λ lines. Unit {0}) }
+        ensures reply { Self.stands self.new
+            → Reads result (λ lines.
+            AreBehind after limit (Self.numbered self.old) (mapped line_of lines)) }
+        ensures numbered { HaveNumbers (Self.book self.old).lines (Self.numbered self.old) }
         ensures same { Self.stands self.new
             → (Self.book self.new ≡ Self.book self.old)
             × (Self.bodies self.new ≡ Self.bodies self.old) }
@@ -134,6 +143,13 @@ pub trait Views: Moments {
         ensures stood { Self.stands self.new → Self.stands self.old }
         ensures lasts { LastsThrough Self.trusts Self.stands self.old result self.new }
         ensures site { Self.site self.new ≡ Self.site self.old };
+}
+
+/// The last of so many numbers behind that one. No line has a number of 2^63 or above.
+pub fn last_behind(after: u64, limit: u32) -> u64
+    ensures { result ≡ last_of after limit }
+{
+    after.saturating_add(u64::from(limit)).min(i64::MAX as u64)
 }
 
 /// How many rows to the destination are at which stage, and since when the first that waits is due.

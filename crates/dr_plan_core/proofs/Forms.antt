@@ -21,7 +21,7 @@ use Rattle.dr_plan_text.specs.declared.words.AcceptText.{AcceptText}
 use Rattle.dr_plan_text.specs.declared.words.NodeText.{NodeText}
 use Rattle.dr_plan_text.specs.declared.words.FlowText.{FlowText}
 use Rattle.dr_plan_text.specs.declared.words.PlanText.{PlanText}
-use Rattle.dr_plan_text.specs.Fields.{SaysFormed, SaysSome, SaysPattern, SaysNamed, SaysField, SaysValues, SaysTable, SaysTextsOnce, ListsValues, IsListOf, IsSomeOf, Given, GivenOr}
+use Rattle.dr_plan_text.specs.Fields.{SaysFormed, SaysSome, SaysPattern, SaysNamed, SaysField, SaysExceptions, SaysValues, SaysTable, SaysTextsOnce, ListsValues, IsListOf, IsSomeOf, Given, GivenOr}
 use Rattle.dr_plan_text.specs.Tables.{IsAcceptTable, IsRuleTable, IsNodeTable, IsFlowTable, IsRoot}
 
 pub record RowForm (row : AcceptText) : Type 0 where
@@ -33,6 +33,7 @@ pub record RuleForm (rule : Rule) : Type 0 where
   pub class : HasForm IsClass rule.class
   pub modality : HasFieldForm rule.modality
   pub station : HasFieldForm rule.station
+  pub except : All IsLiteral rule.except
 
 pub record NodeForm (node : NodeText) : Type 0 where
   pub addresses : HasAddresses node.listens
@@ -104,6 +105,9 @@ values_form d (values.Listed own) h =
     let each = list_form SaysNamed HasFieldForm named_form d h.0 h.1 in
     (subst (λ (texts : List Text). All IsLiteral texts) (sym h.2) (literals_form h.0 each), subst (λ (texts : List Text). All IsPrefix texts) (sym h.3) (prefixes_form h.0 each))
 
+exceptions_form : SaysFormedAs SaysExceptions (All IsLiteral)
+exceptions_form d stations h = list_form (SaysFormed IsLiteral) IsLiteral (λ d station h. h.1) d stations h.0
+
 row_form : SaysFormedAs (SaysTable IsAcceptTable) RowForm
 row_form d row h = record {
   class = given (SaysFormed IsClass) IsClass (λ d x h. h.1) _ row.class h.2.class;
@@ -116,6 +120,7 @@ rule_form d rule h = record {
   class = given_or Any (SaysPattern (SaysFormed IsClass)) (HasForm IsClass) tt (pattern_form IsClass) _ rule.class h.2.class;
   modality = given_or field.Any SaysField HasFieldForm tt field_form _ rule.modality h.2.modality;
   station = given_or field.Any SaysField HasFieldForm tt field_form _ rule.station h.2.station;
+  except = given_or [] SaysExceptions (All IsLiteral) (All-nil IsLiteral) exceptions_form _ rule.except h.2.except;
 }
 
 -- the address to which a node binds is one, where it is given

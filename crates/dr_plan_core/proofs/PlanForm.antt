@@ -76,6 +76,7 @@ module _ (format : Format) (nodes : List Node) (flows : List Flow) where
     class = form.class;
     modality = form.modality;
     station = form.station;
+    except = form.except;
     to = λ k d h. (known (get_or r.to k d) (names.1 k d h), apart k d h);
   }
 

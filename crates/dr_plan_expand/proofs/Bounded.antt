@@ -173,7 +173,7 @@ module _ (l : Lookups) where
       let long : length rules ≡ length y.froms * length y.classes =
       ap length y.are ∙ flat_long (λ from. map (rule_of rule y.to from) y.classes) (length y.classes) (λ from. length-map y.classes (rule_of rule y.to from)) y.froms in
       let less = volume (length y.froms) (length y.classes) (any_size (word_nodes l.groups) rule.from) (any_size (word_classes l.usual l.sets) rule.classes)
-      (1 + words_size (word_nodes l.groups) rule.to) (omega arith)
+      (1 + (list_amount (length rule.except) + words_size (word_nodes l.groups) rule.to)) (omega arith)
       (patterns_within (YieldsNodes l.groups) (word_nodes l.groups) (nodes_within l.groups) rule.from y.froms y.each_caller)
       (patterns_within (YieldsClasses l.classes l.usual l.sets) (word_classes l.usual l.sets) (classes_within l.classes l.usual l.sets) rule.classes y.classes y.each_class) le in
       omega arith

@@ -7,6 +7,7 @@ pub mod Naming
 pub mod Defining
 pub mod Saying
 pub mod Grown
+pub mod OneSet
 pub mod ShortOne
 pub mod Expanded
 pub mod OneExpansion

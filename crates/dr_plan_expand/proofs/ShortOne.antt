@@ -20,7 +20,7 @@ use Rattle.dr_plan_text.specs.Fields.{SaysText, SaysFormed, SaysNumber, SaysFlag
 use Rattle.dr_plan_text.proofs.OneAnswer.{SaysOne, SaysText-one, SaysFormed-one, IsListOf-one, IsSomeOf-one, Given-one}
 use Rattle.dr_plan_text.proofs.OfValues.{SaysField-one, SaysValues-one}
 use Rattle.dr_plan_expand.specs.Words.{IsPlainWord, YieldsClasses, YieldsNodes, YieldsSyntax}
-use Rattle.dr_plan_expand.specs.Fields.{SaysWords, SaysAnyWords, AreDefinitions}
+use Rattle.dr_plan_expand.specs.Fields.{SaysWords, SaysAnyWords, SaysStations, AreDefinitions}
 use Rattle.dr_plan_expand.specs.Tables.{IsShortRow, IsShortRule, IsShortNode, IsShortFlow, IsShortPlan}
 use Rattle.dr_plan_expand.specs.Meanings.{Lookups, IsCallers, ArePatterns, YieldsRows, YieldsRules, YieldsNode, YieldsFlows, Means, lookups_of, row_of, rule_of, flow_of}
 use Rattle.dr_plan_expand.specs.Spelling.{plan_text}
@@ -35,6 +35,7 @@ use Rattle.dr_plan_expand.specs.declared.short.ShortFlow.{ShortFlow}
 use Rattle.dr_plan_expand.specs.declared.short.ShortPlan.{ShortPlan}
 use Rattle.dr_plan_expand.proofs.Yielded.{yields_one}
 use Rattle.dr_plan_expand.proofs.OneMeaning.{classes_one, nodes_one, syntax_one}
+use Rattle.dr_plan_expand.proofs.OneSet.{SaysStations-one}
 use Rattle.dr_plan_expand.proofs.Defining.{definition_one}
 
 SaysNumber-one : SaysOne SaysNumber
@@ -104,9 +105,10 @@ rule_one fields x y a b =
     let classes = GivenOr-one any.Any SaysAnyWords SaysAnyWords-one _ x.classes y.classes a.class b.class in
     let modality = GivenOr-one field.Any SaysField SaysField-one _ x.modality y.modality a.modality b.modality in
     let station = GivenOr-one field.Any SaysField SaysField-one _ x.station y.station a.station b.station in
+    let except = GivenOr-one [] SaysStations SaysStations-one _ x.except y.except a.except b.except in
     let to = GivenOr-one [] (IsListOf SaysText) (IsListOf-one SaysText SaysText-one) _ x.to y.to a.to b.to in
     let keep = GivenOr-one _ SaysFlag SaysFlag-one _ x.keep y.keep a.keep b.keep in
-    λ i. record { from = from i; classes = classes i; modality = modality i; station = station i; to = to i; keep = keep i }
+    λ i. record { from = from i; classes = classes i; modality = modality i; station = station i; except = except i; to = to i; keep = keep i }
 
 node_one : (fields : Members) (x y : ShortNode) → IsShortNode fields x → IsShortNode fields y → x ≡ y
 node_one fields x y a b =

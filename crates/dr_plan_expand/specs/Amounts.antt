@@ -83,12 +83,12 @@ row_size l row =
     words_size (word_classes l.usual l.sets) row.classes
     * (1 + (callers_size l.groups row.from + words_size (word_nodes []) row.syntaxes))
 
--- a rule: one for each caller and class, and each with its targets
+-- a rule: one for each caller and class, and each with its exceptions and its targets
 abbrev pub rule_size : Lookups → ShortRule → ℕ
 rule_size l rule =
     any_size (word_nodes l.groups) rule.from
     * any_size (word_classes l.usual l.sets) rule.classes
-    * (1 + words_size (word_nodes l.groups) rule.to)
+    * (1 + (list_amount (length rule.except) + words_size (word_nodes l.groups) rule.to))
 
 -- a node, with its rows and rules
 abbrev pub node_size : Lookups → ShortNode → ℕ

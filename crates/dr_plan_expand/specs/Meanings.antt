@@ -65,6 +65,7 @@ rule_of rule to from class = record {
   class = class;
   modality = rule.modality;
   station = rule.station;
+  except = rule.except;
   to = to;
   keep = rule.keep;
 }

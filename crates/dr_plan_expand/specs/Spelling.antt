@@ -69,6 +69,11 @@ row_text row =
     ++ codes "\nclass = " ++ in_quotes row.class
     ++ codes "\nsyntax = " ++ list_text row.syntaxes ++ codes "\n"
 
+-- the stations that a rule excepts: nothing where it excepts none
+abbrev pub except_text : List Text → Text
+except_text [] = []
+except_text (station ∷ stations) = codes "\nexcept = " ++ list_text (station ∷ stations)
+
 -- a rule
 abbrev pub rule_text : Rule → Text
 rule_text rule =
@@ -76,6 +81,7 @@ rule_text rule =
     ++ codes "\nclass = " ++ pattern_text rule.class
     ++ codes "\nmodality = " ++ field_text rule.modality
     ++ codes "\nstation = " ++ field_text rule.station
+    ++ except_text rule.except
     ++ codes "\nto = " ++ list_text rule.to
     ++ codes "\nkeep = " ++ flag_text rule.keep ++ codes "\n"
 

@@ -9,7 +9,7 @@ use Rattle.dr_plan_text.specs.Fields.{SaysText, SaysFormed, SaysNumber, SaysFlag
 use Rattle.dr_plan_text.specs.Fields.{SaysValues, SaysCallers, SaysTable}
 use Rattle.dr_plan_text.specs.Fields.{SaysTextsOnce, IsListOf, IsSomeOf, Given, GivenOr, HasOnly}
 use Rattle.dr_plan_text.specs.Tables.{accept_keys, rule_keys, node_keys, flow_keys}
-use Rattle.dr_plan_expand.specs.Fields.{SaysWords, SaysAnyWords, AreDefinitions}
+use Rattle.dr_plan_expand.specs.Fields.{SaysWords, SaysAnyWords, SaysStations, AreDefinitions}
 use Rattle.dr_plan_expand.specs.Words.{IsPlainWord}
 use Rattle.dr_plan_expand.specs.declared.short.AnyWords.TheVariants as any
 use Rattle.dr_plan_expand.specs.declared.short.ShortRow.{ShortRow}
@@ -25,13 +25,15 @@ pub record IsShortRow (fields : Members) (row : ShortRow) : Type 0 where
   pub class : Given SaysWords (get_member (codes "class") fields) row.classes
   pub syntax : Given SaysTextsOnce (get_member (codes "syntax") fields) row.syntaxes
 
--- the table says the rule: what isn't given is any value, no target, and not kept
+-- the table says the rule: what isn't given is any value, no station that is excepted, no target,
+-- and not kept
 pub record IsShortRule (fields : Members) (rule : ShortRule) : Type 0 where
   pub only : HasOnly rule_keys fields
   pub from : GivenOr any.Any SaysAnyWords (get_member (codes "from") fields) rule.from
   pub class : GivenOr any.Any SaysAnyWords (get_member (codes "class") fields) rule.classes
   pub modality : GivenOr field.Any SaysField (get_member (codes "modality") fields) rule.modality
   pub station : GivenOr field.Any SaysField (get_member (codes "station") fields) rule.station
+  pub except : GivenOr [] SaysStations (get_member (codes "except") fields) rule.except
   pub to : GivenOr [] (IsListOf SaysText) (get_member (codes "to") fields) rule.to
   pub keep : GivenOr false SaysFlag (get_member (codes "keep") fields) rule.keep
 

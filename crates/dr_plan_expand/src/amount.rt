@@ -287,8 +287,9 @@ impl<'a> Amounting for Rules<'a> {
         let from = any_count(&nodes, &rule.from);
         let way = ClassWords(tables.usual, tables.sets);
         let classes = any_count(&way, &rule.classes);
+        let except = list_of(rule.except.len());
         let to = count(&nodes, rule.to.as_slice());
-        take_volume(room, from, classes, 1 + to)
+        take_volume(room, from, classes, 1 + (except + to))
     }
 }
 

@@ -3,8 +3,8 @@ ghost use Rattle.std.specs.Prelude.{◌≡◌, ◌↔◌, ◌∷◌, IsTrue, IfO
 ghost use Rattle.toml.specs.View.{view};
 ghost use Rattle.dr_base.specs.Texts.{Text as Words};
 ghost use Rattle.dr_plan_expand.specs.Words.{IsPlainWord};
-ghost use Rattle.dr_plan_expand.specs.Fields.{SaysWords, SaysAnyWords, IsDefinition};
-ghost use Rattle.dr_plan_expand.specs.Fields.{AreDefinitions};
+ghost use Rattle.dr_plan_expand.specs.Fields.{SaysWords, SaysAnyWords, SaysStations};
+ghost use Rattle.dr_plan_expand.specs.Fields.{IsDefinition, AreDefinitions};
 ghost use Rattle.dr_plan_expand.specs.declared.short.Definition.{Definition as Defined};
 ghost use Rattle.dr_plan_text.specs.declared.fault.ReadFault.TheVariants.{Field};
 
@@ -12,8 +12,10 @@ use crate::short::{AnyWords, Definition};
 use crate::words::after_mark;
 use dr_base::{Seq, Text};
 use dr_plan_text::fault::ReadFault;
-use dr_plan_text::fields::{AnyText, TextForm, is_star};
-use dr_plan_text::form::{Form, SomeOf, TableForm};
+use dr_plan_text::fields::{AnyText, Formed, TextForm, is_star};
+use dr_plan_text::form::{Form, ListOf, SomeOf, TableForm};
+use dr_plan_text::values::SingleValue;
+use dr_route::names::set_of;
 use std::alloc::Global;
 use toml::{Table, Value};
 
@@ -64,6 +66,22 @@ impl Form for AnyOrMore {
         }
         let words = OneOrMore::read(alloc, value)?;
         Ok(AnyWords::Listed(words))
+    }
+}
+
+/// The stations that a rule excepts: a list of single values, which may be empty, and is read as
+/// the set of them.
+pub struct Stations;
+
+impl Form for Stations {
+    type Output = Seq<Text>;
+
+    ghost says = { SaysStations };
+
+    fn read(alloc: Global, value: &Value) -> Result<Seq<Text>, ReadFault> {
+        let listed = ListOf::<Formed<SingleValue>>::read(alloc, value)?;
+        let set = set_of(alloc, listed.as_slice())?;
+        Ok(set)
     }
 }
 

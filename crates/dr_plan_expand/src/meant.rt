@@ -177,12 +177,14 @@ fn rule_with(
     let class = copy_pattern(class)?;
     let modality = copy_field(&rule.modality)?;
     let station = copy_field(&rule.station)?;
+    let except = copy_of(alloc, rule.except.as_slice())?;
     let to = copy_of(alloc, to)?;
     Ok(Rule {
         from,
         class,
         modality,
         station,
+        except,
         to,
         keep: rule.keep,
     })

@@ -3,7 +3,7 @@ ghost use Rattle.std.specs.Prelude.{◌≡◌, ◌++◌, OnOk, IfOk, map, flat_m
 ghost use Rattle.std.specs.Fmt.{signed_decimal};
 ghost use Rattle.dr_plan_expand.specs.Spelling.{further, list_text, starred};
 ghost use Rattle.dr_plan_expand.specs.Spelling.{pattern_text, field_text, callers_text};
-ghost use Rattle.dr_plan_expand.specs.Spelling.{values_text, flag_text};
+ghost use Rattle.dr_plan_expand.specs.Spelling.{except_text, values_text, flag_text};
 ghost use Rattle.dr_plan_expand.specs.Spelling.{bind_text, address_text, listens_text};
 
 use crate::words::copy_of;
@@ -91,6 +91,26 @@ pub fn add_field(alloc: Global, out: &mut Vec<u8>, pattern: &FieldPattern) -> Re
             put_in_quotes(out, &text)
         }
     }
+}
+
+/// The stations that a rule excepts, behind the key; nothing where it excepts none.
+fn exceptions(alloc: Global, stations: &[Text]) -> Result<Vec<u8>, AllocError>
+    ensures { IfOk result (λ out. out.items ≡ except_text stations.now) }
+{
+    if stations.is_empty() {
+        return Ok(Vec::new(alloc));
+    }
+    let mut out = Vec::from_slice(alloc, b"\nexcept = ")?;
+    add_list(alloc, &mut out, stations)?;
+    Ok(out)
+}
+
+/// Adds the stations that a rule excepts; nothing where it excepts none.
+pub fn add_exceptions(alloc: Global, out: &mut Vec<u8>, stations: &[Text]) -> Result<(), AllocError>
+    ensures { OnOk result (out.new.items ≡ out.old.items ++ except_text stations.now) }
+{
+    let text = exceptions(alloc, stations)?;
+    out.extend_from_slice(text.as_slice())
 }
 
 /// Adds the callers of an accept row.

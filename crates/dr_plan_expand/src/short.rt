@@ -28,14 +28,15 @@ pub enum AnyWords {
     Listed(Seq<Text>),
 }
 
-/// A rule: its callers, classes and targets are any words, and modality and station have their
-/// forms.
+/// A rule: its callers, classes and targets are any words, and modality, station and the stations
+/// that it excepts have their forms. What it excepts is a set: in byte order, and each once.
 #[derive(Drop)]
 pub struct ShortRule {
     pub from: AnyWords,
     pub classes: AnyWords,
     pub modality: FieldPattern,
     pub station: FieldPattern,
+    pub except: Seq<Text>,
     pub to: Seq<Text>,
     pub keep: bool,
 }

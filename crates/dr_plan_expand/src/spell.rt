@@ -4,7 +4,8 @@ ghost use Rattle.dr_plan_expand.specs.Spelling.{row_text, rule_text, node_text, 
 ghost use Rattle.dr_plan_expand.specs.Spelling.{plan_text};
 
 use crate::pieces::{
-    add_callers, add_field, add_flag, add_list, add_listens, add_pattern, add_signed, add_values,
+    add_callers, add_exceptions, add_field, add_flag, add_list, add_listens, add_pattern,
+    add_signed, add_values,
 };
 use dr_base::Text;
 use dr_base_quoted::put_in_quotes;
@@ -49,6 +50,7 @@ fn spell_rule(alloc: Global, rule: &Rule) -> Result<Vec<u8>, AllocError>
     add_field(alloc, &mut out, &rule.modality)?;
     out.extend_from_slice(b"\nstation = ")?;
     add_field(alloc, &mut out, &rule.station)?;
+    add_exceptions(alloc, &mut out, rule.except.as_slice())?;
     out.extend_from_slice(b"\nto = ")?;
     add_list(alloc, &mut out, rule.to.as_slice())?;
     out.extend_from_slice(b"\nkeep = ")?;

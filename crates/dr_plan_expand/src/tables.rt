@@ -6,7 +6,7 @@ ghost use Rattle.dr_plan_expand.specs.Tables.{IsShortPlan, IsThird};
 ghost use Rattle.dr_plan_expand.specs.declared.short.ShortPlan.{ShortPlan as Short};
 ghost use Rattle.dr_plan_text.specs.declared.fault.ReadFault.TheVariants.{Field};
 
-use crate::fields::{AnyOrMore, Definitions, OneOrMore, Plain};
+use crate::fields::{AnyOrMore, Definitions, OneOrMore, Plain, Stations};
 use crate::short::{AnyWords, ShortFlow, ShortNode, ShortPlan, ShortRow, ShortRule};
 use dr_base::Seq;
 use dr_plan_text::fault::ReadFault;
@@ -51,7 +51,9 @@ impl TableForm for ShortRuleTable {
     fn read_table(alloc: Global, table: &Table) -> Result<ShortRule, ReadFault> {
         if !has_only(
             table,
-            &["from", "class", "modality", "station", "to", "keep"],
+            &[
+                "from", "class", "modality", "station", "to", "keep", "except",
+            ],
         ) {
             return Err(ReadFault::Field);
         }
@@ -60,6 +62,7 @@ impl TableForm for ShortRuleTable {
             classes: defaulted::<AnyOrMore>(alloc, table, "class", AnyWords::Any)?,
             modality: defaulted::<AnyValue>(alloc, table, "modality", FieldPattern::Any)?,
             station: defaulted::<AnyValue>(alloc, table, "station", FieldPattern::Any)?,
+            except: defaulted::<Stations>(alloc, table, "except", Seq::new(alloc))?,
             to: defaulted::<ListOf<AnyText>>(alloc, table, "to", Seq::new(alloc))?,
             keep: defaulted::<Flag>(alloc, table, "keep", false)?,
         })

@@ -1,5 +1,5 @@
 -- Where the nodes of a plan listen.
-use Rattle.std.proofs.Common.{◌≡◌, refl, subst, List, [], Contains, None}
+use Rattle.std.proofs.Common.{◌≡◌, refl, subst, None}
 use Rattle.std.proofs.lemmas.List.Elements.{All-contains}
 use Rattle.dr_base.specs.Texts.{Text}
 use Rattle.dr_plan_model.specs.Formed.{IsWellFormedNode}

@@ -1,5 +1,5 @@
 -- Values that are looked for in sets.
-use Rattle.std.proofs.Common.{◌≡◌, ℕ, zero, suc, ◌<◌, ◌⊎◌, sym, ◌∙◌, subst, List, [], ◌∷◌, length, get_or, Contains, arith}
+use Rattle.std.proofs.Common.{◌≡◌, ℕ, zero, suc, ◌<◌, ◌⊎◌, sym, subst, List, [], ◌∷◌, length, get_or, Contains, arith}
 use Rattle.std.specs.Prelude.{◌↔◌}
 use Rattle.std.specs.List.{AllZip}
 use Rattle.dr_base.specs.Texts.{Text}

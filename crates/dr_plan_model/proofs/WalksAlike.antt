@@ -1,8 +1,8 @@
 -- Keys of one cell of a plan are sent, kept and walked alike; and what well-formed plans exclude.
-use Rattle.std.proofs.Common.{◌≡◌, ◌≢◌, ℕ, ◌<◌, inl, inr, refl, sym, ◌∙◌, ap, subst, List, [], ◌∷◌, length, get_or, Contains, arith}
+use Rattle.std.proofs.Common.{◌≡◌, ◌≢◌, ℕ, ◌<◌, inl, inr, refl, sym, ◌∙◌, ap, subst, List, [], ◌∷◌, ◌++◌, length, get_or, Contains, arith}
 use Rattle.std.specs.Prelude.{◌↔◌, All, flat_map}
 use Rattle.std.proofs.lemmas.Bool.{cases_lt, cases_eq}
-use Rattle.std.proofs.lemmas.List.{get_or_default}
+use Rattle.std.proofs.lemmas.List.{get_or_default, append-nil}
 use Rattle.std.proofs.lemmas.List.Elements.{Contains-append_left, Contains-append_right, Contains-append_cases, Contains-get_or, All-contains, All-head, All-tail}
 use Rattle.dr_base.specs.Texts.{Text}
 use Rattle.dr_base.specs.declared.syntax.Syntax.{Syntax}
@@ -24,11 +24,11 @@ use Rattle.dr_plan_model.specs.declared.plan.Values.{Values}
 use Rattle.dr_plan_model.specs.declared.plan.Values.TheVariants as values
 use Rattle.dr_plan_model.specs.declared.literals.Attribute.{Attribute}
 use Rattle.dr_plan_model.specs.declared.plan.Format.{Format}
-use Rattle.dr_plan_model.specs.declared.plan.Format.TheVariants.{One, Two}
+use Rattle.dr_plan_model.specs.declared.plan.Format.TheVariants.{One, Two, Three}
 use Rattle.dr_plan_model.specs.declared.literals.Attribute.TheVariants.{Modality, ModalityPrefix, Station, StationPrefix}
 use Rattle.dr_plan_model.specs.Networks.{Network}
-use Rattle.dr_plan_model.specs.Formed.{IsLiteral, IsPrefix, HasFieldForm, AreValues, ModalitiesFit, RuleFits, ValuesFit, IsInFormat, IsKnownName, IsWellFormedNode, IsWellFormedFlow, IsRuleOf}
-use Rattle.dr_plan_model.specs.Naming.{literal_of, prefix_of, listed_literals, listed_prefixes, named_by_rule, named_by_flow, named_by_rules, named_by_flows}
+use Rattle.dr_plan_model.specs.Formed.{IsLiteral, IsPrefix, HasFieldForm, AreValues, ModalitiesFit, ExceptionsFit, RuleFits, ValuesFit, IsInFormat, IsKnownName, IsWellFormedNode, IsWellFormedFlow, IsRuleOf}
+use Rattle.dr_plan_model.specs.Naming.{literal_of, prefix_of, listed_literals, listed_prefixes, named_by_pattern, named_by_except, named_by_rule, named_by_flow, named_by_rules, named_by_flows}
 use Rattle.dr_plan_model.specs.Plans.{IsWellFormed, IsNode, named_in, modalities_of, stations_of, literals_of, LiesIn}
 use Rattle.dr_plan_model.specs.Walks.{IsListed, FlowBrings, Flows, Sends, Keeps, IsWalk, IsEntry, IsReached}
 use Rattle.dr_plan_model.specs.Laws.{IsCellOf, InPlainField, KeepsItsParts}
@@ -73,10 +73,21 @@ rule_names plan attribute node rule t has_node has_rule has_text =
     (Contains-flat_map (λ (n : Node). named_by_rules attribute n.rules) plan.nodes node t has_node
     (Contains-flat_map (λ (r : Rule). named_by_rule attribute r) node.rules rule t has_rule has_text))
 
+pattern_names : (plan : Network) (attribute : Attribute) (node : Node) (rule : Rule) (t : Text) → Contains plan.nodes node → Contains node.rules rule →
+    Contains (named_by_pattern attribute rule) t → Contains (named_in attribute plan) t
+pattern_names plan attribute node rule t has_node has_rule has_text =
+    rule_names plan attribute node rule t has_node has_rule (Contains-append_left (named_by_pattern attribute rule) (named_by_except attribute rule) t has_text)
+
+pub exceptions_are_named : (plan : Network) (node : Node) (rule : Rule) (text : Text) → Contains plan.nodes node → Contains node.rules rule →
+    Contains rule.except text → Contains (stations_of plan).literals text
+exceptions_are_named plan node rule text has_node has_rule there =
+    rule_names plan Station node rule text has_node has_rule (Contains-append_right (literal_of rule.station) rule.except text there)
+
 pub known_rules : (plan : Network) (node : Node) → Contains plan.nodes node → All (IsKnownRule (literals_of plan)) node.rules
 known_rules plan node has_node = all_from_each (IsKnownRule (literals_of plan)) node.rules (λ rule has_rule. (
-  known_pattern (literals_of plan).modalities rule.modality (λ t. rule_names plan Modality node rule t has_node has_rule) (λ t. rule_names plan ModalityPrefix node rule t has_node has_rule),
-  known_pattern (literals_of plan).stations rule.station (λ t. rule_names plan Station node rule t has_node has_rule) (λ t. rule_names plan StationPrefix node rule t has_node has_rule),
+  known_pattern (literals_of plan).modalities rule.modality (λ t. pattern_names plan Modality node rule t has_node has_rule) (λ t. pattern_names plan ModalityPrefix node rule t has_node has_rule),
+  known_pattern (literals_of plan).stations rule.station (λ t. pattern_names plan Station node rule t has_node has_rule) (λ t. pattern_names plan StationPrefix node rule t has_node has_rule),
+  all_from_each (Contains (literals_of plan).stations.literals) rule.except (λ t there. exceptions_are_named plan node rule t has_node has_rule there),
 ))
 
 pub flow_names : (plan : Network) (attribute : Attribute) (flow : Flow) (t : Text) → Contains plan.flows flow → Contains (named_by_flow attribute flow) t → Contains (named_in attribute plan) t
@@ -196,11 +207,23 @@ IsOf ModalityPrefix t = IsPrefix t
 IsOf Station t = IsLiteral t
 IsOf StationPrefix t = IsPrefix t
 
+pattern_has_form : (nodes : List Node) (name : Text) (attribute : Attribute) (rule : Rule) → IsRuleOf nodes name rule → (t : Text) → Contains (named_by_pattern attribute rule) t → IsOf attribute t
+pattern_has_form nodes name Modality rule is t among = pattern_is_literal rule.modality is.modality t among
+pattern_has_form nodes name ModalityPrefix rule is t among = prefix_is_prefix rule.modality is.modality t among
+pattern_has_form nodes name Station rule is t among = pattern_is_literal rule.station is.station t among
+pattern_has_form nodes name StationPrefix rule is t among = prefix_is_prefix rule.station is.station t among
+
+except_has_form : (nodes : List Node) (name : Text) (attribute : Attribute) (rule : Rule) → IsRuleOf nodes name rule → (t : Text) → Contains (named_by_except attribute rule) t → IsOf attribute t
+except_has_form nodes name Modality rule is t among = absurd (nothing_in_nil t among)
+except_has_form nodes name ModalityPrefix rule is t among = absurd (nothing_in_nil t among)
+except_has_form nodes name Station rule is t among = All-contains IsLiteral rule.except t is.except among
+except_has_form nodes name StationPrefix rule is t among = absurd (nothing_in_nil t among)
+
 rule_has_form : (nodes : List Node) (name : Text) (attribute : Attribute) (rule : Rule) → IsRuleOf nodes name rule → (t : Text) → Contains (named_by_rule attribute rule) t → IsOf attribute t
-rule_has_form nodes name Modality rule is t among = pattern_is_literal rule.modality is.modality t among
-rule_has_form nodes name ModalityPrefix rule is t among = prefix_is_prefix rule.modality is.modality t among
-rule_has_form nodes name Station rule is t among = pattern_is_literal rule.station is.station t among
-rule_has_form nodes name StationPrefix rule is t among = prefix_is_prefix rule.station is.station t among
+rule_has_form nodes name attribute rule is t among = elim (Contains-append_cases (named_by_pattern attribute rule) (named_by_except attribute rule) t among) [
+  | inl own ↦ pattern_has_form nodes name attribute rule is t own
+  | inr excepted ↦ except_has_form nodes name attribute rule is t excepted
+]
 
 flow_has_form : (nodes : List Node) (attribute : Attribute) (flow : Flow) → IsWellFormedFlow nodes flow → (t : Text) → Contains (named_by_flow attribute flow) t → IsOf attribute t
 flow_has_form nodes Modality flow is t among = values_are_literals flow.modalities is.modalities t among
@@ -278,7 +301,7 @@ in_format format own nodes flows is has = let P : Format → Type 0 = λ f. IsIn
 no_modality_prefix : (format : Format) → ((prefixes : List Text) → ModalitiesFit format prefixes → prefixes ≡ []) →
     (plan : Network) → IsInFormat format plan.nodes plan.flows → (modalities_of plan).prefixes ≡ []
 no_modality_prefix format none plan has = none_named ModalityPrefix plan
-    (each_rule (RuleFits format) (λ rule. prefix_of rule.modality ≡ []) plan.nodes (λ rule fits. none (prefix_of rule.modality) fits.0) has.each_rule)
+    (each_rule (RuleFits format) (λ rule. prefix_of rule.modality ++ [] ≡ []) plan.nodes (λ rule fits. append-nil (prefix_of rule.modality) ∙ none (prefix_of rule.modality) fits.0) has.each_rule)
     (each_flow (λ flow. ValuesFit format flow.modalities flow.stations) (λ flow. listed_prefixes flow.modalities ≡ []) plan.flows (λ flow fits. none (listed_prefixes flow.modalities) fits.0) has.each_flow)
 
 pub format_1_has_none : (plan : Network) → IsWellFormed plan → plan.format ≡ One → ((modalities_of plan).prefixes ≡ []) × ((stations_of plan).prefixes ≡ [])
@@ -286,12 +309,24 @@ format_1_has_none plan formed one =
     let has = in_format One plan.format plan.nodes plan.flows one formed.in_format in (
       no_modality_prefix One (λ prefixes none. none) plan has,
       none_named StationPrefix plan
-          (each_rule (RuleFits One) (λ rule. prefix_of rule.station ≡ []) plan.nodes (λ rule fits. fits.1) has.each_rule)
+          (each_rule (RuleFits One) (λ rule. prefix_of rule.station ++ [] ≡ []) plan.nodes (λ rule fits. append-nil (prefix_of rule.station) ∙ fits.1) has.each_rule)
           (each_flow (λ flow. ValuesFit One flow.modalities flow.stations) (λ flow. listed_prefixes flow.stations ≡ []) plan.flows (λ flow fits. fits.1) has.each_flow),
     )
 
 pub format_2_has_none : (plan : Network) → IsWellFormed plan → plan.format ≡ Two → (modalities_of plan).prefixes ≡ []
 format_2_has_none plan formed two = no_modality_prefix Two (λ prefixes none. none) plan (in_format Two plan.format plan.nodes plan.flows two formed.in_format)
+
+no_exceptions : (format : Format) (except : List Text) → format ≢ Three → ExceptionsFit format except → except ≡ []
+no_exceptions One except early fits = fits
+no_exceptions Two except early fits = fits
+no_exceptions Three except early fits = absurd (early refl)
+
+-- before format 3 there are no exceptions
+pub earlier_have_none : (plan : Network) → IsWellFormed plan → plan.format ≢ Three → (node : Node) (rule : Rule) → Contains plan.nodes node → Contains node.rules rule → rule.except ≡ []
+earlier_have_none plan formed early node rule has_node has_rule =
+    let fits = All-contains (RuleFits plan.format) node.rules rule
+    (All-contains (λ (n : Node). All (RuleFits plan.format) n.rules) plan.nodes node formed.in_format.each_rule has_node) has_rule in
+    no_exceptions plan.format rule.except early fits.2
 
 -- where no prefix is named, the parts are the literals and the rest
 plain_parts : (values : FieldValues) → values.prefixes ≡ [] → (part : OwnedField) (value : Text) → InField values part value ↔ InPlainField values.literals part value

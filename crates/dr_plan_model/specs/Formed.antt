@@ -100,6 +100,7 @@ pub record IsRuleOf (nodes : List Node) (name : Text) (rule : Rule) : Type 0 whe
   pub class : HasForm IsClass rule.class
   pub modality : HasFieldForm rule.modality
   pub station : HasFieldForm rule.station
+  pub except : All IsLiteral rule.except
   pub to : All (λ target. IsKnownName nodes target × (target ≢ name)) rule.to
 
 -- the callers of an accept row are all, or names of nodes of the plan
@@ -152,10 +153,16 @@ StationsFit One prefixes = prefixes ≡ []
 StationsFit Two prefixes = Unit {0}
 StationsFit Three prefixes = Unit {0}
 
--- the format has the prefixes that the rule names
+-- the format has these exceptions of a rule: in format 3 there are some, as prefixes of modalities
+abbrev pub ExceptionsFit : Format → List Text → Type 0
+ExceptionsFit format except = ModalitiesFit format except
+
+-- the format has the prefixes that the rule names, and its exceptions
 abbrev pub RuleFits : Format → Rule → Type 0
 RuleFits format rule =
-    ModalitiesFit format (prefix_of rule.modality) × StationsFit format (prefix_of rule.station)
+    ModalitiesFit format (prefix_of rule.modality)
+    × StationsFit format (prefix_of rule.station)
+    × ExceptionsFit format rule.except
 
 -- the format has the prefixes of these values of a flow
 abbrev pub ValuesFit : Format → Values → Values → Type 0

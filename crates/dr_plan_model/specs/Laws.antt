@@ -9,6 +9,7 @@ use Rattle.dr_route.specs.declared.cell.OwnedField.{OwnedField}
 use Rattle.dr_route.specs.declared.cell.OwnedField.TheVariants as part
 use Rattle.dr_route.specs.declared.key.Key.{Key}
 use Rattle.dr_route.specs.declared.cell.OwnedCell.{OwnedCell}
+use Rattle.dr_route.specs.declared.rule.Rule.{Rule}
 use Rattle.dr_plan_model.specs.Networks.{Network}
 use Rattle.dr_plan_model.specs.declared.plan.Format.TheVariants.{One, Two, Three}
 use Rattle.dr_plan_model.specs.declared.plan.Node.{Node}
@@ -79,6 +80,20 @@ abbrev pub EachCellOfAPlanHasAKey : Type 0
 EachCellOfAPlanHasAKey =
     (plan : Network) → IsWellFormed plan → (cell : OwnedCell) → IsCellOf plan cell
     → LiesIn plan cell (key_of cell)
+
+-- each exception of a rule of a plan is a literal of the plan's stations
+abbrev pub ExceptionsAreNamed : Type 0
+ExceptionsAreNamed =
+    (plan : Network) (node : Node) (rule : Rule) (text : Text)
+    → Contains plan.nodes node → Contains node.rules rule → Contains rule.except text
+    → Contains (stations_of plan).literals text
+
+-- before format 3 no rule of a plan has exceptions
+abbrev pub EarlierHaveNoExceptions : Type 0
+EarlierHaveNoExceptions =
+    (plan : Network) → IsWellFormed plan → plan.format ≢ Three → (node : Node) (rule : Rule)
+    → Contains plan.nodes node → Contains node.rules rule
+    → rule.except ≡ []
 
 -- a plan of format 1 names no prefix
 abbrev pub FormatOneHasNoPrefix : Type 0

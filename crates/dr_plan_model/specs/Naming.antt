@@ -1,5 +1,5 @@
 -- The values that rules and flows name for modality and for station.
-use Rattle.std.specs.Prelude.{List, [], ◌∷◌, flat_map}
+use Rattle.std.specs.Prelude.{List, [], ◌∷◌, ◌++◌, flat_map}
 use Rattle.dr_base.specs.Texts.{Text}
 use Rattle.dr_route.specs.declared.rule.FieldPattern.{FieldPattern}
 use Rattle.dr_route.specs.declared.rule.FieldPattern.TheVariants.{Any, Literal, Prefix}
@@ -33,12 +33,23 @@ abbrev pub listed_prefixes : Values → List Text
 listed_prefixes values.Any = []
 listed_prefixes (values.Listed own) = own.prefixes
 
--- the values that a rule names: its modality, its station, or the prefix of one of them
+-- the values that the patterns of a rule name: its modality, its station, or the prefix of one
+abbrev pub named_by_pattern : Attribute → Rule → List Text
+named_by_pattern Modality rule = literal_of rule.modality
+named_by_pattern ModalityPrefix rule = prefix_of rule.modality
+named_by_pattern Station rule = literal_of rule.station
+named_by_pattern StationPrefix rule = prefix_of rule.station
+
+-- the values that the exceptions of a rule name, which are stations
+abbrev pub named_by_except : Attribute → Rule → List Text
+named_by_except Modality rule = []
+named_by_except ModalityPrefix rule = []
+named_by_except Station rule = rule.except
+named_by_except StationPrefix rule = []
+
+-- the values that a rule names
 abbrev pub named_by_rule : Attribute → Rule → List Text
-named_by_rule Modality rule = literal_of rule.modality
-named_by_rule ModalityPrefix rule = prefix_of rule.modality
-named_by_rule Station rule = literal_of rule.station
-named_by_rule StationPrefix rule = prefix_of rule.station
+named_by_rule attribute rule = named_by_pattern attribute rule ++ named_by_except attribute rule
 
 -- the values that a flow names: modalities, stations, or prefixes of either
 abbrev pub named_by_flow : Attribute → Flow → List Text

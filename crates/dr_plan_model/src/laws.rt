@@ -5,6 +5,7 @@ ghost use Rattle.dr_plan_model.specs.Laws.{EachCellOfAPlanHasAKey};
 ghost use Rattle.dr_plan_model.specs.Laws.{FormatOneHasNoPrefix, FormatOneKeepsItsCells};
 ghost use Rattle.dr_plan_model.specs.Laws.{FormatTwoHasNoPrefix, FormatTwoKeepsItsModalities};
 ghost use Rattle.dr_plan_model.specs.Laws.{NowhereAcceptsNothing, EarlierBindToTheirAddress};
+ghost use Rattle.dr_plan_model.specs.Laws.{ExceptionsAreNamed, EarlierHaveNoExceptions};
 
 /// Nothing is kept for the local caller, and nothing is sent to it.
 pub fn the_local_caller_is_no_node()
@@ -24,6 +25,13 @@ pub fn keys_of_one_cell_walk_alike()
 /// Each cell of a plan has a key of bytes.
 pub fn each_cell_has_a_key()
     ensures { EachCellOfAPlanHasAKey }
+{}
+
+/// The exceptions of a rule are among the stations that the plan names, so that they are parts of
+/// their own; and before format 3 no rule has any.
+pub fn exceptions_are_named()
+    ensures named { ExceptionsAreNamed }
+    ensures earlier { EarlierHaveNoExceptions }
 {}
 
 /// A plan of format 1 names no prefix, and its cells are those that there were before

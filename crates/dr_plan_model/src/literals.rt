@@ -4,6 +4,7 @@ ghost use Rattle.dr_base.specs.Texts.{Text as Words, IsInByteOrder};
 ghost use Rattle.dr_route.specs.Names.{HasName};
 ghost use Rattle.dr_plan_model.specs.Naming.{literal_of, prefix_of, listed_literals};
 ghost use Rattle.dr_plan_model.specs.Naming.{listed_prefixes, named_by_rule, named_by_flow};
+ghost use Rattle.dr_plan_model.specs.Naming.{named_by_pattern, named_by_except};
 ghost use Rattle.dr_plan_model.specs.Naming.{named_by_rules, named_by_flows};
 ghost use Rattle.dr_plan_model.specs.Plans.{named_in, AreLiteralsOf};
 
@@ -71,15 +72,27 @@ fn prefixes_in(values: &Values) -> &[Text]
 }
 
 impl Attribute {
-    /// What the rule names of it.
-    fn in_rule(self, rule: &Rule) -> &[Text]
-        ensures { result.now ≡ named_by_rule self rule.now }
+    /// What the rule's pattern names of it.
+    fn in_pattern(self, rule: &Rule) -> &[Text]
+        ensures { result.now ≡ named_by_pattern self rule.now }
     {
         match self {
             Attribute::Modality => literal_in(&rule.modality),
             Attribute::ModalityPrefix => prefix_in(&rule.modality),
             Attribute::Station => literal_in(&rule.station),
             Attribute::StationPrefix => prefix_in(&rule.station),
+        }
+    }
+
+    /// What the rule's exceptions name of it.
+    fn in_except(self, rule: &Rule) -> &[Text]
+        ensures { result.now ≡ named_by_except self rule.now }
+    {
+        match self {
+            Attribute::Modality => &[],
+            Attribute::ModalityPrefix => &[],
+            Attribute::Station => rule.except.as_slice(),
+            Attribute::StationPrefix => &[],
         }
     }
 
@@ -96,6 +109,18 @@ impl Attribute {
     }
 }
 
+/// Adds what the rule names: by its pattern, and by its exceptions.
+fn add_rule(names: &mut BTreeSet<Text>, attribute: Attribute, rule: &Rule) -> Result<(), AllocError>
+    ensures { OnOk result
+        ((t : Words)
+        → HasName names.new t
+        ↔ (HasName names.old t ⊎ Contains (named_by_rule attribute rule.now) t)) }
+{
+    add_names(names, attribute.in_pattern(rule))?;
+    add_names(names, attribute.in_except(rule))?;
+    Ok(())
+}
+
 /// Adds what the rules name.
 fn add_rules(
     names: &mut BTreeSet<Text>,
@@ -108,7 +133,7 @@ fn add_rules(
         ↔ (HasName names.old t ⊎ Contains (named_by_rules attribute rules.now) t)) }
 {
     for rule in rules {
-        add_names(names, attribute.in_rule(rule))?;
+        add_rule(names, attribute, rule)?;
     }
     Ok(())
 }

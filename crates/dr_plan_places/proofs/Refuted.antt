@@ -74,7 +74,7 @@ fits_as : (format : Format) (root : Members) (plan : PlanText) → IsReadAs (get
     All (NodeFits format) plan.nodes × All (FlowFits format) plan.flows
 fits_as One root plan read is = fits_moved root plan One (format_one root plan.format One is.format read) is
 fits_as Two root plan read is = fits_moved root plan Two (format_one root plan.format Two is.format read) is
-fits_as Three root plan read is = (λ k d h. (λ i r g. (tt, tt), tt), λ k d h. (tt, tt))
+fits_as Three root plan read is = (λ k d h. (λ i r g. (tt, tt, tt), tt), λ k d h. (tt, tt))
 
 refuted_node : (format : Format) (node : Members) (part : NodePart) (flaw : Flaw) (x : NodeText) → NodeFits format x → IsInNode format node part flaw → IsNodeTable node x → ⊥
 refuted_node format node Own flaw x fits h is = refuted (IsNodeOf format) node flaw x h (is, fits.1)

@@ -10,16 +10,17 @@ use Rattle.dr_plan_text.specs.declared.words.NodeText.{NodeText}
 use Rattle.dr_plan_text.specs.declared.words.FlowText.{FlowText}
 use Rattle.dr_plan_model.specs.Formed.{RuleFits, ValuesFit}
 use Rattle.dr_plan_model.specs.Listening.{ListensFits}
-use Rattle.dr_plan_text.specs.Fields.{GivenOr, SaysField}
-use Rattle.dr_plan_text.specs.Laws.{written_rule}
+use Rattle.dr_plan_text.specs.Fields.{GivenOr, SaysField, SaysExceptions}
+use Rattle.dr_plan_text.specs.Laws.{written_rule, written_except_rule}
 use Rattle.dr_plan_text.proofs.OfValues.{no_format, SaysField-one}
 use Rattle.dr_plan_text.proofs.PrefixTexts.{ct_is}
-use Rattle.toml.specs.Data.{Data, integer, string, no_members}
+use Rattle.dr_plan_text.proofs.ExceptTexts.{ct9_is}
+use Rattle.toml.specs.Data.{Data, integer, string, no_items, item, no_members}
 use Rattle.dr_base.specs.Texts.{Text}
 use Rattle.dr_plan_model.proofs.Gathered.{Contains-cons_cases, only_one}
 use Rattle.dr_plan_text.specs.Tables.{IsRoot, IsRuleTable, IsFormat, root_keys}
 use Rattle.dr_plan_places.proofs.FieldsFlawed.{unknown}
-use Rattle.dr_plan_places.specs.Laws.{ColourIsUnknown, FormatIsNotMissing, FourthFormatIsIllFormed, PrefixIsIllFormedInFormatOne, PrefixIsOfFormatTwo, coloured, prefixed}
+use Rattle.dr_plan_places.specs.Laws.{ColourIsUnknown, FormatIsNotMissing, FourthFormatIsIllFormed, PrefixIsIllFormedInFormatOne, PrefixIsOfFormatTwo, ExceptionIsIllFormedInFormatTwo, ExceptionIsFineInFormatThree, coloured, prefixed, excepting}
 
 first_byte : (x y : Text) (a b : ℕ) → get_or x 0 0 ≡ a → get_or y 0 0 ≡ b → (a ≡ b → ⊥) → x ≡ y → ⊥
 first_byte x y a b at bt apart same = apart (sym at ∙ (ap (λ (t : Text). get_or t 0 0) same ∙ bt))
@@ -75,9 +76,34 @@ prefixed_rule = record {
   class = refl;
   modality = refl;
   station = (refl, ct_is);
+  except = refl;
   to = refl;
   keep = refl;
 }
 
 pub prefix_is_of_format_2 : PrefixIsOfFormatTwo
-prefix_is_of_format_2 = λ h. h.0 prefixed written_rule refl refl (prefixed_rule, (refl, tt))
+prefix_is_of_format_2 = λ h. h.0 prefixed written_rule refl refl (prefixed_rule, (refl, tt, refl))
+
+pub exception_is_ill_formed_in_format_2 : ExceptionIsIllFormedInFormatTwo
+exception_is_ill_formed_in_format_2 = (
+  λ other rule same beside is.
+      let P : Option Data → Type 0 = λ value. GivenOr [] SaysExceptions value rule.except in
+      let said = subst P same is.0.except in
+      said.1 is.1.2,
+  refl,
+)
+
+excepting_rule : IsRuleTable excepting written_except_rule
+excepting_rule = record {
+  only = ((6, lit< tt, refl), ((3, lit< tt, refl), tt));
+  from = refl;
+  class = refl;
+  modality = refl;
+  station = (refl, ct_is);
+  except = ((item (string (codes "CT9")) no_items, refl, ((refl, ct9_is), tt)), λ e. cc);
+  to = refl;
+  keep = refl;
+}
+
+pub exception_is_of_format_3 : ExceptionIsFineInFormatThree
+exception_is_of_format_3 = λ h. h.0 excepting written_except_rule refl refl (excepting_rule, (tt, tt, tt))

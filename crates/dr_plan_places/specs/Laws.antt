@@ -1,9 +1,9 @@
 -- Laws of flaws, and small tables.
 use Rattle.std.specs.Prelude.{pos, codes}
-use Rattle.toml.specs.Data.{integer, string, Members, no_members, member}
+use Rattle.toml.specs.Data.{integer, string, array, no_items, item, Members, no_members, member}
 use Rattle.dr_plan_text.specs.Tables.{IsRoot}
 use Rattle.dr_plan_text.specs.declared.words.PlanText.{PlanText}
-use Rattle.dr_plan_model.specs.declared.plan.Format.TheVariants.{One, Two}
+use Rattle.dr_plan_model.specs.declared.plan.Format.TheVariants.{One, Two, Three}
 use Rattle.dr_plan_expand.specs.Tables.{IsShortPlan}
 use Rattle.dr_plan_expand.specs.declared.short.ShortPlan.{ShortPlan}
 use Rattle.dr_plan_places.specs.FieldFlaws.{HasFlaw, IsIn, IsRuleText}
@@ -60,3 +60,19 @@ PrefixIsIllFormedInFormatOne = HasFlaw (IsRuleText One) prefixed prefix_flaw
 -- in a text of format 2 it isn't
 abbrev pub PrefixIsOfFormatTwo : Type 0
 PrefixIsOfFormatTwo = HasFlaw (IsRuleText Two) prefixed prefix_flaw → ⊥
+
+-- a rule's table `except = ["CT9"]` and `station = "CT*"`
+abbrev pub excepting : Members
+excepting = member (codes "except") (array (item (string (codes "CT9")) no_items)) prefixed
+
+-- what it excepts, and what would be wrong with that
+abbrev pub except_flaw : Flaw
+except_flaw = record { key = codes "except"; wrong = IllFormed }
+
+-- in a text of format 2 it is ill-formed
+abbrev pub ExceptionIsIllFormedInFormatTwo : Type 0
+ExceptionIsIllFormedInFormatTwo = HasFlaw (IsRuleText Two) excepting except_flaw
+
+-- in a text of format 3 it isn't
+abbrev pub ExceptionIsFineInFormatThree : Type 0
+ExceptionIsFineInFormatThree = HasFlaw (IsRuleText Three) excepting except_flaw → ⊥

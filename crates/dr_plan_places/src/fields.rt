@@ -50,6 +50,7 @@ fn wanted_of_rule(key: &str) -> &'static [u8] {
             b"\"*\" or a value of up to 64 characters, or in format 2 a prefix with *, as \"CT*\"",
         "to" => b"a list of names",
         "keep" => b"true or false",
+        "except" => b"left out before format 3",
         _ => b"?",
     }
 }

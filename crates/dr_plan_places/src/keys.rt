@@ -1,18 +1,21 @@
 //! Single fields of a table.
-ghost use Rattle.std.specs.Prelude.{◌≡◌, IfOk, IfSome, IsTrue, IsSome, Contains, codes, map};
+ghost use Rattle.std.specs.Prelude.{◌≡◌, IfOk, IfSome, IsTrue, IsSome, Contains, List, codes, map};
 ghost use Rattle.toml.specs.Data.{get_member};
 ghost use Rattle.toml.specs.View.{table_view};
+ghost use Rattle.dr_base.specs.Texts.{Text as Words};
 ghost use Rattle.dr_route.specs.declared.rule.FieldPattern.{FieldPattern};
 ghost use Rattle.dr_plan_model.specs.declared.plan.Values.{Values};
-ghost use Rattle.dr_plan_model.specs.Formed.{ModalitiesFit, StationsFit};
+ghost use Rattle.dr_plan_model.specs.Formed.{ModalitiesFit, StationsFit, ExceptionsFit};
 ghost use Rattle.dr_plan_model.specs.Naming.{prefix_of, listed_prefixes};
-ghost use Rattle.dr_plan_text.specs.Fields.{Given, GivenOr, SaysField, SaysValues};
+ghost use Rattle.dr_plan_text.specs.Fields.{Given, GivenOr, SaysField, SaysExceptions, SaysValues};
 
 use dr_plan_model::Format;
 use dr_plan_text::fault::ReadFault;
-use dr_plan_text::fits::{modalities_fit, modality_fits, station_fits, stations_fit};
+use dr_plan_text::fits::{
+    exceptions_fit, modalities_fit, modality_fits, station_fits, stations_fit,
+};
 use dr_plan_text::form::{Form, is_among, required, value_at};
-use dr_plan_text::values::{AnyValue, AnyValues};
+use dr_plan_text::values::{AnyValue, AnyValues, Exceptions};
 use std::alloc::{AllocError, Global};
 use toml::Table;
 
@@ -83,6 +86,26 @@ pub fn misreads_station(alloc: Global, format: Format, table: &Table) -> Result<
     };
     match AnyValue::read(alloc, value) {
         Ok(pattern) => Ok(!station_fits(format, &pattern)),
+        Err(ReadFault::Field) => Ok(true),
+        Err(ReadFault::Memory) => Err(AllocError),
+    }
+}
+
+/// Whether the stations that a rule excepts are ill-formed: also where there are some, and the
+/// format has no exceptions.
+///
+/// Errors: want of memory.
+pub fn misreads_except(alloc: Global, format: Format, table: &Table) -> Result<bool, AllocError>
+    ensures { IfOk result (λ b. IsTrue b
+        → (default x : List Words)
+        → GivenOr default SaysExceptions (get_member (codes "except") (table_view table.now)) x
+        → ExceptionsFit format x → ⊥) }
+{
+    let Some(value) = value_at(table, "except") else {
+        return Ok(false);
+    };
+    match Exceptions::read(alloc, value) {
+        Ok(stations) => Ok(!exceptions_fit(format, &stations)),
         Err(ReadFault::Field) => Ok(true),
         Err(ReadFault::Memory) => Err(AllocError),
     }

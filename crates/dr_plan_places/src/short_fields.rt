@@ -59,6 +59,7 @@ fn wanted_of_rule(key: &str) -> &'static [u8] {
             b"\"*\" or a value of up to 64 characters, or a prefix with *, as \"CT*\"",
         "to" => b"a list of names and groups",
         "keep" => b"true or false",
+        "except" => b"a list of values of up to 64 characters, without *",
         _ => b"?",
     }
 }

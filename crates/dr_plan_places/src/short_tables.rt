@@ -5,7 +5,7 @@ ghost use Rattle.dr_plan_expand.specs.Tables.{IsShortPlan};
 use crate::flaw::Inspected;
 use crate::keys::{misreads, misses, unknown_key};
 use crate::listening::{calls_and_accepts, listening_fault};
-use dr_plan_expand::fields::{AnyOrMore, Definitions, OneOrMore, Plain};
+use dr_plan_expand::fields::{AnyOrMore, Definitions, OneOrMore, Plain, Stations};
 use dr_plan_expand::tables::{
     ShortFlowTable, ShortNodeTable, ShortPlanTable, ShortRowTable, ShortRuleTable,
 };
@@ -52,7 +52,9 @@ impl Inspected for ShortRuleTable {
     fn unknown_in<'a>(table: &'a Table) -> Option<&'a str> {
         unknown_key(
             table,
-            &["from", "class", "modality", "station", "to", "keep"],
+            &[
+                "from", "class", "modality", "station", "to", "keep", "except",
+            ],
         )
     }
 
@@ -72,6 +74,9 @@ impl Inspected for ShortRuleTable {
         }
         if misreads::<AnyValue>(alloc, table, "station")? {
             return Ok(Some("station"));
+        }
+        if misreads::<Stations>(alloc, table, "except")? {
+            return Ok(Some("except"));
         }
         if misreads::<ListOf<AnyText>>(alloc, table, "to")? {
             return Ok(Some("to"));

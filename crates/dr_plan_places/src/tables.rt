@@ -4,8 +4,8 @@ ghost use Rattle.dr_plan_places.specs.FieldFlaws.{IsRuleText, IsFlowOf, IsNodeOf
 
 use crate::flaw::Inspected;
 use crate::keys::{
-    misreads, misreads_modality, misreads_station, misses, misses_modalities, misses_stations,
-    unknown_key,
+    misreads, misreads_except, misreads_modality, misreads_station, misses, misses_modalities,
+    misses_stations, unknown_key,
 };
 use crate::listening::{calls_and_accepts, listening_fault};
 use dr_plan_model::Format;
@@ -55,7 +55,9 @@ impl Inspected for RuleTable {
     fn unknown_in<'a>(table: &'a Table) -> Option<&'a str> {
         unknown_key(
             table,
-            &["from", "class", "modality", "station", "to", "keep"],
+            &[
+                "from", "class", "modality", "station", "to", "keep", "except",
+            ],
         )
     }
 
@@ -75,6 +77,9 @@ impl Inspected for RuleTable {
         }
         if misreads_station(alloc, format, table)? {
             return Ok(Some("station"));
+        }
+        if misreads_except(alloc, format, table)? {
+            return Ok(Some("except"));
         }
         if misreads::<ListOf<AnyText>>(alloc, table, "to")? {
             return Ok(Some("to"));

@@ -8,7 +8,7 @@ use Rattle.std.proofs.lemmas.List.Elements.{Contains-append_left, Contains-appen
 use Rattle.dr_base.specs.Texts.{Text, Begins}
 use Rattle.dr_base.specs.declared.syntax.Syntax.{Syntax}
 use Rattle.dr_base.specs.declared.syntax.Syntax.TheVariants.{Implicit, Explicit}
-use Rattle.dr_route.specs.Routes.{local, Matches, MatchesField, Holds, SendsBy}
+use Rattle.dr_route.specs.Routes.{local, Matches, MatchesField, TakesStation, Holds, SendsBy}
 use Rattle.dr_route.specs.declared.key.Key.{Key}
 use Rattle.dr_route.specs.declared.rule.Pattern.{Pattern}
 use Rattle.dr_route.specs.declared.rule.Pattern.TheVariants.{Any, Literal}
@@ -85,9 +85,16 @@ matches_field field.Any value = inl tt
 matches_field (field.Literal literal) value = same_text literal value
 matches_field (field.Prefix prefix) value = begins prefix value
 
+denied : {P : Type 0} → Decided P → Decided (P → ⊥)
+denied (inl p) = inr (λ fails. fails p)
+denied (inr fails) = inl fails
+
+takes_station : (rule : Rule) (station : Text) → Decided (TakesStation rule station)
+takes_station rule station = both (matches_field rule.station station) (denied (among same_text rule.except station))
+
 holds : (rule : Rule) (caller : Text) (key : Key) → Decided (Holds rule caller key)
 holds rule caller key = decided_by (λ h. (h.0, h.1.0, h.1.1.0, h.1.1.1.0, h.1.1.1.1)) (λ h. (h.0, (h.1, (h.2, (h.3, h.4)))))
-    (both (other_text caller local) (both (matches rule.from caller) (both (matches rule.class key.class) (both (matches_field rule.modality key.modality) (matches_field rule.station key.station)))))
+    (both (other_text caller local) (both (matches rule.from caller) (both (matches rule.class key.class) (both (matches_field rule.modality key.modality) (takes_station rule key.station)))))
 
 either : {P Q : Type 0} → Decided P → Decided Q → Decided (P ⊎ Q)
 either (inl p) d = inl (inl p)

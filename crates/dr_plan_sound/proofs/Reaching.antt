@@ -1,5 +1,5 @@
 -- Hops of a sound plan lead to nodes that listen.
-use Rattle.std.proofs.Common.{◌≡◌, refl, subst, List, [], ◌∷◌, Some}
+use Rattle.std.proofs.Common.{◌≡◌, refl, subst, List, Some}
 use Rattle.dr_base.specs.Texts.{Text}
 use Rattle.dr_route.specs.Routes.{AcceptsBy}
 use Rattle.dr_route.specs.declared.accept.AcceptRow.{AcceptRow}

@@ -130,7 +130,7 @@ two_nodes_are_sound = record {
         | inr last ↦
             (let P : Text → Type 0 = λ n. Keeps (two_nodes (keep_all ∷ [])) n caller key in
             let other : caller ≢ local = λ e. scanner_is_no_caller (sym last.0 ∙ e) in
-            inl (subst P (sym last.1) (the_archive (keep_all ∷ []), (archive_stands (keep_all ∷ []), refl), inl ((other, tt, tt, tt, tt), refl))))
+            inl (subst P (sym last.1) (the_archive (keep_all ∷ []), (archive_stands (keep_all ∷ []), refl), inl ((other, tt, tt, tt, (tt, λ among. nothing_in_nil key.station among)), refl))))
       ];
   few_pairs = λ from to apart distinct each.
       let less : length apart ≤ 1 = no_more_than ((image, Explicit) ∷ []) apart distinct

@@ -32,6 +32,7 @@ keep_all = record {
   class = Any;
   modality = field.Any;
   station = field.Any;
+  except = [];
   to = [];
   keep = true;
 }

@@ -13,3 +13,4 @@ pub mod PrefixTexts
 pub mod ListenTexts
 pub mod ModalityTexts
 pub mod Unnamed
+pub mod ExceptTexts

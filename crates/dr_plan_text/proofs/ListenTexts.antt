@@ -160,7 +160,7 @@ bind_of_2 = λ plan w.
     none-some (codes "h:2") (sym none)
 
 -- the one node of a text of format 3 that says one node, if it says any
-lone : (text : Text) (fields : Members) (plan : PlanText)
+pub lone : (text : Text) (fields : Members) (plan : PlanText)
     → parse_document text ≡ Some (member (codes "format") (integer (pos 3)) (member (codes "node") (array (item (table fields) no_items)) no_members))
     → Writes text plan → (node : NodeText) × IsNodeTable fields node
 lone text fields plan parsed w =

@@ -48,6 +48,7 @@ rule_said = record {
   class = refl;
   modality = (refl, c_is);
   station = refl;
+  except = refl;
   to = refl;
   keep = refl;
 }
@@ -88,7 +89,7 @@ rule_prefix = (
     node = node_listed;
     flow = refl;
     fits = record {
-      rules = All-cons (RulesFit Three) written_modality_node [] (All-cons (RuleFits Three) written_modality_rule [] (tt, tt) (All-nil (RuleFits Three))) (All-nil (RulesFit Three));
+      rules = All-cons (RulesFit Three) written_modality_node [] (All-cons (RuleFits Three) written_modality_rule [] (tt, tt, tt) (All-nil (RuleFits Three))) (All-nil (RulesFit Three));
       flows = All-nil (FlowFits Three);
       listen = All-cons (ListensOf Three) written_modality_node [] tt (All-nil (ListensOf Three));
     };

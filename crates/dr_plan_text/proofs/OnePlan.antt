@@ -13,7 +13,7 @@ use Rattle.dr_route.specs.declared.accept.Callers.TheVariants as callers
 use Rattle.dr_plan_model.specs.declared.plan.Values.{Values}
 use Rattle.dr_plan_model.specs.declared.plan.Format.{Format}
 use Rattle.dr_plan_model.specs.declared.plan.Format.TheVariants.{One}
-use Rattle.dr_plan_model.specs.Formed.{IsClass}
+use Rattle.dr_plan_model.specs.Formed.{IsClass, IsLiteral}
 use Rattle.dr_plan_model.specs.Listening.{MayAccept}
 use Rattle.dr_plan_model.specs.declared.listens.Listens.{Listens}
 use Rattle.dr_plan_text.specs.Listening.{IsListens}
@@ -22,7 +22,7 @@ use Rattle.dr_plan_text.specs.declared.words.AcceptText.{AcceptText}
 use Rattle.dr_plan_text.specs.declared.words.NodeText.{NodeText}
 use Rattle.dr_plan_text.specs.declared.words.FlowText.{FlowText}
 use Rattle.dr_plan_text.specs.declared.words.PlanText.{PlanText}
-use Rattle.dr_plan_text.specs.Fields.{SaysText, SaysFormed, SaysNumber, SaysFlag, SaysFormat, SaysPattern, SaysField, SaysValues, SaysCallers, SaysTextsOnce, SaysTable, IsListOf, IsSomeOf, GivenOr, star}
+use Rattle.dr_plan_text.specs.Fields.{SaysText, SaysFormed, SaysNumber, SaysFlag, SaysFormat, SaysPattern, SaysField, SaysExceptions, SaysValues, SaysCallers, SaysTextsOnce, SaysTable, IsListOf, IsSomeOf, GivenOr, star}
 use Rattle.dr_plan_text.specs.Tables.{IsAcceptTable, IsRuleTable, IsNodeTable, IsFlowTable, IsRoot, IsFormat, FitsFormat, Writes}
 use Rattle.dr_plan_text.proofs.OneAnswer.{SaysOne, SaysText-one, SaysFormed-one, IsListOf-one, IsSomeOf-one, Given-one}
 use Rattle.dr_plan_text.proofs.OfValues.{SaysFormat-one, SaysField-one, SaysValues-one}
@@ -72,9 +72,9 @@ accept_one fields x y a b =
     let syntaxes = Given-one SaysTextsOnce SaysTextsOnce-one _ x.syntaxes y.syntaxes a.syntax b.syntax in
     same_accept x.from y.from x.class y.class x.syntaxes y.syntaxes from class syntaxes
 
-same_rule : (from from2 : Pattern) (class class2 : Pattern) (modality modality2 : FieldPattern) (station station2 : FieldPattern) (to to2 : List Text) (keep keep2 : Bool) → from ≡ from2 → class ≡ class2 → modality ≡ modality2 → station ≡ station2 → to ≡ to2 → keep ≡ keep2 →
-    (let x : Rule = record { from = from; class = class; modality = modality; station = station; to = to; keep = keep } in let y : Rule = record { from = from2; class = class2; modality = modality2; station = station2; to = to2; keep = keep2 } in x ≡ y)
-same_rule from from2 class class2 modality modality2 station station2 to to2 keep keep2 e_from e_class e_modality e_station e_to e_keep = rw (e_from, e_class, e_modality, e_station, e_to, e_keep) refl
+same_rule : (from from2 : Pattern) (class class2 : Pattern) (modality modality2 : FieldPattern) (station station2 : FieldPattern) (except except2 : List Text) (to to2 : List Text) (keep keep2 : Bool) → from ≡ from2 → class ≡ class2 → modality ≡ modality2 → station ≡ station2 → except ≡ except2 → to ≡ to2 → keep ≡ keep2 →
+    (let x : Rule = record { from = from; class = class; modality = modality; station = station; except = except; to = to; keep = keep } in let y : Rule = record { from = from2; class = class2; modality = modality2; station = station2; except = except2; to = to2; keep = keep2 } in x ≡ y)
+same_rule from from2 class class2 modality modality2 station station2 except except2 to to2 keep keep2 e_from e_class e_modality e_station e_except e_to e_keep = rw (e_from, e_class, e_modality, e_station, e_except, e_to, e_keep) refl
 
 rule_one : (fields : Members) (x y : Rule) → IsRuleTable fields x → IsRuleTable fields y → x ≡ y
 rule_one fields x y a b =
@@ -82,9 +82,10 @@ rule_one fields x y a b =
     let class = GivenOr-one Any (SaysPattern (SaysFormed IsClass)) (SaysPattern-one (SaysFormed IsClass) (SaysFormed-one IsClass)) _ x.class y.class a.class b.class in
     let modality = GivenOr-one field.Any SaysField SaysField-one _ x.modality y.modality a.modality b.modality in
     let station = GivenOr-one field.Any SaysField SaysField-one _ x.station y.station a.station b.station in
+    let except = GivenOr-one [] SaysExceptions (IsSomeOf-one (SaysFormed IsLiteral) (SaysFormed-one IsLiteral)) _ x.except y.except a.except b.except in
     let to = GivenOr-one [] (IsListOf SaysText) (IsListOf-one SaysText SaysText-one) _ x.to y.to a.to b.to in
     let keep = GivenOr-one _ SaysFlag SaysFlag-one _ x.keep y.keep a.keep b.keep in
-    same_rule x.from y.from x.class y.class x.modality y.modality x.station y.station x.to y.to x.keep y.keep from class modality station to keep
+    same_rule x.from y.from x.class y.class x.modality y.modality x.station y.station x.except y.except x.to y.to x.keep y.keep from class modality station except to keep
 
 same_node : (name name2 : Text) (listens listens2 : Listens) (max_pdu max_pdu2 : ℤ) (accepts accepts2 : List AcceptText) (rules rules2 : List Rule) → name ≡ name2 → listens ≡ listens2 → max_pdu ≡ max_pdu2 → accepts ≡ accepts2 → rules ≡ rules2 →
     (let x : NodeText = record { name = name; listens = listens; max_pdu = max_pdu; accepts = accepts; rules = rules } in let y : NodeText = record { name = name2; listens = listens2; max_pdu = max_pdu2; accepts = accepts2; rules = rules2 } in x ≡ y)

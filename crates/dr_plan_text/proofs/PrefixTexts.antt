@@ -61,6 +61,7 @@ rule_said = record {
   class = refl;
   modality = refl;
   station = (refl, ct_is);
+  except = refl;
   to = refl;
   keep = refl;
 }
@@ -101,7 +102,7 @@ rule_prefix = (
     node = node_listed;
     flow = refl;
     fits = record {
-      rules = All-cons (RulesFit Two) written_rule_node [] (All-cons (RuleFits Two) written_rule [] (refl, tt) (All-nil (RuleFits Two))) (All-nil (RulesFit Two));
+      rules = All-cons (RulesFit Two) written_rule_node [] (All-cons (RuleFits Two) written_rule [] (refl, tt, refl) (All-nil (RuleFits Two))) (All-nil (RulesFit Two));
       flows = All-nil (FlowFits Two);
       listen = All-cons (ListensOf Two) written_rule_node [] refl (All-nil (ListensOf Two));
     };

@@ -8,7 +8,7 @@ use Rattle.dr_plan_text.specs.Laws.{StarNamesNone, StarsInsideNameNone, SpacesNa
 use Rattle.dr_plan_text.proofs.OfValues.{no_text_named}
 
 -- no literal has an asterisk
-no_star_within : (text : Text) → Contains text 42 → IsLiteral text → ⊥
+pub no_star_within : (text : Text) → Contains text 42 → IsLiteral text → ⊥
 no_star_within text among is =
     let plain = All-contains (λ (byte : ℕ). (32 ≤ byte) × (byte < 127) × (byte ≡ 42 → ⊥)) text 42 is.printable among in
     plain.2 refl

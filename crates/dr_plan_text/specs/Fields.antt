@@ -88,6 +88,10 @@ SaysField d field.Any = d ≡ star
 SaysField d (field.Literal literal) = SaysNamed d (field.Literal literal)
 SaysField d (field.Prefix prefix) = SaysNamed d (field.Prefix prefix)
 
+-- the stations that a rule excepts: an array of one literal or more
+abbrev pub SaysExceptions : Data → List Text → Type 0
+SaysExceptions d stations = IsSomeOf (SaysFormed IsLiteral) d stations
+
 -- the modalities or the stations of a flow: `*`, or a list of named ones, of which the literals and
 -- the prefixes are kept apart, each in the list's order
 abbrev pub SaysValues : Data → Values → Type 0

@@ -78,6 +78,7 @@ written_rule = record {
   class = Any;
   modality = field.Any;
   station = field.Prefix (codes "CT");
+  except = [];
   to = [];
   keep = false;
 }
@@ -142,6 +143,7 @@ written_modality_rule = record {
   class = Any;
   modality = field.Prefix (codes "C");
   station = field.Any;
+  except = [];
   to = [];
   keep = false;
 }
@@ -269,3 +271,46 @@ accept_text = codes "[[node.accept]]\nfrom = \"*\"\nclass = \"1\"\nsyntax = [\"1
 -- nor one with a node that listens nowhere and has an accept row
 abbrev pub NowhereHasNoRow : Type 0
 NowhereHasNoRow = WritesNone (third_format ++ nowhere_text ++ accept_text)
+
+-- the text of node A with a rule for the stations that begin with CT, but for CT9
+abbrev pub except_text : Text
+except_text = rule_text ++ codes "except = [\"CT9\"]\n"
+
+-- the rule as it is read
+abbrev pub written_except_rule : Rule
+written_except_rule = record {
+  from = Any;
+  class = Any;
+  modality = field.Any;
+  station = field.Prefix (codes "CT");
+  except = codes "CT9" ∷ [];
+  to = [];
+  keep = false;
+}
+
+-- its node as it is read
+abbrev pub written_except_node : NodeText
+written_except_node = record {
+  name = codes "A";
+  listens = At (codes "h:1") None;
+  max_pdu = pos 16384;
+  accepts = [];
+  rules = written_except_rule ∷ [];
+}
+
+-- in format 3 the text with that rule writes it
+abbrev pub ExceptionIsWritten : Type 0
+ExceptionIsWritten = Writes (third_format ++ except_text)
+    (record { format = Three; nodes = written_except_node ∷ []; flows = [] })
+
+-- in format 2 it writes no plan
+abbrev pub ExceptionIsOfFormatThree : Type 0
+ExceptionIsOfFormatThree = WritesNone (second_format ++ except_text)
+
+-- a text of format 3 with a rule that excepts a prefix writes no plan
+abbrev pub ExceptionIsNoPrefix : Type 0
+ExceptionIsNoPrefix = WritesNone (third_format ++ rule_text ++ codes "except = [\"CT9*\"]\n")
+
+-- nor does one with an empty list of exceptions: where there are none, none are written
+abbrev pub NoExceptionIsWritten : Type 0
+NoExceptionIsWritten = WritesNone (third_format ++ rule_text ++ codes "except = []\n")

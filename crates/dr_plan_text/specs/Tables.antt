@@ -13,7 +13,8 @@ use Rattle.dr_plan_model.specs.declared.plan.Format.TheVariants.{One}
 use Rattle.dr_plan_model.specs.Formed.{IsClass, RuleFits, ValuesFit}
 use Rattle.dr_plan_model.specs.Listening.{ListensFits, MayAccept}
 use Rattle.dr_plan_text.specs.Fields.{SaysText, SaysFormed, SaysNumber, SaysFlag, SaysFormat}
-use Rattle.dr_plan_text.specs.Fields.{SaysPattern, SaysField, SaysValues, SaysCallers}
+use Rattle.dr_plan_text.specs.Fields.{SaysPattern, SaysField, SaysExceptions, SaysValues}
+use Rattle.dr_plan_text.specs.Fields.{SaysCallers}
 use Rattle.dr_plan_text.specs.Fields.{SaysTable, SaysTextsOnce, IsListOf, IsSomeOf, Given, GivenOr}
 use Rattle.dr_plan_text.specs.Fields.{HasOnly}
 use Rattle.dr_plan_text.specs.Listening.{IsListens}
@@ -39,9 +40,10 @@ pub record IsAcceptTable (fields : Members) (row : AcceptText) : Type 0 where
 abbrev pub rule_keys : List Text
 rule_keys =
     codes "from" ∷ codes "class" ∷ codes "modality" ∷ codes "station" ∷ codes "to" ∷ codes "keep"
-    ∷ []
+    ∷ codes "except" ∷ []
 
--- the table says the rule: what isn't given is any value, no target, and not kept
+-- the table says the rule: what isn't given is any value, no station that is excepted, no target,
+-- and not kept
 pub record IsRuleTable (fields : Members) (rule : Rule) : Type 0 where
   pub only : HasOnly rule_keys fields
   pub from : GivenOr Any (SaysPattern SaysText) (get_member (codes "from") fields) rule.from
@@ -49,6 +51,7 @@ pub record IsRuleTable (fields : Members) (rule : Rule) : Type 0 where
       GivenOr Any (SaysPattern (SaysFormed IsClass)) (get_member (codes "class") fields) rule.class
   pub modality : GivenOr field.Any SaysField (get_member (codes "modality") fields) rule.modality
   pub station : GivenOr field.Any SaysField (get_member (codes "station") fields) rule.station
+  pub except : GivenOr [] SaysExceptions (get_member (codes "except") fields) rule.except
   pub to : GivenOr [] (IsListOf SaysText) (get_member (codes "to") fields) rule.to
   pub keep : GivenOr false SaysFlag (get_member (codes "keep") fields) rule.keep
 
@@ -91,8 +94,8 @@ pub record IsFlowTable (fields : Members) (flow : FlowText) : Type 0 where
 abbrev pub IsFormat : Option Data → Format → Type 0
 IsFormat value format = GivenOr One SaysFormat value format
 
--- the plan's format has what its rules and flows name for modality and for station, and how its
--- nodes listen
+-- the plan's format has what its rules and flows name for modality and for station, what its rules
+-- except, and how its nodes listen
 pub record FitsFormat (plan : PlanText) : Type 0 where
   pub rules : All (λ node. All (λ rule. RuleFits plan.format rule) node.rules) plan.nodes
   pub flows : All (λ flow. ValuesFit plan.format flow.modalities flow.stations) plan.flows

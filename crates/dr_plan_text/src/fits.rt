@@ -1,11 +1,14 @@
-//! Whether a format has what a plan names for modality and for station, and how its nodes listen.
+//! Whether a format has what a plan names for modality and for station, what its rules except, and
+//! how its nodes listen.
 ghost use Rattle.std.specs.Prelude.{◌≡◌, ◌↔◌, [], IsTrue, All};
 ghost use Rattle.dr_plan_model.specs.Listening.{ListensFits};
 ghost use Rattle.dr_plan_model.specs.Naming.{prefix_of, listed_prefixes};
-ghost use Rattle.dr_plan_model.specs.Formed.{ModalitiesFit, StationsFit, RuleFits, ValuesFit};
+ghost use Rattle.dr_plan_model.specs.Formed.{ModalitiesFit, StationsFit, ExceptionsFit, RuleFits};
+ghost use Rattle.dr_plan_model.specs.Formed.{ValuesFit};
 ghost use Rattle.dr_plan_text.specs.Tables.{FitsFormat};
 
 use crate::words::{FlowText, NodeText, PlanText};
+use dr_base::{Seq, Text};
 use dr_plan_model::{Format, Listens, Values};
 use dr_route::{FieldPattern, Rule};
 
@@ -72,10 +75,22 @@ pub fn stations_fit(format: Format, values: &Values) -> bool
     }
 }
 
+/// Whether the format has these exceptions of a rule: only format 3 has some.
+pub fn exceptions_fit(format: Format, stations: &Seq<Text>) -> bool
+    ensures { IsTrue result ↔ ExceptionsFit format stations.now }
+{
+    match format {
+        Format::One | Format::Two => stations.is_empty(),
+        Format::Three => true,
+    }
+}
+
 fn rule_fits(format: Format, rule: &Rule) -> bool
     ensures { IsTrue result ↔ RuleFits format rule.now }
 {
-    modality_fits(format, &rule.modality) && station_fits(format, &rule.station)
+    modality_fits(format, &rule.modality)
+        && station_fits(format, &rule.station)
+        && exceptions_fit(format, &rule.except)
 }
 
 fn rules_fit(format: Format, rules: &[Rule]) -> bool
@@ -84,13 +99,17 @@ fn rules_fit(format: Format, rules: &[Rule]) -> bool
     rules.iter().all(|rule| rule_fits(format, rule))
 }
 
+fn node_fits(format: Format, node: &NodeText) -> bool
+    ensures { IsTrue result ↔ All (λ rule. RuleFits format rule) node.now.rules }
+{
+    rules_fit(format, node.rules.as_slice())
+}
+
 fn nodes_fit(format: Format, nodes: &[NodeText]) -> bool
     ensures { IsTrue result
         ↔ All (λ node. All (λ rule. RuleFits format rule) node.rules) nodes.now }
 {
-    nodes
-        .iter()
-        .all(|node| rules_fit(format, node.rules.as_slice()))
+    nodes.iter().all(|node| node_fits(format, node))
 }
 
 fn flow_fits(format: Format, flow: &FlowText) -> bool
@@ -122,8 +141,8 @@ fn all_listen(format: Format, nodes: &[NodeText]) -> bool
     nodes.iter().all(|node| listens_fits(format, &node.listens))
 }
 
-/// Whether the plan's format has what its rules and flows name for modality and for station, and
-/// how its nodes listen.
+/// Whether the plan's format has what its rules and flows name for modality and for station, what
+/// its rules except, and how its nodes listen.
 pub(crate) fn fits_format(plan: &PlanText) -> bool
     ensures { IsTrue result ↔ FitsFormat plan.now }
 {

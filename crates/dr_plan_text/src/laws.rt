@@ -10,6 +10,8 @@ ghost use Rattle.dr_plan_text.specs.Laws.{FlowModalityIsWritten, FlowModalityIsO
 ghost use Rattle.dr_plan_text.specs.Laws.{NowhereIsWritten, NowhereIsOfFormatThree, BindIsWritten};
 ghost use Rattle.dr_plan_text.specs.Laws.{BindIsOfFormatThree, BindNeedsAddress};
 ghost use Rattle.dr_plan_text.specs.Laws.{NowhereHasNoAddress, NowhereHasNoRow};
+ghost use Rattle.dr_plan_text.specs.Laws.{ExceptionIsWritten, ExceptionIsOfFormatThree};
+ghost use Rattle.dr_plan_text.specs.Laws.{ExceptionIsNoPrefix, NoExceptionIsWritten};
 
 /// A text writes one plan at most.
 pub fn a_text_writes_one_plan()
@@ -69,4 +71,13 @@ pub fn nodes_listen_elsewhere_in_format_3()
     ensures no_address { BindNeedsAddress }
     ensures addressed { NowhereHasNoAddress }
     ensures accepts { NowhereHasNoRow }
+{}
+
+/// In format 3 a rule may except stations, and the same text of format 2 writes no plan. Nor does a
+/// text of format 3 where a rule excepts a prefix, or where the list of what it excepts is empty.
+pub fn rules_have_exceptions_in_format_3()
+    ensures some { ExceptionIsWritten }
+    ensures some_of_2 { ExceptionIsOfFormatThree }
+    ensures prefix { ExceptionIsNoPrefix }
+    ensures none { NoExceptionIsWritten }
 {}

@@ -15,7 +15,7 @@ use crate::fields::{
 use crate::fits::fits_format;
 use crate::form::{ListOf, SomeOf, TableForm, TableOf, defaulted, has_only, required};
 use crate::listening::{listens_in, may_accept};
-use crate::values::{AnyValue, AnyValues};
+use crate::values::{AnyValue, AnyValues, Exceptions};
 use crate::words::{AcceptText, FlowText, NodeText, PlanText};
 use dr_base::Seq;
 use dr_plan_model::Format;
@@ -54,7 +54,9 @@ impl TableForm for RuleTable {
     fn read_table(alloc: Global, table: &Table) -> Result<Rule, ReadFault> {
         if !has_only(
             table,
-            &["from", "class", "modality", "station", "to", "keep"],
+            &[
+                "from", "class", "modality", "station", "to", "keep", "except",
+            ],
         ) {
             return Err(ReadFault::Field);
         }
@@ -63,6 +65,7 @@ impl TableForm for RuleTable {
             class: defaulted::<ClassPattern>(alloc, table, "class", Pattern::Any)?,
             modality: defaulted::<AnyValue>(alloc, table, "modality", FieldPattern::Any)?,
             station: defaulted::<AnyValue>(alloc, table, "station", FieldPattern::Any)?,
+            except: defaulted::<Exceptions>(alloc, table, "except", Seq::new(alloc))?,
             to: defaulted::<ListOf<AnyText>>(alloc, table, "to", Seq::new(alloc))?,
             keep: defaulted::<Flag>(alloc, table, "keep", false)?,
         })

@@ -4,14 +4,14 @@ ghost use Rattle.std.specs.Prelude.{◌≡◌, ◌++◌, ◌∷◌, [], IfOk, If
 ghost use Rattle.toml.specs.Data.{string};
 ghost use Rattle.dr_base.specs.Texts.{Text as Words};
 ghost use Rattle.dr_route.specs.declared.rule.FieldPattern.{FieldPattern as Named};
-ghost use Rattle.dr_plan_model.specs.Formed.{IsPrefix};
+ghost use Rattle.dr_plan_model.specs.Formed.{IsLiteral, IsPrefix};
 ghost use Rattle.dr_plan_model.specs.Naming.{literal_of, prefix_of};
 ghost use Rattle.dr_plan_text.specs.Fields.{SaysNamed, SaysField, SaysValues};
 ghost use Rattle.dr_plan_text.specs.declared.fault.ReadFault.TheVariants.{Field};
 
 use crate::fault::ReadFault;
-use crate::fields::is_star;
-use crate::form::{Form, ListOf};
+use crate::fields::{Formed, TextForm, is_star};
+use crate::form::{Form, ListOf, SomeOf};
 use crate::forms::{is_literal, is_prefix};
 use dr_base::{Seq, Text};
 use dr_plan_model::Values;
@@ -90,6 +90,20 @@ impl Form for AnyValue {
         Ok(named)
     }
 }
+
+/// A single value of a field.
+pub struct SingleValue;
+
+impl TextForm for SingleValue {
+    ghost is_formed = { IsLiteral };
+
+    fn test(text: &[u8]) -> bool {
+        is_literal(text)
+    }
+}
+
+/// The stations that a rule excepts: a list of one single value or more.
+pub type Exceptions = SomeOf<Formed<SingleValue>>;
 
 /// Adds the literal or the prefix of a pattern to the others of its kind.
 fn add_named(values: &mut FieldValues, pattern: &FieldPattern) -> Result<(), AllocError>

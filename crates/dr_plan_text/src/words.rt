@@ -13,8 +13,8 @@ pub struct AcceptText {
 }
 
 /// A node: its addresses have their form, its name is any text, and `max_pdu` (bytes) any integer.
-/// In its rules the names are any texts, and class, modality and station have their forms. Where it
-/// listens nowhere it has no accept row.
+/// In its rules the names are any texts, and class, modality, station and the stations that are
+/// excepted have their forms. Where it listens nowhere it has no accept row.
 #[derive(Debug, Drop)]
 pub struct NodeText {
     pub name: Text,
@@ -37,8 +37,8 @@ pub struct FlowText {
 }
 
 /// The format of a plan's text, and its nodes and flows in the order of the text. They name no
-/// prefix that the format doesn't have, and before format 3 each node listens where others reach
-/// it.
+/// prefix that the format doesn't have. Before format 3 each node listens where others reach it,
+/// and no rule excepts a station.
 #[derive(Debug, Drop)]
 pub struct PlanText {
     pub format: Format,

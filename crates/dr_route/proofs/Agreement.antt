@@ -8,7 +8,7 @@ use Rattle.std.proofs.lemmas.Slice.Eq.{bytes_eq-Decides}
 use Rattle.std.specs.Str.{bytes_eq}
 use Rattle.std.proofs.lemmas.List.Elements.{All-head, All-tail, All-contains, Contains-append_left, Contains-append_right, Contains-append_cases, Contains-push, Contains-push_cases}
 use Rattle.dr_base.specs.Texts.{Text, Begins}
-use Rattle.dr_route.specs.Routes.{Matches, MatchesField, Holds, SendsBy, KeepsBy}
+use Rattle.dr_route.specs.Routes.{Matches, MatchesField, TakesStation, Holds, SendsBy, KeepsBy}
 use Rattle.dr_route.specs.Cells.{InField, IsLongest, HasNoPrefix, InCell, SameValues, SameLiterals}
 use Rattle.dr_route.specs.Laws.{IsKnown, IsKnownRule, IsPart, ArePlain, ArePlainValues, value_of}
 use Rattle.dr_route.specs.declared.key.Key.{Key}
@@ -56,6 +56,20 @@ patterns_agree values part pattern.Any v w known a b m = tt
 patterns_agree values part (pattern.Literal literal) v w known a b m = literal_agrees values part literal v w known a b m
 patterns_agree values part (pattern.Prefix prefix) v w known a b m = prefix_agrees values part prefix v w known a b m
 
+-- an exception of a rule whose literals are the plan's is a literal, and so alone in its part
+pub excepts_agree : (values : FieldValues) (part : OwnedField) (except : List Text) (v w : Text) → All (Contains values.literals) except →
+    InField values part v → InField values part w → Contains except w → Contains except v
+excepts_agree values part except v w known a b there =
+    let same : w ≡ v = literal_agrees values part w w v (All-contains (Contains values.literals) except w known there) b a refl in
+    let P : Text → Type 0 = λ t. Contains except t in subst P same there
+
+pub stations_agree : (values : FieldValues) (part : OwnedField) (rule : Rule) (v w : Text) → IsKnown values rule.station → All (Contains values.literals) rule.except →
+    InField values part v → InField values part w → TakesStation rule v → TakesStation rule w
+stations_agree values part rule v w known each a b h = (
+  patterns_agree values part rule.station v w known a b h.0,
+  λ there. h.1 (excepts_agree values part rule.except v w each a b there),
+)
+
 pub holds_agrees : (literals : Literals) (cell : OwnedCell) (k l : Key) → InCell literals cell k → InCell literals cell l →
     (rule : Rule) → IsKnownRule literals rule → (caller : Text) → Holds rule caller k → Holds rule caller l
 holds_agrees literals cell k l a b rule known caller h = (
@@ -63,7 +77,7 @@ holds_agrees literals cell k l a b rule known caller h = (
   h.1,
   let P : Text → Type 0 = λ v. Matches rule.class v in subst P (sym a.class ∙ b.class) h.2,
   patterns_agree literals.modalities cell.modality rule.modality k.modality l.modality known.0 a.modality b.modality h.3,
-  patterns_agree literals.stations cell.station rule.station k.station l.station known.1 a.station b.station h.4,
+  stations_agree literals.stations cell.station rule k.station l.station known.1 known.2 a.station b.station h.4,
 )
 
 pub sends_agree : (literals : Literals) (cell : OwnedCell) (k l : Key) → InCell literals cell k → InCell literals cell l →

@@ -1,3 +1,4 @@
 pub mod Agreement
+pub mod Excepting
 pub mod Finding
 pub mod NameSets

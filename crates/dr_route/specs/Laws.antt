@@ -1,10 +1,12 @@
 -- Laws of rules and cells.
-use Rattle.std.specs.Prelude.{◌≡◌, ◌≢◌, ◌<◌, List, ◌∷◌, [], ◌++◌, Contains, All}
+use Rattle.std.specs.Prelude.{◌≡◌, ◌≢◌, ◌<◌, ◌↔◌, List, ◌∷◌, [], ◌++◌, Contains, All, codes, true}
 use Rattle.dr_base.specs.Texts.{Text}
-use Rattle.dr_route.specs.Routes.{local, Holds, SendsBy, KeepsBy}
+use Rattle.dr_base.specs.declared.syntax.Syntax.TheVariants.{Implicit}
+use Rattle.dr_route.specs.Routes.{local, MatchesField, TakesStation, Holds, SendsBy, KeepsBy}
 use Rattle.dr_route.specs.Cells.{IsLongest, InCell, SameLiterals}
 use Rattle.dr_route.specs.declared.key.Key.{Key}
 use Rattle.dr_route.specs.declared.rule.Rule.{Rule}
+use Rattle.dr_route.specs.declared.rule.Pattern.TheVariants.{Any}
 use Rattle.dr_route.specs.declared.rule.FieldPattern.{FieldPattern}
 use Rattle.dr_route.specs.declared.rule.FieldPattern.TheVariants as pattern
 use Rattle.dr_route.specs.declared.cell.FieldValues.{FieldValues}
@@ -17,16 +19,67 @@ use Rattle.dr_route.specs.declared.cell.OwnedCell.{OwnedCell}
 abbrev pub LocalIsNobody : Type 0
 LocalIsNobody = (rule : Rule) (key : Key) → Holds rule local key → ⊥
 
+-- no rule holds for a key whose station is an exception of the rule
+abbrev pub ExceptionsAreNotHeld : Type 0
+ExceptionsAreNotHeld =
+    (rule : Rule) (caller : Text) (key : Key) → Contains rule.except key.station
+    → Holds rule caller key
+    → ⊥
+
+-- for all other stations a rule holds as it would without its exceptions
+abbrev pub OthersAreHeld : Type 0
+OthersAreHeld =
+    (rule : Rule) (caller : Text) (key : Key) → (Contains rule.except key.station → ⊥)
+    → Holds rule caller key ↔ Holds (record rule { except = [] }) caller key
+
+-- a rule without exceptions speaks of the stations that its pattern admits
+abbrev pub NoExceptionsAsBefore : Type 0
+NoExceptionsAsBefore =
+    (rule : Rule) (station : Text) → rule.except ≡ []
+    → TakesStation rule station ↔ MatchesField rule.station station
+
+-- a rule for `CT*` but `CT9`
+abbrev pub all_but_ct9 : Rule
+all_but_ct9 = record {
+  «from» = Any;
+  class = Any;
+  modality = pattern.Any;
+  station = pattern.Prefix (codes "CT");
+  except = codes "CT9" ∷ [];
+  «to» = [];
+  keep = true;
+}
+
+-- a key of that station
+abbrev pub key_at : Text → Key
+key_at station = record { class = []; syntax = Implicit; modality = []; station = station }
+
+-- the rule for `CT*` but `CT9` holds for CT1, and neither for CT9 nor for MR1
+abbrev pub HoldsForAllButOne : Type 0
+HoldsForAllButOne =
+    Holds all_but_ct9 (codes "GATE") (key_at (codes "CT1"))
+    × (Holds all_but_ct9 (codes "GATE") (key_at (codes "CT9")) → ⊥)
+    × (Holds all_but_ct9 (codes "GATE") (key_at (codes "MR1")) → ⊥)
+
 -- the literal of the pattern, or its prefix, is one that the plan names for the field
 abbrev pub IsKnown : FieldValues → FieldPattern → Type 0
 IsKnown values pattern.Any = Unit {0}
 IsKnown values (pattern.Literal literal) = Contains values.literals literal
 IsKnown values (pattern.Prefix prefix) = Contains values.prefixes prefix
 
--- what a rule asks of modality and station is among what the plan names
+-- what a rule asks of modality and station is among what the plan names, and so is each exception
 abbrev pub IsKnownRule : Literals → Rule → Type 0
 IsKnownRule literals rule =
-    IsKnown literals.modalities rule.modality × IsKnown literals.stations rule.station
+    IsKnown literals.modalities rule.modality
+    × IsKnown literals.stations rule.station
+    × All (Contains literals.stations.literals) rule.except
+
+-- a rule whose literals the plan names holds for all keys of a cell, or for none
+abbrev pub AgreeInHolding : Type 0
+AgreeInHolding =
+    (literals : Literals) (cell : OwnedCell) (k l : Key)
+    → InCell literals cell k → InCell literals cell l → (rule : Rule) → IsKnownRule literals rule
+    → (caller : Text) → Holds rule caller k → Holds rule caller l
 
 -- keys of one cell are sent to the same nodes by rules whose literals the plan names
 abbrev pub AgreeInSends : Type 0

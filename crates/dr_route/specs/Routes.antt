@@ -27,13 +27,17 @@ MatchesField field.Any value = Unit {0}
 MatchesField (field.Literal literal) value = literal ≡ value
 MatchesField (field.Prefix prefix) value = Begins prefix value
 
+-- the rule speaks of the station: its pattern admits it, and it is no exception
+abbrev pub TakesStation : Rule → Text → Type 0
+TakesStation rule station = MatchesField rule.station station × (Contains rule.except station → ⊥)
+
 -- the rule holds for what the caller brings
 abbrev pub Holds : Rule → Text → Key → Type 0
 Holds rule caller key =
     (caller ≢ local) × Matches rule.from caller
     × Matches rule.class key.class
     × MatchesField rule.modality key.modality
-    × MatchesField rule.station key.station
+    × TakesStation rule key.station
 
 -- some rule that holds for what the caller brings names the node among its targets
 abbrev pub SendsBy : List Rule → Text → Key → Text → Type 0

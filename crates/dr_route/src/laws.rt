@@ -1,5 +1,7 @@
 //! Laws of rules and cells: what a reader may take from the definitions.
 ghost use Rattle.dr_route.specs.Laws.{LocalIsNobody, AgreeInSends, AgreeInKeeps, CellsCover};
+ghost use Rattle.dr_route.specs.Laws.{AgreeInHolding, ExceptionsAreNotHeld, OthersAreHeld};
+ghost use Rattle.dr_route.specs.Laws.{NoExceptionsAsBefore, HoldsForAllButOne};
 ghost use Rattle.dr_route.specs.Laws.{CellsAreApart, LongestIsOne, EachCellHasAKey};
 ghost use Rattle.dr_route.specs.Laws.{SameValuesMakeSameCells};
 
@@ -9,9 +11,19 @@ pub fn no_rule_holds_for_the_local_caller()
     ensures { LocalIsNobody }
 {}
 
-/// Keys of one cell are told apart by no rules whose literals are the plan's: they are sent to the
-/// same nodes, and kept alike.
+/// A rule doesn't hold for its exceptions. For all other stations it is what it would be without
+/// them; so without exceptions it is what it was before there were any.
+pub fn exceptions_are_not_held()
+    ensures excepted { ExceptionsAreNotHeld }
+    ensures others { OthersAreHeld }
+    ensures none { NoExceptionsAsBefore }
+    ensures figure { HoldsForAllButOne }
+{}
+
+/// Keys of one cell are told apart by no rules whose literals are the plan's, exceptions among
+/// them: a rule holds for both or for neither, they are sent to the same nodes, and kept alike.
 pub fn keys_of_one_cell_agree()
+    ensures holds { AgreeInHolding }
     ensures sends { AgreeInSends }
     ensures keeps { AgreeInKeeps }
 {}

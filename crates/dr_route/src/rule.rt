@@ -1,7 +1,8 @@
 //! The rules of a node.
 ghost use Rattle.std.specs.Prelude.{◌≡◌, ◌↔◌, ◌++◌, IsTrue, MatchOption};
 ghost use Rattle.dr_base.specs.Texts.{Text as Words, Begins};
-ghost use Rattle.dr_route.specs.Routes.{local, Matches, MatchesField, Holds};
+ghost use Rattle.dr_route.specs.Routes.{local, Matches, MatchesField};
+ghost use Rattle.dr_route.specs.Routes.{TakesStation, Holds};
 
 use crate::key::Key;
 use dr_base::{Seq, Text};
@@ -28,13 +29,15 @@ pub enum FieldPattern {
 }
 
 /// A rule of a node: which instances it speaks of, the nodes that they are sent to, and whether the
-/// node keeps them.
+/// node keeps them. It doesn't speak of the stations `except`, which stand in any order. Plans have
+/// such exceptions in format 3.
 #[derive(Clone, Debug, Drop)]
 pub struct Rule {
     pub from: Pattern,
     pub class: Pattern,
     pub modality: FieldPattern,
     pub station: FieldPattern,
+    pub except: Seq<Text>,
     pub to: Seq<Text>,
     pub keep: bool,
 }
@@ -93,8 +96,15 @@ pub fn matches_field(pattern: &FieldPattern, value: &Text) -> bool
     }
 }
 
-/// Whether the rule holds for what the caller brings: each of its four patterns admits its value.
-/// No rule holds for the local caller.
+/// Whether the rule speaks of the station: its pattern admits it, and it is no exception.
+pub fn takes_station(rule: &Rule, station: &Text) -> bool
+    ensures { IsTrue result ↔ TakesStation rule.now station.now }
+{
+    matches_field(&rule.station, station) && !rule.except.as_slice().contains(station)
+}
+
+/// Whether the rule holds for what the caller brings: each of its four patterns admits its value,
+/// and the station is no exception. No rule holds for the local caller.
 pub fn holds(rule: &Rule, caller: &Text, key: &Key) -> bool
     ensures { IsTrue result ↔ Holds rule.now caller.now key.now }
 {
@@ -102,5 +112,5 @@ pub fn holds(rule: &Rule, caller: &Text, key: &Key) -> bool
         && matches(&rule.from, caller)
         && matches(&rule.class, &key.class)
         && matches_field(&rule.modality, &key.modality)
-        && matches_field(&rule.station, &key.station)
+        && takes_station(rule, &key.station)
 }

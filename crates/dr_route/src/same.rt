@@ -52,6 +52,7 @@ impl Same for Rule {
             && self.class.is_same(&other.class)
             && self.modality.is_same(&other.modality)
             && self.station.is_same(&other.station)
+            && are_same(self.except.as_slice(), other.except.as_slice())
             && are_same(self.to.as_slice(), other.to.as_slice())
     }
 }

@@ -34,6 +34,7 @@ mod keeper;
 mod live;
 mod monitor;
 mod open;
+mod past;
 mod reporting;
 mod rest;
 mod resting;

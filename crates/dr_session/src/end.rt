@@ -10,12 +10,12 @@ ghost use Rattle.dr_session.specs.Ends.{unmarked as no_marks, OpensTo, Meets, He
 ghost use Rattle.dr_session.specs.Ends.{CrowdsIn, LosesIn, TakesCore, TakesFree, EchoesIn};
 ghost use Rattle.dr_session.specs.Ends.{is_free_in};
 ghost use Rattle.dr_session.specs.Ends.{is_dry_in, state_in, over_of, ended_by, idle_in};
-ghost use Rattle.dr_session.specs.Pendings.{pending_in};
+ghost use Rattle.dr_session.specs.Pendings.{agreed_in, asked_in, pending_in};
 ghost use Rattle.dr_session.specs.Reactions.{write};
 
 use crate::boxed::BoxedCore;
 use crate::echoing::{ask_echo, is_free};
-use crate::ends::{Core, Effect, Ended, Heard, Input, LinkAction, Marks, Moment, Over};
+use crate::ends::{Core, Effect, Ended, Heard, Input, LinkAction, Marks, Moment, Over, Pending};
 use crate::hearing::{hear, react};
 use crate::listening::Listener;
 use crate::port::DeskPort;
@@ -23,7 +23,7 @@ use crate::react::one;
 use crate::writing::write_pdu;
 use dr_base::{Seq, Text};
 use dr_dimse::Awaited;
-use dr_nego::{NegoFault, propose, propose_echo};
+use dr_nego::{Agreed, NegoFault, propose, propose_echo};
 use dr_pdu::{AssociateRq, Feeder, Pdu};
 use dr_site::Site;
 use dr_ulstate::{Assoc, Next, Opening, State};
@@ -179,6 +179,32 @@ impl End {
         };
         match &core.as_core().pending {
             Some(pending) => Some(&pending.uid),
+            None => None,
+        }
+    }
+
+    /// The request that it has sent and whose response it awaits. It takes no memory.
+    pub fn asked(&self) -> Option<&Pending>
+        ensures { option_copied result ≡ asked_in self.now.core }
+    {
+        let Some(core) = &self.core else {
+            return None;
+        };
+        match &core.as_core().pending {
+            Some(pending) => Some(pending),
+            None => None,
+        }
+    }
+
+    /// What it has agreed on; None before that. It takes no memory.
+    pub fn agreed(&self) -> Option<&Agreed>
+        ensures { option_copied result ≡ agreed_in self.now.core }
+    {
+        let Some(core) = &self.core else {
+            return None;
+        };
+        match &core.as_core().agreed {
+            Some(terms) => Some(terms.as_agreed()),
             None => None,
         }
     }

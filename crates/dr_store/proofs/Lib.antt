@@ -12,5 +12,6 @@ pub mod Sizes
 pub mod Stable
 pub mod Told
 pub mod Unfit
+pub mod Within
 pub mod Writes
 pub mod Zips

@@ -1,18 +1,21 @@
 //! The whole journal, each line with the instance that it is of, and as it is shown.
-ghost use Rattle.std.specs.Prelude.{◌≡◌, ℕ, false, IfOk, map as mapped};
+ghost use Rattle.std.specs.Prelude.{◌≡◌, ◌<◌, ◌^◌, ℕ, false, IfOk, map as mapped};
 ghost use Rattle.sqlite.specs.Held.{state};
 ghost use Rattle.dr_site.specs.Parts.{Part};
 ghost use Rattle.dr_ledger.specs.Replies.{Reads, entry_of};
 ghost use Rattle.dr_ledger_history.specs.Lines.{line_of};
+ghost use Rattle.dr_ledger_views.specs.Numbers.{AreBehind, counted, lines_within};
 ghost use Rattle.dr_store_schema.specs.Books.{lines_of};
 ghost use Rattle.dr_store_lists.specs.Lists.{IsJournal};
 ghost use Rattle.dr_store_audit.specs.Goals.{AreByLine};
 ghost use Rattle.dr_store_audit.specs.Journal.{lines_told};
 ghost use Rattle.dr_store_calls.specs.Calling.{Looked};
+ghost use Rattle.dr_store_views.specs.Spans.{AreNotesWithin, numbered_of};
 
 use dr_base::{Seq, Text};
 use dr_ledger::{Entry, LedgerFault};
 use dr_ledger_history::{JournalLine, entries_of};
+use dr_ledger_views::last_behind;
 use dr_store_audit::goals::are_by_line;
 use dr_store_audit::lines::line_for;
 use dr_store_lists::{JournalRow, all_notes, all_targets};
@@ -94,9 +97,11 @@ fn tell_notes_behind<S: Alter>(
     last: u64,
     notes: &[(u64, JournalRow)],
 ) -> Result<Seq<JournalLine>, LedgerFault>
+    requires { last < 2 ^ 63 }
     ensures looked { (n : ℕ) (part : Part)
         → Looked n part result (state S.Store conn.old) (state S.Store conn.new)
-        (λ base all. Unit {0}) }
+        (λ base all. AreNotesWithin base after last notes.now
+        → counted after (mapped line_of all) ≡ lines_within after last (numbered_of base)) }
     ensures idle { conn.old.in_transaction ≡ false → conn.new.in_transaction ≡ false }
 {
     match goals_behind(conn, alloc, after, last) {
@@ -105,7 +110,31 @@ fn tell_notes_behind<S: Alter>(
     }
 }
 
+/// The lines of the journal whose numbers lie behind the one and up to the other, in order.
+///
+/// Errors: Store where a number is missing between them; those of the store.
+fn tell_within<S: Alter>(
+    conn: &mut Connection<S>,
+    alloc: Global,
+    after: u64,
+    last: u64,
+) -> Result<Seq<JournalLine>, LedgerFault>
+    requires { last < 2 ^ 63 }
+    ensures looked { (n : ℕ) (part : Part)
+        → Looked n part result (state S.Store conn.old) (state S.Store conn.new)
+        (λ base all. counted after (mapped line_of all)
+        ≡ lines_within after last (numbered_of base)) }
+    ensures idle { conn.old.in_transaction ≡ false → conn.new.in_transaction ≡ false }
+{
+    match notes_behind(conn, alloc, after, last) {
+        Ok(notes) => tell_notes_behind(conn, alloc, after, last, notes.as_slice()),
+        Err(fault) => Err(fault),
+    }
+}
+
 /// The lines of the journal behind a number, in order, so many at most.
+///
+/// Errors: those of `tell_within`.
 pub fn tell_behind<S: Alter>(
     conn: &mut Connection<S>,
     alloc: Global,
@@ -114,14 +143,11 @@ pub fn tell_behind<S: Alter>(
 ) -> Result<Seq<JournalLine>, LedgerFault>
     ensures looked { (n : ℕ) (part : Part)
         → Looked n part result (state S.Store conn.old) (state S.Store conn.new)
-        (λ base all. Unit {0}) }
+        (λ base all. AreBehind after limit (numbered_of base) (mapped line_of all)) }
     ensures idle { conn.old.in_transaction ≡ false → conn.new.in_transaction ≡ false }
 {
-    let last = after.saturating_add(u64::from(limit));
-    match notes_behind(conn, alloc, after, last) {
-        Ok(notes) => tell_notes_behind(conn, alloc, after, last, notes.as_slice()),
-        Err(fault) => Err(fault),
-    }
+    let last = last_behind(after, limit);
+    tell_within(conn, alloc, after, last)
 }
 
 /// What is shown of these lines.

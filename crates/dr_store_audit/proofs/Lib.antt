@@ -1,7 +1,7 @@
 mod Adding
 mod Forms
 mod Found
-mod Goaled
+pub mod Goaled
 pub mod Journals
 pub mod Needed
 pub mod Less

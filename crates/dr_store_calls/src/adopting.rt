@@ -8,10 +8,9 @@ ghost use Rattle.dr_store_calls.specs.Calling.{IsOwnFault, Nothing};
 ghost use Rattle.dr_store_calls.specs.Adoptions.{Adopted, AdoptsPlan};
 
 use crate::plan::NewPlan;
-use crate::writing::MOST_LINES;
 use dr_base::Text;
 use dr_base::same::Same;
-use dr_ledger::LedgerFault;
+use dr_ledger::{LedgerFault, MOST_LINES};
 use dr_site::Site;
 use dr_store_changes::write;
 use dr_store_reads::{fault_of, find_owner};

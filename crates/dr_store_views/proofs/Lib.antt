@@ -6,3 +6,4 @@ mod Grouped
 mod Paged
 mod Rows
 mod Selects
+mod Spans

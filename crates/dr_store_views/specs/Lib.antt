@@ -1,3 +1,4 @@
 pub mod Answers
 pub mod Origins
+pub mod Spans
 pub mod Statements

@@ -1,6 +1,6 @@
 //! The queries of a ledger in tables that ask for what is wanted: counts, the first moment at which
-//! a row is due, the rows of an instance, who brought it and where it is from, and pages of rows.
-//! Each says what it shows of the tables, but for pages of the journal, of which it is tested.
+//! a row is due, the rows of an instance, who brought it and where it is from, pages of rows, and
+//! lines of the journal by their numbers. Each says what it shows of the tables.
 //!
 //! A count reads the entries of an index, and keeps none; the first moment is looked up in one. A
 //! page reads the rows to its destination that are in its states, puts them in order, and hands out

@@ -14,10 +14,10 @@ loop-rule-init c = gathered_none (HasName c.args.names.now)
 pub loop-rule-preserved : goal.loop-rule-preserved
 loop-rule-preserved c =
     let f : Rule → List Text = λ x. named_by_rule c.args.attribute x in
-    gathered (HasName c.args.names.now) (HasName c.loop-rule.names) (HasName c.add_names.new.names)
+    gathered (HasName c.args.names.now) (HasName c.loop-rule.names) (HasName c.add_rule.new.names)
     (flat_map f (take c.loop-rule.rule-index c.args.rules.now)) (f c.rule-item.result) _
     (flat_map-one_more f c.args.rules.now c.loop-rule.rule-index c.rule-item.result c.loop-rule-test.true c.rule-item.is)
-    (rw c.in_rule.ensures at c.in_ok-add_names.ensures) c.loop-rule.invariant
+    c.in_ok-add_rule.ensures c.loop-rule.invariant
 
 pub returns : goal.returns
 returns c =

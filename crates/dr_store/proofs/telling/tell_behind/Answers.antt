@@ -1,26 +1,21 @@
-use Rattle.std.proofs.Common.{ℕ, List, Vec, Global}
+use Rattle.std.proofs.Common.{◌≡◌, ◌<◌, ◌^◌, ℕ, List, map as mapped, sym, subst, arith}
 use Rattle.sqlite.specs.Held.{state}
 use Rattle.sqlite.specs.Tree.{Trees}
+use Rattle.dr_ledger_history.specs.Lines.{line_of}
 use Rattle.dr_ledger_history.specs.declared.line.JournalLine.{JournalLine}
-use Rattle.dr_store_lists.specs.declared.listing.JournalRow.{JournalRow}
-use Rattle.dr_store_calls.proofs.Calls.{asked_looked}
-use Rattle.dr_store.proofs.Looks.{failed_as, looked_both}
+use Rattle.dr_ledger_views.specs.Numbers.{counted, last_of, lines_within}
+use Rattle.dr_ledger_views.proofs.Numbered.{last_fits}
+use Rattle.dr_store_calls.specs.Calling.{Looked}
+use Rattle.dr_store_views.specs.Spans.{numbered_of}
 use Rattle.dr_store.proofs.telling.tell_behind.Goals as goal
 
-pub returns-in-Ok-clause-looked : goal.returns-in-Ok-clause-looked
-returns-in-Ok-clause-looked g c n part =
-    let old = state g.S.Store c.args.conn.now in
-    let mid = state g.S.Store c.notes_behind.new.conn in
-    let new = state g.S.Store c.tell_notes_behind.new.conn in
-    let Shows : Trees → Vec (ℕ × JournalRow) Global → Type 0 = λ base notes. Unit {0} in
-    let Says : Trees → List JournalLine → Type 0 = λ base all. Unit {0} in
-    looked_both n part old mid new Shows c.in-Ok.notes c.tell_notes_behind.result Says Says (asked_looked n part _ old mid Shows c.in-Ok.ensures.asked) (c.tell_notes_behind.ensures.looked n part)
-    (λ base l shown all then. then)
+pub tell_within-requires : goal.tell_within-requires
+tell_within-requires g c = subst (λ (n : ℕ). n < 2 ^ 63) (sym c.last_behind.ensures) (last_fits c.args.after c.args.limit)
 
-pub returns-in-Err-clause-looked : goal.returns-in-Err-clause-looked
-returns-in-Err-clause-looked g c n part =
+pub returns-clause-looked : goal.returns-clause-looked
+returns-clause-looked g c n part =
+    let after = c.args.after in
     let old = state g.S.Store c.args.conn.now in
-    let new = state g.S.Store c.notes_behind.new.conn in
-    let Shows : Trees → Vec (ℕ × JournalRow) Global → Type 0 = λ base notes. Unit {0} in
-    let Says : Trees → List JournalLine → Type 0 = λ base all. Unit {0} in
-    failed_as n part c.in-Err.fault old new Shows Says (asked_looked n part _ old new Shows c.in-Err.ensures.asked)
+    let new = state g.S.Store c.tell_within.new.conn in
+    let Of : ℕ → Type 0 = λ last. Looked n part c.tell_within.result old new (λ (base : Trees) (all : List JournalLine). counted after (mapped line_of all) ≡ lines_within after last (numbered_of base)) in
+    subst Of c.last_behind.ensures (c.tell_within.ensures.looked n part)
