@@ -87,7 +87,11 @@ def law_of(path):
         named = [line.removeprefix("law: ").strip() for line in text if line.startswith("law: ")]
     if len(named) > 1:
         raise Bad("it names more than one law")
-    return "".join(named)
+    law = "".join(named)
+    file = f"{TOP}/crates/{path.split('/')[-2]}/src/{law.rpartition('::')[0].replace('::', '/') or 'lib'}.rt"
+    if law and not (os.path.isfile(file) and any(name == law for _, _, name in functions_in(file))):
+        raise Bad(f"the crate has no function {law}")
+    return law
 
 
 def places_of(text, old):
@@ -156,6 +160,12 @@ def functions_of(path, text):
             end = min(end, semicolon) if semicolon < open_at else end
             found.append((at, end, "::".join(it for it in (module, block, match[2]) if it)))
     return found
+
+
+def functions_in(file):
+    """The functions of a source file of a crate, by its path."""
+    with open(file, encoding="utf-8") as text:
+        return functions_of(re.sub(r"^.*?/crates/\w+/", "", file), text.read())
 
 
 def read_edit(path):
