@@ -34,6 +34,10 @@ TABLES = [
     ('a title that would be a group', USUAL + '@A,10.1.0.3,104,CT,scanner\n', 'certificate',
      'dr_router: line 5: its AE title isn\'t 1 to 16 printable characters without @, " and \\\n'),
     ('no host', USUAL + 'A,,104,CT,scanner\n', 'certificate', 'dr_router: line 5: its host isn\'t a name or an address, without blanks\n'),
+    ('no port', USUAL + 'A,10.1.0.3,,CT,scanner\n', 'certificate', 'dr_router: line 5: its port isn\'t a number from 1 to 65535\n'),
+    ('a scanner that only calls', HEADER + 'CT1,,,CT,scanner\n' + GATE + ARCH, 'certificate', ''),
+    ('others that only call', USUAL + ''.join(f'A,,,CT,{role}\n' for role in ('archive', 'workstation', 'router', 'printer', '')), 'certificate',
+     ''.join(f'dr_router: line {n}: its host isn\'t a name or an address, without blanks\n' for n in range(5, 10))),
     ('ports', USUAL + ''.join(f'A,10.1.0.3,{port},CT,scanner\n' for port in ('', '0', '65536', '0104', '1O4')), 'certificate',
      ''.join(f'dr_router: line {n}: its port isn\'t a number from 1 to 65535\n' for n in range(5, 10))),
     ('an unknown role', USUAL + 'A,10.1.0.3,104,CT,printer\n', 'certificate',
@@ -62,6 +66,10 @@ def main():
                 file.write(got[1])
             if word and run('check', plan)[1].split('\t')[0].strip() != word:
                 sys.exit(f'imports: {what}: {got[1]}')
+        with open(table, 'w', encoding='ascii') as file:
+            file.write(HEADER + 'CT1,,,CT,scanner\n' + GATE + ARCH)
+        if '[[node]]\nname = "CT1"\nlistens = false\n\n[[node]]' not in run('import', table)[1]:
+            sys.exit('imports: a scanner that only calls has an address')
     got = run('import', f'{TOP}/plans/devices.csv')
     if (got[0], got[2]) != (0, ''):
         sys.exit(f'imports: plans/devices.csv: {got}')

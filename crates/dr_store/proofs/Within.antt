@@ -6,7 +6,7 @@ use Rattle.sqlite.specs.Order.{Row}
 use Rattle.sqlite.specs.Tree.{Trees}
 use Rattle.dr_route.specs.Routes.{local}
 use Rattle.dr_ledger.specs.Books.{Line, Arrival}
-use Rattle.dr_ledger_views.specs.Numbers.{AreNumbered, counted, is_within, lines_within}
+use Rattle.dr_ledger_views.specs.Numbers.{HaveNumbers, counted, is_within, lines_within}
 use Rattle.dr_ledger_views.proofs.Numbered.{within}
 use Rattle.dr_store_schema.specs.Books.{book_of, keeps_in, named_in, targets_in}
 use Rattle.dr_store_lists.specs.Lists.{Goal, line_of}
@@ -18,7 +18,7 @@ use Rattle.dr_store_audit.proofs.Goaled.{keeps, targets}
 use Rattle.dr_store_views.specs.Spans.{AreGoalsWithin, AreNotesWithin, CountsUp, numbered_of}
 
 -- the journal's lines with their numbers, which rise
-pub are_numbered : (db : Trees) → AreNumbered (book_of db).lines (numbered_of db)
+pub are_numbered : (db : Trees) → HaveNumbers (book_of db).lines (numbered_of db)
 are_numbered db = record { told = refl; rise = entries_sorted _ }
 
 -- tables with these rows for target
@@ -47,11 +47,11 @@ module _ (db : Trees) (after last : ℕ) (goals : List Goal) (are : AreGoalsWith
   counted_are : (n : ℕ) (notes : List (ℕ × JournalRow)) → after ≤ n → CountsUp n last notes → counted n (lines_told goals notes) ≡ mapped (λ (e : ℕ × JournalRow). (e.0, line_of (db 12) e.0 e.1)) notes
   counted_are n [] le up = refl
   counted_are n (e ∷ notes) le up =
-      let is : e.0 ≡ n + 1 = up.1.0 in
+      let is : e.0 ≡ n + 1 = up.1 in
       let low : n < last = up.0 in
       let lies : is_within after last e.0 ≡ true = within after last e.0 (omega (arith, is, le)) (omega (arith, is, low)) in
       let first : (n + 1, line_told goals e.0 e.1) ≡ (e.0, line_of (db 12) e.0 e.1) = λ i. (sym is i, line_is e.0 lies e.1 i) in
-      let more = counted_are (n + 1) notes (omega (arith, le)) up.1.1 in
+      let more = counted_are (n + 1) notes (omega (arith, le)) up.2 in
       λ i. first i ∷ more i
 
   pub told_within : (lines : List Line) (notes : List (ℕ × JournalRow)) → AreNotesWithin db after last notes → lines ≡ lines_told goals notes → counted after lines ≡ lines_within after last (numbered_of db)

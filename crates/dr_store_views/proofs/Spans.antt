@@ -211,9 +211,9 @@ all_within : (after last n : ℕ) (notes : List (ℕ × JournalRow)) (f : ℕ ×
     → AllByRecursion (λ (e : ℕ × Line). is_within after last e.0 ≡ true) (map (λ e. (e.0, f e)) notes)
 all_within after last n [] f le h = tt
 all_within after last n (e ∷ notes) f le h =
-    let is : e.0 ≡ n + 1 = h.1.0 in
+    let is : e.0 ≡ n + 1 = h.1 in
     let low : n < last = h.0 in
-    (within after last e.0 (omega (arith, is, le)) (omega (arith, is, low)), all_within after last (n + 1) notes f (omega (arith, le)) h.1.1)
+    (within after last e.0 (omega (arith, is, le)) (omega (arith, is, low)), all_within after last (n + 1) notes f (omega (arith, le)) h.2)
 
 module _ (after last : ℕ) (from to : Value) (begins : after < 2 ^ 63 → from ≡ Int (pos after)) (ends : to ≡ Int (pos last)) (fits : last < 2 ^ 63) (old new : State) (rows : List Row) (has : IsLedger old.now) where
   abbrev params : Row

@@ -1,2 +1,3 @@
 mod CutJournals
 mod CutsBegin
+mod Reached

@@ -1,18 +1,21 @@
 -- Journals of nodes that run, each cut somewhere, and what stands behind the cut.
-use Rattle.std.specs.Prelude.{◌≡◌, ◌≤◌, ℕ, Bool, false, cond, List, [], ◌∷◌, drop, take}
+use Rattle.std.specs.Prelude.{◌≡◌, ◌≤◌, ◌+◌, ◌⊎◌, ℕ, Bool, true, false, cond, List, [], ◌∷◌, ◌++◌}
+use Rattle.std.specs.Prelude.{Contains, drop, length, take}
 use Rattle.std.specs.List.{AllByRecursion, AllZip}
 use Rattle.std.specs.Str.{bytes_eq}
 use Rattle.dr_base.specs.Texts.{Text}
 use Rattle.dr_plan_model.specs.Networks.{Network}
 use Rattle.dr_ledger_history.specs.Lines.{line_of}
 use Rattle.dr_ledger_history.specs.declared.line.JournalLine.{JournalLine}
-use Rattle.dr_world_audit.specs.Sites.{Audits}
+use Rattle.dr_ledger_history.specs.declared.line.JournalLine.TheVariants as told
+use Rattle.dr_world_audit.specs.Sites.{Audits, DoesNotHold}
 use Rattle.dr_world_audit.specs.declared.audit.AuditVerdict.{AuditVerdict}
 use Rattle.dr_world_audit.specs.declared.audit.AuditVerdict.TheVariants as verdict
 use Rattle.dr_world_audit.specs.declared.audit.Mismatch.{Mismatch}
 use Rattle.dr_world_audit.specs.declared.audit.Mismatch.TheVariants as what
 use Rattle.dr_world_audit.specs.declared.audit.NodeJournal.{NodeJournal}
 use Rattle.dr_word_audit.specs.Audits.{IsConclusion}
+use Rattle.dr_word_audit.specs.Figures.{is_taken}
 use Rattle.dr_word_audit.specs.Places.{came_from, goes_on}
 use Rattle.dr_word_audit.specs.declared.audited.Audited.{Audited}
 use Rattle.dr_word_audit_at.specs.declared.cutting.MissingLine.{MissingLine}
@@ -71,6 +74,81 @@ IsLacking ns nodes mismatch =
     → IsFor mismatch mend at
     → MendsNowhere mend (rest_named at ns nodes)
 
+-- ---- how cuts are moved
+
+-- What a line of the node of that name rests on, and at which node: what was taken there came there
+-- from here, and what came from there goes on from there to here.
+abbrev pub RestsOn : Text → JournalLine → MissingLine → Text → Type 0
+RestsOn name (told.Settling uid dest outcome now) mend at =
+    (is_taken outcome ≡ true) × (mend ≡ missing.CameFrom uid name) × (at ≡ dest)
+RestsOn name (told.Arrival caller item to keep) mend at =
+    (mend ≡ missing.GoesOn item.uid name) × (at ≡ caller)
+RestsOn name (told.Repeat caller item) mend at =
+    (mend ≡ missing.GoesOn item.uid name) × (at ≡ caller)
+RestsOn name (told.Requeuing uid dest) mend at = ⊥
+RestsOn name (told.Dropping uid dest now) mend at = ⊥
+RestsOn name (told.Forgetting uid) mend at = ⊥
+RestsOn name told.Adoption mend at = ⊥
+
+-- one of these journals is of the node of that name, and has the line
+abbrev pub HasLine : List NodeJournal → Text → JournalLine → Type 0
+HasLine nodes name line =
+    (node : NodeJournal) × Contains nodes node × Contains node.lines line × (node.name ≡ name)
+
+-- a line of these journals rests on it
+pub record IsRestedOn (nodes : List NodeJournal) (mend : MissingLine) (at : Text) : Type 0 where
+  pub name : Text
+  pub line : JournalLine
+  pub has : HasLine nodes name line
+  pub rests : RestsOn name line mend at
+
+-- it would mend a mismatch of these journals
+pub record IsMissed (plan : Network) (nodes : List NodeJournal) (mend : MissingLine)
+    (at : Text) : Type 0 where
+  pub mismatch : Mismatch
+  pub fails : DoesNotHold plan nodes mismatch
+  pub lacks : IsFor mismatch mend at
+
+-- so many of these lines there are up to the first that says it
+pub record IsUpToNext (mend : MissingLine) (rest : List JournalLine) (more : ℕ) : Type 0 where
+  pub passed : List JournalLine
+  pub line : JournalLine
+  pub later : List JournalLine
+  pub lines : rest ≡ passed ++ line ∷ later
+  pub none : MendsNowhere mend passed
+  pub says : mends mend line ≡ true
+  pub count : more ≡ length passed + 1
+
+-- the cut of the node of that name, put so many lines further on
+abbrev pub put_on : Text → ℕ → List ℕ → List NodeJournal → List ℕ
+put_on name more [] nodes = []
+put_on name more (n ∷ ns) [] = n ∷ ns
+put_on name more (n ∷ ns) (node ∷ nodes) =
+    cond (bytes_eq node.name name) (n + more ∷ ns) (n ∷ put_on name more ns nodes)
+
+-- the cut of that node is put behind the next line that says it, if one does
+abbrev pub Moves : MissingLine → Text → List NodeJournal → List ℕ → List ℕ → Bool → Type 0
+Moves mend at read old new true =
+    (more : ℕ) × IsUpToNext mend (rest_named at old read) more × (new ≡ put_on at more old read)
+Moves mend at read old new false = (new ≡ old) × MendsNowhere mend (rest_named at old read)
+
+-- One cut is moved, and for a reason: behind the next line that says what a line before the cuts
+-- rests on, or what would mend a mismatch of what is before them.
+pub record IsMove (plan : Network) (read : List NodeJournal) (old new : List ℕ) : Type 0 where
+  pub mend : MissingLine
+  pub at : Text
+  pub wanted : IsRestedOn (cuts old read) mend at ⊎ IsMissed plan (cuts old read) mend at
+  pub moves : Moves mend at read old new true
+
+-- by such moves, one after another, these cuts become those
+abbrev pub AreMoves : Network → List NodeJournal → List ℕ → List (List ℕ) → List ℕ → Type 0
+AreMoves plan read first [] at = at ≡ first
+AreMoves plan read first (next ∷ more) at =
+    IsMove plan read first next × AreMoves plan read next more at
+
+abbrev pub AreReached : Network → List NodeJournal → List ℕ → List ℕ → Type 0
+AreReached plan read first at = (steps : List (List ℕ)) × AreMoves plan read first steps at
+
 -- ---- the verdict
 
 -- The verdict on journals that were cut at these numbers, of those that were read: where it is no,
@@ -79,13 +157,24 @@ abbrev pub IsFinal : List ℕ → List NodeJournal → AuditVerdict → Type 0
 IsFinal ns nodes verdict.Holds = Unit {0}
 IsFinal ns nodes (verdict.No mismatch) = IsLacking ns nodes mismatch
 
+-- where the verdict is no, and a line behind the cuts mends it, that journal's cut is moved; else
+-- none is
+abbrev pub MovesFor : List NodeJournal → AuditVerdict → List ℕ → List ℕ → Bool → Type 0
+MovesFor read came old new true =
+    (mismatch : Mismatch) × (mend : MissingLine) × (at : Text)
+    × (came ≡ verdict.No mismatch)
+    × IsFor mismatch mend at
+    × Moves mend at read old new true
+MovesFor read came old new false = (new ≡ old) × IsFinal old read came
+
 -- What is audited of journals of which so many lines were there first, and these in the end. Each
--- is cut where it was first, or further on; these cuts are audited; and only what is mended by no
--- line behind them is missing.
+-- is cut where it was first, or further on, and no further than what is before the cuts wants;
+-- these cuts are audited; and only what is mended by no line behind them is missing.
 pub record IsJudged (plan : Network) (first : List ℕ) (read nodes : List NodeJournal)
     (came : AuditVerdict) : Type 0 where
   pub at : List ℕ
   pub later : AreNoEarlier first at
+  pub reached : AreReached plan read first at
   pub cut : nodes ≡ cuts at read
   pub audited : Audits plan nodes came
   pub final : IsFinal at read came

@@ -1,7 +1,7 @@
 //! Where journals of nodes that run are cut, and what stands behind the cut.
-ghost use Rattle.std.specs.Prelude.{◌≡◌, ◌<◌, ◌≤◌, IfOk, MatchOption, drop, get_or, length};
-ghost use Rattle.dr_word_audit_at.specs.Cuts.{MendsNowhere, cut_at as is_cut, cuts, mends};
-ghost use Rattle.dr_word_audit_at.specs.Cuts.{rest_named};
+ghost use Rattle.std.specs.Prelude.{◌≡◌, ◌<◌, ◌+◌, ℕ, IfOk, MatchOption, drop, length, set};
+ghost use Rattle.dr_word_audit_at.specs.Cuts.{IsUpToNext, MendsNowhere, Moves, cut_at as is_cut};
+ghost use Rattle.dr_word_audit_at.specs.Cuts.{cuts, mends, put_on, rest_named};
 
 use dr_base::Text;
 use dr_ledger_history::{JournalLine, copy_page};
@@ -29,7 +29,8 @@ fn mends(missing: &MissingLine, line: &JournalLine) -> bool
 
 /// How many of the lines there are up to the first that says it.
 fn count_to(missing: &MissingLine, lines: &[JournalLine]) -> Option<usize>
-    ensures { MatchOption result (MendsNowhere missing.now lines.now) (λ n. 1 ≤ n) }
+    ensures { MatchOption result (MendsNowhere missing.now lines.now)
+        (IsUpToNext missing.now lines.now) }
 {
     for (i, line) in lines.iter().enumerate() {
         if mends(missing, line) {
@@ -40,7 +41,7 @@ fn count_to(missing: &MissingLine, lines: &[JournalLine]) -> Option<usize>
 }
 
 /// The lines behind so many.
-fn behind(lines: &[JournalLine], count: usize) -> &[JournalLine]
+pub(crate) fn behind(lines: &[JournalLine], count: usize) -> &[JournalLine]
     ensures { result.now ≡ drop count lines.now }
 {
     if lines.len() < count {
@@ -53,10 +54,12 @@ fn behind(lines: &[JournalLine], count: usize) -> &[JournalLine]
 /// How many lines of the journal there are up to the first behind the cut that says it.
 fn next_count(missing: &MissingLine, lines: &[JournalLine], count: usize) -> Option<usize>
     ensures { MatchOption result (MendsNowhere missing.now (drop count lines.now))
-        (λ n. count ≤ n) }
+        (λ n. (more : ℕ) × IsUpToNext missing.now (drop count lines.now) more
+        × (n ≡ count + more)) }
 {
-    match count_to(missing, behind(lines, count)) {
-        Some(more) => Some(count.saturating_add(more)),
+    let rest = behind(lines, count);
+    match count_to(missing, rest) {
+        Some(more) => Some(lines.len().saturating_sub(rest.len().saturating_sub(more))),
         None => None,
     }
 }
@@ -70,7 +73,9 @@ fn cut_behind(
     place: usize,
 ) -> Option<(usize, usize)>
     ensures { MatchOption result (MendsNowhere missing.now (drop count lines.now))
-        (λ next. (next.0 ≡ place) × (count ≤ next.1)) }
+        (λ next. (next.0 ≡ place)
+        × ((more : ℕ) × IsUpToNext missing.now (drop count lines.now) more
+        × (next.1 ≡ count + more))) }
 {
     match next_count(missing, lines, count) {
         Some(next) => Some((place, next)),
@@ -80,7 +85,7 @@ fn cut_behind(
 
 /// The place of the node of that name whose journal says it behind its cut, and where its next cut
 /// is.
-pub(crate) fn next_cut(
+fn next_cut(
     missing: &MissingLine,
     name: &Text,
     counts: &[usize],
@@ -89,7 +94,9 @@ pub(crate) fn next_cut(
     requires { length counts.now ≡ length read.now }
     ensures { MatchOption result
         (MendsNowhere missing.now (rest_named name.now counts.now read.now))
-        (λ next. (next.0 < length counts.now) × (get_or counts.now next.0 0 ≤ next.1)) }
+        (λ next. (next.0 < length counts.now)
+        × ((more : ℕ) × IsUpToNext missing.now (rest_named name.now counts.now read.now) more
+        × (set counts.now next.0 next.1 ≡ put_on name.now more counts.now read.now))) }
 {
     for place in 0..read.len() {
         let node = &read[place];
@@ -98,6 +105,25 @@ pub(crate) fn next_cut(
         }
     }
     None
+}
+
+/// Moves the cut of the node of that name behind the next line that says it; whether there is one.
+pub(crate) fn move_cut(
+    missing: &MissingLine,
+    name: &Text,
+    counts: &mut Vec<usize>,
+    read: &[NodeJournal],
+) -> bool
+    requires { length counts.old.items ≡ length read.now }
+    ensures { Moves missing.now name.now read.now counts.old.items counts.new.items result }
+{
+    match next_cut(missing, name, counts.as_slice(), read) {
+        Some((place, next)) => {
+            counts[place] = next;
+            true
+        }
+        None => false,
+    }
 }
 
 /// The first lines of a journal, so many.

@@ -1,9 +1,10 @@
 //! The audit of journals of nodes that run.
-ghost use Rattle.std.specs.Prelude.{◌≡◌, ◌<◌, ◌≤◌, IfOk, MatchOption, get_or, length};
+ghost use Rattle.std.specs.Prelude.{◌≡◌, IfOk, MatchOption, length};
 ghost use Rattle.dr_world_audit.specs.Sites.{Audits};
-ghost use Rattle.dr_word_audit_at.specs.Cuts.{HasNone, IsFinal, IsFor, IsJudged, IsLacking, cuts};
+ghost use Rattle.dr_world_audit.specs.declared.audit.AuditVerdict.TheVariants as verdict;
+ghost use Rattle.dr_word_audit_at.specs.Cuts.{HasNone, IsFor, IsJudged, MovesFor, cuts};
 
-use crate::cutting::{MissingLine, cut_all, next_cut};
+use crate::cutting::{MissingLine, cut_all, move_cut};
 use crate::moving::first_cuts;
 use dr_base::Text;
 use dr_cert::Sealed;
@@ -37,22 +38,22 @@ fn missing_of(mismatch: &Mismatch) -> Result<Option<(MissingLine, Text)>, AllocE
     }
 }
 
-/// Which journal is to be cut further on, and where, so that the mismatch is mended.
+/// Moves the cut of a journal on, so that the mismatch is mended; whether a line mends it.
 ///
 /// Errors: want of memory.
 fn further_for(
     mismatch: &Mismatch,
-    counts: &[usize],
+    counts: &mut Vec<usize>,
     read: &[NodeJournal],
-) -> Result<Option<(usize, usize)>, AllocError>
-    requires { length counts.now ≡ length read.now }
-    ensures { IfOk result (λ next. MatchOption next (IsLacking counts.now read.now mismatch.now)
-        (λ next. (next.0 < length counts.now) × (get_or counts.now next.0 0 ≤ next.1))) }
+) -> Result<bool, AllocError>
+    requires { length counts.old.items ≡ length read.now }
+    ensures { IfOk result
+        (MovesFor read.now (verdict.No mismatch.now) counts.old.items counts.new.items) }
 {
     let Some((missing, name)) = missing_of(mismatch)? else {
-        return Ok(None);
+        return Ok(false);
     };
-    Ok(next_cut(&missing, &name, counts, read))
+    Ok(move_cut(&missing, &name, counts, read))
 }
 
 /// The same of a verdict.
@@ -60,15 +61,15 @@ fn further_for(
 /// Errors: want of memory.
 fn further(
     verdict: &AuditVerdict,
-    counts: &[usize],
+    counts: &mut Vec<usize>,
     read: &[NodeJournal],
-) -> Result<Option<(usize, usize)>, AllocError>
-    requires { length counts.now ≡ length read.now }
-    ensures { IfOk result (λ next. MatchOption next (IsFinal counts.now read.now verdict.now)
-        (λ next. (next.0 < length counts.now) × (get_or counts.now next.0 0 ≤ next.1))) }
+) -> Result<bool, AllocError>
+    requires { length counts.old.items ≡ length read.now }
+    ensures { IfOk result
+        (MovesFor read.now verdict.now counts.old.items counts.new.items) }
 {
     match verdict {
-        AuditVerdict::Holds => Ok(None),
+        AuditVerdict::Holds => Ok(false),
         AuditVerdict::No(mismatch) => further_for(mismatch, counts, read),
     }
 }
@@ -94,7 +95,7 @@ fn judge_at(
 
 /// Audits journals that were read of nodes that run, of which so many lines were there first. They
 /// are cut there; and as long as a line behind the cuts mends what doesn't match, the cut of its
-/// journal is put behind it.
+/// journal is put behind the next one. No cut is moved for another reason.
 ///
 /// Errors: those of `audit`; Memory.
 pub fn judge(
@@ -107,12 +108,12 @@ pub fn judge(
     ensures { IfOk result (λ judged.
         IsJudged sealed.now.plan first.items read.now judged.journals.items judged.verdict) }
 {
-    let mut counts = first_cuts(alloc, read, first)?;
+    let mut counts = first_cuts(alloc, read, first.as_slice())?;
     for _round in 0..u64::MAX {
         let judged = judge_at(alloc, sealed, counts.as_slice(), read)?;
-        match further(&judged.verdict, counts.as_slice(), read)? {
-            Some((place, count)) => counts[place] = count,
-            None => return Ok(judged),
+        let is_moved = further(&judged.verdict, &mut counts, read)?;
+        if !is_moved {
+            return Ok(judged);
         }
     }
     Err(AuditFault::Memory)

@@ -1,8 +1,13 @@
 //! Where the cuts of journals are put before they are audited: behind what other cuts rest on.
-ghost use Rattle.std.specs.Prelude.{◌≡◌, IfOk, IsTrue, length};
-ghost use Rattle.dr_word_audit_at.specs.Cuts.{AreNoEarlier};
+ghost use Rattle.std.specs.Prelude.{◌≡◌, Contains, IfOk, IfSome, OnOk, drop, get_or, length, take};
+ghost use Rattle.dr_plan_model.specs.Networks.{Network};
+ghost use Rattle.dr_ledger_history.specs.declared.line.JournalLine.{JournalLine as Told};
+ghost use Rattle.dr_word_audit_at.specs.Cuts.{AreNoEarlier, AreReached, HasLine, RestsOn, cuts};
+ghost use Rattle.dr_word_audit_at.specs.declared.cutting.MissingLine.TheVariants as wants;
 
+use crate::cutting::{MissingLine, behind, move_cut};
 use dr_base::Text;
+use dr_ledger::Instance;
 use dr_ledger_history::JournalLine;
 use dr_word_audit::counting::is_taken;
 use dr_world_audit::audit::NodeJournal;
@@ -84,81 +89,167 @@ fn all_first_lines(alloc: Global, read: &[NodeJournal]) -> Result<Vec<FirstLines
     Ok(all)
 }
 
+/// Where the first line stands that says it.
+fn first_said(first: &FirstLines, missing: &MissingLine) -> Result<Option<usize>, AllocError> {
+    let (places, uid, name) = match missing {
+        MissingLine::CameFrom { uid, from } => (&first.came, uid, from),
+        MissingLine::GoesOn { uid, to } => (&first.goes, uid, to),
+    };
+    let key = (uid.clone()?, name.clone()?);
+    match places.get(&key) {
+        Some(count) => Ok(Some(*count)),
+        None => Ok(None),
+    }
+}
+
 /// The place of the node of that name.
 fn place_of(read: &[NodeJournal], name: &Text) -> Option<usize> {
     read.iter().position(|node| node.name == *name)
 }
 
-/// At which node stands what a line of the node of that name rests on, and how many lines there are
-/// up to it.
-fn rest_of(
+/// Whether the first line of the node of that name that says it stands behind its cut. Nothing
+/// rests on this: it spares a search.
+fn is_behind(
     read: &[NodeJournal],
     all: &[FirstLines],
+    missing: &MissingLine,
     name: &Text,
-    line: &JournalLine,
-) -> Result<Option<(usize, usize)>, AllocError> {
-    let (other, uid, is_sent) = match line {
+    counts: &[usize],
+) -> Result<bool, AllocError> {
+    let Some(place) = place_of(read, name) else {
+        return Ok(false);
+    };
+    let Some(first) = all.get(place) else {
+        return Ok(false);
+    };
+    match first_said(first, missing)? {
+        Some(said) => Ok(count_at(counts, place) < said),
+        None => Ok(false),
+    }
+}
+
+/// That there is a reason at the caller for what came to the node of that name.
+fn reason_of(
+    name: &Text,
+    caller: &Text,
+    instance: &Instance,
+) -> Result<(MissingLine, Text), AllocError>
+    ensures { IfOk result (λ both.
+        (both.0 ≡ wants.GoesOn instance.now.uid name.now) × (both.1 ≡ caller.now)) }
+{
+    let (uid, to, at) = (instance.uid.clone()?, name.clone()?, caller.clone()?);
+    Ok((MissingLine::GoesOn { uid, to }, at))
+}
+
+/// That what the node of that name notes as taken came there.
+fn arrival_of(name: &Text, uid: &Text, dest: &Text) -> Result<(MissingLine, Text), AllocError>
+    ensures { IfOk result (λ both.
+        (both.0 ≡ wants.CameFrom uid.now name.now) × (both.1 ≡ dest.now)) }
+{
+    let (uid, from, at) = (uid.clone()?, name.clone()?, dest.clone()?);
+    Ok((MissingLine::CameFrom { uid, from }, at))
+}
+
+/// What a line of the node of that name rests on, and at which node it would stand; None where it
+/// rests on no line of another node.
+fn rest_of(name: &Text, line: &JournalLine) -> Result<Option<(MissingLine, Text)>, AllocError>
+    ensures { IfOk result (λ found.
+        IfSome found (λ both. RestsOn name.now line.now both.0 both.1)) }
+{
+    match line {
         JournalLine::Settling {
             uid,
             dest,
             outcome,
-            ..
-        } if is_taken(*outcome) => (dest, uid, true),
+            now: _,
+        } => {
+            if !is_taken(*outcome) {
+                return Ok(None);
+            }
+            Ok(Some(arrival_of(name, uid, dest)?))
+        }
         JournalLine::Arrival {
             caller,
             instance,
-            ..
-        } => (caller, &instance.uid, false),
-        JournalLine::Repeat { caller, instance } => (caller, &instance.uid, false),
-        _ => return Ok(None),
-    };
-    let Some(place) = place_of(read, other) else {
-        return Ok(None);
-    };
-    let Some(first) = all.get(place) else {
-        return Ok(None);
-    };
-    let key = (uid.clone()?, name.clone()?);
-    let found = if is_sent {
-        first.came.get(&key)
-    } else {
-        first.goes.get(&key)
-    };
-    Ok(found.map(|count| (place, *count)))
+            to: _,
+            keep: _,
+        } => Ok(Some(reason_of(name, caller, instance)?)),
+        JournalLine::Repeat { caller, instance } => Ok(Some(reason_of(name, caller, instance)?)),
+        JournalLine::Requeuing { .. } => Ok(None),
+        JournalLine::Dropping { .. } => Ok(None),
+        JournalLine::Forgetting { .. } => Ok(None),
+        JournalLine::Adoption => Ok(None),
+    }
 }
 
-/// Puts a cut there, where it isn't there or further on yet.
-fn raise(counts: &mut Vec<usize>, place: usize, count: usize) {
-    if place >= counts.len() {
-        return;
+/// Puts a cut behind what the line of the node of that name rests on, if that stands behind it.
+fn move_for(
+    read: &[NodeJournal],
+    all: &[FirstLines],
+    name: &Text,
+    line: &JournalLine,
+    counts: &mut Vec<usize>,
+) -> Result<(), AllocError>
+    requires same { length counts.old.items ≡ length read.now }
+    requires before { HasLine (cuts counts.old.items read.now) name.now line.now }
+    ensures { OnOk result ((plan : Network)
+        → AreReached plan read.now counts.old.items counts.new.items) }
+{
+    let Some((missing, at)) = rest_of(name, line)? else {
+        return Ok(());
+    };
+    if is_behind(read, all, &missing, &at, counts.as_slice())? {
+        move_cut(&missing, &at, counts, read);
     }
-    if counts[place] < count {
-        counts[place] = count;
-    }
+    Ok(())
 }
 
 /// Puts cuts behind what these lines of the node of that name rest on.
-fn move_for(
+fn move_for_all(
     read: &[NodeJournal],
     all: &[FirstLines],
     name: &Text,
     lines: &[JournalLine],
     counts: &mut Vec<usize>,
-) -> Result<(), AllocError> {
+) -> Result<(), AllocError>
+    requires same { length counts.old.items ≡ length read.now }
+    requires before { (line : Told) → Contains lines.now line
+        → HasLine (cuts counts.old.items read.now) name.now line }
+    ensures { OnOk result ((plan : Network)
+        → AreReached plan read.now counts.old.items counts.new.items) }
+{
     for line in lines {
-        if let Some((place, count)) = rest_of(read, all, name, line)? {
-            raise(counts, place, count);
-        }
+        move_for(read, all, name, line, counts)?;
     }
     Ok(())
 }
 
-/// The lines from one cut up to another.
-fn between(lines: &[JournalLine], from: usize, to: usize) -> &[JournalLine] {
-    match lines.get(from..to) {
-        Some(some) => some,
-        None => &[],
+/// The cut at that place; 0 where there is none.
+fn count_at(counts: &[usize], place: usize) -> usize
+    ensures { result ≡ get_or counts.now place 0 }
+{
+    match counts.get(place) {
+        Some(count) => *count,
+        None => 0,
     }
+}
+
+/// The lines from one cut up to another.
+fn between(lines: &[JournalLine], from: usize, to: usize) -> &[JournalLine]
+    ensures { result.now ≡ drop from (take to lines.now) }
+{
+    behind(first(lines, to), from)
+}
+
+/// The first lines, so many.
+fn first(lines: &[JournalLine], count: usize) -> &[JournalLine]
+    ensures { result.now ≡ take count lines.now }
+{
+    if lines.len() <= count {
+        return lines;
+    }
+    let (some, _rest) = lines.split_at(count);
+    some
 }
 
 /// Puts cuts behind what the lines rest on that stand between these cuts and those.
@@ -168,83 +259,48 @@ fn move_by(
     from: &[usize],
     to: &[usize],
     counts: &mut Vec<usize>,
-) -> Result<(), AllocError> {
-    for (node, (begin, end)) in read.iter().zip(from.iter().zip(to)) {
-        let lines = between(node.lines.as_slice(), *begin, *end);
-        move_for(read, all, &node.name, lines, counts)?;
+) -> Result<(), AllocError>
+    requires same { length counts.old.items ≡ length read.now }
+    requires on { AreNoEarlier to.now counts.old.items }
+    ensures { OnOk result ((plan : Network)
+        → AreReached plan read.now counts.old.items counts.new.items) }
+{
+    for place in 0..read.len() {
+        let node = &read[place];
+        let (begin, end) = (count_at(from, place), count_at(to, place));
+        let lines = between(node.lines.as_slice(), begin, end);
+        move_for_all(read, all, &node.name, lines, counts)?;
     }
     Ok(())
-}
-
-/// As many zeros as there are journals.
-fn zeros(alloc: Global, read: &[NodeJournal]) -> Result<Vec<usize>, AllocError> {
-    let mut all = Vec::new(alloc);
-    for _ in 0..read.len() {
-        all.push(0)?;
-    }
-    Ok(all)
 }
 
 /// So many rounds are made at most.
 const ROUNDS: u32 = 1_000;
 
-/// Cuts behind what stands before these in the other journals.
+/// Cuts that begin an audit: these, or further on, behind what the lines before them rest on in the
+/// other journals. So an audit finds few that have to be moved.
 ///
 /// Errors: want of memory.
-fn moved(alloc: Global, read: &[NodeJournal], first: &[usize]) -> Result<Vec<usize>, AllocError> {
+pub(crate) fn first_cuts(
+    alloc: Global,
+    read: &[NodeJournal],
+    first: &[usize],
+) -> Result<Vec<usize>, AllocError>
+    requires { length first.now ≡ length read.now }
+    ensures { IfOk result (λ counts. (plan : Network)
+        → AreReached plan read.now first.now counts.items) }
+{
     let all = all_first_lines(alloc, read)?;
-    let mut from = zeros(alloc, read)?;
+    let mut from = Vec::new(alloc);
     let mut counts = Vec::from_slice(alloc, first)?;
     for _round in 0..ROUNDS {
         let to = Vec::from_slice(alloc, counts.as_slice())?;
-        move_by(
-            read,
-            all.as_slice(),
-            from.as_slice(),
-            to.as_slice(),
-            &mut counts,
-        )?;
+        let lines = all.as_slice();
+        move_by(read, lines, from.as_slice(), to.as_slice(), &mut counts)?;
         if counts.as_slice() == to.as_slice() {
             return Ok(counts);
         }
         from = to;
     }
     Ok(counts)
-}
-
-/// Whether no cut has gone back.
-fn are_no_earlier(first: &[usize], counts: &[usize]) -> bool
-    ensures { IsTrue result → AreNoEarlier first.now counts.now }
-{
-    let mut rest = counts;
-    for count in first {
-        let [next, more @ ..] = rest else {
-            return false;
-        };
-        if *next < *count {
-            return false;
-        }
-        rest = more;
-    }
-    rest.is_empty()
-}
-
-/// Cuts that begin an audit: those that there were first, or further on, behind what the lines
-/// before them rest on in the other journals. So an audit finds few that have to be moved.
-///
-/// Errors: want of memory.
-pub(crate) fn first_cuts(
-    alloc: Global,
-    read: &[NodeJournal],
-    first: Vec<usize>,
-) -> Result<Vec<usize>, AllocError>
-    ensures later { IfOk result (λ counts. AreNoEarlier first.items counts.items) }
-    ensures same { IfOk result (λ counts. length counts.items ≡ length first.items) }
-{
-    let counts = moved(alloc, read, first.as_slice())?;
-    let is_long = counts.len() == first.len();
-    if is_long && are_no_earlier(first.as_slice(), counts.as_slice()) {
-        return Ok(counts);
-    }
-    Ok(first)
 }

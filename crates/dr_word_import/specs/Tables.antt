@@ -1,5 +1,6 @@
 -- What a table of devices stands for: a plan of format 3 to begin with.
 use Rattle.std.specs.Prelude.{Bool, true, false, cond, List, [], ◌∷◌, ◌++◌, codes, flat_map}
+use Rattle.std.specs.Prelude.{Option, Some, None}
 use Rattle.dr_base.specs.Texts.{Text}
 use Rattle.dr_word_import.specs.declared.device.Device.{Device}
 use Rattle.dr_word_import.specs.declared.device.Role.{Role}
@@ -58,11 +59,16 @@ syntaxes = line (codes "syntax = [\"ExplicitVRLittleEndian\", \"ImplicitVRLittle
 
 -- ---- tables of a plan
 
+-- where a device listens: at its address, or nowhere where it only calls
+abbrev pub place_of : Option Text → Text
+place_of None = line (codes "listens = false")
+place_of (Some address) = line (codes "address = " ++ quoted address)
+
 -- the table of a node, where it listens
 abbrev pub node_table : Device → Text
 node_table it =
     (10 ∷ []) ++ line (codes "[[node]]") ++ line (codes "name = " ++ quoted it.name)
-    ++ line (codes "address = " ++ quoted it.address)
+    ++ place_of it.address
 
 -- a row by which a node accepts from the device what such a device sends
 abbrev pub accept_table : Text → Usual → Text

@@ -27,11 +27,12 @@ pub enum Usual {
     Images,
 }
 
-/// A device of the table: its AE title, where it listens, what it is for, and what it sends.
+/// A device of the table: its AE title, where it listens, which is nowhere where it only calls,
+/// what it is for, and what it sends.
 #[derive(Drop)]
 pub struct Device {
     pub name: Text,
-    pub address: Text,
+    pub address: Option<Text>,
     pub role: Role,
     pub sends: Usual,
 }

@@ -161,14 +161,26 @@ fn address_of(alloc: Global, host: &[u8], port: &[u8]) -> Result<Text, AllocErro
     Ok(Text::from_vec(address))
 }
 
-/// A row as a device.
+/// Whether a row is that of a device that only calls: a scanner that gives neither a host nor a
+/// port.
+fn only_calls(host: &[u8], port: &[u8], role: Option<Role>) -> bool {
+    match role {
+        Some(Role::Scanner) => host.is_empty() && port.is_empty(),
+        _ => false,
+    }
+}
+
+/// Where the device of a row listens; nowhere where it only calls.
 ///
-/// Errors: all but SecondRouter.
-fn device_of(alloc: Global, columns: Columns, row: &StringRecord) -> Result<Device, RowFault> {
-    let (title, host) = (field(row, columns.title), field(row, columns.host));
-    let port = field(row, columns.port);
-    if !is_title(title) {
-        return Err(RowFault::Title);
+/// Errors: Host, Port, Memory.
+fn place_in(
+    alloc: Global,
+    host: &[u8],
+    port: &[u8],
+    role: Option<Role>,
+) -> Result<Option<Text>, RowFault> {
+    if only_calls(host, port, role) {
+        return Ok(None);
     }
     if !is_host(host) {
         return Err(RowFault::Host);
@@ -176,11 +188,25 @@ fn device_of(alloc: Global, columns: Columns, row: &StringRecord) -> Result<Devi
     if !is_port(port) {
         return Err(RowFault::Port);
     }
-    let Some(role) = role_of(field(row, columns.role)) else {
+    let address = address_of(alloc, host, port)?;
+    Ok(Some(address))
+}
+
+/// A row as a device.
+///
+/// Errors: all but SecondRouter.
+fn device_of(alloc: Global, columns: Columns, row: &StringRecord) -> Result<Device, RowFault> {
+    let title = field(row, columns.title);
+    if !is_title(title) {
+        return Err(RowFault::Title);
+    }
+    let (host, port) = (field(row, columns.host), field(row, columns.port));
+    let found = role_of(field(row, columns.role));
+    let address = place_in(alloc, host, port, found)?;
+    let Some(role) = found else {
         return Err(RowFault::Role);
     };
     let name = Text::copy_of(alloc, title)?;
-    let address = address_of(alloc, host, port)?;
     Ok(Device {
         name,
         address,

@@ -3,8 +3,8 @@ ghost use Rattle.std.specs.Prelude.{◌≡◌, ◌++◌, IfOk, OnOk, codes, flat
 ghost use Rattle.dr_word_import.specs.Tables.{accept_at_gate, accept_behind, accept_table};
 ghost use Rattle.dr_word_import.specs.Tables.{device_tables, flow_head, flow_table, flow_tail};
 ghost use Rattle.dr_word_import.specs.Tables.{gate_rule};
-ghost use Rattle.dr_word_import.specs.Tables.{keeper_rule, line, node_table, plan_of, quoted};
-ghost use Rattle.dr_word_import.specs.Tables.{rows_of, syntaxes, target_item};
+ghost use Rattle.dr_word_import.specs.Tables.{keeper_rule, line, node_table, place_of, plan_of};
+ghost use Rattle.dr_word_import.specs.Tables.{quoted, rows_of, syntaxes, target_item};
 
 use crate::device::{Device, Usual};
 use dr_base::Text;
@@ -73,6 +73,16 @@ fn put_syntaxes(out: &mut Vec<u8>) -> Result<(), AllocError>
     )
 }
 
+/// Adds where a device listens.
+fn put_place(out: &mut Vec<u8>, address: &Option<Text>) -> Result<(), AllocError>
+    ensures { OnOk result (out.new.items ≡ out.old.items ++ place_of address.now) }
+{
+    match address {
+        Some(address) => put_value(out, b"address = ", address.as_bytes()),
+        None => put_line(out, b"listens = false"),
+    }
+}
+
 /// Adds the table of a node.
 fn put_node(out: &mut Vec<u8>, it: &Device) -> Result<(), AllocError>
     ensures { OnOk result (out.new.items ≡ out.old.items ++ node_table it.now) }
@@ -80,7 +90,7 @@ fn put_node(out: &mut Vec<u8>, it: &Device) -> Result<(), AllocError>
     out.push(LF)?;
     put_line(out, b"[[node]]")?;
     put_value(out, b"name = ", it.name.as_bytes())?;
-    put_value(out, b"address = ", it.address.as_bytes())?;
+    put_place(out, &it.address)?;
     Ok(())
 }
 

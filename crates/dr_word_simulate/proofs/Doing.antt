@@ -11,8 +11,8 @@ use Rattle.dr_plan_sound.specs.declared.certificate.Certificate.{Certificate}
 use Rattle.dr_world.specs.declared.deed.Deed.TheVariants as deed
 use Rattle.dr_world.specs.declared.fault.WorldFault.{WorldFault}
 use Rattle.dr_world.specs.declared.fault.WorldFault.TheVariants as fault
-use Rattle.dr_world.specs.declared.order.Order.{Order}
-use Rattle.dr_world.specs.declared.order.Order.TheVariants as order
+use Rattle.dr_world.specs.declared.order.WorldOrder.{WorldOrder}
+use Rattle.dr_world.specs.declared.order.WorldOrder.TheVariants as order
 use Rattle.dr_world.specs.Orders.{IsChangeOrder, OrdersChange}
 use Rattle.dr_world.specs.Played.{EndsEarly}
 use Rattle.dr_world_script.specs.declared.act.Act.{Act}
@@ -57,12 +57,12 @@ comes_to_end {X} all done left so_far none = so_far ∙ ap (λ (ys : List X). do
     alone (y ∷ ys) = ap (λ (zs : List X). y ∷ zs) (alone ys)
 
 module _ (Holds : Text → Text → Type 0) where
-  pub ordered_more : (acts : List Act) (a : Act) (old new : List Order) → AllZip (IsOrderOf Holds) acts old → AddsOrder Holds a old new → AllZip (IsOrderOf Holds) (acts ++ a ∷ []) new
+  pub ordered_more : (acts : List Act) (a : Act) (old new : List WorldOrder) → AllZip (IsOrderOf Holds) acts old → AddsOrder Holds a old new → AllZip (IsOrderOf Holds) (acts ++ a ∷ []) new
   ordered_more acts a old new so_far (one, is, e) =
-      let P : List Order → Type 0 = λ os. AllZip (IsOrderOf Holds) (acts ++ a ∷ []) os in
+      let P : List WorldOrder → Type 0 = λ os. AllZip (IsOrderOf Holds) (acts ++ a ∷ []) os in
       subst P (sym e) (zip_push (IsOrderOf Holds) acts old a one so_far is)
 
-  pub stops : (all before : List Act) (a : Act) (left later : List Act) (orders : List Order) (place : ℕ) (fault : ActFault)
+  pub stops : (all before : List Act) (a : Act) (left later : List Act) (orders : List WorldOrder) (place : ℕ) (fault : ActFault)
       → all ≡ before ++ left → left ≡ a ∷ later → AllZip (IsOrderOf Holds) before orders → place ≡ length orders → IsUndone Holds a fault → StopsAt Holds all place fault
   stops all before a left later orders place fault so_far next done at why =
       (before, a, later, so_far ∙ ap (λ (ys : List Act). before ++ ys) next, zip_length (IsOrderOf Holds) before orders done ∙ sym at, why, (orders, done))
@@ -107,7 +107,7 @@ module _ (Holds : Text → Text → Type 0) where
 -- ---- changes of plan
 
 -- a change among the orders is one among the lines
-told_change : (Holds : Text → Text → Type 0) (acts : List Act) (orders : List Order) (next : Certified) → AllZip (IsOrderOf Holds) acts orders → Contains orders (order.Deed (deed.Adopt next))
+told_change : (Holds : Text → Text → Type 0) (acts : List Act) (orders : List WorldOrder) (next : Certified) → AllZip (IsOrderOf Holds) acts orders → Contains orders (order.Deed (deed.Adopt next))
     → (plan certificate : Text) × Contains acts (act.Adopt plan certificate)
 told_change Holds [] [] next h among = absurd (nothing_in_nil (order.Deed (deed.Adopt next)) among)
 told_change Holds [] (one ∷ orders) next h among = absurd h
@@ -117,7 +117,7 @@ told_change Holds (a ∷ acts) (one ∷ orders) next h among = elim (Contains-co
   | inr later ↦ (let found = told_change Holds acts orders next h.1 later in (found.0, found.1, Contains-there a acts (act.Adopt found.0 found.1) found.2))
 ]
   where
-    here : (b : Act) (x : Order) → x ≡ order.Deed (deed.Adopt next) → IsOrderOf Holds b x → (plan certificate : Text) × Contains (b ∷ acts) (act.Adopt plan certificate)
+    here : (b : Act) (x : WorldOrder) → x ≡ order.Deed (deed.Adopt next) → IsOrderOf Holds b x → (plan certificate : Text) × Contains (b ∷ acts) (act.Adopt plan certificate)
     here (act.Adopt plan certificate) (order.Deed (deed.Adopt sealed)) same is = (plan, certificate, Contains-here (act.Adopt plan certificate) acts)
     here (act.Step step) (order.Deed (deed.Adopt sealed)) same is = absurd is
     here (act.Bytes link side bytes) (order.Deed (deed.Adopt sealed)) same is = absurd is
@@ -126,11 +126,11 @@ told_change Holds (a ∷ acts) (one ∷ orders) next h among = elim (Contains-co
     here a (order.Deed (deed.Bytes link side bytes)) same is = absurd (subst IsChangeOrder (sym same) tt)
     here a (order.Foreign what) same is = absurd (subst IsChangeOrder (sym same) tt)
 
-pub has_change : (Holds : Text → Text → Type 0) (text : Text) (acts : List Act) (orders : List Order) → IsScriptOf text acts → AllZip (IsOrderOf Holds) acts orders → OrdersChange orders → HasChangeIn text
+pub has_change : (Holds : Text → Text → Type 0) (text : Text) (acts : List Act) (orders : List WorldOrder) → IsScriptOf text acts → AllZip (IsOrderOf Holds) acts orders → OrdersChange orders → HasChangeIn text
 has_change Holds text acts orders script ordered (next, among) = (acts, script, told_change Holds acts orders next ordered among)
 
 -- why there is no report, where a run comes to an end before its last order
-pub ended_early : (orders : List Order) (f : WorldFault) → EndsEarly (OrdersChange orders) f → IsUnreported orders f
+pub ended_early : (orders : List WorldOrder) (f : WorldFault) → EndsEarly (OrdersChange orders) f → IsUnreported orders f
 ended_early orders fault.Memory h = tt
 ended_early orders fault.HalfAdopted h = h
 ended_early orders fault.WrongLedgers h = absurd h

@@ -9,8 +9,8 @@ use Rattle.dr_run_open.specs.declared.halt.Halt.{Halt}
 use Rattle.dr_run_open.specs.declared.status.Status.TheVariants.{Refused}
 use Rattle.dr_world.specs.declared.deed.Deed.{Deed}
 use Rattle.dr_world.specs.declared.deed.Deed.TheVariants as deed
-use Rattle.dr_world.specs.declared.order.Order.{Order}
-use Rattle.dr_world.specs.declared.order.Order.TheVariants as order
+use Rattle.dr_world.specs.declared.order.WorldOrder.{WorldOrder}
+use Rattle.dr_world.specs.declared.order.WorldOrder.TheVariants as order
 use Rattle.dr_world_script.specs.declared.act.Act.{Act}
 use Rattle.dr_world_script.specs.declared.act.Act.TheVariants as act
 use Rattle.dr_word_simulate.specs.declared.orders.ActFault.{ActFault}
@@ -33,7 +33,7 @@ IsDeedOf Holds (act.Bytes link side bytes) (deed.Bytes at by these) =
 IsDeedOf Holds (act.Foreign what) done = ⊥
 
 -- the order is what the line tells: such a deed, or what concerns other makers' products
-abbrev pub IsOrderOf : (Text → Text → Type 0) → Act → Order → Type 0
+abbrev pub IsOrderOf : (Text → Text → Type 0) → Act → WorldOrder → Type 0
 IsOrderOf Holds a (order.Deed done) = IsDeedOf Holds a done
 IsOrderOf Holds (act.Step step) (order.Foreign what) = ⊥
 IsOrderOf Holds (act.Adopt plan certificate) (order.Foreign what) = ⊥
@@ -60,8 +60,8 @@ IsUndone Holds (act.Foreign what) (Unread path error) = ⊥
 IsUndone Holds a Memory = Unit {0}
 
 -- the order of that line is behind the others
-abbrev pub AddsOrder : (Text → Text → Type 0) → Act → List Order → List Order → Type 0
-AddsOrder Holds a old new = (one : Order) × IsOrderOf Holds a one × (new ≡ old ++ one ∷ [])
+abbrev pub AddsOrder : (Text → Text → Type 0) → Act → List WorldOrder → List WorldOrder → Type 0
+AddsOrder Holds a old new = (one : WorldOrder) × IsOrderOf Holds a one × (new ≡ old ++ one ∷ [])
 
 -- what stands at that place, counted from 0, can't be done, and all before it can
 abbrev pub StopsAt : (Text → Text → Type 0) → List Act → ℕ → ActFault → Type 0
@@ -70,4 +70,4 @@ StopsAt Holds acts place fault =
     × (acts ≡ before ++ a ∷ later)
     × (length before ≡ place)
     × IsUndone Holds a fault
-    × ((orders : List Order) × AllZip (IsOrderOf Holds) before orders)
+    × ((orders : List WorldOrder) × AllZip (IsOrderOf Holds) before orders)

@@ -7,7 +7,7 @@ use Rattle.dr_plan_sound.specs.declared.certificate.Certificate.{Certificate}
 use Rattle.dr_run_open.specs.declared.status.Status.{Status}
 use Rattle.dr_run_open.specs.declared.status.Status.TheVariants.{Success, Refused, InputOutput}
 use Rattle.dr_run_open.specs.declared.status.Status.TheVariants.{Memory as OutOfMemory}
-use Rattle.dr_world.specs.declared.order.Order.{Order}
+use Rattle.dr_world.specs.declared.order.WorldOrder.{WorldOrder}
 use Rattle.dr_world_script.specs.Laws.{IsLineOf}
 use Rattle.dr_world_script.specs.Scripts.{IsFirstWrong, IsLineAt, IsScriptOf}
 use Rattle.dr_world_script.specs.declared.act.Act.{Act}
@@ -28,7 +28,7 @@ pub record IsSimulated (Holds : Text → Text → Type 0) (plan : Network) (cert
     (text report : Text) : Type 0 where
   pub acts : List Act
   pub told : IsScriptOf text acts
-  pub orders : List Order
+  pub orders : List WorldOrder
   pub ordered : AllZip (IsOrderOf Holds) acts orders
   pub reported : IsReportAfter plan certificate orders report
 

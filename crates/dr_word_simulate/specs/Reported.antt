@@ -13,11 +13,11 @@ use Rattle.dr_world.specs.Among.{FitsFrom}
 use Rattle.dr_world.specs.declared.changing.Change.{Change}
 use Rattle.dr_world.specs.declared.changing.Change.TheVariants.{Adopted, Skipped, Unfit}
 use Rattle.dr_world.specs.declared.deed.Deed.{Deed}
-use Rattle.dr_world.specs.declared.order.Order.{Order}
-use Rattle.dr_world.specs.declared.order.Refusal.{Refusal}
-use Rattle.dr_world.specs.declared.order.Refusal.TheVariants as why
-use Rattle.dr_world.specs.declared.order.Refused.{Refused}
-use Rattle.dr_world.specs.declared.order.Refused.TheVariants as refused
+use Rattle.dr_world.specs.declared.order.WorldOrder.{WorldOrder}
+use Rattle.dr_world.specs.declared.order.ForeignRefusal.{ForeignRefusal}
+use Rattle.dr_world.specs.declared.order.ForeignRefusal.TheVariants as why
+use Rattle.dr_world.specs.declared.order.RefusedForeign.{RefusedForeign}
+use Rattle.dr_world.specs.declared.order.RefusedForeign.TheVariants as refused
 use Rattle.dr_world.specs.declared.fault.WorldFault.{WorldFault}
 use Rattle.dr_world.specs.declared.fault.WorldFault.TheVariants as fault
 use Rattle.dr_world.specs.Orders.{AreMeant, OrdersChange}
@@ -75,22 +75,22 @@ notes_of [] = []
 notes_of (change ∷ changes) = note_of change ++ notes_of changes
 
 -- the word for why another maker's product doesn't do what it was told to
-abbrev pub refusal_word : Refusal → Text
+abbrev pub refusal_word : ForeignRefusal → Text
 refusal_word why.NoLink = codes "no-link"
 refusal_word why.NotForeign = codes "not-foreign"
 refusal_word why.NoContext = codes "no-context"
 refusal_word why.NotAsked = codes "not-asked"
 
 -- what is told of that: the word in the script, the link and why, a line
-abbrev pub refusal_line : Text → ℕ → Refusal → Text
+abbrev pub refusal_line : Text → ℕ → ForeignRefusal → Text
 refusal_line word link reason =
     codes "Refused" ++ (9 ∷ word) ++ (9 ∷ decimal link) ++ (9 ∷ refusal_word reason) ++ (10 ∷ [])
 
-abbrev pub refusal_of : Refused → Text
+abbrev pub refusal_of : RefusedForeign → Text
 refusal_of (refused.Store link reason) = refusal_line (codes "store") link reason
 refusal_of (refused.Answer link reason) = refusal_line (codes "answer") link reason
 
-abbrev pub refusals_of : List Refused → Text
+abbrev pub refusals_of : List RefusedForeign → Text
 refusals_of [] = []
 refusals_of (one ∷ more) = refusal_of one ++ refusals_of more
 
@@ -99,11 +99,11 @@ refusals_of (one ∷ more) = refusal_of one ++ refusals_of more
 -- names: of each its book, but for those that were told to be others'. The headline holds of the
 -- books, where no other product writes. Whichever nodes are ours, the four claims among others hold
 -- of theirs, where the deeds fit.
-pub record IsReportAfter (plan : Network) (certificate : Certificate) (orders : List Order)
+pub record IsReportAfter (plan : Network) (certificate : Certificate) (orders : List WorldOrder)
     (report : Text) : Type 0 where
   pub deeds : List Deed
   pub changes : List Change
-  pub refusals : List Refused
+  pub refusals : List RefusedForeign
   pub others : List Text
   pub ordered : AreMeant [] orders deeds refusals others
   pub books : Books
@@ -118,7 +118,7 @@ pub record IsReportAfter (plan : Network) (certificate : Certificate) (orders : 
 
 -- why there is no report: there is no memory, or a store failed; in a change of plan, where the
 -- orders have one
-abbrev pub IsUnreported : List Order → WorldFault → Type 0
+abbrev pub IsUnreported : List WorldOrder → WorldFault → Type 0
 IsUnreported orders fault.Memory = Unit {0}
 IsUnreported orders fault.Store = Unit {0}
 IsUnreported orders fault.HalfAdopted = OrdersChange orders

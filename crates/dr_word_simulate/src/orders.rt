@@ -11,7 +11,7 @@ use dr_base::Text;
 use dr_cert::Sealed;
 use dr_run_files::{Failure, Files};
 use dr_run_open::{Halt, Status, seal_files};
-use dr_world::{Deed, Order};
+use dr_world::{Deed, WorldOrder};
 use dr_world_script::Act;
 use std::alloc::Global;
 use std::io::ErrorKind;
@@ -127,17 +127,17 @@ fn seal_named<F: Files>(
 }
 
 /// What a line of a script orders.
-fn order_of<F: Files>(alloc: Global, files: &F, act: Act) -> Result<Order, ActFault>
+fn order_of<F: Files>(alloc: Global, files: &F, act: Act) -> Result<WorldOrder, ActFault>
     ensures { MatchResult result (IsOrderOf (F.holds files.now) act)
         (IsUndone (F.holds files.now) act) }
 {
     match act {
-        Act::Step(step) => Ok(Order::Deed(Deed::Step(step))),
-        Act::Bytes { link, side, bytes } => Ok(Order::Deed(Deed::Bytes { link, side, bytes })),
-        Act::Foreign(foreign) => Ok(Order::Foreign(foreign)),
+        Act::Step(step) => Ok(WorldOrder::Deed(Deed::Step(step))),
+        Act::Bytes { link, side, bytes } => Ok(WorldOrder::Deed(Deed::Bytes { link, side, bytes })),
+        Act::Foreign(foreign) => Ok(WorldOrder::Foreign(foreign)),
         Act::Adopt { plan, certificate } => {
             match seal_named(alloc, files, &plan, &certificate) {
-                Ok(sealed) => Ok(Order::Deed(Deed::Adopt(sealed))),
+                Ok(sealed) => Ok(WorldOrder::Deed(Deed::Adopt(sealed))),
                 Err(fault) => Err(fault),
             }
         }
@@ -149,7 +149,7 @@ fn add_order<F: Files>(
     alloc: Global,
     files: &F,
     act: Act,
-    orders: &mut Vec<Order>,
+    orders: &mut Vec<WorldOrder>,
 ) -> Result<(), ActFault>
     ensures { MatchResult result
         (λ _. AddsOrder (F.holds files.now) act orders.old.items orders.new.items)
@@ -170,7 +170,7 @@ pub fn orders_of<F: Files>(
     alloc: Global,
     files: &F,
     acts: Vec<Act>,
-) -> Result<Vec<Order>, ScriptStop>
+) -> Result<Vec<WorldOrder>, ScriptStop>
     ensures { MatchResult result
         (λ orders. AllZip (IsOrderOf (F.holds files.now)) acts.items orders.items)
         (λ stop. StopsAt (F.holds files.now) acts.items stop.place stop.fault) }

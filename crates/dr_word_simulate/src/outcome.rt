@@ -10,7 +10,7 @@ use dr_base::Text;
 use dr_cert::Sealed;
 use dr_run_files::Files;
 use dr_run_open::Status;
-use dr_world::{Order, PlayedWorld, WorldFault, run};
+use dr_world::{PlayedWorld, WorldFault, WorldOrder, run};
 use dr_world_script::{ScriptFault, line_of, read_script};
 use std::alloc::Global;
 use std::io;
@@ -56,7 +56,7 @@ impl PlayOutcome {
 /// world.
 ///
 /// Errors: HalfAdopted, Store, Memory.
-fn report_after(alloc: Global, sealed: &Sealed, orders: &[Order]) -> Result<Text, WorldFault>
+fn report_after(alloc: Global, sealed: &Sealed, orders: &[WorldOrder]) -> Result<Text, WorldFault>
     ensures reports { IfOk result
         (IsReportAfter sealed.now.plan sealed.now.certificate orders.now) }
     ensures unreported { IfErr result (IsUnreported orders.now) }

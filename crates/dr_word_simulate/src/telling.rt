@@ -4,7 +4,7 @@ ghost use Rattle.dr_word_simulate.specs.Reported.{note_of, notes_of, refusal_lin
 ghost use Rattle.dr_word_simulate.specs.Reported.{refusal_word, refusals_of};
 
 use dr_base::fields::{add_field, add_number};
-use dr_world::{Change, Refusal, Refused};
+use dr_world::{Change, ForeignRefusal, RefusedForeign};
 use std::alloc::AllocError;
 
 const TAB: u8 = 9;
@@ -46,14 +46,14 @@ pub fn tell_changes(changes: &[Change], out: &mut Vec<u8>) -> Result<(), AllocEr
 }
 
 /// The word for why it wasn't done.
-fn refusal_word(why: Refusal) -> &'static [u8]
+fn refusal_word(why: ForeignRefusal) -> &'static [u8]
     ensures { result.now ≡ refusal_word why }
 {
     match why {
-        Refusal::NoLink => b"no-link",
-        Refusal::NotForeign => b"not-foreign",
-        Refusal::NoContext => b"no-context",
-        Refusal::NotAsked => b"not-asked",
+        ForeignRefusal::NoLink => b"no-link",
+        ForeignRefusal::NotForeign => b"not-foreign",
+        ForeignRefusal::NoContext => b"no-context",
+        ForeignRefusal::NotAsked => b"not-asked",
     }
 }
 
@@ -62,7 +62,7 @@ fn put_refusal(
     out: &mut Vec<u8>,
     word: &[u8],
     link: u64,
-    why: Refusal,
+    why: ForeignRefusal,
 ) -> Result<(), AllocError>
     ensures { OnOk result (out.new.items ≡ out.old.items ++ refusal_line word.now link why) }
 {
@@ -75,17 +75,17 @@ fn put_refusal(
 }
 
 /// Adds what another maker's product was told and didn't do.
-fn tell_refusal(refused: &Refused, out: &mut Vec<u8>) -> Result<(), AllocError>
+fn tell_refusal(refused: &RefusedForeign, out: &mut Vec<u8>) -> Result<(), AllocError>
     ensures { OnOk result (out.new.items ≡ out.old.items ++ refusal_of refused.now) }
 {
     match refused {
-        Refused::Store { link, why } => put_refusal(out, b"store", *link, *why),
-        Refused::Answer { link, why } => put_refusal(out, b"answer", *link, *why),
+        RefusedForeign::Store { link, why } => put_refusal(out, b"store", *link, *why),
+        RefusedForeign::Answer { link, why } => put_refusal(out, b"answer", *link, *why),
     }
 }
 
 /// Adds what other makers' products were told and didn't do, in order.
-pub fn tell_refusals(refusals: &[Refused], out: &mut Vec<u8>) -> Result<(), AllocError>
+pub fn tell_refusals(refusals: &[RefusedForeign], out: &mut Vec<u8>) -> Result<(), AllocError>
     ensures { OnOk result (out.new.items ≡ out.old.items ++ refusals_of refusals.now) }
 {
     for refused in refusals {

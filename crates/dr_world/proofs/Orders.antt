@@ -11,12 +11,12 @@ use Rattle.dr_world.specs.declared.deed.Deed.{Deed}
 use Rattle.dr_world.specs.declared.deed.Deed.TheVariants as deed
 use Rattle.dr_world.specs.declared.fault.WorldFault.{WorldFault}
 use Rattle.dr_world.specs.declared.fault.WorldFault.TheVariants as fault
-use Rattle.dr_world.specs.declared.order.Order.{Order}
-use Rattle.dr_world.specs.declared.order.Order.TheVariants as order
-use Rattle.dr_world.specs.declared.order.Refused.{Refused}
+use Rattle.dr_world.specs.declared.order.WorldOrder.{WorldOrder}
+use Rattle.dr_world.specs.declared.order.WorldOrder.TheVariants as order
+use Rattle.dr_world.specs.declared.order.RefusedForeign.{RefusedForeign}
 use Rattle.dr_world.specs.declared.playing.PlayNotes.{PlayNotes}
 use Rattle.dr_world.specs.declared.world.World.{World}
-use Rattle.dr_world.specs.Orders.{AreMeant, AreOrdered, IsChangeOrder, IsOrdered, IsOrderedRun, NotesOrder, OrdersChange}
+use Rattle.dr_world.specs.Orders.{AreMeant, AreOrdered, IsChangeOrder, IsOrderDone, IsOrderedRun, NotesOrder, OrdersChange}
 use Rattle.dr_world.specs.Played.{EndsEarly, IsPlayed, PlaysAll}
 use Rattle.dr_world.specs.Runs.{IsReached}
 use Rattle.dr_world.specs.Whole.{AllStand, contents}
@@ -40,7 +40,7 @@ module _ {L : Type 0} {l : Ghosts L} where
       subst P (λ j. (all j, both j)) (g first its certified (before ++ done) (came ++ told) (f first its certified before came played))
 
   -- the deeds of all orders lead from world to world
-  pub plays_ordered : (others : List Text) (old : World L l) (orders : List Order) (deeds : List Deed) (changes : List Change) (refusals : List Refused) (last : List Text) (new : World L l)
+  pub plays_ordered : (others : List Text) (old : World L l) (orders : List WorldOrder) (deeds : List Deed) (changes : List Change) (refusals : List RefusedForeign) (last : List Text) (new : World L l)
       → AreOrdered others old orders deeds changes refusals last new → PlaysAll deeds changes old new
   plays_ordered others old [] deeds changes refusals last new (d, c, r, o, w) =
       let P : List Deed × (List Change × World L l) → Type 0 = λ p. PlaysAll p.0 p.1.0 old p.1.1 in
@@ -49,7 +49,7 @@ module _ {L : Type 0} {l : Ghosts L} where
       plays_then old mid new deeds done more changes told later first.plays (plays_ordered after mid orders more later rest last new h) ed ec
 
   -- and each is what its order means
-  pub meant : (others : List Text) (old : World L l) (orders : List Order) (deeds : List Deed) (changes : List Change) (refusals : List Refused) (last : List Text) (new : World L l)
+  pub meant : (others : List Text) (old : World L l) (orders : List WorldOrder) (deeds : List Deed) (changes : List Change) (refusals : List RefusedForeign) (last : List Text) (new : World L l)
       → AreOrdered others old orders deeds changes refusals last new → AreMeant others orders deeds refusals last
   meant others old [] deeds changes refusals last new (d, c, r, o, w) = (d, r, o)
   meant others old (one ∷ orders) deeds changes refusals last new (done, more, told, later, said, rest, after, mid, ed, ec, er, first, h) =
@@ -57,13 +57,13 @@ module _ {L : Type 0} {l : Ghosts L} where
 
   -- ---- one more
 
-  behind : (others : List Text) (old : World L l) (orders : List Order) (deeds : List Deed) (changes : List Change) (refusals : List Refused) (at : List Text) (mid : World L l)
+  behind : (others : List Text) (old : World L l) (orders : List WorldOrder) (deeds : List Deed) (changes : List Change) (refusals : List RefusedForeign) (at : List Text) (mid : World L l)
       → AreOrdered others old orders deeds changes refusals at mid
-      → (one : Order) (done : List Deed) (told : List Change) (said : List Refused) (after : List Text) (new : World L l)
-      → IsOrdered at mid one done told said after new
+      → (one : WorldOrder) (done : List Deed) (told : List Change) (said : List RefusedForeign) (after : List Text) (new : World L l)
+      → IsOrderDone at mid one done told said after new
       → AreOrdered others old (orders ++ one ∷ []) (deeds ++ done) (changes ++ told) (refusals ++ said) after new
   behind others old [] deeds changes refusals at mid (d, c, r, o, w) one done told said after new h =
-      let P : List Text × World L l → Type 0 = λ p. IsOrdered p.0 p.1 one done told said after new in (
+      let P : List Text × World L l → Type 0 = λ p. IsOrderDone p.0 p.1 one done told said after new in (
         done,
         [],
         told,
@@ -74,7 +74,7 @@ module _ {L : Type 0} {l : Ghosts L} where
         new,
         ap (λ (ds : List Deed). ds ++ done) d ∙ sym (append-nil done),
         ap (λ (cs : List Change). cs ++ told) c ∙ sym (append-nil told),
-        ap (λ (rs : List Refused). rs ++ said) r ∙ sym (append-nil said),
+        ap (λ (rs : List RefusedForeign). rs ++ said) r ∙ sym (append-nil said),
         subst P (λ j. (o j, w j)) h,
         (refl, refl, refl, refl, refl),
       )
@@ -89,32 +89,32 @@ module _ {L : Type 0} {l : Ghosts L} where
     between,
     ap (λ (ds : List Deed). ds ++ done) ed ∙ append_assoc its more done,
     ap (λ (cs : List Change). cs ++ told) ec ∙ append_assoc came later told,
-    ap (λ (rs : List Refused). rs ++ said) er ∙ append_assoc noted rest said,
+    ap (λ (rs : List RefusedForeign). rs ++ said) er ∙ append_assoc noted rest said,
     first,
     behind next between orders more later rest at mid g one done told said after new h,
   )
 
   -- those so far, with what was noted of them
-  abbrev pub SoFar : World L l → List Order → PlayNotes → World L l → Type 0
+  abbrev pub SoFar : World L l → List WorldOrder → PlayNotes → World L l → Type 0
   SoFar old orders notes new = (deeds : List Deed) × AreOrdered [] old orders deeds notes.changes notes.refusals notes.others new
 
-  pub none_ordered : (w : World L l) (orders : List Order) (notes : PlayNotes) → notes ≡ record { others = []; changes = []; refusals = [] } → SoFar w (take 0 orders) notes w
+  pub none_ordered : (w : World L l) (orders : List WorldOrder) (notes : PlayNotes) → notes ≡ record { others = []; changes = []; refusals = [] } → SoFar w (take 0 orders) notes w
   none_ordered w orders notes are = ([], refl, ap (λ (n : PlayNotes). n.changes) are, ap (λ (n : PlayNotes). n.refusals) are, ap (λ (n : PlayNotes). n.others) are, refl)
 
-  pub one_ordered : (first old new : World L l) (orders : List Order) (i : ℕ) (one : Order) (before after : PlayNotes) → i < length orders → one ≡ get_or orders i one
+  pub one_ordered : (first old new : World L l) (orders : List WorldOrder) (i : ℕ) (one : WorldOrder) (before after : PlayNotes) → i < length orders → one ≡ get_or orders i one
       → SoFar first (take i orders) before old → NotesOrder before old one after new → SoFar first (take (i + 1) orders) after new
   one_ordered first old new orders i one before after less is (deeds, h) (done, told, said, ec, er, g) =
       let more = behind [] first (take i orders) deeds before.changes before.refusals before.others old h one done told said after.others new g in
-      let listed : take i orders ++ one ∷ [] ≡ take (i + 1) orders = ap (λ (x : Order). take i orders ++ x ∷ []) is ∙ sym (take_more orders i one less) in
-      let P : List Order × (List Change × List Refused) → Type 0 = λ p. AreOrdered [] first p.0 (deeds ++ done) p.1.0 p.1.1 after.others new in
+      let listed : take i orders ++ one ∷ [] ≡ take (i + 1) orders = ap (λ (x : WorldOrder). take i orders ++ x ∷ []) is ∙ sym (take_more orders i one less) in
+      let P : List WorldOrder × (List Change × List RefusedForeign) → Type 0 = λ p. AreOrdered [] first p.0 (deeds ++ done) p.1.0 p.1.1 after.others new in
       (deeds ++ done, subst P (λ j. (listed j, (sym ec j, sym er j))) more)
 
-  pub all_ordered : (first new : World L l) (orders : List Order) (i : ℕ) (notes : PlayNotes) → length orders ≤ i → SoFar first (take i orders) notes new → SoFar first orders notes new
-  all_ordered first new orders i notes all h = (let P : List Order → Type 0 = λ os. SoFar first os notes new in subst P (take_all orders i all) h)
+  pub all_ordered : (first new : World L l) (orders : List WorldOrder) (i : ℕ) (notes : PlayNotes) → length orders ≤ i → SoFar first (take i orders) notes new → SoFar first orders notes new
+  all_ordered first new orders i notes all h = (let P : List WorldOrder → Type 0 = λ os. SoFar first os notes new in subst P (take_all orders i all) h)
 
   -- ---- from the beginning
 
-  pub ordered_run : (plan : Network) (certificate : Certificate) → IsCertified plan certificate → (first last : World L l) (orders : List Order) (notes : PlayNotes)
+  pub ordered_run : (plan : Network) (certificate : Certificate) → IsCertified plan certificate → (first last : World L l) (orders : List WorldOrder) (notes : PlayNotes)
       → IsReached plan certificate [] first → SoFar first orders notes last → AllStand last → IsOrderedRun plan certificate orders notes.changes notes.refusals notes.others last
   ordered_run plan certificate certified first last orders notes reached (deeds, h) all = (
     first,
@@ -127,7 +127,7 @@ module _ {L : Type 0} {l : Ghosts L} where
 -- ---- why not all is done
 
 -- the order that failed is one of all
-pub orders_early : (orders : List Order) (i : ℕ) (one : Order) (f : WorldFault) → i < length orders → one ≡ get_or orders i one → EndsEarly (IsChangeOrder one) f → EndsEarly (OrdersChange orders) f
+pub orders_early : (orders : List WorldOrder) (i : ℕ) (one : WorldOrder) (f : WorldFault) → i < length orders → one ≡ get_or orders i one → EndsEarly (IsChangeOrder one) f → EndsEarly (OrdersChange orders) f
 orders_early orders i (order.Deed (deed.Step step)) fault.HalfAdopted less is h = absurd h
 orders_early orders i (order.Deed (deed.Bytes link side bytes)) fault.HalfAdopted less is h = absurd h
 orders_early orders i (order.Deed (deed.Adopt next)) fault.HalfAdopted less is h = (next, (i, less, sym is))

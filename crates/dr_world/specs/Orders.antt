@@ -31,13 +31,13 @@ use Rattle.dr_world_script.specs.declared.step.Step.TheVariants.{Tick, RefuseSto
 use Rattle.dr_world.specs.declared.changing.Change.{Change}
 use Rattle.dr_world.specs.declared.deed.Deed.{Deed}
 use Rattle.dr_world.specs.declared.deed.Deed.TheVariants as deed
-use Rattle.dr_world.specs.declared.order.Order.{Order}
-use Rattle.dr_world.specs.declared.order.Order.TheVariants as order
-use Rattle.dr_world.specs.declared.order.Refusal.{Refusal}
-use Rattle.dr_world.specs.declared.order.Refusal.TheVariants.{NoContext, NoLink, NotAsked}
-use Rattle.dr_world.specs.declared.order.Refusal.TheVariants.{NotForeign}
-use Rattle.dr_world.specs.declared.order.Refused.{Refused}
-use Rattle.dr_world.specs.declared.order.Refused.TheVariants as refused
+use Rattle.dr_world.specs.declared.order.WorldOrder.{WorldOrder}
+use Rattle.dr_world.specs.declared.order.WorldOrder.TheVariants as order
+use Rattle.dr_world.specs.declared.order.ForeignRefusal.{ForeignRefusal}
+use Rattle.dr_world.specs.declared.order.ForeignRefusal.TheVariants.{NoContext, NoLink, NotAsked}
+use Rattle.dr_world.specs.declared.order.ForeignRefusal.TheVariants.{NotForeign}
+use Rattle.dr_world.specs.declared.order.RefusedForeign.{RefusedForeign}
+use Rattle.dr_world.specs.declared.order.RefusedForeign.TheVariants as refused
 use Rattle.dr_world.specs.declared.order.Spoken.{Spoken}
 use Rattle.dr_world.specs.declared.order.Spoken.TheVariants.{Refuses, Writes}
 use Rattle.dr_world.specs.declared.playing.PlayNotes.{PlayNotes}
@@ -157,19 +157,21 @@ AnswersAs others c link status (Refuses NoContext) = ⊥
 -- ---- orders
 
 -- What is written is one deed, and what is refused is noted.
-abbrev pub IsSpoken : (Spoken → Type 0) → ℕ → steps.Side → (Refusal → Refused) → List Deed
-    → List Refused → Type 0
+abbrev pub IsSpoken : (Spoken → Type 0) → ℕ → steps.Side
+    → (ForeignRefusal → RefusedForeign)
+    → List Deed → List RefusedForeign → Type 0
 IsSpoken Is link at note done said =
     ((bytes : List ℕ)
     × Is (Writes bytes)
     × (done ≡ deed.Bytes link at bytes ∷ [])
     × (said ≡ []))
-    ⊎ ((why : Refusal) × Is (Refuses why) × (done ≡ []) × (said ≡ note why ∷ []))
+    ⊎ ((why : ForeignRefusal) × Is (Refuses why) × (done ≡ []) × (said ≡ note why ∷ []))
 
 -- What an order comes to where those nodes are other makers' products, in a world with these
 -- contents: the deeds that are done for it, what is refused of it, and which nodes are others' from
 -- then on. No step is taken for another's node.
-abbrev pub IsMeant : List Text → Contents → Order → List Deed → List Refused → List Text → Type 0
+abbrev pub IsMeant : List Text → Contents → WorldOrder → List Deed → List RefusedForeign → List Text
+    → Type 0
 IsMeant others c (order.Deed done) deeds said after =
     (said ≡ []) × (after ≡ others)
     × (((IsPassedOver others c done → ⊥) × (deeds ≡ done ∷ []))
@@ -184,47 +186,50 @@ IsMeant others c (order.Foreign (foreign.Answer link status)) deeds said after =
     × IsSpoken (AnswersAs others c link status) link side.Acceptor (refused.Answer link) deeds said
 
 -- one order, from world to world; each change of plan among the deeds comes to what stands for it
-pub record IsOrdered {L : Type 0} {l : Ghosts L} (others : List Text) (old : World L l)
-    (one : Order) (deeds : List Deed) (told : List Change) (said : List Refused)
+pub record IsOrderDone {L : Type 0} {l : Ghosts L} (others : List Text) (old : World L l)
+    (one : WorldOrder) (deeds : List Deed) (told : List Change) (said : List RefusedForeign)
     (after : List Text) (new : World L l) : Type 0 where
   pub means : IsMeant others (contents old) one deeds said after
   pub plays : PlaysAll deeds told old new
 
 -- one order more, and what is noted of it behind what was noted
 abbrev pub NotesOrder : {L : Type 0} {l : Ghosts L}
-    → PlayNotes → World L l → Order → PlayNotes → World L l → Type 0
+    → PlayNotes → World L l → WorldOrder → PlayNotes → World L l → Type 0
 NotesOrder before old one after new =
-    (deeds : List Deed) × (told : List Change) × (said : List Refused)
+    (deeds : List Deed) × (told : List Change) × (said : List RefusedForeign)
     × (after.changes ≡ before.changes ++ told)
     × (after.refusals ≡ before.refusals ++ said)
-    × IsOrdered before.others old one deeds told said after.others new
+    × IsOrderDone before.others old one deeds told said after.others new
 
 -- orders one after the other
 abbrev pub AreOrdered : {L : Type 0} {l : Ghosts L}
-    → List Text → World L l → List Order → List Deed → List Change → List Refused → List Text
-    → World L l → Type 0
+    → List Text → World L l → List WorldOrder → List Deed → List Change → List RefusedForeign
+    → List Text → World L l → Type 0
 AreOrdered others old [] deeds changes refusals last new =
     (deeds ≡ []) × (changes ≡ []) × (refusals ≡ []) × (last ≡ others) × (new ≡ old)
 AreOrdered {L} {l} others old (one ∷ orders) deeds changes refusals last new =
-    (done more : List Deed) × (told later : List Change) × (said rest : List Refused)
+    (done more : List Deed) × (told later : List Change) × (said rest : List RefusedForeign)
     × (after : List Text) × (mid : World L l)
     × (deeds ≡ done ++ more) × (changes ≡ told ++ later) × (refusals ≡ said ++ rest)
-    × IsOrdered others old one done told said after mid
+    × IsOrderDone others old one done told said after mid
     × AreOrdered after mid orders more later rest last new
 
 -- the same without the worlds: each order comes to what it means in some world
-abbrev pub AreMeant : List Text → List Order → List Deed → List Refused → List Text → Type 0
+abbrev pub AreMeant : List Text → List WorldOrder → List Deed → List RefusedForeign → List Text
+    → Type 0
 AreMeant others [] deeds refusals last = (deeds ≡ []) × (refusals ≡ []) × (last ≡ others)
 AreMeant others (one ∷ orders) deeds refusals last =
-    (c : Contents) × (done more : List Deed) × (said rest : List Refused) × (after : List Text)
-    × (deeds ≡ done ++ more) × (refusals ≡ said ++ rest)
+    (c : Contents) × (done more : List Deed)
+    × (said rest : List RefusedForeign)
+    × (after : List Text) × (deeds ≡ done ++ more)
+    × (refusals ≡ said ++ rest)
     × IsMeant others c one done said after
     × AreMeant after orders more rest last
 
 -- A world that just these orders have made of the plan: the deeds that they come to have.
 abbrev pub IsOrderedRun : {L : Type 0} {l : Ghosts L}
-    → Network → Certificate → List Order → List Change → List Refused → List Text → World L l
-    → Type 0
+    → Network → Certificate → List WorldOrder → List Change → List RefusedForeign → List Text
+    → World L l → Type 0
 IsOrderedRun {L} {l} plan certificate orders changes refusals others w =
     (first : World L l) × (deeds : List Deed)
     × IsReached plan certificate [] first
@@ -234,10 +239,10 @@ IsOrderedRun {L} {l} plan certificate orders changes refusals others w =
 -- ---- why not all is done
 
 -- a change of plan
-abbrev pub IsChangeOrder : Order → Type 0
+abbrev pub IsChangeOrder : WorldOrder → Type 0
 IsChangeOrder (order.Deed done) = IsChange done
 IsChangeOrder (order.Foreign what) = ⊥
 
 -- one of the orders is
-abbrev pub OrdersChange : List Order → Type 0
+abbrev pub OrdersChange : List WorldOrder → Type 0
 OrdersChange orders = (next : Certified) × Contains orders (order.Deed (deed.Adopt next))

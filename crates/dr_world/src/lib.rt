@@ -35,7 +35,7 @@ pub use deed::Deed;
 pub use dr_world_script::{Foreign, Side, Step};
 pub use fault::WorldFault;
 pub use listing::Listing;
-pub use order::{Order, Refusal, Refused, Spoken};
+pub use order::{ForeignRefusal, RefusedForeign, Spoken, WorldOrder};
 pub use playing::{PlayNotes, PlayedWorld, run};
 pub use steps::StepNote;
 pub use world::World;

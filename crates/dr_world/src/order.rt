@@ -6,14 +6,14 @@ use dr_world_script::Foreign;
 /// What is ordered in a world: a deed, or what concerns other makers' products. Which deed that
 /// comes to, if any, is told by the world in which it is ordered.
 #[derive(Drop)]
-pub enum Order {
+pub enum WorldOrder {
     Deed(Deed),
     Foreign(Foreign),
 }
 
 /// Why another maker's product doesn't do what it was told to. They are tested in this order.
 #[derive(Clone, Copy, PartialEq, Eq, Debug)]
-pub enum Refusal {
+pub enum ForeignRefusal {
     /// There is no link of that number.
     NoLink,
     /// The end that is to write isn't that of another maker's product.
@@ -26,14 +26,14 @@ pub enum Refusal {
 
 /// What was refused, at which link, and why.
 #[derive(Clone, Copy, PartialEq, Eq, Debug)]
-pub enum Refused {
-    Store { link: u64, why: Refusal },
-    Answer { link: u64, why: Refusal },
+pub enum RefusedForeign {
+    Store { link: u64, why: ForeignRefusal },
+    Answer { link: u64, why: ForeignRefusal },
 }
 
 /// What another maker's product writes for what it was told to do, or why it does nothing.
 #[derive(Drop)]
 pub enum Spoken {
     Writes(Octets),
-    Refuses(Refusal),
+    Refuses(ForeignRefusal),
 }

@@ -11,7 +11,7 @@ ghost use Rattle.dr_world.specs.Whole.{contents};
 ghost use Rattle.dr_world.specs.declared.changing.Change.{Change as ChangeValue};
 ghost use Rattle.dr_world.specs.declared.deed.Deed.{Deed as DeedValue};
 ghost use Rattle.dr_world.specs.declared.deed.Deed.TheVariants as deeds_of;
-ghost use Rattle.dr_world.specs.declared.order.Order.TheVariants as orders_of;
+ghost use Rattle.dr_world.specs.declared.order.WorldOrder.TheVariants as orders_of;
 ghost use Rattle.dr_world_script.specs.declared.foreign.Foreign.TheVariants as foreign_of;
 ghost use Rattle.dr_world.specs.declared.fault.WorldFault.TheVariants.{Memory as MemoryFault};
 ghost use Rattle.dr_world.specs.declared.fault.WorldFault.TheVariants.{WrongLedgers as WrongFault};
@@ -19,7 +19,7 @@ ghost use Rattle.dr_world.specs.declared.fault.WorldFault.TheVariants.{WrongLedg
 use crate::changing::Change;
 use crate::deed::Deed;
 use crate::fault::WorldFault;
-use crate::order::{Order, Refused, Spoken};
+use crate::order::{RefusedForeign, Spoken, WorldOrder};
 use crate::world::World;
 use dr_base::{Octets, Seq, Text};
 use dr_cert::Sealed;
@@ -45,7 +45,7 @@ pub struct PlayNotes {
     /// What the changes of plan came to, in order.
     pub changes: Seq<Change>,
     /// What other makers' products were told and didn't do, in order.
-    pub refusals: Seq<Refused>,
+    pub refusals: Seq<RefusedForeign>,
 }
 
 /// A ledger in memory for each of these nodes.
@@ -194,7 +194,7 @@ fn do_store(
             Err(fault) => Err(fault),
         },
         Spoken::Refuses(why) => {
-            notes.refusals.push(Refused::Store { link, why })?;
+            notes.refusals.push(RefusedForeign::Store { link, why })?;
             Ok(())
         }
     }
@@ -220,7 +220,7 @@ fn do_answer(
             Err(fault) => Err(fault),
         },
         Spoken::Refuses(why) => {
-            notes.refusals.push(Refused::Answer { link, why })?;
+            notes.refusals.push(RefusedForeign::Answer { link, why })?;
             Ok(())
         }
     }
@@ -253,7 +253,7 @@ fn do_foreign(
 fn do_order(
     alloc: Global,
     world: &mut World<Refusing<MemoryLedger>>,
-    order: &Order,
+    order: &WorldOrder,
     notes: &mut PlayNotes,
 ) -> Result<(), WorldFault>
     requires { world.old.lost ≡ None }
@@ -263,8 +263,8 @@ fn do_order(
     ensures early { IfErr result (EndsEarly (IsChangeOrder order.now)) }
 {
     match order {
-        Order::Deed(deed) => do_own(alloc, world, deed, notes),
-        Order::Foreign(foreign) => do_foreign(world, foreign, notes),
+        WorldOrder::Deed(deed) => do_own(alloc, world, deed, notes),
+        WorldOrder::Foreign(foreign) => do_foreign(world, foreign, notes),
     }
 }
 
@@ -283,7 +283,7 @@ fn no_notes(alloc: Global) -> PlayNotes
 fn do_all(
     alloc: Global,
     world: &mut World<Refusing<MemoryLedger>>,
-    orders: &[Order],
+    orders: &[WorldOrder],
 ) -> Result<PlayNotes, WorldFault>
     requires { world.old.lost ≡ None }
     ensures plays { IfOk result (λ notes. (deeds : List DeedValue)
@@ -303,7 +303,7 @@ fn do_all(
 ///
 /// Errors: HalfAdopted, where a node that was told to refuse is to take another plan, so only where
 /// an order is a change of plan; Memory.
-pub fn run(alloc: Global, sealed: &Sealed, orders: &[Order]) -> Result<PlayedWorld, WorldFault>
+pub fn run(alloc: Global, sealed: &Sealed, orders: &[WorldOrder]) -> Result<PlayedWorld, WorldFault>
     ensures runs { IfOk result (λ run. IsOrderedRun sealed.now.plan sealed.now.certificate
         orders.now run.notes.changes run.notes.refusals run.notes.others run.world) }
     ensures early { IfErr result (EndsEarly (OrdersChange orders.now)) }

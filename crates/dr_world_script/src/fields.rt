@@ -8,7 +8,7 @@ ghost use Rattle.dr_world_script.specs.Scripts.{foreign_spelled};
 ghost use Rattle.dr_world_script.specs.Scripts.{side_word, spelled, syntax_letter};
 ghost use Rattle.dr_world_script.specs.Scripts.{DecodesBody, adopt_word, bytes_word};
 ghost use Rattle.dr_world_script.specs.Scripts.{ReadsStatus};
-ghost use Rattle.dr_world_script.specs.declared.foreign.ForeignWord.{ForeignWord as ForeignWordValue};
+ghost use Rattle.dr_world_script.specs.declared.foreign.ForeignWord.{ForeignWord as Called};
 ghost use Rattle.dr_world_script.specs.declared.step.Side.{Side as SideValue};
 ghost use Rattle.dr_world_script.specs.declared.step.Word.{Word as WordValue};
 
@@ -57,7 +57,7 @@ pub fn is_bytes(field: &[u8]) -> bool
 /// The word of what concerns other makers' products that is spelled so.
 pub fn read_foreign_word(field: &[u8]) -> Option<ForeignWord>
     ensures { MatchOption result
-        ((word : ForeignWordValue) → foreign_spelled word ≡ field.now → ⊥)
+        ((word : Called) → foreign_spelled word ≡ field.now → ⊥)
         (λ word. foreign_spelled word ≡ field.now) }
 {
     match field {

@@ -4,7 +4,7 @@ ghost use Rattle.dr_world.specs.Ends.{named};
 ghost use Rattle.dr_world.specs.Orders.{AnswersAs, IsOthers, IsOthersEnd, StoresAs};
 ghost use Rattle.dr_world.specs.Whole.{contents};
 
-use crate::order::{Refusal, Spoken};
+use crate::order::{ForeignRefusal, Spoken};
 use crate::speaking::{answer_text, asked_at, context_at, store_text};
 use crate::world::World;
 use dr_base::Text;
@@ -58,13 +58,13 @@ impl<L: Ledger> World<L> {
         ensures { IfOk result (StoresAs others.now (contents self.now) link item.now) }
     {
         let Some(wires) = self.wires.get(&link) else {
-            return Ok(Spoken::Refuses(Refusal::NoLink));
+            return Ok(Spoken::Refuses(ForeignRefusal::NoLink));
         };
         if !others.contains(&wires.caller) {
-            return Ok(Spoken::Refuses(Refusal::NotForeign));
+            return Ok(Spoken::Refuses(ForeignRefusal::NotForeign));
         }
         let Some(context) = context_at(&self.nodes, &wires.receiver, link, item) else {
-            return Ok(Spoken::Refuses(Refusal::NoContext));
+            return Ok(Spoken::Refuses(ForeignRefusal::NoContext));
         };
         let bytes = store_text(self.alloc, context, item)?;
         Ok(Spoken::Writes(bytes))
@@ -78,13 +78,13 @@ impl<L: Ledger> World<L> {
         ensures { IfOk result (AnswersAs others.now (contents self.now) link status) }
     {
         let Some(wires) = self.wires.get(&link) else {
-            return Ok(Spoken::Refuses(Refusal::NoLink));
+            return Ok(Spoken::Refuses(ForeignRefusal::NoLink));
         };
         if !others.contains(&wires.receiver) {
-            return Ok(Spoken::Refuses(Refusal::NotForeign));
+            return Ok(Spoken::Refuses(ForeignRefusal::NotForeign));
         }
         let Some(asked) = asked_at(&self.nodes, &wires.caller, link) else {
-            return Ok(Spoken::Refuses(Refusal::NotAsked));
+            return Ok(Spoken::Refuses(ForeignRefusal::NotAsked));
         };
         let bytes = answer_text(self.alloc, asked, status)?;
         Ok(Spoken::Writes(bytes))

@@ -31,5 +31,5 @@ returns g c =
           let is : all.items ≡ map shown_note_entry rows = h.0 ∙ ap (map shown_note_entry) c.as_slice.ensures.value in
           subst (AreNotesWithin old.now.trees after last) (sym is)
           (notes_found after last (owned c.number_cell.result) (owned c.number_cell-2.result) c.number_cell.ensures (c.number_cell-2.ensures c.requires) c.requires old new rows has shown
-          (subst (λ es. T (is_sorted nat_cmp es)) is h.1.0) (subst (CountsUp after last) is h.1.1))) c.notes_in.ensures) c.in_ok-rows.ensures.asked;
+          (subst (λ es. T (is_sorted nat_cmp es)) is h.1) (subst (CountsUp after last) is h.2))) c.notes_in.ensures) c.in_ok-rows.ensures.asked;
     }

@@ -1,6 +1,6 @@
-use Rattle.std.proofs.Common.{drop}
+use Rattle.std.proofs.Common.{take}
 use Rattle.dr_word_audit_at.specs.Cuts.{MendsNowhere}
 use Rattle.dr_word_audit_at.proofs.cutting.count_to.Given as goal
 
 abbrev pub invariant-loop-i : goal.invariant-loop-i
-invariant-loop-i l = MendsNowhere l.fn.missing (drop l.i l.fn.lines) → MendsNowhere l.fn.missing l.fn.lines
+invariant-loop-i l = MendsNowhere l.fn.missing (take l.i l.fn.lines)

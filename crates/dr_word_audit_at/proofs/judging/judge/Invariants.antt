@@ -1,6 +1,6 @@
 use Rattle.std.proofs.Common.{◌≡◌, length}
-use Rattle.dr_word_audit_at.specs.Cuts.{AreNoEarlier}
+use Rattle.dr_word_audit_at.specs.Cuts.{AreReached}
 use Rattle.dr_word_audit_at.proofs.judging.judge.Given as goal
 
 abbrev pub invariant-loop-round : goal.invariant-loop-round
-invariant-loop-round l = AreNoEarlier l.fn.first.items l.counts.items × (length l.counts.items ≡ length l.read)
+invariant-loop-round l = AreReached l.fn.sealed.plan l.fn.read l.fn.first.items l.counts.items

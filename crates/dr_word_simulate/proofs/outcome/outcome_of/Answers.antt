@@ -1,7 +1,7 @@
 use Rattle.std.proofs.Common.{List, subst}
 use Rattle.std.specs.List.{AllZip}
 use Rattle.dr_world.specs.Orders.{OrdersChange}
-use Rattle.dr_world.specs.declared.order.Order.{Order}
+use Rattle.dr_world.specs.declared.order.WorldOrder.{WorldOrder}
 use Rattle.dr_world.specs.declared.fault.WorldFault.{WorldFault}
 use Rattle.dr_world_script.specs.declared.act.Act.{Act}
 use Rattle.dr_word_simulate.specs.Orders.{IsOrderOf, StopsAt}
@@ -25,7 +25,7 @@ returns-in-Err g c =
 pub returns-in-Ok-report_after : goal.returns-in-Ok-report_after
 returns-in-Ok-report_after g c =
     let P : List Act → Type 0 = λ acts. AllZip (IsOrderOf (g.F.Files.holds c.args.files.now)) acts c.in-Ok-orders_of.orders.items in
-    let Q : List Order → Type 0 = λ orders. IsReportAfter c.args.sealed.now.plan c.args.sealed.now.certificate orders c.in-Ok-report_after.report in
+    let Q : List WorldOrder → Type 0 = λ orders. IsReportAfter c.args.sealed.now.plan c.args.sealed.now.certificate orders c.in-Ok-report_after.report in
     record {
       acts = c.in-Ok.acts;
       told = c.in-Ok.ensures;
@@ -37,7 +37,7 @@ returns-in-Ok-report_after g c =
 pub returns-in-Err-HalfAdopted : goal.returns-in-Err-HalfAdopted
 returns-in-Err-HalfAdopted g c =
     let P : List Act → Type 0 = λ acts. AllZip (IsOrderOf (g.F.Files.holds c.args.files.now)) acts c.in-Ok-orders_of.orders.items in
-    let Q : List Order → Type 0 = λ orders. OrdersChange orders in
+    let Q : List WorldOrder → Type 0 = λ orders. OrdersChange orders in
     let F : WorldFault → Type 0 = λ why. IsUnreported c.as_slice.result.now why in
     has_change (g.F.Files.holds c.args.files.now) c.args.text.now c.in-Ok.acts c.in-Ok-orders_of.orders.items c.in-Ok.ensures (subst P c.into_vec.ensures c.in-Ok-orders_of.ensures)
     (subst Q c.as_slice.ensures.value (subst F c.in-Err-HalfAdopted.field-0-is c.in-Err-HalfAdopted.ensures.unreported))

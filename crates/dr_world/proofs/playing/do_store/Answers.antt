@@ -2,7 +2,7 @@ use Rattle.std.proofs.Common.{List, [], ◌∷◌, inl, inr, refl, sym, subst, �
 use Rattle.std.proofs.lemmas.List.{append-nil}
 use Rattle.dr_base.specs.Texts.{Text}
 use Rattle.dr_world.specs.declared.deed.Deed.TheVariants as deed
-use Rattle.dr_world.specs.declared.order.Refused.TheVariants as refused
+use Rattle.dr_world.specs.declared.order.RefusedForeign.TheVariants as refused
 use Rattle.dr_world.specs.declared.order.Spoken.{Spoken}
 use Rattle.dr_world.specs.Orders.{StoresAs}
 use Rattle.dr_world.specs.Whole.{contents}
