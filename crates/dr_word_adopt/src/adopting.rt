@@ -141,7 +141,15 @@ fn change_besides<'a, O: ShowsFiles>(
 {
     let others = texts_of(alloc, others)?;
     let mut all = Vec::new(alloc);
-    let came = change_between(alloc, ledgers, folder, old, next, others.as_slice(), &mut all);
+    let came = change_between(
+        alloc,
+        ledgers,
+        folder,
+        old,
+        next,
+        others.as_slice(),
+        &mut all,
+    );
     drop(all);
     came
 }

@@ -28,13 +28,13 @@ returns-in-Ok-Some g c =
 pub returns-in_err-unfit_at-in-Ok-Some : goal.returns-in_err-unfit_at-in-Ok-Some
 returns-in_err-unfit_at-in-Ok-Some g c =
     stop_as (λ (unfit : Option UnfitRow). AllLookAs (OpensThere (g.O.Ledgers.opens c.args.ledgers.now) (g.O.ShowsFiles.shows c.args.ledgers.now)) g.O.Ledger.Ledger.site g.O.Ledger.Ledger.book g.O.Ledger.Ledger.stands c.args.folder.now c.args.old.now c.args.next.now c.args.names.now unfit c.look_at.new.all.items)
-    (λ (halt : Halt). StopsAt (OpensThere (g.O.Ledgers.opens c.args.ledgers.now) (g.O.ShowsFiles.shows c.args.ledgers.now)) g.O.Ledger.Ledger.site g.O.Ledger.Ledger.book g.O.Ledger.Ledger.stands c.args.folder.now c.args.old.now c.args.next.now halt c.look_at.new.all.items)
+    (λ (halt : Halt). StopsAt (OpensThere (g.O.Ledgers.opens c.args.ledgers.now) (g.O.ShowsFiles.shows c.args.ledgers.now)) g.O.Ledger.Ledger.site g.O.Ledger.Ledger.book g.O.Ledger.Ledger.stands c.args.folder.now c.args.old.now c.args.next.now c.args.names.now halt c.look_at.new.all.items)
     Memory c.from_residual.result c.from_residual.ensures.0 c.from_residual.ensures.1
     (unnamed (OpensThere (g.O.Ledgers.opens c.args.ledgers.now) (g.O.ShowsFiles.shows c.args.ledgers.now)) g.O.Ledger.Ledger.site g.O.Ledger.Ledger.book g.O.Ledger.Ledger.stands c.args.folder.now c.args.old.now c.args.next.now c.args.names.now c.loop-name.name-index c.name-item.result c.loop-name-test.true c.name-item.is c.loop-name.all.items c.look_at.new.all.items c.loop-name.invariant.0 c.loop-name.invariant.1
     c.in-Ok-Some.row (subst (λ (u : Option Pair). LooksAs (OpensThere (g.O.Ledgers.opens c.args.ledgers.now) (g.O.ShowsFiles.shows c.args.ledgers.now)) g.O.Ledger.Ledger.site g.O.Ledger.Ledger.book g.O.Ledger.Ledger.stands c.args.folder.now c.args.old.now c.args.next.now c.name-item.result u c.loop-name.all.items c.look_at.new.all.items) c.in-Ok-Some.field-0-is c.in-Ok-Some.ensures))
 
 pub returns-in-Err : goal.returns-in-Err
 returns-in-Err g c =
-    subst (λ (halt : Halt). StopsAt (OpensThere (g.O.Ledgers.opens c.args.ledgers.now) (g.O.ShowsFiles.shows c.args.ledgers.now)) g.O.Ledger.Ledger.site g.O.Ledger.Ledger.book g.O.Ledger.Ledger.stands c.args.folder.now c.args.old.now c.args.next.now halt c.look_at.new.all.items) (sym c.at.ensures)
+    subst (λ (halt : Halt). StopsAt (OpensThere (g.O.Ledgers.opens c.args.ledgers.now) (g.O.ShowsFiles.shows c.args.ledgers.now)) g.O.Ledger.Ledger.site g.O.Ledger.Ledger.book g.O.Ledger.Ledger.stands c.args.folder.now c.args.old.now c.args.next.now c.args.names.now halt c.look_at.new.all.items) (sym c.at.ensures)
     (stops_here (OpensThere (g.O.Ledgers.opens c.args.ledgers.now) (g.O.ShowsFiles.shows c.args.ledgers.now)) g.O.Ledger.Ledger.site g.O.Ledger.Ledger.book g.O.Ledger.Ledger.stands c.args.folder.now c.args.old.now c.args.next.now c.args.names.now c.loop-name.name-index c.name-item.result c.loop-name-test.true c.name-item.is c.loop-name.all.items c.look_at.new.all.items c.loop-name.invariant.0 c.loop-name.invariant.1
-    c.in-Err.halt c.requires.names c.in-Err.ensures.0 c.in-Err.ensures.1)
+    c.in-Err.halt c.in-Err.ensures.0 c.in-Err.ensures.1)
