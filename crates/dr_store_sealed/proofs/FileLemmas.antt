@@ -118,7 +118,7 @@ holds_none file from within = record { within = omega (arith, within); each = λ
 pub same_held : (file : List ℕ) (at there : ℕ) (xs ys : List ℕ) → at ≡ there → length xs ≡ length ys → Holds file at xs → Holds file there ys → xs ≡ ys
 same_held file at there xs ys place size first other =
     ext_get_or 0 xs ys size (λ i low.
-    sym (first.each i low) ∙ ap (λ n. slice_index file (n + i)) place ∙ other.each i (omega (arith, low, size)))
+        sym (first.each i low) ∙ ap (λ n. slice_index file (n + i)) place ∙ other.each i (omega (arith, low, size)))
 
 -- a seal's last chain, read where it is to be
 pub ends_read : (seen found : List ℕ) (seal : Seal) (at : ℕ) → at + length found ≡ seal.offset → found ≡ mark_of seal.chain → (0 < length found → Holds seen at found) → EndsAs seen seal

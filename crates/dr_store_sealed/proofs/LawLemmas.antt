@@ -91,10 +91,8 @@ same_body a b line other same =
     omega (
       arith,
       (let e : length (body_of (sha256 a) line) ≡ length (body_of (sha256 b) other) = ap (λ (t : List ℕ). length t) same in e),
-      length-append line (32 ∷ encode_lower (sha256 a)),
-      length-append other (32 ∷ encode_lower (sha256 b)),
-      hex_size a,
-      hex_size b,
+      length-append line (32 ∷ encode_lower (sha256 a)), length-append other (32 ∷ encode_lower (sha256 b)),
+      hex_size a, hex_size b,
     ) in
     (same_front line other (32 ∷ encode_lower (sha256 a)) (32 ∷ encode_lower (sha256 b)) size same).0
 
@@ -141,9 +139,7 @@ one_sealed content lines others seal known known' is is' =
     let same : seal_after first_seal lines ≡ seal_after first_seal others = sym is ∙ is' in
     let count : length lines ≡ length others =
     omega (
-      arith,
-      count_after first_seal lines,
-      count_after first_seal others,
+      arith, count_after first_seal lines, count_after first_seal others,
       (let e : (seal_after first_seal lines).count ≡ (seal_after first_seal others).count = ap (λ (s : Seal). s.count) same in e),
     ) in
     (one_past content first_seal first_seal lines others refl known known' count (ap (λ (s : Seal). s.chain) same)).1

@@ -14,7 +14,12 @@ use std::alloc::Global;
 /// Writes the bytes, ends the file behind them, and syncs.
 ///
 /// Whatever comes of it, all before them stays what it was, also after a crash.
-pub fn put_end<D: Disk>(file: &mut D, at: usize, bytes: &[u8], end: usize) -> Result<(), SealFault>
+pub fn put_end<D: Disk>(
+    file: &mut D,
+    at: usize,
+    bytes: &[u8],
+    end: usize,
+) -> Result<(), SealFault>
     requires usable { IsTrue (D.Disk.is_usable file.old) }
     requires end { end ≡ at + length bytes.now }
     ensures put { OnOk result

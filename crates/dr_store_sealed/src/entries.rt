@@ -45,7 +45,11 @@ pub fn is_line(line: &[u8]) -> bool
 }
 
 /// What is behind a line that goes behind the seal into the seal's file, and the seal behind both.
-pub fn behind_line(alloc: Global, seal: &Seal, line: &[u8]) -> Result<(Vec<u8>, Seal), SealFault>
+pub fn behind_line(
+    alloc: Global,
+    seal: &Seal,
+    line: &[u8],
+) -> Result<(Vec<u8>, Seal), SealFault>
     requires { seal.now.offset < full }
     ensures mark { IfOk result (λ made.
         made.0.items ≡ mark_of (next_chain seal.now.chain line.now)) }
@@ -90,7 +94,11 @@ fn push_entry(bytes: &mut Vec<u8>, seal: &Seal, line: &[u8]) -> Result<Seal, Sea
 }
 
 /// The bytes of as many of the lines as begin in the seal's file, and the seal behind them.
-pub fn entries_of(alloc: Global, seal: &Seal, lines: &[Text]) -> Result<(Vec<u8>, Seal), SealFault>
+pub fn entries_of(
+    alloc: Global,
+    seal: &Seal,
+    lines: &[Text],
+) -> Result<(Vec<u8>, Seal), SealFault>
     ensures takes { IfOk result (λ made. TakesLines seal.now lines.now made.1) }
     ensures bytes { IfOk result (λ made. made.0.items
         ≡ bytes_of seal.now.chain (lines_between seal.now made.1 lines.now)) }

@@ -72,7 +72,11 @@ impl<D: Disk> LineFile<D> {
     /// The next lines behind `from`, a place before the seal's where a line begins, and the seal
     /// behind them: as many as a piece of the file has. Each has the chain that follows from the
     /// line before it.
-    pub fn read_from(&mut self, alloc: Global, from: &Seal) -> Result<(Vec<Text>, Seal), SealFault>
+    pub fn read_from(
+        &mut self,
+        alloc: Global,
+        from: &Seal,
+    ) -> Result<(Vec<Text>, Seal), SealFault>
         requires { from.now.offset < (seal_of self.old).offset }
         ensures reads { IfOk result (λ read.
             IsClean self.new → HasLines (shown self.new) from.now read.0.items read.1) }

@@ -41,7 +41,11 @@ fn line_in(alloc: Global, entry: &[u8], seal: &Seal) -> Result<(Text, Seal), Sea
 
 /// All whole lines that these bytes begin with, which stand in a file behind the seal, and the seal
 /// behind them.
-pub fn lines_in(alloc: Global, piece: &[u8], from: &Seal) -> Result<(Vec<Text>, Seal), SealFault>
+pub fn lines_in(
+    alloc: Global,
+    piece: &[u8],
+    from: &Seal,
+) -> Result<(Vec<Text>, Seal), SealFault>
     ensures spans { IfOk result (λ read. Spans from.now read.0.items read.1) }
     ensures bytes { IfOk result (λ read.
         Holds piece.now 0 (bytes_of from.now.chain read.0.items)) }

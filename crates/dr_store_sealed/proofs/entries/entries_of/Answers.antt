@@ -17,8 +17,8 @@ loop-line-preserved c =
     let room : c.loop-line.last.offset < full = search rules in
     let before = c.loop-line.invariant in
     let P : List (List ℕ) → Type 0 = λ done.
-    (new ≡ seal_after s done) × (new.number ≡ s.number) × (new.count ≡ s.count + (i + 1))
-    × (bytes ≡ bytes_of s.chain done) × All IsLine done in
+        (new ≡ seal_after s done) × (new.number ≡ s.number) × (new.count ≡ s.count + (i + 1))
+        × (bytes ≡ bytes_of s.chain done) × All IsLine done in
     subst P (sym (take_more lines i c.line-item.result c.loop-line-test.true))
     (entry_pushed s c.loop-line.last new (take i lines) i line c.loop-line.bytes.items bytes
     before.0 before.1 before.2 before.3 before.4 room

@@ -19,8 +19,8 @@ returns-clause-keeps g c from kept before lasts =
 pub returns-clause-ends : goal.returns-clause-ends
 returns-clause-ends g c =
     on_ok c.put_end.result (λ clean some.
-    let (at, place, holds) = c.in_ok-test_end.ensures.ends (c.put_end.ensures.clean clean) some in
-    (at, place, c.put_end.ensures.shows at (mark_of c.args.seal.now.chain) (omega (arith, place)) holds))
+        let (at, place, holds) = c.in_ok-test_end.ensures.ends (c.put_end.ensures.clean clean) some in
+        (at, place, c.put_end.ensures.shows at (mark_of c.args.seal.now.chain) (omega (arith, place)) holds))
 
 pub returns-clause-why : goal.returns-clause-why
 returns-clause-why g c =
