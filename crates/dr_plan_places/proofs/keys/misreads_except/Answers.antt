@@ -1,4 +1,4 @@
-use Rattle.std.proofs.Common.{◌≡◌, refl, sym, ◌∙◌, ap, subst, List, Option, Some, codes}
+use Rattle.std.proofs.Common.{◌≡◌, sym, ◌∙◌, ap, subst, List, Option, Some, codes}
 use Rattle.std.specs.Prelude.{option_map}
 use Rattle.toml.specs.Data.{Data, get_member}
 use Rattle.toml.specs.View.{view, table_view}
@@ -20,4 +20,4 @@ pub returns-in-Err-Field : goal.returns-in-Err-Field
 returns-in-Err-Field c = λ unread default x given fits.
     let here : get_member (codes "except") (table_view c.args.table.now) ≡ Some (view c.in-Some.value.now) = sym (sym (ap (option_map (λ v. view v.now)) c.in-Some.is) ∙ c.value_at.ensures) in
     let P : Option Data → Type 0 = λ d. GivenOr default SaysExceptions d x in
-    c.in-Err-Field.ensures.field refl x (subst P here given)
+    c.in-Err-Field.ensures.field c.in-Err-Field.field-0-is x (subst P here given)
