@@ -24,7 +24,8 @@ module _ {D : Type 0} {g : Ghosts D} where
   -- from `start` up to its seal it has just these lines, now and after a crash at this moment
   pub record IsHeld (it : LineFile D g) (start : Seal) (lines : List (List ℕ)) : Type 0 where
     pub spans : Spans start lines it.seal
-    pub lasts : Lasts (g.seen it.disk) (g.may_leave it.disk) start.offset (bytes_of start.chain lines)
+    pub lasts :
+        Lasts (g.seen it.disk) (g.may_leave it.disk) start.offset (bytes_of start.chain lines)
 
   -- no wrong answer of the medium has been taken as true
   abbrev pub IsClean : LineFile D g → Type 0
