@@ -5,7 +5,6 @@ use Rattle.std.proofs.Common.{refl, sym, ◌∙◌, ap, subst, inl, inr, arith}
 use Rattle.std.proofs.lemmas.Bool.{cases_lt, le-leb}
 use Rattle.std.proofs.lemmas.List.{append_assoc, append-nil, length-append, get_or_past}
 use Rattle.std.proofs.lemmas.List.Elements.{All-append, All-cons, All-from_recursion, All-head, All-nil, All-tail}
-use Rattle.std.specs.List.{ByRecursion}
 use Rattle.hex.specs.Hex.{encode_lower, encode_with, lower_digits}
 use Rattle.hex.proofs.HexLemmas.{length-encode_with}
 use Rattle.sha2.specs.Sha256.{sha256}
@@ -14,9 +13,9 @@ use Rattle.sqlite_disk.specs.Disk.{Holds}
 use Rattle.dr_store_sealed.specs.declared.seal.Seal.{Seal}
 use Rattle.dr_store_sealed.specs.Files.{EndsAs, HasLines, Spans}
 use Rattle.dr_store_sealed.specs.Laws.{AreOfOneText}
-use Rattle.dr_store_sealed.specs.Lines.{IsLine, bytes_of, entry_of, mark_of, next_chain}
+use Rattle.dr_store_sealed.specs.Lines.{IsOneLine, bytes_of, entry_of, mark_of, next_chain}
 use Rattle.dr_store_sealed.specs.Seals.{first_seal, full, next_seal, seal_after, turned}
-use Rattle.dr_store_sealed.proofs.FileLemmas.{holds_both, holds_right}
+use Rattle.dr_store_sealed.proofs.FileLemmas.{holds_both, holds_none, holds_right}
 use Rattle.dr_store_sealed.proofs.SealLemmas.{bytes_more, count_after, in_step, reaches, spans_more}
 
 abbrev IsPlain : ℕ → Type 0
@@ -70,7 +69,7 @@ plain_hex (b ∷ rest) =
 abbrev body_of : List ℕ → List ℕ → List ℕ
 body_of chain line = line ++ 32 ∷ encode_lower chain
 
-plain_body : (chain line : List ℕ) → IsLine line → All IsPlain (body_of chain line)
+plain_body : (chain line : List ℕ) → IsOneLine line → All IsPlain (body_of chain line)
 plain_body chain line is =
     All-append IsPlain line (32 ∷ encode_lower chain) is.one (All-cons IsPlain 32 (encode_lower chain) (omega arith) (plain_hex chain))
 
@@ -91,8 +90,10 @@ same_body a b line other same =
     omega (
       arith,
       (let e : length (body_of (sha256 a) line) ≡ length (body_of (sha256 b) other) = ap (λ (t : List ℕ). length t) same in e),
-      length-append line (32 ∷ encode_lower (sha256 a)), length-append other (32 ∷ encode_lower (sha256 b)),
-      hex_size a, hex_size b,
+      length-append line (32 ∷ encode_lower (sha256 a)),
+      length-append other (32 ∷ encode_lower (sha256 b)),
+      hex_size a,
+      hex_size b,
     ) in
     (same_front line other (32 ∷ encode_lower (sha256 a)) (32 ∷ encode_lower (sha256 b)) size same).0
 
@@ -102,7 +103,7 @@ never_empty chain line rest same =
     let mark = length-append line (mark_of (next_chain chain line)) in
     omega (arith, all, mark, (let e : 0 ≡ length (entry_of chain line ++ rest) = ap (λ (t : List ℕ). length t) same in e))
 
-pub one_list : (chain : List ℕ) (lines others : List (List ℕ)) → All IsLine lines → All IsLine others → bytes_of chain lines ≡ bytes_of chain others → lines ≡ others
+pub one_list : (chain : List ℕ) (lines others : List (List ℕ)) → All IsOneLine lines → All IsOneLine others → bytes_of chain lines ≡ bytes_of chain others → lines ≡ others
 one_list chain [] [] are are' same = refl
 one_list chain [] (y ∷ ys) are are' same = absurd (never_empty chain y (bytes_of (next_chain chain y) ys) same)
 one_list chain (x ∷ xs) [] are are' same = absurd (never_empty chain x (bytes_of (next_chain chain x) xs) (sym same))
@@ -110,11 +111,11 @@ one_list chain (x ∷ xs) (y ∷ ys) are are' same =
     let cx = next_chain chain x in
     let cy = next_chain chain y in
     let parts = same_line (body_of cx x) (body_of cy y) (bytes_of cx xs) (bytes_of cy ys)
-    (plain_body cx x (All-head IsLine x xs are)) (plain_body cy y (All-head IsLine y ys are'))
+    (plain_body cx x (All-head IsOneLine x xs are)) (plain_body cy y (All-head IsOneLine y ys are'))
     (sym (entry_ends cx x (bytes_of cx xs)) ∙ same ∙ entry_ends cy y (bytes_of cy ys)) in
     let line : x ≡ y = same_body (chain ++ x) (chain ++ y) x y parts.0 in
     let rest : bytes_of cx xs ≡ bytes_of cx ys = parts.1 ∙ ap (λ t. bytes_of (next_chain chain t) ys) (sym line) in
-    cons_same x y xs ys line (one_list cx xs ys (All-tail IsLine x xs are) (All-tail IsLine y ys are') rest)
+    cons_same x y xs ys line (one_list cx xs ys (All-tail IsOneLine x xs are) (All-tail IsOneLine y ys are') rest)
 
 -- lines that lead from chains of one length to one chain
 pub one_past :
@@ -139,7 +140,9 @@ one_sealed content lines others seal known known' is is' =
     let same : seal_after first_seal lines ≡ seal_after first_seal others = sym is ∙ is' in
     let count : length lines ≡ length others =
     omega (
-      arith, count_after first_seal lines, count_after first_seal others,
+      arith,
+      count_after first_seal lines,
+      count_after first_seal others,
       (let e : (seal_after first_seal lines).count ≡ (seal_after first_seal others).count = ap (λ (s : Seal). s.count) same in e),
     ) in
     (one_past content first_seal first_seal lines others refl known known' count (ap (λ (s : Seal). s.chain) same)).1
@@ -199,3 +202,20 @@ last_mark seen s last x (y ∷ ys) has = last_mark seen (next_seal s x) last y y
 pub ends_in_seal : (seen : List ℕ) (start last : Seal) (lines : List (List ℕ)) → start.offset ≡ 0 → HasLines seen start lines last → EndsAs seen last
 ends_in_seal seen start last [] begins has some = absurd (omega (arith, begins, some, (let e : last.offset ≡ start.offset = ap (λ (s : Seal). s.offset) has.spans.after in e)))
 ends_in_seal seen start last (x ∷ xs) begins has some = last_mark seen start last x xs has
+
+pub entry_size : (chain line : List ℕ) → length (entry_of chain line) ≡ length line + 66
+entry_size chain line =
+    let text = chain ++ line in
+    omega (
+      arith,
+      length-append line (mark_of (sha256 text)),
+      length-append (32 ∷ encode_lower (sha256 text)) (10 ∷ []),
+      hex_size text,
+    )
+
+pub no_lines : (seen : List ℕ) (start : Seal) → start.offset ≡ 0 → HasLines seen start [] start
+no_lines seen start begins =
+    record {
+      spans = record { after = refl; one_file = refl };
+      bytes = holds_none seen start.offset (omega (arith, begins));
+    }

@@ -6,7 +6,7 @@ use Rattle.dr_store_sealed.specs.Lines.{bytes_of, mark_of}
 use Rattle.dr_store_sealed.specs.Seals.{seal_after}
 
 -- these bytes are there: in what is seen, and in each content that a crash may leave now
-pub record Lasts
+pub record Endures
     (seen : List ℕ) (may_leave : List ℕ → Type 0) (at : ℕ) (bytes : List ℕ) : Type 0 where
   pub now : Holds seen at bytes
   pub after_crash : (left : List ℕ) → may_leave left → Holds left at bytes
@@ -26,6 +26,4 @@ pub record HasLines
 abbrev pub EndsAs : List ℕ → Seal → Type 0
 EndsAs seen seal =
     0 < seal.offset
-    → (at : ℕ)
-    × (at + length (mark_of seal.chain) ≡ seal.offset)
-    × Holds seen at (mark_of seal.chain)
+    → (at : ℕ) × (at + length (mark_of seal.chain) ≡ seal.offset) × Holds seen at (mark_of seal.chain)

@@ -6,18 +6,18 @@ use Rattle.dr_store_sealed.specs.declared.fault.SealFault.TheVariants as fault
 use Rattle.sqlite_disk.specs.declared.Disk.{Ghosts}
 use Rattle.sqlite_disk.specs.Disk.{MoreFaults}
 use Rattle.dr_store_sealed.specs.Files.{EndsAs}
-use Rattle.dr_store_sealed.specs.Lines.{IsLine}
+use Rattle.dr_store_sealed.specs.Lines.{IsOneLine}
 
 -- why a line got no bytes: it is none, or no number is left; or memory is wanting
 abbrev pub IsWhyNoEntry : Seal → List ℕ → SealFault → Type 0
-IsWhyNoEntry seal line fault.Unfit = IsLine line → ⊥
+IsWhyNoEntry seal line fault.Unfit = IsOneLine line → ⊥
 IsWhyNoEntry seal line fault.Uncounted = 2 ^ 64 ≤ seal.count + 1
 IsWhyNoEntry seal line fault.Memory = Unit {0}
 IsWhyNoEntry seal line other = ⊥
 
 -- why lines got no bytes
 abbrev pub IsWhyNoEntries : Seal → List (List ℕ) → SealFault → Type 0
-IsWhyNoEntries seal lines fault.Unfit = All IsLine lines → ⊥
+IsWhyNoEntries seal lines fault.Unfit = All IsOneLine lines → ⊥
 IsWhyNoEntries seal lines fault.Uncounted = 2 ^ 64 ≤ seal.count + length lines
 IsWhyNoEntries seal lines fault.Memory = Unit {0}
 IsWhyNoEntries seal lines other = ⊥

@@ -1,8 +1,8 @@
 //! Lines out of the bytes of a file.
-ghost use Rattle.std.specs.Prelude.{◌≡◌, ◌+◌, ◌<◌, ◌≤◌, ◌++◌, ℕ, List, length, IfOk, IfErr};
+ghost use Rattle.std.specs.Prelude.{◌≡◌, ◌+◌, ◌<◌, ◌≤◌, ◌++◌, ℕ, List, All, length, IfOk, IfSome};
 ghost use Rattle.sqlite_disk.specs.Disk.{Holds};
-ghost use Rattle.dr_store_sealed.specs.Files.{HasLines, Spans};
-ghost use Rattle.dr_store_sealed.specs.Lines.{IsLine, bytes_of, entry_of};
+ghost use Rattle.dr_store_sealed.specs.Files.{Spans};
+ghost use Rattle.dr_store_sealed.specs.Lines.{IsOneLine, bytes_of, entry_of};
 ghost use Rattle.dr_store_sealed.specs.Seals.{next_seal};
 
 use crate::entries::{END, behind_line};
@@ -22,7 +22,7 @@ fn line_in(alloc: Global, entry: &[u8], seal: &Seal) -> Result<(Text, Seal), Sea
     ensures entry { IfOk result (λ read. entry.now ≡ entry_of seal.now.chain read.0) }
     ensures seal { IfOk result (λ read. read.1 ≡ next_seal seal.now read.0) }
     ensures one_file { IfOk result (λ read. read.1.number ≡ seal.now.number) }
-    ensures line { IfOk result (λ read. IsLine read.0) }
+    ensures line { IfOk result (λ read. IsOneLine read.0) }
 {
     if seal.is_full() {
         return Err(SealFault::Broken);
@@ -39,27 +39,31 @@ fn line_in(alloc: Global, entry: &[u8], seal: &Seal) -> Result<(Text, Seal), Sea
     Ok((text, last))
 }
 
+/// The bytes up to the first end of a line, and what follows them.
+fn split_line(bytes: &[u8]) -> Option<(&[u8], &[u8])>
+    ensures whole { IfSome result (λ parts. bytes.now ≡ parts.0.now ++ parts.1.now) }
+    ensures shorter { IfSome result (λ parts. length parts.1.now < length bytes.now) }
+{
+    let at = memchr(END, bytes)?;
+    Some((&bytes[..at + 1], &bytes[at + 1..]))
+}
+
 /// All whole lines that these bytes begin with, which stand in a file behind the seal, and the seal
 /// behind them.
-pub fn lines_in(
-    alloc: Global,
-    piece: &[u8],
-    from: &Seal,
-) -> Result<(Vec<Text>, Seal), SealFault>
+pub fn lines_in(alloc: Global, piece: &[u8], from: &Seal) -> Result<(Vec<Text>, Seal), SealFault>
     ensures spans { IfOk result (λ read. Spans from.now read.0.items read.1) }
     ensures bytes { IfOk result (λ read.
         Holds piece.now 0 (bytes_of from.now.chain read.0.items)) }
-    ensures lines { IfOk result (λ read. All IsLine read.0.items) }
+    ensures lines { IfOk result (λ read. All IsOneLine read.0.items) }
 {
     let mut lines = Vec::new(alloc);
     let mut last = *from;
-    let mut used = 0;
-    while let Some(size) = memchr(END, &piece[used..]) {
-        let end = used + size + 1;
-        let (line, next) = line_in(alloc, &piece[used..end], &last)?;
+    let mut rest = piece;
+    while let Some((entry, later)) = split_line(rest) {
+        let (line, next) = line_in(alloc, entry, &last)?;
         lines.push(line)?;
         last = next;
-        used = end;
+        rest = later;
     }
     Ok((lines, last))
 }
