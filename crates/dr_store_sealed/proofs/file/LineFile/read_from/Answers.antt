@@ -10,8 +10,8 @@ returns-clause-reads g c clean =
     let from = c.args.from.now in
     let piece = c.in_ok-piece.piece.items in
     let bytes = bytes_of from.chain c.in_ok-lines.lines.items in
-    let size : c.min.result ≡ min 262144 (c.args.self.now.seal.offset - from.offset) = search rules in
-    let some : 0 < c.min.result = omega (arith, size, c.requires) in
+    let size : c.min-size.result ≡ min 262144 (c.args.self.now.seal.offset - from.offset) = search rules in
+    let some : 0 < c.min-size.result = omega (arith, size, c.requires) in
     let inner : Holds piece 0 bytes = subst (λ t. Holds t 0 bytes) c.deref.ensures.value c.in_ok-lines.ensures.bytes in
     let there = holds_start _ from.offset piece bytes (c.in_ok-piece.ensures.read clean some) inner in
     record {
@@ -28,8 +28,8 @@ returns-clause-within g c =
     let from = c.args.from.now in
     let piece = c.in_ok-piece.piece.items in
     let bytes = bytes_of from.chain c.in_ok-lines.lines.items in
-    let size : c.min.result ≡ min 262144 (c.args.self.now.seal.offset - from.offset) = search rules in
+    let size : c.min-size.result ≡ min 262144 (c.args.self.now.seal.offset - from.offset) = search rules in
     let inner : Holds piece 0 bytes = subst (λ t. Holds t 0 bytes) c.deref.ensures.value c.in_ok-lines.ensures.bytes in
     let place = reaches from c.in_ok-lines.last c.in_ok-lines.lines.items c.in_ok-lines.ensures.spans in
-    let len : length piece ≡ c.min.result = c.in_ok-piece.ensures.size in
+    let len : length piece ≡ c.min-size.result = c.in_ok-piece.ensures.size in
     omega (arith, place, inner.within, len, size, c.requires)
