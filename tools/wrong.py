@@ -87,7 +87,11 @@ def law_of(path):
         named = [line.removeprefix("law: ").strip() for line in text if line.startswith("law: ")]
     if len(named) > 1:
         raise Bad("it names more than one law")
-    return "".join(named)
+    law = "".join(named)
+    file = f"{TOP}/crates/{path.split('/')[-2]}/src/{law.rpartition('::')[0].replace('::', '/') or 'lib'}.rt"
+    if law and not (os.path.isfile(file) and any(name == law for _, _, name in functions_in(file))):
+        raise Bad(f"the crate has no function {law}")
+    return law
 
 
 def places_of(text, old):
@@ -156,6 +160,12 @@ def functions_of(path, text):
             end = min(end, semicolon) if semicolon < open_at else end
             found.append((at, end, "::".join(it for it in (module, block, match[2]) if it)))
     return found
+
+
+def functions_in(file):
+    """The functions of a source file of a crate, by its path."""
+    with open(file, encoding="utf-8") as text:
+        return functions_of(re.sub(r"^.*?/crates/\w+/", "", file), text.read())
 
 
 def read_edit(path):
@@ -242,16 +252,55 @@ def learn(function, crate, said):
     return False
 
 
-def check(crate, texts, functions, kept):
-    """Checks the crate with these texts in place of its own, whole or these functions of it; the status and the lines that it said."""
+# A proof that is left open: the function is taken by its contract.
+OPEN = """use Rattle.%s.Statement.{statement}
+
+pub %s_spec : {M : Type 1} → statement M
+%s_spec = ?
+"""
+
+
+def leave_open(room, crate, changed):
+    """Leaves the proofs of all functions in a room open but of those that an edit changes, so that what these call is taken by its
+    contract, and isn't proved once more. A function whose place among the proofs isn't plain is left as it is: a trait's own, a
+    method of a type of another file, and one whose name others have too."""
+    for at, _, files in os.walk(f"{room}/src"):
+        for name in files:
+            path = os.path.relpath(f"{at}/{name}", room)
+            with open(f"{at}/{name}", encoding="utf-8") as file:
+                text = file.read()
+            types = re.findall(r"^(?:pub(?:\([^)]*\))? )?(?:struct|enum) (\w+)", text, re.MULTILINE)
+            found = functions_of(path, text)
+            names = [name for _, _, name in found]
+            for first, last, function in found:
+                block = function.split("::")[-2:-1]
+                is_free = not block or block[0][:1].islower()
+                if function in changed or names.count(function) > 1 or last == first:
+                    continue
+                if is_free or any(block[0].startswith(it) for it in types):
+                    place = f"{room}/proofs/{function.replace('::', '/')}"
+                    os.makedirs(place, exist_ok=True)
+                    for it in ("Answers", "Invariants"):
+                        if os.path.exists(f"{place}/{it}.antt"):
+                            os.remove(f"{place}/{it}.antt")
+                    plain = function.split("::")[-1]
+                    with open(f"{place}/Proof.antt", "w", encoding="utf-8") as file:
+                        file.write(OPEN % (f"{crate}.proofs.{function.replace('::', '.')}", plain, plain))
+
+
+def check(crate, texts, functions, kept, is_open=False):
+    """Checks the crate with these texts in place of its own, whole or these functions of it, and where it is asked for with what they
+    call taken by its contract; the status and the lines that it said."""
     with tempfile.TemporaryDirectory(prefix="wrong-") as room:
         copy_sources(crate, room)
         for path, text in texts.items():
             with open(f"{room}/{path}", "w", encoding="utf-8") as file:
                 file.write(text)
+        if is_open:
+            leave_open(room, crate, functions)
         while True:
             asked = [name for function in sorted(functions) for name in KNOWN.get((crate, function), [function])]
-            only = [word for name in asked for word in ("--only", name)]
+            only = [word for name in asked for word in ("--only", name)] + ["--allow-holes"] * is_open
             ran = subprocess.run([prover(), "check", *words_of(crate), "--incremental", kept, *only], cwd=room,
                                  stdin=subprocess.DEVNULL, stdout=subprocess.PIPE, stderr=subprocess.STDOUT, text=True, errors="replace")
             if ran.returncode != 2 or not any([learn(it, crate, ran.stdout) for it in functions]):
@@ -270,14 +319,14 @@ def is_unread(line, texts):
 
 def is_judged(status, lines):
     """Whether the prover came to a judgment of what was asked."""
-    return status in (0, 1, 3) and bool(re.match(r"only=\d+ proved=\d+|logic=", lines[-1]))
+    return status in (0, 1, 3) and bool(re.match(r"only=\d+ (proved|holes)=\d+|logic=", lines[-1]))
 
 
 def refused_among(lines, crate):
     """The functions that weren't proved, by what the prover said of each."""
     found = {}
     for line in lines:
-        match = re.match(rf"fn {crate}::(\S+): (?!proved$|no holes$)(.*)", line)
+        match = re.match(rf"fn {crate}::(\S+): (?!proved$|no holes$|depends on a hole)(.*)", line)
         if match:
             found[match[1]] = match[2]
     return found
@@ -339,15 +388,31 @@ def try_alone(edit, crate, kept):
     return judge(edit, status, lines, crate)
 
 
+def is_by_contract(answer):
+    """Whether an edit was refused for what its function promises, and not for a name, nor for what a proof that is left open lacks."""
+    return answer.refused and bool(re.search(r": (note: )?(\./)?(src|specs|proofs)/", answer.said)) and "only because a proof names" not in answer.said
+
+
+def try_together(edits, crate, kept, is_open):
+    """Tries edits that change different functions in one check; an answer for each that is told apart so."""
+    texts = merged(edits)
+    if texts is None or any(it.beyond or not it.functions for it in edits):
+        return {}
+    status, lines = check(crate, texts, set().union(*(it.functions for it in edits)), kept, is_open)
+    if not is_judged(status, lines) or any(is_unread(it, texts) for it in lines):
+        return {}
+    answers = {it.path: judge(it, status, lines, crate) for it in edits}
+    return {path: answer for path, answer in answers.items() if answer.refused and (not is_open or is_by_contract(answer))}
+
+
 def try_group(edits, crate, kept):
-    """Tries edits that change different functions, together where that tells them apart; an answer for each."""
-    texts = merged(edits) if len(edits) > 1 else None
-    answers = {}
-    if texts is not None:
-        status, lines = check(crate, texts, set().union(*(it.functions for it in edits)), kept)
-        if is_judged(status, lines) and not any(is_unread(it, texts) for it in lines):
-            answers = {it.path: judge(it, status, lines, crate) for it in edits}
-    return {it.path: answers[it.path] if it.path in answers and answers[it.path].refused else try_alone(it, crate, kept) for it in edits}
+    """Tries edits that change different functions: together, with what they call taken by its contract, which the gate has proved; then
+    those that aren't refused so, together and each alone, with all that they call. An answer for each."""
+    answers = try_together(edits, crate, kept, True)
+    left = [it for it in edits if it.path not in answers]
+    if len(left) > 1:
+        answers |= try_together(left, crate, kept, False)
+    return answers | {it.path: try_alone(it, crate, kept) for it in left if it.path not in answers}
 
 
 def try_crate(crate, paths):

@@ -1,7 +1,8 @@
 //! The word `audit` over files, tokens and a network.
 ghost use Rattle.std.specs.Prelude.{◌≡◌, Contains, IfOk, IfSome, length, map as mapped};
 ghost use Rattle.dr_world_audit.specs.Sites.{names as names_of};
-ghost use Rattle.dr_word_audit.specs.Names.{our_names as own_names, text_of};
+ghost use Rattle.dr_word_adopt.specs.Names.{text_of};
+ghost use Rattle.dr_word_audit.specs.Names.{our_names as own_names};
 ghost use Rattle.dr_word_audit_at.specs.Cuts.{IsConcluded, IsJudged};
 ghost use Rattle.dr_word_audit_at.specs.Running.{ConcludesAll, ConcludesBy, EndsRunning};
 
@@ -18,9 +19,9 @@ use dr_run_net::Network;
 use dr_run_open::{Halt, Status, seal_files};
 use dr_run_token::Tokens;
 use dr_session::Clock;
-use dr_word_adopt::{Halted, tell_stop};
+use dr_word_adopt::{Halted, is_among, stranger_in, tell_stop, texts_of};
 use dr_word_at::{Caller, Way, digest_of, status_of, token_at};
-use dr_word_audit::naming::{is_among, our_names, stranger_in, texts_of};
+use dr_word_audit::naming::our_names;
 use dr_word_audit::printing::short_line;
 use dr_word_audit::{Audited, tell_audit, tell_verdict};
 use dr_word_line::RunningNodes;

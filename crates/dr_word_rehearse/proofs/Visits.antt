@@ -11,32 +11,30 @@ use Rattle.dr_run_open.specs.declared.halt.Halt.{Halt}
 use Rattle.dr_run_open.specs.declared.halt.Halt.TheVariants.{NoPlan, NoCertificate, NoNode, NotOpened, NoInstance, Refused, Receipt, Failed, Memory}
 use Rattle.dr_plan_model.specs.Networks.{Network}
 use Rattle.dr_site.specs.Parts.{Part, IsPartOf}
-use Rattle.dr_word_adopt.specs.Changes.{IsOpenedFor, IsSiteAt, path_in}
+use Rattle.dr_word_adopt.specs.Beginnings.{path_in}
+use Rattle.dr_word_adopt.specs.Changes.{IsOpenedFor, IsSiteAt}
 use Rattle.dr_word_adopt.specs.Lookings.{IsUnseen}
 use Rattle.dr_word_rehearse.specs.Looks.{HasJust, IsFoundBy, IsLookAt, IsLooked, IsOverAt, IsUnread, LooksInto, LooksOver, Places}
 use Rattle.dr_word_rehearse.specs.Rehearsals.{AreLooked, LooksAt, looked, node_of}
 use Rattle.dr_word_rehearse.specs.declared.finds.LedgerFound.{LedgerFound}
 use Rattle.dr_word_rehearse.specs.declared.finds.LedgerFound.TheVariants as found
 use Rattle.dr_word_rehearse.specs.declared.looking.LedgerLook.{LedgerLook}
-use Rattle.dr_word_rehearse.specs.declared.looking.LedgerLook.TheVariants.{Nothing, Older, Rows}
+use Rattle.dr_word_rehearse.specs.declared.looking.LedgerLook.TheVariants.{Older, Rows}
 use Rattle.dr_word_rehearse.specs.declared.looking.Looked.{Looked}
 
 module _ {L : Type 0} (site_of : L → Part) (book : L → Book) (stands : L → Type 0) (Opens : L → Type 0) (site own : Part) where
   -- a ledger of the next plan
   pub over_at : (f : LedgerFound L) (look : LedgerLook) → IsFoundBy Opens site_of own f → LooksOver f look → IsOverAt site_of Opens own look
-  over_at found.Nothing look by is = subst (IsOverAt site_of Opens own) (sym is) tt
   over_at found.Older look by is = subst (IsOverAt site_of Opens own) (sym is) tt
   over_at (found.Ledger ledger) look by is = subst (IsOverAt site_of Opens own) (sym is.1) (ledger, by.0, by.1, is.2)
 
   module _ (next : Network) (name : Text) where
     -- one of the plan in force
     pub into_at : (f : LedgerFound L) (look : LedgerLook) → IsFoundBy Opens site_of site f → LooksInto site_of book stands next name f look → IsLookAt site_of book stands next name Opens site own look
-    into_at found.Nothing look by is = subst (IsLookAt site_of book stands next name Opens site own) (sym is) tt
     into_at found.Older look by is = subst (IsLookAt site_of book stands next name Opens site own) (sym is) tt
     into_at (found.Ledger first) look by is = subst (IsLookAt site_of book stands next name Opens site own) (sym is.1) (inl (first, by.0, by.1, is.2))
 
     pub look_at_next : (look : LedgerLook) → IsOverAt site_of Opens own look → IsLookAt site_of book stands next name Opens site own look
-    look_at_next Nothing h = tt
     look_at_next Older h = tt
     look_at_next (Rows rows) h = inr h
 
@@ -85,7 +83,6 @@ module _ {L : Type 0} (opens : Text → L → Type 0) (site_of : L → Part) (bo
 
   -- a look at the ledger by its path is a look at the node
   pub at_node : (name : Text) (site own : Part) (look : LedgerLook) → IsSiteAt old name site → IsSiteAt next name own → IsLookAt site_of book stands next.plan name (opens (path_in folder name)) site own look → Shown name look
-  at_node name site own Nothing at_old at_next h = tt
   at_node name site own Older at_old at_next h = tt
   at_node name site own (Rows rows) at_old at_next (inl h) = inl (h.0, opened old name site h.0 at_old h.1 h.2, h.3)
   at_node name site own (Rows rows) at_old at_next (inr h) = inr (h.0, opened next name own h.0 at_next h.1 h.2, h.3)

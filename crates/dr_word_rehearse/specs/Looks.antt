@@ -18,11 +18,10 @@ use Rattle.dr_word_adopt.specs.Changes.{IsOpenedFor}
 use Rattle.dr_word_rehearse.specs.declared.finds.LedgerFound.{LedgerFound}
 use Rattle.dr_word_rehearse.specs.declared.finds.LedgerFound.TheVariants as found
 use Rattle.dr_word_rehearse.specs.declared.looking.LedgerLook.{LedgerLook}
-use Rattle.dr_word_rehearse.specs.declared.looking.LedgerLook.TheVariants.{Nothing, Older, Rows}
+use Rattle.dr_word_rehearse.specs.declared.looking.LedgerLook.TheVariants.{Older, Rows}
 
 -- what is found of that site by a path at which this opens
 abbrev pub IsFoundBy : {L : Type 0} → (L → Type 0) → (L → Part) → Part → LedgerFound L → Type 0
-IsFoundBy Opens site_of site found.Nothing = Unit {0}
 IsFoundBy Opens site_of site found.Older = Unit {0}
 IsFoundBy Opens site_of site (found.Ledger ledger) = Opens ledger × (site_of ledger ≡ site)
 
@@ -44,14 +43,12 @@ Places = Vec Pair Global
 
 -- what a look shows at what was found of the next plan, which isn't looked into
 abbrev pub LooksOver : {L : Type 0} → LedgerFound L → LedgerLook → Type 0
-LooksOver found.Nothing look = look ≡ Nothing
 LooksOver found.Older look = look ≡ Older
 LooksOver (found.Ledger ledger) look =
     (rows : Places) × (look ≡ Rows rows) × (rows.items ≡ [])
 
 -- what a look shows of a ledger that this opens, of the node's site by the next plan
 abbrev pub IsOverAt : {L : Type 0} → (L → Part) → (L → Type 0) → Part → LedgerLook → Type 0
-IsOverAt site_of Opens own Nothing = Unit {0}
 IsOverAt site_of Opens own Older = Unit {0}
 IsOverAt {L = L} site_of Opens own (Rows rows) =
     (ledger : L) × Opens ledger × (site_of ledger ≡ own) × (rows.items ≡ [])
@@ -78,7 +75,6 @@ module _ {L : Type 0} (site_of : L → Part) (book : L → Book) (stands : L →
 
   -- what a look shows at what was found of the plan in force
   abbrev pub LooksInto : LedgerFound L → LedgerLook → Type 0
-  LooksInto found.Nothing look = look ≡ Nothing
   LooksInto found.Older look = look ≡ Older
   LooksInto (found.Ledger first) look =
       (rows : Places) × (look ≡ Rows rows) × HasJust first rows
@@ -86,7 +82,6 @@ module _ {L : Type 0} (site_of : L → Part) (book : L → Book) (stands : L →
   -- what a look shows of a ledger that this opens, of the node's site by the plan in force or by
   -- the next one
   abbrev pub IsLookAt : (L → Type 0) → Part → Part → LedgerLook → Type 0
-  IsLookAt Opens site own Nothing = Unit {0}
   IsLookAt Opens site own Older = Unit {0}
   IsLookAt Opens site own (Rows rows) =
       ((first : L) × Opens first × (site_of first ≡ site) × HasJust first rows)
@@ -94,11 +89,10 @@ module _ {L : Type 0} (site_of : L → Part) (book : L → Book) (stands : L →
 
 module _ {L : Type 0} (opens : Text → L → Type 0) (site_of : L → Part) (book : L → Book)
     (stands : L → Type 0) (folder : Text) (old next : Certified) where
-  -- What a look shows of the node: nothing of a ledger that isn't there, or is of a form from
-  -- before; all rows of its ledger in the folder that the next plan doesn't go on with; or none,
-  -- where the ledger is of that plan already.
+  -- What a look shows of the node: nothing of a ledger of a form from before; all rows of its
+  -- ledger in the folder that the next plan doesn't go on with; or none, where the ledger is of that
+  -- plan already.
   abbrev pub IsLooked : Text → LedgerLook → Type 0
-  IsLooked name Nothing = Unit {0}
   IsLooked name Older = Unit {0}
   IsLooked name (Rows rows) =
       ((first : L)

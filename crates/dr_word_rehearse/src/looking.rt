@@ -1,6 +1,6 @@
 //! Looks into the nodes' ledgers, each of which is closed again.
 ghost use Rattle.std.specs.Prelude.{◌≡◌, ◌++◌, ◌∷◌, [], IfOk, MatchResult, OnErr, OnOk};
-ghost use Rattle.dr_word_adopt.specs.Changes.{path_in};
+ghost use Rattle.dr_word_adopt.specs.Beginnings.{path_in};
 ghost use Rattle.dr_word_adopt.specs.Lookings.{IsUnseen};
 ghost use Rattle.dr_word_rehearse.specs.Looks.{IsFoundBy, IsLookAt, IsLooked, IsOverAt, IsSeen};
 ghost use Rattle.dr_word_rehearse.specs.Looks.{IsUnread, LooksInto, LooksOver};
@@ -20,8 +20,6 @@ use std::alloc::{AllocError, Global};
 /// What a look at a node's ledger shows.
 #[derive(Drop)]
 pub enum LedgerLook {
-    /// There is no file.
-    Nothing,
     /// The file is of a form from before: its rows aren't looked at.
     Older,
     /// The rows with which the next plan doesn't go on, each an instance and its destination; none
@@ -84,7 +82,6 @@ fn look_into<'a, L: TellsJournal + Drop>(
         (LooksInto L.site L.book L.stands next.now.plan name.now found) IsUnread }
 {
     match found {
-        LedgerFound::Nothing => Ok(LedgerLook::Nothing),
         LedgerFound::Older => Ok(LedgerLook::Older),
         LedgerFound::Ledger(ledger) => match see(alloc, next, name, ledger) {
             Ok(rows) => Ok(LedgerLook::Rows(rows)),
@@ -98,7 +95,6 @@ fn look_over<L: Ledger + Drop>(alloc: Global, found: LedgerFound<L>) -> LedgerLo
     ensures { LooksOver found result }
 {
     match found {
-        LedgerFound::Nothing => LedgerLook::Nothing,
         LedgerFound::Older => LedgerLook::Older,
         LedgerFound::Ledger(ledger) => {
             drop(ledger);

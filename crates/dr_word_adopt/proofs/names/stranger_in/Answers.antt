@@ -3,7 +3,7 @@ use Rattle.std.proofs.lemmas.List.{take_all, take_more}
 use Rattle.std.proofs.lemmas.List.Elements.{Contains-push_cases}
 use Rattle.dr_base.specs.Texts.{Text}
 use Rattle.dr_plan_model.specs.Plans.{NamesNoNode}
-use Rattle.dr_word_audit.proofs.naming.stranger_in.Goals as goal
+use Rattle.dr_word_adopt.proofs.names.stranger_in.Goals as goal
 
 pub loop-name-preserved : goal.loop-name-preserved
 loop-name-preserved c =
