@@ -226,5 +226,5 @@ module _ {L : Type 0} (opens : Text → L → Type 0) (shows : Text → Bool →
       let ours = ours_are_adopted [] formed all change st in (
         ours.0,
         ours.1,
-        λ w rest began. ours.2 w rest (λ name among. absurd (nothing_in_nil name among)) began,
+        λ w rest any began. ours.2 w rest (λ name among. absurd (nothing_in_nil name among)) began,
       )

@@ -39,8 +39,8 @@ abbrev pub HasBookOf : {L : Type 0} (site_of : L → Part) (book : L → Book)
 HasBookOf site_of book w standing =
     w.books (name_by site_of standing) ≡ book (ledger_in standing)
 
--- The next plan goes on with all that the others have still to send, whoever keeps their books: what
--- no ledger tells. One that never ran has nothing.
+-- The next plan goes on with all that the others have still to send, whoever keeps their books:
+-- what no ledger tells. One that never ran has nothing.
 abbrev pub AreFit : Network → List Text → World → Type 0
 AreFit next others w = (name : Text) → Contains others name → IsFit next name (w.books name)
 
@@ -62,11 +62,11 @@ module _ {L : Type 0} (opens : Text → L → Type 0) (shows : Text → Bool →
       × (book ledger ≡ after Adoption (w.books (site_of ledger).name))
 
   -- Where all nodes but the others went over, and the premise of each ledger stands then: of each
-  -- world of messages at rest that has the books with which the ledgers were opened, and in which
-  -- the others' are fit, there is one that has those with which they are closed, and it is the first
-  -- after the adoption of the next plan.
-  abbrev pub OursAreAdopted : List Text → Type 0
-  OursAreAdopted others =
+  -- world of messages at rest that has the books with which the ledgers were opened, and of which
+  -- this is so, there is one that has those with which they are closed, and it is the first after
+  -- the adoption of the next plan.
+  abbrev pub AreAdopted : List Text → (World → Type 0) → Type 0
+  AreAdopted others IsSo =
       IsWellFormed next.plan
       → (all : List (Standing L))
       → ChangesBetween opens shows site_of book stands folder old next others (Ok Made) all
@@ -75,25 +75,16 @@ module _ {L : Type 0} (opens : Text → L → Type 0) (shows : Text → Bool →
       × AllZip IsFirstOf all firsts
       × ((w : World)
       → IsAtRest old.plan w
-      → AreFit next.plan others w
+      → IsSo w
       → AllZip (HasFirstBook w) all firsts
       → (new : World)
       × Adopts old.plan w next.plan new
       × All (HasBookOf site_of book new) all)
 
-  -- The same of all nodes, where none is named: of each world that has the books with which the
-  -- ledgers were opened.
+  -- where some are named, of each such world in which the next plan goes on with their rows
+  abbrev pub OursAreAdopted : List Text → Type 0
+  OursAreAdopted others = AreAdopted others (AreFit next.plan others)
+
+  -- where none is named, of each such world
   abbrev pub MadeIsAdopted : Type 0
-  MadeIsAdopted =
-      IsWellFormed next.plan
-      → (all : List (Standing L))
-      → ChangesBetween opens shows site_of book stands folder old next [] (Ok Made) all
-      → All (λ standing. stands (ledger_in standing)) all
-      → (firsts : List L)
-      × AllZip IsFirstOf all firsts
-      × ((w : World)
-      → IsAtRest old.plan w
-      → AllZip (HasFirstBook w) all firsts
-      → (new : World)
-      × Adopts old.plan w next.plan new
-      × All (HasBookOf site_of book new) all)
+  MadeIsAdopted = AreAdopted [] (λ w. Unit {0})

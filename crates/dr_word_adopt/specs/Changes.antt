@@ -92,8 +92,8 @@ module _ {L : Type 0} (opens : Text → L → Type 0) (site_of : L → Part) (bo
 
       -- Why these nodes don't go over, and what the ledgers are then that were opened. One isn't a
       -- node of both plans, or a ledger isn't opened: then all are left. A ledger refused, or there
-      -- was no memory: then the first ones may be over, and all others are left, that one too as far
-      -- as it stands.
+      -- was no memory: then the first ones may be over, and all others are left, that one too as
+      -- far as it stands.
       abbrev pub StopsAt : Halt → List (Standing L) → Type 0
       StopsAt NoNode all =
           ((name : Text) × Contains ours name
@@ -108,9 +108,9 @@ module _ {L : Type 0} (opens : Text → L → Type 0) (site_of : L → Part) (bo
       StopsAt Receipt all = ⊥
       StopsAt (Failed failure) all = ⊥
 
-      -- What comes of the change of these nodes, and what the ledgers are then that were opened. All
-      -- are over. Or the first that isn't ready is named with its first row that isn't fit: then no
-      -- ledger behind it was opened, and all are left. Or why it doesn't come to that.
+      -- What comes of the change of these nodes, and what the ledgers are then that were opened.
+      -- All are over. Or the first that isn't ready is named with its first row that isn't fit:
+      -- then no ledger behind it was opened, and all are left. Or why it doesn't come to that.
       abbrev pub ChangesOf : Result Changeover Halt → List (Standing L) → Type 0
       ChangesOf (Ok Made) all = (mapped (name_by site_of) all ≡ ours) × All IsOver all
       ChangesOf (Ok (Unfit name uid dest)) all =

@@ -77,8 +77,8 @@ pub fn texts_of(alloc: Global, words: &[&str]) -> Result<Vec<Text>, AllocError>
 /// The names of those nodes of the one plan that are none of the others, in the order of their
 /// bytes.
 ///
-/// Errors: NoNode, where one of the others is no node of the one plan, or a node of that none of the
-/// next; Memory.
+/// Errors: NoNode, where one of the others is no node of the one plan, or a node of that none of
+/// the next; Memory.
 pub fn ours_of<'a>(
     alloc: Global,
     old: &Sealed,

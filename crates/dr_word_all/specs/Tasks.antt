@@ -24,8 +24,8 @@ use Rattle.dr_word_serve.specs.Sending.{VisitsBy}
 use Rattle.dr_word_serve.specs.Working.{Works}
 use Rattle.dr_word_simulate.specs.Tasks.{DoesOffline}
 
--- Of files (`holds`), ledgers (`opens`, `shows` and what a ledger is), a network (`connects` and what its
--- sockets do), a node's own calls on its ledger (`step`, `finds`), a clock and an input:
+-- Of files (`holds`), ledgers (`opens`, `shows` and what a ledger is), a network (`connects` and
+-- what its sockets do), a node's own calls on its ledger (`step`, `finds`), a clock and an input:
 module _ {L K : Type 0} (holds : Text → Text → Type 0) (opens : Text → L → Type 0)
     (shows : Text → Bool → Type 0) (site_of : L → Part) (book : L → Book) (stands : L → Type 0)
     (connects : Text → Result K Error → Type 0) (hears : K → Heard → K → Type 0)

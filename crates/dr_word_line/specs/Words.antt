@@ -345,8 +345,9 @@ IsAuditOf words given =
     × IsNoOption given.folder.now
 
 -- the words are of a plain form, which asks for this; that nodes are of other makers or have no
--- ledger, that nodes run which are to be audited, that nothing is to be changed, that all faults are
--- to be named, and that an answer is to be JSON is said by options, of which nothing is said here
+-- ledger, that nodes run which are to be audited, that nothing is to be changed, that all faults
+-- are to be named, and that an answer is to be JSON is said by options, of which nothing is said
+-- here
 abbrev pub Asks : List (Bor (List ℕ)) → Task → Type 0
 Asks words CheckInput = IsPlainCheck words
 Asks words (CheckFile plan) = IsCheckOf words plan

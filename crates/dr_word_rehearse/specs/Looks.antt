@@ -90,8 +90,8 @@ module _ {L : Type 0} (site_of : L → Part) (book : L → Book) (stands : L →
 module _ {L : Type 0} (opens : Text → L → Type 0) (site_of : L → Part) (book : L → Book)
     (stands : L → Type 0) (folder : Text) (old next : Certified) where
   -- What a look shows of the node: nothing of a ledger of a form from before; all rows of its
-  -- ledger in the folder that the next plan doesn't go on with; or none, where the ledger is of that
-  -- plan already.
+  -- ledger in the folder that the next plan doesn't go on with; or none, where the ledger is of
+  -- that plan already.
   abbrev pub IsLooked : Text → LedgerLook → Type 0
   IsLooked name Older = Unit {0}
   IsLooked name (Rows rows) =

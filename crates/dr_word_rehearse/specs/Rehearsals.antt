@@ -1,5 +1,6 @@
 -- The rehearsal of a change of the plan at all nodes.
-use Rattle.std.specs.Prelude.{◌≡◌, ◌⊎◌, Bool, List, [], ◌++◌, All, Contains, map as mapped, Result, Ok}
+use Rattle.std.specs.Prelude.{◌≡◌, ◌⊎◌, Bool, List, [], ◌++◌, All, Contains, map as mapped, Result}
+use Rattle.std.specs.Prelude.{Ok}
 use Rattle.std.specs.Prelude.{Err}
 use Rattle.dr_base.specs.Texts.{Text}
 use Rattle.dr_cert.specs.Sealing.{Certified}

@@ -96,8 +96,8 @@ where
 }
 
 /// Says of the ledgers in a folder, of all nodes of the plan in the first file but the others,
-/// whether an adoption of the plan in the third would go on, and prints each row that is in the way.
-/// No ledger is changed, none is made, and none is brought over from a form from before.
+/// whether an adoption of the plan in the third would go on, and prints each row that is in the
+/// way. No ledger is changed, none is made, and none is brought over from a form from before.
 ///
 /// Errors: Stream, File.
 pub fn rehearse_files<'a, F: Files, O: Finds, W: Write, E: Write>(
