@@ -26,4 +26,6 @@ pub record HasLines
 abbrev pub EndsAs : List ℕ → Seal → Type 0
 EndsAs seen seal =
     0 < seal.offset
-    → (at : ℕ) × (at + length (mark_of seal.chain) ≡ seal.offset) × Holds seen at (mark_of seal.chain)
+    → (at : ℕ)
+    × (at + length (mark_of seal.chain) ≡ seal.offset)
+    × Holds seen at (mark_of seal.chain)
