@@ -1,5 +1,5 @@
 -- The lines that a file has, whatever a crash does.
-use Rattle.std.specs.Prelude.{◌≡◌, ℕ, ◌+◌, ◌<◌, ◌≤◌, List, length, IsTrue}
+use Rattle.std.specs.Prelude.{◌≡◌, ℕ, ◌+◌, ◌<◌, List, length}
 use Rattle.sqlite_disk.specs.Disk.{Holds}
 use Rattle.dr_store_sealed.specs.declared.seal.Seal.{Seal}
 use Rattle.dr_store_sealed.specs.Lines.{bytes_of, mark_of}
