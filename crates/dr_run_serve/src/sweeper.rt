@@ -109,7 +109,7 @@ impl<B: Sharing> Sweeper<B> {
 
     /// Reads on in the journal; what is over by it, once all of it was read.
     ///
-    /// Errors: Store, Memory; then it is read anew.
+    /// Errors: Store, Memory; then the next call goes on where this one ended.
     fn read_past<R: Wait, L: Views>(
         &mut self,
         rt: &R,
@@ -120,11 +120,17 @@ impl<B: Sharing> Sweeper<B> {
             Some(past) => past,
             None => Past::new(alloc),
         };
-        if past.read_on(rt, desk)? {
-            return Ok(Some(past.into_sweep(alloc)?));
+        match past.read_on(rt, desk) {
+            Ok(true) => Ok(Some(past.into_sweep(alloc)?)),
+            Ok(false) => {
+                self.past = Some(past);
+                Ok(None)
+            }
+            Err(fault) => {
+                self.past = Some(past);
+                Err(fault)
+            }
         }
-        self.past = Some(past);
-        Ok(None)
     }
 
     /// What is over, where that is known already.
