@@ -1,6 +1,6 @@
 -- Lines and bytes, and lines and their last chain.
-use Rattle.std.proofs.Common.{◌≡◌, ◌≢◌, ℕ, ◌+◌, ◌-◌, ◌*◌, ◌/◌, ◌%◌, ◌<◌, ◌≤◌, nat_le, Bool, true, false, if◌then◌else◌}
-use Rattle.std.proofs.Common.{List, [], ◌∷◌, ◌++◌, length, take, drop, All, slice_index, slice_index_or, codes, replicate}
+use Rattle.std.proofs.Common.{◌≡◌, ◌≢◌, ℕ, ◌+◌, ◌/◌, ◌%◌, ◌≤◌, nat_le, Bool, true, if◌then◌else◌}
+use Rattle.std.proofs.Common.{List, [], ◌∷◌, ◌++◌, length, drop, All, slice_index, slice_index_or}
 use Rattle.std.proofs.Common.{refl, sym, ◌∙◌, ap, subst, inl, inr, arith}
 use Rattle.std.proofs.lemmas.Bool.{cases_lt, le-leb}
 use Rattle.std.proofs.lemmas.List.{append_assoc, append-nil, length-append, get_or_past}
@@ -11,7 +11,7 @@ use Rattle.sha2.specs.Sha256.{sha256}
 use Rattle.sha2.proofs.Facts256.{length-sha256}
 use Rattle.sqlite_disk.specs.Disk.{Holds}
 use Rattle.dr_store_sealed.specs.declared.seal.Seal.{Seal}
-use Rattle.dr_store_sealed.specs.Files.{EndsAs, HasLines, Spans}
+use Rattle.dr_store_sealed.specs.Files.{EndsAs, HasLines}
 use Rattle.dr_store_sealed.specs.Laws.{AreOfOneText}
 use Rattle.dr_store_sealed.specs.Lines.{IsOneLine, bytes_of, entry_of, mark_of, next_chain}
 use Rattle.dr_store_sealed.specs.Seals.{first_seal, full, next_seal, seal_after, turned}

@@ -1,5 +1,5 @@
 -- What refuses a call, by what refused its last step.
-use Rattle.std.proofs.Common.{◌≡◌, ℕ, Result, Ok, Err, IfErr, subst, ap}
+use Rattle.std.proofs.Common.{◌≡◌, Result, Ok, Err, IfErr, subst}
 use Rattle.sqlite_disk.specs.declared.Disk.{Ghosts}
 use Rattle.sqlite_disk.specs.Disk.{MoreFaults}
 use Rattle.dr_store_sealed.specs.declared.fault.SealFault.{SealFault}

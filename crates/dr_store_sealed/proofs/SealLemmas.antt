@@ -1,6 +1,6 @@
 -- Seals after more lines, and the bytes of the lines between two seals.
 use Rattle.std.proofs.Common.{◌≡◌, ℕ, ◌+◌, ◌-◌, ◌<◌, ◌≤◌, nat_le, Bool, true, false, if◌then◌else◌}
-use Rattle.std.proofs.Common.{List, [], ◌∷◌, ◌++◌, length, take, All, slice_index_or, get_or, refl, sym, ◌∙◌, ap, subst, arith}
+use Rattle.std.proofs.Common.{List, [], ◌∷◌, ◌++◌, length, take, All, refl, sym, ◌∙◌, ap, arith}
 use Rattle.std.proofs.lemmas.Bool.{lt-leb}
 use Rattle.std.proofs.lemmas.List.{append_assoc, append-nil, length-append}
 use Rattle.std.proofs.lemmas.List.Elements.{All-push}
@@ -150,6 +150,8 @@ kept b offset off = ap (λ (c : Bool). if c then 0 else offset) off
 pub offset_in_first : (x y : List ℕ) → length (entry_of first_seal.chain x) < full
     → length (entry_of first_seal.chain x) + length (entry_of (next_chain first_seal.chain x) y) ≡ 135 → (seal_after first_seal (x ∷ y ∷ [])).offset ≡ 135
 offset_in_first x y small size =
+    let next = next_seal first_seal x in
     let one = length (entry_of first_seal.chain x) in
-    let room : nat_le full (next_seal first_seal x).offset ≡ false = lt-leb full (next_seal first_seal x).offset (omega (arith, small)) in
-    ap (λ n. n + length (entry_of (next_chain first_seal.chain x) y)) (kept (nat_le full (next_seal first_seal x).offset) (next_seal first_seal x).offset room) ∙ size
+    let place : next.offset ≡ one = omega arith in
+    let room : nat_le full next.offset ≡ false = lt-leb full next.offset (omega (arith, small)) in
+    ap (λ n. n + length (entry_of (next_chain first_seal.chain x) y)) (kept (nat_le full next.offset) next.offset room ∙ place) ∙ size

@@ -1,5 +1,5 @@
 -- The lines that a file has, whatever a crash does.
-use Rattle.std.specs.Prelude.{◌≡◌, ℕ, ◌+◌, ◌<◌, ◌≤◌, List, length, IsTrue}
+use Rattle.std.specs.Prelude.{◌≡◌, ℕ, ◌+◌, ◌<◌, List, length}
 use Rattle.sqlite_disk.specs.Disk.{Holds}
 use Rattle.dr_store_sealed.specs.declared.seal.Seal.{Seal}
 use Rattle.dr_store_sealed.specs.Lines.{bytes_of, mark_of}
@@ -26,4 +26,6 @@ pub record HasLines
 abbrev pub EndsAs : List ℕ → Seal → Type 0
 EndsAs seen seal =
     0 < seal.offset
-    → (at : ℕ) × (at + length (mark_of seal.chain) ≡ seal.offset) × Holds seen at (mark_of seal.chain)
+    → (at : ℕ)
+    × (at + length (mark_of seal.chain) ≡ seal.offset)
+    × Holds seen at (mark_of seal.chain)

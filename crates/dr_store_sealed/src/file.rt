@@ -14,15 +14,11 @@ use crate::ending::put_end;
 use crate::entries::entries_of;
 use crate::fault::SealFault;
 use crate::fitting::fit;
-use crate::piece::read_piece;
-use crate::reading::lines_in;
+use crate::scanning::read_lines;
 use crate::seal::{Seal, are_one};
 use dr_base::Text;
 use sqlite_disk::{Crash, Disk};
 use std::alloc::Global;
-
-/// The bytes that are read at once. They are more than the longest line and what is behind it.
-const PIECE: usize = 262_144;
 
 /// A file of lines with their chains, up to its seal.
 #[derive(Drop)]
@@ -89,16 +85,7 @@ impl<D: Disk> LineFile<D> {
             → IsHeld D.Disk self.old start before → IsHeld D.Disk self.new start before }
         ensures clean { IsClean D.Disk self.new → IsClean D.Disk self.old }
     {
-        if !self.disk.may_be_used() {
-            return Err(SealFault::Unusable);
-        }
-        let size = PIECE.min(self.seal.offset - from.offset);
-        let piece = read_piece(alloc, &mut self.disk, from.offset, size)?;
-        let (lines, last) = lines_in(alloc, &piece, from)?;
-        if lines.is_empty() {
-            return Err(SealFault::Broken);
-        }
-        Ok((lines, last))
+        read_lines(alloc, &mut self.disk, from, self.seal.offset)
     }
 
     /// Reads all lines of the file, of which `start` is the seal at its beginning, and tests the

@@ -1,4 +1,4 @@
-use Rattle.std.proofs.Common.{◌≡◌, ◌∙◌, List, ℕ, Err, Option, Some, refl, sym, subst}
+use Rattle.std.proofs.Common.{◌≡◌, ◌∙◌, List, [], ℕ, Err, Option, Some, refl, sym, subst}
 use Rattle.sqlite.specs.Held.{state}
 use Rattle.sqlite.specs.Tree.{Trees}
 use Rattle.dr_ledger.specs.declared.fault.LedgerFault.{LedgerFault}
@@ -16,7 +16,7 @@ returns-then-not-does_come-clause-called g c =
     let reception = c.args.reception.now in
     let shelf = c.args.shelf.now in
     let Uses = g.B.Shelf.uses shelf in
-    let cell = c.bring.args.cell.now in
+    let cell : List ℕ = [] in
     let Comes : Option (List ℕ) → Type 0 =
     IsPut (shelf ≡ shelf) Uses Uses (g.B.Shelf.stands shelf) g.B.Shelf.apart came.body.now in
     let Asks : Trees → Type 0 =

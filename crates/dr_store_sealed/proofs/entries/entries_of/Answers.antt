@@ -1,4 +1,4 @@
-use Rattle.std.proofs.Common.{rules, ◌≡◌, ◌+◌, ◌<◌, ◌++◌, List, ℕ, All, length, take, [], ◌∷◌, slice_index_or, sym, ◌∙◌, subst, arith}
+use Rattle.std.proofs.Common.{rules, ◌≡◌, ◌+◌, ◌<◌, ◌++◌, List, ℕ, All, take, slice_index_or, sym, ◌∙◌, subst}
 use Rattle.std.proofs.lemmas.List.{take_more}
 use Rattle.dr_store_sealed.specs.Lines.{IsOneLine, bytes_of, entry_of}
 use Rattle.dr_store_sealed.specs.Seals.{full, next_seal, seal_after}

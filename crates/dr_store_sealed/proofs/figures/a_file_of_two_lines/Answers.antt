@@ -1,7 +1,7 @@
-use Rattle.std.proofs.Common.{◌≡◌, ◌+◌, ◌∷◌, [], ◌++◌, List, ℕ, codes, length, replicate, arith}
+use Rattle.std.proofs.Common.{◌≡◌, ◌∷◌, [], ◌++◌, codes, length, replicate, arith}
 use Rattle.std.proofs.lemmas.List.{length-append}
 use Rattle.dr_store_sealed.specs.Lines.{bytes_of, entry_of, next_chain}
-use Rattle.dr_store_sealed.specs.Seals.{first_seal, seal_after}
+use Rattle.dr_store_sealed.specs.Seals.{first_seal}
 use Rattle.dr_store_sealed.proofs.LawLemmas.{entry_size}
 use Rattle.dr_store_sealed.proofs.SealLemmas.{offset_in_first}
 use Rattle.dr_store_sealed.proofs.figures.a_file_of_two_lines.Goals as goal

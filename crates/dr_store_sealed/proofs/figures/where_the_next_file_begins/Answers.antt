@@ -1,4 +1,4 @@
-use Rattle.std.proofs.Common.{[], codes, length, arith}
+use Rattle.std.proofs.Common.{[], codes, arith}
 use Rattle.dr_store_sealed.proofs.LawLemmas.{entry_size}
 use Rattle.dr_store_sealed.proofs.figures.where_the_next_file_begins.Goals as goal
 

@@ -1,4 +1,4 @@
-use Rattle.std.proofs.Common.{rules, ◌≡◌, ◌++◌, length, List, ℕ, sym, ◌∙◌, subst, arith}
+use Rattle.std.proofs.Common.{◌∙◌, subst, arith}
 use Rattle.dr_store_sealed.specs.Files.{Endures}
 use Rattle.dr_store_sealed.specs.Lines.{bytes_of}
 use Rattle.dr_store_sealed.specs.Seals.{lines_between}

@@ -1,4 +1,4 @@
-use Rattle.std.proofs.Common.{rules, ◌≡◌, ◌++◌, [], List, ℕ, All, refl, sym, ◌∙◌, subst}
+use Rattle.std.proofs.Common.{◌++◌, [], refl, sym, ◌∙◌, subst}
 use Rattle.std.proofs.lemmas.List.Elements.{All-append, All-nil}
 use Rattle.dr_store_sealed.specs.Files.{HasLines}
 use Rattle.dr_store_sealed.specs.Lines.{IsOneLine}
@@ -7,7 +7,10 @@ use Rattle.dr_store_sealed.proofs.file.LineFile.examine.Goals as goal
 
 pub loop-at-init : goal.loop-at-init
 loop-at-init g c = (
-  refl, refl, λ clean. clean, λ first before held. held,
+  refl,
+  refl,
+  λ clean. clean,
+  λ first before held. held,
   λ clean. ([], (All-nil IsOneLine, no_lines _ c.args.start.now c.requires)),
 )
 
@@ -27,8 +30,8 @@ loop-at-preserved g c =
             (
               All-append IsOneLine lines more parts.0 c.in_ok-lines.ensures.lines,
               lines_more _ c.args.start.now c.loop-at.at next lines more
-              (subst (λ file. HasLines file c.args.start.now lines c.loop-at.at) (sym made.shows) parts.1)
-              (c.in_ok-lines.ensures.reads clean),
+                  (subst (λ file. HasLines file c.args.start.now lines c.loop-at.at) (sym made.shows) parts.1)
+                  (c.in_ok-lines.ensures.reads clean),
             ),
           ),
     )

@@ -1,4 +1,4 @@
-use Rattle.std.proofs.Common.{◌≡◌, length, arith}
+use Rattle.std.proofs.Common.{arith}
 use Rattle.dr_store_sealed.specs.Lines.{bytes_of}
 use Rattle.dr_store_sealed.proofs.FileLemmas.{endures_synced}
 use Rattle.dr_store_sealed.proofs.SealLemmas.{reaches}

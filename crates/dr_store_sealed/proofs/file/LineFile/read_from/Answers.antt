@@ -1,35 +1,10 @@
-use Rattle.std.proofs.Common.{rules, ◌≡◌, ◌+◌, ◌-◌, ◌<◌, ◌≤◌, min, length, List, ℕ, sym, ◌∙◌, ap, subst, arith}
-use Rattle.sqlite_disk.specs.Disk.{Holds}
-use Rattle.dr_store_sealed.specs.Lines.{bytes_of}
-use Rattle.dr_store_sealed.proofs.FileLemmas.{holds_start}
-use Rattle.dr_store_sealed.proofs.SealLemmas.{grows, reaches}
+use Rattle.dr_store_sealed.proofs.FileLemmas.{endures_fewer}
 use Rattle.dr_store_sealed.proofs.file.LineFile.read_from.Goals as goal
 
-pub returns-clause-reads : goal.returns-clause-reads
-returns-clause-reads g c clean =
-    let from = c.args.from.now in
-    let piece = c.in_ok-piece.piece.items in
-    let bytes = bytes_of from.chain c.in_ok-lines.lines.items in
-    let size : c.min.result ≡ min 262144 (c.args.self.now.seal.offset - from.offset) = search rules in
-    let some : 0 < c.min.result = omega (arith, size, c.requires) in
-    let inner : Holds piece 0 bytes = subst (λ t. Holds t 0 bytes) c.deref.ensures.value c.in_ok-lines.ensures.bytes in
-    let there = holds_start _ from.offset piece bytes (c.in_ok-piece.ensures.read clean some) inner in
+pub returns-clause-keeps : goal.returns-clause-keeps
+returns-clause-keeps g c start before held =
     record {
-      spans = c.in_ok-lines.ensures.spans;
-      bytes = subst (λ file. Holds file from.offset bytes) (sym c.read_piece.ensures.shows) there;
+      spans = held.spans;
+      endures = endures_fewer start.offset _ _ _ _ _ c.read_lines.ensures.shows
+          c.read_lines.ensures.leaves held.endures;
     }
-
-pub returns-clause-onward : goal.returns-clause-onward
-returns-clause-onward g c =
-    grows c.args.from.now c.in_ok-lines.last c.in_ok-lines.lines.items c.in_ok-lines.ensures.spans (search rules)
-
-pub returns-clause-within : goal.returns-clause-within
-returns-clause-within g c =
-    let from = c.args.from.now in
-    let piece = c.in_ok-piece.piece.items in
-    let bytes = bytes_of from.chain c.in_ok-lines.lines.items in
-    let size : c.min.result ≡ min 262144 (c.args.self.now.seal.offset - from.offset) = search rules in
-    let inner : Holds piece 0 bytes = subst (λ t. Holds t 0 bytes) c.deref.ensures.value c.in_ok-lines.ensures.bytes in
-    let place = reaches from c.in_ok-lines.last c.in_ok-lines.lines.items c.in_ok-lines.ensures.spans in
-    let len : length piece ≡ c.min.result = c.in_ok-piece.ensures.size in
-    omega (arith, place, inner.within, len, size, c.requires)

@@ -1,0 +1,37 @@
+use Rattle.std.proofs.Common.{rules, ◌≡◌, ◌<◌, ◌++◌, [], List, ℕ, All, length, refl, sym, ◌∙◌, subst, arith}
+use Rattle.std.proofs.lemmas.List.Elements.{All-append, All-nil}
+use Rattle.dr_store_sealed.specs.Files.{HasLines}
+use Rattle.dr_store_sealed.specs.Lines.{IsOneLine}
+use Rattle.dr_store_sealed.proofs.LawLemmas.{lines_more, no_lines}
+use Rattle.dr_store_sealed.proofs.scanning.scan.Goals as goal
+
+pub loop-at-init : goal.loop-at-init
+loop-at-init g c = (
+  refl,
+  λ clean. clean,
+  λ left may. may,
+  omega (arith, c.requires),
+  λ clean. ([], (All-nil IsOneLine, no_lines _ c.args.start.now c.requires)),
+)
+
+pub loop-at-preserved : goal.loop-at-preserved
+loop-at-preserved g c =
+    let made = c.read_lines.ensures in
+    let was = c.loop-at.invariant in
+    let next = c.in_ok-lines.next in
+    let more = c.in_ok-lines.lines.items in (
+      made.shows ∙ was.0,
+      λ clean. was.1 (made.clean clean),
+      λ left may. was.2 left (made.leaves left may),
+      c.in_ok-lines.ensures.within,
+      λ clean.
+          let (lines, parts) = was.4 (made.clean clean) in (
+            lines ++ more,
+            (
+              All-append IsOneLine lines more parts.0 c.in_ok-lines.ensures.lines,
+              lines_more _ c.args.start.now c.loop-at.at next lines more
+                  (subst (λ file. HasLines file c.args.start.now lines c.loop-at.at) (sym made.shows) parts.1)
+                  (c.in_ok-lines.ensures.reads clean),
+            ),
+          ),
+    )
