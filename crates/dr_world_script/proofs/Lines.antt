@@ -7,9 +7,10 @@ use Rattle.dr_world_script.specs.declared.fault.LineFault.{LineFault}
 use Rattle.dr_world_script.specs.declared.fault.LineFault.TheVariants as lines
 use Rattle.dr_world_script.specs.declared.foreign.Foreign.{Foreign}
 use Rattle.dr_world_script.specs.declared.foreign.ForeignWord.{ForeignWord}
+use Rattle.dr_world_script.specs.declared.foreign.ForeignWord.TheVariants as called
 use Rattle.dr_world_script.specs.declared.step.Step.{Step}
 use Rattle.dr_world_script.specs.declared.step.Word.{Word}
-use Rattle.dr_world_script.specs.Scripts.{AreWritten, Follows, FollowsForeign, ReadsAdoption, ReadsFields, ReadsForeign, ReadsForeignFields, ReadsParts, ReadsStep, ReadsWritten, TellsBy, TellsForeign, TellsStep, adopt_word, bytes_word, foreign_spelled, spelled}
+use Rattle.dr_world_script.specs.Scripts.{AreWritten, Follows, FollowsForeign, ReadsAdoption, ReadsFields, ReadsForeign, ReadsForeignFields, ReadsParts, ReadsStatus, ReadsStep, ReadsWritten, TellsBy, TellsForeign, TellsStep, adopt_word, bytes_word, foreign_spelled, spelled}
 use Rattle.dr_world_script.proofs.Spelling.{adopt_foreign, bytes_foreign, foreign_apart, foreign_one, spelled_apart, spelled_beside, spelled_one, words_apart}
 
 -- a change of plan, where the word is that of one
@@ -84,6 +85,14 @@ concerning first w fields (Err lines.NoStep) is h = λ a. none a
         let Q : List Text → Type 0 = λ fs. FollowsForeign v fs what in
         h what (subst P same (subst Q rest f))
 concerning first w fields (Err lines.Memory) is h = tt
+
+-- no answer follows where the second field is no status
+pub no_answer : (fields : List Text) (fault : LineFault) → ((first second : Text) → fields ≡ first ∷ second ∷ [] → ReadsStatus second (Err fault)) → ReadsForeignFields called.Answer fields (Err fault)
+no_answer fields lines.NoStep h = λ what follows. none what follows
+  where
+    none : (what : Foreign) → FollowsForeign called.Answer fields what → ⊥
+    none what (link, status, field, digits, e, d, numbered, is) = h field digits d status is
+no_answer fields lines.Memory h = tt
 
 -- what is read of it, as what a line tells
 pub concern : (w : ForeignWord) (fields : List Text) (fault : LineFault) → ReadsForeignFields w fields (Err fault) → ReadsForeign w fields (Err fault)
