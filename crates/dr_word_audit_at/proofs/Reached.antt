@@ -45,7 +45,7 @@ put_later name more [] read = tt
 put_later name more (n ∷ ns) [] = no_earlier (n ∷ ns)
 put_later name more (n ∷ ns) (node ∷ read) = go (bytes_eq node.name name) (put_later name more ns read)
   where
-    go : (b : Bool) → AreNoEarlier ns (put_on name more ns read) → AreNoEarlier (n ∷ ns) (cond b (n + more ∷ ns) (n ∷ put_on name more ns read))
+    go : (b : Bool) → AreNoEarlier ns (put_on name more ns read) → AreNoEarlier (n ∷ ns) (cond b ((n + more) ∷ ns) (n ∷ put_on name more ns read))
     go true rest = (omega arith, no_earlier ns)
     go false rest = (omega arith, rest)
 

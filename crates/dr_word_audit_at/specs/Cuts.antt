@@ -124,7 +124,7 @@ abbrev pub put_on : Text → ℕ → List ℕ → List NodeJournal → List ℕ
 put_on name more [] nodes = []
 put_on name more (n ∷ ns) [] = n ∷ ns
 put_on name more (n ∷ ns) (node ∷ nodes) =
-    cond (bytes_eq node.name name) (n + more ∷ ns) (n ∷ put_on name more ns nodes)
+    cond (bytes_eq node.name name) ((n + more) ∷ ns) (n ∷ put_on name more ns nodes)
 
 -- the cut of that node is put behind the next line that says it, if one does
 abbrev pub Moves : MissingLine → Text → List NodeJournal → List ℕ → List ℕ → Bool → Type 0
