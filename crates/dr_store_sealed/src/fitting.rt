@@ -12,7 +12,7 @@ use std::alloc::Global;
 
 /// Whether the file reaches as far as the seal says, and its last line there has the seal's chain.
 /// Then it is cut behind that place, so that no line is left in it that was written and not sealed.
-/// It is synced first, so that no crash from here on leaves what an earlier process had not synced.
+/// It is synced, so that no crash from here on leaves what an earlier process had not synced.
 ///
 /// Whatever comes of it, all before the seal's place stays what it was. `Short` and `OtherChain`
 /// are answered only where the file is so.
@@ -35,7 +35,6 @@ pub fn fit<D: Disk>(alloc: Global, file: &mut D, seal: &Seal) -> Result<(), Seal
     if !file.may_be_used() {
         return Err(SealFault::Unusable);
     }
-    file.sync()?;
     let size = file.len()?;
     if size < seal.offset {
         return Err(SealFault::Short);

@@ -14,7 +14,7 @@ pub returns-clause-keeps : goal.returns-clause-keeps
 returns-clause-keeps g c from kept before old =
     let same : g.D.Disk.seen c.test_end.new.file ≡ g.D.Disk.seen c.args.file.now = search rules in
     c.put_end.ensures.keeps from kept before
-    (endures_fewer from _ _ kept _ _ same (λ left may. c.sync.ensures.crash left (c.len.ensures.crash left (c.test_end.ensures.leaves left may))) old)
+    (endures_fewer from _ _ kept _ _ same (λ left may. c.len.ensures.crash left (c.test_end.ensures.leaves left may)) old)
 
 pub returns-clause-ends : goal.returns-clause-ends
 returns-clause-ends g c =
