@@ -25,5 +25,5 @@ returns-in-None-first c =
 pub returns-in-Some-first : goal.returns-in-Some-first
 returns-in-Some-first c =
     let P : List Rule → Type 0 = λ rules. IsFirstAt (λ (rule : Rule). SendsTo c.args.caller.now c.args.key.now c.args.to.now rule → ⊥)
-        (λ (rule : Rule) (place : Unit {0}). SendsTo c.args.caller.now c.args.key.now c.args.to.now rule) rules c.in-Some-first.index (tt {0}) in
+    (λ (rule : Rule) (place : Unit {0}). SendsTo c.args.caller.now c.args.key.now c.args.to.now rule) rules c.in-Some-first.index (tt {0}) in
     (λ h. false≢true (c.if-is_local.ensures.1 h), (c.in-Some-node.node.now, c.in-Some-node.ensures, subst P c.as_slice.ensures c.in-Some-first.ensures))
