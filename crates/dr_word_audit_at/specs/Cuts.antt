@@ -95,12 +95,19 @@ abbrev pub HasLine : List NodeJournal → Text → JournalLine → Type 0
 HasLine nodes name line =
     (node : NodeJournal) × Contains nodes node × Contains node.lines line × (node.name ≡ name)
 
--- a line of these journals rests on it
+-- the lines of the node of that name
+abbrev pub lines_named : Text → List NodeJournal → List JournalLine
+lines_named name [] = []
+lines_named name (node ∷ nodes) =
+    cond (bytes_eq node.name name) node.lines (lines_named name nodes)
+
+-- a line of these journals rests on it, and none there says it
 pub record IsRestedOn (nodes : List NodeJournal) (mend : MissingLine) (at : Text) : Type 0 where
   pub name : Text
   pub line : JournalLine
   pub has : HasLine nodes name line
   pub rests : RestsOn name line mend at
+  pub lacking : MendsNowhere mend (lines_named at nodes)
 
 -- it would mend a mismatch of these journals
 pub record IsMissed (plan : Network) (nodes : List NodeJournal) (mend : MissingLine)

@@ -1,3 +1,4 @@
 pub mod Cuts
+pub mod Firsts
 pub mod Laws
 pub mod Running
