@@ -7,8 +7,8 @@ use Rattle.dr_store_sealed.proofs.Onward.{read_refused}
 use Rattle.dr_store_sealed.proofs.SealLemmas.{grows, reaches}
 use Rattle.dr_store_sealed.proofs.scanning.read_lines.Goals as goal
 
-pub returns-in-Ok-clause-reads : goal.returns-in-Ok-clause-reads
-returns-in-Ok-clause-reads g c clean =
+pub returns-clause-reads : goal.returns-in-Ok-clause-reads
+returns-clause-reads g c clean =
     let from = c.args.from.now in
     let piece = c.in_ok-piece.piece.items in
     let bytes = bytes_of from.chain c.in-Ok.lines.items in
@@ -21,12 +21,12 @@ returns-in-Ok-clause-reads g c clean =
       bytes = subst (λ file. Holds file from.offset bytes) (sym c.read_piece.ensures.shows) there;
     }
 
-pub returns-in-Ok-clause-onward : goal.returns-in-Ok-clause-onward
-returns-in-Ok-clause-onward g c =
+pub returns-clause-onward : goal.returns-in-Ok-clause-onward
+returns-clause-onward g c =
     grows c.args.from.now c.in-Ok.last c.in-Ok.lines.items c.in-Ok.ensures.spans c.in-Ok.ensures.some
 
-pub returns-in-Ok-clause-within : goal.returns-in-Ok-clause-within
-returns-in-Ok-clause-within g c =
+pub returns-clause-within : goal.returns-in-Ok-clause-within
+returns-clause-within g c =
     let from = c.args.from.now in
     let piece = c.in_ok-piece.piece.items in
     let bytes = bytes_of from.chain c.in-Ok.lines.items in
