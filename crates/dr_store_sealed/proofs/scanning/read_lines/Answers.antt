@@ -7,7 +7,7 @@ use Rattle.dr_store_sealed.proofs.Onward.{read_refused}
 use Rattle.dr_store_sealed.proofs.SealLemmas.{grows, reaches}
 use Rattle.dr_store_sealed.proofs.scanning.read_lines.Goals as goal
 
-pub returns-clause-reads : goal.returns-in-Ok-clause-reads
+pub returns-clause-reads : goal.returns-clause-reads
 returns-clause-reads g c clean =
     let from = c.args.from.now in
     let piece = c.in_ok-piece.piece.items in
@@ -21,11 +21,11 @@ returns-clause-reads g c clean =
       bytes = subst (λ file. Holds file from.offset bytes) (sym c.read_piece.ensures.shows) there;
     }
 
-pub returns-clause-onward : goal.returns-in-Ok-clause-onward
+pub returns-clause-onward : goal.returns-clause-onward
 returns-clause-onward g c =
     grows c.args.from.now c.in-Ok.last c.in-Ok.lines.items c.in-Ok.ensures.spans c.in-Ok.ensures.some
 
-pub returns-clause-within : goal.returns-in-Ok-clause-within
+pub returns-clause-within : goal.returns-clause-within
 returns-clause-within g c =
     let from = c.args.from.now in
     let piece = c.in_ok-piece.piece.items in
