@@ -1,17 +1,17 @@
 -- Lines that a file's bytes begin with.
-use Rattle.std.proofs.Common.{◌≡◌, ◌≢◌, ◌⊎◌, ℕ, ◌+◌, ◌-◌, ◌^◌, ◌<◌, ◌≤◌, nat_le}
+use Rattle.std.proofs.Common.{◌≡◌, ℕ, ◌+◌, ◌<◌, ◌≤◌, nat_le}
 use Rattle.std.proofs.Common.{List, [], ◌∷◌, ◌++◌, length, take, drop, All, slice_index, length-take}
 use Rattle.std.proofs.Common.{refl, sym, ◌∙◌, ap, subst, inl, inr, arith, take-append-drop, get_or-take}
 use Rattle.std.proofs.lemmas.Bool.{cases_lt, le-leb}
 use Rattle.std.proofs.lemmas.List.{append_assoc, append-nil, ext_get_or, get_or_append_left, get_or_at, length-append, take-append-le, take_all}
-use Rattle.std.proofs.lemmas.List.Elements.{All-cons, All-head, All-nil, All-tail}
+use Rattle.std.proofs.lemmas.List.Elements.{All-head, All-tail}
 use Rattle.sqlite_disk.specs.Disk.{Holds}
 use Rattle.dr_store_sealed.specs.declared.fault.SealFault.{SealFault}
 use Rattle.dr_store_sealed.specs.declared.fault.SealFault.TheVariants as fault
 use Rattle.dr_store_sealed.specs.declared.seal.Seal.{Seal}
-use Rattle.dr_store_sealed.specs.Files.{HasLines, IsRight, IsRightTo, Spans}
-use Rattle.dr_store_sealed.specs.Lines.{IsOneLine, bytes_of, entry_of, longest, mark_of, next_chain}
-use Rattle.dr_store_sealed.specs.Refusals.{BeginsNoLines, IsEnough, IsNoLineIn, IsWhyNoEntry, IsWhyNoLineIn, IsWhyNoLines}
+use Rattle.dr_store_sealed.specs.Files.{HasLines, IsRight, Spans}
+use Rattle.dr_store_sealed.specs.Lines.{IsOneLine, bytes_of, entry_of, mark_of, next_chain}
+use Rattle.dr_store_sealed.specs.Refusals.{BeginsNoLines, IsNoLineIn, IsWhyNoEntry, IsWhyNoLineIn, IsWhyNoLines}
 use Rattle.dr_store_sealed.specs.Seals.{full, next_seal, seal_after}
 use Rattle.dr_store_sealed.proofs.FileLemmas.{holds_right}
 use Rattle.dr_store_sealed.proofs.LawLemmas.{IsPlain, body_of, cons_same, entry_ends, entry_size, never_empty, plain_body, same_body, same_front, same_line, turns}
