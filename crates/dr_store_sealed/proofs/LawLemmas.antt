@@ -18,16 +18,16 @@ use Rattle.dr_store_sealed.specs.Seals.{first_seal, full, next_seal, seal_after,
 use Rattle.dr_store_sealed.proofs.FileLemmas.{holds_both, holds_none, holds_right}
 use Rattle.dr_store_sealed.proofs.SealLemmas.{bytes_more, count_after, in_step, reaches, spans_more}
 
-abbrev IsPlain : ℕ → Type 0
+abbrev pub IsPlain : ℕ → Type 0
 IsPlain byte = byte ≢ 10
 
-head_same : (x y : ℕ) (xs ys : List ℕ) → x ∷ xs ≡ y ∷ ys → x ≡ y
+pub head_same : (x y : ℕ) (xs ys : List ℕ) → x ∷ xs ≡ y ∷ ys → x ≡ y
 head_same x y xs ys same = ap (λ (l : List ℕ). slice_index_or l 0 0) same
 
 tail_same : (x y : ℕ) (xs ys : List ℕ) → x ∷ xs ≡ y ∷ ys → xs ≡ ys
 tail_same x y xs ys same = ap (λ (l : List ℕ). drop 1 l) same
 
-cons_same : {X : Type 0} (x y : X) (xs ys : List X) → x ≡ y → xs ≡ ys → x ∷ xs ≡ y ∷ ys
+pub cons_same : {X : Type 0} (x y : X) (xs ys : List X) → x ≡ y → xs ≡ ys → x ∷ xs ≡ y ∷ ys
 cons_same x y xs ys first rest = ap (λ z. z ∷ xs) first ∙ ap (λ zs. y ∷ zs) rest
 
 -- texts with parts of one length in front
@@ -66,25 +66,25 @@ plain_hex (b ∷ rest) =
     (All-cons IsPlain (slice_index lower_digits (b % 16)) (encode_lower rest) (plain_digit (b % 16)) (plain_hex rest))
 
 -- a line and what is behind it but for its end
-abbrev body_of : List ℕ → List ℕ → List ℕ
+abbrev pub body_of : List ℕ → List ℕ → List ℕ
 body_of chain line = line ++ 32 ∷ encode_lower chain
 
-plain_body : (chain line : List ℕ) → IsOneLine line → All IsPlain (body_of chain line)
+pub plain_body : (chain line : List ℕ) → IsOneLine line → All IsPlain (body_of chain line)
 plain_body chain line is =
     All-append IsPlain line (32 ∷ encode_lower chain) is.one (All-cons IsPlain 32 (encode_lower chain) (omega arith) (plain_hex chain))
 
 -- where the end of an entry is
-entry_ends : (chain line rest : List ℕ) → line ++ mark_of chain ++ rest ≡ body_of chain line ++ 10 ∷ rest
+pub entry_ends : (chain line rest : List ℕ) → line ++ mark_of chain ++ rest ≡ body_of chain line ++ 10 ∷ rest
 entry_ends chain line rest =
     append_assoc line (mark_of chain) rest
     ∙ ap (λ t. line ++ t) (append_assoc (32 ∷ encode_lower chain) (10 ∷ []) rest)
     ∙ sym (append_assoc line (32 ∷ encode_lower chain) (10 ∷ rest))
 
-hex_size : (text : List ℕ) → length (encode_lower (sha256 text)) ≡ 64
+pub hex_size : (text : List ℕ) → length (encode_lower (sha256 text)) ≡ 64
 hex_size text = omega (arith, length-encode_with lower_digits (sha256 text), length-sha256 text)
 
 -- lines with one body are one
-same_body : (a b line other : List ℕ) → body_of (sha256 a) line ≡ body_of (sha256 b) other → line ≡ other
+pub same_body : (a b line other : List ℕ) → body_of (sha256 a) line ≡ body_of (sha256 b) other → line ≡ other
 same_body a b line other same =
     let size : length line ≡ length other =
     omega (
@@ -97,7 +97,7 @@ same_body a b line other same =
     ) in
     (same_front line other (32 ∷ encode_lower (sha256 a)) (32 ∷ encode_lower (sha256 b)) size same).0
 
-never_empty : (chain line rest : List ℕ) → [] ≡ entry_of chain line ++ rest → ⊥
+pub never_empty : (chain line rest : List ℕ) → [] ≡ entry_of chain line ++ rest → ⊥
 never_empty chain line rest same =
     let all = length-append (entry_of chain line) rest in
     let mark = length-append line (mark_of (next_chain chain line)) in
@@ -160,7 +160,7 @@ lines_more seen a b c xs ys first later =
           (subst (λ t. Holds seen b.offset (bytes_of t ys)) chain later.bytes)));
     }
 
-turns : (b : Bool) (n offset : ℕ) → b ≡ true → ((if b then n + 1 else n) ≡ n + 1) × ((if b then 0 else offset) ≡ 0)
+pub turns : (b : Bool) (n offset : ℕ) → b ≡ true → ((if b then n + 1 else n) ≡ n + 1) × ((if b then 0 else offset) ≡ 0)
 turns b n offset on = (ap (λ (c : Bool). if c then n + 1 else n) on, ap (λ (c : Bool). if c then 0 else offset) on)
 
 pub next_file : (seal : Seal) (line : List ℕ) → full ≤ seal.offset → next_seal seal line ≡ next_seal (turned seal) line

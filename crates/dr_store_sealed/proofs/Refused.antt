@@ -17,4 +17,5 @@ fit_by_put g seal old mid new (Err fault.Short) same why = absurd why
 fit_by_put g seal old mid new (Err fault.OtherChain) same why = absurd why
 fit_by_put g seal old mid new (Err fault.Broken) same why = absurd why
 fit_by_put g seal old mid new (Err fault.Unfit) same why = absurd why
+fit_by_put g seal old mid new (Err fault.Full) same why = absurd why
 fit_by_put g seal old mid new (Err fault.Uncounted) same why = absurd why

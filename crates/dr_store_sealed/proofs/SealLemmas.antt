@@ -1,7 +1,8 @@
 -- Seals after more lines, and the bytes of the lines between two seals.
 use Rattle.std.proofs.Common.{◌≡◌, ℕ, ◌+◌, ◌-◌, ◌<◌, ◌≤◌, nat_le, Bool, true, false, if◌then◌else◌}
 use Rattle.std.proofs.Common.{List, [], ◌∷◌, ◌++◌, length, take, All, refl, sym, ◌∙◌, ap, arith}
-use Rattle.std.proofs.lemmas.Bool.{lt-leb}
+use Rattle.std.proofs.Common.{inl, inr}
+use Rattle.std.proofs.lemmas.Bool.{cases_lt, lt-leb}
 use Rattle.std.proofs.lemmas.List.{append_assoc, append-nil, length-append}
 use Rattle.std.proofs.lemmas.List.Elements.{All-push}
 use Rattle.dr_store_sealed.specs.declared.seal.Seal.{Seal}
@@ -155,3 +156,15 @@ offset_in_first x y small size =
     let place : next.offset ≡ one = omega arith in
     let room : nat_le full next.offset ≡ false = lt-leb full next.offset (omega (arith, small)) in
     ap (λ n. n + length (entry_of (next_chain first_seal.chain x) y)) (kept (nat_le full next.offset) next.offset room ∙ place) ∙ size
+
+-- a file that isn't full takes a line, if there is one
+pub takes_some : (s last : Seal) (lines : List (List ℕ)) → TakesLines s lines last → s.offset < full → 0 < length lines → s.count < last.count
+takes_some s last lines takes room some =
+    elim (cases_lt s.count last.count) [
+      | inl more ↦ more
+      | inr none ↦
+          let n : last.count - s.count ≡ 0 = omega (arith, none) in
+          let same : last ≡ s = takes.after ∙ ap (λ k. seal_after s (take k lines)) n in
+          let place : last.offset ≡ s.offset = ap (λ (a : Seal). a.offset) same in
+          absurd (omega (arith, room, place, takes.full (omega (arith, none, some))))
+    ]

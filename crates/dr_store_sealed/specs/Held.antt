@@ -8,6 +8,7 @@ use Rattle.dr_store_sealed.specs.declared.fault.SealFault.{SealFault}
 use Rattle.dr_store_sealed.specs.declared.fault.SealFault.TheVariants as fault
 use Rattle.dr_store_sealed.specs.Files.{Endures, Spans}
 use Rattle.dr_store_sealed.specs.Lines.{IsOneLine, bytes_of}
+use Rattle.dr_store_sealed.specs.Seals.{full}
 
 module _ {D : Type 0} where
   abbrev pub disk_of : LineFile D → D
@@ -51,6 +52,7 @@ module _ {D : Type 0} (g : Ghosts D) where
   IsWhyNotAppended lines old new fault.Memory = new.disk ≡ old.disk
   IsWhyNotAppended lines old new fault.Unusable = WasUnusable old new
   IsWhyNotAppended lines old new fault.Unfit = (All IsOneLine lines → ⊥) × (new.disk ≡ old.disk)
+  IsWhyNotAppended lines old new fault.Full = (full ≤ old.seal.offset) × (new.disk ≡ old.disk)
   IsWhyNotAppended lines old new fault.Uncounted =
       (2 ^ 64 ≤ old.seal.count + length lines) × (new.disk ≡ old.disk)
   IsWhyNotAppended lines old new other = ⊥

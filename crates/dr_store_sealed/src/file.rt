@@ -9,6 +9,7 @@ ghost use Rattle.dr_store_sealed.specs.Seals.{TakesLines, lines_between};
 ghost use Rattle.dr_store_sealed.specs.Held.{IsClean, IsHeld, IsUsable, StillHas, disk_of};
 ghost use Rattle.dr_store_sealed.specs.Held.{seal_of, shown};
 ghost use Rattle.dr_store_sealed.specs.Held.{IsWhyNotAppended};
+ghost use Rattle.dr_store_sealed.specs.Refusals.{IsWhyNotFit, IsWhyNotRead, IsWhyNotWhole};
 
 use crate::ending::put_end;
 use crate::entries::entries_of;
@@ -37,7 +38,7 @@ impl<D: Disk> LineFile<D> {
 
     /// Writes those of the lines behind the seal that begin in this file: all, or as many as make
     /// it full. Then it ends the file behind them, syncs it, and answers the seal behind them,
-    /// which is its own from then on.
+    /// which is its own from then on. A file that is full takes none, and refuses.
     ///
     /// A refusal leaves the seal, and each line before it, what it was, also after a crash.
     pub fn append(&mut self, alloc: Global, lines: &[Text]) -> Result<Seal, SealFault>
@@ -46,6 +47,8 @@ impl<D: Disk> LineFile<D> {
             → IsHeld D.Disk self.new start
             (before ++ lines_between (seal_of self.old) last lines.now)) }
         ensures takes { IfOk result (λ last. TakesLines (seal_of self.old) lines.now last) }
+        ensures some { IfOk result (λ last.
+            0 < length lines.now → (seal_of self.old).count < last.count) }
         ensures lines { IfOk result (λ last.
             All IsOneLine (lines_between (seal_of self.old) last lines.now)) }
         ensures sealed { IfOk result (λ last. seal_of self.new ≡ last) }
@@ -62,6 +65,9 @@ impl<D: Disk> LineFile<D> {
     {
         if !self.disk.may_be_used() {
             return Err(SealFault::Unusable);
+        }
+        if self.seal.is_full() {
+            return Err(SealFault::Full);
         }
         let (bytes, last) = entries_of(alloc, &self.seal, lines)?;
         put_end(&mut self.disk, self.seal.offset, &bytes, last.offset)?;
@@ -84,6 +90,11 @@ impl<D: Disk> LineFile<D> {
         ensures keeps { (start : Seal) (before : List (List ℕ))
             → IsHeld D.Disk self.old start before → IsHeld D.Disk self.new start before }
         ensures clean { IsClean D.Disk self.new → IsClean D.Disk self.old }
+        ensures usable { OnOk result (IsUsable D.Disk self.new) }
+        ensures faults { OnOk result
+            (D.Disk.faults (disk_of self.new) ≡ D.Disk.faults (disk_of self.old)) }
+        ensures why { IfErr result (IsWhyNotRead D.Disk from.now (seal_of self.old).offset
+            (disk_of self.old) (disk_of self.new)) }
     {
         read_lines(alloc, &mut self.disk, from, self.seal.offset)
     }
@@ -101,12 +112,21 @@ impl<D: Disk> LineFile<D> {
         ensures keeps { (first : Seal) (before : List (List ℕ))
             → IsHeld D.Disk self.old first before → IsHeld D.Disk self.new first before }
         ensures clean { IsClean D.Disk self.new → IsClean D.Disk self.old }
+        ensures why { IfErr result (IsWhyNotWhole D.Disk start.now (seal_of self.old)
+            (disk_of self.old) (disk_of self.new)) }
     {
+        if !self.disk.may_be_used() {
+            return Err(SealFault::Unusable);
+        }
         let mut at = *start;
         while at.offset < self.seal.offset {
-            let (lines, next) = self.read_from(alloc, &at)?;
-            drop(lines);
-            at = next;
+            match self.read_from(alloc, &at) {
+                Ok((lines, next)) => {
+                    drop(lines);
+                    at = next;
+                }
+                Err(fault) => return Err(fault),
+            }
         }
         if !are_one(&at, &self.seal) {
             return Err(SealFault::OtherChain);
@@ -115,10 +135,17 @@ impl<D: Disk> LineFile<D> {
     }
 }
 
+/// A file that is not its seal's, or could not be tested, and why.
+#[derive(Drop)]
+pub struct UnfitFile<D: Drop> {
+    pub file: D,
+    pub fault: SealFault,
+}
+
 impl<D: Disk + Drop> LineFile<D> {
-    /// The file of a seal, cut behind the seal's place. A refusal is that of `fit`, and lets the
-    /// file go.
-    pub fn open(alloc: Global, file: D, seal: Seal) -> Result<LineFile<D>, SealFault>
+    /// The file of a seal, cut behind the seal's place. A refusal is that of `fit`, and gives the
+    /// file back.
+    pub fn open(alloc: Global, file: D, seal: Seal) -> Result<LineFile<D>, UnfitFile<D>>
         ensures sealed { IfOk result (λ it. seal_of it ≡ seal) }
         ensures held { IfOk result (λ it. (start : Seal) (lines : List (List ℕ))
             → HasLines (D.Disk.seen file) start lines seal → IsHeld D.Disk it start lines) }
@@ -128,19 +155,28 @@ impl<D: Disk + Drop> LineFile<D> {
             Only (shown D.Disk it) (D.Disk.may_leave (disk_of it))) }
         ensures clean { IfOk result (λ it. IsClean D.Disk it → IsTrue (D.Disk.is_clean file)) }
         ensures usable { IfOk result (λ it. IsUsable D.Disk it) }
+        ensures why { IfErr result (λ unfit. IsWhyNotFit D.Disk seal file unfit.file unfit.fault) }
     {
         let mut medium = file;
-        fit(alloc, &mut medium, &seal)?;
-        Ok(LineFile { disk: medium, seal })
+        match fit(alloc, &mut medium, &seal) {
+            Err(fault) => Err(UnfitFile {
+                file: medium,
+                fault,
+            }),
+            Ok(()) => Ok(LineFile { disk: medium, seal }),
+        }
     }
 }
 
 impl<D: Crash + Drop> LineFile<D> {
     /// What is there after a crash and an opening with the same seal.
-    pub fn restart(self, alloc: Global) -> Result<LineFile<D>, SealFault>
+    pub fn restart(self, alloc: Global) -> Result<LineFile<D>, UnfitFile<D>>
         ensures sealed { IfOk result (λ it. seal_of it ≡ seal_of self) }
         ensures held { IfOk result (λ it. (start : Seal) (lines : List (List ℕ))
             → IsHeld D.Disk self start lines → IsHeld D.Disk it start lines) }
+        ensures why { IfErr result (λ unfit. (left : D)
+            × D.Disk.may_leave (disk_of self) (D.Disk.seen left)
+            × IsWhyNotFit D.Disk (seal_of self) left unfit.file unfit.fault) }
     {
         let LineFile { disk, seal } = self;
         let mut left = disk;

@@ -18,7 +18,7 @@ mod scanning;
 mod seal;
 
 pub use fault::SealFault;
-pub use file::LineFile;
+pub use file::{LineFile, UnfitFile};
 pub use fitting::fit;
 pub use scanning::{read_lines, scan};
 pub use seal::{FULL, LONGEST, Seal};

@@ -1,7 +1,8 @@
 //! All lines of a file, piece by piece.
-ghost use Rattle.std.specs.Prelude.{◌≡◌, ◌<◌, ◌≤◌, ℕ, List, length, All, IsTrue, IfOk};
+ghost use Rattle.std.specs.Prelude.{◌≡◌, ◌<◌, ◌≤◌, ℕ, List, length, All, IsTrue, IfErr, IfOk, OnOk};
 ghost use Rattle.dr_store_sealed.specs.Files.{HasLines};
 ghost use Rattle.dr_store_sealed.specs.Lines.{IsOneLine};
+ghost use Rattle.dr_store_sealed.specs.Refusals.{IsWhyNotRead};
 
 use crate::fault::SealFault;
 use crate::piece::read_piece;
@@ -32,22 +33,24 @@ pub fn read_lines<D: Disk>(
     ensures shows { D.Disk.seen file.new ≡ D.Disk.seen file.old }
     ensures leaves { (c : List ℕ) → D.Disk.may_leave file.new c → D.Disk.may_leave file.old c }
     ensures clean { IsTrue (D.Disk.is_clean file.new) → IsTrue (D.Disk.is_clean file.old) }
+    ensures usable { OnOk result (IsTrue (D.Disk.is_usable file.new)) }
+    ensures faults { OnOk result (D.Disk.faults file.new ≡ D.Disk.faults file.old) }
+    ensures why { IfErr result (IsWhyNotRead D.Disk from.now end file.old file.new) }
 {
     if !file.may_be_used() {
         return Err(SealFault::Unusable);
     }
     let size = PIECE.min(end - from.offset);
     let piece = read_piece(alloc, file, from.offset, size)?;
-    let (lines, last) = lines_in(alloc, &piece, from)?;
-    if lines.is_empty() {
-        return Err(SealFault::Broken);
+    match lines_in(alloc, &piece, from) {
+        Err(fault) => Err(fault),
+        Ok((lines, last)) => Ok((lines, last)),
     }
-    Ok((lines, last))
 }
 
 /// Reads a file to its end, of which `start` is the seal at its beginning, and answers the seal
 /// behind its last line. The chain of each line is tested, and nothing is kept but one piece of the
-/// file at a time.
+/// file at a time. A refusal is as that of `read_lines`.
 pub fn scan<D: Disk>(alloc: Global, file: &mut D, start: &Seal) -> Result<Seal, SealFault>
     requires { start.now.offset ≡ 0 }
     ensures whole { IfOk result (λ last. IsTrue (D.Disk.is_clean file.new)
@@ -58,6 +61,8 @@ pub fn scan<D: Disk>(alloc: Global, file: &mut D, start: &Seal) -> Result<Seal, 
     ensures shows { D.Disk.seen file.new ≡ D.Disk.seen file.old }
     ensures leaves { (c : List ℕ) → D.Disk.may_leave file.new c → D.Disk.may_leave file.old c }
     ensures clean { IsTrue (D.Disk.is_clean file.new) → IsTrue (D.Disk.is_clean file.old) }
+    ensures why { IfErr result
+        (IsWhyNotRead D.Disk start.now (length (D.Disk.seen file.old)) file.old file.new) }
 {
     if !file.may_be_used() {
         return Err(SealFault::Unusable);
@@ -65,9 +70,13 @@ pub fn scan<D: Disk>(alloc: Global, file: &mut D, start: &Seal) -> Result<Seal, 
     let size = file.len()?;
     let mut at = *start;
     while at.offset < size {
-        let (lines, next) = read_lines(alloc, file, &at, size)?;
-        drop(lines);
-        at = next;
+        match read_lines(alloc, file, &at, size) {
+            Ok((lines, next)) => {
+                drop(lines);
+                at = next;
+            }
+            Err(fault) => return Err(fault),
+        }
     }
     Ok(at)
 }

@@ -16,7 +16,7 @@ use Rattle.dr_ledger.proofs.Maps.{text_pairs}
 use Rattle.dr_ledger_history.specs.declared.line.JournalLine.{JournalLine}
 use Rattle.dr_ledger_history.specs.declared.line.JournalLine.TheVariants as told
 use Rattle.dr_world_audit.specs.declared.audit.NodeJournal.{NodeJournal}
-use Rattle.dr_word_audit.specs.Names.{is_among}
+use Rattle.dr_word_adopt.specs.Names.{is_among}
 use Rattle.dr_word_audit_at.specs.declared.cutting.MissingLine.{MissingLine}
 use Rattle.dr_word_audit_at.specs.declared.cutting.MissingLine.TheVariants.{CameFrom, GoesOn}
 use Rattle.dr_word_audit_at.specs.declared.moving.FirstLines.{FirstLines}

@@ -47,8 +47,8 @@ SaysNowhere says = AllByRecursion (λ line. says line ≡ false)
 
 -- so many lines there are up to the first that says it; or none of the first lines does
 abbrev pub IsFirst : (JournalLine → Bool) → List JournalLine → ℕ → Option ℕ → Type 0
-IsFirst says lines count found =
-    MatchOption found (SaysNowhere says (take count lines)) (λ n. SaysNowhere says (take (n - 1) lines))
+IsFirst says lines count found = MatchOption found (SaysNowhere says (take count lines))
+    (λ n. SaysNowhere says (take (n - 1) lines))
 
 -- the places are those of the first of so many lines
 pub record AreFirst (lines : List JournalLine) (count : ℕ) (first : FirstLines) : Type 0 where

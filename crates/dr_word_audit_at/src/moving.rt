@@ -37,8 +37,11 @@ fn note_place(
     name: &Text,
     place: usize,
 ) -> Result<(), AllocError>
-    ensures { OnOk result ((q : Pair) → tree.get pair_cmp places.new q
-        ≡ or_first (tree.get pair_cmp places.old q) (is_at (pair_cmp (uid.now, name.now)) q) place) }
+    ensures { OnOk result
+        ((q : Pair)
+        → tree.get pair_cmp places.new q
+        ≡ or_first (tree.get pair_cmp places.old q) (is_at (pair_cmp (uid.now, name.now)) q)
+        place) }
 {
     let key = (uid.clone()?, name.clone()?);
     if places.contains_key(&key) {

@@ -226,6 +226,28 @@ fn do_answer(
     }
 }
 
+/// A node is another maker's product.
+fn do_node(
+    world: &mut World<Refusing<MemoryLedger>>,
+    node: &Text,
+    notes: &mut PlayNotes,
+) -> Result<(), WorldFault>
+    requires { world.old.lost ≡ None }
+    ensures plays { OnOk result
+        (NotesOrder notes.old world.old (orders_of.Foreign (foreign_of.Node node.now)) notes.new
+        world.new) }
+    ensures whole { OnOk result (world.new.lost ≡ None) }
+    ensures memory { IfErr result (λ fault. fault ≡ MemoryFault) }
+{
+    let name = node.clone()?;
+    if world.has_node(node) {
+        notes.others.push(name)?;
+        return Ok(());
+    }
+    notes.refusals.push(RefusedForeign::Node { node: name })?;
+    Ok(())
+}
+
 /// What concerns other makers' products.
 fn do_foreign(
     world: &mut World<Refusing<MemoryLedger>>,
@@ -239,11 +261,7 @@ fn do_foreign(
     ensures memory { IfErr result (λ fault. fault ≡ MemoryFault) }
 {
     match foreign {
-        Foreign::Node { node } => {
-            let name = node.clone()?;
-            notes.others.push(name)?;
-            Ok(())
-        }
+        Foreign::Node { node } => do_node(world, node, notes),
         Foreign::Store { link, item } => do_store(world, *link, item, notes),
         Foreign::Answer { link, status } => do_answer(world, *link, *status, notes),
     }

@@ -1,5 +1,5 @@
 //! What another maker's product writes for what it is told to do.
-ghost use Rattle.std.specs.Prelude.{◌≡◌, IfOk, option_copied};
+ghost use Rattle.std.specs.Prelude.{◌≡◌, ◌++◌, IfOk, option_copied};
 ghost use Rattle.dr_ledger.specs.Items.{IsItem};
 ghost use Rattle.dr_nego.specs.Fragments.{spellings};
 ghost use Rattle.dr_world.specs.Nodes.{seats_of};
@@ -71,13 +71,29 @@ pub fn context_at<L: Ledger>(
     agreed.context_for(&item.key().class, item.key().syntax)
 }
 
-/// A C-STORE-RQ with the data set of an item, in that context.
-pub fn store_text(alloc: Global, context: u8, item: &Item) -> Result<Octets, AllocError>
-    ensures { IfOk result (λ bytes. bytes ≡ spellings (storing_pdus context item.now)) }
+/// What is there, and behind it a C-STORE-RQ with the data set of an item, in that context.
+pub fn store_text(
+    alloc: Global,
+    front: &[u8],
+    context: u8,
+    item: &Item,
+) -> Result<Octets, AllocError>
+    ensures { IfOk result (λ bytes.
+        bytes ≡ front.now ++ spellings (storing_pdus context item.now)) }
 {
     let job = item.copy()?.into_job();
     let bytes = job_text(alloc, context, &job)?;
-    Ok(bytes)
+    join(alloc, front, &bytes)
+}
+
+/// What is there, and these bytes behind it.
+fn join(alloc: Global, front: &[u8], bytes: &Octets) -> Result<Octets, AllocError>
+    ensures { IfOk result (λ all. all ≡ front.now ++ bytes.now) }
+{
+    let mut out = Vec::new(alloc);
+    out.extend_from_slice(front)?;
+    out.extend_from_slice(bytes.as_bytes())?;
+    Ok(Octets::from_vec(out))
 }
 
 /// The same of what an item is made of.
@@ -104,8 +120,22 @@ fn job_text(alloc: Global, context: u8, job: &Job) -> Result<Octets, AllocError>
     Ok(Octets::from_vec(out))
 }
 
-/// A C-STORE-RSP with that status, to the request that is awaited so.
-pub fn answer_text(alloc: Global, asked: &Pending, status: u16) -> Result<Octets, AllocError>
+/// What is there, and behind it a C-STORE-RSP with that status to the request that is awaited so.
+pub fn answer_text(
+    alloc: Global,
+    front: &[u8],
+    asked: &Pending,
+    status: u16,
+) -> Result<Octets, AllocError>
+    ensures { IfOk result (λ bytes.
+        bytes ≡ front.now ++ spellings (answer_pdus asked.now status)) }
+{
+    let bytes = response_text(alloc, asked, status)?;
+    join(alloc, front, &bytes)
+}
+
+/// The response alone.
+fn response_text(alloc: Global, asked: &Pending, status: u16) -> Result<Octets, AllocError>
     ensures { IfOk result (λ bytes. bytes ≡ spellings (answer_pdus asked.now status)) }
 {
     let command = Command::StoreRsp {

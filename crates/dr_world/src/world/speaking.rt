@@ -1,5 +1,5 @@
 //! What other makers' products do in a world, and what isn't done for them.
-ghost use Rattle.std.specs.Prelude.{◌↔◌, IfOk, IsTrue};
+ghost use Rattle.std.specs.Prelude.{◌≡◌, ◌↔◌, IfOk, IsTrue, is_some};
 ghost use Rattle.dr_world.specs.Ends.{named};
 ghost use Rattle.dr_world.specs.Orders.{AnswersAs, IsOthers, IsOthersEnd, StoresAs};
 ghost use Rattle.dr_world.specs.Whole.{contents};
@@ -49,9 +49,17 @@ impl<L: Ledger> World<L> {
         }
     }
 
-    /// What the caller of a link writes, where it is one of these nodes, to store the item: a
-    /// C-STORE-RQ (PS3.7 9.1.1) with message id 1 over the presentation context that the receiver
-    /// has accepted for it, whether or not that association is still there.
+    /// Whether a node has that name. It takes no memory.
+    pub fn has_node(&self, name: &Text) -> bool
+        ensures { result ≡ is_some ((contents self.now).seats name.now) }
+    {
+        self.nodes.contains_key(name)
+    }
+
+    /// What is on its way from the caller of a link, where it is one of these nodes and the
+    /// receiver isn't, once it stores the item: what was, and a C-STORE-RQ (PS3.7 9.1.1) with
+    /// message id 1 over the presentation context that the receiver has accepted for it, whether or
+    /// not that association is still there.
     ///
     /// Errors: AllocError.
     pub fn store_of(&self, others: &[Text], link: u64, item: &Item) -> Result<Spoken, AllocError>
@@ -63,15 +71,20 @@ impl<L: Ledger> World<L> {
         if !others.contains(&wires.caller) {
             return Ok(Spoken::Refuses(ForeignRefusal::NotForeign));
         }
+        if others.contains(&wires.receiver) {
+            return Ok(Spoken::Refuses(ForeignRefusal::BothForeign));
+        }
         let Some(context) = context_at(&self.nodes, &wires.receiver, link, item) else {
             return Ok(Spoken::Refuses(ForeignRefusal::NoContext));
         };
-        let bytes = store_text(self.alloc, context, item)?;
+        let front = wires.wire(Side::Acceptor);
+        let bytes = store_text(self.alloc, front, context, item)?;
         Ok(Spoken::Writes(bytes))
     }
 
-    /// What the receiver of a link writes, where it is one of these nodes, to answer the request
-    /// whose response the caller awaits: a C-STORE-RSP with that status (PS3.7 9.1.1).
+    /// What is on its way from the receiver of a link, where it is one of these nodes and the
+    /// caller isn't, once it answers the request whose response the caller awaits: what was, and a
+    /// C-STORE-RSP with that status (PS3.7 9.1.1).
     ///
     /// Errors: AllocError.
     pub fn answer_of(&self, others: &[Text], link: u64, status: u16) -> Result<Spoken, AllocError>
@@ -83,10 +96,14 @@ impl<L: Ledger> World<L> {
         if !others.contains(&wires.receiver) {
             return Ok(Spoken::Refuses(ForeignRefusal::NotForeign));
         }
+        if others.contains(&wires.caller) {
+            return Ok(Spoken::Refuses(ForeignRefusal::BothForeign));
+        }
         let Some(asked) = asked_at(&self.nodes, &wires.caller, link) else {
             return Ok(Spoken::Refuses(ForeignRefusal::NotAsked));
         };
-        let bytes = answer_text(self.alloc, asked, status)?;
+        let front = wires.wire(Side::Requestor);
+        let bytes = answer_text(self.alloc, front, asked, status)?;
         Ok(Spoken::Writes(bytes))
     }
 }

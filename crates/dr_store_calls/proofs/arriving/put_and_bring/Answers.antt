@@ -45,12 +45,12 @@ returns-in-Ok-clause-called g c =
     λ base. FitsTables reception.taking came.caller.now came.instance.now c.args.targets.now.to
     c.args.targets.now.keep reception.again.now reception.dests.now reception.keeps base in
     let put = c.in-Ok.ensures in
-    brought_as Comes came (state g.S.Store c.args.conn.now) (state g.S.Store c.bring.new.conn)
+    brought_as Comes came (state g.S.Store c.args.conn.now) (state g.S.Store c.bring-in-Ok.new.conn)
     (IsCellTaken reception.taking cell)
     (one_place (shelf ≡ was) Used Uses Stands Apart came.body.now reception.taking cell
     (sym c.does_come.ensures ∙ c.if-not-does_come.false)
     (subst (λ x. Comes (Some x)) (sym c.bytes.ensures) (put.used, put.stands, put.beside)))
-    New c.bring.result Asks c.bring.ensures.called
+    New c.bring-in-Ok.result Asks c.bring-in-Ok.ensures.called
 
 pub returns-in-Err-clause-called : goal.returns-in-Err-clause-called
 returns-in-Err-clause-called g c =

@@ -12,6 +12,8 @@ invariant-loop-at g l =
     × (l.at.offset ≤ l.size)
     × (IsTrue (g.D.Disk.is_clean l.file)
     → (lines : List (List ℕ)) × (All IsOneLine lines × HasLines (g.D.Disk.seen l.file) l.start lines l.at))
+    × (g.D.Disk.faults l.file ≡ g.D.Disk.faults l.initial.file)
+    × IsTrue (g.D.Disk.is_usable l.file)
 
 abbrev pub decreases-loop-at : goal.decreases-loop-at
 decreases-loop-at g l = l.size - l.at.offset

@@ -1,9 +1,9 @@
-use Rattle.std.proofs.Common.{◌∙◌, subst, arith}
+use Rattle.std.proofs.Common.{rules, ◌∙◌, subst, arith}
 use Rattle.dr_store_sealed.specs.Files.{Endures}
 use Rattle.dr_store_sealed.specs.Lines.{bytes_of}
 use Rattle.dr_store_sealed.specs.Seals.{lines_between}
 use Rattle.dr_store_sealed.proofs.FileLemmas.{endures_more}
-use Rattle.dr_store_sealed.proofs.SealLemmas.{reaches, spans_more}
+use Rattle.dr_store_sealed.proofs.SealLemmas.{reaches, spans_more, takes_some}
 use Rattle.dr_store_sealed.proofs.file.LineFile.append.Goals as goal
 
 pub returns-clause-held : goal.returns-clause-held
@@ -32,3 +32,7 @@ pub returns-in_err-put_end-clause-keeps : goal.returns-in_err-put_end-clause-kee
 returns-in_err-put_end-clause-keeps g c start before held =
     c.put_end.ensures.keeps start.offset (bytes_of start.chain before)
     (omega (arith, reaches start c.args.self.now.seal before held.spans)) held.endures
+
+pub returns-clause-some : goal.returns-clause-some
+returns-clause-some g c filled =
+    takes_some c.args.self.now.seal c.in_ok-bytes.last c.args.lines.now c.in_ok-bytes.ensures.takes (search rules) filled
