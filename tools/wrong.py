@@ -7,11 +7,13 @@ wrong/CRATE/NAME.edit changes places of a crate's source: lines 'file: ', 'old: 
 or on several) and 'new: '. Each text is on one line of the edit, where a blank stands for any blanks and line breaks;
 comments begin with '#', and all else is refused. The edits of a crate that change different functions are applied
 together, and these functions alone are checked; an edit is refused only where the prover refuses the function that it
-changed. What can't be told apart so is tried alone. An edit of a definition is in no function: a line 'law: ' names the
-function of the crate whose contract it breaks, and that one is checked first, then all of the crate's laws, and where
-none of these refuses it all of the crate. What isn't refused, can't be read or applied or doesn't reach the prover is
-told at the end, and makes the exit status 1. The libraries below are those that the gate has made; what isn't there is
-proved first.
+changed. What can't be told apart so is tried alone. Where edited functions call many others, these are taken by their
+contracts, which the gate has proved: their proofs are left open. That is done only where the functions are proved so
+without their edits; what isn't refused so is tried with all that it calls. An edit of a definition is in no function: a
+line 'law: ' names the function of the crate whose contract it breaks, and that one must refuse it; without such a line
+the crate's laws are checked, and where they don't refuse it all of the crate. What isn't refused, can't be read or
+applied or doesn't reach the prover is told at the end, and makes the exit status 1. The libraries below are those that
+the gate has made; what isn't there is proved first.
 """
 import concurrent.futures
 import dataclasses
@@ -25,7 +27,7 @@ import tempfile
 import threading
 import time
 
-from crates import TOP, copy_sources, lanes, listed, prover, words_of, work_of
+from crates import TOP, copy_sources, lanes, listed, prover, sources_of, words_of, work_of
 from libraries import made_for
 
 LIMITS = re.compile(r"antt ran out of (stack|the (steps|memory))|(outgrew the memory limit|stopped at the step limit) \(")
@@ -132,6 +134,13 @@ def block_of(header):
         of_trait = "".join(last(it.split("<")[0]) for it in given[1].split(",")) if given else ""
         return last(words[words.index("for") + 1].lstrip("&")) + trait + of_trait
     return last(words[-1])
+
+
+def type_of(header):
+    """The type that an `impl` is of."""
+    words = re.sub(r"\bwhere\b.*", "", without_generics(header), flags=re.DOTALL).strip(" {").split()
+    named = words[words.index("for") + 1] if "for" in words else words[-1]
+    return re.sub(r"[^\w]", "", named.split("::")[-1])
 
 
 def functions_of(path, text):
@@ -252,6 +261,8 @@ def learn(function, crate, said):
     return False
 
 
+# So many functions that edited ones reach cost more than a second check.
+MANY = 20
 # A proof that is left open: the function is taken by its contract.
 OPEN = """use Rattle.%s.Statement.{statement}
 
@@ -270,14 +281,13 @@ def leave_open(room, crate, changed):
             with open(f"{at}/{name}", encoding="utf-8") as file:
                 text = file.read()
             types = re.findall(r"^(?:pub(?:\([^)]*\))? )?(?:struct|enum) (\w+)", text, re.MULTILINE)
+            blocks = {block_of(it) for it in re.findall(r"^(?:unsafe )?impl\b[^{;]*", text, re.MULTILINE) if type_of(it) in types}
             found = functions_of(path, text)
             names = [name for _, _, name in found]
             for first, last, function in found:
-                block = function.split("::")[-2:-1]
-                is_free = not block or block[0][:1].islower()
-                if function in changed or names.count(function) > 1 or last == first:
-                    continue
-                if is_free or any(block[0].startswith(it) for it in types):
+                block = "".join(function.split("::")[-2:-1])
+                is_plain = not block[:1].isupper() or block in blocks
+                if is_plain and function not in changed and names.count(function) == 1 and last > first:
                     place = f"{room}/proofs/{function.replace('::', '/')}"
                     os.makedirs(place, exist_ok=True)
                     for it in ("Answers", "Invariants"):
@@ -360,9 +370,10 @@ def judge(edit, status, lines, crate):
 
 
 def try_definition(edit, crate, kept):
-    """Tries an edit of a definition, of a type or of a proof: by the law that it names, by all laws of the crate, and then by all of the crate."""
+    """Tries an edit of a definition, of a type or of a proof: by the law that it names, or else by all laws of the crate, and then by
+    all of the crate."""
     laws = {"laws"} if any(os.path.exists(f"{TOP}/crates/{crate}/src/laws{it}") for it in (".rt", "")) else set()
-    for functions in [{edit.law}] * bool(edit.law) + [laws] * bool(laws) + [set()]:
+    for functions in [{edit.law}] if edit.law else [laws] * bool(laws) + [set()]:
         status, lines = check(crate, edit.texts, functions, kept)
         bad = next((it for it in lines if is_unread(it, edit.texts)), None)
         if bad and status == 1:
@@ -372,7 +383,7 @@ def try_definition(edit, crate, kept):
         refused = refused_among(lines, crate)
         if refused or status == 1:
             return Answer(True, f"{next(iter(refused), 'the crate')}: {reason(lines)}")
-    return Answer(False, "the crate is still proved")
+    return Answer(False, f"{edit.law} is still proved: name the law that it breaks" if edit.law else "the crate is still proved")
 
 
 def try_alone(edit, crate, kept):
@@ -393,22 +404,62 @@ def is_by_contract(answer):
     return answer.refused and bool(re.search(r": (note: )?(\./)?(src|specs|proofs)/", answer.said)) and "only because a proof names" not in answer.said
 
 
+def calls_of(crate):
+    """For each function of a crate those of the crate that it may call, by their names alone."""
+    texts = {}
+    for file in sources_of(crate):
+        if file.endswith(".rt"):
+            with open(file, encoding="utf-8") as text:
+                lines = text.read().split("\n")
+            for first, last, name in functions_in(file):
+                texts[name] = texts.get(name, "") + "\n".join(lines[first:last + 1])
+    named = {}
+    for name in texts:
+        named.setdefault(name.split("::")[-1], set()).add(name)
+    return {name: set().union(*(named.get(it, set()) for it in re.findall(r"\b(\w+)(?:::<[^>]*>)?\(", text))) for name, text in texts.items()}
+
+
+def calls_many(crate, functions):
+    """Whether functions reach so many others that it pays to leave the proofs of these open."""
+    calls, seen, left = calls_of(crate), set(), list(functions)
+    while left:
+        name = left.pop()
+        if name not in seen:
+            seen.add(name)
+            left += calls.get(name, ())
+    return len(seen - functions) >= MANY
+
+
+def proved_open(edits, crate, kept):
+    """The edits whose functions are proved as they stand, with what they call taken by its contract."""
+    status, lines = check(crate, {}, set().union(*(it.functions for it in edits)), kept, True)
+    if status == 3 or not is_judged(status, lines):
+        return []
+    told = [match[1] for match in (re.match(rf"fn {crate}::(\S+): (?:no holes|depends on a hole)", line) for line in lines) if match]
+    refused = refused_among(lines, crate)
+    return [edit for edit in edits if all(any(is_own(name, it) for name in told) and not any(is_own(name, it) for name in refused)
+                                          for it in edit.functions)]
+
+
 def try_together(edits, crate, kept, is_open):
-    """Tries edits that change different functions in one check; an answer for each that is told apart so."""
-    texts = merged(edits)
-    if texts is None or any(it.beyond or not it.functions for it in edits):
+    """Tries edits that change different functions in one check; an answer for each that is told apart so. Where proofs are left open
+    what comes to a limit of the prover is no answer."""
+    texts = merged(edits) if edits else None
+    if texts is None:
         return {}
     status, lines = check(crate, texts, set().union(*(it.functions for it in edits)), kept, is_open)
-    if not is_judged(status, lines) or any(is_unread(it, texts) for it in lines):
+    if not is_judged(status, lines) or any(is_unread(it, texts) for it in lines) or is_open and status == 3:
         return {}
     answers = {it.path: judge(it, status, lines, crate) for it in edits}
     return {path: answer for path, answer in answers.items() if answer.refused and (not is_open or is_by_contract(answer))}
 
 
 def try_group(edits, crate, kept):
-    """Tries edits that change different functions: together, with what they call taken by its contract, which the gate has proved; then
-    those that aren't refused so, together and each alone, with all that they call. An answer for each."""
-    answers = try_together(edits, crate, kept, True)
+    """Tries edits that change different functions: together, and where they call many others with these taken by their contracts; then
+    those that aren't refused so, each alone, with all that they call. An answer for each."""
+    functions, answers = set().union(*(it.functions for it in edits)), {}
+    if all(it.functions and not it.beyond for it in edits) and calls_many(crate, functions):
+        answers = try_together(proved_open(edits, crate, kept), crate, kept, True)
     left = [it for it in edits if it.path not in answers]
     if len(left) > 1:
         answers |= try_together(left, crate, kept, False)
@@ -477,14 +528,16 @@ def try_all(edits, tell=lambda crate, results: None):
 def try_itself():
     """Whether the tester sees what it must: an edit that means the same, one that breaks another function than its own, one that doesn't
     compile, one that can't be applied, two that can't be read (a text on two lines, a text that stays), and one that is refused. Of a
-    definition one that the law refuses that it names, one that another law refuses; one that names no law that is there; and a body's
-    edit that names one."""
+    definition one that the law refuses that it names, and one that another law refuses; one that names no law that is there; and a
+    body's edit that names one. All is tried with what is called taken by its contract, too."""
+    global MANY
     paths = sorted(f"{TOP}/tests/tester/dr_base/{it}" for it in os.listdir(f"{TOP}/tests/tester/dr_base"))
-    results = try_all({"dr_base": paths})
-    wanted = {path: os.path.basename(path).startswith("refused_") for path in paths}
-    wrong = [it for it in paths if results[it].refused != wanted[it]]
-    for path in wrong:
-        print(f"wrong: the tester says of {os.path.basename(path)}: {results[path].said}")
+    wanted, wrong = {path: os.path.basename(path).startswith("refused_") for path in paths}, []
+    for MANY in (MANY, 0):
+        results = try_all({"dr_base": paths})
+        for path in (it for it in paths if results[it].refused != wanted[it]):
+            wrong.append(path)
+            print(f"wrong: the tester says of {os.path.basename(path)}: {results[path].said}")
     return not wrong
 
 

@@ -1,13 +1,13 @@
 -- Why reading came to nothing, by what refused one of its steps.
-use Rattle.std.proofs.Common.{◌≡◌, ◌⊎◌, ℕ, ◌+◌, ◌-◌, ◌<◌, ◌≤◌, min, Bool, true, false, List, length, drop, All, IsTrue}
-use Rattle.std.proofs.Common.{sym, ◌∙◌, ap, subst, inl, inr, arith, length-drop}
+use Rattle.std.proofs.Common.{◌≡◌, ℕ, ◌+◌, ◌-◌, ◌<◌, ◌≤◌, min, List, length, drop, All, IsTrue}
+use Rattle.std.proofs.Common.{sym, ◌∙◌, subst, inl, inr, arith, length-drop}
 use Rattle.std.proofs.lemmas.Bool.{both_ways, cases_lt}
 use Rattle.sqlite_disk.specs.declared.Disk.{Ghosts}
 use Rattle.sqlite_disk.specs.Disk.{Holds, MoreFaults}
 use Rattle.dr_store_sealed.specs.declared.fault.SealFault.{SealFault}
 use Rattle.dr_store_sealed.specs.declared.fault.SealFault.TheVariants as fault
 use Rattle.dr_store_sealed.specs.declared.seal.Seal.{Seal}
-use Rattle.dr_store_sealed.specs.Files.{HasLines, IsRight, IsRightTo}
+use Rattle.dr_store_sealed.specs.Files.{HasLines, HasRightLines, HasRightLinesTo}
 use Rattle.dr_store_sealed.specs.Lines.{IsOneLine, bytes_of}
 use Rattle.dr_store_sealed.specs.Refusals.{BeginsNoLines, IsWhyNoLines, IsWhyNotRead, IsWhyNotWhole}
 use Rattle.dr_store_sealed.proofs.Prefixes.{none_left, piece_of, right_on}
@@ -17,7 +17,7 @@ module _ {D : Type 0} (g : Ghosts D) where
   module _ (from : Seal) (end : ℕ) (old new : D) (piece : List ℕ) where
     none_there : from.offset < end → length piece ≡ min 262144 (end - from.offset)
         → (IsTrue (g.is_clean new) → Holds (g.seen old) from.offset piece)
-        → BeginsNoLines from piece → IsTrue (g.is_clean new) → IsRightTo (g.seen old) from end → ⊥
+        → BeginsNoLines from piece → IsTrue (g.is_clean new) → HasRightLinesTo (g.seen old) from end → ⊥
     none_there before size held none clean (last, right, ends) =
         let bytes = bytes_of from.chain right.lines in
         let place : from.offset + length bytes ≡ last.offset = reaches from last right.lines right.has.spans in
@@ -50,13 +50,13 @@ module _ {D : Type 0} (g : Ghosts D) where
       (clean_mid : IsTrue (g.is_clean new) → IsTrue (g.is_clean mid))
       (was : IsTrue (g.is_clean mid) → (lines : List (List ℕ)) × (All IsOneLine lines × HasLines (g.seen mid) start lines at))
       (low : at.offset ≤ end) (is_whole : IsTrue (g.is_clean new) → end ≡ whole) where
-    right_there : IsTrue (g.is_clean new) → IsRightTo (g.seen old) start whole → IsRightTo (g.seen mid) at end
+    right_there : IsTrue (g.is_clean new) → HasRightLinesTo (g.seen old) start whole → HasRightLinesTo (g.seen mid) at end
     right_there clean (last, right, ends) =
         let (lines, parts) = was (clean_mid clean) in
         let all = is_whole clean in (
           last,
           right_on (g.seen mid) start at last lines parts.0 parts.1 (omega (arith, low, all, ends))
-              (subst (λ file. IsRight file start last) (sym seen) right),
+              (subst (λ file. HasRightLines file start last) (sym seen) right),
           ends ∙ sym all,
         )
 
@@ -77,12 +77,12 @@ module _ {D : Type 0} (g : Ghosts D) where
   -- all lines were read, and the seal is another
   pub other_end : (start at last : Seal) (old new : D) → g.seen new ≡ g.seen old
       → (IsTrue (g.is_clean new) → (lines : List (List ℕ)) × (All IsOneLine lines × HasLines (g.seen new) start lines at))
-      → last.offset ≡ at.offset → (at ≡ last → ⊥) → IsTrue (g.is_clean new) → IsRight (g.seen old) start last → ⊥
+      → last.offset ≡ at.offset → (at ≡ last → ⊥) → IsTrue (g.is_clean new) → HasRightLines (g.seen old) start last → ⊥
   other_end start at last old new seen was place differs clean right =
       let (lines, parts) = was clean in
       differs (sym (none_left (g.seen new) at last place
       (right_on (g.seen new) start at last lines parts.0 parts.1 (omega (arith, place))
-      (subst (λ file. IsRight file start last) (sym seen) right))))
+      (subst (λ file. HasRightLines file start last) (sym seen) right))))
 
   pub whole_refused : (start last : Seal) (old new : D) (why : SealFault) → IsWhyNotRead g start last.offset old new why → IsWhyNotWhole g start last old new why
   whole_refused start last old new (fault.Io error) told = told

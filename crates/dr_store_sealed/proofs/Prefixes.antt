@@ -1,17 +1,17 @@
 -- Lines that a file's bytes begin with.
-use Rattle.std.proofs.Common.{◌≡◌, ◌≢◌, ◌⊎◌, ℕ, ◌+◌, ◌-◌, ◌^◌, ◌<◌, ◌≤◌, nat_le}
+use Rattle.std.proofs.Common.{◌≡◌, ℕ, ◌+◌, ◌<◌, ◌≤◌, nat_le}
 use Rattle.std.proofs.Common.{List, [], ◌∷◌, ◌++◌, length, take, drop, All, slice_index, length-take}
 use Rattle.std.proofs.Common.{refl, sym, ◌∙◌, ap, subst, inl, inr, arith, take-append-drop, get_or-take}
 use Rattle.std.proofs.lemmas.Bool.{cases_lt, le-leb}
 use Rattle.std.proofs.lemmas.List.{append_assoc, append-nil, ext_get_or, get_or_append_left, get_or_at, length-append, take-append-le, take_all}
-use Rattle.std.proofs.lemmas.List.Elements.{All-cons, All-head, All-nil, All-tail}
+use Rattle.std.proofs.lemmas.List.Elements.{All-head, All-tail}
 use Rattle.sqlite_disk.specs.Disk.{Holds}
 use Rattle.dr_store_sealed.specs.declared.fault.SealFault.{SealFault}
 use Rattle.dr_store_sealed.specs.declared.fault.SealFault.TheVariants as fault
 use Rattle.dr_store_sealed.specs.declared.seal.Seal.{Seal}
-use Rattle.dr_store_sealed.specs.Files.{HasLines, IsRight, IsRightTo, Spans}
-use Rattle.dr_store_sealed.specs.Lines.{IsOneLine, bytes_of, entry_of, longest, mark_of, next_chain}
-use Rattle.dr_store_sealed.specs.Refusals.{BeginsNoLines, IsEnough, IsNoLineIn, IsWhyNoEntry, IsWhyNoLineIn, IsWhyNoLines}
+use Rattle.dr_store_sealed.specs.Files.{HasLines, HasRightLines, Spans}
+use Rattle.dr_store_sealed.specs.Lines.{IsOneLine, bytes_of, entry_of, mark_of, next_chain}
+use Rattle.dr_store_sealed.specs.Refusals.{BeginsNoLines, IsNoLineIn, IsWhyNoEntry, IsWhyNoLineIn, IsWhyNoLines}
 use Rattle.dr_store_sealed.specs.Seals.{full, next_seal, seal_after}
 use Rattle.dr_store_sealed.proofs.FileLemmas.{holds_right}
 use Rattle.dr_store_sealed.proofs.LawLemmas.{IsPlain, body_of, cons_same, entry_ends, entry_size, never_empty, plain_body, same_body, same_front, same_line, turns}
@@ -227,7 +227,7 @@ piece_of file from piece bytes low held holds =
 
 -- a file that is right from a seal on is right from each later one
 pub right_on : (seen : List ℕ) (start at last : Seal) (done : List (List ℕ)) → All IsOneLine done → HasLines seen start done at → at.offset ≤ last.offset
-    → IsRight seen start last → IsRight seen at last
+    → HasRightLines seen start last → HasRightLines seen at last
 right_on seen start at last done are has low right =
     let lines = right.lines in
     let a = bytes_of start.chain done in
@@ -257,7 +257,7 @@ no_more at last [] spans same = spans.after
 no_more at last (x ∷ xs) spans same = absurd (omega (arith, grows at last (x ∷ xs) spans (omega arith), same))
 
 -- lines that take no place are none
-pub none_left : (seen : List ℕ) (at last : Seal) → last.offset ≡ at.offset → IsRight seen at last → last ≡ at
+pub none_left : (seen : List ℕ) (at last : Seal) → last.offset ≡ at.offset → HasRightLines seen at last → last ≡ at
 none_left seen at last same right = no_more at last right.lines right.has.spans same
 
 pub empty_is : {X : Type 0} (xs : List X) → length xs ≡ 0 → xs ≡ []

@@ -30,14 +30,14 @@ EndsAs seen seal =
     × (at + length (mark_of seal.chain) ≡ seal.offset)
     × Holds seen at (mark_of seal.chain)
 
--- From one seal to the other the file has lines with right chains, and no more of them than a number
--- of 64 bits counts.
-pub record IsRight (seen : List ℕ) (from last : Seal) : Type 0 where
+-- from one seal to the other the file has lines with right chains, and a number of 64 bits counts
+-- them
+pub record HasRightLines (seen : List ℕ) (from last : Seal) : Type 0 where
   pub lines : List (List ℕ)
   pub are : All IsOneLine lines
   pub has : HasLines seen from lines last
   pub counted : last.count < 2 ^ 64
 
 -- the same, up to some seal of that place
-abbrev pub IsRightTo : List ℕ → Seal → ℕ → Type 0
-IsRightTo seen from end = (last : Seal) × IsRight seen from last × (last.offset ≡ end)
+abbrev pub HasRightLinesTo : List ℕ → Seal → ℕ → Type 0
+HasRightLinesTo seen from end = (last : Seal) × HasRightLines seen from last × (last.offset ≡ end)

@@ -1,11 +1,12 @@
 -- Why a call on a file of lines came to nothing.
-use Rattle.std.specs.Prelude.{◌≡◌, ◌+◌, ◌^◌, ◌≤◌, ◌<◌, ◌++◌, ◌⊎◌, ℕ, List, length, All, IsTrue, false}
+use Rattle.std.specs.Prelude.{◌≡◌, ◌+◌, ◌^◌, ◌≤◌, ◌<◌, ◌++◌, ◌⊎◌, ℕ, List, length, All, IsTrue}
+use Rattle.std.specs.Prelude.{false}
 use Rattle.dr_store_sealed.specs.declared.seal.Seal.{Seal}
 use Rattle.dr_store_sealed.specs.declared.fault.SealFault.{SealFault}
 use Rattle.dr_store_sealed.specs.declared.fault.SealFault.TheVariants as fault
 use Rattle.sqlite_disk.specs.declared.Disk.{Ghosts}
 use Rattle.sqlite_disk.specs.Disk.{MoreFaults}
-use Rattle.dr_store_sealed.specs.Files.{EndsAs, IsRight, IsRightTo, Spans}
+use Rattle.dr_store_sealed.specs.Files.{EndsAs, HasRightLines, HasRightLinesTo, Spans}
 use Rattle.dr_store_sealed.specs.Lines.{IsOneLine, bytes_of, entry_of, longest}
 use Rattle.dr_store_sealed.specs.Seals.{full}
 
@@ -77,17 +78,17 @@ module _ {D : Type 0} (g : Ghosts D) where
   IsWhyNotRead from end old new fault.Memory = Unit {0}
   IsWhyNotRead from end old new fault.Unusable = g.is_usable old ≡ false
   IsWhyNotRead from end old new fault.Broken =
-      IsTrue (g.is_clean new) → IsRightTo (g.seen old) from end → ⊥
+      IsTrue (g.is_clean new) → HasRightLinesTo (g.seen old) from end → ⊥
   IsWhyNotRead from end old new fault.Unfit =
-      IsTrue (g.is_clean new) → IsRightTo (g.seen old) from end → ⊥
+      IsTrue (g.is_clean new) → HasRightLinesTo (g.seen old) from end → ⊥
   IsWhyNotRead from end old new fault.Uncounted =
-      IsTrue (g.is_clean new) → IsRightTo (g.seen old) from end → ⊥
+      IsTrue (g.is_clean new) → HasRightLinesTo (g.seen old) from end → ⊥
   IsWhyNotRead from end old new other = ⊥
 
   -- why the lines up to the seal were not found right
   abbrev pub IsWhyNotWhole : Seal → Seal → D → D → SealFault → Type 0
   IsWhyNotWhole start last old new fault.OtherChain =
-      IsTrue (g.is_clean new) → IsRight (g.seen old) start last → ⊥
+      IsTrue (g.is_clean new) → HasRightLines (g.seen old) start last → ⊥
   IsWhyNotWhole start last old new other = IsWhyNotRead start last.offset old new other
 
   -- why the last line's chain was not found to be the seal's

@@ -1,4 +1,4 @@
-use Rattle.std.proofs.Common.{rules, ◌≡◌, ◌∙◌}
+use Rattle.std.proofs.Common.{rules, ◌≡◌}
 use Rattle.dr_store_sealed.specs.Lines.{mark_of, next_chain}
 use Rattle.dr_store_sealed.proofs.Prefixes.{no_entry, other_mark, too_short}
 use Rattle.dr_store_sealed.proofs.reading.line_in.Goals as goal

@@ -1,4 +1,4 @@
-use Rattle.std.proofs.Common.{rules, ◌≡◌, ◌++◌, [], ◌∷◌, List, ℕ, All, length, sym, ◌∙◌, ap, subst}
+use Rattle.std.proofs.Common.{rules, ◌≡◌, ◌++◌, List, ℕ, All, length, sym, ◌∙◌, ap, subst}
 use Rattle.dr_store_sealed.specs.Files.{Spans}
 use Rattle.dr_store_sealed.specs.Lines.{IsOneLine, bytes_of}
 use Rattle.dr_store_sealed.proofs.FileLemmas.{holds_front}

@@ -49,9 +49,9 @@ returns-in-Err-clause-why g c =
     let was = c.loop-at.invariant in
     let made = c.read_from.ensures in
     let seal = c.args.self.now.seal in
-    let same : c.loop-at.self.now.seal.offset ≡ seal.offset = ap (λ (a : Seal). a.offset) was.0 in
+    let same : c.loop-at.self.seal.offset ≡ seal.offset = ap (λ (a : Seal). a.offset) was.0 in
     whole_refused g.D.Disk c.args.start.now seal _ _ c.in-Err.fault
-    (onward_refused g.D.Disk c.args.start.now c.loop-at.at c.loop-at.self.now.seal.offset seal.offset _ _ _
+    (onward_refused g.D.Disk c.args.start.now c.loop-at.at c.loop-at.self.seal.offset seal.offset _ _ _
     was.1 was.6 was.7 made.clean was.4 was.5 (λ clean. same) c.in-Err.fault c.in-Err.ensures.why)
 
 pub returns-then-not-are_one-clause-why : goal.returns-then-not-are_one-clause-why
@@ -59,5 +59,5 @@ returns-then-not-are_one-clause-why g c =
     let was = c.loop-at.invariant in
     let seal = c.args.self.now.seal in
     let place : seal.offset ≡ c.loop-at.at.offset =
-    (let e : c.loop-at.self.now.seal.offset ≡ seal.offset = ap (λ (a : Seal). a.offset) was.0 in omega (arith, e, was.5, c.loop-at-test.false)) in
+    (let e : c.loop-at.self.seal.offset ≡ seal.offset = ap (λ (a : Seal). a.offset) was.0 in omega (arith, e, was.5, c.loop-at-test.false)) in
     other_end g.D.Disk c.args.start.now c.loop-at.at seal _ _ was.1 was.4 place (λ same. search rules)

@@ -4,8 +4,8 @@ use Rattle.dr_store_sealed.proofs.FileLemmas.{endures_synced}
 use Rattle.dr_store_sealed.proofs.SealLemmas.{reaches}
 use Rattle.dr_store_sealed.proofs.file.LineFile.open.Goals as goal
 
-pub returns-clause-held : goal.returns-clause-held
-returns-clause-held g c start lines has =
+pub returns-in-Ok-clause-held : goal.returns-in-Ok-clause-held
+returns-in-Ok-clause-held g c start lines has =
     record {
       spans = has.spans;
       endures = endures_synced start.offset _ (bytes_of start.chain lines) _ c.in-Ok.ensures.synced
