@@ -114,10 +114,13 @@ storing_pdus context item =
     command_pdus 1024 context (StoreRq 1 item.key.class item.uid)
     ++ data_pdus 1024 context item.body
 
+-- a response in that context to a request of that message id
+abbrev pub response_pdus : ℕ → ℕ → ℕ → List Pdu
+response_pdus context to status = command_pdus 1024 context (StoreRsp to status [] [] false)
+
 -- the response to a request with that status
 abbrev pub answer_pdus : Pending → ℕ → List Pdu
-answer_pdus asked status =
-    command_pdus 1024 asked.context (StoreRsp asked.id status [] [] false)
+answer_pdus asked status = response_pdus asked.context asked.id status
 
 -- what is on its way from a caller that stores an item, or why it doesn't
 abbrev pub StoresAs : List Text → Contents → ℕ → Job → Spoken → Type 0

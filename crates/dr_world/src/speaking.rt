@@ -3,7 +3,8 @@ ghost use Rattle.std.specs.Prelude.{◌≡◌, ◌++◌, IfOk, option_copied};
 ghost use Rattle.dr_ledger.specs.Items.{IsItem};
 ghost use Rattle.dr_nego.specs.Fragments.{spellings};
 ghost use Rattle.dr_world.specs.Nodes.{seats_of};
-ghost use Rattle.dr_world.specs.Orders.{agreed_at, answer_pdus, asked_at, context_in, storing_pdus};
+ghost use Rattle.dr_world.specs.Orders.{agreed_at, answer_pdus, asked_at, context_in};
+ghost use Rattle.dr_world.specs.Orders.{response_pdus, storing_pdus};
 
 use dr_base::{Octets, Seq, Text};
 use dr_dimse::{Command, write_command};
@@ -83,7 +84,8 @@ pub fn store_text(
 {
     let job = item.copy()?.into_job();
     let bytes = job_text(alloc, context, &job)?;
-    join(alloc, front, &bytes)
+    let all = join(alloc, front, &bytes)?;
+    Ok(all)
 }
 
 /// What is there, and these bytes behind it.
@@ -130,16 +132,17 @@ pub fn answer_text(
     ensures { IfOk result (λ bytes.
         bytes ≡ front.now ++ spellings (answer_pdus asked.now status)) }
 {
-    let bytes = response_text(alloc, asked, status)?;
-    join(alloc, front, &bytes)
+    let bytes = response_text(alloc, asked.context, asked.id, status)?;
+    let all = join(alloc, front, &bytes)?;
+    Ok(all)
 }
 
-/// The response alone.
-fn response_text(alloc: Global, asked: &Pending, status: u16) -> Result<Octets, AllocError>
-    ensures { IfOk result (λ bytes. bytes ≡ spellings (answer_pdus asked.now status)) }
+/// A response to the request of that message id in that context, with that status.
+fn response_text(alloc: Global, context: u8, to: u16, status: u16) -> Result<Octets, AllocError>
+    ensures { IfOk result (λ bytes. bytes ≡ spellings (response_pdus context to status)) }
 {
     let command = Command::StoreRsp {
-        to: asked.id,
+        to,
         status,
         class: Text::from_vec(Vec::new(alloc)),
         instance: Text::from_vec(Vec::new(alloc)),
@@ -148,13 +151,7 @@ fn response_text(alloc: Global, asked: &Pending, status: u16) -> Result<Octets, 
     let text = write_command(alloc, &command)?;
     let terms = within(alloc);
     let mut out = Vec::new(alloc);
-    put_fragments(
-        &mut out,
-        &terms,
-        asked.context,
-        FragmentKind::Command,
-        &text,
-    )?;
+    put_fragments(&mut out, &terms, context, FragmentKind::Command, &text)?;
     Ok(Octets::from_vec(out))
 }
 
