@@ -1,5 +1,5 @@
 -- From which nodes are to go over to what comes of the change.
-use Rattle.std.proofs.Common.{◌≡◌, ◌⊎◌, inl, inr, [], Bool, List, Result, Vec, Ok, Err, subst, sym}
+use Rattle.std.proofs.Common.{◌≡◌, inl, inr, [], Bool, List, Result, Vec, Ok, Err, subst, sym}
 use Rattle.std.specs.Global.{Global}
 use Rattle.std.specs.Prelude.{◌≢◌, All, Contains, MatchResult}
 use Rattle.dr_base.specs.Texts.{Text}

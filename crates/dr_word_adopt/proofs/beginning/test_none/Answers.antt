@@ -1,8 +1,7 @@
-use Rattle.std.proofs.Common.{◌≡◌, ◌∷◌, [], ◌++◌, ◌+◌, arith, All, Bool, List, false, subst, sym, take}
+use Rattle.std.proofs.Common.{◌≡◌, ◌∷◌, [], ◌++◌, ◌+◌, arith, All, Bool, subst, sym, take}
 use Rattle.std.proofs.lemmas.List.{take_all, take_more}
 use Rattle.std.proofs.lemmas.List.Elements.{All-push}
 use Rattle.dr_base.specs.Texts.{Text}
-use Rattle.dr_run_open.specs.declared.halt.Halt.{Halt}
 use Rattle.dr_word_adopt.specs.Beginnings.{HasNoFile, IsRefusedFor, path_in}
 use Rattle.dr_word_adopt.proofs.Begun.{unopened_refused}
 use Rattle.dr_word_adopt.proofs.beginning.test_none.Goals as goal
