@@ -1,4 +1,4 @@
-pub mod Orders
+pub mod Deeds
 pub mod Reported
 pub mod Outcomes
 pub mod Runs

@@ -32,4 +32,3 @@ pub mod Arriving
 pub mod Finishing
 pub mod Rewriting
 pub mod Played
-pub mod Orders

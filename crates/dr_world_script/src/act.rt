@@ -1,5 +1,4 @@
 //! What a line of a script tells.
-use crate::foreign::Foreign;
 use crate::step::{Side, Step};
 use dr_base::{Octets, Text};
 
@@ -20,6 +19,4 @@ pub enum Act {
         side: Side,
         bytes: Octets,
     },
-    /// A node is another maker's product, or one such does something.
-    Foreign(Foreign),
 }

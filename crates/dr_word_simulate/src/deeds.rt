@@ -3,15 +3,14 @@ ghost use Rattle.std.specs.Prelude.{◌≡◌, ◌∷◌, ◌++◌, [], MatchRes
 ghost use Rattle.std.specs.List.{AllZip};
 ghost use Rattle.dr_run_open.specs.Openings.{IsSealedBy};
 ghost use Rattle.dr_run_open.specs.declared.status.Status.TheVariants.{Refused as RefusedStatus};
-ghost use Rattle.dr_word_simulate.specs.Orders.{AddsOrder, IsOrderOf, IsUndone, IsUnsealedBy};
-ghost use Rattle.dr_word_simulate.specs.Orders.{StopsAt};
-ghost use Rattle.dr_word_simulate.specs.declared.orders.ActFault.TheVariants.{Unsealed};
+ghost use Rattle.dr_word_simulate.specs.Deeds.{AddsDeed, IsDeedOf, IsUndone, IsUnsealedBy, StopsAt};
+ghost use Rattle.dr_word_simulate.specs.declared.deeds.ActFault.TheVariants.{Unsealed};
 
 use dr_base::Text;
 use dr_cert::Sealed;
 use dr_run_files::{Failure, Files};
 use dr_run_open::{Halt, Status, seal_files};
-use dr_world::{Deed, WorldOrder};
+use dr_world::Deed;
 use dr_world_script::Act;
 use std::alloc::Global;
 use std::io::ErrorKind;
@@ -126,62 +125,58 @@ fn seal_named<F: Files>(
     seal_at(alloc, files, plan, certificate)
 }
 
-/// What a line of a script orders.
-fn order_of<F: Files>(alloc: Global, files: &F, act: Act) -> Result<WorldOrder, ActFault>
-    ensures { MatchResult result (IsOrderOf (F.holds files.now) act)
+/// What is to be done by a line of a script.
+fn deed_of<F: Files>(alloc: Global, files: &F, act: Act) -> Result<Deed, ActFault>
+    ensures { MatchResult result (IsDeedOf (F.holds files.now) act)
         (IsUndone (F.holds files.now) act) }
 {
     match act {
-        Act::Step(step) => Ok(WorldOrder::Deed(Deed::Step(step))),
-        Act::Bytes { link, side, bytes } => Ok(WorldOrder::Deed(Deed::Bytes { link, side, bytes })),
-        Act::Foreign(foreign) => Ok(WorldOrder::Foreign(foreign)),
+        Act::Step(step) => Ok(Deed::Step(step)),
+        Act::Bytes { link, side, bytes } => Ok(Deed::Bytes { link, side, bytes }),
         Act::Adopt { plan, certificate } => {
             match seal_named(alloc, files, &plan, &certificate) {
-                Ok(sealed) => Ok(WorldOrder::Deed(Deed::Adopt(sealed))),
+                Ok(sealed) => Ok(Deed::Adopt(sealed)),
                 Err(fault) => Err(fault),
             }
         }
     }
 }
 
-/// What a line of a script orders, behind the others.
-fn add_order<F: Files>(
+/// What is to be done by a line of a script, behind the others.
+fn add_deed<F: Files>(
     alloc: Global,
     files: &F,
     act: Act,
-    orders: &mut Vec<WorldOrder>,
+    deeds: &mut Vec<Deed>,
 ) -> Result<(), ActFault>
     ensures { MatchResult result
-        (λ _. AddsOrder (F.holds files.now) act orders.old.items orders.new.items)
+        (λ _. AddsDeed (F.holds files.now) act deeds.old.items deeds.new.items)
         (IsUndone (F.holds files.now) act) }
 {
-    let order = match order_of(alloc, files, act) {
-        Ok(order) => order,
+    let deed = match deed_of(alloc, files, act) {
+        Ok(deed) => deed,
         Err(fault) => return Err(fault),
     };
-    match orders.push(order) {
+    match deeds.push(deed) {
         Ok(()) => Ok(()),
         Err(_) => Err(ActFault::Memory),
     }
 }
 
-/// What the lines of a script order, up to the first by which nothing can be done: then nothing is.
-pub fn orders_of<F: Files>(
-    alloc: Global,
-    files: &F,
-    acts: Vec<Act>,
-) -> Result<Vec<WorldOrder>, ScriptStop>
+/// What is to be done by the lines of a script, up to the first by which nothing can be: then
+/// nothing is.
+pub fn deeds_of<F: Files>(alloc: Global, files: &F, acts: Vec<Act>) -> Result<Vec<Deed>, ScriptStop>
     ensures { MatchResult result
-        (λ orders. AllZip (IsOrderOf (F.holds files.now)) acts.items orders.items)
+        (λ deeds. AllZip (IsDeedOf (F.holds files.now)) acts.items deeds.items)
         (λ stop. StopsAt (F.holds files.now) acts.items stop.place stop.fault) }
 {
-    let mut orders = Vec::new(alloc);
+    let mut deeds = Vec::new(alloc);
     for act in acts {
-        let place = orders.len();
-        match add_order(alloc, files, act, &mut orders) {
+        let place = deeds.len();
+        match add_deed(alloc, files, act, &mut deeds) {
             Ok(()) => {}
             Err(fault) => return Err(ScriptStop { place, fault }),
         }
     }
-    Ok(orders)
+    Ok(deeds)
 }
