@@ -237,16 +237,17 @@ def missing_files():
     with Room() as room:
         prepare(room)
         before = books(room)
-        for act in adopt, rehearse:
-            refused(act(room, folder='no/folder'), 3, 'G8 NoLedger', 'ARCH')
-            refused(act(room, folder='no/folder', without=['ARCH']), 3, 'G8 NoLedger', 'CT1')
+        refused(adopt(room, folder='no/folder'), 3, 'G8 NoLedger', 'ARCH')
+        refused(adopt(room, folder='no/folder', without=['ARCH']), 3, 'G8 NoLedger', 'CT1')
+        told(rehearse(room, folder='no/folder'), 1, 'missing\tARCH\nmissing\tCT1\nmissing\tGATE\n', '')
+        told(rehearse(room, folder='no/folder', without=['ARCH']), 1, 'missing\tCT1\nmissing\tGATE\n', '')
         room.put_plan(PAST_GATE, OTHER)
         copy(room, 'GATE', 'saved')
         copy(room, 'none', 'GATE')
-        for act in adopt, rehearse:
-            refused(act(room), 3, 'G8 NoLedger', 'GATE')
+        refused(adopt(room), 3, 'G8 NoLedger', 'GATE')
+        told(rehearse(room), 1, 'missing\tGATE\n', '')
         told(adopt(room, PLAN, OTHER), 1, 'no\tU1 Unfit\tCT1\t1.2.3.5\tGATE\n', '')  # it comes before GATE
-        told(rehearse(room, PLAN, OTHER), 3, 'no\tU1 Unfit\tCT1\t1.2.3.5\tGATE\n', 'dr_router: G8 NoLedger\n  node GATE\n')
+        told(rehearse(room, PLAN, OTHER), 1, 'no\tU1 Unfit\tCT1\t1.2.3.5\tGATE\nmissing\tGATE\n', '')
         same(is_there(room, 'GATE'), False)
         copy(room, 'saved', 'GATE')
         same(books(room), before)
@@ -259,8 +260,10 @@ def named_nodes():
         prepare(room)
         before = books(room)
         copy(room, 'none', 'ARCH')
+        refused(adopt(room), 3, 'G8 NoLedger', 'ARCH')
         for act in adopt, rehearse:
-            refused(act(room), 3, 'G8 NoLedger', 'ARCH')
+            told(act(room, folder='no/folder', without=NODES), 3, '', 'dr_router: G8 NoLedger\n')  # nobody is left
+            refused(act(room, without=NODES[:2] + NODES[:1]), 1, 'G9 IsThere', 'CT1')
             refused(act(room, without=['STORE']), 1, 'NoNode', 'STORE')
             refused(act(room, without=['ARCH', 'HUB']), 1, 'NoNode', 'HUB')  # the next plan alone has it
             refused(act(room, without=['ARCH', 'GATE']), 1, 'G9 IsThere', 'GATE')

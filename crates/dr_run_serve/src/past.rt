@@ -1,8 +1,8 @@
 //! What came to be over before a node began: read off the journal, a page at a time.
 use crate::sweep::{OverInstance, Sweep};
-use dr_base::{Seq, Text};
+use dr_base::Text;
 use dr_desk::{SharedDesk, Sharing};
-use dr_ledger::{Instance, LedgerFault, Outcome, is_success};
+use dr_ledger::{LedgerFault, Outcome, is_success};
 use dr_ledger_history::JournalLine;
 use dr_ledger_views::Views;
 use std::alloc::{AllocError, Global};
@@ -64,31 +64,31 @@ impl Past {
     /// The node keeps the instance.
     ///
     /// Errors: want of memory.
-    fn note_kept(&mut self, uid: Text) -> Result<(), AllocError> {
-        let _end = self.ends.remove(&uid);
-        let _is_first = self.kept.insert(uid)?;
+    fn note_kept(&mut self, uid: &Text) -> Result<(), AllocError> {
+        let _end = self.ends.remove(uid);
+        let _is_first = self.kept.insert(uid.clone()?)?;
         Ok(())
     }
 
     /// A row of the instance was done or dropped at that moment. The greatest one stays.
     ///
     /// Errors: want of memory.
-    fn note_end(&mut self, uid: Text, now: u64) -> Result<(), AllocError> {
-        if self.kept.contains(&uid) {
+    fn note_end(&mut self, uid: &Text, now: u64) -> Result<(), AllocError> {
+        if self.kept.contains(uid) {
             return Ok(());
         }
-        let known = match self.ends.get(&uid) {
+        let known = match self.ends.get(uid) {
             Some(known) => *known,
             None => 0,
         };
-        let _known = self.ends.insert(uid, now.max(known))?;
+        let _known = self.ends.insert(uid.clone()?, now.max(known))?;
         Ok(())
     }
 
     /// Notes what a line says.
     ///
     /// Errors: want of memory.
-    fn note(&mut self, line: JournalLine) -> Result<(), AllocError> {
+    fn note(&mut self, line: &JournalLine) -> Result<(), AllocError> {
         match line {
             JournalLine::Settling {
                 uid,
@@ -96,18 +96,17 @@ impl Past {
                 now,
                 ..
             } => {
-                if ends(outcome) {
-                    self.note_end(uid, now)?;
+                if ends(*outcome) {
+                    self.note_end(uid, *now)?;
                 }
             }
-            JournalLine::Dropping { uid, now, .. } => self.note_end(uid, now)?,
+            JournalLine::Dropping { uid, now, .. } => self.note_end(uid, *now)?,
             JournalLine::Forgetting { uid } => {
-                let _gone = self.ends.remove(&uid);
+                let _gone = self.ends.remove(uid);
             }
             JournalLine::Arrival { instance, keep, .. } => {
-                if keep {
-                    let Instance { uid, .. } = instance;
-                    self.note_kept(uid)?;
+                if *keep {
+                    self.note_kept(&instance.uid)?;
                 }
             }
             JournalLine::Repeat { .. } | JournalLine::Requeuing { .. } | JournalLine::Adoption => {}
@@ -117,9 +116,9 @@ impl Past {
 
     /// Notes what the lines of a page say.
     ///
-    /// Errors: want of memory.
-    fn note_page(&mut self, page: Seq<JournalLine>) -> Result<(), AllocError> {
-        for line in page.into_vec() {
+    /// Errors: want of memory; then what is noted of it is counted.
+    fn note_page(&mut self, page: &[JournalLine]) -> Result<(), AllocError> {
+        for line in page {
             self.note(line)?;
             self.after = self.after.saturating_add(1);
         }
@@ -139,7 +138,7 @@ impl Past {
             if page.as_slice().is_empty() {
                 return Ok(true);
             }
-            self.note_page(page)?;
+            self.note_page(page.as_slice())?;
         }
         Ok(false)
     }

@@ -65,13 +65,17 @@ fn forget_first<R: Wait, L: LetsGo, B: Sharing>(
     let Some(uid) = sweep.first_due(since) else {
         return Ok(None);
     };
-    let is_forgotten = match desk.forget(rt, pass, uid) {
-        Ok(()) => true,
-        Err(LedgerFault::NotOver) => false,
-        Err(fault) => return Err(fault),
-    };
-    let _gone = sweep.queue.pop_front();
-    Ok(Some(is_forgotten))
+    match desk.forget(rt, pass, uid) {
+        Ok(()) => {
+            sweep.let_first_go();
+            Ok(Some(true))
+        }
+        Err(LedgerFault::NotOver) => {
+            sweep.let_first_go();
+            Ok(Some(false))
+        }
+        Err(fault) => Err(fault),
+    }
 }
 
 /// Forgets those that have been over since that moment or longer, the longest first, so many at

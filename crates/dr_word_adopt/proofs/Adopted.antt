@@ -1,5 +1,6 @@
 -- Where all nodes' ledgers went over, the world of messages that has their books adopts the plan.
-use Rattle.std.proofs.Common.{◌≡◌, ◌∙◌, ◌⊎◌, Bool, List, [], ◌∷◌, map, Some, refl, sym, ap, subst, inl, inr, false, true, cases_Bool}
+use Rattle.std.proofs.Common.{◌≡◌, ◌∙◌, ◌⊎◌, Bool, List, [], ◌∷◌, map, Some, refl, sym, ap, subst, inl, inr, true}
+use Rattle.std.proofs.lemmas.Bool.{cases_Bool}
 use Rattle.std.specs.Prelude.{All, Contains, ◌≢◌, not}
 use Rattle.std.proofs.lemmas.Slice.Eq.{bytes_eq-Decides}
 use Rattle.std.specs.List.{AllZip}
@@ -28,7 +29,7 @@ use Rattle.dr_world_model.specs.Events.{HasNode}
 use Rattle.dr_world_model.specs.Runs.{Adopts}
 use Rattle.dr_world_model.specs.Worlds.{World}
 use Rattle.dr_world_model.proofs.AdoptionsKept.{no_row, node_or_not}
-use Rattle.dr_word_adopt.specs.Adoptions.{AreFit, HasBookOf, HasFirstBook, IsAtRest, IsFirstOf, MadeIsAdopted, OursAreAdopted, ledger_in}
+use Rattle.dr_word_adopt.specs.Adoptions.{HasBookOf, HasFirstBook, IsAtRest, IsFirstOf, MadeIsAdopted, OursAreAdopted, ledger_in}
 use Rattle.dr_word_adopt.specs.Beginnings.{OpensThere}
 use Rattle.dr_word_adopt.specs.Changes.{IsOver, name_by}
 use Rattle.dr_word_adopt.specs.Names.{AreOurs, is_among, is_besides, is_name}

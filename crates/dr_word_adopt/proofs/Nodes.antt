@@ -1,6 +1,6 @@
 -- From looks at nodes, and from changes of their ledgers, to what comes of the change of the plan.
-use Rattle.std.proofs.Common.{◌≡◌, ◌∙◌, ◌++◌, ◌∷◌, [], ◌+◌, ◌<◌, ℕ, inl, inr, List, length, suc, map, take, drop, get_or, refl, sym, ap, subst, arith, Result, Ok, Err, None, Some}
-use Rattle.std.specs.Prelude.{All, Contains, MatchResult}
+use Rattle.std.proofs.Common.{◌≡◌, ◌∙◌, ◌++◌, ◌∷◌, [], ◌+◌, ◌<◌, ℕ, inl, inr, List, length, suc, map, take, drop, get_or, sym, ap, subst, Result, Ok, Err, None, Some}
+use Rattle.std.specs.Prelude.{All, MatchResult}
 use Rattle.std.proofs.lemmas.List.{append-nil, take-append-drop}
 use Rattle.std.proofs.lemmas.List.Elements.{All-push}
 use Rattle.dr_base.specs.Texts.{Text}

@@ -1,5 +1,5 @@
 -- From ledgers that were looked into and changed to the nodes.
-use Rattle.std.proofs.Common.{Bool, ◌≡◌, ◌∙◌, inl, inr, ◌++◌, ◌∷◌, [], List, length, map, get_or, refl, sym, ap, subst, Result, Ok, Err, Option, None, Some, is_some, true≢false}
+use Rattle.std.proofs.Common.{Bool, ◌≡◌, ◌∙◌, inl, inr, ◌++◌, ◌∷◌, [], List, length, map, get_or, refl, sym, ap, subst, Ok, Err, Option, None, Some, is_some, true≢false}
 use Rattle.std.specs.Prelude.{All, Contains}
 use Rattle.std.proofs.Math.Seq.{take-append_seam}
 use Rattle.std.proofs.lemmas.List.{map-append}

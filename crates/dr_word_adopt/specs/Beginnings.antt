@@ -1,11 +1,13 @@
 -- Where ledgers are, and whose are to go over, before any is opened.
-use Rattle.std.specs.Prelude.{◌⊎◌, Bool, true, false, List, All, Contains, ◌++◌, codes}
+use Rattle.std.specs.Prelude.{◌≡◌, ◌≢◌, ◌⊎◌, [], Bool, true, false, List, All, Contains, ◌++◌}
+use Rattle.std.specs.Prelude.{codes}
 use Rattle.dr_base.specs.Texts.{Text}
 use Rattle.dr_plan_model.specs.Networks.{Network}
 use Rattle.dr_run_open.specs.declared.halt.Halt.{Halt}
 use Rattle.dr_run_open.specs.declared.halt.Halt.TheVariants.{NoPlan, NoCertificate, NoNode}
 use Rattle.dr_run_open.specs.declared.halt.Halt.TheVariants.{NotOpened, NoInstance, Refused}
 use Rattle.dr_run_open.specs.declared.halt.Halt.TheVariants.{Receipt, Failed, Memory}
+use Rattle.dr_run_open.specs.declared.ledgers.OpenFault.TheVariants as opening
 use Rattle.dr_word_adopt.specs.Names.{AreOurs, IsUnnamed}
 
 -- the path of a node's ledger in the folder
@@ -35,12 +37,17 @@ module _ (shows : Text → Bool → Type 0) (folder : Text) where
   abbrev pub HasNoFile : Text → Type 0
   HasNoFile name = shows (path_in folder name) false
 
-  -- The ledgers of these nodes are to go over from the one plan to the next; none of the others has
-  -- one in the folder.
+  -- The ledgers of these nodes are to go over from the one plan to the next, of one at least; none
+  -- of the others has one in the folder.
   pub record AreToGo (old next : Network) (others ours : List Text) : Type 0 where
     pub are : AreOurs old next others ours
+    pub some : ours ≢ []
     pub none : All HasNoFile others
 
--- why no ledger is opened: it isn't known which are to go over, or one of the others is refused
+-- why no ledger is opened: it isn't known which are to go over, one of the others is refused, or
+-- all nodes are others
 abbrev pub IsNotBegun : Network → Network → List Text → Halt → Type 0
-IsNotBegun old next others halt = IsUnnamed old next others halt ⊎ IsRefusedFor others halt
+IsNotBegun old next others halt =
+    IsUnnamed old next others halt
+    ⊎ IsRefusedFor others halt
+    ⊎ ((halt ≡ NotOpened opening.NoLedger) × AreOurs old next others [])

@@ -1,6 +1,8 @@
 //! Where ledgers are, and whose are to go over, before any is opened.
-ghost use Rattle.std.specs.Prelude.{All, MatchResult};
+ghost use Rattle.std.specs.Prelude.{◌≡◌, ◌≢◌, [], All, MatchResult};
 ghost use Rattle.dr_run_open.specs.Openings.{IsUnopened};
+ghost use Rattle.dr_run_open.specs.declared.halt.Halt.TheVariants.{NotOpened};
+ghost use Rattle.dr_run_open.specs.declared.ledgers.OpenFault.TheVariants.{NoLedger};
 ghost use Rattle.dr_word_adopt.specs.Beginnings.{AreToGo, HasNoFile, IsNotBegun, IsRefusedFor};
 ghost use Rattle.dr_word_adopt.specs.Beginnings.{path_in};
 
@@ -53,11 +55,25 @@ fn test_none<'a, O: ShowsFiles>(
     Ok(())
 }
 
+/// These names, where there is one: where no node has a ledger, there is nothing to bring over.
+///
+/// Errors: NotOpened with NoLedger.
+fn some_of<'a>(ours: Vec<Text>) -> Result<Vec<Text>, Halted<'a>>
+    ensures { MatchResult result (λ some. (some ≡ ours) × (ours.items ≢ []))
+        (λ stop. (stop.halt ≡ NotOpened NoLedger) × (ours.items ≡ [])) }
+{
+    if ours.is_empty() {
+        drop(ours);
+        return Err(Halted::from(Halt::NotOpened(OpenFault::NoLedger)));
+    }
+    Ok(ours)
+}
+
 /// The names of the nodes whose ledgers are to go over from the one plan to the next: those of the
 /// one plan but the others, none of which has a file in the folder.
 ///
 /// Errors: NoNode; NotOpened with IsThere, at one of the others that has a file; NotOpened with
-/// Store; Memory.
+/// NoLedger, where all are named; NotOpened with Store; Memory.
 pub fn nodes_to_go<'a, O: ShowsFiles>(
     alloc: Global,
     ledgers: &O,
@@ -76,7 +92,7 @@ pub fn nodes_to_go<'a, O: ShowsFiles>(
         Err(stop) => return Err(stop),
     };
     match test_none(alloc, ledgers, folder, others) {
-        Ok(()) => Ok(ours),
+        Ok(()) => some_of(ours),
         Err(stop) => {
             drop(ours);
             Err(stop)

@@ -6,7 +6,7 @@ use Rattle.dr_base.specs.Texts.{Text}
 use Rattle.dr_ledger_history.specs.declared.line.JournalLine.{JournalLine}
 use Rattle.dr_world_audit.specs.declared.audit.NodeJournal.{NodeJournal}
 use Rattle.dr_word_audit_at.specs.declared.cutting.MissingLine.{MissingLine}
-use Rattle.dr_word_audit_at.specs.Cuts.{IsUpToNext, MendsNowhere, Moves, cut_at, cuts, mends, put_on, rest_named}
+use Rattle.dr_word_audit_at.specs.Cuts.{IsUpToNext, MendsNowhere, Moves, cut_at, cuts, lines_named, mends, put_on, rest_named}
 
 module _ (counts : List ℕ) (read : List NodeJournal) (i : ℕ) (d n : ℕ) (e node : NodeJournal) (few : i < length counts) (lt : i < length read) (at : n ≡ get_or counts i d) (is : node ≡ get_or read i e) where
   count_cut : drop i counts ≡ n ∷ drop (i + 1) counts
@@ -31,6 +31,16 @@ module _ (counts : List ℕ) (read : List NodeJournal) (i : ℕ) (d n : ℕ) (e 
 
   pub rest_later : (name : Text) (rest : List JournalLine) → bytes_eq node.name name ≡ false → rest ≡ rest_named name (drop i counts) (drop i read) → rest ≡ rest_named name (drop (i + 1) counts) (drop (i + 1) read)
   rest_later name rest other so_far = so_far ∙ rest_at name ∙ ap (λ b. cond b (drop n node.lines) (rest_named name (drop (i + 1) counts) (drop (i + 1) read))) other
+
+  -- what is before the cut of the node of a name: of this one, or of one of those that are left
+  front_at : (name : Text) → lines_named name (cuts (drop i counts) (drop i read)) ≡ cond (bytes_eq node.name name) (take n node.lines) (lines_named name (cuts (drop (i + 1) counts) (drop (i + 1) read)))
+  front_at name = λ j. lines_named name (cuts (count_cut j) (node_cut j))
+
+  pub front_here : (name : Text) (front : List JournalLine) → bytes_eq node.name name ≡ true → front ≡ lines_named name (cuts (drop i counts) (drop i read)) → front ≡ take n node.lines
+  front_here name front same so_far = so_far ∙ front_at name ∙ ap (λ b. cond b (take n node.lines) (lines_named name (cuts (drop (i + 1) counts) (drop (i + 1) read)))) same
+
+  pub front_later : (name : Text) (front : List JournalLine) → bytes_eq node.name name ≡ false → front ≡ lines_named name (cuts (drop i counts) (drop i read)) → front ≡ lines_named name (cuts (drop (i + 1) counts) (drop (i + 1) read))
+  front_later name front other so_far = so_far ∙ front_at name ∙ ap (λ b. cond b (take n node.lines) (lines_named name (cuts (drop (i + 1) counts) (drop (i + 1) read)))) other
 
   -- a cut that is put on: this one, or one of those that are left
   put_at : (name : Text) (more : ℕ) → put_on name more (drop i counts) (drop i read) ≡ cond (bytes_eq node.name name) ((n + more) ∷ drop (i + 1) counts) (n ∷ put_on name more (drop (i + 1) counts) (drop (i + 1) read))

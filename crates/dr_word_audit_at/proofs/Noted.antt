@@ -1,13 +1,13 @@
 -- Where the first lines of a journal stand, as they are noted line by line.
-use Rattle.std.proofs.Common.{◌≡◌, ◌∙◌, ◌<◌, ◌≤◌, ◌+◌, ◌-◌, ◌++◌, ◌&&◌, ◌||◌, ℕ, zero, suc, Bool, true, false, cond, Option, None, Some, is_some, List, [], ◌∷◌, get_or, length, take, drop, refl, sym, ap, subst, arith, true≢false}
+use Rattle.std.proofs.Common.{◌≡◌, ◌∙◌, ◌<◌, ◌≤◌, ◌+◌, ◌-◌, ◌++◌, ◌&&◌, ◌||◌, ℕ, zero, suc, Bool, true, false, cond, Option, None, Some, is_some, MatchOption, Result, Ok, Err, List, [], ◌∷◌, get_or, length, take, refl, sym, ap, subst, arith, true≢false}
 use Rattle.std.proofs.lemmas.Cmp.{tied_itself}
 use Rattle.std.proofs.lemmas.List.{take_all, take_more}
 use Rattle.std.proofs.lemmas.Slice.Eq.{bytes_eq-Decides}
 use Rattle.std.specs.declared.cmp.Ordering.{Ordering}
 use Rattle.std.specs.declared.cmp.Ordering.TheVariants.{Less, Equal, Greater}
+use Rattle.std.specs.Prelude.{IfOk, IsTrue}
 use Rattle.std.specs.BTreeMap as tree
 use Rattle.std.specs.BTreeMap.{is_at}
-use Rattle.std.specs.List.{AllByRecursion, list_any}
 use Rattle.std.specs.Ordering.{is_eq}
 use Rattle.std.specs.Str.{bytes_eq}
 use Rattle.dr_base.specs.Texts.{Text}
@@ -16,7 +16,8 @@ use Rattle.dr_ledger.proofs.Maps.{text_pairs}
 use Rattle.dr_ledger_history.specs.declared.line.JournalLine.{JournalLine}
 use Rattle.dr_ledger_history.specs.declared.line.JournalLine.TheVariants as told
 use Rattle.dr_world_audit.specs.declared.audit.NodeJournal.{NodeJournal}
-use Rattle.dr_word_adopt.specs.Names.{is_among, is_name}
+use Rattle.dr_word_adopt.specs.Names.{is_among}
+use Rattle.dr_word_audit_at.specs.declared.cutting.MissingLine.{MissingLine}
 use Rattle.dr_word_audit_at.specs.declared.cutting.MissingLine.TheVariants.{CameFrom, GoesOn}
 use Rattle.dr_word_audit_at.specs.declared.moving.FirstLines.{FirstLines}
 use Rattle.dr_word_audit_at.specs.Cuts.{MendsNowhere, mends}
@@ -153,3 +154,58 @@ came_nowhere uid from (line ∷ lines) none = (not_true _ _ (came_says uid from 
 goes_nowhere : (uid name : Text) (lines : List JournalLine) → SaysNowhere (says_goes (uid, name)) lines → MendsNowhere (GoesOn uid name) lines
 goes_nowhere uid name [] none = tt
 goes_nowhere uid name (line ∷ lines) none = (not_true _ _ (goes_says uid name line) none.0, goes_nowhere uid name lines none.1)
+
+-- ---- where the first line stands that says it
+
+of_came : (uid from : Text) (lines : List JournalLine) (found : Option ℕ) → IsFirst (says_came (uid, from)) lines (length lines) found
+    → MatchOption found (MendsNowhere (CameFrom uid from) lines) (λ n. MendsNowhere (CameFrom uid from) (take (n - 1) lines))
+of_came uid from lines None none = came_nowhere uid from lines (subst (SaysNowhere (says_came (uid, from))) (take_all (length lines) lines (omega arith)) none)
+of_came uid from lines (Some n) none = came_nowhere uid from (take (n - 1) lines) none
+
+of_goes : (uid name : Text) (lines : List JournalLine) (found : Option ℕ) → IsFirst (says_goes (uid, name)) lines (length lines) found
+    → MatchOption found (MendsNowhere (GoesOn uid name) lines) (λ n. MendsNowhere (GoesOn uid name) (take (n - 1) lines))
+of_goes uid name lines None none = goes_nowhere uid name lines (subst (SaysNowhere (says_goes (uid, name))) (take_all (length lines) lines (omega arith)) none)
+of_goes uid name lines (Some n) none = goes_nowhere uid name (take (n - 1) lines) none
+
+if_ok : {A E : Type 0} (r : Result A E) (P Q : A → Type 0) → ((x : A) → P x → Q x) → IfOk r P → IfOk r Q
+if_ok (Ok x) P Q f h = f x h
+if_ok (Err e) P Q f h = tt
+
+abbrev pub Said : MissingLine → List JournalLine → Option ℕ → Type 0
+Said mend lines found = MatchOption found (MendsNowhere mend lines) (λ n. MendsNowhere mend (take (n - 1) lines))
+
+pub came_said : {E : Type 0} (mend : MissingLine) (uid from : Text) (lines : List JournalLine) (first : FirstLines) (r : Result (Option ℕ) E) → mend ≡ CameFrom uid from → AreFirst lines (length lines) first
+    → IfOk r (λ found. found ≡ tree.get pair_cmp first.came (uid, from)) → IfOk r (Said mend lines)
+came_said mend uid from lines first r is are = if_ok r (λ found. found ≡ tree.get pair_cmp first.came (uid, from)) (Said mend lines)
+    (λ found same. subst (λ m. Said m lines found) (sym is) (of_came uid from lines found (subst (IsFirst (says_came (uid, from)) lines (length lines)) (sym same) (are.came (uid, from)))))
+
+pub goes_said : {E : Type 0} (mend : MissingLine) (uid name : Text) (lines : List JournalLine) (first : FirstLines) (r : Result (Option ℕ) E) → mend ≡ GoesOn uid name → AreFirst lines (length lines) first
+    → IfOk r (λ found. found ≡ tree.get pair_cmp first.goes (uid, name)) → IfOk r (Said mend lines)
+goes_said mend uid name lines first r is are = if_ok r (λ found. found ≡ tree.get pair_cmp first.goes (uid, name)) (Said mend lines)
+    (λ found same. subst (λ m. Said m lines found) (sym is) (of_goes uid name lines found (subst (IsFirst (says_goes (uid, name)) lines (length lines)) (sym same) (are.goes (uid, name)))))
+
+-- what is said of the lines before a cut is said of these
+pub so_of : {E : Type 0} (r : Result Bool E) (mend : MissingLine) (lines rest : List JournalLine) → rest ≡ lines → IfOk r (λ yes. IsTrue yes → MendsNowhere mend lines) → IfOk r (λ yes. IsTrue yes → MendsNowhere mend rest)
+so_of r mend lines rest is = if_ok r (λ yes. IsTrue yes → MendsNowhere mend lines) (λ yes. IsTrue yes → MendsNowhere mend rest) (λ yes h t. subst (MendsNowhere mend) (sym is) (h t))
+
+-- ---- all journals
+
+pub one_journal_more : (all : List FirstLines) (nodes : List NodeJournal) (first : FirstLines) (node : NodeJournal) → AreAllFirst all nodes → AreFirst node.lines (length node.lines) first → AreAllFirst (all ++ first ∷ []) (nodes ++ node ∷ [])
+one_journal_more [] [] first node all one = (one, tt)
+one_journal_more [] (n ∷ nodes) first node all one = absurd all
+one_journal_more (f ∷ all) [] first node h one = absurd h
+one_journal_more (f ∷ all) (n ∷ nodes) first node h one = (h.0, one_journal_more all nodes first node h.1 one)
+
+pub all_long : (all : List FirstLines) (nodes : List NodeJournal) → AreAllFirst all nodes → length all ≡ length nodes
+all_long [] [] h = refl
+all_long [] (n ∷ nodes) h = absurd h
+all_long (f ∷ all) [] h = absurd h
+all_long (f ∷ all) (n ∷ nodes) h = ap suc (all_long all nodes h.1)
+
+pub first_at : (all : List FirstLines) (nodes : List NodeJournal) (i : ℕ) (d first : FirstLines) (e node : NodeJournal) → AreAllFirst all nodes → i < length nodes → first ≡ get_or all i d → node ≡ get_or nodes i e
+    → AreFirst node.lines (length node.lines) first
+first_at [] [] i d first e node h lt is at = absurd (omega (arith, lt))
+first_at [] (n ∷ nodes) i d first e node h lt is at = absurd h
+first_at (f ∷ all) [] i d first e node h lt is at = absurd h
+first_at (f ∷ all) (n ∷ nodes) zero d first e node h lt is at = let P : NodeJournal → FirstLines → Type 0 = λ x y. AreFirst x.lines (length x.lines) y in subst (λ x. P x first) (sym at) (subst (P n) (sym is) h.0)
+first_at (f ∷ all) (n ∷ nodes) (suc i) d first e node h lt is at = first_at all nodes i d first e node h.1 (omega (arith, lt)) is at

@@ -4,6 +4,7 @@ ghost use Rattle.std.specs.Prelude.{OnOk, drop, get_or, length, take};
 ghost use Rattle.std.specs.BTreeMap as tree;
 ghost use Rattle.std.specs.BTreeMap.{is_at};
 ghost use Rattle.dr_ledger.specs.Pairs.{Pair, pair_cmp};
+ghost use Rattle.dr_base.specs.Texts.{Text as Words};
 ghost use Rattle.dr_plan_model.specs.Networks.{Network};
 ghost use Rattle.dr_ledger_history.specs.declared.line.JournalLine.{JournalLine as Told};
 ghost use Rattle.dr_word_audit_at.specs.Cuts.{AreNoEarlier, AreReached, HasLine, MendsNowhere};
@@ -169,7 +170,8 @@ fn is_behind(
         → MendsNowhere missing.now (lines_named name.now (cuts counts.now read.now))) }
 {
     for place in 0..read.len() {
-        if read[place].name == *name {
+        let node = &read[place];
+        if node.name == *name {
             return said_behind(&all[place], missing, counts[place]);
         }
     }
@@ -230,6 +232,30 @@ fn rest_of(name: &Text, line: &JournalLine) -> Result<Option<(MissingLine, Text)
     }
 }
 
+/// Moves the cut of the node of that name behind the next line that says it, if no line before the
+/// cut does.
+fn move_if(
+    read: &[NodeJournal],
+    all: &[FirstLines],
+    missing: &MissingLine,
+    at: &Text,
+    counts: &mut Vec<usize>,
+) -> Result<(), AllocError>
+    requires same { length counts.old.items ≡ length read.now }
+    requires first { AreAllFirst all.now read.now }
+    ensures { OnOk result ((plan : Network) (name : Words) (line : Told)
+        → HasLine (cuts counts.old.items read.now) name line
+        → RestsOn name line missing.now at.now
+        → AreReached plan read.now counts.old.items counts.new.items) }
+{
+    let is_lacking = is_behind(read, all, missing, at, counts.as_slice())?;
+    if !is_lacking {
+        return Ok(());
+    }
+    move_cut(missing, at, counts, read);
+    Ok(())
+}
+
 /// Puts a cut behind what the line of the node of that name rests on, if that stands behind it.
 fn move_for(
     read: &[NodeJournal],
@@ -247,9 +273,7 @@ fn move_for(
     let Some((missing, at)) = rest_of(name, line)? else {
         return Ok(());
     };
-    if is_behind(read, all, &missing, &at, counts.as_slice())? {
-        move_cut(&missing, &at, counts, read);
-    }
+    move_if(read, all, &missing, &at, counts)?;
     Ok(())
 }
 

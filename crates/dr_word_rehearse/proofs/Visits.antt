@@ -19,7 +19,7 @@ use Rattle.dr_word_rehearse.specs.Rehearsals.{AreLooked, LooksAt, looked, node_o
 use Rattle.dr_word_rehearse.specs.declared.finds.LedgerFound.{LedgerFound}
 use Rattle.dr_word_rehearse.specs.declared.finds.LedgerFound.TheVariants as found
 use Rattle.dr_word_rehearse.specs.declared.looking.LedgerLook.{LedgerLook}
-use Rattle.dr_word_rehearse.specs.declared.looking.LedgerLook.TheVariants.{Older, Rows}
+use Rattle.dr_word_rehearse.specs.declared.looking.LedgerLook.TheVariants.{Nothing, Older, Rows}
 use Rattle.dr_word_rehearse.specs.declared.looking.Looked.{Looked}
 
 module _ {L : Type 0} (site_of : L → Part) (book : L → Book) (stands : L → Type 0) (Opens : L → Type 0) (site own : Part) where
@@ -35,6 +35,7 @@ module _ {L : Type 0} (site_of : L → Part) (book : L → Book) (stands : L →
     into_at (found.Ledger first) look by is = subst (IsLookAt site_of book stands next name Opens site own) (sym is.1) (inl (first, by.0, by.1, is.2))
 
     pub look_at_next : (look : LedgerLook) → IsOverAt site_of Opens own look → IsLookAt site_of book stands next name Opens site own look
+    look_at_next Nothing h = tt
     look_at_next Older h = tt
     look_at_next (Rows rows) h = inr h
 
@@ -83,6 +84,7 @@ module _ {L : Type 0} (opens : Text → L → Type 0) (site_of : L → Part) (bo
 
   -- a look at the ledger by its path is a look at the node
   pub at_node : (name : Text) (site own : Part) (look : LedgerLook) → IsSiteAt old name site → IsSiteAt next name own → IsLookAt site_of book stands next.plan name (opens (path_in folder name)) site own look → Shown name look
+  at_node name site own Nothing at_old at_next h = tt
   at_node name site own Older at_old at_next h = tt
   at_node name site own (Rows rows) at_old at_next (inl h) = inl (h.0, opened old name site h.0 at_old h.1 h.2, h.3)
   at_node name site own (Rows rows) at_old at_next (inr h) = inr (h.0, opened next name own h.0 at_next h.1 h.2, h.3)

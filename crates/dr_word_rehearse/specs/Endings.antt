@@ -17,7 +17,7 @@ use Rattle.dr_word_adopt.specs.Endings.{unfit_line}
 use Rattle.dr_word_line.specs.declared.words.PlanChange.{PlanChange}
 use Rattle.dr_word_rehearse.specs.Rehearsals.{RehearsesFiles}
 use Rattle.dr_word_rehearse.specs.declared.looking.LedgerLook.{LedgerLook}
-use Rattle.dr_word_rehearse.specs.declared.looking.LedgerLook.TheVariants.{Older, Rows}
+use Rattle.dr_word_rehearse.specs.declared.looking.LedgerLook.TheVariants.{Nothing, Older, Rows}
 use Rattle.dr_word_rehearse.specs.declared.looking.Looked.{Looked}
 
 -- what is printed where all nodes would go over
@@ -28,9 +28,10 @@ fits_line = codes "fits" ++ (10 ∷ [])
 abbrev pub row_line : Text → Pair → Text
 row_line node row = unfit_line node row.0 row.1
 
--- What is printed of a node: that its file would first have to be brought over; or its rows, a line
--- each.
+-- What is printed of a node: that it has no ledger; that its file would first have to be brought
+-- over; or its rows, a line each.
 abbrev pub look_lines : Text → LedgerLook → Text
+look_lines node Nothing = line_of (codes "missing") (node ∷ [])
 look_lines node Older = line_of (codes "older") (node ∷ [])
 look_lines node (Rows rows) = flat_map (row_line node) rows.items
 
@@ -42,8 +43,10 @@ abbrev pub is_some_row : List Pair → Bool
 is_some_row [] = false
 is_some_row (row ∷ rows) = true
 
--- the node stands in the way, as far as is known: a row doesn't fit, or its rows weren't looked at
+-- the node stands in the way, as far as is known: a row doesn't fit, its rows weren't looked at, or
+-- it has no ledger
 abbrev pub is_in_the_way : LedgerLook → Bool
+is_in_the_way Nothing = true
 is_in_the_way Older = true
 is_in_the_way (Rows rows) = is_some_row rows.items
 

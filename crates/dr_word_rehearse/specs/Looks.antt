@@ -18,7 +18,7 @@ use Rattle.dr_word_adopt.specs.Changes.{IsOpenedFor}
 use Rattle.dr_word_rehearse.specs.declared.finds.LedgerFound.{LedgerFound}
 use Rattle.dr_word_rehearse.specs.declared.finds.LedgerFound.TheVariants as found
 use Rattle.dr_word_rehearse.specs.declared.looking.LedgerLook.{LedgerLook}
-use Rattle.dr_word_rehearse.specs.declared.looking.LedgerLook.TheVariants.{Older, Rows}
+use Rattle.dr_word_rehearse.specs.declared.looking.LedgerLook.TheVariants.{Nothing, Older, Rows}
 
 -- what is found of that site by a path at which this opens
 abbrev pub IsFoundBy : {L : Type 0} → (L → Type 0) → (L → Part) → Part → LedgerFound L → Type 0
@@ -49,6 +49,7 @@ LooksOver (found.Ledger ledger) look =
 
 -- what a look shows of a ledger that this opens, of the node's site by the next plan
 abbrev pub IsOverAt : {L : Type 0} → (L → Part) → (L → Type 0) → Part → LedgerLook → Type 0
+IsOverAt site_of Opens own Nothing = Unit {0}
 IsOverAt site_of Opens own Older = Unit {0}
 IsOverAt {L = L} site_of Opens own (Rows rows) =
     (ledger : L) × Opens ledger × (site_of ledger ≡ own) × (rows.items ≡ [])
@@ -82,6 +83,7 @@ module _ {L : Type 0} (site_of : L → Part) (book : L → Book) (stands : L →
   -- what a look shows of a ledger that this opens, of the node's site by the plan in force or by
   -- the next one
   abbrev pub IsLookAt : (L → Type 0) → Part → Part → LedgerLook → Type 0
+  IsLookAt Opens site own Nothing = Unit {0}
   IsLookAt Opens site own Older = Unit {0}
   IsLookAt Opens site own (Rows rows) =
       ((first : L) × Opens first × (site_of first ≡ site) × HasJust first rows)
@@ -89,10 +91,11 @@ module _ {L : Type 0} (site_of : L → Part) (book : L → Book) (stands : L →
 
 module _ {L : Type 0} (opens : Text → L → Type 0) (site_of : L → Part) (book : L → Book)
     (stands : L → Type 0) (folder : Text) (old next : Certified) where
-  -- What a look shows of the node: nothing of a ledger of a form from before; all rows of its
-  -- ledger in the folder that the next plan doesn't go on with; or none, where the ledger is of
-  -- that plan already.
+  -- What a look shows of the node: nothing of a ledger that isn't there, or is of a form from
+  -- before; all rows of its ledger in the folder that the next plan doesn't go on with; or none,
+  -- where the ledger is of that plan already.
   abbrev pub IsLooked : Text → LedgerLook → Type 0
+  IsLooked name Nothing = Unit {0}
   IsLooked name Older = Unit {0}
   IsLooked name (Rows rows) =
       ((first : L)

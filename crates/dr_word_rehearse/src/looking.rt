@@ -20,6 +20,8 @@ use std::alloc::{AllocError, Global};
 /// What a look at a node's ledger shows.
 #[derive(Drop)]
 pub enum LedgerLook {
+    /// There is no file.
+    Nothing,
     /// The file is of a form from before: its rows aren't looked at.
     Older,
     /// The rows with which the next plan doesn't go on, each an instance and its destination; none
@@ -143,6 +145,7 @@ where
     match find_of(alloc, ledgers, path, site) {
         Ok(found) => return look_into(alloc, next, name, found),
         Err(OpenFault::OtherSite) => {}
+        Err(OpenFault::NoLedger) => return Ok(LedgerLook::Nothing),
         Err(fault) => return Err(Halt::NotOpened(fault)),
     }
     match look_again(alloc, ledgers, path, own) {

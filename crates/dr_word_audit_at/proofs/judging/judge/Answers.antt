@@ -1,6 +1,6 @@
-use Rattle.std.proofs.Common.{◌≡◌, ◌∙◌, Bool, length, subst}
+use Rattle.std.proofs.Common.{◌∙◌, Bool, subst}
 use Rattle.dr_world_audit.specs.Sites.{Audits}
-use Rattle.dr_word_audit_at.specs.Cuts.{AreReached, MovesFor}
+use Rattle.dr_word_audit_at.specs.Cuts.{MovesFor}
 use Rattle.dr_word_audit_at.proofs.Reached.{by_move, by_verdict, reached_later, reached_long, reached_on}
 use Rattle.dr_word_audit_at.proofs.judging.judge.Goals as goal
 

@@ -1,4 +1,4 @@
-use Rattle.std.proofs.Common.{◌∙◌, inr, List, Result, refl, subst}
+use Rattle.std.proofs.Common.{◌∙◌, inl, inr, List, Result, refl, subst}
 use Rattle.std.specs.Prelude.{map as mapped}
 use Rattle.dr_base.specs.Texts.{Text}
 use Rattle.dr_run_open.specs.declared.halt.Halt.{Halt}
@@ -16,7 +16,7 @@ returns g c =
 pub returns-in_err-others : goal.returns-in_err-others
 returns-in_err-others g c =
     let P : Result (Unit {0}) Halt → Type 0 = λ came. RehearsesBetween (g.O.Ledgers.opens c.args.ledgers.now) g.O.Ledger.Ledger.site g.O.Ledger.Ledger.book g.O.Ledger.Ledger.stands c.args.folder.now c.args.old.now c.args.next.now (g.O.ShowsFiles.shows c.args.ledgers.now) (mapped text_of c.args.others.now) came c.args.all.now.items in
-    halt_as P Memory c.from_residual.result c.from_residual.ensures.0 c.from_residual.ensures.1 (inr (Memory, refl, c.requires, inr tt))
+    halt_as P Memory c.from_residual.result c.from_residual.ensures.0 c.from_residual.ensures.1 (inr (Memory, refl, c.requires, inr (inl tt)))
 
 pub rehearse_between-requires : goal.rehearse_between-requires
 rehearse_between-requires g c = c.requires
