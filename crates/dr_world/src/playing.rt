@@ -188,7 +188,8 @@ fn do_store(
     ensures whole { OnOk result (world.new.lost ≡ None) }
     ensures memory { IfErr result (λ fault. fault ≡ MemoryFault) }
 {
-    match world.store_of(notes.others.as_slice(), link, item)? {
+    let spoken = world.store_of(notes.others.as_slice(), link, item)?;
+    match spoken {
         Spoken::Writes(bytes) => match speak(world, link, Side::Requestor, &bytes) {
             Ok(()) => Ok(()),
             Err(fault) => Err(fault),
@@ -214,7 +215,8 @@ fn do_answer(
     ensures whole { OnOk result (world.new.lost ≡ None) }
     ensures memory { IfErr result (λ fault. fault ≡ MemoryFault) }
 {
-    match world.answer_of(notes.others.as_slice(), link, status)? {
+    let spoken = world.answer_of(notes.others.as_slice(), link, status)?;
+    match spoken {
         Spoken::Writes(bytes) => match speak(world, link, Side::Acceptor, &bytes) {
             Ok(()) => Ok(()),
             Err(fault) => Err(fault),

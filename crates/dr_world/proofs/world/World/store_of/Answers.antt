@@ -1,5 +1,4 @@
-use Rattle.std.proofs.Common.{rules, sym, ◌∙◌}
-use Rattle.std.proofs.lemmas.Bool.{false≢true}
+use Rattle.std.proofs.Common.{rules}
 use Rattle.dr_world.proofs.world.World.store_of.Goals as goal
 
 pub returns : goal.returns
