@@ -343,10 +343,10 @@ def refused_among(lines, crate):
 
 
 def said_of(name, crate, lines):
-    """What the prover said of a function: the lines between its own and that of the function before it."""
+    """What the prover said of a function: the lines between its own and that of the function before it, and of its own proof files."""
     at = next((it for it, line in enumerate(lines) if line.startswith(f"fn {crate}::{name}: ")), 0)
     before = next((it for it in range(at - 1, -1, -1) if lines[it].startswith("fn ")), -1)
-    return lines[before + 1:at]
+    return lines[before + 1:at] + [it for it in lines if it.startswith(f"./proofs/{name.replace('::', '/')}/")]
 
 
 def reason(lines):
