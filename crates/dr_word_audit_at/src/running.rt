@@ -351,11 +351,11 @@ fn audit_by<'a, N: Network, C: Clock>(
     let first = asker.counts(names)?;
     let last = asker.counts(names)?;
     let read = asker.journals(names, first.as_slice(), last.as_slice())?;
-    let first = places_of(asker.alloc, first.as_slice())?;
-    if first.len() != read.len() {
+    let places = places_of(asker.alloc, first.as_slice())?;
+    if places.len() != read.len() {
         return Err(NodesStopped::Memory);
     }
-    match conclude(asker.alloc, sealed, others, first, read.as_slice()) {
+    match conclude(asker.alloc, sealed, others, places, read.as_slice()) {
         Ok(audited) => Ok(audited),
         Err(AskFault::Memory) => Err(NodesStopped::Memory),
         Err(fault) => Err(NodesStopped::Asking(fault, Text::empty(asker.alloc))),

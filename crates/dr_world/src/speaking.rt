@@ -1,5 +1,5 @@
 //! What another maker's product writes for what it is told to do.
-ghost use Rattle.std.specs.Prelude.{◌≡◌, ◌++◌, IfOk, option_copied};
+ghost use Rattle.std.specs.Prelude.{◌≡◌, ◌↔◌, ◌++◌, Contains, IfOk, IsTrue, option_copied};
 ghost use Rattle.dr_ledger.specs.Items.{IsItem};
 ghost use Rattle.dr_nego.specs.Fragments.{spellings};
 ghost use Rattle.dr_world.specs.Nodes.{seats_of};
@@ -21,6 +21,13 @@ const LIMIT: u32 = 1_024;
 
 /// The message id of a store.
 const STORE_ID: u16 = 1;
+
+/// Whether the name is one of these.
+pub fn is_among(names: &[Text], name: &Text) -> bool
+    ensures { IsTrue result ↔ Contains names.now name.now }
+{
+    names.contains(name)
+}
 
 /// What the node of that name has agreed on at a link.
 fn agreed_at<'a, L: Ledger>(

@@ -5,7 +5,7 @@ ghost use Rattle.dr_world.specs.Orders.{AnswersAs, IsOthers, IsOthersEnd, Stores
 ghost use Rattle.dr_world.specs.Whole.{contents};
 
 use crate::order::{ForeignRefusal, Spoken};
-use crate::speaking::{answer_text, asked_at, context_at, store_text};
+use crate::speaking::{answer_text, asked_at, context_at, is_among, store_text};
 use crate::world::World;
 use dr_base::Text;
 use dr_ledger::{Item, Ledger};
@@ -20,7 +20,7 @@ impl<L: Ledger> World<L> {
         let Some(wires) = self.wires.get(&link) else {
             return false;
         };
-        others.contains(wires.name(side))
+        is_among(others, wires.name(side))
     }
 
     /// Whether the step is one that one of these nodes takes, or that is taken at its end of a
@@ -34,8 +34,8 @@ impl<L: Ledger> World<L> {
             | Step::Requeue { node, .. }
             | Step::Drop { node, .. }
             | Step::Forget { node, .. }
-            | Step::RefuseStore { node } => others.contains(node),
-            Step::Away { from, .. } => others.contains(from),
+            | Step::RefuseStore { node } => is_among(others, node),
+            Step::Away { from, .. } => is_among(others, from),
             Step::Push { link } | Step::Release { link } => {
                 self.is_others_end(others, *link, Side::Requestor)
             }
@@ -68,10 +68,10 @@ impl<L: Ledger> World<L> {
         let Some(wires) = self.wires.get(&link) else {
             return Ok(Spoken::Refuses(ForeignRefusal::NoLink));
         };
-        if !others.contains(&wires.caller) {
+        if !is_among(others, &wires.caller) {
             return Ok(Spoken::Refuses(ForeignRefusal::NotForeign));
         }
-        if others.contains(&wires.receiver) {
+        if is_among(others, &wires.receiver) {
             return Ok(Spoken::Refuses(ForeignRefusal::BothForeign));
         }
         let Some(context) = context_at(&self.nodes, &wires.receiver, link, item) else {
@@ -93,10 +93,10 @@ impl<L: Ledger> World<L> {
         let Some(wires) = self.wires.get(&link) else {
             return Ok(Spoken::Refuses(ForeignRefusal::NoLink));
         };
-        if !others.contains(&wires.receiver) {
+        if !is_among(others, &wires.receiver) {
             return Ok(Spoken::Refuses(ForeignRefusal::NotForeign));
         }
-        if others.contains(&wires.caller) {
+        if is_among(others, &wires.caller) {
             return Ok(Spoken::Refuses(ForeignRefusal::BothForeign));
         }
         let Some(asked) = asked_at(&self.nodes, &wires.caller, link) else {

@@ -1,4 +1,4 @@
-use Rattle.std.proofs.Common.{◌≡◌, [], refl, sym, subst, ◌∙◌, arith}
+use Rattle.std.proofs.Common.{◌≡◌, [], false, refl, sym, subst, ◌∙◌, arith}
 use Rattle.dr_base.specs.Texts.{Text}
 use Rattle.dr_dimse.specs.Written as command
 use Rattle.dr_dimse.specs.Written.{IsText}
