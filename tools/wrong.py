@@ -7,13 +7,11 @@ wrong/CRATE/NAME.edit changes places of a crate's source: lines 'file: ', 'old: 
 or on several) and 'new: '. Each text is on one line of the edit, where a blank stands for any blanks and line breaks;
 comments begin with '#', and all else is refused. The edits of a crate that change different functions are applied
 together, and these functions alone are checked; an edit is refused only where the prover refuses the function that it
-changed. What can't be told apart so is tried alone. Where edited functions call many others, these are taken by their
-contracts, which the gate has proved: their proofs are left open. That is done only where the functions are proved so
-without their edits; what isn't refused so is tried with all that it calls. An edit of a definition is in no function: a
-line 'law: ' names the function of the crate whose contract it breaks, and that one must refuse it; without such a line
-the crate's laws are checked, and where they don't refuse it all of the crate. What isn't refused, can't be read or
-applied or doesn't reach the prover is told at the end, and makes the exit status 1. The libraries below are those that
-the gate has made; what isn't there is proved first.
+changed. What can't be told apart so is tried alone. An edit of a definition is in no function: a line 'law: ' names the
+function of the crate whose contract it breaks, and that one must refuse it; without such a line the crate's laws are
+checked, and where they don't refuse it all of the crate. What isn't refused, can't be read or applied or doesn't reach
+the prover is told at the end, and makes the exit status 1. The libraries below are those that the gate has made; what
+isn't there is proved first.
 """
 import concurrent.futures
 import dataclasses
@@ -27,7 +25,7 @@ import tempfile
 import threading
 import time
 
-from crates import TOP, copy_sources, lanes, listed, prover, sources_of, words_of, work_of
+from crates import TOP, copy_sources, lanes, listed, prover, words_of, work_of
 from libraries import made_for
 
 LIMITS = re.compile(r"antt ran out of (stack|the (steps|memory))|(outgrew the memory limit|stopped at the step limit) \(")
@@ -134,13 +132,6 @@ def block_of(header):
         of_trait = "".join(last(it.split("<")[0]) for it in given[1].split(",")) if given else ""
         return last(words[words.index("for") + 1].lstrip("&")) + trait + of_trait
     return last(words[-1])
-
-
-def type_of(header):
-    """The type that an `impl` is of."""
-    words = re.sub(r"\bwhere\b.*", "", without_generics(header), flags=re.DOTALL).strip(" {").split()
-    named = words[words.index("for") + 1] if "for" in words else words[-1]
-    return re.sub(r"[^\w]", "", named.split("::")[-1])
 
 
 def functions_of(path, text):
@@ -261,56 +252,16 @@ def learn(function, crate, said):
     return False
 
 
-# So many functions that edited ones reach cost more than a second check.
-MANY = 20
-# A proof that is left open: the function is taken by its contract.
-OPEN = """use Rattle.%s.Statement.{statement}
-
-pub %s_spec : {M : Type 1} → statement M
-%s_spec = ?
-"""
-
-
-def leave_open(room, crate, changed):
-    """Leaves the proofs of all functions in a room open but of those that an edit changes, so that what these call is taken by its
-    contract, and isn't proved once more. A function whose place among the proofs isn't plain is left as it is: a trait's own, a
-    method of a type of another file, and one whose name others have too."""
-    for at, _, files in os.walk(f"{room}/src"):
-        for name in files:
-            path = os.path.relpath(f"{at}/{name}", room)
-            with open(f"{at}/{name}", encoding="utf-8") as file:
-                text = file.read()
-            types = re.findall(r"^(?:pub(?:\([^)]*\))? )?(?:struct|enum) (\w+)", text, re.MULTILINE)
-            blocks = {block_of(it) for it in re.findall(r"^(?:unsafe )?impl\b[^{;]*", text, re.MULTILINE) if type_of(it) in types}
-            found = functions_of(path, text)
-            names = [name for _, _, name in found]
-            for first, last, function in found:
-                block = "".join(function.split("::")[-2:-1])
-                is_plain = not block[:1].isupper() or block in blocks
-                if is_plain and function not in changed and names.count(function) == 1 and last > first:
-                    place = f"{room}/proofs/{function.replace('::', '/')}"
-                    os.makedirs(place, exist_ok=True)
-                    for it in ("Answers", "Invariants"):
-                        if os.path.exists(f"{place}/{it}.antt"):
-                            os.remove(f"{place}/{it}.antt")
-                    plain = function.split("::")[-1]
-                    with open(f"{place}/Proof.antt", "w", encoding="utf-8") as file:
-                        file.write(OPEN % (f"{crate}.proofs.{function.replace('::', '.')}", plain, plain))
-
-
-def check(crate, texts, functions, kept, is_open=False):
-    """Checks the crate with these texts in place of its own, whole or these functions of it, and where it is asked for with what they
-    call taken by its contract; the status and the lines that it said."""
+def check(crate, texts, functions, kept):
+    """Checks the crate with these texts in place of its own, whole or these functions of it; the status and the lines that it said."""
     with tempfile.TemporaryDirectory(prefix="wrong-") as room:
         copy_sources(crate, room)
         for path, text in texts.items():
             with open(f"{room}/{path}", "w", encoding="utf-8") as file:
                 file.write(text)
-        if is_open:
-            leave_open(room, crate, functions)
         while True:
             asked = [name for function in sorted(functions) for name in KNOWN.get((crate, function), [function])]
-            only = [word for name in asked for word in ("--only", name)] + ["--allow-holes"] * is_open
+            only = [word for name in asked for word in ("--only", name)]
             ran = subprocess.run([prover(), "check", *words_of(crate), "--incremental", kept, *only], cwd=room,
                                  stdin=subprocess.DEVNULL, stdout=subprocess.PIPE, stderr=subprocess.STDOUT, text=True, errors="replace")
             if ran.returncode != 2 or not any([learn(it, crate, ran.stdout) for it in functions]):
@@ -329,24 +280,24 @@ def is_unread(line, texts):
 
 def is_judged(status, lines):
     """Whether the prover came to a judgment of what was asked."""
-    return status in (0, 1, 3) and bool(re.match(r"only=\d+ (proved|holes)=\d+|logic=", lines[-1]))
+    return status in (0, 1, 3) and bool(re.match(r"only=\d+ proved=\d+|logic=", lines[-1]))
 
 
 def refused_among(lines, crate):
     """The functions that weren't proved, by what the prover said of each."""
     found = {}
     for line in lines:
-        match = re.match(rf"fn {crate}::(\S+): (?!proved$|no holes$|depends on a hole)(.*)", line)
+        match = re.match(rf"fn {crate}::(\S+): (?!proved$|no holes$)(.*)", line)
         if match:
             found[match[1]] = match[2]
     return found
 
 
 def said_of(name, crate, lines):
-    """What the prover said of a function: the lines between its own and that of the function before it."""
+    """What the prover said of a function: the lines between its own and that of the function before it, and of its own proof files."""
     at = next((it for it, line in enumerate(lines) if line.startswith(f"fn {crate}::{name}: ")), 0)
     before = next((it for it in range(at - 1, -1, -1) if lines[it].startswith("fn ")), -1)
-    return lines[before + 1:at]
+    return lines[before + 1:at] + [it for it in lines if it.startswith(f"./proofs/{name.replace('::', '/')}/")]
 
 
 def reason(lines):
@@ -399,71 +350,15 @@ def try_alone(edit, crate, kept):
     return judge(edit, status, lines, crate)
 
 
-def is_by_contract(answer):
-    """Whether an edit was refused for what its function promises, and not for a name, nor for what a proof that is left open lacks."""
-    return answer.refused and bool(re.search(r": (note: )?(\./)?(src|specs|proofs)/", answer.said)) and "only because a proof names" not in answer.said
-
-
-def calls_of(crate):
-    """For each function of a crate those of the crate that it may call, by their names alone."""
-    texts = {}
-    for file in sources_of(crate):
-        if file.endswith(".rt"):
-            with open(file, encoding="utf-8") as text:
-                lines = text.read().split("\n")
-            for first, last, name in functions_in(file):
-                texts[name] = texts.get(name, "") + "\n".join(lines[first:last + 1])
-    named = {}
-    for name in texts:
-        named.setdefault(name.split("::")[-1], set()).add(name)
-    return {name: set().union(*(named.get(it, set()) for it in re.findall(r"\b(\w+)(?:::<[^>]*>)?\(", text))) for name, text in texts.items()}
-
-
-def calls_many(crate, functions):
-    """Whether functions reach so many others that it pays to leave the proofs of these open."""
-    calls, seen, left = calls_of(crate), set(), list(functions)
-    while left:
-        name = left.pop()
-        if name not in seen:
-            seen.add(name)
-            left += calls.get(name, ())
-    return len(seen - functions) >= MANY
-
-
-def proved_open(edits, crate, kept):
-    """The edits whose functions are proved as they stand, with what they call taken by its contract."""
-    status, lines = check(crate, {}, set().union(*(it.functions for it in edits)), kept, True)
-    if status == 3 or not is_judged(status, lines):
-        return []
-    told = [match[1] for match in (re.match(rf"fn {crate}::(\S+): (?:no holes|depends on a hole)", line) for line in lines) if match]
-    refused = refused_among(lines, crate)
-    return [edit for edit in edits if all(any(is_own(name, it) for name in told) and not any(is_own(name, it) for name in refused)
-                                          for it in edit.functions)]
-
-
-def try_together(edits, crate, kept, is_open):
-    """Tries edits that change different functions in one check; an answer for each that is told apart so. Where proofs are left open
-    what comes to a limit of the prover is no answer."""
-    texts = merged(edits) if edits else None
-    if texts is None:
-        return {}
-    status, lines = check(crate, texts, set().union(*(it.functions for it in edits)), kept, is_open)
-    if not is_judged(status, lines) or any(is_unread(it, texts) for it in lines) or is_open and status == 3:
-        return {}
-    answers = {it.path: judge(it, status, lines, crate) for it in edits}
-    return {path: answer for path, answer in answers.items() if answer.refused and (not is_open or is_by_contract(answer))}
-
-
 def try_group(edits, crate, kept):
-    """Tries edits that change different functions: together, and where they call many others with these taken by their contracts; then
-    those that aren't refused so, each alone, with all that they call. An answer for each."""
-    functions, answers = set().union(*(it.functions for it in edits)), {}
-    if all(it.functions and not it.beyond for it in edits) and calls_many(crate, functions):
-        answers = try_together(proved_open(edits, crate, kept), crate, kept, True)
-    left = [it for it in edits if it.path not in answers]
-    if len(left) > 1:
-        answers |= try_together(left, crate, kept, False)
-    return answers | {it.path: try_alone(it, crate, kept) for it in left if it.path not in answers}
+    """Tries edits that change different functions, together where that tells them apart; an answer for each."""
+    texts = merged(edits) if len(edits) > 1 else None
+    answers = {}
+    if texts is not None:
+        status, lines = check(crate, texts, set().union(*(it.functions for it in edits)), kept)
+        if is_judged(status, lines) and not any(is_unread(it, texts) for it in lines):
+            answers = {it.path: judge(it, status, lines, crate) for it in edits}
+    return {it.path: answers[it.path] if it.path in answers and answers[it.path].refused else try_alone(it, crate, kept) for it in edits}
 
 
 def try_crate(crate, paths):
@@ -529,15 +424,13 @@ def try_itself():
     """Whether the tester sees what it must: an edit that means the same, one that breaks another function than its own, one that doesn't
     compile, one that can't be applied, two that can't be read (a text on two lines, a text that stays), and one that is refused. Of a
     definition one that the law refuses that it names, and one that another law refuses; one that names no law that is there; and a
-    body's edit that names one. All is tried with what is called taken by its contract, too."""
-    global MANY
+    body's edit that names one."""
     paths = sorted(f"{TOP}/tests/tester/dr_base/{it}" for it in os.listdir(f"{TOP}/tests/tester/dr_base"))
-    wanted, wrong = {path: os.path.basename(path).startswith("refused_") for path in paths}, []
-    for MANY in (MANY, 0):
-        results = try_all({"dr_base": paths})
-        for path in (it for it in paths if results[it].refused != wanted[it]):
-            wrong.append(path)
-            print(f"wrong: the tester says of {os.path.basename(path)}: {results[path].said}")
+    results = try_all({"dr_base": paths})
+    wanted = {path: os.path.basename(path).startswith("refused_") for path in paths}
+    wrong = [it for it in paths if results[it].refused != wanted[it]]
+    for path in wrong:
+        print(f"wrong: the tester says of {os.path.basename(path)}: {results[path].said}")
     return not wrong
 
 
