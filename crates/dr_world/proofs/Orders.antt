@@ -114,7 +114,7 @@ module _ {L : Type 0} {l : Ghosts L} where
   SoFar old orders notes new = (deeds : List Deed) × AreOrdered [] old orders deeds notes.changes notes.refusals notes.others new
 
   pub none_ordered : (w : World L l) (orders : List WorldOrder) (notes : PlayNotes) → notes ≡ record { others = []; changes = []; refusals = [] } → SoFar w (take 0 orders) notes w
-  none_ordered w orders notes are = ([], refl, ap (λ (n : PlayNotes). n.changes) are, ap (λ (n : PlayNotes). n.refusals) are, ap (λ (n : PlayNotes). n.others) are, refl)
+  none_ordered w orders notes are = ([], (refl, ap (λ (n : PlayNotes). n.changes) are, ap (λ (n : PlayNotes). n.refusals) are, ap (λ (n : PlayNotes). n.others) are, refl))
 
   pub one_ordered : (first old new : World L l) (orders : List WorldOrder) (i : ℕ) (one : WorldOrder) (before after : PlayNotes) → i < length orders → one ≡ get_or orders i one
       → SoFar first (take i orders) before old → NotesOrder before old one after new → SoFar first (take (i + 1) orders) after new
@@ -125,7 +125,7 @@ module _ {L : Type 0} {l : Ghosts L} where
       (deeds ++ done, subst P (λ j. (listed j, (sym ec j, sym er j))) more)
 
   pub all_ordered : (first new : World L l) (orders : List WorldOrder) (i : ℕ) (notes : PlayNotes) → length orders ≤ i → SoFar first (take i orders) notes new → SoFar first orders notes new
-  all_ordered first new orders i notes all h = (let P : List WorldOrder → Type 0 = λ os. SoFar first os notes new in subst P (take_all orders i all) h)
+  all_ordered first new orders i notes all h = (let P : List WorldOrder → Type 0 = λ os. SoFar first os notes new in subst P (take_all i orders all) h)
 
   -- ---- from the beginning
 
@@ -133,11 +133,13 @@ module _ {L : Type 0} {l : Ghosts L} where
       → IsReached plan certificate [] first → SoFar first orders notes last → AllStand last → IsOrderedRun plan certificate orders notes.changes notes.refusals notes.others last
   ordered_run plan certificate certified first last orders notes reached (deeds, h) all = (
     certified,
-    first,
-    deeds,
-    reached,
-    h,
-    run_of plan certificate certified first last deeds notes.changes reached (plays_ordered [] first orders deeds notes.changes notes.refusals notes.others last h) all,
+    (
+      first,
+      deeds,
+      reached,
+      h,
+      run_of plan certificate certified first last deeds notes.changes reached (plays_ordered [] first orders deeds notes.changes notes.refusals notes.others last h) all,
+    ),
   )
 
   -- what the orders of a run mean, from its beginning

@@ -30,6 +30,6 @@ returns-clause-plays c =
       [],
       refused.Answer c.args.link c.in-Refuses.why ∷ [],
       sym (append-nil c.args.notes.now.changes),
-      c.in_ok-push.ensures.ok,
+      c.in_ok-push-in-Refuses.ensures.ok,
       record { means = (refl, inr (c.in-Refuses.why, is, refl, refl)); plays = plays_nothing c.args.world.now },
     )
