@@ -41,7 +41,7 @@ booked {L} {l} (Some n) seat of = (l.book n.desk.ledger, refl)
 
 pub reported_after : {L : Type 0} {l : Ghosts L} (stands : (v : World L l) → AllStand v) (plan : Network) (certificate : Certificate) (orders : List WorldOrder) (changes : List Change) (refusals : List RefusedForeign) (others : List Text) (w : World L l) (text : Text) →
     IsOrderedRun plan certificate orders changes refusals others w → IsReported others (books_of w.nodes) (notes_of changes ++ refusals_of refusals) text → IsReportAfter plan certificate orders text
-reported_after {L} {l} stands plan certificate orders changes refusals others w text (certified, first, deeds, reached, ordered, run) reported =
+reported_after {L} {l} stands plan certificate orders changes refusals others w text (certified, (first, deeds, reached, ordered, run)) reported =
     let find : (name : Text) (book : Book) → books_of w.nodes name ≡ Some book → (n : Node L l) × (tree.get text_cmp w.nodes name ≡ Some n) × (l.book n.desk.ledger ≡ book) =
     λ name book of. seated_book (tree.get text_cmp w.nodes name) book of in
     record {
