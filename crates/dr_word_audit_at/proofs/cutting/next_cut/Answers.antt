@@ -9,8 +9,7 @@ loop-place-preserved c =
     let counts = c.args.counts.now in
     let read = c.args.read.now in
     let i = c.loop-place.place in
-    let few : i < length counts = omega (arith, c.requires, c.loop-place-test.true) in
-    (
+    let few : i < length counts = omega (arith, c.requires, c.loop-place-test.true) in (
       rest_later counts read i 0 (get_or counts i 0) _ c.index-read-place.result few c.loop-place-test.true refl c.index-read-place.is c.args.name.now (rest_named c.args.name.now counts read) (sym c.eq.ensures ∙ c.if-eq.false) c.loop-place.invariant.0,
       put_later counts read i 0 (get_or counts i 0) _ c.index-read-place.result few c.loop-place-test.true refl c.index-read-place.is c.args.name.now (sym c.eq.ensures ∙ c.if-eq.false) c.loop-place.invariant.1,
     )
