@@ -213,15 +213,15 @@ kept_stays_through plan certificate certified deeds more mid last own its b c h 
 -- ---- laws
 
 module _ (plan : Network) (name : Text) where
-  abbrev taken : HasNode plan name ⊎ (HasNode plan name → ⊥) → Book → Desk
+  abbrev pub taken : HasNode plan name ⊎ (HasNode plan name → ⊥) → Book → Desk
   taken (inl is) k = desk (after Adoption k) false
   taken (inr none) k = desk empty_book false
 
-  at_node : (o : HasNode plan name ⊎ (HasNode plan name → ⊥)) (k : Book) → HasNode plan name → taken o k ≡ desk (after Adoption k) false
+  pub at_node : (o : HasNode plan name ⊎ (HasNode plan name → ⊥)) (k : Book) → HasNode plan name → taken o k ≡ desk (after Adoption k) false
   at_node (inl is) k here = refl
   at_node (inr none) k here = absurd (none here)
 
-  elsewhere : (o : HasNode plan name ⊎ (HasNode plan name → ⊥)) (k : Book) → (HasNode plan name → ⊥) → taken o k ≡ desk empty_book false
+  pub elsewhere : (o : HasNode plan name ⊎ (HasNode plan name → ⊥)) (k : Book) → (HasNode plan name → ⊥) → taken o k ≡ desk empty_book false
   elsewhere (inl is) k none = absurd (none is)
   elsewhere (inr none) k none_here = refl
 
