@@ -7,10 +7,11 @@ wrong/CRATE/NAME.edit changes places of a crate's source: lines 'file: ', 'old: 
 or on several) and 'new: '. Each text is on one line of the edit, where a blank stands for any blanks and line breaks;
 comments begin with '#', and all else is refused. The edits of a crate that change different functions are applied
 together, and these functions alone are checked; an edit is refused only where the prover refuses the function that it
-changed. What can't be told apart so is tried alone. An edit of a definition is in no function: the crate's laws are
-checked for it, and where they don't refuse it all of the crate. What isn't refused, can't be read or applied or doesn't
-reach the prover is told at the end, and makes the exit status 1. The libraries below are those that the gate has made;
-what isn't there is proved first.
+changed. What can't be told apart so is tried alone. An edit of a definition is in no function: a line 'law: ' names the
+function of the crate whose contract it breaks, and that one is checked first, then all of the crate's laws, and where
+none of these refuses it all of the crate. What isn't refused, can't be read or applied or doesn't reach the prover is
+told at the end, and makes the exit status 1. The libraries below are those that the gate has made; what isn't there is
+proved first.
 """
 import concurrent.futures
 import dataclasses
@@ -35,12 +36,14 @@ FUNCTION = re.compile(r"^(\s*)(?:pub(?:\([^)]*\))? )?(?:final )?(?:const )?(?:un
 
 @dataclasses.dataclass
 class Edit:
-    """An edit: its path, the texts that it makes of files, the functions that it changes, and whether it changes more than those."""
+    """An edit: its path, the texts that it makes of files, the functions that it changes, whether it changes more than those, and the
+    function whose contract it breaks, where that is another and it is told."""
 
     path: str
     texts: dict
     functions: set
     beyond: bool
+    law: str
 
     def name(self):
         """The edit's crate and name."""
@@ -74,8 +77,17 @@ def pairs_of(path):
                     raise Bad("a 'new:' line stands before any 'file:' or 'old:' line")
                 yield file, old, line.removeprefix("new:").removeprefix(" ")
                 old = None
-            elif line.strip() and not line.startswith("#"):
-                raise Bad(f"a line is no 'file:', 'old:' or 'new:' line: {line.strip()}")
+            elif line.strip() and not line.startswith(("#", "law: ")):
+                raise Bad(f"a line is no 'file:', 'old:', 'new:' or 'law:' line: {line.strip()}")
+
+
+def law_of(path):
+    """The function that an edit names as the one whose contract it breaks, or nothing."""
+    with open(path, encoding="utf-8") as text:
+        named = [line.removeprefix("law: ").strip() for line in text if line.startswith("law: ")]
+    if len(named) > 1:
+        raise Bad("it names more than one law")
+    return "".join(named)
 
 
 def places_of(text, old):
@@ -169,7 +181,10 @@ def read_edit(path):
         texts[file] = replaced(texts[file], places[0], new)
     if not texts:
         raise Bad("it has no 'old:' and 'new:' pair")
-    return Edit(path, texts, functions, beyond)
+    law = law_of(path)
+    if law and not beyond:
+        raise Bad("it names a law, and changes functions alone")
+    return Edit(path, texts, functions, beyond, law)
 
 
 def grouped(edits):
@@ -296,9 +311,9 @@ def judge(edit, status, lines, crate):
 
 
 def try_definition(edit, crate, kept):
-    """Tries an edit of a definition, of a type or of a proof: by the crate's laws, and then by all of the crate."""
+    """Tries an edit of a definition, of a type or of a proof: by the law that it names, by all laws of the crate, and then by all of the crate."""
     laws = {"laws"} if any(os.path.exists(f"{TOP}/crates/{crate}/src/laws{it}") for it in (".rt", "")) else set()
-    for functions in [laws] * bool(laws) + [set()]:
+    for functions in [{edit.law}] * bool(edit.law) + [laws] * bool(laws) + [set()]:
         status, lines = check(crate, edit.texts, functions, kept)
         bad = next((it for it in lines if is_unread(it, edit.texts)), None)
         if bad and status == 1:
@@ -396,7 +411,9 @@ def try_all(edits, tell=lambda crate, results: None):
 
 def try_itself():
     """Whether the tester sees what it must: an edit that means the same, one that breaks another function than its own, one that doesn't
-    compile, one that can't be applied, two that can't be read (a text on two lines, a text that stays), and one that is refused."""
+    compile, one that can't be applied, two that can't be read (a text on two lines, a text that stays), and one that is refused. Of a
+    definition one that the law refuses that it names, one that another law refuses; one that names no law that is there; and a body's
+    edit that names one."""
     paths = sorted(f"{TOP}/tests/tester/dr_base/{it}" for it in os.listdir(f"{TOP}/tests/tester/dr_base"))
     results = try_all({"dr_base": paths})
     wanted = {path: os.path.basename(path).startswith("refused_") for path in paths}

@@ -1,5 +1,5 @@
 -- Why a call is refused where no store failed, and what an answer finds that comes late.
-use Rattle.std.proofs.Common.{◌≡◌, ◌≢◌, refl, sym, ap, subst, ◌∙◌, ◌⊎◌, inl, inr, ℕ, ◌<◌, ◌-◌, ◌^◌, Bool, true, false, List, [], ◌∷◌, Contains, Some, Ok, Err, arith}
+use Rattle.std.proofs.Common.{◌≡◌, ◌≢◌, refl, sym, ap, subst, ◌∙◌, ◌⊎◌, inl, inr, ℕ, ◌<◌, ◌-◌, ◌^◌, [], ◌∷◌, Contains, Some, Result, Err, arith}
 use Rattle.std.specs.FinMap as map
 use Rattle.dr_base.specs.Texts.{Text}
 use Rattle.dr_plan_model.proofs.Gathered.{Contains-here, Contains-there}
@@ -7,13 +7,12 @@ use Rattle.dr_ledger.specs.declared.fault.LedgerFault.{LedgerFault}
 use Rattle.dr_ledger.specs.declared.fault.LedgerFault.TheVariants as fault
 use Rattle.dr_ledger.specs.declared.item.Instance.{Instance}
 use Rattle.dr_ledger.specs.declared.item.Outcome.{Outcome}
-use Rattle.dr_ledger.specs.declared.item.Progress.{Progress}
-use Rattle.dr_ledger.specs.declared.item.Progress.TheVariants.{Waiting, Held, Done, Dropped}
+use Rattle.dr_ledger.specs.declared.item.Progress.TheVariants.{Waiting, Held, Dropped}
 use Rattle.dr_ledger.specs.Books.{Book, Line, Arrival, Repeat, Settling, Requeuing, Dropping, Forgetting, Adoption, after, row_after, settled_row, requeued_row, dropped_row, is_queued}
 use Rattle.dr_ledger.specs.Grounds.{AdoptionsHaveGrounds, ArrivalsHaveGrounds, AwaitedIsNotOver, DroppingsHaveGrounds, ForgettingsHaveGrounds, IsAwaited, OthersAreNotCounted, RequeuingsHaveGrounds, SettlingsHaveGrounds, WaitsUntilSettled}
 use Rattle.dr_ledger.specs.Histories.{IsCall}
 use Rattle.dr_ledger.specs.Pairs.{Pair}
-use Rattle.dr_ledger.specs.Replies.{Counts, IsHeld, IsOver}
+use Rattle.dr_ledger.specs.Replies.{Counts, IsHeld}
 use Rattle.dr_ledger.specs.Routings.{Routing}
 use Rattle.dr_ledger.proofs.Forgotten.{no_way}
 use Rattle.dr_ledger.proofs.Growing.{rows_stay}
@@ -84,15 +83,15 @@ adoptions_have_grounds old new fault.NotWaiting before now a c free is = a
 adoptions_have_grounds old new fault.NotHeld before now a c free is = a
 adoptions_have_grounds old new fault.NotOver before now a c free is = a
 
-stored : (why : LedgerFault) → Err {A = Unit {0}} why ≡ Err fault.Store → why ≡ fault.Store
+stored : (why : LedgerFault) → ◌≡◌ {A = Result (Unit {0}) LedgerFault} (Err why) (Err fault.Store) → why ≡ fault.Store
 stored why e = cc
 
+unchanged : (why : LedgerFault) (before now : ℕ) → why ≢ fault.Store → (◌≡◌ {A = Result (Unit {0}) LedgerFault} (Err why) (Err fault.Store)) ⊎ (now ≡ before) → now ≡ before
+unchanged why before now other (inl store) = absurd (other (stored why store))
+unchanged why before now other (inr same) = same
+
 pub others_are_not_counted : OthersAreNotCounted
-others_are_not_counted why before now other c = of c.no_other
-  where
-    of : (Err {A = Unit {0}} why ≡ Err fault.Store) ⊎ (now ≡ before) → now ≡ before
-    of (inl store) = absurd (other (stored why store))
-    of (inr same) = same
+others_are_not_counted why before now other c = unchanged why before now other c.no_other
 
 -- ---- a row that waits for an answer
 

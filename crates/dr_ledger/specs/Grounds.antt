@@ -1,6 +1,6 @@
 -- The grounds of refusals: where no failure of the store was counted, and memory wasn't wanting, a
 -- call is refused for what stands in the book alone. And what an answer finds that comes late.
-use Rattle.std.specs.Prelude.{◌≡◌, ◌≢◌, ◌<◌, ◌-◌, ◌^◌, ℕ, List, Contains, Some, Result, Ok, Err}
+use Rattle.std.specs.Prelude.{◌≡◌, ◌≢◌, ◌<◌, ◌-◌, ◌^◌, ℕ, List, Contains, Some, Result, Err}
 use Rattle.std.specs.FinMap as map
 use Rattle.dr_base.specs.Texts.{Text}
 use Rattle.dr_ledger.specs.declared.fault.LedgerFault.{LedgerFault}

@@ -7,7 +7,7 @@ use Rattle.std.specs.FinMap.{is_sorted}
 use Rattle.std.specs.FinMap.Entries.{below_all}
 use Rattle.std.specs.Ordering.{MatchOrdering, is_gt, is_le, is_lt, nat_cmp}
 use Rattle.dr_ledger.specs.Books.{Line}
-use Rattle.dr_ledger_views.specs.Numbers.{AreNumbered, counted, is_within, last_of, lines_within}
+use Rattle.dr_ledger_views.specs.Numbers.{HaveNumbers, counted, is_within, last_of, lines_within}
 
 -- ---- the order of numbers
 
@@ -109,7 +109,7 @@ rise : (n : ℕ) (lines : List Line) → T (is_sorted nat_cmp (counted n lines))
 rise n [] = tt
 rise n (line ∷ lines) = both_T (below_all nat_cmp (n + 1) (counted (n + 1) lines)) _ (above_all (n + 1) (n + 1) lines (omega arith)) (rise (n + 1) lines)
 
-pub are_numbered : (lines : List Line) → AreNumbered lines (counted 0 lines)
+pub are_numbered : (lines : List Line) → HaveNumbers lines (counted 0 lines)
 are_numbered lines = record { told = told 0 lines; rise = rise 0 lines }
 
 -- ---- a page of them

@@ -6,7 +6,7 @@ use Rattle.std.specs.Ordering.{is_gt, is_le, nat_cmp}
 use Rattle.dr_ledger.specs.Books.{Line}
 
 -- the lines of a journal, each with its number; the numbers rise
-pub record AreNumbered (lines : List Line) (all : List (ℕ × Line)) : Type 0 where
+pub record HaveNumbers (lines : List Line) (all : List (ℕ × Line)) : Type 0 where
   pub told : mapped (λ (e : ℕ × Line). e.1) all ≡ lines
   pub rise : T (is_sorted nat_cmp all)
 

@@ -5,7 +5,7 @@ ghost use Rattle.std.specs.FinSet as set;
 ghost use Rattle.dr_ledger.specs.Replies.{Counts, LastsThrough, Reads};
 ghost use Rattle.dr_ledger.specs.Books.{Line};
 ghost use Rattle.dr_ledger_history.specs.Lines.{line_of};
-ghost use Rattle.dr_ledger_views.specs.Numbers.{AreBehind, AreNumbered, last_of};
+ghost use Rattle.dr_ledger_views.specs.Numbers.{AreBehind, HaveNumbers, last_of};
 ghost use Rattle.dr_ledger_views.specs.Views.{AreCallers, IsLeast, IsTally, dues, how_many};
 ghost use Rattle.dr_ledger_views.specs.Views.{page_of, rows_of};
 ghost use Rattle.std.specs.Prelude.{Some};
@@ -134,7 +134,7 @@ pub trait Views: Moments {
         ensures reply { Self.stands self.new
             → Reads result (λ lines.
             AreBehind after limit (Self.numbered self.old) (mapped line_of lines)) }
-        ensures numbered { AreNumbered (Self.book self.old).lines (Self.numbered self.old) }
+        ensures numbered { HaveNumbers (Self.book self.old).lines (Self.numbered self.old) }
         ensures same { Self.stands self.new
             → (Self.book self.new ≡ Self.book self.old)
             × (Self.bodies self.new ≡ Self.bodies self.old) }

@@ -15,8 +15,8 @@ use Rattle.dr_store.proofs.Writes.{Done}
 abbrev pub Adoption : Result (Unit {0}) LedgerFault → Trees → Trees → Type 0
 Adoption r base db = Adopting (book_of base) r (book_of db) × OnlyLetsGo (bodies_of base) (bodies_of db)
 
-pub adopted : (Uses : List ℕ → Type 0) (Stands : List ℕ → List ℕ → Type 0) (n : ℕ) (part next : Part) (r : Result (Unit {0}) LedgerFault) (old new : State) → Adopted n part next r old new Nothing → Done Uses Stands n (advanced r n) part (site_after r next part) r old new (Adoption r) (IsAdopted next)
-adopted Uses Stands n part next r old new a = record {
+pub adopted : (Uses : List ℕ → Type 0) (Stands Apart : List ℕ → List ℕ → Type 0) (n : ℕ) (part next : Part) (r : Result (Unit {0}) LedgerFault) (old new : State) → Adopted n part next r old new Nothing → Done Uses Stands Apart n (advanced r n) part (site_after r next part) r old new (Adoption r) (IsAdopted next)
+adopted Uses Stands Apart n part next r old new a = record {
   clean = a.clean;
   was_open = a.was_open;
   lasts = λ clean k. a.lasts clean k tt;

@@ -6,7 +6,7 @@ use Rattle.sqlite.specs.Order.{Row}
 use Rattle.sqlite.specs.Tree.{Trees}
 use Rattle.dr_route.specs.Routes.{local}
 use Rattle.dr_ledger.specs.Books.{Line, Arrival}
-use Rattle.dr_ledger_views.specs.Numbers.{AreNumbered, counted, is_within, lines_within}
+use Rattle.dr_ledger_views.specs.Numbers.{HaveNumbers, counted, is_within, lines_within}
 use Rattle.dr_ledger_views.proofs.Numbered.{within}
 use Rattle.dr_store_schema.specs.Books.{book_of, keeps_in, named_in, targets_in}
 use Rattle.dr_store_lists.specs.Lists.{Goal, line_of}
@@ -18,7 +18,7 @@ use Rattle.dr_store_audit.proofs.Goaled.{keeps, targets}
 use Rattle.dr_store_views.specs.Spans.{AreGoalsWithin, AreNotesWithin, CountsUp, numbered_of}
 
 -- the journal's lines with their numbers, which rise
-pub are_numbered : (db : Trees) → AreNumbered (book_of db).lines (numbered_of db)
+pub are_numbered : (db : Trees) → HaveNumbers (book_of db).lines (numbered_of db)
 are_numbered db = record { told = refl; rise = entries_sorted _ }
 
 -- tables with these rows for target

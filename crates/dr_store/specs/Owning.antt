@@ -1,5 +1,6 @@
 -- For which data sets the cells of a ledger's tables stand. `Uses` says which cells are in use on
--- the ledger's shelf, and `Stands` for which bytes they stand.
+-- the ledger's shelf, `Stands` for which bytes they stand, and `Apart` which two can be let go one
+-- without the other.
 use Rattle.std.specs.Prelude.{◌≡◌, ℕ, List, Some, map as mapped}
 use Rattle.std.specs.FinMap as map
 use Rattle.sqlite.specs.State.{State}
@@ -12,6 +13,7 @@ use Rattle.dr_ledger.specs.Books.{Book}
 use Rattle.dr_ledger.specs.Items.{IsItem, instance_of}
 use Rattle.dr_store_schema.specs.Books.{bodies_of, book_of}
 use Rattle.dr_store_calls.specs.Calling.{IsKept}
+use Rattle.dr_store_calls.specs.LettingGo.{AreEachApart}
 
 -- each cell is in use
 abbrev pub AreUsed : (List ℕ → Type 0) → Bodies → Type 0
@@ -25,17 +27,27 @@ AreOwn Stands b cells =
     → (item : Job) × IsItem item × Stands cell item.body
     × (map.get b.items uid ≡ Some (instance_of item))
 
--- The cells of these tables are in use, and stand for the data sets of their book.
-pub record HaveOwn (Uses : List ℕ → Type 0) (Stands : List ℕ → List ℕ → Type 0)
+-- The cells of these tables are in use, and stand for the data sets of their book. Each two of them
+-- can be let go one without the other.
+pub record HaveOwn (Uses : List ℕ → Type 0) (Stands Apart : List ℕ → List ℕ → Type 0)
     (db : Trees) : Type 0 where
   pub used : AreUsed Uses (bodies_of db)
   pub own : AreOwn Stands (book_of db) (bodies_of db)
+  pub apart : AreEachApart Apart (bodies_of db)
 
 -- The store is open, with the tables of a ledger of that site, whose cells stand for its data sets.
-pub record KeepsOwn (Uses : List ℕ → Type 0) (Stands : List ℕ → List ℕ → Type 0)
+pub record KeepsOwn (Uses : List ℕ → Type 0) (Stands Apart : List ℕ → List ℕ → Type 0)
     (n : ℕ) (part : Part) (s : State) : Type 0 where
   pub kept : IsKept n part s
-  pub own : HaveOwn Uses Stands s.committed.trees
+  pub own : HaveOwn Uses Stands Apart s.committed.trees
+
+-- Whatever a crash leaves of these states, the cells are in use and stand for the data sets of the
+-- book that it leaves.
+abbrev pub IsCovered : (List ℕ → Type 0)
+    → (Stands Apart : List ℕ → List ℕ → Type 0)
+    → (Trees → Type 0) → Type 0
+IsCovered Uses Stands Apart may_leave =
+    (db : Trees) → may_leave db → ∥ HaveOwn Uses Stands Apart db ∥₁
 
 -- ---- the data sets
 

@@ -12,7 +12,7 @@ ghost use Rattle.dr_store_calls.specs.Adoptions.{IsAdopted};
 ghost use Rattle.dr_store_calls.specs.Calling.{IsSafe};
 ghost use Rattle.dr_store_calls.specs.Knowing.{IsAccepted};
 ghost use Rattle.dr_store.specs.Counting.{failures_after};
-ghost use Rattle.dr_store.specs.Owning.{KeepsOwn, bodies_with};
+ghost use Rattle.dr_store.specs.Owning.{IsCovered, KeepsOwn, bodies_with};
 ghost use Rattle.dr_store.specs.Surviving.{Wrote};
 
 use crate::counting::{counted, next_after};
@@ -26,7 +26,7 @@ use dr_ledger_history::JournalLine;
 use dr_ledger_journal::TellsJournal;
 use dr_ledger_views::{Moments, Origin, Stage, Views};
 use dr_site::Site;
-use dr_store_calls::{NextLine, adopt, arrive, forget, give_up, is_over, requeue, settle};
+use dr_store_calls::{NextLine, RowAt, adopt, arrive, forget, give_up, is_over, requeue, settle};
 use dr_store_reads::find_row;
 use dr_store_shelf::Shelf;
 use dr_store_views::{
@@ -49,7 +49,7 @@ pub struct SqlLedger<S: Alter, B: Shelf> {
     failures: u64,
     ghost idle: { conn.in_transaction ≡ false },
     ghost kept: { IsSafe (state S.Store conn)
-        → ∥ KeepsOwn (B.Shelf.uses shelf) (B.Shelf.stands shelf) next site
+        → ∥ KeepsOwn (B.Shelf.uses shelf) (B.Shelf.stands shelf) B.Shelf.apart next site
         (state S.Store conn) ∥₁ },
 }
 
@@ -67,7 +67,7 @@ impl<S: Alter, B: Shelf> SqlLedger<S, B> {
     ) -> SqlLedger<S, B>
         requires idle { conn.in_transaction ≡ false }
         requires kept { IsSafe (state S.Store conn)
-            → ∥ KeepsOwn (B.Shelf.uses shelf) (B.Shelf.stands shelf) next site
+            → ∥ KeepsOwn (B.Shelf.uses shelf) (B.Shelf.stands shelf) B.Shelf.apart next site
             (state S.Store conn) ∥₁ }
         ensures site { result.site ≡ site }
         ensures conn { result.conn ≡ conn }
@@ -105,7 +105,7 @@ impl<S: Alter, B: Shelf> SqlLedger<S, B> {
     }
 
     /// Takes an item from a caller, as `Ledger::arrive` says, and survives a crash at any moment.
-    /// Its data set is put on the shelf before its line is committed.
+    /// If its data set comes into the tables, it is put on the shelf before its line is committed.
     fn arrive_in(&mut self, caller: &Text, item: Item) -> Result<Arrived, LedgerFault>
         ensures wrote { Wrote result (state S.Store self.old.conn) (state S.Store self.new.conn)
             (λ base db. Arrives (site_routing self.old.site) caller.now (instance_of item)
@@ -114,6 +114,10 @@ impl<S: Alter, B: Shelf> SqlLedger<S, B> {
             (bodies_with (B.Shelf.body_of self.new.shelf) db))
             (λ base db. IsAccepted self.old.site caller.now (instance_of item) (book_of base)
             (book_of db)) }
+        ensures covered { HasCleanDisk (state S.Store self.new.conn)
+            → IsSafe (state S.Store self.old.conn)
+            → IsCovered (B.Shelf.uses self.new.shelf) (B.Shelf.stands self.new.shelf) B.Shelf.apart
+            (state S.Store self.new.conn).may_leave }
         ensures clean { B.Shelf.is_clean self.new.shelf → B.Shelf.is_clean self.old.shelf }
         ensures counted { self.new.failures ≡ failures_after result self.old.failures }
         ensures counts { Counts result self.old.failures self.new.failures }
@@ -137,7 +141,8 @@ impl<S: Alter, B: Shelf> SqlLedger<S, B> {
         answer
     }
 
-    /// Notes what came of a try, as `Ledger::settle` says, and survives a crash at any moment.
+    /// Notes what came of a try, as `Ledger::settle` says, and survives a crash at any moment. The
+    /// cell of a data set that went is let go once that is committed.
     fn settle_in(
         &mut self,
         uid: &Text,
@@ -151,12 +156,24 @@ impl<S: Alter, B: Shelf> SqlLedger<S, B> {
             × OnlyLetsGo (bodies_with (B.Shelf.body_of self.old.shelf) base)
             (bodies_with (B.Shelf.body_of self.new.shelf) db))
             (λ base db. Settles uid.now dest.now outcome now (book_of base) (Ok tt) (book_of db)) }
+        ensures covered { HasCleanDisk (state S.Store self.new.conn)
+            → IsSafe (state S.Store self.old.conn)
+            → IsCovered (B.Shelf.uses self.new.shelf) (B.Shelf.stands self.new.shelf) B.Shelf.apart
+            (state S.Store self.new.conn).may_leave }
         ensures clean { B.Shelf.is_clean self.new.shelf → B.Shelf.is_clean self.old.shelf }
         ensures counted { self.new.failures ≡ failures_after result self.old.failures }
         ensures counts { Counts result self.old.failures self.new.failures }
         ensures site { self.new.site ≡ self.old.site }
     {
-        let answer = settle(&mut self.conn, self.next, uid, dest, outcome, now);
+        let answer = settle(
+            &mut self.conn,
+            &mut self.shelf,
+            self.alloc,
+            self.next,
+            RowAt { uid, dest },
+            outcome,
+            now,
+        );
         self.next = next_after(&answer, self.next);
         self.failures = counted(&answer, self.failures);
         answer
@@ -169,6 +186,10 @@ impl<S: Alter, B: Shelf> SqlLedger<S, B> {
             × OnlyLetsGo (bodies_with (B.Shelf.body_of self.old.shelf) base)
             (bodies_with (B.Shelf.body_of self.new.shelf) db))
             (λ base db. Requeues uid.now dest.now (book_of base) (Ok tt) (book_of db)) }
+        ensures covered { HasCleanDisk (state S.Store self.new.conn)
+            → IsSafe (state S.Store self.old.conn)
+            → IsCovered (B.Shelf.uses self.new.shelf) (B.Shelf.stands self.new.shelf) B.Shelf.apart
+            (state S.Store self.new.conn).may_leave }
         ensures clean { B.Shelf.is_clean self.new.shelf → B.Shelf.is_clean self.old.shelf }
         ensures counted { self.new.failures ≡ failures_after result self.old.failures }
         ensures counts { Counts result self.old.failures self.new.failures }
@@ -180,7 +201,8 @@ impl<S: Alter, B: Shelf> SqlLedger<S, B> {
         answer
     }
 
-    /// Drops a held row, as `LetsGo::give_up` says, and survives a crash at any moment.
+    /// Drops a held row, as `LetsGo::give_up` says, and survives a crash at any moment. The cell of
+    /// a data set that went is let go once that is committed.
     fn give_up_in(&mut self, uid: &Text, dest: &Text, now: u64) -> Result<(), LedgerFault>
         requires { now ≤ 2 ^ 62 }
         ensures wrote { Wrote result (state S.Store self.old.conn) (state S.Store self.new.conn)
@@ -188,12 +210,23 @@ impl<S: Alter, B: Shelf> SqlLedger<S, B> {
             × OnlyLetsGo (bodies_with (B.Shelf.body_of self.old.shelf) base)
             (bodies_with (B.Shelf.body_of self.new.shelf) db))
             (λ base db. Drops uid.now dest.now now (book_of base) (Ok tt) (book_of db)) }
+        ensures covered { HasCleanDisk (state S.Store self.new.conn)
+            → IsSafe (state S.Store self.old.conn)
+            → IsCovered (B.Shelf.uses self.new.shelf) (B.Shelf.stands self.new.shelf) B.Shelf.apart
+            (state S.Store self.new.conn).may_leave }
         ensures clean { B.Shelf.is_clean self.new.shelf → B.Shelf.is_clean self.old.shelf }
         ensures counted { self.new.failures ≡ failures_after result self.old.failures }
         ensures counts { Counts result self.old.failures self.new.failures }
         ensures site { self.new.site ≡ self.old.site }
     {
-        let answer = give_up(&mut self.conn, self.next, uid, dest, now);
+        let answer = give_up(
+            &mut self.conn,
+            &mut self.shelf,
+            self.alloc,
+            self.next,
+            RowAt { uid, dest },
+            now,
+        );
         self.next = next_after(&answer, self.next);
         self.failures = counted(&answer, self.failures);
         answer
@@ -207,6 +240,10 @@ impl<S: Alter, B: Shelf> SqlLedger<S, B> {
             × OnlyLetsGo (bodies_with (B.Shelf.body_of self.old.shelf) base)
             (bodies_with (B.Shelf.body_of self.new.shelf) db))
             (λ base db. Forgets uid.now (book_of base) (Ok tt) (book_of db)) }
+        ensures covered { HasCleanDisk (state S.Store self.new.conn)
+            → IsSafe (state S.Store self.old.conn)
+            → IsCovered (B.Shelf.uses self.new.shelf) (B.Shelf.stands self.new.shelf) B.Shelf.apart
+            (state S.Store self.new.conn).may_leave }
         ensures clean { B.Shelf.is_clean self.new.shelf → B.Shelf.is_clean self.old.shelf }
         ensures counted { self.new.failures ≡ failures_after result self.old.failures }
         ensures counts { Counts result self.old.failures self.new.failures }
@@ -226,6 +263,10 @@ impl<S: Alter, B: Shelf> SqlLedger<S, B> {
             × OnlyLetsGo (bodies_with (B.Shelf.body_of self.old.shelf) base)
             (bodies_with (B.Shelf.body_of self.new.shelf) db))
             (IsAdopted own) }
+        ensures covered { HasCleanDisk (state S.Store self.new.conn)
+            → IsSafe (state S.Store self.old.conn)
+            → IsCovered (B.Shelf.uses self.new.shelf) (B.Shelf.stands self.new.shelf) B.Shelf.apart
+            (state S.Store self.new.conn).may_leave }
         ensures clean { B.Shelf.is_clean self.new.shelf → B.Shelf.is_clean self.old.shelf }
         ensures counted { self.new.failures ≡ failures_after result self.old.failures }
         ensures counts { Counts result self.old.failures self.new.failures }

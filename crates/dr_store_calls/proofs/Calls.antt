@@ -242,15 +242,16 @@ asked_as n m part r old new Asks More Answers Makes gives c = record {
 }
 
 -- a call that asks for more, of which less is said
-pub called_as : {A : Type 0} (n m : ℕ) (part : Part) (r : Result A LedgerFault) (old new : State) (Asks More : Trees → Type 0) (Answers Makes Less : Trees → Trees → Type 0)
-    → ((db : Trees) → IsLedgerOf n part db → More db → Asks db) → ((base db : Trees) → Makes base db → Less base db) → Called n m part r old new Asks Answers Makes → Called n m part r old new More Answers Less
-called_as n m part r old new Asks More Answers Makes Less gives weaker c = record {
+pub said_as : {A : Type 0} (n m : ℕ) (part : Part) (r : Result A LedgerFault) (old new : State) (Asks More : Trees → Type 0) (Answers Says Makes Less : Trees → Trees → Type 0)
+    → ((db : Trees) → IsLedgerOf n part db → More db → Asks db) → ((base db : Trees) → Answers base db → Says base db) → ((base db : Trees) → Makes base db → Less base db) → Called n m part r old new Asks Answers Makes
+    → Called n m part r old new More Says Less
+said_as n m part r old new Asks More Answers Says Makes Less gives says weaker c = record {
   clean = c.clean;
   was_open = c.was_open;
   idle = c.idle;
   lasts = λ clean k asks. c.lasts clean k (gives old.committed.trees k.ledger asks);
   kept = λ clean is_open k asks. c.kept clean is_open k (gives old.committed.trees k.ledger asks);
-  answers = λ clean is_open k asks. c.answers clean is_open k (gives old.committed.trees k.ledger asks);
+  answers = λ clean is_open k asks. says old.committed.trees new.committed.trees (c.answers clean is_open k (gives old.committed.trees k.ledger asks));
   crash = λ clean k asks db left. elim (c.crash clean k (gives old.committed.trees k.ledger asks) db left) [ inl before ↦ inl before | inr made ↦ inr (weaker old.committed.trees db made) ];
 }
 

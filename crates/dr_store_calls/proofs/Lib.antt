@@ -2,6 +2,7 @@ pub mod Adoptions
 pub mod Calls
 pub mod Changes
 pub mod Fitting
+pub mod Going
 pub mod Knows
 pub mod Moves
 pub mod Overs

@@ -35,11 +35,12 @@ use Rattle.dr_store_changes.proofs.Dropped.{but_arrivals, droppings_drop, goes_a
 use Rattle.dr_store_changes.proofs.LettingGo.{body_at}
 use Rattle.dr_store_reads.specs.Queries.{IsOpenElsewhere}
 use Rattle.dr_store_calls.specs.Calling.{IsLedgerOf}
+use Rattle.dr_store_calls.specs.LettingGo.{GoesWith}
 use Rattle.dr_store_calls.specs.Needs.{IsKeptIn, IsNeededStill}
 
 -- ---- what is needed
 
-split : {A : Type 0} (b : Bool) (o : Option A) (x : A) → cond b o None ≡ Some x → (b ≡ true) × (o ≡ Some x)
+pub split : {A : Type 0} (b : Bool) (o : Option A) (x : A) → cond b o None ≡ Some x → (b ≡ true) × (o ≡ Some x)
 split true o x h = (refl, h)
 split false o x h = absurd (let e = h in cc)
 
@@ -88,10 +89,16 @@ module _ (base db : Trees) (uid dest : Text) (to : Progress) (line : Row) (lets_
   moved_ahead : (n : ℕ) → GoNowhere n base → GoNowhere (n + 1) db
   moved_ahead n ahead m later = ap (λ rows. names_in rows m) w.targets ∙ ahead m (omega (arith, later))
 
+-- what goes is the data set that was needed before
+goes_with : (base db : Trees) (uid : Text) (needed : Bool) → ((cell : List ℕ) × (map.get (bodies_of base) uid ≡ Some cell)) → bodies_of db ≡ cond (not needed) (map.remove (bodies_of base) uid) (bodies_of base)
+    → GoesWith (Ok (not needed)) uid base db
+goes_with base db uid true there goes = goes
+goes_with base db uid false there goes = (there, goes)
+
 pub settles : (n : ℕ) (part : Part) (base db : Trees) (uid dest : Text) (tries due : ℕ) (to : Progress) (what : Outcome) (now : ℕ) (needed : Bool) → now ≤ 2 ^ 62 → AreBelow n (base 11) → IsLedgerOf n part base
     → map.get (rows_of base) (uid, dest) ≡ Some (Waiting tries due) → to ≡ row_after tries what now → (IsTrue needed ↔ IsNeededStill base uid dest to)
     → MovesOn (uid, dest) to (settled_line n uid dest what now) (not needed) base db
-    → IsLedgerOf (n + 1) part db × (Settles uid dest what now (book_of base) (Ok tt) (book_of db) × OnlyLetsGo (bodies_of base) (bodies_of db))
+    → IsLedgerOf (n + 1) part db × (Settles uid dest what now (book_of base) (Ok tt) (book_of db) × OnlyLetsGo (bodies_of base) (bodies_of db) × GoesWith (Ok (not needed)) uid base db)
 settles n part base db uid dest tries due to what now needed early below l waits is says w =
     let line : Row = settled_line n uid dest what now in
     let P : Progress → Type 0 = λ p. MovesOn (uid, dest) p line (not needed) base db in
@@ -103,7 +110,11 @@ settles n part base db uid dest tries due to what now needed early below l waits
         journalled = (l.journalled.0, settlings_are_journalled (site_routing part) l.journalled.0 uid dest what now (book_of base) (book_of db) (Ok tt) early l.journalled.1 answer);
         bodied = what_is_needed_stays base db uid dest (Waiting tries due) to line (not needed) l.bodied (row_needed base uid dest (Waiting tries due) waits unfinished) w (goes base db uid dest to line (not needed) w needed says);
       },
-      (answer, λ q body h. body_was base db (uid, dest) to line (not needed) q body w h),
+      (
+        answer,
+        λ q body h. body_was base db (uid, dest) to line (not needed) q body w h,
+        goes_with base db uid needed ((l.bodied.there uid).1 (row_needed base uid dest (Waiting tries due) waits unfinished)) w.bodies,
+      ),
     )
 
 pub requeues : (n : ℕ) (moment : Option ℕ) (part : Part) (base db : Trees) (uid dest : Text) (why : Cause) → AreBelow n (base 11) → IsLedgerOf n part base → map.get (rows_of base) (uid, dest) ≡ Some (Held why)
@@ -125,7 +136,7 @@ requeues n moment part base db uid dest why below l held w =
 
 pub drops : (n : ℕ) (part : Part) (base db : Trees) (uid dest : Text) (why : Cause) (now : ℕ) (needed : Bool) → now ≤ 2 ^ 62 → AreBelow n (base 11) → IsLedgerOf n part base
     → map.get (rows_of base) (uid, dest) ≡ Some (Held why) → (IsTrue needed ↔ IsNeededStill base uid dest Dropped) → GivesUp uid dest now n (not needed) base db
-    → IsLedgerOf (n + 1) part db × (Drops uid dest now (book_of base) (Ok tt) (book_of db) × OnlyLetsGo (bodies_of base) (bodies_of db))
+    → IsLedgerOf (n + 1) part db × (Drops uid dest now (book_of base) (Ok tt) (book_of db) × OnlyLetsGo (bodies_of base) (bodies_of db) × GoesWith (Ok (not needed)) uid base db)
 drops n part base db uid dest why now needed early below l held says w =
     let line : Row = dropped_line n uid dest now in
     let mid = but_arrivals base db in
@@ -138,7 +149,11 @@ drops n part base db uid dest why now needed early below l held says w =
         bodied = what_is_needed_stays_at_a_dropping base db n uid dest now (not needed) l.bodied (row_needed base uid dest (Held why) held refl) w
             (goes_as_well base db uid (not needed) (goes base mid uid dest Dropped line (not needed) m needed says));
       },
-      (answer, λ q body h. body_was base mid (uid, dest) Dropped line (not needed) q body m h),
+      (
+        answer,
+        λ q body h. body_was base mid (uid, dest) Dropped line (not needed) q body m h,
+        goes_with base db uid needed ((l.bodied.there uid).1 (row_needed base uid dest (Held why) held refl)) w.bodies,
+      ),
     )
 
 -- ---- how late a row is due

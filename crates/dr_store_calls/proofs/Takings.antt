@@ -37,16 +37,16 @@ use Rattle.sqlite.specs.State.{State}
 use Rattle.dr_store_calls.specs.declared.bringing.Delivery.{Delivery}
 use Rattle.dr_store_calls.specs.Calling.{Called, IsLedgerOf, IsOwnFault, Looked, Nothing, advanced}
 use Rattle.dr_store_calls.specs.Knowing.{FitsTables, IsThere}
-use Rattle.dr_store_calls.specs.Receiving.{AcceptsOne, AnswersWith, IsDelivered, Receives, ReceivesAs, TakesOnly}
-use Rattle.dr_store_calls.proofs.Calls.{asked_as, called_as, looked_failed, looked_then, still_called}
+use Rattle.dr_store_calls.specs.Receiving.{AcceptsOne, AnswersWith, IsCellTaken, IsDelivered, NoCell, Receives, ReceivesAs, TakesOn}
+use Rattle.dr_store_calls.proofs.Calls.{asked_as, looked_failed, looked_then, own_lasts, said_as, still_called}
 
 -- ---- a first arrival
 
 cell_came : (how : Taking) (uid : Text) (cell : List ℕ) (bodies : Bodies) (other : Text) (there : List ℕ) → map.get (bodies_taken how bodies uid cell) other ≡ Some there
-    → (map.get bodies other ≡ Some there) ⊎ ((other ≡ uid) × (there ≡ cell))
-cell_came taking.New uid cell bodies other there h = elim (got texts bodies uid cell other there h) [ inl new ↦ inr new | inr was ↦ inl was.1 ]
+    → (map.get bodies other ≡ Some there) ⊎ ((other ≡ uid) × IsCellTaken how cell there)
+cell_came taking.New uid cell bodies other there h = elim (got texts bodies uid cell other there h) [ inl new ↦ inr (new.0, (refl, new.1)) | inr was ↦ inl was.1 ]
 cell_came taking.Bare uid cell bodies other there h = inl h
-cell_came taking.Again uid cell bodies other there h = elim (got texts bodies uid cell other there h) [ inl new ↦ inr new | inr was ↦ inl was.1 ]
+cell_came taking.Again uid cell bodies other there h = elim (got texts bodies uid cell other there h) [ inl new ↦ inr (new.0, (refl, new.1)) | inr was ↦ inl was.1 ]
 cell_came taking.Nothing uid cell bodies other there h = inl h
 
 -- an item's size is one that a row can tell
@@ -88,7 +88,7 @@ module _ (n : ℕ) (moment : Option ℕ) (part : Part) (how : Taking) (caller : 
   has : map.get (items_of db) instance.uid ≡ Some instance
   has = ap (λ (b : Book). map.get b.items instance.uid) book ∙ filled_is texts (items_of base) instance.uid instance same
 
-  takes : TakesOnly (Ok New) instance cell base db
+  takes : TakesOn (IsCellTaken how cell) instance base db
   takes uid there h = elim (cell_came how instance.uid cell (bodies_of base) uid there (ap (λ x. map.get x uid) (sym w.bodies) ∙ h)) [
     | inl was ↦ inl was
     | inr new ↦ inr (new.0, new.1, has)
@@ -99,7 +99,7 @@ module _ (n : ℕ) (moment : Option ℕ) (part : Part) (how : Taking) (caller : 
       w.targets m ∙ ap (λ b. cond b (with_names (names_in (base 12) m) (names_for keep to)) (names_in (base 12) m)) (ne_eqb n m (λ e. omega (arith, e, later)))
       ∙ l.ahead m (omega (arith, later))
 
-  pub arrives : IsLedgerOf (n + 1) part db × (Arrives (site_routing part) caller instance (book_of base) (Ok New) (book_of db) × TakesOnly (Ok New) instance cell base db)
+  pub arrives : IsLedgerOf (n + 1) part db × (Arrives (site_routing part) caller instance (book_of base) (Ok New) (book_of db) × TakesOn (IsCellTaken how cell) instance base db)
   arrives = (
     record { ahead = ahead; journalled = (l.journalled.0, arrivals_are_journalled (site_routing part) l.journalled.0 caller instance (book_of base) (book_of db) (Ok New) l.journalled.1 answer); bodied = bodied },
     (answer, takes),
@@ -107,10 +107,10 @@ module _ (n : ℕ) (moment : Option ℕ) (part : Part) (how : Taking) (caller : 
 
 -- ---- a repeat
 
-pub repeats : (n : ℕ) (moment : Option ℕ) (part : Part) (caller : Text) (instance : Instance) (cell : List ℕ) (whole : Bool) (base db : Trees) → HasLineFor part caller instance.key → AreBelow n (base 11) → IsLedgerOf n part base
+pub repeats : (n : ℕ) (moment : Option ℕ) (part : Part) (caller : Text) (instance : Instance) (whole : Bool) (base db : Trees) → HasLineFor part caller instance.key → AreBelow n (base 11) → IsLedgerOf n part base
     → IsThere base instance whole → set.contains (arrivals_in (base 5)) (caller, instance.uid) ≡ true → AddsOnlyLine (arrived_line n moment 1 caller instance) base db
-    → IsLedgerOf (n + 1) part db × (Arrives (site_routing part) caller instance (book_of base) (Ok Again) (book_of db) × TakesOnly (Ok Again) instance cell base db)
-repeats n moment part caller instance cell whole base db line below l was again w =
+    → IsLedgerOf (n + 1) part db × (Arrives (site_routing part) caller instance (book_of base) (Ok Again) (book_of db) × TakesOn NoCell instance base db)
+repeats n moment part caller instance whole base db line below l was again w =
     let made = repeats_repeat base db n moment caller instance below w in
     let answer : Arrives (site_routing part) caller instance (book_of base) (Ok Again) (book_of db) = (
       record { line = line; same = λ held is. sym (inside instance held (sym was.same ∙ is)) },
@@ -123,7 +123,7 @@ repeats n moment part caller instance cell whole base db line below l was again 
         journalled = (l.journalled.0, arrivals_are_journalled (site_routing part) l.journalled.0 caller instance (book_of base) (book_of db) (Ok Again) l.journalled.1 answer);
         bodied = subst (λ b. HasCells b (bodies_of db)) (sym made.0) (subst (λ x. HasCells (after (Repeat caller instance) (book_of base)) x) (sym made.1) has);
       },
-      (answer, made.1),
+      (answer, λ q there h. inl (sym (ap (λ cells. map.get cells q) made.1) ∙ h)),
     )
 
 -- ---- refusals
@@ -132,8 +132,12 @@ pub arrives_own : (part : Part) (caller : Text) (item : Instance) (b : Book) (e 
 arrives_own part caller item b e line (inl is) = subst (λ x. Arrives (site_routing part) caller item b (Err x) b) (sym is) (line, refl)
 arrives_own part caller item b e line (inr is) = subst (λ x. Arrives (site_routing part) caller item b (Err x) b) (sym is) (line, refl)
 
-pub takes_none : (e : LedgerFault) (instance : Instance) (cell : List ℕ) (db : Trees) → TakesOnly (Err e) instance cell db db
-takes_none e instance cell db = refl
+pub takes_none : (IsNew : List ℕ → Type 0) (instance : Instance) (db : Trees) → TakesOn IsNew instance db db
+takes_none IsNew instance db uid there h = inl h
+
+-- where more is new
+pub takes_more : (One Other : List ℕ → Type 0) → ((there : List ℕ) → One there → Other there) → (instance : Instance) (base db : Trees) → TakesOn One instance base db → TakesOn Other instance base db
+takes_more One Other more instance base db takes uid there h = elim (takes uid there h) [ inl was ↦ inl was | inr new ↦ inr (new.0, more there new.1, new.2) ]
 
 -- ---- a site sends nothing to the local caller
 
@@ -144,42 +148,63 @@ not_to_local part caller key site sends =
 
 -- ---- what is said of an arrival, whatever the tables have of it
 
-pub refused : (part : Part) (caller : Text) (instance : Instance) (cell : List ℕ) (e : LedgerFault) → HasLineFor part caller instance.key → IsOwnFault e → (db : Trees) → AnswersWith part caller instance cell (Err e) db db
-refused part caller instance cell e line own db = (arrives_own part caller instance (book_of db) e line own, takes_none e instance cell db)
+pub refused : (IsNew : List ℕ → Type 0) (part : Part) (caller : Text) (instance : Instance) (e : LedgerFault) → HasLineFor part caller instance.key → IsOwnFault e → (db : Trees) → AnswersWith IsNew part caller instance (Err e) db db
+refused IsNew part caller instance e line own db = (arrives_own part caller instance (book_of db) e line own, takes_none IsNew instance db)
 
-module _ (came : Delivery) (old new : State) where
+module _ (IsNew : List ℕ → Type 0) (came : Delivery) (old new : State) where
+  Answers : Result Arrived LedgerFault → Trees → Trees → Type 0
+  Answers r = AnswersWith IsNew came.site.now came.caller.now came.instance.now r
+
+  Makes : Trees → Trees → Type 0
+  Makes = AcceptsOne IsNew came.site.now came.caller.now came.instance.now
+
   -- where what is known couldn't be read
-  pub not_read : {A : Type 0} (Shows : Trees → A → Type 0) (e : LedgerFault) (Asks : Trees → Type 0) → IsDelivered came → Looked came.n came.site.now (Err e) old new Shows → Receives came (Err e) old new Asks
+  pub not_read : {A : Type 0} (Shows : Trees → A → Type 0) (e : LedgerFault) (Asks : Trees → Type 0) → IsDelivered came → Looked came.n came.site.now (Err e) old new Shows → Receives IsNew came (Err e) old new Asks
   not_read Shows e Asks is l =
-      looked_failed {B = Arrived} came.n came.site.now old new Shows e Asks (AnswersWith came.site.now came.caller.now came.instance.now came.cell.now (Err e)) (AcceptsOne came.site.now came.caller.now came.instance.now) l
-      (λ base asks own. refused came.site.now came.caller.now came.instance.now came.cell.now e is.line own base)
+      looked_failed {B = Arrived} came.n came.site.now old new Shows e Asks (Answers (Err e)) Makes l
+      (λ base asks own. refused IsNew came.site.now came.caller.now came.instance.now e is.line own base)
 
   -- what is known by reading helps a call that takes it
-  pub read_then : {A : Type 0} (mid : State) (Shows : Trees → A → Type 0) (a : A) (r : Result Arrived LedgerFault) (Asks Given : Trees → Type 0) → Looked came.n came.site.now (Ok a) old mid Shows → Receives came r mid new Given
-      → ((db : Trees) → Asks db → Shows db a → Given db) → Receives came r old new Asks
+  pub read_then : {A : Type 0} (mid : State) (Shows : Trees → A → Type 0) (a : A) (r : Result Arrived LedgerFault) (Asks Given : Trees → Type 0) → Looked came.n came.site.now (Ok a) old mid Shows → Receives IsNew came r mid new Given
+      → ((db : Trees) → Asks db → Shows db a → Given db) → Receives IsNew came r old new Asks
   read_then mid Shows a r Asks Given l c gives =
-      let Answers = AnswersWith came.site.now came.caller.now came.instance.now came.cell.now r in
-      let Makes = AcceptsOne came.site.now came.caller.now came.instance.now in
-      looked_then came.n (advanced r came.n) came.site.now old mid new Shows a r Asks Given Answers Makes Answers Makes l c (λ db l asks shown. gives db asks shown) (λ base db asks shown it. it) (λ base db asks shown it. it)
+      looked_then came.n (advanced r came.n) came.site.now old mid new Shows a r Asks Given (Answers r) Makes (Answers r) Makes l c (λ db l asks shown. gives db asks shown) (λ base db asks shown it. it) (λ base db asks shown it. it)
 
   -- a call that asks for less
-  pub received : (r : Result Arrived LedgerFault) (Asks More : Trees → Type 0) → ((db : Trees) → More db → Asks db) → Receives came r old new Asks → Receives came r old new More
+  pub received : (r : Result Arrived LedgerFault) (Asks More : Trees → Type 0) → ((db : Trees) → More db → Asks db) → Receives IsNew came r old new Asks → Receives IsNew came r old new More
   received r Asks More gives c =
-      asked_as came.n (advanced r came.n) came.site.now r old new Asks More (AnswersWith came.site.now came.caller.now came.instance.now came.cell.now r) (AcceptsOne came.site.now came.caller.now came.instance.now) (λ db l more. gives db more) c
+      asked_as came.n (advanced r came.n) came.site.now r old new Asks More (Answers r) Makes (λ db l more. gives db more) c
 
-  -- a call with one answer
-  pub received_as : (answer : Arrived) (r : Result Arrived LedgerFault) (Asks More : Trees → Type 0) → ((db : Trees) → IsLedgerOf came.n came.site.now db → More db → Asks db) → ReceivesAs answer came r old new Asks
-      → Receives came r old new More
-  received_as answer r Asks More gives c =
-      called_as came.n (advanced r came.n) came.site.now r old new Asks More (AnswersWith came.site.now came.caller.now came.instance.now came.cell.now r)
-      (λ base db. Arrives (site_routing came.site.now) came.caller.now came.instance.now (book_of base) (Ok answer) (book_of db)) (AcceptsOne came.site.now came.caller.now came.instance.now) gives (λ base db is. (answer, is)) c
+  -- a call with one answer, by which less is new
+  pub received_as : (One : List ℕ → Type 0) → ((there : List ℕ) → One there → IsNew there) → (answer : Arrived) (r : Result Arrived LedgerFault) (Asks More : Trees → Type 0) → ((db : Trees) → IsLedgerOf came.n came.site.now db → More db → Asks db)
+      → ReceivesAs One answer came r old new Asks → Receives IsNew came r old new More
+  received_as One more answer r Asks More gives c =
+      said_as came.n (advanced r came.n) came.site.now r old new Asks More (AnswersWith One came.site.now came.caller.now came.instance.now r) (Answers r)
+      (AnswersWith One came.site.now came.caller.now came.instance.now (Ok answer)) Makes gives
+      (λ base db it. (it.0, takes_more One IsNew more came.instance.now base db it.1))
+      (λ base db it. ((answer, it.0), takes_more One IsNew more came.instance.now base db it.1)) c
 
--- where nothing is done
-pub not_received : (came : Delivery) (e : LedgerFault) (s : State) (Asks : Trees → Type 0) → ((db : Trees) → Asks db → AnswersWith came.site.now came.caller.now came.instance.now came.cell.now (Err e) db db)
-    → ((P : Type 0) → P → IsLastingFault e P) → Receives came (Err e) s s Asks
-not_received came e s Asks answers lasts =
-    still_called {A = Arrived} came.n came.site.now (Err e) s Asks (AnswersWith came.site.now came.caller.now came.instance.now came.cell.now (Err e)) (AcceptsOne came.site.now came.caller.now came.instance.now) answers lasts
+  -- the same with the one answer still
+  pub brought_as : (One : List ℕ → Type 0) → ((there : List ℕ) → One there → IsNew there) → (answer : Arrived) (r : Result Arrived LedgerFault) (Asks : Trees → Type 0) → ReceivesAs One answer came r old new Asks
+      → ReceivesAs IsNew answer came r old new Asks
+  brought_as One more answer r Asks c =
+      said_as came.n (advanced r came.n) came.site.now r old new Asks Asks (AnswersWith One came.site.now came.caller.now came.instance.now r) (Answers r)
+      (AnswersWith One came.site.now came.caller.now came.instance.now (Ok answer)) (Answers (Ok answer)) (λ db l asks. asks)
+      (λ base db it. (it.0, takes_more One IsNew more came.instance.now base db it.1))
+      (λ base db it. (it.0, takes_more One IsNew more came.instance.now base db it.1)) c
 
--- where there is no memory
-pub no_memory : (came : Delivery) (s : State) (Asks : Trees → Type 0) → IsDelivered came → Receives came (Err fault.Memory) s s Asks
-no_memory came s Asks is = not_received came fault.Memory s Asks (λ db asks. refused came.site.now came.caller.now came.instance.now came.cell.now fault.Memory is.line (inr refl) db) (λ P h. tt)
+module _ (IsNew : List ℕ → Type 0) (came : Delivery) (s : State) (Asks : Trees → Type 0) where
+  -- where nothing is done
+  pub not_received : (e : LedgerFault) → ((db : Trees) → Asks db → AnswersWith IsNew came.site.now came.caller.now came.instance.now (Err e) db db) → ((P : Type 0) → P → IsLastingFault e P) → Receives IsNew came (Err e) s s Asks
+  not_received e answers lasts =
+      still_called {A = Arrived} came.n came.site.now (Err e) s Asks (AnswersWith IsNew came.site.now came.caller.now came.instance.now (Err e)) (AcceptsOne IsNew came.site.now came.caller.now came.instance.now) answers lasts
+
+  -- where there is no memory
+  pub no_memory : IsDelivered came → Receives IsNew came (Err fault.Memory) s s Asks
+  no_memory is = not_received fault.Memory (λ db asks. refused IsNew came.site.now came.caller.now came.instance.now fault.Memory is.line (inr refl) db) (λ P h. tt)
+
+  -- a first arrival that failed before anything of it was written
+  pub not_brought : (answer : Arrived) (e : LedgerFault) → IsDelivered came → IsOwnFault e → ReceivesAs IsNew answer came (Err e) s s Asks
+  not_brought answer e is own =
+      still_called {A = Arrived} came.n came.site.now (Err e) s Asks (AnswersWith IsNew came.site.now came.caller.now came.instance.now (Err e)) (AnswersWith IsNew came.site.now came.caller.now came.instance.now (Ok answer))
+      (λ db asks. refused IsNew came.site.now came.caller.now came.instance.now e is.line own db) (λ P p. own_lasts e P own)

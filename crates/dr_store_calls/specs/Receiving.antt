@@ -1,5 +1,6 @@
 -- What is brought to a site, and what is said of the calls that take it.
-use Rattle.std.specs.Prelude.{◌≡◌, ◌≤◌, ◌^◌, ◌⊎◌, ℕ, Bool, List, Some, Result, Ok, Err}
+use Rattle.std.specs.Prelude.{◌≡◌, ◌≤◌, ◌<◌, ◌^◌, ◌⊎◌, ℕ, Bool, true, false, List, length, Some}
+use Rattle.std.specs.Prelude.{Result, Ok}
 use Rattle.std.specs.FinMap as map
 use Rattle.std.specs.FinSet as set
 use Rattle.sqlite.specs.State.{State}
@@ -8,16 +9,15 @@ use Rattle.dr_base.specs.Texts.{Text}
 use Rattle.dr_route.specs.declared.rule.Targets.{Targets}
 use Rattle.dr_site.specs.Parts.{Part}
 use Rattle.dr_site.specs.Routing.{HasLineFor}
-use Rattle.dr_ledger.specs.declared.content.Job.{Job}
 use Rattle.dr_ledger.specs.declared.fault.LedgerFault.{LedgerFault}
 use Rattle.dr_ledger.specs.declared.item.Arrived.{Arrived}
-use Rattle.dr_ledger.specs.declared.item.Arrived.TheVariants.{New, Again}
 use Rattle.dr_ledger.specs.declared.item.Instance.{Instance}
-use Rattle.dr_ledger.specs.Items.{instance_of}
 use Rattle.dr_ledger.specs.Replies.{Arrives}
 use Rattle.dr_ledger.specs.SiteRoutes.{site_routing}
 use Rattle.dr_store_schema.specs.Books.{all_kept_in, arrivals_in, bodies_of, book_of, items_of}
 use Rattle.dr_store_schema.specs.Books.{rows_of}
+use Rattle.dr_store_changes.specs.declared.first.Taking.{Taking}
+use Rattle.dr_store_changes.specs.declared.first.Taking.TheVariants as taking
 use Rattle.dr_store_changes.specs.Bringing.{AreTargets, given_up, missing}
 use Rattle.dr_store_calls.specs.declared.bringing.Delivery.{Delivery}
 use Rattle.dr_store_calls.specs.declared.bringing.FirstArrival.{FirstArrival}
@@ -26,10 +26,12 @@ use Rattle.dr_store_calls.specs.Knowing.{IsAccepted, IsThere}
 
 -- ---- what is brought
 
--- an instance for whose key the site has a line of that caller, and whose size a row can tell
+-- an instance for whose key the site has a line of that caller, and whose size a row can tell, with
+-- a data set that isn't empty
 pub record IsDelivered (came : Delivery) : Type 0 where
   pub line : HasLineFor came.site.now came.caller.now came.instance.now.key
   pub size : came.instance.now.size ≤ 2 ^ 62
+  pub some : 0 < length came.body.now
 
 -- what the site does with its key
 pub record AreTargetsOf (came : Delivery) (targets : Targets) : Type 0 where
@@ -54,50 +56,67 @@ pub record IsFoundFor (uid : Text) (db : Trees) (first : FirstArrival) : Type 0 
   pub again : first.again ≡ given_up (rows_of db) uid first.targets.to
   pub kept : first.kept ≡ set.contains (all_kept_in (db 7)) uid
 
--- ---- the calls
+-- ---- the cell that comes
 
--- the book after an arrival that was accepted
-abbrev pub AcceptsItem : Part → Text → Job → Trees → Trees → Type 0
-AcceptsItem part caller item base db =
-    IsAccepted part caller (instance_of item) (book_of base) (book_of db)
+-- a data set comes with an instance that is taken so
+abbrev pub comes : Taking → Bool
+comes taking.New = true
+comes taking.Bare = false
+comes taking.Again = true
+comes taking.Nothing = false
 
--- Each cell that is there after a first arrival was there before, or is this one, under the uid of
--- this instance, and the book has the instance then. With any other answer all cells stay.
-abbrev pub TakesOnly : Result Arrived LedgerFault → Instance → List ℕ → Trees → Trees → Type 0
-TakesOnly (Ok New) instance cell base db =
+-- with an instance that is taken so this cell comes, if one does
+abbrev pub IsCellTaken : Taking → List ℕ → List ℕ → Type 0
+IsCellTaken how cell there = (comes how ≡ true) × (there ≡ cell)
+
+-- no cell comes
+abbrev pub NoCell : List ℕ → Type 0
+NoCell there = ⊥
+
+-- Each cell that is there after a call was there before; or it is a new one, under the uid of this
+-- instance, and the book has the instance then. `IsNew` says which are new.
+abbrev pub TakesOn : (List ℕ → Type 0) → Instance → Trees → Trees → Type 0
+TakesOn IsNew instance base db =
     (uid : Text) (there : List ℕ)
     → map.get (bodies_of db) uid ≡ Some there
     → (map.get (bodies_of base) uid ≡ Some there)
-    ⊎ ((uid ≡ instance.uid) × (there ≡ cell)
+    ⊎ ((uid ≡ instance.uid) × IsNew there
     × (map.get (items_of db) instance.uid ≡ Some instance))
-TakesOnly (Ok Again) instance cell base db = bodies_of db ≡ bodies_of base
-TakesOnly (Err why) instance cell base db = bodies_of db ≡ bodies_of base
 
--- book and cells after an arrival with this answer of an instance with this cell
-abbrev pub AnswersWith : Part → Text → Instance → List ℕ → Result Arrived LedgerFault
-    → Trees → Trees → Type 0
-AnswersWith part caller instance cell result base db =
+-- ---- the calls
+
+-- book and cells after an arrival of the instance with this answer
+abbrev pub AnswersWith : (List ℕ → Type 0)
+    → Part
+    → Text → Instance → Result Arrived LedgerFault → Trees → Trees → Type 0
+AnswersWith IsNew part caller instance result base db =
     Arrives (site_routing part) caller instance (book_of base) result (book_of db)
-    × TakesOnly result instance cell base db
+    × TakesOn IsNew instance base db
 
--- the book after an arrival of the instance that was accepted
-abbrev pub AcceptsOne : Part → Text → Instance → Trees → Trees → Type 0
-AcceptsOne part caller instance base db =
-    IsAccepted part caller instance (book_of base) (book_of db)
+-- the same after one that was accepted
+abbrev pub AcceptsOne : (List ℕ → Type 0) → Part → Text → Instance → Trees → Trees → Type 0
+AcceptsOne IsNew part caller instance base db =
+    IsAccepted part caller instance (book_of base) (book_of db) × TakesOn IsNew instance base db
 
 -- a call that takes what is brought, where the tables are as it asks
-abbrev pub Receives : Delivery → Result Arrived LedgerFault → State → State
+abbrev pub Receives : (List ℕ → Type 0)
+    → Delivery
+    → Result Arrived LedgerFault
+    → State → State
     → (Trees → Type 0) → Type 0
-Receives came result old new Asks =
+Receives IsNew came result old new Asks =
     Called came.n (advanced result came.n) came.site.now result old new Asks
-    (AnswersWith came.site.now came.caller.now came.instance.now came.cell.now result)
-    (AcceptsOne came.site.now came.caller.now came.instance.now)
+    (AnswersWith IsNew came.site.now came.caller.now came.instance.now result)
+    (AcceptsOne IsNew came.site.now came.caller.now came.instance.now)
 
 -- the same, where what is accepted has this one answer
-abbrev pub ReceivesAs : Arrived → Delivery → Result Arrived LedgerFault → State → State
+abbrev pub ReceivesAs : (List ℕ → Type 0)
+    → Arrived
+    → Delivery
+    → Result Arrived LedgerFault
+    → State → State
     → (Trees → Type 0) → Type 0
-ReceivesAs answer came result old new Asks =
+ReceivesAs IsNew answer came result old new Asks =
     Called came.n (advanced result came.n) came.site.now result old new Asks
-    (AnswersWith came.site.now came.caller.now came.instance.now came.cell.now result)
-    (λ base db. Arrives (site_routing came.site.now) came.caller.now came.instance.now
-    (book_of base) (Ok answer) (book_of db))
+    (AnswersWith IsNew came.site.now came.caller.now came.instance.now result)
+    (AnswersWith IsNew came.site.now came.caller.now came.instance.now (Ok answer))

@@ -2,16 +2,20 @@
 ghost use Rattle.std.specs.Prelude.{◌≡◌, ◌≤◌, ◌^◌, ◌++◌, IfOk, OnOk, false, true};
 ghost use Rattle.sqlite.specs.Held.{state};
 ghost use Rattle.dr_store_changes.specs.Bringing.{names_for};
-ghost use Rattle.dr_store_changes.specs.Changes.{HasNeither};
-ghost use Rattle.dr_store_calls.specs.Knowing.{FitsTables, taking_absent};
-ghost use Rattle.dr_store_calls.specs.Receiving.{AreTargetsOf, IsDelivered, IsThereFor, ReceivesAs};
+ghost use Rattle.dr_store_calls.specs.Knowing.{FitsTables};
+ghost use Rattle.dr_store_calls.specs.Receiving.{AreTargetsOf, IsCellTaken, IsDelivered};
+ghost use Rattle.dr_store_calls.specs.Receiving.{IsThereFor, NoCell, ReceivesAs, comes};
+ghost use Rattle.dr_store_calls.specs.Shelving.{IsNewCell};
+ghost use Rattle.dr_store_shelf.specs.Shelves.{KeepsCells};
 
-use crate::bringing::{Delivery, Queued};
+use crate::bringing::{Delivery, Reception};
+use crate::shelving::shelf_fault;
 use crate::writing::written;
 use dr_base::{Seq, Text};
 use dr_ledger::{Arrived, LedgerFault};
 use dr_route::Targets;
 use dr_store_changes::{Arriving, Repeating, Taking};
+use dr_store_shelf::Shelf;
 use sqlite::{Alter, Connection};
 use std::alloc::{AllocError, Global};
 
@@ -47,7 +51,7 @@ pub fn repeat<'x, S: Alter>(
 ) -> Result<Arrived, LedgerFault>
     requires idle { conn.old.in_transaction ≡ false }
     requires delivered { IsDelivered came.now }
-    ensures called { ReceivesAs Arrived.Again came.now result (state S.Store conn.old)
+    ensures called { ReceivesAs NoCell Arrived.Again came.now result (state S.Store conn.old)
         (state S.Store conn.new) (IsThereFor came.now whole true) }
     ensures number { OnOk result (came.now.n ≤ 2 ^ 62) }
     ensures idle { conn.new.in_transaction ≡ false }
@@ -63,37 +67,36 @@ pub fn repeat<'x, S: Alter>(
     }
 }
 
-/// Takes a first arrival, all of which was found.
+/// Takes a first arrival, all of which was found, by this cell.
 fn bring<'x, S: Alter>(
     conn: &mut Connection<S>,
     came: &'x Delivery<'x>,
+    cell: &'x [u8],
     targets: &'x Targets,
     names: &'x [Text],
-    taking: Taking,
-    queued: &'x Queued<'x>,
-    keeps: bool,
+    reception: &'x Reception<'x>,
 ) -> Result<Arrived, LedgerFault>
     requires idle { conn.old.in_transaction ≡ false }
     requires delivered { IsDelivered came.now }
     requires targets { AreTargetsOf came.now targets.now }
     requires names { names.now ≡ names_for targets.now.keep targets.now.to }
-    ensures called { ReceivesAs Arrived.New came.now result (state S.Store conn.old)
-        (state S.Store conn.new)
-        (FitsTables taking came.now.caller.now came.now.instance.now targets.now.to targets.now.keep
-        queued.now.again.now queued.now.dests.now keeps) }
+    ensures called { ReceivesAs (IsCellTaken reception.now.taking cell.now) Arrived.New came.now
+        result (state S.Store conn.old) (state S.Store conn.new)
+        (FitsTables reception.now.taking came.now.caller.now came.now.instance.now targets.now.to
+        targets.now.keep reception.now.again.now reception.now.dests.now reception.now.keeps) }
     ensures number { OnOk result (came.now.n ≤ 2 ^ 62) }
     ensures idle { conn.new.in_transaction ≡ false }
 {
-    let again = queued.again.as_slice();
-    let dests = queued.dests.as_slice();
+    let again = reception.again.as_slice();
+    let dests = reception.dests.as_slice();
     let change = Arriving {
         caller: came.caller,
         item: came.instance,
-        body: came.cell,
-        taking,
+        body: cell,
+        taking: reception.taking,
         again,
         dests,
-        keeps,
+        keeps: reception.keeps,
         names,
         moment: came.moment,
     };
@@ -103,63 +106,77 @@ fn bring<'x, S: Alter>(
     }
 }
 
-/// The same; its line's names are made first.
-pub fn bring_item<'x, S: Alter>(
+/// Whether a data set comes with an instance that is taken so.
+fn does_come(taking: Taking) -> bool
+    ensures { result ≡ comes taking }
+{
+    match taking {
+        Taking::New => true,
+        Taking::Bare => false,
+        Taking::Again => true,
+        Taking::Nothing => false,
+    }
+}
+
+/// Takes a first arrival, all of which was found. If its data set comes, it is put on the shelf
+/// first, and stands in the tables by the cell that the shelf gives.
+fn put_and_bring<'x, S: Alter, B: Shelf>(
     conn: &mut Connection<S>,
-    alloc: Global,
+    shelf: &mut B,
     came: &'x Delivery<'x>,
     targets: &'x Targets,
-    taking: Taking,
-    queued: &'x Queued<'x>,
-    keeps: bool,
+    names: &'x [Text],
+    reception: &'x Reception<'x>,
 ) -> Result<Arrived, LedgerFault>
     requires idle { conn.old.in_transaction ≡ false }
     requires delivered { IsDelivered came.now }
     requires targets { AreTargetsOf came.now targets.now }
-    ensures called { ReceivesAs Arrived.New came.now result (state S.Store conn.old)
-        (state S.Store conn.new)
-        (FitsTables taking came.now.caller.now came.now.instance.now targets.now.to targets.now.keep
-        queued.now.again.now queued.now.dests.now keeps) }
+    requires names { names.now ≡ names_for targets.now.keep targets.now.to }
+    ensures called { ReceivesAs (IsNewCell (B.Shelf.uses shelf.old) (B.Shelf.uses shelf.new)
+        (B.Shelf.stands shelf.new) B.Shelf.apart came.now.body.now)
+        Arrived.New came.now result (state S.Store conn.old) (state S.Store conn.new)
+        (FitsTables reception.now.taking came.now.caller.now came.now.instance.now targets.now.to
+        targets.now.keep reception.now.again.now reception.now.dests.now reception.now.keeps) }
+    ensures keeps { KeepsCells (B.Shelf.uses shelf.old) (B.Shelf.stands shelf.old)
+        (B.Shelf.uses shelf.new) (B.Shelf.stands shelf.new) }
+    ensures clean { B.Shelf.is_clean shelf.new → B.Shelf.is_clean shelf.old }
+    ensures number { OnOk result (came.now.n ≤ 2 ^ 62) }
+    ensures idle { conn.new.in_transaction ≡ false }
+{
+    if !does_come(reception.taking) {
+        return bring(conn, came, &[], targets, names, reception);
+    }
+    match shelf.put(came.body) {
+        Ok(cell) => bring(conn, came, cell.bytes(came.body), targets, names, reception),
+        Err(fault) => Err(shelf_fault(fault)),
+    }
+}
+
+/// The same; its line's names are made first.
+pub fn bring_item<'x, S: Alter, B: Shelf>(
+    conn: &mut Connection<S>,
+    shelf: &mut B,
+    alloc: Global,
+    came: &'x Delivery<'x>,
+    targets: &'x Targets,
+    reception: &'x Reception<'x>,
+) -> Result<Arrived, LedgerFault>
+    requires idle { conn.old.in_transaction ≡ false }
+    requires delivered { IsDelivered came.now }
+    requires targets { AreTargetsOf came.now targets.now }
+    ensures called { ReceivesAs (IsNewCell (B.Shelf.uses shelf.old) (B.Shelf.uses shelf.new)
+        (B.Shelf.stands shelf.new) B.Shelf.apart came.now.body.now)
+        Arrived.New came.now result (state S.Store conn.old) (state S.Store conn.new)
+        (FitsTables reception.now.taking came.now.caller.now came.now.instance.now targets.now.to
+        targets.now.keep reception.now.again.now reception.now.dests.now reception.now.keeps) }
+    ensures keeps { KeepsCells (B.Shelf.uses shelf.old) (B.Shelf.stands shelf.old)
+        (B.Shelf.uses shelf.new) (B.Shelf.stands shelf.new) }
+    ensures clean { B.Shelf.is_clean shelf.new → B.Shelf.is_clean shelf.old }
     ensures number { OnOk result (came.now.n ≤ 2 ^ 62) }
     ensures idle { conn.new.in_transaction ≡ false }
 {
     match names_of(alloc, targets) {
-        Ok(names) => bring(conn, came, targets, names.as_slice(), taking, queued, keeps),
+        Ok(names) => put_and_bring(conn, shelf, came, targets, names.as_slice(), reception),
         Err(_) => Err(LedgerFault::Memory),
     }
-}
-
-/// How an instance that isn't there is taken in: with its data set, where it is to be kept or has a
-/// destination.
-fn taking_of(keep: bool, none: bool) -> Taking
-    ensures { result ≡ taking_absent keep none }
-{
-    if !keep && none {
-        return Taking::Bare;
-    }
-    Taking::New
-}
-
-/// Takes the first arrival of an instance that isn't there.
-pub fn bring_new<'x, S: Alter>(
-    conn: &mut Connection<S>,
-    alloc: Global,
-    came: &'x Delivery<'x>,
-    targets: &'x Targets,
-) -> Result<Arrived, LedgerFault>
-    requires idle { conn.old.in_transaction ≡ false }
-    requires delivered { IsDelivered came.now }
-    requires targets { AreTargetsOf came.now targets.now }
-    ensures called { ReceivesAs Arrived.New came.now result (state S.Store conn.old)
-        (state S.Store conn.new) (HasNeither came.now.instance.now.uid) }
-    ensures number { OnOk result (came.now.n ≤ 2 ^ 62) }
-    ensures idle { conn.new.in_transaction ≡ false }
-{
-    let none = Seq::new(alloc);
-    let taking = taking_of(targets.keep, targets.to.is_empty());
-    let queued = Queued {
-        again: &none,
-        dests: &targets.to,
-    };
-    bring_item(conn, alloc, came, targets, taking, &queued, targets.keep)
 }

@@ -1,8 +1,9 @@
-//! What a site is brought, and the destinations for which it waits there.
+//! What a site is brought, and how it is taken in there.
 use dr_base::{Seq, Text};
 use dr_ledger::Instance;
 use dr_route::Targets;
 use dr_site::Site;
+use dr_store_changes::Taking;
 
 /// The line by which the journal is to tell of what comes.
 #[derive(Clone, Copy)]
@@ -25,17 +26,21 @@ pub struct Delivery<'x> {
     pub caller: &'x Text,
     /// What it is.
     pub instance: &'x Instance,
-    /// What stands for its data set in the tables.
-    pub cell: &'x [u8],
+    /// Its data set.
+    pub body: &'x [u8],
 }
 
-/// The destinations for which a first arrival makes an instance wait.
+/// How a first arrival is taken in.
 #[derive(Clone, Copy)]
-pub struct Queued<'x> {
+pub struct Reception<'x> {
+    /// What is done with the instance and its data set.
+    pub taking: Taking,
     /// Those of its targets for which its row was dropped: it waits anew.
     pub again: &'x Seq<Text>,
     /// Those of its targets to which it has no row: it waits from now on.
     pub dests: &'x Seq<Text>,
+    /// Whether it is kept from now on.
+    pub keeps: bool,
 }
 
 /// What a first arrival of an instance that is there needs: what the site does with its key, and

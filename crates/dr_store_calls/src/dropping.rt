@@ -7,16 +7,17 @@ ghost use Rattle.dr_ledger.specs.Bodies.{OnlyLetsGo};
 ghost use Rattle.dr_ledger.specs.Replies.{Drops};
 ghost use Rattle.dr_store_schema.specs.Books.{bodies_of, book_of, rows_of};
 ghost use Rattle.dr_store_calls.specs.Calling.{Called, Nothing, advanced};
+ghost use Rattle.dr_store_calls.specs.LettingGo.{GoesWith, plain};
 
 use crate::needs::is_needed;
-use crate::writing::written;
+use crate::writing::{tells, written};
 use dr_base::Text;
 use dr_ledger::{Cause, LedgerFault, Progress};
 use dr_store_changes::Dropping;
 use dr_store_reads::find_row;
 use sqlite::{Alter, Connection};
 
-/// Drops a held row.
+/// Drops a held row, and tells whether its data set went.
 fn drop_row<'x, S: Alter>(
     conn: &mut Connection<S>,
     n: u64,
@@ -24,15 +25,16 @@ fn drop_row<'x, S: Alter>(
     dest: &'x Text,
     why: Cause,
     now: u64,
-) -> Result<(), LedgerFault>
+) -> Result<bool, LedgerFault>
     requires idle { conn.old.in_transaction ≡ false }
     requires early { now ≤ 2 ^ 62 }
     ensures called { (part : Part)
         → Called n (advanced result n) part result (state S.Store conn.old) (state S.Store conn.new)
         (λ base. map.get (rows_of base) (uid.now, dest.now) ≡ Some (Progress.Held why))
-        (λ base db. Drops uid.now dest.now now (book_of base) result (book_of db)
-        × OnlyLetsGo (bodies_of base) (bodies_of db))
-        (λ base db. Drops uid.now dest.now now (book_of base) (Ok tt) (book_of db)) }
+        (λ base db. Drops uid.now dest.now now (book_of base) (plain result) (book_of db)
+        × GoesWith result uid.now base db)
+        (λ base db. Drops uid.now dest.now now (book_of base) (Ok tt) (book_of db)
+        × OnlyLetsGo (bodies_of base) (bodies_of db)) }
     ensures number { OnOk result (n ≤ 2 ^ 62) }
     ensures idle { conn.new.in_transaction ≡ false }
 {
@@ -44,13 +46,14 @@ fn drop_row<'x, S: Alter>(
                 now,
                 lets_go: !needed,
             };
-            written(conn, n, &change)
+            let answer = written(conn, n, &change);
+            tells(answer, !needed)
         }
         Err(fault) => Err(fault),
     }
 }
 
-/// Drops the row that was found, if it is held.
+/// Drops the row that was found, if it is held, and tells whether its data set went.
 fn drop_found<'x, S: Alter>(
     conn: &mut Connection<S>,
     n: u64,
@@ -58,15 +61,16 @@ fn drop_found<'x, S: Alter>(
     dest: &'x Text,
     found: Option<Progress>,
     now: u64,
-) -> Result<(), LedgerFault>
+) -> Result<bool, LedgerFault>
     requires idle { conn.old.in_transaction ≡ false }
     requires early { now ≤ 2 ^ 62 }
     ensures called { (part : Part)
         → Called n (advanced result n) part result (state S.Store conn.old) (state S.Store conn.new)
         (λ base. found ≡ map.get (rows_of base) (uid.now, dest.now))
-        (λ base db. Drops uid.now dest.now now (book_of base) result (book_of db)
-        × OnlyLetsGo (bodies_of base) (bodies_of db))
-        (λ base db. Drops uid.now dest.now now (book_of base) (Ok tt) (book_of db)) }
+        (λ base db. Drops uid.now dest.now now (book_of base) (plain result) (book_of db)
+        × GoesWith result uid.now base db)
+        (λ base db. Drops uid.now dest.now now (book_of base) (Ok tt) (book_of db)
+        × OnlyLetsGo (bodies_of base) (bodies_of db)) }
     ensures number { OnOk result (n ≤ 2 ^ 62) }
     ensures idle { conn.new.in_transaction ≡ false }
 {
@@ -81,24 +85,25 @@ fn drop_found<'x, S: Alter>(
 
 /// Drops a row at the moment `now` (milliseconds), if it is held: it is over, and is never sent.
 /// The arrivals of its instance are no longer noted, and its data set goes where it is needed no
-/// more.
+/// more. It is told whether it went; its cell is left on the shelf.
 ///
 /// Errors: NotHeld, Store and Memory.
-pub fn give_up<'x, S: Alter>(
+pub fn drop_row_of<'x, S: Alter>(
     conn: &mut Connection<S>,
     n: u64,
     uid: &'x Text,
     dest: &'x Text,
     now: u64,
-) -> Result<(), LedgerFault>
+) -> Result<bool, LedgerFault>
     requires idle { conn.old.in_transaction ≡ false }
     requires early { now ≤ 2 ^ 62 }
     ensures called { (part : Part)
         → Called n (advanced result n) part result (state S.Store conn.old) (state S.Store conn.new)
         Nothing
-        (λ base db. Drops uid.now dest.now now (book_of base) result (book_of db)
-        × OnlyLetsGo (bodies_of base) (bodies_of db))
-        (λ base db. Drops uid.now dest.now now (book_of base) (Ok tt) (book_of db)) }
+        (λ base db. Drops uid.now dest.now now (book_of base) (plain result) (book_of db)
+        × GoesWith result uid.now base db)
+        (λ base db. Drops uid.now dest.now now (book_of base) (Ok tt) (book_of db)
+        × OnlyLetsGo (bodies_of base) (bodies_of db)) }
     ensures number { OnOk result (n ≤ 2 ^ 62) }
     ensures idle { conn.new.in_transaction ≡ false }
 {

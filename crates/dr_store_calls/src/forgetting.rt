@@ -102,7 +102,8 @@ fn forget_if<'x, S: Alter>(
         (λ base. IsTrue over ↔ IsOver (book_of base) uid.now)
         (λ base db. Forgets uid.now (book_of base) result (book_of db)
         × OnlyLetsGo (bodies_of base) (bodies_of db))
-        (λ base db. Forgets uid.now (book_of base) (Ok tt) (book_of db)) }
+        (λ base db. Forgets uid.now (book_of base) (Ok tt) (book_of db)
+        × OnlyLetsGo (bodies_of base) (bodies_of db)) }
     ensures number { OnOk result (n ≤ 2 ^ 62) }
     ensures idle { conn.new.in_transaction ≡ false }
 {
@@ -130,7 +131,8 @@ pub fn forget<'x, S: Alter>(
         Nothing
         (λ base db. Forgets uid.now (book_of base) result (book_of db)
         × OnlyLetsGo (bodies_of base) (bodies_of db))
-        (λ base db. Forgets uid.now (book_of base) (Ok tt) (book_of db)) }
+        (λ base db. Forgets uid.now (book_of base) (Ok tt) (book_of db)
+        × OnlyLetsGo (bodies_of base) (bodies_of db)) }
     ensures number { OnOk result (n ≤ 2 ^ 62) }
     ensures idle { conn.new.in_transaction ≡ false }
 {

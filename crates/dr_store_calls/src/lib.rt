@@ -14,6 +14,7 @@ mod dropping;
 mod forgetting;
 mod knowing;
 pub mod laws;
+mod letting_go;
 mod needs;
 mod plan;
 mod receiving;
@@ -23,8 +24,8 @@ mod writing;
 
 pub use adopting::adopt;
 pub use bringing::NextLine;
-pub use dropping::give_up;
 pub use forgetting::{forget, is_over};
 pub use knowing::{Known, know};
-pub use settling::{requeue, settle};
+pub use letting_go::{RowAt, give_up, settle};
+pub use settling::requeue;
 pub use shelving::{arrive, shelf_fault};

@@ -8,12 +8,14 @@ ghost use Rattle.dr_store_schema.specs.Books.{rows_of};
 ghost use Rattle.dr_store_changes.specs.Changes.{HasNeither};
 ghost use Rattle.dr_store_calls.specs.Calling.{Looked, Nothing};
 ghost use Rattle.dr_store_calls.specs.Knowing.{IsWhatIsKnown, IsThere, chosen, is_chosen};
-ghost use Rattle.dr_store_calls.specs.Knowing.{taking_there};
+ghost use Rattle.dr_store_calls.specs.Knowing.{taking_absent, taking_there};
 ghost use Rattle.dr_store_calls.specs.Receiving.{AreTargetsOf, IsDelivered};
 ghost use Rattle.dr_store_calls.specs.Receiving.{IsFoundFor, IsThereFor, Receives};
+ghost use Rattle.dr_store_calls.specs.Shelving.{IsNewCell};
+ghost use Rattle.dr_store_shelf.specs.Shelves.{KeepsCells};
 
-use crate::arriving::{bring_item, bring_new, repeat};
-use crate::bringing::{Delivery, FirstArrival, Queued};
+use crate::arriving::{bring_item, repeat};
+use crate::bringing::{Delivery, FirstArrival, Reception};
 use crate::knowing::{Known, know};
 use dr_base::{Seq, Text};
 use dr_ledger::{Arrived, LedgerFault, Progress};
@@ -21,6 +23,7 @@ use dr_route::Targets;
 use dr_site::Site;
 use dr_store_changes::Taking;
 use dr_store_reads::{find_arrival, find_kept, find_row};
+use dr_store_shelf::Shelf;
 use sqlite::{Alter, Connection};
 use std::alloc::{AllocError, Global};
 
@@ -113,11 +116,10 @@ fn keeps_now(keep: bool, kept: bool) -> bool
 }
 
 /// Whether there is neither a destination of the one kind nor of the other.
-fn are_none(queued: &Queued<'_>) -> bool
-    ensures { result
-        ≡ ((length queued.now.again.now == 0) && (length queued.now.dests.now == 0)) }
+fn are_none(again: &Seq<Text>, dests: &Seq<Text>) -> bool
+    ensures { result ≡ ((length again.now == 0) && (length dests.now == 0)) }
 {
-    queued.again.is_empty() && queued.dests.is_empty()
+    again.is_empty() && dests.is_empty()
 }
 
 /// How an instance that is there is taken in: where its data set isn't there, it comes again for an
@@ -161,8 +163,9 @@ fn find_first<'x, S: Alter>(
 
 /// Takes the first arrival of an instance that is there, from a caller that has not brought it, all
 /// of which was found.
-fn bring_there<'x, S: Alter>(
+fn bring_there<'x, S: Alter, B: Shelf>(
     conn: &mut Connection<S>,
+    shelf: &mut B,
     alloc: Global,
     came: &'x Delivery<'x>,
     whole: bool,
@@ -171,54 +174,73 @@ fn bring_there<'x, S: Alter>(
     requires idle { conn.old.in_transaction ≡ false }
     requires delivered { IsDelivered came.now }
     requires targets { AreTargetsOf came.now first.now.targets }
-    ensures called { Receives came.now result (state S.Store conn.old) (state S.Store conn.new)
+    ensures called { Receives (IsNewCell (B.Shelf.uses shelf.old) (B.Shelf.uses shelf.new)
+        (B.Shelf.stands shelf.new) B.Shelf.apart came.now.body.now)
+        came.now result (state S.Store conn.old) (state S.Store conn.new)
         (λ base. IsThereFor came.now whole false base
         × IsFoundFor came.now.instance.now.uid base first.now) }
+    ensures keeps { KeepsCells (B.Shelf.uses shelf.old) (B.Shelf.stands shelf.old)
+        (B.Shelf.uses shelf.new) (B.Shelf.stands shelf.new) }
+    ensures clean { B.Shelf.is_clean shelf.new → B.Shelf.is_clean shelf.old }
     ensures number { OnOk result (came.now.n ≤ 2 ^ 62) }
     ensures idle { conn.new.in_transaction ≡ false }
 {
-    let queued = Queued {
-        again: &first.again,
-        dests: &first.dests,
-    };
     let targets = &first.targets;
     let keeps = keeps_now(targets.keep, first.kept);
-    let none = are_none(&queued);
+    let none = are_none(&first.again, &first.dests);
     let taking = taking_of(whole, targets.keep, none);
-    bring_item(conn, alloc, came, targets, taking, &queued, keeps)
+    let reception = Reception {
+        taking,
+        again: &first.again,
+        dests: &first.dests,
+        keeps,
+    };
+    bring_item(conn, shelf, alloc, came, targets, &reception)
 }
 
 /// Takes the first arrival of an instance that is there, from a caller that has not brought it.
-fn arrive_first<'x, S: Alter>(
+fn arrive_first<'x, S: Alter, B: Shelf>(
     conn: &mut Connection<S>,
+    shelf: &mut B,
     alloc: Global,
     came: &'x Delivery<'x>,
     whole: bool,
 ) -> Result<Arrived, LedgerFault>
     requires idle { conn.old.in_transaction ≡ false }
     requires delivered { IsDelivered came.now }
-    ensures called { Receives came.now result (state S.Store conn.old) (state S.Store conn.new)
+    ensures called { Receives (IsNewCell (B.Shelf.uses shelf.old) (B.Shelf.uses shelf.new)
+        (B.Shelf.stands shelf.new) B.Shelf.apart came.now.body.now)
+        came.now result (state S.Store conn.old) (state S.Store conn.new)
         (IsThereFor came.now whole false) }
+    ensures keeps { KeepsCells (B.Shelf.uses shelf.old) (B.Shelf.stands shelf.old)
+        (B.Shelf.uses shelf.new) (B.Shelf.stands shelf.new) }
+    ensures clean { B.Shelf.is_clean shelf.new → B.Shelf.is_clean shelf.old }
     ensures number { OnOk result (came.now.n ≤ 2 ^ 62) }
     ensures idle { conn.new.in_transaction ≡ false }
 {
     match find_first(conn, alloc, came) {
-        Ok(first) => bring_there(conn, alloc, came, whole, &first),
+        Ok(first) => bring_there(conn, shelf, alloc, came, whole, &first),
         Err(fault) => Err(fault),
     }
 }
 
 /// Takes the arrival of an instance that is there; whether the caller has brought it is looked up.
-fn arrive_there<'x, S: Alter>(
+fn arrive_there<'x, S: Alter, B: Shelf>(
     conn: &mut Connection<S>,
+    shelf: &mut B,
     alloc: Global,
     came: &'x Delivery<'x>,
     whole: bool,
 ) -> Result<Arrived, LedgerFault>
     requires idle { conn.old.in_transaction ≡ false }
     requires delivered { IsDelivered came.now }
-    ensures called { Receives came.now result (state S.Store conn.old) (state S.Store conn.new)
+    ensures called { Receives (IsNewCell (B.Shelf.uses shelf.old) (B.Shelf.uses shelf.new)
+        (B.Shelf.stands shelf.new) B.Shelf.apart came.now.body.now)
+        came.now result (state S.Store conn.old) (state S.Store conn.new)
         (λ base. IsThere base came.now.instance.now whole) }
+    ensures keeps { KeepsCells (B.Shelf.uses shelf.old) (B.Shelf.stands shelf.old)
+        (B.Shelf.uses shelf.new) (B.Shelf.stands shelf.new) }
+    ensures clean { B.Shelf.is_clean shelf.new → B.Shelf.is_clean shelf.old }
     ensures number { OnOk result (came.now.n ≤ 2 ^ 62) }
     ensures idle { conn.new.in_transaction ≡ false }
 {
@@ -227,49 +249,82 @@ fn arrive_there<'x, S: Alter>(
             if brought {
                 return repeat(conn, came, whole);
             }
-            arrive_first(conn, alloc, came, whole)
+            arrive_first(conn, shelf, alloc, came, whole)
         }
         Err(fault) => Err(fault),
     }
 }
 
+/// How an instance that isn't there is taken in: with its data set, where it is to be kept or has a
+/// destination.
+fn taking_new(keep: bool, none: bool) -> Taking
+    ensures { result ≡ taking_absent keep none }
+{
+    if !keep && none {
+        return Taking::Bare;
+    }
+    Taking::New
+}
+
 /// Takes the arrival of an instance that isn't there, by what the site does with it.
-fn arrive_new<'x, S: Alter>(
+fn arrive_new<'x, S: Alter, B: Shelf>(
     conn: &mut Connection<S>,
+    shelf: &mut B,
     alloc: Global,
     came: &'x Delivery<'x>,
 ) -> Result<Arrived, LedgerFault>
     requires idle { conn.old.in_transaction ≡ false }
     requires delivered { IsDelivered came.now }
-    ensures called { Receives came.now result (state S.Store conn.old) (state S.Store conn.new)
+    ensures called { Receives (IsNewCell (B.Shelf.uses shelf.old) (B.Shelf.uses shelf.new)
+        (B.Shelf.stands shelf.new) B.Shelf.apart came.now.body.now)
+        came.now result (state S.Store conn.old) (state S.Store conn.new)
         (HasNeither came.now.instance.now.uid) }
+    ensures keeps { KeepsCells (B.Shelf.uses shelf.old) (B.Shelf.stands shelf.old)
+        (B.Shelf.uses shelf.new) (B.Shelf.stands shelf.new) }
+    ensures clean { B.Shelf.is_clean shelf.new → B.Shelf.is_clean shelf.old }
     ensures number { OnOk result (came.now.n ≤ 2 ^ 62) }
     ensures idle { conn.new.in_transaction ≡ false }
 {
     match targets_of(alloc, came) {
-        Ok(targets) => bring_new(conn, alloc, came, &targets),
+        Ok(targets) => {
+            let none = Seq::new(alloc);
+            let taking = taking_new(targets.keep, targets.to.is_empty());
+            let reception = Reception {
+                taking,
+                again: &none,
+                dests: &targets.to,
+                keeps: targets.keep,
+            };
+            bring_item(conn, shelf, alloc, came, &targets, &reception)
+        }
         Err(_) => Err(LedgerFault::Memory),
     }
 }
 
 /// Takes an arrival by what is known of its uid.
-fn arrive_by<'x, S: Alter>(
+fn arrive_by<S: Alter, B: Shelf>(
     conn: &mut Connection<S>,
+    shelf: &mut B,
     alloc: Global,
-    came: &'x Delivery<'x>,
+    came: &Delivery<'_>,
     known: Known,
 ) -> Result<Arrived, LedgerFault>
     requires idle { conn.old.in_transaction ≡ false }
     requires delivered { IsDelivered came.now }
-    ensures called { Receives came.now result (state S.Store conn.old) (state S.Store conn.new)
+    ensures called { Receives (IsNewCell (B.Shelf.uses shelf.old) (B.Shelf.uses shelf.new)
+        (B.Shelf.stands shelf.new) B.Shelf.apart came.now.body.now)
+        came.now result (state S.Store conn.old) (state S.Store conn.new)
         (λ base. IsWhatIsKnown base came.now.instance.now known) }
+    ensures keeps { KeepsCells (B.Shelf.uses shelf.old) (B.Shelf.stands shelf.old)
+        (B.Shelf.uses shelf.new) (B.Shelf.stands shelf.new) }
+    ensures clean { B.Shelf.is_clean shelf.new → B.Shelf.is_clean shelf.old }
     ensures number { OnOk result (came.now.n ≤ 2 ^ 62) }
     ensures idle { conn.new.in_transaction ≡ false }
 {
     match known {
-        Known::No => arrive_new(conn, alloc, came),
+        Known::No => arrive_new(conn, shelf, alloc, came),
         Known::Other => Err(LedgerFault::Conflict),
-        Known::Same { whole } => arrive_there(conn, alloc, came, whole),
+        Known::Same { whole } => arrive_there(conn, shelf, alloc, came, whole),
     }
 }
 
@@ -277,20 +332,26 @@ fn arrive_by<'x, S: Alter>(
 /// up.
 ///
 /// Errors: Conflict, Store and Memory.
-pub fn receive<'x, S: Alter>(
+pub fn receive<S: Alter, B: Shelf>(
     conn: &mut Connection<S>,
+    shelf: &mut B,
     alloc: Global,
-    came: &'x Delivery<'x>,
+    came: &Delivery<'_>,
 ) -> Result<Arrived, LedgerFault>
     requires idle { conn.old.in_transaction ≡ false }
     requires delivered { IsDelivered came.now }
-    ensures called { Receives came.now result (state S.Store conn.old) (state S.Store conn.new)
+    ensures called { Receives (IsNewCell (B.Shelf.uses shelf.old) (B.Shelf.uses shelf.new)
+        (B.Shelf.stands shelf.new) B.Shelf.apart came.now.body.now)
+        came.now result (state S.Store conn.old) (state S.Store conn.new)
         Nothing }
+    ensures keeps { KeepsCells (B.Shelf.uses shelf.old) (B.Shelf.stands shelf.old)
+        (B.Shelf.uses shelf.new) (B.Shelf.stands shelf.new) }
+    ensures clean { B.Shelf.is_clean shelf.new → B.Shelf.is_clean shelf.old }
     ensures number { OnOk result (came.now.n ≤ 2 ^ 62) }
     ensures idle { conn.new.in_transaction ≡ false }
 {
     match know(conn, alloc, came.instance) {
-        Ok(known) => arrive_by(conn, alloc, came, known),
+        Ok(known) => arrive_by(conn, shelf, alloc, came, known),
         Err(fault) => Err(fault),
     }
 }

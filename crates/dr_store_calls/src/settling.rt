@@ -7,16 +7,17 @@ ghost use Rattle.dr_ledger.specs.Bodies.{OnlyLetsGo};
 ghost use Rattle.dr_ledger.specs.Replies.{Requeues, Settles};
 ghost use Rattle.dr_store_schema.specs.Books.{bodies_of, book_of, rows_of};
 ghost use Rattle.dr_store_calls.specs.Calling.{Called, Nothing, advanced};
+ghost use Rattle.dr_store_calls.specs.LettingGo.{GoesWith, plain};
 
 use crate::needs::is_needed;
-use crate::writing::written;
+use crate::writing::{tells, written};
 use dr_base::Text;
 use dr_ledger::{Cause, LedgerFault, Outcome, Progress, moved};
 use dr_store_changes::{Requeuing, Settling};
 use dr_store_reads::find_row;
 use sqlite::{Alter, Connection};
 
-/// Settles a row that waits, tried as given.
+/// Settles a row that waits, tried as given, and tells whether its data set went.
 fn settle_row<'x, S: Alter>(
     conn: &mut Connection<S>,
     n: u64,
@@ -25,15 +26,16 @@ fn settle_row<'x, S: Alter>(
     was: (u32, u64),
     outcome: Outcome,
     now: u64,
-) -> Result<(), LedgerFault>
+) -> Result<bool, LedgerFault>
     requires idle { conn.old.in_transaction ≡ false }
     requires early { now ≤ 2 ^ 62 }
     ensures called { (part : Part)
         → Called n (advanced result n) part result (state S.Store conn.old) (state S.Store conn.new)
         (λ base. map.get (rows_of base) (uid.now, dest.now) ≡ Some (Progress.Waiting was.0 was.1))
-        (λ base db. Settles uid.now dest.now outcome now (book_of base) result (book_of db)
-        × OnlyLetsGo (bodies_of base) (bodies_of db))
-        (λ base db. Settles uid.now dest.now outcome now (book_of base) (Ok tt) (book_of db)) }
+        (λ base db. Settles uid.now dest.now outcome now (book_of base) (plain result) (book_of db)
+        × GoesWith result uid.now base db)
+        (λ base db. Settles uid.now dest.now outcome now (book_of base) (Ok tt) (book_of db)
+        × OnlyLetsGo (bodies_of base) (bodies_of db)) }
     ensures number { OnOk result (n ≤ 2 ^ 62) }
     ensures idle { conn.new.in_transaction ≡ false }
 {
@@ -48,13 +50,14 @@ fn settle_row<'x, S: Alter>(
                 now,
                 lets_go: !needed,
             };
-            written(conn, n, &change)
+            let answer = written(conn, n, &change);
+            tells(answer, !needed)
         }
         Err(fault) => Err(fault),
     }
 }
 
-/// Settles the row that was found, if it waits.
+/// Settles the row that was found, if it waits, and tells whether its data set went.
 fn settle_found<'x, S: Alter>(
     conn: &mut Connection<S>,
     n: u64,
@@ -63,15 +66,16 @@ fn settle_found<'x, S: Alter>(
     found: Option<Progress>,
     outcome: Outcome,
     now: u64,
-) -> Result<(), LedgerFault>
+) -> Result<bool, LedgerFault>
     requires idle { conn.old.in_transaction ≡ false }
     requires early { now ≤ 2 ^ 62 }
     ensures called { (part : Part)
         → Called n (advanced result n) part result (state S.Store conn.old) (state S.Store conn.new)
         (λ base. found ≡ map.get (rows_of base) (uid.now, dest.now))
-        (λ base db. Settles uid.now dest.now outcome now (book_of base) result (book_of db)
-        × OnlyLetsGo (bodies_of base) (bodies_of db))
-        (λ base db. Settles uid.now dest.now outcome now (book_of base) (Ok tt) (book_of db)) }
+        (λ base db. Settles uid.now dest.now outcome now (book_of base) (plain result) (book_of db)
+        × GoesWith result uid.now base db)
+        (λ base db. Settles uid.now dest.now outcome now (book_of base) (Ok tt) (book_of db)
+        × OnlyLetsGo (bodies_of base) (bodies_of db)) }
     ensures number { OnOk result (n ≤ 2 ^ 62) }
     ensures idle { conn.new.in_transaction ≡ false }
 {
@@ -87,25 +91,26 @@ fn settle_found<'x, S: Alter>(
 }
 
 /// Settles a row, if it waits: it is done, waits again or is held. Its data set goes where it is
-/// needed no more.
+/// needed no more, and it is told whether it went. Its cell is left on the shelf.
 ///
 /// Errors: NotWaiting, Store and Memory.
-pub fn settle<'x, S: Alter>(
+pub fn settle_row_of<'x, S: Alter>(
     conn: &mut Connection<S>,
     n: u64,
     uid: &'x Text,
     dest: &'x Text,
     outcome: Outcome,
     now: u64,
-) -> Result<(), LedgerFault>
+) -> Result<bool, LedgerFault>
     requires idle { conn.old.in_transaction ≡ false }
     requires early { now ≤ 2 ^ 62 }
     ensures called { (part : Part)
         → Called n (advanced result n) part result (state S.Store conn.old) (state S.Store conn.new)
         Nothing
-        (λ base db. Settles uid.now dest.now outcome now (book_of base) result (book_of db)
-        × OnlyLetsGo (bodies_of base) (bodies_of db))
-        (λ base db. Settles uid.now dest.now outcome now (book_of base) (Ok tt) (book_of db)) }
+        (λ base db. Settles uid.now dest.now outcome now (book_of base) (plain result) (book_of db)
+        × GoesWith result uid.now base db)
+        (λ base db. Settles uid.now dest.now outcome now (book_of base) (Ok tt) (book_of db)
+        × OnlyLetsGo (bodies_of base) (bodies_of db)) }
     ensures number { OnOk result (n ≤ 2 ^ 62) }
     ensures idle { conn.new.in_transaction ≡ false }
 {
@@ -130,7 +135,8 @@ fn requeue_row<'x, S: Alter>(
         (λ base. map.get (rows_of base) (uid.now, dest.now) ≡ Some (Progress.Held why))
         (λ base db. Requeues uid.now dest.now (book_of base) result (book_of db)
         × OnlyLetsGo (bodies_of base) (bodies_of db))
-        (λ base db. Requeues uid.now dest.now (book_of base) (Ok tt) (book_of db)) }
+        (λ base db. Requeues uid.now dest.now (book_of base) (Ok tt) (book_of db)
+        × OnlyLetsGo (bodies_of base) (bodies_of db)) }
     ensures number { OnOk result (n ≤ 2 ^ 62) }
     ensures idle { conn.new.in_transaction ≡ false }
 {
@@ -158,7 +164,8 @@ fn requeue_found<'x, S: Alter>(
         (λ base. found ≡ map.get (rows_of base) (uid.now, dest.now))
         (λ base db. Requeues uid.now dest.now (book_of base) result (book_of db)
         × OnlyLetsGo (bodies_of base) (bodies_of db))
-        (λ base db. Requeues uid.now dest.now (book_of base) (Ok tt) (book_of db)) }
+        (λ base db. Requeues uid.now dest.now (book_of base) (Ok tt) (book_of db)
+        × OnlyLetsGo (bodies_of base) (bodies_of db)) }
     ensures number { OnOk result (n ≤ 2 ^ 62) }
     ensures idle { conn.new.in_transaction ≡ false }
 {
@@ -187,7 +194,8 @@ pub fn requeue<'x, S: Alter>(
         Nothing
         (λ base db. Requeues uid.now dest.now (book_of base) result (book_of db)
         × OnlyLetsGo (bodies_of base) (bodies_of db))
-        (λ base db. Requeues uid.now dest.now (book_of base) (Ok tt) (book_of db)) }
+        (λ base db. Requeues uid.now dest.now (book_of base) (Ok tt) (book_of db)
+        × OnlyLetsGo (bodies_of base) (bodies_of db)) }
     ensures number { OnOk result (n ≤ 2 ^ 62) }
     ensures idle { conn.new.in_transaction ≡ false }
 {

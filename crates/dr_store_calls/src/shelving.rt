@@ -1,10 +1,9 @@
-//! Arrivals whose data sets are put on a shelf first.
-ghost use Rattle.std.specs.Prelude.{◌≡◌, ◌≤◌, ◌<◌, ◌^◌, List, ℕ, Err, Ok, OnOk, false, length};
+//! Arrivals of items, whose data sets are put on a shelf.
+ghost use Rattle.std.specs.Prelude.{◌≡◌, ◌≤◌, ◌^◌, OnOk, false};
 ghost use Rattle.sqlite.specs.Held.{state};
 ghost use Rattle.dr_store_shelf.specs.Shelves.{KeepsCells};
 ghost use Rattle.dr_store_calls.specs.Calling.{Called, Nothing, advanced};
-ghost use Rattle.dr_store_calls.specs.Receiving.{AcceptsItem, IsDelivered};
-ghost use Rattle.dr_store_calls.specs.Shelving.{AnswersTo, ReceivesOn, fault_of_shelf};
+ghost use Rattle.dr_store_calls.specs.Shelving.{AcceptsItem, AnswersTo, IsNewCell, fault_of_shelf};
 
 use crate::bringing::{Delivery, NextLine};
 use crate::receiving::receive;
@@ -29,92 +28,27 @@ pub fn shelf_fault(fault: ShelfFault) -> LedgerFault
     }
 }
 
-/// Lets a new cell go, where the answer to its arrival tells that no row has it: the instance was
-/// refused, or the caller had brought it before. After a first arrival the cell stays as it is, and
-/// where the store failed or memory was wanting a row may have it after a crash.
-fn let_go_untaken<B: Shelf>(shelf: &mut B, cell: &[u8], answer: &Result<Arrived, LedgerFault>)
-    ensures first { answer.now ≡ Ok Arrived.New → shelf.new ≡ shelf.old }
-    ensures again { answer.now ≡ Ok Arrived.Again
-        → (B.Shelf.apart cell.now cell.now → ⊥)
-        → B.Shelf.uses shelf.new cell.now
-        → ⊥ }
-    ensures refused { answer.now ≡ Err LedgerFault.Conflict
-        → (B.Shelf.apart cell.now cell.now → ⊥)
-        → B.Shelf.uses shelf.new cell.now
-        → ⊥ }
-    ensures keeps { (other bytes : List ℕ)
-        → B.Shelf.apart cell.now other
-        → B.Shelf.uses shelf.old other
-        → B.Shelf.stands shelf.old other bytes
-        → B.Shelf.uses shelf.new other × B.Shelf.stands shelf.new other bytes }
-    ensures clean { B.Shelf.is_clean shelf.new → B.Shelf.is_clean shelf.old }
-{
-    match answer {
-        Ok(Arrived::New) => {}
-        Ok(Arrived::Again) => shelf.let_go(cell),
-        Err(LedgerFault::Conflict) => shelf.let_go(cell),
-        Err(_) => {}
-    }
-}
-
-/// Puts the data set of what is brought, whose own bytes stand for it yet, and then takes the
-/// arrival by the cell that the shelf gives.
-fn shelve<'x, S: Alter, B: Shelf>(
-    conn: &mut Connection<S>,
-    shelf: &mut B,
-    alloc: Global,
-    came: &'x Delivery<'x>,
-) -> Result<Arrived, LedgerFault>
-    requires idle { conn.old.in_transaction ≡ false }
-    requires delivered { IsDelivered came.now }
-    requires some { 0 < length came.now.cell.now }
-    ensures called { ReceivesOn (B.Shelf.uses shelf.new) (B.Shelf.stands shelf.new) came.now result
-        (state S.Store conn.old) (state S.Store conn.new) }
-    ensures keeps { KeepsCells (B.Shelf.uses shelf.old) (B.Shelf.stands shelf.old)
-        (B.Shelf.uses shelf.new) (B.Shelf.stands shelf.new) }
-    ensures clean { B.Shelf.is_clean shelf.new → B.Shelf.is_clean shelf.old }
-    ensures number { OnOk result (came.now.n ≤ 2 ^ 62) }
-    ensures idle { conn.new.in_transaction ≡ false }
-{
-    match shelf.put(came.cell) {
-        Ok(cell) => {
-            let named = Delivery {
-                site: came.site,
-                n: came.n,
-                moment: came.moment,
-                caller: came.caller,
-                instance: came.instance,
-                cell: cell.bytes(came.cell),
-            };
-            let answer = receive(conn, alloc, &named);
-            let_go_untaken(shelf, named.cell, &answer);
-            answer
-        }
-        Err(fault) => Err(shelf_fault(fault)),
-    }
-}
-
-/// Takes an item from a caller, `-` for what enters at the node itself. Its data set is put on the
-/// shelf before anything of it is committed. Where it is refused for a conflict, or the caller had
-/// brought it before, its cell is let go.
+/// Takes an item from a caller, `-` for what enters at the node itself. If its data set comes into
+/// the tables, it is put on the shelf before anything of it is committed, and else it isn't put.
 ///
 /// Errors: NoLine, Conflict, Store and Memory, tested in this order; Store and Memory may come
 /// before a conflict is seen.
-pub fn arrive<'x, S: Alter, B: Shelf>(
+pub fn arrive<S: Alter, B: Shelf>(
     conn: &mut Connection<S>,
     shelf: &mut B,
     alloc: Global,
     site: &Site,
     line: NextLine,
-    caller: &'x Text,
+    caller: &Text,
     item: Item,
 ) -> Result<Arrived, LedgerFault>
     requires idle { conn.old.in_transaction ≡ false }
     ensures called { Called line.n (advanced result line.n) site.now result
         (state S.Store conn.old) (state S.Store conn.new) Nothing
-        (AnswersTo (B.Shelf.uses shelf.new) (B.Shelf.stands shelf.new) site.now caller.now item
-        result)
-        (AcceptsItem site.now caller.now item) }
+        (AnswersTo (IsNewCell (B.Shelf.uses shelf.old) (B.Shelf.uses shelf.new)
+        (B.Shelf.stands shelf.new) B.Shelf.apart) site.now caller.now item result)
+        (AcceptsItem (IsNewCell (B.Shelf.uses shelf.old) (B.Shelf.uses shelf.new)
+        (B.Shelf.stands shelf.new) B.Shelf.apart) site.now caller.now item) }
     ensures keeps { KeepsCells (B.Shelf.uses shelf.old) (B.Shelf.stands shelf.old)
         (B.Shelf.uses shelf.new) (B.Shelf.stands shelf.new) }
     ensures clean { B.Shelf.is_clean shelf.new → B.Shelf.is_clean shelf.old }
@@ -133,9 +67,9 @@ pub fn arrive<'x, S: Alter, B: Shelf>(
                 moment: line.moment,
                 caller,
                 instance: &instance,
-                cell: job.body.as_bytes(),
+                body: job.body.as_bytes(),
             };
-            shelve(conn, shelf, alloc, &came)
+            receive(conn, shelf, alloc, &came)
         }
         Err(_) => Err(LedgerFault::Memory),
     }

@@ -3,6 +3,7 @@ ghost use Rattle.std.specs.Prelude.{◌≡◌, ◌≤◌, ◌^◌, IfErr, OnOk, 
 ghost use Rattle.sqlite.specs.Held.{state};
 ghost use Rattle.dr_store_changes.specs.Writing.{Written};
 ghost use Rattle.dr_store_calls.specs.Calling.{IsOwnFault};
+ghost use Rattle.dr_store_calls.specs.LettingGo.{telling};
 
 use dr_ledger::{LedgerFault, MOST_LINES};
 use dr_store_changes::{TableChange, write};
@@ -30,5 +31,15 @@ pub fn written<C: TableChange, S: Alter>(
     match write(conn, n, change) {
         Ok(()) => Ok(()),
         Err(error) => Err(fault_of(&error)),
+    }
+}
+
+/// The answer, with whether a data set went where the call was accepted.
+pub fn tells(answer: Result<(), LedgerFault>, went: bool) -> Result<bool, LedgerFault>
+    ensures { result ≡ telling went answer }
+{
+    match answer {
+        Ok(()) => Ok(went),
+        Err(fault) => Err(fault),
     }
 }

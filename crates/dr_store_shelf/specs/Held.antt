@@ -1,9 +1,10 @@
--- What an extent holds is what is seen there.
+-- What an extent holds is what is seen there; and two cells are apart from each other.
 use Rattle.std.proofs.Common.{◌≡◌, ℕ, List, length, take, drop, sym, ◌∙◌, ext_get_or}
 use Rattle.std.proofs.Common.{arith, length-take, length-drop, get_or-take, get_or-drop}
 use Rattle.dr_store_bodies.specs.declared.extent.Extent.{Extent}
 use Rattle.dr_store_bodies.specs.Extents.{Stand}
 use Rattle.dr_store_shelf.specs.Cells.{shown}
+use Rattle.dr_store_shelf.specs.Shelves.{AreApart}
 
 pub held_is_shown :
     (seen : List ℕ) (may_leave : List ℕ → Type 0) (e : Extent) (bytes : List ℕ)
@@ -16,3 +17,6 @@ held_is_shown seen may_leave e bytes is =
     get_or-take e.size cut i 0 (omega (arith, low, len))
     ∙ get_or-drop e.at seen i 0
     ∙ is.now.each i (omega (arith, low, len, is.whole)))
+
+pub apart_from_each_other : (cell other : List ℕ) → AreApart cell other → AreApart other cell
+apart_from_each_other cell other apart = λ same. apart (sym same)

@@ -76,7 +76,7 @@ impl<D: Disk> Shelf for InFile<D> {
     ghost use Rattle.dr_store_bodies.specs.Bodies.{IsClean, IsUsable, faults, seen};
     ghost use Rattle.dr_store_shelf.specs.Cells.{Passes, extent_in, shown};
     ghost use Rattle.dr_store_shelf.specs.Shelves.{AreApart, IsUsed, Stands};
-    ghost use Rattle.dr_store_shelf.specs.Held.{held_is_shown};
+    ghost use Rattle.dr_store_shelf.specs.Held.{apart_from_each_other, held_is_shown};
 
     ghost stands = { λ it. Stands it.key it.bodies };
 
@@ -85,6 +85,8 @@ impl<D: Disk> Shelf for InFile<D> {
     ghost body_of = { λ it cell. shown (seen it.bodies) (extent_in cell) };
 
     ghost apart = { AreApart };
+
+    ghost swaps = { apart_from_each_other };
 
     ghost passes = { λ it. Passes it.key };
 
@@ -97,6 +99,10 @@ impl<D: Disk> Shelf for InFile<D> {
     ghost only = { λ it cell bytes is. held_is_shown _ _ (extent_in cell) bytes is.0 };
 
     ghost passed = { λ it cell bytes is. is.1 };
+
+    fn names_places(&self) -> bool {
+        true
+    }
 
     fn put(&mut self, body: &[u8]) -> Result<BodyCell, ShelfFault> {
         let cell = blank_cell(self.alloc, self.key, body)?;

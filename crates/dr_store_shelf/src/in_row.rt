@@ -17,6 +17,8 @@ impl Shelf for InRow {
 
     ghost apart = { λ _ _. Unit {0} };
 
+    ghost swaps = { λ _ _ apart. apart };
+
     ghost passes = { λ _ cell bytes. cell ≡ bytes };
 
     ghost is_clean = { λ _. Unit {0} };
@@ -28,6 +30,10 @@ impl Shelf for InRow {
     ghost only = { λ _ _ _ is. is };
 
     ghost passed = { λ _ _ _ is. is };
+
+    fn names_places(&self) -> bool {
+        false
+    }
 
     fn put(&mut self, _body: &[u8]) -> Result<BodyCell, ShelfFault> {
         Ok(BodyCell::Itself)

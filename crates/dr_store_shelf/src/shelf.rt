@@ -1,5 +1,5 @@
 //! A place for data sets.
-ghost use Rattle.std.specs.Prelude.{◌≡◌, ◌<◌, ℕ, List, length, IfErr, IfOk, OnErr};
+ghost use Rattle.std.specs.Prelude.{◌≡◌, ◌<◌, ℕ, List, length, IfErr, IfOk, OnErr, false};
 ghost use Rattle.dr_store_shelf.specs.Shelves.{IsWhyNotPut, IsWhyNotRead, bytes_of};
 
 use crate::fault::ShelfFault;
@@ -43,6 +43,9 @@ pub trait Shelf {
     // The one cell can be let go without the other.
     ghost apart: { List ℕ → List ℕ → Type 0 };
 
+    // Then the other can be let go without the one.
+    ghost swaps: { (cell other : List ℕ) → apart cell other → apart other cell };
+
     // These bytes pass the test that the cell has for them.
     ghost passes: { Self → List ℕ → List ℕ → Type 0 };
 
@@ -61,6 +64,11 @@ pub trait Shelf {
 
     ghost passed: { (it : Self) (cell bytes : List ℕ) → stands it cell bytes
         → passes it cell bytes };
+
+    /// Whether a cell names a place. Where none does, each can be let go without any, and nothing
+    /// has to be let go.
+    fn names_places(&self) -> bool
+        ensures { result ≡ false → (cell other : List ℕ) → apart cell other };
 
     /// Puts a data set, durably: whoever commits a row with the cell afterwards finds it, whatever
     /// crash comes.

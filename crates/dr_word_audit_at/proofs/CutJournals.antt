@@ -6,7 +6,7 @@ use Rattle.dr_base.specs.Texts.{Text}
 use Rattle.dr_ledger_history.specs.declared.line.JournalLine.{JournalLine}
 use Rattle.dr_world_audit.specs.declared.audit.NodeJournal.{NodeJournal}
 use Rattle.dr_word_audit_at.specs.declared.cutting.MissingLine.{MissingLine}
-use Rattle.dr_word_audit_at.specs.Cuts.{IsNext, MendsNowhere, Moves, cut_at, cuts, mends, put_on, rest_named}
+use Rattle.dr_word_audit_at.specs.Cuts.{IsUpToNext, MendsNowhere, Moves, cut_at, cuts, mends, put_on, rest_named}
 
 module _ (counts : List ℕ) (read : List NodeJournal) (i : ℕ) (d n : ℕ) (e node : NodeJournal) (few : i < length counts) (lt : i < length read) (at : n ≡ get_or counts i d) (is : node ≡ get_or read i e) where
   count_cut : drop i counts ≡ n ∷ drop (i + 1) counts
@@ -79,7 +79,7 @@ module _ (mend : MissingLine) (lines : List JournalLine) (i : ℕ) (line : Journ
       subst (MendsNowhere mend) (sym (take_more lines i line lt ∙ ap (λ (l : JournalLine). take i lines ++ l ∷ []) (sym is))) (none_more mend (take i lines) line none one)
 
   -- or it is the first that does
-  pub is_next : MendsNowhere mend (take i lines) → mends mend line ≡ true → IsNext mend lines (i + 1)
+  pub is_next : MendsNowhere mend (take i lines) → mends mend line ≡ true → IsUpToNext mend lines (i + 1)
   is_next none one = record {
     passed = take i lines;
     line = line;
@@ -95,13 +95,13 @@ length_join [] ys = refl
 length_join (x ∷ xs) ys = ap suc (length_join xs ys)
 
 -- no more lines are passed than there are
-pub next_within : (mend : MissingLine) (lines : List JournalLine) (more : ℕ) → IsNext mend lines more → (1 ≤ more) × (more ≤ length lines)
+pub next_within : (mend : MissingLine) (lines : List JournalLine) (more : ℕ) → IsUpToNext mend lines more → (1 ≤ more) × (more ≤ length lines)
 next_within mend lines more next =
     let long : length lines ≡ length next.passed + length (next.line ∷ next.later) = ap length next.lines ∙ length_join next.passed (next.line ∷ next.later) in
     let count = next.count in (omega (arith, count), omega (arith, count, long))
 
 -- so many lines there are up to it
-pub up_to_next : (mend : MissingLine) (lines : List JournalLine) (n more : ℕ) → IsNext mend (drop n lines) more → length lines - (length (drop n lines) - more) ≡ n + more
+pub up_to_next : (mend : MissingLine) (lines : List JournalLine) (n more : ℕ) → IsUpToNext mend (drop n lines) more → length lines - (length (drop n lines) - more) ≡ n + more
 up_to_next mend lines n more next =
     let it = next_within mend (drop n lines) more next in
     let low = it.0 in
@@ -112,16 +112,16 @@ up_to_next mend lines n more next =
 -- what mends at the cut of one node mends, or mends nowhere, behind the cut of the node of its name
 pub found_cut : (mend : MissingLine) (name : Text) (counts : List ℕ) (read : List NodeJournal) (place n : ℕ) (lines rest : List JournalLine) (found : Option (ℕ × ℕ)) → place < length counts → rest ≡ drop n lines
     → ((more : ℕ) → set counts place (n + more) ≡ put_on name more counts read)
-    → MatchOption found (MendsNowhere mend (drop n lines)) (λ next. (next.0 ≡ place) × ((more : ℕ) × IsNext mend (drop n lines) more × (next.1 ≡ n + more)))
-    → MatchOption found (MendsNowhere mend rest) (λ next. (next.0 < length counts) × ((more : ℕ) × IsNext mend rest more × (set counts next.0 next.1 ≡ put_on name more counts read)))
+    → MatchOption found (MendsNowhere mend (drop n lines)) (λ next. (next.0 ≡ place) × ((more : ℕ) × IsUpToNext mend (drop n lines) more × (next.1 ≡ n + more)))
+    → MatchOption found (MendsNowhere mend rest) (λ next. (next.0 < length counts) × ((more : ℕ) × IsUpToNext mend rest more × (set counts next.0 next.1 ≡ put_on name more counts read)))
 found_cut mend name counts read place n lines rest None few is put h = subst (MendsNowhere mend) (sym is) h
 found_cut mend name counts read place n lines rest (Some next) few is put h = (
   subst (λ p. p < length counts) (sym h.0) few,
   h.1.0,
-  subst (λ (ls : List JournalLine). IsNext mend ls h.1.0) (sym is) h.1.1,
+  subst (λ (ls : List JournalLine). IsUpToNext mend ls h.1.0) (sym is) h.1.1,
   (λ i. set counts (h.0 i) (h.1.2 i)) ∙ put h.1.0,
 )
 
 -- a cut that is put there
-pub put_moves : (mend : MissingLine) (at : Text) (read : List NodeJournal) (old new : List ℕ) (place n : ℕ) → new ≡ set old place n → ((more : ℕ) × IsNext mend (rest_named at old read) more × (set old place n ≡ put_on at more old read)) → Moves mend at read old new true
+pub put_moves : (mend : MissingLine) (at : Text) (read : List NodeJournal) (old new : List ℕ) (place n : ℕ) → new ≡ set old place n → ((more : ℕ) × IsUpToNext mend (rest_named at old read) more × (set old place n ≡ put_on at more old read)) → Moves mend at read old new true
 put_moves mend at read old new place n is h = (h.0, h.1, is ∙ h.2)

@@ -110,7 +110,7 @@ pub record IsMissed (plan : Network) (nodes : List NodeJournal) (mend : MissingL
   pub lacks : IsFor mismatch mend at
 
 -- so many of these lines there are up to the first that says it
-pub record IsNext (mend : MissingLine) (rest : List JournalLine) (more : ℕ) : Type 0 where
+pub record IsUpToNext (mend : MissingLine) (rest : List JournalLine) (more : ℕ) : Type 0 where
   pub passed : List JournalLine
   pub line : JournalLine
   pub later : List JournalLine
@@ -129,7 +129,7 @@ put_on name more (n ∷ ns) (node ∷ nodes) =
 -- the cut of that node is put behind the next line that says it, if one does
 abbrev pub Moves : MissingLine → Text → List NodeJournal → List ℕ → List ℕ → Bool → Type 0
 Moves mend at read old new true =
-    (more : ℕ) × IsNext mend (rest_named at old read) more × (new ≡ put_on at more old read)
+    (more : ℕ) × IsUpToNext mend (rest_named at old read) more × (new ≡ put_on at more old read)
 Moves mend at read old new false = (new ≡ old) × MendsNowhere mend (rest_named at old read)
 
 -- One cut is moved, and for a reason: behind the next line that says what a line before the cuts

@@ -1,7 +1,7 @@
 //! Where journals of nodes that run are cut, and what stands behind the cut.
 ghost use Rattle.std.specs.Prelude.{◌≡◌, ◌<◌, ◌+◌, ℕ, IfOk, MatchOption, drop, length, set};
-ghost use Rattle.dr_word_audit_at.specs.Cuts.{IsNext, MendsNowhere, Moves, cut_at as is_cut, cuts};
-ghost use Rattle.dr_word_audit_at.specs.Cuts.{mends, put_on, rest_named};
+ghost use Rattle.dr_word_audit_at.specs.Cuts.{IsUpToNext, MendsNowhere, Moves, cut_at as is_cut};
+ghost use Rattle.dr_word_audit_at.specs.Cuts.{cuts, mends, put_on, rest_named};
 
 use dr_base::Text;
 use dr_ledger_history::{JournalLine, copy_page};
@@ -30,7 +30,7 @@ fn mends(missing: &MissingLine, line: &JournalLine) -> bool
 /// How many of the lines there are up to the first that says it.
 fn count_to(missing: &MissingLine, lines: &[JournalLine]) -> Option<usize>
     ensures { MatchOption result (MendsNowhere missing.now lines.now)
-        (IsNext missing.now lines.now) }
+        (IsUpToNext missing.now lines.now) }
 {
     for (i, line) in lines.iter().enumerate() {
         if mends(missing, line) {
@@ -54,7 +54,8 @@ pub(crate) fn behind(lines: &[JournalLine], count: usize) -> &[JournalLine]
 /// How many lines of the journal there are up to the first behind the cut that says it.
 fn next_count(missing: &MissingLine, lines: &[JournalLine], count: usize) -> Option<usize>
     ensures { MatchOption result (MendsNowhere missing.now (drop count lines.now))
-        (λ n. (more : ℕ) × IsNext missing.now (drop count lines.now) more × (n ≡ count + more)) }
+        (λ n. (more : ℕ) × IsUpToNext missing.now (drop count lines.now) more
+        × (n ≡ count + more)) }
 {
     let rest = behind(lines, count);
     match count_to(missing, rest) {
@@ -73,7 +74,7 @@ fn cut_behind(
 ) -> Option<(usize, usize)>
     ensures { MatchOption result (MendsNowhere missing.now (drop count lines.now))
         (λ next. (next.0 ≡ place)
-        × ((more : ℕ) × IsNext missing.now (drop count lines.now) more
+        × ((more : ℕ) × IsUpToNext missing.now (drop count lines.now) more
         × (next.1 ≡ count + more))) }
 {
     match next_count(missing, lines, count) {
@@ -94,7 +95,7 @@ fn next_cut(
     ensures { MatchOption result
         (MendsNowhere missing.now (rest_named name.now counts.now read.now))
         (λ next. (next.0 < length counts.now)
-        × ((more : ℕ) × IsNext missing.now (rest_named name.now counts.now read.now) more
+        × ((more : ℕ) × IsUpToNext missing.now (rest_named name.now counts.now read.now) more
         × (set counts.now next.0 next.1 ≡ put_on name.now more counts.now read.now))) }
 {
     for place in 0..read.len() {

@@ -1,6 +1,9 @@
 //! The word `audit` over files, tokens and a network.
-ghost use Rattle.std.specs.Prelude.{◌≡◌, IfOk, length};
+ghost use Rattle.std.specs.Prelude.{◌≡◌, Contains, IfOk, IfSome, length, map as mapped};
+ghost use Rattle.dr_world_audit.specs.Sites.{names as names_of};
+ghost use Rattle.dr_word_audit.specs.Names.{our_names as own_names, text_of};
 ghost use Rattle.dr_word_audit_at.specs.Cuts.{IsConcluded, IsJudged};
+ghost use Rattle.dr_word_audit_at.specs.Running.{ConcludesAll, ConcludesBy, EndsRunning};
 
 use crate::figuring::told_of;
 use crate::judging::{Judged, judge};
@@ -139,7 +142,9 @@ fn address_of<'x>(all: &'x Addresses, name: &Text) -> Option<&'x Text> {
 }
 
 /// The first of these nodes that has no address.
-fn lacking<'x>(all: &Addresses, names: &'x [Text]) -> Option<&'x Text> {
+fn lacking<'x>(all: &Addresses, names: &'x [Text]) -> Option<&'x Text>
+    ensures { IfSome result (λ name. Contains names.now name.now) }
+{
     for name in names {
         if address_of(all, name).is_none() {
             return Some(name);
@@ -219,7 +224,9 @@ impl<'x, N: Network, C: Clock> NodesAsker<'x, N, C> {
     /// The journal of the node of that name, so many lines, which are no fewer than there were.
     ///
     /// Errors: those of `lines_at`; Shrunk.
-    fn journal_at(&self, name: &Text, had: u64, count: u64) -> Result<NodeJournal, AskFault> {
+    fn journal_at(&self, name: &Text, had: u64, count: u64) -> Result<NodeJournal, AskFault>
+        ensures { IfOk result (λ node. node.name ≡ name.now) }
+    {
         if count < had {
             return Err(AskFault::Shrunk);
         }
@@ -236,15 +243,26 @@ impl<'x, N: Network, C: Clock> NodesAsker<'x, N, C> {
         names: &[Text],
         first: &[u64],
         last: &[u64],
-    ) -> Result<Vec<NodeJournal>, NodesStopped<'a>> {
+    ) -> Result<Vec<NodeJournal>, NodesStopped<'a>>
+        ensures { IfOk result (λ all. names_of all.items ≡ names.now) }
+    {
         let mut journals = Vec::new(self.alloc);
-        for (name, (had, count)) in names.iter().zip(first.iter().zip(last)) {
-            match self.journal_at(name, *had, *count) {
+        for (place, name) in names.iter().enumerate() {
+            let (had, count) = (number_at(first, place), number_at(last, place));
+            match self.journal_at(name, had, count) {
                 Ok(journal) => journals.push(journal)?,
                 Err(fault) => return Err(NodesStopped::Asking(fault, name.clone()?)),
             }
         }
         Ok(journals)
+    }
+}
+
+/// The number at that place; 0 where there is none.
+fn number_at(numbers: &[u64], place: usize) -> u64 {
+    match numbers.get(place) {
+        Some(number) => *number,
+        None => 0,
     }
 }
 
@@ -325,7 +343,10 @@ fn audit_by<'a, N: Network, C: Clock>(
     sealed: &Sealed,
     others: &[Text],
     names: &[Text],
-) -> Result<Audited, NodesStopped<'a>> {
+) -> Result<Audited, NodesStopped<'a>>
+    requires { names.now ≡ own_names others.now sealed.now.plan.nodes }
+    ensures { IfOk result (ConcludesAll sealed.now.plan others.now) }
+{
     let first = asker.counts(names)?;
     let last = asker.counts(names)?;
     let read = asker.journals(names, first.as_slice(), last.as_slice())?;
@@ -349,7 +370,10 @@ fn audit_sealed<'a, N: Network, C: Clock>(
     sealed: &Sealed,
     given: &RunningNodes<'a>,
     token: Option<&Text>,
-) -> Result<Audited, NodesStopped<'a>> {
+) -> Result<Audited, NodesStopped<'a>>
+    ensures { IfOk result
+        (ConcludesAll sealed.now.plan (mapped text_of given.now.others.items)) }
+{
     let others = texts_of(alloc, given.others.as_slice())?;
     let addresses = addresses_of(alloc, given.running.as_slice())?;
     test_known(sealed.plan(), others.as_slice())?;
@@ -380,7 +404,11 @@ fn audit_given<'a, F: Files + Tokens, N: Network, C: Clock>(
     files: &F,
     given: &RunningNodes<'a>,
     way: Way<'_, N, C>,
-) -> Result<Audited, NodesStopped<'a>> {
+) -> Result<Audited, NodesStopped<'a>>
+    ensures { IfOk result
+        (ConcludesBy (F.holds files.now given.now.plan.now)
+        (F.holds files.now given.now.certificate.now) (mapped text_of given.now.others.items)) }
+{
     let token = token_at(alloc, files, given.token)?;
     let sealed = match seal_files(alloc, files, given.plan, given.certificate) {
         Ok(sealed) => sealed,
@@ -414,7 +442,12 @@ pub fn audit_running<'a, F: Files + Tokens, N: Network, C: Clock, W: Write, E: W
     way: Way<'_, N, C>,
     output: &mut W,
     faults: &mut E,
-) -> Result<Status, Failure<'a>> {
+) -> Result<Status, Failure<'a>>
+    ensures { IfOk result
+        (EndsRunning (F.holds files.now given.entry.plan.now)
+        (F.holds files.now given.entry.certificate.now) (mapped text_of given.entry.others.items)
+        (W.contents output.old) (W.contents output.new)) }
+{
     let came = audit_given(alloc, files, &given, way);
     drop(given);
     match came {

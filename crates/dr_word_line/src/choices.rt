@@ -1,10 +1,10 @@
 //! The options of words, and the values that aren't like those of other words.
-use crate::parts::{Makes, Value, needed, optional};
+use crate::parts::{Makes, Value, each, excludes, flag, needed, needs, option, optional};
 use crate::serve_options::{
     anyone, control, forget_after, forget_never, host, links, log, memory, must_exist, report,
     seconds, token, until_input_ends, with_control, workers,
 };
-use clap::{Arg, ArgAction};
+use clap::Arg;
 use std::alloc::{AllocError, Global};
 
 /// The options, and the values that aren't like those of other words.
@@ -110,7 +110,10 @@ fn file_of_check<'a>(alloc: Global) -> Arg<'a> {
 
 /// The UID of a transfer syntax, behind the SOP class of an instance whose values are given.
 fn syntax<'a>(alloc: Global) -> Result<Arg<'a>, AllocError> {
-    optional(alloc, "SYNTAX", "the UID of its transfer syntax").requires_arg("STATION")
+    needs(
+        optional(alloc, "SYNTAX", "the UID of its transfer syntax"),
+        "STATION",
+    )
 }
 
 /// Its modality.
@@ -133,91 +136,126 @@ fn station<'a>(alloc: Global) -> Arg<'a> {
 
 /// The option of `lint` for a no where something looks wrong.
 fn strict<'a>(alloc: Global) -> Arg<'a> {
-    Arg::new(alloc, "STRICT")
-        .long("strict")
-        .action(ArgAction::SetTrue)
-        .help("ends with the status 1 where something looks wrong")
+    flag(
+        alloc,
+        "STRICT",
+        "strict",
+        "ends with the status 1 where something looks wrong",
+    )
 }
 
 /// The option of words about plans for an answer as JSON.
 fn json<'a>(alloc: Global) -> Arg<'a> {
-    Arg::new(alloc, "JSON")
-        .long("json")
-        .action(ArgAction::SetTrue)
-        .help("prints the answer as JSON: a list of its lines, each a list of its parts")
+    flag(
+        alloc,
+        "JSON",
+        "json",
+        "prints the answer as JSON: a list of its lines, each a list of its parts",
+    )
 }
 
 /// The option of `check` for all faults.
 fn all_faults<'a>(alloc: Global) -> Result<Arg<'a>, AllocError> {
-    Arg::new(alloc, "ALLFAULTS")
-        .long("all")
-        .action(ArgAction::SetTrue)
-        .help("names the fault of each entry, a line each, and not the first alone")
-        .conflicts_with("JSON")
+    excludes(
+        flag(
+            alloc,
+            "ALLFAULTS",
+            "all",
+            "names the fault of each entry, a line each, and not the first alone",
+        ),
+        "JSON",
+    )
 }
 
 /// The option of `diff` for a no where something is lost.
 fn fails<'a>(alloc: Global) -> Arg<'a> {
-    Arg::new(alloc, "FAILS")
-        .long("fail-on-lost")
-        .action(ArgAction::SetTrue)
-        .help("ends with the status 1 where an instance isn't kept any more where it was")
+    flag(
+        alloc,
+        "FAILS",
+        "fail-on-lost",
+        "ends with the status 1 where an instance isn't kept any more where it was",
+    )
 }
 
 /// The option of `list` for numbers alone.
 fn summary<'a>(alloc: Global) -> Arg<'a> {
-    Arg::new(alloc, "SUMMARY")
-        .long("summary")
-        .action(ArgAction::SetTrue)
-        .help("prints how many there are instead")
+    flag(
+        alloc,
+        "SUMMARY",
+        "summary",
+        "prints how many there are instead",
+    )
 }
 
 /// The option of `list` for names of classes and for dates.
 fn long<'a>(alloc: Global) -> Result<Arg<'a>, AllocError> {
-    Arg::new(alloc, "LONG")
-        .long("long")
-        .action(ArgAction::SetTrue)
-        .help("prints names of classes and dates too")
-        .conflicts_with("SUMMARY")?
-        .conflicts_with("AT")
+    excludes(
+        excludes(
+            flag(
+                alloc,
+                "LONG",
+                "long",
+                "prints names of classes and dates too",
+            ),
+            "SUMMARY",
+        )?,
+        "AT",
+    )
 }
 
 /// The option of `list` for a no where a row is held.
 fn if_held<'a>(alloc: Global) -> Result<Arg<'a>, AllocError> {
-    Arg::new(alloc, "IFHELD")
-        .long("fail-if-held")
-        .action(ArgAction::SetTrue)
-        .help("with --summary and --at: ends with the status 1 where a row is held")
-        .requires_arg("AT")
+    needs(
+        flag(
+            alloc,
+            "IFHELD",
+            "fail-if-held",
+            "with --summary and --at: ends with the status 1 where a row is held",
+        ),
+        "AT",
+    )
 }
 
 /// Where a node that runs is asked.
 fn at<'a>(alloc: Global) -> Arg<'a> {
-    Arg::new(alloc, "AT")
-        .long("at")
-        .action(ArgAction::Set)
-        .value_name("HOST:PORT")
-        .help("in the place of DB: asks the node that runs, by its control connection there")
+    option(
+        alloc,
+        (
+            "AT",
+            "in the place of DB: asks the node that runs, by its control connection there",
+        ),
+        "at",
+        "HOST:PORT",
+    )
 }
 
 /// Where nodes that run are asked.
 fn at_each<'a>(alloc: Global) -> Arg<'a> {
-    Arg::new(alloc, "AT")
-        .long("at")
-        .action(ArgAction::Append)
-        .value_name("NAME=HOST:PORT")
-        .allow_hyphen_values(true)
-        .help("in the place of DIR: the node that runs, and its control connection; once for each")
+    each(
+        alloc,
+        (
+            "AT",
+            "in the place of DIR: the node that runs, and its control connection; once for each",
+        ),
+        "at",
+        "NAME=HOST:PORT",
+    )
 }
 
 /// The token that a node that runs asks for.
 fn at_token<'a>(alloc: Global) -> Result<Arg<'a>, AllocError> {
-    Arg::new(alloc, "TOKEN")
-        .long("token")
-        .action(ArgAction::Set)
-        .value_name("FILE")
-        .help("with --at: the file with the token, which nobody but its owner may read")
-        .requires_arg("AT")
+    needs(
+        option(
+            alloc,
+            (
+                "TOKEN",
+                "with --at: the file with the token, which nobody but its owner may read",
+            ),
+            "token",
+            "FILE",
+        ),
+        "AT",
+    )
 }
 
 /// Where a ledger is copied to.
@@ -231,22 +269,28 @@ fn copy<'a>(alloc: Global) -> Arg<'a> {
 
 /// Why a row is given up.
 fn reason<'a>(alloc: Global) -> Result<Arg<'a>, AllocError> {
-    Arg::new(alloc, "REASON")
-        .long("reason")
-        .action(ArgAction::Set)
-        .value_name("TEXT")
-        .help("with --at: why, for the node's log")
-        .requires_arg("AT")
+    needs(
+        option(
+            alloc,
+            ("REASON", "with --at: why, for the node's log"),
+            "reason",
+            "TEXT",
+        ),
+        "AT",
+    )
 }
 
 /// The option of `requeue` for all held rows.
 fn all_held<'a>(alloc: Global) -> Result<Arg<'a>, AllocError> {
-    Arg::new(alloc, "ALL")
-        .long("all-held")
-        .action(ArgAction::Set)
-        .value_name("DEST")
-        .help("queues all held rows to that node again")
-        .conflicts_with("UID")
+    excludes(
+        option(
+            alloc,
+            ("ALL", "queues all held rows to that node again"),
+            "all-held",
+            "DEST",
+        ),
+        "UID",
+    )
 }
 
 /// The UID of the one row that `requeue` queues again.
@@ -254,7 +298,7 @@ fn row<'a>(alloc: Global) -> Result<Arg<'a>, AllocError> {
     let row = optional(alloc, "UID", "the SOP instance UID of the row").required_unless_present(
         "ALL",
     )?;
-    row.requires_arg("DEST")
+    needs(row, "DEST")
 }
 
 /// Where that row goes.
@@ -264,18 +308,23 @@ fn dest<'a>(alloc: Global) -> Arg<'a> {
 
 /// The option of `adopt` to change nothing.
 fn dry_run<'a>(alloc: Global) -> Arg<'a> {
-    Arg::new(alloc, "DRYRUN")
-        .long("dry-run")
-        .action(ArgAction::SetTrue)
-        .help("changes nothing, and prints each row that would be in the way")
+    flag(
+        alloc,
+        "DRYRUN",
+        "dry-run",
+        "changes nothing, and prints each row that would be in the way",
+    )
 }
 
 /// The option of `audit` for a node that has no ledger here.
 fn other<'a>(alloc: Global) -> Arg<'a> {
-    Arg::new(alloc, "OTHER")
-        .long("other")
-        .action(ArgAction::Append)
-        .value_name("NAME")
-        .allow_hyphen_values(true)
-        .help("a node of another maker, which has no ledger here; once for each")
+    each(
+        alloc,
+        (
+            "OTHER",
+            "a node of another maker, which has no ledger here; once for each",
+        ),
+        "other",
+        "NAME",
+    )
 }

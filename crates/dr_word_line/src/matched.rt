@@ -186,13 +186,16 @@ fn duty_of<'a>(name: &str, given: &ArgMatches<'a>) -> Option<Duty<'a>> {
     }
 }
 
+/// What `echo` asks for, as clap has read it.
+fn echo_of<'a>(given: &ArgMatches<'a>, plan: &'a str) -> Task<'a> {
+    let caller = given.get_str("FROM").unwrap_or("");
+    let called = given.get_str("TO").unwrap_or("");
+    Task::Echo(plan, caller, called)
+}
+
 /// What clap makes of words that name a plan and its certificate.
-fn read_certified<'a>(
-    name: &str,
-    given: &ArgMatches<'a>,
-    plan: &'a str,
-    certificate: &'a str,
-) -> Task<'a> {
+fn read_certified<'a>(name: &str, given: &ArgMatches<'a>, plan: &'a str) -> Task<'a> {
+    let certificate = given.get_str("CERT").unwrap_or("");
     if let Some(question) = question_of(name, given) {
         return ask(name, given, plan, certificate, question);
     }
@@ -291,16 +294,12 @@ fn audit_at<'a>(alloc: Global, given: &ArgMatches<'a>) -> Result<Task<'a>, Alloc
     }))
 }
 
-/// What clap makes of words about a node that runs.
-fn read_at<'a>(alloc: Global, words: &'a [&'a str]) -> Result<Task<'a>, AllocError> {
-    let line = running_line(alloc)?;
-    let matches = match line.try_get_matches_from(words) {
-        Ok(matches) => matches,
-        Err(error) => return Ok(Task::Told(error)),
-    };
-    let Some((name, given)) = matches.subcommand() else {
-        return Ok(Task::CheckInput);
-    };
+/// What a word about a node that runs asks for, as clap has read it.
+fn read_running_word<'a>(
+    alloc: Global,
+    name: &str,
+    given: &ArgMatches<'a>,
+) -> Result<Task<'a>, AllocError> {
     if name == "audit" {
         return audit_at(alloc, given);
     }
@@ -314,42 +313,69 @@ fn read_at<'a>(alloc: Global, words: &'a [&'a str]) -> Result<Task<'a>, AllocErr
     Ok(Task::AtRunning(running, errand_of(name, given)))
 }
 
+/// What clap makes of words about a node that runs.
+fn read_at<'a>(alloc: Global, words: &'a [&'a str]) -> Result<Task<'a>, AllocError> {
+    let line = running_line(alloc)?;
+    match line.try_get_matches_from(words) {
+        Ok(matches) => {
+            let asked = match matches.subcommand() {
+                Some((name, given)) => read_running_word(alloc, name, given),
+                None => Ok(Task::CheckInput),
+            };
+            drop(matches);
+            asked
+        }
+        Err(error) => Ok(Task::Told(error)),
+    }
+}
+
+/// What a word about a plan asks for, as clap has read it.
+fn read_planned<'a>(
+    alloc: Global,
+    name: &str,
+    given: &ArgMatches<'a>,
+    plan: &'a str,
+) -> Result<Task<'a>, AllocError> {
+    match name {
+        "expand" => Ok(Task::Expand(plan)),
+        "echo" => Ok(echo_of(given, plan)),
+        "adopt" => Ok(adopt_of(given)),
+        "audit" => audit_of(alloc, given),
+        _ => Ok(read_certified(name, given, plan)),
+    }
+}
+
+/// What a word asks for, as clap has read it.
+fn read_word<'a>(
+    alloc: Global,
+    name: &str,
+    given: &ArgMatches<'a>,
+) -> Result<Task<'a>, AllocError> {
+    match name {
+        "check" => Ok(check_of(given)),
+        "import" => Ok(Task::Import(given.get_str("CSV").unwrap_or(""))),
+        _ => match given.get_str("PLAN") {
+            Some(plan) => read_planned(alloc, name, given, plan),
+            None => Ok(Task::CheckInput),
+        },
+    }
+}
+
 /// What clap makes of the words: options, help, and what the program doesn't know.
 pub(crate) fn read_others<'a>(alloc: Global, words: &'a [&'a str]) -> Result<Task<'a>, AllocError> {
     if names_running(words) {
         return read_at(alloc, words);
     }
     let line = command_line(alloc)?;
-    let matches = match line.try_get_matches_from(words) {
-        Ok(matches) => matches,
-        Err(error) => return Ok(Task::Told(error)),
-    };
-    let Some((name, given)) = matches.subcommand() else {
-        return Ok(Task::CheckInput);
-    };
-    if name == "check" {
-        return Ok(check_of(given));
+    match line.try_get_matches_from(words) {
+        Ok(matches) => {
+            let asked = match matches.subcommand() {
+                Some((name, given)) => read_word(alloc, name, given),
+                None => Ok(Task::CheckInput),
+            };
+            drop(matches);
+            asked
+        }
+        Err(error) => Ok(Task::Told(error)),
     }
-    if name == "import" {
-        return Ok(Task::Import(given.get_str("CSV").unwrap_or("")));
-    }
-    let Some(plan) = given.get_str("PLAN") else {
-        return Ok(Task::CheckInput);
-    };
-    if name == "expand" {
-        return Ok(Task::Expand(plan));
-    }
-    if name == "echo" {
-        let caller = given.get_str("FROM").unwrap_or("");
-        let called = given.get_str("TO").unwrap_or("");
-        return Ok(Task::Echo(plan, caller, called));
-    }
-    if name == "adopt" {
-        return Ok(adopt_of(given));
-    }
-    if name == "audit" {
-        return audit_of(alloc, given);
-    }
-    let certificate = given.get_str("CERT").unwrap_or("");
-    Ok(read_certified(name, given, plan, certificate))
 }

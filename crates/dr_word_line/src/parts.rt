@@ -1,5 +1,5 @@
 //! What a command line is made of: values, and how words take them.
-use clap::{Arg, ArgAction, Command};
+use clap::{Arg, ArgAction, Command, value_parser};
 use std::alloc::{AllocError, Global};
 
 /// A value's name, and what is said of it.
@@ -37,6 +37,56 @@ pub(crate) fn needed<'a>(alloc: Global, name: &'a str, help: &'a str) -> Arg<'a>
 /// A value that may be left out.
 pub(crate) fn optional<'a>(alloc: Global, name: &'a str, help: &'a str) -> Arg<'a> {
     Arg::new(alloc, name).action(ArgAction::Set).help(help)
+}
+
+/// An option that has no value.
+pub(crate) fn flag<'a>(alloc: Global, name: &'a str, word: &'a str, help: &'a str) -> Arg<'a> {
+    Arg::new(alloc, name)
+        .long(word)
+        .action(ArgAction::SetTrue)
+        .help(help)
+}
+
+/// An option with a value: its name and what is said of it, its word, and what the help calls the
+/// value.
+pub(crate) fn option<'a>(
+    alloc: Global,
+    value: Value<'a>,
+    word: &'a str,
+    called: &'a str,
+) -> Arg<'a> {
+    Arg::new(alloc, value.0)
+        .long(word)
+        .action(ArgAction::Set)
+        .value_name(called)
+        .help(value.1)
+}
+
+/// The same, whose value is a number of 32 bits.
+pub(crate) fn number<'a>(
+    alloc: Global,
+    value: Value<'a>,
+    word: &'a str,
+    called: &'a str,
+) -> Arg<'a> {
+    option(alloc, value, word, called).value_parser(value_parser!(u32))
+}
+
+/// The same, which may be given more than once; a value may begin with a hyphen.
+pub(crate) fn each<'a>(alloc: Global, value: Value<'a>, word: &'a str, called: &'a str) -> Arg<'a> {
+    option(alloc, value, word, called)
+        .action(ArgAction::Append)
+        .allow_hyphen_values(true)
+}
+
+/// An option that says nothing without that other.
+pub(crate) fn needs<'a>(option: Arg<'a>, other: &'a str) -> Result<Arg<'a>, AllocError> {
+    option.requires_arg(other)
+}
+
+/// An option that isn't given beside that other.
+pub(crate) fn excludes<'a>(option: Arg<'a>, other: &'a str) -> Result<Arg<'a>, AllocError> {
+    option.conflicts_with(other)
 }
 
 /// Whether the value is the name of a node, which may begin with a hyphen.

@@ -21,7 +21,7 @@ returns-in-Ok-clause-called g c part =
     let new = state g.S.Store c.forget_if.new.conn in
     let Shows : Trees → Bool → Type 0 = λ base b. IsTrue b ↔ IsOver (book_of base) uid in
     let Answers : Trees → Trees → Type 0 = λ base db. Forgets uid (book_of base) r (book_of db) × OnlyLetsGo (bodies_of base) (bodies_of db) in
-    let Makes : Trees → Trees → Type 0 = λ base db. Forgets uid (book_of base) (Ok tt) (book_of db) in
+    let Makes : Trees → Trees → Type 0 = λ base db. Forgets uid (book_of base) (Ok tt) (book_of db) × OnlyLetsGo (bodies_of base) (bodies_of db) in
     looked_then n (advanced r n) part old mid new Shows over r Nothing (λ base. Shows base over) Answers Makes Answers Makes (c.in-Ok.ensures.looked n part)
     (c.forget_if.ensures.called part) (λ db l any shown. shown) (λ base db any shown it. it) (λ base db any shown it. it)
 
@@ -31,5 +31,5 @@ returns-in-Err-clause-called g c part =
     let e = c.in-Err.fault in
     let Shows : Trees → Bool → Type 0 = λ base b. IsTrue b ↔ IsOver (book_of base) uid in
     looked_failed {B = Unit {0}} c.args.n part (state g.S.Store c.args.conn.now) (state g.S.Store c.is_over.new.conn) Shows e Nothing
-    (λ base db. Forgets uid (book_of base) (Err e) (book_of db) × OnlyLetsGo (bodies_of base) (bodies_of db)) (λ base db. Forgets uid (book_of base) (Ok tt) (book_of db)) (c.in-Err.ensures.looked c.args.n part)
+    (λ base db. Forgets uid (book_of base) (Err e) (book_of db) × OnlyLetsGo (bodies_of base) (bodies_of db)) (λ base db. Forgets uid (book_of base) (Ok tt) (book_of db) × OnlyLetsGo (bodies_of base) (bodies_of db)) (c.in-Err.ensures.looked c.args.n part)
     (λ base any own. (forgets_own e uid (book_of base) own, all_stay (bodies_of base)))

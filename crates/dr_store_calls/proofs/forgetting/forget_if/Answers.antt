@@ -24,4 +24,4 @@ returns-then-over-clause-called g c part =
     (λ ready l asks. tt) c.written.ensures.fault c.written.ensures.written
     (λ ready l asks db w. forgets n c.args.moment part old.committed.trees db uid (below_of n old ready) l (asks.0 c.if-over.true) w)
     (λ e own. (forgets_own e uid (book_of old.committed.trees) own, all_stay (bodies_of old.committed.trees)))
-    (λ base db. Forgets uid (book_of base) (Ok tt) (book_of db)) (λ base db it. it.0)
+    (Answers (Ok tt)) (λ base db it. it)

@@ -28,4 +28,4 @@ returns-clause-called g c part =
     (λ ready l held. row_asks old.committed.trees uid dest (Held why) l.bodied held refl) c.written.ensures.fault c.written.ensures.written
     (λ ready l held db w. requeues n c.args.moment part old.committed.trees db uid dest why (below_of n old ready) l held w)
     (λ e own. (requeues_own e uid dest (book_of old.committed.trees) own, all_stay (bodies_of old.committed.trees)))
-    (λ base db. Requeues uid dest (book_of base) (Ok tt) (book_of db)) (λ base db it. it.0)
+    (Answers (Ok tt)) (λ base db it. it)

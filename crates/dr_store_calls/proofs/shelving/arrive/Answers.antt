@@ -5,29 +5,27 @@ use Rattle.dr_site.specs.Routing.{HasLineFor}
 use Rattle.dr_ledger.specs.declared.content.Job.{Job}
 use Rattle.dr_ledger.specs.declared.item.Instance.{Instance}
 use Rattle.dr_ledger.specs.Items.{IsItem, instance_of}
+use Rattle.dr_store_calls.specs.Shelving.{IsNewCell}
 use Rattle.dr_store_calls.proofs.Shelved.{has_bytes, received_item}
 use Rattle.dr_store_calls.proofs.Takings.{is_small}
 use Rattle.dr_store_calls.proofs.shelving.arrive.Goals as goal
 
-pub shelve-requires-clause-delivered : goal.shelve-requires-clause-delivered
-shelve-requires-clause-delivered g c =
+pub receive-requires-clause-delivered : goal.receive-requires-clause-delivered
+receive-requires-clause-delivered g c =
     let P : Key → Type 0 = λ key. HasLineFor c.args.site.now c.args.caller.now key in
     let key = c.key.ensures ∙ sym (ap (λ (i : Instance). i.key) c.in-Ok.ensures) in
+    let Some : List ℕ → Type 0 = λ bytes. 0 < length bytes in
     record {
       line = subst P key (c.has_line.ensures.0 c.if-not-has_line.false);
       size = is_small c.into_job-job.result c.in-Ok.instance c.into_job-job.ensures.item (c.in-Ok.ensures ∙ sym (ap (λ (j : Job). instance_of j) c.into_job-job.ensures.same));
+      some = subst Some (sym c.as_bytes.ensures) (has_bytes c.into_job-job.result c.into_job-job.ensures.item);
     }
-
-pub shelve-requires-clause-some : goal.shelve-requires-clause-some
-shelve-requires-clause-some g c =
-    let P : List ℕ → Type 0 = λ bytes. 0 < length bytes in
-    subst P (sym c.as_bytes.ensures) (has_bytes c.into_job-job.result c.into_job-job.ensures.item)
 
 pub returns-in-Ok-clause-called : goal.returns-in-Ok-clause-called
 returns-in-Ok-clause-called g c =
     let Is : Job → Type 0 = λ job. IsItem job in
-    let Uses : List ℕ → Type 0 = g.B.Shelf.uses c.shelve.new.shelf in
-    let Stands : List ℕ → List ℕ → Type 0 = g.B.Shelf.stands c.shelve.new.shelf in
+    let shelf = c.receive.new.shelf in
+    let IsNew : List ℕ → List ℕ → Type 0 = IsNewCell (g.B.Shelf.uses c.args.shelf.now) (g.B.Shelf.uses shelf) (g.B.Shelf.stands shelf) g.B.Shelf.apart in
     let own = c.as_bytes.ensures ∙ ap (λ (j : Job). j.body) c.into_job-job.ensures.same in
-    received_item Uses Stands c.args.line.n c.args.site.now c.args.caller.now c.args.item c.in-Ok.instance _ c.shelve.result (state g.S.Store c.args.conn.now) (state g.S.Store c.shelve.new.conn)
-    (subst Is c.into_job-job.ensures.same c.into_job-job.ensures.item) c.in-Ok.ensures own c.shelve.ensures.called
+    received_item IsNew c.args.line.n c.args.site.now c.args.caller.now c.args.item c.in-Ok.instance _ c.receive.result (state g.S.Store c.args.conn.now) (state g.S.Store c.receive.new.conn)
+    (subst Is c.into_job-job.ensures.same c.into_job-job.ensures.item) c.in-Ok.ensures own c.receive.ensures.called

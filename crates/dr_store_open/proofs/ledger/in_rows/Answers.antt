@@ -10,5 +10,6 @@ of-requires-clause-kept g c safe = ∣ record {
     own = λ uid cell there.
         let it = (c.requires.is safe.0).agreed.own uid cell there in
         (it.0, it.1, sym it.2, it.3);
+    apart = λ uid other cell beside differ was there. tt;
   };
 } ∣₁

@@ -6,10 +6,10 @@ use Rattle.dr_ledger.specs.Replies.{Forgets}
 use Rattle.dr_store_schema.specs.Books.{bodies_of, book_of}
 use Rattle.dr_store_calls.specs.Calling.{IsSafe, advanced}
 use Rattle.dr_store.specs.Owning.{KeepsOwn, bodies_with}
-use Rattle.dr_store.proofs.Owns.{forgotten, lets_go_with}
+use Rattle.dr_store.proofs.Owns.{forgotten, if_failed, left_of, lets_go_with}
 use Rattle.dr_store.proofs.Replies.{forgets, lets_go}
 use Rattle.dr_store.proofs.Stable.{both}
-use Rattle.dr_store.proofs.Writes.{answering, called, still_kept, wrote}
+use Rattle.dr_store.proofs.Writes.{answering, called, covered, making, still_kept, wrote}
 use Rattle.dr_store.proofs.ledger.SqlLedger.forget_in.Goals as goal
 
 pub invariant_of-self : goal.invariant_of-self
@@ -17,17 +17,18 @@ invariant_of-self g c =
     let n = c.args.self.now.next in
     let Uses = g.B.Shelf.uses c.args.self.now.shelf in
     let Stands = g.B.Shelf.stands c.args.self.now.shelf in
+    let Apart = g.B.Shelf.apart in
     let part = c.args.self.now.site in
     let uid = c.args.uid.now in
     let r = c.forget-answer.result in
     let old = state g.S.Store c.args.self.now.conn in
     let new = state g.S.Store c.forget-answer.new.conn in
     let Answers : Trees → Trees → Type 0 = λ base db. Forgets uid (book_of base) r (book_of db) × OnlyLetsGo (bodies_of base) (bodies_of db) in
-    let Makes : Trees → Trees → Type 0 = λ base db. Forgets uid (book_of base) (Ok tt) (book_of db) in
-    let done = called Uses Stands n (advanced r n) part r old new Answers Makes (c.forget-answer.ensures.called part) in
+    let Makes : Trees → Trees → Type 0 = λ base db. Forgets uid (book_of base) (Ok tt) (book_of db) × OnlyLetsGo (bodies_of base) (bodies_of db) in
+    let done = called Uses Stands Apart n (advanced r n) part r old new Answers Makes (c.forget-answer.ensures.called part) in
     record {
       idle = c.forget-answer.ensures.idle;
-      kept = subst (λ m. IsSafe new → ∥ KeepsOwn Uses Stands m part new ∥₁) (sym c.next_after-self.ensures) (still_kept n (advanced r n) part part r old new Answers Makes c.args.self.now.kept done Uses Stands
+      kept = subst (λ m. IsSafe new → ∥ KeepsOwn Uses Stands Apart m part new ∥₁) (sym c.next_after-self.ensures) (still_kept n (advanced r n) part part r old new Answers Makes c.args.self.now.kept done Uses Stands
           (λ k it own. forgotten uid r old.committed.trees new.committed.trees k.ledger.bodied it own));
     }
 
@@ -36,6 +37,7 @@ returns-clause-wrote g c =
     let n = c.args.self.now.next in
     let Uses = g.B.Shelf.uses c.args.self.now.shelf in
     let Stands = g.B.Shelf.stands c.args.self.now.shelf in
+    let Apart = g.B.Shelf.apart in
     let body_of = g.B.Shelf.body_of c.args.self.now.shelf in
     let part = c.args.self.now.site in
     let uid = c.args.uid.now in
@@ -44,9 +46,39 @@ returns-clause-wrote g c =
     let new = state g.S.Store c.forget-answer.new.conn in
     let Cells : Trees → Trees → Type 0 = λ base db. Forgets uid (book_of base) r (book_of db) × OnlyLetsGo (bodies_of base) (bodies_of db) in
     let Answers : Trees → Trees → Type 0 = λ base db. Forgets uid (book_of base) r (book_of db) × OnlyLetsGo (bodies_with body_of base) (bodies_with body_of db) in
-    let Makes : Trees → Trees → Type 0 = λ base db. Forgets uid (book_of base) (Ok tt) (book_of db) in
-    let done = answering Uses Stands n (advanced r n) part part r old new Cells Answers Makes (λ own it. (it.0, lets_go_with body_of old.committed.trees new.committed.trees it.1))
-    (called Uses Stands n (advanced r n) part r old new Cells Makes (c.forget-answer.ensures.called part)) in
-    wrote n (advanced r n) part part r old new Answers Makes c.args.self.now.kept done (λ db is_open left. g.met.S.Store.settled c.args.self.now.conn.store db is_open left)
+    let Makes : Trees → Trees → Type 0 = λ base db. Forgets uid (book_of base) (Ok tt) (book_of db) × OnlyLetsGo (bodies_of base) (bodies_of db) in
+    let Less : Trees → Trees → Type 0 = λ base db. Forgets uid (book_of base) (Ok tt) (book_of db) in
+    let done = making Uses Stands Apart n (advanced r n) part part r old new Answers Makes Less (λ base db it. it.0) (answering Uses Stands Apart n (advanced r n) part part r old new Cells Answers Makes (λ own it. (it.0, lets_go_with body_of old.committed.trees new.committed.trees it.1))
+    (called Uses Stands Apart n (advanced r n) part r old new Cells Makes (c.forget-answer.ensures.called part))) in
+    wrote n (advanced r n) part part r old new Answers Less c.args.self.now.kept done (λ db is_open left. g.met.S.Store.settled c.args.self.now.conn.store db is_open left)
     (λ db is_open left. g.met.S.Store.settled c.forget-answer.new.conn.store db is_open left)
     (both (forgets uid (book_of old.committed.trees) r (book_of new.committed.trees)) (lets_go (bodies_with body_of old.committed.trees) (bodies_with body_of new.committed.trees)))
+
+pub returns-clause-covered : goal.returns-clause-covered
+returns-clause-covered g c =
+    let n = c.args.self.now.next in
+    let Uses = g.B.Shelf.uses c.args.self.now.shelf in
+    let Stands = g.B.Shelf.stands c.args.self.now.shelf in
+    let Apart = g.B.Shelf.apart in
+    let part = c.args.self.now.site in
+    let uid = c.args.uid.now in
+    let r = c.forget-answer.result in
+    let old = state g.S.Store c.args.self.now.conn in
+    let new = state g.S.Store c.forget-answer.new.conn in
+    let base = old.committed.trees in
+    let Answers : Trees → Trees → Type 0 =
+    λ base db. Forgets uid (book_of base) r (book_of db)
+    × OnlyLetsGo (bodies_of base) (bodies_of db) in
+    let Makes : Trees → Trees → Type 0 =
+    λ base db. Forgets uid (book_of base) (Ok tt) (book_of db)
+    × OnlyLetsGo (bodies_of base) (bodies_of db) in
+    let done =
+    called Uses Stands Apart n (advanced r n) part r old new Answers Makes
+    (c.forget-answer.ensures.called part) in
+    covered n (advanced r n) part part r old new Answers Makes c.args.self.now.kept done
+    (λ db is_open left. g.met.S.Store.settled c.args.self.now.conn.store db is_open left)
+    (λ db is_open left. g.met.S.Store.settled c.forget-answer.new.conn.store db is_open left)
+    Uses Stands
+    (λ k it own. forgotten uid r old.committed.trees new.committed.trees k.ledger.bodied it own)
+    (if_failed r (λ k own db may. left_of base db Makes
+    (λ made had. forgotten uid (Ok tt) old.committed.trees db k.ledger.bodied made had) may own))

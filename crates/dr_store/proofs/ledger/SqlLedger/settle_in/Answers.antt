@@ -1,25 +1,29 @@
-use Rattle.std.proofs.Common.{◌≡◌, Ok, sym, subst}
+use Rattle.std.proofs.Common.{◌≡◌, ◌⊎◌, List, ℕ, Ok, Err, OnErr, Result, sym, subst}
 use Rattle.sqlite.specs.Held.{state}
 use Rattle.sqlite.specs.Tree.{Trees}
+use Rattle.dr_ledger.specs.declared.fault.LedgerFault.{LedgerFault}
 use Rattle.dr_ledger.specs.Bodies.{OnlyLetsGo}
-use Rattle.dr_ledger.specs.Items.{instance_of}
-use Rattle.dr_ledger.specs.Replies.{Arrives, Requeues, Settles}
-use Rattle.dr_ledger.specs.SiteRoutes.{site_routing}
+use Rattle.dr_ledger.specs.Replies.{Settles}
 use Rattle.dr_store_schema.specs.Books.{bodies_of, book_of}
-use Rattle.dr_store_calls.specs.Calling.{IsSafe, advanced}
-use Rattle.dr_store_calls.specs.Knowing.{IsAccepted}
-use Rattle.dr_store.specs.Owning.{KeepsOwn, bodies_with}
-use Rattle.dr_store.proofs.Owns.{lets_go_with, settled}
-use Rattle.dr_store.proofs.Replies.{accepted, arrives, lets_go, requeues, settles, takes}
+use Rattle.dr_store_calls.specs.Calling.{IsKept, IsSafe, advanced}
+use Rattle.dr_store_calls.specs.LettingGo.{LetsCellsGo}
+use Rattle.dr_store.specs.Owning.{HaveOwn, KeepsOwn, bodies_with}
+use Rattle.dr_store.proofs.Owns.{settled, settled_go, left_of, let_go_with, not_gone}
+use Rattle.dr_store.proofs.Replies.{settles, lets_go}
 use Rattle.dr_store.proofs.Stable.{both}
-use Rattle.dr_store.proofs.Writes.{answering, called, still_kept, wrote}
+use Rattle.dr_store.proofs.Writes.{answering, called, covered, making, still_kept, wrote}
 use Rattle.dr_store.proofs.ledger.SqlLedger.settle_in.Goals as goal
 
 pub invariant_of-self : goal.invariant_of-self
 invariant_of-self g c =
     let n = c.args.self.now.next in
-    let Uses = g.B.Shelf.uses c.args.self.now.shelf in
-    let Stands = g.B.Shelf.stands c.args.self.now.shelf in
+    let was = c.args.self.now.shelf in
+    let shelf = c.settle-answer.new.shelf in
+    let Apart = g.B.Shelf.apart in
+    let Used = g.B.Shelf.uses was in
+    let Stood = g.B.Shelf.stands was in
+    let Uses = g.B.Shelf.uses shelf in
+    let Stands = g.B.Shelf.stands shelf in
     let part = c.args.self.now.site in
     let uid = c.args.uid.now in
     let dest = c.args.dest.now in
@@ -28,21 +32,35 @@ invariant_of-self g c =
     let r = c.settle-answer.result in
     let old = state g.S.Store c.args.self.now.conn in
     let new = state g.S.Store c.settle-answer.new.conn in
-    let Answers : Trees → Trees → Type 0 = λ base db. Settles uid dest outcome now (book_of base) r (book_of db) × OnlyLetsGo (bodies_of base) (bodies_of db) in
-    let Makes : Trees → Trees → Type 0 = λ base db. Settles uid dest outcome now (book_of base) (Ok tt) (book_of db) in
-    let done = called Uses Stands n (advanced r n) part r old new Answers Makes (c.settle-answer.ensures.called part) in
+    let Answers : Trees → Trees → Type 0 =
+    λ base db. Settles uid dest outcome now (book_of base) r (book_of db)
+    × LetsCellsGo Apart Used Stood Uses Stands base db in
+    let Makes : Trees → Trees → Type 0 =
+    λ base db. Settles uid dest outcome now (book_of base) (Ok tt) (book_of db)
+    × OnlyLetsGo (bodies_of base) (bodies_of db) in
+    let done =
+    called Used Stood Apart n (advanced r n) part r old new Answers Makes
+    (c.settle-answer.ensures.called part) in
     record {
       idle = c.settle-answer.ensures.idle;
-      kept = subst (λ m. IsSafe new → ∥ KeepsOwn Uses Stands m part new ∥₁) (sym c.next_after-self.ensures) (still_kept n (advanced r n) part part r old new Answers Makes c.args.self.now.kept done Uses Stands
-          (λ k it own. settled uid dest outcome now r old.committed.trees new.committed.trees it own));
+      kept = subst
+          (λ m. IsSafe new → ∥ KeepsOwn Uses Stands Apart m part new ∥₁)
+          (sym c.next_after-self.ensures)
+          (still_kept n (advanced r n) part part r old new Answers Makes c.args.self.now.kept done
+          Uses Stands
+          (λ k it own. settled_go uid dest outcome now r old.committed.trees new.committed.trees it own));
     }
 
 pub returns-clause-wrote : goal.returns-clause-wrote
 returns-clause-wrote g c =
     let n = c.args.self.now.next in
-    let Uses = g.B.Shelf.uses c.args.self.now.shelf in
-    let Stands = g.B.Shelf.stands c.args.self.now.shelf in
-    let body_of = g.B.Shelf.body_of c.args.self.now.shelf in
+    let was = c.args.self.now.shelf in
+    let shelf = c.settle-answer.new.shelf in
+    let Apart = g.B.Shelf.apart in
+    let Used = g.B.Shelf.uses was in
+    let Stood = g.B.Shelf.stands was in
+    let was_of = g.B.Shelf.body_of was in
+    let body_of = g.B.Shelf.body_of shelf in
     let part = c.args.self.now.site in
     let uid = c.args.uid.now in
     let dest = c.args.dest.now in
@@ -51,11 +69,70 @@ returns-clause-wrote g c =
     let r = c.settle-answer.result in
     let old = state g.S.Store c.args.self.now.conn in
     let new = state g.S.Store c.settle-answer.new.conn in
-    let Cells : Trees → Trees → Type 0 = λ base db. Settles uid dest outcome now (book_of base) r (book_of db) × OnlyLetsGo (bodies_of base) (bodies_of db) in
-    let Answers : Trees → Trees → Type 0 = λ base db. Settles uid dest outcome now (book_of base) r (book_of db) × OnlyLetsGo (bodies_with body_of base) (bodies_with body_of db) in
-    let Makes : Trees → Trees → Type 0 = λ base db. Settles uid dest outcome now (book_of base) (Ok tt) (book_of db) in
-    let done = answering Uses Stands n (advanced r n) part part r old new Cells Answers Makes (λ own it. (it.0, lets_go_with body_of old.committed.trees new.committed.trees it.1))
-    (called Uses Stands n (advanced r n) part r old new Cells Makes (c.settle-answer.ensures.called part)) in
-    wrote n (advanced r n) part part r old new Answers Makes c.args.self.now.kept done (λ db is_open left. g.met.S.Store.settled c.args.self.now.conn.store db is_open left)
+    let Cells : Trees → Trees → Type 0 =
+    λ base db. Settles uid dest outcome now (book_of base) r (book_of db)
+    × LetsCellsGo Apart Used Stood (g.B.Shelf.uses shelf) (g.B.Shelf.stands shelf) base db in
+    let Answers : Trees → Trees → Type 0 =
+    λ base db. Settles uid dest outcome now (book_of base) r (book_of db)
+    × OnlyLetsGo (bodies_with was_of base) (bodies_with body_of db) in
+    let Makes : Trees → Trees → Type 0 =
+    λ base db. Settles uid dest outcome now (book_of base) (Ok tt) (book_of db)
+    × OnlyLetsGo (bodies_of base) (bodies_of db) in
+    let Less : Trees → Trees → Type 0 =
+    λ base db. Settles uid dest outcome now (book_of base) (Ok tt) (book_of db) in
+    let done =
+    making Used Stood Apart n (advanced r n) part part r old new Answers Makes Less
+    (λ base db it. it.0)
+    (answering Used Stood Apart n (advanced r n) part part r old new Cells Answers Makes
+    (λ own it. (
+      it.0,
+      let_go_with old.committed.trees new.committed.trees it.1 own was_of body_of
+          (g.B.Shelf.only was) (g.B.Shelf.only shelf),
+    ))
+    (called Used Stood Apart n (advanced r n) part r old new Cells Makes
+    (c.settle-answer.ensures.called part))) in
+    wrote n (advanced r n) part part r old new Answers Less c.args.self.now.kept done
+    (λ db is_open left. g.met.S.Store.settled c.args.self.now.conn.store db is_open left)
     (λ db is_open left. g.met.S.Store.settled c.settle-answer.new.conn.store db is_open left)
-    (both (settles uid dest outcome now (book_of old.committed.trees) r (book_of new.committed.trees)) (lets_go (bodies_with body_of old.committed.trees) (bodies_with body_of new.committed.trees)))
+    (both (settles uid dest outcome now (book_of old.committed.trees) r (book_of new.committed.trees))
+    (lets_go (bodies_with was_of old.committed.trees) (bodies_with body_of new.committed.trees)))
+
+pub returns-clause-covered : goal.returns-clause-covered
+returns-clause-covered g c =
+    let n = c.args.self.now.next in
+    let was = c.args.self.now.shelf in
+    let shelf = c.settle-answer.new.shelf in
+    let Apart = g.B.Shelf.apart in
+    let Used = g.B.Shelf.uses was in
+    let Stood = g.B.Shelf.stands was in
+    let Uses = g.B.Shelf.uses shelf in
+    let Stands = g.B.Shelf.stands shelf in
+    let part = c.args.self.now.site in
+    let uid = c.args.uid.now in
+    let dest = c.args.dest.now in
+    let outcome = c.args.outcome in
+    let now = c.args.now in
+    let r = c.settle-answer.result in
+    let old = state g.S.Store c.args.self.now.conn in
+    let new = state g.S.Store c.settle-answer.new.conn in
+    let Answers : Trees → Trees → Type 0 =
+    λ base db. Settles uid dest outcome now (book_of base) r (book_of db)
+    × LetsCellsGo Apart Used Stood Uses Stands base db in
+    let Makes : Trees → Trees → Type 0 =
+    λ base db. Settles uid dest outcome now (book_of base) (Ok tt) (book_of db)
+    × OnlyLetsGo (bodies_of base) (bodies_of db) in
+    let done =
+    called Used Stood Apart n (advanced r n) part r old new Answers Makes
+    (c.settle-answer.ensures.called part) in
+    let leaves : (db : Trees) → (db ≡ old.committed.trees) ⊎ Makes old.committed.trees db
+    → HaveOwn Used Stood Apart old.committed.trees → HaveOwn Used Stood Apart db =
+    λ db may own. left_of old.committed.trees db Makes
+    (λ made had. settled uid dest outcome now (Ok tt) old.committed.trees db made had) may own in
+    covered n (advanced r n) part part r old new Answers Makes c.args.self.now.kept done
+    (λ db is_open left. g.met.S.Store.settled c.args.self.now.conn.store db is_open left)
+    (λ db is_open left. g.met.S.Store.settled c.settle-answer.new.conn.store db is_open left)
+    Uses Stands
+    (λ k it own. settled_go uid dest outcome now r old.committed.trees new.committed.trees it own)
+    (not_gone g.B.Shelf.uses g.B.Shelf.stands Apart r was shelf c.settle-answer.ensures.same
+    (λ db. (db ≡ old.committed.trees) ⊎ Makes old.committed.trees db)
+    (λ (k : IsKept n part old) (own : HaveOwn Used Stood Apart old.committed.trees) db may. leaves db may own))

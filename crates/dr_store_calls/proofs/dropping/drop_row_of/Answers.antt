@@ -7,8 +7,9 @@ use Rattle.dr_ledger.specs.Bodies.{OnlyLetsGo}
 use Rattle.dr_ledger.specs.Replies.{Drops}
 use Rattle.dr_store_schema.specs.Books.{bodies_of, book_of, rows_of}
 use Rattle.dr_store_calls.specs.Calling.{Nothing, advanced}
+use Rattle.dr_store_calls.specs.LettingGo.{GoesWith, plain}
 use Rattle.dr_store_calls.proofs.Calls.{asked_looked, looked_then}
-use Rattle.dr_store_calls.proofs.dropping.give_up.Goals as goal
+use Rattle.dr_store_calls.proofs.dropping.drop_row_of.Goals as goal
 
 pub returns-in-Ok-clause-called : goal.returns-in-Ok-clause-called
 returns-in-Ok-clause-called g c part =
@@ -22,10 +23,11 @@ returns-in-Ok-clause-called g c part =
     let Shows : Trees → Option Progress → Type 0 =
     λ base row. row ≡ map.get (rows_of base) (uid, dest) in
     let Answers : Trees → Trees → Type 0 =
-    λ base db. Drops uid dest c.args.now (book_of base) r (book_of db)
-    × OnlyLetsGo (bodies_of base) (bodies_of db) in
+    λ base db. Drops uid dest c.args.now (book_of base) (plain r) (book_of db)
+    × GoesWith r uid base db in
     let Makes : Trees → Trees → Type 0 =
-    λ base db. Drops uid dest c.args.now (book_of base) (Ok tt) (book_of db) in
+    λ base db. Drops uid dest c.args.now (book_of base) (Ok tt) (book_of db)
+    × OnlyLetsGo (bodies_of base) (bodies_of db) in
     looked_then n (advanced r n) part old mid new Shows c.in-Ok.found r Nothing
     (λ base. Shows base c.in-Ok.found) Answers Makes Answers Makes
     (asked_looked n part _ old mid Shows c.in-Ok.ensures.asked) (c.drop_found.ensures.called part)
