@@ -23,7 +23,7 @@ use Rattle.dr_world.specs.Orders.{IsOrderedRun}
 use Rattle.dr_world.specs.declared.order.WorldOrder.{WorldOrder}
 use Rattle.dr_world.specs.declared.order.RefusedForeign.{RefusedForeign}
 use Rattle.dr_world.proofs.Orders.{meant}
-use Rattle.dr_world.proofs.Played.{last_in_force}
+use Rattle.dr_world.proofs.Among.{last_in_force}
 use Rattle.dr_world.specs.Shows.{Seat, desk_at}
 use Rattle.dr_world_tie.specs.ByteWorlds.{beginning}
 use Rattle.dr_word_simulate.specs.Reported.{IsReportAfter, note_of, notes_of, refusal_of, refusals_of}
