@@ -51,8 +51,9 @@ HoldsOfBooks plan taken books =
     × ComesBy plan taken world
     × Headline (in_force plan taken) world
 
--- the four claims among others hold of our nodes' books by the plan in force: of a world of messages
--- that has them, to which events, what other products do, and changes of plan lead from the start
+-- the four claims among others hold of our nodes' books by the plan in force: of a world of
+-- messages that has them, to which events, what other products do, and changes of plan lead from
+-- the start
 abbrev pub HoldsOfOurs : Ours → Network → Network → Books → Type 0
 HoldsOfOurs ours first plan books =
     (world : model.World)
