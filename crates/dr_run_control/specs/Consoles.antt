@@ -2,13 +2,14 @@
 use Rattle.std.specs.List.{list_any}
 use Rattle.std.specs.FinMap as map
 use Rattle.std.specs.Prelude.{◌≡◌, ◌↔◌, ◌⊎◌, ◌++◌, ℕ, Bool, true, false, IsTrue, List, [], ◌∷◌}
-use Rattle.std.specs.Prelude.{bytes_eq, flat_map}
+use Rattle.std.specs.Prelude.{bytes_eq, flat_map, map as mapped}
 use Rattle.std.specs.Prelude.{Option, None, Some, Ok, Err, Result, MatchResult, codes}
+use Rattle.hex.specs.Hex.{encode_lower}
 use Rattle.http.specs.declared.request.Request.{Request}
 use Rattle.http.specs.Request.{head_of, body_of}
 use Rattle.dr_base.specs.Texts.{Text}
 use Rattle.dr_desk.specs.Answering.{Answers as DeskAnswers}
-use Rattle.dr_desk.specs.Reading.{Reading}
+use Rattle.dr_desk.specs.Reading.{HasLines, Reading}
 use Rattle.dr_desk.specs.Receipts.{LeavesReceipts, Notes}
 use Rattle.dr_desk.specs.declared.receipt.Call.{Call}
 use Rattle.dr_desk.specs.declared.receipt.Call.TheVariants.{Requeuing, Dropping, Forgetting}
@@ -16,14 +17,18 @@ use Rattle.dr_desk.specs.declared.receipt.Receipt.{Receipt}
 use Rattle.dr_desk.specs.declared.receipt.Reply.TheVariants.{Done}
 use Rattle.dr_ledger_views.specs.declared.moments.Origin.{Origin}
 use Rattle.dr_ledger_views.specs.declared.stage.HopTally.{HopTally}
+use Rattle.dr_ledger_views.specs.Numbers.{AreBehind}
 use Rattle.dr_ledger_views.specs.Views.{AreCallers, page_of, rows_of}
 use Rattle.dr_ledger.specs.Bodies.{Bodies}
 use Rattle.dr_ledger.specs.Books.{Book, Line, Row}
 use Rattle.dr_ledger.specs.Replies.{Drops, Forgets, IsOver, Reads, Requeues}
 use Rattle.dr_ledger.specs.declared.fault.LedgerFault.{LedgerFault}
 use Rattle.dr_ledger.specs.declared.fault.LedgerFault.TheVariants as ledger
+use Rattle.dr_ledger_history.specs.Lines.{line_of}
+use Rattle.dr_ledger_history.specs.declared.line.JournalLine.{JournalLine}
 use Rattle.dr_run_answer.specs.Answers.{done_line, fault_line, from_line, instance_line}
 use Rattle.dr_run_answer.specs.Answers.{own_row_line}
+use Rattle.dr_run_answer.specs.Journals.{journal_head, lines_text}
 use Rattle.dr_run_answer.specs.declared.json.Queue.{Queue}
 use Rattle.dr_run_answer.specs.declared.json.Visited.{Visited}
 use Rattle.dr_run_answer.specs.declared.json.Visits.{Visits}
@@ -44,6 +49,7 @@ use Rattle.dr_run_request.specs.declared.route.Route.{Route}
 use Rattle.dr_run_request.specs.declared.route.Route.TheVariants as route
 use Rattle.dr_run_request.specs.declared.wanted.FormFault.{FormFault}
 use Rattle.dr_run_request.specs.declared.wanted.FormFault.TheVariants as fault
+use Rattle.dr_run_request.specs.declared.lines.LinesWanted.{LinesWanted}
 use Rattle.dr_run_request.specs.declared.wanted.Wanted.{Wanted}
 use Rattle.dr_site.specs.Parts.{Part}
 
@@ -290,3 +296,23 @@ module _ {L : Type 0} (site_of : L → Part) (book : L → Book) (bodies : L →
   IsMissing uid =
       Reading site_of book bodies stands failed own first
       (λ l answer. Reads answer (λ there. there ≡ map.contains_key (book l).items uid)) (Ok false)
+
+  -- the lines of the journal that are wanted, and how many it has, each as the ledger has it at a
+  -- moment of its own
+  pub record ArePaged (numbered : L → List (ℕ × Line)) (wanted : LinesWanted)
+      (lines : List JournalLine) (count : ℕ) : Type 0 where
+    pub wanted_are : Reading site_of book bodies stands failed own first
+        (λ l answer. Reads answer (λ all.
+        AreBehind wanted.after wanted.limit (numbered l) (mapped line_of all)))
+        (Ok lines)
+    pub counted : HasLines site_of book bodies stands failed own first count
+
+  -- the page that tells them, each with its own number, of the node of that part
+  pub record IsPageTold (numbered : L → List (ℕ × Line)) (part : Part) (wanted : LinesWanted)
+      (text : Text) : Type 0 where
+    pub lines : List JournalLine
+    pub count : ℕ
+    pub page : ArePaged numbered wanted lines count
+    pub told : text
+        ≡ journal_head part.name (encode_lower part.digest) count
+        ++ lines_text wanted.after lines

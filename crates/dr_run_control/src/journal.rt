@@ -2,9 +2,11 @@
 ghost use Rattle.std.specs.Prelude.{◌≡◌, ◌++◌, IfOk};
 ghost use Rattle.hex.specs.Hex.{encode_lower};
 ghost use Rattle.dr_run_answer.specs.Journals.{journal_head, lines_text};
+ghost use Rattle.dr_run_control.specs.Consoles.{ArePaged, IsPageTold};
 
 use crate::reads::{DeskClerk, digits_of, reply_with};
 use crate::reply::{HttpReply, Media, misread, refused_by_ledger};
+use dr_base::Seq;
 use dr_desk::Sharing;
 use dr_ledger::LedgerFault;
 use dr_ledger_history::JournalLine;
@@ -35,21 +37,30 @@ fn page_text(
 }
 
 impl<'a, R: Wait, L: Views, B: Sharing> DeskClerk<'a, R, L, B> {
-    /// The lines of the journal that are wanted, behind a line that tells whose it is, and how many
-    /// there are. They are counted once the lines were read: what is shown is counted.
+    /// The lines of the journal that are wanted, and how many there are. They are counted once the
+    /// lines were read: what is shown is counted.
     ///
     /// Errors: Store, Memory.
-    fn journal_text(&self, wanted: LinesWanted) -> Result<Vec<u8>, LedgerFault> {
+    fn lines_wanted(&self, wanted: LinesWanted) -> Result<(Seq<JournalLine>, u64), LedgerFault>
+        ensures { IfOk result (λ page. ArePaged L.site L.book L.bodies L.stands L.failed B.site
+            B.first L.numbered wanted page.0 page.1) }
+    {
         let (rt, desk) = (self.rt, self.desk);
         let lines = desk.lines_behind(rt, wanted.after, wanted.limit)?;
         let count = desk.line_count(rt);
-        let text = page_text(
-            self.alloc,
-            desk.site(),
-            count,
-            wanted.after,
-            lines.as_slice(),
-        )?;
+        Ok((lines, count))
+    }
+
+    /// The same as a page, behind a line that tells whose journal it is.
+    ///
+    /// Errors: Store, Memory.
+    fn journal_text(&self, wanted: LinesWanted) -> Result<Vec<u8>, LedgerFault>
+        ensures { IfOk result (λ text. IsPageTold L.site L.book L.bodies L.stands L.failed B.site
+            B.first L.numbered self.now.desk.now.site wanted text.items) }
+    {
+        let (lines, count) = self.lines_wanted(wanted)?;
+        let site = self.desk.site();
+        let text = page_text(self.alloc, site, count, wanted.after, lines.as_slice())?;
         Ok(text)
     }
 

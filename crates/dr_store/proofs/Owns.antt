@@ -28,7 +28,7 @@ use Rattle.dr_store_changes.specs.Bringing.{HasCells}
 use Rattle.dr_store_changes.proofs.Forgotten.{not_needed}
 use Rattle.dr_store_calls.specs.Adoptions.{IsAdopted}
 use Rattle.dr_store_calls.specs.LettingGo.{AreEachApart, LetsCellsGo}
-use Rattle.dr_store_calls.specs.Shelving.{AcceptsItem, AnswersTo, IsNewCell, TakesItem}
+use Rattle.dr_store_calls.specs.Shelving.{AcceptsItem, AnswersTo, IsPut, TakesItem}
 use Rattle.dr_store.specs.Owning.{AreOwn, HaveOwn, bodies_with}
 use Rattle.dr_store.specs.Standing.{body_at, body_there, cell_at}
 
@@ -248,8 +248,8 @@ module _ {Used : List ℕ → Type 0} {Stood : List ℕ → List ℕ → Type 0}
         at uid (Some cell) is = ap Some (same_at db k uid cell is)
 
     -- what comes is the item's data set
-    pub only_takes : (item : Job) (base db : Trees) → TakesItem (IsNewCell Used Uses Stands Apart) item base db → HaveOwn Used Stood Apart base → OnlyTakes item (bodies_with was_of base) (bodies_with body_of db)
-    only_takes item base db takes k uid body h =
+    pub only_takes : (Same : Type 0) (item : Job) (base db : Trees) → TakesItem (IsPut Same Used Uses Stands Apart) item base db → HaveOwn Used Stood Apart base → OnlyTakes item (bodies_with was_of base) (bodies_with body_of db)
+    only_takes Same item base db takes k uid body h =
         let at = cell_at body_of db uid body h in
         elim (takes uid at.0 at.1) [
           | inl was ↦ inl (body_there was_of base uid at.0 was ∙ ap Some (sym (same_at base k uid at.0 was) ∙ at.2))
@@ -257,9 +257,9 @@ module _ {Used : List ℕ → Type 0} {Stood : List ℕ → List ℕ → Type 0}
         ]
 
   -- where an item came by a new cell, and the items that were there stay
-  took : (swaps : (cell other : List ℕ) → Apart cell other → Apart other cell) (item : Job) (base db : Trees) → ((uid : Text) (i : Instance) → map.get (items_of base) uid ≡ Some i → map.get (items_of db) uid ≡ Some i)
-      → TakesItem (IsNewCell Used Uses Stands Apart) item base db → HaveOwn Used Stood Apart base → HaveOwn Uses Stands Apart db
-  took swaps item base db stay takes k = record {
+  took : (Same : Type 0) (swaps : (cell other : List ℕ) → Apart cell other → Apart other cell) (item : Job) (base db : Trees) → ((uid : Text) (i : Instance) → map.get (items_of base) uid ≡ Some i → map.get (items_of db) uid ≡ Some i)
+      → TakesItem (IsPut Same Used Uses Stands Apart) item base db → HaveOwn Used Stood Apart base → HaveOwn Uses Stands Apart db
+  took Same swaps item base db stay takes k = record {
     used = λ uid cell h. elim (takes uid cell h) [ inl was ↦ (still_own base k).used uid cell was | inr new ↦ new.1.0 ];
     own = λ uid cell h. elim (takes uid cell h) [
       | inl was ↦ (let had = (still_own base k).own uid cell was in
@@ -272,12 +272,12 @@ module _ {Used : List ℕ → Type 0} {Stood : List ℕ → List ℕ → Type 0}
     ];
   }
 
-  pub arrived : (swaps : (cell other : List ℕ) → Apart cell other → Apart other cell) (part : Part) (caller : Text) (item : Job) (r : Result Arrived LedgerFault) (base db : Trees) → AnswersTo (IsNewCell Used Uses Stands Apart) part caller item r base db
+  pub arrived : (Same : Type 0) (swaps : (cell other : List ℕ) → Apart cell other → Apart other cell) (part : Part) (caller : Text) (item : Job) (r : Result Arrived LedgerFault) (base db : Trees) → AnswersTo (IsPut Same Used Uses Stands Apart) part caller item r base db
       → HaveOwn Used Stood Apart base → HaveOwn Uses Stands Apart db
-  arrived swaps part caller item r base db it k = took swaps item base db (items_stay (site_routing part) caller (instance_of item) (book_of base) r (book_of db) it.0) it.1 k
+  arrived Same swaps part caller item r base db it k = took Same swaps item base db (items_stay (site_routing part) caller (instance_of item) (book_of base) r (book_of db) it.0) it.1 k
 
   -- what a crash leaves of an arrival
-  pub left_by_arrival : (swaps : (cell other : List ℕ) → Apart cell other → Apart other cell) (part : Part) (caller : Text) (item : Job) (base db : Trees) → (db ≡ base) ⊎ AcceptsItem (IsNewCell Used Uses Stands Apart) part caller item base db
+  pub left_by_arrival : (Same : Type 0) (swaps : (cell other : List ℕ) → Apart cell other → Apart other cell) (part : Part) (caller : Text) (item : Job) (base db : Trees) → (db ≡ base) ⊎ AcceptsItem (IsPut Same Used Uses Stands Apart) part caller item base db
       → HaveOwn Used Stood Apart base → HaveOwn Uses Stands Apart db
-  left_by_arrival swaps part caller item base db (inl same) k = subst (HaveOwn Uses Stands Apart) (sym same) (still_own base k)
-  left_by_arrival swaps part caller item base db (inr made) k = took swaps item base db (items_stay (site_routing part) caller (instance_of item) (book_of base) (Ok made.0.0) (book_of db) made.0.1) made.1 k
+  left_by_arrival Same swaps part caller item base db (inl same) k = subst (HaveOwn Uses Stands Apart) (sym same) (still_own base k)
+  left_by_arrival Same swaps part caller item base db (inr made) k = took Same swaps item base db (items_stay (site_routing part) caller (instance_of item) (book_of base) (Ok made.0.0) (book_of db) made.0.1) made.1 k

@@ -24,7 +24,7 @@ use Rattle.dr_ledger.specs.Replies.{Arrives, IsAdmitted, IsLastingFault}
 use Rattle.dr_ledger.specs.SiteRoutes.{site_routing}
 use Rattle.dr_ledger.proofs.Folding.{arrivals_are_journalled}
 use Rattle.dr_ledger.proofs.Growing.{inside}
-use Rattle.dr_ledger.proofs.Maps.{filled_is, got, texts}
+use Rattle.dr_ledger.proofs.Maps.{filled_is, get_new, got, texts}
 use Rattle.dr_store_schema.specs.Books.{AreBelow, arrivals_in, bodies_of, book_of, items_of, names_in, rows_of}
 use Rattle.dr_store_writes.specs.Effects.{arrived_line}
 use Rattle.dr_store_changes.specs.declared.first.Taking.{Taking}
@@ -37,17 +37,25 @@ use Rattle.sqlite.specs.State.{State}
 use Rattle.dr_store_calls.specs.declared.bringing.Delivery.{Delivery}
 use Rattle.dr_store_calls.specs.Calling.{Called, IsLedgerOf, IsOwnFault, Looked, Nothing, advanced}
 use Rattle.dr_store_calls.specs.Knowing.{FitsTables, IsThere}
-use Rattle.dr_store_calls.specs.Receiving.{AcceptsOne, AnswersWith, IsCellTaken, IsDelivered, NoCell, Receives, ReceivesAs, TakesOn}
+use Rattle.dr_store_calls.specs.Receiving.{AcceptsAs, AcceptsOne, AnswersWith, ComesNone, IsAccounted, IsCellTaken, IsDelivered, Receives, ReceivesAs, TakesOn}
 use Rattle.dr_store_calls.proofs.Calls.{asked_as, looked_failed, looked_then, own_lasts, said_as, still_called}
 
 -- ---- a first arrival
 
 cell_came : (how : Taking) (uid : Text) (cell : List ℕ) (bodies : Bodies) (other : Text) (there : List ℕ) → map.get (bodies_taken how bodies uid cell) other ≡ Some there
-    → (map.get bodies other ≡ Some there) ⊎ ((other ≡ uid) × IsCellTaken how cell there)
+    → (map.get bodies other ≡ Some there) ⊎ ((other ≡ uid) × IsCellTaken how cell (Some there))
 cell_came taking.New uid cell bodies other there h = elim (got texts bodies uid cell other there h) [ inl new ↦ inr (new.0, (refl, new.1)) | inr was ↦ inl was.1 ]
 cell_came taking.Bare uid cell bodies other there h = inl h
 cell_came taking.Again uid cell bodies other there h = elim (got texts bodies uid cell other there h) [ inl new ↦ inr (new.0, (refl, new.1)) | inr was ↦ inl was.1 ]
 cell_came taking.Nothing uid cell bodies other there h = inl h
+
+-- a cell comes, or none does
+came_or_not : (how : Taking) (uid : Text) (cell : List ℕ) (bodies new : Bodies) → new ≡ bodies_taken how bodies uid cell
+    → IsCellTaken how cell None ⊎ ((there : List ℕ) × (map.get new uid ≡ Some there) × IsCellTaken how cell (Some there))
+came_or_not taking.New uid cell bodies new is = inr (cell, ap (λ x. map.get x uid) is ∙ get_new texts bodies uid cell, (refl, refl))
+came_or_not taking.Bare uid cell bodies new is = inl refl
+came_or_not taking.Again uid cell bodies new is = inr (cell, ap (λ x. map.get x uid) is ∙ get_new texts bodies uid cell, (refl, refl))
+came_or_not taking.Nothing uid cell bodies new is = inl refl
 
 -- an item's size is one that a row can tell
 pub is_small : (item : Job) (instance : Instance) → IsItem item → instance ≡ instance_of item → instance.size ≤ 2 ^ 62
@@ -94,22 +102,25 @@ module _ (n : ℕ) (moment : Option ℕ) (part : Part) (how : Taking) (caller : 
     | inr new ↦ inr (new.0, new.1, has)
   ]
 
+  accounted : IsAccounted (IsCellTaken how cell) (Ok New) instance.uid db
+  accounted = came_or_not how instance.uid cell (bodies_of base) (bodies_of db) w.bodies
+
   ahead : GoNowhere (n + 1) db
   ahead m later =
       w.targets m ∙ ap (λ b. cond b (with_names (names_in (base 12) m) (names_for keep to)) (names_in (base 12) m)) (ne_eqb n m (λ e. omega (arith, e, later)))
       ∙ l.ahead m (omega (arith, later))
 
-  pub arrives : IsLedgerOf (n + 1) part db × (Arrives (site_routing part) caller instance (book_of base) (Ok New) (book_of db) × TakesOn (IsCellTaken how cell) instance base db)
+  pub arrives : IsLedgerOf (n + 1) part db × (Arrives (site_routing part) caller instance (book_of base) (Ok New) (book_of db) × TakesOn (IsCellTaken how cell) instance base db × IsAccounted (IsCellTaken how cell) (Ok New) instance.uid db)
   arrives = (
     record { ahead = ahead; journalled = (l.journalled.0, arrivals_are_journalled (site_routing part) l.journalled.0 caller instance (book_of base) (book_of db) (Ok New) l.journalled.1 answer); bodied = bodied },
-    (answer, takes),
+    (answer, takes, accounted),
   )
 
 -- ---- a repeat
 
 pub repeats : (n : ℕ) (moment : Option ℕ) (part : Part) (caller : Text) (instance : Instance) (whole : Bool) (base db : Trees) → HasLineFor part caller instance.key → AreBelow n (base 11) → IsLedgerOf n part base
     → IsThere base instance whole → set.contains (arrivals_in (base 5)) (caller, instance.uid) ≡ true → AddsOnlyLine (arrived_line n moment 1 caller instance) base db
-    → IsLedgerOf (n + 1) part db × (Arrives (site_routing part) caller instance (book_of base) (Ok Again) (book_of db) × TakesOn NoCell instance base db)
+    → IsLedgerOf (n + 1) part db × (Arrives (site_routing part) caller instance (book_of base) (Ok Again) (book_of db) × TakesOn ComesNone instance base db × IsAccounted ComesNone (Ok Again) instance.uid db)
 repeats n moment part caller instance whole base db line below l was again w =
     let made = repeats_repeat base db n moment caller instance below w in
     let answer : Arrives (site_routing part) caller instance (book_of base) (Ok Again) (book_of db) = (
@@ -123,7 +134,7 @@ repeats n moment part caller instance whole base db line below l was again w =
         journalled = (l.journalled.0, arrivals_are_journalled (site_routing part) l.journalled.0 caller instance (book_of base) (book_of db) (Ok Again) l.journalled.1 answer);
         bodied = subst (λ b. HasCells b (bodies_of db)) (sym made.0) (subst (λ x. HasCells (after (Repeat caller instance) (book_of base)) x) (sym made.1) has);
       },
-      (answer, λ q there h. inl (sym (ap (λ cells. map.get cells q) made.1) ∙ h)),
+      (answer, λ q there h. inl (sym (ap (λ cells. map.get cells q) made.1) ∙ h), tt),
     )
 
 -- ---- refusals
@@ -132,12 +143,33 @@ pub arrives_own : (part : Part) (caller : Text) (item : Instance) (b : Book) (e 
 arrives_own part caller item b e line (inl is) = subst (λ x. Arrives (site_routing part) caller item b (Err x) b) (sym is) (line, refl)
 arrives_own part caller item b e line (inr is) = subst (λ x. Arrives (site_routing part) caller item b (Err x) b) (sym is) (line, refl)
 
-pub takes_none : (IsNew : List ℕ → Type 0) (instance : Instance) (db : Trees) → TakesOn IsNew instance db db
-takes_none IsNew instance db uid there h = inl h
+pub takes_none : (Comes : Option (List ℕ) → Type 0) (instance : Instance) (db : Trees) → TakesOn Comes instance db db
+takes_none Comes instance db uid there h = inl h
 
 -- where more is new
-pub takes_more : (One Other : List ℕ → Type 0) → ((there : List ℕ) → One there → Other there) → (instance : Instance) (base db : Trees) → TakesOn One instance base db → TakesOn Other instance base db
-takes_more One Other more instance base db takes uid there h = elim (takes uid there h) [ inl was ↦ inl was | inr new ↦ inr (new.0, more there new.1, new.2) ]
+pub takes_more : (One Other : Option (List ℕ) → Type 0) → ((came : Option (List ℕ)) → One came → Other came) → (instance : Instance) (base db : Trees) → TakesOn One instance base db → TakesOn Other instance base db
+takes_more One Other more instance base db takes uid there h = elim (takes uid there h) [ inl was ↦ inl was | inr new ↦ inr (new.0, more (Some there) new.1, new.2) ]
+
+pub accounted_more : (One Other : Option (List ℕ) → Type 0) → ((came : Option (List ℕ)) → One came → Other came) → (r : Result Arrived LedgerFault) (uid : Text) (db : Trees) → IsAccounted One r uid db → IsAccounted Other r uid db
+accounted_more One Other more (Ok New) uid db is = elim is [ inl none ↦ inl (more None none) | inr came ↦ inr (came.0, came.1, more (Some came.0) came.2) ]
+accounted_more One Other more (Ok Again) uid db is = more None is
+accounted_more One Other more (Err fault.NoLine) uid db is = more None is
+accounted_more One Other more (Err fault.Conflict) uid db is = more None is
+accounted_more One Other more (Err fault.Store) uid db is = tt
+accounted_more One Other more (Err fault.Memory) uid db is = tt
+accounted_more One Other more (Err fault.NotWaiting) uid db is = tt
+accounted_more One Other more (Err fault.NotHeld) uid db is = tt
+accounted_more One Other more (Err fault.NotOver) uid db is = tt
+
+-- of a fault of its own nothing is said
+pub accounted_own : (Comes : Option (List ℕ) → Type 0) (e : LedgerFault) (uid : Text) (db : Trees) → IsOwnFault e → IsAccounted Comes (Err e) uid db
+accounted_own Comes e uid db (inl is) = subst (λ x. IsAccounted Comes (Err x) uid db) (sym is) tt
+accounted_own Comes e uid db (inr is) = subst (λ x. IsAccounted Comes (Err x) uid db) (sym is) tt
+
+-- where none comes, none is put
+pub from_none : (Comes : Option (List ℕ) → Type 0) → Comes None → (came : Option (List ℕ)) → ComesNone came → Comes came
+from_none Comes none None is = none
+from_none Comes none (Some there) is = absurd is
 
 -- ---- a site sends nothing to the local caller
 
@@ -148,63 +180,63 @@ not_to_local part caller key site sends =
 
 -- ---- what is said of an arrival, whatever the tables have of it
 
-pub refused : (IsNew : List ℕ → Type 0) (part : Part) (caller : Text) (instance : Instance) (e : LedgerFault) → HasLineFor part caller instance.key → IsOwnFault e → (db : Trees) → AnswersWith IsNew part caller instance (Err e) db db
-refused IsNew part caller instance e line own db = (arrives_own part caller instance (book_of db) e line own, takes_none IsNew instance db)
+pub refused : (Comes : Option (List ℕ) → Type 0) (part : Part) (caller : Text) (instance : Instance) (e : LedgerFault) → HasLineFor part caller instance.key → IsOwnFault e → (db : Trees) → AnswersWith Comes part caller instance (Err e) db db
+refused Comes part caller instance e line own db = (arrives_own part caller instance (book_of db) e line own, takes_none Comes instance db, accounted_own Comes e instance.uid db own)
 
-module _ (IsNew : List ℕ → Type 0) (came : Delivery) (old new : State) where
+module _ (Comes : Option (List ℕ) → Type 0) (came : Delivery) (old new : State) where
   Answers : Result Arrived LedgerFault → Trees → Trees → Type 0
-  Answers r = AnswersWith IsNew came.site.now came.caller.now came.instance.now r
+  Answers r = AnswersWith Comes came.site.now came.caller.now came.instance.now r
 
   Makes : Trees → Trees → Type 0
-  Makes = AcceptsOne IsNew came.site.now came.caller.now came.instance.now
+  Makes = AcceptsOne Comes came.site.now came.caller.now came.instance.now
 
   -- where what is known couldn't be read
-  pub not_read : {A : Type 0} (Shows : Trees → A → Type 0) (e : LedgerFault) (Asks : Trees → Type 0) → IsDelivered came → Looked came.n came.site.now (Err e) old new Shows → Receives IsNew came (Err e) old new Asks
+  pub not_read : {A : Type 0} (Shows : Trees → A → Type 0) (e : LedgerFault) (Asks : Trees → Type 0) → IsDelivered came → Looked came.n came.site.now (Err e) old new Shows → Receives Comes came (Err e) old new Asks
   not_read Shows e Asks is l =
       looked_failed {B = Arrived} came.n came.site.now old new Shows e Asks (Answers (Err e)) Makes l
-      (λ base asks own. refused IsNew came.site.now came.caller.now came.instance.now e is.line own base)
+      (λ base asks own. refused Comes came.site.now came.caller.now came.instance.now e is.line own base)
 
   -- what is known by reading helps a call that takes it
-  pub read_then : {A : Type 0} (mid : State) (Shows : Trees → A → Type 0) (a : A) (r : Result Arrived LedgerFault) (Asks Given : Trees → Type 0) → Looked came.n came.site.now (Ok a) old mid Shows → Receives IsNew came r mid new Given
-      → ((db : Trees) → Asks db → Shows db a → Given db) → Receives IsNew came r old new Asks
+  pub read_then : {A : Type 0} (mid : State) (Shows : Trees → A → Type 0) (a : A) (r : Result Arrived LedgerFault) (Asks Given : Trees → Type 0) → Looked came.n came.site.now (Ok a) old mid Shows → Receives Comes came r mid new Given
+      → ((db : Trees) → Asks db → Shows db a → Given db) → Receives Comes came r old new Asks
   read_then mid Shows a r Asks Given l c gives =
       looked_then came.n (advanced r came.n) came.site.now old mid new Shows a r Asks Given (Answers r) Makes (Answers r) Makes l c (λ db l asks shown. gives db asks shown) (λ base db asks shown it. it) (λ base db asks shown it. it)
 
   -- a call that asks for less
-  pub received : (r : Result Arrived LedgerFault) (Asks More : Trees → Type 0) → ((db : Trees) → More db → Asks db) → Receives IsNew came r old new Asks → Receives IsNew came r old new More
+  pub received : (r : Result Arrived LedgerFault) (Asks More : Trees → Type 0) → ((db : Trees) → More db → Asks db) → Receives Comes came r old new Asks → Receives Comes came r old new More
   received r Asks More gives c =
       asked_as came.n (advanced r came.n) came.site.now r old new Asks More (Answers r) Makes (λ db l more. gives db more) c
 
   -- a call with one answer, by which less is new
-  pub received_as : (One : List ℕ → Type 0) → ((there : List ℕ) → One there → IsNew there) → (answer : Arrived) (r : Result Arrived LedgerFault) (Asks More : Trees → Type 0) → ((db : Trees) → IsLedgerOf came.n came.site.now db → More db → Asks db)
-      → ReceivesAs One answer came r old new Asks → Receives IsNew came r old new More
+  pub received_as : (One : Option (List ℕ) → Type 0) → ((came : Option (List ℕ)) → One came → Comes came) → (answer : Arrived) (r : Result Arrived LedgerFault) (Asks More : Trees → Type 0) → ((db : Trees) → IsLedgerOf came.n came.site.now db → More db → Asks db)
+      → ReceivesAs One answer came r old new Asks → Receives Comes came r old new More
   received_as One more answer r Asks More gives c =
       said_as came.n (advanced r came.n) came.site.now r old new Asks More (AnswersWith One came.site.now came.caller.now came.instance.now r) (Answers r)
-      (AnswersWith One came.site.now came.caller.now came.instance.now (Ok answer)) Makes gives
-      (λ base db it. (it.0, takes_more One IsNew more came.instance.now base db it.1))
-      (λ base db it. ((answer, it.0), takes_more One IsNew more came.instance.now base db it.1)) c
+      (AcceptsAs One came.site.now came.caller.now came.instance.now answer) Makes gives
+      (λ base db it. (it.0, takes_more One Comes more came.instance.now base db it.1, accounted_more One Comes more r came.instance.now.uid db it.2))
+      (λ base db it. ((answer, it.0), takes_more One Comes more came.instance.now base db it.1)) c
 
   -- the same with the one answer still
-  pub brought_as : (One : List ℕ → Type 0) → ((there : List ℕ) → One there → IsNew there) → (answer : Arrived) (r : Result Arrived LedgerFault) (Asks : Trees → Type 0) → ReceivesAs One answer came r old new Asks
-      → ReceivesAs IsNew answer came r old new Asks
+  pub brought_as : (One : Option (List ℕ) → Type 0) → ((came : Option (List ℕ)) → One came → Comes came) → (answer : Arrived) (r : Result Arrived LedgerFault) (Asks : Trees → Type 0) → ReceivesAs One answer came r old new Asks
+      → ReceivesAs Comes answer came r old new Asks
   brought_as One more answer r Asks c =
       said_as came.n (advanced r came.n) came.site.now r old new Asks Asks (AnswersWith One came.site.now came.caller.now came.instance.now r) (Answers r)
-      (AnswersWith One came.site.now came.caller.now came.instance.now (Ok answer)) (Answers (Ok answer)) (λ db l asks. asks)
-      (λ base db it. (it.0, takes_more One IsNew more came.instance.now base db it.1))
-      (λ base db it. (it.0, takes_more One IsNew more came.instance.now base db it.1)) c
+      (AcceptsAs One came.site.now came.caller.now came.instance.now answer) (AcceptsAs Comes came.site.now came.caller.now came.instance.now answer) (λ db l asks. asks)
+      (λ base db it. (it.0, takes_more One Comes more came.instance.now base db it.1, accounted_more One Comes more r came.instance.now.uid db it.2))
+      (λ base db it. (it.0, takes_more One Comes more came.instance.now base db it.1)) c
 
-module _ (IsNew : List ℕ → Type 0) (came : Delivery) (s : State) (Asks : Trees → Type 0) where
+module _ (Comes : Option (List ℕ) → Type 0) (came : Delivery) (s : State) (Asks : Trees → Type 0) where
   -- where nothing is done
-  pub not_received : (e : LedgerFault) → ((db : Trees) → Asks db → AnswersWith IsNew came.site.now came.caller.now came.instance.now (Err e) db db) → ((P : Type 0) → P → IsLastingFault e P) → Receives IsNew came (Err e) s s Asks
+  pub not_received : (e : LedgerFault) → ((db : Trees) → Asks db → AnswersWith Comes came.site.now came.caller.now came.instance.now (Err e) db db) → ((P : Type 0) → P → IsLastingFault e P) → Receives Comes came (Err e) s s Asks
   not_received e answers lasts =
-      still_called {A = Arrived} came.n came.site.now (Err e) s Asks (AnswersWith IsNew came.site.now came.caller.now came.instance.now (Err e)) (AcceptsOne IsNew came.site.now came.caller.now came.instance.now) answers lasts
+      still_called {A = Arrived} came.n came.site.now (Err e) s Asks (AnswersWith Comes came.site.now came.caller.now came.instance.now (Err e)) (AcceptsOne Comes came.site.now came.caller.now came.instance.now) answers lasts
 
   -- where there is no memory
-  pub no_memory : IsDelivered came → Receives IsNew came (Err fault.Memory) s s Asks
-  no_memory is = not_received fault.Memory (λ db asks. refused IsNew came.site.now came.caller.now came.instance.now fault.Memory is.line (inr refl) db) (λ P h. tt)
+  pub no_memory : IsDelivered came → Receives Comes came (Err fault.Memory) s s Asks
+  no_memory is = not_received fault.Memory (λ db asks. refused Comes came.site.now came.caller.now came.instance.now fault.Memory is.line (inr refl) db) (λ P h. tt)
 
   -- a first arrival that failed before anything of it was written
-  pub not_brought : (answer : Arrived) (e : LedgerFault) → IsDelivered came → IsOwnFault e → ReceivesAs IsNew answer came (Err e) s s Asks
+  pub not_brought : (answer : Arrived) (e : LedgerFault) → IsDelivered came → IsOwnFault e → ReceivesAs Comes answer came (Err e) s s Asks
   not_brought answer e is own =
-      still_called {A = Arrived} came.n came.site.now (Err e) s Asks (AnswersWith IsNew came.site.now came.caller.now came.instance.now (Err e)) (AnswersWith IsNew came.site.now came.caller.now came.instance.now (Ok answer))
-      (λ db asks. refused IsNew came.site.now came.caller.now came.instance.now e is.line own db) (λ P p. own_lasts e P own)
+      still_called {A = Arrived} came.n came.site.now (Err e) s Asks (AnswersWith Comes came.site.now came.caller.now came.instance.now (Err e)) (AcceptsAs Comes came.site.now came.caller.now came.instance.now answer)
+      (λ db asks. refused Comes came.site.now came.caller.now came.instance.now e is.line own db) (λ P p. own_lasts e P own)

@@ -1,6 +1,6 @@
 -- What is brought to a site, and what is said of the calls that take it.
-use Rattle.std.specs.Prelude.{◌≡◌, ◌≤◌, ◌<◌, ◌^◌, ◌⊎◌, ℕ, Bool, true, false, List, length, Some}
-use Rattle.std.specs.Prelude.{Result, Ok}
+use Rattle.std.specs.Prelude.{◌≡◌, ◌≤◌, ◌<◌, ◌^◌, ◌⊎◌, ℕ, Bool, true, false, List, length}
+use Rattle.std.specs.Prelude.{Option, Some, None, Result, Ok, Err}
 use Rattle.std.specs.FinMap as map
 use Rattle.std.specs.FinSet as set
 use Rattle.sqlite.specs.State.{State}
@@ -10,7 +10,9 @@ use Rattle.dr_route.specs.declared.rule.Targets.{Targets}
 use Rattle.dr_site.specs.Parts.{Part}
 use Rattle.dr_site.specs.Routing.{HasLineFor}
 use Rattle.dr_ledger.specs.declared.fault.LedgerFault.{LedgerFault}
+use Rattle.dr_ledger.specs.declared.fault.LedgerFault.TheVariants as fault
 use Rattle.dr_ledger.specs.declared.item.Arrived.{Arrived}
+use Rattle.dr_ledger.specs.declared.item.Arrived.TheVariants.{New, Again}
 use Rattle.dr_ledger.specs.declared.item.Instance.{Instance}
 use Rattle.dr_ledger.specs.Replies.{Arrives}
 use Rattle.dr_ledger.specs.SiteRoutes.{site_routing}
@@ -65,58 +67,86 @@ comes taking.Bare = false
 comes taking.Again = true
 comes taking.Nothing = false
 
--- with an instance that is taken so this cell comes, if one does
-abbrev pub IsCellTaken : Taking → List ℕ → List ℕ → Type 0
-IsCellTaken how cell there = (comes how ≡ true) × (there ≡ cell)
+-- with an instance that is taken so no cell comes, or this one
+abbrev pub IsCellTaken : Taking → List ℕ → Option (List ℕ) → Type 0
+IsCellTaken how cell None = comes how ≡ false
+IsCellTaken how cell (Some there) = (comes how ≡ true) × (there ≡ cell)
 
 -- no cell comes
-abbrev pub NoCell : List ℕ → Type 0
-NoCell there = ⊥
+abbrev pub ComesNone : Option (List ℕ) → Type 0
+ComesNone None = Unit {0}
+ComesNone (Some there) = ⊥
 
--- Each cell that is there after a call was there before; or it is a new one, under the uid of this
--- instance, and the book has the instance then. `IsNew` says which are new.
-abbrev pub TakesOn : (List ℕ → Type 0) → Instance → Trees → Trees → Type 0
-TakesOn IsNew instance base db =
+-- Each cell that is there after a call was there before; or it came, under the uid of this
+-- instance, and the book has the instance then. `Comes` says whether none came, or this one.
+abbrev pub TakesOn : (Option (List ℕ) → Type 0) → Instance → Trees → Trees → Type 0
+TakesOn Comes instance base db =
     (uid : Text) (there : List ℕ)
     → map.get (bodies_of db) uid ≡ Some there
     → (map.get (bodies_of base) uid ≡ Some there)
-    ⊎ ((uid ≡ instance.uid) × IsNew there
+    ⊎ ((uid ≡ instance.uid) × Comes (Some there)
     × (map.get (items_of db) instance.uid ≡ Some instance))
+
+-- After a first arrival a row has the cell that came, or none came. None came either where the
+-- answer is a repeat or a refusal.
+abbrev pub IsAccounted : (Option (List ℕ) → Type 0)
+    → Result Arrived LedgerFault
+    → Text → Trees → Type 0
+IsAccounted Comes (Ok New) uid db =
+    Comes None
+    ⊎ ((there : List ℕ) × (map.get (bodies_of db) uid ≡ Some there) × Comes (Some there))
+IsAccounted Comes (Ok Again) uid db = Comes None
+IsAccounted Comes (Err fault.NoLine) uid db = Comes None
+IsAccounted Comes (Err fault.Conflict) uid db = Comes None
+IsAccounted Comes (Err fault.Store) uid db = Unit {0}
+IsAccounted Comes (Err fault.Memory) uid db = Unit {0}
+IsAccounted Comes (Err fault.NotWaiting) uid db = Unit {0}
+IsAccounted Comes (Err fault.NotHeld) uid db = Unit {0}
+IsAccounted Comes (Err fault.NotOver) uid db = Unit {0}
 
 -- ---- the calls
 
 -- book and cells after an arrival of the instance with this answer
-abbrev pub AnswersWith : (List ℕ → Type 0)
+abbrev pub AnswersWith : (Option (List ℕ) → Type 0)
     → Part
     → Text → Instance → Result Arrived LedgerFault → Trees → Trees → Type 0
-AnswersWith IsNew part caller instance result base db =
+AnswersWith Comes part caller instance result base db =
     Arrives (site_routing part) caller instance (book_of base) result (book_of db)
-    × TakesOn IsNew instance base db
+    × TakesOn Comes instance base db
+    × IsAccounted Comes result instance.uid db
 
--- the same after one that was accepted
-abbrev pub AcceptsOne : (List ℕ → Type 0) → Part → Text → Instance → Trees → Trees → Type 0
-AcceptsOne IsNew part caller instance base db =
-    IsAccepted part caller instance (book_of base) (book_of db) × TakesOn IsNew instance base db
+-- book and cells after one that was accepted
+abbrev pub AcceptsOne : (Option (List ℕ) → Type 0) → Part → Text → Instance → Trees → Trees → Type 0
+AcceptsOne Comes part caller instance base db =
+    IsAccepted part caller instance (book_of base) (book_of db) × TakesOn Comes instance base db
+
+-- the same, with this answer
+abbrev pub AcceptsAs : (Option (List ℕ) → Type 0)
+    → Part
+    → Text → Instance → Arrived → Trees → Trees → Type 0
+AcceptsAs Comes part caller instance answer base db =
+    Arrives (site_routing part) caller instance (book_of base) (Ok answer) (book_of db)
+    × TakesOn Comes instance base db
 
 -- a call that takes what is brought, where the tables are as it asks
-abbrev pub Receives : (List ℕ → Type 0)
+abbrev pub Receives : (Option (List ℕ) → Type 0)
     → Delivery
     → Result Arrived LedgerFault
     → State → State
     → (Trees → Type 0) → Type 0
-Receives IsNew came result old new Asks =
+Receives Comes came result old new Asks =
     Called came.n (advanced result came.n) came.site.now result old new Asks
-    (AnswersWith IsNew came.site.now came.caller.now came.instance.now result)
-    (AcceptsOne IsNew came.site.now came.caller.now came.instance.now)
+    (AnswersWith Comes came.site.now came.caller.now came.instance.now result)
+    (AcceptsOne Comes came.site.now came.caller.now came.instance.now)
 
 -- the same, where what is accepted has this one answer
-abbrev pub ReceivesAs : (List ℕ → Type 0)
+abbrev pub ReceivesAs : (Option (List ℕ) → Type 0)
     → Arrived
     → Delivery
     → Result Arrived LedgerFault
     → State → State
     → (Trees → Type 0) → Type 0
-ReceivesAs IsNew answer came result old new Asks =
+ReceivesAs Comes answer came result old new Asks =
     Called came.n (advanced result came.n) came.site.now result old new Asks
-    (AnswersWith IsNew came.site.now came.caller.now came.instance.now result)
-    (AnswersWith IsNew came.site.now came.caller.now came.instance.now (Ok answer))
+    (AnswersWith Comes came.site.now came.caller.now came.instance.now result)
+    (AcceptsAs Comes came.site.now came.caller.now came.instance.now answer)

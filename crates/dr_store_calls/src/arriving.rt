@@ -4,8 +4,8 @@ ghost use Rattle.sqlite.specs.Held.{state};
 ghost use Rattle.dr_store_changes.specs.Bringing.{names_for};
 ghost use Rattle.dr_store_calls.specs.Knowing.{FitsTables};
 ghost use Rattle.dr_store_calls.specs.Receiving.{AreTargetsOf, IsCellTaken, IsDelivered};
-ghost use Rattle.dr_store_calls.specs.Receiving.{IsThereFor, NoCell, ReceivesAs, comes};
-ghost use Rattle.dr_store_calls.specs.Shelving.{IsNewCell};
+ghost use Rattle.dr_store_calls.specs.Receiving.{ComesNone, IsThereFor, ReceivesAs, comes};
+ghost use Rattle.dr_store_calls.specs.Shelving.{IsPut};
 ghost use Rattle.dr_store_shelf.specs.Shelves.{KeepsCells};
 
 use crate::bringing::{Delivery, Reception};
@@ -51,7 +51,7 @@ pub fn repeat<'x, S: Alter>(
 ) -> Result<Arrived, LedgerFault>
     requires idle { conn.old.in_transaction ≡ false }
     requires delivered { IsDelivered came.now }
-    ensures called { ReceivesAs NoCell Arrived.Again came.now result (state S.Store conn.old)
+    ensures called { ReceivesAs ComesNone Arrived.Again came.now result (state S.Store conn.old)
         (state S.Store conn.new) (IsThereFor came.now whole true) }
     ensures number { OnOk result (came.now.n ≤ 2 ^ 62) }
     ensures idle { conn.new.in_transaction ≡ false }
@@ -132,8 +132,8 @@ fn put_and_bring<'x, S: Alter, B: Shelf>(
     requires delivered { IsDelivered came.now }
     requires targets { AreTargetsOf came.now targets.now }
     requires names { names.now ≡ names_for targets.now.keep targets.now.to }
-    ensures called { ReceivesAs (IsNewCell (B.Shelf.uses shelf.old) (B.Shelf.uses shelf.new)
-        (B.Shelf.stands shelf.new) B.Shelf.apart came.now.body.now)
+    ensures called { ReceivesAs (IsPut (shelf.new ≡ shelf.old) (B.Shelf.uses shelf.old)
+        (B.Shelf.uses shelf.new) (B.Shelf.stands shelf.new) B.Shelf.apart came.now.body.now)
         Arrived.New came.now result (state S.Store conn.old) (state S.Store conn.new)
         (FitsTables reception.now.taking came.now.caller.now came.now.instance.now targets.now.to
         targets.now.keep reception.now.again.now reception.now.dests.now reception.now.keeps) }
@@ -164,8 +164,8 @@ pub fn bring_item<'x, S: Alter, B: Shelf>(
     requires idle { conn.old.in_transaction ≡ false }
     requires delivered { IsDelivered came.now }
     requires targets { AreTargetsOf came.now targets.now }
-    ensures called { ReceivesAs (IsNewCell (B.Shelf.uses shelf.old) (B.Shelf.uses shelf.new)
-        (B.Shelf.stands shelf.new) B.Shelf.apart came.now.body.now)
+    ensures called { ReceivesAs (IsPut (shelf.new ≡ shelf.old) (B.Shelf.uses shelf.old)
+        (B.Shelf.uses shelf.new) (B.Shelf.stands shelf.new) B.Shelf.apart came.now.body.now)
         Arrived.New came.now result (state S.Store conn.old) (state S.Store conn.new)
         (FitsTables reception.now.taking came.now.caller.now came.now.instance.now targets.now.to
         targets.now.keep reception.now.again.now reception.now.dests.now reception.now.keeps) }

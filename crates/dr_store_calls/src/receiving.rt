@@ -11,7 +11,7 @@ ghost use Rattle.dr_store_calls.specs.Knowing.{IsWhatIsKnown, IsThere, chosen, i
 ghost use Rattle.dr_store_calls.specs.Knowing.{taking_absent, taking_there};
 ghost use Rattle.dr_store_calls.specs.Receiving.{AreTargetsOf, IsDelivered};
 ghost use Rattle.dr_store_calls.specs.Receiving.{IsFoundFor, IsThereFor, Receives};
-ghost use Rattle.dr_store_calls.specs.Shelving.{IsNewCell};
+ghost use Rattle.dr_store_calls.specs.Shelving.{IsPut};
 ghost use Rattle.dr_store_shelf.specs.Shelves.{KeepsCells};
 
 use crate::arriving::{bring_item, repeat};
@@ -174,8 +174,8 @@ fn bring_there<'x, S: Alter, B: Shelf>(
     requires idle { conn.old.in_transaction ≡ false }
     requires delivered { IsDelivered came.now }
     requires targets { AreTargetsOf came.now first.now.targets }
-    ensures called { Receives (IsNewCell (B.Shelf.uses shelf.old) (B.Shelf.uses shelf.new)
-        (B.Shelf.stands shelf.new) B.Shelf.apart came.now.body.now)
+    ensures called { Receives (IsPut (shelf.new ≡ shelf.old) (B.Shelf.uses shelf.old)
+        (B.Shelf.uses shelf.new) (B.Shelf.stands shelf.new) B.Shelf.apart came.now.body.now)
         came.now result (state S.Store conn.old) (state S.Store conn.new)
         (λ base. IsThereFor came.now whole false base
         × IsFoundFor came.now.instance.now.uid base first.now) }
@@ -208,8 +208,8 @@ fn arrive_first<'x, S: Alter, B: Shelf>(
 ) -> Result<Arrived, LedgerFault>
     requires idle { conn.old.in_transaction ≡ false }
     requires delivered { IsDelivered came.now }
-    ensures called { Receives (IsNewCell (B.Shelf.uses shelf.old) (B.Shelf.uses shelf.new)
-        (B.Shelf.stands shelf.new) B.Shelf.apart came.now.body.now)
+    ensures called { Receives (IsPut (shelf.new ≡ shelf.old) (B.Shelf.uses shelf.old)
+        (B.Shelf.uses shelf.new) (B.Shelf.stands shelf.new) B.Shelf.apart came.now.body.now)
         came.now result (state S.Store conn.old) (state S.Store conn.new)
         (IsThereFor came.now whole false) }
     ensures keeps { KeepsCells (B.Shelf.uses shelf.old) (B.Shelf.stands shelf.old)
@@ -234,8 +234,8 @@ fn arrive_there<'x, S: Alter, B: Shelf>(
 ) -> Result<Arrived, LedgerFault>
     requires idle { conn.old.in_transaction ≡ false }
     requires delivered { IsDelivered came.now }
-    ensures called { Receives (IsNewCell (B.Shelf.uses shelf.old) (B.Shelf.uses shelf.new)
-        (B.Shelf.stands shelf.new) B.Shelf.apart came.now.body.now)
+    ensures called { Receives (IsPut (shelf.new ≡ shelf.old) (B.Shelf.uses shelf.old)
+        (B.Shelf.uses shelf.new) (B.Shelf.stands shelf.new) B.Shelf.apart came.now.body.now)
         came.now result (state S.Store conn.old) (state S.Store conn.new)
         (λ base. IsThere base came.now.instance.now whole) }
     ensures keeps { KeepsCells (B.Shelf.uses shelf.old) (B.Shelf.stands shelf.old)
@@ -275,8 +275,8 @@ fn arrive_new<'x, S: Alter, B: Shelf>(
 ) -> Result<Arrived, LedgerFault>
     requires idle { conn.old.in_transaction ≡ false }
     requires delivered { IsDelivered came.now }
-    ensures called { Receives (IsNewCell (B.Shelf.uses shelf.old) (B.Shelf.uses shelf.new)
-        (B.Shelf.stands shelf.new) B.Shelf.apart came.now.body.now)
+    ensures called { Receives (IsPut (shelf.new ≡ shelf.old) (B.Shelf.uses shelf.old)
+        (B.Shelf.uses shelf.new) (B.Shelf.stands shelf.new) B.Shelf.apart came.now.body.now)
         came.now result (state S.Store conn.old) (state S.Store conn.new)
         (HasNeither came.now.instance.now.uid) }
     ensures keeps { KeepsCells (B.Shelf.uses shelf.old) (B.Shelf.stands shelf.old)
@@ -311,8 +311,8 @@ fn arrive_by<S: Alter, B: Shelf>(
 ) -> Result<Arrived, LedgerFault>
     requires idle { conn.old.in_transaction ≡ false }
     requires delivered { IsDelivered came.now }
-    ensures called { Receives (IsNewCell (B.Shelf.uses shelf.old) (B.Shelf.uses shelf.new)
-        (B.Shelf.stands shelf.new) B.Shelf.apart came.now.body.now)
+    ensures called { Receives (IsPut (shelf.new ≡ shelf.old) (B.Shelf.uses shelf.old)
+        (B.Shelf.uses shelf.new) (B.Shelf.stands shelf.new) B.Shelf.apart came.now.body.now)
         came.now result (state S.Store conn.old) (state S.Store conn.new)
         (λ base. IsWhatIsKnown base came.now.instance.now known) }
     ensures keeps { KeepsCells (B.Shelf.uses shelf.old) (B.Shelf.stands shelf.old)
@@ -340,8 +340,8 @@ pub fn receive<S: Alter, B: Shelf>(
 ) -> Result<Arrived, LedgerFault>
     requires idle { conn.old.in_transaction ≡ false }
     requires delivered { IsDelivered came.now }
-    ensures called { Receives (IsNewCell (B.Shelf.uses shelf.old) (B.Shelf.uses shelf.new)
-        (B.Shelf.stands shelf.new) B.Shelf.apart came.now.body.now)
+    ensures called { Receives (IsPut (shelf.new ≡ shelf.old) (B.Shelf.uses shelf.old)
+        (B.Shelf.uses shelf.new) (B.Shelf.stands shelf.new) B.Shelf.apart came.now.body.now)
         came.now result (state S.Store conn.old) (state S.Store conn.new)
         Nothing }
     ensures keeps { KeepsCells (B.Shelf.uses shelf.old) (B.Shelf.stands shelf.old)

@@ -3,7 +3,7 @@ ghost use Rattle.std.specs.Prelude.{◌≡◌, ◌≤◌, ◌^◌, OnOk, false};
 ghost use Rattle.sqlite.specs.Held.{state};
 ghost use Rattle.dr_store_shelf.specs.Shelves.{KeepsCells};
 ghost use Rattle.dr_store_calls.specs.Calling.{Called, Nothing, advanced};
-ghost use Rattle.dr_store_calls.specs.Shelving.{AcceptsItem, AnswersTo, IsNewCell, fault_of_shelf};
+ghost use Rattle.dr_store_calls.specs.Shelving.{AcceptsItem, AnswersTo, IsPut, fault_of_shelf};
 
 use crate::bringing::{Delivery, NextLine};
 use crate::receiving::receive;
@@ -43,11 +43,13 @@ pub fn arrive<S: Alter, B: Shelf>(
     item: Item,
 ) -> Result<Arrived, LedgerFault>
     requires idle { conn.old.in_transaction ≡ false }
-    ensures called { Called line.n (advanced result line.n) site.now result
-        (state S.Store conn.old) (state S.Store conn.new) Nothing
-        (AnswersTo (IsNewCell (B.Shelf.uses shelf.old) (B.Shelf.uses shelf.new)
+    ensures called { Called line.n (advanced result line.n) site.now result (state S.Store conn.old)
+        (state S.Store conn.new) Nothing
+        (AnswersTo
+        (IsPut (shelf.new ≡ shelf.old) (B.Shelf.uses shelf.old) (B.Shelf.uses shelf.new)
         (B.Shelf.stands shelf.new) B.Shelf.apart) site.now caller.now item result)
-        (AcceptsItem (IsNewCell (B.Shelf.uses shelf.old) (B.Shelf.uses shelf.new)
+        (AcceptsItem
+        (IsPut (shelf.new ≡ shelf.old) (B.Shelf.uses shelf.old) (B.Shelf.uses shelf.new)
         (B.Shelf.stands shelf.new) B.Shelf.apart) site.now caller.now item) }
     ensures keeps { KeepsCells (B.Shelf.uses shelf.old) (B.Shelf.stands shelf.old)
         (B.Shelf.uses shelf.new) (B.Shelf.stands shelf.new) }

@@ -1,12 +1,12 @@
-use Rattle.std.proofs.Common.{◌≡◌, ◌∙◌, List, ℕ, Err, sym, subst, true≢false}
+use Rattle.std.proofs.Common.{◌≡◌, ◌∙◌, List, ℕ, Err, Option, Some, refl, sym, subst}
 use Rattle.sqlite.specs.Held.{state}
 use Rattle.sqlite.specs.Tree.{Trees}
 use Rattle.dr_ledger.specs.declared.fault.LedgerFault.{LedgerFault}
 use Rattle.dr_ledger.specs.declared.item.Arrived.TheVariants.{New}
 use Rattle.dr_store_calls.specs.Knowing.{FitsTables}
 use Rattle.dr_store_calls.specs.Receiving.{IsCellTaken, ReceivesAs}
-use Rattle.dr_store_calls.specs.Shelving.{IsNewCell, fault_of_shelf}
-use Rattle.dr_store_calls.proofs.Shelved.{own_fault}
+use Rattle.dr_store_calls.specs.Shelving.{IsPut, fault_of_shelf}
+use Rattle.dr_store_calls.proofs.Shelved.{no_place, one_place, own_fault}
 use Rattle.dr_store_calls.proofs.Takings.{brought_as, not_brought}
 use Rattle.dr_store_calls.proofs.arriving.put_and_bring.Goals as goal
 
@@ -17,14 +17,15 @@ returns-then-not-does_come-clause-called g c =
     let shelf = c.args.shelf.now in
     let Uses = g.B.Shelf.uses shelf in
     let cell = c.bring.args.cell.now in
-    let IsNew : List ℕ → Type 0 =
-    IsNewCell Uses Uses (g.B.Shelf.stands shelf) g.B.Shelf.apart came.body.now in
+    let Comes : Option (List ℕ) → Type 0 =
+    IsPut (shelf ≡ shelf) Uses Uses (g.B.Shelf.stands shelf) g.B.Shelf.apart came.body.now in
     let Asks : Trees → Type 0 =
     λ base. FitsTables reception.taking came.caller.now came.instance.now c.args.targets.now.to
     c.args.targets.now.keep reception.again.now reception.dests.now reception.keeps base in
-    brought_as IsNew came (state g.S.Store c.args.conn.now) (state g.S.Store c.bring.new.conn)
+    brought_as Comes came (state g.S.Store c.args.conn.now) (state g.S.Store c.bring.new.conn)
     (IsCellTaken reception.taking cell)
-    (λ there is. absurd (true≢false (sym is.0 ∙ sym c.does_come.ensures ∙ c.if-not-does_come.true)))
+    (no_place (shelf ≡ shelf) Uses Uses (g.B.Shelf.stands shelf) g.B.Shelf.apart came.body.now
+    reception.taking cell refl (sym c.does_come.ensures ∙ c.if-not-does_come.true))
     New c.bring.result Asks c.bring.ensures.called
 
 pub returns-in-Ok-clause-called : goal.returns-in-Ok-clause-called
@@ -38,16 +39,17 @@ returns-in-Ok-clause-called g c =
     let Uses = g.B.Shelf.uses shelf in
     let Stands = g.B.Shelf.stands shelf in
     let Apart = g.B.Shelf.apart in
-    let IsNew : List ℕ → Type 0 = IsNewCell Used Uses Stands Apart came.body.now in
+    let Comes : Option (List ℕ) → Type 0 =
+    IsPut (shelf ≡ was) Used Uses Stands Apart came.body.now in
     let Asks : Trees → Type 0 =
     λ base. FitsTables reception.taking came.caller.now came.instance.now c.args.targets.now.to
     c.args.targets.now.keep reception.again.now reception.dests.now reception.keeps base in
     let put = c.in-Ok.ensures in
-    brought_as IsNew came (state g.S.Store c.args.conn.now) (state g.S.Store c.bring.new.conn)
+    brought_as Comes came (state g.S.Store c.args.conn.now) (state g.S.Store c.bring.new.conn)
     (IsCellTaken reception.taking cell)
-    (λ there is.
-    let same = sym c.bytes.ensures ∙ sym is.1 in
-    subst IsNew same (put.used, put.stands, put.beside))
+    (one_place (shelf ≡ was) Used Uses Stands Apart came.body.now reception.taking cell
+    (sym c.does_come.ensures ∙ c.if-not-does_come.false)
+    (subst (λ x. Comes (Some x)) (sym c.bytes.ensures) (put.used, put.stands, put.beside)))
     New c.bring.result Asks c.bring.ensures.called
 
 pub returns-in-Err-clause-called : goal.returns-in-Err-clause-called
@@ -56,14 +58,14 @@ returns-in-Err-clause-called g c =
     let reception = c.args.reception.now in
     let was = c.args.shelf.now in
     let shelf = c.put.new.self in
-    let IsNew : List ℕ → Type 0 =
-    IsNewCell (g.B.Shelf.uses was) (g.B.Shelf.uses shelf) (g.B.Shelf.stands shelf)
+    let Comes : Option (List ℕ) → Type 0 =
+    IsPut (shelf ≡ was) (g.B.Shelf.uses was) (g.B.Shelf.uses shelf) (g.B.Shelf.stands shelf)
     g.B.Shelf.apart came.body.now in
     let s = state g.S.Store c.args.conn.now in
     let Asks : Trees → Type 0 =
     λ base. FitsTables reception.taking came.caller.now came.instance.now c.args.targets.now.to
     c.args.targets.now.keep reception.again.now reception.dests.now reception.keeps base in
-    let P : LedgerFault → Type 0 = λ e. ReceivesAs IsNew New came (Err e) s s Asks in
+    let P : LedgerFault → Type 0 = λ e. ReceivesAs Comes New came (Err e) s s Asks in
     subst P (sym c.shelf_fault.ensures)
-    (not_brought IsNew came s Asks New (fault_of_shelf c.in-Err.fault) c.requires.delivered
+    (not_brought Comes came s Asks New (fault_of_shelf c.in-Err.fault) c.requires.delivered
     (own_fault c.in-Err.fault))

@@ -1,4 +1,4 @@
-use Rattle.std.proofs.Common.{◌≡◌, List, ℕ, Ok, sym, subst}
+use Rattle.std.proofs.Common.{◌≡◌, List, ℕ, Ok, Option, sym, subst}
 use Rattle.sqlite.specs.Held.{state}
 use Rattle.sqlite.specs.Tree.{Trees}
 use Rattle.dr_ledger.specs.Bodies.{OnlyTakes}
@@ -8,7 +8,7 @@ use Rattle.dr_ledger.specs.SiteRoutes.{site_routing}
 use Rattle.dr_store_schema.specs.Books.{book_of}
 use Rattle.dr_store_calls.specs.Calling.{IsSafe, advanced}
 use Rattle.dr_store_calls.specs.Knowing.{IsAccepted}
-use Rattle.dr_store_calls.specs.Shelving.{AcceptsItem, AnswersTo, IsNewCell}
+use Rattle.dr_store_calls.specs.Shelving.{AcceptsItem, AnswersTo, IsPut}
 use Rattle.dr_store.specs.Owning.{KeepsOwn, bodies_with}
 use Rattle.dr_store.proofs.Owns.{arrived, if_failed, left_by_arrival, only_takes}
 use Rattle.dr_store.proofs.Replies.{arrives, takes}
@@ -30,14 +30,15 @@ invariant_of-self g c =
     let Uses = g.B.Shelf.uses c.arrive-answer.new.shelf in
     let Stands = g.B.Shelf.stands c.arrive-answer.new.shelf in
     let Apart = g.B.Shelf.apart in
-    let IsNew : List ℕ → List ℕ → Type 0 = IsNewCell Used Uses Stands Apart in
-    let Cells : Trees → Trees → Type 0 = AnswersTo IsNew part caller item r in
-    let Makes : Trees → Trees → Type 0 = AcceptsItem IsNew part caller item in
+    let Same : Type 0 = c.arrive-answer.new.shelf ≡ c.args.self.now.shelf in
+    let Comes : List ℕ → Option (List ℕ) → Type 0 = IsPut Same Used Uses Stands Apart in
+    let Cells : Trees → Trees → Type 0 = AnswersTo Comes part caller item r in
+    let Makes : Trees → Trees → Type 0 = AcceptsItem Comes part caller item in
     let done = called Used Stood Apart n (advanced r n) part r old new Cells Makes c.arrive-answer.ensures.called in
     record {
       idle = c.arrive-answer.ensures.idle;
       kept = subst (λ m. IsSafe new → ∥ KeepsOwn Uses Stands Apart m part new ∥₁) (sym c.next_after-self.ensures) (still_kept n (advanced r n) part part r old new Cells Makes c.args.self.now.kept done Uses Stands
-          (λ k it own. arrived c.arrive-answer.ensures.keeps g.B.Shelf.swaps part caller item r old.committed.trees new.committed.trees it own));
+          (λ k it own. arrived c.arrive-answer.ensures.keeps Same g.B.Shelf.swaps part caller item r old.committed.trees new.committed.trees it own));
     }
 
 pub returns-clause-wrote : goal.returns-clause-wrote
@@ -56,13 +57,14 @@ returns-clause-wrote g c =
     let Apart = g.B.Shelf.apart in
     let Used = g.B.Shelf.uses was in
     let Stood = g.B.Shelf.stands was in
-    let IsNew : List ℕ → List ℕ → Type 0 = IsNewCell Used (g.B.Shelf.uses shelf) (g.B.Shelf.stands shelf) Apart in
-    let Cells : Trees → Trees → Type 0 = AnswersTo IsNew part caller item r in
+    let Same : Type 0 = shelf ≡ was in
+    let Comes : List ℕ → Option (List ℕ) → Type 0 = IsPut Same Used (g.B.Shelf.uses shelf) (g.B.Shelf.stands shelf) Apart in
+    let Cells : Trees → Trees → Type 0 = AnswersTo Comes part caller item r in
     let Answers : Trees → Trees → Type 0 = λ base db. Arrives (site_routing part) caller (instance_of item) (book_of base) r (book_of db) × OnlyTakes item (bodies_with was_of base) (bodies_with body_of db) in
-    let Makes : Trees → Trees → Type 0 = AcceptsItem IsNew part caller item in
+    let Makes : Trees → Trees → Type 0 = AcceptsItem Comes part caller item in
     let Less : Trees → Trees → Type 0 = λ base db. IsAccepted part caller (instance_of item) (book_of base) (book_of db) in
     let done = making Used Stood Apart n (advanced r n) part part r old new Answers Makes Less (λ base db it. it.0) (answering Used Stood Apart n (advanced r n) part part r old new Cells Answers Makes
-    (λ own it. (it.0, only_takes c.arrive-answer.ensures.keeps was_of body_of (g.B.Shelf.only was) (g.B.Shelf.only shelf) item old.committed.trees new.committed.trees it.1 own))
+    (λ own it. (it.0, only_takes c.arrive-answer.ensures.keeps was_of body_of (g.B.Shelf.only was) (g.B.Shelf.only shelf) Same item old.committed.trees new.committed.trees it.1 own))
     (called Used Stood Apart n (advanced r n) part r old new Cells Makes c.arrive-answer.ensures.called)) in
     wrote n (advanced r n) part part r old new Answers Less c.args.self.now.kept done (λ db is_open left. g.met.S.Store.settled c.args.self.now.conn.store db is_open left)
     (λ db is_open left. g.met.S.Store.settled c.arrive-answer.new.conn.store db is_open left)
@@ -85,14 +87,15 @@ returns-clause-covered g c =
     let Stood = g.B.Shelf.stands was in
     let Uses = g.B.Shelf.uses shelf in
     let Stands = g.B.Shelf.stands shelf in
-    let IsNew : List ℕ → List ℕ → Type 0 = IsNewCell Used Uses Stands Apart in
-    let Cells : Trees → Trees → Type 0 = AnswersTo IsNew part caller item r in
-    let Makes : Trees → Trees → Type 0 = AcceptsItem IsNew part caller item in
+    let Same : Type 0 = shelf ≡ was in
+    let Comes : List ℕ → Option (List ℕ) → Type 0 = IsPut Same Used Uses Stands Apart in
+    let Cells : Trees → Trees → Type 0 = AnswersTo Comes part caller item r in
+    let Makes : Trees → Trees → Type 0 = AcceptsItem Comes part caller item in
     let done = called Used Stood Apart n (advanced r n) part r old new Cells Makes c.arrive-answer.ensures.called in
     let keeps = c.arrive-answer.ensures.keeps in
     covered n (advanced r n) part part r old new Cells Makes c.args.self.now.kept done
     (λ db is_open left. g.met.S.Store.settled c.args.self.now.conn.store db is_open left)
     (λ db is_open left. g.met.S.Store.settled c.arrive-answer.new.conn.store db is_open left)
     Uses Stands
-    (λ k it own. arrived keeps g.B.Shelf.swaps part caller item r base new.committed.trees it own)
-    (if_failed r (λ k own db may. left_by_arrival keeps g.B.Shelf.swaps part caller item base db may own))
+    (λ k it own. arrived keeps Same g.B.Shelf.swaps part caller item r base new.committed.trees it own)
+    (if_failed r (λ k own db may. left_by_arrival keeps Same g.B.Shelf.swaps part caller item base db may own))

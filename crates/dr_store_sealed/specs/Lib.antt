@@ -1,0 +1,6 @@
+pub mod Files
+pub mod Held
+pub mod Laws
+pub mod Lines
+pub mod Refusals
+pub mod Seals
