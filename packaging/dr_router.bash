@@ -67,6 +67,15 @@ _dr_router() {
         mapfile -t COMPREPLY < <(_dr_router_audit "$current")
         return
     fi
+    if [ "$word ${COMP_WORDS[COMP_CWORD - 1]}" = "adopt --without" ]; then
+        local IFS=$'\n'
+        mapfile -t COMPREPLY < <(compgen -W "$(_dr_router_nodes "$plan")" -- "$current")
+        return
+    fi
+    if [ "$word" = "adopt" ] && [ "$COMP_CWORD" -gt 6 ]; then
+        mapfile -t COMPREPLY < <(compgen -W "--dry-run --without" -- "$current")
+        return
+    fi
     if [ "${COMP_WORDS[5]}" = "--at" ] && [ "$COMP_CWORD" -gt 6 ]; then
         local IFS=$'\n'
         mapfile -t COMPREPLY < <(compgen -W "--token"$'\n'"--summary"$'\n'"--fail-if-held"$'\n'"--all-held"$'\n'"--reason"$'\n'"$(_dr_router_nodes "$plan")" -- "$current")
@@ -94,8 +103,6 @@ _dr_router() {
             mapfile -t COMPREPLY < <(compgen -W "--all --json" -- "$current") ;;
         "expect 5" | "route 6" | "route 9")
             mapfile -t COMPREPLY < <(compgen -W "--json" -- "$current") ;;
-        "adopt 7")
-            mapfile -t COMPREPLY < <(compgen -W "--dry-run" -- "$current") ;;
         "requeue 6")
             mapfile -t COMPREPLY < <(compgen -W "--all-held" -- "$current") ;;
         "help 2")

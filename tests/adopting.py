@@ -29,7 +29,7 @@ WITHOUT_ARCH = changed('"ARCH", ', '').replace('name = "ARCH"', 'name = "STORE"'
 
 
 def prepare(room):
-    """No node runs: 1.2.3.4 came by CT1 to GATE, where it waits for ARCH, and 1.2.3.5 waits at CT1 for GATE. ARCH has no ledger yet."""
+    """No node runs: 1.2.3.4 came by CT1 to GATE, where it waits for ARCH, and 1.2.3.5 waits at CT1 for GATE. ARCH has an empty ledger."""
     room.put_plan(NEXT_TEXT, NEXT)
     room.put('first.dcm', part10(b'1.2.3.4'))
     room.put('second.dcm', part10(b'1.2.3.5'))
@@ -39,15 +39,20 @@ def prepare(room):
     same(room.at('send', 'CT1', 'second.dcm').returncode, 0)
     same(cut(book(room, 'CT1')), ['node\tCT1', 'arrival\t-\t1.2.3.4', 'arrival\t-\t1.2.3.5', 'row\t1.2.3.4\tGATE\tdone', 'row\t1.2.3.5\tGATE\twaiting'])
     same(cut(book(room, 'GATE')), ['node\tGATE', 'arrival\tCT1\t1.2.3.4', 'row\t1.2.3.4\tARCH\twaiting'])
-    same(is_there(room, 'ARCH'), False)
+    told(room.at('new', 'ARCH'), 0, 'made\n', '')
 
 
-def adopt(room, old=PLAN, new=NEXT, folder='.'):
-    return room.run('adopt', *old, *new, folder)
+def adopt(room, old=PLAN, new=NEXT, folder='.', without=()):
+    return room.run('adopt', *old, *new, folder, *named(without))
 
 
-def rehearse(room, old=PLAN, new=NEXT, folder='.'):
-    return room.run('adopt', '--dry-run', *old, *new, folder)
+def rehearse(room, old=PLAN, new=NEXT, folder='.', without=()):
+    return room.run('adopt', '--dry-run', *old, *new, folder, *named(without))
+
+
+def named(nodes):
+    """The options that name nodes without a ledger."""
+    return [word for node in nodes for word in ('--without', node)]
 
 
 def refused(run, status, fault, node):
@@ -112,7 +117,7 @@ def next_plan():
         prepare(room)
         before = books(room)
         told(adopt(room), 0, 'adopted\n', '')
-        same((is_there(room, 'ARCH'), is_there(room, 'HUB')), (True, False))
+        same(is_there(room, 'HUB'), False)
         for node in NODES:
             told(room.at('list', node), 1, '', 'dr_router: G6 OtherSite\n')
         after, at_arch = books(room, NEXT), book(room, 'ARCH', NEXT)
@@ -172,6 +177,7 @@ def held_rows():
         room.put_plan(PAST_GATE, OTHER)
         room.put('image.dcm', part10(b'1.2.3.4'))
         room.put('changed.dcm', part10(b'1.2.3.4', element(0x10, 0x10, b'PN', b'Other')))
+        told(room.at('new', 'ARCH'), 0, 'made\n', '')
         gate = room.serve('GATE', 2)
         same(room.at('send', 'CT1', 'image.dcm', ledger='first.db').returncode, 0)
         same(room.at('send', 'CT1', 'changed.dcm').returncode, 0)
@@ -189,6 +195,7 @@ def refused_plans():
     """Plans and certificates that don't fit are refused before a ledger is opened; none is made."""
     with Room() as room:
         prepare(room)
+        copy(room, 'none', 'ARCH')
         before = books(room)
         room.put_plan(WITHOUT_ARCH, OTHER)
         refused(adopt(room, PLAN, OTHER), 1, 'NoNode', 'ARCH')
@@ -222,8 +229,56 @@ def refused_files():
         refused(adopt(room), 3, 'G3 Store', 'GATE')
         copy(room, 'saved', 'GATE')
         same(books(room), before)
-        refused(adopt(room, folder='no/folder'), 3, 'G3 Store', 'ARCH')
         told(adopt(room), 0, 'adopted\n', '')
+
+
+def missing_files():
+    """A node without a file is refused by its name, before any ledger is changed, and no file is made."""
+    with Room() as room:
+        prepare(room)
+        before = books(room)
+        refused(adopt(room, folder='no/folder'), 3, 'G8 NoLedger', 'ARCH')
+        refused(adopt(room, folder='no/folder', without=['ARCH']), 3, 'G8 NoLedger', 'CT1')
+        told(rehearse(room, folder='no/folder'), 1, 'missing\tARCH\nmissing\tCT1\nmissing\tGATE\n', '')
+        told(rehearse(room, folder='no/folder', without=['ARCH']), 1, 'missing\tCT1\nmissing\tGATE\n', '')
+        room.put_plan(PAST_GATE, OTHER)
+        copy(room, 'GATE', 'saved')
+        copy(room, 'none', 'GATE')
+        refused(adopt(room), 3, 'G8 NoLedger', 'GATE')
+        told(rehearse(room), 1, 'missing\tGATE\n', '')
+        told(adopt(room, PLAN, OTHER), 1, 'no\tU1 Unfit\tCT1\t1.2.3.5\tGATE\n', '')  # it comes before GATE
+        told(rehearse(room, PLAN, OTHER), 1, 'no\tU1 Unfit\tCT1\t1.2.3.5\tGATE\nmissing\tGATE\n', '')
+        same(is_there(room, 'GATE'), False)
+        copy(room, 'saved', 'GATE')
+        same(books(room), before)
+        told(adopt(room), 0, 'adopted\n', '')
+
+
+def named_nodes():
+    """A node that is named by --without has no ledger, and gets none. One that has a file is refused, and so is a name of no node."""
+    with Room() as room:
+        prepare(room)
+        before = books(room)
+        copy(room, 'none', 'ARCH')
+        refused(adopt(room), 3, 'G8 NoLedger', 'ARCH')
+        for act in adopt, rehearse:
+            told(act(room, folder='no/folder', without=NODES), 3, '', 'dr_router: G8 NoLedger\n')  # nobody is left
+            refused(act(room, without=NODES[:2] + NODES[:1]), 1, 'G9 IsThere', 'CT1')
+            refused(act(room, without=['STORE']), 1, 'NoNode', 'STORE')
+            refused(act(room, without=['ARCH', 'HUB']), 1, 'NoNode', 'HUB')  # the next plan alone has it
+            refused(act(room, without=['ARCH', 'GATE']), 1, 'G9 IsThere', 'GATE')
+            refused(act(room, without=['GATE']), 1, 'G9 IsThere', 'GATE')  # before a ledger is looked for
+        room.put_plan(WITHOUT_ARCH, OTHER)
+        refused(adopt(room, PLAN, OTHER, without=['ARCH']), 1, 'NoNode', 'ARCH')  # it must be one of the next plan all the same
+        room.put_plan(PAST_GATE, OTHER)
+        told(adopt(room, PLAN, OTHER, without=['ARCH']), 1, 'no\tU1 Unfit\tCT1\t1.2.3.5\tGATE\n', '')
+        same((is_there(room, 'ARCH'), books(room)), (False, before))
+        told(rehearse(room, without=['ARCH']), 0, 'fits\n', '')
+        told(room.run('adopt', '--without', 'ARCH', *PLAN, *NEXT, '.', '--without=ARCH'), 0, 'adopted\n', '')
+        same(is_there(room, 'ARCH'), False)
+        same(books(room, NEXT), {node: carried_over(report) for node, report in before.items()})
+        told(adopt(room, without=['ARCH']), 0, 'adopted\n', '')
+        same(room.run('adopt', *PLAN, *NEXT, '.', '--without').returncode, 2)
 
 
 def some_files():
@@ -240,27 +295,24 @@ def some_files():
 
 
 def rehearsals():
-    """All rows that are in the way are named, and nothing has changed: no book, no owner, and no file is made."""
+    """All rows that are in the way are named, and nothing has changed: no book and no owner."""
     with Room() as room:
         prepare(room)
         before = books(room)
-        told(rehearse(room), 0, 'new\tARCH\nfits\n', '')
+        told(rehearse(room), 0, 'fits\n', '')
         for text, lines_of_rows in (
             (PAST_ARCH, ['no\tU1 Unfit\tGATE\t1.2.3.4\tARCH']),
             (PAST_GATE, ['no\tU1 Unfit\tCT1\t1.2.3.5\tGATE', 'no\tU1 Unfit\tGATE\t1.2.3.4\tARCH']),
         ):
             room.put_plan(text, OTHER)
-            told(rehearse(room, PLAN, OTHER), 1, ''.join(f'{line}\n' for line in ['new\tARCH', *lines_of_rows]), '')
+            told(rehearse(room, PLAN, OTHER), 1, ''.join(f'{line}\n' for line in lines_of_rows), '')
             told(adopt(room, PLAN, OTHER), 1, f'{lines_of_rows[0]}\n', '')
-            copy(room, 'none', 'ARCH')
         same(books(room), before)
-        told(rehearse(room, folder='no/folder'), 0, 'new\tARCH\nnew\tCT1\nnew\tGATE\nfits\n', '')
         gate = room.serve('GATE', 0)
         same(rehearse(room).returncode, 3)
         stop(gate)
         room.put_plan(WITHOUT_ARCH, OTHER)
         refused(rehearse(room, PLAN, OTHER), 1, 'NoNode', 'ARCH')
-        same(is_there(room, 'ARCH'), False)
         told(adopt(room), 0, 'adopted\n', '')
         told(rehearse(room), 0, 'fits\n', '')
 
@@ -268,7 +320,7 @@ def rehearsals():
 def main():
     if not os.path.exists(PROGRAM):
         sys.exit(f'{PROGRAM} is not built')
-    run_cases('adopting', next_plan, two_steps, unfit_rows, held_rows, refused_plans, refused_files, some_files, rehearsals)
+    run_cases('adopting', next_plan, two_steps, unfit_rows, held_rows, refused_plans, refused_files, missing_files, named_nodes, some_files, rehearsals)
 
 
 if __name__ == '__main__':

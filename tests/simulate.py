@@ -41,8 +41,8 @@ REACHED = {
     'forget': {'done', 'NotOver', 'Store', 'under way', 'over, but under way', 'no such node'}, 'new after a forgetting': {'the same', 'another'},
     'heard': {'request', 'acceptance', 'rejection', 'command', 'data', 'response', 'release', 'released', 'abort'},
     'status': {0x0000, 0xA700, 0xC0F1},
-    'foreign': {'a node', 'no such node'}, 'not taken': {'submit', 'push', 'move', 'abort', 'release', 'late', 'forget', 'drop', 'requeue', 'away', 'refuse'},
-    'store': {'done', 'no-link', 'not-foreign', 'no-context'}, 'answer': {'done', 'no-link', 'not-foreign', 'not-asked'},
+    'foreign': {'a node', 'no-node'}, 'not taken': {'submit', 'push', 'move', 'abort', 'release', 'late', 'forget', 'drop', 'requeue', 'away', 'refuse'},
+    'store': {'done', 'no-link', 'not-foreign', 'both-foreign', 'no-context'}, 'answer': {'done', 'no-link', 'not-foreign', 'both-foreign', 'not-asked'},
 }
 
 
@@ -219,12 +219,9 @@ class Play:
     def random_status(self):
         return self.dice.choice([0x0000, 0x0000, 0xA700, 0xC0F1, 0xC123])
 
-    def can_hear(self, link, side):
-        """Whether what is written to that end begins with a PDU and a message of its own."""
-        if link not in self.world.links:
-            return True
-        end = self.world.end_at(link, side)
-        return not end.heard and not end.command
+    def is_answered(self, link):
+        """Whether a response is on its way to the requestor: a second one would be answered by an abort."""
+        return link in self.world.links and any(pdu.kind == 'response' for pdu in self.world.end_at(link, 'requestor').wire)
 
     def foreign_deed(self):
         """A node becomes another maker's, or one such stores or answers, or is told to and does not."""
@@ -237,7 +234,7 @@ class Play:
         apt = [link for link in world.links if world.end_at(link, side).node in world.others and (side == 'requestor' or world.links[link][0].pending)]
         link = dice.choice(apt) if apt and dice.random() < 0.8 else self.random_link()
         reader = 'acceptor' if side == 'requestor' else 'requestor'
-        if not self.can_hear(link, reader):
+        if side == 'acceptor' and self.is_answered(link):
             return
         if side == 'requestor':
             self.do('store', link, self.random_item()[1])

@@ -8,10 +8,10 @@ or on several) and 'new: '. Each text is on one line of the edit, where a blank 
 comments begin with '#', and all else is refused. The edits of a crate that change different functions are applied
 together, and these functions alone are checked; an edit is refused only where the prover refuses the function that it
 changed. What can't be told apart so is tried alone. An edit of a definition is in no function: a line 'law: ' names the
-function of the crate whose contract it breaks, and that one is checked first, then all of the crate's laws, and where
-none of these refuses it all of the crate. What isn't refused, can't be read or applied or doesn't reach the prover is
-told at the end, and makes the exit status 1. The libraries below are those that the gate has made; what isn't there is
-proved first.
+function of the crate whose contract it breaks, and that one must refuse it; without such a line the crate's laws are
+checked, and where they don't refuse it all of the crate. What isn't refused, can't be read or applied or doesn't reach
+the prover is told at the end, and makes the exit status 1. The libraries below are those that the gate has made; what
+isn't there is proved first.
 """
 import concurrent.futures
 import dataclasses
@@ -87,7 +87,11 @@ def law_of(path):
         named = [line.removeprefix("law: ").strip() for line in text if line.startswith("law: ")]
     if len(named) > 1:
         raise Bad("it names more than one law")
-    return "".join(named)
+    law = "".join(named)
+    file = f"{TOP}/crates/{path.split('/')[-2]}/src/{law.rpartition('::')[0].replace('::', '/') or 'lib'}.rt"
+    if law and not (os.path.isfile(file) and any(name == law for _, _, name in functions_in(file))):
+        raise Bad(f"the crate has no function {law}")
+    return law
 
 
 def places_of(text, old):
@@ -156,6 +160,12 @@ def functions_of(path, text):
             end = min(end, semicolon) if semicolon < open_at else end
             found.append((at, end, "::".join(it for it in (module, block, match[2]) if it)))
     return found
+
+
+def functions_in(file):
+    """The functions of a source file of a crate, by its path."""
+    with open(file, encoding="utf-8") as text:
+        return functions_of(re.sub(r"^.*?/crates/\w+/", "", file), text.read())
 
 
 def read_edit(path):
@@ -284,10 +294,10 @@ def refused_among(lines, crate):
 
 
 def said_of(name, crate, lines):
-    """What the prover said of a function: the lines between its own and that of the function before it."""
+    """What the prover said of a function: the lines between its own and that of the function before it, and of its own proof files."""
     at = next((it for it, line in enumerate(lines) if line.startswith(f"fn {crate}::{name}: ")), 0)
     before = next((it for it in range(at - 1, -1, -1) if lines[it].startswith("fn ")), -1)
-    return lines[before + 1:at]
+    return lines[before + 1:at] + [it for it in lines if it.startswith(f"./proofs/{name.replace('::', '/')}/")]
 
 
 def reason(lines):
@@ -311,9 +321,10 @@ def judge(edit, status, lines, crate):
 
 
 def try_definition(edit, crate, kept):
-    """Tries an edit of a definition, of a type or of a proof: by the law that it names, by all laws of the crate, and then by all of the crate."""
+    """Tries an edit of a definition, of a type or of a proof: by the law that it names, or else by all laws of the crate, and then by
+    all of the crate."""
     laws = {"laws"} if any(os.path.exists(f"{TOP}/crates/{crate}/src/laws{it}") for it in (".rt", "")) else set()
-    for functions in [{edit.law}] * bool(edit.law) + [laws] * bool(laws) + [set()]:
+    for functions in [{edit.law}] if edit.law else [laws] * bool(laws) + [set()]:
         status, lines = check(crate, edit.texts, functions, kept)
         bad = next((it for it in lines if is_unread(it, edit.texts)), None)
         if bad and status == 1:
@@ -323,7 +334,7 @@ def try_definition(edit, crate, kept):
         refused = refused_among(lines, crate)
         if refused or status == 1:
             return Answer(True, f"{next(iter(refused), 'the crate')}: {reason(lines)}")
-    return Answer(False, "the crate is still proved")
+    return Answer(False, f"{edit.law} is still proved: name the law that it breaks" if edit.law else "the crate is still proved")
 
 
 def try_alone(edit, crate, kept):
@@ -412,8 +423,8 @@ def try_all(edits, tell=lambda crate, results: None):
 def try_itself():
     """Whether the tester sees what it must: an edit that means the same, one that breaks another function than its own, one that doesn't
     compile, one that can't be applied, two that can't be read (a text on two lines, a text that stays), and one that is refused. Of a
-    definition one that the law refuses that it names, one that another law refuses; one that names no law that is there; and a body's
-    edit that names one."""
+    definition one that the law refuses that it names, and one that another law refuses; one that names no law that is there; and a
+    body's edit that names one."""
     paths = sorted(f"{TOP}/tests/tester/dr_base/{it}" for it in os.listdir(f"{TOP}/tests/tester/dr_base"))
     results = try_all({"dr_base": paths})
     wanted = {path: os.path.basename(path).startswith("refused_") for path in paths}

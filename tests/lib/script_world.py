@@ -91,8 +91,7 @@ class End:
         self.node, self.peer, self.is_requestor, self.wire = node, peer, is_requestor, collections.deque()
         self.state, self.since = (5, now) if is_requestor else (2, now)
         self.awaits, self.pending, self.accepted, self.limit, self.command, self.heard = now if is_requestor else None, None, None, 0, None, 0
-        # wire: what is on its way to this end; heard: how many bytes of the front PDU came already; command: that of a
-        # message whose data set has not come to its end
+        # wire: what is on its way to this end; heard: how many bytes of the front PDU came already
 
     def is_over(self):
         return self.state == 1
@@ -244,7 +243,6 @@ class World:
     def hear_data(self, link, end, item):
         if item is None:
             return
-        end.command = None
         reply = self.arrive(end.node, end.peer, item)
         status = {'New': SUCCESS, 'Again': SUCCESS, 'NoLine': NO_LINE, 'Conflict': CONFLICT, 'Store': NO_STORE}[reply]
         self.note('status', status)
@@ -491,11 +489,13 @@ class World:
         return self.end_at(told[0], told[1] if word in ('abort', 'late', 'move') else 'requestor').node in self.others
 
     def foreign(self, name):
+        if name not in self.books:
+            return self.refuses('foreign', name, 'no-node')
         self.others.append(name)
-        return 'a node' if name in self.books else 'no such node'
+        return 'a node'
 
-    def refuses(self, word, link, why):
-        self.refused.append(f'Refused\t{word}\t{link}\t{why}\n')
+    def refuses(self, word, at, why):
+        self.refused.append(f'Refused\t{word}\t{at}\t{why}\n')
         return why
 
     def store(self, link, item):
@@ -504,9 +504,10 @@ class World:
         caller, receiver = self.links[link]
         if caller.node not in self.others:
             return self.refuses('store', link, 'not-foreign')
+        if receiver.node in self.others:
+            return self.refuses('store', link, 'both-foreign')
         if item.key[:2] not in (receiver.accepted or ()):
             return self.refuses('store', link, 'no-context')
-        receiver.wire.clear()
         self.write(link, caller, data_pdus(FOREIGN_LIMIT, command_size(item), 'command', item) + data_pdus(FOREIGN_LIMIT, len(item.body), 'data', item))
         return 'done'
 
@@ -516,9 +517,10 @@ class World:
         caller, receiver = self.links[link]
         if receiver.node not in self.others:
             return self.refuses('answer', link, 'not-foreign')
+        if caller.node in self.others:
+            return self.refuses('answer', link, 'both-foreign')
         if not caller.pending:
             return self.refuses('answer', link, 'not-asked')
-        caller.wire.clear()
         self.write(link, receiver, data_pdus(FOREIGN_LIMIT, answer_size(), 'response', status))
         return 'done'
 

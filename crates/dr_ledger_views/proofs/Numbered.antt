@@ -1,5 +1,5 @@
 -- Lines that are counted, and those of them whose numbers lie in a span.
-use Rattle.std.proofs.Common.{◌≡◌, ℕ, zero, suc, ◌+◌, ◌-◌, ◌^◌, ◌<◌, ◌≤◌, min, Bool, true, false, ◌&&◌, cond, T, List, [], ◌∷◌, map as mapped, filter, take, drop, refl, sym, ap, subst, ◌∙◌, arith, true≢false}
+use Rattle.std.proofs.Common.{◌≡◌, ℕ, zero, suc, ◌+◌, ◌-◌, ◌^◌, ◌<◌, ◌≤◌, min, Bool, true, false, ◌&&◌, cond, T, List, [], ◌∷◌, map as mapped, take, drop, refl, sym, ap, subst, ◌∙◌, arith, true≢false}
 use Rattle.std.specs.declared.cmp.Ordering.{Ordering}
 use Rattle.std.specs.declared.cmp.Ordering.TheVariants.{Less, Equal, Greater}
 use Rattle.std.specs.Cmp.{ranks}
@@ -162,4 +162,4 @@ page_is after last lines = go (last - after) refl
   where
     go : (n : ℕ) → last - after ≡ n → counted after (take n (drop after lines)) ≡ lines_within after last (counted 0 lines)
     go zero is = sym (none_within after last (counted 0 lines) (omega (arith, is)))
-    go (suc n) is = lines_behind after last 0 after (suc n) lines refl (omega (arith, is))
+    go (suc n) is = lines_behind after last 0 after (suc n) lines (omega arith) (omega (arith, is))

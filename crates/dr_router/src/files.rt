@@ -15,6 +15,7 @@ use dr_store::SqlLedger;
 use dr_store_audit::{is_ours, lacking};
 use dr_store_open::{OpeningFault, ledger_on};
 use dr_store_shelf::InRow;
+use dr_word_adopt::ShowsFiles;
 use dr_word_check::Disk;
 use dr_word_rehearse::{Finds, LedgerFound};
 use sqlite::{Alter, Connection, Error, ErrorCode, File, FileStore};
@@ -199,6 +200,14 @@ impl<D: Databases + Drop> Ledgers for StoredLedgers<D> {
     }
 }
 
+impl<D: Databases + Drop> ShowsFiles for StoredLedgers<D> {
+    ghost shows = { λ files path is_there. Unit {0} };
+
+    fn is_there(&self, path: &str) -> bool {
+        self.0.is_there(path)
+    }
+}
+
 /// What is found over a connection to a database. Where its tables are those of today, opening its
 /// ledger changes nothing of it.
 fn found_over<S: Alter + Drop>(
@@ -231,7 +240,7 @@ impl<D: Databases + Drop> Finds for StoredLedgers<D> {
         site: Site,
     ) -> Result<LedgerFound<SqlLedger<D::Store, InRow>>, OpenFault> {
         if !self.0.is_there(path) {
-            return Ok(LedgerFound::Nothing);
+            return Err(OpenFault::NoLedger);
         }
         match self.0.open_database(path) {
             Ok(conn) => found_over(alloc, conn, site, self.0.now()),

@@ -1,27 +1,28 @@
 //! What came to be over before a node began: read off the journal, a page at a time.
 use crate::sweep::{OverInstance, Sweep};
-use dr_base::{Seq, Text};
+use dr_base::Text;
 use dr_desk::{SharedDesk, Sharing};
 use dr_ledger::{LedgerFault, Outcome, is_success};
 use dr_ledger_history::JournalLine;
 use dr_ledger_views::Views;
 use std::alloc::{AllocError, Global};
-use std::collections::BTreeMap;
+use std::collections::{BTreeMap, BTreeSet};
 use std::sync::Wait;
 
 /// So many lines are read under the lock at a time.
 const PAGE: u32 = 256;
 
 /// So many pages are read in one turn at most.
-const PAGES: u32 = 20;
+const PAGES: u32 = 100;
 
 /// When a row of an instance was last done or dropped, by the lines that were read so far. What was
-/// forgotten since isn't here any more.
+/// forgotten since isn't here any more, nor what the node keeps: that is for ever.
 #[derive(Drop)]
 pub struct Past {
     /// So many lines were read.
     after: u64,
     ends: BTreeMap<Text, u64>,
+    kept: BTreeSet<Text>,
 }
 
 /// Whether a row is done after this outcome.
@@ -56,25 +57,38 @@ impl Past {
         Past {
             after: 0,
             ends: BTreeMap::new(alloc),
+            kept: BTreeSet::new(alloc),
         }
+    }
+
+    /// The node keeps the instance.
+    ///
+    /// Errors: want of memory.
+    fn note_kept(&mut self, uid: &Text) -> Result<(), AllocError> {
+        let _end = self.ends.remove(uid);
+        let _is_first = self.kept.insert(uid.clone()?)?;
+        Ok(())
     }
 
     /// A row of the instance was done or dropped at that moment. The greatest one stays.
     ///
     /// Errors: want of memory.
-    fn note_end(&mut self, uid: Text, now: u64) -> Result<(), AllocError> {
-        let known = match self.ends.get(&uid) {
+    fn note_end(&mut self, uid: &Text, now: u64) -> Result<(), AllocError> {
+        if self.kept.contains(uid) {
+            return Ok(());
+        }
+        let known = match self.ends.get(uid) {
             Some(known) => *known,
             None => 0,
         };
-        let _known = self.ends.insert(uid, now.max(known))?;
+        let _known = self.ends.insert(uid.clone()?, now.max(known))?;
         Ok(())
     }
 
     /// Notes what a line says.
     ///
     /// Errors: want of memory.
-    fn note(&mut self, line: JournalLine) -> Result<(), AllocError> {
+    fn note(&mut self, line: &JournalLine) -> Result<(), AllocError> {
         match line {
             JournalLine::Settling {
                 uid,
@@ -82,36 +96,38 @@ impl Past {
                 now,
                 ..
             } => {
-                if ends(outcome) {
-                    self.note_end(uid, now)?;
+                if ends(*outcome) {
+                    self.note_end(uid, *now)?;
                 }
             }
-            JournalLine::Dropping { uid, now, .. } => self.note_end(uid, now)?,
+            JournalLine::Dropping { uid, now, .. } => self.note_end(uid, *now)?,
             JournalLine::Forgetting { uid } => {
-                let _gone = self.ends.remove(&uid);
+                let _gone = self.ends.remove(uid);
             }
-            JournalLine::Arrival { .. }
-            | JournalLine::Repeat { .. }
-            | JournalLine::Requeuing { .. }
-            | JournalLine::Adoption => {}
+            JournalLine::Arrival { instance, keep, .. } => {
+                if *keep {
+                    self.note_kept(&instance.uid)?;
+                }
+            }
+            JournalLine::Repeat { .. } | JournalLine::Requeuing { .. } | JournalLine::Adoption => {}
         }
         Ok(())
     }
 
     /// Notes what the lines of a page say.
     ///
-    /// Errors: want of memory.
-    fn note_page(&mut self, page: Seq<JournalLine>) -> Result<(), AllocError> {
-        for line in page.into_vec() {
-            self.after = self.after.saturating_add(1);
+    /// Errors: want of memory; then what is noted of it is counted.
+    fn note_page(&mut self, page: &[JournalLine]) -> Result<(), AllocError> {
+        for line in page {
             self.note(line)?;
+            self.after = self.after.saturating_add(1);
         }
         Ok(())
     }
 
     /// Reads on, so much at most; whether that was all. The lock is given back between two pages.
     ///
-    /// Errors: Store, Memory.
+    /// Errors: Store, Memory; then the next call goes on behind what was noted.
     pub fn read_on<R: Wait, L: Views, B: Sharing>(
         &mut self,
         rt: &R,
@@ -122,7 +138,7 @@ impl Past {
             if page.as_slice().is_empty() {
                 return Ok(true);
             }
-            self.note_page(page)?;
+            self.note_page(page.as_slice())?;
         }
         Ok(false)
     }
@@ -131,7 +147,7 @@ impl Past {
     ///
     /// Errors: want of memory.
     pub fn into_sweep(self, alloc: Global) -> Result<Sweep, AllocError> {
-        let Past { after: _, ends } = self;
+        let Past { ends, .. } = self;
         in_order(alloc, ends)
     }
 }

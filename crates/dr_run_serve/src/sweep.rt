@@ -1,5 +1,6 @@
 //! What is over, and since when: what a node forgets one day.
-ghost use Rattle.std.specs.Prelude.{◌≡◌, ◌≤◌, ◌++◌, ◌∷◌, [], if◌then◌else◌, is_ok, IfSome, IfNone};
+ghost use Rattle.std.specs.Prelude.{◌≡◌, ◌≤◌, ◌++◌, ◌∷◌, List, [], if◌then◌else◌, is_ok, IfSome};
+ghost use Rattle.std.specs.Prelude.{IfNone};
 ghost use Rattle.dr_run_serve.specs.Sweeps.{IsFirstOver, IsNotDue};
 
 use dr_base::Text;
@@ -54,5 +55,15 @@ impl Sweep {
             return None;
         }
         Some(&first.uid)
+    }
+
+    /// The first one goes, where there is one.
+    pub fn let_first_go(&mut self)
+        ensures { (one : OverInstance)
+            → (rest : List OverInstance)
+            → self.old.queue.items ≡ one ∷ rest
+            → self.old.queue.items ≡ one ∷ self.new.queue.items }
+    {
+        let _gone = self.queue.pop_front();
     }
 }

@@ -65,13 +65,17 @@ fn forget_first<R: Wait, L: LetsGo, B: Sharing>(
     let Some(uid) = sweep.first_due(since) else {
         return Ok(None);
     };
-    let is_forgotten = match desk.forget(rt, pass, uid) {
-        Ok(()) => true,
-        Err(LedgerFault::NotOver) => false,
-        Err(fault) => return Err(fault),
-    };
-    let _gone = sweep.queue.pop_front();
-    Ok(Some(is_forgotten))
+    match desk.forget(rt, pass, uid) {
+        Ok(()) => {
+            sweep.let_first_go();
+            Ok(Some(true))
+        }
+        Err(LedgerFault::NotOver) => {
+            sweep.let_first_go();
+            Ok(Some(false))
+        }
+        Err(fault) => Err(fault),
+    }
 }
 
 /// Forgets those that have been over since that moment or longer, the longest first, so many at
@@ -109,7 +113,7 @@ impl<B: Sharing> Sweeper<B> {
 
     /// Reads on in the journal; what is over by it, once all of it was read.
     ///
-    /// Errors: Store, Memory; then it is read anew.
+    /// Errors: Store, Memory; then the next call goes on where this one ended.
     fn read_past<R: Wait, L: Views>(
         &mut self,
         rt: &R,
@@ -120,11 +124,17 @@ impl<B: Sharing> Sweeper<B> {
             Some(past) => past,
             None => Past::new(alloc),
         };
-        if past.read_on(rt, desk)? {
-            return Ok(Some(past.into_sweep(alloc)?));
+        match past.read_on(rt, desk) {
+            Ok(true) => Ok(Some(past.into_sweep(alloc)?)),
+            Ok(false) => {
+                self.past = Some(past);
+                Ok(None)
+            }
+            Err(fault) => {
+                self.past = Some(past);
+                Err(fault)
+            }
         }
-        self.past = Some(past);
-        Ok(None)
     }
 
     /// What is over, where that is known already.

@@ -4,6 +4,7 @@ use Rattle.std.specs.FinMap as map
 use Rattle.std.specs.FinMap.{entries_sorted}
 use Rattle.sqlite.specs.Order.{Row}
 use Rattle.sqlite.specs.Tree.{Trees}
+use Rattle.dr_base.specs.Texts.{text_cmp}
 use Rattle.dr_route.specs.Routes.{local}
 use Rattle.dr_ledger.specs.Books.{Line, Arrival}
 use Rattle.dr_ledger_views.specs.Numbers.{HaveNumbers, counted, is_within, lines_within}
@@ -30,10 +31,10 @@ module _ (db : Trees) (after last : ℕ) (goals : List Goal) (are : AreGoalsWith
   own = with_targets db are.some
 
   keeps_at : (n : ℕ) → is_within after last n ≡ true → keeps_in (db 12) n ≡ keep_of goals n
-  keeps_at n lies = sym (keeps own goals are.lists n ∙ ap (λ (rs : List Row). map.contains_key (map.from_entries (mapped named_in rs)) local) (are.whole n lies))
+  keeps_at n lies = sym (keeps own goals are.lists n ∙ ap (λ (rs : List Row). map.contains_key (map.from_entries {R = text_cmp} (mapped named_in rs)) local) (are.whole n lies))
 
   targets_at : (n : ℕ) → is_within after last n ≡ true → targets_in (db 12) n ≡ to_of goals n
-  targets_at n lies = sym (targets own goals are.lists n ∙ ap (λ (rs : List Row). map.keys (map.remove (map.from_entries (mapped named_in rs)) local)) (are.whole n lies))
+  targets_at n lies = sym (targets own goals are.lists n ∙ ap (λ (rs : List Row). map.keys (map.remove (map.from_entries {R = text_cmp} (mapped named_in rs)) local)) (are.whole n lies))
 
   line_is : (n : ℕ) → is_within after last n ≡ true → (x : JournalRow) → line_told goals n x ≡ line_of (db 12) n x
   line_is n lies (note.Arrival caller item) = λ i. Arrival caller item (sym (targets_at n lies) i) (sym (keeps_at n lies) i)

@@ -170,7 +170,7 @@ impl<S: Alter, B: Shelf> SqlLedger<S, B> {
             &mut self.shelf,
             self.alloc,
             self.next,
-            RowAt { uid, dest },
+            &RowAt { uid, dest },
             outcome,
             now,
         );
@@ -224,7 +224,7 @@ impl<S: Alter, B: Shelf> SqlLedger<S, B> {
             &mut self.shelf,
             self.alloc,
             self.next,
-            RowAt { uid, dest },
+            &RowAt { uid, dest },
             now,
         );
         self.next = next_after(&answer, self.next);

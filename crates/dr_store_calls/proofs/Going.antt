@@ -79,8 +79,8 @@ module _ (n : ℕ) (part : Part) (old new : State) (Asks : Trees → Type 0) whe
 -- ---- which cell it is
 
 pub cell_found : (Apart : List ℕ → List ℕ → Type 0) (uid : Text) (db : Trees) (found : Option Job) → IsJobOf uid db found → IsCellOf Apart uid db found
-cell_found Apart uid db None none cell there = absurd (true≢false (sym (ap is_some there) ∙ (none_stored db uid none).whole))
-cell_found Apart uid db (Some job) is cell there =
+cell_found Apart uid db None none = λ cell there. absurd (true≢false (sym (ap is_some there) ∙ (none_stored db uid none).whole))
+cell_found Apart uid db (Some job) is = λ cell there.
     let parts = split (is_whole (map.get (wholes_in (db 3)) uid)) (map.get (contents_in (db 1)) uid) cell (sym (body_at (contents_in (db 1)) (wholes_in (db 3)) uid) ∙ there) in
     let same : Some cell ≡ Some job.body = sym parts.1 ∙ is.2 in
     ap (λ found. unwrap_or found []) same

@@ -184,10 +184,10 @@ pub refused : (Comes : Option (List ℕ) → Type 0) (part : Part) (caller : Tex
 refused Comes part caller instance e line own db = (arrives_own part caller instance (book_of db) e line own, takes_none Comes instance db, accounted_own Comes e instance.uid db own)
 
 module _ (Comes : Option (List ℕ) → Type 0) (came : Delivery) (old new : State) where
-  Answers : Result Arrived LedgerFault → Trees → Trees → Type 0
+  abbrev Answers : Result Arrived LedgerFault → Trees → Trees → Type 0
   Answers r = AnswersWith Comes came.site.now came.caller.now came.instance.now r
 
-  Makes : Trees → Trees → Type 0
+  abbrev Makes : Trees → Trees → Type 0
   Makes = AcceptsOne Comes came.site.now came.caller.now came.instance.now
 
   -- where what is known couldn't be read
@@ -208,20 +208,20 @@ module _ (Comes : Option (List ℕ) → Type 0) (came : Delivery) (old new : Sta
       asked_as came.n (advanced r came.n) came.site.now r old new Asks More (Answers r) Makes (λ db l more. gives db more) c
 
   -- a call with one answer, by which less is new
-  pub received_as : (One : Option (List ℕ) → Type 0) → ((came : Option (List ℕ)) → One came → Comes came) → (answer : Arrived) (r : Result Arrived LedgerFault) (Asks More : Trees → Type 0) → ((db : Trees) → IsLedgerOf came.n came.site.now db → More db → Asks db)
-      → ReceivesAs One answer came r old new Asks → Receives Comes came r old new More
-  received_as One more answer r Asks More gives c =
+  pub received_as : (One : Option (List ℕ) → Type 0) → ((came : Option (List ℕ)) → One came → Comes came) → (which : Arrived) (r : Result Arrived LedgerFault) (Asks More : Trees → Type 0) → ((db : Trees) → IsLedgerOf came.n came.site.now db → More db → Asks db)
+      → ReceivesAs One which came r old new Asks → Receives Comes came r old new More
+  received_as One more which r Asks More gives c =
       said_as came.n (advanced r came.n) came.site.now r old new Asks More (AnswersWith One came.site.now came.caller.now came.instance.now r) (Answers r)
-      (AcceptsAs One came.site.now came.caller.now came.instance.now answer) Makes gives
+      (AcceptsAs One came.site.now came.caller.now came.instance.now which) Makes gives
       (λ base db it. (it.0, takes_more One Comes more came.instance.now base db it.1, accounted_more One Comes more r came.instance.now.uid db it.2))
-      (λ base db it. ((answer, it.0), takes_more One Comes more came.instance.now base db it.1)) c
+      (λ base db it. ((which, it.0), takes_more One Comes more came.instance.now base db it.1)) c
 
   -- the same with the one answer still
-  pub brought_as : (One : Option (List ℕ) → Type 0) → ((came : Option (List ℕ)) → One came → Comes came) → (answer : Arrived) (r : Result Arrived LedgerFault) (Asks : Trees → Type 0) → ReceivesAs One answer came r old new Asks
-      → ReceivesAs Comes answer came r old new Asks
-  brought_as One more answer r Asks c =
+  pub brought_as : (One : Option (List ℕ) → Type 0) → ((came : Option (List ℕ)) → One came → Comes came) → (which : Arrived) (r : Result Arrived LedgerFault) (Asks : Trees → Type 0) → ReceivesAs One which came r old new Asks
+      → ReceivesAs Comes which came r old new Asks
+  brought_as One more which r Asks c =
       said_as came.n (advanced r came.n) came.site.now r old new Asks Asks (AnswersWith One came.site.now came.caller.now came.instance.now r) (Answers r)
-      (AcceptsAs One came.site.now came.caller.now came.instance.now answer) (AcceptsAs Comes came.site.now came.caller.now came.instance.now answer) (λ db l asks. asks)
+      (AcceptsAs One came.site.now came.caller.now came.instance.now which) (AcceptsAs Comes came.site.now came.caller.now came.instance.now which) (λ db l asks. asks)
       (λ base db it. (it.0, takes_more One Comes more came.instance.now base db it.1, accounted_more One Comes more r came.instance.now.uid db it.2))
       (λ base db it. (it.0, takes_more One Comes more came.instance.now base db it.1)) c
 
@@ -236,7 +236,7 @@ module _ (Comes : Option (List ℕ) → Type 0) (came : Delivery) (s : State) (A
   no_memory is = not_received fault.Memory (λ db asks. refused Comes came.site.now came.caller.now came.instance.now fault.Memory is.line (inr refl) db) (λ P h. tt)
 
   -- a first arrival that failed before anything of it was written
-  pub not_brought : (answer : Arrived) (e : LedgerFault) → IsDelivered came → IsOwnFault e → ReceivesAs Comes answer came (Err e) s s Asks
-  not_brought answer e is own =
-      still_called {A = Arrived} came.n came.site.now (Err e) s Asks (AnswersWith Comes came.site.now came.caller.now came.instance.now (Err e)) (AcceptsAs Comes came.site.now came.caller.now came.instance.now answer)
+  pub not_brought : (which : Arrived) (e : LedgerFault) → IsDelivered came → IsOwnFault e → ReceivesAs Comes which came (Err e) s s Asks
+  not_brought which e is own =
+      still_called {A = Arrived} came.n came.site.now (Err e) s Asks (AnswersWith Comes came.site.now came.caller.now came.instance.now (Err e)) (AcceptsAs Comes came.site.now came.caller.now came.instance.now which)
       (λ db asks. refused Comes came.site.now came.caller.now came.instance.now e is.line own db) (λ P p. own_lasts e P own)

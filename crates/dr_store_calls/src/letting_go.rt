@@ -89,7 +89,7 @@ pub fn settle<S: Alter, B: Shelf>(
     shelf: &mut B,
     alloc: Global,
     n: u64,
-    at: RowAt<'_>,
+    at: &RowAt<'_>,
     outcome: Outcome,
     now: u64,
 ) -> Result<(), LedgerFault>
@@ -98,10 +98,12 @@ pub fn settle<S: Alter, B: Shelf>(
     ensures called { (part : Part)
         → Called n (advanced result n) part result (state S.Store conn.old) (state S.Store conn.new)
         Nothing
-        (λ base db. Settles at.uid.now at.dest.now outcome now (book_of base) result (book_of db)
+        (λ base db.
+        Settles at.now.uid.now at.now.dest.now outcome now (book_of base) result (book_of db)
         × LetsCellsGo B.Shelf.apart (B.Shelf.uses shelf.old) (B.Shelf.stands shelf.old)
         (B.Shelf.uses shelf.new) (B.Shelf.stands shelf.new) base db)
-        (λ base db. Settles at.uid.now at.dest.now outcome now (book_of base) (Ok tt) (book_of db)
+        (λ base db.
+        Settles at.now.uid.now at.now.dest.now outcome now (book_of base) (Ok tt) (book_of db)
         × OnlyLetsGo (bodies_of base) (bodies_of db)) }
     ensures same { OnErr result (shelf.new ≡ shelf.old) }
     ensures clean { B.Shelf.is_clean shelf.new → B.Shelf.is_clean shelf.old }
@@ -127,7 +129,7 @@ pub fn give_up<S: Alter, B: Shelf>(
     shelf: &mut B,
     alloc: Global,
     n: u64,
-    at: RowAt<'_>,
+    at: &RowAt<'_>,
     now: u64,
 ) -> Result<(), LedgerFault>
     requires idle { conn.old.in_transaction ≡ false }
@@ -135,10 +137,10 @@ pub fn give_up<S: Alter, B: Shelf>(
     ensures called { (part : Part)
         → Called n (advanced result n) part result (state S.Store conn.old) (state S.Store conn.new)
         Nothing
-        (λ base db. Drops at.uid.now at.dest.now now (book_of base) result (book_of db)
+        (λ base db. Drops at.now.uid.now at.now.dest.now now (book_of base) result (book_of db)
         × LetsCellsGo B.Shelf.apart (B.Shelf.uses shelf.old) (B.Shelf.stands shelf.old)
         (B.Shelf.uses shelf.new) (B.Shelf.stands shelf.new) base db)
-        (λ base db. Drops at.uid.now at.dest.now now (book_of base) (Ok tt) (book_of db)
+        (λ base db. Drops at.now.uid.now at.now.dest.now now (book_of base) (Ok tt) (book_of db)
         × OnlyLetsGo (bodies_of base) (bodies_of db)) }
     ensures same { OnErr result (shelf.new ≡ shelf.old) }
     ensures clean { B.Shelf.is_clean shelf.new → B.Shelf.is_clean shelf.old }

@@ -1,11 +1,13 @@
 -- What a write, a cut and a sync leave of the bytes before them.
-use Rattle.std.proofs.Common.{◌≡◌, ℕ, ◌+◌, ◌-◌, ◌<◌, ◌≤◌, min, List, [], ◌++◌, length, slice_index, take, drop, length-take, length-drop, Result, Ok, Err, OnOk, refl, sym, ◌∙◌, ap, subst, inl, inr, arith}
+use Rattle.std.proofs.Common.{◌≡◌, ℕ, ◌+◌, ◌-◌, ◌<◌, ◌≤◌, List, [], ◌++◌, length, slice_index, Result, Ok, Err, OnOk, refl, sym, ◌∙◌, ap, subst, inl, inr, arith}
 use Rattle.std.proofs.lemmas.Bool.{cases_lt}
-use Rattle.std.proofs.lemmas.List.{ext_get_or, get_or_append_left, get_or-append-add, get_or-append_right, get_or-drop, get_or-take, length-append}
+use Rattle.std.proofs.lemmas.List.{ext_get_or, get_or_append_left, get_or-append-add, get_or-append_right, length-append}
 use Rattle.sqlite_disk.specs.Disk.{Cut, Follows, Holds, Only, Torn}
-use Rattle.dr_store_sealed.specs.Files.{EndsAs, Lasts}
+use Rattle.dr_store_sealed.specs.Files.{EndsAs, Endures, Spans}
 use Rattle.dr_store_sealed.specs.declared.seal.Seal.{Seal}
-use Rattle.dr_store_sealed.specs.Lines.{mark_of}
+use Rattle.dr_store_sealed.specs.Lines.{bytes_of, mark_of}
+use Rattle.dr_store_sealed.specs.Seals.{seal_after}
+use Rattle.dr_store_sealed.proofs.SealLemmas.{bytes_more, reaches}
 
 pub holds_torn : (n size from : ℕ) (old new bytes : List ℕ) → from + length bytes ≤ n → Torn n size old new → Holds old from bytes → Holds new from bytes
 holds_torn n size from old new bytes before torn holds =
@@ -21,33 +23,33 @@ holds_cut n from old new bytes before cut holds =
       each = λ i low. cut.below (from + i) (omega (arith, holds.within, low)) (omega (arith, before, low)) ∙ holds.each i low;
     }
 
-pub lasts_torn : (n size from : ℕ) (old new bytes : List ℕ) (was is : List ℕ → Type 0) → from + length bytes ≤ n → Torn n size old new → Follows (Torn n size) was is → Lasts old was from bytes → Lasts new is from bytes
-lasts_torn n size from old new bytes was is before torn follows lasts =
+pub endures_torn : (n size from : ℕ) (old new bytes : List ℕ) (was is : List ℕ → Type 0) → from + length bytes ≤ n → Torn n size old new → Follows (Torn n size) was is → Endures old was from bytes → Endures new is from bytes
+endures_torn n size from old new bytes was is before torn follows old_part =
     record {
-      now = holds_torn n size from old new bytes before torn lasts.now;
+      now = holds_torn n size from old new bytes before torn old_part.now;
       after_crash = λ left may.
           let (there, may_there, step) = follows left may in
-          holds_torn n size from there left bytes before step (lasts.after_crash there may_there);
+          holds_torn n size from there left bytes before step (old_part.after_crash there may_there);
     }
 
-pub lasts_cut : (n from : ℕ) (old new bytes : List ℕ) (was is : List ℕ → Type 0) → from + length bytes ≤ n → Cut n old new → Follows (Cut n) was is → Lasts old was from bytes → Lasts new is from bytes
-lasts_cut n from old new bytes was is before cut follows lasts =
+pub endures_cut : (n from : ℕ) (old new bytes : List ℕ) (was is : List ℕ → Type 0) → from + length bytes ≤ n → Cut n old new → Follows (Cut n) was is → Endures old was from bytes → Endures new is from bytes
+endures_cut n from old new bytes was is before cut follows old_part =
     record {
-      now = holds_cut n from old new bytes before cut lasts.now;
+      now = holds_cut n from old new bytes before cut old_part.now;
       after_crash = λ left may.
           let (there, may_there, step) = follows left may in
-          holds_cut n from there left bytes before step (lasts.after_crash there may_there);
+          holds_cut n from there left bytes before step (old_part.after_crash there may_there);
     }
 
-pub lasts_fewer : (from : ℕ) (old new bytes : List ℕ) (was is : List ℕ → Type 0) → new ≡ old → ((left : List ℕ) → is left → was left) → Lasts old was from bytes → Lasts new is from bytes
-lasts_fewer from old new bytes was is same fewer lasts =
+pub endures_fewer : (from : ℕ) (old new bytes : List ℕ) (was is : List ℕ → Type 0) → new ≡ old → ((left : List ℕ) → is left → was left) → Endures old was from bytes → Endures new is from bytes
+endures_fewer from old new bytes was is same fewer old_part =
     record {
-      now = subst (λ file. Holds file from bytes) (sym same) lasts.now;
-      after_crash = λ left may. lasts.after_crash left (fewer left may);
+      now = subst (λ file. Holds file from bytes) (sym same) old_part.now;
+      after_crash = λ left may. old_part.after_crash left (fewer left may);
     }
 
-pub lasts_synced : (from : ℕ) (seen bytes : List ℕ) (is : List ℕ → Type 0) → Only seen is → Holds seen from bytes → Lasts seen is from bytes
-lasts_synced from seen bytes is only holds =
+pub endures_synced : (from : ℕ) (seen bytes : List ℕ) (is : List ℕ → Type 0) → Only seen is → Holds seen from bytes → Endures seen is from bytes
+endures_synced from seen bytes is only holds =
     record { now = holds; after_crash = λ left may. subst (λ file. Holds file from bytes) (sym (only left may)) holds }
 
 -- what stands behind other bytes is there with them
@@ -79,30 +81,25 @@ holds_right file from xs ys both =
           ∙ get_or-append-add xs ys i 0;
     }
 
--- bytes at a place of bytes that a file has
-pub holds_within : (file : List ℕ) (from : ℕ) (piece : List ℕ) (at : ℕ) (bytes : List ℕ) → Holds file from piece → Holds piece at bytes → Holds file (from + at) bytes
-holds_within file from piece at bytes outer inner =
+-- what bytes begin with that a file has
+pub holds_start : (file : List ℕ) (from : ℕ) (piece bytes : List ℕ) → Holds file from piece → Holds piece 0 bytes → Holds file from bytes
+holds_start file from piece bytes outer inner =
     record {
       within = omega (arith, outer.within, inner.within);
-      each = λ i low.
-          let place : from + (at + i) ≡ from + at + i = omega arith in
-          ap (slice_index file) (sym place)
-          ∙ outer.each (at + i) (omega (arith, low, inner.within))
-          ∙ inner.each i low;
+      each = λ i low. outer.each i (omega (arith, low, inner.within))
+          ∙ ap (slice_index piece) (let e : i ≡ 0 + i = omega arith in e) ∙ inner.each i low;
     }
 
--- a part of bytes is there
-pub holds_part : (bytes : List ℕ) (from size : ℕ) → from + size ≤ length bytes → Holds bytes from (take size (drop from bytes))
-holds_part bytes from size within =
-    let len : length (take size (drop from bytes)) ≡ size = omega (arith, within, length-take size (drop from bytes), length-drop from bytes) in
-    record {
-      within = omega (arith, len, within);
-      each = λ i low.
-          sym (get_or-take size (drop from bytes) i 0 (omega (arith, low, len)) ∙ get_or-drop from bytes i 0);
-    }
+pub holds_front : (file xs ys : List ℕ) → file ≡ xs ++ ys → Holds file 0 xs
+holds_front file xs ys is =
+    let P : List ℕ → Type 0 = λ t. Holds t 0 xs in
+    subst P (sym is) (record {
+      within = omega (arith, length-append xs ys);
+      each = λ i low. ap (slice_index (xs ++ ys)) (let e : 0 + i ≡ i = omega arith in e) ∙ get_or_append_left xs ys 0 i low;
+    })
 
-pub lasts_both : (seen : List ℕ) (is : List ℕ → Type 0) (from : ℕ) (xs ys : List ℕ) → Lasts seen is from xs → Lasts seen is (from + length xs) ys → Lasts seen is from (xs ++ ys)
-lasts_both seen is from xs ys first later =
+pub endures_both : (seen : List ℕ) (is : List ℕ → Type 0) (from : ℕ) (xs ys : List ℕ) → Endures seen is from xs → Endures seen is (from + length xs) ys → Endures seen is from (xs ++ ys)
+endures_both seen is from xs ys first later =
     record {
       now = holds_both seen from xs ys first.now later.now;
       after_crash = λ left may. holds_both left from xs ys (first.after_crash left may) (later.after_crash left may);
@@ -118,7 +115,7 @@ holds_none file from within = record { within = omega (arith, within); each = λ
 pub same_held : (file : List ℕ) (at there : ℕ) (xs ys : List ℕ) → at ≡ there → length xs ≡ length ys → Holds file at xs → Holds file there ys → xs ≡ ys
 same_held file at there xs ys place size first other =
     ext_get_or 0 xs ys size (λ i low.
-        sym (first.each i low) ∙ ap (λ n. slice_index file (n + i)) place ∙ other.each i (omega (arith, low, size)))
+    sym (first.each i low) ∙ ap (λ n. slice_index file (n + i)) place ∙ other.each i (omega (arith, low, size)))
 
 -- a seal's last chain, read where it is to be
 pub ends_read : (seen found : List ℕ) (seal : Seal) (at : ℕ) → at + length found ≡ seal.offset → found ≡ mark_of seal.chain → (0 < length found → Holds seen at found) → EndsAs seen seal
@@ -135,3 +132,15 @@ pub ends_otherwise : (seen found : List ℕ) (seal : Seal) (at : ℕ) → at + l
 ends_otherwise seen found seal at place some size differs read ends =
     let (there, other, holds) = ends some in
     differs (same_held seen at there found (mark_of seal.chain) (let e : at ≡ there = omega (arith, place, other) in e) size read holds)
+
+-- lines behind those that a file has
+pub endures_more : (seen : List ℕ) (is : List ℕ → Type 0) (start s : Seal) (before more : List (List ℕ)) → Spans start before s
+    → Endures seen is start.offset (bytes_of start.chain before) → Endures seen is s.offset (bytes_of s.chain more)
+    → Endures seen is start.offset (bytes_of start.chain (before ++ more))
+endures_more seen is start s before more spans first later =
+    let place : start.offset + length (bytes_of start.chain before) ≡ s.offset = reaches start s before spans in
+    let chain : s.chain ≡ (seal_after start before).chain = ap (λ (a : Seal). a.chain) spans.after in
+    let there = subst (λ n. Endures seen is n (bytes_of (seal_after start before).chain more)) (sym place)
+    (subst (λ t. Endures seen is s.offset (bytes_of t more)) chain later) in
+    subst (λ t. Endures seen is start.offset t) (sym (bytes_more start before more))
+    (endures_both seen is start.offset (bytes_of start.chain before) (bytes_of (seal_after start before).chain more) first there)

@@ -1,34 +1,33 @@
 -- Lines and bytes, and lines and their last chain.
-use Rattle.std.proofs.Common.{◌≡◌, ◌≢◌, ℕ, ◌+◌, ◌-◌, ◌*◌, ◌/◌, ◌%◌, ◌<◌, ◌≤◌, nat_le, Bool, true, false, if◌then◌else◌}
-use Rattle.std.proofs.Common.{List, [], ◌∷◌, ◌++◌, length, take, drop, All, slice_index, slice_index_or, codes, replicate}
+use Rattle.std.proofs.Common.{◌≡◌, ◌≢◌, ℕ, ◌+◌, ◌/◌, ◌%◌, ◌≤◌, nat_le, Bool, true, if◌then◌else◌}
+use Rattle.std.proofs.Common.{List, [], ◌∷◌, ◌++◌, length, drop, All, slice_index, slice_index_or}
 use Rattle.std.proofs.Common.{refl, sym, ◌∙◌, ap, subst, inl, inr, arith}
 use Rattle.std.proofs.lemmas.Bool.{cases_lt, le-leb}
 use Rattle.std.proofs.lemmas.List.{append_assoc, append-nil, length-append, get_or_past}
 use Rattle.std.proofs.lemmas.List.Elements.{All-append, All-cons, All-from_recursion, All-head, All-nil, All-tail}
-use Rattle.std.specs.List.{ByRecursion}
 use Rattle.hex.specs.Hex.{encode_lower, encode_with, lower_digits}
 use Rattle.hex.proofs.HexLemmas.{length-encode_with}
 use Rattle.sha2.specs.Sha256.{sha256}
 use Rattle.sha2.proofs.Facts256.{length-sha256}
 use Rattle.sqlite_disk.specs.Disk.{Holds}
 use Rattle.dr_store_sealed.specs.declared.seal.Seal.{Seal}
-use Rattle.dr_store_sealed.specs.Files.{EndsAs, HasLines, Spans}
+use Rattle.dr_store_sealed.specs.Files.{EndsAs, HasLines}
 use Rattle.dr_store_sealed.specs.Laws.{AreOfOneText}
-use Rattle.dr_store_sealed.specs.Lines.{IsLine, bytes_of, entry_of, mark_of, next_chain}
+use Rattle.dr_store_sealed.specs.Lines.{IsOneLine, bytes_of, entry_of, mark_of, next_chain}
 use Rattle.dr_store_sealed.specs.Seals.{first_seal, full, next_seal, seal_after, turned}
-use Rattle.dr_store_sealed.proofs.FileLemmas.{holds_both, holds_right}
+use Rattle.dr_store_sealed.proofs.FileLemmas.{holds_both, holds_none, holds_right}
 use Rattle.dr_store_sealed.proofs.SealLemmas.{bytes_more, count_after, in_step, reaches, spans_more}
 
-abbrev IsPlain : ℕ → Type 0
+abbrev pub IsPlain : ℕ → Type 0
 IsPlain byte = byte ≢ 10
 
-head_same : (x y : ℕ) (xs ys : List ℕ) → x ∷ xs ≡ y ∷ ys → x ≡ y
+pub head_same : (x y : ℕ) (xs ys : List ℕ) → x ∷ xs ≡ y ∷ ys → x ≡ y
 head_same x y xs ys same = ap (λ (l : List ℕ). slice_index_or l 0 0) same
 
 tail_same : (x y : ℕ) (xs ys : List ℕ) → x ∷ xs ≡ y ∷ ys → xs ≡ ys
 tail_same x y xs ys same = ap (λ (l : List ℕ). drop 1 l) same
 
-cons_same : {X : Type 0} (x y : X) (xs ys : List X) → x ≡ y → xs ≡ ys → x ∷ xs ≡ y ∷ ys
+pub cons_same : {X : Type 0} (x y : X) (xs ys : List X) → x ≡ y → xs ≡ ys → x ∷ xs ≡ y ∷ ys
 cons_same x y xs ys first rest = ap (λ z. z ∷ xs) first ∙ ap (λ zs. y ∷ zs) rest
 
 -- texts with parts of one length in front
@@ -67,42 +66,44 @@ plain_hex (b ∷ rest) =
     (All-cons IsPlain (slice_index lower_digits (b % 16)) (encode_lower rest) (plain_digit (b % 16)) (plain_hex rest))
 
 -- a line and what is behind it but for its end
-abbrev body_of : List ℕ → List ℕ → List ℕ
+abbrev pub body_of : List ℕ → List ℕ → List ℕ
 body_of chain line = line ++ 32 ∷ encode_lower chain
 
-plain_body : (chain line : List ℕ) → IsLine line → All IsPlain (body_of chain line)
+pub plain_body : (chain line : List ℕ) → IsOneLine line → All IsPlain (body_of chain line)
 plain_body chain line is =
     All-append IsPlain line (32 ∷ encode_lower chain) is.one (All-cons IsPlain 32 (encode_lower chain) (omega arith) (plain_hex chain))
 
 -- where the end of an entry is
-entry_ends : (chain line rest : List ℕ) → line ++ mark_of chain ++ rest ≡ body_of chain line ++ 10 ∷ rest
+pub entry_ends : (chain line rest : List ℕ) → line ++ mark_of chain ++ rest ≡ body_of chain line ++ 10 ∷ rest
 entry_ends chain line rest =
     append_assoc line (mark_of chain) rest
     ∙ ap (λ t. line ++ t) (append_assoc (32 ∷ encode_lower chain) (10 ∷ []) rest)
     ∙ sym (append_assoc line (32 ∷ encode_lower chain) (10 ∷ rest))
 
-hex_size : (text : List ℕ) → length (encode_lower (sha256 text)) ≡ 64
+pub hex_size : (text : List ℕ) → length (encode_lower (sha256 text)) ≡ 64
 hex_size text = omega (arith, length-encode_with lower_digits (sha256 text), length-sha256 text)
 
 -- lines with one body are one
-same_body : (a b line other : List ℕ) → body_of (sha256 a) line ≡ body_of (sha256 b) other → line ≡ other
+pub same_body : (a b line other : List ℕ) → body_of (sha256 a) line ≡ body_of (sha256 b) other → line ≡ other
 same_body a b line other same =
     let size : length line ≡ length other =
     omega (
       arith,
       (let e : length (body_of (sha256 a) line) ≡ length (body_of (sha256 b) other) = ap (λ (t : List ℕ). length t) same in e),
-      length-append line (32 ∷ encode_lower (sha256 a)), length-append other (32 ∷ encode_lower (sha256 b)),
-      hex_size a, hex_size b,
+      length-append line (32 ∷ encode_lower (sha256 a)),
+      length-append other (32 ∷ encode_lower (sha256 b)),
+      hex_size a,
+      hex_size b,
     ) in
     (same_front line other (32 ∷ encode_lower (sha256 a)) (32 ∷ encode_lower (sha256 b)) size same).0
 
-never_empty : (chain line rest : List ℕ) → [] ≡ entry_of chain line ++ rest → ⊥
+pub never_empty : (chain line rest : List ℕ) → [] ≡ entry_of chain line ++ rest → ⊥
 never_empty chain line rest same =
     let all = length-append (entry_of chain line) rest in
     let mark = length-append line (mark_of (next_chain chain line)) in
     omega (arith, all, mark, (let e : 0 ≡ length (entry_of chain line ++ rest) = ap (λ (t : List ℕ). length t) same in e))
 
-pub one_list : (chain : List ℕ) (lines others : List (List ℕ)) → All IsLine lines → All IsLine others → bytes_of chain lines ≡ bytes_of chain others → lines ≡ others
+pub one_list : (chain : List ℕ) (lines others : List (List ℕ)) → All IsOneLine lines → All IsOneLine others → bytes_of chain lines ≡ bytes_of chain others → lines ≡ others
 one_list chain [] [] are are' same = refl
 one_list chain [] (y ∷ ys) are are' same = absurd (never_empty chain y (bytes_of (next_chain chain y) ys) same)
 one_list chain (x ∷ xs) [] are are' same = absurd (never_empty chain x (bytes_of (next_chain chain x) xs) (sym same))
@@ -110,11 +111,11 @@ one_list chain (x ∷ xs) (y ∷ ys) are are' same =
     let cx = next_chain chain x in
     let cy = next_chain chain y in
     let parts = same_line (body_of cx x) (body_of cy y) (bytes_of cx xs) (bytes_of cy ys)
-    (plain_body cx x (All-head IsLine x xs are)) (plain_body cy y (All-head IsLine y ys are'))
+    (plain_body cx x (All-head IsOneLine x xs are)) (plain_body cy y (All-head IsOneLine y ys are'))
     (sym (entry_ends cx x (bytes_of cx xs)) ∙ same ∙ entry_ends cy y (bytes_of cy ys)) in
     let line : x ≡ y = same_body (chain ++ x) (chain ++ y) x y parts.0 in
     let rest : bytes_of cx xs ≡ bytes_of cx ys = parts.1 ∙ ap (λ t. bytes_of (next_chain chain t) ys) (sym line) in
-    cons_same x y xs ys line (one_list cx xs ys (All-tail IsLine x xs are) (All-tail IsLine y ys are') rest)
+    cons_same x y xs ys line (one_list cx xs ys (All-tail IsOneLine x xs are) (All-tail IsOneLine y ys are') rest)
 
 -- lines that lead from chains of one length to one chain
 pub one_past :
@@ -139,7 +140,9 @@ one_sealed content lines others seal known known' is is' =
     let same : seal_after first_seal lines ≡ seal_after first_seal others = sym is ∙ is' in
     let count : length lines ≡ length others =
     omega (
-      arith, count_after first_seal lines, count_after first_seal others,
+      arith,
+      count_after first_seal lines,
+      count_after first_seal others,
       (let e : (seal_after first_seal lines).count ≡ (seal_after first_seal others).count = ap (λ (s : Seal). s.count) same in e),
     ) in
     (one_past content first_seal first_seal lines others refl known known' count (ap (λ (s : Seal). s.chain) same)).1
@@ -157,7 +160,7 @@ lines_more seen a b c xs ys first later =
           (subst (λ t. Holds seen b.offset (bytes_of t ys)) chain later.bytes)));
     }
 
-turns : (b : Bool) (n offset : ℕ) → b ≡ true → ((if b then n + 1 else n) ≡ n + 1) × ((if b then 0 else offset) ≡ 0)
+pub turns : (b : Bool) (n offset : ℕ) → b ≡ true → ((if b then n + 1 else n) ≡ n + 1) × ((if b then 0 else offset) ≡ 0)
 turns b n offset on = (ap (λ (c : Bool). if c then n + 1 else n) on, ap (λ (c : Bool). if c then 0 else offset) on)
 
 pub next_file : (seal : Seal) (line : List ℕ) → full ≤ seal.offset → next_seal seal line ≡ next_seal (turned seal) line
@@ -199,3 +202,20 @@ last_mark seen s last x (y ∷ ys) has = last_mark seen (next_seal s x) last y y
 pub ends_in_seal : (seen : List ℕ) (start last : Seal) (lines : List (List ℕ)) → start.offset ≡ 0 → HasLines seen start lines last → EndsAs seen last
 ends_in_seal seen start last [] begins has some = absurd (omega (arith, begins, some, (let e : last.offset ≡ start.offset = ap (λ (s : Seal). s.offset) has.spans.after in e)))
 ends_in_seal seen start last (x ∷ xs) begins has some = last_mark seen start last x xs has
+
+pub entry_size : (chain line : List ℕ) → length (entry_of chain line) ≡ length line + 66
+entry_size chain line =
+    let text = chain ++ line in
+    omega (
+      arith,
+      length-append line (mark_of (sha256 text)),
+      length-append (32 ∷ encode_lower (sha256 text)) (10 ∷ []),
+      hex_size text,
+    )
+
+pub no_lines : (seen : List ℕ) (start : Seal) → start.offset ≡ 0 → HasLines seen start [] start
+no_lines seen start begins =
+    record {
+      spans = record { after = refl; one_file = refl };
+      bytes = holds_none seen start.offset (omega (arith, begins));
+    }

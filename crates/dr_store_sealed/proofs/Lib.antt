@@ -1,4 +1,6 @@
 pub mod FileLemmas
 pub mod LawLemmas
+pub mod Onward
+pub mod Prefixes
 pub mod Refused
 pub mod SealLemmas

@@ -1,5 +1,5 @@
 -- What refuses a call, by what refused its last step.
-use Rattle.std.proofs.Common.{◌≡◌, ℕ, Result, Ok, Err, IfErr, subst, ap, Unit}
+use Rattle.std.proofs.Common.{◌≡◌, Result, Ok, Err, IfErr, subst}
 use Rattle.sqlite_disk.specs.declared.Disk.{Ghosts}
 use Rattle.sqlite_disk.specs.Disk.{MoreFaults}
 use Rattle.dr_store_sealed.specs.declared.fault.SealFault.{SealFault}
@@ -17,4 +17,5 @@ fit_by_put g seal old mid new (Err fault.Short) same why = absurd why
 fit_by_put g seal old mid new (Err fault.OtherChain) same why = absurd why
 fit_by_put g seal old mid new (Err fault.Broken) same why = absurd why
 fit_by_put g seal old mid new (Err fault.Unfit) same why = absurd why
+fit_by_put g seal old mid new (Err fault.Full) same why = absurd why
 fit_by_put g seal old mid new (Err fault.Uncounted) same why = absurd why

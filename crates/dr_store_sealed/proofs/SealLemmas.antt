@@ -1,12 +1,13 @@
 -- Seals after more lines, and the bytes of the lines between two seals.
 use Rattle.std.proofs.Common.{◌≡◌, ℕ, ◌+◌, ◌-◌, ◌<◌, ◌≤◌, nat_le, Bool, true, false, if◌then◌else◌}
-use Rattle.std.proofs.Common.{List, [], ◌∷◌, ◌++◌, length, take, All, slice_index_or, get_or, refl, sym, ◌∙◌, ap, subst, arith}
-use Rattle.std.proofs.lemmas.Bool.{lt-leb}
+use Rattle.std.proofs.Common.{List, [], ◌∷◌, ◌++◌, length, take, All, refl, sym, ◌∙◌, ap, arith}
+use Rattle.std.proofs.Common.{inl, inr}
+use Rattle.std.proofs.lemmas.Bool.{cases_lt, lt-leb}
 use Rattle.std.proofs.lemmas.List.{append_assoc, append-nil, length-append}
 use Rattle.std.proofs.lemmas.List.Elements.{All-push}
 use Rattle.dr_store_sealed.specs.declared.seal.Seal.{Seal}
-use Rattle.dr_store_sealed.specs.Lines.{bytes_of, entry_of, IsLine, next_chain}
-use Rattle.dr_store_sealed.specs.Seals.{full, lines_between, next_seal, seal_after, TakesLines}
+use Rattle.dr_store_sealed.specs.Lines.{bytes_of, entry_of, IsOneLine, mark_of, next_chain}
+use Rattle.dr_store_sealed.specs.Seals.{first_seal, full, lines_between, next_seal, seal_after, TakesLines}
 use Rattle.dr_store_sealed.specs.Files.{Spans}
 
 pub after_more : (s : Seal) (xs ys : List (List ℕ)) → seal_after s (xs ++ ys) ≡ seal_after (seal_after s xs) ys
@@ -88,10 +89,10 @@ same_file b n off = ap (λ (c : Bool). if c then n + 1 else n) off
 -- one more line in the same file
 pub entry_pushed :
     (s last new : Seal) (done : List (List ℕ)) (i : ℕ) (line bytes more : List ℕ)
-    → last ≡ seal_after s done → last.number ≡ s.number → last.count ≡ s.count + i → bytes ≡ bytes_of s.chain done → All IsLine done
-    → last.offset < full → new ≡ next_seal last line → more ≡ bytes ++ entry_of last.chain line → IsLine line
+    → last ≡ seal_after s done → last.number ≡ s.number → last.count ≡ s.count + i → bytes ≡ bytes_of s.chain done → All IsOneLine done
+    → last.offset < full → new ≡ next_seal last line → more ≡ bytes ++ entry_of last.chain line → IsOneLine line
     → (new ≡ seal_after s (done ++ line ∷ [])) × (new.number ≡ s.number) × (new.count ≡ s.count + (i + 1))
-    × (more ≡ bytes_of s.chain (done ++ line ∷ [])) × All IsLine (done ++ line ∷ [])
+    × (more ≡ bytes_of s.chain (done ++ line ∷ [])) × All IsOneLine (done ++ line ∷ [])
 entry_pushed s last new done i line bytes more at one count has lines room next pushed is =
     let is_last : next_seal last line ≡ seal_after s (done ++ line ∷ []) =
     ap (λ (a : Seal). next_seal a line) at ∙ sym (after_more s done (line ∷ [])) in
@@ -105,7 +106,7 @@ entry_pushed s last new done i line bytes more at one count has lines room next 
       ap (λ (a : Seal). a.number) next ∙ number ∙ one,
       (let e : new.count ≡ last.count + 1 = ap (λ (a : Seal). a.count) next in omega (arith, e, count)),
       pushed ∙ ap (λ t. t ++ entry_of last.chain line) has ∙ added,
-      All-push IsLine done line lines is,
+      All-push IsOneLine done line lines is,
     )
 
 -- where bytes end that were made for a file
@@ -116,3 +117,54 @@ pub placed :
 placed s last done bytes at one has =
     let same : (seal_after s done).number ≡ s.number = sym (ap (λ (a : Seal). a.number) at) ∙ one in
     ap (λ (a : Seal). a.offset) at ∙ offset_after s done same ∙ ap (λ t. s.offset + length t) (sym has)
+
+-- one more line of a piece
+pub line_pushed :
+    (from last next : Seal) (done : List (List ℕ)) (line piece rest entry later : List ℕ)
+    → piece ≡ bytes_of from.chain done ++ rest → Spans from done last → All IsOneLine done
+    → rest ≡ entry ++ later → entry ≡ entry_of last.chain line → next ≡ next_seal last line → next.number ≡ last.number → IsOneLine line
+    → (piece ≡ bytes_of from.chain (done ++ line ∷ []) ++ later) × Spans from (done ++ line ∷ []) next × All IsOneLine (done ++ line ∷ [])
+line_pushed from last next done line piece rest entry later whole spans lines parts is after one is_line =
+    let chain : (seal_after from done).chain ≡ last.chain = sym (ap (λ (s : Seal). s.chain) spans.after) in
+    let more : bytes_of from.chain (done ++ line ∷ []) ≡ bytes_of from.chain done ++ entry =
+    bytes_more from done (line ∷ [])
+    ∙ ap (λ t. bytes_of from.chain done ++ t) (append-nil (entry_of (seal_after from done).chain line) ∙ ap (λ t. entry_of t line) chain ∙ sym is) in (
+      whole ∙ ap (λ t. bytes_of from.chain done ++ t) parts
+          ∙ sym (append_assoc (bytes_of from.chain done) entry later)
+          ∙ ap (λ t. t ++ later) (sym more),
+      spans_more from last next done (line ∷ []) spans (record { after = after; one_file = one }),
+      All-push IsOneLine done line lines is_line,
+    )
+
+pub grows : (a b : Seal) (xs : List (List ℕ)) → Spans a xs b → 0 < length xs → a.offset < b.offset
+grows a b [] spans some = absurd (omega (arith, some))
+grows a b (x ∷ xs) spans some =
+    let place = reaches a b (x ∷ xs) spans in
+    let all = length-append (entry_of a.chain x) (bytes_of (next_chain a.chain x) xs) in
+    let one = length-append x (mark_of (next_chain a.chain x)) in
+    omega (arith, place, all, one)
+
+kept : (b : Bool) (offset : ℕ) → b ≡ false → (if b then 0 else offset) ≡ offset
+kept b offset off = ap (λ (c : Bool). if c then 0 else offset) off
+
+-- two lines in the first file
+pub offset_in_first : (x y : List ℕ) → length (entry_of first_seal.chain x) < full
+    → length (entry_of first_seal.chain x) + length (entry_of (next_chain first_seal.chain x) y) ≡ 135 → (seal_after first_seal (x ∷ y ∷ [])).offset ≡ 135
+offset_in_first x y small size =
+    let next = next_seal first_seal x in
+    let one = length (entry_of first_seal.chain x) in
+    let place : next.offset ≡ one = omega arith in
+    let room : nat_le full next.offset ≡ false = lt-leb full next.offset (omega (arith, small)) in
+    ap (λ n. n + length (entry_of (next_chain first_seal.chain x) y)) (kept (nat_le full next.offset) next.offset room ∙ place) ∙ size
+
+-- a file that isn't full takes a line, if there is one
+pub takes_some : (s last : Seal) (lines : List (List ℕ)) → TakesLines s lines last → s.offset < full → 0 < length lines → s.count < last.count
+takes_some s last lines takes room some =
+    elim (cases_lt s.count last.count) [
+      | inl more ↦ more
+      | inr none ↦
+          let n : last.count - s.count ≡ 0 = omega (arith, none) in
+          let same : last ≡ s = takes.after ∙ ap (λ k. seal_after s (take k lines)) n in
+          let place : last.offset ≡ s.offset = ap (λ (a : Seal). a.offset) same in
+          absurd (omega (arith, room, place, takes.full (omega (arith, none, some))))
+    ]

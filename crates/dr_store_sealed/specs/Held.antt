@@ -6,45 +6,53 @@ use Rattle.dr_store_sealed.specs.declared.file.LineFile.{LineFile}
 use Rattle.dr_store_sealed.specs.declared.seal.Seal.{Seal}
 use Rattle.dr_store_sealed.specs.declared.fault.SealFault.{SealFault}
 use Rattle.dr_store_sealed.specs.declared.fault.SealFault.TheVariants as fault
-use Rattle.dr_store_sealed.specs.Files.{Lasts, Spans}
-use Rattle.dr_store_sealed.specs.Lines.{IsLine, bytes_of}
+use Rattle.dr_store_sealed.specs.Files.{Endures, Spans}
+use Rattle.dr_store_sealed.specs.Lines.{IsOneLine, bytes_of}
+use Rattle.dr_store_sealed.specs.Seals.{full}
 
-module _ {D : Type 0} {g : Ghosts D} where
-  abbrev pub disk_of : LineFile D g → D
+module _ {D : Type 0} where
+  abbrev pub disk_of : LineFile D → D
   disk_of it = it.disk
 
   -- how far its lines go
-  abbrev pub seal_of : LineFile D g → Seal
+  abbrev pub seal_of : LineFile D → Seal
   seal_of it = it.seal
 
+module _ {D : Type 0} (g : Ghosts D) where
   -- what a read shows of the file
-  abbrev pub shown : LineFile D g → List ℕ
+  abbrev pub shown : LineFile D → List ℕ
   shown it = g.seen it.disk
 
-  -- from `start` up to its seal it has just these lines, now and after a crash at this moment
-  pub record IsHeld (it : LineFile D g) (start : Seal) (lines : List (List ℕ)) : Type 0 where
+  -- behind `start` it has these lines, now and after a crash at this moment
+  abbrev pub StillHas : LineFile D → Seal → List (List ℕ) → Type 0
+  StillHas it start lines =
+      Endures (g.seen it.disk) (g.may_leave it.disk) start.offset (bytes_of start.chain lines)
+
+  -- these are all its lines, from `start` up to its seal, now and after a crash at this moment
+  pub record IsHeld (it : LineFile D) (start : Seal) (lines : List (List ℕ)) : Type 0 where
     pub spans : Spans start lines it.seal
-    pub lasts : Lasts (g.seen it.disk) (g.may_leave it.disk) start.offset (bytes_of start.chain lines)
+    pub endures : StillHas it start lines
 
   -- no wrong answer of the medium has been taken as true
-  abbrev pub IsClean : LineFile D g → Type 0
+  abbrev pub IsClean : LineFile D → Type 0
   IsClean it = IsTrue (g.is_clean it.disk)
 
   -- no sync has failed
-  abbrev pub IsUsable : LineFile D g → Type 0
+  abbrev pub IsUsable : LineFile D → Type 0
   IsUsable it = IsTrue (g.is_usable it.disk)
 
   -- a sync failed before, and nothing was asked of the disk
-  abbrev pub WasUnusable : LineFile D g → LineFile D g → Type 0
+  abbrev pub WasUnusable : LineFile D → LineFile D → Type 0
   WasUnusable old new = (IsUsable old → ⊥) × (new.disk ≡ old.disk)
 
   -- why lines were not written
-  abbrev pub IsWhyNotAppended : List (List ℕ) → LineFile D g → LineFile D g → SealFault → Type 0
+  abbrev pub IsWhyNotAppended : List (List ℕ) → LineFile D → LineFile D → SealFault → Type 0
   IsWhyNotAppended lines old new (fault.Io error) =
       MoreFaults (g.faults old.disk) (g.faults new.disk)
   IsWhyNotAppended lines old new fault.Memory = new.disk ≡ old.disk
   IsWhyNotAppended lines old new fault.Unusable = WasUnusable old new
-  IsWhyNotAppended lines old new fault.Unfit = (All IsLine lines → ⊥) × (new.disk ≡ old.disk)
+  IsWhyNotAppended lines old new fault.Unfit = (All IsOneLine lines → ⊥) × (new.disk ≡ old.disk)
+  IsWhyNotAppended lines old new fault.Full = (full ≤ old.seal.offset) × (new.disk ≡ old.disk)
   IsWhyNotAppended lines old new fault.Uncounted =
       (2 ^ 64 ≤ old.seal.count + length lines) × (new.disk ≡ old.disk)
   IsWhyNotAppended lines old new other = ⊥

@@ -2,7 +2,7 @@
 use Rattle.std.specs.Prelude.{◌≡◌, ℕ, ◌≤◌, List, [], ◌∷◌, ◌++◌, All}
 use Rattle.dr_store_sealed.specs.declared.seal.Seal.{Seal}
 use Rattle.dr_store_sealed.specs.Files.{EndsAs, HasLines}
-use Rattle.dr_store_sealed.specs.Lines.{IsLine, bytes_of, next_chain}
+use Rattle.dr_store_sealed.specs.Lines.{IsOneLine, bytes_of, next_chain}
 use Rattle.dr_store_sealed.specs.Seals.{IsSealedBy, first_seal, full, next_seal, seal_after, turned}
 
 -- lines have one seal
@@ -32,10 +32,10 @@ NextFileTakes =
     → full ≤ seal.offset → next_seal seal line ≡ next_seal (turned seal) line
 
 -- bytes are those of one list of lines
-abbrev pub WhatIsWrittenIsRead : Type 0
-WhatIsWrittenIsRead =
+abbrev pub LinesAreReadBack : Type 0
+LinesAreReadBack =
     (chain : List ℕ) (lines others : List (List ℕ))
-    → All IsLine lines → All IsLine others
+    → All IsOneLine lines → All IsOneLine others
     → bytes_of chain lines ≡ bytes_of chain others → lines ≡ others
 
 -- a file that begins with a line ends as its seal says

@@ -1,5 +1,5 @@
 -- Lines of text in a file, each with its chain.
-use Rattle.std.specs.Prelude.{◌≡◌, ◌≢◌, ℕ, ◌<◌, ◌≤◌, List, [], ◌∷◌, ◌++◌, length, All}
+use Rattle.std.specs.Prelude.{◌≢◌, ℕ, ◌≤◌, List, [], ◌∷◌, ◌++◌, length, All}
 use Rattle.sha2.specs.Sha256.{sha256}
 use Rattle.hex.specs.Hex.{encode_lower}
 
@@ -8,7 +8,7 @@ abbrev pub longest : ℕ
 longest = 65536
 
 -- what may be a line: no byte of it ends a line, and it is not too long
-pub record IsLine (line : List ℕ) : Type 0 where
+pub record IsOneLine (line : List ℕ) : Type 0 where
   pub one : All (λ byte. byte ≢ 10) line
   pub short : length line ≤ longest
 

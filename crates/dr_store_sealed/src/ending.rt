@@ -1,7 +1,7 @@
 //! The end of a file: bytes that are put there, and the last line's chain.
 ghost use Rattle.std.specs.Prelude.{◌≡◌, ◌+◌, ◌<◌, ◌≤◌, ℕ, List, length, IsTrue, IfErr, OnOk};
 ghost use Rattle.sqlite_disk.specs.Disk.{Holds, Only};
-ghost use Rattle.dr_store_sealed.specs.Files.{EndsAs, Lasts};
+ghost use Rattle.dr_store_sealed.specs.Files.{EndsAs, Endures};
 ghost use Rattle.dr_store_sealed.specs.Refusals.{IsWhyNotPut, IsWhyNoEnd};
 
 use crate::entries::mark;
@@ -14,16 +14,11 @@ use std::alloc::Global;
 /// Writes the bytes, ends the file behind them, and syncs.
 ///
 /// Whatever comes of it, all before them stays what it was, also after a crash.
-pub fn put_end<D: Disk>(
-    file: &mut D,
-    at: usize,
-    bytes: &[u8],
-    end: usize,
-) -> Result<(), SealFault>
+pub fn put_end<D: Disk>(file: &mut D, at: usize, bytes: &[u8], end: usize) -> Result<(), SealFault>
     requires usable { IsTrue (D.Disk.is_usable file.old) }
     requires end { end ≡ at + length bytes.now }
     ensures put { OnOk result
-        (Lasts (D.Disk.seen file.new) (D.Disk.may_leave file.new) at bytes.now) }
+        (Endures (D.Disk.seen file.new) (D.Disk.may_leave file.new) at bytes.now) }
     ensures ends { OnOk result (length (D.Disk.seen file.new) ≡ end) }
     ensures synced { OnOk result (Only (D.Disk.seen file.new) (D.Disk.may_leave file.new)) }
     ensures shows { (from : ℕ) (kept : List ℕ)
@@ -31,8 +26,8 @@ pub fn put_end<D: Disk>(
         → Holds (D.Disk.seen file.old) from kept → Holds (D.Disk.seen file.new) from kept }
     ensures keeps { (from : ℕ) (kept : List ℕ)
         → from + length kept ≤ at
-        → Lasts (D.Disk.seen file.old) (D.Disk.may_leave file.old) from kept
-        → Lasts (D.Disk.seen file.new) (D.Disk.may_leave file.new) from kept }
+        → Endures (D.Disk.seen file.old) (D.Disk.may_leave file.old) from kept
+        → Endures (D.Disk.seen file.new) (D.Disk.may_leave file.new) from kept }
     ensures clean { IsTrue (D.Disk.is_clean file.new) → IsTrue (D.Disk.is_clean file.old) }
     ensures usable { OnOk result (IsTrue (D.Disk.is_usable file.new)) }
     ensures faults { OnOk result (D.Disk.faults file.new ≡ D.Disk.faults file.old) }

@@ -1,7 +1,7 @@
 //! Lines as the bytes of a file.
 ghost use Rattle.std.specs.Prelude.{◌≡◌, ◌≢◌, ◌↔◌, ◌+◌, ◌<◌, ◌≤◌, ◌++◌, ◌^◌, ℕ, List, All};
 ghost use Rattle.std.specs.Prelude.{IfOk, IfErr, OnOk, IsTrue, length, Contains};
-ghost use Rattle.dr_store_sealed.specs.Lines.{IsLine, bytes_of, entry_of, mark_of, next_chain};
+ghost use Rattle.dr_store_sealed.specs.Lines.{IsOneLine, bytes_of, entry_of, mark_of, next_chain};
 ghost use Rattle.dr_store_sealed.specs.Seals.{TakesLines, full, lines_between, next_seal};
 ghost use Rattle.dr_store_sealed.specs.Refusals.{IsWhyNoEntry, IsWhyNoEntries};
 
@@ -39,22 +39,18 @@ pub fn mark(alloc: Global, chain: &[u8; 32]) -> Result<Vec<u8>, AllocError>
 
 /// Whether the bytes may be a line.
 pub fn is_line(line: &[u8]) -> bool
-    ensures { IsTrue result ↔ IsLine line.now }
+    ensures { IsTrue result ↔ IsOneLine line.now }
 {
     line.len() <= LONGEST && memchr(END, line).is_none()
 }
 
 /// What is behind a line that goes behind the seal into the seal's file, and the seal behind both.
-pub fn behind_line(
-    alloc: Global,
-    seal: &Seal,
-    line: &[u8],
-) -> Result<(Vec<u8>, Seal), SealFault>
+pub fn behind_line(alloc: Global, seal: &Seal, line: &[u8]) -> Result<(Vec<u8>, Seal), SealFault>
     requires { seal.now.offset < full }
     ensures mark { IfOk result (λ made.
         made.0.items ≡ mark_of (next_chain seal.now.chain line.now)) }
     ensures seal { IfOk result (λ made. made.1 ≡ next_seal seal.now line.now) }
-    ensures line { IfOk result (λ made. IsLine line.now) }
+    ensures line { IfOk result (λ made. IsOneLine line.now) }
     ensures why { IfErr result (IsWhyNoEntry seal.now line.now) }
 {
     if !is_line(line) {
@@ -83,7 +79,7 @@ fn push_entry(bytes: &mut Vec<u8>, seal: &Seal, line: &[u8]) -> Result<Seal, Sea
     ensures bytes { IfOk result
         (λ last. bytes.new.items ≡ bytes.old.items ++ entry_of seal.now.chain line.now) }
     ensures seal { IfOk result (λ last. last ≡ next_seal seal.now line.now) }
-    ensures line { IfOk result (λ last. IsLine line.now) }
+    ensures line { IfOk result (λ last. IsOneLine line.now) }
     ensures why { IfErr result (IsWhyNoEntry seal.now line.now) }
 {
     let alloc = *bytes.allocator();
@@ -94,17 +90,13 @@ fn push_entry(bytes: &mut Vec<u8>, seal: &Seal, line: &[u8]) -> Result<Seal, Sea
 }
 
 /// The bytes of as many of the lines as begin in the seal's file, and the seal behind them.
-pub fn entries_of(
-    alloc: Global,
-    seal: &Seal,
-    lines: &[Text],
-) -> Result<(Vec<u8>, Seal), SealFault>
+pub fn entries_of(alloc: Global, seal: &Seal, lines: &[Text]) -> Result<(Vec<u8>, Seal), SealFault>
     ensures takes { IfOk result (λ made. TakesLines seal.now lines.now made.1) }
     ensures bytes { IfOk result (λ made. made.0.items
         ≡ bytes_of seal.now.chain (lines_between seal.now made.1 lines.now)) }
     ensures place { IfOk result (λ made.
         made.1.offset ≡ seal.now.offset + length made.0.items) }
-    ensures lines { IfOk result (λ made. All IsLine (lines_between seal.now made.1 lines.now)) }
+    ensures lines { IfOk result (λ made. All IsOneLine (lines_between seal.now made.1 lines.now)) }
     ensures why { IfErr result (IsWhyNoEntries seal.now lines.now) }
 {
     let mut bytes = Vec::new(alloc);

@@ -30,6 +30,9 @@ pub enum SealFault {
     /// A line has an end of a line in it, or is too long.
     #[error("a line has an end of a line in it, or is too long")]
     Unfit,
+    /// The file takes no more lines.
+    #[error("the file takes no more lines")]
+    Full,
     /// No number is left that counts lines.
     #[error("no number is left for a line")]
     Uncounted,

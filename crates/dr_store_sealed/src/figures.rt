@@ -2,7 +2,7 @@
 ghost use Rattle.std.specs.Prelude.{◌≡◌, ◌∷◌, ◌++◌, [], List, ℕ, codes, length, replicate};
 ghost use Rattle.hex.specs.Hex.{encode_lower};
 ghost use Rattle.sha2.specs.Sha256.{sha256};
-ghost use Rattle.dr_store_sealed.specs.Lines.{IsLine, bytes_of};
+ghost use Rattle.dr_store_sealed.specs.Lines.{IsOneLine, bytes_of};
 ghost use Rattle.dr_store_sealed.specs.Seals.{first_seal, full, next_seal, seal_after};
 
 /// A file of the lines `a` and `bc`: each is followed by a space, its chain in 64 digits, and the
@@ -30,6 +30,6 @@ pub fn where_the_next_file_begins()
 
 /// The empty text is a line, and a text with an end of a line in it is none.
 pub fn what_is_a_line()
-    ensures empty { IsLine [] }
-    ensures two { IsLine (codes "a\nb") → ⊥ }
+    ensures empty { IsOneLine [] }
+    ensures two { IsOneLine (codes "a\nb") → ⊥ }
 {}

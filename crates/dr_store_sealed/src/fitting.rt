@@ -1,7 +1,7 @@
 //! Whether a file is the one of a seal.
 ghost use Rattle.std.specs.Prelude.{◌≡◌, ◌+◌, ◌<◌, ◌≤◌, ℕ, List, length, IsTrue, IfErr, OnOk};
 ghost use Rattle.sqlite_disk.specs.Disk.{Holds, Only};
-ghost use Rattle.dr_store_sealed.specs.Files.{EndsAs, Lasts};
+ghost use Rattle.dr_store_sealed.specs.Files.{EndsAs, Endures};
 ghost use Rattle.dr_store_sealed.specs.Refusals.{IsWhyNotFit};
 
 use crate::ending::{put_end, test_end};
@@ -12,7 +12,7 @@ use std::alloc::Global;
 
 /// Whether the file reaches as far as the seal says, and its last line there has the seal's chain.
 /// Then it is cut behind that place, so that no line is left in it that was written and not sealed.
-/// It is synced first, so that no crash from here on leaves what an earlier process had not synced.
+/// It is synced, so that no crash from here on leaves what an earlier process had not synced.
 ///
 /// Whatever comes of it, all before the seal's place stays what it was. `Short` and `OtherChain`
 /// are answered only where the file is so.
@@ -26,8 +26,8 @@ pub fn fit<D: Disk>(alloc: Global, file: &mut D, seal: &Seal) -> Result<(), Seal
         → Holds (D.Disk.seen file.old) from kept → Holds (D.Disk.seen file.new) from kept }
     ensures keeps { (from : ℕ) (kept : List ℕ)
         → from + length kept ≤ seal.now.offset
-        → Lasts (D.Disk.seen file.old) (D.Disk.may_leave file.old) from kept
-        → Lasts (D.Disk.seen file.new) (D.Disk.may_leave file.new) from kept }
+        → Endures (D.Disk.seen file.old) (D.Disk.may_leave file.old) from kept
+        → Endures (D.Disk.seen file.new) (D.Disk.may_leave file.new) from kept }
     ensures clean { IsTrue (D.Disk.is_clean file.new) → IsTrue (D.Disk.is_clean file.old) }
     ensures usable { OnOk result (IsTrue (D.Disk.is_usable file.new)) }
     ensures why { IfErr result (IsWhyNotFit D.Disk seal.now file.old file.new) }
@@ -35,7 +35,6 @@ pub fn fit<D: Disk>(alloc: Global, file: &mut D, seal: &Seal) -> Result<(), Seal
     if !file.may_be_used() {
         return Err(SealFault::Unusable);
     }
-    file.sync()?;
     let size = file.len()?;
     if size < seal.offset {
         return Err(SealFault::Short);

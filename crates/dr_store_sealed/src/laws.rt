@@ -1,6 +1,6 @@
 //! What follows from the definitions alone.
 ghost use Rattle.dr_store_sealed.specs.Laws.{EndsInItsSeal, GoOn, HaveOnePast, NextFileTakes};
-ghost use Rattle.dr_store_sealed.specs.Laws.{SealsAreOne, SpansGoOn, WhatIsWrittenIsRead};
+ghost use Rattle.dr_store_sealed.specs.Laws.{SealsAreOne, SpansGoOn, LinesAreReadBack};
 
 /// Lines have one seal.
 pub fn seals_are_one()
@@ -21,7 +21,7 @@ pub fn the_next_file_takes_what_a_full_one_refuses()
 
 /// Bytes are those of one list of lines at most.
 pub fn what_is_written_is_read()
-    ensures { WhatIsWrittenIsRead }
+    ensures { LinesAreReadBack }
 {}
 
 /// A file of lines ends as its seal says, so none is refused for its last line.

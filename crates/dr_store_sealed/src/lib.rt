@@ -14,9 +14,11 @@ mod fitting;
 pub mod laws;
 mod piece;
 mod reading;
+mod scanning;
 mod seal;
 
 pub use fault::SealFault;
-pub use file::LineFile;
+pub use file::{LineFile, UnfitFile};
 pub use fitting::fit;
+pub use scanning::{read_lines, scan};
 pub use seal::{FULL, LONGEST, Seal};

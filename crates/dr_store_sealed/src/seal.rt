@@ -55,3 +55,10 @@ impl Seal {
         })
     }
 }
+
+/// Whether both are one seal.
+pub fn are_one(seal: &Seal, other: &Seal) -> bool
+    ensures { IsTrue result ↔ (seal.now ≡ other.now) }
+{
+    seal == other
+}

@@ -1,5 +1,5 @@
 -- The rows of a table whose numbers lie in a span.
-use Rattle.std.proofs.Common.{◌≡◌, ℕ, ◌+◌, pos, negsuc, ◌<◌, ◌≤◌, ◌^◌, List, [], ◌∷◌, map, filter, flat_map, Bool, true, false, ◌&&◌, cond, T, Option, Some, None, refl, sym, ap, subst, ◌∙◌, arith, true≢false}
+use Rattle.std.proofs.Common.{◌≡◌, ℕ, ◌+◌, pos, negsuc, ◌<◌, ◌≤◌, List, [], ◌∷◌, map, filter, flat_map, Bool, true, false, ◌&&◌, cond, T, Option, Some, None, refl, sym, ap, subst, ◌∙◌, arith, true≢false}
 use Rattle.std.specs.declared.cmp.Ordering.{Ordering}
 use Rattle.std.specs.Ordering.{eq_by_cmp, is_gt, is_le, is_lt, nat_cmp}
 use Rattle.std.specs.Cmp.{IsTotalOrder, nat_cmp_total}
@@ -50,14 +50,14 @@ use Rattle.dr_store_views.proofs.Selects as select
 
 -- ---- entries whose keys pass a test
 
-none_both : {V : Type 0} (b : Bool) → cond b None None ≡ None {A = V}
+none_both : {V : Type 0} (b : Bool) → ◌≡◌ {A = Option V} (cond b None None) None
 none_both true = refl
 none_both false = refl
 
-module _ {K V X : Type 0} {R : K → K → Ordering} (total : IsTotalOrder R) (exact : IsAntisymmetric R) (p : K → Bool) where
-  same_key : (a b : K) → eq_by_cmp R a b ≡ true → a ≡ b
-  same_key a b h = exact a b (maps.equal (R a b) h)
+same_key : {K : Type 0} {R : K → K → Ordering} → IsAntisymmetric R → (a b : K) → eq_by_cmp R a b ≡ true → a ≡ b
+same_key {R = R} exact a b h = exact a b (maps.equal (R a b) h)
 
+module _ {K V : Type 0} {R : K → K → Ordering} (total : IsTotalOrder R) (exact : IsAntisymmetric R) (p : K → Bool) where
   abbrev passing : List (K × V) → List (K × V)
   passing es = filter (λ (e : K × V). p e.0) es
 
@@ -68,10 +68,10 @@ module _ {K V X : Type 0} {R : K → K → Ordering} (total : IsTotalOrder R) (e
       go : (b : Bool) → p e.0 ≡ b → (c : Bool) → eq_by_cmp R q e.0 ≡ c → find R q (passing es) ≡ cond (p q) (find R q es) None
           → find R q (cond b (e ∷ passing es) (passing es)) ≡ cond (p q) (cond c (Some e.1) (find R q es)) None
       go true is true ties later =
-          ap (λ b. cond b (Some e.1) (find R q (passing es))) ties ∙ sym (ap (λ b. cond b (Some e.1) None) (ap p (same_key q e.0 ties) ∙ is))
+          ap (λ b. cond b (Some e.1) (find R q (passing es))) ties ∙ sym (ap (λ b. cond b (Some e.1) None) (ap p (same_key exact q e.0 ties) ∙ is))
       go true is false other later = ap (λ b. cond b (Some e.1) (find R q (passing es))) other ∙ later
       go false is true ties later =
-          let out : p q ≡ false = ap p (same_key q e.0 ties) ∙ is in
+          let out : p q ≡ false = ap p (same_key exact q e.0 ties) ∙ is in
           later ∙ ap (λ b. cond b (find R q es) None) out ∙ sym (ap (λ b. cond b (Some e.1) None) out)
       go false is false other later = later
 
@@ -80,23 +80,23 @@ module _ {K V X : Type 0} {R : K → K → Ordering} (total : IsTotalOrder R) (e
   found_none q (e ∷ es) all out = go (eq_by_cmp R q e.0) refl (found_none q es all.1 out)
     where
       go : (b : Bool) → eq_by_cmp R q e.0 ≡ b → find R q es ≡ None → cond b (Some e.1) (find R q es) ≡ None
-      go true ties later = absurd (true≢false (sym all.0 ∙ ap p (sym (same_key q e.0 ties)) ∙ out))
+      go true ties later = absurd (true≢false (sym all.0 ∙ ap p (sym (same_key exact q e.0 ties)) ∙ out))
       go false other later = later
 
   -- a key is found among the rows that are hit, if each row of it is hit
-  found_hit : (hit : X → Bool) (g : X → K × V) (q : K) (xs : List X) → ((x : X) → q ≡ (g x).0 → hit x ≡ true) → find R q (map g (filter hit xs)) ≡ find R q (map g xs)
+  found_hit : {X : Type 0} (hit : X → Bool) (g : X → K × V) (q : K) (xs : List X) → ((x : X) → q ≡ (g x).0 → hit x ≡ true) → find R q (map g (filter hit xs)) ≡ find R q (map g xs)
   found_hit hit g q [] each = refl
   found_hit hit g q (x ∷ xs) each = go (hit x) refl (eq_by_cmp R q (g x).0) refl (found_hit hit g q xs each)
     where
       go : (b : Bool) → hit x ≡ b → (c : Bool) → eq_by_cmp R q (g x).0 ≡ c → find R q (map g (filter hit xs)) ≡ find R q (map g xs)
           → find R q (map g (cond b (x ∷ filter hit xs) (filter hit xs))) ≡ cond c (Some (g x).1) (find R q (map g xs))
       go true is c ties later = ap (λ b. cond b (Some (g x).1) (find R q (map g (filter hit xs)))) ties ∙ ap (cond c (Some (g x).1)) later
-      go false is true ties later = absurd (true≢false (sym (each x (same_key q (g x).0 ties)) ∙ is))
+      go false is true ties later = absurd (true≢false (sym (each x (same_key exact q (g x).0 ties)) ∙ is))
       go false is false other later = later
 
   -- The entries of the rows that are hit are those of all rows whose keys pass, if each row of such
   -- a key is hit, and the keys of these entries pass.
-  pub passing_entries : (hit : X → Bool) (g : X → K × V) (table : List X) (es : List (K × V)) → ((x : X) → p (g x).0 ≡ true → hit x ≡ true)
+  pub passing_entries : {X : Type 0} (hit : X → Bool) (g : X → K × V) (table : List X) (es : List (K × V)) → ((x : X) → p (g x).0 ≡ true → hit x ≡ true)
       → es ≡ entries (from_entries {R = R} (map g (filter hit table))) → AllByRecursion (λ e. p e.0 ≡ true) es
       → es ≡ passing (entries (from_entries {R = R} (map g table)))
   passing_entries hit g table es each is all =
@@ -131,7 +131,7 @@ int_at (Real x) n is some = absurd (omega (arith, is, some))
 int_at (TextCell t) n is some = absurd (omega (arith, is, some))
 int_at (Blob b) n is some = absurd (omega (arith, is, some))
 
-module _ (place after last : ℕ) (from to : Value) (begins : after < 2 ^ 63 → from ≡ Int (pos after)) (ends : to ≡ Int (pos last)) (fits : last < 2 ^ 63) where
+module _ (place after last : ℕ) (from to : Value) (begins : after ≤ last → from ≡ Int (pos after)) (ends : to ≡ Int (pos last)) where
   abbrev pub span_params : Row
   span_params = from ∷ to ∷ []
 
@@ -146,8 +146,10 @@ module _ (place after last : ℕ) (from to : Value) (begins : after < 2 ^ 63 →
   is_hit row is =
       let n = number_in (column row place) in
       let lies = lies_within after last n is in
-      let low : after < 2 ^ 63 = omega (arith, lies.0, lies.1, fits) in
-      span_test row n (begins low) (int_at (column row place) n refl (omega (arith, lies.0))) ∙ both_of (is_gt (nat_cmp n after)) (is_le (nat_cmp n last)) is
+      let one = lies.0 in
+      let two = lies.1 in
+      let low : after ≤ last = omega (arith, one, two) in
+      span_test row n (begins low) (int_at (column row place) n refl (omega (arith, one))) ∙ both_of (is_gt (nat_cmp n after)) (is_le (nat_cmp n last)) is
 
   module _ (tree : ℕ) (shown : List Term) (order : List (Term × SortKey)) (db : Trees) (rows : List Row) (answer : IsAnswer (select.spanned tree place shown order) (overlay db []) span_params rows)
       (grouped : answer.staged ≡ flat_map (λ r. cond (in_span r) ((span_params ∷ r ∷ []) ∷ []) []) (db tree)) where
@@ -215,7 +217,7 @@ all_within after last n (e ∷ notes) f le h =
     let low : n < last = h.0 in
     (within after last e.0 (omega (arith, is, le)) (omega (arith, is, low)), all_within after last (n + 1) notes f (omega (arith, le)) h.2)
 
-module _ (after last : ℕ) (from to : Value) (begins : after < 2 ^ 63 → from ≡ Int (pos after)) (ends : to ≡ Int (pos last)) (fits : last < 2 ^ 63) (old new : State) (rows : List Row) (has : IsLedger old.now) where
+module _ (after last : ℕ) (from to : Value) (begins : after ≤ last → from ≡ Int (pos after)) (ends : to ≡ Int (pos last)) (old new : State) (rows : List Row) (has : IsLedger old.now) where
   abbrev params : Row
   params = from ∷ to ∷ []
 
@@ -230,12 +232,12 @@ module _ (after last : ℕ) (from to : Value) (begins : after < 2 ^ 63 → from 
         let es : List (ℕ × Line) = map (λ (e : ℕ × JournalRow). (e.0, f e)) (map shown_note_entry rows) in
         let twice : es ≡ map told rows = map_twice shown_note_entry (λ (e : ℕ × JournalRow). (e.0, f e)) rows in
         let rising : T (is_sorted nat_cmp (map told rows)) = subst (λ xs. T (is_sorted nat_cmp xs)) twice (same_order (map shown_note_entry rows) f sorted) in
-        let some = filter (in_span 0 after last from to begins ends fits) (old.now.trees 11) in
+        let some = filter (in_span 0 after last from to begins ends) (old.now.trees 11) in
         let listed_ones : map told rows ≡ entries (from_entries {R = nat_cmp} (map noted some)) =
-        lists_entries 0 after last from to begins ends fits 11 all_lines_shown all_lines_order old.now.trees rows answer answer.grouped nat_cmp_total fin.nat_cmp-IsAntisymmetric told rising in
+        lists_entries 0 after last from to begins ends 11 all_lines_shown all_lines_order old.now.trees rows answer answer.grouped nat_cmp_total fin.nat_cmp-IsAntisymmetric told rising in
         let own : map noted some ≡ map (numbered_line targets) some = same_map noted (numbered_line targets) (λ r. ap (λ l. (number_in (rowid r), l)) (sym (notes_are_lines targets r))) some in
-        passing_entries nat_cmp_total fin.nat_cmp-IsAntisymmetric (is_within after last) (in_span 0 after last from to begins ends fits) (numbered_line targets) (old.now.trees 11) es
-        (λ r is. is_hit 0 after last from to begins ends fits r is)
+        passing_entries nat_cmp_total fin.nat_cmp-IsAntisymmetric (is_within after last) (in_span 0 after last from to begins ends) (numbered_line targets) (old.now.trees 11) es
+        (λ r is. is_hit 0 after last from to begins ends r is)
         (twice ∙ listed_ones ∙ ap (λ xs. entries (from_entries {R = nat_cmp} xs)) own)
         (all_within after last after (map shown_note_entry rows) f (omega arith) up);
   }
@@ -245,8 +247,8 @@ module _ (after last : ℕ) (from to : Value) (begins : after < 2 ^ 63 → from 
 
   -- ---- where they go on to
 
-  line_hit : (n : ℕ) → is_within after last n ≡ true → (row : Row) → is_of_line n row ≡ true → in_span 1 after last from to begins ends fits row ≡ true
-  line_hit n lies row is = is_hit 1 after last from to begins ends fits row (ap (is_within after last) (eqb-true (number_in (column row 1)) n is) ∙ lies)
+  line_hit : (n : ℕ) → is_within after last n ≡ true → (row : Row) → is_of_line n row ≡ true → in_span 1 after last from to begins ends row ≡ true
+  line_hit n lies row is = is_hit 1 after last from to begins ends row (ap (is_within after last) (eqb-true (number_in (column row 1)) n is) ∙ lies)
 
   filtered_twice : (n : ℕ) (hit : Row → Bool) (xs : List Row) → ((row : Row) → is_of_line n row ≡ true → hit row ≡ true) → filter (is_of_line n) (filter hit xs) ≡ filter (is_of_line n) xs
   filtered_twice n hit [] each = refl
@@ -261,9 +263,9 @@ module _ (after last : ℕ) (from to : Value) (begins : after < 2 ^ 63 → from 
 
   pub goals_found : Shown text.targets_behind params old new rows → IsStrictlySortedBy goal_cmp (map shown_goal rows) → AreGoalsWithin old.now.trees after last (map shown_goal rows)
   goals_found h sorted = record {
-    some = filter (in_span 1 after last from to begins ends fits) (old.now.trees 12);
-    lists = lists_set 1 after last from to begins ends fits 12 all_targets_shown all_targets_order old.now.trees rows answer answer.grouped goals_total goals_exact shown_goal sorted;
-    whole = λ n lies. filtered_twice n (in_span 1 after last from to begins ends fits) (old.now.trees 12) (line_hit n lies);
+    some = filter (in_span 1 after last from to begins ends) (old.now.trees 12);
+    lists = lists_set 1 after last from to begins ends 12 all_targets_shown all_targets_order old.now.trees rows answer answer.grouped goals_total goals_exact shown_goal sorted;
+    whole = λ n lies. filtered_twice n (in_span 1 after last from to begins ends) (old.now.trees 12) (line_hit n lies);
   }
     where
       answer : IsAnswer (select.spanned 12 1 all_targets_shown all_targets_order) (overlay old.now.trees []) params rows

@@ -60,10 +60,11 @@ pub fn notes_behind<S: Alter>(
     ensures asked { Asked IsLedger result (state S.Store conn.old) (state S.Store conn.new)
         (λ all. AreNotesWithin (state S.Store conn.old).now.trees after last all.items) }
 {
+    let from = after.min(last);
     let rows = ask(
         conn,
         "SELECT n, kind, caller, uid, dest, outcome, moment, class, syntax, modality, station, length, sha256 FROM journal WHERE n > ?1 AND n <= ?2 ORDER BY n",
-        &[number_cell(after), number_cell(last)],
+        &[number_cell(from), number_cell(last)],
     )?;
     notes_in(alloc, rows.as_slice(), after, last)
 }
@@ -98,10 +99,11 @@ pub fn goals_behind<S: Alter>(
     ensures asked { Asked IsLedger result (state S.Store conn.old) (state S.Store conn.new)
         (λ all. AreGoalsWithin (state S.Store conn.old).now.trees after last all.items) }
 {
+    let from = after.min(last);
     let rows = ask(
         conn,
         "SELECT n, dest FROM target WHERE n > ?1 AND n <= ?2 ORDER BY n, dest",
-        &[number_cell(after), number_cell(last)],
+        &[number_cell(from), number_cell(last)],
     )?;
     goal_keys(alloc, rows.as_slice())
 }

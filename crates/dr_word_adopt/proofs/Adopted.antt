@@ -1,6 +1,8 @@
 -- Where all nodes' ledgers went over, the world of messages that has their books adopts the plan.
-use Rattle.std.proofs.Common.{◌≡◌, ◌∙◌, ◌⊎◌, List, [], ◌∷◌, map, Some, refl, sym, ap, subst, inl, inr, true}
-use Rattle.std.specs.Prelude.{All, Contains, ◌≢◌}
+use Rattle.std.proofs.Common.{◌≡◌, ◌∙◌, ◌⊎◌, Bool, List, [], ◌∷◌, map, Some, refl, sym, ap, subst, inl, inr, true}
+use Rattle.std.proofs.lemmas.Bool.{cases_Bool}
+use Rattle.std.specs.Prelude.{All, Contains, ◌≢◌, not}
+use Rattle.std.proofs.lemmas.Slice.Eq.{bytes_eq-Decides}
 use Rattle.std.specs.List.{AllZip}
 use Rattle.std.specs.FinMap as map_of
 use Rattle.std.proofs.lemmas.List.Elements.{All-cons, All-head, All-nil, All-tail}
@@ -20,13 +22,17 @@ use Rattle.dr_plan_model.specs.declared.plan.Node.{Node}
 use Rattle.dr_plan_model.proofs.Gathered.{Contains-cons_cases, Contains-here, Contains-there, nothing_in_nil}
 use Rattle.dr_plan_model.proofs.WalksAlike.{not_known_local}
 use Rattle.dr_plan_sound.proofs.Hopping.{goes_to}
+use Rattle.dr_ledger.proofs.PlanRouting.{any_from}
+use Rattle.dr_site.proofs.AsPlanned.{keeps_by, kept_by}
 use Rattle.dr_site.specs.Parts.{Part}
 use Rattle.dr_world_model.specs.Events.{HasNode}
 use Rattle.dr_world_model.specs.Runs.{Adopts}
 use Rattle.dr_world_model.specs.Worlds.{World}
 use Rattle.dr_world_model.proofs.AdoptionsKept.{no_row, node_or_not}
-use Rattle.dr_word_adopt.specs.Adoptions.{HasBookOf, HasFirstBook, IsAtRest, IsFirstOf, MadeIsAdopted, ledger_in}
+use Rattle.dr_word_adopt.specs.Adoptions.{HasBookOf, HasFirstBook, IsAtRest, IsFirstOf, MadeIsAdopted, OursAreAdopted, ledger_in}
+use Rattle.dr_word_adopt.specs.Beginnings.{OpensThere}
 use Rattle.dr_word_adopt.specs.Changes.{IsOver, name_by}
+use Rattle.dr_word_adopt.specs.Names.{AreOurs, is_among, is_besides, is_name}
 use Rattle.dr_word_adopt.specs.declared.standing.Standing.{Standing}
 use Rattle.dr_word_adopt.specs.declared.standing.Standing.TheVariants.{Ready, Over}
 use Rattle.dr_word_adopt.proofs.Standings.{unmapped}
@@ -53,6 +59,33 @@ names_node : (plan : Network) (names : List Text) (name : Text) → AreNames pla
 names_node plan names name are among =
     let found = unmapped name_of plan.nodes name (Contains-permutation names (map name_of plan.nodes) name (IsPermutation-sym (map name_of plan.nodes) names are.all) among) in
     (found.0, (found.1, found.2))
+
+-- a name that is among some is one of them
+among_those : (names : List Text) (name : Text) → is_among names name ≡ true → Contains names name
+among_those names name among =
+    let found = any_from (is_name name) names among in
+    subst (λ (x : Text). Contains names x) ((bytes_eq-Decides found.0 name).0 found.2) found.1
+
+-- a node of the plan in force is one of the others, or ours
+others_or_ours : (old next : Network) (others ours : List Text) (name : Text) → AreOurs old next others ours → HasNode old name → Contains others name ⊎ Contains ours name
+others_or_ours old next others ours name are node =
+    let known = has_name old are.names name are.are node in
+    elim (cases_Bool (is_among others name)) [
+      | inl among ↦ inl (among_those others name among)
+      | inr apart ↦ inr (subst (λ (ns : List Text). Contains ns name) (sym are.besides) (keeps_by (is_besides others) are.names name known (ap not apart)))
+    ]
+
+-- ours are nodes of the plan in force
+ours_named : (old next : Network) (others ours : List Text) (name : Text) → AreOurs old next others ours → Contains ours name → HasNode old name
+ours_named old next others ours name are among =
+    names_node old are.names name are.are (kept_by (is_besides others) are.names name (subst (λ (ns : List Text). Contains ns name) are.besides among)).0
+
+-- each node of the plan in force is one of the next
+stays_node : (old next : Network) (others ours : List Text) (name : Text) → AreOurs old next others ours → HasNode old name → HasNode next name
+stays_node old next others ours name are node = elim (node_or_not next name) [
+  | inl has ↦ has
+  | inr none ↦ absurd (are.stay name (has_name old are.names name are.are node) (λ n is. none (n, is)))
+]
 
 -- ---- books after the adoption
 
@@ -108,18 +141,18 @@ adopts plan next w formed rest each = record {
 
 -- ---- ledgers
 
-module _ {L : Type 0} (opens : Text → L → Type 0) (site_of : L → Part) (book : L → Book) (stands : L → Type 0) (folder : Text) (old next : Certified) where
+module _ {L : Type 0} (opens : Text → L → Type 0) (shows : Text → Bool → Type 0) (site_of : L → Part) (book : L → Book) (stands : L → Type 0) (folder : Text) (old next : Certified) where
   abbrev Done : Standing L → Type 0
-  Done s = IsOver opens site_of book stands folder old next s
+  Done s = IsOver (OpensThere opens shows) site_of book stands folder old next s
 
   abbrev Stands : Standing L → Type 0
   Stands s = stands (ledger_in s)
 
   abbrev First : Standing L → L → Type 0
-  First s first = IsFirstOf opens site_of book stands folder old next s first
+  First s first = IsFirstOf opens shows site_of book stands folder old next s first
 
   abbrev Began : World → Standing L → L → Type 0
-  Began w s first = HasFirstBook opens site_of book stands folder old next w s first
+  Began w s first = HasFirstBook opens shows site_of book stands folder old next w s first
 
   abbrev first_of : (s : Standing L) → Done s → L
   first_of (Ready last own) h = h.0
@@ -169,13 +202,30 @@ module _ {L : Type 0} (opens : Text → L → Type 0) (site_of : L → Part) (bo
         (by_node old.plan name (w.books name) (node name (Contains-here name (map (name_by site_of) more))) ∙ sym (went_over s (All-head Done s more done) (All-head Stands s more st) began.0))
         (all_closed more (All-tail Done s more done) (All-tail Stands s more st) began.1 (λ n among. node n (Contains-there name (map (name_by site_of) more) n among)))
 
-  pub made_is_adopted : MadeIsAdopted opens site_of book stands folder old next
-  made_is_adopted formed all change st = (
-    firsts_of all change.1,
-    are_first all change.1,
-    λ w rest began. (
-      adopted old.plan w,
-      adopts old.plan next.plan w formed rest (λ name node. all_stay w all change.1 st began name (has_name old.plan (map (name_by site_of) all) name change.0 node)),
-      all_closed w all change.1 st began (λ name among. names_node old.plan (map (name_by site_of) all) name change.0 among),
-    ),
-  )
+  -- the next plan goes on with the rows of each node: of ours, since their ledgers went over; and of
+  -- the others, as it is asked
+  pub ours_are_adopted : (others : List Text) → OursAreAdopted opens shows site_of book stands folder old next others
+  ours_are_adopted others formed all change st =
+      let are : AreOurs old.plan next.plan others change.0 = change.1.0.are in
+      let named : map (name_by site_of) all ≡ change.0 = change.1.1.0 in
+      let done : All Done all = change.1.1.1 in (
+        firsts_of all done,
+        are_first all done,
+        λ w rest fit began. (
+          adopted old.plan w,
+          adopts old.plan next.plan w formed rest (λ name node. elim (others_or_ours old.plan next.plan others change.0 name are node) [
+            | inl other ↦ (stays_node old.plan next.plan others change.0 name are node, fit name other)
+            | inr among ↦ all_stay w all done st began name (subst (λ (ns : List Text). Contains ns name) (sym named) among)
+          ]),
+          all_closed w all done st began (λ name among. ours_named old.plan next.plan others change.0 name are (subst (λ (ns : List Text). Contains ns name) named among)),
+        ),
+      )
+
+  -- where none is named there are no others
+  pub made_is_adopted : MadeIsAdopted opens shows site_of book stands folder old next
+  made_is_adopted formed all change st =
+      let ours = ours_are_adopted [] formed all change st in (
+        ours.0,
+        ours.1,
+        λ w rest any began. ours.2 w rest (λ name among. absurd (nothing_in_nil name among)) began,
+      )

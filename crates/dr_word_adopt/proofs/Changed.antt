@@ -1,5 +1,5 @@
 -- What calls on one ledger make of how it stands.
-use Rattle.std.proofs.Common.{◌≡◌, ◌∙◌, ◌∷◌, ◌++◌, [], inl, inr, List, refl, sym, subst, Result, Ok, Err, Option, None, Some}
+use Rattle.std.proofs.Common.{◌≡◌, ◌∙◌, ◌∷◌, ◌++◌, [], inl, inr, List, refl, sym, subst, Result, Ok, Err, Option, None}
 use Rattle.std.specs.Prelude.{◌⊎◌, MatchResult}
 use Rattle.std.specs.Result.{IsErr, IsErrAnd}
 use Rattle.std.proofs.lemmas.Bool.{false≢true}
@@ -14,7 +14,7 @@ use Rattle.dr_ledger.specs.declared.fault.LedgerFault.TheVariants as fault
 use Rattle.dr_run_open.specs.declared.halt.Halt.{Halt}
 use Rattle.dr_run_open.specs.declared.halt.Halt.TheVariants.{Refused, Memory, NoPlan, NoCertificate, NoNode, NotOpened, NoInstance, Receipt, Failed}
 use Rattle.dr_site.specs.Parts.{Part}
-use Rattle.dr_word_adopt.specs.Changings.{IsChanged, IsKept, LeavesLedger, MayChange}
+use Rattle.dr_word_adopt.specs.Changings.{IsChanged, IsKept, LeavesLedger}
 use Rattle.dr_word_adopt.specs.Lookings.{IsUnseen, LooksInto, MayAdd, LooksAs, StandsAt}
 use Rattle.dr_word_adopt.specs.Changes.{came_of}
 use Rattle.dr_word_adopt.specs.declared.change.Changeover.{Changeover}

@@ -1,4 +1,5 @@
 mod Adopted
+mod Begun
 mod Changed
 mod Lists
 mod Nodes

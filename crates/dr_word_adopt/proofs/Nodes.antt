@@ -1,6 +1,6 @@
 -- From looks at nodes, and from changes of their ledgers, to what comes of the change of the plan.
-use Rattle.std.proofs.Common.{◌≡◌, ◌∙◌, ◌++◌, ◌∷◌, [], ◌+◌, ◌<◌, ℕ, inl, inr, List, length, suc, map, take, drop, get_or, refl, sym, ap, subst, arith, Result, Ok, Err, None, Some}
-use Rattle.std.specs.Prelude.{All, Contains, MatchResult}
+use Rattle.std.proofs.Common.{◌≡◌, ◌∙◌, ◌++◌, ◌∷◌, [], ◌+◌, ◌<◌, ℕ, inl, inr, List, length, suc, map, take, drop, get_or, sym, ap, subst, Result, Ok, Err, None, Some}
+use Rattle.std.specs.Prelude.{All, MatchResult}
 use Rattle.std.proofs.lemmas.List.{append-nil, take-append-drop}
 use Rattle.std.proofs.lemmas.List.Elements.{All-push}
 use Rattle.dr_base.specs.Texts.{Text}
@@ -11,8 +11,7 @@ use Rattle.dr_run_open.specs.declared.halt.Halt.{Halt}
 use Rattle.dr_run_open.specs.declared.halt.Halt.TheVariants.{Memory}
 use Rattle.dr_site.specs.Parts.{Part}
 use Rattle.dr_base.specs.Lists.{Each}
-use Rattle.dr_plan_model.specs.Plans.{AreNames}
-use Rattle.dr_word_adopt.specs.Changes.{AreFirst, ChangesBetween, IsAsOpened, IsReady, IsUnfitAt, StopsAt, came_of, name_by}
+use Rattle.dr_word_adopt.specs.Changes.{AreFirst, ChangesOf, IsAsOpened, IsReady, IsUnfitAt, StopsAt, came_of, name_by}
 use Rattle.dr_word_adopt.specs.Changings.{IsChanged, LeavesLedger, OnlyFirstAreChanged}
 use Rattle.dr_word_adopt.specs.Lookings.{AllLookAs, IsUnseen, LooksAs, MayAdd}
 use Rattle.dr_word_adopt.specs.declared.change.Changeover.{Changeover}
@@ -59,31 +58,31 @@ module _ {L : Type 0} (opens : Text → L → Type 0) (site_of : L → Part) (bo
     left_unfit row h = subst (All Left) (sym h.1) (All-push Left was h.0 (all_left was ripe) (unfit_left opens site_of book stands folder old next row.0 row.1 h.0 h.3))
 
     -- there was no memory to name it
-    pub unnamed : (row : Pair) → LooksAs opens site_of book stands folder old next name (Some row) was all → StopsAt opens site_of book stands folder old next Memory all
+    pub unnamed : (row : Pair) → LooksAs opens site_of book stands folder old next name (Some row) was all → StopsAt opens site_of book stands folder old next names Memory all
     unnamed row h = none_over opens site_of book stands folder old next all (left_unfit row h)
 
     -- a node that isn't looked into
-    pub stops_here : (halt : Halt) → AreNames old.plan names → IsUnseen old next name halt → MayAdd opens site_of book stands folder old next name was all → StopsAt opens site_of book stands folder old next halt all
-    stops_here halt are u (inl same) =
-        let here : AreFirst opens site_of book stands folder old next all = (names, drop i names, are, sym (take-append-drop i names) ∙ ap (λ xs. xs ++ drop i names) (sym shown ∙ ap (map (name_by site_of)) (sym same))) in
-        stops_unseen opens site_of book stands folder old next names name halt all are (i, lt, sym at) u here (subst (All Left) (sym same) (all_left was ripe))
-    stops_here halt are u (inr one) =
-        let here : AreFirst opens site_of book stands folder old next all = (names, drop (i + 1) names, are, sym (take-append-drop (i + 1) names) ∙ ap (λ xs. xs ++ drop (i + 1) names) (sym (more one.0 one.1 one.2.0))) in
-        stops_unseen opens site_of book stands folder old next names name halt all are (i, lt, sym at) u here (subst (All Left) (sym one.1) (All-push Left was one.0 (all_left was ripe) one.2.1))
+    pub stops_here : (halt : Halt) → IsUnseen old next name halt → MayAdd opens site_of book stands folder old next name was all → StopsAt opens site_of book stands folder old next names halt all
+    stops_here halt u (inl same) =
+        let here : AreFirst opens site_of book stands folder old next names all = (drop i names, sym (take-append-drop i names) ∙ ap (λ xs. xs ++ drop i names) (sym shown ∙ ap (map (name_by site_of)) (sym same))) in
+        stops_unseen opens site_of book stands folder old next names name halt all (i, lt, sym at) u here (subst (All Left) (sym same) (all_left was ripe))
+    stops_here halt u (inr one) =
+        let here : AreFirst opens site_of book stands folder old next names all = (drop (i + 1) names, sym (take-append-drop (i + 1) names) ∙ ap (λ xs. xs ++ drop (i + 1) names) (sym (more one.0 one.1 one.2.0))) in
+        stops_unseen opens site_of book stands folder old next names name halt all (i, lt, sym at) u here (subst (All Left) (sym one.1) (All-push Left was one.0 (all_left was ripe) one.2.1))
 
-  module _ (names : List Text) (are : AreNames old.plan names) (mid all : List (Standing L)) (shown : map (name_by site_of) mid ≡ names) (ripe : All Ripe mid) where
+  module _ (names : List Text) (mid all : List (Standing L)) (shown : map (name_by site_of) mid ≡ names) (ripe : All Ripe mid) where
     -- all were changed, or only the first ones
     pub ends_between : (result : Result Changeover Halted) → MatchResult result (λ change. (change ≡ Made) × Each (IsChanged site_of book stands next) mid all)
-        (λ stop. LeavesLedger stop.halt × OnlyFirstAreChanged site_of book stands next mid all) → ChangesBetween opens site_of book stands folder old next (came_of result) all
-    ends_between (Ok change) h = subst (λ c. ChangesBetween opens site_of book stands folder old next (Ok c) all) (sym h.0) (
-      subst (AreNames old.plan) (sym (all_named opens site_of book stands folder old next mid all h.1 ∙ shown)) are,
+        (λ stop. LeavesLedger stop.halt × OnlyFirstAreChanged site_of book stands next mid all) → ChangesOf opens site_of book stands folder old next names (came_of result) all
+    ends_between (Ok change) h = subst (λ c. ChangesOf opens site_of book stands folder old next names (Ok c) all) (sym h.0) (
+      all_named opens site_of book stands folder old next mid all h.1 ∙ shown,
       all_over opens site_of book stands folder old next mid all ripe h.1,
     )
-    ends_between (Err stop) h = stops_by opens site_of book stands folder old next all stop.halt h.0
-        (names, [], are, sym shown ∙ sym (stops_named opens site_of book stands folder old next mid all h.1) ∙ sym (append-nil (map (name_by site_of) all)))
+    ends_between (Err stop) h = stops_by opens site_of book stands folder old next names all stop.halt h.0
+        ([], sym shown ∙ sym (stops_named opens site_of book stands folder old next mid all h.1) ∙ sym (append-nil (map (name_by site_of) all)))
         (stops_behind opens site_of book stands folder old next mid all ripe h.1)
 
   -- a row isn't fit
-  pub unfit_between : (names : List Text) (all : List (Standing L)) (unfit : UnfitRow) → AreNames old.plan names → AllLookAs opens site_of book stands folder old next names (Some unfit) all
-      → ChangesBetween opens site_of book stands folder old next (Ok (Unfit unfit.node unfit.uid unfit.dest)) all
-  unfit_between names all unfit are h = (h.0, h.1, h.2, h.3, subst (AreNames old.plan) h.4 are, h.5, h.6, h.7)
+  pub unfit_between : (names : List Text) (all : List (Standing L)) (unfit : UnfitRow) → AllLookAs opens site_of book stands folder old next names (Some unfit) all
+      → ChangesOf opens site_of book stands folder old next names (Ok (Unfit unfit.node unfit.uid unfit.dest)) all
+  unfit_between names all unfit h = h

@@ -1,10 +1,9 @@
 -- From ledgers that were looked into and changed to the nodes.
-use Rattle.std.proofs.Common.{◌≡◌, ◌∙◌, inl, inr, ◌++◌, ◌∷◌, [], List, length, map, get_or, refl, sym, ap, subst, Result, Ok, Err, Option, None, Some, is_some, true≢false}
+use Rattle.std.proofs.Common.{Bool, ◌≡◌, ◌∙◌, inl, inr, ◌++◌, ◌∷◌, [], List, length, map, get_or, refl, sym, ap, subst, Ok, Err, Option, None, Some, is_some, true≢false}
 use Rattle.std.specs.Prelude.{All, Contains}
 use Rattle.std.proofs.Math.Seq.{take-append_seam}
 use Rattle.std.proofs.lemmas.List.{map-append}
 use Rattle.std.proofs.lemmas.List.Elements.{All-cons, All-head, All-nil, All-push, All-tail, All-take}
-use Rattle.std.proofs.lemmas.List.Sorted.{Contains-permutation, IsPermutation-sym}
 use Rattle.dr_base.specs.Texts.{Text}
 use Rattle.dr_cert.specs.Sealing.{Certified}
 use Rattle.dr_ledger.specs.Adopting.{IsFit, Unfits}
@@ -14,12 +13,10 @@ use Rattle.dr_run_open.specs.Openings.{IsUnopened, Sites}
 use Rattle.dr_run_open.specs.declared.halt.Halt.{Halt}
 use Rattle.dr_run_open.specs.declared.halt.Halt.TheVariants.{NoPlan, NoCertificate, NoNode, NotOpened, NoInstance, Refused, Receipt, Failed, Memory}
 use Rattle.dr_plan_model.proofs.Gathered.{Contains-cons_cases, Contains-here, Contains-there, nothing_in_nil}
-use Rattle.dr_plan_model.specs.Networks.{Network}
-use Rattle.dr_plan_model.specs.declared.plan.Node.{Node}
-use Rattle.dr_plan_model.specs.Plans.{AreNames, NamesNoNode}
 use Rattle.dr_site.specs.Parts.{Part, IsPartOf}
 use Rattle.dr_base.specs.Lists.{Each}
-use Rattle.dr_word_adopt.specs.Changes.{AreFirst, IsAsOpened, IsLeft, IsOver, IsReady, IsSiteAt, IsUnfitAt, OnlyFirstAreOver, StopsAt, UnfitLeavesAll, name_by, path_in}
+use Rattle.dr_word_adopt.specs.Beginnings.{OpensThere, path_in}
+use Rattle.dr_word_adopt.specs.Changes.{AreFirst, IsAsOpened, IsLeft, IsOver, IsReady, IsSiteAt, IsUnfitAt, OnlyFirstAreOver, StopsAt, UnfitLeavesAll, name_by}
 use Rattle.dr_word_adopt.specs.Changings.{IsChanged, IsKept, LeavesLedger, MayChange, OnlyFirstAreChanged}
 use Rattle.dr_word_adopt.specs.Lookings.{IsFound, IsSeen, IsUnseen, LooksInto, StandsAt, stood}
 use Rattle.dr_word_adopt.specs.declared.standing.Standing.{Standing}
@@ -34,13 +31,6 @@ unmapped f (x ∷ xs) y among = elim (Contains-cons_cases (f x) (map f xs) y amo
   | inl same ↦ (x, Contains-here x xs, same)
   | inr later ↦ (let found = unmapped f xs y later in (found.0, Contains-there x xs found.0 found.1, found.2))
 ]
-
--- one of the names of a plan's nodes is the name of a node
-named : (plan : Network) (names : List Text) (name : Text) → AreNames plan names → Contains names name → NamesNoNode plan name → ⊥
-named plan names name are among none =
-    let shown = map (λ (node : Node). node.name) plan.nodes in
-    let found = unmapped (λ (node : Node). node.name) plan.nodes name (Contains-permutation names shown name (IsPermutation-sym shown names are.all) among) in
-    none found.0 (found.1, found.2)
 
 module _ {L : Type 0} (opens : Text → L → Type 0) (site_of : L → Part) (book : L → Book) (stands : L → Type 0) (folder : Text) (old next : Certified) where
   abbrev Left : Standing L → Type 0
@@ -184,45 +174,48 @@ module _ {L : Type 0} (opens : Text → L → Type 0) (site_of : L → Part) (bo
       ∙ sym (map-append (name_by site_of) h.done (h.one ∷ h.later)) ∙ ap (map (name_by site_of)) (sym h.was)
 
   -- why it stops, by what is said of the refusal
-  pub stops_by : (now : List (Standing L)) (halt : Halt) → LeavesLedger halt → AreFirst opens site_of book stands folder old next now → OnlyFirstAreOver opens site_of book stands folder old next now
-      → StopsAt opens site_of book stands folder old next halt now
-  stops_by now (Refused fault) u first only = (first, only)
-  stops_by now Memory u first only = only
-  stops_by now (NoPlan told) u first only = absurd u
-  stops_by now (NoCertificate fault) u first only = absurd u
-  stops_by now NoNode u first only = absurd u
-  stops_by now (NotOpened fault) u first only = absurd u
-  stops_by now (NoInstance fault) u first only = absurd u
-  stops_by now Receipt u first only = absurd u
-  stops_by now (Failed failure) u first only = absurd u
+  pub stops_by : (ours : List Text) (now : List (Standing L)) (halt : Halt) → LeavesLedger halt → AreFirst opens site_of book stands folder old next ours now → OnlyFirstAreOver opens site_of book stands folder old next now
+      → StopsAt opens site_of book stands folder old next ours halt now
+  stops_by ours now (Refused fault) u first only = (first, only)
+  stops_by ours now Memory u first only = only
+  stops_by ours now (NoPlan told) u first only = absurd u
+  stops_by ours now (NoCertificate fault) u first only = absurd u
+  stops_by ours now NoNode u first only = absurd u
+  stops_by ours now (NotOpened fault) u first only = absurd u
+  stops_by ours now (NoInstance fault) u first only = absurd u
+  stops_by ours now Receipt u first only = absurd u
+  stops_by ours now (Failed failure) u first only = absurd u
 
   -- none went over yet
   pub none_over : (all : List (Standing L)) → All Left all → OnlyFirstAreOver opens site_of book stands folder old next all
   none_over all left = ([], all, refl, All-nil Done, left)
 
   -- why the change stops at a node that isn't looked into
-  pub stops_unseen : (names : List Text) (name : Text) (halt : Halt) (all : List (Standing L)) → AreNames old.plan names → Contains names name → IsUnseen old next name halt
-      → AreFirst opens site_of book stands folder old next all → All Left all → StopsAt opens site_of book stands folder old next halt all
-  stops_unseen names name NoNode all are among (inl stranger) first left = absurd (named old.plan names name are among stranger)
-  stops_unseen names name NoNode all are among (inr stranger) first left = ((name, names, are, among, stranger), left)
-  stops_unseen names name (Refused fault) all are among h first left = (first, none_over all left)
-  stops_unseen names name (NotOpened fault) all are among h first left = (first, left)
-  stops_unseen names name Memory all are among h first left = none_over all left
-  stops_unseen names name (NoPlan told) all are among h first left = absurd h
-  stops_unseen names name (NoCertificate fault) all are among h first left = absurd h
-  stops_unseen names name (NoInstance fault) all are among h first left = absurd h
-  stops_unseen names name Receipt all are among h first left = absurd h
-  stops_unseen names name (Failed failure) all are among h first left = absurd h
+  pub stops_unseen : (names : List Text) (name : Text) (halt : Halt) (all : List (Standing L)) → Contains names name → IsUnseen old next name halt
+      → AreFirst opens site_of book stands folder old next names all → All Left all → StopsAt opens site_of book stands folder old next names halt all
+  stops_unseen names name NoNode all among stranger first left = ((name, among, stranger), left)
+  stops_unseen names name (Refused fault) all among h first left = (first, none_over all left)
+  stops_unseen names name (NotOpened fault) all among h first left = (first, left)
+  stops_unseen names name Memory all among h first left = none_over all left
+  stops_unseen names name (NoPlan told) all among h first left = absurd h
+  stops_unseen names name (NoCertificate fault) all among h first left = absurd h
+  stops_unseen names name (NoInstance fault) all among h first left = absurd h
+  stops_unseen names name Receipt all among h first left = absurd h
+  stops_unseen names name (Failed failure) all among h first left = absurd h
 
-  -- the ledgers so far are of the first nodes
-  pub first_by : (names later : List Text) (all : List (Standing L)) (shown : List Text) → AreNames old.plan names → map (name_by site_of) all ≡ shown → names ≡ shown ++ later → AreFirst opens site_of book stands folder old next all
-  first_by names later all shown are same cut = (names, later, are, cut ∙ ap (λ (xs : List Text). xs ++ later) (sym same))
+  -- the ledgers behind which a row isn't fit are left
+  pub left_behind : (uid dest : Text) (all before : List (Standing L)) (one : Standing L) → all ≡ before ++ one ∷ [] → All Ripe before → IsUnfitAt opens site_of book stands folder old next uid dest one → All Left all
+  left_behind uid dest all before one is ripe unfit =
+      subst (All Left) (sym is)
+      (All-push Left before one (λ k d lt. ready_left (get_or before k d) (ripe k d lt)) (unfit_left uid dest one unfit))
 
-  -- a row that isn't fit leaves all
-  pub unfit_leaves_all : UnfitLeavesAll opens site_of book stands folder old next
-  unfit_leaves_all name uid dest all h =
-      subst (All Left) (sym h.3)
-      (All-push Left h.0 h.1 (λ k d lt. ready_left (get_or h.0 k d) (h.6 k d lt)) (unfit_left uid dest h.1 h.7))
+-- a row that isn't fit leaves all
+pub unfit_leaves_all :
+    {L : Type 0} (opens : Text → L → Type 0) (shows : Text → Bool → Type 0) (site_of : L → Part) (book : L → Book) (stands : L → Type 0) (folder : Text) (old next : Certified) (others : List Text)
+    → UnfitLeavesAll opens shows site_of book stands folder old next others
+unfit_leaves_all opens shows site_of book stands folder old next others name uid dest all h =
+    let k = h.1.1 in
+    left_behind (OpensThere opens shows) site_of book stands folder old next uid dest all k.0 k.1 k.3 k.6 k.7
 
 -- the site of a node that is found
 pub site_at : (sealed : Certified) (name : Text) (site : Part) → Sites sealed name (Ok site) → IsSiteAt sealed name site

@@ -1,6 +1,6 @@
 -- A slice whose elements are changed one after the other.
-use Rattle.std.proofs.Common.{◌≡◌, ◌∙◌, ◌++◌, ◌∷◌, [], ◌+◌, ◌<◌, ◌≤◌, ℕ, List, take, drop, set, get_or, length, suc, refl, sym, ap, subst, arith}
-use Rattle.std.proofs.lemmas.List.{append-nil, drop_all, drop_more, drop-set-lt, take_all, take-append-drop, take_more, take_more_set, set_split, length-set}
+use Rattle.std.proofs.Common.{◌≡◌, ◌∙◌, ◌++◌, ◌∷◌, [], ◌+◌, ◌<◌, ◌≤◌, ℕ, List, take, drop, set, get_or, length, suc, sym, ap, subst, arith}
+use Rattle.std.proofs.lemmas.List.{append-nil, drop_all, drop_more, drop-set-lt, take_all, take-append-drop, take_more, take_more_set, set_split}
 use Rattle.dr_base.specs.Lists.{Each}
 
 abbrev first_or : {X : Type 0} → X → List X → X

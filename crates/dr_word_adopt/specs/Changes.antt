@@ -1,6 +1,6 @@
 -- The change of the plan at all nodes: each node's ledger is looked into, and only then each is
 -- brought over.
-use Rattle.std.specs.Prelude.{◌≡◌, ◌⊎◌, List, [], ◌∷◌, ◌++◌, codes, map as mapped, All, Contains}
+use Rattle.std.specs.Prelude.{◌≡◌, ◌⊎◌, Bool, List, [], ◌∷◌, ◌++◌, map as mapped, All, Contains}
 use Rattle.std.specs.Prelude.{Some, Result, Ok, Err}
 use Rattle.dr_base.specs.Texts.{Text}
 use Rattle.dr_cert.specs.Sealing.{Certified}
@@ -12,18 +12,14 @@ use Rattle.dr_run_open.specs.declared.halt.Halt.TheVariants.{NoPlan, NoCertifica
 use Rattle.dr_run_open.specs.declared.halt.Halt.TheVariants.{NotOpened, NoInstance, Refused}
 use Rattle.dr_run_open.specs.declared.halt.Halt.TheVariants.{Receipt, Failed, Memory}
 use Rattle.dr_word_line.specs.declared.words.PlanChange.{PlanChange}
-use Rattle.dr_plan_model.specs.Networks.{Network}
-use Rattle.dr_plan_model.specs.Plans.{AreNames, NamesNoNode}
+use Rattle.dr_plan_model.specs.Plans.{NamesNoNode}
 use Rattle.dr_site.specs.Parts.{Part, IsPartOf}
+use Rattle.dr_word_adopt.specs.Beginnings.{AreToGo, IsNotBegun, OpensThere, path_in}
 use Rattle.dr_word_adopt.specs.declared.change.Changeover.{Changeover}
 use Rattle.dr_word_adopt.specs.declared.change.Changeover.TheVariants.{Made, Unfit}
 use Rattle.dr_word_adopt.specs.declared.change.Halted.{Halted}
 use Rattle.dr_word_adopt.specs.declared.standing.Standing.{Standing}
 use Rattle.dr_word_adopt.specs.declared.standing.Standing.TheVariants.{Ready, Over}
-
--- the path of a node's ledger in the folder
-abbrev pub path_in : Text → Text → Text
-path_in folder name = folder ++ codes "/" ++ name ++ codes ".db"
 
 -- the site is that of the node of this name, by the sealed plan
 pub record IsSiteAt (sealed : Certified) (name : Text) (site : Part) : Type 0 where
@@ -83,57 +79,75 @@ module _ {L : Type 0} (opens : Text → L → Type 0) (site_of : L → Part) (bo
         × (book last ≡ after Adoption (book first)))
     IsOver (Over ledger) = IsOpenedFor next (site_of ledger).name ledger
 
-    -- the ledgers are those of the first nodes of the plan in force, by the bytes of their names
-    abbrev pub AreFirst : List (Standing L) → Type 0
-    AreFirst all =
-        (names later : List Text)
-        × AreNames old.plan names
-        × (names ≡ mapped (name_by site_of) all ++ later)
-
     -- the first ledgers went over, and all others are left as they were opened
     abbrev pub OnlyFirstAreOver : List (Standing L) → Type 0
     OnlyFirstAreOver all =
         (done later : List (Standing L))
         × (all ≡ done ++ later) × All IsOver done × All IsAsOpened later
 
-    -- Why the nodes don't go over, where both plans are sealed, and what the ledgers are then that
-    -- were opened. One isn't a node of the next plan, or a ledger isn't opened: then all are left.
-    -- A ledger refused, or there was no memory: then the first ones may be over, and all others
-    -- are left, that one too as far as it stands.
-    abbrev pub StopsAt : Halt → List (Standing L) → Type 0
-    StopsAt NoNode all =
-        ((name : Text) × (names : List Text) × AreNames old.plan names × Contains names name
-        × NamesNoNode next.plan name)
-        × All IsAsOpened all
-    StopsAt (NotOpened fault) all = AreFirst all × All IsAsOpened all
-    StopsAt (Refused fault) all = AreFirst all × OnlyFirstAreOver all
-    StopsAt Memory all = OnlyFirstAreOver all
-    StopsAt (NoPlan told) all = ⊥
-    StopsAt (NoCertificate fault) all = ⊥
-    StopsAt (NoInstance fault) all = ⊥
-    StopsAt Receipt all = ⊥
-    StopsAt (Failed failure) all = ⊥
+    module _ (ours : List Text) where
+      -- the ledgers are those of the first of these nodes
+      abbrev pub AreFirst : List (Standing L) → Type 0
+      AreFirst all = (later : List Text) × (ours ≡ mapped (name_by site_of) all ++ later)
 
-    -- What comes of the change, and what the ledgers are then that were opened. All nodes are over.
-    -- Or the first node, by the bytes of its name, that isn't ready is named with its first row
-    -- that isn't fit: then no ledger behind it was opened, and all are left. Or why it doesn't come
-    -- to that.
-    abbrev pub ChangesBetween : Result Changeover Halt → List (Standing L) → Type 0
-    ChangesBetween (Ok Made) all = AreNames old.plan (mapped (name_by site_of) all) × All IsOver all
-    ChangesBetween (Ok (Unfit name uid dest)) all =
-        (before : List (Standing L)) × (one : Standing L) × (later : List Text)
-        × (all ≡ before ++ one ∷ [])
-        × AreNames old.plan (mapped (name_by site_of) before ++ name ∷ later)
-        × (name_by site_of one ≡ name)
-        × All IsReady before × IsUnfitAt uid dest one
-    ChangesBetween (Err halt) all = StopsAt halt all
+      -- Why these nodes don't go over, and what the ledgers are then that were opened. One isn't a
+      -- node of both plans, or a ledger isn't opened: then all are left. A ledger refused, or there
+      -- was no memory: then the first ones may be over, and all others are left, that one too as
+      -- far as it stands.
+      abbrev pub StopsAt : Halt → List (Standing L) → Type 0
+      StopsAt NoNode all =
+          ((name : Text) × Contains ours name
+          × (NamesNoNode old.plan name ⊎ NamesNoNode next.plan name))
+          × All IsAsOpened all
+      StopsAt (NotOpened fault) all = AreFirst all × All IsAsOpened all
+      StopsAt (Refused fault) all = AreFirst all × OnlyFirstAreOver all
+      StopsAt Memory all = OnlyFirstAreOver all
+      StopsAt (NoPlan told) all = ⊥
+      StopsAt (NoCertificate fault) all = ⊥
+      StopsAt (NoInstance fault) all = ⊥
+      StopsAt Receipt all = ⊥
+      StopsAt (Failed failure) all = ⊥
 
-    -- where a row isn't fit, the owner and the book of each ledger that was opened are as they were
-    abbrev pub UnfitLeavesAll : Type 0
-    UnfitLeavesAll =
-        (name uid dest : Text) (all : List (Standing L))
-        → ChangesBetween (Ok (Unfit name uid dest)) all
-        → All IsAsOpened all
+      -- What comes of the change of these nodes, and what the ledgers are then that were opened.
+      -- All are over. Or the first that isn't ready is named with its first row that isn't fit:
+      -- then no ledger behind it was opened, and all are left. Or why it doesn't come to that.
+      abbrev pub ChangesOf : Result Changeover Halt → List (Standing L) → Type 0
+      ChangesOf (Ok Made) all = (mapped (name_by site_of) all ≡ ours) × All IsOver all
+      ChangesOf (Ok (Unfit name uid dest)) all =
+          (before : List (Standing L)) × (one : Standing L) × (later : List Text)
+          × (all ≡ before ++ one ∷ [])
+          × (ours ≡ mapped (name_by site_of) before ++ name ∷ later)
+          × (name_by site_of one ≡ name)
+          × All IsReady before × IsUnfitAt uid dest one
+      ChangesOf (Err halt) all = StopsAt halt all
+
+module _ {L : Type 0} (opens : Text → L → Type 0) (shows : Text → Bool → Type 0)
+    (site_of : L → Part) (book : L → Book) (stands : L → Type 0) (folder : Text)
+    (old next : Certified) (others : List Text) where
+  -- these nodes are to go over, by ledgers that are there, and that comes of it
+  abbrev pub GoOver : List Text → Result Changeover Halt → List (Standing L) → Type 0
+  GoOver ours came all =
+      AreToGo shows folder old.plan next.plan others ours
+      × ChangesOf (OpensThere opens shows) site_of book stands folder old next ours came all
+
+  -- What comes of the change of all nodes but the others, and what the ledgers are then that were
+  -- opened; or why none was.
+  abbrev pub ChangesBetween : Result Changeover Halt → List (Standing L) → Type 0
+  ChangesBetween (Ok change) all = (ours : List Text) × GoOver ours (Ok change) all
+  ChangesBetween (Err halt) all =
+      ((ours : List Text) × GoOver ours (Err halt) all)
+      ⊎ ((all ≡ []) × IsNotBegun old.plan next.plan others halt)
+
+  -- the same of ledgers that are closed again
+  abbrev pub ComesOf : Result Changeover Halt → Type 0
+  ComesOf came = (all : List (Standing L)) × ChangesBetween came all
+
+  -- where a row isn't fit, the owner and the book of each ledger that was opened are as they were
+  abbrev pub UnfitLeavesAll : Type 0
+  UnfitLeavesAll =
+      (name uid dest : Text) (all : List (Standing L))
+      → ChangesBetween (Ok (Unfit name uid dest)) all
+      → All (IsAsOpened (OpensThere opens shows) site_of book stands folder old next) all
 
 module _ (holds : Text → Text → Type 0) (files : PlanChange) where
   -- both plans, as the files hold them, each sealed with its certificate
@@ -151,14 +165,15 @@ module _ (holds : Text → Text → Type 0) (files : PlanChange) where
       × SealsFiles (holds files.next_plan.now) (holds files.next_certificate.now) (Err halt))
 
 -- what comes of the change from the plan in the first file to that in the third, each with its
--- certificate, of the ledgers in the folder, as they are when they are closed
+-- certificate, of the ledgers in the folder, as they are when they are closed, of all nodes but the
+-- others
 abbrev pub Changes : {L : Type 0} (holds : Text → Text → Type 0) (opens : Text → L → Type 0)
-    (site_of : L → Part) (book : L → Book) (stands : L → Type 0)
-    → PlanChange → Result Changeover Halt → Type 0
-Changes {L = L} holds opens site_of book stands files came =
-    ((old next : Certified) × (all : List (Standing L))
+    (shows : Text → Bool → Type 0) (site_of : L → Part) (book : L → Book) (stands : L → Type 0)
+    → PlanChange → List Text → Result Changeover Halt → Type 0
+Changes holds opens shows site_of book stands files others came =
+    ((old next : Certified)
     × AreSealed holds files old next
-    × ChangesBetween opens site_of book stands files.folder.now old next came all)
+    × ComesOf opens shows site_of book stands files.folder.now old next others came)
     ⊎ ((halt : Halt) × (came ≡ Err halt) × AreUnsealed holds files halt)
 
 -- what is said of a change that stops: its halt

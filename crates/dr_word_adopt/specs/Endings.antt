@@ -1,5 +1,5 @@
 -- How the word `adopt` ends: what is printed, and the exit status.
-use Rattle.std.specs.Prelude.{◌≡◌, ◌∷◌, ◌++◌, [], codes, Result, Ok, Err}
+use Rattle.std.specs.Prelude.{◌≡◌, ◌∷◌, ◌++◌, [], codes, Bool, List, Result, Ok, Err}
 use Rattle.std.specs.declared.option.Option.{Option}
 use Rattle.std.specs.Io.KnownBytes.{Appends}
 use Rattle.dr_base.specs.Texts.{Text}
@@ -33,11 +33,12 @@ EndsChange (Ok (Unfit node uid dest)) old new status =
 EndsChange (Err halt) old new status = Appends old new (printed_by halt) × (status ≡ status_by halt)
 
 -- The word `adopt`: what comes of the change from the plan in the first file to that in the third,
--- of the ledgers in the folder, what is printed of it, and the exit status.
+-- of the ledgers in the folder, of all nodes but the others, what is printed of it, and the exit
+-- status.
 abbrev pub AdoptsFiles : {L : Type 0} (holds : Text → Text → Type 0) (opens : Text → L → Type 0)
-    (site_of : L → Part) (book : L → Book) (stands : L → Type 0)
-    → PlanChange → Option Text → Option Text → Status → Type 0
-AdoptsFiles holds opens site_of book stands files old new status =
+    (shows : Text → Bool → Type 0) (site_of : L → Part) (book : L → Book) (stands : L → Type 0)
+    → PlanChange → List Text → Option Text → Option Text → Status → Type 0
+AdoptsFiles holds opens shows site_of book stands files others old new status =
     (came : Result Changeover Halt)
-    × Changes holds opens site_of book stands files came
+    × Changes holds opens shows site_of book stands files others came
     × EndsChange came old new status

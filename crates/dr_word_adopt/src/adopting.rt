@@ -1,24 +1,26 @@
 //! The word `adopt`.
-ghost use Rattle.std.specs.Prelude.{◌≡◌, [], All, IfOk, MatchResult, Ok, Err};
-ghost use Rattle.dr_plan_model.specs.Plans.{AreNames};
-ghost use Rattle.dr_word_adopt.specs.Changes.{AreSealed, AreUnsealed, Changes};
-ghost use Rattle.dr_word_adopt.specs.Changes.{ChangesBetween, came_of};
+ghost use Rattle.std.specs.Prelude.{◌≡◌, [], All, IfOk, MatchResult, Ok, Err, map as mapped};
+ghost use Rattle.dr_word_adopt.specs.Beginnings.{OpensThere};
+ghost use Rattle.dr_word_adopt.specs.Changes.{AreSealed, AreUnsealed, Changes, ChangesBetween};
+ghost use Rattle.dr_word_adopt.specs.Changes.{ChangesOf, ComesOf, came_of};
 ghost use Rattle.dr_word_adopt.specs.Changings.{IsChanged, LeavesLedger, MayChange};
 ghost use Rattle.dr_base.specs.Lists.{Each};
 ghost use Rattle.dr_word_adopt.specs.Changings.{OnlyFirstAreChanged};
 ghost use Rattle.dr_word_adopt.specs.Endings.{AdoptsFiles, EndsChange, unfit_line};
+ghost use Rattle.dr_word_adopt.specs.Names.{text_of};
 
+use crate::beginning::nodes_to_go;
 use crate::change::{Changeover, Halted};
 use crate::changing::change_all;
 use crate::looking::look_at_all;
-use crate::names::missing_in;
+use crate::names::texts_of;
+use crate::shown::ShowsFiles;
 use crate::standing::Standing;
 use dr_base::Text;
 use dr_cert::Sealed;
 use dr_ledger::Ledger;
-use dr_plan_model::names_of;
 use dr_run_files::{Failure, Files};
-use dr_run_open::{Halt, Ledgers, Status, seal_files, tell_halt};
+use dr_run_open::{Halt, Status, seal_files, tell_halt};
 use dr_word_line::PlanChange;
 use std::alloc::{AllocError, Global};
 use std::io;
@@ -76,7 +78,7 @@ fn make_change<'a, L: Ledger + Drop>(
 /// Looks into the ledgers of the nodes of these names, and changes them where all may be.
 ///
 /// Errors: those of `look_at_all` and `change_all`.
-fn change_named<'a, O: Ledgers>(
+fn change_named<'a, O: ShowsFiles>(
     alloc: Global,
     ledgers: &O,
     folder: &str,
@@ -85,10 +87,10 @@ fn change_named<'a, O: Ledgers>(
     names: &[Text],
     all: &mut Vec<Standing<O::Ledger>>,
 ) -> Result<Changeover, Halted<'a>>
-    requires names { AreNames old.now.plan names.now }
-    requires none { all.old.items ≡ [] }
-    ensures { ChangesBetween (O.opens ledgers.now) O.Ledger.site O.Ledger.book O.Ledger.stands
-        folder.now old.now next.now (came_of result) all.new.items }
+    requires { all.old.items ≡ [] }
+    ensures { ChangesOf (OpensThere (O.opens ledgers.now) (O.shows ledgers.now)) O.Ledger.site
+        O.Ledger.book O.Ledger.stands folder.now old.now next.now names.now (came_of result)
+        all.new.items }
 {
     match look_at_all(alloc, ledgers, folder, old, next, names, all) {
         Ok(None) => make_change(all, next),
@@ -97,47 +99,78 @@ fn change_named<'a, O: Ledgers>(
     }
 }
 
-/// Changes the ledgers in the folder, of all nodes of the one sealed plan, to the next, where that
-/// goes on with all that they have still to send. All ledgers that were opened are in `all` then.
+/// Changes the ledgers in the folder, of all nodes of the one sealed plan but the others, to the
+/// next, where that goes on with all that they have still to send. All ledgers that were opened are
+/// in `all` then.
 ///
-/// Errors: NoNode; those of `look_at_all` and `change_all`; Memory.
-fn change_between<'a, O: Ledgers>(
+/// Errors: those of `nodes_to_go`, `look_at_all` and `change_all`.
+fn change_between<'a, O: ShowsFiles>(
     alloc: Global,
     ledgers: &O,
     folder: &str,
     old: &Sealed,
     next: &Sealed,
+    others: &[Text],
     all: &mut Vec<Standing<O::Ledger>>,
 ) -> Result<Changeover, Halted<'a>>
     requires { all.old.items ≡ [] }
-    ensures { ChangesBetween (O.opens ledgers.now) O.Ledger.site O.Ledger.book O.Ledger.stands
-        folder.now old.now next.now (came_of result) all.new.items }
+    ensures { ChangesBetween (O.opens ledgers.now) (O.shows ledgers.now) O.Ledger.site
+        O.Ledger.book O.Ledger.stands folder.now old.now next.now others.now (came_of result)
+        all.new.items }
 {
-    let names = names_of(alloc, old.plan())?;
-    if let Some(name) = missing_in(next.plan(), names.as_slice()) {
-        return Err(Halted::at(name, Halt::NoNode));
+    match nodes_to_go(alloc, ledgers, folder, old, next, others) {
+        Ok(ours) => change_named(alloc, ledgers, folder, old, next, ours.as_slice(), all),
+        Err(stop) => Err(stop),
     }
-    change_named(alloc, ledgers, folder, old, next, names.as_slice(), all)
 }
 
-/// Changes the ledgers in a folder from the plan in the first file to that in the third. They stay
-/// open from the first look to the end.
+/// The same, where the others are named by words. All ledgers stay open from the first look to the
+/// end.
 ///
-/// Errors: those of `seal_both` and `change_between`.
-fn change_files<'a, F: Files, O: Ledgers>(
+/// Errors: those of `change_between`.
+fn change_besides<'a, O: ShowsFiles>(
+    alloc: Global,
+    ledgers: &O,
+    folder: &str,
+    old: &Sealed,
+    next: &Sealed,
+    others: &[&str],
+) -> Result<Changeover, Halted<'a>>
+    ensures { ComesOf (O.opens ledgers.now) (O.shows ledgers.now) O.Ledger.site O.Ledger.book
+        O.Ledger.stands folder.now old.now next.now (mapped text_of others.now) (came_of result) }
+{
+    let others = texts_of(alloc, others)?;
+    let mut all = Vec::new(alloc);
+    let came = change_between(
+        alloc,
+        ledgers,
+        folder,
+        old,
+        next,
+        others.as_slice(),
+        &mut all,
+    );
+    drop(all);
+    came
+}
+
+/// Changes the ledgers in a folder from the plan in the first file to that in the third.
+///
+/// Errors: those of `seal_both` and `change_besides`.
+fn change_files<'a, F: Files, O: ShowsFiles>(
     alloc: Global,
     files: &F,
     ledgers: &O,
     given: PlanChange<'a>,
+    others: &[&str],
 ) -> Result<Changeover, Halted<'a>>
-    ensures { Changes (F.holds files.now) (O.opens ledgers.now) O.Ledger.site O.Ledger.book
-        O.Ledger.stands given.entry (came_of result) }
+    ensures { Changes (F.holds files.now) (O.opens ledgers.now) (O.shows ledgers.now)
+        O.Ledger.site O.Ledger.book O.Ledger.stands given.entry (mapped text_of others.now)
+        (came_of result) }
 {
     match seal_both(alloc, files, given) {
         Ok((old, next)) => {
-            let mut all = Vec::new(alloc);
-            let came = change_between(alloc, ledgers, given.folder, &old, &next, &mut all);
-            drop(all);
+            let came = change_besides(alloc, ledgers, given.folder, &old, &next, others);
             drop(next);
             drop(old);
             came
@@ -215,23 +248,26 @@ pub fn tell_stop<'a, W: Write, E: Write>(
     Ok(halt.status())
 }
 
-/// Brings the ledgers in a folder, of all nodes of the plan in the first file, over to the plan in
-/// the third, and prints `adopted`; or which row is in the way, and then nothing has changed.
+/// Brings the ledgers in a folder, of all nodes of the plan in the first file but the others, over
+/// to the plan in the third, and prints `adopted`; or which row is in the way, and then nothing has
+/// changed. No file is made.
 ///
 /// Errors: Stream, File.
-pub fn adopt_files<'a, F: Files, O: Ledgers, W: Write, E: Write>(
+pub fn adopt_files<'a, F: Files, O: ShowsFiles, W: Write, E: Write>(
     alloc: Global,
     files: &F,
     ledgers: &O,
     given: PlanChange<'a>,
+    others: &[&str],
     output: &mut W,
     faults: &mut E,
 ) -> Result<Status, Failure<'a>>
     ensures { IfOk result
-        (AdoptsFiles (F.holds files.now) (O.opens ledgers.now) O.Ledger.site O.Ledger.book
-        O.Ledger.stands given.entry (W.contents output.old) (W.contents output.new)) }
+        (AdoptsFiles (F.holds files.now) (O.opens ledgers.now) (O.shows ledgers.now) O.Ledger.site
+        O.Ledger.book O.Ledger.stands given.entry (mapped text_of others.now)
+        (W.contents output.old) (W.contents output.new)) }
 {
-    match change_files(alloc, files, ledgers, given) {
+    match change_files(alloc, files, ledgers, given, others) {
         Ok(change) => tell_change(alloc, &change, output),
         Err(stop) => tell_stop(stop, output, faults),
     }

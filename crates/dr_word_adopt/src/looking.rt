@@ -4,19 +4,20 @@ ghost use Rattle.std.specs.Prelude.{OnOk};
 ghost use Rattle.std.specs.String.{string_bytes};
 ghost use Rattle.dr_run_open.specs.Openings.{IsUnopened, Sites};
 ghost use Rattle.dr_run_open.specs.declared.halt.Halt.TheVariants.{Refused};
-ghost use Rattle.dr_plan_model.specs.Plans.{AreNames};
-ghost use Rattle.dr_word_adopt.specs.Changes.{IsSiteAt, StopsAt, path_in};
+ghost use Rattle.dr_word_adopt.specs.Beginnings.{OpensThere, path_in};
+ghost use Rattle.dr_word_adopt.specs.Changes.{IsSiteAt, StopsAt};
 ghost use Rattle.dr_word_adopt.specs.Changings.{IsKept, LeavesLedger};
 ghost use Rattle.dr_word_adopt.specs.Lookings.{AllLookAs, IsFound, IsUnseen, LooksAs, LooksInto};
 ghost use Rattle.dr_word_adopt.specs.Lookings.{MayAdd, StandsAt, stood};
 ghost use Rattle.dr_word_adopt.specs.declared.standing.Standing.{Standing as StandingValue};
 
 use crate::change::{Halted, UnfitRow};
+use crate::shown::ShowsFiles;
 use crate::standing::{FoundLedger, Standing};
 use dr_base::Text;
 use dr_cert::Sealed;
 use dr_ledger::{Ledger, LedgerFault};
-use dr_run_open::{Halt, Ledgers, Making, OpenFault, ledger_of};
+use dr_run_open::{Halt, Making, OpenFault, ledger_of};
 use dr_site::{Site, SiteFault};
 use std::alloc::{AllocError, Global};
 
@@ -57,10 +58,11 @@ pub fn part_of<'a>(alloc: Global, sealed: &Sealed, name: &Text) -> Result<Site, 
     }
 }
 
-/// The ledger by that path, of the first site, or where it is of another, of the second.
+/// The ledger by that path, of the first site, or where it is of another, of the second. None is
+/// made.
 ///
-/// Errors: NotOpened, Memory.
-fn find<'a, O: Ledgers>(
+/// Errors: NotOpened, with NoLedger where nothing is there; Memory.
+fn find<'a, O: ShowsFiles>(
     alloc: Global,
     ledgers: &O,
     path: &str,
@@ -68,14 +70,18 @@ fn find<'a, O: Ledgers>(
     own: &Site,
 ) -> Result<FoundLedger<O::Ledger>, Halt<'a>>
     ensures { MatchResult result
-        (IsFound (O.opens ledgers.now) O.Ledger.site path.now site.now own.now) IsUnopened }
+        (IsFound (OpensThere (O.opens ledgers.now) (O.shows ledgers.now)) O.Ledger.site path.now
+        site.now own.now) IsUnopened }
 {
-    match ledger_of(alloc, ledgers, path, site, Making::Allowed) {
+    if !ledgers.is_there(path) {
+        return Err(Halt::NotOpened(OpenFault::NoLedger));
+    }
+    match ledger_of(alloc, ledgers, path, site, Making::Never) {
         Ok(ledger) => return Ok(FoundLedger::InForce(ledger)),
         Err(Halt::NotOpened(OpenFault::OtherSite)) => {}
         Err(halt) => return Err(halt),
     }
-    let ledger = ledger_of(alloc, ledgers, path, own, Making::Allowed)?;
+    let ledger = ledger_of(alloc, ledgers, path, own, Making::Never)?;
     Ok(FoundLedger::Next(ledger))
 }
 
@@ -140,7 +146,7 @@ pub fn parts_of<'a>(
 /// Finds the ledger of the node of that name in the folder.
 ///
 /// Errors: NotOpened, Memory.
-fn find_in<'a, O: Ledgers>(
+fn find_in<'a, O: ShowsFiles>(
     alloc: Global,
     ledgers: &O,
     folder: &str,
@@ -149,8 +155,8 @@ fn find_in<'a, O: Ledgers>(
     own: &Site,
 ) -> Result<FoundLedger<O::Ledger>, Halt<'a>>
     ensures { MatchResult result
-        (IsFound (O.opens ledgers.now) O.Ledger.site (path_in folder.now name.now) site.now own.now)
-        IsUnopened }
+        (IsFound (OpensThere (O.opens ledgers.now) (O.shows ledgers.now)) O.Ledger.site
+        (path_in folder.now name.now) site.now own.now) IsUnopened }
 {
     match path_of(alloc, folder, name) {
         Ok(path) => find(alloc, ledgers, path.as_str(), site, own),
@@ -161,7 +167,7 @@ fn find_in<'a, O: Ledgers>(
 /// Opens the ledger of the node of that name in the folder.
 ///
 /// Errors: NoNode, NotOpened, Memory.
-fn stand_at<'a, O: Ledgers>(
+fn stand_at<'a, O: ShowsFiles>(
     alloc: Global,
     ledgers: &O,
     folder: &str,
@@ -170,8 +176,9 @@ fn stand_at<'a, O: Ledgers>(
     name: &Text,
 ) -> Result<Standing<O::Ledger>, Halt<'a>>
     ensures { MatchResult result
-        (StandsAt (O.opens ledgers.now) O.Ledger.site O.Ledger.book O.Ledger.stands folder.now
-        old.now next.now name.now) (IsUnseen old.now next.now name.now) }
+        (StandsAt (OpensThere (O.opens ledgers.now) (O.shows ledgers.now)) O.Ledger.site
+        O.Ledger.book O.Ledger.stands folder.now old.now next.now name.now)
+        (IsUnseen old.now next.now name.now) }
 {
     let (site, own) = match parts_of(alloc, old, next, name) {
         Ok(parts) => parts,
@@ -243,7 +250,7 @@ fn look_and_add<'a, L: Ledger + Drop>(
 /// that were opened.
 ///
 /// Errors: NoNode, NotOpened, Refused with Store or Memory, Memory.
-fn look_at<'a, O: Ledgers>(
+fn look_at<'a, O: ShowsFiles>(
     alloc: Global,
     ledgers: &O,
     folder: &str,
@@ -253,11 +260,13 @@ fn look_at<'a, O: Ledgers>(
     all: &mut Vec<Standing<O::Ledger>>,
 ) -> Result<Option<(Text, Text)>, Halt<'a>>
     ensures { MatchResult result
-        (λ unfit. LooksAs (O.opens ledgers.now) O.Ledger.site O.Ledger.book O.Ledger.stands
-        folder.now old.now next.now name.now unfit all.old.items all.new.items)
+        (λ unfit. LooksAs (OpensThere (O.opens ledgers.now) (O.shows ledgers.now)) O.Ledger.site
+        O.Ledger.book O.Ledger.stands folder.now old.now next.now name.now unfit all.old.items
+        all.new.items)
         (λ halt. IsUnseen old.now next.now name.now halt
-        × MayAdd (O.opens ledgers.now) O.Ledger.site O.Ledger.book O.Ledger.stands
-        folder.now old.now next.now name.now all.old.items all.new.items) }
+        × MayAdd (OpensThere (O.opens ledgers.now) (O.shows ledgers.now)) O.Ledger.site
+        O.Ledger.book O.Ledger.stands folder.now old.now next.now name.now all.old.items
+        all.new.items) }
 {
     match stand_at(alloc, ledgers, folder, old, next, name) {
         Ok(standing) => look_and_add(all, standing, next),
@@ -279,7 +288,7 @@ fn unfit_at(name: &Text, row: (Text, Text)) -> Result<UnfitRow, AllocError>
 /// be changed. All that were opened stay open, and are left as they were opened.
 ///
 /// Errors: those of `look_at`, at a node; Memory.
-pub fn look_at_all<'a, O: Ledgers>(
+pub fn look_at_all<'a, O: ShowsFiles>(
     alloc: Global,
     ledgers: &O,
     folder: &str,
@@ -288,13 +297,13 @@ pub fn look_at_all<'a, O: Ledgers>(
     names: &[Text],
     all: &mut Vec<Standing<O::Ledger>>,
 ) -> Result<Option<UnfitRow>, Halted<'a>>
-    requires names { AreNames old.now.plan names.now }
-    requires none { all.old.items ≡ [] }
+    requires { all.old.items ≡ [] }
     ensures { MatchResult result
-        (λ unfit. AllLookAs (O.opens ledgers.now) O.Ledger.site O.Ledger.book O.Ledger.stands
-        folder.now old.now next.now names.now unfit all.new.items)
-        (λ stop. StopsAt (O.opens ledgers.now) O.Ledger.site O.Ledger.book O.Ledger.stands
-        folder.now old.now next.now stop.halt all.new.items) }
+        (λ unfit. AllLookAs (OpensThere (O.opens ledgers.now) (O.shows ledgers.now)) O.Ledger.site
+        O.Ledger.book O.Ledger.stands folder.now old.now next.now names.now unfit all.new.items)
+        (λ stop. StopsAt (OpensThere (O.opens ledgers.now) (O.shows ledgers.now)) O.Ledger.site
+        O.Ledger.book O.Ledger.stands folder.now old.now next.now names.now stop.halt
+        all.new.items) }
 {
     for name in names {
         match look_at(alloc, ledgers, folder, old, next, name, all) {

@@ -12,7 +12,7 @@ use Rattle.dr_session.specs.declared.ends.Heard.{Heard}
 use Rattle.dr_site.specs.Parts.{Part}
 use Rattle.dr_word_adopt.specs.Endings.{AdoptsFiles}
 use Rattle.dr_word_audit.specs.Endings.{EndsAs}
-use Rattle.dr_word_audit.specs.Names.{text_of}
+use Rattle.dr_word_adopt.specs.Names.{text_of}
 use Rattle.dr_word_echo.specs.Runs.{Echoes}
 use Rattle.dr_word_import.specs.Imports.{PrintsPlan}
 use Rattle.dr_word_json.specs.Runs.{IsAsJson}
@@ -24,10 +24,10 @@ use Rattle.dr_word_serve.specs.Sending.{VisitsBy}
 use Rattle.dr_word_serve.specs.Working.{Works}
 use Rattle.dr_word_simulate.specs.Tasks.{DoesOffline}
 
--- Of files (`holds`), ledgers (`opens` and what a ledger is), a network (`connects` and what its
--- sockets do), a node's own calls on its ledger (`step`, `finds`), a clock and an input:
+-- Of files (`holds`), ledgers (`opens`, `shows` and what a ledger is), a network (`connects` and
+-- what its sockets do), a node's own calls on its ledger (`step`, `finds`), a clock and an input:
 module _ {L K : Type 0} (holds : Text → Text → Type 0) (opens : Text → L → Type 0)
-    (site_of : L → Part) (book : L → Book) (stands : L → Type 0)
+    (shows : Text → Bool → Type 0) (site_of : L → Part) (book : L → Book) (stands : L → Type 0)
     (connects : Text → Result K Error → Type 0) (hears : K → Heard → K → Type 0)
     (sends : K → List ℕ → Bool → K → Type 0) (closes : K → K → Type 0)
     (step : OwnPort L → DeskCall → DeskAnswer → OwnPort L → Type 0)
@@ -44,9 +44,13 @@ module _ {L K : Type 0} (holds : Text → Text → Type 0) (opens : Text → L �
       Works holds opens site_of book stands
       (VisitsBy connects hears sends closes step finds tells) tells given duty old new status
   DoesTask (asks.Adopt change) old new status =
-      AdoptsFiles holds opens site_of book stands change old new status
-  DoesTask (asks.Rehearse change) old new status =
-      Rehearses holds opens site_of book stands change old new status
+      AdoptsFiles holds opens shows site_of book stands change [] old new status
+  DoesTask (asks.AdoptAmong change others) old new status =
+      AdoptsFiles holds opens shows site_of book stands change (mapped text_of others.items) old new
+      status
+  DoesTask (asks.Rehearse change others) old new status =
+      Rehearses holds opens shows site_of book stands change (mapped text_of others.items) old new
+      status
   DoesTask (asks.Import table) old new status = PrintsPlan old new
   DoesTask (asks.Audit given) old new status =
       EndsAs holds opens site_of book stands given [] old new status

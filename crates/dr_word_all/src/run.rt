@@ -124,7 +124,8 @@ where
     N::Listener: Sync,
     ensures { IfOk result
         (DoesTask (F.holds system.entry.files.now) (O.opens system.entry.ledgers.now)
-        O.Ledger.site O.Ledger.book O.Ledger.stands (N.connects system.entry.network.now)
+        (O.shows system.entry.ledgers.now) O.Ledger.site O.Ledger.book O.Ledger.stands
+        (N.connects system.entry.network.now)
         N.Socket.hears N.Socket.sends N.Socket.closes ⟦<OwnPort<O::Ledger> as DeskPort>⟧.step
         ⟦<OwnPort<O::Ledger> as Tallied>⟧.finds (C.tells system.entry.clock.now)
         (R.remaining input.old) asked.entry (W.contents output.old) (W.contents output.new)) }
@@ -156,8 +157,15 @@ where
             ask_files(alloc, files, given, errand, way, output, faults)
         }
         Task::AuditRunning(given) => audit_running(alloc, files, given, way, output, faults),
-        Task::Adopt(change) => adopt_files(alloc, files, ledgers, change, output, faults),
-        Task::Rehearse(change) => rehearse_files(alloc, files, ledgers, change, output, faults),
+        Task::Adopt(change) => adopt_files(alloc, files, ledgers, change, &[], output, faults),
+        Task::AdoptAmong(change, others) => {
+            let others = others.as_slice();
+            adopt_files(alloc, files, ledgers, change, others, output, faults)
+        }
+        Task::Rehearse(change, others) => {
+            let others = others.as_slice();
+            rehearse_files(alloc, files, ledgers, change, others, output, faults)
+        }
         Task::Import(path) => import_file(alloc, files, path, output, faults),
         Task::CheckInputAsJson => check_input_as_json(alloc, input, output, faults, files),
         Task::CheckFileAsJson(path) => {
@@ -206,7 +214,8 @@ where
         → Asks words.now asked
         → HasFailedStatus result
         ⊎ DoesTask (F.holds system.entry.files.now) (O.opens system.entry.ledgers.now)
-        O.Ledger.site O.Ledger.book O.Ledger.stands (N.connects system.entry.network.now)
+        (O.shows system.entry.ledgers.now) O.Ledger.site O.Ledger.book O.Ledger.stands
+        (N.connects system.entry.network.now)
         N.Socket.hears N.Socket.sends N.Socket.closes ⟦<OwnPort<O::Ledger> as DeskPort>⟧.step
         ⟦<OwnPort<O::Ledger> as Tallied>⟧.finds (C.tells system.entry.clock.now)
         (R.remaining input.old) asked (W.contents output.old) (W.contents output.new) result }

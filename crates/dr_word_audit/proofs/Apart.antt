@@ -11,7 +11,8 @@ use Rattle.dr_site.proofs.AsPlanned.{kept_by}
 use Rattle.dr_world_audit.specs.Sites.{AreApart, names}
 use Rattle.dr_world_audit.specs.declared.audit.NodeJournal.{NodeJournal}
 use Rattle.dr_word_audit.specs.Audits.{AreOfNodes}
-use Rattle.dr_word_audit.specs.Names.{AreNodes, is_ours, our_names}
+use Rattle.dr_word_adopt.specs.Names.{AreNodes}
+use Rattle.dr_word_audit.specs.Names.{is_ours, our_names}
 
 abbrev name_of : Node → Text
 name_of node = node.name

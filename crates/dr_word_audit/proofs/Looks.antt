@@ -17,7 +17,8 @@ use Rattle.dr_run_open.specs.declared.halt.Halt.{Halt}
 use Rattle.dr_run_open.specs.declared.halt.Halt.TheVariants.{NoPlan, NoCertificate, NoNode, NotOpened, NoInstance, Refused, Receipt, Failed, Memory}
 use Rattle.dr_run_open.specs.declared.ledgers.OpenFault.{OpenFault}
 use Rattle.dr_run_open.specs.declared.ledgers.OpenFault.TheVariants as opening
-use Rattle.dr_word_adopt.specs.Changes.{IsOpenedFor, path_in}
+use Rattle.dr_word_adopt.specs.Beginnings.{path_in}
+use Rattle.dr_word_adopt.specs.Changes.{IsOpenedFor}
 use Rattle.dr_world_audit.specs.Sites.{lines_at}
 use Rattle.dr_world_audit.specs.declared.audit.NodeJournal.{NodeJournal}
 use Rattle.dr_word_audit.specs.Audits.{IsMissing, IsSeen, IsShown, IsStop, is_missing}

@@ -5,7 +5,7 @@ use Rattle.dr_plan_model.specs.Networks.{Network}
 use Rattle.dr_run_open.specs.declared.halt.Halt.{Halt}
 use Rattle.dr_run_open.specs.declared.halt.Halt.TheVariants.{NoPlan, NoCertificate, NoNode, NotOpened, NoInstance, Refused, Receipt, Failed, Memory}
 use Rattle.dr_word_audit.specs.Audits.{IsStop}
-use Rattle.dr_word_audit.specs.Names.{AreNodes}
+use Rattle.dr_word_adopt.specs.Names.{AreNodes}
 
 -- where all names are known, they are not why
 pub stop_known : (plan : Network) (others all : List Text) → AreNodes plan all → (halt : Halt) → IsStop plan all halt → IsStop plan others halt

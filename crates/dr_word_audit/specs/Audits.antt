@@ -22,7 +22,8 @@ use Rattle.dr_world_audit.specs.Sites.{AreApart, DoesHold, DoesNotHold, lines_at
 use Rattle.dr_world_audit.specs.declared.audit.Mismatch.{Mismatch}
 use Rattle.dr_world_audit.specs.declared.audit.NodeJournal.{NodeJournal}
 use Rattle.dr_word_audit.specs.Figures.{figures, holds_line, node_line}
-use Rattle.dr_word_audit.specs.Names.{AreNodes, our_names}
+use Rattle.dr_word_adopt.specs.Names.{AreNodes}
+use Rattle.dr_word_audit.specs.Names.{our_names}
 use Rattle.dr_word_audit.specs.Places.{IsLast, lines_named, missing_line, no_line, node_of, says}
 use Rattle.dr_word_audit.specs.declared.audited.Audited.{Audited}
 use Rattle.dr_word_audit.specs.declared.audited.Audited.TheVariants.{Holds, No}

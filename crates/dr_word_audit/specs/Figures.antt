@@ -9,7 +9,7 @@ use Rattle.dr_ledger.specs.Books.{Forgetting, Adoption, is_success, since_adopti
 use Rattle.dr_ledger_views.specs.Views.{is_at as is_at_stage}
 use Rattle.dr_ledger_views.specs.declared.stage.Stage.{Stage}
 use Rattle.dr_ledger_views.specs.declared.stage.Stage.TheVariants as stages
-use Rattle.dr_word_audit.specs.Names.{is_among}
+use Rattle.dr_word_adopt.specs.Names.{is_among}
 use Rattle.dr_word_audit.specs.declared.counting.Figures.{Figures}
 use Rattle.dr_word_audit.specs.declared.counting.LineKind.{LineKind}
 use Rattle.dr_word_audit.specs.declared.counting.LineKind.TheVariants as kind

@@ -11,7 +11,7 @@ use Rattle.dr_world_audit.specs.declared.audit.Mismatch.{Mismatch}
 use Rattle.dr_world_audit.specs.declared.audit.Mismatch.TheVariants as what
 use Rattle.dr_world_audit.specs.declared.audit.NodeJournal.{NodeJournal}
 use Rattle.dr_word_audit.specs.Figures.{is_taken}
-use Rattle.dr_word_audit.specs.Names.{is_among}
+use Rattle.dr_word_adopt.specs.Names.{is_among}
 use Rattle.dr_ledger_report.specs.Reports.{number_field}
 
 -- the line is of an arrival of the uid that goes on to there

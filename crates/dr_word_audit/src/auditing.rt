@@ -7,11 +7,11 @@ ghost use Rattle.dr_word_audit.specs.Audits.{AreOfNodes, Audits, AuditsBy, IsCon
 ghost use Rattle.dr_word_audit.specs.Audits.{came_of};
 ghost use Rattle.dr_word_audit.specs.Endings.{EndsAs, EndsAudit};
 ghost use Rattle.dr_word_audit.specs.Figures.{holds_line as first_line};
-ghost use Rattle.dr_word_audit.specs.Names.{text_of};
+ghost use Rattle.dr_word_adopt.specs.Names.{text_of};
 
 use crate::audited::Audited;
 use crate::figuring::holds_line;
-use crate::naming::{our_names, stranger_in, texts_of};
+use crate::naming::our_names;
 use crate::placing::place_of;
 use crate::printing::{mismatch_line, missing_line};
 use crate::reading::{Gathered, Gathering, gather};
@@ -21,7 +21,7 @@ use dr_ledger::Ledger;
 use dr_ledger_journal::TellsJournal;
 use dr_run_files::{Failure, Files};
 use dr_run_open::{Halt, Ledgers, Status, seal_files};
-use dr_word_adopt::{Halted, tell_stop};
+use dr_word_adopt::{Halted, stranger_in, tell_stop, texts_of};
 use dr_word_line::SiteFiles;
 use dr_world_audit::audit::{AuditFault, AuditVerdict, Mismatch, NodeJournal, audit};
 use std::alloc::{AllocError, Global};

@@ -7,12 +7,12 @@ ghost use Rattle.dr_word_audit.specs.Figures.{is_dropping as is_a_dropping, is_f
 ghost use Rattle.dr_word_audit.specs.Figures.{is_taken as is_a_taking};
 ghost use Rattle.dr_word_audit.specs.Telling.{is_told, number_told};
 
-use crate::naming::is_among;
 use dr_base::Text;
 use dr_ledger::{Outcome, Row, is_success};
 use dr_ledger_history::JournalLine;
 use dr_ledger_views::Stage;
 use dr_ledger_views::listed::is_at;
+use dr_word_adopt::is_among;
 use dr_world_audit::count_past;
 
 /// Of which lines there may be how many.

@@ -7,10 +7,10 @@ ghost use Rattle.dr_word_audit.specs.Places.{says as is_said, was_taken as is_a_
 ghost use Rattle.dr_word_audit.specs.Places.{was_unfair as is_not_fair};
 
 use crate::counting::is_taken;
-use crate::naming::is_among;
 use dr_base::Text;
 use dr_ledger::Instance;
 use dr_ledger_history::JournalLine;
+use dr_word_adopt::is_among;
 use dr_world_audit::audit::{Mismatch, NodeJournal, is_fair};
 
 /// Whether the line is of an arrival of the UID that goes on to there.

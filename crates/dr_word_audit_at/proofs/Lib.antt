@@ -1,3 +1,4 @@
 mod CutJournals
 mod CutsBegin
+mod Noted
 mod Reached

@@ -3,13 +3,13 @@ use Rattle.std.proofs.Common.{◌≡◌, ◌∙◌, ◌<◌, ◌≤◌, ◌+◌,
 use Rattle.std.specs.Str.{bytes_eq}
 use Rattle.dr_base.specs.Texts.{Text}
 use Rattle.dr_plan_model.specs.Networks.{Network}
+use Rattle.dr_plan_model.specs.declared.plan.Format.TheVariants.{One}
 use Rattle.dr_ledger_history.specs.declared.line.JournalLine.{JournalLine}
 use Rattle.dr_world_audit.specs.Sites.{Audits}
 use Rattle.dr_world_audit.specs.declared.audit.AuditVerdict.{AuditVerdict}
-use Rattle.dr_world_audit.specs.declared.audit.AuditVerdict.TheVariants as verdict
 use Rattle.dr_world_audit.specs.declared.audit.NodeJournal.{NodeJournal}
 use Rattle.dr_word_audit_at.specs.declared.cutting.MissingLine.{MissingLine}
-use Rattle.dr_word_audit_at.specs.Cuts.{AreMoves, AreNoEarlier, AreReached, HasLine, IsMove, Moves, MovesFor, RestsOn, cut_at, cuts, put_on}
+use Rattle.dr_word_audit_at.specs.Cuts.{AreMoves, AreNoEarlier, AreReached, HasLine, IsMove, MendsNowhere, Moves, MovesFor, RestsOn, cut_at, cuts, lines_named, put_on}
 
 -- ---- no cut goes back
 
@@ -45,7 +45,7 @@ put_later name more [] read = tt
 put_later name more (n ∷ ns) [] = no_earlier (n ∷ ns)
 put_later name more (n ∷ ns) (node ∷ read) = go (bytes_eq node.name name) (put_later name more ns read)
   where
-    go : (b : Bool) → AreNoEarlier ns (put_on name more ns read) → AreNoEarlier (n ∷ ns) (cond b (n + more ∷ ns) (n ∷ put_on name more ns read))
+    go : (b : Bool) → AreNoEarlier ns (put_on name more ns read) → AreNoEarlier (n ∷ ns) (cond b ((n + more) ∷ ns) (n ∷ put_on name more ns read))
     go true rest = (omega arith, no_earlier ns)
     go false rest = (omega arith, rest)
 
@@ -85,10 +85,10 @@ module _ (plan : Network) (read : List NodeJournal) where
   }
 
   -- or for a line
-  pub by_line : (old new : List ℕ) (name at : Text) (line : JournalLine) (mend : MissingLine) (b : Bool) → HasLine (cuts old read) name line → RestsOn name line mend at → Moves mend at read old new b → AreReached plan read old new
-  by_line old new name at line mend true has rests moves =
-      by_move old new (record { mend = mend; at = at; wanted = inl (record { name = name; line = line; has = has; rests = rests }); moves = moves })
-  by_line old new name at line mend false has rests moves = subst (AreReached plan read old) (sym moves.0) (stays old)
+  pub by_line : (old new : List ℕ) (name at : Text) (line : JournalLine) (mend : MissingLine) (b : Bool) → HasLine (cuts old read) name line → RestsOn name line mend at → MendsNowhere mend (lines_named at (cuts old read)) → Moves mend at read old new b → AreReached plan read old new
+  by_line old new name at line mend true has rests lacking moves =
+      by_move old new (record { mend = mend; at = at; wanted = inl (record { name = name; line = line; has = has; rests = rests; lacking = lacking }); moves = moves })
+  by_line old new name at line mend false has rests lacking moves = subst (AreReached plan read old) (sym moves.0) (stays old)
 
 -- cuts that are reached are as many
 pub reached_long : (plan : Network) (read : List NodeJournal) (first at : List ℕ) → AreReached plan read first at → length at ≡ length first
@@ -146,3 +146,18 @@ between_cuts to ns read i from d node line le long lt is has =
 
 pub has_still : (plan : Network) (old new : List ℕ) (read : List NodeJournal) (name : Text) (line : JournalLine) → AreReached plan read old new → HasLine (cuts old read) name line → HasLine (cuts new read) name line
 has_still plan old new read name line reached = still_has old new read name line (reached_later plan read old new reached)
+
+-- ---- whatever the plan is
+
+some_plan : Network
+some_plan = record { format = One; nodes = []; flows = []; digest = [] }
+
+module _ (read : List NodeJournal) (old new : List ℕ) (reached : (plan : Network) → AreReached plan read old new) where
+  pub any_later : AreNoEarlier old new
+  any_later = reached_later some_plan read old new (reached some_plan)
+
+  pub any_long : length old ≡ length read → length new ≡ length read
+  any_long same = reached_long some_plan read old new (reached some_plan) ∙ same
+
+  pub any_has : (name : Text) (line : JournalLine) → HasLine (cuts old read) name line → HasLine (cuts new read) name line
+  any_has name line h = has_still some_plan old new read name line (reached some_plan) h

@@ -95,12 +95,19 @@ abbrev pub HasLine : List NodeJournal → Text → JournalLine → Type 0
 HasLine nodes name line =
     (node : NodeJournal) × Contains nodes node × Contains node.lines line × (node.name ≡ name)
 
--- a line of these journals rests on it
+-- the lines of the node of that name
+abbrev pub lines_named : Text → List NodeJournal → List JournalLine
+lines_named name [] = []
+lines_named name (node ∷ nodes) =
+    cond (bytes_eq node.name name) node.lines (lines_named name nodes)
+
+-- a line of these journals rests on it, and none there says it
 pub record IsRestedOn (nodes : List NodeJournal) (mend : MissingLine) (at : Text) : Type 0 where
   pub name : Text
   pub line : JournalLine
   pub has : HasLine nodes name line
   pub rests : RestsOn name line mend at
+  pub lacking : MendsNowhere mend (lines_named at nodes)
 
 -- it would mend a mismatch of these journals
 pub record IsMissed (plan : Network) (nodes : List NodeJournal) (mend : MissingLine)
@@ -124,7 +131,7 @@ abbrev pub put_on : Text → ℕ → List ℕ → List NodeJournal → List ℕ
 put_on name more [] nodes = []
 put_on name more (n ∷ ns) [] = n ∷ ns
 put_on name more (n ∷ ns) (node ∷ nodes) =
-    cond (bytes_eq node.name name) (n + more ∷ ns) (n ∷ put_on name more ns nodes)
+    cond (bytes_eq node.name name) ((n + more) ∷ ns) (n ∷ put_on name more ns nodes)
 
 -- the cut of that node is put behind the next line that says it, if one does
 abbrev pub Moves : MissingLine → Text → List NodeJournal → List ℕ → List ℕ → Bool → Type 0

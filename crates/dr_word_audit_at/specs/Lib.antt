@@ -1,3 +1,3 @@
 pub mod Cuts
+pub mod Firsts
 pub mod Laws
-pub mod Running

@@ -1,8 +1,16 @@
 //! Where the cuts of journals are put before they are audited: behind what other cuts rest on.
-ghost use Rattle.std.specs.Prelude.{◌≡◌, Contains, IfOk, IfSome, OnOk, drop, get_or, length, take};
+ghost use Rattle.std.specs.Prelude.{◌≡◌, ◌-◌, Contains, IfOk, IfSome, IsTrue, List, MatchOption};
+ghost use Rattle.std.specs.Prelude.{OnOk, drop, get_or, length, take};
+ghost use Rattle.std.specs.BTreeMap as tree;
+ghost use Rattle.std.specs.BTreeMap.{is_at};
+ghost use Rattle.dr_ledger.specs.Pairs.{Pair, pair_cmp};
+ghost use Rattle.dr_base.specs.Texts.{Text as Words};
 ghost use Rattle.dr_plan_model.specs.Networks.{Network};
 ghost use Rattle.dr_ledger_history.specs.declared.line.JournalLine.{JournalLine as Told};
-ghost use Rattle.dr_word_audit_at.specs.Cuts.{AreNoEarlier, AreReached, HasLine, RestsOn, cuts};
+ghost use Rattle.dr_word_audit_at.specs.Cuts.{AreNoEarlier, AreReached, HasLine, MendsNowhere};
+ghost use Rattle.dr_word_audit_at.specs.Cuts.{RestsOn, cuts, lines_named};
+ghost use Rattle.dr_word_audit_at.specs.Firsts.{AreAllFirst, AreFirst, is_goal, or_first};
+ghost use Rattle.dr_word_audit_at.specs.Firsts.{says_came, says_goes};
 ghost use Rattle.dr_word_audit_at.specs.declared.cutting.MissingLine.TheVariants as wants;
 
 use crate::cutting::{MissingLine, behind, move_cut};
@@ -18,8 +26,8 @@ use std::collections::BTreeMap;
 /// came that goes on to a node: how many lines there are up to it, by the UID and the node's name.
 #[derive(Drop)]
 struct FirstLines {
-    came: BTreeMap<(Text, Text), usize>,
-    goes: BTreeMap<(Text, Text), usize>,
+    pub came: BTreeMap<(Text, Text), usize>,
+    pub goes: BTreeMap<(Text, Text), usize>,
 }
 
 /// Notes a place, where none is noted yet.
@@ -28,11 +36,18 @@ fn note_place(
     uid: &Text,
     name: &Text,
     place: usize,
-) -> Result<(), AllocError> {
+) -> Result<(), AllocError>
+    ensures { OnOk result
+        ((q : Pair)
+        → tree.get pair_cmp places.new q
+        ≡ or_first (tree.get pair_cmp places.old q) (is_at (pair_cmp (uid.now, name.now)) q)
+        place) }
+{
     let key = (uid.clone()?, name.clone()?);
-    if places.get(&key).is_none() {
-        places.insert(key, place)?;
+    if places.contains_key(&key) {
+        return Ok(());
     }
+    places.insert(key, place)?;
     Ok(())
 }
 
@@ -42,7 +57,10 @@ fn note_goals(
     uid: &Text,
     to: &[Text],
     place: usize,
-) -> Result<(), AllocError> {
+) -> Result<(), AllocError>
+    ensures { OnOk result ((q : Pair) → tree.get pair_cmp goes.new q
+        ≡ or_first (tree.get pair_cmp goes.old q) (is_goal uid.now to.now q) place) }
+{
     for dest in to {
         note_place(goes, uid, dest, place)?;
     }
@@ -50,7 +68,12 @@ fn note_goals(
 }
 
 /// Notes what a line says.
-fn note_line(first: &mut FirstLines, line: &JournalLine, place: usize) -> Result<(), AllocError> {
+fn note_line(first: &mut FirstLines, line: &JournalLine, place: usize) -> Result<(), AllocError>
+    ensures came { OnOk result ((q : Pair) → tree.get pair_cmp first.new.came q
+        ≡ or_first (tree.get pair_cmp first.old.came q) (says_came q line.now) place) }
+    ensures goes { OnOk result ((q : Pair) → tree.get pair_cmp first.new.goes q
+        ≡ or_first (tree.get pair_cmp first.old.goes q) (says_goes q line.now) place) }
+{
     match line {
         JournalLine::Arrival {
             caller,
@@ -64,12 +87,18 @@ fn note_line(first: &mut FirstLines, line: &JournalLine, place: usize) -> Result
         JournalLine::Repeat { caller, instance } => {
             note_place(&mut first.came, &instance.uid, caller, place)
         }
-        _ => Ok(()),
+        JournalLine::Settling { .. } => Ok(()),
+        JournalLine::Requeuing { .. } => Ok(()),
+        JournalLine::Dropping { .. } => Ok(()),
+        JournalLine::Forgetting { .. } => Ok(()),
+        JournalLine::Adoption => Ok(()),
     }
 }
 
 /// Where the first lines of a journal stand.
-fn first_lines(alloc: Global, lines: &[JournalLine]) -> Result<FirstLines, AllocError> {
+fn first_lines(alloc: Global, lines: &[JournalLine]) -> Result<FirstLines, AllocError>
+    ensures { IfOk result (AreFirst lines.now (length lines.now)) }
+{
     let mut first = FirstLines {
         came: BTreeMap::new(alloc),
         goes: BTreeMap::new(alloc),
@@ -81,7 +110,9 @@ fn first_lines(alloc: Global, lines: &[JournalLine]) -> Result<FirstLines, Alloc
 }
 
 /// The same of all journals.
-fn all_first_lines(alloc: Global, read: &[NodeJournal]) -> Result<Vec<FirstLines>, AllocError> {
+fn all_first_lines(alloc: Global, read: &[NodeJournal]) -> Result<Vec<FirstLines>, AllocError>
+    ensures { IfOk result (λ all. AreAllFirst all.items read.now) }
+{
     let mut all = Vec::new(alloc);
     for node in read {
         all.push(first_lines(alloc, node.lines.as_slice())?)?;
@@ -90,42 +121,61 @@ fn all_first_lines(alloc: Global, read: &[NodeJournal]) -> Result<Vec<FirstLines
 }
 
 /// Where the first line stands that says it.
-fn first_said(first: &FirstLines, missing: &MissingLine) -> Result<Option<usize>, AllocError> {
-    let (places, uid, name) = match missing {
-        MissingLine::CameFrom { uid, from } => (&first.came, uid, from),
-        MissingLine::GoesOn { uid, to } => (&first.goes, uid, to),
-    };
-    let key = (uid.clone()?, name.clone()?);
-    match places.get(&key) {
-        Some(count) => Ok(Some(*count)),
-        None => Ok(None),
+fn first_said(first: &FirstLines, missing: &MissingLine) -> Result<Option<usize>, AllocError>
+    ensures { (lines : List Told) → AreFirst lines (length lines) first.now
+        → IfOk result (λ found. MatchOption found (MendsNowhere missing.now lines)
+        (λ n. MendsNowhere missing.now (take (n - 1) lines))) }
+{
+    match missing {
+        MissingLine::CameFrom { uid, from } => place_at(&first.came, uid, from),
+        MissingLine::GoesOn { uid, to } => place_at(&first.goes, uid, to),
     }
 }
 
-/// The place of the node of that name.
-fn place_of(read: &[NodeJournal], name: &Text) -> Option<usize> {
-    read.iter().position(|node| node.name == *name)
+/// The place of that UID and name.
+fn place_at(
+    places: &BTreeMap<(Text, Text), usize>,
+    uid: &Text,
+    name: &Text,
+) -> Result<Option<usize>, AllocError>
+    ensures { IfOk result (λ found.
+        found ≡ tree.get pair_cmp places.now (uid.now, name.now)) }
+{
+    let key = (uid.clone()?, name.clone()?);
+    Ok(places.get(&key).copied())
 }
 
-/// Whether the first line of the node of that name that says it stands behind its cut. Nothing
-/// rests on this: it spares a search.
+/// Whether the first line of a journal that says it stands behind the cut.
+fn said_behind(first: &FirstLines, missing: &MissingLine, cut: usize) -> Result<bool, AllocError>
+    ensures { (lines : List Told) → AreFirst lines (length lines) first.now
+        → IfOk result (λ yes. IsTrue yes → MendsNowhere missing.now (take cut lines)) }
+{
+    match first_said(first, missing)? {
+        Some(said) => Ok(cut < said),
+        None => Ok(false),
+    }
+}
+
+/// Whether no line before the cut of the node of that name says it, and one behind it does.
 fn is_behind(
     read: &[NodeJournal],
     all: &[FirstLines],
     missing: &MissingLine,
     name: &Text,
     counts: &[usize],
-) -> Result<bool, AllocError> {
-    let Some(place) = place_of(read, name) else {
-        return Ok(false);
-    };
-    let Some(first) = all.get(place) else {
-        return Ok(false);
-    };
-    match first_said(first, missing)? {
-        Some(said) => Ok(count_at(counts, place) < said),
-        None => Ok(false),
+) -> Result<bool, AllocError>
+    requires same { length counts.now ≡ length read.now }
+    requires first { AreAllFirst all.now read.now }
+    ensures { IfOk result (λ yes. IsTrue yes
+        → MendsNowhere missing.now (lines_named name.now (cuts counts.now read.now))) }
+{
+    for place in 0..read.len() {
+        let node = &read[place];
+        if node.name == *name {
+            return said_behind(&all[place], missing, counts[place]);
+        }
     }
+    Ok(false)
 }
 
 /// That there is a reason at the caller for what came to the node of that name.
@@ -182,6 +232,30 @@ fn rest_of(name: &Text, line: &JournalLine) -> Result<Option<(MissingLine, Text)
     }
 }
 
+/// Moves the cut of the node of that name behind the next line that says it, if no line before the
+/// cut does.
+fn move_if(
+    read: &[NodeJournal],
+    all: &[FirstLines],
+    missing: &MissingLine,
+    at: &Text,
+    counts: &mut Vec<usize>,
+) -> Result<(), AllocError>
+    requires same { length counts.old.items ≡ length read.now }
+    requires first { AreAllFirst all.now read.now }
+    ensures { OnOk result ((plan : Network) (name : Words) (line : Told)
+        → HasLine (cuts counts.old.items read.now) name line
+        → RestsOn name line missing.now at.now
+        → AreReached plan read.now counts.old.items counts.new.items) }
+{
+    let is_lacking = is_behind(read, all, missing, at, counts.as_slice())?;
+    if !is_lacking {
+        return Ok(());
+    }
+    move_cut(missing, at, counts, read);
+    Ok(())
+}
+
 /// Puts a cut behind what the line of the node of that name rests on, if that stands behind it.
 fn move_for(
     read: &[NodeJournal],
@@ -191,6 +265,7 @@ fn move_for(
     counts: &mut Vec<usize>,
 ) -> Result<(), AllocError>
     requires same { length counts.old.items ≡ length read.now }
+    requires first { AreAllFirst all.now read.now }
     requires before { HasLine (cuts counts.old.items read.now) name.now line.now }
     ensures { OnOk result ((plan : Network)
         → AreReached plan read.now counts.old.items counts.new.items) }
@@ -198,9 +273,7 @@ fn move_for(
     let Some((missing, at)) = rest_of(name, line)? else {
         return Ok(());
     };
-    if is_behind(read, all, &missing, &at, counts.as_slice())? {
-        move_cut(&missing, &at, counts, read);
-    }
+    move_if(read, all, &missing, &at, counts)?;
     Ok(())
 }
 
@@ -213,6 +286,7 @@ fn move_for_all(
     counts: &mut Vec<usize>,
 ) -> Result<(), AllocError>
     requires same { length counts.old.items ≡ length read.now }
+    requires first { AreAllFirst all.now read.now }
     requires before { (line : Told) → Contains lines.now line
         → HasLine (cuts counts.old.items read.now) name.now line }
     ensures { OnOk result ((plan : Network)
@@ -261,6 +335,7 @@ fn move_by(
     counts: &mut Vec<usize>,
 ) -> Result<(), AllocError>
     requires same { length counts.old.items ≡ length read.now }
+    requires first { AreAllFirst all.now read.now }
     requires on { AreNoEarlier to.now counts.old.items }
     ensures { OnOk result ((plan : Network)
         → AreReached plan read.now counts.old.items counts.new.items) }

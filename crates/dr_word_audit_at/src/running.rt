@@ -1,9 +1,6 @@
 //! The word `audit` over files, tokens and a network.
-ghost use Rattle.std.specs.Prelude.{◌≡◌, Contains, IfOk, IfSome, length, map as mapped};
-ghost use Rattle.dr_world_audit.specs.Sites.{names as names_of};
-ghost use Rattle.dr_word_audit.specs.Names.{our_names as own_names, text_of};
+ghost use Rattle.std.specs.Prelude.{◌≡◌, IfOk, length};
 ghost use Rattle.dr_word_audit_at.specs.Cuts.{IsConcluded, IsJudged};
-ghost use Rattle.dr_word_audit_at.specs.Running.{ConcludesAll, ConcludesBy, EndsRunning};
 
 use crate::figuring::told_of;
 use crate::judging::{Judged, judge};
@@ -18,9 +15,9 @@ use dr_run_net::Network;
 use dr_run_open::{Halt, Status, seal_files};
 use dr_run_token::Tokens;
 use dr_session::Clock;
-use dr_word_adopt::{Halted, tell_stop};
+use dr_word_adopt::{Halted, is_among, stranger_in, tell_stop, texts_of};
 use dr_word_at::{Caller, Way, digest_of, status_of, token_at};
-use dr_word_audit::naming::{is_among, our_names, stranger_in, texts_of};
+use dr_word_audit::naming::our_names;
 use dr_word_audit::printing::short_line;
 use dr_word_audit::{Audited, tell_audit, tell_verdict};
 use dr_word_line::RunningNodes;
@@ -142,9 +139,7 @@ fn address_of<'x>(all: &'x Addresses, name: &Text) -> Option<&'x Text> {
 }
 
 /// The first of these nodes that has no address.
-fn lacking<'x>(all: &Addresses, names: &'x [Text]) -> Option<&'x Text>
-    ensures { IfSome result (λ name. Contains names.now name.now) }
-{
+fn lacking<'x>(all: &Addresses, names: &'x [Text]) -> Option<&'x Text> {
     for name in names {
         if address_of(all, name).is_none() {
             return Some(name);
@@ -224,9 +219,7 @@ impl<'x, N: Network, C: Clock> NodesAsker<'x, N, C> {
     /// The journal of the node of that name, so many lines, which are no fewer than there were.
     ///
     /// Errors: those of `lines_at`; Shrunk.
-    fn journal_at(&self, name: &Text, had: u64, count: u64) -> Result<NodeJournal, AskFault>
-        ensures { IfOk result (λ node. node.name ≡ name.now) }
-    {
+    fn journal_at(&self, name: &Text, had: u64, count: u64) -> Result<NodeJournal, AskFault> {
         if count < had {
             return Err(AskFault::Shrunk);
         }
@@ -243,9 +236,7 @@ impl<'x, N: Network, C: Clock> NodesAsker<'x, N, C> {
         names: &[Text],
         first: &[u64],
         last: &[u64],
-    ) -> Result<Vec<NodeJournal>, NodesStopped<'a>>
-        ensures { IfOk result (λ all. names_of all.items ≡ names.now) }
-    {
+    ) -> Result<Vec<NodeJournal>, NodesStopped<'a>> {
         let mut journals = Vec::new(self.alloc);
         for (place, name) in names.iter().enumerate() {
             let (had, count) = (number_at(first, place), number_at(last, place));
@@ -343,18 +334,15 @@ fn audit_by<'a, N: Network, C: Clock>(
     sealed: &Sealed,
     others: &[Text],
     names: &[Text],
-) -> Result<Audited, NodesStopped<'a>>
-    requires { names.now ≡ own_names others.now sealed.now.plan.nodes }
-    ensures { IfOk result (ConcludesAll sealed.now.plan others.now) }
-{
+) -> Result<Audited, NodesStopped<'a>> {
     let first = asker.counts(names)?;
     let last = asker.counts(names)?;
     let read = asker.journals(names, first.as_slice(), last.as_slice())?;
-    let first = places_of(asker.alloc, first.as_slice())?;
-    if first.len() != read.len() {
+    let places = places_of(asker.alloc, first.as_slice())?;
+    if places.len() != read.len() {
         return Err(NodesStopped::Memory);
     }
-    match conclude(asker.alloc, sealed, others, first, read.as_slice()) {
+    match conclude(asker.alloc, sealed, others, places, read.as_slice()) {
         Ok(audited) => Ok(audited),
         Err(AskFault::Memory) => Err(NodesStopped::Memory),
         Err(fault) => Err(NodesStopped::Asking(fault, Text::empty(asker.alloc))),
@@ -370,10 +358,7 @@ fn audit_sealed<'a, N: Network, C: Clock>(
     sealed: &Sealed,
     given: &RunningNodes<'a>,
     token: Option<&Text>,
-) -> Result<Audited, NodesStopped<'a>>
-    ensures { IfOk result
-        (ConcludesAll sealed.now.plan (mapped text_of given.now.others.items)) }
-{
+) -> Result<Audited, NodesStopped<'a>> {
     let others = texts_of(alloc, given.others.as_slice())?;
     let addresses = addresses_of(alloc, given.running.as_slice())?;
     test_known(sealed.plan(), others.as_slice())?;
@@ -404,11 +389,7 @@ fn audit_given<'a, F: Files + Tokens, N: Network, C: Clock>(
     files: &F,
     given: &RunningNodes<'a>,
     way: Way<'_, N, C>,
-) -> Result<Audited, NodesStopped<'a>>
-    ensures { IfOk result
-        (ConcludesBy (F.holds files.now given.now.plan.now)
-        (F.holds files.now given.now.certificate.now) (mapped text_of given.now.others.items)) }
-{
+) -> Result<Audited, NodesStopped<'a>> {
     let token = token_at(alloc, files, given.token)?;
     let sealed = match seal_files(alloc, files, given.plan, given.certificate) {
         Ok(sealed) => sealed,
@@ -442,12 +423,7 @@ pub fn audit_running<'a, F: Files + Tokens, N: Network, C: Clock, W: Write, E: W
     way: Way<'_, N, C>,
     output: &mut W,
     faults: &mut E,
-) -> Result<Status, Failure<'a>>
-    ensures { IfOk result
-        (EndsRunning (F.holds files.now given.entry.plan.now)
-        (F.holds files.now given.entry.certificate.now) (mapped text_of given.entry.others.items)
-        (W.contents output.old) (W.contents output.new)) }
-{
+) -> Result<Status, Failure<'a>> {
     let came = audit_given(alloc, files, &given, way);
     drop(given);
     match came {

@@ -206,7 +206,8 @@ pub fn run_asked<'a, R: Read, W: Write, E: Write, F: Files>(
         | Task::CheckFileAsJson(_)
         | Task::QuestionAsJson(_, _, _)
         | Task::Adopt(_)
-        | Task::Rehearse(_)
+        | Task::AdoptAmong(_, _)
+        | Task::Rehearse(_, _)
         | Task::Audit(_)
         | Task::AuditAmong(_, _)
         | Task::AuditRunning(_) => { Ok(tell_other_word(faults)?) }

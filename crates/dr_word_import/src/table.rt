@@ -163,22 +163,14 @@ fn address_of(alloc: Global, host: &[u8], port: &[u8]) -> Result<Text, AllocErro
 
 /// Whether a row is that of a device that only calls: a scanner that gives neither a host nor a
 /// port.
-fn only_calls(host: &[u8], port: &[u8], role: Option<Role>) -> bool {
-    match role {
-        Some(Role::Scanner) => host.is_empty() && port.is_empty(),
-        _ => false,
-    }
+fn only_calls(host: &[u8], port: &[u8], role: Role) -> bool {
+    role.is_scanner() && host.is_empty() && port.is_empty()
 }
 
 /// Where the device of a row listens; nowhere where it only calls.
 ///
 /// Errors: Host, Port, Memory.
-fn place_in(
-    alloc: Global,
-    host: &[u8],
-    port: &[u8],
-    role: Option<Role>,
-) -> Result<Option<Text>, RowFault> {
+fn place_in(alloc: Global, host: &[u8], port: &[u8], role: Role) -> Result<Option<Text>, RowFault> {
     if only_calls(host, port, role) {
         return Ok(None);
     }
@@ -192,7 +184,7 @@ fn place_in(
     Ok(Some(address))
 }
 
-/// A row as a device.
+/// A row as a device. Its role is looked at before its host and port, which a scanner may lack.
 ///
 /// Errors: all but SecondRouter.
 fn device_of(alloc: Global, columns: Columns, row: &StringRecord) -> Result<Device, RowFault> {
@@ -200,12 +192,11 @@ fn device_of(alloc: Global, columns: Columns, row: &StringRecord) -> Result<Devi
     if !is_title(title) {
         return Err(RowFault::Title);
     }
-    let (host, port) = (field(row, columns.host), field(row, columns.port));
-    let found = role_of(field(row, columns.role));
-    let address = place_in(alloc, host, port, found)?;
-    let Some(role) = found else {
+    let Some(role) = role_of(field(row, columns.role)) else {
         return Err(RowFault::Role);
     };
+    let (host, port) = (field(row, columns.host), field(row, columns.port));
+    let address = place_in(alloc, host, port, role)?;
     let name = Text::copy_of(alloc, title)?;
     Ok(Device {
         name,

@@ -103,7 +103,8 @@ module _ (words : List (Bor (List ℕ)))
   nothing_asked (asks.Audit given) h = audit given h
   nothing_asked (asks.AuditAmong given others) h = absurd h
   nothing_asked (asks.AuditRunning given) h = absurd h
-  nothing_asked (asks.Rehearse change) h = absurd h
+  nothing_asked (asks.AdoptAmong change others) h = absurd h
+  nothing_asked (asks.Rehearse change others) h = absurd h
   nothing_asked asks.CheckInputAsJson h = absurd h
   nothing_asked (asks.CheckFileAsJson plan) h = absurd h
   nothing_asked asks.CheckAllOfInput h = absurd h

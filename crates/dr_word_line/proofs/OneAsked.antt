@@ -249,7 +249,8 @@ module _ (words : List Word) where
       (subst (λ n. of_four n given.plan given.certificate given.folder ≡ asks.Audit given) (sym h.2) refl)
   is_meant (asks.AuditAmong given others) h = absurd h
   is_meant (asks.AuditRunning given) h = absurd h
-  is_meant (asks.Rehearse change) h = absurd h
+  is_meant (asks.AdoptAmong change others) h = absurd h
+  is_meant (asks.Rehearse change others) h = absurd h
   is_meant asks.CheckInputAsJson h = absurd h
   is_meant (asks.CheckFileAsJson plan) h = absurd h
   is_meant asks.CheckAllOfInput h = absurd h

@@ -8,6 +8,7 @@ use Rattle.dr_word_line.specs.declared.words.Task.TheVariants.{Verify}
 use Rattle.dr_word_line.specs.declared.words.Task.TheVariants.{Simulate, Echo}
 use Rattle.dr_word_line.specs.declared.words.Task.TheVariants.{Question as AsksQuestion, AtNode}
 use Rattle.dr_word_line.specs.declared.words.Task.TheVariants.{Adopt, Audit, AtRunning, AuditAmong}
+use Rattle.dr_word_line.specs.declared.words.Task.TheVariants.{AdoptAmong}
 use Rattle.dr_word_line.specs.declared.words.Task.TheVariants.{AuditRunning}
 use Rattle.dr_word_line.specs.declared.words.Task.TheVariants.{Told, Import, Rehearse}
 use Rattle.dr_word_line.specs.declared.words.Task.TheVariants.{CheckInputAsJson, CheckFileAsJson}
@@ -343,9 +344,10 @@ IsAuditOf words given =
     × IsNoOption given.certificate.now
     × IsNoOption given.folder.now
 
--- the words are of a plain form, which asks for this; that nodes are of other makers, that nodes
--- run which are to be audited, that nothing is to be changed, that all faults are to be named, and
--- that an answer is to be JSON is said by options, of which nothing is said here
+-- the words are of a plain form, which asks for this; that nodes are of other makers or have no
+-- ledger, that nodes run which are to be audited, that nothing is to be changed, that all faults
+-- are to be named, and that an answer is to be JSON is said by options, of which nothing is said
+-- here
 abbrev pub Asks : List (Bor (List ℕ)) → Task → Type 0
 Asks words CheckInput = IsPlainCheck words
 Asks words (CheckFile plan) = IsCheckOf words plan
@@ -361,7 +363,8 @@ Asks words (Adopt change) = IsAdoptOf words change
 Asks words (Audit given) = IsAuditOf words given
 Asks words (AuditAmong given others) = ⊥
 Asks words (AuditRunning given) = ⊥
-Asks words (Rehearse change) = ⊥
+Asks words (AdoptAmong change others) = ⊥
+Asks words (Rehearse change others) = ⊥
 Asks words CheckInputAsJson = ⊥
 Asks words (CheckFileAsJson plan) = ⊥
 Asks words CheckAllOfInput = ⊥

@@ -18,6 +18,7 @@ pub(crate) enum Choice {
     Json,
     AllFaults,
     DryRun,
+    Without,
     Fails,
     Summary,
     Long,
@@ -63,6 +64,7 @@ impl<'a> Makes<Arg<'a>> for Choice {
             Choice::Json => Ok(json(alloc)),
             Choice::AllFaults => all_faults(alloc),
             Choice::DryRun => Ok(dry_run(alloc)),
+            Choice::Without => Ok(without(alloc)),
             Choice::Fails => Ok(fails(alloc)),
             Choice::Summary => Ok(summary(alloc)),
             Choice::Long => long(alloc),
@@ -313,6 +315,19 @@ fn dry_run<'a>(alloc: Global) -> Arg<'a> {
         "DRYRUN",
         "dry-run",
         "changes nothing, and prints each row that would be in the way",
+    )
+}
+
+/// The option of `adopt` for a node that has no ledger.
+fn without<'a>(alloc: Global) -> Arg<'a> {
+    each(
+        alloc,
+        (
+            "WITHOUT",
+            "a node of another maker, or one that never ran, which has no ledger; once for each",
+        ),
+        "without",
+        "NODE",
     )
 }
 

@@ -219,11 +219,13 @@ fn read_forgetting<'a>(words: &'a [&'a str]) -> Option<Task<'a>>
     }
 }
 
-/// What words ask a node to do with its ledger, if they are of such a form.
-fn read_duty<'a>(words: &'a [&'a str]) -> Option<Task<'a>>
+/// What words ask of a ledger as a whole, if they are of such a form.
+fn read_whole<'a>(words: &'a [&'a str]) -> Option<Task<'a>>
     ensures asked { IfSome result (λ asked. Asks words.now asked) }
-    ensures duty { IfNone result
-        ((given : NodeFilesValue) (duty : DutyValue) → IsDutyOf words.now given duty → ⊥) }
+    ensures list { IfNone result ((given : NodeFilesValue) → IsListOf words.now given → ⊥) }
+    ensures summary { IfNone result ((given : NodeFilesValue) → IsSummaryOf words.now given → ⊥) }
+    ensures serve { IfNone result ((given : NodeFilesValue) → IsServeOf words.now given → ⊥) }
+    ensures make { IfNone result ((given : NodeFilesValue) → IsMakeOf words.now given → ⊥) }
 {
     if let Some(asked) = read_listing(words) {
         return Some(asked);
@@ -231,12 +233,28 @@ fn read_duty<'a>(words: &'a [&'a str]) -> Option<Task<'a>>
     if let Some(asked) = read_serving(words) {
         return Some(asked);
     }
-    if let Some(asked) = read_making(words) {
-        return Some(asked);
+    match read_making(words) {
+        Some(asked) => Some(asked),
+        None => None,
     }
-    if let Some(asked) = read_sending(words) {
-        return Some(asked);
-    }
+}
+
+/// What words ask of rows and instances of a ledger, if they are of such a form.
+fn read_rows<'a>(words: &'a [&'a str]) -> Option<Task<'a>>
+    ensures asked { IfSome result (λ asked. Asks words.now asked) }
+    ensures requeue { IfNone result
+        ((given : NodeFilesValue) (uid dest : Bor (List ℕ))
+        → IsRequeueOf words.now given uid dest
+        → ⊥) }
+    ensures requeue_all { IfNone result
+        ((given : NodeFilesValue) (dest : Bor (List ℕ)) → IsRequeueAllOf words.now given dest → ⊥) }
+    ensures give_up { IfNone result
+        ((given : NodeFilesValue) (uid dest : Bor (List ℕ))
+        → IsGiveUpOf words.now given uid dest
+        → ⊥) }
+    ensures forget { IfNone result
+        ((given : NodeFilesValue) (uid : Bor (List ℕ)) → IsForgetOf words.now given uid → ⊥) }
+{
     if let Some(asked) = read_requeue(words) {
         return Some(asked);
     }
@@ -244,6 +262,24 @@ fn read_duty<'a>(words: &'a [&'a str]) -> Option<Task<'a>>
         return Some(asked);
     }
     match read_forgetting(words) {
+        Some(asked) => Some(asked),
+        None => None,
+    }
+}
+
+/// What words ask a node to do with its ledger, if they are of such a form.
+fn read_duty<'a>(words: &'a [&'a str]) -> Option<Task<'a>>
+    ensures asked { IfSome result (λ asked. Asks words.now asked) }
+    ensures duty { IfNone result
+        ((given : NodeFilesValue) (duty : DutyValue) → IsDutyOf words.now given duty → ⊥) }
+{
+    if let Some(asked) = read_whole(words) {
+        return Some(asked);
+    }
+    if let Some(asked) = read_rows(words) {
+        return Some(asked);
+    }
+    match read_sending(words) {
         Some(asked) => Some(asked),
         None => None,
     }

@@ -93,12 +93,13 @@ fn check_of<'a>(given: &ArgMatches<'a>) -> Task<'a> {
 }
 
 /// What `adopt` asks for, as clap has read it.
-fn adopt_of<'a>(given: &ArgMatches<'a>) -> Task<'a> {
+fn adopt_of<'a>(alloc: Global, given: &ArgMatches<'a>) -> Result<Task<'a>, AllocError> {
     let change = change_of(given);
+    let others = named_by(alloc, given, "WITHOUT")?;
     if given.get_flag("DRYRUN") {
-        return Task::Rehearse(change);
+        return Ok(Task::Rehearse(change, others));
     }
-    Task::Adopt(change)
+    Ok(Task::AdoptAmong(change, others))
 }
 
 /// How long a node is to wait for its peers, as clap has read it.
@@ -227,13 +228,22 @@ fn change_of<'a>(given: &ArgMatches<'a>) -> PlanChange<'a> {
     }
 }
 
+/// Which nodes are named by an option, as clap has read it.
+fn named_by<'a>(
+    alloc: Global,
+    given: &ArgMatches<'a>,
+    option: &str,
+) -> Result<Vec<&'a str>, AllocError> {
+    let mut names = Vec::new(alloc);
+    if let Some(named) = given.get_strs(option) {
+        names.extend_from_slice(named)?;
+    }
+    Ok(names)
+}
+
 /// Which nodes are of other makers, as clap has read it.
 fn others_of<'a>(alloc: Global, given: &ArgMatches<'a>) -> Result<Vec<&'a str>, AllocError> {
-    let mut others = Vec::new(alloc);
-    if let Some(names) = given.get_strs("OTHER") {
-        others.extend_from_slice(names)?;
-    }
-    Ok(others)
+    named_by(alloc, given, "OTHER")
 }
 
 /// Which ledgers are to be audited, as clap has read it.
@@ -339,7 +349,7 @@ fn read_planned<'a>(
     match name {
         "expand" => Ok(Task::Expand(plan)),
         "echo" => Ok(echo_of(given, plan)),
-        "adopt" => Ok(adopt_of(given)),
+        "adopt" => adopt_of(alloc, given),
         "audit" => audit_of(alloc, given),
         _ => Ok(read_certified(name, given, plan)),
     }

@@ -135,7 +135,7 @@ pub(crate) fn adopt<'a>(alloc: Global) -> Result<Command<'a>, AllocError> {
             ("CERT", "the file with the next plan's certificate"),
             ("DIR", "the folder with the ledger of each node"),
         ],
-        &[Choice::DryRun],
+        &[Choice::DryRun, Choice::Without],
     )
 }
 

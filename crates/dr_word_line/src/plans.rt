@@ -12,7 +12,7 @@ use crate::option::is_no_option;
 use crate::words::{KeyWords, NextPlan, Question, Task};
 
 /// What words ask of a plan's text alone, if they are of such a form.
-pub(crate) fn read_check<'a>(words: &'a [&'a str]) -> Option<Task<'a>>
+fn read_check<'a>(words: &'a [&'a str]) -> Option<Task<'a>>
     ensures asked { IfSome result (λ asked. Asks words.now asked) }
     ensures input { IfNone result (IsPlainCheck words.now → ⊥) }
     ensures file { IfNone result ((plan : Bor (List ℕ)) → IsCheckOf words.now plan → ⊥) }
@@ -26,7 +26,7 @@ pub(crate) fn read_check<'a>(words: &'a [&'a str]) -> Option<Task<'a>>
 }
 
 /// What words ask for that is to be expanded, if they are of that form.
-pub(crate) fn read_expand<'a>(words: &'a [&'a str]) -> Option<Task<'a>>
+fn read_expand<'a>(words: &'a [&'a str]) -> Option<Task<'a>>
     ensures asked { IfSome result (λ asked. Asks words.now asked) }
     ensures expand { IfNone result ((plan : Bor (List ℕ)) → IsExpandOf words.now plan → ⊥) }
 {
@@ -37,7 +37,7 @@ pub(crate) fn read_expand<'a>(words: &'a [&'a str]) -> Option<Task<'a>>
 }
 
 /// What words ask for that is to be imported, if they are of that form.
-pub(crate) fn read_import<'a>(words: &'a [&'a str]) -> Option<Task<'a>>
+fn read_import<'a>(words: &'a [&'a str]) -> Option<Task<'a>>
     ensures asked { IfSome result (λ asked. Asks words.now asked) }
     ensures imported { IfNone result ((table : Bor (List ℕ)) → IsImportOf words.now table → ⊥) }
 {
@@ -48,7 +48,7 @@ pub(crate) fn read_import<'a>(words: &'a [&'a str]) -> Option<Task<'a>>
 }
 
 /// What words ask of a plan and something else, if they are of such a form.
-pub(crate) fn read_pair<'a>(words: &'a [&'a str]) -> Option<Task<'a>>
+fn read_pair<'a>(words: &'a [&'a str]) -> Option<Task<'a>>
     ensures asked { IfSome result (λ asked. Asks words.now asked) }
     ensures verify { IfNone result
         ((plan certificate : Bor (List ℕ)) → IsVerifyOf words.now plan certificate → ⊥) }
@@ -77,7 +77,7 @@ pub(crate) fn read_pair<'a>(words: &'a [&'a str]) -> Option<Task<'a>>
 }
 
 /// What words ask about a plan and its certificate, if they have no more than what names them.
-pub(crate) fn read_question<'a>(words: &'a [&'a str]) -> Option<Task<'a>>
+fn read_question<'a>(words: &'a [&'a str]) -> Option<Task<'a>>
     ensures asked { IfSome result (λ asked. Asks words.now asked) }
     ensures graph { IfNone result
         ((plan certificate : Bor (List ℕ)) → IsGraphOf words.now plan certificate → ⊥) }
@@ -98,7 +98,7 @@ pub(crate) fn read_question<'a>(words: &'a [&'a str]) -> Option<Task<'a>>
 }
 
 /// What words ask of a plan, its certificate and what is expected of it, if they are of that form.
-pub(crate) fn read_expect<'a>(words: &'a [&'a str]) -> Option<Task<'a>>
+fn read_expect<'a>(words: &'a [&'a str]) -> Option<Task<'a>>
     ensures asked { IfSome result (λ asked. Asks words.now asked) }
     ensures expect { IfNone result
         ((plan certificate path : Bor (List ℕ))
@@ -118,7 +118,7 @@ pub(crate) fn read_expect<'a>(words: &'a [&'a str]) -> Option<Task<'a>>
 }
 
 /// What words ask of two plans with their certificates, if they are of that form.
-pub(crate) fn read_diff<'a>(words: &'a [&'a str]) -> Option<Task<'a>>
+fn read_diff<'a>(words: &'a [&'a str]) -> Option<Task<'a>>
     ensures asked { IfSome result (λ asked. Asks words.now asked) }
     ensures diff { IfNone result
         ((plan certificate : Bor (List ℕ)) (next : NextPlanValue)
@@ -144,7 +144,7 @@ pub(crate) fn read_diff<'a>(words: &'a [&'a str]) -> Option<Task<'a>>
 }
 
 /// What words ask about where an instance goes, if they are of such a form.
-pub(crate) fn read_route<'a>(words: &'a [&'a str]) -> Option<Task<'a>>
+fn read_route<'a>(words: &'a [&'a str]) -> Option<Task<'a>>
     ensures asked { IfSome result (λ asked. Asks words.now asked) }
     ensures route_of_file { IfNone result
         ((plan certificate at path : Bor (List ℕ))
@@ -182,5 +182,82 @@ pub(crate) fn read_route<'a>(words: &'a [&'a str]) -> Option<Task<'a>>
             Some(Task::Question(plan, certificate, Question::RouteOfKey(at, key)))
         }
         _ => None,
+    }
+}
+
+/// What words ask of one file, if they are of such a form.
+pub(crate) fn read_alone<'a>(words: &'a [&'a str]) -> Option<Task<'a>>
+    ensures asked { IfSome result (λ asked. Asks words.now asked) }
+    ensures input { IfNone result (IsPlainCheck words.now → ⊥) }
+    ensures file { IfNone result ((plan : Bor (List ℕ)) → IsCheckOf words.now plan → ⊥) }
+    ensures expand { IfNone result ((plan : Bor (List ℕ)) → IsExpandOf words.now plan → ⊥) }
+    ensures imported { IfNone result ((table : Bor (List ℕ)) → IsImportOf words.now table → ⊥) }
+{
+    if let Some(asked) = read_check(words) {
+        return Some(asked);
+    }
+    if let Some(asked) = read_expand(words) {
+        return Some(asked);
+    }
+    match read_import(words) {
+        Some(asked) => Some(asked),
+        None => None,
+    }
+}
+
+/// What words ask of a plan and of what they name beside it, if they are of such a form.
+pub(crate) fn read_named<'a>(words: &'a [&'a str]) -> Option<Task<'a>>
+    ensures asked { IfSome result (λ asked. Asks words.now asked) }
+    ensures verify { IfNone result
+        ((plan certificate : Bor (List ℕ)) → IsVerifyOf words.now plan certificate → ⊥) }
+    ensures simulate { IfNone result
+        ((plan certificate script : Bor (List ℕ))
+        → IsSimulateOf words.now plan certificate script
+        → ⊥) }
+    ensures echo { IfNone result
+        ((plan caller called : Bor (List ℕ)) → IsEchoOf words.now plan caller called → ⊥) }
+    ensures graph { IfNone result
+        ((plan certificate : Bor (List ℕ)) → IsGraphOf words.now plan certificate → ⊥) }
+    ensures lint { IfNone result
+        ((plan certificate : Bor (List ℕ)) → IsLintOf words.now plan certificate → ⊥) }
+    ensures expect { IfNone result
+        ((plan certificate path : Bor (List ℕ))
+        → IsExpectOf words.now plan certificate path
+        → ⊥) }
+{
+    if let Some(asked) = read_pair(words) {
+        return Some(asked);
+    }
+    if let Some(asked) = read_question(words) {
+        return Some(asked);
+    }
+    match read_expect(words) {
+        Some(asked) => Some(asked),
+        None => None,
+    }
+}
+
+/// What words ask of two plans, or of an instance's way, if they are of such a form.
+pub(crate) fn read_ways<'a>(words: &'a [&'a str]) -> Option<Task<'a>>
+    ensures asked { IfSome result (λ asked. Asks words.now asked) }
+    ensures diff { IfNone result
+        ((plan certificate : Bor (List ℕ)) (next : NextPlanValue)
+        → IsDiffOf words.now plan certificate next
+        → ⊥) }
+    ensures route_of_file { IfNone result
+        ((plan certificate at path : Bor (List ℕ))
+        → IsFileRouteOf words.now plan certificate at path
+        → ⊥) }
+    ensures route_of_key { IfNone result
+        ((plan certificate at : Bor (List ℕ)) (key : KeyWordsValue)
+        → IsKeyRouteOf words.now plan certificate at key
+        → ⊥) }
+{
+    if let Some(asked) = read_diff(words) {
+        return Some(asked);
+    }
+    match read_route(words) {
+        Some(asked) => Some(asked),
+        None => None,
     }
 }

@@ -5,10 +5,7 @@ ghost use Rattle.dr_word_line.specs.declared.words.Task.{Task as TaskValue};
 
 use crate::ledgers::read_ledger;
 use crate::matched::read_others;
-use crate::plans::{
-    read_check, read_diff, read_expand, read_expect, read_import, read_pair, read_question,
-    read_route,
-};
+use crate::plans::{read_alone, read_named, read_ways};
 use crate::running::read_running;
 use crate::words::Task;
 use std::alloc::{AllocError, Global};
@@ -17,28 +14,13 @@ use std::alloc::{AllocError, Global};
 fn read_plain<'a>(words: &'a [&'a str]) -> Option<Task<'a>>
     ensures { Reads words.now result }
 {
-    if let Some(asked) = read_check(words) {
+    if let Some(asked) = read_alone(words) {
         return Some(asked);
     }
-    if let Some(asked) = read_expand(words) {
+    if let Some(asked) = read_named(words) {
         return Some(asked);
     }
-    if let Some(asked) = read_import(words) {
-        return Some(asked);
-    }
-    if let Some(asked) = read_pair(words) {
-        return Some(asked);
-    }
-    if let Some(asked) = read_question(words) {
-        return Some(asked);
-    }
-    if let Some(asked) = read_expect(words) {
-        return Some(asked);
-    }
-    if let Some(asked) = read_diff(words) {
-        return Some(asked);
-    }
-    if let Some(asked) = read_route(words) {
+    if let Some(asked) = read_ways(words) {
         return Some(asked);
     }
     if let Some(asked) = read_ledger(words) {

@@ -1,13 +1,21 @@
 //! What plain words ask of a node that runs, or tell it to do.
-ghost use Rattle.std.specs.Prelude.{ℕ, List, IfNone, IfSome};
+ghost use Rattle.std.specs.Prelude.{◌≡◌, ◌↔◌, ℕ, List, IfNone, IfSome, IsTrue, codes};
 ghost use Rattle.std.specs.Borrow.{Bor};
-ghost use Rattle.dr_word_line.specs.Words.{Asks, IsAtRunning, IsErrandOf, IsToRunning};
+ghost use Rattle.dr_word_line.specs.Words.{Asks, IsAtRunning, IsErrandOf, IsNoOption};
+ghost use Rattle.dr_word_line.specs.Words.{IsToRunning};
 ghost use Rattle.dr_word_line.specs.declared.words.Errand.{Errand as ErrandValue};
 ghost use Rattle.dr_word_line.specs.declared.words.Errand.TheVariants as errands;
 ghost use Rattle.dr_word_line.specs.declared.words.RunningNode.{RunningNode as RunningNodeValue};
 
 use crate::option::is_no_option;
 use crate::words::{Errand, RunningNode, Task};
+
+/// Whether the words say where a running node may be asked.
+fn is_at(option: &str, at: &str) -> bool
+    ensures { IsTrue result ↔ ((option.now ≡ codes "--at") × IsNoOption at.now) }
+{
+    option == "--at" && is_no_option(at)
+}
 
 /// What names a running node behind a word, and the words behind that.
 fn at_running<'a>(name: &str, words: &'a [&'a str]) -> Option<(RunningNode<'a>, &'a [&'a str])>
@@ -22,8 +30,7 @@ fn at_running<'a>(name: &str, words: &'a [&'a str]) -> Option<(RunningNode<'a>, 
             if *word == name
                 && is_no_option(plan)
                 && is_no_option(certificate)
-                && *option == "--at"
-                && is_no_option(at) => {
+                && is_at(option, at) => {
             let given = RunningNode {
                 plan,
                 certificate,
@@ -189,6 +196,64 @@ fn read_stopping<'a>(words: &'a [&'a str]) -> Option<Task<'a>>
     }
 }
 
+/// What words tell a running node to do with rows and instances, if they are of such a form.
+fn read_rows<'a>(words: &'a [&'a str]) -> Option<Task<'a>>
+    ensures asked { IfSome result (λ asked. Asks words.now asked) }
+    ensures requeue { IfNone result
+        ((given : RunningNodeValue) (uid dest : Bor (List ℕ))
+        → IsErrandOf words.now given (errands.Requeue uid dest)
+        → ⊥) }
+    ensures requeue_all { IfNone result
+        ((given : RunningNodeValue) (dest : Bor (List ℕ))
+        → IsErrandOf words.now given (errands.RequeueAll dest)
+        → ⊥) }
+    ensures give_up { IfNone result
+        ((given : RunningNodeValue) (uid dest : Bor (List ℕ))
+        → IsErrandOf words.now given (errands.GiveUp uid dest)
+        → ⊥) }
+    ensures forget { IfNone result
+        ((given : RunningNodeValue) (uid : Bor (List ℕ))
+        → IsErrandOf words.now given (errands.Forget uid)
+        → ⊥) }
+{
+    if let Some(asked) = read_requeue(words) {
+        return Some(asked);
+    }
+    if let Some(asked) = read_giving_up(words) {
+        return Some(asked);
+    }
+    match read_forgetting(words) {
+        Some(asked) => Some(asked),
+        None => None,
+    }
+}
+
+/// What else words tell a running node to do, if they are of such a form.
+fn read_work<'a>(words: &'a [&'a str]) -> Option<Task<'a>>
+    ensures asked { IfSome result (λ asked. Asks words.now asked) }
+    ensures visit { IfNone result
+        ((given : RunningNodeValue) (dest : Bor (List ℕ))
+        → IsErrandOf words.now given (errands.Visit dest)
+        → ⊥) }
+    ensures backup { IfNone result
+        ((given : RunningNodeValue) (copy : Bor (List ℕ))
+        → IsErrandOf words.now given (errands.Backup copy)
+        → ⊥) }
+    ensures stop { IfNone result
+        ((given : RunningNodeValue) → IsErrandOf words.now given errands.Stop → ⊥) }
+{
+    if let Some(asked) = read_visiting(words) {
+        return Some(asked);
+    }
+    if let Some(asked) = read_backup(words) {
+        return Some(asked);
+    }
+    match read_stopping(words) {
+        Some(asked) => Some(asked),
+        None => None,
+    }
+}
+
 /// What words ask of a running node, or tell it to do, if they are of such a form.
 pub(crate) fn read_running<'a>(words: &'a [&'a str]) -> Option<Task<'a>>
     ensures asked { IfSome result (λ asked. Asks words.now asked) }
@@ -200,22 +265,10 @@ pub(crate) fn read_running<'a>(words: &'a [&'a str]) -> Option<Task<'a>>
     if let Some(asked) = read_question(words) {
         return Some(asked);
     }
-    if let Some(asked) = read_requeue(words) {
+    if let Some(asked) = read_rows(words) {
         return Some(asked);
     }
-    if let Some(asked) = read_giving_up(words) {
-        return Some(asked);
-    }
-    if let Some(asked) = read_forgetting(words) {
-        return Some(asked);
-    }
-    if let Some(asked) = read_visiting(words) {
-        return Some(asked);
-    }
-    if let Some(asked) = read_backup(words) {
-        return Some(asked);
-    }
-    match read_stopping(words) {
+    match read_work(words) {
         Some(asked) => Some(asked),
         None => None,
     }

@@ -256,8 +256,10 @@ pub enum Task<'a> {
     AtRunning(RunningNode<'a>, Errand<'a>),
     /// To bring the ledgers of all nodes of a plan over to another plan.
     Adopt(PlanChange<'a>),
+    /// The same of all nodes but those of these names, which have no ledger.
+    AdoptAmong(PlanChange<'a>, Vec<&'a str>),
     /// To say what that would come to, and to change nothing.
-    Rehearse(PlanChange<'a>),
+    Rehearse(PlanChange<'a>, Vec<&'a str>),
     /// To audit the ledgers of all nodes of a plan.
     Audit(SiteFiles<'a>),
     /// The same of all nodes but those of these names, which are of other makers.

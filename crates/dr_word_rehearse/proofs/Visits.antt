@@ -11,7 +11,8 @@ use Rattle.dr_run_open.specs.declared.halt.Halt.{Halt}
 use Rattle.dr_run_open.specs.declared.halt.Halt.TheVariants.{NoPlan, NoCertificate, NoNode, NotOpened, NoInstance, Refused, Receipt, Failed, Memory}
 use Rattle.dr_plan_model.specs.Networks.{Network}
 use Rattle.dr_site.specs.Parts.{Part, IsPartOf}
-use Rattle.dr_word_adopt.specs.Changes.{IsOpenedFor, IsSiteAt, path_in}
+use Rattle.dr_word_adopt.specs.Beginnings.{path_in}
+use Rattle.dr_word_adopt.specs.Changes.{IsOpenedFor, IsSiteAt}
 use Rattle.dr_word_adopt.specs.Lookings.{IsUnseen}
 use Rattle.dr_word_rehearse.specs.Looks.{HasJust, IsFoundBy, IsLookAt, IsLooked, IsOverAt, IsUnread, LooksInto, LooksOver, Places}
 use Rattle.dr_word_rehearse.specs.Rehearsals.{AreLooked, LooksAt, looked, node_of}
@@ -24,14 +25,12 @@ use Rattle.dr_word_rehearse.specs.declared.looking.Looked.{Looked}
 module _ {L : Type 0} (site_of : L → Part) (book : L → Book) (stands : L → Type 0) (Opens : L → Type 0) (site own : Part) where
   -- a ledger of the next plan
   pub over_at : (f : LedgerFound L) (look : LedgerLook) → IsFoundBy Opens site_of own f → LooksOver f look → IsOverAt site_of Opens own look
-  over_at found.Nothing look by is = subst (IsOverAt site_of Opens own) (sym is) tt
   over_at found.Older look by is = subst (IsOverAt site_of Opens own) (sym is) tt
   over_at (found.Ledger ledger) look by is = subst (IsOverAt site_of Opens own) (sym is.1) (ledger, by.0, by.1, is.2)
 
   module _ (next : Network) (name : Text) where
     -- one of the plan in force
     pub into_at : (f : LedgerFound L) (look : LedgerLook) → IsFoundBy Opens site_of site f → LooksInto site_of book stands next name f look → IsLookAt site_of book stands next name Opens site own look
-    into_at found.Nothing look by is = subst (IsLookAt site_of book stands next name Opens site own) (sym is) tt
     into_at found.Older look by is = subst (IsLookAt site_of book stands next name Opens site own) (sym is) tt
     into_at (found.Ledger first) look by is = subst (IsLookAt site_of book stands next name Opens site own) (sym is.1) (inl (first, by.0, by.1, is.2))
 

@@ -28,10 +28,10 @@ fits_line = codes "fits" ++ (10 ∷ [])
 abbrev pub row_line : Text → Pair → Text
 row_line node row = unfit_line node row.0 row.1
 
--- What is printed of a node: that it has no ledger yet, and one would be made; that its file would
--- first have to be brought over; or its rows, a line each.
+-- What is printed of a node: that it has no ledger; that its file would first have to be brought
+-- over; or its rows, a line each.
 abbrev pub look_lines : Text → LedgerLook → Text
-look_lines node Nothing = line_of (codes "new") (node ∷ [])
+look_lines node Nothing = line_of (codes "missing") (node ∷ [])
 look_lines node Older = line_of (codes "older") (node ∷ [])
 look_lines node (Rows rows) = flat_map (row_line node) rows.items
 
@@ -43,9 +43,10 @@ abbrev pub is_some_row : List Pair → Bool
 is_some_row [] = false
 is_some_row (row ∷ rows) = true
 
--- the node stands in the way, as far as is known: a row doesn't fit, or its rows weren't looked at
+-- the node stands in the way, as far as is known: a row doesn't fit, its rows weren't looked at, or
+-- it has no ledger
 abbrev pub is_in_the_way : LedgerLook → Bool
-is_in_the_way Nothing = false
+is_in_the_way Nothing = true
 is_in_the_way Older = true
 is_in_the_way (Rows rows) = is_some_row rows.items
 
@@ -69,12 +70,12 @@ EndsRehearsal (Ok done) all old new status =
 EndsRehearsal (Err halt) all old new status =
     Appends old new (flat_map lines_of all ++ printed_by halt) × (status ≡ status_by halt)
 
--- The word `adopt --dry-run`: what comes of the rehearsal, what is printed of it, and the exit
--- status.
+-- The word `adopt --dry-run`: what comes of the rehearsal for all nodes but the others, what is
+-- printed of it, and the exit status.
 abbrev pub Rehearses : {L : Type 0} (holds : Text → Text → Type 0) (opens : Text → L → Type 0)
-    (site_of : L → Part) (book : L → Book) (stands : L → Type 0)
-    → PlanChange → Option Text → Option Text → Status → Type 0
-Rehearses holds opens site_of book stands files old new status =
+    (shows : Text → Bool → Type 0) (site_of : L → Part) (book : L → Book) (stands : L → Type 0)
+    → PlanChange → List Text → Option Text → Option Text → Status → Type 0
+Rehearses holds opens shows site_of book stands files others old new status =
     (came : Result (Unit {0}) Halt) × (all : List Looked)
-    × RehearsesFiles holds opens site_of book stands files came all
+    × RehearsesFiles holds opens shows site_of book stands files others came all
     × EndsRehearsal came all old new status

@@ -22,7 +22,6 @@ use Rattle.dr_word_rehearse.specs.declared.looking.LedgerLook.TheVariants.{Nothi
 
 -- what is found of that site by a path at which this opens
 abbrev pub IsFoundBy : {L : Type 0} → (L → Type 0) → (L → Part) → Part → LedgerFound L → Type 0
-IsFoundBy Opens site_of site found.Nothing = Unit {0}
 IsFoundBy Opens site_of site found.Older = Unit {0}
 IsFoundBy Opens site_of site (found.Ledger ledger) = Opens ledger × (site_of ledger ≡ site)
 
@@ -44,7 +43,6 @@ Places = Vec Pair Global
 
 -- what a look shows at what was found of the next plan, which isn't looked into
 abbrev pub LooksOver : {L : Type 0} → LedgerFound L → LedgerLook → Type 0
-LooksOver found.Nothing look = look ≡ Nothing
 LooksOver found.Older look = look ≡ Older
 LooksOver (found.Ledger ledger) look =
     (rows : Places) × (look ≡ Rows rows) × (rows.items ≡ [])
@@ -78,7 +76,6 @@ module _ {L : Type 0} (site_of : L → Part) (book : L → Book) (stands : L →
 
   -- what a look shows at what was found of the plan in force
   abbrev pub LooksInto : LedgerFound L → LedgerLook → Type 0
-  LooksInto found.Nothing look = look ≡ Nothing
   LooksInto found.Older look = look ≡ Older
   LooksInto (found.Ledger first) look =
       (rows : Places) × (look ≡ Rows rows) × HasJust first rows

@@ -1,15 +1,17 @@
 -- The rehearsal of a change of the plan at all nodes.
-use Rattle.std.specs.Prelude.{◌≡◌, ◌⊎◌, List, [], ◌++◌, All, Contains, map as mapped, Result, Ok}
+use Rattle.std.specs.Prelude.{◌≡◌, ◌⊎◌, Bool, List, [], ◌++◌, All, Contains, map as mapped, Result}
+use Rattle.std.specs.Prelude.{Ok}
 use Rattle.std.specs.Prelude.{Err}
 use Rattle.dr_base.specs.Texts.{Text}
 use Rattle.dr_cert.specs.Sealing.{Certified}
 use Rattle.dr_ledger.specs.Books.{Book}
-use Rattle.dr_plan_model.specs.Plans.{AreNames, NamesNoNode}
+use Rattle.dr_plan_model.specs.Plans.{NamesNoNode}
 use Rattle.dr_run_open.specs.declared.halt.Halt.{Halt}
 use Rattle.dr_run_open.specs.declared.halt.Halt.TheVariants.{NoPlan, NoCertificate, NoNode}
 use Rattle.dr_run_open.specs.declared.halt.Halt.TheVariants.{NotOpened, NoInstance, Refused}
 use Rattle.dr_run_open.specs.declared.halt.Halt.TheVariants.{Receipt, Failed, Memory}
 use Rattle.dr_site.specs.Parts.{Part}
+use Rattle.dr_word_adopt.specs.Beginnings.{AreToGo, IsNotBegun}
 use Rattle.dr_word_adopt.specs.Changes.{AreSealed, AreUnsealed}
 use Rattle.dr_word_adopt.specs.declared.change.Halted.{Halted}
 use Rattle.dr_word_line.specs.declared.words.PlanChange.{PlanChange}
@@ -57,20 +59,23 @@ module _ {L : Type 0} (opens : Text → L → Type 0) (site_of : L → Part) (bo
   LooksAt names (Err Receipt) all = ⊥
   LooksAt names (Err (Failed failure)) all = ⊥
 
-  -- the same of all nodes of the plan in force, by the bytes of their names; without memory for
-  -- these names no node is looked at
-  abbrev pub RehearsesBetween : Result (Unit {0}) Halt → List Looked → Type 0
-  RehearsesBetween came all =
-      ((names : List Text) × AreNames old.plan names × LooksAt names came all)
-      ⊎ ((came ≡ Err Memory) × (all ≡ []))
+  -- the same of all nodes of the plan in force but the others, none of which has a file, by the
+  -- bytes of their names; or no node is looked at
+  abbrev pub RehearsesBetween : (Text → Bool → Type 0) → List Text → Result (Unit {0}) Halt
+      → List Looked → Type 0
+  RehearsesBetween shows others came all =
+      ((ours : List Text) × AreToGo shows folder old.plan next.plan others ours
+      × LooksAt ours came all)
+      ⊎ ((halt : Halt) × (came ≡ Err halt) × (all ≡ [])
+      × IsNotBegun old.plan next.plan others halt)
 
 -- what comes of the rehearsal of a change from the plan in the first file to that in the third,
--- each with its certificate, of the ledgers in the folder
+-- each with its certificate, of the ledgers in the folder, of all nodes but the others
 abbrev pub RehearsesFiles : {L : Type 0} (holds : Text → Text → Type 0) (opens : Text → L → Type 0)
-    (site_of : L → Part) (book : L → Book) (stands : L → Type 0)
-    → PlanChange → Result (Unit {0}) Halt → List Looked → Type 0
-RehearsesFiles holds opens site_of book stands files came all =
+    (shows : Text → Bool → Type 0) (site_of : L → Part) (book : L → Book) (stands : L → Type 0)
+    → PlanChange → List Text → Result (Unit {0}) Halt → List Looked → Type 0
+RehearsesFiles holds opens shows site_of book stands files others came all =
     ((old next : Certified)
     × AreSealed holds files old next
-    × RehearsesBetween opens site_of book stands files.folder.now old next came all)
+    × RehearsesBetween opens site_of book stands files.folder.now old next shows others came all)
     ⊎ ((halt : Halt) × (came ≡ Err halt) × (all ≡ []) × AreUnsealed holds files halt)

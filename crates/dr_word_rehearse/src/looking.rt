@@ -1,6 +1,6 @@
 //! Looks into the nodes' ledgers, each of which is closed again.
 ghost use Rattle.std.specs.Prelude.{◌≡◌, ◌++◌, ◌∷◌, [], IfOk, MatchResult, OnErr, OnOk};
-ghost use Rattle.dr_word_adopt.specs.Changes.{path_in};
+ghost use Rattle.dr_word_adopt.specs.Beginnings.{path_in};
 ghost use Rattle.dr_word_adopt.specs.Lookings.{IsUnseen};
 ghost use Rattle.dr_word_rehearse.specs.Looks.{IsFoundBy, IsLookAt, IsLooked, IsOverAt, IsSeen};
 ghost use Rattle.dr_word_rehearse.specs.Looks.{IsUnread, LooksInto, LooksOver};
@@ -84,7 +84,6 @@ fn look_into<'a, L: TellsJournal + Drop>(
         (LooksInto L.site L.book L.stands next.now.plan name.now found) IsUnread }
 {
     match found {
-        LedgerFound::Nothing => Ok(LedgerLook::Nothing),
         LedgerFound::Older => Ok(LedgerLook::Older),
         LedgerFound::Ledger(ledger) => match see(alloc, next, name, ledger) {
             Ok(rows) => Ok(LedgerLook::Rows(rows)),
@@ -98,7 +97,6 @@ fn look_over<L: Ledger + Drop>(alloc: Global, found: LedgerFound<L>) -> LedgerLo
     ensures { LooksOver found result }
 {
     match found {
-        LedgerFound::Nothing => LedgerLook::Nothing,
         LedgerFound::Older => LedgerLook::Older,
         LedgerFound::Ledger(ledger) => {
             drop(ledger);
@@ -147,6 +145,7 @@ where
     match find_of(alloc, ledgers, path, site) {
         Ok(found) => return look_into(alloc, next, name, found),
         Err(OpenFault::OtherSite) => {}
+        Err(OpenFault::NoLedger) => return Ok(LedgerLook::Nothing),
         Err(fault) => return Err(Halt::NotOpened(fault)),
     }
     match look_again(alloc, ledgers, path, own) {

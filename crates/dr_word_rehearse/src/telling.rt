@@ -33,7 +33,7 @@ fn is_in_the_way(look: &LedgerLook) -> bool
     ensures { result ≡ is_look_in_the_way look.now }
 {
     match look {
-        LedgerLook::Nothing => false,
+        LedgerLook::Nothing => true,
         LedgerLook::Older => true,
         LedgerLook::Rows(rows) => is_some(rows.as_slice()),
     }
@@ -104,7 +104,7 @@ fn put_look(
     ensures { OnOk result (out.new.items ≡ out.old.items ++ look_lines node.now look.now) }
 {
     match look {
-        LedgerLook::Nothing => put_word(out, b"new", node),
+        LedgerLook::Nothing => put_word(out, b"missing", node),
         LedgerLook::Older => put_word(out, b"older", node),
         LedgerLook::Rows(rows) => put_rows(alloc, out, node, rows.as_slice()),
     }

@@ -22,9 +22,10 @@ use Rattle.dr_world.specs.Reports.{IsReported, books_of}
 use Rattle.dr_world.specs.Orders.{IsOrderedRun}
 use Rattle.dr_world.specs.declared.order.WorldOrder.{WorldOrder}
 use Rattle.dr_world.specs.declared.order.RefusedForeign.{RefusedForeign}
-use Rattle.dr_world.proofs.Orders.{meant}
 use Rattle.dr_world.proofs.Among.{last_in_force}
+use Rattle.dr_world.proofs.Orders.{run_meant}
 use Rattle.dr_world.specs.Shows.{Seat, desk_at}
+use Rattle.dr_world.specs.Whole.{AllStand}
 use Rattle.dr_world_tie.specs.ByteWorlds.{beginning}
 use Rattle.dr_word_simulate.specs.Reported.{IsReportAfter, note_of, notes_of, refusal_of, refusals_of}
 
@@ -38,9 +39,9 @@ booked : {L : Type 0} {l : Ghosts L} (o : Option (Node L l)) (seat : Seat) → o
 booked None seat of = absurd (none-some seat of)
 booked {L} {l} (Some n) seat of = (l.book n.desk.ledger, refl)
 
-pub reported_after : {L : Type 0} {l : Ghosts L} (plan : Network) (certificate : Certificate) (orders : List WorldOrder) (changes : List Change) (refusals : List RefusedForeign) (others : List Text) (w : World L l) (text : Text) →
+pub reported_after : {L : Type 0} {l : Ghosts L} (stands : (v : World L l) → AllStand v) (plan : Network) (certificate : Certificate) (orders : List WorldOrder) (changes : List Change) (refusals : List RefusedForeign) (others : List Text) (w : World L l) (text : Text) →
     IsOrderedRun plan certificate orders changes refusals others w → IsReported others (books_of w.nodes) (notes_of changes ++ refusals_of refusals) text → IsReportAfter plan certificate orders text
-reported_after {L} {l} plan certificate orders changes refusals others w text (first, deeds, reached, ordered, run) reported =
+reported_after {L} {l} stands plan certificate orders changes refusals others w text (certified, (first, deeds, reached, ordered, run)) reported =
     let find : (name : Text) (book : Book) → books_of w.nodes name ≡ Some book → (n : Node L l) × (tree.get text_cmp w.nodes name ≡ Some n) × (l.book n.desk.ledger ≡ book) =
     λ name book of. seated_book (tree.get text_cmp w.nodes name) book of in
     record {
@@ -48,7 +49,7 @@ reported_after {L} {l} plan certificate orders changes refusals others w text (f
       changes = changes;
       refusals = refusals;
       others = others;
-      ordered = meant [] first orders deeds changes refusals others w ordered;
+      ordered = run_meant stands plan certificate certified orders deeds changes refusals others first w reached ordered;
       books = books_of w.nodes;
       lines = reported.0;
       told = reported.1 ∙ append_assoc (notes_of changes) (refusals_of refusals) reported.0;

@@ -79,6 +79,7 @@ notes_of (change ∷ changes) = note_of change ++ notes_of changes
 abbrev pub refusal_word : ForeignRefusal → Text
 refusal_word why.NoLink = codes "no-link"
 refusal_word why.NotForeign = codes "not-foreign"
+refusal_word why.BothForeign = codes "both-foreign"
 refusal_word why.NoContext = codes "no-context"
 refusal_word why.NotAsked = codes "not-asked"
 
@@ -87,7 +88,13 @@ abbrev pub refusal_line : Text → ℕ → ForeignRefusal → Text
 refusal_line word link reason =
     codes "Refused" ++ (9 ∷ word) ++ (9 ∷ decimal link) ++ (9 ∷ refusal_word reason) ++ (10 ∷ [])
 
+-- the same of a name that no node has
+abbrev pub no_node_line : Text → Text
+no_node_line node =
+    codes "Refused" ++ (9 ∷ codes "foreign") ++ (9 ∷ node) ++ (9 ∷ codes "no-node") ++ (10 ∷ [])
+
 abbrev pub refusal_of : RefusedForeign → Text
+refusal_of (refused.Node node) = no_node_line node
 refusal_of (refused.Store link reason) = refusal_line (codes "store") link reason
 refusal_of (refused.Answer link reason) = refusal_line (codes "answer") link reason
 
@@ -96,17 +103,18 @@ refusals_of [] = []
 refusals_of (one ∷ more) = refusal_of one ++ refusals_of more
 
 -- The text is what is told of the changes and of what other makers' products didn't do. Behind it
--- is the report of the nodes after the deeds to which the orders come, in byte order of the nodes'
--- names: of each its book, but for those that were told to be others'. The headline holds of the
--- books, where no other product writes. Whichever nodes are ours, the four claims among others hold
--- of theirs, where the deeds fit.
+-- is the report of the nodes after the deeds to which the orders come, each in a world to which
+-- those before it have led. It is in byte order of the nodes' names: of each its book, but for
+-- those that were told to be others'. The headline holds of the books, where no other product
+-- writes. Whichever nodes are ours, the four claims among others hold of theirs, where the deeds
+-- fit.
 pub record IsReportAfter (plan : Network) (certificate : Certificate) (orders : List WorldOrder)
     (report : Text) : Type 0 where
   pub deeds : List Deed
   pub changes : List Change
   pub refusals : List RefusedForeign
   pub others : List Text
-  pub ordered : AreMeant [] orders deeds refusals others
+  pub ordered : AreMeant plan certificate [] [] [] orders deeds changes refusals others
   pub books : Books
   pub lines : Text
   pub told : report ≡ notes_of changes ++ (refusals_of refusals ++ lines)

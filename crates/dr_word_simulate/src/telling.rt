@@ -1,8 +1,9 @@
 //! What changes of plan came to, and what wasn't done by other makers' products, as text.
 ghost use Rattle.std.specs.Prelude.{◌≡◌, ◌++◌, OnOk};
 ghost use Rattle.dr_word_simulate.specs.Reported.{note_of, notes_of, refusal_line, refusal_of};
-ghost use Rattle.dr_word_simulate.specs.Reported.{refusal_word, refusals_of};
+ghost use Rattle.dr_word_simulate.specs.Reported.{no_node_line, refusal_word, refusals_of};
 
+use dr_base::Text;
 use dr_base::fields::{add_field, add_number};
 use dr_world::{Change, ForeignRefusal, RefusedForeign};
 use std::alloc::AllocError;
@@ -52,6 +53,7 @@ fn refusal_word(why: ForeignRefusal) -> &'static [u8]
     match why {
         ForeignRefusal::NoLink => b"no-link",
         ForeignRefusal::NotForeign => b"not-foreign",
+        ForeignRefusal::BothForeign => b"both-foreign",
         ForeignRefusal::NoContext => b"no-context",
         ForeignRefusal::NotAsked => b"not-asked",
     }
@@ -74,11 +76,24 @@ fn put_refusal(
     Ok(())
 }
 
+/// Adds that no node has the name of what was to be another maker's product.
+fn put_no_node(out: &mut Vec<u8>, node: &Text) -> Result<(), AllocError>
+    ensures { OnOk result (out.new.items ≡ out.old.items ++ no_node_line node.now) }
+{
+    out.extend_from_slice(b"Refused")?;
+    add_field(out, b"foreign")?;
+    add_field(out, node.as_bytes())?;
+    add_field(out, b"no-node")?;
+    out.push(LF)?;
+    Ok(())
+}
+
 /// Adds what another maker's product was told and didn't do.
 fn tell_refusal(refused: &RefusedForeign, out: &mut Vec<u8>) -> Result<(), AllocError>
     ensures { OnOk result (out.new.items ≡ out.old.items ++ refusal_of refused.now) }
 {
     match refused {
+        RefusedForeign::Node { node } => put_no_node(out, node),
         RefusedForeign::Store { link, why } => put_refusal(out, b"store", *link, *why),
         RefusedForeign::Answer { link, why } => put_refusal(out, b"answer", *link, *why),
     }

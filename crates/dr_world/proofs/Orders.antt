@@ -20,7 +20,7 @@ use Rattle.dr_world.specs.Orders.{AreMeant, AreOrdered, IsChangeOrder, IsOrderDo
 use Rattle.dr_world.specs.Played.{EndsEarly, IsPlayed, PlaysAll}
 use Rattle.dr_world.specs.Runs.{IsReached}
 use Rattle.dr_world.specs.Whole.{AllStand, contents}
-use Rattle.dr_world.proofs.Played.{run_of}
+use Rattle.dr_world.proofs.Played.{begun, run_of}
 
 module _ {L : Type 0} {l : Ghosts L} where
   -- ---- deeds
@@ -48,12 +48,27 @@ module _ {L : Type 0} {l : Ghosts L} where
   plays_ordered others old (one ∷ orders) deeds changes refusals last new (done, more, told, later, said, rest, after, mid, ed, ec, er, first, h) =
       plays_then old mid new deeds done more changes told later first.plays (plays_ordered after mid orders more later rest last new h) ed ec
 
-  -- and each is what its order means
-  pub meant : (others : List Text) (old : World L l) (orders : List WorldOrder) (deeds : List Deed) (changes : List Change) (refusals : List RefusedForeign) (last : List Text) (new : World L l)
-      → AreOrdered others old orders deeds changes refusals last new → AreMeant others orders deeds refusals last
-  meant others old [] deeds changes refusals last new (d, c, r, o, w) = (d, r, o)
-  meant others old (one ∷ orders) deeds changes refusals last new (done, more, told, later, said, rest, after, mid, ed, ec, er, first, h) =
-      (contents old, done, more, said, rest, after, ed, er, first.means, meant after mid orders more later rest last new h)
+  -- and each is what its order means, where the premise of each ledger stands anyway
+  pub meant : ((w : World L l) → AllStand w) → (first : Network) (its : Certificate) → IsCertified first its → (before : List Deed) (came : List Change)
+      → (others : List Text) (old : World L l) (orders : List WorldOrder) (deeds : List Deed) (changes : List Change) (refusals : List RefusedForeign) (last : List Text) (new : World L l)
+      → IsPlayed first its before came old → AreOrdered others old orders deeds changes refusals last new → AreMeant first its before came others orders deeds changes refusals last
+  meant stands first its certified before came others old [] deeds changes refusals last new played (d, c, r, o, w) = (d, c, r, o)
+  meant stands first its certified before came others old (one ∷ orders) deeds changes refusals last new played (done, more, told, later, said, rest, after, mid, ed, ec, er, step, h) = (
+    contents old,
+    done,
+    more,
+    told,
+    later,
+    said,
+    rest,
+    after,
+    ed,
+    ec,
+    er,
+    played (stands old),
+    step.means,
+    meant stands first its certified (before ++ done) (came ++ told) after mid orders more later rest last new (step.plays first its certified before came played) h,
+  )
 
   -- ---- one more
 
@@ -99,7 +114,7 @@ module _ {L : Type 0} {l : Ghosts L} where
   SoFar old orders notes new = (deeds : List Deed) × AreOrdered [] old orders deeds notes.changes notes.refusals notes.others new
 
   pub none_ordered : (w : World L l) (orders : List WorldOrder) (notes : PlayNotes) → notes ≡ record { others = []; changes = []; refusals = [] } → SoFar w (take 0 orders) notes w
-  none_ordered w orders notes are = ([], refl, ap (λ (n : PlayNotes). n.changes) are, ap (λ (n : PlayNotes). n.refusals) are, ap (λ (n : PlayNotes). n.others) are, refl)
+  none_ordered w orders notes are = ([], (refl, ap (λ (n : PlayNotes). n.changes) are, ap (λ (n : PlayNotes). n.refusals) are, ap (λ (n : PlayNotes). n.others) are, refl))
 
   pub one_ordered : (first old new : World L l) (orders : List WorldOrder) (i : ℕ) (one : WorldOrder) (before after : PlayNotes) → i < length orders → one ≡ get_or orders i one
       → SoFar first (take i orders) before old → NotesOrder before old one after new → SoFar first (take (i + 1) orders) after new
@@ -110,19 +125,29 @@ module _ {L : Type 0} {l : Ghosts L} where
       (deeds ++ done, subst P (λ j. (listed j, (sym ec j, sym er j))) more)
 
   pub all_ordered : (first new : World L l) (orders : List WorldOrder) (i : ℕ) (notes : PlayNotes) → length orders ≤ i → SoFar first (take i orders) notes new → SoFar first orders notes new
-  all_ordered first new orders i notes all h = (let P : List WorldOrder → Type 0 = λ os. SoFar first os notes new in subst P (take_all orders i all) h)
+  all_ordered first new orders i notes all h = (let P : List WorldOrder → Type 0 = λ os. SoFar first os notes new in subst P (take_all i orders all) h)
 
   -- ---- from the beginning
 
   pub ordered_run : (plan : Network) (certificate : Certificate) → IsCertified plan certificate → (first last : World L l) (orders : List WorldOrder) (notes : PlayNotes)
       → IsReached plan certificate [] first → SoFar first orders notes last → AllStand last → IsOrderedRun plan certificate orders notes.changes notes.refusals notes.others last
   ordered_run plan certificate certified first last orders notes reached (deeds, h) all = (
-    first,
-    deeds,
-    reached,
-    h,
-    run_of plan certificate certified first last deeds notes.changes reached (plays_ordered [] first orders deeds notes.changes notes.refusals notes.others last h) all,
+    certified,
+    (
+      first,
+      deeds,
+      reached,
+      h,
+      run_of plan certificate certified first last deeds notes.changes reached (plays_ordered [] first orders deeds notes.changes notes.refusals notes.others last h) all,
+    ),
   )
+
+  -- what the orders of a run mean, from its beginning
+  pub run_meant : ((w : World L l) → AllStand w) → (plan : Network) (certificate : Certificate) → IsCertified plan certificate → (orders : List WorldOrder) (deeds : List Deed) (changes : List Change)
+      → (refusals : List RefusedForeign) (others : List Text) (first w : World L l) → IsReached plan certificate [] first → AreOrdered [] first orders deeds changes refusals others w
+      → AreMeant plan certificate [] [] [] orders deeds changes refusals others
+  run_meant stands plan certificate certified orders deeds changes refusals others first w reached h =
+      meant stands plan certificate certified [] [] [] first orders deeds changes refusals others w (begun plan certificate first reached) h
 
 -- ---- why not all is done
 

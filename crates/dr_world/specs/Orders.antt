@@ -1,7 +1,7 @@
 -- What is ordered in a world: which steps aren't taken for other makers' products, what these write
 -- for what they are told to do, and what a list of orders comes to.
-use Rattle.std.specs.Prelude.{◌≡◌, ◌⊎◌, ℕ, List, [], ◌∷◌, ◌++◌, Contains, false, Option, None}
-use Rattle.std.specs.Prelude.{Some}
+use Rattle.std.specs.Prelude.{◌≡◌, ◌⊎◌, ℕ, List, [], ◌∷◌, ◌++◌, Contains, true, false}
+use Rattle.std.specs.Prelude.{Option, None, Some, is_some}
 use Rattle.std.specs.FinMap as map
 use Rattle.dr_base.specs.Texts.{Text}
 use Rattle.dr_base.specs.Syntaxes.{syntax_uid}
@@ -16,10 +16,11 @@ use Rattle.dr_pdu.specs.declared.pdu.Pdu.{Pdu}
 use Rattle.dr_plan_model.specs.Networks.{Network}
 use Rattle.dr_plan_sound.specs.declared.certificate.Certificate.{Certificate}
 use Rattle.dr_cert.specs.Sealing.{Certified}
+use Rattle.dr_site.specs.Sites.{IsCertified}
 use Rattle.dr_session.specs.Messages.{command_pdus, data_pdus}
 use Rattle.dr_session.specs.Pendings.{agreed_in, asked_in}
 use Rattle.dr_session.specs.declared.ends.Pending.{Pending}
-use Rattle.dr_world_tie.specs.ByteWorlds.{Acceptor, Requestor, Side}
+use Rattle.dr_world_tie.specs.ByteWorlds.{Acceptor, ByteWorld, Requestor, Side, beginning}
 use Rattle.dr_world_script.specs.declared.foreign.Foreign.TheVariants as foreign
 use Rattle.dr_world_script.specs.declared.step.Side as steps
 use Rattle.dr_world_script.specs.declared.step.Side.TheVariants as side
@@ -35,7 +36,7 @@ use Rattle.dr_world.specs.declared.order.WorldOrder.{WorldOrder}
 use Rattle.dr_world.specs.declared.order.WorldOrder.TheVariants as order
 use Rattle.dr_world.specs.declared.order.ForeignRefusal.{ForeignRefusal}
 use Rattle.dr_world.specs.declared.order.ForeignRefusal.TheVariants.{NoContext, NoLink, NotAsked}
-use Rattle.dr_world.specs.declared.order.ForeignRefusal.TheVariants.{NotForeign}
+use Rattle.dr_world.specs.declared.order.ForeignRefusal.TheVariants.{BothForeign, NotForeign}
 use Rattle.dr_world.specs.declared.order.RefusedForeign.{RefusedForeign}
 use Rattle.dr_world.specs.declared.order.RefusedForeign.TheVariants as refused
 use Rattle.dr_world.specs.declared.order.Spoken.{Spoken}
@@ -43,10 +44,10 @@ use Rattle.dr_world.specs.declared.order.Spoken.TheVariants.{Refuses, Writes}
 use Rattle.dr_world.specs.declared.playing.PlayNotes.{PlayNotes}
 use Rattle.dr_world.specs.declared.wires.Wires.{Wires}
 use Rattle.dr_world.specs.declared.world.World.{World}
-use Rattle.dr_world.specs.Ends.{name_at, named}
-use Rattle.dr_world.specs.Played.{IsChange, IsRunOf, PlaysAll}
+use Rattle.dr_world.specs.Ends.{name_at, named, wire_at}
+use Rattle.dr_world.specs.Played.{IsChange, IsRunOf, PlaysAll, PlaysThrough}
 use Rattle.dr_world.specs.Runs.{IsReached}
-use Rattle.dr_world.specs.Shows.{Contents, Seat}
+use Rattle.dr_world.specs.Shows.{Contents, IsSeated, Seat, ShowsBytes}
 use Rattle.dr_world.specs.Whole.{contents}
 
 -- ---- steps that aren't taken
@@ -113,44 +114,61 @@ storing_pdus context item =
     command_pdus 1024 context (StoreRq 1 item.key.class item.uid)
     ++ data_pdus 1024 context item.body
 
+-- a response in that context to a request of that message id
+abbrev pub response_pdus : ℕ → ℕ → ℕ → List Pdu
+response_pdus context to status = command_pdus 1024 context (StoreRsp to status [] [] false)
+
 -- the response to a request with that status
 abbrev pub answer_pdus : Pending → ℕ → List Pdu
-answer_pdus asked status =
-    command_pdus 1024 asked.context (StoreRsp asked.id status [] [] false)
+answer_pdus asked status = response_pdus asked.context asked.id status
 
--- what a caller writes to store an item, or why it doesn't
+-- what is on its way from a caller that stores an item, or why it doesn't
 abbrev pub StoresAs : List Text → Contents → ℕ → Job → Spoken → Type 0
 StoresAs others c link item (Writes bytes) =
     (w : Wires) × (context : ℕ)
     × (c.wires link ≡ Some w)
     × Contains others w.caller
+    × (Contains others w.receiver → ⊥)
     × (context_in (agreed_at link (c.seats w.receiver)) item ≡ Some context)
-    × (bytes ≡ spellings (storing_pdus context item))
+    × (bytes ≡ wire_at Acceptor w ++ spellings (storing_pdus context item))
 StoresAs others c link item (Refuses NoLink) = c.wires link ≡ None
 StoresAs others c link item (Refuses NotForeign) =
     (w : Wires) × (c.wires link ≡ Some w) × (Contains others w.caller → ⊥)
+StoresAs others c link item (Refuses BothForeign) =
+    (w : Wires)
+    × (c.wires link ≡ Some w)
+    × Contains others w.caller
+    × Contains others w.receiver
 StoresAs others c link item (Refuses NoContext) =
     (w : Wires)
     × (c.wires link ≡ Some w)
     × Contains others w.caller
+    × (Contains others w.receiver → ⊥)
     × (context_in (agreed_at link (c.seats w.receiver)) item ≡ None)
 StoresAs others c link item (Refuses NotAsked) = ⊥
 
--- what a receiver writes to answer, or why it doesn't
+-- what is on its way from a receiver that answers, or why it doesn't
 abbrev pub AnswersAs : List Text → Contents → ℕ → ℕ → Spoken → Type 0
 AnswersAs others c link status (Writes bytes) =
     (w : Wires) × (asked : Pending)
     × (c.wires link ≡ Some w)
     × Contains others w.receiver
+    × (Contains others w.caller → ⊥)
     × (asked_at link (c.seats w.caller) ≡ Some asked)
-    × (bytes ≡ spellings (answer_pdus asked status))
+    × (bytes ≡ wire_at Requestor w ++ spellings (answer_pdus asked status))
 AnswersAs others c link status (Refuses NoLink) = c.wires link ≡ None
 AnswersAs others c link status (Refuses NotForeign) =
     (w : Wires) × (c.wires link ≡ Some w) × (Contains others w.receiver → ⊥)
+AnswersAs others c link status (Refuses BothForeign) =
+    (w : Wires)
+    × (c.wires link ≡ Some w)
+    × Contains others w.receiver
+    × Contains others w.caller
 AnswersAs others c link status (Refuses NotAsked) =
     (w : Wires)
     × (c.wires link ≡ Some w)
     × Contains others w.receiver
+    × (Contains others w.caller → ⊥)
     × (asked_at link (c.seats w.caller) ≡ None)
 AnswersAs others c link status (Refuses NoContext) = ⊥
 
@@ -169,7 +187,7 @@ IsSpoken Is link at note done said =
 
 -- What an order comes to where those nodes are other makers' products, in a world with these
 -- contents: the deeds that are done for it, what is refused of it, and which nodes are others' from
--- then on. No step is taken for another's node.
+-- then on. No step is taken for another's node; a name that no node has is refused.
 abbrev pub IsMeant : List Text → Contents → WorldOrder → List Deed → List RefusedForeign → List Text
     → Type 0
 IsMeant others c (order.Deed done) deeds said after =
@@ -177,7 +195,9 @@ IsMeant others c (order.Deed done) deeds said after =
     × (((IsPassedOver others c done → ⊥) × (deeds ≡ done ∷ []))
     ⊎ (IsPassedOver others c done × (deeds ≡ [])))
 IsMeant others c (order.Foreign (foreign.Node node)) deeds said after =
-    (deeds ≡ []) × (said ≡ []) × (after ≡ others ++ node ∷ [])
+    (deeds ≡ [])
+    × (((is_some (c.seats node) ≡ true) × (said ≡ []) × (after ≡ others ++ node ∷ []))
+    ⊎ ((is_some (c.seats node) ≡ false) × (said ≡ refused.Node node ∷ []) × (after ≡ others)))
 IsMeant others c (order.Foreign (foreign.Store link item)) deeds said after =
     (after ≡ others)
     × IsSpoken (StoresAs others c link item) link side.Requestor (refused.Store link) deeds said
@@ -214,27 +234,41 @@ AreOrdered {L} {l} others old (one ∷ orders) deeds changes refusals last new =
     × IsOrderDone others old one done told said after mid
     × AreOrdered after mid orders more later rest last new
 
--- the same without the worlds: each order comes to what it means in some world
-abbrev pub AreMeant : List Text → List WorldOrder → List Deed → List RefusedForeign → List Text
-    → Type 0
-AreMeant others [] deeds refusals last = (deeds ≡ []) × (refusals ≡ []) × (last ≡ others)
-AreMeant others (one ∷ orders) deeds refusals last =
-    (c : Contents) × (done more : List Deed)
-    × (said rest : List RefusedForeign)
-    × (after : List Text) × (deeds ≡ done ++ more)
-    × (refusals ≡ said ++ rest)
-    × IsMeant others c one done said after
-    × AreMeant after orders more rest last
+-- just these deeds, with what the changes among them come to, lead from the beginning of the world
+-- of bytes to one that stands beside the contents
+abbrev pub LeadTo : Network → Certificate → List Deed → List Change → Contents → Type 0
+LeadTo first its deeds changes c =
+    ∥ ((plan : Network) × (certificate : Certificate)
+    × IsSeated plan certificate c.seats
+    × ((b : ByteWorld)
+    × PlaysThrough first its beginning deeds changes plan certificate b
+    × ShowsBytes c b)) ∥₁
 
--- A world that just these orders have made of the plan: the deeds that they come to have.
+-- The same without the ledgers: each order comes to what it means in contents to which the deeds of
+-- the orders before it have led.
+abbrev pub AreMeant : Network → Certificate → List Deed → List Change → List Text
+    → List WorldOrder → List Deed → List Change → List RefusedForeign → List Text → Type 0
+AreMeant first its before came others [] deeds changes refusals last =
+    (deeds ≡ []) × (changes ≡ []) × (refusals ≡ []) × (last ≡ others)
+AreMeant first its before came others (one ∷ orders) deeds changes refusals last =
+    (c : Contents) × (done more : List Deed) × (told later : List Change)
+    × (said rest : List RefusedForeign) × (after : List Text)
+    × (deeds ≡ done ++ more) × (changes ≡ told ++ later) × (refusals ≡ said ++ rest)
+    × LeadTo first its before came c
+    × IsMeant others c one done said after
+    × AreMeant first its (before ++ done) (came ++ told) after orders more later rest last
+
+-- A world that just these orders have made of the plan, which is one with its certificate: the
+-- deeds that they come to have.
 abbrev pub IsOrderedRun : {L : Type 0} {l : Ghosts L}
     → Network → Certificate → List WorldOrder → List Change → List RefusedForeign → List Text
     → World L l → Type 0
 IsOrderedRun {L} {l} plan certificate orders changes refusals others w =
-    (first : World L l) × (deeds : List Deed)
+    IsCertified plan certificate
+    × ((first : World L l) × (deeds : List Deed)
     × IsReached plan certificate [] first
     × AreOrdered [] first orders deeds changes refusals others w
-    × IsRunOf plan certificate deeds changes w
+    × IsRunOf plan certificate deeds changes w)
 
 -- ---- why not all is done
 

@@ -7,6 +7,7 @@ ghost use Rattle.dr_world.specs.Reports.{foreign_line, has_in};
 ghost use Rattle.dr_world.specs.Nodes.{AllStandIn};
 
 use crate::fault::WorldFault;
+use crate::speaking::is_among;
 use dr_base::{Seq, Text};
 use dr_ledger::{Entry, Ledger, LedgerFault, Progress};
 use dr_ledger_report::{put_name, put_report};
@@ -152,7 +153,7 @@ fn report_at<L: Ledger>(
     let Some(listing) = list_at(nodes, name)? else {
         return Err(WorldFault::Memory);
     };
-    if others.contains(name) {
+    if is_among(others, name) {
         put_foreign(out, name)?;
         return Ok(());
     }

@@ -1,6 +1,6 @@
 //! What is ordered in a world.
 use crate::deed::Deed;
-use dr_base::Octets;
+use dr_base::{Octets, Text};
 use dr_world_script::Foreign;
 
 /// What is ordered in a world: a deed, or what concerns other makers' products. Which deed that
@@ -18,15 +18,18 @@ pub enum ForeignRefusal {
     NoLink,
     /// The end that is to write isn't that of another maker's product.
     NotForeign,
+    /// The other end is that of another maker's product, too: nothing is known of it.
+    BothForeign,
     /// The receiver has accepted no presentation context for the class and the transfer syntax.
     NoContext,
     /// The caller awaits no response to a store.
     NotAsked,
 }
 
-/// What was refused, at which link, and why.
-#[derive(Clone, Copy, PartialEq, Eq, Debug)]
+/// What was refused: a name that no node has, or what was to be done at a link, and why.
+#[derive(Drop)]
 pub enum RefusedForeign {
+    Node { node: Text },
     Store { link: u64, why: ForeignRefusal },
     Answer { link: u64, why: ForeignRefusal },
 }

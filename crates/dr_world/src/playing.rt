@@ -188,7 +188,8 @@ fn do_store(
     ensures whole { OnOk result (world.new.lost ≡ None) }
     ensures memory { IfErr result (λ fault. fault ≡ MemoryFault) }
 {
-    match world.store_of(notes.others.as_slice(), link, item)? {
+    let spoken = world.store_of(notes.others.as_slice(), link, item)?;
+    match spoken {
         Spoken::Writes(bytes) => match speak(world, link, Side::Requestor, &bytes) {
             Ok(()) => Ok(()),
             Err(fault) => Err(fault),
@@ -214,7 +215,8 @@ fn do_answer(
     ensures whole { OnOk result (world.new.lost ≡ None) }
     ensures memory { IfErr result (λ fault. fault ≡ MemoryFault) }
 {
-    match world.answer_of(notes.others.as_slice(), link, status)? {
+    let spoken = world.answer_of(notes.others.as_slice(), link, status)?;
+    match spoken {
         Spoken::Writes(bytes) => match speak(world, link, Side::Acceptor, &bytes) {
             Ok(()) => Ok(()),
             Err(fault) => Err(fault),
@@ -224,6 +226,28 @@ fn do_answer(
             Ok(())
         }
     }
+}
+
+/// A node is another maker's product.
+fn do_node(
+    world: &mut World<Refusing<MemoryLedger>>,
+    node: &Text,
+    notes: &mut PlayNotes,
+) -> Result<(), WorldFault>
+    requires { world.old.lost ≡ None }
+    ensures plays { OnOk result
+        (NotesOrder notes.old world.old (orders_of.Foreign (foreign_of.Node node.now)) notes.new
+        world.new) }
+    ensures whole { OnOk result (world.new.lost ≡ None) }
+    ensures memory { IfErr result (λ fault. fault ≡ MemoryFault) }
+{
+    let name = node.clone()?;
+    if world.has_node(node) {
+        notes.others.push(name)?;
+        return Ok(());
+    }
+    notes.refusals.push(RefusedForeign::Node { node: name })?;
+    Ok(())
 }
 
 /// What concerns other makers' products.
@@ -239,11 +263,7 @@ fn do_foreign(
     ensures memory { IfErr result (λ fault. fault ≡ MemoryFault) }
 {
     match foreign {
-        Foreign::Node { node } => {
-            let name = node.clone()?;
-            notes.others.push(name)?;
-            Ok(())
-        }
+        Foreign::Node { node } => do_node(world, node, notes),
         Foreign::Store { link, item } => do_store(world, *link, item, notes),
         Foreign::Answer { link, status } => do_answer(world, *link, *status, notes),
     }

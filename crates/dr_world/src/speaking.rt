@@ -1,9 +1,10 @@
 //! What another maker's product writes for what it is told to do.
-ghost use Rattle.std.specs.Prelude.{◌≡◌, IfOk, option_copied};
+ghost use Rattle.std.specs.Prelude.{◌≡◌, ◌↔◌, ◌++◌, Contains, IfOk, IsTrue, option_copied};
 ghost use Rattle.dr_ledger.specs.Items.{IsItem};
 ghost use Rattle.dr_nego.specs.Fragments.{spellings};
 ghost use Rattle.dr_world.specs.Nodes.{seats_of};
-ghost use Rattle.dr_world.specs.Orders.{agreed_at, answer_pdus, asked_at, context_in, storing_pdus};
+ghost use Rattle.dr_world.specs.Orders.{agreed_at, answer_pdus, asked_at, context_in};
+ghost use Rattle.dr_world.specs.Orders.{response_pdus, storing_pdus};
 
 use dr_base::{Octets, Seq, Text};
 use dr_dimse::{Command, write_command};
@@ -20,6 +21,13 @@ const LIMIT: u32 = 1_024;
 
 /// The message id of a store.
 const STORE_ID: u16 = 1;
+
+/// Whether the name is one of these.
+pub fn is_among(names: &[Text], name: &Text) -> bool
+    ensures { IsTrue result ↔ Contains names.now name.now }
+{
+    names.contains(name)
+}
 
 /// What the node of that name has agreed on at a link.
 fn agreed_at<'a, L: Ledger>(
@@ -71,13 +79,30 @@ pub fn context_at<L: Ledger>(
     agreed.context_for(&item.key().class, item.key().syntax)
 }
 
-/// A C-STORE-RQ with the data set of an item, in that context.
-pub fn store_text(alloc: Global, context: u8, item: &Item) -> Result<Octets, AllocError>
-    ensures { IfOk result (λ bytes. bytes ≡ spellings (storing_pdus context item.now)) }
+/// What is there, and behind it a C-STORE-RQ with the data set of an item, in that context.
+pub fn store_text(
+    alloc: Global,
+    front: &[u8],
+    context: u8,
+    item: &Item,
+) -> Result<Octets, AllocError>
+    ensures { IfOk result (λ bytes.
+        bytes ≡ front.now ++ spellings (storing_pdus context item.now)) }
 {
     let job = item.copy()?.into_job();
     let bytes = job_text(alloc, context, &job)?;
-    Ok(bytes)
+    let all = join(alloc, front, &bytes)?;
+    Ok(all)
+}
+
+/// What is there, and these bytes behind it.
+fn join(alloc: Global, front: &[u8], bytes: &Octets) -> Result<Octets, AllocError>
+    ensures { IfOk result (λ all. all ≡ front.now ++ bytes.now) }
+{
+    let mut out = Vec::new(alloc);
+    out.extend_from_slice(front)?;
+    out.extend_from_slice(bytes.as_bytes())?;
+    Ok(Octets::from_vec(out))
 }
 
 /// The same of what an item is made of.
@@ -104,12 +129,27 @@ fn job_text(alloc: Global, context: u8, job: &Job) -> Result<Octets, AllocError>
     Ok(Octets::from_vec(out))
 }
 
-/// A C-STORE-RSP with that status, to the request that is awaited so.
-pub fn answer_text(alloc: Global, asked: &Pending, status: u16) -> Result<Octets, AllocError>
-    ensures { IfOk result (λ bytes. bytes ≡ spellings (answer_pdus asked.now status)) }
+/// What is there, and behind it a C-STORE-RSP with that status to the request that is awaited so.
+pub fn answer_text(
+    alloc: Global,
+    front: &[u8],
+    asked: &Pending,
+    status: u16,
+) -> Result<Octets, AllocError>
+    ensures { IfOk result (λ bytes.
+        bytes ≡ front.now ++ spellings (answer_pdus asked.now status)) }
+{
+    let bytes = response_text(alloc, asked.context, asked.id, status)?;
+    let all = join(alloc, front, &bytes)?;
+    Ok(all)
+}
+
+/// A response to the request of that message id in that context, with that status.
+fn response_text(alloc: Global, context: u8, to: u16, status: u16) -> Result<Octets, AllocError>
+    ensures { IfOk result (λ bytes. bytes ≡ spellings (response_pdus context to status)) }
 {
     let command = Command::StoreRsp {
-        to: asked.id,
+        to,
         status,
         class: Text::from_vec(Vec::new(alloc)),
         instance: Text::from_vec(Vec::new(alloc)),
@@ -118,13 +158,7 @@ pub fn answer_text(alloc: Global, asked: &Pending, status: u16) -> Result<Octets
     let text = write_command(alloc, &command)?;
     let terms = within(alloc);
     let mut out = Vec::new(alloc);
-    put_fragments(
-        &mut out,
-        &terms,
-        asked.context,
-        FragmentKind::Command,
-        &text,
-    )?;
+    put_fragments(&mut out, &terms, context, FragmentKind::Command, &text)?;
     Ok(Octets::from_vec(out))
 }
 

@@ -1,5 +1,5 @@
 -- What parts tell, by their first word.
-use Rattle.std.proofs.Common.{◌≡◌, ℕ, List, [], ◌∷◌, Result, Ok, Err, sym, ap, subst, ◌∙◌}
+use Rattle.std.proofs.Common.{◌≡◌, ◌≤◌, ◌<◌, ℕ, Bor, List, [], ◌∷◌, Result, Ok, Err, arith, get_or, length, map, sym, ap, subst, ◌∙◌}
 use Rattle.dr_base.specs.Texts.{Text}
 use Rattle.dr_world_script.specs.declared.act.Act.{Act}
 use Rattle.dr_world_script.specs.declared.act.Act.TheVariants as act
@@ -7,9 +7,10 @@ use Rattle.dr_world_script.specs.declared.fault.LineFault.{LineFault}
 use Rattle.dr_world_script.specs.declared.fault.LineFault.TheVariants as lines
 use Rattle.dr_world_script.specs.declared.foreign.Foreign.{Foreign}
 use Rattle.dr_world_script.specs.declared.foreign.ForeignWord.{ForeignWord}
+use Rattle.dr_world_script.specs.declared.foreign.ForeignWord.TheVariants as called
 use Rattle.dr_world_script.specs.declared.step.Step.{Step}
 use Rattle.dr_world_script.specs.declared.step.Word.{Word}
-use Rattle.dr_world_script.specs.Scripts.{AreWritten, Follows, FollowsForeign, ReadsAdoption, ReadsFields, ReadsForeign, ReadsForeignFields, ReadsParts, ReadsStep, ReadsWritten, TellsBy, TellsForeign, TellsStep, adopt_word, bytes_word, foreign_spelled, spelled}
+use Rattle.dr_world_script.specs.Scripts.{AreWritten, Follows, FollowsForeign, IsStatus, ReadsAdoption, ReadsFields, ReadsForeign, ReadsForeignFields, ReadsParts, ReadsStatus, ReadsStep, ReadsWritten, TellsBy, TellsForeign, TellsStep, adopt_word, bytes_word, foreign_spelled, spelled}
 use Rattle.dr_world_script.proofs.Spelling.{adopt_foreign, bytes_foreign, foreign_apart, foreign_one, spelled_apart, spelled_beside, spelled_one, words_apart}
 
 -- a change of plan, where the word is that of one
@@ -84,6 +85,19 @@ concerning first w fields (Err lines.NoStep) is h = λ a. none a
         let Q : List Text → Type 0 = λ fs. FollowsForeign v fs what in
         h what (subst P same (subst Q rest f))
 concerning first w fields (Err lines.Memory) is h = tt
+
+-- no answer follows where the second of two fields is no status
+pub no_answer : (fields : List (Bor (List ℕ))) (d : Bor (List ℕ)) (fault : LineFault) → 2 ≤ length fields → length fields < 3 → ReadsStatus (get_or fields 1 d).now (Err fault) → ReadsForeignFields called.Answer (map (λ f. f.now) fields) (Err fault)
+no_answer [] d fault least below h = absurd (omega (arith, least))
+no_answer (a ∷ []) d fault least below h = absurd (omega (arith, least))
+no_answer (a ∷ b ∷ c ∷ more) d fault least below h = absurd (omega (arith, below))
+no_answer (a ∷ b ∷ []) d lines.NoStep least below h = λ what follows. none what follows
+  where
+    none : (what : Foreign) → FollowsForeign called.Answer (a.now ∷ b.now ∷ []) what → ⊥
+    none what (link, status, field, digits, e, cut, numbered, is) =
+        let same : digits ≡ b.now = (let both : field ∷ digits ∷ [] ≡ a.now ∷ b.now ∷ [] = sym cut in cc) in
+        h status (subst (λ (t : Text). IsStatus status t) same is)
+no_answer (a ∷ b ∷ []) d lines.Memory least below h = tt
 
 -- what is read of it, as what a line tells
 pub concern : (w : ForeignWord) (fields : List Text) (fault : LineFault) → ReadsForeignFields w fields (Err fault) → ReadsForeign w fields (Err fault)

@@ -1,11 +1,11 @@
 //! What other makers' products do in a world, and what isn't done for them.
-ghost use Rattle.std.specs.Prelude.{◌↔◌, IfOk, IsTrue};
+ghost use Rattle.std.specs.Prelude.{◌≡◌, ◌↔◌, IfOk, IsTrue, is_some};
 ghost use Rattle.dr_world.specs.Ends.{named};
 ghost use Rattle.dr_world.specs.Orders.{AnswersAs, IsOthers, IsOthersEnd, StoresAs};
 ghost use Rattle.dr_world.specs.Whole.{contents};
 
 use crate::order::{ForeignRefusal, Spoken};
-use crate::speaking::{answer_text, asked_at, context_at, store_text};
+use crate::speaking::{answer_text, asked_at, context_at, is_among, store_text};
 use crate::world::World;
 use dr_base::Text;
 use dr_ledger::{Item, Ledger};
@@ -20,7 +20,7 @@ impl<L: Ledger> World<L> {
         let Some(wires) = self.wires.get(&link) else {
             return false;
         };
-        others.contains(wires.name(side))
+        is_among(others, wires.name(side))
     }
 
     /// Whether the step is one that one of these nodes takes, or that is taken at its end of a
@@ -34,8 +34,8 @@ impl<L: Ledger> World<L> {
             | Step::Requeue { node, .. }
             | Step::Drop { node, .. }
             | Step::Forget { node, .. }
-            | Step::RefuseStore { node } => others.contains(node),
-            Step::Away { from, .. } => others.contains(from),
+            | Step::RefuseStore { node } => is_among(others, node),
+            Step::Away { from, .. } => is_among(others, from),
             Step::Push { link } | Step::Release { link } => {
                 self.is_others_end(others, *link, Side::Requestor)
             }
@@ -49,9 +49,17 @@ impl<L: Ledger> World<L> {
         }
     }
 
-    /// What the caller of a link writes, where it is one of these nodes, to store the item: a
-    /// C-STORE-RQ (PS3.7 9.1.1) with message id 1 over the presentation context that the receiver
-    /// has accepted for it, whether or not that association is still there.
+    /// Whether a node has that name. It takes no memory.
+    pub fn has_node(&self, name: &Text) -> bool
+        ensures { result ≡ is_some ((contents self.now).seats name.now) }
+    {
+        self.nodes.contains_key(name)
+    }
+
+    /// What is on its way from the caller of a link, where it is one of these nodes and the
+    /// receiver isn't, once it stores the item: what was, and a C-STORE-RQ (PS3.7 9.1.1) with
+    /// message id 1 over the presentation context that the receiver has accepted for it, whether or
+    /// not that association is still there.
     ///
     /// Errors: AllocError.
     pub fn store_of(&self, others: &[Text], link: u64, item: &Item) -> Result<Spoken, AllocError>
@@ -60,18 +68,23 @@ impl<L: Ledger> World<L> {
         let Some(wires) = self.wires.get(&link) else {
             return Ok(Spoken::Refuses(ForeignRefusal::NoLink));
         };
-        if !others.contains(&wires.caller) {
+        if !is_among(others, &wires.caller) {
             return Ok(Spoken::Refuses(ForeignRefusal::NotForeign));
+        }
+        if is_among(others, &wires.receiver) {
+            return Ok(Spoken::Refuses(ForeignRefusal::BothForeign));
         }
         let Some(context) = context_at(&self.nodes, &wires.receiver, link, item) else {
             return Ok(Spoken::Refuses(ForeignRefusal::NoContext));
         };
-        let bytes = store_text(self.alloc, context, item)?;
+        let front = wires.wire(Side::Acceptor);
+        let bytes = store_text(self.alloc, front, context, item)?;
         Ok(Spoken::Writes(bytes))
     }
 
-    /// What the receiver of a link writes, where it is one of these nodes, to answer the request
-    /// whose response the caller awaits: a C-STORE-RSP with that status (PS3.7 9.1.1).
+    /// What is on its way from the receiver of a link, where it is one of these nodes and the
+    /// caller isn't, once it answers the request whose response the caller awaits: what was, and a
+    /// C-STORE-RSP with that status (PS3.7 9.1.1).
     ///
     /// Errors: AllocError.
     pub fn answer_of(&self, others: &[Text], link: u64, status: u16) -> Result<Spoken, AllocError>
@@ -80,13 +93,17 @@ impl<L: Ledger> World<L> {
         let Some(wires) = self.wires.get(&link) else {
             return Ok(Spoken::Refuses(ForeignRefusal::NoLink));
         };
-        if !others.contains(&wires.receiver) {
+        if !is_among(others, &wires.receiver) {
             return Ok(Spoken::Refuses(ForeignRefusal::NotForeign));
+        }
+        if is_among(others, &wires.caller) {
+            return Ok(Spoken::Refuses(ForeignRefusal::BothForeign));
         }
         let Some(asked) = asked_at(&self.nodes, &wires.caller, link) else {
             return Ok(Spoken::Refuses(ForeignRefusal::NotAsked));
         };
-        let bytes = answer_text(self.alloc, asked, status)?;
+        let front = wires.wire(Side::Requestor);
+        let bytes = answer_text(self.alloc, front, asked, status)?;
         Ok(Spoken::Writes(bytes))
     }
 }

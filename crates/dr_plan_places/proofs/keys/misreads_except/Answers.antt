@@ -15,3 +15,9 @@ returns-in-Ok c = λ unfit default x given fits.
     let P : Option Data → Type 0 = λ d. GivenOr default SaysExceptions d x in
     let same : x ≡ c.in-Ok.stations = IsSomeOf-one (SaysFormed IsLiteral) (SaysFormed-one IsLiteral) (view c.in-Some.value.now) x c.in-Ok.stations (subst P here given) c.in-Ok.ensures.ok in
     not_both c.exceptions_fit.result unfit (c.exceptions_fit.ensures.1 (subst (λ (stations : List Text). ExceptionsFit c.args.format stations) same fits))
+
+pub returns-in-Err-Field : goal.returns-in-Err-Field
+returns-in-Err-Field c = λ unread default x given fits.
+    let here : get_member (codes "except") (table_view c.args.table.now) ≡ Some (view c.in-Some.value.now) = sym (sym (ap (option_map (λ v. view v.now)) c.in-Some.is) ∙ c.value_at.ensures) in
+    let P : Option Data → Type 0 = λ d. GivenOr default SaysExceptions d x in
+    c.in-Err-Field.ensures.field c.in-Err-Field.field-0-is x (subst P here given)

@@ -10,7 +10,7 @@ use Rattle.dr_store_views.specs.Spans.{numbered_of}
 use Rattle.dr_store.proofs.telling.tell_behind.Goals as goal
 
 pub tell_within-requires : goal.tell_within-requires
-tell_within-requires g c = subst (λ (n : ℕ). n < 2 ^ 63) (sym c.last_behind.ensures) (last_fits c.args.after c.args.limit)
+tell_within-requires g c = subst (λ (n : ℕ). n < 2 ^ 63) (sym c.last_behind-last.ensures) (last_fits c.args.after c.args.limit)
 
 pub returns-clause-looked : goal.returns-clause-looked
 returns-clause-looked g c n part =
@@ -18,4 +18,4 @@ returns-clause-looked g c n part =
     let old = state g.S.Store c.args.conn.now in
     let new = state g.S.Store c.tell_within.new.conn in
     let Of : ℕ → Type 0 = λ last. Looked n part c.tell_within.result old new (λ (base : Trees) (all : List JournalLine). counted after (mapped line_of all) ≡ lines_within after last (numbered_of base)) in
-    subst Of c.last_behind.ensures (c.tell_within.ensures.looked n part)
+    subst Of c.last_behind-last.ensures (c.tell_within.ensures.looked n part)

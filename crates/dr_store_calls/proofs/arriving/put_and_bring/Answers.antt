@@ -1,4 +1,4 @@
-use Rattle.std.proofs.Common.{◌≡◌, ◌∙◌, List, ℕ, Err, Option, Some, refl, sym, subst}
+use Rattle.std.proofs.Common.{◌≡◌, ◌∙◌, List, [], ℕ, Err, Option, Some, refl, sym, subst}
 use Rattle.sqlite.specs.Held.{state}
 use Rattle.sqlite.specs.Tree.{Trees}
 use Rattle.dr_ledger.specs.declared.fault.LedgerFault.{LedgerFault}
@@ -16,7 +16,7 @@ returns-then-not-does_come-clause-called g c =
     let reception = c.args.reception.now in
     let shelf = c.args.shelf.now in
     let Uses = g.B.Shelf.uses shelf in
-    let cell = c.bring.args.cell.now in
+    let cell : List ℕ = [] in
     let Comes : Option (List ℕ) → Type 0 =
     IsPut (shelf ≡ shelf) Uses Uses (g.B.Shelf.stands shelf) g.B.Shelf.apart came.body.now in
     let Asks : Trees → Type 0 =
@@ -45,12 +45,12 @@ returns-in-Ok-clause-called g c =
     λ base. FitsTables reception.taking came.caller.now came.instance.now c.args.targets.now.to
     c.args.targets.now.keep reception.again.now reception.dests.now reception.keeps base in
     let put = c.in-Ok.ensures in
-    brought_as Comes came (state g.S.Store c.args.conn.now) (state g.S.Store c.bring.new.conn)
+    brought_as Comes came (state g.S.Store c.args.conn.now) (state g.S.Store c.bring-in-Ok.new.conn)
     (IsCellTaken reception.taking cell)
     (one_place (shelf ≡ was) Used Uses Stands Apart came.body.now reception.taking cell
     (sym c.does_come.ensures ∙ c.if-not-does_come.false)
     (subst (λ x. Comes (Some x)) (sym c.bytes.ensures) (put.used, put.stands, put.beside)))
-    New c.bring.result Asks c.bring.ensures.called
+    New c.bring-in-Ok.result Asks c.bring-in-Ok.ensures.called
 
 pub returns-in-Err-clause-called : goal.returns-in-Err-clause-called
 returns-in-Err-clause-called g c =

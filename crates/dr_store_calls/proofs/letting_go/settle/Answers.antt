@@ -16,8 +16,8 @@ use Rattle.dr_store_calls.proofs.letting_go.settle.Goals as goal
 pub returns-in-Ok-clause-called : goal.returns-in-Ok-clause-called
 returns-in-Ok-clause-called g c part =
     let n = c.args.n in
-    let uid = c.args.at.uid.now in
-    let dest = c.args.at.dest.now in
+    let uid = c.args.at.now.uid.now in
+    let dest = c.args.at.now.dest.now in
     let found = c.in-Ok.found in
     let r = c.settle_row_of-answer.result in
     let old = state g.S.Store c.args.conn.now in
@@ -60,8 +60,8 @@ returns-in-Ok-clause-number g c =
 pub returns-in-Err-clause-called : goal.returns-in-Err-clause-called
 returns-in-Err-clause-called g c part =
     let n = c.args.n in
-    let uid = c.args.at.uid.now in
-    let dest = c.args.at.dest.now in
+    let uid = c.args.at.now.uid.now in
+    let dest = c.args.at.now.dest.now in
     let e = c.in-Err.fault in
     let old = state g.S.Store c.args.conn.now in
     let new = state g.S.Store c.find_cell.new.conn in

@@ -2,7 +2,7 @@ use Rattle.std.proofs.Common.{inl, inr, refl}
 use Rattle.dr_word_adopt.proofs.adopting.change_files.Goals as goal
 
 pub returns-in-Ok : goal.returns-in-Ok
-returns-in-Ok g c = inl (c.in-Ok.old, c.in-Ok.next, c.change_between-came.new.all.items, c.in-Ok.ensures, c.change_between-came.ensures)
+returns-in-Ok g c = inl (c.in-Ok.old, c.in-Ok.next, c.in-Ok.ensures, c.change_besides-came.ensures)
 
 pub returns-in-Err : goal.returns-in-Err
 returns-in-Err g c = inr (c.in-Err.halt, refl, c.in-Err.ensures)

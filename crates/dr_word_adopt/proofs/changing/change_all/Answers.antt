@@ -1,4 +1,4 @@
-use Rattle.std.proofs.Common.{◌≡◌, ◌+◌, ◌<◌, ◌≤◌, arith, drop, get_or, length, subst, sym, take}
+use Rattle.std.proofs.Common.{◌+◌, ◌<◌, ◌≤◌, arith, drop, get_or, length, subst, sym, take}
 use Rattle.dr_word_adopt.specs.Changings.{IsChanged, IsKept, MayChange}
 use Rattle.dr_word_adopt.specs.declared.standing.Standing.{Standing}
 use Rattle.dr_word_adopt.proofs.Stepping.{each_all, each_more, left_more, now_cut, same_here, was_cut}

@@ -3,7 +3,7 @@ use Rattle.std.proofs.Common.{map as mapped}
 use Rattle.std.specs.Prelude.{Result, IfOk}
 use Rattle.dr_run_open.specs.declared.status.Status.{Status}
 use Rattle.dr_word_audit.specs.Endings.{EndsAs, EndsAudit}
-use Rattle.dr_word_audit.specs.Names.{text_of}
+use Rattle.dr_word_adopt.specs.Names.{text_of}
 use Rattle.dr_word_audit.proofs.auditing.audit_files.Goals as goal
 
 -- what is so of a status that is answered, another says of it too

@@ -4,7 +4,8 @@ use Rattle.dr_plan_model.specs.Networks.{Network}
 use Rattle.dr_plan_model.specs.Plans.{NamesNoNode}
 use Rattle.dr_run_open.specs.declared.halt.Halt.{Halt}
 use Rattle.dr_word_audit.specs.Audits.{IsMissing, IsStop}
-use Rattle.dr_word_audit.specs.Names.{AreNodes, our_names}
+use Rattle.dr_word_adopt.specs.Names.{AreNodes}
+use Rattle.dr_word_audit.specs.Names.{our_names}
 use Rattle.dr_word_audit.specs.Readings.{AreGathered}
 use Rattle.dr_word_audit.specs.declared.audited.Audited.TheVariants.{No}
 use Rattle.dr_word_audit.specs.declared.reading.Gathering.{Gathering}

@@ -3,6 +3,6 @@ use Rattle.dr_word_line.proofs.ledgers.read_duty.Goals as goal
 
 pub returns-in-None-clause-duty : goal.returns-in-None-clause-duty
 returns-in-None-clause-duty c =
-    no_duty c.args.words.now c.in_default.ensures.list c.in_default-read_serving.ensures.serve c.in_default-read_requeue.ensures.requeue c.in_default-read_sending.ensures.send
-    c.in_default.ensures.summary c.in_default-read_requeue.ensures.requeue_all
-    c.in_default-read_giving_up.ensures.give_up c.in-None.ensures.forget c.in_default-read_making.ensures.make
+    no_duty c.args.words.now c.in_default.ensures.list c.in_default.ensures.serve c.in_default-read_rows.ensures.requeue c.in-None.ensures.send
+    c.in_default.ensures.summary c.in_default-read_rows.ensures.requeue_all
+    c.in_default-read_rows.ensures.give_up c.in_default-read_rows.ensures.forget c.in_default.ensures.make

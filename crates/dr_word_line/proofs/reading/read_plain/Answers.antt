@@ -3,8 +3,8 @@ use Rattle.dr_word_line.proofs.reading.read_plain.Goals as goal
 
 pub returns-in-None : goal.returns-in-None
 returns-in-None c =
-    nothing_asked c.args.words.now c.in_default.ensures.input c.in_default.ensures.file c.in_default-read_expand.ensures.expand c.in_default-read_import.ensures.imported
-    c.in_default-read_pair.ensures.verify c.in_default-read_pair.ensures.simulate c.in_default-read_pair.ensures.echo c.in_default-read_question.ensures.graph c.in_default-read_question.ensures.lint
-    c.in_default-read_expect.ensures.expect c.in_default-read_diff.ensures.diff
-    c.in_default-read_route.ensures.route_of_file c.in_default-read_route.ensures.route_of_key c.in_default-read_ledger.ensures.duty c.in_default-read_ledger.ensures.adopt c.in_default-read_ledger.ensures.audit
+    nothing_asked c.args.words.now c.in_default.ensures.input c.in_default.ensures.file c.in_default.ensures.expand c.in_default.ensures.imported
+    c.in_default-read_named.ensures.verify c.in_default-read_named.ensures.simulate c.in_default-read_named.ensures.echo c.in_default-read_named.ensures.graph c.in_default-read_named.ensures.lint
+    c.in_default-read_named.ensures.expect c.in_default-read_ways.ensures.diff
+    c.in_default-read_ways.ensures.route_of_file c.in_default-read_ways.ensures.route_of_key c.in_default-read_ledger.ensures.duty c.in_default-read_ledger.ensures.adopt c.in_default-read_ledger.ensures.audit
     c.in-None.ensures.errand

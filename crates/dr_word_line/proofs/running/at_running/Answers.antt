@@ -11,7 +11,7 @@ returns-in-len6-up-clause-found c = (
   same_word _ _ _ c.eq.ensures c.if-eq.true,
   c.is_no_option.ensures.0 c.if-is_no_option.true,
   c.is_no_option-then-is_no_option.ensures.0 c.if-is_no_option-2.true,
-  same_word _ _ _ c.eq-then-is_no_option-2.ensures c.if-eq-2.true,
-  c.is_no_option-then-eq-2.ensures.0 c.if-is_no_option-3.true,
+  (c.is_at.ensures.0 c.if-is_at.true).0,
+  (c.is_at.ensures.0 c.if-is_at.true).1,
   refl,
 )

@@ -1,6 +1,7 @@
 use Rattle.std.proofs.Common.{List, subst}
-use Rattle.std.specs.Prelude.{IfOk}
+use Rattle.std.specs.Prelude.{IfOk, map as mapped}
 use Rattle.dr_run_open.specs.declared.status.Status.{Status}
+use Rattle.dr_word_adopt.specs.Names.{text_of}
 use Rattle.dr_word_rehearse.specs.Endings.{EndsRehearsal, Rehearses}
 use Rattle.dr_word_rehearse.specs.Rehearsals.{halt_of}
 use Rattle.dr_word_rehearse.specs.declared.looking.Looked.{Looked}
@@ -14,6 +15,6 @@ returns g c =
     let all = c.rehearse_given-came.new.all.items in
     let came = halt_of c.rehearse_given-came.result in
     let E : List Looked → Type 0 = λ ls. IfOk c.tell_rehearsal-told.result (EndsRehearsal came ls old new) in
-    let Q : Status → Type 0 = Rehearses (g.F.Files.holds c.args.files.now) (g.O.Ledgers.opens c.args.ledgers.now) g.O.Ledger.Ledger.site g.O.Ledger.Ledger.book g.O.Ledger.Ledger.stands c.args.given old new in
+    let Q : Status → Type 0 = Rehearses (g.F.Files.holds c.args.files.now) (g.O.Ledgers.opens c.args.ledgers.now) (g.O.ShowsFiles.shows c.args.ledgers.now) g.O.Ledger.Ledger.site g.O.Ledger.Ledger.book g.O.Ledger.Ledger.stands c.args.given (mapped text_of c.args.others.now) old new in
     ok_as c.tell_rehearsal-told.result (EndsRehearsal came all old new) Q
     (λ status h. (came, all, c.rehearse_given-came.ensures, h)) (subst E c.as_slice.ensures.value c.tell_rehearsal-told.ensures)

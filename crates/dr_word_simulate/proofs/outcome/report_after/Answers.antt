@@ -19,7 +19,7 @@ returns-in-Ok-clause-reports c =
     c.in_ok-tell_refusals.ensures ∙ (ap (λ (t : List ℕ). t ++ refusals_of c.as_slice-2.result.now) first ∙ ap (λ (t : List ℕ). notes_of changes ++ t) (ap refusals_of c.as_slice-2.ensures)) in
     let Behind : List Text × List ℕ → Type 0 = λ p. IsReported p.0 (books_of w.nodes) p.1 c.report-told.new.out.items in
     let Is : List ℕ → Type 0 = λ text. IsReported others (books_of w.nodes) (notes_of changes ++ refusals_of refusals) text in
-    reported_after c.args.sealed.now.plan c.args.sealed.now.certificate c.args.orders.now changes refusals others w c.from_vec.result c.in_ok-world.ensures.runs
+    reported_after (λ v name n is. tt) c.args.sealed.now.plan c.args.sealed.now.certificate c.args.orders.now changes refusals others w c.from_vec.result c.in_ok-world.ensures.runs
     (subst Is (sym c.from_vec.ensures) (subst Behind (λ j. (c.as_slice-3.ensures j, wrote j)) (c.in-Ok.ensures.reports (λ name n is. tt))))
 
 pub returns-in_err-world-clause-unreported : goal.returns-in_err-world-clause-unreported

@@ -13,7 +13,7 @@ use Rattle.dr_world.proofs.playing.do_store.Goals as goal
 pub returns-in-Ok-clause-plays : goal.returns-in-Ok-clause-plays
 returns-in-Ok-clause-plays c =
     let P : List Text × Spoken → Type 0 = λ p. StoresAs p.0 (contents c.args.world.now) c.args.link c.args.item.now p.1 in
-    let is = subst P (λ j. (c.as_slice.ensures j, c.in-Writes.is j)) c.in_ok-store_of.ensures in (
+    let is = subst P (λ j. (c.as_slice.ensures j, c.in-Writes.is j)) c.in_ok-spoken.ensures in (
       deed.Bytes c.args.link side.Requestor c.in-Writes.bytes ∷ [],
       [],
       [],
@@ -22,14 +22,14 @@ returns-in-Ok-clause-plays c =
       record { means = (refl, inl (c.in-Writes.bytes, is, refl, refl)); plays = c.in-Ok.ensures.plays },
     )
 
-pub returns-in_ok-push-clause-plays : goal.returns-in_ok-push-clause-plays
-returns-in_ok-push-clause-plays c =
+pub returns-clause-plays : goal.returns-clause-plays
+returns-clause-plays c =
     let P : List Text × Spoken → Type 0 = λ p. StoresAs p.0 (contents c.args.world.now) c.args.link c.args.item.now p.1 in
-    let is = subst P (λ j. (c.as_slice.ensures j, c.in-Refuses.is j)) c.in_ok-store_of.ensures in (
+    let is = subst P (λ j. (c.as_slice.ensures j, c.in-Refuses.is j)) c.in_ok-spoken.ensures in (
       [],
       [],
       refused.Store c.args.link c.in-Refuses.why ∷ [],
       sym (append-nil c.args.notes.now.changes),
-      c.in_ok-push.ensures.ok,
+      c.in_ok-push-in-Refuses.ensures.ok,
       record { means = (refl, inr (c.in-Refuses.why, is, refl, refl)); plays = plays_nothing c.args.world.now },
     )

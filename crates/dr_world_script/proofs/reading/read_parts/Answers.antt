@@ -27,4 +27,4 @@ pub returns-in-Err : goal.returns-in-Err
 returns-in-Err c =
     let P : Result Step LineFault → Type 0 = λ r. ReadsStep (c.args.first.now ∷ map (λ f. f.now) c.args.fields.now) r in
     failing c.args.first.now (map (λ f. f.now) c.args.fields.now) c.in-Err.fault (λ e. false≢true (sym c.if-is_adopt.false ∙ c.is_adopt.ensures.1 e))
-    (λ e. false≢true (sym c.if-is_bytes.false ∙ c.is_bytes.ensures.1 e)) c.else-None.ensures (subst P c.in-Err.is c.read_step.ensures)
+    (λ e. false≢true (sym c.if-is_bytes.false ∙ c.is_bytes.ensures.1 e)) c.in_default.ensures (subst P c.in-Err.is c.read_step.ensures)

@@ -1,6 +1,0 @@
-use Rattle.std.proofs.Common.{take}
-use Rattle.dr_word_audit.specs.Names.{AreNodes}
-use Rattle.dr_word_audit.proofs.naming.stranger_in.Given as goal
-
-abbrev pub invariant-loop-name : goal.invariant-loop-name
-invariant-loop-name l = AreNodes l.fn.plan (take l.name-index l.fn.names)
