@@ -335,7 +335,7 @@ def main():
     hops = [text for name, text in LARGE.items() if 'hops' not in name or 'overfull' in name]
     by_hand = [text.encode() for text, _ in worked.UNSOUND + worked.SOUND_IN_FORMAT_2]
     seen = seen_by(hops + by_hand + [random_plan(random.Random(f'plan {seed} {i}')) for i in range(200)])
-    seen |= rows_seen_by(200, seed) | diffs_seen_by(100, seed)
+    seen |= rows_seen_by(500, seed) | diffs_seen_by(100, seed)
     if '--wrong' in sys.argv:
         for name, count in seen.items():
             print(f'{name}: {count}')
