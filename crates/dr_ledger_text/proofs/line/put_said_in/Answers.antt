@@ -1,7 +1,7 @@
 use Rattle.std.proofs.Common.{◌≡◌, ◌++◌, sym, subst, OnOk}
 use Rattle.dr_ledger_history.specs.declared.line.JournalLine.{JournalLine}
-use Rattle.dr_run_answer.specs.Journals.{line_part}
-use Rattle.dr_run_answer.proofs.journal.put_said_in.Goals as goal
+use Rattle.dr_ledger_text.specs.Lines.{line_part}
+use Rattle.dr_ledger_text.proofs.line.put_said_in.Goals as goal
 
 pub returns-in-Arrival : goal.returns-in-Arrival
 returns-in-Arrival c =

@@ -1,9 +1,9 @@
 use Rattle.std.proofs.Common.{◌++◌}
 use Rattle.std.specs.Prelude.{codes}
 use Rattle.dr_base.specs.Syntaxes.{syntax_uid}
-use Rattle.dr_run_answer.specs.Answers.{word}
-use Rattle.dr_run_answer.proofs.Chained.{chained}
-use Rattle.dr_run_answer.proofs.journal.put_key.Goals as goal
+use Rattle.dr_ledger_text.specs.Members.{word}
+use Rattle.dr_ledger_text.proofs.Chained.{chained}
+use Rattle.dr_ledger_text.proofs.line.put_key.Goals as goal
 
 pub returns : goal.returns
 returns c =

@@ -1,9 +1,9 @@
 use Rattle.std.proofs.Common.{◌++◌}
 use Rattle.std.specs.Prelude.{codes}
-use Rattle.dr_run_answer.specs.Answers.{number}
-use Rattle.dr_run_answer.specs.Journals.{kind_part, row_part}
-use Rattle.dr_run_answer.proofs.Chained.{chained}
-use Rattle.dr_run_answer.proofs.journal.put_dropping.Goals as goal
+use Rattle.dr_ledger_text.specs.Members.{number}
+use Rattle.dr_ledger_text.specs.Lines.{kind_part, row_part}
+use Rattle.dr_ledger_text.proofs.Chained.{chained}
+use Rattle.dr_ledger_text.proofs.line.put_dropping.Goals as goal
 
 pub returns : goal.returns
 returns c =

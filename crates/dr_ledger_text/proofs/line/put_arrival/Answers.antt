@@ -1,7 +1,7 @@
 use Rattle.std.specs.Prelude.{codes}
-use Rattle.dr_run_answer.specs.Journals.{arrived_part, goals_part}
-use Rattle.dr_run_answer.proofs.Chained.{chained}
-use Rattle.dr_run_answer.proofs.journal.put_arrival.Goals as goal
+use Rattle.dr_ledger_text.specs.Lines.{arrived_part, goals_part}
+use Rattle.dr_ledger_text.proofs.Chained.{chained}
+use Rattle.dr_ledger_text.proofs.line.put_arrival.Goals as goal
 
 pub returns : goal.returns
 returns c =
