@@ -1,5 +1,5 @@
 -- The text of a line is that of one line.
-use Rattle.std.proofs.Common.{◌≡◌, ◌≢◌, ◌∙◌, ◌<◌, ◌≤◌, ◌+◌, ◌*◌, ◌/◌, ◌%◌, ◌^◌, inl, inr, ℕ, zero, suc, Bool, true, false, List, [], ◌∷◌, ◌++◌, Option, None, Some, Result, Ok, Err, refl, sym, ap, subst, arith, append_assoc, drop, get_or, length, flat_map, codes, decimal, slice_index}
+use Rattle.std.proofs.Common.{◌≡◌, ◌∙◌, ◌<◌, ◌+◌, ◌*◌, ◌/◌, ◌%◌, ◌^◌, inl, inr, ℕ, zero, suc, Bool, List, [], ◌∷◌, ◌++◌, Option, None, Some, Result, Ok, Err, refl, sym, ap, arith, append_assoc, drop, get_or, length, flat_map, codes, decimal}
 use Rattle.hex.specs.Hex.{IsBytes, decode_of, encode_lower, encode_upper, upper_digits}
 use Rattle.hex.proofs.HexLemmas.{decode_of-encode_lower, decode_of-encode_upper, length-encode_with}
 use Rattle.dr_base.specs.Texts.{Text}
@@ -14,7 +14,7 @@ use Rattle.dr_ledger.specs.declared.item.Outcome.TheVariants as outcome
 use Rattle.dr_ledger_history.specs.declared.line.JournalLine.{JournalLine}
 use Rattle.dr_ledger_history.specs.declared.line.JournalLine.TheVariants as told
 use Rattle.dr_ledger_text.specs.Members.{flag, member, number, word}
-use Rattle.dr_ledger_text.specs.Lines.{arrived_part, begun_line, content_part, further_name, goals_part, item_part, key_part, kind_part, line_part, moment_part, names_text, outcome_text, row_part, sealed_text}
+use Rattle.dr_ledger_text.specs.Lines.{arrived_part, begun_line, further_name, goals_part, item_part, key_part, kind_part, line_part, moment_part, names_text, outcome_text, row_part, sealed_text}
 use Rattle.dr_ledger_text.specs.Laws.{AreSame, FitsInstance, FitsLine, FitsMoment, FitsOutcome, IsSealable}
 use Rattle.dr_ledger_text.proofs.Pieces.{Stops, behind_same, same_decimal, same_flag, same_number, same_quoted, same_value, same_word}
 
