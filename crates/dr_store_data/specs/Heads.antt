@@ -22,7 +22,7 @@ abbrev pub bytes_of_mark : DataMark → List ℕ
 bytes_of_mark mark = to_le_bytes w64 mark.key ++ mark.mark
 
 -- these bytes say this key and this mark
-pub record IsMarkOf (bytes : List ℕ) (mark : DataMark) : Type 0 where
+pub record IsMarkOf (bytes : List ℕ) (said : DataMark) : Type 0 where
   pub long : length bytes ≡ 24
-  pub key : mark.key ≡ from_le_bytes w64 (take 8 bytes)
-  pub mark : mark.mark ≡ drop 8 bytes
+  pub key : said.key ≡ from_le_bytes w64 (take 8 bytes)
+  pub mark : said.mark ≡ drop 8 bytes

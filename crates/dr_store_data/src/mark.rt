@@ -1,5 +1,5 @@
 //! What ties a ledger's tables and its file together.
-ghost use Rattle.std.specs.Prelude.{◌≡◌, ◌≢◌, ◌×◌, IfOk, MatchOption, length};
+ghost use Rattle.std.specs.Prelude.{◌≡◌, ◌≢◌, IfOk, MatchOption, length};
 ghost use Rattle.dr_store_data.specs.Heads.{bytes_of_mark, IsMarkOf};
 
 use std::alloc::{AllocError, Global};

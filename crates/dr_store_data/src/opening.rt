@@ -1,8 +1,7 @@
 //! The file of a ledger, opened with the extents that its cells name.
-ghost use Rattle.std.specs.Prelude.{◌≡◌, ◌≢◌, ◌≤◌, ◌∷◌, ℕ, All, AllPairs, Contains, IfOk};
-ghost use Rattle.std.specs.Prelude.{IfSome, IsTrue};
+ghost use Rattle.std.specs.Prelude.{◌≡◌, ◌∷◌, IfOk};
+ghost use Rattle.std.specs.Prelude.{IfSome};
 ghost use Rattle.std.specs.List.Sorted.{IsPermutation};
-ghost use Rattle.dr_store_bodies.specs.declared.extent.Extent.{Extent};
 ghost use Rattle.dr_store_bodies.specs.Bodies.{IsClean, extents};
 ghost use Rattle.dr_store_data.specs.Heads.{HasHead, head_extent};
 ghost use Rattle.dr_store_data.specs.Opened.{IsOpened};
