@@ -69,7 +69,7 @@ impl<S: Alter, B: Shelf> SqlLedger<S, B> {
         requires idle { conn.in_transaction ≡ false }
         requires kept { IsSafe (state S.Store conn)
             → ∥ KeepsOwn (B.Shelf.uses shelf) (B.Shelf.stands shelf)
-        (B.Shelf.apart (B.Shelf.named shelf)) next site
+            (B.Shelf.apart (B.Shelf.named shelf)) next site
             (state S.Store conn) ∥₁ }
         ensures site { result.site ≡ site }
         ensures conn { result.conn ≡ conn }

@@ -12,7 +12,7 @@ use Rattle.std.proofs.lemmas.Map.Made.{AllPairs-from_IsDistinct, IsDistinct-from
 use Rattle.dr_store_bodies.specs.declared.extent.Extent.{Extent}
 use Rattle.dr_store_bodies.specs.Extents.{LiesBefore}
 use Rattle.dr_store_data.specs.Heads.{head_extent}
-use Rattle.dr_store_data.specs.Opened.{BeginApart, IsOpened}
+use Rattle.dr_store_data.specs.Opened.{BeginApart, HasExtents}
 
 flips : (x y : ℕ) → nat_eq x y ≡ nat_eq y x
 flips x y = elim (cases_order x y) [
@@ -83,7 +83,7 @@ module _ (list sorted uses : List Extent) (perm : IsPermutation (head_extent ∷
         | inr (inr more) ↦ absurd (omega (arith, apart there.0 h.0 head_extent more h.1, filled there.0 head_extent there.1, a))
       ]
 
-  pub is_opened : IsOpened list uses
+  pub is_opened : HasExtents list uses
   is_opened = record {
     head = subst (λ es. Contains es head_extent) (sym listed) head_sorted;
     each = λ e there. subst (λ es. Contains es e) (sym listed) (each_sorted e there);

@@ -3,7 +3,7 @@ use Rattle.std.specs.Prelude.{◌≡◌, ℕ, ◌^◌, ◌<◌, ◌≤◌, List,
 use Rattle.dr_store_bodies.specs.declared.extent.Extent.{Extent}
 use Rattle.dr_store_data.specs.declared.mark.DataMark.{DataMark}
 use Rattle.dr_store_data.specs.Heads.{HasHead, IsMarkOf, bytes_of_mark}
-use Rattle.dr_store_data.specs.Opened.{IsOpened}
+use Rattle.dr_store_data.specs.Opened.{HasExtents}
 
 -- what is written of a key and a mark says them
 abbrev pub MarksAreRead : Type 0
@@ -24,4 +24,4 @@ HeadsAreOne =
 -- no extent of a file that was opened begins in its head
 abbrev pub NoCellNamesTheHead : Type 0
 NoCellNamesTheHead =
-    (list uses : List Extent) (e : Extent) → IsOpened list uses → Contains list e → 4096 ≤ e.at
+    (list uses : List Extent) (e : Extent) → HasExtents list uses → Contains list e → 4096 ≤ e.at

@@ -9,7 +9,7 @@ BeginApart e other = e.at ≢ other.at
 
 -- Of the extents in use these are some, beside the head: each begins behind it, and each two begin
 -- at different places.
-pub record IsOpened (list uses : List Extent) : Type 0 where
+pub record HasExtents (list uses : List Extent) : Type 0 where
   pub head : Contains uses head_extent
   pub each : (e : Extent) → Contains list e → Contains uses e
   pub behind : All (λ e. 4096 ≤ e.at) list

@@ -1,5 +1,5 @@
 //! Where the file is.
-use crate::fault::DataFault;
+use crate::fault::DataFileFault;
 use crate::mark::DataMark;
 use sqlite_disk::Disk;
 use std::alloc::Global;
@@ -12,15 +12,15 @@ pub trait DataFile {
     /// Opens the file that is there. It makes none.
     ///
     /// Errors: Missing, InUse, Store, Memory.
-    fn open(&self, alloc: Global) -> Result<Self::Disk, DataFault>;
+    fn open(&self, alloc: Global) -> Result<Self::Disk, DataFileFault>;
 
     /// Makes a new file, or opens one that has no more than a head.
     ///
     /// Errors: IsThere where a longer file is there; InUse, Store, Memory.
-    fn make(&self, alloc: Global) -> Result<Self::Disk, DataFault>;
+    fn make(&self, alloc: Global) -> Result<Self::Disk, DataFileFault>;
 
     /// Draws a key and a mark, which no other ledger has.
     ///
     /// Errors: Store, Memory.
-    fn draw(&self, alloc: Global) -> Result<DataMark, DataFault>;
+    fn draw(&self, alloc: Global) -> Result<DataMark, DataFileFault>;
 }

@@ -1,14 +1,14 @@
 //! Why a file of data sets can't be had.
 ghost use Rattle.std.specs.Prelude.{◌≡◌};
-ghost use Rattle.dr_store_data.specs.declared.fault.DataFault.TheVariants.{Memory as AsMemory};
-ghost use Rattle.dr_store_data.specs.declared.fault.DataFault.TheVariants.{Store as AsStore};
+ghost use Rattle.dr_store_data.specs.declared.fault.DataFileFault.TheVariants.{Memory as AsMemory};
+ghost use Rattle.dr_store_data.specs.declared.fault.DataFileFault.TheVariants.{Store as AsStore};
 
 use std::alloc::{AllocError, AllocFailed};
 use std::io;
 use thiserror::Error;
 
 #[derive(Clone, Copy, PartialEq, Eq, Debug, Error)]
-pub enum DataFault {
+pub enum DataFileFault {
     /// There is no such file.
     #[error("Missing")]
     Missing,
@@ -25,26 +25,26 @@ pub enum DataFault {
     Memory,
 }
 
-impl From<io::Error> for DataFault {
+impl From<io::Error> for DataFileFault {
     ghost from_gives = { λ _ result. result ≡ AsStore };
 
-    fn from(_error: io::Error) -> DataFault {
-        DataFault::Store
+    fn from(_error: io::Error) -> DataFileFault {
+        DataFileFault::Store
     }
 }
 
-impl From<AllocError> for DataFault {
+impl From<AllocError> for DataFileFault {
     ghost from_gives = { λ _ result. result ≡ AsMemory };
 
-    fn from(_error: AllocError) -> DataFault {
-        DataFault::Memory
+    fn from(_error: AllocError) -> DataFileFault {
+        DataFileFault::Memory
     }
 }
 
-impl<T: Drop> From<AllocFailed<T>> for DataFault {
+impl<T: Drop> From<AllocFailed<T>> for DataFileFault {
     ghost from_gives = { λ _ result. result ≡ AsMemory };
 
-    fn from(_error: AllocFailed<T>) -> DataFault {
-        DataFault::Memory
+    fn from(_error: AllocFailed<T>) -> DataFileFault {
+        DataFileFault::Memory
     }
 }

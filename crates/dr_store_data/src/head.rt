@@ -3,7 +3,7 @@ ghost use Rattle.std.specs.Prelude.{◌≡◌, ◌↔◌, IfOk, IsTrue, OnOk, le
 ghost use Rattle.sqlite_disk.specs.Disk.{Only};
 ghost use Rattle.dr_store_data.specs.Heads.{HasHead, head_of};
 
-use crate::fault::DataFault;
+use crate::fault::DataFileFault;
 use sqlite_disk::Disk;
 use std::alloc::{AllocError, Global};
 
@@ -24,14 +24,18 @@ fn head_bytes(alloc: Global, mark: &[u8; 16]) -> Result<Vec<u8>, AllocError>
 /// Whether the file has the head with this mark. What it holds stays.
 ///
 /// Errors: Store, Memory.
-pub fn has_head<D: Disk>(file: &mut D, alloc: Global, mark: &[u8; 16]) -> Result<bool, DataFault>
+pub fn has_head<D: Disk>(
+    file: &mut D,
+    alloc: Global,
+    mark: &[u8; 16],
+) -> Result<bool, DataFileFault>
     ensures is { IfOk result (λ is. IsTrue (D.Disk.is_clean file.new)
         → (IsTrue is ↔ HasHead mark.now (D.Disk.seen file.old))) }
     ensures seen { D.Disk.seen file.new ≡ D.Disk.seen file.old }
     ensures clean { IsTrue (D.Disk.is_clean file.new) → IsTrue (D.Disk.is_clean file.old) }
 {
     if !file.may_be_used() {
-        return Err(DataFault::Store);
+        return Err(DataFileFault::Store);
     }
     if file.len()? < HEAD_SIZE {
         return Ok(false);
@@ -46,13 +50,13 @@ pub fn has_head<D: Disk>(file: &mut D, alloc: Global, mark: &[u8; 16]) -> Result
 /// changes it.
 ///
 /// Errors: Store, Memory.
-pub fn make_head<D: Disk>(file: &mut D, alloc: Global, mark: &[u8; 16]) -> Result<(), DataFault>
+pub fn make_head<D: Disk>(file: &mut D, alloc: Global, mark: &[u8; 16]) -> Result<(), DataFileFault>
     ensures head { OnOk result (HasHead mark.now (D.Disk.seen file.new)) }
     ensures alone { OnOk result (length (D.Disk.seen file.new) ≡ 4096) }
     ensures synced { OnOk result (Only (D.Disk.seen file.new) (D.Disk.may_leave file.new)) }
 {
     if !file.may_be_used() {
-        return Err(DataFault::Store);
+        return Err(DataFileFault::Store);
     }
     let head = head_bytes(alloc, mark)?;
     file.set_len(HEAD_SIZE)?;

@@ -15,7 +15,7 @@ mod opening;
 pub use data_file::DataFile;
 pub use dr_store_bodies::Extent;
 pub use dr_store_shelf::{InFile, InRow, LedgerShelf};
-pub use fault::DataFault;
+pub use fault::DataFileFault;
 pub use head::{HEAD_SIZE, has_head, make_head};
 pub use mark::{DataMark, mark_bytes, mark_in};
 pub use opening::open_in;

@@ -4,9 +4,9 @@ ghost use Rattle.std.specs.Prelude.{IfSome};
 ghost use Rattle.std.specs.List.Sorted.{IsPermutation};
 ghost use Rattle.dr_store_bodies.specs.Bodies.{IsClean, extents};
 ghost use Rattle.dr_store_data.specs.Heads.{HasHead, head_extent};
-ghost use Rattle.dr_store_data.specs.Opened.{IsOpened};
+ghost use Rattle.dr_store_data.specs.Opened.{HasExtents};
 
-use crate::fault::DataFault;
+use crate::fault::DataFileFault;
 use crate::head::{HEAD_SIZE, has_head};
 use crate::mark::DataMark;
 use dr_store_bodies::Extent;
@@ -15,7 +15,7 @@ use sqlite_disk::Disk;
 use std::alloc::Global;
 
 /// These extents and that of the head, in the order of their places.
-fn in_order(extents: Vec<Extent>) -> Result<Vec<Extent>, DataFault>
+fn in_order(extents: Vec<Extent>) -> Result<Vec<Extent>, DataFileFault>
     ensures { IfOk result (λ all. IsPermutation (head_extent ∷ extents.items) all.items) }
 {
     let mut all = extents;
@@ -31,16 +31,16 @@ fn in_order(extents: Vec<Extent>) -> Result<Vec<Extent>, DataFault>
 }
 
 /// Why a file isn't opened: where it hasn't the extents, it isn't the ledger's.
-fn not_opened<T>(fault: ShelfFault) -> Result<Option<T>, DataFault>
+fn not_opened<T>(fault: ShelfFault) -> Result<Option<T>, DataFileFault>
     ensures { IfOk result (λ none. IfSome none (λ _. ⊥)) }
 {
     match fault {
         ShelfFault::NoCell => Ok(None),
-        ShelfFault::Memory => Err(DataFault::Memory),
-        ShelfFault::Io(_) => Err(DataFault::Store),
-        ShelfFault::Unusable => Err(DataFault::Store),
-        ShelfFault::Full => Err(DataFault::Store),
-        ShelfFault::Unreadable => Err(DataFault::Store),
+        ShelfFault::Memory => Err(DataFileFault::Memory),
+        ShelfFault::Io(_) => Err(DataFileFault::Store),
+        ShelfFault::Unusable => Err(DataFileFault::Store),
+        ShelfFault::Full => Err(DataFileFault::Store),
+        ShelfFault::Unreadable => Err(DataFileFault::Store),
     }
 }
 
@@ -54,10 +54,10 @@ pub fn open_in<D: Disk + Drop>(
     file: D,
     mark: &DataMark,
     list: Vec<Extent>,
-) -> Result<Option<InFile<D>>, DataFault>
+) -> Result<Option<InFile<D>>, DataFileFault>
     ensures key { IfOk result (λ found. IfSome found (λ it. it.key ≡ mark.now.key)) }
     ensures opened { IfOk result (λ found.
-        IfSome found (λ it. IsOpened list.items (extents it.bodies))) }
+        IfSome found (λ it. HasExtents list.items (extents it.bodies))) }
     ensures marked { IfOk result (λ found. IfSome found (λ it. IsClean it.bodies
         → HasHead mark.now.mark (D.Disk.seen file))) }
 {
