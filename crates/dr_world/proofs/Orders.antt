@@ -1,11 +1,14 @@
 -- Orders one after the other, and what is done for them.
-use Rattle.std.proofs.Common.{◌≡◌, ◌⊎◌, ℕ, ◌+◌, ◌<◌, ◌≤◌, List, [], ◌∷◌, ◌++◌, length, get_or, take, append_assoc, None, inl, inr, refl, sym, ap, subst, ◌∙◌}
+use Rattle.std.proofs.Common.{◌≡◌, ◌⊎◌, ℕ, ◌+◌, ◌<◌, ◌≤◌, List, [], ◌∷◌, ◌++◌, length, get_or, take, append_assoc, map as mapped, None, inl, inr, refl, sym, ap, subst, ◌∙◌}
 use Rattle.std.proofs.lemmas.List.{append-nil, take_more, take_all}
 use Rattle.dr_base.specs.Texts.{Text}
 use Rattle.dr_ledger.specs.declared.ledger.Ledger.{Ghosts}
+use Rattle.dr_plan_model.proofs.Gathered.{nothing_in_nil}
 use Rattle.dr_plan_model.specs.Networks.{Network}
 use Rattle.dr_plan_sound.specs.declared.certificate.Certificate.{Certificate}
 use Rattle.dr_site.specs.Sites.{IsCertified}
+use Rattle.dr_world_script.specs.declared.step.Step.TheVariants as step_of
+use Rattle.dr_world_tie.specs.ByteWorlds.{Requestor}
 use Rattle.dr_world.specs.declared.changing.Change.{Change}
 use Rattle.dr_world.specs.declared.deed.Deed.{Deed}
 use Rattle.dr_world.specs.declared.deed.Deed.TheVariants as deed
@@ -16,9 +19,11 @@ use Rattle.dr_world.specs.declared.order.WorldOrder.TheVariants as order
 use Rattle.dr_world.specs.declared.order.RefusedForeign.{RefusedForeign}
 use Rattle.dr_world.specs.declared.playing.PlayNotes.{PlayNotes}
 use Rattle.dr_world.specs.declared.world.World.{World}
-use Rattle.dr_world.specs.Orders.{AreMeant, AreOrdered, IsChangeOrder, IsOrderDone, IsOrderedRun, NotesOrder, OrdersChange}
+use Rattle.dr_world.specs.Ends.{name_at, named}
+use Rattle.dr_world.specs.Orders.{AreMeant, AreOrdered, DeedsAloneAreDone, IsChangeOrder, IsOrderDone, IsOrderedRun, IsPassedOver, NotesOrder, OrdersChange}
 use Rattle.dr_world.specs.Played.{EndsEarly, IsPlayed, PlaysAll}
 use Rattle.dr_world.specs.Runs.{IsReached}
+use Rattle.dr_world.specs.Shows.{Contents}
 use Rattle.dr_world.specs.Whole.{AllStand, contents}
 use Rattle.dr_world.proofs.Played.{begun, run_of}
 
@@ -160,3 +165,39 @@ orders_early orders i (order.Foreign what) fault.HalfAdopted less is h = absurd 
 orders_early orders i one fault.Memory less is h = tt
 orders_early orders i one fault.WrongLedgers less is h = absurd h
 orders_early orders i one fault.Store less is h = absurd h
+
+-- ---- where no other product is named
+
+-- nothing is passed over
+none_passed : (c : Contents) (d : Deed) → IsPassedOver [] c d → ⊥
+none_passed c (deed.Step (step_of.Submit node item)) h = nothing_in_nil node h
+none_passed c (deed.Step (step_of.Open from to)) h = h
+none_passed c (deed.Step (step_of.Away from to)) h = nothing_in_nil from h
+none_passed c (deed.Step (step_of.Push link)) h = nothing_in_nil (name_at Requestor h.0) h.2
+none_passed c (deed.Step (step_of.Move link reader most)) h = nothing_in_nil (name_at (named reader) h.0) h.2
+none_passed c (deed.Step (step_of.Abort link side)) h = nothing_in_nil (name_at (named side) h.0) h.2
+none_passed c (deed.Step (step_of.Release link)) h = nothing_in_nil (name_at Requestor h.0) h.2
+none_passed c (deed.Step (step_of.Close link)) h = h
+none_passed c (deed.Step (step_of.Late link side)) h = nothing_in_nil (name_at (named side) h.0) h.2
+none_passed c (deed.Step (step_of.Restart node)) h = h
+none_passed c (deed.Step (step_of.Requeue node uid dest)) h = nothing_in_nil node h
+none_passed c (deed.Step (step_of.Drop node uid dest)) h = nothing_in_nil node h
+none_passed c (deed.Step (step_of.Forget node uid)) h = nothing_in_nil node h
+none_passed c (deed.Step (step_of.Tick ms)) h = h
+none_passed c (deed.Step (step_of.RefuseStore node)) h = nothing_in_nil node h
+none_passed c (deed.Adopt next) h = h
+none_passed c (deed.Bytes link side bytes) h = h
+
+its_deed : (c : Contents) (one : Deed) (done : List Deed) → ((IsPassedOver [] c one → ⊥) × (done ≡ one ∷ [])) ⊎ (IsPassedOver [] c one × (done ≡ [])) → done ≡ one ∷ []
+its_deed c one done (inl (own, is)) = is
+its_deed c one done (inr (over, is)) = absurd (none_passed c one over)
+
+pub deeds_alone_are_done : DeedsAloneAreDone
+deeds_alone_are_done first its before came [] deeds changes refusals last (d, c, r, o) = (d, r, o)
+deeds_alone_are_done first its before came (one ∷ ordered) deeds changes refusals last (c, done, more, told, later, said, rest, after, ed, ec, er, lead, means, h) =
+    let P : List Text → Type 0 = λ others. AreMeant first its (before ++ done) (came ++ told) others (mapped order.Deed ordered) more later rest last in
+    let next = deeds_alone_are_done first its (before ++ done) (came ++ told) ordered more later rest last (subst P means.1 h) in (
+      ed ∙ (ap (λ (ds : List Deed). ds ++ more) (its_deed c one done means.2) ∙ ap (λ (ds : List Deed). one ∷ ds) next.0),
+      er ∙ (ap (λ (rs : List RefusedForeign). rs ++ rest) means.0 ∙ next.1),
+      next.2,
+    )

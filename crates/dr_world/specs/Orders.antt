@@ -1,7 +1,7 @@
 -- What is ordered in a world: which steps aren't taken for other makers' products, what these write
 -- for what they are told to do, and what a list of orders comes to.
 use Rattle.std.specs.Prelude.{◌≡◌, ◌⊎◌, ℕ, List, [], ◌∷◌, ◌++◌, Contains, true, false}
-use Rattle.std.specs.Prelude.{Option, None, Some, is_some}
+use Rattle.std.specs.Prelude.{Option, None, Some, is_some, map as mapped}
 use Rattle.std.specs.FinMap as map
 use Rattle.dr_base.specs.Texts.{Text}
 use Rattle.dr_base.specs.Syntaxes.{syntax_uid}
@@ -280,3 +280,14 @@ IsChangeOrder (order.Foreign what) = ⊥
 -- one of the orders is
 abbrev pub OrdersChange : List WorldOrder → Type 0
 OrdersChange orders = (next : Certified) × Contains orders (order.Deed (deed.Adopt next))
+
+-- ---- laws
+
+-- Where no other maker's product is named, just what is ordered is done, and nothing is refused.
+abbrev pub DeedsAloneAreDone : Type 0
+DeedsAloneAreDone =
+    (first : Network) (its : Certificate) (before : List Deed) (came : List Change)
+    (ordered deeds : List Deed) (changes : List Change) (refusals : List RefusedForeign)
+    (last : List Text)
+    → AreMeant first its before came [] (mapped order.Deed ordered) deeds changes refusals last
+    → (deeds ≡ ordered) × (refusals ≡ []) × (last ≡ [])
