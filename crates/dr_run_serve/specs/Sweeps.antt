@@ -1,6 +1,6 @@
 -- What a node forgets one day.
-use Rattle.std.specs.Prelude.{◌≡◌, ◌≤◌, ◌<◌, ◌∷◌, ◌⊎◌, [], ℕ, Bool, true, false, List, Option}
-use Rattle.std.specs.Prelude.{None, Some, Result, Ok, Err}
+use Rattle.std.specs.Prelude.{◌≡◌, ◌≤◌, ◌<◌, ◌-◌, ◌∷◌, ◌⊎◌, [], ℕ, Bool, true, false, List}
+use Rattle.std.specs.Prelude.{None, Option, Some, Result, Ok, Err, filter, length}
 use Rattle.dr_base.specs.Texts.{Text}
 use Rattle.dr_desk.specs.declared.receipt.Call.TheVariants.{Forgetting}
 use Rattle.dr_ledger.specs.Books.{Book, Line}
@@ -56,3 +56,39 @@ module _ {L : Type 0} (site_of : L → Part) (book : L → Book) (stands : L →
       × ((one : OverInstance)
       × (more : List OverInstance)
       × (queue ≡ one ∷ more) × Asks since one s (Err why) t)
+
+  -- The first ones are asked for one after the other, and leave the queue: of each whether it was
+  -- forgotten.
+  abbrev pub ForgetsEach : ℕ → List Bool → List OverInstance → State
+      → List OverInstance → State → Type 0
+  ForgetsEach since [] queue s rest t = (rest ≡ queue) × (t ≡ s)
+  ForgetsEach since (forgotten ∷ more) queue s rest t =
+      (between : List OverInstance) × (mid : State)
+      × ForgetsFirst since queue s (Ok (Some forgotten)) between mid
+      × ForgetsEach since more between mid rest t
+
+  -- What has been over since that moment or longer is asked for, the longest first: all of it, or a
+  -- thousand; so many were forgotten. What the ledger can't tell is the end of it.
+  abbrev pub ForgetsDue : ℕ → List OverInstance → State → Result ℕ LedgerFault
+      → List OverInstance → State → Type 0
+  ForgetsDue since queue s (Ok count) rest t =
+      (each : List Bool)
+      × ForgetsEach since each queue s rest t
+      × (count ≡ length (filter (λ (forgotten : Bool). forgotten) each))
+      × ((length each ≡ 1000) ⊎ IsNotDue rest since)
+  ForgetsDue since queue s (Err why) rest t =
+      (each : List Bool) × (between : List OverInstance) × (mid : State)
+      × ForgetsEach since each queue s between mid
+      × ForgetsFirst since between mid (Err why) rest t
+
+  -- of some queue, what has been over since that moment or longer is asked for, or nothing is
+  abbrev pub Sweeps : ℕ → State → State → Type 0
+  Sweeps since s t =
+      (t ≡ s)
+      ⊎ ((queue rest : List OverInstance) × (came : Result ℕ LedgerFault)
+      × ForgetsDue since queue s came rest t)
+
+  -- a turn at that moment: nothing is asked for but what has been over for so many milliseconds
+  abbrev pub Turns : Option ℕ → ℕ → State → State → Type 0
+  Turns None now s t = t ≡ s
+  Turns (Some after) now s t = Sweeps (now - after) s t

@@ -1,5 +1,5 @@
 //! The one who has a node forget what has been over for long.
-ghost use Rattle.dr_run_serve.specs.Sweeps.{ForgetsFirst};
+ghost use Rattle.dr_run_serve.specs.Sweeps.{ForgetsDue, ForgetsFirst, Sweeps, Turns};
 
 use crate::events::{tell_forgotten, tell_unswept};
 use crate::live::LiveNode;
@@ -88,7 +88,11 @@ fn forget_due<R: Wait, L: LetsGo, B: Sharing>(
     pass: &mut Pass<B>,
     sweep: &mut Sweep,
     since: u64,
-) -> Result<u64, LedgerFault> {
+) -> Result<u64, LedgerFault>
+    ensures { ForgetsDue L.site L.book L.stands L.failed B.site B.first since
+        sweep.old.queue.items (pass.old.made.count, pass.old.receipts.items) result
+        sweep.new.queue.items (pass.new.made.count, pass.new.receipts.items) }
+{
     let mut count = 0u64;
     for _ in 0..MOST {
         match forget_first(rt, desk, pass, sweep, since)? {
@@ -160,7 +164,11 @@ impl<B: Sharing> Sweeper<B> {
         &mut self,
         node: &LiveNode<'_, R, L, B, C, G>,
         since: u64,
-    ) -> Result<u64, LedgerFault> {
+    ) -> Result<u64, LedgerFault>
+        ensures { Sweeps L.site L.book L.stands L.failed B.site B.first since
+            (self.old.pass.made.count, self.old.pass.receipts.items)
+            (self.new.pass.made.count, self.new.pass.receipts.items) }
+    {
         let Some(mut sweep) = self.known(node.rt, node.alloc, node.desk)? else {
             return Ok(0);
         };
@@ -176,7 +184,11 @@ impl<B: Sharing> Sweeper<B> {
         &mut self,
         node: &LiveNode<'_, R, L, B, C, G>,
         now: u64,
-    ) {
+    )
+        ensures { Turns L.site L.book L.stands L.failed B.site B.first self.old.after now
+            (self.old.pass.made.count, self.old.pass.receipts.items)
+            (self.new.pass.made.count, self.new.pass.receipts.items) }
+    {
         let Some(after) = self.after else {
             return;
         };
