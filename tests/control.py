@@ -303,7 +303,7 @@ def dropped():
         same([row['state'] for row in node.read('/rows?dest=GATE')], ['held'])
         same(node.act('/drop', uid='1.2.3.4', dest='GATE'), (200, '{"done":true}\n'))
         node.wait('/rows?dest=GATE', lambda rows: not rows)
-        same([event[3] for event in room.events('CT1') if event[3].startswith('forgets')], ['forgets instances=1'])
+        room.wait_for_event('CT1', 'forgets instances=1')
         same(node.act('/stop'), (200, '{"done":true}\n'))
         same(ended(node.process)[0], 'node\tCT1')
 
