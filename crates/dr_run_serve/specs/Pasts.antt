@@ -1,11 +1,11 @@
 -- What came to be over by the lines of a journal: when a row of an instance was last done or
 -- dropped. What was forgotten since isn't here any more, nor is what the node keeps.
-use Rattle.std.specs.Prelude.{◌≡◌, ◌≤◌, ◌↔◌, ℕ, Bool, true, false, cond, ◌&&◌, ◌+◌, ◌-◌, ◌^◌, max, min, List, [], ◌∷◌, ◌++◌}
+use Rattle.std.specs.Prelude.{◌≡◌, ◌↔◌, ℕ, Bool, true, false, cond, ◌&&◌, ◌+◌, ◌-◌, ◌^◌, max, min, List, [], ◌∷◌, ◌++◌}
 use Rattle.std.specs.Prelude.{Contains, Option, None, Some, Result, Ok, Err, flat_map}
 use Rattle.std.specs.BTreeMap as tree
 use Rattle.std.specs.BTreeMap.{is_at}
 use Rattle.std.specs.BTreeSet as set
-use Rattle.std.specs.List.{AllPairs}
+use Rattle.std.specs.List.Sorted.{IsNonDecreasingBy}
 use Rattle.dr_base.specs.Texts.{Text, text_cmp}
 use Rattle.dr_ledger.specs.Books.{is_success}
 use Rattle.dr_ledger.specs.declared.fault.LedgerFault.{LedgerFault}
@@ -90,14 +90,14 @@ pub record HasNoted (lines : List JournalLine) (past : Past) : Type 0 where
 -- node doesn't keep, and that weren't forgotten since, each with the last such moment, and in the
 -- order of these moments.
 pub record IsFoundIn (lines : List JournalLine) (queue : List OverInstance) : Type 0 where
-  pub ordered : AllPairs (λ (a b : OverInstance). a.at ≤ b.at) queue
+  pub ordered : IsNonDecreasingBy (λ (over : OverInstance). over.at) queue
   pub just : (uid : Text) (at : ℕ)
       → Contains queue (record { uid = uid; at = at })
       ↔ ((known_after uid nothing lines).1 ≡ Some at)
 
 -- the queue has just what is noted in the tree, in the order of the moments
 pub record IsQueueOf (ends : tree.BTreeMap Text ℕ) (queue : List OverInstance) : Type 0 where
-  pub ordered : AllPairs (λ (a b : OverInstance). a.at ≤ b.at) queue
+  pub ordered : IsNonDecreasingBy (λ (over : OverInstance). over.at) queue
   pub just : (uid : Text) (at : ℕ)
       → Contains queue (record { uid = uid; at = at }) ↔ (tree.get text_cmp ends uid ≡ Some at)
 

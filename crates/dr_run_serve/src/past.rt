@@ -49,7 +49,7 @@ fn ends(outcome: Outcome) -> bool
 
 /// The later of the moment that is known, if one is, and this one.
 fn later(known: Option<&u64>, now: u64) -> u64
-    ensures { Some result ≡ later (option_copied known) now }
+    ensures { Some result ≡ later (option_copied known.entry) now }
 {
     match known {
         Some(known) => now.max(*known),
@@ -66,7 +66,8 @@ fn in_order(alloc: Global, ends: BTreeMap<Text, u64>) -> Result<Sweep, AllocErro
         all.push(OverInstance { uid, at })?;
     }
     all.sort_unstable_by_key(|over| over.at);
-    queued(alloc, all)
+    let sweep = queued(alloc, all)?;
+    Ok(sweep)
 }
 
 /// Those, in their order.
@@ -101,7 +102,7 @@ impl Past {
         ensures count { self.new.after ≡ self.old.after }
         ensures known { OnOk result (Knows
             (λ q known. cond (is_uid uid.now q) (true, None) known) self.old self.new) }
-        ensures same { OnErr result (self.new ≡ self.old) }
+        ensures same { OnErr result (Knows (λ q known. known) self.old self.new) }
     {
         let copy = uid.clone()?;
         let _is_first = self.kept.insert(copy)?;
@@ -116,7 +117,7 @@ impl Past {
         ensures count { self.new.after ≡ self.old.after }
         ensures known { OnOk result (Knows
             (λ q known. cond (keep && is_uid uid.now q) (true, None) known) self.old self.new) }
-        ensures same { OnErr result (self.new ≡ self.old) }
+        ensures same { OnErr result (Knows (λ q known. known) self.old self.new) }
     {
         if keep {
             return self.note_kept(uid);
@@ -131,7 +132,7 @@ impl Past {
         ensures count { self.new.after ≡ self.old.after }
         ensures known { OnOk result (Knows
             (λ q known. cond (is_uid uid.now q) (ended_by known now) known) self.old self.new) }
-        ensures same { OnErr result (self.new ≡ self.old) }
+        ensures same { OnErr result (Knows (λ q known. known) self.old self.new) }
     {
         if self.kept.contains(uid) {
             return Ok(());
@@ -150,7 +151,7 @@ impl Past {
         ensures known { OnOk result (Knows
             (λ q known. cond (ends_row outcome && is_uid uid.now q) (ended_by known now) known)
             self.old self.new) }
-        ensures same { OnErr result (self.new ≡ self.old) }
+        ensures same { OnErr result (Knows (λ q known. known) self.old self.new) }
     {
         if ends(outcome) {
             return self.note_end(uid, now);
@@ -174,7 +175,7 @@ impl Past {
         ensures count { self.new.after ≡ self.old.after }
         ensures known { OnOk result
             (Knows (λ q known. known_by q known line.now) self.old self.new) }
-        ensures same { OnErr result (self.new ≡ self.old) }
+        ensures same { OnErr result (Knows (λ q known. known) self.old self.new) }
     {
         match line {
             JournalLine::Settling {

@@ -1,7 +1,6 @@
-use Rattle.std.proofs.Common.{◌≡◌, map, ℕ}
-use Rattle.dr_base.specs.Texts.{Text}
-use Rattle.dr_run_serve.specs.declared.sweep.OverInstance.{OverInstance}
+use Rattle.std.proofs.Common.{◌≡◌, ◌++◌, map, ℕ}
+use Rattle.dr_run_serve.proofs.Noting.{over_of}
 use Rattle.dr_run_serve.proofs.past.in_order.Given as goal
 
-abbrev pub invariant-loop-item : goal.invariant-loop-item
-invariant-loop-item l = l.all.items ≡ map (λ (e : Text × ℕ). record { uid = e.0; at = e.1 }) l.yielded
+abbrev pub invariant-loop-uid : goal.invariant-loop-uid
+invariant-loop-uid l = l.all.items ++ map over_of l.uid-iterator ≡ map over_of l.fn.ends.entries

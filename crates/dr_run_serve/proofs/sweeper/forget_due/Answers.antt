@@ -19,8 +19,8 @@ loop-turn-preserved g c =
     let y : List OverInstance × State = (c.loop-turn.sweep.queue.items, (c.loop-turn.pass.made.count, c.loop-turn.pass.receipts.items)) in
     let z : List OverInstance × State = (c.forget_first.new.sweep.queue.items, (c.forget_first.new.pass.made.count, c.forget_first.new.pass.receipts.items)) in
     let P : Option Bool → Type 0 = λ o. ForgetsFirst g.L.Ledger.site g.L.Ledger.book g.L.Ledger.stands g.L.Ledger.failed g.B.Sharing.site g.B.Sharing.first c.args.since y.0 y.1 (Ok o) z.0 z.1 in
-    let one : One y came z = subst P c.in-Ok-Some.field-0-is c.in-Ok-Some.ensures in
-    ( h.0 ++ came ∷ [],
+    let one : One y came z = subst P c.in-Ok-Some.field-0-is c.in-Ok-Some.ensures in (
+      h.0 ++ came ∷ [],
       chain_more One h.0 x y z came h.1 one,
       c.counted.ensures ∙ ap (λ n. counted n came) h.2 ∙ sym (counted_more 0 h.0 came),
       length_push h.0 came ∙ ap (λ n. n + 1) h.3,
@@ -35,8 +35,8 @@ returns-in-Ok-None g c =
     let z : List OverInstance × State = (c.forget_first.new.sweep.queue.items, (c.forget_first.new.pass.made.count, c.forget_first.new.pass.receipts.items)) in
     let P : Option Bool → Type 0 = λ o. ForgetsFirst g.L.Ledger.site g.L.Ledger.book g.L.Ledger.stands g.L.Ledger.failed g.B.Sharing.site g.B.Sharing.first c.args.since y.0 y.1 (Ok o) z.0 z.1 in
     let none : P None = subst P c.in-Ok-None.field-0-is c.in-Ok-None.ensures in
-    let same : Chain One h.0 x (y.0, z.1) = subst (λ (s : State). Chain One h.0 x (y.0, s)) (sym none.2) h.1 in
-    ( h.0,
+    let same : Chain One h.0 x (y.0, z.1) = subst (λ (s : State). Chain One h.0 x (y.0, s)) (sym none.2) h.1 in (
+      h.0,
       subst (λ (queue : List OverInstance). Chain One h.0 x (queue, z.1)) (sym none.1) same,
       h.2,
       inr (subst (λ (queue : List OverInstance). IsNotDue queue c.args.since) (sym none.1) none.0),
