@@ -78,6 +78,8 @@ refusal_of making.Never true = None
 refusal_of making.Never false = Some opening.NoLedger
 refusal_of making.Wanted true = Some opening.IsThere
 refusal_of making.Wanted false = None
+refusal_of making.WantedWithData true = Some opening.IsThere
+refusal_of making.WantedWithData false = None
 
 -- why a site's ledger isn't opened
 abbrev pub IsUnopened : Halt → Type 0
