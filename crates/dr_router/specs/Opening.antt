@@ -11,6 +11,8 @@ use Rattle.dr_run_open.specs.declared.ledgers.OpenFault.TheVariants as unopened
 use Rattle.dr_site.specs.Parts.{Part}
 use Rattle.dr_store_open.specs.declared.fault.OpeningFault.{OpeningFault}
 use Rattle.dr_store_open.specs.declared.fault.OpeningFault.TheVariants as opening
+use Rattle.dr_store_open.specs.declared.data.DataFault.{DataFault}
+use Rattle.dr_store_open.specs.declared.data.DataFault.TheVariants as beside
 use Rattle.dr_store_open.specs.declared.data.Keeping.{Keeping}
 use Rattle.dr_store_open.specs.declared.data.Keeping.TheVariants as keeping
 use Rattle.dr_store_open.specs.Opening.{HasLedgerOf}
@@ -30,8 +32,16 @@ fault_of_opening opening.InUse = unopened.InUse
 fault_of_opening opening.Store = unopened.Store
 fault_of_opening opening.Memory = unopened.Memory
 
--- where a new ledger has its data sets: in its tables, but where it is asked for with a file of data
--- sets
+-- where its data file isn't looked for, made or opened
+abbrev pub fault_of_data : DataFault → OpenFault
+fault_of_data beside.Missing = unopened.NoData
+fault_of_data beside.IsThere = unopened.DataIsThere
+fault_of_data beside.InUse = unopened.InUse
+fault_of_data beside.Store = unopened.Store
+fault_of_data beside.Memory = unopened.Memory
+
+-- where a new ledger has its data sets: in its tables, but where it is asked for with a file of
+-- them
 abbrev pub keeping_of : Making → Keeping
 keeping_of making.Allowed = keeping.InRows
 keeping_of making.Never = keeping.InRows

@@ -42,7 +42,7 @@ fn fault_of(error: &io::Error) -> DataFault {
     }
 }
 
-/// A path with that name behind it.
+/// The path of the database with that name behind it.
 fn path_of(alloc: Global, database: &str) -> Result<String, AllocError> {
     let mut path = String::new(alloc);
     path.push_str(database)?;
@@ -50,16 +50,21 @@ fn path_of(alloc: Global, database: &str) -> Result<String, AllocError> {
     Ok(path)
 }
 
-/// Its path: it lies beside the database, where links lead to that.
+/// Its path beside a database of that path.
+pub fn data_name(alloc: Global, database: &str) -> Result<String, DataFault> {
+    match path_of(alloc, database) {
+        Ok(path) => Ok(path),
+        Err(AllocError) => Err(DataFault::Memory),
+    }
+}
+
+/// Its path beside a database that is there: where links lead to that.
 pub fn data_path(rt: &HostRuntime, alloc: Global, database: &str) -> Result<String, DataFault> {
     let real = match fs::canonicalize(rt, database) {
         Ok(real) => real,
         Err(error) => return Err(fault_of(&error)),
     };
-    match path_of(alloc, real.as_str()) {
-        Ok(path) => Ok(path),
-        Err(AllocError) => Err(DataFault::Memory),
-    }
+    data_name(alloc, real.as_str())
 }
 
 /// How many bytes it has, if it is there.

@@ -3,9 +3,9 @@ ghost use Rattle.std.specs.Prelude.{◌≡◌, IfOk, false};
 ghost use Rattle.sqlite.specs.Held.{state};
 ghost use Rattle.dr_word_rehearse.specs.Looks.{IsFoundBy};
 ghost use Rattle.dr_router.specs.Opening.{HasLedgerIn, fault_of_database, fault_of_opening};
-ghost use Rattle.dr_router.specs.Opening.{keeping_of};
+ghost use Rattle.dr_router.specs.Opening.{fault_of_data, keeping_of};
 
-use crate::beside::{DataBeside, data_length, data_path, draw, file_of};
+use crate::beside::{DataBeside, data_length, data_name, data_path, draw, file_of};
 use dr_base::Text;
 use dr_run_backup::{BackupFault, Backups, LedgerCopy, SystemBackups};
 use dr_run_files::Files;
@@ -35,6 +35,12 @@ pub trait Databases {
 
     fn open_database(&self, path: &str) -> Result<Connection<Self::Store>, Error>
         ensures { IfOk result (λ conn. conn.in_transaction ≡ false) };
+
+    /// Whether one that may hold data sets lies where one would be made for a database of that
+    /// path, which isn't there yet.
+    ///
+    /// Errors: Store, Memory.
+    fn has_data(&self, alloc: Global, path: &str) -> Result<bool, DataFault>;
 
     /// The file of the data sets of the database with that path, which is open. None is made.
     ///
@@ -73,6 +79,14 @@ impl<'a> Databases for SystemFiles<'a> {
     /// A file that isn't there is made.
     fn open_database(&self, path: &str) -> Result<Connection<FileStore<File>>, Error> {
         Connection::open(self.0, path)
+    }
+
+    fn has_data(&self, alloc: Global, path: &str) -> Result<bool, DataFault> {
+        let path = data_name(alloc, path)?;
+        match data_length(self.0, path.as_str())? {
+            Some(length) => Ok(length > HEAD),
+            None => Ok(false),
+        }
     }
 
     fn open_data(&self, alloc: Global, path: &str) -> Result<File, DataFault> {
@@ -205,6 +219,37 @@ fn ledger_fault(fault: OpeningFault) -> OpenFault
     }
 }
 
+/// Why a ledger isn't opened whose data file isn't looked for, made or opened.
+fn data_fault(fault: DataFault) -> OpenFault
+    ensures { result ≡ fault_of_data fault }
+{
+    match fault {
+        DataFault::Missing => OpenFault::NoData,
+        DataFault::IsThere => OpenFault::DataIsThere,
+        DataFault::InUse => OpenFault::InUse,
+        DataFault::Store => OpenFault::Store,
+        DataFault::Memory => OpenFault::Memory,
+    }
+}
+
+/// Why a ledger isn't made as it is wanted, before its database is: a file of data sets is where
+/// its own is to be.
+fn data_refusal<D: Databases>(
+    alloc: Global,
+    databases: &D,
+    path: &str,
+    making: Making,
+) -> Option<OpenFault> {
+    if making != Making::WantedWithData {
+        return None;
+    }
+    match databases.has_data(alloc, path) {
+        Ok(false) => None,
+        Ok(true) => Some(OpenFault::DataIsThere),
+        Err(fault) => Some(data_fault(fault)),
+    }
+}
+
 /// Where a new ledger has its data sets.
 fn keeping_of(making: Making) -> Keeping
     ensures { result ≡ keeping_of making }
@@ -260,6 +305,9 @@ impl<D: Databases + Drop> Ledgers for StoredLedgers<D> {
         making: Making,
     ) -> Result<SqlLedger<D::Store, LedgerShelf<D::Disk>>, OpenFault> {
         if let Some(fault) = making.refusal(self.0.is_there(path)) {
+            return Err(fault);
+        }
+        if let Some(fault) = data_refusal(alloc, &self.0, path, making) {
             return Err(fault);
         }
         let data = DataBeside {
