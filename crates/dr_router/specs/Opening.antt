@@ -11,8 +11,8 @@ use Rattle.dr_run_open.specs.declared.ledgers.OpenFault.TheVariants as unopened
 use Rattle.dr_site.specs.Parts.{Part}
 use Rattle.dr_store_open.specs.declared.fault.OpeningFault.{OpeningFault}
 use Rattle.dr_store_open.specs.declared.fault.OpeningFault.TheVariants as opening
-use Rattle.dr_store_open.specs.declared.data.DataFault.{DataFault}
-use Rattle.dr_store_open.specs.declared.data.DataFault.TheVariants as beside
+use Rattle.dr_store_data.specs.declared.fault.DataFault.{DataFault}
+use Rattle.dr_store_data.specs.declared.fault.DataFault.TheVariants as beside
 use Rattle.dr_store_open.specs.declared.data.Keeping.{Keeping}
 use Rattle.dr_store_open.specs.declared.data.Keeping.TheVariants as keeping
 use Rattle.dr_store_open.specs.Opening.{HasLedgerOf}
