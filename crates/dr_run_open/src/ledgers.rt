@@ -1,7 +1,6 @@
 //! Where ledgers are.
 ghost use Rattle.std.specs.Prelude.{◌≡◌};
-ghost use Rattle.dr_run_open.specs.Openings.{refusal_of};
-ghost use Rattle.dr_run_open.specs.declared.ledgers.Making.TheVariants as making;
+ghost use Rattle.dr_run_open.specs.Openings.{refusal_of, refusal_of_new};
 
 use dr_ledger::{Ledger, LetsGo};
 use dr_ledger_views::Views;
@@ -52,7 +51,7 @@ pub enum Making {
 
 /// Why a new ledger isn't made by a path at which something is there, or isn't.
 fn refusal_of_new(is_there: bool) -> Option<OpenFault>
-    ensures { result ≡ refusal_of making.Wanted is_there }
+    ensures { result ≡ refusal_of_new is_there }
 {
     if is_there {
         return Some(OpenFault::IsThere);
