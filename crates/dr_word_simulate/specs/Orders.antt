@@ -9,10 +9,12 @@ use Rattle.dr_run_open.specs.declared.halt.Halt.{Halt}
 use Rattle.dr_run_open.specs.declared.status.Status.TheVariants.{Refused}
 use Rattle.dr_world.specs.declared.deed.Deed.{Deed}
 use Rattle.dr_world.specs.declared.deed.Deed.TheVariants as deed
+use Rattle.dr_world.specs.declared.order.WorldOrder.{WorldOrder}
+use Rattle.dr_world.specs.declared.order.WorldOrder.TheVariants as order
 use Rattle.dr_world_script.specs.declared.act.Act.{Act}
 use Rattle.dr_world_script.specs.declared.act.Act.TheVariants as act
-use Rattle.dr_word_simulate.specs.declared.deeds.ActFault.{ActFault}
-use Rattle.dr_word_simulate.specs.declared.deeds.ActFault.TheVariants.{Unsealed, Unread, Memory}
+use Rattle.dr_word_simulate.specs.declared.orders.ActFault.{ActFault}
+use Rattle.dr_word_simulate.specs.declared.orders.ActFault.TheVariants.{Unsealed, Unread, Memory}
 
 -- the deed is what the line tells: that step, or that all nodes take the plan that the one file
 -- has, with the certificate that the other one has, or that another product writes just this there
@@ -28,6 +30,15 @@ IsDeedOf Holds (act.Bytes link side bytes) (deed.Step done) = ⊥
 IsDeedOf Holds (act.Bytes link side bytes) (deed.Adopt sealed) = ⊥
 IsDeedOf Holds (act.Bytes link side bytes) (deed.Bytes at by these) =
     (at ≡ link) × (by ≡ side) × (these ≡ bytes)
+IsDeedOf Holds (act.Foreign what) done = ⊥
+
+-- the order is what the line tells: such a deed, or what concerns other makers' products
+abbrev pub IsOrderOf : (Text → Text → Type 0) → Act → WorldOrder → Type 0
+IsOrderOf Holds a (order.Deed done) = IsDeedOf Holds a done
+IsOrderOf Holds (act.Step step) (order.Foreign what) = ⊥
+IsOrderOf Holds (act.Adopt plan certificate) (order.Foreign what) = ⊥
+IsOrderOf Holds (act.Bytes link side bytes) (order.Foreign what) = ⊥
+IsOrderOf Holds (act.Foreign what) (order.Foreign told) = told ≡ what
 
 -- the files have no sound plan with its certificate
 abbrev pub IsUnsealedBy : (Text → Type 0) → (Text → Type 0) → Type 0
@@ -44,11 +55,13 @@ IsUndone Holds (act.Step step) Unsealed = ⊥
 IsUndone Holds (act.Step step) (Unread path error) = ⊥
 IsUndone Holds (act.Bytes link side bytes) Unsealed = ⊥
 IsUndone Holds (act.Bytes link side bytes) (Unread path error) = ⊥
+IsUndone Holds (act.Foreign what) Unsealed = ⊥
+IsUndone Holds (act.Foreign what) (Unread path error) = ⊥
 IsUndone Holds a Memory = Unit {0}
 
--- the deed of that line is behind the others
-abbrev pub AddsDeed : (Text → Text → Type 0) → Act → List Deed → List Deed → Type 0
-AddsDeed Holds a old new = (done : Deed) × IsDeedOf Holds a done × (new ≡ old ++ done ∷ [])
+-- the order of that line is behind the others
+abbrev pub AddsOrder : (Text → Text → Type 0) → Act → List WorldOrder → List WorldOrder → Type 0
+AddsOrder Holds a old new = (one : WorldOrder) × IsOrderOf Holds a one × (new ≡ old ++ one ∷ [])
 
 -- what stands at that place, counted from 0, can't be done, and all before it can
 abbrev pub StopsAt : (Text → Text → Type 0) → List Act → ℕ → ActFault → Type 0
@@ -57,4 +70,4 @@ StopsAt Holds acts place fault =
     × (acts ≡ before ++ a ∷ later)
     × (length before ≡ place)
     × IsUndone Holds a fault
-    × ((deeds : List Deed) × AllZip (IsDeedOf Holds) before deeds)
+    × ((orders : List WorldOrder) × AllZip (IsOrderOf Holds) before orders)

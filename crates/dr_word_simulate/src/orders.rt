@@ -3,14 +3,15 @@ ghost use Rattle.std.specs.Prelude.{◌≡◌, ◌∷◌, ◌++◌, [], MatchRes
 ghost use Rattle.std.specs.List.{AllZip};
 ghost use Rattle.dr_run_open.specs.Openings.{IsSealedBy};
 ghost use Rattle.dr_run_open.specs.declared.status.Status.TheVariants.{Refused as RefusedStatus};
-ghost use Rattle.dr_word_simulate.specs.Deeds.{AddsDeed, IsDeedOf, IsUndone, IsUnsealedBy, StopsAt};
-ghost use Rattle.dr_word_simulate.specs.declared.deeds.ActFault.TheVariants.{Unsealed};
+ghost use Rattle.dr_word_simulate.specs.Orders.{AddsOrder, IsOrderOf, IsUndone, IsUnsealedBy};
+ghost use Rattle.dr_word_simulate.specs.Orders.{StopsAt};
+ghost use Rattle.dr_word_simulate.specs.declared.orders.ActFault.TheVariants.{Unsealed};
 
 use dr_base::Text;
 use dr_cert::Sealed;
 use dr_run_files::{Failure, Files};
 use dr_run_open::{Halt, Status, seal_files};
-use dr_world::Deed;
+use dr_world::{Deed, WorldOrder};
 use dr_world_script::Act;
 use std::alloc::Global;
 use std::io::ErrorKind;
@@ -125,58 +126,62 @@ fn seal_named<F: Files>(
     seal_at(alloc, files, plan, certificate)
 }
 
-/// What is to be done by a line of a script.
-fn deed_of<F: Files>(alloc: Global, files: &F, act: Act) -> Result<Deed, ActFault>
-    ensures { MatchResult result (IsDeedOf (F.holds files.now) act)
+/// What a line of a script orders.
+fn order_of<F: Files>(alloc: Global, files: &F, act: Act) -> Result<WorldOrder, ActFault>
+    ensures { MatchResult result (IsOrderOf (F.holds files.now) act)
         (IsUndone (F.holds files.now) act) }
 {
     match act {
-        Act::Step(step) => Ok(Deed::Step(step)),
-        Act::Bytes { link, side, bytes } => Ok(Deed::Bytes { link, side, bytes }),
+        Act::Step(step) => Ok(WorldOrder::Deed(Deed::Step(step))),
+        Act::Bytes { link, side, bytes } => Ok(WorldOrder::Deed(Deed::Bytes { link, side, bytes })),
+        Act::Foreign(foreign) => Ok(WorldOrder::Foreign(foreign)),
         Act::Adopt { plan, certificate } => {
             match seal_named(alloc, files, &plan, &certificate) {
-                Ok(sealed) => Ok(Deed::Adopt(sealed)),
+                Ok(sealed) => Ok(WorldOrder::Deed(Deed::Adopt(sealed))),
                 Err(fault) => Err(fault),
             }
         }
     }
 }
 
-/// What is to be done by a line of a script, behind the others.
-fn add_deed<F: Files>(
+/// What a line of a script orders, behind the others.
+fn add_order<F: Files>(
     alloc: Global,
     files: &F,
     act: Act,
-    deeds: &mut Vec<Deed>,
+    orders: &mut Vec<WorldOrder>,
 ) -> Result<(), ActFault>
     ensures { MatchResult result
-        (λ _. AddsDeed (F.holds files.now) act deeds.old.items deeds.new.items)
+        (λ _. AddsOrder (F.holds files.now) act orders.old.items orders.new.items)
         (IsUndone (F.holds files.now) act) }
 {
-    let deed = match deed_of(alloc, files, act) {
-        Ok(deed) => deed,
+    let order = match order_of(alloc, files, act) {
+        Ok(order) => order,
         Err(fault) => return Err(fault),
     };
-    match deeds.push(deed) {
+    match orders.push(order) {
         Ok(()) => Ok(()),
         Err(_) => Err(ActFault::Memory),
     }
 }
 
-/// What is to be done by the lines of a script, up to the first by which nothing can be: then
-/// nothing is.
-pub fn deeds_of<F: Files>(alloc: Global, files: &F, acts: Vec<Act>) -> Result<Vec<Deed>, ScriptStop>
+/// What the lines of a script order, up to the first by which nothing can be done: then nothing is.
+pub fn orders_of<F: Files>(
+    alloc: Global,
+    files: &F,
+    acts: Vec<Act>,
+) -> Result<Vec<WorldOrder>, ScriptStop>
     ensures { MatchResult result
-        (λ deeds. AllZip (IsDeedOf (F.holds files.now)) acts.items deeds.items)
+        (λ orders. AllZip (IsOrderOf (F.holds files.now)) acts.items orders.items)
         (λ stop. StopsAt (F.holds files.now) acts.items stop.place stop.fault) }
 {
-    let mut deeds = Vec::new(alloc);
+    let mut orders = Vec::new(alloc);
     for act in acts {
-        let place = deeds.len();
-        match add_deed(alloc, files, act, &mut deeds) {
+        let place = orders.len();
+        match add_order(alloc, files, act, &mut orders) {
             Ok(()) => {}
             Err(fault) => return Err(ScriptStop { place, fault }),
         }
     }
-    Ok(deeds)
+    Ok(orders)
 }
