@@ -1,1 +1,3 @@
+mod Chained
 mod InTurn
+mod Noting
