@@ -47,8 +47,8 @@ fn find_cell<S: Alter, B: Shelf>(
 /// Lets the cell of this instance go, if there is one.
 fn let_go_of<B: Shelf>(shelf: &mut B, found: Option<Job>)
     ensures gone { IsGone (B.Shelf.apart (B.Shelf.named shelf.old)) (B.Shelf.uses shelf.new) found }
-    ensures keeps { KeepsApart (B.Shelf.apart (B.Shelf.named shelf.old)) (B.Shelf.uses shelf.old) (B.Shelf.stands shelf.old)
-        (B.Shelf.uses shelf.new) (B.Shelf.stands shelf.new) found }
+    ensures keeps { KeepsApart (B.Shelf.apart (B.Shelf.named shelf.old)) (B.Shelf.uses shelf.old)
+        (B.Shelf.stands shelf.old) (B.Shelf.uses shelf.new) (B.Shelf.stands shelf.new) found }
     ensures named { B.Shelf.named shelf.new ≡ B.Shelf.named shelf.old }
     ensures clean { B.Shelf.is_clean shelf.new → B.Shelf.is_clean shelf.old }
 {
@@ -66,8 +66,9 @@ fn let_go_gone<B: Shelf>(
     answer: Result<bool, LedgerFault>,
 ) -> Result<(), LedgerFault>
     ensures plain { result ≡ plain answer }
-    ensures left { LeavesCells (B.Shelf.apart (B.Shelf.named shelf.old)) (B.Shelf.uses shelf.old) (B.Shelf.stands shelf.old)
-        (B.Shelf.uses shelf.new) (B.Shelf.stands shelf.new) found answer }
+    ensures left { LeavesCells (B.Shelf.apart (B.Shelf.named shelf.old)) (B.Shelf.uses shelf.old)
+        (B.Shelf.stands shelf.old) (B.Shelf.uses shelf.new) (B.Shelf.stands shelf.new) found
+        answer }
     ensures same { OnErr result (shelf.new ≡ shelf.old) }
     ensures named { B.Shelf.named shelf.new ≡ B.Shelf.named shelf.old }
     ensures clean { B.Shelf.is_clean shelf.new → B.Shelf.is_clean shelf.old }
@@ -102,8 +103,8 @@ pub fn settle<S: Alter, B: Shelf>(
         Nothing
         (λ base db.
         Settles at.now.uid.now at.now.dest.now outcome now (book_of base) result (book_of db)
-        × LetsCellsGo (B.Shelf.apart (B.Shelf.named shelf.old)) (B.Shelf.uses shelf.old) (B.Shelf.stands shelf.old)
-        (B.Shelf.uses shelf.new) (B.Shelf.stands shelf.new) base db)
+        × LetsCellsGo (B.Shelf.apart (B.Shelf.named shelf.old)) (B.Shelf.uses shelf.old)
+        (B.Shelf.stands shelf.old) (B.Shelf.uses shelf.new) (B.Shelf.stands shelf.new) base db)
         (λ base db.
         Settles at.now.uid.now at.now.dest.now outcome now (book_of base) (Ok tt) (book_of db)
         × OnlyLetsGo (bodies_of base) (bodies_of db)) }
@@ -141,8 +142,8 @@ pub fn give_up<S: Alter, B: Shelf>(
         → Called n (advanced result n) part result (state S.Store conn.old) (state S.Store conn.new)
         Nothing
         (λ base db. Drops at.now.uid.now at.now.dest.now now (book_of base) result (book_of db)
-        × LetsCellsGo (B.Shelf.apart (B.Shelf.named shelf.old)) (B.Shelf.uses shelf.old) (B.Shelf.stands shelf.old)
-        (B.Shelf.uses shelf.new) (B.Shelf.stands shelf.new) base db)
+        × LetsCellsGo (B.Shelf.apart (B.Shelf.named shelf.old)) (B.Shelf.uses shelf.old)
+        (B.Shelf.stands shelf.old) (B.Shelf.uses shelf.new) (B.Shelf.stands shelf.new) base db)
         (λ base db. Drops at.now.uid.now at.now.dest.now now (book_of base) (Ok tt) (book_of db)
         × OnlyLetsGo (bodies_of base) (bodies_of db)) }
     ensures same { OnErr result (shelf.new ≡ shelf.old) }

@@ -174,8 +174,9 @@ fn bring_there<'x, S: Alter, B: Shelf>(
     requires idle { conn.old.in_transaction ≡ false }
     requires delivered { IsDelivered came.now }
     requires targets { AreTargetsOf came.now first.now.targets }
-    ensures called { Receives (IsPut (shelf.new ≡ shelf.old) (B.Shelf.uses shelf.old)
-        (B.Shelf.uses shelf.new) (B.Shelf.stands shelf.new) (B.Shelf.apart (B.Shelf.named shelf.old)) came.now.body.now)
+    ensures called { Receives
+        (IsPut (shelf.new ≡ shelf.old) (B.Shelf.uses shelf.old) (B.Shelf.uses shelf.new)
+        (B.Shelf.stands shelf.new) (B.Shelf.apart (B.Shelf.named shelf.old)) came.now.body.now)
         came.now result (state S.Store conn.old) (state S.Store conn.new)
         (λ base. IsThereFor came.now whole false base
         × IsFoundFor came.now.instance.now.uid base first.now) }
@@ -209,8 +210,9 @@ fn arrive_first<'x, S: Alter, B: Shelf>(
 ) -> Result<Arrived, LedgerFault>
     requires idle { conn.old.in_transaction ≡ false }
     requires delivered { IsDelivered came.now }
-    ensures called { Receives (IsPut (shelf.new ≡ shelf.old) (B.Shelf.uses shelf.old)
-        (B.Shelf.uses shelf.new) (B.Shelf.stands shelf.new) (B.Shelf.apart (B.Shelf.named shelf.old)) came.now.body.now)
+    ensures called { Receives
+        (IsPut (shelf.new ≡ shelf.old) (B.Shelf.uses shelf.old) (B.Shelf.uses shelf.new)
+        (B.Shelf.stands shelf.new) (B.Shelf.apart (B.Shelf.named shelf.old)) came.now.body.now)
         came.now result (state S.Store conn.old) (state S.Store conn.new)
         (IsThereFor came.now whole false) }
     ensures keeps { KeepsCells (B.Shelf.uses shelf.old) (B.Shelf.stands shelf.old)
@@ -236,10 +238,11 @@ fn arrive_there<'x, S: Alter, B: Shelf>(
 ) -> Result<Arrived, LedgerFault>
     requires idle { conn.old.in_transaction ≡ false }
     requires delivered { IsDelivered came.now }
-    ensures called { Receives (IsPut (shelf.new ≡ shelf.old) (B.Shelf.uses shelf.old)
-        (B.Shelf.uses shelf.new) (B.Shelf.stands shelf.new) (B.Shelf.apart (B.Shelf.named shelf.old)) came.now.body.now)
-        came.now result (state S.Store conn.old) (state S.Store conn.new)
-        (λ base. IsThere base came.now.instance.now whole) }
+    ensures called { Receives
+        (IsPut (shelf.new ≡ shelf.old) (B.Shelf.uses shelf.old) (B.Shelf.uses shelf.new)
+        (B.Shelf.stands shelf.new) (B.Shelf.apart (B.Shelf.named shelf.old)) came.now.body.now)
+        came.now result (state S.Store conn.old) (state S.Store conn.new) (λ base.
+        IsThere base came.now.instance.now whole) }
     ensures keeps { KeepsCells (B.Shelf.uses shelf.old) (B.Shelf.stands shelf.old)
         (B.Shelf.uses shelf.new) (B.Shelf.stands shelf.new) }
     ensures named { B.Shelf.named shelf.new ≡ B.Shelf.named shelf.old }
@@ -278,8 +281,9 @@ fn arrive_new<'x, S: Alter, B: Shelf>(
 ) -> Result<Arrived, LedgerFault>
     requires idle { conn.old.in_transaction ≡ false }
     requires delivered { IsDelivered came.now }
-    ensures called { Receives (IsPut (shelf.new ≡ shelf.old) (B.Shelf.uses shelf.old)
-        (B.Shelf.uses shelf.new) (B.Shelf.stands shelf.new) (B.Shelf.apart (B.Shelf.named shelf.old)) came.now.body.now)
+    ensures called { Receives
+        (IsPut (shelf.new ≡ shelf.old) (B.Shelf.uses shelf.old) (B.Shelf.uses shelf.new)
+        (B.Shelf.stands shelf.new) (B.Shelf.apart (B.Shelf.named shelf.old)) came.now.body.now)
         came.now result (state S.Store conn.old) (state S.Store conn.new)
         (HasNeither came.now.instance.now.uid) }
     ensures keeps { KeepsCells (B.Shelf.uses shelf.old) (B.Shelf.stands shelf.old)
@@ -315,10 +319,11 @@ fn arrive_by<S: Alter, B: Shelf>(
 ) -> Result<Arrived, LedgerFault>
     requires idle { conn.old.in_transaction ≡ false }
     requires delivered { IsDelivered came.now }
-    ensures called { Receives (IsPut (shelf.new ≡ shelf.old) (B.Shelf.uses shelf.old)
-        (B.Shelf.uses shelf.new) (B.Shelf.stands shelf.new) (B.Shelf.apart (B.Shelf.named shelf.old)) came.now.body.now)
-        came.now result (state S.Store conn.old) (state S.Store conn.new)
-        (λ base. IsWhatIsKnown base came.now.instance.now known) }
+    ensures called { Receives
+        (IsPut (shelf.new ≡ shelf.old) (B.Shelf.uses shelf.old) (B.Shelf.uses shelf.new)
+        (B.Shelf.stands shelf.new) (B.Shelf.apart (B.Shelf.named shelf.old)) came.now.body.now)
+        came.now result (state S.Store conn.old) (state S.Store conn.new) (λ base.
+        IsWhatIsKnown base came.now.instance.now known) }
     ensures keeps { KeepsCells (B.Shelf.uses shelf.old) (B.Shelf.stands shelf.old)
         (B.Shelf.uses shelf.new) (B.Shelf.stands shelf.new) }
     ensures named { B.Shelf.named shelf.new ≡ B.Shelf.named shelf.old }
@@ -345,10 +350,10 @@ pub fn receive<S: Alter, B: Shelf>(
 ) -> Result<Arrived, LedgerFault>
     requires idle { conn.old.in_transaction ≡ false }
     requires delivered { IsDelivered came.now }
-    ensures called { Receives (IsPut (shelf.new ≡ shelf.old) (B.Shelf.uses shelf.old)
-        (B.Shelf.uses shelf.new) (B.Shelf.stands shelf.new) (B.Shelf.apart (B.Shelf.named shelf.old)) came.now.body.now)
-        came.now result (state S.Store conn.old) (state S.Store conn.new)
-        Nothing }
+    ensures called { Receives
+        (IsPut (shelf.new ≡ shelf.old) (B.Shelf.uses shelf.old) (B.Shelf.uses shelf.new)
+        (B.Shelf.stands shelf.new) (B.Shelf.apart (B.Shelf.named shelf.old)) came.now.body.now)
+        came.now result (state S.Store conn.old) (state S.Store conn.new) Nothing }
     ensures keeps { KeepsCells (B.Shelf.uses shelf.old) (B.Shelf.stands shelf.old)
         (B.Shelf.uses shelf.new) (B.Shelf.stands shelf.new) }
     ensures named { B.Shelf.named shelf.new ≡ B.Shelf.named shelf.old }

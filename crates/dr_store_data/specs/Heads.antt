@@ -1,5 +1,6 @@
 -- The head of the file, and what the tables have for its mark.
-use Rattle.std.specs.Prelude.{◌≡◌, ℕ, ◌^◌, ◌<◌, List, ◌++◌, All, codes, drop, length, replicate, take}
+use Rattle.std.specs.Prelude.{◌≡◌, ℕ, ◌^◌, ◌<◌, List, ◌++◌, All, codes, drop, length, replicate}
+use Rattle.std.specs.Prelude.{take}
 use Rattle.std.specs.Int.{w64, from_le_bytes, to_le_bytes}
 use Rattle.sqlite_disk.specs.Disk.{Holds}
 use Rattle.dr_store_bodies.specs.declared.extent.Extent.{Extent}

@@ -24,11 +24,7 @@ fn head_bytes(alloc: Global, mark: &[u8; 16]) -> Result<Vec<u8>, AllocError>
 /// Whether the file has the head with this mark. What it holds stays.
 ///
 /// Errors: Store, Memory.
-pub fn has_head<D: Disk>(
-    file: &mut D,
-    alloc: Global,
-    mark: &[u8; 16],
-) -> Result<bool, DataFault>
+pub fn has_head<D: Disk>(file: &mut D, alloc: Global, mark: &[u8; 16]) -> Result<bool, DataFault>
     ensures is { IfOk result (λ is. IsTrue (D.Disk.is_clean file.new)
         → (IsTrue is ↔ HasHead mark.now (D.Disk.seen file.old))) }
     ensures seen { D.Disk.seen file.new ≡ D.Disk.seen file.old }

@@ -19,7 +19,13 @@ fn in_order(extents: Vec<Extent>) -> Result<Vec<Extent>, DataFault>
     ensures { IfOk result (λ all. IsPermutation (head_extent ∷ extents.items) all.items) }
 {
     let mut all = extents;
-    all.insert(0, Extent { at: 0, size: HEAD_SIZE })?;
+    all.insert(
+        0,
+        Extent {
+            at: 0,
+            size: HEAD_SIZE,
+        },
+    )?;
     all.sort_unstable_by_key(|extent| extent.at);
     Ok(all)
 }
@@ -38,9 +44,9 @@ fn not_opened<T>(fault: ShelfFault) -> Result<Option<T>, DataFault>
     }
 }
 
-/// The shelf over a file with this mark, in which the head and these extents are in use, in whatever
-/// order they come; None where the file has another mark, or hasn't these extents each behind the
-/// head and beside the others.
+/// The shelf over a file with this mark, in which the head and these extents are in use, in
+/// whatever order they come; None where the file has another mark, or hasn't these extents each
+/// behind the head and beside the others.
 ///
 /// Errors: Store, Memory.
 pub fn open_in<D: Disk + Drop>(
