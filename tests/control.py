@@ -629,7 +629,7 @@ def backups():
             same(node.act('/backup', copy=f'{room.folder}/copies/{name}.db'), (409, '{"fault":"Q3 IsThere"}\n'))
         same(node.act('/backup', copy=f'{room.folder}/second.db'), (409, '{"fault":"Q3 IsThere"}\n'))
         # the ledger's own names, whether a file has them or not, by whatever path, and what would be another ledger's log
-        for name in 'GATE.db', 'GATE.db-wal', 'GATE.db-journal', 'GATE.db-shm', 'GATE.db.new', 'GATE.db.data', 'copies/../GATE.db', 'copies/ARCH.db-wal', 'copies/ARCH.db-journal':
+        for name in 'GATE.db', 'GATE.db-wal', 'GATE.db-journal', 'GATE.db-shm', 'GATE.db.new', 'GATE.db.data', 'GATE.db.data-wal', 'copies/../GATE.db', 'copies/ARCH.db-wal', 'copies/ARCH.db-journal', 'copies/ARCH.db.data':
             same(node.act('/backup', copy=f'{room.folder}/{name}'), (409, '{"fault":"Q1 OwnFile"}\n'))
         same(node.act('/backup', copy=f'{room.folder}/nowhere/GATE.db'), (503, '{"fault":"Q7 NoCopy"}\n'))
         same((sorted(os.listdir(room.folder)), sorted(os.listdir(f'{room.folder}/copies'))), before)

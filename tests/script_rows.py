@@ -155,6 +155,20 @@ SCANNER = [('open', 'CT1', 'GATE'), *written(1, 'requestor', ASKED, STORED)]
 SCANNED = 'node ARCH|lines 0|node CT1|lines 0|' + GATE_WAITS
 ARCHIVE = [*FIRST, ('open', 'GATE', 'ARCH'), *written(2, 'acceptor', accepted(0)), ('push', 2)]
 ARCHIVED = 'node ARCH|lines 0|' + CT1_SENT
+# the same by words: CT1 asks as the plan says, and GATE has sent what it has
+OTHERS_OPEN = [('foreign', 'CT1'), ('open', 'CT1', 'GATE'), *moved(1, 'acceptor')]
+
+
+def stores(link, body):
+    return [('store', link, 'E', body.hex()), *moved(link, 'acceptor', 'acceptor')]
+
+
+STORES = [*OTHERS_OPEN, *stores(1, SHORT)]
+STORED_REPORT = 'node ARCH|lines 0|node CT1|foreign|' + GATE_WAITS
+ASKS = [*FIRST, *opened('GATE', 'ARCH', 2), ('push', 2), ('foreign', 'ARCH')]
+OTHERS_ARCHIVE = 'node ARCH|foreign|' + CT1_SENT
+IMPLICITLY = b''.join(tag + len(value).to_bytes(4, 'little') + value for tag, value in (
+    (b'\x08\0\x16\0', CT.encode() + b'\0'), (b'\x08\0\x18\0', b'1.2.3.4\0'), (b'\x08\0\x60\0', b'CT'), (b'\x08\0\x10\x10', b'S1')))
 # no link is open, and GATE has still to send
 CLOSED = [*FIRST, ('close', 1)]
 CLOSED_REPORT = 'node ARCH|lines 0|' + CT1_SENT + GATE_WAITS
@@ -299,6 +313,46 @@ ROWS = [
     ('.. that takes no context', three_nodes, [*FIRST, ('open', 'GATE', 'ARCH'), *written(2, 'acceptor', accepted(3)), ('push', 2)],
      ARCHIVED + GATE_WAITS.replace('waiting 0 0|lines 1', 'held no-context|lines 2')),
     ('what is written on no link', three_nodes, [('bytes', 1, 'acceptor', '00')], NOTHING),
+    ('a node of another make', three_nodes, [*FIRST, ('foreign', 'ARCH')], 'node ARCH|foreign|' + CT1_SENT + GATE_WAITS),
+    ('.. twice, and one that is no node', three_nodes, [*2 * [('foreign', 'ARCH')], ('foreign', 'NOBODY')],
+     'Refused foreign NOBODY no-node|' + NOTHING.replace('ARCH|lines 0', 'ARCH|foreign')),
+    ('a scanner of another make stores', three_nodes, STORES, STORED_REPORT),
+    ('.. and what it brought goes on', three_nodes, [*STORES, *carried('GATE', 'ARCH', 2)], ARCH_KEEPS + 'node CT1|foreign|' + GATE_SENT),
+    ('.. that brings it again', three_nodes, [*STORES, *stores(1, SHORT)], STORED_REPORT.replace('lines 1', 'lines 2')),
+    ('.. that brings two before either is heard', three_nodes, [*OTHERS_OPEN, ('store', 1, 'E', SHORT.hex()), *stores(1, SHORT), *moved(1, 'acceptor', 'acceptor')],
+     STORED_REPORT.replace('lines 1', 'lines 2')),
+    ('.. to a node of another make', three_nodes, [*OTHERS_OPEN, ('foreign', 'GATE'), *stores(1, SHORT)],
+     'Refused store 1 both-foreign|node ARCH|lines 0|node CT1|foreign|node GATE|foreign|'),
+    ('.. that brings another under its UID', three_nodes, [*STORES, *stores(1, LONGER)], STORED_REPORT),
+    ('.. of a modality that no flow brings', three_nodes, [*OTHERS_OPEN, *stores(1, instance(b'MR'))], STORED_REPORT.replace(GATE_WAITS, 'node GATE|lines 0|')),
+    ('.. over a link that was open before', three_nodes, [*opened('CT1', 'GATE', 1), ('foreign', 'CT1'), *stores(1, SHORT)], STORED_REPORT),
+    ('.. in a context that was not accepted', three_nodes, [*OTHERS_OPEN, ('store', 1, 'I', IMPLICITLY.hex())],
+     'Refused store 1 no-context|' + STORED_REPORT.replace(GATE_WAITS, 'node GATE|lines 0|')),
+    ('.. before it has asked', three_nodes, [('foreign', 'CT1'), ('open', 'CT1', 'GATE'), *stores(1, SHORT)],
+     'Refused store 1 no-context|' + STORED_REPORT.replace(GATE_WAITS, 'node GATE|lines 0|')),
+    ('.. over no link', three_nodes, [('foreign', 'CT1'), *stores(1, SHORT)], 'Refused store 1 no-link|' + STORED_REPORT.replace(GATE_WAITS, 'node GATE|lines 0|')),
+    ('one of ours that is told to store', three_nodes, [*opened('CT1', 'GATE', 1), *stores(1, SHORT)], 'Refused store 1 not-foreign|' + NOTHING),
+    ('.. and one that becomes another maker\'s', three_nodes, [*opened('CT1', 'GATE', 1), *stores(1, SHORT), ('foreign', 'CT1'), *stores(1, SHORT)],
+     'Refused store 1 not-foreign|' + STORED_REPORT),
+    ('no step is taken for another maker\'s node', three_nodes,
+     [*submit('CT1', SHORT), *opened('CT1', 'GATE', 1), ('foreign', 'CT1'), *submit('CT1', OTHER), ('push', 1), ('abort', 1, 'requestor'), ('release', 1), *moved(1, 'acceptor', 'acceptor')],
+     STORED_REPORT.replace(GATE_WAITS, 'node GATE|lines 0|')),
+    ('an archive of another make answers', three_nodes, [*ASKS, ('answer', 2, '0000'), *moved(2, 'requestor')], OTHERS_ARCHIVE + GATE_SENT),
+    ('.. that it is out of room', three_nodes, [*ASKS, ('answer', 2, 'a700'), *moved(2, 'requestor')], OTHERS_ARCHIVE + TRIED),
+    ('.. that it refuses it', three_nodes, [*ASKS, ('answer', 2, 'C123'), *moved(2, 'requestor')],
+     OTHERS_ARCHIVE + GATE_WAITS.replace('waiting 0 0|lines 1', 'held C123|lines 2')),
+    ('.. once', three_nodes, [*ASKS, ('answer', 2, '0000'), *moved(2, 'requestor'), ('answer', 2, 'C123'), *moved(2, 'requestor')],
+     'Refused answer 2 not-asked|' + OTHERS_ARCHIVE + GATE_SENT),
+    ('.. a node of another make', three_nodes, [*ASKS, ('foreign', 'GATE'), ('answer', 2, '0000')],
+     'Refused answer 2 both-foreign|node ARCH|foreign|' + CT1_SENT + 'node GATE|foreign|'),
+    ('.. that was asked nothing', three_nodes, [*FIRST, *opened('GATE', 'ARCH', 2), ('foreign', 'ARCH'), ('answer', 2, '0000')],
+     'Refused answer 2 not-asked|' + OTHERS_ARCHIVE + GATE_WAITS),
+    ('.. over no link', three_nodes, [*FIRST, ('foreign', 'ARCH'), ('answer', 2, '0000')], 'Refused answer 2 no-link|' + OTHERS_ARCHIVE + GATE_WAITS),
+    ('one of ours that is told to answer', three_nodes, [*FIRST, *opened('GATE', 'ARCH', 2), ('push', 2), ('answer', 2, '0000'), *moved(2, 'requestor')],
+     'Refused answer 2 not-foreign|' + ARCHIVED + GATE_WAITS),
+    ('a link to another maker\'s node is lost', three_nodes, [*ASKS, ('close', 2)], OTHERS_ARCHIVE + TRIED),
+    ('a change of plan beside another maker\'s node', three_nodes, [*CLOSED, ('foreign', 'ARCH'), ('adopt', to_hub_alone), ('answer', 1, '0000')],
+     'Unfit GATE 1.2.3.4 ARCH|Refused answer 1 not-foreign|' + OTHERS_ARCHIVE + GATE_WAITS),
     *((f'{tries} refused stores', three_nodes, steps, 'node ARCH|lines 0|' + CT1_SENT
        + f'node GATE|arrival CT1 1.2.3.4|row 1.2.3.4 ARCH waiting {tries} {due_after(tries)}|lines {tries + 1}|')
       for steps, tries in ninth_and_tenth() if tries in (9, 10)),
@@ -322,7 +376,7 @@ EXACT = [
      'node ARCH|lines 0|' + CT1_SENT + TRIED),
 ]
 # what is no script: the line that is named
-WRONG = [(1, 'away\tGATE\n'), (1, 'away\tGATE\tARCH\t\n'), (1, 'adopt\tplan\n'), (1, 'adopt\tplan\tcertificate\tmore\n'), (1, 'forget\tCT1\n'), (1, 'forget\tCT1\t1.2.3.4\tGATE\n'), (1, 'drop\tCT1\t1.2.3.4\n'), (1, 'drop\tCT1\t1.2.3.4\tGATE\t1\n'), (2, '# a comment\nmove\t1\tnobody\t1\n'), (1, 'bytes\t1\tacceptor\n'), (1, 'bytes\t1\tnobody\t00\n'), (1, 'bytes\t01\tacceptor\t00\n'), (1, 'bytes\t1\tacceptor\t0\n'), (1, 'push\n'), (1, 'push\t01\n'), (3, '\n\nfly\n'), (1, 'tick\t18446744073709551616\n'),
+WRONG = [(1, 'away\tGATE\n'), (1, 'away\tGATE\tARCH\t\n'), (1, 'adopt\tplan\n'), (1, 'adopt\tplan\tcertificate\tmore\n'), (1, 'forget\tCT1\n'), (1, 'forget\tCT1\t1.2.3.4\tGATE\n'), (1, 'drop\tCT1\t1.2.3.4\n'), (1, 'drop\tCT1\t1.2.3.4\tGATE\t1\n'), (2, '# a comment\nmove\t1\tnobody\t1\n'), (1, 'bytes\t1\tacceptor\n'), (1, 'bytes\t1\tnobody\t00\n'), (1, 'bytes\t01\tacceptor\t00\n'), (1, 'bytes\t1\tacceptor\t0\n'), (1, 'foreign\n'), (1, 'foreign\tCT1\tGATE\n'), (1, 'store\t1\tE\n'), (1, 'store\t1\tE\t0800\n'), (1, 'store\t1\tX\t0800\n'), (1, 'answer\t1\n'), (1, 'answer\t1\t000\n'), (1, 'answer\t1\t00\n'), (1, 'answer\t1\t000000\n'), (1, 'answer\t01\t0000\n'), (1, 'push\n'), (1, 'push\t01\n'), (3, '\n\nfly\n'), (1, 'tick\t18446744073709551616\n'),
          (1, 'submit\tCT1\tE\t0800\n'), (2, 'tick\t1\nsubmit\tCT1\tE\tXY\n'), (1, ' \n')]
 
 

@@ -2,8 +2,8 @@
 """Plays random scripts on the built program, over random sound plans, and compares each report with that of a world
 written again from the documents (script_world.py), which counts the bytes of PDUs but writes none: requests, stores and
 releases in random cuts, with aborts, lost connections, calls that come to no link, late marks, restarts, refused
-stores, instances that come twice, held rows that are queued again or given up, instances that are forgotten, and
-changes of plan.
+stores, instances that come twice, held rows that are queued again or given up, instances that are forgotten, changes
+of plan, and nodes that become other makers' products, which store and answer.
 
     tests/simulate.py [RUNS] [SEED]        no report may differ, and each kind of step, of answer and of reason for
                                            which a step is skipped must have come (500 runs: about half a minute; at
@@ -26,7 +26,8 @@ from lib.script_world import Item, World
 TOP = os.path.dirname(os.path.dirname(os.path.abspath(__file__)))
 PROGRAM = f'{TOP}/crates/dr_router/out/dr_router'
 WRONG = ('refusals last', 'whole PDUs move', 'a restart forgets rows', 'what is under way is forgotten', 'arrivals are not forgotten',
-         'staying away is no try', 'what was given up stays so', 'arrivals of what was given up stay', 'rows that are unfit are taken', 'arrivals stay when a plan is taken')
+         'staying away is no try', 'what was given up stays so', 'arrivals of what was given up stay', 'rows that are unfit are taken', 'arrivals stay when a plan is taken',
+         'other nodes act', 'other books are told of')
 REACHED = {
     'submit': {'New', 'Again', 'NoLine', 'Conflict', 'Store', 'no such node'}, 'open': {'done', 'no hop'}, 'tick': {'done'},
     'away': {'done', 'nothing is due', 'Store', 'no such node'},
@@ -40,6 +41,8 @@ REACHED = {
     'forget': {'done', 'NotOver', 'Store', 'under way', 'over, but under way', 'no such node'}, 'new after a forgetting': {'the same', 'another'},
     'heard': {'request', 'acceptance', 'rejection', 'command', 'data', 'response', 'release', 'released', 'abort'},
     'status': {0x0000, 0xA700, 0xC0F1},
+    'foreign': {'a node', 'no-node'}, 'not taken': {'submit', 'push', 'move', 'abort', 'release', 'late', 'forget', 'drop', 'requeue', 'away', 'refuse'},
+    'store': {'done', 'no-link', 'not-foreign', 'both-foreign', 'no-context'}, 'answer': {'done', 'no-link', 'not-foreign', 'both-foreign', 'not-asked'},
 }
 
 
@@ -109,6 +112,7 @@ class Play:
     def __init__(self, text, model, dice, happened, wrong):
         self.world, self.dice, self.happened, self.lines = World(model, model.reached()), dice, happened, []
         self.text, self.files = text, {}
+        self.others_from = 0.16 if dice.random() < 0.4 else 0.09    # in most scripts each node is ours
         self.world.wrong = wrong
         self.world.note = self.note
 
@@ -124,12 +128,18 @@ class Play:
 
     def do(self, word, *told):
         """One step: a line of the script, and what becomes of it in the world."""
-        if word == 'submit':
-            name, item = told
-            self.tell(word, name, 'IE'[item.key[1] == EXPLICIT], item.body.hex() if self.dice.random() < 0.5 else item.body.hex().upper())
+        if word in ('submit', 'store'):
+            at, item = told
+            self.tell(word, at, 'IE'[item.key[1] == EXPLICIT], item.body.hex() if self.dice.random() < 0.5 else item.body.hex().upper())
+        elif word == 'answer':
+            link, status = told
+            self.tell(word, link, f'{status:04X}' if self.dice.random() < 0.5 else f'{status:04x}')
         else:
             self.tell(word, *told)
-        self.note(word, getattr(self.world, {'abort': 'abort_at'}.get(word, word))(*told))
+        if self.world.is_others(word, *told):
+            self.note('not taken', word)
+        else:
+            self.note(word, getattr(self.world, {'abort': 'abort_at'}.get(word, word))(*told))
 
     def random_item(self):
         dice = self.dice
@@ -206,6 +216,33 @@ class Play:
         apt = [at for at in known if world.is_over(*at) or world.is_under_way(*at) or dice.random() < 0.1]
         return dice.choice(apt) if apt else (dice.choice([*sorted(world.books), 'NOBODY']), '1.2.3')
 
+    def random_status(self):
+        return self.dice.choice([0x0000, 0x0000, 0xA700, 0xC0F1, 0xC123])
+
+    def is_answered(self, link):
+        """Whether a response is on its way to the requestor: a second one would be answered by an abort."""
+        return link in self.world.links and any(pdu.kind == 'response' for pdu in self.world.end_at(link, 'requestor').wire)
+
+    def foreign_deed(self):
+        """A node becomes another maker's, or one such stores or answers, or is told to and does not."""
+        dice, world = self.dice, self.world
+        if dice.random() < 0.2 or not world.others:
+            self.do('foreign', dice.choice([*sorted(world.books), 'NOBODY'] if dice.random() < 0.2 else [world.end_at(dice.choice([*world.links]), dice.choice(['requestor', 'acceptor'])).node]
+                                           if world.links else sorted(world.books)))
+            return
+        side = dice.choice(['requestor', 'acceptor'])
+        apt = [link for link in world.links if world.end_at(link, side).node in world.others and (side == 'requestor' or world.links[link][0].pending)]
+        link = dice.choice(apt) if apt and dice.random() < 0.8 else self.random_link()
+        reader = 'acceptor' if side == 'requestor' else 'requestor'
+        if side == 'acceptor' and self.is_answered(link):
+            return
+        if side == 'requestor':
+            self.do('store', link, self.random_item()[1])
+        else:
+            self.do('answer', link, self.random_status())
+        for _ in range(dice.choice([0, 1, 2, 4, 8])):
+            self.do('move', link, reader, 10 ** 6)
+
     def deliver(self):
         """A link from its request to a store, in random cuts; most that happens to it happens by steps between."""
         hops = sorted(self.world.hops)
@@ -243,6 +280,8 @@ class Play:
                 self.deliver()
             elif choice < 0.09:
                 self.change()
+            elif choice < self.others_from:
+                self.foreign_deed()
             else:
                 self.do(*self.random_step())
         return self

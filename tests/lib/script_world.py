@@ -13,6 +13,7 @@ LAST_MOMENT = 2 ** 62
 SUCCESS, NO_STORE, NO_LINE, CONFLICT = 0x0000, 0xA700, 0xC0F0, 0xC0F1
 IMPLEMENTATION = '2.25.331274590186724905318462075136948210573'
 VERSION = 'DR_ROUTER_1'
+FOREIGN_LIMIT = 1024  # of a PDU that another maker's product writes: each node takes as much
 APPLICATION = '1.2.840.10008.3.1.1.1'
 Item = collections.namedtuple('Item', 'uid key body')     # the key is class, transfer syntax, modality, station
 Pdu = collections.namedtuple('Pdu', 'kind said size')
@@ -39,6 +40,11 @@ def even(size):
 def command_size(item):
     """Of a C-STORE-RQ and of its response: they have as many elements, and as long ones."""
     return 12 + (8 + even(len(item.key[0]))) + 4 * 10 + (8 + even(len(item.uid)))
+
+
+def answer_size():
+    """Of a response that names neither the class nor the instance."""
+    return 12 + 8 + 4 * 10 + 8
 
 
 def fragments(limit, size):
@@ -104,6 +110,7 @@ class World:
 
     def __init__(self, model, reached):
         self.time, self.opened, self.links, self.books, self.notes, self.stopped = 0, 0, {}, {}, [], False
+        self.others, self.refused = [], []    # the nodes of other makes, and what they were told and did not do
         self.take(model, reached)
 
     def take(self, model, reached):
@@ -117,7 +124,9 @@ class World:
         return (*key[:2], *(part_of(value, (model or self.model).parts[field]) for field, value in zip(('modality', 'station'), key[2:])))
 
     def report(self):
-        return ''.join(self.notes) + ''.join(self.books[name].report(name) for name in sorted(self.books))
+        def told(name):
+            return f'node\t{name}\nforeign\n' if name in self.others and 'other books are told of' not in self.wrong else self.books[name].report(name)
+        return ''.join(self.notes + self.refused) + ''.join(told(name) for name in sorted(self.books))
 
     # calls of books; each gives what it answers
     def store_fails(self, book):
@@ -212,8 +221,9 @@ class World:
             end.goes_to(13, self.time)
             return
         end.goes_to(6, self.time)
-        end.limit = self.model.nodes[end.peer]['max_pdu']
+        end.limit, end.accepted = self.model.nodes[end.peer]['max_pdu'], set()
         taken = [pair for pair in pairs if any(self.model.takes(row, end.peer, (*pair, REST, REST)) for row in self.model.nodes[end.node]['accept'])]
+        end.accepted = set(taken)
         # a context that isn't accepted has the implicit syntax in its answer: in a sound plan there is none
         self.write(link, end, [Pdu('acceptance', set(taken), acceptance_size(pairs))])
 
@@ -465,6 +475,53 @@ class World:
                 book.arrivals = set()
         self.links = {}
         self.take(model, reached)
+        return 'done'
+
+    # what concerns other makers' products
+    def is_others(self, word, *told):
+        """Whether that step is one that is not taken for another's node."""
+        if 'other nodes act' in self.wrong:
+            return False
+        if word in ('submit', 'away', 'requeue', 'drop', 'forget', 'refuse'):
+            return told[0] in self.others
+        if word not in ('push', 'release', 'abort', 'late', 'move') or told[0] not in self.links:
+            return False
+        return self.end_at(told[0], told[1] if word in ('abort', 'late', 'move') else 'requestor').node in self.others
+
+    def foreign(self, name):
+        if name not in self.books:
+            return self.refuses('foreign', name, 'no-node')
+        self.others.append(name)
+        return 'a node'
+
+    def refuses(self, word, at, why):
+        self.refused.append(f'Refused\t{word}\t{at}\t{why}\n')
+        return why
+
+    def store(self, link, item):
+        if link not in self.links:
+            return self.refuses('store', link, 'no-link')
+        caller, receiver = self.links[link]
+        if caller.node not in self.others:
+            return self.refuses('store', link, 'not-foreign')
+        if receiver.node in self.others:
+            return self.refuses('store', link, 'both-foreign')
+        if item.key[:2] not in (receiver.accepted or ()):
+            return self.refuses('store', link, 'no-context')
+        self.write(link, caller, data_pdus(FOREIGN_LIMIT, command_size(item), 'command', item) + data_pdus(FOREIGN_LIMIT, len(item.body), 'data', item))
+        return 'done'
+
+    def answer(self, link, status):
+        if link not in self.links:
+            return self.refuses('answer', link, 'no-link')
+        caller, receiver = self.links[link]
+        if receiver.node not in self.others:
+            return self.refuses('answer', link, 'not-foreign')
+        if caller.node in self.others:
+            return self.refuses('answer', link, 'both-foreign')
+        if not caller.pending:
+            return self.refuses('answer', link, 'not-asked')
+        self.write(link, receiver, data_pdus(FOREIGN_LIMIT, answer_size(), 'response', status))
         return 'done'
 
     def tick(self, milliseconds):

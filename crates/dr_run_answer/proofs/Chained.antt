@@ -1,11 +1,8 @@
 -- Pieces that are added one behind another.
 use Rattle.std.proofs.Common.{◌≡◌, ◌∙◌, ◌<◌, ◌+◌, ℕ, sym, ap, subst, List, [], ◌∷◌, ◌++◌, append_assoc, append-nil, flat_map, get_or, length, take}
+pub use Rattle.dr_ledger_text.proofs.Chained.{chained}
 use Rattle.std.proofs.lemmas.List.{take_more}
 use Rattle.std.proofs.lemmas.Grind.{flat_map-append}
-
--- a piece, and what was added behind it
-pub chained : (o a b p q : List ℕ) → p ≡ o ++ a → q ≡ p ++ b → q ≡ o ++ (a ++ b)
-chained o a b p q first later = later ∙ (ap (λ (x : List ℕ). x ++ b) first ∙ append_assoc o a b)
 
 -- the pieces of the first elements of a list, and that of the next one
 pub one_more : {X : Type 0} (f : X → List ℕ) (xs : List X) (i : ℕ) (d x : X) (o p q : List ℕ) → i < length xs → x ≡ get_or xs i d → p ≡ o ++ flat_map f (take i xs) → q ≡ p ++ f x → q ≡ o ++ flat_map f (take (i + 1) xs)

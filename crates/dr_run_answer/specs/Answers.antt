@@ -11,6 +11,7 @@ use Rattle.dr_ledger.specs.declared.item.Cause.TheVariants as cause
 use Rattle.dr_ledger.specs.declared.item.Progress.{Progress}
 use Rattle.dr_ledger.specs.declared.item.Progress.TheVariants as progress
 use Rattle.dr_ledger_views.specs.declared.moments.Origin.{Origin}
+use Rattle.dr_ledger_text.specs.Members.{flag, number, word}
 use Rattle.dr_run_answer.specs.declared.association.OpenAssociation.{OpenAssociation}
 use Rattle.dr_run_answer.specs.declared.intake.Brought.{Brought}
 use Rattle.dr_run_answer.specs.declared.intake.Recent.{Recent}
@@ -20,19 +21,6 @@ use Rattle.dr_run_answer.specs.declared.json.Queue.{Queue}
 use Rattle.dr_run_answer.specs.declared.json.Visited.{Visited}
 use Rattle.dr_base_quoted.specs.Quoting.{quoted}
 use Rattle.dr_ledger_timed.specs.declared.meter.Timing.{Timing}
-
--- a member behind another: its name, then a number or a text
-abbrev pub member : Text → Text → Text
-member name value = codes ",\"" ++ name ++ codes "\":" ++ value
-
-abbrev pub number : Text → ℕ → Text
-number name value = member name (decimal value)
-
-abbrev pub word : Text → Text → Text
-word name value = member name (quoted value)
-
-abbrev pub flag : Text → Bool → Text
-flag name value = member name (if value then codes "true" else codes "false")
 
 -- an object's first member, which is a text; and its end, with which its line ends
 abbrev pub begun : Text → Text → Text

@@ -2,9 +2,9 @@
 ghost use Rattle.std.specs.Prelude.{◌≡◌, ◌++◌, OnOk, flat_map};
 ghost use Rattle.dr_run_answer.specs.Answers.{association_line};
 
-use crate::json::{put_named, put_number};
 use dr_base::Text;
 use dr_base_quoted::put_text;
+use dr_ledger_text::{put_named, put_number};
 use std::alloc::AllocError;
 
 /// An association that is open: who asked for it, from which address its connection comes (empty

@@ -4,10 +4,11 @@ ghost use Rattle.std.specs.Prelude.{◌≡◌, ◌++◌, OnOk, flat_map};
 ghost use Rattle.dr_run_answer.specs.Answers.{from_line, last_try, own_row_line, tried_at};
 ghost use Rattle.dr_run_answer.specs.Answers.{tried_part};
 
-use crate::json::{put_named, put_number, put_progress};
+use crate::json::put_progress;
 use dr_base::Text;
 use dr_base_quoted::put_text;
 use dr_ledger::{Progress, seconds};
+use dr_ledger_text::{put_named, put_number};
 use std::alloc::AllocError;
 
 /// When a row was tried last that waits until that moment (milliseconds) after so many tries; None

@@ -4,9 +4,9 @@ ghost use Rattle.dr_run_answer.specs.Answers.{brought_figure, brought_figures, b
 ghost use Rattle.dr_run_answer.specs.Answers.{bytes_figures, bytes_of, recent_line};
 
 use crate::figures::{put_labelled, put_twice_labelled};
-use crate::json::{put_named, put_number};
 use dr_base::Text;
 use dr_base_quoted::put_text;
+use dr_ledger_text::{put_named, put_number};
 use std::alloc::AllocError;
 
 /// What a caller has brought since the node serves: how many instances that were new, were there

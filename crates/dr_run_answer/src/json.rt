@@ -2,15 +2,15 @@
 ghost use Rattle.std.specs.Prelude.{◌≡◌, ◌++◌, OnOk};
 ghost use Rattle.dr_run_answer.specs.Answers.{came_part, cause_part, done_line, due_part};
 ghost use Rattle.dr_run_answer.specs.Answers.{fault_line};
-ghost use Rattle.dr_run_answer.specs.Answers.{flag, held_part, instance_line, late_line};
-ghost use Rattle.dr_run_answer.specs.Answers.{line_of_node, line_of_queue, number, origin_part};
+ghost use Rattle.dr_run_answer.specs.Answers.{held_part, instance_line, late_line};
+ghost use Rattle.dr_run_answer.specs.Answers.{line_of_node, line_of_queue, origin_part};
 ghost use Rattle.dr_run_answer.specs.Answers.{progress_part, row_line, visit_part, waiting_part};
-ghost use Rattle.dr_run_answer.specs.Answers.{waited_part, well_line, word};
+ghost use Rattle.dr_run_answer.specs.Answers.{waited_part, well_line};
 
 use dr_base::Text;
-use dr_base::fields::add_decimal;
 use dr_base_quoted::{put_quoted, put_text};
 use dr_ledger::{Cause, Progress};
+use dr_ledger_text::{put_flag, put_named, put_number, put_said, put_word};
 use dr_ledger_views::Origin;
 use std::alloc::AllocError;
 
@@ -65,53 +65,6 @@ pub struct Queue<'a> {
     pub waited: Option<u64>,
     pub visit: Option<Visited>,
     pub visits: Visits,
-}
-
-/// Adds a number behind its name.
-pub(crate) fn put_number(out: &mut Vec<u8>, name: &str, value: u64) -> Result<(), AllocError>
-    ensures { OnOk result (out.new.items ≡ out.old.items ++ number name.now value) }
-{
-    out.extend_from_slice(b",\"")?;
-    out.extend_from_slice(name.as_bytes())?;
-    out.extend_from_slice(b"\":")?;
-    add_decimal(out, value)
-}
-
-/// Adds a text behind its name.
-pub(crate) fn put_word(out: &mut Vec<u8>, name: &str, value: &[u8]) -> Result<(), AllocError>
-    ensures { OnOk result (out.new.items ≡ out.old.items ++ word name.now value.now) }
-{
-    out.extend_from_slice(b",\"")?;
-    out.extend_from_slice(name.as_bytes())?;
-    out.extend_from_slice(b"\":")?;
-    put_quoted(out, value)
-}
-
-/// The same of a `Text`.
-pub(crate) fn put_named(out: &mut Vec<u8>, name: &str, value: &Text) -> Result<(), AllocError>
-    ensures { OnOk result (out.new.items ≡ out.old.items ++ word name.now value.now) }
-{
-    put_word(out, name, value.as_bytes())
-}
-
-/// The same of words.
-pub(crate) fn put_said(out: &mut Vec<u8>, name: &str, value: &str) -> Result<(), AllocError>
-    ensures { OnOk result (out.new.items ≡ out.old.items ++ word name.now value.now) }
-{
-    put_word(out, name, value.as_bytes())
-}
-
-/// Adds whether something is so, behind its name.
-pub(crate) fn put_flag(out: &mut Vec<u8>, name: &str, value: bool) -> Result<(), AllocError>
-    ensures { OnOk result (out.new.items ≡ out.old.items ++ flag name.now value) }
-{
-    out.extend_from_slice(b",\"")?;
-    out.extend_from_slice(name.as_bytes())?;
-    out.extend_from_slice(b"\":")?;
-    if value {
-        return out.extend_from_slice(b"true");
-    }
-    out.extend_from_slice(b"false")
 }
 
 /// Adds why a row is held.

@@ -49,7 +49,8 @@ pub struct SqlLedger<S: Alter, B: Shelf> {
     failures: u64,
     ghost idle: { conn.in_transaction ≡ false },
     ghost kept: { IsSafe (state S.Store conn)
-        → ∥ KeepsOwn (B.Shelf.uses shelf) (B.Shelf.stands shelf) B.Shelf.apart next site
+        → ∥ KeepsOwn (B.Shelf.uses shelf) (B.Shelf.stands shelf)
+        (B.Shelf.apart (B.Shelf.named shelf)) next site
         (state S.Store conn) ∥₁ },
 }
 
@@ -67,7 +68,8 @@ impl<S: Alter, B: Shelf> SqlLedger<S, B> {
     ) -> SqlLedger<S, B>
         requires idle { conn.in_transaction ≡ false }
         requires kept { IsSafe (state S.Store conn)
-            → ∥ KeepsOwn (B.Shelf.uses shelf) (B.Shelf.stands shelf) B.Shelf.apart next site
+            → ∥ KeepsOwn (B.Shelf.uses shelf) (B.Shelf.stands shelf)
+        (B.Shelf.apart (B.Shelf.named shelf)) next site
             (state S.Store conn) ∥₁ }
         ensures site { result.site ≡ site }
         ensures conn { result.conn ≡ conn }
@@ -116,7 +118,8 @@ impl<S: Alter, B: Shelf> SqlLedger<S, B> {
             (book_of db)) }
         ensures covered { HasCleanDisk (state S.Store self.new.conn)
             → IsSafe (state S.Store self.old.conn)
-            → IsCovered (B.Shelf.uses self.new.shelf) (B.Shelf.stands self.new.shelf) B.Shelf.apart
+            → IsCovered (B.Shelf.uses self.new.shelf) (B.Shelf.stands self.new.shelf)
+            (B.Shelf.apart (B.Shelf.named self.new.shelf))
             (state S.Store self.new.conn).may_leave }
         ensures clean { B.Shelf.is_clean self.new.shelf → B.Shelf.is_clean self.old.shelf }
         ensures counted { self.new.failures ≡ failures_after result self.old.failures }
@@ -158,7 +161,8 @@ impl<S: Alter, B: Shelf> SqlLedger<S, B> {
             (λ base db. Settles uid.now dest.now outcome now (book_of base) (Ok tt) (book_of db)) }
         ensures covered { HasCleanDisk (state S.Store self.new.conn)
             → IsSafe (state S.Store self.old.conn)
-            → IsCovered (B.Shelf.uses self.new.shelf) (B.Shelf.stands self.new.shelf) B.Shelf.apart
+            → IsCovered (B.Shelf.uses self.new.shelf) (B.Shelf.stands self.new.shelf)
+            (B.Shelf.apart (B.Shelf.named self.new.shelf))
             (state S.Store self.new.conn).may_leave }
         ensures clean { B.Shelf.is_clean self.new.shelf → B.Shelf.is_clean self.old.shelf }
         ensures counted { self.new.failures ≡ failures_after result self.old.failures }
@@ -188,7 +192,8 @@ impl<S: Alter, B: Shelf> SqlLedger<S, B> {
             (λ base db. Requeues uid.now dest.now (book_of base) (Ok tt) (book_of db)) }
         ensures covered { HasCleanDisk (state S.Store self.new.conn)
             → IsSafe (state S.Store self.old.conn)
-            → IsCovered (B.Shelf.uses self.new.shelf) (B.Shelf.stands self.new.shelf) B.Shelf.apart
+            → IsCovered (B.Shelf.uses self.new.shelf) (B.Shelf.stands self.new.shelf)
+            (B.Shelf.apart (B.Shelf.named self.new.shelf))
             (state S.Store self.new.conn).may_leave }
         ensures clean { B.Shelf.is_clean self.new.shelf → B.Shelf.is_clean self.old.shelf }
         ensures counted { self.new.failures ≡ failures_after result self.old.failures }
@@ -212,7 +217,8 @@ impl<S: Alter, B: Shelf> SqlLedger<S, B> {
             (λ base db. Drops uid.now dest.now now (book_of base) (Ok tt) (book_of db)) }
         ensures covered { HasCleanDisk (state S.Store self.new.conn)
             → IsSafe (state S.Store self.old.conn)
-            → IsCovered (B.Shelf.uses self.new.shelf) (B.Shelf.stands self.new.shelf) B.Shelf.apart
+            → IsCovered (B.Shelf.uses self.new.shelf) (B.Shelf.stands self.new.shelf)
+            (B.Shelf.apart (B.Shelf.named self.new.shelf))
             (state S.Store self.new.conn).may_leave }
         ensures clean { B.Shelf.is_clean self.new.shelf → B.Shelf.is_clean self.old.shelf }
         ensures counted { self.new.failures ≡ failures_after result self.old.failures }
@@ -242,7 +248,8 @@ impl<S: Alter, B: Shelf> SqlLedger<S, B> {
             (λ base db. Forgets uid.now (book_of base) (Ok tt) (book_of db)) }
         ensures covered { HasCleanDisk (state S.Store self.new.conn)
             → IsSafe (state S.Store self.old.conn)
-            → IsCovered (B.Shelf.uses self.new.shelf) (B.Shelf.stands self.new.shelf) B.Shelf.apart
+            → IsCovered (B.Shelf.uses self.new.shelf) (B.Shelf.stands self.new.shelf)
+            (B.Shelf.apart (B.Shelf.named self.new.shelf))
             (state S.Store self.new.conn).may_leave }
         ensures clean { B.Shelf.is_clean self.new.shelf → B.Shelf.is_clean self.old.shelf }
         ensures counted { self.new.failures ≡ failures_after result self.old.failures }
@@ -265,7 +272,8 @@ impl<S: Alter, B: Shelf> SqlLedger<S, B> {
             (IsAdopted own) }
         ensures covered { HasCleanDisk (state S.Store self.new.conn)
             → IsSafe (state S.Store self.old.conn)
-            → IsCovered (B.Shelf.uses self.new.shelf) (B.Shelf.stands self.new.shelf) B.Shelf.apart
+            → IsCovered (B.Shelf.uses self.new.shelf) (B.Shelf.stands self.new.shelf)
+            (B.Shelf.apart (B.Shelf.named self.new.shelf))
             (state S.Store self.new.conn).may_leave }
         ensures clean { B.Shelf.is_clean self.new.shelf → B.Shelf.is_clean self.old.shelf }
         ensures counted { self.new.failures ≡ failures_after result self.old.failures }

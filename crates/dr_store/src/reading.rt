@@ -102,6 +102,7 @@ fn read_by<B: Shelf>(shelf: &mut B, stored: Job) -> Result<Option<Job>, LedgerFa
         → NextsRead (B.Shelf.stands shelf.old) db dest now job) }
     ensures keeps { KeepsCells (B.Shelf.uses shelf.old) (B.Shelf.stands shelf.old)
         (B.Shelf.uses shelf.new) (B.Shelf.stands shelf.new) }
+    ensures named { B.Shelf.named shelf.new ≡ B.Shelf.named shelf.old }
     ensures clean { B.Shelf.is_clean shelf.new → B.Shelf.is_clean shelf.old }
 {
     let Job { uid, key, body } = stored;
@@ -122,6 +123,7 @@ fn read_due<B: Shelf>(shelf: &mut B, due: Option<Job>) -> Result<Option<Job>, Le
         → NextsRead (B.Shelf.stands shelf.old) db dest now job) }
     ensures keeps { KeepsCells (B.Shelf.uses shelf.old) (B.Shelf.stands shelf.old)
         (B.Shelf.uses shelf.new) (B.Shelf.stands shelf.new) }
+    ensures named { B.Shelf.named shelf.new ≡ B.Shelf.named shelf.old }
     ensures clean { B.Shelf.is_clean shelf.new → B.Shelf.is_clean shelf.old }
 {
     match due {
@@ -147,6 +149,7 @@ where
         → NextsRead (B.Shelf.stands shelf.old) base dest.now now job) }
     ensures keeps { KeepsCells (B.Shelf.uses shelf.old) (B.Shelf.stands shelf.old)
         (B.Shelf.uses shelf.new) (B.Shelf.stands shelf.new) }
+    ensures named { B.Shelf.named shelf.new ≡ B.Shelf.named shelf.old }
     ensures clean { B.Shelf.is_clean shelf.new → B.Shelf.is_clean shelf.old }
     ensures idle { conn.old.in_transaction ≡ false → conn.new.in_transaction ≡ false }
 {

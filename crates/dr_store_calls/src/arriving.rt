@@ -132,13 +132,15 @@ fn put_and_bring<'x, S: Alter, B: Shelf>(
     requires delivered { IsDelivered came.now }
     requires targets { AreTargetsOf came.now targets.now }
     requires names { names.now ≡ names_for targets.now.keep targets.now.to }
-    ensures called { ReceivesAs (IsPut (shelf.new ≡ shelf.old) (B.Shelf.uses shelf.old)
-        (B.Shelf.uses shelf.new) (B.Shelf.stands shelf.new) B.Shelf.apart came.now.body.now)
+    ensures called { ReceivesAs
+        (IsPut (shelf.new ≡ shelf.old) (B.Shelf.uses shelf.old) (B.Shelf.uses shelf.new)
+        (B.Shelf.stands shelf.new) (B.Shelf.apart (B.Shelf.named shelf.old)) came.now.body.now)
         Arrived.New came.now result (state S.Store conn.old) (state S.Store conn.new)
         (FitsTables reception.now.taking came.now.caller.now came.now.instance.now targets.now.to
         targets.now.keep reception.now.again.now reception.now.dests.now reception.now.keeps) }
     ensures keeps { KeepsCells (B.Shelf.uses shelf.old) (B.Shelf.stands shelf.old)
         (B.Shelf.uses shelf.new) (B.Shelf.stands shelf.new) }
+    ensures named { B.Shelf.named shelf.new ≡ B.Shelf.named shelf.old }
     ensures clean { B.Shelf.is_clean shelf.new → B.Shelf.is_clean shelf.old }
     ensures number { OnOk result (came.now.n ≤ 2 ^ 62) }
     ensures idle { conn.new.in_transaction ≡ false }
@@ -164,13 +166,15 @@ pub fn bring_item<'x, S: Alter, B: Shelf>(
     requires idle { conn.old.in_transaction ≡ false }
     requires delivered { IsDelivered came.now }
     requires targets { AreTargetsOf came.now targets.now }
-    ensures called { ReceivesAs (IsPut (shelf.new ≡ shelf.old) (B.Shelf.uses shelf.old)
-        (B.Shelf.uses shelf.new) (B.Shelf.stands shelf.new) B.Shelf.apart came.now.body.now)
+    ensures called { ReceivesAs
+        (IsPut (shelf.new ≡ shelf.old) (B.Shelf.uses shelf.old) (B.Shelf.uses shelf.new)
+        (B.Shelf.stands shelf.new) (B.Shelf.apart (B.Shelf.named shelf.old)) came.now.body.now)
         Arrived.New came.now result (state S.Store conn.old) (state S.Store conn.new)
         (FitsTables reception.now.taking came.now.caller.now came.now.instance.now targets.now.to
         targets.now.keep reception.now.again.now reception.now.dests.now reception.now.keeps) }
     ensures keeps { KeepsCells (B.Shelf.uses shelf.old) (B.Shelf.stands shelf.old)
         (B.Shelf.uses shelf.new) (B.Shelf.stands shelf.new) }
+    ensures named { B.Shelf.named shelf.new ≡ B.Shelf.named shelf.old }
     ensures clean { B.Shelf.is_clean shelf.new → B.Shelf.is_clean shelf.old }
     ensures number { OnOk result (came.now.n ≤ 2 ^ 62) }
     ensures idle { conn.new.in_transaction ≡ false }

@@ -35,7 +35,7 @@ fn find_cell<S: Alter, B: Shelf>(
 ) -> Result<Option<Job>, LedgerFault>
     ensures looked { (n : ℕ) (part : Part)
         → Looked n part result (state S.Store conn.old) (state S.Store conn.new)
-        (λ base found. IsCellOf B.Shelf.apart uid.now base found) }
+        (λ base found. IsCellOf (B.Shelf.apart (B.Shelf.named shelf.now)) uid.now base found) }
     ensures idle { conn.old.in_transaction ≡ false → conn.new.in_transaction ≡ false }
 {
     if shelf.names_places() {
@@ -46,9 +46,10 @@ fn find_cell<S: Alter, B: Shelf>(
 
 /// Lets the cell of this instance go, if there is one.
 fn let_go_of<B: Shelf>(shelf: &mut B, found: Option<Job>)
-    ensures gone { IsGone B.Shelf.apart (B.Shelf.uses shelf.new) found }
-    ensures keeps { KeepsApart B.Shelf.apart (B.Shelf.uses shelf.old) (B.Shelf.stands shelf.old)
-        (B.Shelf.uses shelf.new) (B.Shelf.stands shelf.new) found }
+    ensures gone { IsGone (B.Shelf.apart (B.Shelf.named shelf.old)) (B.Shelf.uses shelf.new) found }
+    ensures keeps { KeepsApart (B.Shelf.apart (B.Shelf.named shelf.old)) (B.Shelf.uses shelf.old)
+        (B.Shelf.stands shelf.old) (B.Shelf.uses shelf.new) (B.Shelf.stands shelf.new) found }
+    ensures named { B.Shelf.named shelf.new ≡ B.Shelf.named shelf.old }
     ensures clean { B.Shelf.is_clean shelf.new → B.Shelf.is_clean shelf.old }
 {
     match found {
@@ -65,9 +66,11 @@ fn let_go_gone<B: Shelf>(
     answer: Result<bool, LedgerFault>,
 ) -> Result<(), LedgerFault>
     ensures plain { result ≡ plain answer }
-    ensures left { LeavesCells B.Shelf.apart (B.Shelf.uses shelf.old) (B.Shelf.stands shelf.old)
-        (B.Shelf.uses shelf.new) (B.Shelf.stands shelf.new) found answer }
+    ensures left { LeavesCells (B.Shelf.apart (B.Shelf.named shelf.old)) (B.Shelf.uses shelf.old)
+        (B.Shelf.stands shelf.old) (B.Shelf.uses shelf.new) (B.Shelf.stands shelf.new) found
+        answer }
     ensures same { OnErr result (shelf.new ≡ shelf.old) }
+    ensures named { B.Shelf.named shelf.new ≡ B.Shelf.named shelf.old }
     ensures clean { B.Shelf.is_clean shelf.new → B.Shelf.is_clean shelf.old }
 {
     match answer {
@@ -100,12 +103,13 @@ pub fn settle<S: Alter, B: Shelf>(
         Nothing
         (λ base db.
         Settles at.now.uid.now at.now.dest.now outcome now (book_of base) result (book_of db)
-        × LetsCellsGo B.Shelf.apart (B.Shelf.uses shelf.old) (B.Shelf.stands shelf.old)
-        (B.Shelf.uses shelf.new) (B.Shelf.stands shelf.new) base db)
+        × LetsCellsGo (B.Shelf.apart (B.Shelf.named shelf.old)) (B.Shelf.uses shelf.old)
+        (B.Shelf.stands shelf.old) (B.Shelf.uses shelf.new) (B.Shelf.stands shelf.new) base db)
         (λ base db.
         Settles at.now.uid.now at.now.dest.now outcome now (book_of base) (Ok tt) (book_of db)
         × OnlyLetsGo (bodies_of base) (bodies_of db)) }
     ensures same { OnErr result (shelf.new ≡ shelf.old) }
+    ensures named { B.Shelf.named shelf.new ≡ B.Shelf.named shelf.old }
     ensures clean { B.Shelf.is_clean shelf.new → B.Shelf.is_clean shelf.old }
     ensures number { OnOk result (n ≤ 2 ^ 62) }
     ensures idle { conn.new.in_transaction ≡ false }
@@ -138,11 +142,12 @@ pub fn give_up<S: Alter, B: Shelf>(
         → Called n (advanced result n) part result (state S.Store conn.old) (state S.Store conn.new)
         Nothing
         (λ base db. Drops at.now.uid.now at.now.dest.now now (book_of base) result (book_of db)
-        × LetsCellsGo B.Shelf.apart (B.Shelf.uses shelf.old) (B.Shelf.stands shelf.old)
-        (B.Shelf.uses shelf.new) (B.Shelf.stands shelf.new) base db)
+        × LetsCellsGo (B.Shelf.apart (B.Shelf.named shelf.old)) (B.Shelf.uses shelf.old)
+        (B.Shelf.stands shelf.old) (B.Shelf.uses shelf.new) (B.Shelf.stands shelf.new) base db)
         (λ base db. Drops at.now.uid.now at.now.dest.now now (book_of base) (Ok tt) (book_of db)
         × OnlyLetsGo (bodies_of base) (bodies_of db)) }
     ensures same { OnErr result (shelf.new ≡ shelf.old) }
+    ensures named { B.Shelf.named shelf.new ≡ B.Shelf.named shelf.old }
     ensures clean { B.Shelf.is_clean shelf.new → B.Shelf.is_clean shelf.old }
     ensures number { OnOk result (n ≤ 2 ^ 62) }
     ensures idle { conn.new.in_transaction ≡ false }

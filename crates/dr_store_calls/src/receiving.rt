@@ -174,13 +174,15 @@ fn bring_there<'x, S: Alter, B: Shelf>(
     requires idle { conn.old.in_transaction ≡ false }
     requires delivered { IsDelivered came.now }
     requires targets { AreTargetsOf came.now first.now.targets }
-    ensures called { Receives (IsPut (shelf.new ≡ shelf.old) (B.Shelf.uses shelf.old)
-        (B.Shelf.uses shelf.new) (B.Shelf.stands shelf.new) B.Shelf.apart came.now.body.now)
+    ensures called { Receives
+        (IsPut (shelf.new ≡ shelf.old) (B.Shelf.uses shelf.old) (B.Shelf.uses shelf.new)
+        (B.Shelf.stands shelf.new) (B.Shelf.apart (B.Shelf.named shelf.old)) came.now.body.now)
         came.now result (state S.Store conn.old) (state S.Store conn.new)
         (λ base. IsThereFor came.now whole false base
         × IsFoundFor came.now.instance.now.uid base first.now) }
     ensures keeps { KeepsCells (B.Shelf.uses shelf.old) (B.Shelf.stands shelf.old)
         (B.Shelf.uses shelf.new) (B.Shelf.stands shelf.new) }
+    ensures named { B.Shelf.named shelf.new ≡ B.Shelf.named shelf.old }
     ensures clean { B.Shelf.is_clean shelf.new → B.Shelf.is_clean shelf.old }
     ensures number { OnOk result (came.now.n ≤ 2 ^ 62) }
     ensures idle { conn.new.in_transaction ≡ false }
@@ -208,12 +210,14 @@ fn arrive_first<'x, S: Alter, B: Shelf>(
 ) -> Result<Arrived, LedgerFault>
     requires idle { conn.old.in_transaction ≡ false }
     requires delivered { IsDelivered came.now }
-    ensures called { Receives (IsPut (shelf.new ≡ shelf.old) (B.Shelf.uses shelf.old)
-        (B.Shelf.uses shelf.new) (B.Shelf.stands shelf.new) B.Shelf.apart came.now.body.now)
+    ensures called { Receives
+        (IsPut (shelf.new ≡ shelf.old) (B.Shelf.uses shelf.old) (B.Shelf.uses shelf.new)
+        (B.Shelf.stands shelf.new) (B.Shelf.apart (B.Shelf.named shelf.old)) came.now.body.now)
         came.now result (state S.Store conn.old) (state S.Store conn.new)
         (IsThereFor came.now whole false) }
     ensures keeps { KeepsCells (B.Shelf.uses shelf.old) (B.Shelf.stands shelf.old)
         (B.Shelf.uses shelf.new) (B.Shelf.stands shelf.new) }
+    ensures named { B.Shelf.named shelf.new ≡ B.Shelf.named shelf.old }
     ensures clean { B.Shelf.is_clean shelf.new → B.Shelf.is_clean shelf.old }
     ensures number { OnOk result (came.now.n ≤ 2 ^ 62) }
     ensures idle { conn.new.in_transaction ≡ false }
@@ -234,12 +238,14 @@ fn arrive_there<'x, S: Alter, B: Shelf>(
 ) -> Result<Arrived, LedgerFault>
     requires idle { conn.old.in_transaction ≡ false }
     requires delivered { IsDelivered came.now }
-    ensures called { Receives (IsPut (shelf.new ≡ shelf.old) (B.Shelf.uses shelf.old)
-        (B.Shelf.uses shelf.new) (B.Shelf.stands shelf.new) B.Shelf.apart came.now.body.now)
-        came.now result (state S.Store conn.old) (state S.Store conn.new)
-        (λ base. IsThere base came.now.instance.now whole) }
+    ensures called { Receives
+        (IsPut (shelf.new ≡ shelf.old) (B.Shelf.uses shelf.old) (B.Shelf.uses shelf.new)
+        (B.Shelf.stands shelf.new) (B.Shelf.apart (B.Shelf.named shelf.old)) came.now.body.now)
+        came.now result (state S.Store conn.old) (state S.Store conn.new) (λ base.
+        IsThere base came.now.instance.now whole) }
     ensures keeps { KeepsCells (B.Shelf.uses shelf.old) (B.Shelf.stands shelf.old)
         (B.Shelf.uses shelf.new) (B.Shelf.stands shelf.new) }
+    ensures named { B.Shelf.named shelf.new ≡ B.Shelf.named shelf.old }
     ensures clean { B.Shelf.is_clean shelf.new → B.Shelf.is_clean shelf.old }
     ensures number { OnOk result (came.now.n ≤ 2 ^ 62) }
     ensures idle { conn.new.in_transaction ≡ false }
@@ -275,12 +281,14 @@ fn arrive_new<'x, S: Alter, B: Shelf>(
 ) -> Result<Arrived, LedgerFault>
     requires idle { conn.old.in_transaction ≡ false }
     requires delivered { IsDelivered came.now }
-    ensures called { Receives (IsPut (shelf.new ≡ shelf.old) (B.Shelf.uses shelf.old)
-        (B.Shelf.uses shelf.new) (B.Shelf.stands shelf.new) B.Shelf.apart came.now.body.now)
+    ensures called { Receives
+        (IsPut (shelf.new ≡ shelf.old) (B.Shelf.uses shelf.old) (B.Shelf.uses shelf.new)
+        (B.Shelf.stands shelf.new) (B.Shelf.apart (B.Shelf.named shelf.old)) came.now.body.now)
         came.now result (state S.Store conn.old) (state S.Store conn.new)
         (HasNeither came.now.instance.now.uid) }
     ensures keeps { KeepsCells (B.Shelf.uses shelf.old) (B.Shelf.stands shelf.old)
         (B.Shelf.uses shelf.new) (B.Shelf.stands shelf.new) }
+    ensures named { B.Shelf.named shelf.new ≡ B.Shelf.named shelf.old }
     ensures clean { B.Shelf.is_clean shelf.new → B.Shelf.is_clean shelf.old }
     ensures number { OnOk result (came.now.n ≤ 2 ^ 62) }
     ensures idle { conn.new.in_transaction ≡ false }
@@ -311,12 +319,14 @@ fn arrive_by<S: Alter, B: Shelf>(
 ) -> Result<Arrived, LedgerFault>
     requires idle { conn.old.in_transaction ≡ false }
     requires delivered { IsDelivered came.now }
-    ensures called { Receives (IsPut (shelf.new ≡ shelf.old) (B.Shelf.uses shelf.old)
-        (B.Shelf.uses shelf.new) (B.Shelf.stands shelf.new) B.Shelf.apart came.now.body.now)
-        came.now result (state S.Store conn.old) (state S.Store conn.new)
-        (λ base. IsWhatIsKnown base came.now.instance.now known) }
+    ensures called { Receives
+        (IsPut (shelf.new ≡ shelf.old) (B.Shelf.uses shelf.old) (B.Shelf.uses shelf.new)
+        (B.Shelf.stands shelf.new) (B.Shelf.apart (B.Shelf.named shelf.old)) came.now.body.now)
+        came.now result (state S.Store conn.old) (state S.Store conn.new) (λ base.
+        IsWhatIsKnown base came.now.instance.now known) }
     ensures keeps { KeepsCells (B.Shelf.uses shelf.old) (B.Shelf.stands shelf.old)
         (B.Shelf.uses shelf.new) (B.Shelf.stands shelf.new) }
+    ensures named { B.Shelf.named shelf.new ≡ B.Shelf.named shelf.old }
     ensures clean { B.Shelf.is_clean shelf.new → B.Shelf.is_clean shelf.old }
     ensures number { OnOk result (came.now.n ≤ 2 ^ 62) }
     ensures idle { conn.new.in_transaction ≡ false }
@@ -340,12 +350,13 @@ pub fn receive<S: Alter, B: Shelf>(
 ) -> Result<Arrived, LedgerFault>
     requires idle { conn.old.in_transaction ≡ false }
     requires delivered { IsDelivered came.now }
-    ensures called { Receives (IsPut (shelf.new ≡ shelf.old) (B.Shelf.uses shelf.old)
-        (B.Shelf.uses shelf.new) (B.Shelf.stands shelf.new) B.Shelf.apart came.now.body.now)
-        came.now result (state S.Store conn.old) (state S.Store conn.new)
-        Nothing }
+    ensures called { Receives
+        (IsPut (shelf.new ≡ shelf.old) (B.Shelf.uses shelf.old) (B.Shelf.uses shelf.new)
+        (B.Shelf.stands shelf.new) (B.Shelf.apart (B.Shelf.named shelf.old)) came.now.body.now)
+        came.now result (state S.Store conn.old) (state S.Store conn.new) Nothing }
     ensures keeps { KeepsCells (B.Shelf.uses shelf.old) (B.Shelf.stands shelf.old)
         (B.Shelf.uses shelf.new) (B.Shelf.stands shelf.new) }
+    ensures named { B.Shelf.named shelf.new ≡ B.Shelf.named shelf.old }
     ensures clean { B.Shelf.is_clean shelf.new → B.Shelf.is_clean shelf.old }
     ensures number { OnOk result (came.now.n ≤ 2 ^ 62) }
     ensures idle { conn.new.in_transaction ≡ false }

@@ -47,12 +47,15 @@ pub fn arrive<S: Alter, B: Shelf>(
         (state S.Store conn.new) Nothing
         (AnswersTo
         (IsPut (shelf.new ≡ shelf.old) (B.Shelf.uses shelf.old) (B.Shelf.uses shelf.new)
-        (B.Shelf.stands shelf.new) B.Shelf.apart) site.now caller.now item result)
+        (B.Shelf.stands shelf.new) (B.Shelf.apart (B.Shelf.named shelf.old))) site.now caller.now
+        item result)
         (AcceptsItem
         (IsPut (shelf.new ≡ shelf.old) (B.Shelf.uses shelf.old) (B.Shelf.uses shelf.new)
-        (B.Shelf.stands shelf.new) B.Shelf.apart) site.now caller.now item) }
+        (B.Shelf.stands shelf.new) (B.Shelf.apart (B.Shelf.named shelf.old))) site.now caller.now
+        item) }
     ensures keeps { KeepsCells (B.Shelf.uses shelf.old) (B.Shelf.stands shelf.old)
         (B.Shelf.uses shelf.new) (B.Shelf.stands shelf.new) }
+    ensures named { B.Shelf.named shelf.new ≡ B.Shelf.named shelf.old }
     ensures clean { B.Shelf.is_clean shelf.new → B.Shelf.is_clean shelf.old }
     ensures number { OnOk result (line.n ≤ 2 ^ 62) }
     ensures idle { conn.new.in_transaction ≡ false }

@@ -1,4 +1,5 @@
 pub mod Cells
+pub mod Either
 pub mod Held
 pub mod Laws
 pub mod Shelves

@@ -1,7 +1,7 @@
 //! Data sets in a file beside the database.
-ghost use Rattle.std.specs.Prelude.{◌≡◌, ℕ, List, IfErr, IfOk, IsTrue};
-ghost use Rattle.dr_store_bodies.specs.Bodies.{IsClean, IsUsable, extents};
-ghost use Rattle.dr_store_bodies.specs.Extents.{Stand};
+ghost use Rattle.std.specs.Prelude.{◌≡◌, ◌<◌, ℕ, List, All, AllPairs, IfErr, IfOk, IsTrue};
+ghost use Rattle.dr_store_bodies.specs.Bodies.{IsClean, IsHeld, IsUsable, extents};
+ghost use Rattle.dr_store_bodies.specs.Extents.{LiesBefore, Stand};
 ghost use Rattle.dr_store_shelf.specs.Cells.{Passes, extent_in};
 ghost use Rattle.dr_store_shelf.specs.Shelves.{IsUsed, IsWhyNotRead, Stands};
 
@@ -34,7 +34,7 @@ impl<D: Disk> InFile<D> {
     fn read(&mut self, cell: &[u8], extent: Extent) -> Result<Vec<u8>, ShelfFault>
         requires { extent ≡ extent_in cell.now }
         ensures read { IfOk result (λ got. IsClean self.new.bodies → (bytes : List ℕ)
-            → Stands self.old.key self.old.bodies cell.now bytes → got.items ≡ bytes) }
+            → IsHeld self.old.bodies (extent_in cell.now) bytes → got.items ≡ bytes) }
         ensures tested { IfOk result (λ got. Passes self.old.key cell.now got.items) }
         ensures keeps { (other bytes : List ℕ) → IsUsed self.old.bodies other
             → Stands self.old.key self.old.bodies other bytes
@@ -55,7 +55,7 @@ impl<D: Disk> InFile<D> {
     /// The same, by the cell alone.
     fn find(&mut self, cell: &[u8]) -> Result<Vec<u8>, ShelfFault>
         ensures read { IfOk result (λ got. IsClean self.new.bodies → (bytes : List ℕ)
-            → Stands self.old.key self.old.bodies cell.now bytes → got.items ≡ bytes) }
+            → IsHeld self.old.bodies (extent_in cell.now) bytes → got.items ≡ bytes) }
         ensures tested { IfOk result (λ got. Passes self.old.key cell.now got.items) }
         ensures keeps { (other bytes : List ℕ) → IsUsed self.old.bodies other
             → Stands self.old.key self.old.bodies other bytes
@@ -73,6 +73,7 @@ impl<D: Disk> InFile<D> {
 }
 
 impl<D: Disk> Shelf for InFile<D> {
+    ghost use Rattle.std.specs.Prelude.{true};
     ghost use Rattle.dr_store_bodies.specs.Bodies.{IsClean, IsUsable, faults, seen};
     ghost use Rattle.dr_store_shelf.specs.Cells.{Passes, extent_in, shown};
     ghost use Rattle.dr_store_shelf.specs.Shelves.{AreApart, IsUsed, Stands};
@@ -84,9 +85,11 @@ impl<D: Disk> Shelf for InFile<D> {
 
     ghost body_of = { λ it cell. shown (seen it.bodies) (extent_in cell) };
 
-    ghost apart = { AreApart };
+    ghost named = { λ _. true };
 
-    ghost swaps = { apart_from_each_other };
+    ghost apart = { λ _. AreApart };
+
+    ghost swaps = { λ _. apart_from_each_other };
 
     ghost passes = { λ it. Passes it.key };
 
@@ -114,6 +117,19 @@ impl<D: Disk> Shelf for InFile<D> {
         self.find(&cell)
     }
 
+    fn look(&mut self, cell: Vec<u8>) -> Result<Option<Vec<u8>>, ShelfFault> {
+        let _extents = self.bodies.extents();
+        match self.find(&cell) {
+            Ok(got) => Ok(Some(got)),
+            Err(ShelfFault::NoCell) => Ok(None),
+            Err(ShelfFault::Unreadable) => Ok(None),
+            Err(ShelfFault::Io(error)) => Err(ShelfFault::Io(error)),
+            Err(ShelfFault::Memory) => Err(ShelfFault::Memory),
+            Err(ShelfFault::Unusable) => Err(ShelfFault::Unusable),
+            Err(ShelfFault::Full) => Err(ShelfFault::Full),
+        }
+    }
+
     fn let_go(&mut self, cell: &[u8]) {
         if let Some(extent) = extent_of(cell) {
             self.bodies.free(extent);
@@ -122,7 +138,8 @@ impl<D: Disk> Shelf for InFile<D> {
 }
 
 impl<D: Disk + Drop> InFile<D> {
-    /// A shelf over a file in which these extents are in use, in the order of their places.
+    /// A shelf over a file in which these extents are in use, in the order of their places. Each is
+    /// filled, and no two overlap.
     ///
     /// Errors: Io, Unusable; NoCell where the file hasn't these extents.
     pub fn open(
@@ -139,8 +156,12 @@ impl<D: Disk + Drop> InFile<D> {
             → Stands it.key it.bodies cell bytes) }
         ensures clean { IfOk result (λ it. IsClean it.bodies → IsTrue (D.Disk.is_clean file)) }
         ensures usable { IfOk result (λ it. IsUsable it.bodies) }
+        ensures filled { IfOk result (λ it. All (λ e. 0 < e.size) list.items) }
+        ensures apart { IfOk result (λ it. AllPairs LiesBefore list.items) }
+        ensures shows { IfOk result (λ it. D.Disk.seen it.bodies.disk ≡ D.Disk.seen file) }
     {
         let bodies = Bodies::open(file, list)?;
+        let _extents = bodies.extents();
         Ok(InFile { alloc, key, bodies })
     }
 }

@@ -7,7 +7,7 @@ use crate::shelf::{BodyCell, Shelf};
 pub struct InRow;
 
 impl Shelf for InRow {
-    ghost use Rattle.std.specs.Prelude.{◌≡◌};
+    ghost use Rattle.std.specs.Prelude.{◌≡◌, false};
 
     ghost stands = { λ _ cell bytes. cell ≡ bytes };
 
@@ -15,9 +15,11 @@ impl Shelf for InRow {
 
     ghost body_of = { λ _ cell. cell };
 
-    ghost apart = { λ _ _. Unit {0} };
+    ghost named = { λ _. false };
 
-    ghost swaps = { λ _ _ apart. apart };
+    ghost apart = { λ _ _ _. Unit {0} };
+
+    ghost swaps = { λ _ _ _ apart. apart };
 
     ghost passes = { λ _ cell bytes. cell ≡ bytes };
 
@@ -41,6 +43,10 @@ impl Shelf for InRow {
 
     fn get(&mut self, cell: Vec<u8>) -> Result<Vec<u8>, ShelfFault> {
         Ok(cell)
+    }
+
+    fn look(&mut self, cell: Vec<u8>) -> Result<Option<Vec<u8>>, ShelfFault> {
+        Ok(Some(cell))
     }
 
     fn let_go(&mut self, _cell: &[u8]) {}

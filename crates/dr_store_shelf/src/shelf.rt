@@ -1,5 +1,6 @@
 //! A place for data sets.
-ghost use Rattle.std.specs.Prelude.{◌≡◌, ◌<◌, ℕ, List, length, IfErr, IfOk, OnErr, false};
+ghost use Rattle.std.specs.Prelude.{◌≡◌, ◌<◌, ℕ, List, length, IfErr, IfOk, OnErr, Bool};
+ghost use Rattle.std.specs.Prelude.{MatchOption, false};
 ghost use Rattle.dr_store_shelf.specs.Shelves.{IsWhyNotPut, IsWhyNotRead, bytes_of};
 
 use crate::fault::ShelfFault;
@@ -40,11 +41,16 @@ pub trait Shelf {
     // The bytes for which the cell stands, if it stands for any.
     ghost body_of: { Self → List ℕ → List ℕ };
 
-    // The one cell can be let go without the other.
-    ghost apart: { List ℕ → List ℕ → Type 0 };
+    // Whether its cells name places, which stays as it is.
+    ghost named: { Self → Bool };
+
+    // The one cell can be let go without the other, on a shelf whose cells name places, or name
+    // none.
+    ghost apart: { Bool → List ℕ → List ℕ → Type 0 };
 
     // Then the other can be let go without the one.
-    ghost swaps: { (cell other : List ℕ) → apart cell other → apart other cell };
+    ghost swaps: { (places : Bool) (cell other : List ℕ) → apart places cell other
+        → apart places other cell };
 
     // These bytes pass the test that the cell has for them.
     ghost passes: { Self → List ℕ → List ℕ → Type 0 };
@@ -68,7 +74,9 @@ pub trait Shelf {
     /// Whether a cell names a place. Where none does, each can be let go without any, and nothing
     /// has to be let go.
     fn names_places(&self) -> bool
-        ensures { result ≡ false → (cell other : List ℕ) → apart cell other };
+        ensures named { result ≡ named self.now }
+        ensures free { result ≡ false
+            → (cell other : List ℕ) → apart (named self.now) cell other };
 
     /// Puts a data set, durably: whoever commits a row with the cell afterwards finds it, whatever
     /// crash comes.
@@ -80,11 +88,13 @@ pub trait Shelf {
         ensures stands { IfOk result (λ cell. stands self.new (bytes_of cell body.now) body.now) }
         ensures used { IfOk result (λ cell. uses self.new (bytes_of cell body.now)) }
         ensures beside { IfOk result (λ cell. (other : List ℕ)
-            → uses self.old other → apart (bytes_of cell body.now) other) }
+            → uses self.old other
+            → apart (named self.old) (bytes_of cell body.now) other) }
         ensures keeps { (cell bytes : List ℕ) → uses self.old cell → stands self.old cell bytes
             → uses self.new cell × stands self.new cell bytes }
         ensures unused { OnErr result
             ((cell : List ℕ) → uses self.new cell → uses self.old cell) }
+        ensures named { named self.new ≡ named self.old }
         ensures clean { is_clean self.new → is_clean self.old }
         ensures why { IfErr result
             (IsWhyNotPut (is_usable self.old) (faults self.old) (faults self.new)) };
@@ -100,17 +110,35 @@ pub trait Shelf {
         ensures tested { IfOk result (λ got. passes self.old cell.items got.items) }
         ensures keeps { (other bytes : List ℕ) → uses self.old other → stands self.old other bytes
             → uses self.new other × stands self.new other bytes }
+        ensures named { named self.new ≡ named self.old }
         ensures clean { is_clean self.new → is_clean self.old }
         ensures why { IfErr result (λ fault. is_clean self.new → (bytes : List ℕ)
             → IsWhyNotRead (is_usable self.old) (stands self.old cell.items bytes) fault) };
+
+    /// Looks what a cell stands for that is in use, where that isn't known yet: None where it
+    /// stands for no data set.
+    ///
+    /// Errors: Io, Memory, Unusable.
+    fn look(&mut self, cell: Vec<u8>) -> Result<Option<Vec<u8>>, ShelfFault>
+        ensures found { IfOk result (λ found. is_clean self.new → uses self.old cell.items
+            → MatchOption found ((bytes : List ℕ) → stands self.old cell.items bytes → ⊥)
+            (λ got. stands self.old cell.items got.items)) }
+        ensures keeps { (other bytes : List ℕ) → uses self.old other → stands self.old other bytes
+            → uses self.new other × stands self.new other bytes }
+        ensures named { named self.new ≡ named self.old }
+        ensures clean { is_clean self.new → is_clean self.old }
+        ensures why { IfErr result (λ fault. is_clean self.new
+            → IsWhyNotRead (is_usable self.old) (Unit {0}) fault) };
 
     /// Lets a data set go, whose cell no row has, and that no row gets after a crash either. Where
     /// a cell names a place, this one is in use no more. No byte is touched until its place is
     /// taken by another.
     fn let_go(&mut self, cell: &[u8])
-        ensures gone { (apart cell.now cell.now → ⊥) → uses self.new cell.now → ⊥ }
-        ensures keeps { (other bytes : List ℕ) → apart cell.now other
+        ensures gone { (apart (named self.old) cell.now cell.now → ⊥)
+            → uses self.new cell.now → ⊥ }
+        ensures keeps { (other bytes : List ℕ) → apart (named self.old) cell.now other
             → uses self.old other → stands self.old other bytes
             → uses self.new other × stands self.new other bytes }
+        ensures named { named self.new ≡ named self.old }
         ensures clean { is_clean self.new → is_clean self.old };
 }

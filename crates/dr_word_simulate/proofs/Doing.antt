@@ -8,20 +8,22 @@ use Rattle.dr_cert.specs.Sealing.{Certified}
 use Rattle.dr_plan_model.proofs.Gathered.{Contains-cons_cases, Contains-here, Contains-there, nothing_in_nil}
 use Rattle.dr_plan_model.specs.Networks.{Network}
 use Rattle.dr_plan_sound.specs.declared.certificate.Certificate.{Certificate}
-use Rattle.dr_world.specs.declared.deed.Deed.{Deed}
 use Rattle.dr_world.specs.declared.deed.Deed.TheVariants as deed
 use Rattle.dr_world.specs.declared.fault.WorldFault.{WorldFault}
 use Rattle.dr_world.specs.declared.fault.WorldFault.TheVariants as fault
-use Rattle.dr_world.specs.Played.{EndsEarly, HasChange, IsChange}
+use Rattle.dr_world.specs.declared.order.WorldOrder.{WorldOrder}
+use Rattle.dr_world.specs.declared.order.WorldOrder.TheVariants as order
+use Rattle.dr_world.specs.Orders.{IsChangeOrder, OrdersChange}
+use Rattle.dr_world.specs.Played.{EndsEarly}
 use Rattle.dr_world_script.specs.declared.act.Act.{Act}
 use Rattle.dr_world_script.specs.declared.act.Act.TheVariants as act
 use Rattle.dr_world_script.specs.Scripts.{IsLineAt, IsScriptOf, Tells, told_lines}
 use Rattle.dr_world_script.proofs.Placing.{lines_in_order}
-use Rattle.dr_word_simulate.specs.declared.deeds.ActFault.{ActFault}
-use Rattle.dr_word_simulate.specs.declared.deeds.ActFault.TheVariants as stop
+use Rattle.dr_word_simulate.specs.declared.orders.ActFault.{ActFault}
+use Rattle.dr_word_simulate.specs.declared.orders.ActFault.TheVariants as stop
 use Rattle.dr_word_simulate.specs.declared.outcome.PlayOutcome.{PlayOutcome}
 use Rattle.dr_word_simulate.specs.declared.outcome.PlayOutcome.TheVariants.{Report, NoScript, Unsealed, Unread, Store, HalfAdopted, Memory}
-use Rattle.dr_word_simulate.specs.Deeds.{AddsDeed, IsDeedOf, IsUndone, StopsAt}
+use Rattle.dr_word_simulate.specs.Orders.{AddsOrder, IsOrderOf, IsUndone, StopsAt}
 use Rattle.dr_word_simulate.specs.Outcomes.{HasChangeIn, IsOutcomeOf, StopsAs}
 use Rattle.dr_word_simulate.specs.Reported.{IsUnreported}
 
@@ -55,15 +57,15 @@ comes_to_end {X} all done left so_far none = so_far ∙ ap (λ (ys : List X). do
     alone (y ∷ ys) = ap (λ (zs : List X). y ∷ zs) (alone ys)
 
 module _ (Holds : Text → Text → Type 0) where
-  pub done_more : (acts : List Act) (a : Act) (old new : List Deed) → AllZip (IsDeedOf Holds) acts old → AddsDeed Holds a old new → AllZip (IsDeedOf Holds) (acts ++ a ∷ []) new
-  done_more acts a old new so_far (done, is, e) =
-      let P : List Deed → Type 0 = λ ds. AllZip (IsDeedOf Holds) (acts ++ a ∷ []) ds in
-      subst P (sym e) (zip_push (IsDeedOf Holds) acts old a done so_far is)
+  pub ordered_more : (acts : List Act) (a : Act) (old new : List WorldOrder) → AllZip (IsOrderOf Holds) acts old → AddsOrder Holds a old new → AllZip (IsOrderOf Holds) (acts ++ a ∷ []) new
+  ordered_more acts a old new so_far (one, is, e) =
+      let P : List WorldOrder → Type 0 = λ os. AllZip (IsOrderOf Holds) (acts ++ a ∷ []) os in
+      subst P (sym e) (zip_push (IsOrderOf Holds) acts old a one so_far is)
 
-  pub stops : (all before : List Act) (a : Act) (left later : List Act) (deeds : List Deed) (place : ℕ) (fault : ActFault)
-      → all ≡ before ++ left → left ≡ a ∷ later → AllZip (IsDeedOf Holds) before deeds → place ≡ length deeds → IsUndone Holds a fault → StopsAt Holds all place fault
-  stops all before a left later deeds place fault so_far next done at why =
-      (before, a, later, so_far ∙ ap (λ (ys : List Act). before ++ ys) next, zip_length (IsDeedOf Holds) before deeds done ∙ sym at, why, (deeds, done))
+  pub stops : (all before : List Act) (a : Act) (left later : List Act) (orders : List WorldOrder) (place : ℕ) (fault : ActFault)
+      → all ≡ before ++ left → left ≡ a ∷ later → AllZip (IsOrderOf Holds) before orders → place ≡ length orders → IsUndone Holds a fault → StopsAt Holds all place fault
+  stops all before a left later orders place fault so_far next done at why =
+      (before, a, later, so_far ∙ ap (λ (ys : List Act). before ++ ys) next, zip_length (IsOrderOf Holds) before orders done ∙ sym at, why, (orders, done))
 
   -- a stop is at a line
   pub stops_at_line : (text : Text) (acts : List Act) (place : ℕ) (fault : ActFault) → IsScriptOf text acts → StopsAt Holds acts place fault → place < length (told_lines text)
@@ -76,6 +78,7 @@ module _ (Holds : Text → Text → Type 0) where
       → IsScriptOf text acts → StopsAt Holds acts place fault → StopsAs text place fault outcome → IsOutcomeOf Holds plan certificate text outcome
   stopped plan certificate text acts place stop.Unsealed (Unsealed line) script (before, act.Step step, later, e, at, why, rest) came = absurd why
   stopped plan certificate text acts place stop.Unsealed (Unsealed line) script (before, act.Bytes link side bytes, later, e, at, why, rest) came = absurd why
+  stopped plan certificate text acts place stop.Unsealed (Unsealed line) script (before, act.Foreign what, later, e, at, why, rest) came = absurd why
   stopped plan certificate text acts place stop.Unsealed (Unsealed line) script (before, act.Adopt next own, later, e, at, why, rest) came =
       let P : List Act → Type 0 = λ xs. IsScriptOf text xs in
       let Q : ℕ → Type 0 = λ n. IsLineAt text n line in
@@ -103,30 +106,32 @@ module _ (Holds : Text → Text → Type 0) where
 
 -- ---- changes of plan
 
--- a change among the deeds is one among the lines
-told_change : (Holds : Text → Text → Type 0) (acts : List Act) (deeds : List Deed) (next : Certified) → AllZip (IsDeedOf Holds) acts deeds → Contains deeds (deed.Adopt next)
+-- a change among the orders is one among the lines
+told_change : (Holds : Text → Text → Type 0) (acts : List Act) (orders : List WorldOrder) (next : Certified) → AllZip (IsOrderOf Holds) acts orders → Contains orders (order.Deed (deed.Adopt next))
     → (plan certificate : Text) × Contains acts (act.Adopt plan certificate)
-told_change Holds [] [] next h among = absurd (nothing_in_nil (deed.Adopt next) among)
-told_change Holds [] (done ∷ deeds) next h among = absurd h
+told_change Holds [] [] next h among = absurd (nothing_in_nil (order.Deed (deed.Adopt next)) among)
+told_change Holds [] (one ∷ orders) next h among = absurd h
 told_change Holds (a ∷ acts) [] next h among = absurd h
-told_change Holds (a ∷ acts) (done ∷ deeds) next h among = elim (Contains-cons_cases done deeds (deed.Adopt next) among) [
-  | inl same ↦ here a done same h.0
-  | inr later ↦ (let found = told_change Holds acts deeds next h.1 later in (found.0, found.1, Contains-there a acts (act.Adopt found.0 found.1) found.2))
+told_change Holds (a ∷ acts) (one ∷ orders) next h among = elim (Contains-cons_cases one orders (order.Deed (deed.Adopt next)) among) [
+  | inl same ↦ here a one same h.0
+  | inr later ↦ (let found = told_change Holds acts orders next h.1 later in (found.0, found.1, Contains-there a acts (act.Adopt found.0 found.1) found.2))
 ]
   where
-    here : (b : Act) (one : Deed) → one ≡ deed.Adopt next → IsDeedOf Holds b one → (plan certificate : Text) × Contains (b ∷ acts) (act.Adopt plan certificate)
-    here (act.Adopt plan certificate) (deed.Adopt sealed) same is = (plan, certificate, Contains-here (act.Adopt plan certificate) acts)
-    here (act.Step step) (deed.Adopt sealed) same is = absurd is
-    here (act.Bytes link side bytes) (deed.Adopt sealed) same is = absurd is
-    here a (deed.Step done) same is = absurd (subst IsChange (sym same) tt)
-    here a (deed.Bytes link side bytes) same is = absurd (subst IsChange (sym same) tt)
+    here : (b : Act) (x : WorldOrder) → x ≡ order.Deed (deed.Adopt next) → IsOrderOf Holds b x → (plan certificate : Text) × Contains (b ∷ acts) (act.Adopt plan certificate)
+    here (act.Adopt plan certificate) (order.Deed (deed.Adopt sealed)) same is = (plan, certificate, Contains-here (act.Adopt plan certificate) acts)
+    here (act.Step step) (order.Deed (deed.Adopt sealed)) same is = absurd is
+    here (act.Bytes link side bytes) (order.Deed (deed.Adopt sealed)) same is = absurd is
+    here (act.Foreign what) (order.Deed (deed.Adopt sealed)) same is = absurd is
+    here a (order.Deed (deed.Step done)) same is = absurd (subst IsChangeOrder (sym same) tt)
+    here a (order.Deed (deed.Bytes link side bytes)) same is = absurd (subst IsChangeOrder (sym same) tt)
+    here a (order.Foreign what) same is = absurd (subst IsChangeOrder (sym same) tt)
 
-pub has_change : (Holds : Text → Text → Type 0) (text : Text) (acts : List Act) (deeds : List Deed) → IsScriptOf text acts → AllZip (IsDeedOf Holds) acts deeds → HasChange deeds → HasChangeIn text
-has_change Holds text acts deeds script done (next, among) = (acts, script, told_change Holds acts deeds next done among)
+pub has_change : (Holds : Text → Text → Type 0) (text : Text) (acts : List Act) (orders : List WorldOrder) → IsScriptOf text acts → AllZip (IsOrderOf Holds) acts orders → OrdersChange orders → HasChangeIn text
+has_change Holds text acts orders script ordered (next, among) = (acts, script, told_change Holds acts orders next ordered among)
 
--- why there is no report, where a run comes to an end before its last deed
-pub ended_early : (deeds : List Deed) (f : WorldFault) → EndsEarly (HasChange deeds) f → IsUnreported deeds f
-ended_early deeds fault.Memory h = tt
-ended_early deeds fault.HalfAdopted h = h
-ended_early deeds fault.WrongLedgers h = absurd h
-ended_early deeds fault.Store h = absurd h
+-- why there is no report, where a run comes to an end before its last order
+pub ended_early : (orders : List WorldOrder) (f : WorldFault) → EndsEarly (OrdersChange orders) f → IsUnreported orders f
+ended_early orders fault.Memory h = tt
+ended_early orders fault.HalfAdopted h = h
+ended_early orders fault.WrongLedgers h = absurd h
+ended_early orders fault.Store h = absurd h

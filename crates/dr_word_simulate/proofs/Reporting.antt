@@ -16,15 +16,18 @@ use Rattle.dr_node.specs.declared.node.Node.{Node}
 use Rattle.dr_plan_sound.specs.declared.certificate.Certificate.{Certificate}
 use Rattle.dr_site.specs.Parts.{IsPartOf}
 use Rattle.dr_world.specs.declared.changing.Change.{Change}
-use Rattle.dr_world.specs.declared.deed.Deed.{Deed}
 use Rattle.dr_world.specs.declared.world.World.{World}
 use Rattle.dr_world.specs.Nodes.{seat_of}
 use Rattle.dr_world.specs.Reports.{IsReported, books_of}
-use Rattle.dr_world.specs.Played.{IsRunOf}
+use Rattle.dr_world.specs.Orders.{IsOrderedRun}
+use Rattle.dr_world.specs.declared.order.WorldOrder.{WorldOrder}
+use Rattle.dr_world.specs.declared.order.RefusedForeign.{RefusedForeign}
+use Rattle.dr_world.proofs.Orders.{run_meant}
 use Rattle.dr_world.proofs.Played.{last_in_force}
 use Rattle.dr_world.specs.Shows.{Seat, desk_at}
+use Rattle.dr_world.specs.Whole.{AllStand}
 use Rattle.dr_world_tie.specs.ByteWorlds.{beginning}
-use Rattle.dr_word_simulate.specs.Reported.{IsReportAfter, note_of, notes_of}
+use Rattle.dr_word_simulate.specs.Reported.{IsReportAfter, note_of, notes_of, refusal_of, refusals_of}
 
 -- a node that has a book is there
 seated_book : {L : Type 0} {l : Ghosts L} (o : Option (Node L l)) (book : Book) → option_map (λ (n : Node L l). l.book n.desk.ledger) o ≡ Some book → (n : Node L l) × (o ≡ Some n) × (l.book n.desk.ledger ≡ book)
@@ -36,16 +39,20 @@ booked : {L : Type 0} {l : Ghosts L} (o : Option (Node L l)) (seat : Seat) → o
 booked None seat of = absurd (none-some seat of)
 booked {L} {l} (Some n) seat of = (l.book n.desk.ledger, refl)
 
-pub reported_after : {L : Type 0} {l : Ghosts L} (plan : Network) (certificate : Certificate) (deeds : List Deed) (changes : List Change) (w : World L l) (text : Text) →
-    IsRunOf plan certificate deeds changes w → IsReported (books_of w.nodes) (notes_of changes) text → IsReportAfter plan certificate deeds text
-reported_after {L} {l} plan certificate deeds changes w text run reported =
+pub reported_after : {L : Type 0} {l : Ghosts L} (stands : (v : World L l) → AllStand v) (plan : Network) (certificate : Certificate) (orders : List WorldOrder) (changes : List Change) (refusals : List RefusedForeign) (others : List Text) (w : World L l) (text : Text) →
+    IsOrderedRun plan certificate orders changes refusals others w → IsReported others (books_of w.nodes) (notes_of changes ++ refusals_of refusals) text → IsReportAfter plan certificate orders text
+reported_after {L} {l} stands plan certificate orders changes refusals others w text (certified, (first, deeds, reached, ordered, run)) reported =
     let find : (name : Text) (book : Book) → books_of w.nodes name ≡ Some book → (n : Node L l) × (tree.get text_cmp w.nodes name ≡ Some n) × (l.book n.desk.ledger ≡ book) =
     λ name book of. seated_book (tree.get text_cmp w.nodes name) book of in
     record {
+      deeds = deeds;
       changes = changes;
+      refusals = refusals;
+      others = others;
+      ordered = run_meant stands plan certificate certified orders deeds changes refusals others first w reached ordered;
       books = books_of w.nodes;
       lines = reported.0;
-      told = reported.1;
+      told = reported.1 ∙ append_assoc (notes_of changes) (refusals_of refusals) reported.0;
       reported = reported.2;
       after = ∥∥₁_map run.0 (λ r. record {
         last = r.0;
@@ -80,6 +87,21 @@ note_more changes i change out now new less is so_far told =
 
 pub notes_all : (changes : List Change) (i : ℕ) (out new : Text) → length changes ≤ i → new ≡ out ++ notes_of (take i changes) → new ≡ out ++ notes_of changes
 notes_all changes i out new all so_far = so_far ∙ ap (λ (cs : List Change). out ++ notes_of cs) (take_all i changes all)
+
+-- the same of what is refused
+refusals_behind : (refusals : List RefusedForeign) (one : RefusedForeign) → refusals_of (refusals ++ one ∷ []) ≡ refusals_of refusals ++ refusal_of one
+refusals_behind [] one = append-nil (refusal_of one)
+refusals_behind (other ∷ refusals) one = ap (λ (text : Text). refusal_of other ++ text) (refusals_behind refusals one) ∙ sym (append_assoc (refusal_of other) (refusals_of refusals) (refusal_of one))
+
+pub refusal_more : (refusals : List RefusedForeign) (i : ℕ) (one : RefusedForeign) (out now new : Text) → i < length refusals → one ≡ get_or refusals i one
+    → now ≡ out ++ refusals_of (take i refusals) → new ≡ now ++ refusal_of one → new ≡ out ++ refusals_of (take (i + 1) refusals)
+refusal_more refusals i one out now new less is so_far told =
+    let further : take (i + 1) refusals ≡ take i refusals ++ one ∷ [] = take_more refusals i one less ∙ ap (λ (x : RefusedForeign). take i refusals ++ x ∷ []) (sym is) in
+    told ∙ ap (λ (text : Text). text ++ refusal_of one) so_far ∙ append_assoc out (refusals_of (take i refusals)) (refusal_of one)
+    ∙ ap (λ (text : Text). out ++ text) (sym (refusals_behind (take i refusals) one) ∙ ap refusals_of (sym further))
+
+pub refusals_all : (refusals : List RefusedForeign) (i : ℕ) (out new : Text) → length refusals ≤ i → new ≡ out ++ refusals_of (take i refusals) → new ≡ out ++ refusals_of refusals
+refusals_all refusals i out new all so_far = so_far ∙ ap (λ (rs : List RefusedForeign). out ++ refusals_of rs) (take_all i refusals all)
 
 -- an output to which nothing is written has what it had
 pub nothing_added : (o : Option (List ℕ)) → Appends o o []

@@ -1,4 +1,4 @@
-pub mod Deeds
+pub mod Orders
 pub mod Reported
 pub mod Outcomes
 pub mod Runs

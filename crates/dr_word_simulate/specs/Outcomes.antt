@@ -7,15 +7,15 @@ use Rattle.dr_plan_sound.specs.declared.certificate.Certificate.{Certificate}
 use Rattle.dr_run_open.specs.declared.status.Status.{Status}
 use Rattle.dr_run_open.specs.declared.status.Status.TheVariants.{Success, Refused, InputOutput}
 use Rattle.dr_run_open.specs.declared.status.Status.TheVariants.{Memory as OutOfMemory}
-use Rattle.dr_world.specs.declared.deed.Deed.{Deed}
+use Rattle.dr_world.specs.declared.order.WorldOrder.{WorldOrder}
 use Rattle.dr_world_script.specs.Laws.{IsLineOf}
 use Rattle.dr_world_script.specs.Scripts.{IsFirstWrong, IsLineAt, IsScriptOf}
 use Rattle.dr_world_script.specs.declared.act.Act.{Act}
 use Rattle.dr_world_script.specs.declared.act.Act.TheVariants.{Adopt}
-use Rattle.dr_word_simulate.specs.Deeds.{IsDeedOf, IsUnsealedBy}
+use Rattle.dr_word_simulate.specs.Orders.{IsOrderOf, IsUnsealedBy}
 use Rattle.dr_word_simulate.specs.Reported.{IsReportAfter}
-use Rattle.dr_word_simulate.specs.declared.deeds.ActFault.{ActFault}
-use Rattle.dr_word_simulate.specs.declared.deeds.ActFault.TheVariants as stop
+use Rattle.dr_word_simulate.specs.declared.orders.ActFault.{ActFault}
+use Rattle.dr_word_simulate.specs.declared.orders.ActFault.TheVariants as stop
 use Rattle.dr_word_simulate.specs.declared.outcome.PlayOutcome.{PlayOutcome}
 use Rattle.dr_word_simulate.specs.declared.outcome.PlayOutcome.TheVariants.{Report, NoScript}
 use Rattle.dr_word_simulate.specs.declared.outcome.PlayOutcome.TheVariants.{Unsealed, Unread, Store}
@@ -28,9 +28,9 @@ pub record IsSimulated (Holds : Text → Text → Type 0) (plan : Network) (cert
     (text report : Text) : Type 0 where
   pub acts : List Act
   pub told : IsScriptOf text acts
-  pub deeds : List Deed
-  pub done : AllZip (IsDeedOf Holds) acts deeds
-  pub reported : IsReportAfter plan certificate deeds report
+  pub orders : List WorldOrder
+  pub ordered : AllZip (IsOrderOf Holds) acts orders
+  pub reported : IsReportAfter plan certificate orders report
 
 -- the n-th line, counted from 1, is that of a change to a plan whose files have no sound plan with
 -- its certificate

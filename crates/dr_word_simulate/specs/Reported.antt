@@ -1,5 +1,5 @@
 -- The report of the nodes of a plan after a script was played.
-use Rattle.std.specs.Prelude.{◌≡◌, List, [], ◌∷◌, ◌++◌, codes, true, Option, Some}
+use Rattle.std.specs.Prelude.{◌≡◌, ℕ, List, [], ◌∷◌, ◌++◌, codes, decimal, true, Option, Some}
 use Rattle.dr_base.specs.Texts.{Text}
 use Rattle.dr_plan_model.specs.Networks.{Network}
 use Rattle.dr_plan_sound.specs.declared.certificate.Certificate.{Certificate}
@@ -13,10 +13,16 @@ use Rattle.dr_world.specs.Among.{FitsFrom}
 use Rattle.dr_world.specs.declared.changing.Change.{Change}
 use Rattle.dr_world.specs.declared.changing.Change.TheVariants.{Adopted, Skipped, Unfit}
 use Rattle.dr_world.specs.declared.deed.Deed.{Deed}
+use Rattle.dr_world.specs.declared.order.WorldOrder.{WorldOrder}
+use Rattle.dr_world.specs.declared.order.ForeignRefusal.{ForeignRefusal}
+use Rattle.dr_world.specs.declared.order.ForeignRefusal.TheVariants as why
+use Rattle.dr_world.specs.declared.order.RefusedForeign.{RefusedForeign}
+use Rattle.dr_world.specs.declared.order.RefusedForeign.TheVariants as refused
 use Rattle.dr_world.specs.declared.fault.WorldFault.{WorldFault}
 use Rattle.dr_world.specs.declared.fault.WorldFault.TheVariants as fault
+use Rattle.dr_world.specs.Orders.{AreMeant, OrdersChange}
 use Rattle.dr_world.specs.Others.{NoneWrites}
-use Rattle.dr_world.specs.Played.{ComesBy, HasChange, PlaysThrough, in_force, taken_in}
+use Rattle.dr_world.specs.Played.{ComesBy, PlaysThrough, in_force, taken_in}
 use Rattle.dr_world.specs.Reports.{IsReportOfAll}
 
 -- the books of the nodes by name; another name has none
@@ -68,17 +74,50 @@ abbrev pub notes_of : List Change → Text
 notes_of [] = []
 notes_of (change ∷ changes) = note_of change ++ notes_of changes
 
--- The text is what is told of the changes, and behind it the report of the nodes' books after the
--- deeds, in byte order of the nodes' names; the headline holds of them, where no other product
+-- the word for why another maker's product doesn't do what it was told to
+abbrev pub refusal_word : ForeignRefusal → Text
+refusal_word why.NoLink = codes "no-link"
+refusal_word why.NotForeign = codes "not-foreign"
+refusal_word why.BothForeign = codes "both-foreign"
+refusal_word why.NoContext = codes "no-context"
+refusal_word why.NotAsked = codes "not-asked"
+
+-- what is told of that: the word in the script, the link and why, a line
+abbrev pub refusal_line : Text → ℕ → ForeignRefusal → Text
+refusal_line word link reason =
+    codes "Refused" ++ (9 ∷ word) ++ (9 ∷ decimal link) ++ (9 ∷ refusal_word reason) ++ (10 ∷ [])
+
+-- the same of a name that no node has
+abbrev pub no_node_line : Text → Text
+no_node_line node =
+    codes "Refused" ++ (9 ∷ codes "foreign") ++ (9 ∷ node) ++ (9 ∷ codes "no-node") ++ (10 ∷ [])
+
+abbrev pub refusal_of : RefusedForeign → Text
+refusal_of (refused.Node node) = no_node_line node
+refusal_of (refused.Store link reason) = refusal_line (codes "store") link reason
+refusal_of (refused.Answer link reason) = refusal_line (codes "answer") link reason
+
+abbrev pub refusals_of : List RefusedForeign → Text
+refusals_of [] = []
+refusals_of (one ∷ more) = refusal_of one ++ refusals_of more
+
+-- The text is what is told of the changes and of what other makers' products didn't do. Behind it
+-- is the report of the nodes after the deeds to which the orders come, each in a world to which
+-- those before it have led. It is in byte order of the nodes' names: of each its book, but for
+-- those that were told to be others'. The headline holds of the books, where no other product
 -- writes. Whichever nodes are ours, the four claims among others hold of theirs, where the deeds
 -- fit.
-pub record IsReportAfter (plan : Network) (certificate : Certificate) (deeds : List Deed)
+pub record IsReportAfter (plan : Network) (certificate : Certificate) (orders : List WorldOrder)
     (report : Text) : Type 0 where
+  pub deeds : List Deed
   pub changes : List Change
+  pub refusals : List RefusedForeign
+  pub others : List Text
+  pub ordered : AreMeant plan certificate [] [] [] orders deeds changes refusals others
   pub books : Books
   pub lines : Text
-  pub told : report ≡ notes_of changes ++ lines
-  pub reported : IsReportOfAll books lines
+  pub told : report ≡ notes_of changes ++ (refusals_of refusals ++ lines)
+  pub reported : IsReportOfAll others books lines
   pub after : ∥ AreBooksAfter plan certificate deeds changes books ∥₁
   pub holds : NoneWrites deeds → ∥ HoldsOfBooks plan (taken_in deeds changes) books ∥₁
   pub among : (ours : Ours)
@@ -86,9 +125,9 @@ pub record IsReportAfter (plan : Network) (certificate : Certificate) (deeds : L
       → ∥ HoldsOfOurs ours plan books ∥₁
 
 -- why there is no report: there is no memory, or a store failed; in a change of plan, where the
--- deeds have one
-abbrev pub IsUnreported : List Deed → WorldFault → Type 0
-IsUnreported deeds fault.Memory = Unit {0}
-IsUnreported deeds fault.Store = Unit {0}
-IsUnreported deeds fault.HalfAdopted = HasChange deeds
-IsUnreported deeds fault.WrongLedgers = ⊥
+-- orders have one
+abbrev pub IsUnreported : List WorldOrder → WorldFault → Type 0
+IsUnreported orders fault.Memory = Unit {0}
+IsUnreported orders fault.Store = Unit {0}
+IsUnreported orders fault.HalfAdopted = OrdersChange orders
+IsUnreported orders fault.WrongLedgers = ⊥

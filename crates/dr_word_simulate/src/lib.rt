@@ -3,7 +3,7 @@
 //! need no network: those for plans (`dr_word_check`) and this one.
 #![tactic(auto)]
 
-mod deeds;
+mod orders;
 mod outcome;
 mod run;
 mod simulate;

@@ -4,13 +4,13 @@ ghost use Rattle.dr_word_simulate.specs.Reported.{IsReportAfter, IsUnreported};
 ghost use Rattle.dr_word_simulate.specs.Outcomes.{IsOutcomeOf, StopsAs, status_for};
 ghost use Rattle.dr_world_script.specs.Scripts.{told_lines};
 
-use crate::deeds::{ActFault, ScriptStop, deeds_of};
-use crate::telling::tell_changes;
+use crate::orders::{ActFault, ScriptStop, orders_of};
+use crate::telling::{tell_changes, tell_refusals};
 use dr_base::Text;
 use dr_cert::Sealed;
 use dr_run_files::Files;
 use dr_run_open::Status;
-use dr_world::{Deed, PlayedWorld, WorldFault, run};
+use dr_world::{PlayedWorld, WorldFault, WorldOrder, run};
 use dr_world_script::{ScriptFault, line_of, read_script};
 use std::alloc::Global;
 use std::io;
@@ -18,8 +18,8 @@ use std::io;
 /// What comes of a script, played in a world of a sealed plan's nodes.
 #[derive(Drop)]
 pub enum PlayOutcome {
-    /// What came of the changes of plan that weren't made, and the report of all nodes after what
-    /// the script tells.
+    /// What came of the changes of plan that weren't made, what other makers' products didn't do,
+    /// and the report of all nodes after what the script tells.
     Report(Text),
     /// The text is no script: the first line that tells nothing, counted from 1.
     NoScript(u64),
@@ -51,20 +51,22 @@ impl PlayOutcome {
     }
 }
 
-/// What the changes of plan came to that weren't made, and the report of all nodes after these
-/// deeds, from the beginning of the plan's world.
+/// What the changes of plan came to that weren't made, what other makers' products were told and
+/// didn't do, and the report of all nodes after these orders, from the beginning of the plan's
+/// world.
 ///
 /// Errors: HalfAdopted, Store, Memory.
-fn report_after(alloc: Global, sealed: &Sealed, deeds: &[Deed]) -> Result<Text, WorldFault>
+fn report_after(alloc: Global, sealed: &Sealed, orders: &[WorldOrder]) -> Result<Text, WorldFault>
     ensures reports { IfOk result
-        (IsReportAfter sealed.now.plan sealed.now.certificate deeds.now) }
-    ensures unreported { IfErr result (IsUnreported deeds.now) }
+        (IsReportAfter sealed.now.plan sealed.now.certificate orders.now) }
+    ensures unreported { IfErr result (IsUnreported orders.now) }
 {
-    let PlayedWorld { world, changes } = run(alloc, sealed, deeds)?;
+    let PlayedWorld { world, notes } = run(alloc, sealed, orders)?;
     let mut world = world;
     let mut report = Vec::new(alloc);
-    tell_changes(changes.as_slice(), &mut report)?;
-    let told = world.report(&mut report);
+    tell_changes(notes.changes.as_slice(), &mut report)?;
+    tell_refusals(notes.refusals.as_slice(), &mut report)?;
+    let told = world.report(notes.others.as_slice(), &mut report);
     drop(world);
     match told {
         Ok(()) => Ok(Text::from_vec(report)),
@@ -101,11 +103,11 @@ pub fn outcome_of<F: Files>(alloc: Global, files: &F, sealed: &Sealed, text: &[u
         Err(ScriptFault::Line(line)) => return PlayOutcome::NoScript(line),
         Err(ScriptFault::Memory) => return PlayOutcome::Memory,
     };
-    let deeds = match deeds_of(alloc, files, acts.into_vec()) {
-        Ok(deeds) => deeds,
+    let orders = match orders_of(alloc, files, acts.into_vec()) {
+        Ok(orders) => orders,
         Err(stop) => return outcome_of_stop(alloc, text, stop),
     };
-    match report_after(alloc, sealed, deeds.as_slice()) {
+    match report_after(alloc, sealed, orders.as_slice()) {
         Ok(report) => PlayOutcome::Report(report),
         Err(WorldFault::Memory) => PlayOutcome::Memory,
         Err(WorldFault::HalfAdopted) => PlayOutcome::HalfAdopted,

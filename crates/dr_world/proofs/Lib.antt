@@ -32,3 +32,4 @@ pub mod Arriving
 pub mod Finishing
 pub mod Rewriting
 pub mod Played
+pub mod Orders

@@ -1,6 +1,7 @@
 -- What is read of nodes, and their reports.
 use Rattle.std.proofs.Common.{◌≡◌, ℕ, ◌+◌, ◌<◌, ◌≤◌, Bool, true, false, cond, List, [], ◌∷◌, ◌++◌, length, take, get_or, append_assoc, map as mapped, Option, None, Some, Result, refl, sym, ap, subst, ◌∙◌, inl, inr}
 use Rattle.std.specs.Option.{option_map, IsSome}
+use Rattle.std.specs.Prelude.{Contains}
 use Rattle.std.specs.Ordering.{eq_by_cmp}
 use Rattle.std.specs.Cmp.{eq_by_cmp_equiv}
 use Rattle.std.specs.FinMap as map
@@ -19,12 +20,12 @@ use Rattle.dr_session.specs.Ledgers.{desk}
 use Rattle.dr_node.specs.declared.node.Node.{Node}
 use Rattle.dr_node.specs.Calls.{KeepsRest, OnlyReads}
 use Rattle.dr_world_model.specs.Worlds.{same_text}
-use Rattle.dr_ledger_report.specs.Reports.{IsReportOf, name_line, report_of}
+use Rattle.dr_ledger_report.specs.Reports.{name_line, report_of}
 use Rattle.dr_world.specs.declared.listing.Listing.{Listing}
 use Rattle.dr_world.specs.declared.world.World.{World}
 use Rattle.dr_world.specs.Nodes.{AllStandIn, seat_of, seats_of}
 use Rattle.dr_world.specs.Shows.{Seat}
-use Rattle.dr_world.specs.Reports.{AreNamesOf, AreReports, AreSameNodes, AreWritten, HasReport, IsListingOf, IsReported, IsSameNode, ListsBook, bodies_of, books_of, has_in}
+use Rattle.dr_world.specs.Reports.{AreNamesOf, AreReports, AreSameNodes, AreWritten, HasReport, IsListingOf, IsReported, IsSameNode, IsToldOf, ListsBook, bodies_of, books_of, foreign_line, has_in}
 use Rattle.dr_world.specs.Whole.{AllStand, IsSameWorld, contents}
 
 -- ---- one node
@@ -153,43 +154,51 @@ module _ {L : Type 0} {l : Ghosts L} where
       of_seat m q (Some n) e = refl
 
 -- a listing is written as the report
-pub reported : (o : Option Book) (x : Listing) (name : Text) (old new : List ℕ) → ListsBook o (Some x) → new ≡ old ++ (name_line name ++ report_of x.arrivals x.kept x.rows (length x.lines)) → HasReport o name old new
-reported None x name old new h e = absurd h
-reported (Some book) x name old new h e = (
+pub reported : (others : List Text) (o : Option Book) (x : Listing) (name : Text) (old new : List ℕ) → (Contains others name → ⊥) → ListsBook o (Some x) → new ≡ old ++ (name_line name ++ report_of x.arrivals x.kept x.rows (length x.lines)) → HasReport others o name old new
+reported others None x name old new own h e = absurd h
+reported others (Some book) x name old new own h e = (
   book,
   name_line name ++ report_of x.arrivals x.kept x.rows (length x.lines),
   refl,
-  (x.arrivals, x.kept, h.arrivals, h.kept, λ i. name_line name ++ report_of x.arrivals x.kept (h.rows i) ((ap length h.lines ∙ length-map book.lines entry_of) i)),
+  inl (own, (x.arrivals, x.kept, h.arrivals, h.kept, λ i. name_line name ++ report_of x.arrivals x.kept (h.rows i) ((ap length h.lines ∙ length-map book.lines entry_of) i))),
   e,
 )
 
-pub reported_as : (o : Option Book) (r : Option Listing) (x : Listing) (name : Text) (old new : List ℕ) → r ≡ Some x → ListsBook o r → new ≡ old ++ (name_line name ++ report_of x.arrivals x.kept x.rows (length x.lines)) → HasReport o name old new
-reported_as o r x name old new is h e = (let P : Option Listing → Type 0 = λ z. ListsBook o z in reported o x name old new (subst P is h) e)
+pub reported_as : (others : List Text) (o : Option Book) (r : Option Listing) (x : Listing) (name : Text) (old new : List ℕ) → (Contains others name → ⊥) → r ≡ Some x → ListsBook o r → new ≡ old ++ (name_line name ++ report_of x.arrivals x.kept x.rows (length x.lines)) → HasReport others o name old new
+reported_as others o r x name old new own is h e = (let P : Option Listing → Type 0 = λ z. ListsBook o z in reported others o x name old new own (subst P is h) e)
+
+-- of another maker's product its name is
+named_alone : (others : List Text) (o : Option Book) (x : Listing) (name : Text) (old new : List ℕ) → Contains others name → ListsBook o (Some x) → new ≡ old ++ (name_line name ++ foreign_line) → HasReport others o name old new
+named_alone others None x name old new among h e = absurd h
+named_alone others (Some book) x name old new among h e = (book, name_line name ++ foreign_line, refl, inr (among, refl), e)
+
+pub named_as : (others : List Text) (o : Option Book) (r : Option Listing) (x : Listing) (name : Text) (old new : List ℕ) → Contains others name → r ≡ Some x → ListsBook o r → new ≡ old ++ (name_line name ++ foreign_line) → HasReport others o name old new
+named_as others o r x name old new among is h e = (let P : Option Listing → Type 0 = λ z. ListsBook o z in named_alone others o x name old new among (subst P is h) e)
 
 -- one more behind others
-pub reports_more : (books : Text → Option Book) (names : List Text) (name : Text) (book : Book) (text more : List ℕ) → AreReports books names text → books name ≡ Some book → IsReportOf name book more → AreReports books (names ++ name ∷ []) (text ++ more)
-reports_more books [] name book text more h is r = (book, more, [], is, r, refl, ap (λ (t : List ℕ). t ++ more) h ∙ sym (append-nil more))
-reports_more books (n ∷ ns) name book text more (b, first, rest, has, one, later, e) is r =
-    (b, first, rest ++ more, has, one, reports_more books ns name book rest more later is r, ap (λ (t : List ℕ). t ++ more) e ∙ append_assoc first rest more)
+pub reports_more : (others : List Text) (books : Text → Option Book) (names : List Text) (name : Text) (book : Book) (text more : List ℕ) → AreReports others books names text → books name ≡ Some book → IsToldOf others name book more → AreReports others books (names ++ name ∷ []) (text ++ more)
+reports_more others books [] name book text more h is r = (book, more, [], is, r, refl, ap (λ (t : List ℕ). t ++ more) h ∙ sym (append-nil more))
+reports_more others books (n ∷ ns) name book text more (b, first, rest, has, one, later, e) is r =
+    (b, first, rest ++ more, has, one, reports_more others books ns name book rest more later is r, ap (λ (t : List ℕ). t ++ more) e ∙ append_assoc first rest more)
 
-module _ {L : Type 0} {l : Ghosts L} (first old new : BTreeMap Text (Node L l)) (names : List Text) (i : ℕ) (name : Text) (out was now : List ℕ) where
-  pub written_more : i < length names → (AllStandIn old → AreWritten (books_of first) (take i names) out was) → AreSameNodes first old → (AllStandIn new → HasReport (books_of old name) name was now) → AreSameNodes old new → name ≡ get_or names i name
-      → AllStandIn new → AreWritten (books_of first) (take (i + 1) names) out now
+module _ {L : Type 0} {l : Ghosts L} (first old new : BTreeMap Text (Node L l)) (others names : List Text) (i : ℕ) (name : Text) (out was now : List ℕ) where
+  pub written_more : i < length names → (AllStandIn old → AreWritten others (books_of first) (take i names) out was) → AreSameNodes first old → (AllStandIn new → HasReport others (books_of old name) name was now) → AreSameNodes old new → name ≡ get_or names i name
+      → AllStandIn new → AreWritten others (books_of first) (take (i + 1) names) out now
   written_more less h same report kept is all =
       let stood = kept.0 all in
       let w = h stood in
       let r = report all in
       let has : books_of first name ≡ Some r.0 = sym (book_kept first old same stood name) ∙ r.2 in
-      let more = reports_more (books_of first) (take i names) name r.0 w.0 r.1 w.1 has r.3 in
+      let more = reports_more others (books_of first) (take i names) name r.0 w.0 r.1 w.1 has r.3 in
       let listed : take i names ++ name ∷ [] ≡ take (i + 1) names = ap (λ (x : Text). take i names ++ x ∷ []) is ∙ sym (take_more names i name less) in
-      let P : List Text → Type 0 = λ ns. AreReports (books_of first) ns (w.0 ++ r.1) in
+      let P : List Text → Type 0 = λ ns. AreReports others (books_of first) ns (w.0 ++ r.1) in
       (w.0 ++ r.1, subst P listed more, r.4 ∙ (ap (λ (t : List ℕ). t ++ r.1) w.2 ∙ append_assoc out w.0 r.1))
 
-pub none_written : (books : Text → Option Book) (out : List ℕ) → AreWritten books [] out out
-none_written books out = ([], refl, sym (append-nil out))
+pub none_written : (others : List Text) (books : Text → Option Book) (out : List ℕ) → AreWritten others books [] out out
+none_written others books out = ([], refl, sym (append-nil out))
 
-pub all_written : (books : Text → Option Book) (names : List Text) (i : ℕ) (out now : List ℕ) → length names ≤ i → AreWritten books (take i names) out now → AreWritten books names out now
-all_written books names i out now all h = (let P : List Text → Type 0 = λ ns. AreWritten books ns out now in subst P (take_all i names all) h)
+pub all_written : (others : List Text) (books : Text → Option Book) (names : List Text) (i : ℕ) (out now : List ℕ) → length names ≤ i → AreWritten others books (take i names) out now → AreWritten others books names out now
+all_written others books names i out now all h = (let P : List Text → Type 0 = λ ns. AreWritten others books ns out now in subst P (take_all i names all) h)
 
 -- ---- the world
 
@@ -200,5 +209,5 @@ module _ {L : Type 0} {l : Ghosts L} (w : World L l) (nodes : BTreeMap Text (Nod
   pub world_same : AreSameNodes w.nodes nodes → IsSameWorld w over
   world_same same = (same.0, (λ all. (let seats : (q : Text) → seats_of nodes q ≡ seats_of w.nodes q = same.1 all in λ i. record { now = w.time.passed; opened = w.opened; seats = λ q. seats q i; wires = (contents w).wires })), refl)
 
-  pub all_reported : (names : List Text) (out now : List ℕ) → AreNamesOf (books_of w.nodes) names → (AllStandIn nodes → AreWritten (books_of w.nodes) names out now) → AllStand over → IsReported (books_of w.nodes) out now
-  all_reported names out now are h all = (let r = h all in (r.0, r.2, (names, are, r.1)))
+  pub all_reported : (others names : List Text) (out now : List ℕ) → AreNamesOf (books_of w.nodes) names → (AllStandIn nodes → AreWritten others (books_of w.nodes) names out now) → AllStand over → IsReported others (books_of w.nodes) out now
+  all_reported others names out now are h all = (let r = h all in (r.0, r.2, (names, are, r.1)))

@@ -13,6 +13,7 @@ pub mod Founding
 pub mod Reports
 pub mod Restarted
 pub mod Others
+pub mod Orders
 pub mod Played
 pub mod Moved
 pub mod Ended

@@ -1,6 +1,6 @@
 -- What is read of a world's nodes, and their reports.
-use Rattle.std.specs.Prelude.{◌≡◌, ◌↔◌, ℕ, Bool, List, [], ◌∷◌, ◌++◌, map as mapped, Contains}
-use Rattle.std.specs.Prelude.{Option, Some, None}
+use Rattle.std.specs.Prelude.{◌≡◌, ◌⊎◌, ◌↔◌, ℕ, Bool, List, [], ◌∷◌, ◌++◌, map as mapped}
+use Rattle.std.specs.Prelude.{Contains, Option, Some, None, codes}
 use Rattle.std.specs.Option.{option_map}
 use Rattle.std.specs.FinMap as map
 use Rattle.std.specs.BTreeMap as tree
@@ -13,7 +13,7 @@ use Rattle.dr_ledger.specs.Books.{Book}
 use Rattle.dr_ledger.specs.Pairs.{pair_cmp}
 use Rattle.dr_ledger.specs.Replies.{AreKept, Lists, entry_of}
 use Rattle.dr_node.specs.declared.node.Node.{Node}
-use Rattle.dr_ledger_report.specs.Reports.{IsReportOf}
+use Rattle.dr_ledger_report.specs.Reports.{IsReportOf, name_line}
 use Rattle.dr_world.specs.declared.listing.Listing.{Listing}
 use Rattle.dr_world.specs.Nodes.{AllStandIn, seats_of}
 
@@ -62,13 +62,23 @@ AreSameNodes old new =
 
 -- ---- reports
 
+-- what stands in the report of another maker's product behind its name
+abbrev pub foreign_line : Text
+foreign_line = codes "foreign\n"
+
+-- what is told of a node: its book; of one of the others that it is one
+abbrev pub IsToldOf : List Text → Text → Book → Text → Type 0
+IsToldOf others name book text =
+    ((Contains others name → ⊥) × IsReportOf name book text)
+    ⊎ (Contains others name × (text ≡ name_line name ++ foreign_line))
+
 -- the reports of these nodes, one behind the other
-abbrev pub AreReports : (Text → Option Book) → List Text → Text → Type 0
-AreReports books [] text = text ≡ []
-AreReports books (name ∷ names) text =
+abbrev pub AreReports : List Text → (Text → Option Book) → List Text → Text → Type 0
+AreReports others books [] text = text ≡ []
+AreReports others books (name ∷ names) text =
     (book : Book) × (first rest : Text) × (books name ≡ Some book)
-    × IsReportOf name book first
-    × AreReports books names rest
+    × IsToldOf others name book first
+    × AreReports others books names rest
     × (text ≡ first ++ rest)
 
 -- these are the names that have a book, each once and in byte order
@@ -77,22 +87,25 @@ AreNamesOf books names =
     IsStrictlySortedBy text_cmp names
     × ((name : Text) → Contains names name ↔ ((book : Book) × (books name ≡ Some book)))
 
--- The text is the report of all nodes that have these books, in byte order of their names.
-abbrev pub IsReportOfAll : (Text → Option Book) → Text → Type 0
-IsReportOfAll books text =
-    (names : List Text) × AreNamesOf books names × AreReports books names text
+-- The text is the report of all nodes that have these books, in byte order of their names; some are
+-- other makers' products.
+abbrev pub IsReportOfAll : List Text → (Text → Option Book) → Text → Type 0
+IsReportOfAll others books text =
+    (names : List Text) × AreNamesOf books names × AreReports others books names text
 
 -- the report of that node was written behind what was there
-abbrev pub HasReport : Option Book → Text → List ℕ → List ℕ → Type 0
-HasReport o name old new =
+abbrev pub HasReport : List Text → Option Book → Text → List ℕ → List ℕ → Type 0
+HasReport others o name old new =
     (book : Book) × (text : Text) × (o ≡ Some book)
-    × IsReportOf name book text
+    × IsToldOf others name book text
     × (new ≡ old ++ text)
 
 -- those of these nodes were
-abbrev pub AreWritten : (Text → Option Book) → List Text → List ℕ → List ℕ → Type 0
-AreWritten books names old new = (text : Text) × AreReports books names text × (new ≡ old ++ text)
+abbrev pub AreWritten : List Text → (Text → Option Book) → List Text → List ℕ → List ℕ → Type 0
+AreWritten others books names old new =
+    (text : Text) × AreReports others books names text × (new ≡ old ++ text)
 
 -- the report of all was
-abbrev pub IsReported : (Text → Option Book) → List ℕ → List ℕ → Type 0
-IsReported books old new = (text : Text) × (new ≡ old ++ text) × IsReportOfAll books text
+abbrev pub IsReported : List Text → (Text → Option Book) → List ℕ → List ℕ → Type 0
+IsReported others books old new =
+    (text : Text) × (new ≡ old ++ text) × IsReportOfAll others books text

@@ -6,6 +6,7 @@ ghost use Rattle.dr_world.specs.Laws.{MoveIsShown};
 ghost use Rattle.dr_world.specs.Laws.{NewIsBeginning, OtherLinksAreCounted, RefuseIsShown};
 ghost use Rattle.dr_world.specs.Laws.{RequeueIsShown, StrangerIsSkipped, SubmitIsShown};
 ghost use Rattle.dr_world.specs.Laws.{TickIsShown, UnderWayStays};
+ghost use Rattle.dr_world.specs.Orders.{DeedsAloneAreDone};
 ghost use Rattle.dr_world.specs.Played.{ChangesGoOn, DeedsKeepTheHeadline, EventsAloneLead};
 ghost use Rattle.dr_world.specs.Played.{FitScriptsAreOwnRuns, FitScriptsKeepTheClaims};
 ghost use Rattle.dr_world.specs.Played.{StepsAloneRun, StepsGoOn, WritesGoOn};
@@ -76,6 +77,11 @@ pub fn changes_keep_the_headline<L: Ledger>(_world: &World<L>)
 pub fn steps_alone_are_events()
     ensures steps { StepsAloneRun }
     ensures events { EventsAloneLead }
+{}
+
+/// Where no other maker's product is named, just what is ordered is done, and nothing is refused.
+pub fn deeds_alone_are_done()
+    ensures { DeedsAloneAreDone }
 {}
 
 /// A script in which other products write is a run of the ends of ours alone, where no link is

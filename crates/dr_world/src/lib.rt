@@ -8,7 +8,8 @@
 //! A world begins by `World::with`, over a new ledger for each node of a sealed plan. Another plan
 //! is taken by all nodes at once (`World::adopt`). Another maker's product is played by what it
 //! writes (`World::write`): then the headline isn't claimed, and each step is one of the world of
-//! bytes still. `run` plays all of these from the beginning, over ledgers in memory.
+//! bytes still. What such a product writes to store or to answer is told by `World::store_of` and
+//! `World::answer_of`. `run` plays all of these from the beginning, over ledgers in memory.
 #![tactic(auto)]
 
 mod calls;
@@ -20,8 +21,10 @@ mod founding;
 mod fronts;
 pub mod laws;
 mod listing;
+mod order;
 mod playing;
 mod restarts;
+mod speaking;
 mod steps;
 mod time;
 mod wires;
@@ -29,9 +32,10 @@ mod world;
 
 pub use changing::Change;
 pub use deed::Deed;
-pub use dr_world_script::{Side, Step};
+pub use dr_world_script::{Foreign, Side, Step};
 pub use fault::WorldFault;
 pub use listing::Listing;
-pub use playing::{PlayedWorld, run};
+pub use order::{ForeignRefusal, RefusedForeign, Spoken, WorldOrder};
+pub use playing::{PlayNotes, PlayedWorld, run};
 pub use steps::StepNote;
 pub use world::World;

@@ -3,10 +3,11 @@ ghost use Rattle.std.specs.Prelude.{◌≡◌, ◌++◌, IfOk, OnOk, length};
 ghost use Rattle.dr_ledger_report.specs.Reports.{name_line, report_of};
 ghost use Rattle.dr_world.specs.Reports.{AreNamesOf, AreSameNodes, AreWritten, HasReport};
 ghost use Rattle.dr_world.specs.Reports.{IsListingOf, IsSameNode, ListsBook, bodies_of, books_of};
-ghost use Rattle.dr_world.specs.Reports.{has_in};
+ghost use Rattle.dr_world.specs.Reports.{foreign_line, has_in};
 ghost use Rattle.dr_world.specs.Nodes.{AllStandIn};
 
 use crate::fault::WorldFault;
+use crate::speaking::is_among;
 use dr_base::{Seq, Text};
 use dr_ledger::{Entry, Ledger, LedgerFault, Progress};
 use dr_ledger_report::{put_name, put_report};
@@ -126,20 +127,36 @@ fn put_listing(out: &mut Vec<u8>, name: &Text, x: &Listing) -> Result<(), AllocE
     Ok(())
 }
 
-/// Adds the report of the node of that name, which is there.
+/// Adds that a node is another maker's product.
+fn put_foreign(out: &mut Vec<u8>, name: &Text) -> Result<(), AllocError>
+    ensures { OnOk result
+        (out.new.items ≡ out.old.items ++ (name_line name.now ++ foreign_line)) }
+{
+    put_name(out, name)?;
+    out.extend_from_slice(b"foreign\n")?;
+    Ok(())
+}
+
+/// Adds the report of the node of that name, which is there; of one of the others its name alone.
 fn report_at<L: Ledger>(
     nodes: &mut BTreeMap<Text, Node<L>>,
+    others: &[Text],
     name: &Text,
     out: &mut Vec<u8>,
 ) -> Result<(), WorldFault>
     ensures report { OnOk result
         (AllStandIn nodes.new
-        → HasReport (books_of nodes.old name.now) name.now out.old.items out.new.items) }
+        → HasReport others.now (books_of nodes.old name.now) name.now out.old.items
+        out.new.items) }
     ensures same { AreSameNodes nodes.old nodes.new }
 {
     let Some(listing) = list_at(nodes, name)? else {
         return Err(WorldFault::Memory);
     };
+    if is_among(others, name) {
+        put_foreign(out, name)?;
+        return Ok(());
+    }
     put_listing(out, name, &listing)?;
     Ok(())
 }
@@ -149,16 +166,17 @@ fn report_at<L: Ledger>(
 /// Errors: Store, Memory.
 pub fn report_each<L: Ledger>(
     nodes: &mut BTreeMap<Text, Node<L>>,
+    others: &[Text],
     names: &[Text],
     out: &mut Vec<u8>,
 ) -> Result<(), WorldFault>
     ensures reports { OnOk result
         (AllStandIn nodes.new
-        → AreWritten (books_of nodes.old) names.now out.old.items out.new.items) }
+        → AreWritten others.now (books_of nodes.old) names.now out.old.items out.new.items) }
     ensures same { AreSameNodes nodes.old nodes.new }
 {
     for name in names {
-        report_at(nodes, name, out)?;
+        report_at(nodes, others, name, out)?;
     }
     Ok(())
 }

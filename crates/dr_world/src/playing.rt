@@ -1,32 +1,51 @@
-//! Steps, changes of plan and what other products write, played from the beginning, over ledgers in
-//! memory.
-ghost use Rattle.std.specs.Prelude.{◌≡◌, ◌⊎◌, ◌∷◌, ◌++◌, [], Contains, IfErr, IfOk, List, None};
-ghost use Rattle.std.specs.Prelude.{OnOk};
+//! Steps, changes of plan and what other products write and do, played from the beginning, over
+//! ledgers in memory.
+ghost use Rattle.std.specs.Prelude.{◌≡◌, ◌⊎◌, ◌↔◌, ◌∷◌, ◌++◌, [], Contains, IfErr, IfOk, IsTrue};
+ghost use Rattle.std.specs.Prelude.{List, None, OnOk};
 ghost use Rattle.dr_base.specs.Texts.{Text as Words};
 ghost use Rattle.dr_plan_model.specs.Plans.{NamesNoNode};
-ghost use Rattle.dr_world.specs.Played.{EndsEarly, HasChange, IsChange, IsRunOf, PlaysAll, PlaysOn};
+ghost use Rattle.dr_world.specs.Orders.{AreOrdered, IsChangeOrder, IsOrderedRun, IsPassedOver};
+ghost use Rattle.dr_world.specs.Orders.{NotesOrder, OrdersChange};
+ghost use Rattle.dr_world.specs.Played.{EndsEarly, IsChange, PlaysAll, PlaysOn};
+ghost use Rattle.dr_world.specs.Whole.{contents};
 ghost use Rattle.dr_world.specs.declared.changing.Change.{Change as ChangeValue};
+ghost use Rattle.dr_world.specs.declared.deed.Deed.{Deed as DeedValue};
 ghost use Rattle.dr_world.specs.declared.deed.Deed.TheVariants as deeds_of;
+ghost use Rattle.dr_world.specs.declared.order.WorldOrder.TheVariants as orders_of;
+ghost use Rattle.dr_world_script.specs.declared.foreign.Foreign.TheVariants as foreign_of;
 ghost use Rattle.dr_world.specs.declared.fault.WorldFault.TheVariants.{Memory as MemoryFault};
 ghost use Rattle.dr_world.specs.declared.fault.WorldFault.TheVariants.{WrongLedgers as WrongFault};
 
 use crate::changing::Change;
 use crate::deed::Deed;
 use crate::fault::WorldFault;
+use crate::order::{RefusedForeign, Spoken, WorldOrder};
 use crate::world::World;
-use dr_base::{Seq, Text};
+use dr_base::{Octets, Seq, Text};
 use dr_cert::Sealed;
-use dr_ledger::Refusing;
+use dr_ledger::{Item, Refusing};
 use dr_ledger_memory::MemoryLedger;
 use dr_plan_model::names_of;
 use dr_site::{Site, SiteFault};
+use dr_world_script::{Foreign, Side};
 use std::alloc::Global;
 
-/// A world after what was done to it, and what the changes of plan among that came to, in order.
+/// A world after what was done to it, and what was noted of that.
 #[derive(Drop)]
 pub struct PlayedWorld {
     pub world: World<Refusing<MemoryLedger>>,
+    pub notes: PlayNotes,
+}
+
+/// What is noted while orders are played.
+#[derive(Drop)]
+pub struct PlayNotes {
+    /// The nodes that are other makers' products, in the order in which that was told.
+    pub others: Seq<Text>,
+    /// What the changes of plan came to, in order.
     pub changes: Seq<Change>,
+    /// What other makers' products were told and didn't do, in order.
+    pub refusals: Seq<RefusedForeign>,
 }
 
 /// A ledger in memory for each of these nodes.
@@ -106,32 +125,208 @@ fn do_deed(
     }
 }
 
-/// These deeds, one after the other, and what the changes of plan among them come to.
+/// Whether a deed isn't done, since these nodes are other makers' products.
+fn is_passed_over(world: &World<Refusing<MemoryLedger>>, others: &[Text], deed: &Deed) -> bool
+    ensures { IsTrue result ↔ IsPassedOver others.now (contents world.now) deed.now }
+{
+    match deed {
+        Deed::Step(step) => world.is_others(others, step),
+        Deed::Adopt(_) | Deed::Bytes { .. } => false,
+    }
+}
+
+/// A deed, unless it is one of another maker's product.
+fn do_own(
+    alloc: Global,
+    world: &mut World<Refusing<MemoryLedger>>,
+    deed: &Deed,
+    notes: &mut PlayNotes,
+) -> Result<(), WorldFault>
+    requires { world.old.lost ≡ None }
+    ensures plays { OnOk result
+        (NotesOrder notes.old world.old (orders_of.Deed deed.now) notes.new world.new) }
+    ensures whole { OnOk result (world.new.lost ≡ None) }
+    ensures early { IfErr result (EndsEarly (IsChange deed.now)) }
+{
+    if is_passed_over(world, notes.others.as_slice(), deed) {
+        return Ok(());
+    }
+    match do_deed(alloc, world, deed, &mut notes.changes) {
+        Ok(()) => Ok(()),
+        Err(fault) => Err(fault),
+    }
+}
+
+/// What another maker's product writes at an end of a link.
+fn speak(
+    world: &mut World<Refusing<MemoryLedger>>,
+    link: u64,
+    side: Side,
+    bytes: &Octets,
+) -> Result<(), WorldFault>
+    requires { world.old.lost ≡ None }
+    ensures plays { OnOk result
+        (PlaysAll (deeds_of.Bytes link side bytes.now ∷ []) [] world.old world.new) }
+    ensures whole { OnOk result (world.new.lost ≡ None) }
+    ensures memory { IfErr result (λ fault. fault ≡ MemoryFault) }
+{
+    let _note = world.write(link, side, bytes)?;
+    Ok(())
+}
+
+/// A caller of another make stores an item.
+fn do_store(
+    world: &mut World<Refusing<MemoryLedger>>,
+    link: u64,
+    item: &Item,
+    notes: &mut PlayNotes,
+) -> Result<(), WorldFault>
+    requires { world.old.lost ≡ None }
+    ensures plays { OnOk result
+        (NotesOrder notes.old world.old (orders_of.Foreign (foreign_of.Store link item.now))
+        notes.new world.new) }
+    ensures whole { OnOk result (world.new.lost ≡ None) }
+    ensures memory { IfErr result (λ fault. fault ≡ MemoryFault) }
+{
+    let spoken = world.store_of(notes.others.as_slice(), link, item)?;
+    match spoken {
+        Spoken::Writes(bytes) => match speak(world, link, Side::Requestor, &bytes) {
+            Ok(()) => Ok(()),
+            Err(fault) => Err(fault),
+        },
+        Spoken::Refuses(why) => {
+            notes.refusals.push(RefusedForeign::Store { link, why })?;
+            Ok(())
+        }
+    }
+}
+
+/// A receiver of another make answers.
+fn do_answer(
+    world: &mut World<Refusing<MemoryLedger>>,
+    link: u64,
+    status: u16,
+    notes: &mut PlayNotes,
+) -> Result<(), WorldFault>
+    requires { world.old.lost ≡ None }
+    ensures plays { OnOk result
+        (NotesOrder notes.old world.old (orders_of.Foreign (foreign_of.Answer link status))
+        notes.new world.new) }
+    ensures whole { OnOk result (world.new.lost ≡ None) }
+    ensures memory { IfErr result (λ fault. fault ≡ MemoryFault) }
+{
+    let spoken = world.answer_of(notes.others.as_slice(), link, status)?;
+    match spoken {
+        Spoken::Writes(bytes) => match speak(world, link, Side::Acceptor, &bytes) {
+            Ok(()) => Ok(()),
+            Err(fault) => Err(fault),
+        },
+        Spoken::Refuses(why) => {
+            notes.refusals.push(RefusedForeign::Answer { link, why })?;
+            Ok(())
+        }
+    }
+}
+
+/// A node is another maker's product.
+fn do_node(
+    world: &mut World<Refusing<MemoryLedger>>,
+    node: &Text,
+    notes: &mut PlayNotes,
+) -> Result<(), WorldFault>
+    requires { world.old.lost ≡ None }
+    ensures plays { OnOk result
+        (NotesOrder notes.old world.old (orders_of.Foreign (foreign_of.Node node.now)) notes.new
+        world.new) }
+    ensures whole { OnOk result (world.new.lost ≡ None) }
+    ensures memory { IfErr result (λ fault. fault ≡ MemoryFault) }
+{
+    let name = node.clone()?;
+    if world.has_node(node) {
+        notes.others.push(name)?;
+        return Ok(());
+    }
+    notes.refusals.push(RefusedForeign::Node { node: name })?;
+    Ok(())
+}
+
+/// What concerns other makers' products.
+fn do_foreign(
+    world: &mut World<Refusing<MemoryLedger>>,
+    foreign: &Foreign,
+    notes: &mut PlayNotes,
+) -> Result<(), WorldFault>
+    requires { world.old.lost ≡ None }
+    ensures plays { OnOk result
+        (NotesOrder notes.old world.old (orders_of.Foreign foreign.now) notes.new world.new) }
+    ensures whole { OnOk result (world.new.lost ≡ None) }
+    ensures memory { IfErr result (λ fault. fault ≡ MemoryFault) }
+{
+    match foreign {
+        Foreign::Node { node } => do_node(world, node, notes),
+        Foreign::Store { link, item } => do_store(world, *link, item, notes),
+        Foreign::Answer { link, status } => do_answer(world, *link, *status, notes),
+    }
+}
+
+/// One order, and what is noted of it.
+fn do_order(
+    alloc: Global,
+    world: &mut World<Refusing<MemoryLedger>>,
+    order: &WorldOrder,
+    notes: &mut PlayNotes,
+) -> Result<(), WorldFault>
+    requires { world.old.lost ≡ None }
+    ensures plays { OnOk result
+        (NotesOrder notes.old world.old order.now notes.new world.new) }
+    ensures whole { OnOk result (world.new.lost ≡ None) }
+    ensures early { IfErr result (EndsEarly (IsChangeOrder order.now)) }
+{
+    match order {
+        WorldOrder::Deed(deed) => do_own(alloc, world, deed, notes),
+        WorldOrder::Foreign(foreign) => do_foreign(world, foreign, notes),
+    }
+}
+
+/// Nothing is noted.
+fn no_notes(alloc: Global) -> PlayNotes
+    ensures { result ≡ record { others = []; changes = []; refusals = [] } }
+{
+    PlayNotes {
+        others: Seq::new(alloc),
+        changes: Seq::new(alloc),
+        refusals: Seq::new(alloc),
+    }
+}
+
+/// These orders, one after the other, and what is noted of them.
 fn do_all(
     alloc: Global,
     world: &mut World<Refusing<MemoryLedger>>,
-    deeds: &[Deed],
-) -> Result<Seq<Change>, WorldFault>
+    orders: &[WorldOrder],
+) -> Result<PlayNotes, WorldFault>
     requires { world.old.lost ≡ None }
-    ensures plays { IfOk result (λ changes. PlaysAll deeds.now changes world.old world.new) }
-    ensures early { IfErr result (EndsEarly (HasChange deeds.now)) }
+    ensures plays { IfOk result (λ notes. (deeds : List DeedValue)
+        × AreOrdered [] world.old orders.now deeds notes.changes notes.refusals notes.others
+        world.new) }
+    ensures early { IfErr result (EndsEarly (OrdersChange orders.now)) }
 {
-    let mut changes = Seq::new(alloc);
-    for deed in deeds {
-        do_deed(alloc, world, deed, &mut changes)?;
+    let mut notes = no_notes(alloc);
+    for order in orders {
+        do_order(alloc, world, order, &mut notes)?;
     }
-    Ok(changes)
+    Ok(notes)
 }
 
-/// The world of a sealed plan after these deeds, from the beginning: each node over a ledger in
+/// The world of a sealed plan after these orders, from the beginning: each node over a ledger in
 /// memory, which can be told to refuse.
 ///
 /// Errors: HalfAdopted, where a node that was told to refuse is to take another plan, so only where
-/// a deed is a change of plan; Memory.
-pub fn run(alloc: Global, sealed: &Sealed, deeds: &[Deed]) -> Result<PlayedWorld, WorldFault>
-    ensures runs { IfOk result (λ run.
-        IsRunOf sealed.now.plan sealed.now.certificate deeds.now run.changes run.world) }
-    ensures early { IfErr result (EndsEarly (HasChange deeds.now)) }
+/// an order is a change of plan; Memory.
+pub fn run(alloc: Global, sealed: &Sealed, orders: &[WorldOrder]) -> Result<PlayedWorld, WorldFault>
+    ensures runs { IfOk result (λ run. IsOrderedRun sealed.now.plan sealed.now.certificate
+        orders.now run.notes.changes run.notes.refusals run.notes.others run.world) }
+    ensures early { IfErr result (EndsEarly (OrdersChange orders.now)) }
 {
     let plan = sealed.plan();
     let _certificate = sealed.certificate();
@@ -143,6 +338,6 @@ pub fn run(alloc: Global, sealed: &Sealed, deeds: &[Deed]) -> Result<PlayedWorld
         return Err(WorldFault::Memory);
     };
     let mut world = world;
-    let changes = do_all(alloc, &mut world, deeds)?;
-    Ok(PlayedWorld { world, changes })
+    let notes = do_all(alloc, &mut world, orders)?;
+    Ok(PlayedWorld { world, notes })
 }

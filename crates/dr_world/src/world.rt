@@ -27,6 +27,7 @@ ghost use Rattle.dr_world.specs.Whole.{noted};
 
 mod adopting;
 mod reading;
+mod speaking;
 mod writing;
 
 use crate::calls::{accept_at, input_at, is_over_at, open_at, push_at};
@@ -352,16 +353,18 @@ impl<L: Ledger> World<L> {
         has_body_at(&mut self.nodes, name, uid)
     }
 
-    /// Adds the report of all nodes, in byte order of their names.
+    /// Adds the report of all nodes, in byte order of their names; of those that are other makers'
+    /// products it has the name alone, and that they are such.
     ///
     /// Errors: Store, where a ledger's store fails; Memory. Parts of it may have been added then.
-    pub fn report(&mut self, out: &mut Vec<u8>) -> Result<(), WorldFault>
+    pub fn report(&mut self, others: &[Text], out: &mut Vec<u8>) -> Result<(), WorldFault>
         ensures reports { OnOk result
-            (AllStand self.new → IsReported (books_of self.old.nodes) out.old.items out.new.items) }
+            (AllStand self.new
+            → IsReported others.now (books_of self.old.nodes) out.old.items out.new.items) }
         ensures same { IsSameWorld self.old self.new }
     {
         let names = names_in(self.alloc, &self.nodes)?;
-        report_each(&mut self.nodes, names.as_slice(), out)
+        report_each(&mut self.nodes, others, names.as_slice(), out)
     }
 }
 

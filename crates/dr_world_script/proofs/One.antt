@@ -16,6 +16,10 @@ use Rattle.dr_ledger.specs.Items.{IsItem}
 use Rattle.dr_ledger.proofs.Reading.{items_are_one}
 use Rattle.dr_world_script.specs.declared.act.Act.{Act}
 use Rattle.dr_world_script.specs.declared.act.Act.TheVariants as act
+use Rattle.dr_world_script.specs.declared.foreign.Foreign.{Foreign}
+use Rattle.dr_world_script.specs.declared.foreign.Foreign.TheVariants as foreign
+use Rattle.dr_world_script.specs.declared.foreign.ForeignWord.{ForeignWord}
+use Rattle.dr_world_script.specs.declared.foreign.ForeignWord.TheVariants as called
 use Rattle.dr_world_script.specs.declared.step.Side.{Side}
 use Rattle.dr_world_script.specs.declared.step.Side.TheVariants.{Requestor, Acceptor}
 use Rattle.dr_world_script.specs.declared.step.Step.{Step}
@@ -23,8 +27,8 @@ use Rattle.dr_world_script.specs.declared.step.Step.TheVariants.{Push, Release, 
 use Rattle.dr_world_script.specs.declared.step.Word.{Word}
 use Rattle.dr_world_script.specs.declared.step.Word.TheVariants as word
 use Rattle.dr_world_script.specs.Laws.{OneActForALine, OneScriptForAText}
-use Rattle.dr_world_script.specs.Scripts.{AreEnd, AreMove, AreNumber, AreWritten, Follows, IsNumber, Tells, TellsBy, TellsStep, adopt_word, bytes_word, side_word, spelled, syntax_letter, told_lines}
-use Rattle.dr_world_script.proofs.Spelling.{spelled_apart, spelled_beside, spelled_one, words_apart}
+use Rattle.dr_world_script.specs.Scripts.{AreEnd, AreMove, AreNumber, AreWritten, Follows, FollowsForeign, IsNumber, IsStatus, Tells, TellsBy, TellsForeign, TellsStep, adopt_word, bytes_word, foreign_spelled, side_word, spelled, syntax_letter, told_lines}
+use Rattle.dr_world_script.proofs.Spelling.{adopt_foreign, bytes_foreign, foreign_apart, foreign_one, spelled_apart, spelled_beside, spelled_one, words_apart}
 
 number_one : (n m : ℕ) (field other : Text) → IsNumber n field → IsNumber m other → field ≡ other → n ≡ m
 number_one n m field other a b e = decimal_injective n m a.1 b.1 (a.0 ∙ e ∙ sym b.0)
@@ -111,6 +115,61 @@ step_one parts a b (v, fields, e, s) (w, others, d, t) =
     let Q : List Text → Type 0 = λ fs. Follows v fs b in
     follow_one v fields a b s (subst Q (sym rest) (subst P (sym same) t))
 
+-- ---- what concerns other makers' products
+
+status_one : (n m : ℕ) (field other : Text) → IsStatus n field → IsStatus m other → field ≡ other → n ≡ m
+status_one n m field other (h, l, p, a) (k, j, q, b) e =
+    let both : ◌≡◌ {A = Result (List ℕ) _} (Ok (h ∷ l ∷ [])) (Ok (k ∷ j ∷ [])) = sym p ∙ ap decode_of e ∙ q in
+    let high : h ≡ k = cc in
+    let low : l ≡ j = cc in
+    a ∙ (rw (high, low) refl) ∙ sym b
+
+follow_foreign : (w : ForeignWord) (fields : List Text) (a b : Foreign) → FollowsForeign w fields a → FollowsForeign w fields b → a ≡ b
+follow_foreign called.Node fields a b (x, e, d) (u, f, g) = let h : x ∷ [] ≡ u ∷ [] = sym d ∙ g in let p : x ≡ u = cc in e ∙ ap foreign.Node p ∙ sym f
+follow_foreign called.Store fields a b (n, x, digits, item, e, d, numbered, p, is) (m, u, figures, job, f, g, also_numbered, q, also) =
+    let h : x ∷ syntax_letter item.key.syntax ∷ digits ∷ [] ≡ u ∷ syntax_letter job.key.syntax ∷ figures ∷ [] = sym d ∙ g in
+    let same : x ≡ u = cc in
+    let link : n ≡ m = number_one n m x u numbered also_numbered same in
+    let these : (x ≡ u) × (item ≡ job) = submit_one x u digits figures item job fields d g p q is also in
+    e ∙ (rw (link, these.1) refl) ∙ sym f
+follow_foreign called.Answer fields a b (n, s, x, digits, e, d, numbered, is) (m, t, u, figures, f, g, also_numbered, also) =
+    let h : x ∷ digits ∷ [] ≡ u ∷ figures ∷ [] = sym d ∙ g in
+    let same : x ≡ u = cc in
+    let written : digits ≡ figures = cc in
+    let link : n ≡ m = number_one n m x u numbered also_numbered same in
+    let status : s ≡ t = status_one s t digits figures is also written in
+    e ∙ (rw (link, status) refl) ∙ sym f
+
+told_foreign : (parts : List Text) (a b : Foreign) → TellsForeign parts a → TellsForeign parts b → a ≡ b
+told_foreign parts a b (v, fields, e, s) (w, others, d, t) =
+    let h : foreign_spelled v ∷ fields ≡ foreign_spelled w ∷ others = sym e ∙ d in
+    let same : v ≡ w = foreign_one v w (cc) in
+    let rest : fields ≡ others = cc in
+    let P : ForeignWord → Type 0 = λ x. FollowsForeign x others b in
+    let Q : List Text → Type 0 = λ fs. FollowsForeign v fs b in
+    follow_foreign v fields a b s (subst Q (sym rest) (subst P (sym same) t))
+
+-- none of it is a step, a change of plan or what is written
+step_foreign : (parts : List Text) (step : Step) (what : Foreign) → TellsStep parts step → TellsForeign parts what → ⊥
+step_foreign parts step what (w, fields, e, f) (v, others, d, g) =
+    let h : spelled w ∷ fields ≡ foreign_spelled v ∷ others = sym e ∙ d in
+    let same : spelled w ≡ foreign_spelled v = cc in
+    foreign_apart w v same
+
+change_foreign : (parts : List Text) (plan certificate : Text) (what : Foreign) → parts ≡ adopt_word ∷ plan ∷ certificate ∷ [] → TellsForeign parts what → ⊥
+change_foreign parts plan certificate what e (v, others, d, g) =
+    let h : adopt_word ∷ plan ∷ certificate ∷ [] ≡ foreign_spelled v ∷ others = sym e ∙ d in
+    let same : adopt_word ≡ foreign_spelled v = cc in
+    adopt_foreign v same
+
+write_foreign : (parts fields : List Text) (what : Foreign) → parts ≡ bytes_word ∷ fields → TellsForeign parts what → ⊥
+write_foreign parts fields what e (v, others, d, g) =
+    let h : bytes_word ∷ fields ≡ foreign_spelled v ∷ others = sym e ∙ d in
+    let same : bytes_word ≡ foreign_spelled v = cc in
+    bytes_foreign v same
+
+-- ---- lines
+
 -- a step is no change of plan
 pub apart : (parts : List Text) (step : Step) (plan certificate : Text) → TellsStep parts step → parts ≡ adopt_word ∷ plan ∷ certificate ∷ [] → ⊥
 apart parts step plan certificate (w, fields, e, f) d =
@@ -151,6 +210,13 @@ parts_one parts (act.Bytes link side bytes) (act.Bytes number end written) (fiel
     let P : List Text → Type 0 = λ fs. AreWritten number end written fs in
     let one = written_one link number side end bytes written fields is (subst P rest also) in
     rw (one.0, one.1, one.2) refl
+parts_one parts (act.Foreign what) (act.Foreign other) s t = ap act.Foreign (told_foreign parts what other s t)
+parts_one parts (act.Step one) (act.Foreign what) s t = absurd (step_foreign parts one what s t)
+parts_one parts (act.Foreign what) (act.Step one) s t = absurd (step_foreign parts one what t s)
+parts_one parts (act.Adopt plan certificate) (act.Foreign what) s t = absurd (change_foreign parts plan certificate what s t)
+parts_one parts (act.Foreign what) (act.Adopt plan certificate) s t = absurd (change_foreign parts plan certificate what t s)
+parts_one parts (act.Bytes link side bytes) (act.Foreign what) (fields, e, is) t = absurd (write_foreign parts fields what e t)
+parts_one parts (act.Foreign what) (act.Bytes link side bytes) s (fields, e, is) = absurd (write_foreign parts fields what e s)
 
 pub line_one : OneActForALine
 line_one line a b s t = parts_one (cuts 9 line) a b s t

@@ -4,9 +4,11 @@ use Rattle.std.proofs.lemmas.Bool.{false≢true}
 use Rattle.std.specs.Prelude.{codes, if◌then◌else◌, Option, Some}
 use Rattle.std.specs.Str.{bytes_eq}
 use Rattle.dr_base.specs.Texts.{Text}
+use Rattle.dr_world_script.specs.declared.foreign.ForeignWord.{ForeignWord}
+use Rattle.dr_world_script.specs.declared.foreign.ForeignWord.TheVariants as called
 use Rattle.dr_world_script.specs.declared.step.Word.{Word}
 use Rattle.dr_world_script.specs.declared.step.Word.TheVariants.{Submit, Open, Away, Push, Move, Abort, Release, Close, Late, Restart, Requeue, Drop, Forget, Tick, Refuse}
-use Rattle.dr_world_script.specs.Scripts.{adopt_word, bytes_word, spelled}
+use Rattle.dr_world_script.specs.Scripts.{adopt_word, bytes_word, foreign_spelled, spelled}
 
 word_in : Text → Option Word
 word_in text =
@@ -105,3 +107,68 @@ words_apart e =
     let isnt : is_writing adopt_word ≡ false = refl in
     let is : is_writing bytes_word ≡ true = refl in
     false≢true (sym isnt ∙ (ap is_writing e ∙ is))
+
+-- ---- what concerns other makers' products
+
+foreign_in : Text → Option ForeignWord
+foreign_in text =
+    if bytes_eq text (codes "foreign") then Some called.Node else
+    if bytes_eq text (codes "store") then Some called.Store else
+    Some called.Answer
+
+foreign_known : (w : ForeignWord) → foreign_in (foreign_spelled w) ≡ Some w
+unfolding foreign_in
+foreign_known called.Node = refl
+foreign_known called.Store = refl
+foreign_known called.Answer = refl
+
+pub foreign_one : (a b : ForeignWord) → foreign_spelled a ≡ foreign_spelled b → a ≡ b
+foreign_one a b e = let same : ◌≡◌ {A = Option ForeignWord} (Some a) (Some b) = sym (foreign_known a) ∙ ap foreign_in e ∙ foreign_known b in cc
+
+is_foreign : Text → Bool
+is_foreign text =
+    if bytes_eq text (codes "foreign") then true else
+    if bytes_eq text (codes "store") then true else
+    bytes_eq text (codes "answer")
+
+is_one : (w : ForeignWord) → is_foreign (foreign_spelled w) ≡ true
+unfolding is_foreign
+is_one called.Node = refl
+is_one called.Store = refl
+is_one called.Answer = refl
+
+no_foreign : (w : Word) → is_foreign (spelled w) ≡ false
+unfolding is_foreign
+no_foreign Submit = refl
+no_foreign Open = refl
+no_foreign Away = refl
+no_foreign Push = refl
+no_foreign Move = refl
+no_foreign Abort = refl
+no_foreign Release = refl
+no_foreign Close = refl
+no_foreign Late = refl
+no_foreign Restart = refl
+no_foreign Requeue = refl
+no_foreign Drop = refl
+no_foreign Forget = refl
+no_foreign Tick = refl
+no_foreign Refuse = refl
+
+-- no word of a step is one of these
+pub foreign_apart : (w : Word) (v : ForeignWord) → spelled w ≡ foreign_spelled v → ⊥
+foreign_apart w v e = false≢true (sym (no_foreign w) ∙ (ap is_foreign e ∙ is_one v))
+
+-- nor is that of a change of plan
+pub adopt_foreign : (v : ForeignWord) → adopt_word ≡ foreign_spelled v → ⊥
+unfolding is_foreign
+adopt_foreign v e =
+    let isnt : is_foreign adopt_word ≡ false = refl in
+    false≢true (sym isnt ∙ (ap is_foreign e ∙ is_one v))
+
+-- nor that of what another product writes
+pub bytes_foreign : (v : ForeignWord) → bytes_word ≡ foreign_spelled v → ⊥
+unfolding is_foreign
+bytes_foreign v e =
+    let isnt : is_foreign bytes_word ≡ false = refl in
+    false≢true (sym isnt ∙ (ap is_foreign e ∙ is_one v))

@@ -4,6 +4,7 @@ use Rattle.dr_base.specs.Texts.{Text}
 use Rattle.dr_cert_text.specs.Cuts.{cuts}
 use Rattle.dr_world_script.specs.declared.act.Act.{Act}
 use Rattle.dr_world_script.specs.declared.act.Act.TheVariants as act
+use Rattle.dr_world_script.specs.declared.foreign.Foreign.TheVariants as foreign
 use Rattle.dr_world_script.specs.declared.step.Side.TheVariants.{Acceptor}
 use Rattle.dr_world_script.specs.declared.step.Step.TheVariants.{Open, Move}
 use Rattle.dr_world_script.specs.Scripts.{IsLineAt, IsScriptOf, Tells, is_skipped}
@@ -49,19 +50,29 @@ adopt_line = codes "adopt\tnext.toml\tnext"
 abbrev pub bytes_line : Text
 bytes_line = codes "bytes\t1\tacceptor\t0a"
 
--- what four lines tell, and what a script of them and of lines that are skipped tells
+-- `foreign`, tab, `CT1`
+abbrev pub foreign_line : Text
+foreign_line = codes "foreign\tCT1"
+
+-- `answer`, tab, `2`, tab, `A700`
+abbrev pub answer_line : Text
+answer_line = codes "answer\t2\tA700"
+
+-- what six lines tell, and what a script of them and of lines that are skipped tells
 abbrev pub LinesTellSteps : Type 0
 LinesTellSteps =
     Tells open_line (act.Step (Open (codes "CT1") (codes "GATE")))
     × Tells move_line (act.Step (Move 1 Acceptor 1000000))
     × Tells adopt_line (act.Adopt (codes "next.toml") (codes "next"))
     × Tells bytes_line (act.Bytes 1 Acceptor (10 ∷ []))
+    × Tells foreign_line (act.Foreign (foreign.Node (codes "CT1")))
+    × Tells answer_line (act.Foreign (foreign.Answer 2 0xA700))
     × IsScriptOf (codes "# two steps\n\n" ++ open_line ++ (10 ∷ []) ++ move_line ++ (10 ∷ []))
     (act.Step (Open (codes "CT1") (codes "GATE")) ∷ act.Step (Move 1 Acceptor 1000000) ∷ [])
     × (is_skipped (codes " ") ≡ false)
 
--- an end that isn't one, a word alone, a field too many, a plan without a certificate, and an end
--- at which nothing is written
+-- an end that isn't one, a word alone, a field too many, a plan without a certificate, an end at
+-- which nothing is written, and a status of one byte
 abbrev pub LinesTellNone : Type 0
 LinesTellNone =
     (a : Act)
@@ -70,3 +81,4 @@ LinesTellNone =
     × (Tells (codes "open\tCT1\tGATE\t") a → ⊥)
     × (Tells (codes "adopt\tnext.toml") a → ⊥)
     × (Tells (codes "bytes\t1\tacceptor") a → ⊥)
+    × (Tells (codes "answer\t2\t00") a → ⊥)

@@ -1,6 +1,7 @@
--- Scripts: a step, a change of plan or what another product writes a line, its fields joined by
--- tabs.
-use Rattle.std.specs.Prelude.{◌≡◌, ◌⊎◌, ℕ, ◌+◌, ◌<◌, ◌^◌, ◌==◌, Bool, true, false, List, [], ◌∷◌}
+-- Scripts: a step, a change of plan or what another product writes or does a line, its fields
+-- joined by tabs.
+use Rattle.std.specs.Prelude.{◌≡◌, ◌⊎◌, ℕ, ◌+◌, ◌*◌, ◌<◌, ◌^◌, ◌==◌, Bool, true, false, List, []}
+use Rattle.std.specs.Prelude.{◌∷◌}
 use Rattle.std.specs.Prelude.{◌++◌, All, length, codes, decimal, filter, not, Result, Ok, Err}
 use Rattle.std.specs.List.{AllZip}
 use Rattle.hex.specs.Hex.{decode_of}
@@ -13,6 +14,10 @@ use Rattle.dr_ledger.specs.Items.{IsItem}
 use Rattle.dr_ledger.specs.declared.content.Job.{Job}
 use Rattle.dr_world_script.specs.declared.act.Act.{Act}
 use Rattle.dr_world_script.specs.declared.act.Act.TheVariants as act
+use Rattle.dr_world_script.specs.declared.foreign.Foreign.{Foreign}
+use Rattle.dr_world_script.specs.declared.foreign.Foreign.TheVariants as foreign
+use Rattle.dr_world_script.specs.declared.foreign.ForeignWord.{ForeignWord}
+use Rattle.dr_world_script.specs.declared.foreign.ForeignWord.TheVariants as called
 use Rattle.dr_world_script.specs.declared.step.Side.{Side}
 use Rattle.dr_world_script.specs.declared.step.Side.TheVariants.{Requestor, Acceptor}
 use Rattle.dr_world_script.specs.declared.step.Step.{Step}
@@ -52,6 +57,12 @@ adopt_word = codes "adopt"
 -- the word of what another maker's product writes
 abbrev pub bytes_word : Text
 bytes_word = codes "bytes"
+
+-- the words of what concerns other makers' products: that a node is one, a store, and an answer
+abbrev pub foreign_spelled : ForeignWord → Text
+foreign_spelled called.Node = codes "foreign"
+foreign_spelled called.Store = codes "store"
+foreign_spelled called.Answer = codes "answer"
 
 -- the word for an end of a link
 abbrev pub side_word : Side → Text
@@ -131,13 +142,48 @@ abbrev pub TellsStep : List Text → Step → Type 0
 TellsStep parts step =
     (w : Word) × (fields : List Text) × (parts ≡ spelled w ∷ fields) × Follows w fields step
 
+-- the field is a status: four hex digits of either case, the high byte first
+abbrev pub IsStatus : ℕ → Text → Type 0
+IsStatus status field =
+    (high low : ℕ)
+    × (decode_of field ≡ Ok (high ∷ low ∷ []))
+    × (status ≡ high * 256 + low)
+
+-- what the fields behind a word tell of another maker's product; a data set as it is written where
+-- an item enters
+abbrev pub FollowsForeign : ForeignWord → List Text → Foreign → Type 0
+FollowsForeign called.Node fields what =
+    (node : Text) × (what ≡ foreign.Node node) × (fields ≡ node ∷ [])
+FollowsForeign called.Store fields what =
+    (link : ℕ) × (field digits : Text) × (item : Job)
+    × (what ≡ foreign.Store link item)
+    × (fields ≡ field ∷ syntax_letter item.key.syntax ∷ digits ∷ [])
+    × IsNumber link field
+    × (decode_of digits ≡ Ok item.body)
+    × IsItem item
+FollowsForeign called.Answer fields what =
+    (link status : ℕ) × (field digits : Text)
+    × (what ≡ foreign.Answer link status)
+    × (fields ≡ field ∷ digits ∷ [])
+    × IsNumber link field
+    × IsStatus status digits
+
+-- the parts tell that: a word, and what follows
+abbrev pub TellsForeign : List Text → Foreign → Type 0
+TellsForeign parts what =
+    (w : ForeignWord) × (fields : List Text)
+    × (parts ≡ foreign_spelled w ∷ fields)
+    × FollowsForeign w fields what
+
 -- what parts tell: a step; or that all nodes take another plan, by the names of two files: the
--- plan's and its certificate's; or what another product writes at an end of a link
+-- plan's and its certificate's; or what another product writes at an end of a link; or that a node
+-- is such a product, or what one does
 abbrev pub TellsBy : List Text → Act → Type 0
 TellsBy parts (act.Step step) = TellsStep parts step
 TellsBy parts (act.Adopt plan certificate) = parts ≡ adopt_word ∷ plan ∷ certificate ∷ []
 TellsBy parts (act.Bytes link side bytes) =
     (fields : List Text) × (parts ≡ bytes_word ∷ fields) × AreWritten link side bytes fields
+TellsBy parts (act.Foreign what) = TellsForeign parts what
 
 -- what the line tells, whose parts are joined by tabs
 abbrev pub Tells : Text → Act → Type 0
@@ -172,6 +218,7 @@ ReadsStep parts (Err lines.Memory) = Unit {0}
 abbrev pub ReadsAdoption : List Text → Result Act LineFault → Type 0
 ReadsAdoption fields (Ok (act.Step step)) = ⊥
 ReadsAdoption fields (Ok (act.Bytes link side bytes)) = ⊥
+ReadsAdoption fields (Ok (act.Foreign what)) = ⊥
 ReadsAdoption fields (Ok (act.Adopt plan certificate)) = fields ≡ plan ∷ certificate ∷ []
 ReadsAdoption fields (Err lines.NoStep) =
     (plan certificate : Text) → fields ≡ plan ∷ certificate ∷ [] → ⊥
@@ -181,10 +228,27 @@ ReadsAdoption fields (Err lines.Memory) = Unit {0}
 abbrev pub ReadsWritten : List Text → Result Act LineFault → Type 0
 ReadsWritten fields (Ok (act.Step step)) = ⊥
 ReadsWritten fields (Ok (act.Adopt plan certificate)) = ⊥
+ReadsWritten fields (Ok (act.Foreign what)) = ⊥
 ReadsWritten fields (Ok (act.Bytes link side bytes)) = AreWritten link side bytes fields
 ReadsWritten fields (Err lines.NoStep) =
     (link : ℕ) (side : Side) (bytes : List ℕ) → AreWritten link side bytes fields → ⊥
 ReadsWritten fields (Err lines.Memory) = Unit {0}
+
+-- what reading the fields behind a word of what concerns other products answers
+abbrev pub ReadsForeignFields : ForeignWord → List Text → Result Foreign LineFault → Type 0
+ReadsForeignFields w fields (Ok what) = FollowsForeign w fields what
+ReadsForeignFields w fields (Err lines.NoStep) =
+    (what : Foreign) → FollowsForeign w fields what → ⊥
+ReadsForeignFields w fields (Err lines.Memory) = Unit {0}
+
+-- the same, as what a line tells
+abbrev pub ReadsForeign : ForeignWord → List Text → Result Act LineFault → Type 0
+ReadsForeign w fields (Ok (act.Step step)) = ⊥
+ReadsForeign w fields (Ok (act.Adopt plan certificate)) = ⊥
+ReadsForeign w fields (Ok (act.Bytes link side bytes)) = ⊥
+ReadsForeign w fields (Ok (act.Foreign what)) = FollowsForeign w fields what
+ReadsForeign w fields (Err lines.NoStep) = (what : Foreign) → FollowsForeign w fields what → ⊥
+ReadsForeign w fields (Err lines.Memory) = Unit {0}
 
 -- what reading the fields behind a word answers
 abbrev pub ReadsFields : Word → List Text → Result Step LineFault → Type 0
@@ -229,3 +293,9 @@ TakesItem syntax body (Ok item) = IsItem item × (item.key.syntax ≡ syntax) ×
 TakesItem syntax body (Err lines.NoStep) =
     (item : Job) → IsItem item → item.key.syntax ≡ syntax → item.body ≡ body → ⊥
 TakesItem syntax body (Err lines.Memory) = Unit {0}
+
+-- what reading a status answers
+abbrev pub ReadsStatus : Text → Result ℕ LineFault → Type 0
+ReadsStatus field (Ok status) = IsStatus status field
+ReadsStatus field (Err lines.NoStep) = (status : ℕ) → IsStatus status field → ⊥
+ReadsStatus field (Err lines.Memory) = Unit {0}

@@ -1,4 +1,5 @@
 //! What a line of a script tells.
+use crate::foreign::Foreign;
 use crate::step::{Side, Step};
 use dr_base::{Octets, Text};
 
@@ -19,4 +20,6 @@ pub enum Act {
         side: Side,
         bytes: Octets,
     },
+    /// A node is another maker's product, or one such does something.
+    Foreign(Foreign),
 }

@@ -4,12 +4,16 @@ ghost use Rattle.std.specs.Prelude.{Result, Ok};
 ghost use Rattle.hex.specs.Hex.{decode_of};
 ghost use Rattle.dr_base.specs.declared.syntax.Syntax.{Syntax as SyntaxValue};
 ghost use Rattle.dr_cert_text.specs.Cuts.{cuts};
+ghost use Rattle.dr_world_script.specs.Scripts.{foreign_spelled};
 ghost use Rattle.dr_world_script.specs.Scripts.{side_word, spelled, syntax_letter};
 ghost use Rattle.dr_world_script.specs.Scripts.{DecodesBody, adopt_word, bytes_word};
+ghost use Rattle.dr_world_script.specs.Scripts.{ReadsStatus};
+ghost use Rattle.dr_world_script.specs.declared.foreign.ForeignWord.{ForeignWord as Called};
 ghost use Rattle.dr_world_script.specs.declared.step.Side.{Side as SideValue};
 ghost use Rattle.dr_world_script.specs.declared.step.Word.{Word as WordValue};
 
 use crate::fault::LineFault;
+use crate::foreign::ForeignWord;
 use crate::step::{Side, Word};
 use dr_base::{Octets, Syntax};
 use dr_cert_text::split_at_byte;
@@ -47,6 +51,20 @@ pub fn is_bytes(field: &[u8]) -> bool
     match field {
         b"bytes" => true,
         _ => false,
+    }
+}
+
+/// The word of what concerns other makers' products that is spelled so.
+pub fn read_foreign_word(field: &[u8]) -> Option<ForeignWord>
+    ensures { MatchOption result
+        ((word : Called) → foreign_spelled word ≡ field.now → ⊥)
+        (λ word. foreign_spelled word ≡ field.now) }
+{
+    match field {
+        b"foreign" => Some(ForeignWord::Node),
+        b"store" => Some(ForeignWord::Store),
+        b"answer" => Some(ForeignWord::Answer),
+        _ => None,
     }
 }
 
@@ -107,5 +125,19 @@ pub fn read_bytes(alloc: Global, field: &[u8]) -> Result<Octets, LineFault>
         Ok(bytes) => Ok(Octets::from_vec(bytes)),
         Err(FromHexError::OutOfMemory) => Err(LineFault::Memory),
         Err(_) => Err(LineFault::NoStep),
+    }
+}
+
+/// The status that is written so: four hex digits of either case.
+pub fn read_status(alloc: Global, field: &[u8]) -> Result<u16, LineFault>
+    ensures { ReadsStatus field.now result }
+{
+    let bytes = match read_bytes(alloc, field) {
+        Ok(bytes) => bytes,
+        Err(fault) => return Err(fault),
+    };
+    match bytes.as_bytes() {
+        [high, low] => Ok(*high as u16 * 256 + *low as u16),
+        _ => Err(LineFault::NoStep),
     }
 }

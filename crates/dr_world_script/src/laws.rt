@@ -13,8 +13,8 @@ pub fn lines_are_in_order()
     ensures { LinesAreInOrder }
 {}
 
-/// Lines that tell steps, a change of plan and what another product writes, and lines that tell
-/// nothing.
+/// Lines that tell steps, a change of plan and what another product writes and does, and lines that
+/// tell nothing.
 pub fn lines_tell_steps()
     ensures steps { LinesTellSteps }
     ensures none { LinesTellNone }

@@ -1,10 +1,11 @@
 //! What is told to the simulator: the steps of a world of nodes, changes of their plan and what
-//! other makers' products write, and scripts of these as text.
+//! other makers' products write and do, and scripts of these as text.
 #![tactic(auto)]
 
 mod act;
 mod fault;
 mod fields;
+mod foreign;
 pub mod laws;
 mod reading;
 mod script;
@@ -12,5 +13,6 @@ mod step;
 
 pub use act::Act;
 pub use fault::ScriptFault;
+pub use foreign::Foreign;
 pub use script::{line_of, read_script};
 pub use step::{Side, Step};

@@ -3,13 +3,19 @@ ghost use Rattle.std.specs.Prelude.{◌≡◌, ◌∷◌, [], ℕ, map, MatchOpt
 ghost use Rattle.dr_base.specs.Texts.{Text as TextValue};
 ghost use Rattle.dr_world_script.specs.Scripts.{AreNumber, AreEnd, ReadsFields, ReadsLine};
 ghost use Rattle.dr_world_script.specs.Scripts.{ReadsAdoption, ReadsParts, ReadsStep};
+ghost use Rattle.dr_world_script.specs.Scripts.{ReadsForeign, ReadsForeignFields};
 ghost use Rattle.dr_world_script.specs.Scripts.{ReadsWritten, TakesItem};
+ghost use Rattle.dr_world_script.specs.declared.foreign.ForeignWord.TheVariants as foreign_words;
 ghost use Rattle.dr_world_script.specs.declared.step.Side.{Side as SideValue};
 ghost use Rattle.dr_world_script.specs.declared.step.Word.TheVariants as words;
 
 use crate::act::Act;
 use crate::fault::LineFault;
-use crate::fields::{is_adopt, is_bytes, parts_of, read_bytes, read_side, read_syntax, read_word};
+use crate::fields::{
+    is_adopt, is_bytes, parts_of, read_bytes, read_foreign_word, read_side, read_status,
+    read_syntax, read_word,
+};
+use crate::foreign::{Foreign, ForeignWord};
 use crate::step::{Side, Step, Word};
 use dr_base::fields::read_number;
 use dr_base::{Octets, Syntax, Text};
@@ -298,6 +304,78 @@ fn read_written(alloc: Global, fields: &[&[u8]]) -> Result<Act, LineFault>
     Ok(Act::Bytes { link, side, bytes })
 }
 
+fn read_foreign_node(alloc: Global, fields: &[&[u8]]) -> Result<Foreign, LineFault>
+    ensures { ReadsForeignFields foreign_words.Node (map (λ f. f.now) fields.now) result }
+{
+    match only_field(fields) {
+        Some(field) => {
+            let node = Text::copy_of(alloc, field)?;
+            Ok(Foreign::Node { node })
+        }
+        None => Err(LineFault::NoStep),
+    }
+}
+
+fn read_store(alloc: Global, fields: &[&[u8]]) -> Result<Foreign, LineFault>
+    ensures { ReadsForeignFields foreign_words.Store (map (λ f. f.now) fields.now) result }
+{
+    let [first, second, third] = fields else {
+        return Err(LineFault::NoStep);
+    };
+    let Some(link) = read_number(first) else {
+        return Err(LineFault::NoStep);
+    };
+    let Some(syntax) = read_syntax(second) else {
+        return Err(LineFault::NoStep);
+    };
+    let body = match read_bytes(alloc, third) {
+        Ok(body) => body,
+        Err(fault) => return Err(fault),
+    };
+    let item = match item_of(alloc, syntax, body) {
+        Ok(item) => item,
+        Err(fault) => return Err(fault),
+    };
+    Ok(Foreign::Store { link, item })
+}
+
+fn read_answer(alloc: Global, fields: &[&[u8]]) -> Result<Foreign, LineFault>
+    ensures { ReadsForeignFields foreign_words.Answer (map (λ f. f.now) fields.now) result }
+{
+    let [first, second] = fields else {
+        return Err(LineFault::NoStep);
+    };
+    let Some(link) = read_number(first) else {
+        return Err(LineFault::NoStep);
+    };
+    let status = match read_status(alloc, second) {
+        Ok(status) => status,
+        Err(fault) => return Err(fault),
+    };
+    Ok(Foreign::Answer { link, status })
+}
+
+/// What concerns other makers' products, by its word and the other fields.
+fn read_foreign(alloc: Global, word: ForeignWord, fields: &[&[u8]]) -> Result<Foreign, LineFault>
+    ensures { ReadsForeignFields word (map (λ f. f.now) fields.now) result }
+{
+    match word {
+        ForeignWord::Node => read_foreign_node(alloc, fields),
+        ForeignWord::Store => read_store(alloc, fields),
+        ForeignWord::Answer => read_answer(alloc, fields),
+    }
+}
+
+/// The same, as what a line tells.
+fn read_foreign_act(alloc: Global, word: ForeignWord, fields: &[&[u8]]) -> Result<Act, LineFault>
+    ensures { ReadsForeign word (map (λ f. f.now) fields.now) result }
+{
+    match read_foreign(alloc, word, fields) {
+        Ok(foreign) => Ok(Act::Foreign(foreign)),
+        Err(fault) => Err(fault),
+    }
+}
+
 /// The step whose word is spelled as the first part, and whose other fields these are.
 fn read_step(alloc: Global, first: &[u8], fields: &[&[u8]]) -> Result<Step, LineFault>
     ensures { ReadsStep (first.now ∷ map (λ f. f.now) fields.now) result }
@@ -317,6 +395,9 @@ fn read_parts(alloc: Global, first: &[u8], fields: &[&[u8]]) -> Result<Act, Line
     }
     if is_bytes(first) {
         return read_written(alloc, fields);
+    }
+    if let Some(word) = read_foreign_word(first) {
+        return read_foreign_act(alloc, word, fields);
     }
     match read_step(alloc, first, fields) {
         Ok(step) => Ok(Act::Step(step)),

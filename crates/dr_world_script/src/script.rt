@@ -21,7 +21,7 @@ fn is_skipped(line: &[u8]) -> bool
     }
 }
 
-/// What a script tells: one step, change of plan or write of another product a line, whose fields
+/// What a script tells: one step, change of plan or deed of another product a line, whose fields
 /// are joined by tabs; lines that are empty or begin with `#` are skipped. Numbers are decimal
 /// without leading zeros and below 2^64; a data set, and what is written, is given in hex digits of
 /// either case.

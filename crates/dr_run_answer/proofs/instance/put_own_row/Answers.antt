@@ -1,7 +1,8 @@
 use Rattle.std.proofs.Common.{◌++◌}
 use Rattle.std.specs.Prelude.{codes}
 use Rattle.dr_base_quoted.specs.Quoting.{quoted}
-use Rattle.dr_run_answer.specs.Answers.{ended, last_try, progress_part, tried_part, word}
+use Rattle.dr_ledger_text.specs.Members.{word}
+use Rattle.dr_run_answer.specs.Answers.{ended, last_try, progress_part, tried_part}
 use Rattle.dr_run_answer.proofs.Chained.{chained}
 use Rattle.dr_run_answer.proofs.instance.put_own_row.Goals as goal
 

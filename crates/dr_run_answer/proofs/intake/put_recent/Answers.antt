@@ -1,7 +1,8 @@
 use Rattle.std.proofs.Common.{◌++◌}
 use Rattle.std.specs.Prelude.{codes}
 use Rattle.dr_base_quoted.specs.Quoting.{quoted}
-use Rattle.dr_run_answer.specs.Answers.{ended, number, word}
+use Rattle.dr_ledger_text.specs.Members.{number, word}
+use Rattle.dr_run_answer.specs.Answers.{ended}
 use Rattle.dr_run_answer.proofs.Chained.{chained}
 use Rattle.dr_run_answer.proofs.intake.put_recent.Goals as goal
 

@@ -1,7 +1,8 @@
 use Rattle.std.proofs.Common.{◌++◌}
 use Rattle.std.specs.Prelude.{codes}
 use Rattle.dr_base_quoted.specs.Quoting.{quoted}
-use Rattle.dr_run_answer.specs.Answers.{due_part, ended, number, visit_part, waited_part}
+use Rattle.dr_ledger_text.specs.Members.{number}
+use Rattle.dr_run_answer.specs.Answers.{due_part, ended, visit_part, waited_part}
 use Rattle.dr_run_answer.proofs.Chained.{chained}
 use Rattle.dr_run_answer.proofs.json.put_queue.Goals as goal
 

@@ -1,6 +1,6 @@
 use Rattle.std.proofs.Common.{◌++◌}
 use Rattle.std.specs.Prelude.{codes}
-use Rattle.dr_run_answer.specs.Answers.{number, word}
+use Rattle.dr_ledger_text.specs.Members.{number, word}
 use Rattle.dr_run_answer.proofs.Chained.{chained}
 use Rattle.dr_run_answer.proofs.json.put_waiting.Goals as goal
 

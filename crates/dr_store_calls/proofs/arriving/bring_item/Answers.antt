@@ -15,7 +15,7 @@ returns-in-Err-clause-called g c =
     let shelf = c.args.shelf.now in
     let Uses = g.B.Shelf.uses shelf in
     let Comes : Option (List ℕ) → Type 0 =
-    IsPut (shelf ≡ shelf) Uses Uses (g.B.Shelf.stands shelf) g.B.Shelf.apart came.body.now in
+    IsPut (shelf ≡ shelf) Uses Uses (g.B.Shelf.stands shelf) (g.B.Shelf.apart (g.B.Shelf.named c.args.shelf.now)) came.body.now in
     let Asks : Trees → Type 0 =
     λ base. FitsTables reception.taking came.caller.now came.instance.now c.args.targets.now.to
     c.args.targets.now.keep reception.again.now reception.dests.now reception.keeps base in

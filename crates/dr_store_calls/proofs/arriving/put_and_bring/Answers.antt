@@ -18,13 +18,13 @@ returns-then-not-does_come-clause-called g c =
     let Uses = g.B.Shelf.uses shelf in
     let cell : List ℕ = [] in
     let Comes : Option (List ℕ) → Type 0 =
-    IsPut (shelf ≡ shelf) Uses Uses (g.B.Shelf.stands shelf) g.B.Shelf.apart came.body.now in
+    IsPut (shelf ≡ shelf) Uses Uses (g.B.Shelf.stands shelf) (g.B.Shelf.apart (g.B.Shelf.named c.args.shelf.now)) came.body.now in
     let Asks : Trees → Type 0 =
     λ base. FitsTables reception.taking came.caller.now came.instance.now c.args.targets.now.to
     c.args.targets.now.keep reception.again.now reception.dests.now reception.keeps base in
     brought_as Comes came (state g.S.Store c.args.conn.now) (state g.S.Store c.bring.new.conn)
     (IsCellTaken reception.taking cell)
-    (no_place (shelf ≡ shelf) Uses Uses (g.B.Shelf.stands shelf) g.B.Shelf.apart came.body.now
+    (no_place (shelf ≡ shelf) Uses Uses (g.B.Shelf.stands shelf) (g.B.Shelf.apart (g.B.Shelf.named c.args.shelf.now)) came.body.now
     reception.taking cell refl (sym c.does_come.ensures ∙ c.if-not-does_come.true))
     New c.bring.result Asks c.bring.ensures.called
 
@@ -38,7 +38,7 @@ returns-in-Ok-clause-called g c =
     let Used = g.B.Shelf.uses was in
     let Uses = g.B.Shelf.uses shelf in
     let Stands = g.B.Shelf.stands shelf in
-    let Apart = g.B.Shelf.apart in
+    let Apart = g.B.Shelf.apart (g.B.Shelf.named c.args.shelf.now) in
     let Comes : Option (List ℕ) → Type 0 =
     IsPut (shelf ≡ was) Used Uses Stands Apart came.body.now in
     let Asks : Trees → Type 0 =
@@ -60,7 +60,7 @@ returns-in-Err-clause-called g c =
     let shelf = c.put.new.self in
     let Comes : Option (List ℕ) → Type 0 =
     IsPut (shelf ≡ was) (g.B.Shelf.uses was) (g.B.Shelf.uses shelf) (g.B.Shelf.stands shelf)
-    g.B.Shelf.apart came.body.now in
+    (g.B.Shelf.apart (g.B.Shelf.named c.args.shelf.now)) came.body.now in
     let s = state g.S.Store c.args.conn.now in
     let Asks : Trees → Type 0 =
     λ base. FitsTables reception.taking came.caller.now came.instance.now c.args.targets.now.to

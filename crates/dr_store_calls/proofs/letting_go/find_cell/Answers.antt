@@ -18,16 +18,16 @@ returns-then-names_places-clause-looked g c n part =
     let old = state g.S.Store c.args.conn.now in
     let new = state g.S.Store c.find_job.new.conn in
     let Shows : Trees → Option Job → Type 0 = λ base. IsJobOf uid base in
-    let Says : Trees → Option Job → Type 0 = λ base. IsCellOf g.B.Shelf.apart uid base in
+    let Says : Trees → Option Job → Type 0 = λ base. IsCellOf (g.B.Shelf.apart (g.B.Shelf.named c.args.shelf.now)) uid base in
     looked_as n part r old new Shows Says (asked_looked n part r old new Shows c.find_job.ensures.asked)
-    (λ base found. cell_found g.B.Shelf.apart uid base found)
+    (λ base found. cell_found (g.B.Shelf.apart (g.B.Shelf.named c.args.shelf.now)) uid base found)
 
 pub returns-clause-looked : goal.returns-clause-looked
 returns-clause-looked g c n part =
     let none : Option Job = None in
-    let Says : Trees → Option Job → Type 0 = λ base. IsCellOf g.B.Shelf.apart c.args.uid.now base in
+    let Says : Trees → Option Job → Type 0 = λ base. IsCellOf (g.B.Shelf.apart (g.B.Shelf.named c.args.shelf.now)) c.args.uid.now base in
     still_called n part (Ok none) (state g.S.Store c.args.conn.now) Nothing
     (λ base db. (db ≡ base) × Reads (Ok none) (Says base))
     (λ base db. ⊥)
-    (λ db any. (refl, λ cell there. c.names_places.ensures c.if-names_places.false cell cell))
+    (λ db any. (refl, λ cell there. c.names_places.ensures.free c.if-names_places.false cell cell))
     (λ P p. p)

@@ -25,7 +25,7 @@ returns-in-Ok-clause-called g c part =
     let new = state g.S.Store c.drop_row_of-answer.new.conn in
     let was = c.args.shelf.now in
     let shelf = c.let_go_gone.new.shelf in
-    let Apart = g.B.Shelf.apart in
+    let Apart = g.B.Shelf.apart (g.B.Shelf.named c.args.shelf.now) in
     let Shows : Trees → Option Job → Type 0 = λ base. IsCellOf Apart uid base in
     let Tables : Trees → Trees → Type 0 =
     λ base db. Drops uid dest c.args.now (book_of base) (plain r) (book_of db) × GoesWith r uid base db in
@@ -66,7 +66,7 @@ returns-in-Err-clause-called g c part =
     let old = state g.S.Store c.args.conn.now in
     let new = state g.S.Store c.find_cell.new.conn in
     let was = c.args.shelf.now in
-    let Apart = g.B.Shelf.apart in
+    let Apart = g.B.Shelf.apart (g.B.Shelf.named c.args.shelf.now) in
     let Shows : Trees → Option Job → Type 0 = λ base. IsCellOf Apart uid base in
     looked_failed {B = Unit {0}} n part old new Shows e Nothing
     (λ base db. Drops uid dest c.args.now (book_of base) (Err e) (book_of db)

@@ -13,7 +13,7 @@ pub returns-in-No-clause-called : goal.returns-in-No-clause-called
 returns-in-No-clause-called g c =
     let Comes : Option (List ℕ) → Type 0 =
     IsPut (c.arrive_new.new.shelf ≡ c.args.shelf.now) (g.B.Shelf.uses c.args.shelf.now) (g.B.Shelf.uses c.arrive_new.new.shelf)
-    (g.B.Shelf.stands c.arrive_new.new.shelf) g.B.Shelf.apart c.args.came.now.body.now in
+    (g.B.Shelf.stands c.arrive_new.new.shelf) (g.B.Shelf.apart (g.B.Shelf.named c.args.shelf.now)) c.args.came.now.body.now in
     let came = c.args.came.now in
     let Knows : Known → Trees → Type 0 = λ what base. IsWhatIsKnown base came.instance.now what in
     received Comes came (state g.S.Store c.args.conn.now) (state g.S.Store c.arrive_new.new.conn) c.arrive_new.result (HasNeither came.instance.now.uid) (Knows c.args.known)
@@ -23,7 +23,7 @@ pub returns-in-Other-clause-called : goal.returns-in-Other-clause-called
 returns-in-Other-clause-called g c =
     let Comes : Option (List ℕ) → Type 0 =
     IsPut (c.args.shelf.now ≡ c.args.shelf.now) (g.B.Shelf.uses c.args.shelf.now) (g.B.Shelf.uses c.args.shelf.now)
-    (g.B.Shelf.stands c.args.shelf.now) g.B.Shelf.apart c.args.came.now.body.now in
+    (g.B.Shelf.stands c.args.shelf.now) (g.B.Shelf.apart (g.B.Shelf.named c.args.shelf.now)) c.args.came.now.body.now in
     let came = c.args.came.now in
     let Knows : Known → Trees → Type 0 = λ what base. IsWhatIsKnown base came.instance.now what in
     not_received Comes came (state g.S.Store c.args.conn.now) (Knows c.args.known) fault.Conflict
@@ -33,7 +33,7 @@ pub returns-in-Same-clause-called : goal.returns-in-Same-clause-called
 returns-in-Same-clause-called g c =
     let Comes : Option (List ℕ) → Type 0 =
     IsPut (c.arrive_there.new.shelf ≡ c.args.shelf.now) (g.B.Shelf.uses c.args.shelf.now) (g.B.Shelf.uses c.arrive_there.new.shelf)
-    (g.B.Shelf.stands c.arrive_there.new.shelf) g.B.Shelf.apart c.args.came.now.body.now in
+    (g.B.Shelf.stands c.arrive_there.new.shelf) (g.B.Shelf.apart (g.B.Shelf.named c.args.shelf.now)) c.args.came.now.body.now in
     let came = c.args.came.now in
     let Knows : Known → Trees → Type 0 = λ what base. IsWhatIsKnown base came.instance.now what in
     received Comes came (state g.S.Store c.args.conn.now) (state g.S.Store c.arrive_there.new.conn) c.arrive_there.result (λ base. IsThere base came.instance.now c.in-Same.whole) (Knows c.args.known)

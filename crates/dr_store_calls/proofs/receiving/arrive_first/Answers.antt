@@ -10,7 +10,7 @@ pub returns-in-Ok-clause-called : goal.returns-in-Ok-clause-called
 returns-in-Ok-clause-called g c =
     let Comes : Option (List ℕ) → Type 0 =
     IsPut (c.bring_there.new.shelf ≡ c.args.shelf.now) (g.B.Shelf.uses c.args.shelf.now) (g.B.Shelf.uses c.bring_there.new.shelf)
-    (g.B.Shelf.stands c.bring_there.new.shelf) g.B.Shelf.apart c.args.came.now.body.now in
+    (g.B.Shelf.stands c.bring_there.new.shelf) (g.B.Shelf.apart (g.B.Shelf.named c.args.shelf.now)) c.args.came.now.body.now in
     let came = c.args.came.now in
     let Asks = IsThereFor came c.args.whole false in
     let Given : Trees → Type 0 = λ base. Asks base × IsFoundFor came.instance.now.uid base c.in-Ok.first in
@@ -21,7 +21,7 @@ pub returns-in-Err-clause-called : goal.returns-in-Err-clause-called
 returns-in-Err-clause-called g c =
     let Comes : Option (List ℕ) → Type 0 =
     IsPut (c.args.shelf.now ≡ c.args.shelf.now) (g.B.Shelf.uses c.args.shelf.now) (g.B.Shelf.uses c.args.shelf.now)
-    (g.B.Shelf.stands c.args.shelf.now) g.B.Shelf.apart c.args.came.now.body.now in
+    (g.B.Shelf.stands c.args.shelf.now) (g.B.Shelf.apart (g.B.Shelf.named c.args.shelf.now)) c.args.came.now.body.now in
     let came = c.args.came.now in
     not_read Comes came (state g.S.Store c.args.conn.now) (state g.S.Store c.find_first.new.conn) (IsFoundFor came.instance.now.uid) c.in-Err.fault (IsThereFor came c.args.whole false) c.requires.delivered
     (c.in-Err.ensures.looked came.n came.site.now)

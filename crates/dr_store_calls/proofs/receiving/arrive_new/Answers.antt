@@ -19,7 +19,7 @@ returns-in-Ok-clause-called g c =
     let shelf = c.bring_item.new.shelf in
     let Comes : Option (List ℕ) → Type 0 =
     IsPut (shelf ≡ c.args.shelf.now) (g.B.Shelf.uses c.args.shelf.now) (g.B.Shelf.uses shelf) (g.B.Shelf.stands shelf)
-    g.B.Shelf.apart came.body.now in
+    (g.B.Shelf.apart (g.B.Shelf.named c.args.shelf.now)) came.body.now in
     let to = c.in-Ok.targets.to in
     let keep = c.in-Ok.targets.keep in
     let t = c.taking_new-taking.result in
@@ -45,6 +45,6 @@ returns-in-Err-clause-called g c =
     let came = c.args.came.now in
     let Uses = g.B.Shelf.uses c.args.shelf.now in
     let Comes : Option (List ℕ) → Type 0 =
-    IsPut (c.args.shelf.now ≡ c.args.shelf.now) Uses Uses (g.B.Shelf.stands c.args.shelf.now) g.B.Shelf.apart came.body.now in
+    IsPut (c.args.shelf.now ≡ c.args.shelf.now) Uses Uses (g.B.Shelf.stands c.args.shelf.now) (g.B.Shelf.apart (g.B.Shelf.named c.args.shelf.now)) came.body.now in
     no_memory Comes came (state g.S.Store c.args.conn.now) (HasNeither came.instance.now.uid)
     c.requires.delivered

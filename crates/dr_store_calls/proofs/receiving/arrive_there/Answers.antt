@@ -15,7 +15,7 @@ pub returns-then-brought-clause-called : goal.returns-then-brought-clause-called
 returns-then-brought-clause-called g c =
     let Comes : Option (List ℕ) → Type 0 =
     IsPut (c.args.shelf.now ≡ c.args.shelf.now) (g.B.Shelf.uses c.args.shelf.now) (g.B.Shelf.uses c.args.shelf.now)
-    (g.B.Shelf.stands c.args.shelf.now) g.B.Shelf.apart c.args.came.now.body.now in
+    (g.B.Shelf.stands c.args.shelf.now) (g.B.Shelf.apart (g.B.Shelf.named c.args.shelf.now)) c.args.came.now.body.now in
     let came = c.args.came.now in
     let old = state g.S.Store c.args.conn.now in
     let mid = state g.S.Store c.find_arrival.new.conn in
@@ -31,7 +31,7 @@ pub returns-else-brought-clause-called : goal.returns-else-brought-clause-called
 returns-else-brought-clause-called g c =
     let Comes : Option (List ℕ) → Type 0 =
     IsPut (c.arrive_first.new.shelf ≡ c.args.shelf.now) (g.B.Shelf.uses c.args.shelf.now) (g.B.Shelf.uses c.arrive_first.new.shelf)
-    (g.B.Shelf.stands c.arrive_first.new.shelf) g.B.Shelf.apart c.args.came.now.body.now in
+    (g.B.Shelf.stands c.arrive_first.new.shelf) (g.B.Shelf.apart (g.B.Shelf.named c.args.shelf.now)) c.args.came.now.body.now in
     let came = c.args.came.now in
     let old = state g.S.Store c.args.conn.now in
     let mid = state g.S.Store c.find_arrival.new.conn in
@@ -46,7 +46,7 @@ pub returns-in-Err-clause-called : goal.returns-in-Err-clause-called
 returns-in-Err-clause-called g c =
     let Comes : Option (List ℕ) → Type 0 =
     IsPut (c.args.shelf.now ≡ c.args.shelf.now) (g.B.Shelf.uses c.args.shelf.now) (g.B.Shelf.uses c.args.shelf.now)
-    (g.B.Shelf.stands c.args.shelf.now) g.B.Shelf.apart c.args.came.now.body.now in
+    (g.B.Shelf.stands c.args.shelf.now) (g.B.Shelf.apart (g.B.Shelf.named c.args.shelf.now)) c.args.came.now.body.now in
     let came = c.args.came.now in
     let old = state g.S.Store c.args.conn.now in
     let mid = state g.S.Store c.find_arrival.new.conn in

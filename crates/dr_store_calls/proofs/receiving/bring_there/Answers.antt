@@ -14,7 +14,7 @@ pub returns-clause-called : goal.returns-clause-called
 returns-clause-called g c =
     let Comes : Option (List ℕ) → Type 0 =
     IsPut (c.bring_item.new.shelf ≡ c.args.shelf.now) (g.B.Shelf.uses c.args.shelf.now) (g.B.Shelf.uses c.bring_item.new.shelf)
-    (g.B.Shelf.stands c.bring_item.new.shelf) g.B.Shelf.apart c.args.came.now.body.now in
+    (g.B.Shelf.stands c.bring_item.new.shelf) (g.B.Shelf.apart (g.B.Shelf.named c.args.shelf.now)) c.args.came.now.body.now in
     let came = c.args.came.now in
     let caller = came.caller.now in
     let item = came.instance.now in

@@ -12,7 +12,7 @@ pub returns-in-Ok-clause-called : goal.returns-in-Ok-clause-called
 returns-in-Ok-clause-called g c =
     let Comes : Option (List ℕ) → Type 0 =
     IsPut (c.arrive_by.new.shelf ≡ c.args.shelf.now) (g.B.Shelf.uses c.args.shelf.now) (g.B.Shelf.uses c.arrive_by.new.shelf)
-    (g.B.Shelf.stands c.arrive_by.new.shelf) g.B.Shelf.apart c.args.came.now.body.now in
+    (g.B.Shelf.stands c.arrive_by.new.shelf) (g.B.Shelf.apart (g.B.Shelf.named c.args.shelf.now)) c.args.came.now.body.now in
     let came = c.args.came.now in
     let known = c.in-Ok.known in
     let Shows : Trees → Known → Type 0 = λ base known. IsWhatIsKnown base came.instance.now known in
@@ -24,7 +24,7 @@ pub returns-in-Err-clause-called : goal.returns-in-Err-clause-called
 returns-in-Err-clause-called g c =
     let Comes : Option (List ℕ) → Type 0 =
     IsPut (c.args.shelf.now ≡ c.args.shelf.now) (g.B.Shelf.uses c.args.shelf.now) (g.B.Shelf.uses c.args.shelf.now)
-    (g.B.Shelf.stands c.args.shelf.now) g.B.Shelf.apart c.args.came.now.body.now in
+    (g.B.Shelf.stands c.args.shelf.now) (g.B.Shelf.apart (g.B.Shelf.named c.args.shelf.now)) c.args.came.now.body.now in
     let came = c.args.came.now in
     let Shows : Trees → Known → Type 0 = λ base known. IsWhatIsKnown base came.instance.now known in
     not_read Comes came (state g.S.Store c.args.conn.now) (state g.S.Store c.know.new.conn) Shows c.in-Err.fault Nothing c.requires.delivered (c.in-Err.ensures.looked came.n came.site.now)

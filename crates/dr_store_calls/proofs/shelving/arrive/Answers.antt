@@ -25,7 +25,7 @@ pub returns-in-Ok-clause-called : goal.returns-in-Ok-clause-called
 returns-in-Ok-clause-called g c =
     let Is : Job → Type 0 = λ job. IsItem job in
     let shelf = c.receive.new.shelf in
-    let Comes : List ℕ → Option (List ℕ) → Type 0 = IsPut (shelf ≡ c.args.shelf.now) (g.B.Shelf.uses c.args.shelf.now) (g.B.Shelf.uses shelf) (g.B.Shelf.stands shelf) g.B.Shelf.apart in
+    let Comes : List ℕ → Option (List ℕ) → Type 0 = IsPut (shelf ≡ c.args.shelf.now) (g.B.Shelf.uses c.args.shelf.now) (g.B.Shelf.uses shelf) (g.B.Shelf.stands shelf) (g.B.Shelf.apart (g.B.Shelf.named c.args.shelf.now)) in
     let own = c.as_bytes.ensures ∙ ap (λ (j : Job). j.body) c.into_job-job.ensures.same in
     received_item Comes c.args.line.n c.args.site.now c.args.caller.now c.args.item c.in-Ok.instance _ c.receive.result (state g.S.Store c.args.conn.now) (state g.S.Store c.receive.new.conn)
     (subst Is c.into_job-job.ensures.same c.into_job-job.ensures.item) c.in-Ok.ensures own c.receive.ensures.called
@@ -34,7 +34,7 @@ pub returns-then-not-has_line-clause-called : goal.returns-then-not-has_line-cla
 returns-then-not-has_line-clause-called g c =
     let shelf = c.args.shelf.now in
     let Uses = g.B.Shelf.uses shelf in
-    let Comes : List ℕ → Option (List ℕ) → Type 0 = IsPut (shelf ≡ shelf) Uses Uses (g.B.Shelf.stands shelf) g.B.Shelf.apart in
+    let Comes : List ℕ → Option (List ℕ) → Type 0 = IsPut (shelf ≡ shelf) Uses Uses (g.B.Shelf.stands shelf) (g.B.Shelf.apart (g.B.Shelf.named c.args.shelf.now)) in
     let P : Key → Type 0 = λ key. HasLineFor c.args.site.now c.args.caller.now key → ⊥ in
     no_line Comes c.args.line.n c.args.site.now c.args.caller.now c.args.item (state g.S.Store c.args.conn.now) refl
     (subst P c.key.ensures (λ line. true≢false (sym (c.has_line.ensures.1 line) ∙ c.if-not-has_line.true)))

@@ -1,10 +1,10 @@
 use Rattle.std.proofs.Common.{List, subst}
 use Rattle.std.specs.List.{AllZip}
-use Rattle.dr_world.specs.Played.{HasChange}
-use Rattle.dr_world.specs.declared.deed.Deed.{Deed}
+use Rattle.dr_world.specs.Orders.{OrdersChange}
+use Rattle.dr_world.specs.declared.order.WorldOrder.{WorldOrder}
 use Rattle.dr_world.specs.declared.fault.WorldFault.{WorldFault}
 use Rattle.dr_world_script.specs.declared.act.Act.{Act}
-use Rattle.dr_word_simulate.specs.Deeds.{IsDeedOf, StopsAt}
+use Rattle.dr_word_simulate.specs.Orders.{IsOrderOf, StopsAt}
 use Rattle.dr_word_simulate.specs.Reported.{IsReportAfter, IsUnreported}
 use Rattle.dr_word_simulate.proofs.Doing.{has_change, stopped, stops_at_line}
 use Rattle.dr_word_simulate.proofs.outcome.outcome_of.Goals as goal
@@ -24,20 +24,20 @@ returns-in-Err g c =
 
 pub returns-in-Ok-report_after : goal.returns-in-Ok-report_after
 returns-in-Ok-report_after g c =
-    let P : List Act → Type 0 = λ acts. AllZip (IsDeedOf (g.F.Files.holds c.args.files.now)) acts c.in-Ok-deeds_of.deeds.items in
-    let Q : List Deed → Type 0 = λ deeds. IsReportAfter c.args.sealed.now.plan c.args.sealed.now.certificate deeds c.in-Ok-report_after.report in
+    let P : List Act → Type 0 = λ acts. AllZip (IsOrderOf (g.F.Files.holds c.args.files.now)) acts c.in-Ok-orders_of.orders.items in
+    let Q : List WorldOrder → Type 0 = λ orders. IsReportAfter c.args.sealed.now.plan c.args.sealed.now.certificate orders c.in-Ok-report_after.report in
     record {
       acts = c.in-Ok.acts;
       told = c.in-Ok.ensures;
-      deeds = c.in-Ok-deeds_of.deeds.items;
-      done = subst P c.into_vec.ensures c.in-Ok-deeds_of.ensures;
+      orders = c.in-Ok-orders_of.orders.items;
+      ordered = subst P c.into_vec.ensures c.in-Ok-orders_of.ensures;
       reported = subst Q c.as_slice.ensures.value c.in-Ok-report_after.ensures.reports;
     }
 
 pub returns-in-Err-HalfAdopted : goal.returns-in-Err-HalfAdopted
 returns-in-Err-HalfAdopted g c =
-    let P : List Act → Type 0 = λ acts. AllZip (IsDeedOf (g.F.Files.holds c.args.files.now)) acts c.in-Ok-deeds_of.deeds.items in
-    let Q : List Deed → Type 0 = λ deeds. HasChange deeds in
+    let P : List Act → Type 0 = λ acts. AllZip (IsOrderOf (g.F.Files.holds c.args.files.now)) acts c.in-Ok-orders_of.orders.items in
+    let Q : List WorldOrder → Type 0 = λ orders. OrdersChange orders in
     let F : WorldFault → Type 0 = λ why. IsUnreported c.as_slice.result.now why in
-    has_change (g.F.Files.holds c.args.files.now) c.args.text.now c.in-Ok.acts c.in-Ok-deeds_of.deeds.items c.in-Ok.ensures (subst P c.into_vec.ensures c.in-Ok-deeds_of.ensures)
+    has_change (g.F.Files.holds c.args.files.now) c.args.text.now c.in-Ok.acts c.in-Ok-orders_of.orders.items c.in-Ok.ensures (subst P c.into_vec.ensures c.in-Ok-orders_of.ensures)
     (subst Q c.as_slice.ensures.value (subst F c.in-Err-HalfAdopted.field-0-is c.in-Err-HalfAdopted.ensures.unreported))

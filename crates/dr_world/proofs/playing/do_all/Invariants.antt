@@ -1,7 +1,7 @@
 use Rattle.std.proofs.Common.{◌≡◌, None, take}
-use Rattle.dr_world.specs.Played.{PlaysAll}
+use Rattle.dr_world.proofs.Orders.{SoFar}
 use Rattle.dr_world.proofs.playing.do_all.Given as goal
 
--- the deeds so far, with what the changes among them came to; none has failed
-abbrev pub invariant-loop-deed : goal.invariant-loop-deed
-invariant-loop-deed l = PlaysAll (take l.deed-index l.deeds) l.changes l.fn.world l.world × (l.world.lost ≡ None)
+-- the orders so far, with what was noted of them; none has failed
+abbrev pub invariant-loop-order : goal.invariant-loop-order
+invariant-loop-order l = SoFar l.fn.world (take l.order-index l.orders) l.notes l.world × (l.world.lost ≡ None)

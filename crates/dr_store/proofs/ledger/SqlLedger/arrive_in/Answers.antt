@@ -9,7 +9,8 @@ use Rattle.dr_store_schema.specs.Books.{book_of}
 use Rattle.dr_store_calls.specs.Calling.{IsSafe, advanced}
 use Rattle.dr_store_calls.specs.Knowing.{IsAccepted}
 use Rattle.dr_store_calls.specs.Shelving.{AcceptsItem, AnswersTo, IsPut}
-use Rattle.dr_store.specs.Owning.{KeepsOwn, bodies_with}
+use Rattle.sqlite.specs.State.{HasCleanDisk}
+use Rattle.dr_store.specs.Owning.{IsCovered, KeepsOwn, bodies_with}
 use Rattle.dr_store.proofs.Owns.{arrived, if_failed, left_by_arrival, only_takes}
 use Rattle.dr_store.proofs.Replies.{arrives, takes}
 use Rattle.dr_store.proofs.Stable.{both}
@@ -29,16 +30,17 @@ invariant_of-self g c =
     let Stood = g.B.Shelf.stands c.args.self.now.shelf in
     let Uses = g.B.Shelf.uses c.arrive-answer.new.shelf in
     let Stands = g.B.Shelf.stands c.arrive-answer.new.shelf in
-    let Apart = g.B.Shelf.apart in
+    let Apart = g.B.Shelf.apart (g.B.Shelf.named c.args.self.now.shelf) in
     let Same : Type 0 = c.arrive-answer.new.shelf ≡ c.args.self.now.shelf in
     let Comes : List ℕ → Option (List ℕ) → Type 0 = IsPut Same Used Uses Stands Apart in
     let Cells : Trees → Trees → Type 0 = AnswersTo Comes part caller item r in
     let Makes : Trees → Trees → Type 0 = AcceptsItem Comes part caller item in
+    let ApartNow = g.B.Shelf.apart (g.B.Shelf.named c.arrive-answer.new.shelf) in
     let done = called Used Stood Apart n (advanced r n) part r old new Cells Makes c.arrive-answer.ensures.called in
     record {
       idle = c.arrive-answer.ensures.idle;
-      kept = subst (λ m. IsSafe new → ∥ KeepsOwn Uses Stands Apart m part new ∥₁) (sym c.next_after-self.ensures) (still_kept n (advanced r n) part part r old new Cells Makes c.args.self.now.kept done Uses Stands
-          (λ k it own. arrived c.arrive-answer.ensures.keeps Same g.B.Shelf.swaps part caller item r old.committed.trees new.committed.trees it own));
+      kept = subst (λ m. IsSafe new → ∥ KeepsOwn Uses Stands ApartNow m part new ∥₁) (sym c.next_after-self.ensures) (subst (λ places. IsSafe new → ∥ KeepsOwn Uses Stands (g.B.Shelf.apart places) (advanced r n) part new ∥₁) (sym c.arrive-answer.ensures.named) (still_kept n (advanced r n) part part r old new Cells Makes c.args.self.now.kept done Uses Stands
+          (λ k it own. arrived c.arrive-answer.ensures.keeps Same (g.B.Shelf.swaps (g.B.Shelf.named c.args.self.now.shelf)) part caller item r old.committed.trees new.committed.trees it own)));
     }
 
 pub returns-clause-wrote : goal.returns-clause-wrote
@@ -54,7 +56,7 @@ returns-clause-wrote g c =
     let shelf = c.arrive-answer.new.shelf in
     let was_of = g.B.Shelf.body_of was in
     let body_of = g.B.Shelf.body_of shelf in
-    let Apart = g.B.Shelf.apart in
+    let Apart = g.B.Shelf.apart (g.B.Shelf.named c.args.self.now.shelf) in
     let Used = g.B.Shelf.uses was in
     let Stood = g.B.Shelf.stands was in
     let Same : Type 0 = shelf ≡ was in
@@ -82,7 +84,7 @@ returns-clause-covered g c =
     let base = old.committed.trees in
     let was = c.args.self.now.shelf in
     let shelf = c.arrive-answer.new.shelf in
-    let Apart = g.B.Shelf.apart in
+    let Apart = g.B.Shelf.apart (g.B.Shelf.named c.args.self.now.shelf) in
     let Used = g.B.Shelf.uses was in
     let Stood = g.B.Shelf.stands was in
     let Uses = g.B.Shelf.uses shelf in
@@ -93,9 +95,11 @@ returns-clause-covered g c =
     let Makes : Trees → Trees → Type 0 = AcceptsItem Comes part caller item in
     let done = called Used Stood Apart n (advanced r n) part r old new Cells Makes c.arrive-answer.ensures.called in
     let keeps = c.arrive-answer.ensures.keeps in
+    subst (λ places. HasCleanDisk new → IsSafe old → IsCovered Uses Stands (g.B.Shelf.apart places) new.may_leave)
+    (sym c.arrive-answer.ensures.named) (
     covered n (advanced r n) part part r old new Cells Makes c.args.self.now.kept done
     (λ db is_open left. g.met.S.Store.settled c.args.self.now.conn.store db is_open left)
     (λ db is_open left. g.met.S.Store.settled c.arrive-answer.new.conn.store db is_open left)
     Uses Stands
-    (λ k it own. arrived keeps Same g.B.Shelf.swaps part caller item r base new.committed.trees it own)
-    (if_failed r (λ k own db may. left_by_arrival keeps Same g.B.Shelf.swaps part caller item base db may own))
+    (λ k it own. arrived keeps Same (g.B.Shelf.swaps (g.B.Shelf.named c.args.self.now.shelf)) part caller item r base new.committed.trees it own)
+    (if_failed r (λ k own db may. left_by_arrival keeps Same (g.B.Shelf.swaps (g.B.Shelf.named c.args.self.now.shelf)) part caller item base db may own)))

@@ -7,7 +7,8 @@ use Rattle.dr_ledger.specs.Replies.{Drops}
 use Rattle.dr_store_schema.specs.Books.{bodies_of, book_of}
 use Rattle.dr_store_calls.specs.Calling.{IsKept, IsSafe, advanced}
 use Rattle.dr_store_calls.specs.LettingGo.{LetsCellsGo}
-use Rattle.dr_store.specs.Owning.{HaveOwn, KeepsOwn, bodies_with}
+use Rattle.sqlite.specs.State.{HasCleanDisk}
+use Rattle.dr_store.specs.Owning.{IsCovered, HaveOwn, KeepsOwn, bodies_with}
 use Rattle.dr_store.proofs.Owns.{dropped, dropped_go, left_of, let_go_with, not_gone}
 use Rattle.dr_store.proofs.Replies.{drops, lets_go}
 use Rattle.dr_store.proofs.Stable.{both}
@@ -19,7 +20,7 @@ invariant_of-self g c =
     let n = c.args.self.now.next in
     let was = c.args.self.now.shelf in
     let shelf = c.give_up-answer.new.shelf in
-    let Apart = g.B.Shelf.apart in
+    let Apart = g.B.Shelf.apart (g.B.Shelf.named c.args.self.now.shelf) in
     let Used = g.B.Shelf.uses was in
     let Stood = g.B.Shelf.stands was in
     let Uses = g.B.Shelf.uses shelf in
@@ -37,17 +38,20 @@ invariant_of-self g c =
     let Makes : Trees → Trees → Type 0 =
     λ base db. Drops uid dest now (book_of base) (Ok tt) (book_of db)
     × OnlyLetsGo (bodies_of base) (bodies_of db) in
+    let ApartNow = g.B.Shelf.apart (g.B.Shelf.named c.give_up-answer.new.shelf) in
     let done =
     called Used Stood Apart n (advanced r n) part r old new Answers Makes
     (c.give_up-answer.ensures.called part) in
     record {
       idle = c.give_up-answer.ensures.idle;
       kept = subst
-          (λ m. IsSafe new → ∥ KeepsOwn Uses Stands Apart m part new ∥₁)
+          (λ m. IsSafe new → ∥ KeepsOwn Uses Stands ApartNow m part new ∥₁)
           (sym c.next_after-self.ensures)
+          (subst (λ places. IsSafe new → ∥ KeepsOwn Uses Stands (g.B.Shelf.apart places) (advanced r n) part new ∥₁)
+          (sym c.give_up-answer.ensures.named)
           (still_kept n (advanced r n) part part r old new Answers Makes c.args.self.now.kept done
           Uses Stands
-          (λ k it own. dropped_go uid dest now r old.committed.trees new.committed.trees it own));
+          (λ k it own. dropped_go uid dest now r old.committed.trees new.committed.trees it own)));
     }
 
 pub returns-clause-wrote : goal.returns-clause-wrote
@@ -55,7 +59,7 @@ returns-clause-wrote g c =
     let n = c.args.self.now.next in
     let was = c.args.self.now.shelf in
     let shelf = c.give_up-answer.new.shelf in
-    let Apart = g.B.Shelf.apart in
+    let Apart = g.B.Shelf.apart (g.B.Shelf.named c.args.self.now.shelf) in
     let Used = g.B.Shelf.uses was in
     let Stood = g.B.Shelf.stands was in
     let was_of = g.B.Shelf.body_of was in
@@ -100,7 +104,7 @@ returns-clause-covered g c =
     let n = c.args.self.now.next in
     let was = c.args.self.now.shelf in
     let shelf = c.give_up-answer.new.shelf in
-    let Apart = g.B.Shelf.apart in
+    let Apart = g.B.Shelf.apart (g.B.Shelf.named c.args.self.now.shelf) in
     let Used = g.B.Shelf.uses was in
     let Stood = g.B.Shelf.stands was in
     let Uses = g.B.Shelf.uses shelf in
@@ -125,6 +129,8 @@ returns-clause-covered g c =
     → HaveOwn Used Stood Apart old.committed.trees → HaveOwn Used Stood Apart db =
     λ db may own. left_of old.committed.trees db Makes
     (λ made had. dropped uid dest now (Ok tt) old.committed.trees db made had) may own in
+    subst (λ places. HasCleanDisk new → IsSafe old → IsCovered Uses Stands (g.B.Shelf.apart places) new.may_leave)
+    (sym c.give_up-answer.ensures.named) (
     covered n (advanced r n) part part r old new Answers Makes c.args.self.now.kept done
     (λ db is_open left. g.met.S.Store.settled c.args.self.now.conn.store db is_open left)
     (λ db is_open left. g.met.S.Store.settled c.give_up-answer.new.conn.store db is_open left)
@@ -132,4 +138,4 @@ returns-clause-covered g c =
     (λ k it own. dropped_go uid dest now r old.committed.trees new.committed.trees it own)
     (not_gone g.B.Shelf.uses g.B.Shelf.stands Apart r was shelf c.give_up-answer.ensures.same
     (λ db. (db ≡ old.committed.trees) ⊎ Makes old.committed.trees db)
-    (λ (k : IsKept n part old) (own : HaveOwn Used Stood Apart old.committed.trees) db may. leaves db may own))
+    (λ (k : IsKept n part old) (own : HaveOwn Used Stood Apart old.committed.trees) db may. leaves db may own)))

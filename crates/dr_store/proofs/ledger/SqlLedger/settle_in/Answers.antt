@@ -7,7 +7,8 @@ use Rattle.dr_ledger.specs.Replies.{Settles}
 use Rattle.dr_store_schema.specs.Books.{bodies_of, book_of}
 use Rattle.dr_store_calls.specs.Calling.{IsKept, IsSafe, advanced}
 use Rattle.dr_store_calls.specs.LettingGo.{LetsCellsGo}
-use Rattle.dr_store.specs.Owning.{HaveOwn, KeepsOwn, bodies_with}
+use Rattle.sqlite.specs.State.{HasCleanDisk}
+use Rattle.dr_store.specs.Owning.{IsCovered, HaveOwn, KeepsOwn, bodies_with}
 use Rattle.dr_store.proofs.Owns.{settled, settled_go, left_of, let_go_with, not_gone}
 use Rattle.dr_store.proofs.Replies.{settles, lets_go}
 use Rattle.dr_store.proofs.Stable.{both}
@@ -19,7 +20,7 @@ invariant_of-self g c =
     let n = c.args.self.now.next in
     let was = c.args.self.now.shelf in
     let shelf = c.settle-answer.new.shelf in
-    let Apart = g.B.Shelf.apart in
+    let Apart = g.B.Shelf.apart (g.B.Shelf.named c.args.self.now.shelf) in
     let Used = g.B.Shelf.uses was in
     let Stood = g.B.Shelf.stands was in
     let Uses = g.B.Shelf.uses shelf in
@@ -38,17 +39,20 @@ invariant_of-self g c =
     let Makes : Trees → Trees → Type 0 =
     λ base db. Settles uid dest outcome now (book_of base) (Ok tt) (book_of db)
     × OnlyLetsGo (bodies_of base) (bodies_of db) in
+    let ApartNow = g.B.Shelf.apart (g.B.Shelf.named c.settle-answer.new.shelf) in
     let done =
     called Used Stood Apart n (advanced r n) part r old new Answers Makes
     (c.settle-answer.ensures.called part) in
     record {
       idle = c.settle-answer.ensures.idle;
       kept = subst
-          (λ m. IsSafe new → ∥ KeepsOwn Uses Stands Apart m part new ∥₁)
+          (λ m. IsSafe new → ∥ KeepsOwn Uses Stands ApartNow m part new ∥₁)
           (sym c.next_after-self.ensures)
+          (subst (λ places. IsSafe new → ∥ KeepsOwn Uses Stands (g.B.Shelf.apart places) (advanced r n) part new ∥₁)
+          (sym c.settle-answer.ensures.named)
           (still_kept n (advanced r n) part part r old new Answers Makes c.args.self.now.kept done
           Uses Stands
-          (λ k it own. settled_go uid dest outcome now r old.committed.trees new.committed.trees it own));
+          (λ k it own. settled_go uid dest outcome now r old.committed.trees new.committed.trees it own)));
     }
 
 pub returns-clause-wrote : goal.returns-clause-wrote
@@ -56,7 +60,7 @@ returns-clause-wrote g c =
     let n = c.args.self.now.next in
     let was = c.args.self.now.shelf in
     let shelf = c.settle-answer.new.shelf in
-    let Apart = g.B.Shelf.apart in
+    let Apart = g.B.Shelf.apart (g.B.Shelf.named c.args.self.now.shelf) in
     let Used = g.B.Shelf.uses was in
     let Stood = g.B.Shelf.stands was in
     let was_of = g.B.Shelf.body_of was in
@@ -102,7 +106,7 @@ returns-clause-covered g c =
     let n = c.args.self.now.next in
     let was = c.args.self.now.shelf in
     let shelf = c.settle-answer.new.shelf in
-    let Apart = g.B.Shelf.apart in
+    let Apart = g.B.Shelf.apart (g.B.Shelf.named c.args.self.now.shelf) in
     let Used = g.B.Shelf.uses was in
     let Stood = g.B.Shelf.stands was in
     let Uses = g.B.Shelf.uses shelf in
@@ -128,6 +132,8 @@ returns-clause-covered g c =
     → HaveOwn Used Stood Apart old.committed.trees → HaveOwn Used Stood Apart db =
     λ db may own. left_of old.committed.trees db Makes
     (λ made had. settled uid dest outcome now (Ok tt) old.committed.trees db made had) may own in
+    subst (λ places. HasCleanDisk new → IsSafe old → IsCovered Uses Stands (g.B.Shelf.apart places) new.may_leave)
+    (sym c.settle-answer.ensures.named) (
     covered n (advanced r n) part part r old new Answers Makes c.args.self.now.kept done
     (λ db is_open left. g.met.S.Store.settled c.args.self.now.conn.store db is_open left)
     (λ db is_open left. g.met.S.Store.settled c.settle-answer.new.conn.store db is_open left)
@@ -135,4 +141,4 @@ returns-clause-covered g c =
     (λ k it own. settled_go uid dest outcome now r old.committed.trees new.committed.trees it own)
     (not_gone g.B.Shelf.uses g.B.Shelf.stands Apart r was shelf c.settle-answer.ensures.same
     (λ db. (db ≡ old.committed.trees) ⊎ Makes old.committed.trees db)
-    (λ (k : IsKept n part old) (own : HaveOwn Used Stood Apart old.committed.trees) db may. leaves db may own))
+    (λ (k : IsKept n part old) (own : HaveOwn Used Stood Apart old.committed.trees) db may. leaves db may own)))

@@ -23,9 +23,9 @@ invariant_of-self g c =
     let new = state g.S.Store c.admit-answer.new.conn in
     let Answers : Trees → Trees → Type 0 = λ base db. (db ≡ base) × Admits (site_routing part) caller item (book_of base) r in
     let None : Trees → Trees → Type 0 = λ base db. ⊥ in
-    let done = called (g.B.Shelf.uses c.args.self.now.shelf) (g.B.Shelf.stands c.args.self.now.shelf) g.B.Shelf.apart n n part r old new Answers None (c.admit-answer.ensures.called n) in
+    let done = called (g.B.Shelf.uses c.args.self.now.shelf) (g.B.Shelf.stands c.args.self.now.shelf) (g.B.Shelf.apart (g.B.Shelf.named c.args.self.now.shelf)) n n part r old new Answers None (c.admit-answer.ensures.called n) in
     let kept = c.args.self.now.kept in
-    record { idle = c.admit-answer.ensures.idle c.args.self.now.idle; kept = still_kept n n part part r old new Answers None kept done (g.B.Shelf.uses c.args.self.now.shelf) (g.B.Shelf.stands c.args.self.now.shelf) (λ k it own. subst (HaveOwn (g.B.Shelf.uses c.args.self.now.shelf) (g.B.Shelf.stands c.args.self.now.shelf) g.B.Shelf.apart) (sym it.0) own) }
+    record { idle = c.admit-answer.ensures.idle c.args.self.now.idle; kept = still_kept n n part part r old new Answers None kept done (g.B.Shelf.uses c.args.self.now.shelf) (g.B.Shelf.stands c.args.self.now.shelf) (λ k it own. subst (HaveOwn (g.B.Shelf.uses c.args.self.now.shelf) (g.B.Shelf.stands c.args.self.now.shelf) (g.B.Shelf.apart (g.B.Shelf.named c.args.self.now.shelf))) (sym it.0) own) }
 
 -- by hand: the search loses itself in what the trait asks
 pub returns : goal.returns
@@ -39,7 +39,7 @@ returns g c =
     let new = state g.S.Store c.admit-answer.new.conn in
     let Answers : Trees → Trees → Type 0 = λ base db. (db ≡ base) × Admits (site_routing part) caller item (book_of base) r in
     let None : Trees → Trees → Type 0 = λ base db. ⊥ in
-    let done = called (g.B.Shelf.uses c.args.self.now.shelf) (g.B.Shelf.stands c.args.self.now.shelf) g.B.Shelf.apart n n part r old new Answers None (c.admit-answer.ensures.called n) in
+    let done = called (g.B.Shelf.uses c.args.self.now.shelf) (g.B.Shelf.stands c.args.self.now.shelf) (g.B.Shelf.apart (g.B.Shelf.named c.args.self.now.shelf)) n n part r old new Answers None (c.admit-answer.ensures.called n) in
     let kept = c.args.self.now.kept in
     let told = answered n n part part r old new Answers None kept done (both (of_prop (Trees-set _ _)) (admits part caller item (book_of old.committed.trees) r)) in
     record {

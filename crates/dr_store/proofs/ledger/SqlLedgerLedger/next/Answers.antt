@@ -1,11 +1,12 @@
-use Rattle.std.proofs.Common.{Option, refl, ◌∙◌}
+use Rattle.std.proofs.Common.{Option, refl, ◌∙◌, subst, sym}
 use Rattle.std.proofs.Math.Logic.{∥∥₁_map}
 use Rattle.sqlite.specs.Held.{state}
 use Rattle.sqlite.specs.Tree.{Trees}
 use Rattle.dr_ledger.specs.declared.content.Job.{Job}
 use Rattle.dr_ledger.specs.Bodies.{NextsWith}
 use Rattle.dr_store_schema.specs.Books.{book_of}
-use Rattle.dr_store.specs.Owning.{bodies_with}
+use Rattle.dr_store_calls.specs.Calling.{IsSafe}
+use Rattle.dr_store.specs.Owning.{KeepsOwn, bodies_with}
 use Rattle.dr_store.specs.Reading.{NextsRead}
 use Rattle.dr_store.proofs.Nexts.{next_of}
 use Rattle.dr_store.proofs.Owns.{same_bodies, still_own}
@@ -29,7 +30,7 @@ invariant_of-self g c =
     let Shows : Trees → Option Job → Type 0 = λ base job. g.B.Shelf.is_clean shelf → NextsRead (g.B.Shelf.stands was) base dest now job in
     record {
       idle = c.next_job-answer.ensures.idle c.args.self.now.idle;
-      kept = looked_kept_by n part r old new Shows c.args.self.now.kept (c.next_job-answer.ensures.looked n part) (g.B.Shelf.uses shelf) (g.B.Shelf.stands shelf) (still_own c.next_job-answer.ensures.keeps old.committed.trees);
+      kept = subst (λ places. IsSafe new → ∥ KeepsOwn (g.B.Shelf.uses shelf) (g.B.Shelf.stands shelf) (g.B.Shelf.apart places) n part new ∥₁) (sym c.next_job-answer.ensures.named) (looked_kept_by n part r old new Shows c.args.self.now.kept (c.next_job-answer.ensures.looked n part) (g.B.Shelf.uses shelf) (g.B.Shelf.stands shelf) (still_own c.next_job-answer.ensures.keeps old.committed.trees));
     }
 
 -- by hand: the search loses itself in what the trait asks

@@ -24,11 +24,11 @@ returns-clause-keeps g c = λ other bytes used stands. (
 )
 
 pub returns-clause-read : goal.returns-clause-read
-returns-clause-read g c = λ clean bytes stands.
+returns-clause-read g c = λ clean bytes there.
     let disk = c.args.self.now.bodies.disk in
     let held : Stand (g.D.Disk.seen disk) (g.D.Disk.may_leave disk) c.args.extent bytes =
     subst (λ (e : Extent). Stand (g.D.Disk.seen disk) (g.D.Disk.may_leave disk) e bytes)
-    (sym c.requires) stands.0 in
+    (sym c.requires) there in
     let same : c.get.new.buf ≡ bytes = c.in_ok-get.ensures.read clean bytes held in
     let long : length c.get.new.buf ≡ c.in_ok-bytes.bytes.len =
     ap length same ∙ held.whole ∙ sym c.in_ok-bytes.ensures.len in

@@ -1,7 +1,10 @@
+use Rattle.dr_store_shelf.proofs.Looked.{ok_map}
 use Rattle.dr_store_shelf.proofs.in_file.InFileShelf.get.Goals as goal
 
 pub returns-clause-read : goal.returns-clause-read
-returns-clause-read g c = rw c.deref.ensures.value at c.find.ensures.read
+returns-clause-read g c =
+    ok_map c.find.result (λ got read clean bytes stands. read clean bytes stands.0)
+    (rw c.deref.ensures.value at c.find.ensures.read)
 
 pub returns-clause-why : goal.returns-clause-why
 returns-clause-why g c = rw c.deref.ensures.value at c.find.ensures.why

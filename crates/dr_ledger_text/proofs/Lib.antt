@@ -1,0 +1,4 @@
+pub mod Chained
+mod OneLine
+mod Pieces
+mod Spelled

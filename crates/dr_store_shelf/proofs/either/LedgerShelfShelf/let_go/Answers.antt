@@ -1,0 +1,4 @@
+use Rattle.dr_store_shelf.proofs.either.LedgerShelfShelf.let_go.Goals as goal
+
+pub returns-in-InFile-clause-keeps : goal.returns-in-InFile-clause-keeps
+returns-in-InFile-clause-keeps g c = rw c.in-InFile.is c.let_go-in-InFile.ensures.keeps

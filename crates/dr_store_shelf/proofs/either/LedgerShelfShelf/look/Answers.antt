@@ -1,0 +1,7 @@
+use Rattle.dr_store_shelf.proofs.either.LedgerShelfShelf.look.Goals as goal
+
+pub returns-in-InFile-clause-found : goal.returns-in-InFile-clause-found
+returns-in-InFile-clause-found g c = rw c.in-InFile.is c.look-in-InFile.ensures.found
+
+pub returns-in-InFile-clause-keeps : goal.returns-in-InFile-clause-keeps
+returns-in-InFile-clause-keeps g c = rw c.in-InFile.is c.look-in-InFile.ensures.keeps
