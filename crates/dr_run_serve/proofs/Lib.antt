@@ -1,3 +1,4 @@
 mod Chained
 mod InTurn
+mod Leafing
 mod Noting

@@ -1,5 +1,6 @@
 -- What a node forgets one day.
-use Rattle.std.specs.Prelude.{◌≡◌, ◌≤◌, ◌<◌, ◌+◌, ◌-◌, ◌^◌, ◌∷◌, ◌⊎◌, [], ℕ, Bool, true, false, List}
+use Rattle.std.specs.Prelude.{◌≡◌, ◌≤◌, ◌<◌, ◌+◌, ◌-◌, ◌^◌, ◌∷◌, ◌⊎◌, [], ℕ, Bool, true, false}
+use Rattle.std.specs.Prelude.{List}
 use Rattle.std.specs.Prelude.{None, Option, Some, Result, Ok, Err, length, min}
 use Rattle.dr_base.specs.Texts.{Text}
 use Rattle.dr_desk.specs.declared.receipt.Call.TheVariants.{Forgetting}

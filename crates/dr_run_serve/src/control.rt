@@ -123,8 +123,8 @@ impl<'a, R: Wait, L: Ledger, B: Sharing, C: Clock, G: Monitor> Home<'a, R, L, B,
         self.signal.ring(self.rt, Some(slice::from_ref(dest)));
     }
 
-    /// Wakes who sends, where something was ordered that is theirs, and notes what may be over since
-    /// a row was given up.
+    /// Wakes who sends, where something was ordered that is theirs, and notes what may be over
+    /// since a row was given up.
     fn wake(&self, order: &Order) {
         match order {
             Order::Requeue(row) => self.wake_for(&row.dest),

@@ -233,9 +233,9 @@ impl Past {
             AreBehind after 256 (L.numbered l) (mapped line_of all))) (Ok page))
             (counted_from 0 lines) result more }
     {
-        for _ in 0..PAGES {
+        for _turn in 0..PAGES {
             let page = desk.lines_behind(rt, self.after, PAGE)?;
-            if page.as_slice().is_empty() {
+            if page.is_empty() {
                 return Ok(true);
             }
             self.note_page(page.as_slice())?;

@@ -20,8 +20,8 @@ numbered_more P after (x ∷ xs) ys a b =
     (a.0, numbered_more P (after + 1) xs ys a.1 (subst (λ n. Numbered P n ys) e b))
 
 each_numbered : (P Q : ℕ → JournalLine → Type 0) → ((n : ℕ) (line : JournalLine) → P n line → Q n line) → (after : ℕ) (xs : List JournalLine) → Numbered P after xs → Numbered Q after xs
-each_numbered P Q as after [] h = tt
-each_numbered P Q as after (x ∷ xs) h = (as (after + 1) x h.0, each_numbered P Q as (after + 1) xs h.1)
+each_numbered P Q turn after [] h = tt
+each_numbered P Q turn after (x ∷ xs) h = (turn (after + 1) x h.0, each_numbered P Q turn (after + 1) xs h.1)
 
 pub grow_none : (P : ℕ → JournalLine → Type 0) (xs : List JournalLine) → GrowsBy P xs xs
 grow_none P xs = ([], sym (append-nil xs), tt)
@@ -30,8 +30,8 @@ pub grow_one : (P : ℕ → JournalLine → Type 0) (old mid new : List JournalL
 grow_one P old mid new line grows is told =
     let more = grows.0 in
     let count : length mid ≡ length old + length more = ap length grows.1 ∙ length-append old more in
-    let e : length mid + 1 ≡ length old + length more + 1 = omega (arith, count) in
-    ( more ++ line ∷ [],
+    let e : length mid + 1 ≡ length old + length more + 1 = omega (arith, count) in (
+      more ++ line ∷ [],
       is ∙ ap (λ (xs : List JournalLine). xs ++ line ∷ []) grows.1 ∙ append_assoc old more (line ∷ []),
       numbered_more P (length old) more (line ∷ []) grows.2 (subst (λ n. P n line) e told, tt),
     )
@@ -74,8 +74,8 @@ module _ {S : Type 0} (answers : S → HttpCall → Result HttpAnswer AskFault �
         of = page.2;
         has = has;
       }) (length had) more page.3.2 in
-      let e : length had ≡ 0 + length had = omega arith in
-      ( heard,
+      let e : length had ≡ 0 + length had = omega arith in (
+        heard,
         heard_more read.0 (one ∷ []) old mid new read.1 (new, asks.2, refl),
         subst (λ (xs : List JournalLine). Numbered Q 0 xs) (sym page.3.1) (numbered_more Q 0 had more before (subst (λ n. Numbered Q n more) e now)),
       )

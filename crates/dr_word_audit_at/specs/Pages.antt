@@ -21,7 +21,8 @@ use Rattle.dr_word_audit_at.specs.Saying.{SaysLine}
 
 -- the text is the line of that number, as a node tells it
 abbrev pub TellsLine : Text → ℕ → JournalLine → Type 0
-TellsLine words number line = (value : Data) × (read words ≡ Some value) × SaysLine value number line
+TellsLine words number line =
+    (value : Data) × (read words ≡ Some value) × SaysLine value number line
 
 -- one of the lines of the text is that line
 abbrev pub HasLineOf : Text → ℕ → JournalLine → Type 0

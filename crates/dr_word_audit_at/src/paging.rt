@@ -1,6 +1,6 @@
 //! Reads journals of nodes that run, page by page.
 ghost use Rattle.std.specs.Prelude.{◌≡◌, ◌≤◌, ◌+◌, ◌++◌, ◌∷◌, [], IfOk, length};
-ghost use Rattle.dr_ledger_history.specs.declared.line.JournalLine.{JournalLine as JournalLineValue};
+ghost use Rattle.dr_ledger_history.specs.declared.line.JournalLine.{JournalLine as LineValue};
 ghost use Rattle.dr_run_ask.specs.Conversations.{OnlyReads};
 ghost use Rattle.dr_word_audit_at.specs.Pages.{Asks as AsksIn, Counts, CountsLines, GrowsBy};
 ghost use Rattle.dr_word_audit_at.specs.Pages.{HasLineOf, IsNodes};
@@ -65,7 +65,7 @@ fn line_of(alloc: Global, text: &str, number: u64) -> Result<JournalLine, AskFau
 ///
 /// Errors: NoNodesAnswer, Memory.
 fn add_line(alloc: Global, lines: &mut Seq<JournalLine>, text: &str) -> Result<(), AskFault>
-    ensures { IfOk result (λ _. (line : JournalLineValue)
+    ensures { IfOk result (λ _. (line : LineValue)
         × (lines.new ≡ lines.old ++ line ∷ [])
         × TellsLine text.now (length lines.old + 1) line) }
 {

@@ -6,8 +6,10 @@ ghost use Rattle.hex.specs.Hex.{decode_of};
 ghost use Rattle.serde_json.specs.View.{items_view, view};
 ghost use Rattle.dr_base.specs.Syntaxes.{syntax_uid};
 ghost use Rattle.dr_run_ask.specs.Lines.{text_at};
-ghost use Rattle.dr_word_audit_at.specs.Saying.{AreNames, SaysDigits, SaysGoals, SaysInstance, SaysKey};
-ghost use Rattle.dr_word_audit_at.specs.Saying.{SaysLine, SaysOf, SaysOutcome, bytes_at, list_at, name_in};
+ghost use Rattle.dr_word_audit_at.specs.Saying.{AreNames, SaysDigits, SaysGoals, SaysInstance};
+ghost use Rattle.dr_word_audit_at.specs.Saying.{SaysKey};
+ghost use Rattle.dr_word_audit_at.specs.Saying.{SaysLine, SaysOf, SaysOutcome, bytes_at, list_at};
+ghost use Rattle.dr_word_audit_at.specs.Saying.{name_in};
 
 use dr_base::{Seq, Syntax, Text};
 use dr_ledger::{Instance, Outcome};
