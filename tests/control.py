@@ -294,6 +294,20 @@ def acts():
                     'drop dest="GATE" uid=1.2.3.4 fault="G5 NotHeld"', 'drop dest="GATE" uid=1.2.3.4', 'stop'])
 
 
+def dropped():
+    """What somebody gives up at a node that runs is forgotten when its time has come, and not at the next start alone."""
+    with Room() as room:
+        hold(room)
+        node = Asked(room, 'CT1', 0, '--forget-after', '0')
+        time.sleep(2.5)
+        same([row['state'] for row in node.read('/rows?dest=GATE')], ['held'])
+        same(node.act('/drop', uid='1.2.3.4', dest='GATE'), (200, '{"done":true}\n'))
+        node.wait('/rows?dest=GATE', lambda rows: not rows)
+        room.wait_for_event('CT1', 'forgets instances=1')
+        same(node.act('/stop'), (200, '{"done":true}\n'))
+        same(ended(node.process)[0], 'node\tCT1')
+
+
 def without_origin(shown):
     """What is shown of an instance, without its class, which is CT, and without the moment when it came, which was just now."""
     same(shown[0].pop('class'), CT.decode())
@@ -615,7 +629,7 @@ def backups():
             same(node.act('/backup', copy=f'{room.folder}/copies/{name}.db'), (409, '{"fault":"Q3 IsThere"}\n'))
         same(node.act('/backup', copy=f'{room.folder}/second.db'), (409, '{"fault":"Q3 IsThere"}\n'))
         # the ledger's own names, whether a file has them or not, by whatever path, and what would be another ledger's log
-        for name in 'GATE.db', 'GATE.db-wal', 'GATE.db-journal', 'GATE.db-shm', 'GATE.db.new', 'GATE.db.data', 'copies/../GATE.db', 'copies/ARCH.db-wal', 'copies/ARCH.db-journal':
+        for name in 'GATE.db', 'GATE.db-wal', 'GATE.db-journal', 'GATE.db-shm', 'GATE.db.new', 'GATE.db.data', 'GATE.db.data-wal', 'copies/../GATE.db', 'copies/ARCH.db-wal', 'copies/ARCH.db-journal', 'copies/ARCH.db.data':
             same(node.act('/backup', copy=f'{room.folder}/{name}'), (409, '{"fault":"Q1 OwnFile"}\n'))
         same(node.act('/backup', copy=f'{room.folder}/nowhere/GATE.db'), (503, '{"fault":"Q7 NoCopy"}\n'))
         same((sorted(os.listdir(room.folder)), sorted(os.listdir(f'{room.folder}/copies'))), before)
@@ -836,7 +850,7 @@ def main():
         return attack(*map(int, sys.argv[2:]))
     if sys.argv[1:] == ['--more']:
         return run_cases('control --more', flood_of_20_000)
-    return run_cases('control', reads, journal, page, acts, ages, orders, hurried, forms, associations, responses, refusals, backups, places, hostile, flood)
+    return run_cases('control', reads, journal, page, acts, dropped, ages, orders, hurried, forms, associations, responses, refusals, backups, places, hostile, flood)
 
 
 if __name__ == '__main__':

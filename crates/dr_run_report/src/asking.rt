@@ -27,17 +27,23 @@ pub struct OwnPaths<'a> {
 
 /// What the files of a ledger that are asked for have behind the name of its database. (Of the
 /// parts of a journal only the names are known.)
-const TAILS: [&str; 10] = [
+const TAILS: [&str; 16] = [
     "",
     "-wal",
     "-shm",
     "-journal",
     ".data",
+    ".data-wal",
+    ".data-shm",
+    ".data-journal",
     ".new",
     "-wal.new",
     "-shm.new",
     "-journal.new",
     ".data.new",
+    ".data-wal.new",
+    ".data-shm.new",
+    ".data-journal.new",
 ];
 
 /// What the file that is written has behind the report's path, before it takes the report's place,
@@ -170,8 +176,8 @@ fn is_beside_another<P: Paths>(alloc: Global, paths: &P, path: &str) -> io::Resu
 }
 
 /// Tests whether the ledger may be copied to a path: by `judge_new`, of each file that the copy
-/// takes, and of those that are written before. The path is no name that SQLite would take for a
-/// file beside another database.
+/// takes, and of those that are written before. The path is no name that would be taken for that of
+/// a file beside another database.
 ///
 /// Errors: OwnFile, IsThere; those of the file system, also where the copy's folder isn't there;
 /// want of memory.

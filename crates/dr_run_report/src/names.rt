@@ -1,7 +1,7 @@
 //! The names that a ledger takes in the folder of its database.
 ghost use Rattle.std.specs.Prelude.{◌≡◌, ◌++◌, ◌↔◌, ℕ, List, IsTrue, MatchOption};
 ghost use Rattle.dr_run_report.specs.Names.{EndsWith, IsBesideDatabase, IsLedgerName, IsOwnName};
-ghost use Rattle.dr_run_report.specs.Names.{IsTail};
+ghost use Rattle.dr_run_report.specs.Names.{IsDataTail, IsSide, IsTail};
 
 /// What follows the front, where the text begins with it.
 fn after<'a>(front: &[u8], text: &'a [u8]) -> Option<&'a [u8]>
@@ -27,25 +27,43 @@ fn is_text(this: &[u8], that: &[u8]) -> bool
     this == that
 }
 
-/// Whether a file of the ledger has this behind the database's name: nothing, or what the log, the
-/// index of the log, the journal of a
-/// rollback, the data sets and the journal's parts have there.
+/// Whether a file that is opened as a database has this behind its name, or one that SQLite lays
+/// beside it: nothing, or what the log, the index of the log, and the journal of a rollback have.
+fn is_side(side: &[u8]) -> bool
+    ensures { IsTrue result ↔ IsSide side.now }
+{
+    if side.is_empty() {
+        return true;
+    }
+    if is_text(side, b"-wal".as_slice()) {
+        return true;
+    }
+    if is_text(side, b"-shm".as_slice()) {
+        return true;
+    }
+    is_text(side, b"-journal".as_slice())
+}
+
+/// Whether the file of the data sets has this behind the database's name, or one that lies beside
+/// that file.
+fn is_data_tail(tail: &[u8]) -> bool
+    ensures { IsTrue result ↔ IsDataTail tail.now }
+{
+    match after(b".data".as_slice(), tail) {
+        Some(side) => is_side(side),
+        None => false,
+    }
+}
+
+/// Whether a file of the ledger has this behind the database's name: nothing, or what SQLite puts
+/// there, or what the data sets and the journal's parts have there.
 fn is_tail(tail: &[u8]) -> bool
     ensures { IsTrue result ↔ IsTail tail.now }
 {
-    if tail.is_empty() {
+    if is_side(tail) {
         return true;
     }
-    if is_text(tail, b"-wal".as_slice()) {
-        return true;
-    }
-    if is_text(tail, b"-shm".as_slice()) {
-        return true;
-    }
-    if is_text(tail, b"-journal".as_slice()) {
-        return true;
-    }
-    if is_text(tail, b".data".as_slice()) {
+    if is_data_tail(tail) {
         return true;
     }
     match after(b".journal.".as_slice(), tail) {
@@ -88,12 +106,19 @@ fn ends_with(end: &[u8], name: &[u8]) -> bool
     }
 }
 
-/// Whether SQLite would take the name for a file beside some database: its log, the index of the
-/// log, or the journal of a rollback.
+/// Whether the name would be taken for that of a file beside some database: its log, the index of
+/// the log, the journal of a rollback, or its data sets.
 pub fn is_beside_database(name: &[u8]) -> bool
     ensures { IsTrue result ↔ IsBesideDatabase name.now }
 {
-    ends_with(b"-wal".as_slice(), name)
-        || ends_with(b"-shm".as_slice(), name)
-        || ends_with(b"-journal".as_slice(), name)
+    if ends_with(b"-wal".as_slice(), name) {
+        return true;
+    }
+    if ends_with(b"-shm".as_slice(), name) {
+        return true;
+    }
+    if ends_with(b"-journal".as_slice(), name) {
+        return true;
+    }
+    ends_with(b".data".as_slice(), name)
 }

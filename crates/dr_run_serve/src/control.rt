@@ -123,13 +123,15 @@ impl<'a, R: Wait, L: Ledger, B: Sharing, C: Clock, G: Monitor> Home<'a, R, L, B,
         self.signal.ring(self.rt, Some(slice::from_ref(dest)));
     }
 
-    /// Wakes who sends, where something was ordered that is theirs.
+    /// Wakes who sends, where something was ordered that is theirs, and notes what may be over
+    /// since a row was given up.
     fn wake(&self, order: &Order) {
         match order {
             Order::Requeue(row) => self.wake_for(&row.dest),
             Order::RequeueAll(dest) => self.wake_for(dest),
             Order::Visit(dest) => self.signal.hurry(self.rt, dest),
-            Order::GiveUp(_) | Order::Forget(_) => {}
+            Order::GiveUp(row) => self.signal.note_over(self.rt, &row.uid, self.clock.now()),
+            Order::Forget(_) => {}
         }
     }
 }

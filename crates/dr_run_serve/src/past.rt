@@ -1,4 +1,16 @@
 //! What came to be over before a node began: read off the journal, a page at a time.
+ghost use Rattle.std.specs.Prelude.{◌≡◌, ◌++◌, [], List, IfOk, None, Some, OnErr, OnOk, Ok};
+ghost use Rattle.std.specs.Prelude.{◌&&◌, cond, map as mapped, option_copied, true};
+ghost use Rattle.dr_base.specs.Texts.{Text as Words};
+ghost use Rattle.dr_desk.specs.Reading.{Reading};
+ghost use Rattle.dr_ledger.specs.Replies.{Reads};
+ghost use Rattle.dr_ledger_history.specs.Lines.{line_of};
+ghost use Rattle.dr_ledger_history.specs.declared.line.JournalLine.{JournalLine as LineValue};
+ghost use Rattle.dr_ledger_views.specs.Numbers.{AreBehind};
+ghost use Rattle.dr_run_serve.specs.Pasts.{HasNoted, IsFoundIn, IsQueueOf, Knows, ReadsOn};
+ghost use Rattle.dr_run_serve.specs.Pasts.{counted_from, ended_by, ends_row, is_uid, known_by};
+ghost use Rattle.dr_run_serve.specs.Pasts.{later};
+
 use crate::sweep::{OverInstance, Sweep};
 use dr_base::Text;
 use dr_desk::{SharedDesk, Sharing};
@@ -26,24 +38,44 @@ pub struct Past {
 }
 
 /// Whether a row is done after this outcome.
-fn ends(outcome: Outcome) -> bool {
+fn ends(outcome: Outcome) -> bool
+    ensures { result ≡ ends_row outcome }
+{
     match outcome {
         Outcome::Status(status) => is_success(status),
         Outcome::Broken | Outcome::NoContext => false,
     }
 }
 
+/// The later of the moment that is known, if one is, and this one.
+fn later(known: Option<&u64>, now: u64) -> u64
+    ensures { Some result ≡ later (option_copied known.entry) now }
+{
+    match known {
+        Some(known) => now.max(*known),
+        None => now,
+    }
+}
+
 /// All of them, in the order of their moments.
-fn in_order(alloc: Global, ends: BTreeMap<Text, u64>) -> Result<Sweep, AllocError> {
+fn in_order(alloc: Global, ends: BTreeMap<Text, u64>) -> Result<Sweep, AllocError>
+    ensures { IfOk result (λ sweep. IsQueueOf ends sweep.queue.items) }
+{
     let mut all = Vec::with_capacity(alloc, ends.len())?;
     for (uid, at) in ends {
         all.push(OverInstance { uid, at })?;
     }
     all.sort_unstable_by_key(|over| over.at);
-    queued(alloc, all)
+    let sweep = queued(alloc, all)?;
+    Ok(sweep)
 }
 
-fn queued(alloc: Global, all: Vec<OverInstance>) -> Result<Sweep, AllocError> {
+/// Those, in their order.
+///
+/// Errors: want of memory.
+fn queued(alloc: Global, all: Vec<OverInstance>) -> Result<Sweep, AllocError>
+    ensures { IfOk result (λ sweep. sweep.queue.items ≡ all.items) }
+{
     let mut sweep = Sweep::new(alloc);
     for over in all {
         sweep.add(over)?;
@@ -53,7 +85,9 @@ fn queued(alloc: Global, all: Vec<OverInstance>) -> Result<Sweep, AllocError> {
 
 impl Past {
     /// Nothing was read yet.
-    pub fn new(alloc: Global) -> Past {
+    pub fn new(alloc: Global) -> Past
+        ensures { HasNoted [] result }
+    {
         Past {
             after: 0,
             ends: BTreeMap::new(alloc),
@@ -63,61 +97,118 @@ impl Past {
 
     /// The node keeps the instance.
     ///
-    /// Errors: want of memory.
-    fn note_kept(&mut self, uid: &Text) -> Result<(), AllocError> {
+    /// Errors: want of memory; then nothing has changed.
+    fn note_kept(&mut self, uid: &Text) -> Result<(), AllocError>
+        ensures count { self.new.after ≡ self.old.after }
+        ensures known { OnOk result (Knows
+            (λ q known. cond (is_uid uid.now q) (true, None) known) self.old self.new) }
+        ensures same { OnErr result (Knows (λ q known. known) self.old self.new) }
+    {
+        let copy = uid.clone()?;
+        let _is_first = self.kept.insert(copy)?;
         let _end = self.ends.remove(uid);
-        let _is_first = self.kept.insert(uid.clone()?)?;
+        Ok(())
+    }
+
+    /// An instance came, which the node may keep.
+    ///
+    /// Errors: want of memory; then nothing has changed.
+    fn note_arrival(&mut self, uid: &Text, keep: bool) -> Result<(), AllocError>
+        ensures count { self.new.after ≡ self.old.after }
+        ensures known { OnOk result (Knows
+            (λ q known. cond (keep && is_uid uid.now q) (true, None) known) self.old self.new) }
+        ensures same { OnErr result (Knows (λ q known. known) self.old self.new) }
+    {
+        if keep {
+            return self.note_kept(uid);
+        }
         Ok(())
     }
 
     /// A row of the instance was done or dropped at that moment. The greatest one stays.
     ///
-    /// Errors: want of memory.
-    fn note_end(&mut self, uid: &Text, now: u64) -> Result<(), AllocError> {
+    /// Errors: want of memory; then nothing has changed.
+    fn note_end(&mut self, uid: &Text, now: u64) -> Result<(), AllocError>
+        ensures count { self.new.after ≡ self.old.after }
+        ensures known { OnOk result (Knows
+            (λ q known. cond (is_uid uid.now q) (ended_by known now) known) self.old self.new) }
+        ensures same { OnErr result (Knows (λ q known. known) self.old self.new) }
+    {
         if self.kept.contains(uid) {
             return Ok(());
         }
-        let known = match self.ends.get(uid) {
-            Some(known) => *known,
-            None => 0,
-        };
-        let _known = self.ends.insert(uid.clone()?, now.max(known))?;
+        let end = later(self.ends.get(uid), now);
+        let copy = uid.clone()?;
+        let _known = self.ends.insert(copy, end)?;
         Ok(())
+    }
+
+    /// A try to send the instance came to that outcome, at that moment.
+    ///
+    /// Errors: want of memory; then nothing has changed.
+    fn note_outcome(&mut self, uid: &Text, outcome: Outcome, now: u64) -> Result<(), AllocError>
+        ensures count { self.new.after ≡ self.old.after }
+        ensures known { OnOk result (Knows
+            (λ q known. cond (ends_row outcome && is_uid uid.now q) (ended_by known now) known)
+            self.old self.new) }
+        ensures same { OnErr result (Knows (λ q known. known) self.old self.new) }
+    {
+        if ends(outcome) {
+            return self.note_end(uid, now);
+        }
+        Ok(())
+    }
+
+    /// The instance was forgotten.
+    fn note_gone(&mut self, uid: &Text)
+        ensures count { self.new.after ≡ self.old.after }
+        ensures known { Knows (λ q known. cond (is_uid uid.now q) (known.0, None) known)
+            self.old self.new }
+    {
+        let _gone = self.ends.remove(uid);
     }
 
     /// Notes what a line says.
     ///
-    /// Errors: want of memory.
-    fn note(&mut self, line: &JournalLine) -> Result<(), AllocError> {
+    /// Errors: want of memory; then nothing has changed.
+    fn note(&mut self, line: &JournalLine) -> Result<(), AllocError>
+        ensures count { self.new.after ≡ self.old.after }
+        ensures known { OnOk result
+            (Knows (λ q known. known_by q known line.now) self.old self.new) }
+        ensures same { OnErr result (Knows (λ q known. known) self.old self.new) }
+    {
         match line {
             JournalLine::Settling {
                 uid,
                 outcome,
                 now,
                 ..
-            } => {
-                if ends(*outcome) {
-                    self.note_end(uid, *now)?;
-                }
-            }
-            JournalLine::Dropping { uid, now, .. } => self.note_end(uid, *now)?,
+            } => self.note_outcome(uid, *outcome, *now),
+            JournalLine::Dropping { uid, now, .. } => self.note_end(uid, *now),
             JournalLine::Forgetting { uid } => {
-                let _gone = self.ends.remove(uid);
+                self.note_gone(uid);
+                Ok(())
             }
-            JournalLine::Arrival { instance, keep, .. } => {
-                if *keep {
-                    self.note_kept(&instance.uid)?;
-                }
-            }
-            JournalLine::Repeat { .. } | JournalLine::Requeuing { .. } | JournalLine::Adoption => {}
+            JournalLine::Arrival { instance, keep, .. } => self.note_arrival(&instance.uid, *keep),
+            JournalLine::Repeat { .. } => Ok(()),
+            JournalLine::Requeuing { .. } => Ok(()),
+            JournalLine::Adoption => Ok(()),
         }
-        Ok(())
     }
 
     /// Notes what the lines of a page say.
     ///
     /// Errors: want of memory; then what is noted of it is counted.
-    fn note_page(&mut self, page: &[JournalLine]) -> Result<(), AllocError> {
+    fn note_page(&mut self, page: &[JournalLine]) -> Result<(), AllocError>
+        ensures whole { OnOk result ((lines : List LineValue)
+            → HasNoted lines self.old
+            → HasNoted (lines ++ page.now) self.new) }
+        ensures part { (lines : List LineValue)
+            → HasNoted lines self.old
+            → (some rest : List LineValue)
+            × (page.now ≡ some ++ rest)
+            × HasNoted (lines ++ some) self.new }
+    {
         for line in page {
             self.note(line)?;
             self.after = self.after.saturating_add(1);
@@ -132,10 +223,19 @@ impl Past {
         &mut self,
         rt: &R,
         desk: &SharedDesk<L, B>,
-    ) -> Result<bool, LedgerFault> {
-        for _ in 0..PAGES {
+    ) -> Result<bool, LedgerFault>
+        ensures { (lines : List LineValue)
+            → HasNoted lines self.old
+            → (more : List LineValue)
+            × HasNoted (lines ++ more) self.new
+            × ReadsOn (λ after page. Reading L.site L.book L.bodies L.stands L.failed B.site B.first
+            (λ l answer. Reads answer (λ all.
+            AreBehind after 256 (L.numbered l) (mapped line_of all))) (Ok page))
+            (counted_from 0 lines) result more }
+    {
+        for _turn in 0..PAGES {
             let page = desk.lines_behind(rt, self.after, PAGE)?;
-            if page.as_slice().is_empty() {
+            if page.is_empty() {
                 return Ok(true);
             }
             self.note_page(page.as_slice())?;
@@ -146,8 +246,13 @@ impl Past {
     /// What came to be over, or may have: the ledger decides at each forgetting.
     ///
     /// Errors: want of memory.
-    pub fn into_sweep(self, alloc: Global) -> Result<Sweep, AllocError> {
+    pub fn into_sweep(self, alloc: Global) -> Result<Sweep, AllocError>
+        ensures { IfOk result (λ sweep. (lines : List LineValue)
+            → HasNoted lines self
+            → IsFoundIn lines sweep.queue.items) }
+    {
         let Past { ends, .. } = self;
-        in_order(alloc, ends)
+        let sweep = in_order(alloc, ends)?;
+        Ok(sweep)
     }
 }

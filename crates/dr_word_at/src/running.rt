@@ -1,5 +1,6 @@
 //! The words at a node that runs, over files, tokens and a network.
-ghost use Rattle.std.specs.Prelude.{◌≡◌};
+ghost use Rattle.std.specs.Prelude.{◌≡◌, IfOk};
+ghost use Rattle.hex.specs.Hex.{encode_lower};
 ghost use Rattle.dr_word_at.specs.Errands.{status_of};
 
 use crate::caller::Caller;
@@ -42,7 +43,8 @@ pub fn status_of(fault: AskFault) -> Status
         | AskFault::IsThere
         | AskFault::NoPath
         | AskFault::Busy
-        | AskFault::GivenUp => Status::Refused,
+        | AskFault::GivenUp
+        | AskFault::DataFile => Status::Refused,
         AskFault::Memory => Status::Memory,
     }
 }
@@ -114,9 +116,12 @@ struct NodeMeant {
 /// The digest of the plan, in lower-case hexadecimal digits.
 ///
 /// Errors: want of memory.
-pub fn digest_of(alloc: Global, sealed: &Sealed) -> Result<Text, AllocError> {
+pub fn digest_of(alloc: Global, sealed: &Sealed) -> Result<Text, AllocError>
+    ensures { IfOk result (λ digits. digits ≡ encode_lower sealed.now.plan.digest) }
+{
     let digits = hex::encode(alloc, sealed.plan().digest().as_slice())?;
-    Text::copy_of(alloc, digits.as_bytes())
+    let copy = Text::copy_of(alloc, digits.as_bytes())?;
+    Ok(copy)
 }
 
 /// What the plan says of the node of that name.

@@ -11,6 +11,7 @@ mod matched;
 mod node_words;
 mod option;
 mod parts;
+mod plain;
 mod plan_words;
 mod plans;
 mod reading;
