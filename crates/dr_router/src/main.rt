@@ -6,7 +6,6 @@ ghost use Rattle.std.specs.Prelude.{◌≡◌};
 ghost use Rattle.std.specs.Process.{exit_status};
 ghost use Rattle.dr_run_open.specs.Statuses.{status_number};
 
-mod beside;
 mod events;
 mod files;
 mod input;
@@ -46,7 +45,6 @@ fn run_over_files<
 ) -> Status
 where
     D::Store: Send,
-    D::Disk: Send,
 {
     let machine = Machine {
         files,

@@ -43,8 +43,7 @@ pub fn status_of(fault: AskFault) -> Status
         | AskFault::IsThere
         | AskFault::NoPath
         | AskFault::Busy
-        | AskFault::GivenUp
-        | AskFault::DataFile => Status::Refused,
+        | AskFault::GivenUp => Status::Refused,
         AskFault::Memory => Status::Memory,
     }
 }
