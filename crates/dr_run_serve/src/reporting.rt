@@ -20,7 +20,7 @@ pub const PERIOD: u64 = 10_000;
 
 /// How many lines the journal had when the node was told of last, if it was; and from which moment
 /// on it may be told of again.
-#[derive(Clone, Copy, PartialEq, Eq)]
+#[derive(Clone, Copy)]
 struct Telling {
     lines: Option<u64>,
     next: u64,
@@ -42,7 +42,7 @@ impl Telling {
 }
 
 /// When the node was told of last, by reports and by summaries.
-#[derive(Clone, Copy, PartialEq, Eq)]
+#[derive(Clone, Copy)]
 pub struct LastTold {
     report: Telling,
     summary: Telling,

@@ -11,7 +11,7 @@ const LONGEST: u64 = 300_000;
 const SHORT: u64 = 5_000;
 
 /// The rest of a hop: since when, how long, and whether a row was made meanwhile. One of 0 is none.
-#[derive(Clone, Copy, PartialEq, Eq, Debug)]
+#[derive(Clone, Copy)]
 pub struct Rest {
     pub since: u64,
     pub wait: u64,

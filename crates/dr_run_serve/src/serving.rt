@@ -40,7 +40,7 @@ use thiserror::Error;
 const QUEUE: usize = 256;
 
 /// Why serving ended otherwise than well.
-#[derive(Clone, Copy, PartialEq, Eq, Debug, Error)]
+#[derive(Clone, Copy, Debug, Error)]
 pub enum ServeFault {
     /// A receipt doesn't agree with the journal.
     #[error("J1 Receipt")]

@@ -17,7 +17,7 @@ use std::time::{Clock, Duration};
 pub const BEGIN: u64 = 60_000;
 
 /// How far the node is.
-#[derive(Clone, Copy, PartialEq, Eq)]
+#[derive(Clone, Copy)]
 pub struct News {
     /// How many of the threads that send have begun.
     pub senders: usize,
@@ -36,7 +36,7 @@ pub struct News {
 const QUIET: u64 = 600_000;
 
 /// What the one who sends to a hop is woken by.
-#[derive(Clone, Copy, PartialEq, Eq)]
+#[derive(Clone, Copy)]
 pub struct WakeUp {
     /// A row may have been made.
     pub rows: bool,

@@ -1,7 +1,5 @@
 //! The one who has a node forget what has been over for long.
-ghost use Rattle.dr_run_serve.specs.Sweeps.{ForgetsDue, ForgetsFirst, Sweeps, Turns};
-ghost use Rattle.dr_run_serve.specs.Sweeps.{counted};
-ghost use Rattle.std.specs.Prelude.{◌≡◌};
+ghost use Rattle.dr_run_serve.specs.Sweeps.{ForgetsFirst};
 
 use crate::events::{tell_forgotten, tell_unswept};
 use crate::live::LiveNode;
@@ -80,16 +78,6 @@ fn forget_first<R: Wait, L: LetsGo, B: Sharing>(
     }
 }
 
-/// One more, if it was forgotten.
-fn counted(count: u64, is_forgotten: bool) -> u64
-    ensures { result ≡ counted count is_forgotten }
-{
-    if is_forgotten {
-        return count.saturating_add(1);
-    }
-    count
-}
-
 /// Forgets those that have been over since that moment or longer, the longest first, so many at
 /// most; how many there were.
 ///
@@ -100,17 +88,12 @@ fn forget_due<R: Wait, L: LetsGo, B: Sharing>(
     pass: &mut Pass<B>,
     sweep: &mut Sweep,
     since: u64,
-) -> Result<u64, LedgerFault>
-    ensures { ForgetsDue L.site L.book L.stands L.failed B.site B.first since
-        sweep.old.queue.items (pass.old.made.count, pass.old.receipts.items) result
-        sweep.new.queue.items (pass.new.made.count, pass.new.receipts.items) }
-{
+) -> Result<u64, LedgerFault> {
     let mut count = 0u64;
-    for _turn in 0..MOST {
-        match forget_first(rt, desk, pass, sweep, since) {
-            Ok(Some(is_forgotten)) => count = counted(count, is_forgotten),
-            Ok(None) => return Ok(count),
-            Err(fault) => return Err(fault),
+    for _ in 0..MOST {
+        match forget_first(rt, desk, pass, sweep, since)? {
+            None => return Ok(count),
+            Some(is_forgotten) => count = count.saturating_add(u64::from(is_forgotten)),
         }
     }
     Ok(count)
@@ -136,10 +119,7 @@ impl<B: Sharing> Sweeper<B> {
         rt: &R,
         alloc: Global,
         desk: &SharedDesk<L, B>,
-    ) -> Result<Option<Sweep>, LedgerFault>
-        ensures { (self.new.pass.made.count ≡ self.old.pass.made.count)
-            × (self.new.pass.receipts.items ≡ self.old.pass.receipts.items) }
-    {
+    ) -> Result<Option<Sweep>, LedgerFault> {
         let mut past = match mem::replace(&mut self.past, None) {
             Some(past) => past,
             None => Past::new(alloc),
@@ -165,10 +145,7 @@ impl<B: Sharing> Sweeper<B> {
         rt: &R,
         alloc: Global,
         desk: &SharedDesk<L, B>,
-    ) -> Result<Option<Sweep>, LedgerFault>
-        ensures { (self.new.pass.made.count ≡ self.old.pass.made.count)
-            × (self.new.pass.receipts.items ≡ self.old.pass.receipts.items) }
-    {
+    ) -> Result<Option<Sweep>, LedgerFault> {
         match mem::replace(&mut self.sweep, None) {
             Some(sweep) => Ok(Some(sweep)),
             None => self.read_past(rt, alloc, desk),
@@ -183,11 +160,7 @@ impl<B: Sharing> Sweeper<B> {
         &mut self,
         node: &LiveNode<'_, R, L, B, C, G>,
         since: u64,
-    ) -> Result<u64, LedgerFault>
-        ensures { Sweeps L.site L.book L.stands L.failed B.site B.first since
-            (self.old.pass.made.count, self.old.pass.receipts.items)
-            (self.new.pass.made.count, self.new.pass.receipts.items) }
-    {
+    ) -> Result<u64, LedgerFault> {
         let Some(mut sweep) = self.known(node.rt, node.alloc, node.desk)? else {
             return Ok(0);
         };
@@ -203,11 +176,7 @@ impl<B: Sharing> Sweeper<B> {
         &mut self,
         node: &LiveNode<'_, R, L, B, C, G>,
         now: u64,
-    )
-        ensures { Turns L.site L.book L.stands L.failed B.site B.first self.old.after now
-            (self.old.pass.made.count, self.old.pass.receipts.items)
-            (self.new.pass.made.count, self.new.pass.receipts.items) }
-    {
+    ) {
         let Some(after) = self.after else {
             return;
         };

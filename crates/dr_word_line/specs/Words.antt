@@ -1,6 +1,6 @@
 -- The words of the command line.
 use Rattle.std.specs.Prelude.{◌≡◌, ◌≢◌, ℕ, List, [], ◌∷◌, ◌++◌, ◌⊎◌, codes, false, Option, None}
-use Rattle.std.specs.Prelude.{Some}
+use Rattle.std.specs.Prelude.{MatchOption, Some}
 use Rattle.std.specs.Borrow.{Bor}
 use Rattle.dr_word_line.specs.declared.words.Task.{Task}
 use Rattle.dr_word_line.specs.declared.words.Task.TheVariants.{CheckInput, CheckFile, Expand}
@@ -371,3 +371,7 @@ Asks words CheckAllOfInput = ⊥
 Asks words (CheckAllOfFile plan) = ⊥
 Asks words (QuestionAsJson plan certificate question) = ⊥
 Asks words (Told error) = ⊥
+
+-- what the words of a plain form ask for, and nothing where they are of none
+abbrev pub Reads : List (Bor (List ℕ)) → Option Task → Type 0
+Reads words found = MatchOption found ((asked : Task) → Asks words asked → ⊥) (Asks words)

@@ -1,8 +1,7 @@
 //! What plain words ask to be done with ledgers.
 ghost use Rattle.std.specs.Prelude.{ℕ, List, IfNone, IfSome};
 ghost use Rattle.std.specs.Borrow.{Bor};
-ghost use Rattle.dr_word_line.specs.Plain.{AsksPlain};
-ghost use Rattle.dr_word_line.specs.Words.{IsAdoptOf, IsAtNode, IsAuditOf, IsDutyOf};
+ghost use Rattle.dr_word_line.specs.Words.{Asks, IsAdoptOf, IsAtNode, IsAuditOf, IsDutyOf};
 ghost use Rattle.dr_word_line.specs.Words.{IsForgetOf, IsGiveUpOf, IsListOf, IsMakeOf};
 ghost use Rattle.dr_word_line.specs.Words.{IsRequeueAllOf, IsRequeueOf, IsSendOf, IsServeOf};
 ghost use Rattle.dr_word_line.specs.Words.{IsSummaryOf};
@@ -12,16 +11,15 @@ ghost use Rattle.dr_word_line.specs.declared.words.PlanChange.{PlanChange as Pla
 ghost use Rattle.dr_word_line.specs.declared.words.SiteFiles.{SiteFiles as SiteFilesValue};
 
 use crate::option::is_no_option;
-use crate::plain::PlainTask;
 use crate::words::{
-    Duty, PlanChange, Serving, SiteFiles, USUAL_DAYS, USUAL_MEMORY, USUAL_WAITS, USUAL_WORKERS,
-    Verbosity,
+    Duty, PlanChange, Serving, SiteFiles, Task, USUAL_DAYS, USUAL_MEMORY, USUAL_WAITS,
+    USUAL_WORKERS, Verbosity,
 };
 use dr_run_files::NodeFiles;
 
 /// What words ask to be done with the ledgers of all nodes, if they are of that form.
-fn read_change<'a>(words: &'a [&'a str]) -> Option<PlainTask<'a>>
-    ensures asked { IfSome result (λ asked. AsksPlain words.now asked) }
+fn read_change<'a>(words: &'a [&'a str]) -> Option<Task<'a>>
+    ensures asked { IfSome result (λ asked. Asks words.now asked) }
     ensures adopt { IfNone result ((change : PlanChangeValue) → IsAdoptOf words.now change → ⊥) }
 {
     match words {
@@ -39,15 +37,15 @@ fn read_change<'a>(words: &'a [&'a str]) -> Option<PlainTask<'a>>
                 next_certificate,
                 folder,
             };
-            Some(PlainTask::Adopt(change))
+            Some(Task::Adopt(change))
         }
         _ => None,
     }
 }
 
 /// What words ask of the ledgers of all nodes, if they are of that form.
-fn read_audit<'a>(words: &'a [&'a str]) -> Option<PlainTask<'a>>
-    ensures asked { IfSome result (λ asked. AsksPlain words.now asked) }
+fn read_audit<'a>(words: &'a [&'a str]) -> Option<Task<'a>>
+    ensures asked { IfSome result (λ asked. Asks words.now asked) }
     ensures audit { IfNone result ((given : SiteFilesValue) → IsAuditOf words.now given → ⊥) }
 {
     match words {
@@ -61,7 +59,7 @@ fn read_audit<'a>(words: &'a [&'a str]) -> Option<PlainTask<'a>>
                 certificate,
                 folder,
             };
-            Some(PlainTask::Audit(given))
+            Some(Task::Audit(given))
         }
         _ => None,
     }
@@ -94,8 +92,8 @@ fn at_node<'a>(name: &str, words: &'a [&'a str]) -> Option<(NodeFiles<'a>, &'a [
 }
 
 /// What words ask a node to print, if they are of such a form.
-fn read_listing<'a>(words: &'a [&'a str]) -> Option<PlainTask<'a>>
-    ensures asked { IfSome result (λ asked. AsksPlain words.now asked) }
+fn read_listing<'a>(words: &'a [&'a str]) -> Option<Task<'a>>
+    ensures asked { IfSome result (λ asked. Asks words.now asked) }
     ensures list { IfNone result ((given : NodeFilesValue) → IsListOf words.now given → ⊥) }
     ensures summary { IfNone result ((given : NodeFilesValue) → IsSummaryOf words.now given → ⊥) }
 {
@@ -103,15 +101,15 @@ fn read_listing<'a>(words: &'a [&'a str]) -> Option<PlainTask<'a>>
         return None;
     };
     match more {
-        [] => Some(PlainTask::AtNode(given, Duty::List)),
-        [option] if *option == "--summary" => Some(PlainTask::AtNode(given, Duty::Summary)),
+        [] => Some(Task::AtNode(given, Duty::List)),
+        [option] if *option == "--summary" => Some(Task::AtNode(given, Duty::Summary)),
         _ => None,
     }
 }
 
 /// Whether words ask a node to serve for ever.
-fn read_serving<'a>(words: &'a [&'a str]) -> Option<PlainTask<'a>>
-    ensures asked { IfSome result (λ asked. AsksPlain words.now asked) }
+fn read_serving<'a>(words: &'a [&'a str]) -> Option<Task<'a>>
+    ensures asked { IfSome result (λ asked. Asks words.now asked) }
     ensures serve { IfNone result ((given : NodeFilesValue) → IsServeOf words.now given → ⊥) }
 {
     let Some((given, more)) = at_node("serve", words) else {
@@ -131,29 +129,29 @@ fn read_serving<'a>(words: &'a [&'a str]) -> Option<PlainTask<'a>>
                 must_exist: false,
                 control: None,
             };
-            Some(PlainTask::AtNode(given, Duty::Serve(serving)))
+            Some(Task::AtNode(given, Duty::Serve(serving)))
         }
         _ => None,
     }
 }
 
 /// Whether words ask for a ledger that isn't there.
-fn read_making<'a>(words: &'a [&'a str]) -> Option<PlainTask<'a>>
-    ensures asked { IfSome result (λ asked. AsksPlain words.now asked) }
+fn read_making<'a>(words: &'a [&'a str]) -> Option<Task<'a>>
+    ensures asked { IfSome result (λ asked. Asks words.now asked) }
     ensures make { IfNone result ((given : NodeFilesValue) → IsMakeOf words.now given → ⊥) }
 {
     let Some((given, more)) = at_node("new", words) else {
         return None;
     };
     match more {
-        [] => Some(PlainTask::AtNode(given, Duty::Make)),
+        [] => Some(Task::AtNode(given, Duty::Make)),
         _ => None,
     }
 }
 
 /// What words ask a node to send, if they are of that form.
-fn read_sending<'a>(words: &'a [&'a str]) -> Option<PlainTask<'a>>
-    ensures asked { IfSome result (λ asked. AsksPlain words.now asked) }
+fn read_sending<'a>(words: &'a [&'a str]) -> Option<Task<'a>>
+    ensures asked { IfSome result (λ asked. Asks words.now asked) }
     ensures send { IfNone result
         ((given : NodeFilesValue) (file : Bor (List ℕ)) → IsSendOf words.now given file → ⊥) }
 {
@@ -161,14 +159,14 @@ fn read_sending<'a>(words: &'a [&'a str]) -> Option<PlainTask<'a>>
         return None;
     };
     match more {
-        [file] if is_no_option(file) => Some(PlainTask::AtNode(given, Duty::Send(file))),
+        [file] if is_no_option(file) => Some(Task::AtNode(given, Duty::Send(file))),
         _ => None,
     }
 }
 
 /// Which held rows words ask a node to queue again, if they are of such a form.
-fn read_requeue<'a>(words: &'a [&'a str]) -> Option<PlainTask<'a>>
-    ensures asked { IfSome result (λ asked. AsksPlain words.now asked) }
+fn read_requeue<'a>(words: &'a [&'a str]) -> Option<Task<'a>>
+    ensures asked { IfSome result (λ asked. Asks words.now asked) }
     ensures requeue { IfNone result
         ((given : NodeFilesValue) (uid dest : Bor (List ℕ))
         → IsRequeueOf words.now given uid dest
@@ -180,21 +178,18 @@ fn read_requeue<'a>(words: &'a [&'a str]) -> Option<PlainTask<'a>>
         return None;
     };
     match more {
-        [option, dest] if *option == "--all-held" => Some(PlainTask::AtNode(
+        [option, dest] if *option == "--all-held" => Some(Task::AtNode(
             given,
             Duty::RequeueAll(dest),
         )),
-        [uid, dest] if is_no_option(uid) => Some(PlainTask::AtNode(
-            given,
-            Duty::Requeue(uid, dest),
-        )),
+        [uid, dest] if is_no_option(uid) => Some(Task::AtNode(given, Duty::Requeue(uid, dest))),
         _ => None,
     }
 }
 
 /// Which held row words ask a node to give up, if they are of that form.
-fn read_giving_up<'a>(words: &'a [&'a str]) -> Option<PlainTask<'a>>
-    ensures asked { IfSome result (λ asked. AsksPlain words.now asked) }
+fn read_giving_up<'a>(words: &'a [&'a str]) -> Option<Task<'a>>
+    ensures asked { IfSome result (λ asked. Asks words.now asked) }
     ensures give_up { IfNone result
         ((given : NodeFilesValue) (uid dest : Bor (List ℕ))
         → IsGiveUpOf words.now given uid dest
@@ -204,14 +199,14 @@ fn read_giving_up<'a>(words: &'a [&'a str]) -> Option<PlainTask<'a>>
         return None;
     };
     match more {
-        [uid, dest] if is_no_option(uid) => Some(PlainTask::AtNode(given, Duty::GiveUp(uid, dest))),
+        [uid, dest] if is_no_option(uid) => Some(Task::AtNode(given, Duty::GiveUp(uid, dest))),
         _ => None,
     }
 }
 
 /// Which instance words ask a node to forget, if they are of that form.
-fn read_forgetting<'a>(words: &'a [&'a str]) -> Option<PlainTask<'a>>
-    ensures asked { IfSome result (λ asked. AsksPlain words.now asked) }
+fn read_forgetting<'a>(words: &'a [&'a str]) -> Option<Task<'a>>
+    ensures asked { IfSome result (λ asked. Asks words.now asked) }
     ensures forget { IfNone result
         ((given : NodeFilesValue) (uid : Bor (List ℕ)) → IsForgetOf words.now given uid → ⊥) }
 {
@@ -219,14 +214,14 @@ fn read_forgetting<'a>(words: &'a [&'a str]) -> Option<PlainTask<'a>>
         return None;
     };
     match more {
-        [uid] if is_no_option(uid) => Some(PlainTask::AtNode(given, Duty::Forget(uid))),
+        [uid] if is_no_option(uid) => Some(Task::AtNode(given, Duty::Forget(uid))),
         _ => None,
     }
 }
 
 /// What words ask of a ledger as a whole, if they are of such a form.
-fn read_whole<'a>(words: &'a [&'a str]) -> Option<PlainTask<'a>>
-    ensures asked { IfSome result (λ asked. AsksPlain words.now asked) }
+fn read_whole<'a>(words: &'a [&'a str]) -> Option<Task<'a>>
+    ensures asked { IfSome result (λ asked. Asks words.now asked) }
     ensures list { IfNone result ((given : NodeFilesValue) → IsListOf words.now given → ⊥) }
     ensures summary { IfNone result ((given : NodeFilesValue) → IsSummaryOf words.now given → ⊥) }
     ensures serve { IfNone result ((given : NodeFilesValue) → IsServeOf words.now given → ⊥) }
@@ -245,8 +240,8 @@ fn read_whole<'a>(words: &'a [&'a str]) -> Option<PlainTask<'a>>
 }
 
 /// What words ask of rows and instances of a ledger, if they are of such a form.
-fn read_rows<'a>(words: &'a [&'a str]) -> Option<PlainTask<'a>>
-    ensures asked { IfSome result (λ asked. AsksPlain words.now asked) }
+fn read_rows<'a>(words: &'a [&'a str]) -> Option<Task<'a>>
+    ensures asked { IfSome result (λ asked. Asks words.now asked) }
     ensures requeue { IfNone result
         ((given : NodeFilesValue) (uid dest : Bor (List ℕ))
         → IsRequeueOf words.now given uid dest
@@ -273,8 +268,8 @@ fn read_rows<'a>(words: &'a [&'a str]) -> Option<PlainTask<'a>>
 }
 
 /// What words ask a node to do with its ledger, if they are of such a form.
-fn read_duty<'a>(words: &'a [&'a str]) -> Option<PlainTask<'a>>
-    ensures asked { IfSome result (λ asked. AsksPlain words.now asked) }
+fn read_duty<'a>(words: &'a [&'a str]) -> Option<Task<'a>>
+    ensures asked { IfSome result (λ asked. Asks words.now asked) }
     ensures duty { IfNone result
         ((given : NodeFilesValue) (duty : DutyValue) → IsDutyOf words.now given duty → ⊥) }
 {
@@ -292,8 +287,8 @@ fn read_duty<'a>(words: &'a [&'a str]) -> Option<PlainTask<'a>>
 
 /// What plain words ask a node to do with its ledger, or of the ledgers of all nodes: those of a
 /// known form.
-pub(crate) fn read_ledger<'a>(words: &'a [&'a str]) -> Option<PlainTask<'a>>
-    ensures asked { IfSome result (λ asked. AsksPlain words.now asked) }
+pub(crate) fn read_ledger<'a>(words: &'a [&'a str]) -> Option<Task<'a>>
+    ensures asked { IfSome result (λ asked. Asks words.now asked) }
     ensures duty { IfNone result
         ((given : NodeFilesValue) (duty : DutyValue) → IsDutyOf words.now given duty → ⊥) }
     ensures adopt { IfNone result ((change : PlanChangeValue) → IsAdoptOf words.now change → ⊥) }

@@ -11,7 +11,6 @@ mod matched;
 mod node_words;
 mod option;
 mod parts;
-mod plain;
 mod plan_words;
 mod plans;
 mod reading;

@@ -1,8 +1,7 @@
 //! What plain words ask about plans.
 ghost use Rattle.std.specs.Prelude.{ℕ, List, IfNone, IfSome};
 ghost use Rattle.std.specs.Borrow.{Bor};
-ghost use Rattle.dr_word_line.specs.Plain.{AsksPlain};
-ghost use Rattle.dr_word_line.specs.Words.{IsCheckOf, IsDiffOf, IsEchoOf, IsExpandOf};
+ghost use Rattle.dr_word_line.specs.Words.{Asks, IsCheckOf, IsDiffOf, IsEchoOf, IsExpandOf};
 ghost use Rattle.dr_word_line.specs.Words.{IsExpectOf, IsFileRouteOf, IsGraphOf, IsImportOf};
 ghost use Rattle.dr_word_line.specs.Words.{IsKeyRouteOf};
 ghost use Rattle.dr_word_line.specs.Words.{IsLintOf, IsPlainCheck, IsSimulateOf, IsVerifyOf};
@@ -10,48 +9,47 @@ ghost use Rattle.dr_word_line.specs.declared.words.KeyWords.{KeyWords as KeyWord
 ghost use Rattle.dr_word_line.specs.declared.words.NextPlan.{NextPlan as NextPlanValue};
 
 use crate::option::is_no_option;
-use crate::plain::PlainTask;
-use crate::words::{KeyWords, NextPlan, Question};
+use crate::words::{KeyWords, NextPlan, Question, Task};
 
 /// What words ask of a plan's text alone, if they are of such a form.
-fn read_check<'a>(words: &'a [&'a str]) -> Option<PlainTask<'a>>
-    ensures asked { IfSome result (λ asked. AsksPlain words.now asked) }
+fn read_check<'a>(words: &'a [&'a str]) -> Option<Task<'a>>
+    ensures asked { IfSome result (λ asked. Asks words.now asked) }
     ensures input { IfNone result (IsPlainCheck words.now → ⊥) }
     ensures file { IfNone result ((plan : Bor (List ℕ)) → IsCheckOf words.now plan → ⊥) }
 {
     match words {
-        [] => Some(PlainTask::CheckInput),
-        [word] if *word == "check" => Some(PlainTask::CheckInput),
-        [word, plan] if *word == "check" && is_no_option(plan) => Some(PlainTask::CheckFile(plan)),
+        [] => Some(Task::CheckInput),
+        [word] if *word == "check" => Some(Task::CheckInput),
+        [word, plan] if *word == "check" && is_no_option(plan) => Some(Task::CheckFile(plan)),
         _ => None,
     }
 }
 
 /// What words ask for that is to be expanded, if they are of that form.
-fn read_expand<'a>(words: &'a [&'a str]) -> Option<PlainTask<'a>>
-    ensures asked { IfSome result (λ asked. AsksPlain words.now asked) }
+fn read_expand<'a>(words: &'a [&'a str]) -> Option<Task<'a>>
+    ensures asked { IfSome result (λ asked. Asks words.now asked) }
     ensures expand { IfNone result ((plan : Bor (List ℕ)) → IsExpandOf words.now plan → ⊥) }
 {
     match words {
-        [word, plan] if *word == "expand" && is_no_option(plan) => Some(PlainTask::Expand(plan)),
+        [word, plan] if *word == "expand" && is_no_option(plan) => Some(Task::Expand(plan)),
         _ => None,
     }
 }
 
 /// What words ask for that is to be imported, if they are of that form.
-fn read_import<'a>(words: &'a [&'a str]) -> Option<PlainTask<'a>>
-    ensures asked { IfSome result (λ asked. AsksPlain words.now asked) }
+fn read_import<'a>(words: &'a [&'a str]) -> Option<Task<'a>>
+    ensures asked { IfSome result (λ asked. Asks words.now asked) }
     ensures imported { IfNone result ((table : Bor (List ℕ)) → IsImportOf words.now table → ⊥) }
 {
     match words {
-        [word, table] if *word == "import" && is_no_option(table) => Some(PlainTask::Import(table)),
+        [word, table] if *word == "import" && is_no_option(table) => Some(Task::Import(table)),
         _ => None,
     }
 }
 
 /// What words ask of a plan and something else, if they are of such a form.
-fn read_pair<'a>(words: &'a [&'a str]) -> Option<PlainTask<'a>>
-    ensures asked { IfSome result (λ asked. AsksPlain words.now asked) }
+fn read_pair<'a>(words: &'a [&'a str]) -> Option<Task<'a>>
+    ensures asked { IfSome result (λ asked. Asks words.now asked) }
     ensures verify { IfNone result
         ((plan certificate : Bor (List ℕ)) → IsVerifyOf words.now plan certificate → ⊥) }
     ensures simulate { IfNone result
@@ -64,23 +62,23 @@ fn read_pair<'a>(words: &'a [&'a str]) -> Option<PlainTask<'a>>
     match words {
         [word, plan, certificate]
             if *word == "verify" && is_no_option(plan) && is_no_option(certificate) => {
-            Some(PlainTask::Verify(plan, certificate))
+            Some(Task::Verify(plan, certificate))
         }
         [word, plan, certificate, script]
             if *word == "simulate"
                 && is_no_option(plan)
                 && is_no_option(certificate)
-                && is_no_option(script) => { Some(PlainTask::Simulate(plan, certificate, script)) }
+                && is_no_option(script) => { Some(Task::Simulate(plan, certificate, script)) }
         [word, plan, caller, called] if *word == "echo" && is_no_option(plan) => {
-            Some(PlainTask::Echo(plan, caller, called))
+            Some(Task::Echo(plan, caller, called))
         }
         _ => None,
     }
 }
 
 /// What words ask about a plan and its certificate, if they have no more than what names them.
-fn read_question<'a>(words: &'a [&'a str]) -> Option<PlainTask<'a>>
-    ensures asked { IfSome result (λ asked. AsksPlain words.now asked) }
+fn read_question<'a>(words: &'a [&'a str]) -> Option<Task<'a>>
+    ensures asked { IfSome result (λ asked. Asks words.now asked) }
     ensures graph { IfNone result
         ((plan certificate : Bor (List ℕ)) → IsGraphOf words.now plan certificate → ⊥) }
     ensures lint { IfNone result
@@ -89,19 +87,19 @@ fn read_question<'a>(words: &'a [&'a str]) -> Option<PlainTask<'a>>
     match words {
         [word, plan, certificate]
             if *word == "graph" && is_no_option(plan) && is_no_option(certificate) => {
-            Some(PlainTask::Question(plan, certificate, Question::Graph))
+            Some(Task::Question(plan, certificate, Question::Graph))
         }
         [word, plan, certificate]
             if *word == "lint" && is_no_option(plan) && is_no_option(certificate) => {
-            Some(PlainTask::Question(plan, certificate, Question::Lint))
+            Some(Task::Question(plan, certificate, Question::Lint))
         }
         _ => None,
     }
 }
 
 /// What words ask of a plan, its certificate and what is expected of it, if they are of that form.
-fn read_expect<'a>(words: &'a [&'a str]) -> Option<PlainTask<'a>>
-    ensures asked { IfSome result (λ asked. AsksPlain words.now asked) }
+fn read_expect<'a>(words: &'a [&'a str]) -> Option<Task<'a>>
+    ensures asked { IfSome result (λ asked. Asks words.now asked) }
     ensures expect { IfNone result
         ((plan certificate path : Bor (List ℕ))
         → IsExpectOf words.now plan certificate path
@@ -113,15 +111,15 @@ fn read_expect<'a>(words: &'a [&'a str]) -> Option<PlainTask<'a>>
                 && is_no_option(plan)
                 && is_no_option(certificate)
                 && is_no_option(path) => {
-            Some(PlainTask::Question(plan, certificate, Question::Expect(path)))
+            Some(Task::Question(plan, certificate, Question::Expect(path)))
         }
         _ => None,
     }
 }
 
 /// What words ask of two plans with their certificates, if they are of that form.
-fn read_diff<'a>(words: &'a [&'a str]) -> Option<PlainTask<'a>>
-    ensures asked { IfSome result (λ asked. AsksPlain words.now asked) }
+fn read_diff<'a>(words: &'a [&'a str]) -> Option<Task<'a>>
+    ensures asked { IfSome result (λ asked. Asks words.now asked) }
     ensures diff { IfNone result
         ((plan certificate : Bor (List ℕ)) (next : NextPlanValue)
         → IsDiffOf words.now plan certificate next
@@ -139,15 +137,15 @@ fn read_diff<'a>(words: &'a [&'a str]) -> Option<PlainTask<'a>>
                 certificate: next_certificate,
                 fails_on_lost: false,
             };
-            Some(PlainTask::Question(plan, certificate, Question::Diff(next)))
+            Some(Task::Question(plan, certificate, Question::Diff(next)))
         }
         _ => None,
     }
 }
 
 /// What words ask about where an instance goes, if they are of such a form.
-fn read_route<'a>(words: &'a [&'a str]) -> Option<PlainTask<'a>>
-    ensures asked { IfSome result (λ asked. AsksPlain words.now asked) }
+fn read_route<'a>(words: &'a [&'a str]) -> Option<Task<'a>>
+    ensures asked { IfSome result (λ asked. Asks words.now asked) }
     ensures route_of_file { IfNone result
         ((plan certificate at path : Bor (List ℕ))
         → IsFileRouteOf words.now plan certificate at path
@@ -163,7 +161,7 @@ fn read_route<'a>(words: &'a [&'a str]) -> Option<PlainTask<'a>>
                 && is_no_option(plan)
                 && is_no_option(certificate)
                 && is_no_option(path) => {
-            Some(PlainTask::Question(plan, certificate, Question::RouteOfFile(at, path)))
+            Some(Task::Question(plan, certificate, Question::RouteOfFile(at, path)))
         }
         [
             word,
@@ -181,15 +179,15 @@ fn read_route<'a>(words: &'a [&'a str]) -> Option<PlainTask<'a>>
                 modality,
                 station,
             };
-            Some(PlainTask::Question(plan, certificate, Question::RouteOfKey(at, key)))
+            Some(Task::Question(plan, certificate, Question::RouteOfKey(at, key)))
         }
         _ => None,
     }
 }
 
 /// What words ask of one file, if they are of such a form.
-pub(crate) fn read_alone<'a>(words: &'a [&'a str]) -> Option<PlainTask<'a>>
-    ensures asked { IfSome result (λ asked. AsksPlain words.now asked) }
+pub(crate) fn read_alone<'a>(words: &'a [&'a str]) -> Option<Task<'a>>
+    ensures asked { IfSome result (λ asked. Asks words.now asked) }
     ensures input { IfNone result (IsPlainCheck words.now → ⊥) }
     ensures file { IfNone result ((plan : Bor (List ℕ)) → IsCheckOf words.now plan → ⊥) }
     ensures expand { IfNone result ((plan : Bor (List ℕ)) → IsExpandOf words.now plan → ⊥) }
@@ -208,8 +206,8 @@ pub(crate) fn read_alone<'a>(words: &'a [&'a str]) -> Option<PlainTask<'a>>
 }
 
 /// What words ask of a plan and of what they name beside it, if they are of such a form.
-pub(crate) fn read_named<'a>(words: &'a [&'a str]) -> Option<PlainTask<'a>>
-    ensures asked { IfSome result (λ asked. AsksPlain words.now asked) }
+pub(crate) fn read_named<'a>(words: &'a [&'a str]) -> Option<Task<'a>>
+    ensures asked { IfSome result (λ asked. Asks words.now asked) }
     ensures verify { IfNone result
         ((plan certificate : Bor (List ℕ)) → IsVerifyOf words.now plan certificate → ⊥) }
     ensures simulate { IfNone result
@@ -240,8 +238,8 @@ pub(crate) fn read_named<'a>(words: &'a [&'a str]) -> Option<PlainTask<'a>>
 }
 
 /// What words ask of two plans, or of an instance's way, if they are of such a form.
-pub(crate) fn read_ways<'a>(words: &'a [&'a str]) -> Option<PlainTask<'a>>
-    ensures asked { IfSome result (λ asked. AsksPlain words.now asked) }
+pub(crate) fn read_ways<'a>(words: &'a [&'a str]) -> Option<Task<'a>>
+    ensures asked { IfSome result (λ asked. Asks words.now asked) }
     ensures diff { IfNone result
         ((plan certificate : Bor (List ℕ)) (next : NextPlanValue)
         → IsDiffOf words.now plan certificate next

@@ -1,16 +1,14 @@
 //! What plain words ask of a node that runs, or tell it to do.
 ghost use Rattle.std.specs.Prelude.{◌≡◌, ◌↔◌, ℕ, List, IfNone, IfSome, IsTrue, codes};
 ghost use Rattle.std.specs.Borrow.{Bor};
-ghost use Rattle.dr_word_line.specs.Plain.{AsksPlain};
-ghost use Rattle.dr_word_line.specs.Words.{IsAtRunning, IsErrandOf, IsNoOption};
+ghost use Rattle.dr_word_line.specs.Words.{Asks, IsAtRunning, IsErrandOf, IsNoOption};
 ghost use Rattle.dr_word_line.specs.Words.{IsToRunning};
 ghost use Rattle.dr_word_line.specs.declared.words.Errand.{Errand as ErrandValue};
 ghost use Rattle.dr_word_line.specs.declared.words.Errand.TheVariants as errands;
 ghost use Rattle.dr_word_line.specs.declared.words.RunningNode.{RunningNode as RunningNodeValue};
 
 use crate::option::is_no_option;
-use crate::plain::PlainTask;
-use crate::words::{Errand, RunningNode};
+use crate::words::{Errand, RunningNode, Task};
 
 /// Whether the words say where a running node may be asked.
 fn is_at(option: &str, at: &str) -> bool
@@ -70,8 +68,8 @@ fn to_running<'a>(name: &str, words: &'a [&'a str]) -> Option<(RunningNode<'a>, 
 }
 
 /// What words ask a running node for, if they are of such a form.
-fn read_question<'a>(words: &'a [&'a str]) -> Option<PlainTask<'a>>
-    ensures asked { IfSome result (λ asked. AsksPlain words.now asked) }
+fn read_question<'a>(words: &'a [&'a str]) -> Option<Task<'a>>
+    ensures asked { IfSome result (λ asked. Asks words.now asked) }
     ensures list { IfNone result
         ((given : RunningNodeValue) → IsErrandOf words.now given errands.List → ⊥) }
     ensures summary { IfNone result
@@ -81,15 +79,15 @@ fn read_question<'a>(words: &'a [&'a str]) -> Option<PlainTask<'a>>
         return None;
     };
     match more {
-        [] => Some(PlainTask::AtRunning(given, Errand::List)),
-        [option] if *option == "--summary" => Some(PlainTask::AtRunning(given, Errand::Summary)),
+        [] => Some(Task::AtRunning(given, Errand::List)),
+        [option] if *option == "--summary" => Some(Task::AtRunning(given, Errand::Summary)),
         _ => None,
     }
 }
 
 /// Which held rows words tell a running node to queue again, if they are of such a form.
-fn read_requeue<'a>(words: &'a [&'a str]) -> Option<PlainTask<'a>>
-    ensures asked { IfSome result (λ asked. AsksPlain words.now asked) }
+fn read_requeue<'a>(words: &'a [&'a str]) -> Option<Task<'a>>
+    ensures asked { IfSome result (λ asked. Asks words.now asked) }
     ensures requeue { IfNone result
         ((given : RunningNodeValue) (uid dest : Bor (List ℕ))
         → IsErrandOf words.now given (errands.Requeue uid dest)
@@ -103,11 +101,11 @@ fn read_requeue<'a>(words: &'a [&'a str]) -> Option<PlainTask<'a>>
         return None;
     };
     match more {
-        [option, dest] if *option == "--all-held" => Some(PlainTask::AtRunning(
+        [option, dest] if *option == "--all-held" => Some(Task::AtRunning(
             given,
             Errand::RequeueAll(dest),
         )),
-        [uid, dest] if is_no_option(uid) => Some(PlainTask::AtRunning(
+        [uid, dest] if is_no_option(uid) => Some(Task::AtRunning(
             given,
             Errand::Requeue(uid, dest),
         )),
@@ -116,8 +114,8 @@ fn read_requeue<'a>(words: &'a [&'a str]) -> Option<PlainTask<'a>>
 }
 
 /// Which held row words tell a running node to give up, if they are of that form.
-fn read_giving_up<'a>(words: &'a [&'a str]) -> Option<PlainTask<'a>>
-    ensures asked { IfSome result (λ asked. AsksPlain words.now asked) }
+fn read_giving_up<'a>(words: &'a [&'a str]) -> Option<Task<'a>>
+    ensures asked { IfSome result (λ asked. Asks words.now asked) }
     ensures give_up { IfNone result
         ((given : RunningNodeValue) (uid dest : Bor (List ℕ))
         → IsErrandOf words.now given (errands.GiveUp uid dest)
@@ -127,17 +125,14 @@ fn read_giving_up<'a>(words: &'a [&'a str]) -> Option<PlainTask<'a>>
         return None;
     };
     match more {
-        [uid, dest] if is_no_option(uid) => Some(PlainTask::AtRunning(
-            given,
-            Errand::GiveUp(uid, dest),
-        )),
+        [uid, dest] if is_no_option(uid) => Some(Task::AtRunning(given, Errand::GiveUp(uid, dest))),
         _ => None,
     }
 }
 
 /// Which instance words tell a running node to forget, if they are of that form.
-fn read_forgetting<'a>(words: &'a [&'a str]) -> Option<PlainTask<'a>>
-    ensures asked { IfSome result (λ asked. AsksPlain words.now asked) }
+fn read_forgetting<'a>(words: &'a [&'a str]) -> Option<Task<'a>>
+    ensures asked { IfSome result (λ asked. Asks words.now asked) }
     ensures forget { IfNone result
         ((given : RunningNodeValue) (uid : Bor (List ℕ))
         → IsErrandOf words.now given (errands.Forget uid)
@@ -147,14 +142,14 @@ fn read_forgetting<'a>(words: &'a [&'a str]) -> Option<PlainTask<'a>>
         return None;
     };
     match more {
-        [uid] if is_no_option(uid) => Some(PlainTask::AtRunning(given, Errand::Forget(uid))),
+        [uid] if is_no_option(uid) => Some(Task::AtRunning(given, Errand::Forget(uid))),
         _ => None,
     }
 }
 
 /// Which node words tell a running one to visit now, if they are of that form.
-fn read_visiting<'a>(words: &'a [&'a str]) -> Option<PlainTask<'a>>
-    ensures asked { IfSome result (λ asked. AsksPlain words.now asked) }
+fn read_visiting<'a>(words: &'a [&'a str]) -> Option<Task<'a>>
+    ensures asked { IfSome result (λ asked. Asks words.now asked) }
     ensures visit { IfNone result
         ((given : RunningNodeValue) (dest : Bor (List ℕ))
         → IsErrandOf words.now given (errands.Visit dest)
@@ -164,14 +159,14 @@ fn read_visiting<'a>(words: &'a [&'a str]) -> Option<PlainTask<'a>>
         return None;
     };
     match more {
-        [dest] if is_no_option(dest) => Some(PlainTask::AtRunning(given, Errand::Visit(dest))),
+        [dest] if is_no_option(dest) => Some(Task::AtRunning(given, Errand::Visit(dest))),
         _ => None,
     }
 }
 
 /// Where to words tell a running node to copy its ledger, if they are of that form.
-fn read_backup<'a>(words: &'a [&'a str]) -> Option<PlainTask<'a>>
-    ensures asked { IfSome result (λ asked. AsksPlain words.now asked) }
+fn read_backup<'a>(words: &'a [&'a str]) -> Option<Task<'a>>
+    ensures asked { IfSome result (λ asked. Asks words.now asked) }
     ensures backup { IfNone result
         ((given : RunningNodeValue) (copy : Bor (List ℕ))
         → IsErrandOf words.now given (errands.Backup copy)
@@ -181,14 +176,14 @@ fn read_backup<'a>(words: &'a [&'a str]) -> Option<PlainTask<'a>>
         return None;
     };
     match more {
-        [copy] if is_no_option(copy) => Some(PlainTask::AtRunning(given, Errand::Backup(copy))),
+        [copy] if is_no_option(copy) => Some(Task::AtRunning(given, Errand::Backup(copy))),
         _ => None,
     }
 }
 
 /// Whether words tell a running node to end.
-fn read_stopping<'a>(words: &'a [&'a str]) -> Option<PlainTask<'a>>
-    ensures asked { IfSome result (λ asked. AsksPlain words.now asked) }
+fn read_stopping<'a>(words: &'a [&'a str]) -> Option<Task<'a>>
+    ensures asked { IfSome result (λ asked. Asks words.now asked) }
     ensures stop { IfNone result
         ((given : RunningNodeValue) → IsErrandOf words.now given errands.Stop → ⊥) }
 {
@@ -196,14 +191,14 @@ fn read_stopping<'a>(words: &'a [&'a str]) -> Option<PlainTask<'a>>
         return None;
     };
     match more {
-        [] => Some(PlainTask::AtRunning(given, Errand::Stop)),
+        [] => Some(Task::AtRunning(given, Errand::Stop)),
         _ => None,
     }
 }
 
 /// What words tell a running node to do with rows and instances, if they are of such a form.
-fn read_rows<'a>(words: &'a [&'a str]) -> Option<PlainTask<'a>>
-    ensures asked { IfSome result (λ asked. AsksPlain words.now asked) }
+fn read_rows<'a>(words: &'a [&'a str]) -> Option<Task<'a>>
+    ensures asked { IfSome result (λ asked. Asks words.now asked) }
     ensures requeue { IfNone result
         ((given : RunningNodeValue) (uid dest : Bor (List ℕ))
         → IsErrandOf words.now given (errands.Requeue uid dest)
@@ -234,8 +229,8 @@ fn read_rows<'a>(words: &'a [&'a str]) -> Option<PlainTask<'a>>
 }
 
 /// What else words tell a running node to do, if they are of such a form.
-fn read_work<'a>(words: &'a [&'a str]) -> Option<PlainTask<'a>>
-    ensures asked { IfSome result (λ asked. AsksPlain words.now asked) }
+fn read_work<'a>(words: &'a [&'a str]) -> Option<Task<'a>>
+    ensures asked { IfSome result (λ asked. Asks words.now asked) }
     ensures visit { IfNone result
         ((given : RunningNodeValue) (dest : Bor (List ℕ))
         → IsErrandOf words.now given (errands.Visit dest)
@@ -260,8 +255,8 @@ fn read_work<'a>(words: &'a [&'a str]) -> Option<PlainTask<'a>>
 }
 
 /// What words ask of a running node, or tell it to do, if they are of such a form.
-pub(crate) fn read_running<'a>(words: &'a [&'a str]) -> Option<PlainTask<'a>>
-    ensures asked { IfSome result (λ asked. AsksPlain words.now asked) }
+pub(crate) fn read_running<'a>(words: &'a [&'a str]) -> Option<Task<'a>>
+    ensures asked { IfSome result (λ asked. Asks words.now asked) }
     ensures errand { IfNone result
         ((given : RunningNodeValue) (errand : ErrandValue)
         → IsErrandOf words.now given errand
