@@ -45,6 +45,7 @@ BY_ACCIDENT = (
     {"most", "piece"},  # how much a plan may stand for; the bytes of a piece of a data set
     {"OfSet", "Pair"},  # a set's name with a class of it; two parts of a row's or an arrival's key
     {"Print", "Goal"},  # a data set's length and SHA-256; a line's number and a name
+    {"ends_row", "is_taken"},  # a row is done after this outcome; the receiver has the instance
 )
 
 

@@ -1,6 +1,6 @@
 -- What came to be over by the lines of a journal: when a row of an instance was last done or
 -- dropped. What was forgotten since isn't here any more, nor is what the node keeps.
-use Rattle.std.specs.Prelude.{◌≡◌, ◌↔◌, ℕ, Bool, true, false, cond, ◌&&◌, ◌+◌, ◌-◌, ◌^◌, max, min}
+use Rattle.std.specs.Prelude.{◌≡◌, ◌↔◌, ℕ, Bool, true, false, cond, ◌&&◌, max}
 use Rattle.std.specs.Prelude.{List, [], ◌∷◌, ◌++◌}
 use Rattle.std.specs.Prelude.{Contains, Option, None, Some}
 use Rattle.std.specs.BTreeMap as tree
@@ -13,6 +13,7 @@ use Rattle.dr_ledger.specs.declared.item.Outcome.{Outcome}
 use Rattle.dr_ledger.specs.declared.item.Outcome.TheVariants.{Status, Broken, NoContext}
 use Rattle.dr_ledger_history.specs.declared.line.JournalLine.{JournalLine}
 use Rattle.dr_ledger_history.specs.declared.line.JournalLine.TheVariants as told
+use Rattle.dr_run_answer.specs.Journals.{next_number}
 use Rattle.dr_run_serve.specs.declared.past.Past.{Past}
 use Rattle.dr_run_serve.specs.declared.sweep.OverInstance.{OverInstance}
 
@@ -35,18 +36,18 @@ later (Some known) now = Some (max now known)
 
 -- what is known of an instance: whether the node keeps it, and when a row of it was last done or
 -- dropped
-abbrev pub Known : Type 0
-Known = Bool × Option ℕ
+abbrev pub KnownEnd : Type 0
+KnownEnd = Bool × Option ℕ
 
-abbrev pub nothing : Known
+abbrev pub nothing : KnownEnd
 nothing = (false, None)
 
 -- a row of it ended at that moment; of one that the node keeps that isn't noted
-abbrev pub ended_by : Known → ℕ → Known
+abbrev pub ended_by : KnownEnd → ℕ → KnownEnd
 ended_by known now = (known.0, cond known.0 known.1 (later known.1 now))
 
 -- what is known of the instance of that uid behind the line
-abbrev pub known_by : Text → Known → JournalLine → Known
+abbrev pub known_by : Text → KnownEnd → JournalLine → KnownEnd
 known_by q known (told.Arrival caller instance to keep) =
     cond (keep && is_uid instance.uid q) (true, None) known
 known_by q known (told.Repeat caller instance) = known
@@ -58,15 +59,11 @@ known_by q known (told.Forgetting uid) = cond (is_uid uid q) (known.0, None) kno
 known_by q known told.Adoption = known
 
 -- and behind these lines
-abbrev pub known_after : Text → Known → List JournalLine → Known
+abbrev pub known_after : Text → KnownEnd → List JournalLine → KnownEnd
 known_after q known [] = known
 known_after q known (line ∷ lines) = known_after q (known_by q known line) lines
 
 -- ---- all of them
-
--- the next number, of those of 64 bits
-abbrev pub next_number : ℕ → ℕ
-next_number n = min (n + 1) (2 ^ 64 - 1)
 
 -- the number behind these lines
 abbrev pub counted_from : ℕ → List JournalLine → ℕ
@@ -74,11 +71,11 @@ counted_from n [] = n
 counted_from n (line ∷ lines) = counted_from (next_number n) lines
 
 -- what is noted of an instance
-abbrev pub known_in : Past → Text → Known
+abbrev pub known_in : Past → Text → KnownEnd
 known_in past q = (set.contains text_cmp past.kept q, tree.get text_cmp past.ends q)
 
 -- of each instance that is noted which follows so from what was
-abbrev pub Knows : (Text → Known → Known) → Past → Past → Type 0
+abbrev pub Knows : (Text → KnownEnd → KnownEnd) → Past → Past → Type 0
 Knows now old new = (q : Text) → known_in new q ≡ now q (known_in old q)
 
 -- these lines were read, and what they say is noted
