@@ -103,6 +103,10 @@ refusal_more refusals i one out now new less is so_far told =
 pub refusals_all : (refusals : List RefusedForeign) (i : ℕ) (out new : Text) → length refusals ≤ i → new ≡ out ++ refusals_of (take i refusals) → new ≡ out ++ refusals_of refusals
 refusals_all refusals i out new all so_far = so_far ∙ ap (λ (rs : List RefusedForeign). out ++ refusals_of rs) (take_all i refusals all)
 
+-- a piece, and what was added behind it
+pub chained : (old first behind mid new : List ℕ) → mid ≡ old ++ first → new ≡ mid ++ behind → new ≡ old ++ (first ++ behind)
+chained old first behind mid new before later = later ∙ (ap (λ (text : List ℕ). text ++ behind) before ∙ append_assoc old first behind)
+
 -- an output to which nothing is written has what it had
 pub nothing_added : (o : Option (List ℕ)) → Appends o o []
 nothing_added None = tt
