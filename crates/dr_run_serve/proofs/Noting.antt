@@ -12,11 +12,11 @@ use Rattle.std.specs.BTreeSet as set
 use Rattle.std.specs.Map.{lookup}
 use Rattle.dr_base.specs.Texts.{Text, text_cmp}
 use Rattle.dr_ledger_history.specs.declared.line.JournalLine.{JournalLine}
-use Rattle.dr_run_serve.specs.Pasts.{HasNoted, IsFoundIn, IsQueueOf, Known, counted_from, ended_by, is_uid, known_after, known_by, known_in, later, next_number, nothing}
+use Rattle.dr_run_serve.specs.Pasts.{HasNoted, IsFoundIn, IsQueueOf, KnownEnd, counted_from, ended_by, is_uid, known_after, known_by, known_in, later, count_next, nothing}
 use Rattle.dr_run_serve.specs.declared.past.Past.{Past}
 use Rattle.dr_run_serve.specs.declared.sweep.OverInstance.{OverInstance}
 
-pub both : (b c d e : Bool) (x y z : Option ℕ) → c ≡ cond b d e → x ≡ cond b y z → ◌≡◌ {A = Known} (c, x) (cond b (d, y) (e, z))
+pub both : (b c d e : Bool) (x y z : Option ℕ) → c ≡ cond b d e → x ≡ cond b y z → ◌≡◌ {A = KnownEnd} (c, x) (cond b (d, y) (e, z))
 both true c d e x y z p q = λ i. (p i, q i)
 both false c d e x y z p q = λ i. (p i, q i)
 
@@ -24,7 +24,7 @@ tied : (uid q : Text) → is_uid uid q ≡ true → uid ≡ q
 tied uid q h = tells_apart exact_bytes uid q h
 
 -- of one that is kept nothing is noted
-pub stays_kept : (known : Text → Known) (uid : Text) (now : ℕ) → (known uid).0 ≡ true → (q : Text) → known q ≡ cond (is_uid uid q) (ended_by (known q) now) (known q)
+pub stays_kept : (known : Text → KnownEnd) (uid : Text) (now : ℕ) → (known uid).0 ≡ true → (q : Text) → known q ≡ cond (is_uid uid q) (ended_by (known q) now) (known q)
 stays_kept known uid now kept q = go (is_uid uid q) refl
   where
     go : (b : Bool) → is_uid uid q ≡ b → known q ≡ cond b (ended_by (known q) now) (known q)
@@ -34,11 +34,11 @@ stays_kept known uid now kept q = go (is_uid uid q) refl
         ap (λ (b : Bool). ((known q).0, cond b (known q).1 (later (known q).1 now))) (sym there)
 
 -- and of another one the later moment is
-pub ends_then : (known : Text → Known) (after : Text → Option ℕ) (uid : Text) (now end : ℕ) → (known uid).0 ≡ false → Some end ≡ later (known uid).1 now
-    → ((q : Text) → after q ≡ cond (is_uid uid q) (Some end) (known q).1) → (q : Text) → ◌≡◌ {A = Known} ((known q).0, after q) (cond (is_uid uid q) (ended_by (known q) now) (known q))
+pub ends_then : (known : Text → KnownEnd) (after : Text → Option ℕ) (uid : Text) (now end : ℕ) → (known uid).0 ≡ false → Some end ≡ later (known uid).1 now
+    → ((q : Text) → after q ≡ cond (is_uid uid q) (Some end) (known q).1) → (q : Text) → ◌≡◌ {A = KnownEnd} ((known q).0, after q) (cond (is_uid uid q) (ended_by (known q) now) (known q))
 ends_then known after uid now end free is updates q = go (is_uid uid q) refl (updates q)
   where
-    go : (b : Bool) → is_uid uid q ≡ b → after q ≡ cond b (Some end) (known q).1 → ◌≡◌ {A = Known} ((known q).0, after q) (cond b (ended_by (known q) now) (known q))
+    go : (b : Bool) → is_uid uid q ≡ b → after q ≡ cond b (Some end) (known q).1 → ◌≡◌ {A = KnownEnd} ((known q).0, after q) (cond b (ended_by (known q) now) (known q))
     go false other e = ap (λ (o : Option ℕ). ((known q).0, o)) e
     go true same e =
         let at : uid ≡ q = tied uid q same in
@@ -49,20 +49,20 @@ ends_then known after uid now end free is updates q = go (is_uid uid q) refl (up
 
 -- ---- lines
 
-known_more : (q : Text) (known : Known) (xs ys : List JournalLine) → known_after q known (xs ++ ys) ≡ known_after q (known_after q known xs) ys
+known_more : (q : Text) (known : KnownEnd) (xs ys : List JournalLine) → known_after q known (xs ++ ys) ≡ known_after q (known_after q known xs) ys
 known_more q known [] ys = refl
 known_more q known (x ∷ xs) ys = known_more q (known_by q known x) xs ys
 
 pub counted_more : (n : ℕ) (xs ys : List JournalLine) → counted_from n (xs ++ ys) ≡ counted_from (counted_from n xs) ys
 counted_more n [] ys = refl
-counted_more n (x ∷ xs) ys = counted_more (next_number n) xs ys
+counted_more n (x ∷ xs) ys = counted_more (count_next n) xs ys
 
 -- one line more is noted, and counted
 pub one_noted : (lines : List JournalLine) (line : JournalLine) (old mid new : Past) → HasNoted lines old → mid.after ≡ old.after → ((q : Text) → known_in mid q ≡ known_by q (known_in old q) line)
-    → new.after ≡ next_number mid.after → ((q : Text) → known_in new q ≡ known_in mid q) → HasNoted (lines ++ line ∷ []) new
+    → new.after ≡ count_next mid.after → ((q : Text) → known_in new q ≡ known_in mid q) → HasNoted (lines ++ line ∷ []) new
 one_noted lines line old mid new had stays known counts same = record {
-  count = counts ∙ ap next_number (stays ∙ had.count) ∙ sym (counted_more 0 lines (line ∷ []));
-  known = λ q. same q ∙ known q ∙ ap (λ (k : Known). known_by q k line) (had.known q) ∙ sym (known_more q nothing lines (line ∷ []));
+  count = counts ∙ ap count_next (stays ∙ had.count) ∙ sym (counted_more 0 lines (line ∷ []));
+  known = λ q. same q ∙ known q ∙ ap (λ (k : KnownEnd). known_by q k line) (had.known q) ∙ sym (known_more q nothing lines (line ∷ []));
 }
 
 -- what is found of these lines, where what they say is noted
@@ -70,7 +70,7 @@ pub found_in : (lines : List JournalLine) (past : Past) (queue : List OverInstan
 found_in lines past queue had is = record {
   ordered = is.ordered;
   just = λ uid at.
-      let e : tree.get text_cmp past.ends uid ≡ (known_after uid nothing lines).1 = ap (λ (k : Known). k.1) (had.known uid) in
+      let e : tree.get text_cmp past.ends uid ≡ (known_after uid nothing lines).1 = ap (λ (k : KnownEnd). k.1) (had.known uid) in
       (λ there. sym e ∙ (is.just uid at).0 there, λ said. (is.just uid at).1 (e ∙ said));
 }
 
@@ -112,7 +112,7 @@ same_entries : (m n : tree.BTreeMap Text ℕ) → n.entries ≡ m.entries → (q
 same_entries m n e q = ap (λ (es : List (Text × ℕ)). lookup (tree.is_at (text_cmp q)) es) e
 
 -- nothing more is known where the tree has what it had
-pub as_before : (s : set.BTreeSet Text) (m n : tree.BTreeMap Text ℕ) → n.entries ≡ m.entries → (q : Text) → ◌≡◌ {A = Known} (set.contains text_cmp s q, tree.get text_cmp n q) (set.contains text_cmp s q, tree.get text_cmp m q)
+pub as_before : (s : set.BTreeSet Text) (m n : tree.BTreeMap Text ℕ) → n.entries ≡ m.entries → (q : Text) → ◌≡◌ {A = KnownEnd} (set.contains text_cmp s q, tree.get text_cmp n q) (set.contains text_cmp s q, tree.get text_cmp m q)
 as_before s m n e q = ap (λ (o : Option ℕ). (set.contains text_cmp s q, o)) (same_entries m n e q)
 
 pub still_noted : (lines : List JournalLine) (old new : Past) → HasNoted lines old → new.after ≡ old.after → ((q : Text) → known_in new q ≡ known_in old q) → HasNoted lines new

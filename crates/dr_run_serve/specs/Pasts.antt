@@ -10,7 +10,7 @@ use Rattle.std.specs.List.Sorted.{IsNonDecreasingBy}
 use Rattle.dr_base.specs.Texts.{Text, text_cmp}
 use Rattle.dr_ledger.specs.Books.{is_success}
 use Rattle.dr_ledger.specs.declared.item.Outcome.{Outcome}
-use Rattle.dr_ledger.specs.declared.item.Outcome.TheVariants.{Status, Broken, NoContext}
+use Rattle.dr_ledger.specs.declared.item.Outcome.TheVariants.{Status}
 use Rattle.dr_ledger_history.specs.declared.line.JournalLine.{JournalLine}
 use Rattle.dr_ledger_history.specs.declared.line.JournalLine.TheVariants as told
 use Rattle.dr_run_serve.specs.declared.past.Past.{Past}
@@ -21,8 +21,7 @@ use Rattle.dr_run_serve.specs.declared.sweep.OverInstance.{OverInstance}
 -- a row is done after this outcome
 abbrev pub ends_row : Outcome → Bool
 ends_row (Status status) = is_success status
-ends_row Broken = false
-ends_row NoContext = false
+ends_row other = false
 
 -- it is the same uid
 abbrev pub is_uid : Text → Text → Bool
@@ -35,18 +34,18 @@ later (Some known) now = Some (max now known)
 
 -- what is known of an instance: whether the node keeps it, and when a row of it was last done or
 -- dropped
-abbrev pub Known : Type 0
-Known = Bool × Option ℕ
+abbrev pub KnownEnd : Type 0
+KnownEnd = Bool × Option ℕ
 
-abbrev pub nothing : Known
+abbrev pub nothing : KnownEnd
 nothing = (false, None)
 
 -- a row of it ended at that moment; of one that the node keeps that isn't noted
-abbrev pub ended_by : Known → ℕ → Known
+abbrev pub ended_by : KnownEnd → ℕ → KnownEnd
 ended_by known now = (known.0, cond known.0 known.1 (later known.1 now))
 
 -- what is known of the instance of that uid behind the line
-abbrev pub known_by : Text → Known → JournalLine → Known
+abbrev pub known_by : Text → KnownEnd → JournalLine → KnownEnd
 known_by q known (told.Arrival caller instance to keep) =
     cond (keep && is_uid instance.uid q) (true, None) known
 known_by q known (told.Repeat caller instance) = known
@@ -58,27 +57,27 @@ known_by q known (told.Forgetting uid) = cond (is_uid uid q) (known.0, None) kno
 known_by q known told.Adoption = known
 
 -- and behind these lines
-abbrev pub known_after : Text → Known → List JournalLine → Known
+abbrev pub known_after : Text → KnownEnd → List JournalLine → KnownEnd
 known_after q known [] = known
 known_after q known (line ∷ lines) = known_after q (known_by q known line) lines
 
 -- ---- all of them
 
--- the next number, of those of 64 bits
-abbrev pub next_number : ℕ → ℕ
-next_number n = min (n + 1) (2 ^ 64 - 1)
+-- one more, up to the greatest number of 64 bits
+abbrev pub count_next : ℕ → ℕ
+count_next n = min (2 ^ 64 - 1) (n + 1)
 
 -- the number behind these lines
 abbrev pub counted_from : ℕ → List JournalLine → ℕ
 counted_from n [] = n
-counted_from n (line ∷ lines) = counted_from (next_number n) lines
+counted_from n (line ∷ lines) = counted_from (count_next n) lines
 
 -- what is noted of an instance
-abbrev pub known_in : Past → Text → Known
+abbrev pub known_in : Past → Text → KnownEnd
 known_in past q = (set.contains text_cmp past.kept q, tree.get text_cmp past.ends q)
 
 -- of each instance that is noted which follows so from what was
-abbrev pub Knows : (Text → Known → Known) → Past → Past → Type 0
+abbrev pub Knows : (Text → KnownEnd → KnownEnd) → Past → Past → Type 0
 Knows now old new = (q : Text) → known_in new q ≡ now q (known_in old q)
 
 -- these lines were read, and what they say is noted
