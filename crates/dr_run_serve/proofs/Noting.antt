@@ -12,7 +12,8 @@ use Rattle.std.specs.BTreeSet as set
 use Rattle.std.specs.Map.{lookup}
 use Rattle.dr_base.specs.Texts.{Text, text_cmp}
 use Rattle.dr_ledger_history.specs.declared.line.JournalLine.{JournalLine}
-use Rattle.dr_run_serve.specs.Pasts.{HasNoted, IsFoundIn, IsQueueOf, KnownEnd, counted_from, ended_by, is_uid, known_after, known_by, known_in, later, count_next, nothing}
+use Rattle.dr_run_answer.specs.Journals.{next_number}
+use Rattle.dr_run_serve.specs.Pasts.{HasNoted, IsFoundIn, IsQueueOf, KnownEnd, counted_from, ended_by, is_uid, known_after, known_by, known_in, later, nothing}
 use Rattle.dr_run_serve.specs.declared.past.Past.{Past}
 use Rattle.dr_run_serve.specs.declared.sweep.OverInstance.{OverInstance}
 
@@ -55,13 +56,13 @@ known_more q known (x ∷ xs) ys = known_more q (known_by q known x) xs ys
 
 pub counted_more : (n : ℕ) (xs ys : List JournalLine) → counted_from n (xs ++ ys) ≡ counted_from (counted_from n xs) ys
 counted_more n [] ys = refl
-counted_more n (x ∷ xs) ys = counted_more (count_next n) xs ys
+counted_more n (x ∷ xs) ys = counted_more (next_number n) xs ys
 
 -- one line more is noted, and counted
 pub one_noted : (lines : List JournalLine) (line : JournalLine) (old mid new : Past) → HasNoted lines old → mid.after ≡ old.after → ((q : Text) → known_in mid q ≡ known_by q (known_in old q) line)
-    → new.after ≡ count_next mid.after → ((q : Text) → known_in new q ≡ known_in mid q) → HasNoted (lines ++ line ∷ []) new
+    → new.after ≡ next_number mid.after → ((q : Text) → known_in new q ≡ known_in mid q) → HasNoted (lines ++ line ∷ []) new
 one_noted lines line old mid new had stays known counts same = record {
-  count = counts ∙ ap count_next (stays ∙ had.count) ∙ sym (counted_more 0 lines (line ∷ []));
+  count = counts ∙ ap next_number (stays ∙ had.count) ∙ sym (counted_more 0 lines (line ∷ []));
   known = λ q. same q ∙ known q ∙ ap (λ (k : KnownEnd). known_by q k line) (had.known q) ∙ sym (known_more q nothing lines (line ∷ []));
 }
 

@@ -1,6 +1,6 @@
 -- What came to be over by the lines of a journal: when a row of an instance was last done or
 -- dropped. What was forgotten since isn't here any more, nor is what the node keeps.
-use Rattle.std.specs.Prelude.{◌≡◌, ◌↔◌, ℕ, Bool, true, false, cond, ◌&&◌, ◌+◌, ◌-◌, ◌^◌, max, min}
+use Rattle.std.specs.Prelude.{◌≡◌, ◌↔◌, ℕ, Bool, true, false, cond, ◌&&◌, max}
 use Rattle.std.specs.Prelude.{List, [], ◌∷◌, ◌++◌}
 use Rattle.std.specs.Prelude.{Contains, Option, None, Some}
 use Rattle.std.specs.BTreeMap as tree
@@ -13,6 +13,7 @@ use Rattle.dr_ledger.specs.declared.item.Outcome.{Outcome}
 use Rattle.dr_ledger.specs.declared.item.Outcome.TheVariants.{Status}
 use Rattle.dr_ledger_history.specs.declared.line.JournalLine.{JournalLine}
 use Rattle.dr_ledger_history.specs.declared.line.JournalLine.TheVariants as told
+use Rattle.dr_run_answer.specs.Journals.{next_number}
 use Rattle.dr_run_serve.specs.declared.past.Past.{Past}
 use Rattle.dr_run_serve.specs.declared.sweep.OverInstance.{OverInstance}
 
@@ -63,14 +64,10 @@ known_after q known (line ∷ lines) = known_after q (known_by q known line) lin
 
 -- ---- all of them
 
--- one more, up to the greatest number of 64 bits
-abbrev pub count_next : ℕ → ℕ
-count_next n = min (2 ^ 64 - 1) (n + 1)
-
 -- the number behind these lines
 abbrev pub counted_from : ℕ → List JournalLine → ℕ
 counted_from n [] = n
-counted_from n (line ∷ lines) = counted_from (count_next n) lines
+counted_from n (line ∷ lines) = counted_from (next_number n) lines
 
 -- what is noted of an instance
 abbrev pub known_in : Past → Text → KnownEnd
