@@ -1,4 +1,6 @@
 mod CutJournals
 mod CutsBegin
 mod Noted
+mod Numbering
 mod Reached
+mod Spelled

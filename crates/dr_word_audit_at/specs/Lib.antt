@@ -1,3 +1,5 @@
 pub mod Cuts
 pub mod Firsts
 pub mod Laws
+pub mod Pages
+pub mod Saying

@@ -1,5 +1,9 @@
 //! Reads journals of nodes that run, page by page.
+ghost use Rattle.std.specs.Prelude.{◌≡◌, ◌≤◌, IfOk, length};
 ghost use Rattle.dr_run_ask.specs.Conversations.{OnlyReads};
+ghost use Rattle.dr_word_audit_at.specs.Pages.{Adds, AddsIf, Asks as AsksIn, Counts};
+ghost use Rattle.dr_word_audit_at.specs.Pages.{CountsLines, GrowsBy, HasLineOf, IsNodes};
+ghost use Rattle.dr_word_audit_at.specs.Pages.{ReadsLines, ReadsPage, TellsLine};
 
 use crate::told::line_in;
 use dr_base::Seq;
@@ -23,7 +27,9 @@ pub(crate) fn count_of<A: Asks>(
     node: &mut A,
     meant: Meant<'_>,
 ) -> Result<u64, AskFault>
-    ensures { OnlyReads A.answers node.old node.new }
+    ensures reads { OnlyReads A.answers node.old node.new }
+    ensures counts { IfOk result (λ count. Counts A.answers
+        meant.entry.name.now meant.entry.digest.now node.old count node.new) }
 {
     let answer = match see(alloc, node, meant) {
         Ok(answer) => answer,
@@ -35,18 +41,58 @@ pub(crate) fn count_of<A: Asks>(
 /// How many lines an answer says that a journal has.
 ///
 /// Errors: NoNodesAnswer, Memory.
-fn lines_told(alloc: Global, answer: &HttpAnswer) -> Result<u64, AskFault> {
+fn lines_told(alloc: Global, answer: &HttpAnswer) -> Result<u64, AskFault>
+    ensures { IfOk result (CountsLines answer.now.body.items) }
+{
     let value = first_value(alloc, answer.body.as_slice())?;
-    number_in(&value, "lines")
+    let count = number_in(&value, "lines")?;
+    Ok(count)
+}
+
+/// The line of that number that a text is.
+///
+/// Errors: NoNodesAnswer, Memory.
+fn line_of(alloc: Global, text: &str, number: u64) -> Result<JournalLine, AskFault>
+    ensures { IfOk result (TellsLine text.now number) }
+{
+    let value = value_of(alloc, text.as_bytes())?;
+    let line = line_in(alloc, &value, number)?;
+    Ok(line)
 }
 
 /// Adds the line that stands behind those.
 ///
 /// Errors: NoNodesAnswer, Memory.
-fn add_line(alloc: Global, lines: &mut Seq<JournalLine>, text: &str) -> Result<(), AskFault> {
-    let value = value_of(alloc, text.as_bytes())?;
-    let number = (lines.len() as u64).saturating_add(1);
-    lines.push(line_in(alloc, &value, number)?)?;
+fn add_line(alloc: Global, lines: &mut Seq<JournalLine>, text: &str) -> Result<(), AskFault>
+    ensures { IfOk result (λ _. Adds text.now lines.old lines.new) }
+{
+    let Some(number) = (lines.len() as u64).checked_add(1) else {
+        return Err(AskFault::NoNodesAnswer);
+    };
+    let line = line_of(alloc, text, number)?;
+    lines.push(line)?;
+    Ok(())
+}
+
+/// Adds the line that stands behind those, where there aren't so many yet and it isn't the page's
+/// head.
+///
+/// Errors: NoNodesAnswer, Memory.
+fn add_if(
+    alloc: Global,
+    lines: &mut Seq<JournalLine>,
+    text: &str,
+    count: u64,
+    is_head: bool,
+) -> Result<(), AskFault>
+    requires { length lines.old ≤ count }
+    ensures adds { IfOk result (λ _. AddsIf text.now lines.old lines.new) }
+    ensures most { IfOk result (λ _. length lines.new ≤ count) }
+{
+    if is_head || lines.len() as u64 >= count {
+        return Ok(());
+    }
+    add_line(alloc, lines, text)?;
     Ok(())
 }
 
@@ -58,14 +104,15 @@ fn add_lines(
     lines: &mut Seq<JournalLine>,
     text: &str,
     count: u64,
-) -> Result<(), AskFault> {
+) -> Result<(), AskFault>
+    requires { length lines.old ≤ count }
+    ensures grows { IfOk result (λ _. GrowsBy (HasLineOf text.now) lines.old lines.new) }
+    ensures most { IfOk result (λ _. length lines.new ≤ count) }
+{
     let mut is_head = true;
     for line in text.lines() {
-        if is_head {
-            is_head = false;
-        } else if (lines.len() as u64) < count {
-            add_line(alloc, lines, line)?;
-        }
+        add_if(alloc, lines, line, count, is_head)?;
+        is_head = false;
     }
     Ok(())
 }
@@ -79,7 +126,13 @@ fn add_page(
     answer: &HttpAnswer,
     lines: &mut Seq<JournalLine>,
     count: u64,
-) -> Result<(), AskFault> {
+) -> Result<(), AskFault>
+    requires { length lines.old ≤ count }
+    ensures grows { IfOk result (λ _.
+        IsNodes meant.entry.name.now meant.entry.digest.now answer.now
+        × GrowsBy (HasLineOf answer.now.body.items) lines.old lines.new) }
+    ensures most { IfOk result (λ _. length lines.new ≤ count) }
+{
     if answer.status != 200 {
         return Err(refusal(alloc, answer));
     }
@@ -99,7 +152,8 @@ fn add_page(
 ///
 /// Errors: those of `Asks::ask`; Memory.
 fn ask_lines<A: Asks>(alloc: Global, node: &mut A, after: u64) -> Result<HttpAnswer, AskFault>
-    ensures { OnlyReads A.answers node.old node.new }
+    ensures reads { OnlyReads A.answers node.old node.new }
+    ensures asks { IfOk result (λ answer. AsksIn A.answers after node.old answer node.new) }
 {
     let form = match journal_form(alloc, after) {
         Ok(form) => form,
@@ -118,7 +172,11 @@ fn read_page<A: Asks>(
     lines: &mut Seq<JournalLine>,
     count: u64,
 ) -> Result<(), AskFault>
-    ensures { OnlyReads A.answers node.old node.new }
+    requires { length lines.old ≤ count }
+    ensures reads { OnlyReads A.answers node.old node.new }
+    ensures page { IfOk result (λ _. ReadsPage A.answers
+        meant.entry.name.now meant.entry.digest.now node.old lines.old node.new lines.new) }
+    ensures most { IfOk result (λ _. length lines.new ≤ count) }
 {
     match ask_lines(alloc, node, lines.len() as u64) {
         Ok(answer) => add_page(alloc, meant, &answer, lines, count),
@@ -135,7 +193,10 @@ pub(crate) fn read_lines<A: Asks>(
     meant: Meant<'_>,
     count: u64,
 ) -> Result<Seq<JournalLine>, AskFault>
-    ensures { OnlyReads A.answers node.old node.new }
+    ensures reads { OnlyReads A.answers node.old node.new }
+    ensures count { IfOk result (λ lines. length lines ≡ count) }
+    ensures told { IfOk result (λ lines. ReadsLines A.answers
+        meant.entry.name.now meant.entry.digest.now node.old lines node.new) }
 {
     let mut lines = Seq::new(alloc);
     for _page in 0..PAGES {
