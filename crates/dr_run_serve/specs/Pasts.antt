@@ -10,7 +10,7 @@ use Rattle.std.specs.List.Sorted.{IsNonDecreasingBy}
 use Rattle.dr_base.specs.Texts.{Text, text_cmp}
 use Rattle.dr_ledger.specs.Books.{is_success}
 use Rattle.dr_ledger.specs.declared.item.Outcome.{Outcome}
-use Rattle.dr_ledger.specs.declared.item.Outcome.TheVariants.{Status}
+use Rattle.dr_ledger.specs.declared.item.Outcome.TheVariants.{Status, Broken, NoContext}
 use Rattle.dr_ledger_history.specs.declared.line.JournalLine.{JournalLine}
 use Rattle.dr_ledger_history.specs.declared.line.JournalLine.TheVariants as told
 use Rattle.dr_run_answer.specs.Journals.{next_number}
@@ -22,7 +22,8 @@ use Rattle.dr_run_serve.specs.declared.sweep.OverInstance.{OverInstance}
 -- a row is done after this outcome
 abbrev pub ends_row : Outcome → Bool
 ends_row (Status status) = is_success status
-ends_row other = false
+ends_row Broken = false
+ends_row NoContext = false
 
 -- it is the same uid
 abbrev pub is_uid : Text → Text → Bool
