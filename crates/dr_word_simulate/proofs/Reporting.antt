@@ -22,8 +22,8 @@ use Rattle.dr_world.specs.Reports.{IsReported, books_of}
 use Rattle.dr_world.specs.Orders.{IsOrderedRun}
 use Rattle.dr_world.specs.declared.order.WorldOrder.{WorldOrder}
 use Rattle.dr_world.specs.declared.order.RefusedForeign.{RefusedForeign}
+use Rattle.dr_world.proofs.Among.{last_in_force}
 use Rattle.dr_world.proofs.Orders.{run_meant}
-use Rattle.dr_world.proofs.Played.{last_in_force}
 use Rattle.dr_world.specs.Shows.{Seat, desk_at}
 use Rattle.dr_world.specs.Whole.{AllStand}
 use Rattle.dr_world_tie.specs.ByteWorlds.{beginning}

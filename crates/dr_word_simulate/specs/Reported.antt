@@ -51,16 +51,17 @@ HoldsOfBooks plan taken books =
     × ComesBy plan taken world
     × Headline (in_force plan taken) world
 
--- the four claims among others hold of our nodes' books: of a world of messages that has them, to
--- which events and what other products do lead from the start
-abbrev pub HoldsOfOurs : Ours → Network → Books → Type 0
-HoldsOfOurs ours plan books =
+-- the four claims among others hold of our nodes' books by the plan in force: of a world of
+-- messages that has them, to which events, what other products do, and changes of plan lead from
+-- the start
+abbrev pub HoldsOfOurs : Ours → Network → Network → Books → Type 0
+HoldsOfOurs ours first plan books =
     (world : model.World)
     × ((name : Text) (book : Book)
     → books name ≡ Some book
     → ours name ≡ true
     → world.books name ≡ book)
-    × ((acts : List Act) × RunsAmong ours plan model.start acts plan world)
+    × ((acts : List Act) × RunsAmong ours first model.start acts plan world)
     × HeadlineAmong ours plan world
 
 -- what is told of a change of plan: why it wasn't made, a line
@@ -122,7 +123,7 @@ pub record IsReportAfter (plan : Network) (certificate : Certificate) (orders : 
   pub holds : NoneWrites deeds → ∥ HoldsOfBooks plan (taken_in deeds changes) books ∥₁
   pub among : (ours : Ours)
       → FitsFrom ours plan certificate beginning deeds
-      → ∥ HoldsOfOurs ours plan books ∥₁
+      → ∥ HoldsOfOurs ours plan (in_force plan (taken_in deeds changes)) books ∥₁
 
 -- why there is no report: there is no memory, or a store failed; in a change of plan, where the
 -- orders have one

@@ -1,7 +1,7 @@
 -- A run of a world of bytes in which other products write is one of the ends of ours alone.
 use Rattle.std.proofs.Common.{◌≡◌, ◌≢◌, ◌⊎◌, ℕ, ◌+◌, ◌<◌, ◌≤◌, ◌^◌, Bool, true, false, List, [], ◌∷◌, ◌++◌, Option, None, Some, Result, Ok, Err, append_assoc, length, take, drop, inl, inr, refl, sym, ap, subst, ◌∙◌, arith}
 use Rattle.std.proofs.Math.Logic.{∥∥₁_map}
-use Rattle.std.specs.Prelude.{◌==◌, ◌&&◌, ◌||◌, AllPairs, Contains, cond, not, min, nat_le, if◌then◌else◌}
+use Rattle.std.specs.Prelude.{◌==◌, ◌&&◌, ◌||◌, AllPairs, Contains, cond, not, min, nat_le, if◌then◌else◌, map as mapped}
 use Rattle.std.specs.declared.cmp.Ordering.TheVariants.{Equal, Less}
 use Rattle.std.specs.FinMap as map
 use Rattle.std.specs.FinMap.{FinMap}
@@ -35,6 +35,8 @@ use Rattle.dr_nego.specs.Agreeing.{AssociateRq}
 use Rattle.dr_nego.specs.Proposing.{IsHopTo, IsProposal}
 use Rattle.dr_ledger.specs.declared.fault.LedgerFault.{LedgerFault}
 use Rattle.dr_ledger.specs.declared.item.Outcome.TheVariants.{Broken}
+use Rattle.dr_ledger.specs.Adopting.{IsFit}
+use Rattle.dr_ledger.specs.Books.{Adoption, after}
 use Rattle.dr_ledger.specs.Replies.{Reply}
 use Rattle.dr_ledger.specs.declared.ledger.Ledger.{Ghosts}
 use Rattle.dr_route.specs.Routes.{local}
@@ -56,11 +58,11 @@ use Rattle.dr_node.specs.declared.node.Node.{Node}
 use Rattle.dr_ulstate.specs.declared.table.Event.TheVariants.{AbortRequest, ReleaseRequest}
 use Rattle.dr_nego.proofs.Concluded.{head_pairs, tail_pairs}
 use Rattle.dr_world_model.specs.Worlds as model
-use Rattle.dr_world_model.specs.Worlds.{Stage, Asking, Answering, Rejecting, Open as OpenStage, Storing, Replying, Gone, same_text}
+use Rattle.dr_world_model.specs.Worlds.{start, Stage, Asking, Answering, Rejecting, Open as OpenStage, Storing, Replying, Gone, same_text}
 use Rattle.dr_world_model.specs.Calls.{Answer}
 use Rattle.dr_world_model.specs.Events.{HasNode}
 use Rattle.dr_world_model.specs.Steps.{IsHop}
-use Rattle.dr_world_model.specs.Among.{Act, Ours, RunsAmong}
+use Rattle.dr_world_model.specs.Among.{Act, HeadlineAmong, Ours, RunsAmong}
 use Rattle.dr_world_model.proofs.Lookups.{numbers}
 use Rattle.dr_world_tie.specs.Desks.{Desk, LedgerStep}
 use Rattle.dr_world_tie.specs.Nodes.{ForgetsAt, GivesUpAt, RequeuesAt}
@@ -76,8 +78,11 @@ use Rattle.dr_world_tie.specs.ForeignWorlds as own
 use Rattle.dr_world_tie.specs.ForeignWorlds.{NoneAwaits, OwnEnd, OwnRuns, OwnStep, OwnSteps, OwnWorld, ShowsBy, own_beginning}
 use Rattle.dr_world_tie.proofs.Fronts.{hears_none, hears_one, nothing_yet}
 use Rattle.dr_world_tie.proofs.Others.{as_pairs}
-use Rattle.dr_world_tie.proofs.OwnWorlds.{own_worlds_keep_the_claims}
+use Rattle.dr_world_tie.specs.Changes.{TakesPlan}
+use Rattle.dr_world_tie.specs.OwnChanges.{OursTake, OwnDeed, OwnDoes, OwnRunsThrough, OwnTakes}
+use Rattle.dr_world_tie.proofs.OwnChanges.{own_changes_keep_the_claims}
 use Rattle.dr_world.specs.declared.changing.Change.{Change}
+use Rattle.dr_world.specs.declared.changing.Change.TheVariants as of_plan
 use Rattle.dr_world.specs.declared.deed.Deed.{Deed}
 use Rattle.dr_world.specs.declared.deed.Deed.TheVariants as deed
 use Rattle.dr_world.specs.declared.world.World.{World}
@@ -85,7 +90,7 @@ use Rattle.dr_world.specs.Among.{FitsFrom, HasOurEnds, HoldsAmong, NamesAreLooke
 use Rattle.dr_world.specs.Ends.{named}
 use Rattle.dr_world.specs.Nodes.{seat_of}
 use Rattle.dr_world.specs.Others.{Writes, WritesIn, with_written}
-use Rattle.dr_world.specs.Played.{FitScriptsAreOwnRuns, FitScriptsKeepTheClaims, PlaysThrough}
+use Rattle.dr_world.specs.Played.{FitScriptsAreOwnRuns, FitScriptsKeepTheClaims, PlaysThrough, in_force, taken_in}
 use Rattle.dr_world.specs.Runs.{step_of}
 use Rattle.dr_world.specs.Shows.{Contents, ShowsBytes, desk_at}
 use Rattle.dr_world.specs.Whole.{contents}
@@ -229,7 +234,7 @@ module _ (ours : Ours) (plan : Network) (certificate : Certificate) where
 
   -- ---- one step
 
-  module _ (certified : IsCertified plan certificate) (b : ByteWorld) (o : OwnWorld) (s : Stands b o) (before : List OwnStep) (ran : OwnRuns ours plan certificate own_beginning before o) where
+  module _ (certified : IsCertified plan certificate) (b : ByteWorld) (o : OwnWorld) (s : Stands b o) (origin : Network) (seal : Certificate) (sound : IsCertified origin seal) (before : List OwnDeed) (ran : OwnRunsThrough ours origin seal own_beginning before plan certificate o) where
     stays : (new : ByteWorld) → new ≡ b → Goes o new
     stays new e = as_new o new b e ([], o, refl, s)
 
@@ -664,7 +669,7 @@ module _ (ours : Ours) (plan : Network) (certificate : Certificate) where
 
     gone_is_idle : (i : ℕ) (e : OwnEnd) → o.ends i ≡ Some e → e.side ≡ Requestor → is_over e.terminal.core ≡ true → e.terminal.core.pending ≡ None
     gone_is_idle i e is calls over =
-        let all = own_worlds_keep_the_claims ours plan certificate certified before o ran in
+        let all = own_changes_keep_the_claims ours origin seal sound before plan certificate o ran in
         let shown : ShowsBy ours plan certificate all.1 (all.3.numbers i) Requestor e.node e.terminal = subst
         (λ (z : Side). ShowsBy ours plan certificate all.1 (all.3.numbers i) z e.node e.terminal) calls (all.3.ends i e is) in
         let call = shown.2.1.2 in
@@ -1021,20 +1026,6 @@ module _ (ours : Ours) (plan : Network) (certificate : Certificate) where
         by_link None e d = stays new d
         by_link (Some k) e d = overwritten link k e side piece new d
 
-  -- ---- one deed after the other
-
-  plays : IsCertified plan certificate → (deeds : List Deed) (changes : List Change) (last : Network) (its : Certificate) (b new : ByteWorld) (o : OwnWorld) (before : List OwnStep)
-      → OwnRuns ours plan certificate own_beginning before o → Stands b o → FitsFrom ours plan certificate b deeds → PlaysThrough plan certificate b deeds changes last its new
-      → (steps : List OwnStep) × (next : OwnWorld) × OwnRuns ours plan certificate own_beginning steps next × HasOurEnds ours new next
-  plays certified [] changes last its b new o before ran s fits h = (before, o, ran, subst (λ (z : ByteWorld). HasOurEnds ours z o) (sym h.3) s.has)
-  plays certified (deed.Step step ∷ deeds) changes last its b new o before ran s fits (note, mid, h, rest) =
-      let g = each certified b o s before ran (step_of step) note mid fits.0 h in
-      plays certified deeds changes last its mid new g.1 (before ++ g.0) (runs_then before g.0 own_beginning o g.1 ran g.2) g.3 (fits.1 note mid h) rest
-  plays certified (deed.Bytes link side piece ∷ deeds) changes last its b new o before ran s fits (mid, h, rest) =
-      let g = writes certified b o s before ran link (named side) piece mid h in
-      plays certified deeds changes last its mid new g.1 (before ++ g.0) (runs_then before g.0 own_beginning o g.1 ran g.2) g.3 (fits mid h) rest
-  plays certified (deed.Adopt next ∷ deeds) changes last its b new o before ran s fits h = absurd fits
-
   no_link : (number : ℕ) (k : Channel) → map.get bytes.beginning.links number ≡ Some k → ⊥
   no_link number k at = none_some k (sym (map.get-empty nat_cmp number) ∙ at)
 
@@ -1050,20 +1041,125 @@ module _ (ours : Ours) (plan : Network) (certificate : Certificate) where
     fresh = λ number less. (map.get-empty nat_cmp number, refl);
   }
 
+-- ---- a plan is taken
+
+module _ (ours : Ours) (plan next : Network) (certificate seal : Certificate) (b mid : ByteWorld) (o : OwnWorld) (s : Stands ours plan certificate b o) (h : TakesPlan plan b next mid) where
+  abbrev taken : OwnWorld
+  taken = record { time = o.time; desks = mid.desks; ends = λ number. None }
+
+  ours_take : OursTake ours plan o next taken
+  ours_take = record {
+    may = record {
+      unarmed = λ name is its. ap (λ (d : Desk). d.armed) (s.has.desks name its) ∙ h.may.unarmed name is;
+      stay = λ name is its. h.may.stay name is;
+      fit = λ name is its. subst (λ (d : Desk). IsFit next name d.book) (sym (s.has.desks name its)) (h.may.fit name is);
+      strangers = λ name none its. s.has.desks name its ∙ h.may.strangers name none;
+    };
+    time = refl;
+    ends = λ number. refl;
+    desks = λ name is its. h.desks name is ∙ ap (λ (d : Desk). desk (after Adoption d.book) false) (sym (s.has.desks name its));
+    joined = λ name none its. h.joined name none;
+  }
+
+  no_link_left : (number : ℕ) → map.get mid.links number ≡ None
+  no_link_left number = ap (λ (l : FinMap nat_cmp Channel). map.get l number) h.links ∙ map.get-empty nat_cmp number
+
+  none_left_at : (number : ℕ) (k : Channel) → map.get mid.links number ≡ Some k → ⊥
+  none_left_at number k at = none_some k (sym (no_link_left number) ∙ at)
+
+  taken_stands : Stands ours next seal mid taken
+  taken_stands = record {
+    has = record {
+      time = s.has.time ∙ sym h.time;
+      desks = λ name its. refl;
+      ends = λ number k at. absurd (none_left_at number k at);
+      gone = λ number none e at. absurd (no_end e at);
+    };
+    apart = λ number k at its. absurd (none_left_at number k at);
+    fresh = λ number less. (no_link_left number, refl);
+  }
+
+module _ (ours : Ours) (first : Network) (begun : Certificate) (sound : IsCertified first begun) where
+  -- ---- one deed after the other
+
+  -- steps behind deeds
+  steps_behind : (steps : List OwnStep) (plan : Network) (certificate : Certificate) (o next : OwnWorld) → OwnRuns ours plan certificate o steps next → OwnRunsThrough ours plan certificate o (mapped OwnDoes steps) plan certificate next
+  steps_behind [] plan certificate o next h = (refl, refl, h)
+  steps_behind (step ∷ steps) plan certificate o next h = (h.0, h.1, steps_behind steps plan certificate h.0 next h.2)
+
+  through_then : (deeds more : List OwnDeed) (plan mid last : Network) (certificate seal its : Certificate) (a o next : OwnWorld)
+      → OwnRunsThrough ours plan certificate a deeds mid seal o → OwnRunsThrough ours mid seal o more last its next → OwnRunsThrough ours plan certificate a (deeds ++ more) last its next
+  through_then [] more plan mid last certificate seal its a o next h k =
+      let P : Network × (Certificate × OwnWorld) → Type 0 = λ p. OwnRunsThrough ours p.0 p.1.0 p.1.1 more last its next in
+      subst P (λ j. (h.0 j, (h.1 j, h.2 j))) k
+  through_then (OwnDoes step ∷ deeds) more plan mid last certificate seal its a o next h k =
+      (h.0, h.1, through_then deeds more plan mid last certificate seal its h.0 o next h.2 k)
+  through_then (OwnTakes to sealed ∷ deeds) more plan mid last certificate seal its a o next h k =
+      (h.0, h.1, h.2, through_then deeds more to mid last sealed seal its h.0 o next h.3 k)
+
+  -- what was done of the ends of ours so far, from the beginning
+  abbrev Ran : Network → Certificate → OwnWorld → Type 0
+  Ran plan certificate o = (before : List OwnDeed) × OwnRunsThrough ours first begun own_beginning before plan certificate o
+
+  goes_on : (plan : Network) (certificate : Certificate) (o : OwnWorld) (new : ByteWorld) → Ran plan certificate o → (g : Goes ours plan certificate o new) → Ran plan certificate g.1
+  goes_on plan certificate o new ran g =
+      (ran.0 ++ mapped OwnDoes g.0, through_then ran.0 (mapped OwnDoes g.0) first plan plan begun certificate certificate own_beginning o g.1 ran.1 (steps_behind g.0 plan certificate o g.1 g.2))
+
+  plays : (deeds : List Deed) (changes : List Change) (plan last : Network) (certificate its : Certificate) (b new : ByteWorld) (o : OwnWorld)
+      → IsCertified plan certificate → Ran plan certificate o → Stands ours plan certificate b o → FitsFrom ours plan certificate b deeds → PlaysThrough plan certificate b deeds changes last its new
+      → (did : List OwnDeed) × (next : OwnWorld) × OwnRunsThrough ours first begun own_beginning did last its next × HasOurEnds ours new next
+  plays [] changes plan last certificate its b new o certified ran s fits h = (
+    ran.0,
+    o,
+    subst (λ (p : Network × Certificate). OwnRunsThrough ours first begun own_beginning ran.0 p.0 p.1 o) (λ j. (sym h.1 j, sym h.2 j)) ran.1,
+    subst (λ (z : ByteWorld). HasOurEnds ours z o) (sym h.3) s.has,
+  )
+  plays (deed.Step step ∷ deeds) changes plan last certificate its b new o certified ran s fits (note, mid, h, rest) =
+      let g = each ours plan certificate certified b o s first begun sound ran.0 ran.1 (step_of step) note mid fits.0 h in
+      plays deeds changes plan last certificate its mid new g.1 certified (goes_on plan certificate o mid ran g) g.3 (fits.1 note mid h) rest
+  plays (deed.Bytes link side piece ∷ deeds) changes plan last certificate its b new o certified ran s fits (mid, h, rest) =
+      let g = writes ours plan certificate certified b o s first begun sound ran.0 ran.1 link (named side) piece mid h in
+      plays deeds changes plan last certificate its mid new g.1 certified (goes_on plan certificate o mid ran g) g.3 (fits mid h) rest
+  plays (deed.Adopt next ∷ deeds) [] plan last certificate its b new o certified ran s fits h = absurd h
+  plays (deed.Adopt next ∷ deeds) (of_plan.Adopted ∷ changes) plan last certificate its b new o certified ran s fits (mid, (proper, h), rest) =
+      let there : OwnWorld = taken ours plan next.plan certificate next.certificate b mid o s h in
+      let one : OwnRunsThrough ours plan certificate o (OwnTakes next.plan next.certificate ∷ []) next.plan next.certificate there = (there, proper, ours_take ours plan next.plan certificate next.certificate b mid o s h, (refl, refl, refl)) in
+      let done : Ran next.plan next.certificate there = (
+        ran.0 ++ OwnTakes next.plan next.certificate ∷ [],
+        through_then ran.0 (OwnTakes next.plan next.certificate ∷ []) first plan next.plan begun certificate next.certificate own_beginning o there ran.1 one,
+      ) in
+      plays deeds changes next.plan last next.certificate its mid new there proper done (taken_stands ours plan next.plan certificate next.certificate b mid o s h) (fits of_plan.Adopted mid (proper, h)) rest
+  plays (deed.Adopt next ∷ deeds) (of_plan.Skipped ∷ changes) plan last certificate its b new o certified ran s fits (mid, h, rest) =
+      plays deeds changes plan last certificate its mid new o certified ran (subst (λ (z : ByteWorld). Stands ours plan certificate z o) (sym h.0) s) (fits of_plan.Skipped mid h) rest
+  plays (deed.Adopt next ∷ deeds) (of_plan.Unfit node uid dest ∷ changes) plan last certificate its b new o certified ran s fits (mid, h, rest) =
+      plays deeds changes plan last certificate its mid new o certified ran (subst (λ (z : ByteWorld). Stands ours plan certificate z o) (sym h.0) s) (fits (of_plan.Unfit node uid dest) mid h) rest
+
 pub fit_scripts_are_own_runs : FitScriptsAreOwnRuns
 fit_scripts_are_own_runs ours plan last certificate its deeds changes b certified fits h =
-    plays ours plan certificate certified deeds changes last its bytes.beginning b own_beginning [] refl (at_first ours plan certificate) fits h
+    plays ours plan certificate certified deeds changes plan last certificate its bytes.beginning b own_beginning certified ([], (refl, refl, refl)) (at_first ours plan certificate) fits h
+
+-- the last plan is the one that was taken last
+pub last_in_force : (deeds : List Deed) (changes : List Change) (plan last : Network) (certificate its : Certificate) (b new : ByteWorld)
+    → PlaysThrough plan certificate b deeds changes last its new → last ≡ in_force plan (taken_in deeds changes)
+last_in_force [] changes plan last certificate its b new h = h.1
+last_in_force (deed.Step step ∷ deeds) changes plan last certificate its b new h = last_in_force deeds changes plan last certificate its h.1 new h.3
+last_in_force (deed.Bytes link side bytes ∷ deeds) changes plan last certificate its b new h = last_in_force deeds changes plan last certificate its h.0 new h.2
+last_in_force (deed.Adopt next ∷ deeds) [] plan last certificate its b new h = absurd h
+last_in_force (deed.Adopt next ∷ deeds) (of_plan.Adopted ∷ changes) plan last certificate its b new h = last_in_force deeds changes next.plan last next.certificate its h.0 new h.2
+last_in_force (deed.Adopt next ∷ deeds) (of_plan.Skipped ∷ changes) plan last certificate its b new h = last_in_force deeds changes plan last certificate its h.0 new h.2
+last_in_force (deed.Adopt next ∷ deeds) (of_plan.Unfit node uid dest ∷ changes) plan last certificate its b new h = last_in_force deeds changes plan last certificate its h.0 new h.2
 
 module _ {L : Type 0} {l : Ghosts L} where
   pub fit_scripts_keep_the_claims : (w : World L l) → FitScriptsKeepTheClaims w
   fit_scripts_keep_the_claims w ours plan certificate certified deeds changes played fits = ∥∥₁_map played (λ r.
       let a = fit_scripts_are_own_runs ours plan r.0 certificate r.1 deeds changes r.3.0 certified fits r.3.1 in
-      let c = own_worlds_keep_the_claims ours plan certificate certified a.0 a.1 a.2 in (
+      let c = own_changes_keep_the_claims ours plan certificate certified a.0 r.0 r.1 a.1 a.2 in
+      let last = last_in_force deeds changes plan r.0 certificate r.1 bytes.beginning r.3.0 r.3.1 in (
         c.1,
         (λ name n is mine. sym ((c.3.desks name mine).0) ∙ (ap (λ (d : Desk). d.book) (a.3.desks name mine)
             ∙ ap (λ (d : Desk). d.book) (r.3.2.desks name ∙ ap (λ (q : Option (Node L l)). desk_at (option_map seat_of q)) is))),
-        (c.0, c.2),
-        c.4,
+        (c.0, subst (λ (p : Network). RunsAmong ours plan start c.0 p c.1) last c.2),
+        subst (λ (p : Network). HeadlineAmong ours p c.1) last c.4,
       ))
 
 -- ---- names are looked at

@@ -39,18 +39,18 @@ use Rattle.dr_world.specs.declared.deed.Deed.TheVariants as deed
 use Rattle.dr_world.specs.declared.steps.StepNote.{StepNote as Note}
 use Rattle.dr_world.specs.declared.wires.Wires.{Wires}
 use Rattle.dr_world.specs.declared.world.World.{World}
-use Rattle.dr_world.specs.Adopted.{AreJoining, ChangesTo, ComesTo}
+use Rattle.dr_world.specs.Adopted.{AreJoining, Changes, ChangesTo, ComesTo, certificate_after, plan_after}
 use Rattle.dr_world.specs.declared.fault.WorldFault.{WorldFault}
 use Rattle.dr_world.specs.declared.fault.WorldFault.TheVariants as fault
 use Rattle.dr_world.specs.Nodes.{seat_of}
-use Rattle.dr_world.specs.Played.{Changes, ChangesGoOn, DeedsKeepTheHeadline, EndsEarly, EventsAloneLead, HasChange, HoldsThrough, IsChange, IsPlayed, IsRunOf, PlaysAll, PlaysOn, PlaysThrough, StepsAloneRun, StepsGoOn, WritesGoOn}
-use Rattle.dr_world.specs.Played.{adopted_in, certificate_after, in_force, plan_after, taken_in}
+use Rattle.dr_world.specs.Played.{ChangesGoOn, DeedsKeepTheHeadline, EndsEarly, EventsAloneLead, HasChange, HoldsThrough, IsChange, IsPlayed, IsRunOf, PlaysAll, PlaysOn, PlaysThrough, StepsAloneRun, StepsGoOn, WritesGoOn}
+use Rattle.dr_world.specs.Played.{adopted_in, in_force, taken_in}
 use Rattle.dr_world.specs.Ends.{named}
 use Rattle.dr_world.specs.Others.{NoneWrites, Writes, WritesAt, WritesAtIn}
 use Rattle.dr_world.specs.Runs.{IsReached, step_of}
 use Rattle.dr_world.specs.Shows.{Contents, IsSeated, ShowsBytes, desk_at}
 use Rattle.dr_world.specs.Whole.{AllStand, StepsTo, contents, noted}
-use Rattle.dr_world.proofs.Among.{fit_scripts_keep_the_claims}
+use Rattle.dr_world.proofs.Among.{fit_scripts_keep_the_claims, last_in_force}
 use Rattle.dr_world.proofs.Rewriting.{stood, written_beside}
 
 -- ---- one deed behind others
@@ -113,17 +113,6 @@ certified_played (deed.Adopt next ∷ deeds) [] plan last certificate its b new 
 certified_played (deed.Adopt next ∷ deeds) (Adopted ∷ changes) plan last certificate its b new certified h = certified_played deeds changes next.plan last next.certificate its h.0 new h.1.0 h.2
 certified_played (deed.Adopt next ∷ deeds) (Skipped ∷ changes) plan last certificate its b new certified h = certified_played deeds changes plan last certificate its h.0 new certified h.2
 certified_played (deed.Adopt next ∷ deeds) (Unfit node uid dest ∷ changes) plan last certificate its b new certified h = certified_played deeds changes plan last certificate its h.0 new certified h.2
-
--- it is the last that was taken
-pub last_in_force : (deeds : List Deed) (changes : List Change) (plan last : Network) (certificate its : Certificate) (b new : ByteWorld)
-    → PlaysThrough plan certificate b deeds changes last its new → last ≡ in_force plan (taken_in deeds changes)
-last_in_force [] changes plan last certificate its b new h = h.1
-last_in_force (deed.Step step ∷ deeds) changes plan last certificate its b new h = last_in_force deeds changes plan last certificate its h.1 new h.3
-last_in_force (deed.Bytes link side bytes ∷ deeds) changes plan last certificate its b new h = last_in_force deeds changes plan last certificate its h.0 new h.2
-last_in_force (deed.Adopt next ∷ deeds) [] plan last certificate its b new h = absurd h
-last_in_force (deed.Adopt next ∷ deeds) (Adopted ∷ changes) plan last certificate its b new h = last_in_force deeds changes next.plan last next.certificate its h.0 new h.2
-last_in_force (deed.Adopt next ∷ deeds) (Skipped ∷ changes) plan last certificate its b new h = last_in_force deeds changes plan last certificate its h.0 new h.2
-last_in_force (deed.Adopt next ∷ deeds) (Unfit node uid dest ∷ changes) plan last certificate its b new h = last_in_force deeds changes plan last certificate its h.0 new h.2
 
 -- ---- from world to world
 

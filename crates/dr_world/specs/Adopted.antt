@@ -202,3 +202,27 @@ ChangesTo next own old change new =
     → ShowsBytes (contents old) b
     → AllStand new
     → ∥ ComesTo plan next own b change old new ∥₁)
+
+-- ---- in the world of bytes
+
+-- What a change of plan comes to: all nodes take the next plan; or an end is on, or a node isn't
+-- one of the next plan; or a row doesn't fit. But in the first case nothing has changed.
+abbrev pub Changes : Network → ByteWorld → Network → Certificate → Change → ByteWorld → Type 0
+Changes plan b next own Adopted new = IsCertified next own × TakesPlan plan b next new
+Changes plan b next own Skipped new =
+    (new ≡ b)
+    × ((AllAreOver b → ⊥) ⊎ ((name : Text) × HasNode plan name × (HasNode next name → ⊥)))
+Changes plan b next own (Unfit node uid dest) new =
+    (new ≡ b) × AllAreOver b × AllStay plan next
+    × IsFirstUnfit plan next b.desks node (uid, dest)
+
+-- the plan in force and its certificate after a change
+abbrev pub plan_after : Network → Change → Network → Network
+plan_after next Adopted plan = next
+plan_after next Skipped plan = plan
+plan_after next (Unfit node uid dest) plan = plan
+
+abbrev pub certificate_after : Certificate → Change → Certificate → Certificate
+certificate_after own Adopted certificate = own
+certificate_after own Skipped certificate = certificate
+certificate_after own (Unfit node uid dest) certificate = certificate

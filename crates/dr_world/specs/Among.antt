@@ -30,6 +30,8 @@ use Rattle.dr_world_script.specs.declared.step.Step.TheVariants as script
 use Rattle.dr_world.specs.declared.deed.Deed.{Deed}
 use Rattle.dr_world.specs.declared.deed.Deed.TheVariants as deed
 use Rattle.dr_world.specs.declared.world.World.{World}
+use Rattle.dr_world.specs.declared.changing.Change.{Change}
+use Rattle.dr_world.specs.Adopted.{Changes, certificate_after, plan_after}
 use Rattle.dr_world.specs.Ends.{named}
 use Rattle.dr_world.specs.Others.{Writes}
 use Rattle.dr_world.specs.Runs.{step_of}
@@ -79,8 +81,8 @@ StepFits ours b (Move number Acceptor n) =
     → NoneNamesOurs ours k
 StepFits ours b step = Unit {0}
 
--- Each deed is such, wherever those before it have led to, and none is a change of plan. Whatever
--- is written may be, and by whomever.
+-- Each deed is such, wherever those before it have led to. Whatever is written may be, and by
+-- whomever; and any plan may be taken.
 abbrev pub FitsFrom : Ours → Network → Certificate → ByteWorld → List Deed → Type 0
 FitsFrom ours plan certificate b [] = Unit {0}
 FitsFrom ours plan certificate b (deed.Step step ∷ deeds) =
@@ -92,20 +94,25 @@ FitsFrom ours plan certificate b (deed.Bytes link side bytes ∷ deeds) =
     (mid : ByteWorld)
     → Writes b link (named side) bytes mid
     → FitsFrom ours plan certificate mid deeds
-FitsFrom ours plan certificate b (deed.Adopt next ∷ deeds) = ⊥
+FitsFrom ours plan certificate b (deed.Adopt next ∷ deeds) =
+    (change : Change) (mid : ByteWorld)
+    → Changes plan b next.plan next.certificate change mid
+    → FitsFrom ours (plan_after next.plan change plan)
+    (certificate_after next.certificate change certificate) mid deeds
 
 -- ---- what is claimed
 
--- The four claims hold of the books of our nodes: of a world of messages that has just these, to
--- which events and what other products do lead from the start.
-abbrev pub HoldsAmong : {L : Type 0} {l : Ghosts L} → Ours → Network → World L l → Type 0
-HoldsAmong {L} {l} ours plan w =
+-- The four claims hold of the books of our nodes by the plan in force: of a world of messages that
+-- has just these, to which events, what other products do, and changes of plan lead from the start
+-- by the first one.
+abbrev pub HoldsAmong : {L : Type 0} {l : Ghosts L} → Ours → Network → Network → World L l → Type 0
+HoldsAmong {L} {l} ours first plan w =
     ∥ ((v : model.World)
     × ((name : Text) (n : Node L l)
     → tree.get text_cmp w.nodes name ≡ Some n
     → ours name ≡ true
     → v.books name ≡ l.book n.desk.ledger)
-    × ((acts : List Act) × RunsAmong ours plan model.start acts plan v)
+    × ((acts : List Act) × RunsAmong ours first model.start acts plan v)
     × HeadlineAmong ours plan v) ∥₁
 
 -- ---- laws

@@ -12,11 +12,10 @@ use Rattle.dr_node.specs.declared.node.Node.{Node}
 use Rattle.dr_world_model.specs.Among.{Ours}
 use Rattle.dr_world_model.specs.Worlds as model
 use Rattle.dr_world_model.specs.Claims.{Headline}
-use Rattle.dr_world_model.specs.Events.{HasNode}
 use Rattle.dr_world_model.specs.Runs.{Action, Adopt as Adopting, Occurs, Runs}
 use Rattle.dr_world_tie.specs.ByteWorlds.{ByteWorld, StepNote, Steps, beginning}
-use Rattle.dr_world_tie.specs.Changes.{AllAreOver, TakesPlan}
-use Rattle.dr_world_tie.specs.ForeignWorlds.{OwnRuns, OwnStep, OwnWorld, own_beginning}
+use Rattle.dr_world_tie.specs.ForeignWorlds.{OwnWorld, own_beginning}
+use Rattle.dr_world_tie.specs.OwnChanges.{OwnDeed, OwnRunsThrough}
 use Rattle.dr_world_tie.specs.Shown.{ComesAbout, RunsOf}
 use Rattle.dr_world_script.specs.declared.step.Side.{Side}
 use Rattle.dr_world_script.specs.declared.step.Step.{Step}
@@ -28,7 +27,7 @@ use Rattle.dr_world.specs.declared.fault.WorldFault.{WorldFault}
 use Rattle.dr_world.specs.declared.fault.WorldFault.TheVariants as fault
 use Rattle.dr_world.specs.declared.steps.StepNote.{StepNote as Note}
 use Rattle.dr_world.specs.declared.world.World.{World}
-use Rattle.dr_world.specs.Adopted.{AllStay, ChangesTo, IsFirstUnfit}
+use Rattle.dr_world.specs.Adopted.{Changes, ChangesTo, certificate_after, plan_after}
 use Rattle.dr_world.specs.Among.{FitsFrom, HasOurEnds, HoldsAmong}
 use Rattle.dr_world.specs.Ends.{named}
 use Rattle.dr_world.specs.Others.{NoneWrites, Writes, WritesAt}
@@ -37,28 +36,6 @@ use Rattle.dr_world.specs.Shows.{IsSeated, ShowsBytes}
 use Rattle.dr_world.specs.Whole.{AllStand, StepsTo, contents}
 
 -- ---- in the world of bytes
-
--- What a change of plan comes to: all nodes take the next plan; or an end is on, or a node isn't
--- one of the next plan; or a row doesn't fit. But in the first case nothing has changed.
-abbrev pub Changes : Network → ByteWorld → Network → Certificate → Change → ByteWorld → Type 0
-Changes plan b next own Adopted new = IsCertified next own × TakesPlan plan b next new
-Changes plan b next own Skipped new =
-    (new ≡ b)
-    × ((AllAreOver b → ⊥) ⊎ ((name : Text) × HasNode plan name × (HasNode next name → ⊥)))
-Changes plan b next own (Unfit node uid dest) new =
-    (new ≡ b) × AllAreOver b × AllStay plan next
-    × IsFirstUnfit plan next b.desks node (uid, dest)
-
--- the plan in force and its certificate after a change
-abbrev pub plan_after : Network → Change → Network → Network
-plan_after next Adopted plan = next
-plan_after next Skipped plan = plan
-plan_after next (Unfit node uid dest) plan = plan
-
-abbrev pub certificate_after : Certificate → Change → Certificate → Certificate
-certificate_after own Adopted certificate = own
-certificate_after own Skipped certificate = certificate
-certificate_after own (Unfit node uid dest) certificate = certificate
 
 -- Deeds one after the other, from one plan and world of bytes to another; each change among them
 -- comes to what stands for it, in their order.
@@ -176,7 +153,7 @@ PlaysAll done told old new =
 -- A world that just these deeds have made of the plan, and nothing else is asked: they lead to it
 -- from the beginning, and each change came to what stands for it. Where no other product writes,
 -- the headline's four claims hold of its nodes' books by the plan in force. Whichever nodes are
--- ours, the four claims among others hold of their books, where the deeds fit.
+-- ours, the four claims among others hold of their books by that plan, where the deeds fit.
 abbrev pub IsRunOf : {L : Type 0} {l : Ghosts L}
     → Network → Certificate → List Deed → List Change → World L l → Type 0
 IsRunOf plan certificate deeds changes w =
@@ -184,7 +161,7 @@ IsRunOf plan certificate deeds changes w =
     × (NoneWrites deeds → HoldsBy plan (taken_in deeds changes) w)
     × ((ours : Ours)
     → FitsFrom ours plan certificate beginning deeds
-    → HoldsAmong ours plan w)
+    → HoldsAmong ours plan (in_force plan (taken_in deeds changes)) w)
 
 -- ---- why not all is played
 
@@ -258,7 +235,7 @@ StepsAloneRun =
 abbrev pub EventsAloneLead : Type 0
 EventsAloneLead = (plan : Network) (v : model.World) → ComesBy plan [] v → ComesAbout plan v
 
--- A script that fits nodes of ours is a run of their ends alone.
+-- A script that fits nodes of ours is a run of their ends alone, through the plans that were taken.
 abbrev pub FitScriptsAreOwnRuns : Type 0
 FitScriptsAreOwnRuns =
     (ours : Ours) (plan last : Network) (certificate its : Certificate)
@@ -266,8 +243,8 @@ FitScriptsAreOwnRuns =
     → IsCertified plan certificate
     → FitsFrom ours plan certificate beginning deeds
     → PlaysThrough plan certificate beginning deeds changes last its b
-    → (steps : List OwnStep) × (o : OwnWorld)
-    × OwnRuns ours plan certificate own_beginning steps o
+    → (own : List OwnDeed) × (o : OwnWorld)
+    × OwnRunsThrough ours plan certificate own_beginning own last its o
     × HasOurEnds ours b o
 
 -- So the four claims among others hold of their books, whatever the other products write.
@@ -278,4 +255,4 @@ FitScriptsKeepTheClaims w =
     → (deeds : List Deed) (changes : List Change)
     → WasPlayed plan certificate deeds changes w
     → FitsFrom ours plan certificate beginning deeds
-    → HoldsAmong ours plan w
+    → HoldsAmong ours plan (in_force plan (taken_in deeds changes)) w

@@ -80,7 +80,7 @@ last_step plan key (next ∷ over) caller name first x y walk is =
     let s = last_step plan key over name first next x y walk.1 is in
     (s.0, first ∷ s.1, (walk.0, s.2), s.3, s.4)
 
-reached_goes : (plan : Network) (key : Key) (name to : Text) → name ≢ local → IsReached plan key name to → Goes plan key name to
+pub reached_goes : (plan : Network) (key : Key) (name to : Text) → name ≢ local → IsReached plan key name to → Goes plan key name to
 reached_goes plan key name to apart r = by_over r.1 r.3 r.4
   where
     by_over : (over : List Text) → IsWalk plan key local r.0 over → last_place local r.0 over ≡ (name, to) → Goes plan key name to
@@ -89,7 +89,7 @@ reached_goes plan key name to apart r = by_over r.1 r.3 r.4
         let s = last_step plan key over local r.0 first name to walk is in
         (s.0, (r.0, s.1, r.2, s.2, s.3), s.4)
 
-node_apart : (plan : Network) (name : Text) → IsWellFormed plan → HasNode plan name → name ≢ local
+pub node_apart : (plan : Network) (name : Text) → IsWellFormed plan → HasNode plan name → name ≢ local
 node_apart plan name formed node e = not_known_local plan formed (node.0, node.1.0, node.1.1 ∙ e)
 
 -- ---- a plan that is taken
@@ -213,15 +213,15 @@ kept_stays_through plan certificate certified deeds more mid last own its b c h 
 -- ---- laws
 
 module _ (plan : Network) (name : Text) where
-  abbrev taken : HasNode plan name ⊎ (HasNode plan name → ⊥) → Book → Desk
+  abbrev pub taken : HasNode plan name ⊎ (HasNode plan name → ⊥) → Book → Desk
   taken (inl is) k = desk (after Adoption k) false
   taken (inr none) k = desk empty_book false
 
-  at_node : (o : HasNode plan name ⊎ (HasNode plan name → ⊥)) (k : Book) → HasNode plan name → taken o k ≡ desk (after Adoption k) false
+  pub at_node : (o : HasNode plan name ⊎ (HasNode plan name → ⊥)) (k : Book) → HasNode plan name → taken o k ≡ desk (after Adoption k) false
   at_node (inl is) k here = refl
   at_node (inr none) k here = absurd (none here)
 
-  elsewhere : (o : HasNode plan name ⊎ (HasNode plan name → ⊥)) (k : Book) → (HasNode plan name → ⊥) → taken o k ≡ desk empty_book false
+  pub elsewhere : (o : HasNode plan name ⊎ (HasNode plan name → ⊥)) (k : Book) → (HasNode plan name → ⊥) → taken o k ≡ desk empty_book false
   elsewhere (inl is) k none = absurd (none is)
   elsewhere (inr none) k none_here = refl
 

@@ -21,6 +21,7 @@ pub mod Nodes
 pub mod Off
 pub mod Others
 pub mod Opening
+pub mod OwnChanges
 pub mod OwnRestarts
 pub mod OwnWorlds
 pub mod Pendings

@@ -359,6 +359,29 @@ module _ (ours : Ours) (plan : Network) (certificate : Certificate) (b : OwnWorl
       by_link None at f = (let g : None ≡ Some link = f in absurd (cc g))
       by_link (Some l) at f = by_of l at (is_of node (Some l)) refl f
 
+  -- and its receiver is another node
+  receiver_was : (n : ℕ) (link : Link) → IsLink after n link
+      → same_text link.receiver node ≡ false
+  receiver_was n link here = by_link (map_of.get all.mid.links n) (sym (got n) ∙ here)
+    where
+      second_false : (c d : Bool) → cond c true d ≡ false → d ≡ false
+      second_false true d h = absurd (false≢true (sym h))
+      second_false false d h = h
+
+      by_of : (l : Link) (c : Bool) → is_of node (Some l) ≡ c
+          → cond (not c) (Some l) None ≡ Some link
+          → same_text link.receiver node ≡ false
+      by_of l true e f = (let g : None ≡ Some link = f in absurd (cc g))
+      by_of l false e f =
+          let none_of : is_of node (Some link) ≡ false =
+          subst (λ (z : Link). is_of node (Some z) ≡ false) (same_Some l link f) e in
+          second_false (same_text link.caller node) (same_text link.receiver node) none_of
+
+      by_link : (o : Option Link) → cond (not (is_of node o)) o None ≡ Some link
+          → same_text link.receiver node ≡ false
+      by_link None f = (let g : None ≡ Some link = f in absurd (cc g))
+      by_link (Some l) f = by_of l (is_of node (Some l)) refl f
+
   -- an end of another node is shown as before
   end_still : (at : Option ℕ) (side : Side) (name : Text) (k : LiveTerminal)
       → same_text name node ≡ false
@@ -414,10 +437,17 @@ module _ (ours : Ours) (plan : Network) (certificate : Certificate) (b : OwnWorl
         a.4,
       )
 
-  pub restart_is_shown : (acts : List Act) × (v : World)
+  -- books stay, and so do links of other nodes alone
+  pub restarts_alone : (acts : List Act) × (v : World)
       × RunsAmong ours plan w acts plan v
       × ShowsOwn ours plan certificate left v
-  restart_is_shown = (
+      × ((name : Text) → v.books name ≡ w.books name)
+      × ((n : ℕ) (link : Link)
+      → IsLink v n link
+      → IsLink w n link
+      × (same_text link.caller node ≡ false)
+      × (same_text link.receiver node ≡ false))
+  restarts_alone = (
     Own (Restart node all.answers) ∷ [],
     after,
     (tt, (after, (all.mid, all.leave, refl), (refl, refl))),
@@ -443,4 +473,12 @@ module _ (ours : Ours) (plan : Network) (certificate : Certificate) (b : OwnWorl
       free = λ i none. left_free node (b.ends i) (shows.numbers i) (λ e. shows.free i e) none;
       called = λ n link there its. still_called n link there its;
     },
+    λ name. all.books name,
+    λ n link here.
+        (let was = link_was n link here in (was.0, was.1, receiver_was n link here)),
   )
+
+  pub restart_is_shown : (acts : List Act) × (v : World)
+      × RunsAmong ours plan w acts plan v
+      × ShowsOwn ours plan certificate left v
+  restart_is_shown = (restarts_alone.0, restarts_alone.1, restarts_alone.2, restarts_alone.3)

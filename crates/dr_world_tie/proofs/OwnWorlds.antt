@@ -682,7 +682,7 @@ module _ (ours : Ours) (plan : Network) (certificate : Certificate) where
         (pend_by link.stage link.receiver a.1.terminal.core item stands pend
         ∙ ap (λ (u : Text). Some u) same)
 
-    one_step : (step : OwnStep) (new : OwnWorld)
+    pub one_step : (step : OwnStep) (new : OwnWorld)
         → OwnSteps ours plan certificate b step new
         → Acts w new
     one_step (Listens i node) new h = listens i node new h
@@ -741,7 +741,7 @@ module _ (ours : Ours) (plan : Network) (certificate : Certificate) where
       any_steps certified steps h.0 new (before ++ one.0) one.1
       (runs_on ours before one.0 plan plan plan start w one.1 runs one.2) one.3 h.2
 
-  beginning_shown : ShowsOwn ours plan certificate own_beginning start
+  pub beginning_shown : ShowsOwn ours plan certificate own_beginning start
   beginning_shown = record {
     time = refl;
     desks = λ name its. (refl, sym (set.contains-empty text_cmp name));

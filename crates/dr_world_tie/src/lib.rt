@@ -30,6 +30,8 @@ ghost use Rattle.dr_world_tie.specs.ForeignLinks.{WhatAcceptorsHear, WhatRequest
 ghost use Rattle.dr_world_tie.specs.ForeignWorlds.{EndsAreAskedSo, OthersAreNotHere};
 ghost use Rattle.dr_world_tie.specs.ForeignWorlds.{OursCanListen, OwnWorldsKeepTheClaims};
 ghost use Rattle.dr_world_tie.specs.Moves.{CallerMoves, ReceiverMoves};
+ghost use Rattle.dr_world_tie.specs.OwnChanges.{OursCanTake, OursMayTakeAtFirst};
+ghost use Rattle.dr_world_tie.specs.OwnChanges.{OwnChangesKeepTheClaims};
 ghost use Rattle.dr_world_tie.specs.Nodes.{ForgettingIsForget, GivingUpIsDrop, RefusingIsRefuse};
 ghost use Rattle.dr_world_tie.specs.Nodes.{RequeueingIsRequeue, StayingAwayIsStayAway};
 ghost use Rattle.dr_world_tie.specs.Nodes.{SubmittingTakes, TimePasses};
@@ -246,4 +248,11 @@ pub fn claims_hold_among_others()
     ensures listens { OursCanListen }
     ensures others { OthersAreNotHere }
     ensures asked { EndsAreAskedSo }
+{}
+
+/// The same through changes of plan, which all of ours take at once. What may be taken can be.
+pub fn changes_among_others()
+    ensures claims { OwnChangesKeepTheClaims }
+    ensures takes { OursCanTake }
+    ensures first { OursMayTakeAtFirst }
 {}
