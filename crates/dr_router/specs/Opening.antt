@@ -11,8 +11,8 @@ use Rattle.dr_run_open.specs.declared.ledgers.OpenFault.TheVariants as unopened
 use Rattle.dr_site.specs.Parts.{Part}
 use Rattle.dr_store_open.specs.declared.fault.OpeningFault.{OpeningFault}
 use Rattle.dr_store_open.specs.declared.fault.OpeningFault.TheVariants as opening
-use Rattle.dr_store_data.specs.declared.fault.DataFault.{DataFault}
-use Rattle.dr_store_data.specs.declared.fault.DataFault.TheVariants as beside
+use Rattle.dr_store_data.specs.declared.fault.DataFileFault.{DataFileFault}
+use Rattle.dr_store_data.specs.declared.fault.DataFileFault.TheVariants as beside
 use Rattle.dr_store_open.specs.declared.data.Keeping.{Keeping}
 use Rattle.dr_store_open.specs.declared.data.Keeping.TheVariants as keeping
 use Rattle.dr_store_open.specs.Opening.{HasLedgerOf}
@@ -33,7 +33,7 @@ fault_of_opening opening.Store = unopened.Store
 fault_of_opening opening.Memory = unopened.Memory
 
 -- where its data file isn't looked for, made or opened
-abbrev pub fault_of_data : DataFault → OpenFault
+abbrev pub fault_of_data : DataFileFault → OpenFault
 fault_of_data beside.Missing = unopened.NoData
 fault_of_data beside.IsThere = unopened.DataIsThere
 fault_of_data beside.InUse = unopened.InUse

@@ -15,7 +15,7 @@ use dr_run_token::{SystemTokens, Tokens};
 use dr_site::Site;
 use dr_store::SqlLedger;
 use dr_store_audit::{is_ours, lacking};
-use dr_store_open::{DataFault, DataFile, DataMark, Keeping, OpeningFault, ledger_on};
+use dr_store_open::{DataFile, DataFileFault, DataMark, Keeping, OpeningFault, ledger_on};
 use dr_store_shelf::LedgerShelf;
 use dr_word_adopt::ShowsFiles;
 use dr_word_check::Disk;
@@ -40,22 +40,22 @@ pub trait Databases {
     /// path, which isn't there yet.
     ///
     /// Errors: Store, Memory.
-    fn has_data(&self, alloc: Global, path: &str) -> Result<bool, DataFault>;
+    fn has_data(&self, alloc: Global, path: &str) -> Result<bool, DataFileFault>;
 
     /// The file of the data sets of the database with that path, which is open. None is made.
     ///
     /// Errors: Missing, InUse, Store, Memory.
-    fn open_data(&self, alloc: Global, path: &str) -> Result<Self::Disk, DataFault>;
+    fn open_data(&self, alloc: Global, path: &str) -> Result<Self::Disk, DataFileFault>;
 
     /// A new one, where none is or one that has nothing behind its head.
     ///
     /// Errors: IsThere, InUse, Store, Memory.
-    fn make_data(&self, alloc: Global, path: &str) -> Result<Self::Disk, DataFault>;
+    fn make_data(&self, alloc: Global, path: &str) -> Result<Self::Disk, DataFileFault>;
 
     /// A random key and a random mark.
     ///
     /// Errors: Store, Memory.
-    fn draw_mark(&self) -> Result<DataMark, DataFault>;
+    fn draw_mark(&self) -> Result<DataMark, DataFileFault>;
 
     /// Whether something is there, or it can't be told.
     fn is_there(&self, path: &str) -> bool;
@@ -81,7 +81,7 @@ impl<'a> Databases for SystemFiles<'a> {
         Connection::open(self.0, path)
     }
 
-    fn has_data(&self, alloc: Global, path: &str) -> Result<bool, DataFault> {
+    fn has_data(&self, alloc: Global, path: &str) -> Result<bool, DataFileFault> {
         let path = data_name(alloc, path)?;
         match data_length(self.0, path.as_str())? {
             Some(length) => Ok(length > HEAD),
@@ -89,23 +89,23 @@ impl<'a> Databases for SystemFiles<'a> {
         }
     }
 
-    fn open_data(&self, alloc: Global, path: &str) -> Result<File, DataFault> {
+    fn open_data(&self, alloc: Global, path: &str) -> Result<File, DataFileFault> {
         let path = data_path(self.0, alloc, path)?;
         match data_length(self.0, path.as_str())? {
             Some(_) => file_of(self.0, path.as_str()),
-            None => Err(DataFault::Missing),
+            None => Err(DataFileFault::Missing),
         }
     }
 
-    fn make_data(&self, alloc: Global, path: &str) -> Result<File, DataFault> {
+    fn make_data(&self, alloc: Global, path: &str) -> Result<File, DataFileFault> {
         let path = data_path(self.0, alloc, path)?;
         match data_length(self.0, path.as_str())? {
-            Some(length) if length > HEAD => Err(DataFault::IsThere),
+            Some(length) if length > HEAD => Err(DataFileFault::IsThere),
             _ => file_of(self.0, path.as_str()),
         }
     }
 
-    fn draw_mark(&self) -> Result<DataMark, DataFault> {
+    fn draw_mark(&self) -> Result<DataMark, DataFileFault> {
         let (mut key, mut mark) = ([0u8; 8], [0u8; 16]);
         draw(self.0, &mut key)?;
         draw(self.0, &mut mark)?;
@@ -220,15 +220,15 @@ fn ledger_fault(fault: OpeningFault) -> OpenFault
 }
 
 /// Why a ledger isn't opened whose data file isn't looked for, made or opened.
-fn data_fault(fault: DataFault) -> OpenFault
+fn data_fault(fault: DataFileFault) -> OpenFault
     ensures { result ≡ fault_of_data fault }
 {
     match fault {
-        DataFault::Missing => OpenFault::NoData,
-        DataFault::IsThere => OpenFault::DataIsThere,
-        DataFault::InUse => OpenFault::InUse,
-        DataFault::Store => OpenFault::Store,
-        DataFault::Memory => OpenFault::Memory,
+        DataFileFault::Missing => OpenFault::NoData,
+        DataFileFault::IsThere => OpenFault::DataIsThere,
+        DataFileFault::InUse => OpenFault::InUse,
+        DataFileFault::Store => OpenFault::Store,
+        DataFileFault::Memory => OpenFault::Memory,
     }
 }
 
