@@ -1,19 +1,22 @@
 -- Lines by their numbers, and what was told of them.
-use Rattle.std.proofs.Common.{◌≡◌, ◌∙◌, ap, sym, subst, refl, arith, ℕ, ◌+◌, List, [], ◌∷◌, ◌++◌, length, Contains, Ok, Result}
+use Rattle.std.proofs.Common.{◌≡◌, ◌∙◌, inl, inr, ap, sym, subst, refl, arith, ℕ, ◌+◌, List, [], ◌∷◌, ◌++◌, length, Contains, Ok, Err, Result}
+use Rattle.std.specs.Prelude.{IfOk}
+use Rattle.dr_run_ask.specs.Conversations.{IsSeen}
 use Rattle.std.proofs.lemmas.List.{append-nil, append_assoc, length-append}
 use Rattle.std.proofs.lemmas.List.Elements.{Contains-append_left, Contains-append_right}
 use Rattle.dr_plan_model.proofs.Gathered.{Contains-here}
+use Rattle.std.specs.Str.Lines.{lines as text_lines}
 use Rattle.dr_base.specs.Texts.{Text}
 use Rattle.dr_ledger_history.specs.declared.line.JournalLine.{JournalLine}
 use Rattle.dr_run_ask.specs.declared.answer.HttpAnswer.{HttpAnswer}
 use Rattle.dr_run_ask.specs.declared.call.HttpCall.{HttpCall}
 use Rattle.dr_run_ask.specs.declared.call.HttpCall.TheVariants.{Status}
 use Rattle.dr_run_ask.specs.declared.fault.AskFault.{AskFault}
-use Rattle.dr_word_audit_at.specs.Pages.{AreHeard, AsksFor, Counts, Exchange, GrowsBy, HasLineOf, Heard, IsCountedBy, IsNodes, IsReadBy, IsTold, Numbered, ReadsLines, ReadsPage}
+use Rattle.dr_word_audit_at.specs.Pages.{AddsIf, AreHeard, Asks, AsksFor, Counts, CountsLines, Exchange, GrowsBy, HasLineOf, Heard, IsCountedBy, IsNodes, IsReadBy, IsTold, Numbered, ReadsLines, ReadsPage}
 
 numbered_more : (P : ℕ → JournalLine → Type 0) (after : ℕ) (xs ys : List JournalLine) → Numbered P after xs → Numbered P (after + length xs) ys → Numbered P after (xs ++ ys)
 numbered_more P after [] ys a b =
-    let e : after + length {X = JournalLine} [] ≡ after = omega arith in
+    let e : after + 0 ≡ after = omega arith in
     subst (λ n. Numbered P n ys) e b
 numbered_more P after (x ∷ xs) ys a b =
     let e : after + length (x ∷ xs) ≡ after + 1 + length xs = omega arith in
@@ -36,6 +39,11 @@ grow_one P old mid new line grows is told =
       numbered_more P (length old) more (line ∷ []) grows.2 (subst (λ n. P n line) e told, tt),
     )
 
+-- a line of the text is added, or none
+pub grow_if : (text words : Text) (old mid new : List JournalLine) → Contains (text_lines text) words → GrowsBy (HasLineOf text) old mid → AddsIf words mid new → GrowsBy (HasLineOf text) old new
+grow_if text words old mid new there grows (inl same) = subst (GrowsBy (HasLineOf text) old) (sym same) grows
+grow_if text words old mid new there grows (inr adds) = grow_one (HasLineOf text) old mid new adds.0 grows adds.1 (words, there, adds.2)
+
 module _ {S : Type 0} (answers : S → HttpCall → Result HttpAnswer AskFault → S → Type 0) where
   heard_more : (xs ys : List Exchange) (old mid new : S) → Heard answers xs old mid → Heard answers ys mid new → Heard answers (xs ++ ys) old new
   heard_more [] ys old mid new a b = subst (λ (s : S). Heard answers ys s new) a b
@@ -44,6 +52,19 @@ module _ {S : Type 0} (answers : S → HttpCall → Result HttpAnswer AskFault �
   -- nothing was read yet
   pub reads_none : (name digest : Text) (s : S) → ReadsLines answers name digest s [] s
   reads_none name digest s = ([], refl, tt)
+
+  pub counts_as : (name digest : Text) (old new : S) (answer : HttpAnswer) (r : Result ℕ AskFault) → IsSeen answers name digest old answer new → IfOk r (CountsLines answer.body.items) → IfOk r (λ count. Counts answers name digest old count new)
+  counts_as name digest old new answer (Ok count) seen h = (answer, seen, h)
+  counts_as name digest old new answer (Err fault) seen h = tt
+
+  pub asks_as : (after : ℕ) (call : HttpCall) (old new : S) (r : Result HttpAnswer AskFault) → AsksFor after call → answers old call r new → IfOk r (λ answer. Asks answers after old answer new)
+  asks_as after call old new (Ok answer) asks h = (call, asks, h)
+  asks_as after call old new (Err fault) asks h = tt
+
+  pub page_as : (name digest : Text) (old new : S) (had have : List JournalLine) (answer : HttpAnswer) (r : Result (Unit {0}) AskFault) → Asks answers (length had) old answer new
+      → IfOk r (λ _. IsNodes name digest answer × GrowsBy (HasLineOf answer.body.items) had have) → IfOk r (λ _. ReadsPage answers name digest old had new have)
+  page_as name digest old new had have answer (Ok done) asks h = (answer, asks, h.0, h.1)
+  page_as name digest old new had have answer (Err fault) asks h = tt
 
   -- one page more
   pub reads_page : (name digest : Text) (old mid new : S) (had have : List JournalLine) → ReadsLines answers name digest old had mid → ReadsPage answers name digest mid had new have → ReadsLines answers name digest old have new

@@ -1,5 +1,5 @@
 -- Journals that are read of nodes that run, page by page: each line is one that an answer tells.
-use Rattle.std.specs.Prelude.{◌≡◌, ℕ, ◌+◌, List, [], ◌∷◌, ◌++◌, Contains, length, Some, Result, Ok}
+use Rattle.std.specs.Prelude.{◌≡◌, ◌⊎◌, ℕ, ◌+◌, List, [], ◌∷◌, ◌++◌, Contains, length, Some, Result, Ok}
 use Rattle.std.specs.Prelude.{codes}
 use Rattle.std.specs.List.{AllByRecursion}
 use Rattle.std.specs.Str.Lines.{lines as text_lines}
@@ -23,6 +23,14 @@ use Rattle.dr_word_audit_at.specs.Saying.{SaysLine}
 abbrev pub TellsLine : Text → ℕ → JournalLine → Type 0
 TellsLine words number line =
     (value : Data) × (read words ≡ Some value) × SaysLine value number line
+
+-- the text is the line behind these, and is added
+abbrev pub Adds : Text → List JournalLine → List JournalLine → Type 0
+Adds words old new =
+    (line : JournalLine) × (new ≡ old ++ line ∷ []) × TellsLine words (length old + 1) line
+
+abbrev pub AddsIf : Text → List JournalLine → List JournalLine → Type 0
+AddsIf words old new = (new ≡ old) ⊎ Adds words old new
 
 -- one of the lines of the text is that line
 abbrev pub HasLineOf : Text → ℕ → JournalLine → Type 0

@@ -1,9 +1,8 @@
 //! Reads journals of nodes that run, page by page.
-ghost use Rattle.std.specs.Prelude.{◌≡◌, ◌≤◌, ◌+◌, ◌++◌, ◌∷◌, [], IfOk, length};
-ghost use Rattle.dr_ledger_history.specs.declared.line.JournalLine.{JournalLine as LineValue};
+ghost use Rattle.std.specs.Prelude.{◌≡◌, ◌≤◌, IfOk, length};
 ghost use Rattle.dr_run_ask.specs.Conversations.{OnlyReads};
-ghost use Rattle.dr_word_audit_at.specs.Pages.{Asks as AsksIn, Counts, CountsLines, GrowsBy};
-ghost use Rattle.dr_word_audit_at.specs.Pages.{HasLineOf, IsNodes};
+ghost use Rattle.dr_word_audit_at.specs.Pages.{Adds, AddsIf, Asks as AsksIn, Counts};
+ghost use Rattle.dr_word_audit_at.specs.Pages.{CountsLines, GrowsBy, HasLineOf, IsNodes};
 ghost use Rattle.dr_word_audit_at.specs.Pages.{ReadsLines, ReadsPage, TellsLine};
 
 use crate::told::line_in;
@@ -65,15 +64,35 @@ fn line_of(alloc: Global, text: &str, number: u64) -> Result<JournalLine, AskFau
 ///
 /// Errors: NoNodesAnswer, Memory.
 fn add_line(alloc: Global, lines: &mut Seq<JournalLine>, text: &str) -> Result<(), AskFault>
-    ensures { IfOk result (λ _. (line : LineValue)
-        × (lines.new ≡ lines.old ++ line ∷ [])
-        × TellsLine text.now (length lines.old + 1) line) }
+    ensures { IfOk result (λ _. Adds text.now lines.old lines.new) }
 {
     let Some(number) = (lines.len() as u64).checked_add(1) else {
         return Err(AskFault::NoNodesAnswer);
     };
     let line = line_of(alloc, text, number)?;
     lines.push(line)?;
+    Ok(())
+}
+
+/// Adds the line that stands behind those, where there aren't so many yet and it isn't the page's
+/// head.
+///
+/// Errors: NoNodesAnswer, Memory.
+fn add_if(
+    alloc: Global,
+    lines: &mut Seq<JournalLine>,
+    text: &str,
+    count: u64,
+    is_head: bool,
+) -> Result<(), AskFault>
+    requires { length lines.old ≤ count }
+    ensures adds { IfOk result (λ _. AddsIf text.now lines.old lines.new) }
+    ensures most { IfOk result (λ _. length lines.new ≤ count) }
+{
+    if is_head || lines.len() as u64 >= count {
+        return Ok(());
+    }
+    add_line(alloc, lines, text)?;
     Ok(())
 }
 
@@ -88,15 +107,12 @@ fn add_lines(
 ) -> Result<(), AskFault>
     requires { length lines.old ≤ count }
     ensures grows { IfOk result (λ _. GrowsBy (HasLineOf text.now) lines.old lines.new) }
-    ensures most { length lines.new ≤ count }
+    ensures most { IfOk result (λ _. length lines.new ≤ count) }
 {
     let mut is_head = true;
     for line in text.lines() {
-        if is_head {
-            is_head = false;
-        } else if (lines.len() as u64) < count {
-            add_line(alloc, lines, line)?;
-        }
+        add_if(alloc, lines, line, count, is_head)?;
+        is_head = false;
     }
     Ok(())
 }
@@ -115,7 +131,7 @@ fn add_page(
     ensures grows { IfOk result (λ _.
         IsNodes meant.entry.name.now meant.entry.digest.now answer.now
         × GrowsBy (HasLineOf answer.now.body.items) lines.old lines.new) }
-    ensures most { length lines.new ≤ count }
+    ensures most { IfOk result (λ _. length lines.new ≤ count) }
 {
     if answer.status != 200 {
         return Err(refusal(alloc, answer));
@@ -160,7 +176,7 @@ fn read_page<A: Asks>(
     ensures reads { OnlyReads A.answers node.old node.new }
     ensures page { IfOk result (λ _. ReadsPage A.answers
         meant.entry.name.now meant.entry.digest.now node.old lines.old node.new lines.new) }
-    ensures most { length lines.new ≤ count }
+    ensures most { IfOk result (λ _. length lines.new ≤ count) }
 {
     match ask_lines(alloc, node, lines.len() as u64) {
         Ok(answer) => add_page(alloc, meant, &answer, lines, count),
