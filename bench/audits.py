@@ -5,10 +5,11 @@
     bench/audits.py 20000       # as many lines
 
 One image goes from GATE to ARCH on the built program, over loopback. Then its rows are copied in both ledgers, each time
-under another UID, until they have so many lines together: two of three are GATE's. For each number of lines it prints,
+under another UID, in the data set too, until they have so many lines together: two of three are GATE's. For each number of lines it prints,
 each with its time and its greatest memory: how the ledgers are opened one after the other (`list --summary`, which reads
 nothing else), `audit` of the files, `audit --at` of the two nodes, and how long these took to listen.
 """
+import hashlib
 import os
 import re
 import sqlite3
@@ -26,7 +27,10 @@ from lib.requestor import Requestor
 COUNT = 1_000_000
 # As long as one thing may take.
 nodes.LIMIT = 3_600
-UID = '1.2.826.0.1.3680043.9.9999'
+# Each instance has a UID of the same length, so that its data set has, too.
+UID = '1.2.826.0.1.3680043.9.9999.{}'
+FIRST = UID.format(10_000_000)
+BODY = data_set(FIRST.encode(), element(0x10, 0x4000, b'LT', b'x' * 900))
 NODES = 'GATE', 'ARCH'
 # The tables whose rows are of one instance: which column has its UID, and which the number of a line.
 TABLES = {
@@ -44,28 +48,42 @@ def bring_one(room):
     """One image is stored at GATE, and sent on to ARCH; both have ended then."""
     arch, gate = room.serve('ARCH', 0, '--log', 'debug'), room.serve('GATE', 0, '--log', 'debug')
     with Requestor(room.ports['GATE'], 'CT1', 'GATE') as caller:
-        uid = f'{UID}.0'.encode()
-        assert caller.store(uid, data_set(uid, element(0x10, 0x4000, b'LT', b'x' * 900))) == 0
+        assert caller.store(FIRST.encode(), BODY) == 0
         caller.release()
-    room.wait_for_event('GATE', f'done dest="ARCH" uid={UID}.0 ')
+    room.wait_for_event('GATE', f'done dest="ARCH" uid={FIRST} ')
     stop(gate)
     stop(arch)
+
+
+def uid_at(place):
+    return UID.format(10_000_000 + place)
+
+
+def body_at(place):
+    """The data set of that instance: the first one's, but for the UID."""
+    return BODY.replace(FIRST.encode(), uid_at(place).encode())
 
 
 def copy_rows(room, node, first, last):
     """The rows of the one image stand once more under each number from the first up to the last; how many lines there are of each."""
     with sqlite3.connect(f'{room.folder}/{node}.db') as ledger:
-        lines, = ledger.execute('SELECT max(n) FROM journal WHERE uid = ?', [f'{UID}.0']).fetchone()
+        ledger.create_function('uid_at', 1, uid_at)
+        ledger.create_function('body_at', 2, lambda body, place: body_at(place) if body else body)
+        ledger.create_function('digest_at', 2, lambda digest, place: digest and hashlib.sha256(body_at(place)).digest())
+        lines, = ledger.execute('SELECT max(n) FROM journal WHERE uid = ?', [FIRST]).fetchone()
         ledger.execute('CREATE TEMP TABLE more AS WITH RECURSIVE k(i) AS (SELECT ? UNION ALL SELECT i + 1 FROM k WHERE i + 1 < ?) SELECT i FROM k',
                        [first, last])
         for table, (uid, number) in TABLES.items():
             names = [row[1] for row in ledger.execute(f'PRAGMA table_info({table})')]
             shown = {name: name for name in names}
             if uid:
-                shown[uid] = f"'{UID}.' || i"
+                shown[uid] = 'uid_at(i)'
+            for name, function in ('body', 'body_at'), ('sha256', 'digest_at'):
+                if name in shown:
+                    shown[name] = f'{function}({name}, i)'
             if number:
                 shown[number] = f'{number} + {lines} * i'
-            its = f"{uid} = '{UID}.0'" if uid else f'n <= {lines}'
+            its = f"{uid} = '{FIRST}'" if uid else f'n <= {lines}'
             shown = {name: what.replace('rowid', f'{table}.rowid') for name, what in shown.items()}
             ledger.execute(f'INSERT INTO {table} ({", ".join(shown)}) SELECT {", ".join(shown.values())} FROM more, {table} WHERE {its} ORDER BY i')
         ledger.execute('DROP TABLE more')
