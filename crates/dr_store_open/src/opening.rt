@@ -1,6 +1,6 @@
 //! A file's ledger, opened.
 ghost use Rattle.std.specs.Prelude.{◌≡◌, ◌≤◌, ◌↔◌, IfErr, IfOk, MatchResult, OnOk, false};
-ghost use Rattle.std.specs.Prelude.{IsTrue, true};
+ghost use Rattle.std.specs.Prelude.{◌≢◌, IsTrue, true};
 ghost use Rattle.sqlite.specs.Held.{state};
 ghost use Rattle.sqlite.specs.State.{HasCleanDisk, IsLive};
 ghost use Rattle.dr_store_schema.specs.Tables.{tables};
@@ -9,22 +9,31 @@ ghost use Rattle.dr_store_calls.specs.Adoptions.{IsOwnedBy};
 ghost use Rattle.dr_store_calls.specs.Calling.{IsKept};
 ghost use Rattle.dr_store_audit.specs.Older.{IsOlder};
 ghost use Rattle.dr_store_open.specs.Renewing.{KeepsRows};
+ghost use Rattle.dr_store_shelf.specs.Either.{named_on};
+ghost use Rattle.dr_store_changes.specs.Writing.{IsReady};
+ghost use Rattle.dr_store_open.specs.declared.data.Keeping.TheVariants as wanted;
 ghost use Rattle.dr_store_open.specs.declared.fault.OpeningFault.TheVariants as opening;
-ghost use Rattle.dr_store_open.specs.Opening.{HasLedgerOf, HasNewLedger, HasNoLedgerOf, IsBlank};
-ghost use Rattle.dr_store_open.specs.Opening.{IsBroughtOver, IsNext};
-ghost use Rattle.dr_store_open.specs.Opening.{IsLedgerOpened, LeavesFile};
-ghost use Rattle.dr_store_open.specs.Opening.{LeavesOldOrCommitted};
-ghost use Rattle.dr_store_open.specs.Opening.{StaysAsFound};
+ghost use Rattle.dr_store_open.specs.Opening.{AreOf, HasLedgerOf, HasNewLedger, IsBlank};
+ghost use Rattle.dr_store_open.specs.Opening.{IsBroughtOver, IsLedgerOpened, IsNext, IsWhy};
+ghost use Rattle.dr_store_open.specs.Opening.{IsWhyNot, IsWholeOpened, LeavesFile};
+ghost use Rattle.dr_store_open.specs.Opening.{LeavesOldOrCommitted, StaysAsFound, StaysReady};
+ghost use Rattle.dr_store_open.specs.Places.{HasOwnOn, IsPlacedBy, names_in};
 
-use crate::fault::{OpeningFault, opening_fault};
-use crate::finding::find_owned;
+use crate::beside::new_data;
+use crate::bodies::test_all;
+use crate::data::{Keeping, Opened, is_wanted};
+use crate::fault::{OpeningFault, of_tables, opening_fault};
+use crate::finding::{FoundTables, find_owned};
 use crate::making::make;
 use crate::renewing::renew_older;
+use crate::shelving::shelf_of;
 use crate::testing::test_tables;
 use dr_ledger::LedgerFault;
 use dr_site::Site;
 use dr_store_audit::is_ours;
+use dr_store_data::DataFile;
 use sqlite::{Alter, Connection};
+use sqlite_disk::Disk;
 use sqlite_schema::schema::Schema;
 use std::alloc::Global;
 
@@ -41,12 +50,12 @@ fn is_blank(schema: &Schema) -> bool
     schema.views.is_empty()
 }
 
-/// The number of the next line, if the tables are those of a ledger of this site.
+/// What the tables have, if they are those of a ledger of this site.
 fn find_tested<S: Alter>(
     conn: &mut Connection<S>,
     alloc: Global,
     site: &Site,
-) -> Result<Option<u64>, LedgerFault>
+) -> Result<Option<FoundTables>, LedgerFault>
     requires schema { (state S.Store conn.old).now.schema ≡ tables }
     requires live { IsLive (state S.Store conn.old) }
     requires settled { IsTrue (state S.Store conn.old).is_open
@@ -59,16 +68,16 @@ fn find_tested<S: Alter>(
     }
 }
 
-/// The number of the next line, if the file has a ledger of this site: its tables are just a
-/// ledger's, the node and the plan are the site's, all rows are what the journal's lines make,
-/// which are a history of that ledger, and each data set that is there is read again.
+/// What the tables have, if the file has those of a ledger of this site: its tables are just a
+/// ledger's, the node and the plan are the site's, and all rows are what the journal's lines make,
+/// which are a history of that ledger. Its data sets aren't looked at.
 ///
 /// Errors: Store, Memory.
 pub fn find<S: Alter>(
     conn: &mut Connection<S>,
     alloc: Global,
     site: &Site,
-) -> Result<Option<u64>, LedgerFault>
+) -> Result<Option<FoundTables>, LedgerFault>
     requires { conn.old.in_transaction ≡ false }
     ensures { IsLedgerOpened site.now result (state S.Store conn.old) (state S.Store conn.new) }
 {
@@ -81,170 +90,277 @@ pub fn find<S: Alter>(
     find_tested(conn, alloc, site)
 }
 
-/// Makes the tables of a new ledger, where the file has no table, and says whether it did.
+/// The shelf of a ledger whose tables were found, with each data set that is there looked at. The
+/// file that was made for it, if one was, is its own.
+fn open_found<S: Alter, F: DataFile>(
+    conn: &mut Connection<S>,
+    alloc: Global,
+    data: &F,
+    made: Option<F::Disk>,
+    site: &Site,
+    found: FoundTables,
+) -> Result<Opened<F::Disk>, OpeningFault>
+    requires ready { HasCleanDisk (state S.Store conn.old)
+        → IsReady found.next (state S.Store conn.old) }
+    requires are { HasCleanDisk (state S.Store conn.old)
+        → AreOf site.now (state S.Store conn.old).now.trees found }
+    ensures ready { StaysReady found.next result (state S.Store conn.old) (state S.Store conn.new) }
+    ensures next { IfOk result (λ it. it.next ≡ found.next) }
+    ensures placed { HasCleanDisk (state S.Store conn.new)
+        → IfOk result (λ it. IsPlacedBy site.now (state S.Store conn.old).now.trees it.shelf) }
+    ensures own { HasCleanDisk (state S.Store conn.new)
+        → IfOk result (λ it. HasOwnOn (state S.Store conn.old).now.trees it.shelf) }
+    ensures why { HasCleanDisk (state S.Store conn.new)
+        → IfErr result (IsWhyNot result site.now (state S.Store conn.old).now.trees) }
+    ensures there { IfErr result (λ fault. fault ≢ opening.DataIsThere) }
+{
+    let mut shelf = shelf_of(conn, alloc, data, made, &found)?;
+    match test_all(conn, &mut shelf, alloc, &found) {
+        Ok(()) => Ok(Opened {
+            shelf,
+            next: found.next,
+        }),
+        Err(fault) => Err(fault),
+    }
+}
+
+/// The shelf of this site's ledger in a file whose tables are made, and the number of its next
+/// line. Its tables are found and compared with what the journal's lines make. Then its shelf is
+/// opened where they say, and each data set that is there is looked at once. It only reads.
 ///
-/// Errors: Store, Memory.
-fn make_new<S: Alter>(conn: &mut Connection<S>, site: &Site) -> Result<bool, OpeningFault>
+/// Errors: OtherSite, never where the file has a ledger of this site whose cells stand for its data
+/// sets; NoData and InUse, never where its data sets are in its rows; Store; Memory.
+pub fn find_ledger<S: Alter, F: DataFile>(
+    conn: &mut Connection<S>,
+    alloc: Global,
+    data: &F,
+    made: Option<F::Disk>,
+    site: &Site,
+) -> Result<Opened<F::Disk>, OpeningFault>
+    requires { conn.old.in_transaction ≡ false }
+    ensures whole { IsWholeOpened site.now result (state S.Store conn.old) (state S.Store conn.new) }
+    ensures there { IfErr result (λ fault. fault ≢ opening.DataIsThere) }
+{
+    match find(conn, alloc, site) {
+        Ok(Some(found)) => open_found(conn, alloc, data, made, site, found),
+        Ok(None) => {
+            drop(made);
+            Err(OpeningFault::OtherSite)
+        }
+        Err(fault) => {
+            drop(made);
+            Err(opening_fault(fault))
+        }
+    }
+}
+
+/// Makes what a new ledger has, where the file has no table, and says whether it did: first the
+/// file of its data sets, if it is to have one, and then its tables.
+///
+/// Errors: DataIsThere; InUse; Store; Memory.
+fn make_new<S: Alter, F: DataFile>(
+    conn: &mut Connection<S>,
+    alloc: Global,
+    data: &F,
+    keeping: Keeping,
+    site: &Site,
+) -> Result<(bool, Option<F::Disk>), OpeningFault>
     requires { conn.old.in_transaction ≡ false }
     ensures idle { conn.new.in_transaction ≡ false }
     ensures clean { doubt (state S.Store conn.old).is_clean
         ≤ doubt (state S.Store conn.new).is_clean }
-    ensures found { IfOk result (λ made.
-        made ≡ false → (IsBlank (state S.Store conn.old).now.schema → ⊥) × (conn.new ≡ conn.old)) }
-    ensures made { IfOk result (λ made. made ≡ true
+    ensures found { IfOk result (λ made. made.0 ≡ false
+        → (IsBlank (state S.Store conn.old).now.schema → ⊥) × (conn.new ≡ conn.old)) }
+    ensures made { IfOk result (λ made. made.0 ≡ true
         → IsBlank (state S.Store conn.old).now.schema
         × (HasCleanDisk (state S.Store conn.new)
         → LeavesOldOrCommitted (state S.Store conn.old) (state S.Store conn.new))) }
     ensures file { HasCleanDisk (state S.Store conn.new)
         → LeavesFile (state S.Store conn.old) (state S.Store conn.new) }
     ensures ours { (state S.Store conn.old).now.schema ≡ tables
-        → MatchResult result (λ made. made ≡ false) (λ fault. ⊥) × (conn.new ≡ conn.old) }
+        → MatchResult result (λ made. made.0 ≡ false) (λ fault. ⊥) × (conn.new ≡ conn.old) }
+    ensures there { IfErr result (λ fault. fault ≡ opening.DataIsThere
+        → (keeping ≡ wanted.InFile) × IsBlank (state S.Store conn.old).now.schema) }
 {
     if !is_blank(conn.schema()) {
-        return Ok(false);
+        return Ok((false, None));
     }
-    match make(conn, site) {
-        Ok(()) => Ok(true),
-        Err(fault) => Err(fault),
+    let (disk, mark) = new_data(alloc, data, keeping)?;
+    match make(conn, site, &mark) {
+        Ok(()) => Ok((true, disk)),
+        Err(fault) => {
+            drop(disk);
+            Err(of_tables(fault))
+        }
     }
 }
 
-/// Makes the tables of a new ledger, where the file has no table, and says whether it did; a file
-/// from before is brought over.
-fn prepare<S: Alter>(
+/// Makes what a new ledger has, where the file has no table, and says whether it did; a file from
+/// before is brought over.
+fn prepare<S: Alter, F: DataFile>(
     conn: &mut Connection<S>,
     alloc: Global,
+    data: &F,
+    keeping: Keeping,
     site: &Site,
-) -> Result<bool, OpeningFault>
+) -> Result<(bool, Option<F::Disk>), OpeningFault>
     requires { conn.old.in_transaction ≡ false }
     ensures idle { conn.new.in_transaction ≡ false }
     ensures clean { doubt (state S.Store conn.old).is_clean
         ≤ doubt (state S.Store conn.new).is_clean }
-    ensures found { IfOk result (λ made. made ≡ false
+    ensures found { IfOk result (λ made. made.0 ≡ false
         → (IsBlank (state S.Store conn.old).now.schema → ⊥)
         × ((IsOlder (state S.Store conn.old).now.schema → ⊥)
         → StaysAsFound (state S.Store conn.old) (state S.Store conn.new))) }
     ensures leaves { HasCleanDisk (state S.Store conn.new)
         → OnOk result (LeavesOldOrCommitted (state S.Store conn.old) (state S.Store conn.new)) }
-    ensures made { IfOk result (λ made. made ≡ true → IsBlank (state S.Store conn.old).now.schema) }
+    ensures made { IfOk result (λ made. made.0 ≡ true
+        → IsBlank (state S.Store conn.old).now.schema) }
     ensures kept { HasCleanDisk (state S.Store conn.new)
         → IsOlder (state S.Store conn.old).now.schema
         → (state S.Store conn.new).now.schema ≡ tables
         → (state S.Store conn.new).committed.schema ≡ tables
-        → IfOk result (λ made.
-        made ≡ false → KeepsRows (state S.Store conn.old).now (state S.Store conn.new).committed) }
+        → IfOk result (λ made. made.0 ≡ false
+        → KeepsRows (state S.Store conn.old).now (state S.Store conn.new).committed) }
     ensures file { HasCleanDisk (state S.Store conn.new)
         → LeavesFile (state S.Store conn.old) (state S.Store conn.new) }
     ensures ours { (state S.Store conn.old).now.schema ≡ tables
-        → MatchResult result (λ made. made ≡ false) (λ fault. ⊥) × (conn.new ≡ conn.old) }
+        → MatchResult result (λ made. made.0 ≡ false) (λ fault. ⊥) × (conn.new ≡ conn.old) }
+    ensures there { IfErr result (λ fault. fault ≡ opening.DataIsThere
+        → (keeping ≡ wanted.InFile) × IsBlank (state S.Store conn.old).now.schema) }
 {
-    if make_new(conn, site)? {
-        return Ok(true);
+    let made = make_new(conn, alloc, data, keeping, site)?;
+    if made.0 {
+        return Ok(made);
     }
     match renew_older(conn, alloc, site) {
-        Ok(()) => Ok(false),
-        Err(fault) => Err(fault),
+        Ok(()) => Ok((false, None)),
+        Err(fault) => Err(of_tables(fault)),
     }
 }
 
-/// Whether a ledger whose tables were made just now has no line yet.
-fn is_as_made(made: bool, next: u64) -> bool
-    ensures { IsTrue result ↔ (made ≡ true → next ≡ 1) }
+/// Whether a ledger whose tables were made just now has no line yet, and its data sets are where
+/// they were wanted.
+fn is_as_made<D: Disk>(made: bool, keeping: Keeping, opened: &Opened<D>) -> bool
+    ensures { IsTrue result
+        ↔ (made ≡ true
+        → (opened.now.next ≡ 1) × (named_on opened.now.shelf ≡ names_in keeping)) }
 {
     if made {
-        return next == 1;
+        return opened.next == 1 && is_wanted(keeping, &opened.shelf);
     }
     true
 }
 
-/// The number of the next line of this site's ledger in a file: its tables are made where the file
-/// has none, and else they are found, and compared with what the journal's lines make; a file from
-/// before, which lacks some of them, is brought over first, as one transaction.
+/// This site's ledger in a file: its shelf, and the number of its next line. Its tables are made
+/// where the file has none, and else they are found, and compared with what the journal's lines
+/// make; a file from before, which lacks some of them, is brought over first, as one transaction.
+/// Then its shelf is opened where its tables say, and each data set is looked at.
 ///
 /// Whatever it answers, a crash leaves what it could leave before, or what an opening makes of the
 /// file, whole. A file that has other tables than none or those of before stays as it was.
 ///
-/// Errors: OtherSite, never where the file has a ledger of this site in the tables of today; Store;
+/// Errors: OtherSite, never where the file has a ledger of this site in the tables of today whose
+/// cells stand for its data sets; NoData and InUse, never where such a ledger's data sets are in
+/// its rows; DataIsThere, only where a new ledger is wanted with its data sets in a file; Store;
 /// Memory.
-pub fn open<S: Alter>(
+pub fn open<S: Alter, F: DataFile>(
     conn: &mut Connection<S>,
     alloc: Global,
+    data: &F,
+    keeping: Keeping,
     site: &Site,
-) -> Result<u64, OpeningFault>
+) -> Result<Opened<F::Disk>, OpeningFault>
     requires { conn.old.in_transaction ≡ false }
-    ensures kept { IfOk result (λ next. HasCleanDisk (state S.Store conn.new)
-        → IsKept next site.now (state S.Store conn.new)
+    ensures kept { IfOk result (λ it. HasCleanDisk (state S.Store conn.new)
+        → IsKept it.next site.now (state S.Store conn.new)
         × IsOwnedBy site.now (state S.Store conn.new).committed.trees) }
-    ensures next { IfOk result (λ next. HasCleanDisk (state S.Store conn.new)
-        → IsNext next (state S.Store conn.new).committed.trees) }
-    ensures found { IfOk result (λ next. HasCleanDisk (state S.Store conn.new)
+    ensures next { IfOk result (λ it. HasCleanDisk (state S.Store conn.new)
+        → IsNext it.next (state S.Store conn.new).committed.trees) }
+    ensures placed { IfOk result (λ it. HasCleanDisk (state S.Store conn.new)
+        → IsPlacedBy site.now (state S.Store conn.new).committed.trees it.shelf) }
+    ensures own { IfOk result (λ it. HasCleanDisk (state S.Store conn.new)
+        → HasOwnOn (state S.Store conn.new).committed.trees it.shelf) }
+    ensures found { IfOk result (λ it. HasCleanDisk (state S.Store conn.new)
         → (IsBlank (state S.Store conn.old).now.schema → ⊥)
         → (IsOlder (state S.Store conn.old).now.schema → ⊥)
         → StaysAsFound (state S.Store conn.old) (state S.Store conn.new)) }
-    ensures older { IfOk result (λ next. HasCleanDisk (state S.Store conn.new)
+    ensures older { IfOk result (λ it. HasCleanDisk (state S.Store conn.new)
         → IsOlder (state S.Store conn.old).now.schema
         → IsBroughtOver (state S.Store conn.old) (state S.Store conn.new)) }
-    ensures made { IfOk result (λ next. HasCleanDisk (state S.Store conn.new)
+    ensures made { IfOk result (λ it. HasCleanDisk (state S.Store conn.new)
         → IsBlank (state S.Store conn.old).now.schema
         → HasNewLedger (state S.Store conn.old) (state S.Store conn.new)) }
+    ensures wanted { IfOk result (λ it. IsBlank (state S.Store conn.old).now.schema
+        → named_on it.shelf ≡ names_in keeping) }
     ensures file { HasCleanDisk (state S.Store conn.new)
         → LeavesFile (state S.Store conn.old) (state S.Store conn.new) }
     ensures refused { IfErr result (λ fault. HasCleanDisk (state S.Store conn.new)
-        → fault ≡ opening.OtherSite
-        → HasNoLedgerOf site.now (state S.Store conn.old).now) }
-    ensures is { IfOk result (λ next. HasCleanDisk (state S.Store conn.new)
-        → HasLedgerOf next site.now (state S.Store conn.new).committed) }
+        → IsWhy result site.now (state S.Store conn.old).now fault) }
+    ensures there { IfErr result (λ fault. fault ≡ opening.DataIsThere
+        → (keeping ≡ wanted.InFile) × IsBlank (state S.Store conn.old).now.schema) }
+    ensures is { IfOk result (λ it. HasCleanDisk (state S.Store conn.new)
+        → HasLedgerOf it.next site.now (state S.Store conn.new).committed) }
     ensures idle { conn.new.in_transaction ≡ false }
     ensures clean { doubt (state S.Store conn.old).is_clean
         ≤ doubt (state S.Store conn.new).is_clean }
 {
-    let made = prepare(conn, alloc, site)?;
-    match find(conn, alloc, site) {
-        Ok(Some(next)) => {
-            if !is_as_made(made, next) {
+    let (made, disk) = prepare(conn, alloc, data, keeping, site)?;
+    match find_ledger(conn, alloc, data, disk, site) {
+        Ok(opened) => {
+            if !is_as_made(made, keeping, &opened) {
                 return Err(OpeningFault::OtherSite);
             }
-            Ok(next)
+            Ok(opened)
         }
-        Ok(None) => Err(OpeningFault::OtherSite),
-        Err(fault) => Err(opening_fault(fault)),
+        Err(fault) => Err(fault),
     }
 }
 
-/// The ledger of this site in a file, with the number of its next line, as `open` finds it. A
-/// refusal closes the connection and gives nothing back.
+/// The connection to a file with this site's ledger, and its shelf and the number of its next line,
+/// as `open` finds them. A refusal closes the connection and gives nothing back.
 ///
-/// Errors: OtherSite; Store; Memory.
-pub fn on<S: Alter + Drop>(
+/// Errors: OtherSite; NoData; DataIsThere; InUse; Store; Memory.
+pub fn on<S: Alter + Drop, F: DataFile>(
     conn: Connection<S>,
     alloc: Global,
+    data: &F,
+    keeping: Keeping,
     site: &Site,
-) -> Result<(Connection<S>, u64), OpeningFault>
+) -> Result<(Connection<S>, Opened<F::Disk>), OpeningFault>
     requires { conn.in_transaction ≡ false }
-    ensures kept { IfOk result (λ opened. HasCleanDisk (state S.Store opened.0)
-        → IsKept opened.1 site.now (state S.Store opened.0)
-        × IsOwnedBy site.now (state S.Store opened.0).committed.trees) }
-    ensures next { IfOk result (λ opened. HasCleanDisk (state S.Store opened.0)
-        → IsNext opened.1 (state S.Store opened.0).committed.trees) }
-    ensures found { IfOk result (λ opened. HasCleanDisk (state S.Store opened.0)
+    ensures kept { IfOk result (λ it. HasCleanDisk (state S.Store it.0)
+        → IsKept it.1.next site.now (state S.Store it.0)
+        × IsOwnedBy site.now (state S.Store it.0).committed.trees) }
+    ensures next { IfOk result (λ it. HasCleanDisk (state S.Store it.0)
+        → IsNext it.1.next (state S.Store it.0).committed.trees) }
+    ensures placed { IfOk result (λ it. HasCleanDisk (state S.Store it.0)
+        → IsPlacedBy site.now (state S.Store it.0).committed.trees it.1.shelf) }
+    ensures own { IfOk result (λ it. HasCleanDisk (state S.Store it.0)
+        → HasOwnOn (state S.Store it.0).committed.trees it.1.shelf) }
+    ensures found { IfOk result (λ it. HasCleanDisk (state S.Store it.0)
         → (IsBlank (state S.Store conn).now.schema → ⊥)
         → (IsOlder (state S.Store conn).now.schema → ⊥)
-        → StaysAsFound (state S.Store conn) (state S.Store opened.0)) }
-    ensures older { IfOk result (λ opened. HasCleanDisk (state S.Store opened.0)
+        → StaysAsFound (state S.Store conn) (state S.Store it.0)) }
+    ensures older { IfOk result (λ it. HasCleanDisk (state S.Store it.0)
         → IsOlder (state S.Store conn).now.schema
-        → IsBroughtOver (state S.Store conn) (state S.Store opened.0)) }
-    ensures made { IfOk result (λ opened. HasCleanDisk (state S.Store opened.0)
+        → IsBroughtOver (state S.Store conn) (state S.Store it.0)) }
+    ensures made { IfOk result (λ it. HasCleanDisk (state S.Store it.0)
         → IsBlank (state S.Store conn).now.schema
-        → HasNewLedger (state S.Store conn) (state S.Store opened.0)) }
-    ensures is { IfOk result (λ opened. HasCleanDisk (state S.Store opened.0)
-        → HasLedgerOf opened.1 site.now (state S.Store opened.0).committed) }
-    ensures idle { IfOk result (λ opened. opened.0.in_transaction ≡ false) }
-    ensures clean { IfOk result (λ opened.
-        doubt (state S.Store conn).is_clean ≤ doubt (state S.Store opened.0).is_clean) }
+        → HasNewLedger (state S.Store conn) (state S.Store it.0)) }
+    ensures wanted { IfOk result (λ it. IsBlank (state S.Store conn).now.schema
+        → named_on it.1.shelf ≡ names_in keeping) }
+    ensures there { IfErr result (λ fault. fault ≡ opening.DataIsThere
+        → (keeping ≡ wanted.InFile) × IsBlank (state S.Store conn).now.schema) }
+    ensures is { IfOk result (λ it. HasCleanDisk (state S.Store it.0)
+        → HasLedgerOf it.1.next site.now (state S.Store it.0).committed) }
+    ensures idle { IfOk result (λ it. it.0.in_transaction ≡ false) }
+    ensures clean { IfOk result (λ it.
+        doubt (state S.Store conn).is_clean ≤ doubt (state S.Store it.0).is_clean) }
 {
     let mut conn = conn;
-    match open(&mut conn, alloc, site) {
-        Ok(next) => Ok((conn, next)),
+    match open(&mut conn, alloc, data, keeping, site) {
+        Ok(opened) => Ok((conn, opened)),
         Err(fault) => Err(fault),
     }
 }
