@@ -29,8 +29,8 @@ pub record Wrote {A : Type 0} (result : Result A LedgerFault) (old new : State)
   pub durable : HasCleanDisk new → IsSafe old
       → OnOk result ((db : Trees) → new.may_leave db → db ≡ new.committed.trees)
 
--- where an adoption was accepted, the next site has taken the tables over, with their mark, and else
--- they are as they were
+-- where an adoption was accepted, the next site has taken the tables over, with their mark, and
+-- else they are as they were
 abbrev pub TakesOver : Part → Result (Unit {0}) LedgerFault → Trees → Trees → Type 0
 TakesOver next (Ok done) base db = ∥ IsTakenOver next base db ∥₁
 TakesOver next (Err why) base db = db ≡ base
