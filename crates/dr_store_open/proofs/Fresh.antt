@@ -26,14 +26,14 @@ use Rattle.dr_store_audit.specs.Journal.{CountUp}
 use Rattle.dr_store_open.specs.Opening.{BadTablesAreNone, HasLedgerOf, LedgersAreOne}
 use Rattle.dr_store_open.specs.Opening.{NewLedgersAreLedgers, new_trees}
 
-module _ (mark : List ℕ) (part : Part) where
-  book : book_of (new_trees mark part) ≡ empty_book
+module _ (part : Part) (mark : List ℕ) where
+  book : book_of (new_trees part mark) ≡ empty_book
   book = empty_tables_are_empty.book
 
-  bodies : bodies_of (new_trees mark part) ≡ map.empty
+  bodies : bodies_of (new_trees part mark) ≡ map.empty
   bodies = empty_tables_are_empty.bodies
 
-  no_body : (uid : Text) (body : List ℕ) → map.get (bodies_of (new_trees mark part)) uid ≡ Some body → ⊥
+  no_body : (uid : Text) (body : List ℕ) → map.get (bodies_of (new_trees part mark)) uid ≡ Some body → ⊥
   no_body uid body there =
       let P : Bodies → Type 0 = λ all. map.get all uid ≡ Some body in
       no_entry text_cmp uid body (subst P bodies there)
@@ -64,8 +64,8 @@ module _ (mark : List ℕ) (part : Part) where
       → is_some (map.get (map.empty {X = Print} {R = text_cmp}) uid) ≡ false
   no_print uid = ap is_some (map.get-empty text_cmp uid)
 
-  new_ledger_is : IsMark mark → length part.digest ≡ 32 → HasLedgerOf 1 part (record { schema = tables; trees = new_trees mark part })
-  new_ledger_is marked long = record {
+  new_ledger_is : length part.digest ≡ 32 → IsMark mark → HasLedgerOf 1 part (record { schema = tables; trees = new_trees part mark })
+  new_ledger_is long marked = record {
     schema = refl;
     owned = (mark, part.digest ++ mark, record { long = long; marked = marked; is = refl }, refl);
     agreed = record {
@@ -90,7 +90,7 @@ module _ (mark : List ℕ) (part : Part) where
   }
 
 pub new_ledgers_are : NewLedgersAreLedgers
-new_ledgers_are mark part marked long = new_ledger_is mark part marked long
+new_ledgers_are part mark long marked = new_ledger_is part mark long marked
 
 pub ledgers_are_one : LedgersAreOne
 ledgers_are_one n m part other db one two =

@@ -219,19 +219,18 @@ pub record LeavesFile (old new : State) : Type 0 where
 
 -- ---- laws
 
--- the trees of a site's new ledger with this mark, which has no row but the owner's
-abbrev pub new_trees : List ℕ → Part → Trees
-new_trees mark part zero = site_row part.name (part.digest ++ mark) ∷ []
-new_trees mark part (suc tree) = []
+-- the trees of a site's new ledger, which has no row but the owner's, with that mark
+abbrev pub new_trees : Part → List ℕ → Trees
+new_trees part mark zero = site_row part.name (part.digest ++ mark) ∷ []
+new_trees part mark (suc tree) = []
 
--- A new ledger is one of its site, with its data sets in rows or in a file, and its next line is
--- the first.
+-- a new ledger is one of its site, and its next line is the first
 abbrev pub NewLedgersAreLedgers : Type 0
 NewLedgersAreLedgers =
-    (mark : List ℕ) (part : Part)
-    → IsMark mark
+    (part : Part) (mark : List ℕ)
     → length part.digest ≡ 32
-    → HasLedgerOf 1 part (record { schema = tables; trees = new_trees mark part })
+    → IsMark mark
+    → HasLedgerOf 1 part (record { schema = tables; trees = new_trees part mark })
 
 -- what a database has is one node's ledger, under one plan, and its next line has one number
 abbrev pub LedgersAreOne : Type 0
