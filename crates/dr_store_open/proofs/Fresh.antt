@@ -67,7 +67,7 @@ module _ (part : Part) (mark : List ℕ) where
   new_ledger_is : length part.digest ≡ 32 → IsMark mark → HasLedgerOf 1 part (record { schema = tables; trees = new_trees part mark })
   new_ledger_is long marked = record {
     schema = refl;
-    owned = (mark, part.digest ++ mark, record { long = long; marked = marked; is = refl }, refl);
+    owned = (mark, (part.digest ++ mark, record { long = long; marked = marked; is = refl }, refl));
     agreed = record {
       next = ap (λ (b : Book). length b.lines + 1) (sym book);
       below = tt;
