@@ -28,6 +28,6 @@ pub use bringing::NextLine;
 pub use forgetting::{forget, is_over};
 pub use knowing::{Known, know};
 pub use letting_go::{RowAt, give_up, settle};
-pub use owning::{is_mark, mark_behind, plan_cell};
+pub use owning::{is_mark, mark_behind, mark_for, plan_cell};
 pub use settling::requeue;
 pub use shelving::{arrive, shelf_fault};

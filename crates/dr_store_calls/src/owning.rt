@@ -1,7 +1,6 @@
 //! What site has for a plan: its SHA-256, and right behind it the mark of a file of data sets, or
 //! nothing.
-ghost use Rattle.std.specs.Prelude.{◌≡◌, ◌≢◌, ◌↔◌, ◌++◌, ◌⊎◌, IfOk, IsTrue, List, MatchOption, ℕ};
-ghost use Rattle.std.specs.Prelude.{length};
+ghost use Rattle.std.specs.Prelude.{◌≡◌, ◌↔◌, IfOk, IsTrue, List, MatchOption, ℕ};
 ghost use Rattle.dr_store_calls.specs.Adoptions.{IsMark, IsPlanWith};
 
 use std::alloc::{AllocError, Global};
@@ -16,7 +15,17 @@ const MARK_SIZE: usize = 24;
 pub fn is_mark(bytes: &[u8]) -> bool
     ensures { IsTrue result ↔ IsMark bytes.now }
 {
-    bytes.is_empty() || bytes.len() == MARK_SIZE
+    if bytes.is_empty() {
+        return true;
+    }
+    bytes.len() == MARK_SIZE
+}
+
+/// Whether these are the bytes of that SHA-256.
+fn is_same(front: &[u8], digest: &[u8; 32]) -> bool
+    ensures { IsTrue result ↔ (front.now ≡ digest.now) }
+{
+    front == digest.as_slice()
 }
 
 /// The mark that stands in an owner's cell, if it is one's: what comes behind the plan's SHA-256.
@@ -28,6 +37,24 @@ pub fn mark_behind(cell: &[u8]) -> Option<&[u8]>
     let Some((_, mark)) = cell.split_at_checked(DIGEST_SIZE) else {
         return None;
     };
+    if !is_mark(mark) {
+        return None;
+    }
+    Some(mark)
+}
+
+/// The mark that stands in the cell of a plan of this SHA-256, if it is one's.
+pub fn mark_for<'x>(cell: &'x [u8], digest: &[u8; 32]) -> Option<&'x [u8]>
+    ensures { MatchOption result
+        ((mark : List ℕ) → IsPlanWith mark digest.now cell.now → ⊥)
+        (λ mark. IsPlanWith mark.now digest.now cell.now) }
+{
+    let Some((front, mark)) = cell.split_at_checked(DIGEST_SIZE) else {
+        return None;
+    };
+    if !is_same(front, digest) {
+        return None;
+    }
     if !is_mark(mark) {
         return None;
     }

@@ -20,7 +20,7 @@ use Rattle.dr_store_shelf.specs.Either.{IsCleanOn, StandsOn}
 use Rattle.dr_store_schema.specs.Books.{AreBelow, bodies_of, book_of, items_of, lines_of}
 use Rattle.dr_store_schema.specs.Ledgers.{AreRows, IsCounted}
 use Rattle.dr_store_schema.specs.Tables.{tables}
-use Rattle.dr_store_writes.specs.Effects.{site_row}
+use Rattle.dr_store_writes.specs.Effects.{IsSiteOf, site_row}
 use Rattle.std.specs.List.{AllByRecursion}
 use Rattle.dr_store_reads.specs.Queries.{Stays}
 use Rattle.dr_store_lists.specs.Lists.{notes_of, whole_prints_of}
@@ -291,9 +291,15 @@ LedgersAreOne =
     → HasLedgerOf n part db → HasLedgerOf m other db
     → (n ≡ m) × (part.name ≡ other.name) × (part.digest ≡ other.digest)
 
--- without an owner, or with a line under another number than its place, there is none
+-- without an owner, with other bytes behind a plan's SHA-256 than those of a mark, or with a line
+-- under another number than its place, there is none
 pub record BadTablesAreNone : Type 0 where
   pub unowned : (part : Part) (db : Database) → db.trees 0 ≡ [] → HasNoLedgerOf part db
+  pub unmarked : (part : Part) (db : Database) (node : Text) (digest mark : List ℕ)
+      → IsSiteOf node (digest ++ mark) db.trees
+      → length digest ≡ 32
+      → (IsMark mark → ⊥)
+      → HasNoLedgerOf part db
   pub renumbered : (part : Part) (db : Database) (note : JournalRow) (rest : List (ℕ × JournalRow))
       → map.entries (notes_of db.trees) ≡ (2, note) ∷ rest
       → HasNoLedgerOf part db
