@@ -186,7 +186,7 @@ fn make_new<S: Alter, F: DataFile>(
         return Ok((false, None));
     }
     let (disk, mark) = new_data(alloc, data, keeping)?;
-    match make(conn, site, &mark) {
+    match make(conn, alloc, site, &mark) {
         Ok(()) => Ok((true, disk)),
         Err(fault) => {
             drop(disk);
