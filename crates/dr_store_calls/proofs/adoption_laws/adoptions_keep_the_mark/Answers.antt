@@ -1,4 +1,4 @@
-use Rattle.dr_store_calls.proofs.Owning.{marks_are_kept}
+use Rattle.dr_store_calls.proofs.Owners.{marks_are_kept}
 use Rattle.dr_store_calls.proofs.adoption_laws.adoptions_keep_the_mark.Goals as goal
 
 pub returns : goal.returns

@@ -1,4 +1,4 @@
-use Rattle.dr_store_calls.proofs.Owning.{never, no_mark, some_mark, too_short}
+use Rattle.dr_store_calls.proofs.Owners.{never, no_mark, some_mark, too_short}
 use Rattle.dr_store_calls.proofs.owning.mark_behind.Goals as goal
 
 pub returns-in_default : goal.returns-in_default

@@ -1,6 +1,6 @@
 use Rattle.std.proofs.Common.{subst}
 use Rattle.dr_store_calls.specs.Adoptions.{IsPlanWith}
-use Rattle.dr_store_calls.proofs.Owning.{never, no_mark, other_digest, some_mark, too_short}
+use Rattle.dr_store_calls.proofs.Owners.{never, no_mark, other_digest, some_mark, too_short}
 use Rattle.dr_store_calls.proofs.owning.mark_for.Goals as goal
 
 pub returns-in_default : goal.returns-in_default

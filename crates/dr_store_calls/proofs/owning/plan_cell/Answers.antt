@@ -1,5 +1,5 @@
 use Rattle.std.proofs.Common.{◌≡◌, ◌∙◌, ◌++◌, ap, length, rules}
-use Rattle.dr_store_calls.proofs.Owning.{two_pushed}
+use Rattle.dr_store_calls.proofs.Owners.{two_pushed}
 use Rattle.dr_store_calls.proofs.owning.plan_cell.Goals as goal
 
 pub returns : goal.returns
