@@ -52,10 +52,7 @@ fn drawn<F: DataFile>(
 {
     match data.draw(alloc) {
         Ok(mark) => begun(disk, alloc, &mark),
-        Err(fault) => {
-            drop(disk);
-            Err(of_making(fault))
-        }
+        Err(fault) => Err(of_making(fault)),
     }
 }
 

@@ -89,16 +89,8 @@ fn look_at<B: Shelf>(
             },
             print,
         ),
-        Ok(None) => {
-            drop(uid);
-            drop(key);
-            Ok(false)
-        }
-        Err(fault) => {
-            drop(uid);
-            drop(key);
-            Err(shelf_fault(fault))
-        }
+        Ok(None) => Ok(false),
+        Err(fault) => Err(shelf_fault(fault)),
     }
 }
 
@@ -193,6 +185,17 @@ pub fn test_bodies<'x, S: Alter, B: Shelf>(
     Ok(true)
 }
 
+/// A data set that isn't its instance's is none of this site.
+fn told(own: bool) -> Result<(), OpeningFault>
+    ensures { MatchResult result (λ done. IsTrue own) (λ fault. (own ≡ false)
+        × (fault ≡ opening.OtherSite)) }
+{
+    if own {
+        return Ok(());
+    }
+    Err(OpeningFault::OtherSite)
+}
+
 /// Tests that each data set that is there is that of its instance, where the tables stand ready.
 ///
 /// Errors: OtherSite; Store; Memory.
@@ -223,8 +226,7 @@ pub fn test_all<'x, S: Alter, B: Shelf>(
     ensures clean { B.Shelf.is_clean shelf.new → B.Shelf.is_clean shelf.old }
 {
     match test_bodies(conn, shelf, alloc, found.prints.as_slice()) {
-        Ok(true) => Ok(()),
-        Ok(false) => Err(OpeningFault::OtherSite),
+        Ok(own) => told(own),
         Err(fault) => Err(opening_fault(fault)),
     }
 }

@@ -143,14 +143,8 @@ pub fn find_ledger<S: Alter, F: DataFile>(
 {
     match find(conn, alloc, site) {
         Ok(Some(found)) => open_found(conn, alloc, data, made, site, found),
-        Ok(None) => {
-            drop(made);
-            Err(OpeningFault::OtherSite)
-        }
-        Err(fault) => {
-            drop(made);
-            Err(opening_fault(fault))
-        }
+        Ok(None) => Err(OpeningFault::OtherSite),
+        Err(fault) => Err(opening_fault(fault)),
     }
 }
 
@@ -188,10 +182,7 @@ fn make_new<S: Alter, F: DataFile>(
     let (disk, mark) = new_data(alloc, data, keeping)?;
     match make(conn, alloc, site, &mark) {
         Ok(()) => Ok((true, disk)),
-        Err(fault) => {
-            drop(disk);
-            Err(of_tables(fault))
-        }
+        Err(fault) => Err(of_tables(fault)),
     }
 }
 

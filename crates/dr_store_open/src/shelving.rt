@@ -166,14 +166,8 @@ fn shelf_in_file<'x, S: Alter, F: DataFile>(
 {
     match list_extents(conn, alloc, found.prints.as_slice()) {
         Ok(Some(list)) => file_shelf(alloc, data, made, said, list),
-        Ok(None) => {
-            drop(made);
-            Err(OpeningFault::NoData)
-        }
-        Err(fault) => {
-            drop(made);
-            Err(opening_fault(fault))
-        }
+        Ok(None) => Err(OpeningFault::NoData),
+        Err(fault) => Err(opening_fault(fault)),
     }
 }
 
@@ -204,10 +198,7 @@ pub fn shelf_of<'x, S: Alter, F: DataFile>(
     ensures rows { found.now.place ≡ place.InRows → IfErr result (λ fault. ⊥) }
 {
     match &found.place {
-        Place::InRows => {
-            drop(made);
-            Ok(LedgerShelf::InRow(InRow))
-        }
+        Place::InRows => Ok(LedgerShelf::InRow(InRow)),
         Place::InFile(said) => shelf_in_file(conn, alloc, data, made, said, found),
     }
 }
