@@ -8,4 +8,5 @@ mod Left
 mod Queried
 mod Refused
 mod Reread
+mod Shelved
 mod Wholly

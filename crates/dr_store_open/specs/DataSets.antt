@@ -1,7 +1,7 @@
 -- Data sets that are looked at, by the cells of a ledger's tables. `Stands` says for which bytes a
 -- cell stands, and `Uses` which cells are in use.
-use Rattle.std.specs.Prelude.{All, ◌≡◌, ◌≤◌, ℕ, Bool, true, cond, IsTrue, List, [], ◌∷◌, Option}
-use Rattle.std.specs.Prelude.{Some, None, length, unwrap_or}
+use Rattle.std.specs.Prelude.{All, ◌≡◌, ◌≤◌, ℕ, Bool, true, cond, IsTrue, List, [], ◌∷◌, ◌++◌}
+use Rattle.std.specs.Prelude.{Option, Some, None, length, unwrap_or}
 use Rattle.std.specs.FinMap as map
 use Rattle.std.specs.List.{flat_map}
 use Rattle.sha2.specs.Sha256.{sha256}
@@ -77,6 +77,14 @@ IsExtentAt uid db (Some e) =
     × (map.get (contents_in (db 1)) uid ≡ Some cell)
     × (16 ≤ length cell)
     × (e ≡ extent_in cell)
+
+-- the cell in the row of that uid names an extent, which comes behind those of the list
+abbrev pub AddsExtent : Text → Trees → (old new : List Extent) → Type 0
+AddsExtent uid db old new =
+    (cell : List ℕ)
+    × (map.get (contents_in (db 1)) uid ≡ Some cell)
+    × (16 ≤ length cell)
+    × (new ≡ old ++ extent_in cell ∷ [])
 
 -- the extent of a print whose data set is there
 abbrev pub extents_under : Trees → Text × Print → List Extent

@@ -16,7 +16,6 @@ use Rattle.dr_ledger.specs.Books.{empty_book}
 use Rattle.dr_ledger.specs.Items.{IsItem, instance_of}
 use Rattle.dr_ledger.specs.Replies.{Reads}
 use Rattle.dr_store_shelf.specs.declared.either.LedgerShelf.{LedgerShelf}
-use Rattle.dr_store_shelf.specs.Either.{IsCleanOn, StandsOn}
 use Rattle.dr_store_schema.specs.Books.{AreBelow, bodies_of, book_of, items_of, lines_of}
 use Rattle.dr_store_schema.specs.Ledgers.{AreRows, IsCounted}
 use Rattle.dr_store_schema.specs.Tables.{tables}
@@ -36,9 +35,8 @@ use Rattle.dr_store_open.specs.declared.data.Place.{Place}
 use Rattle.dr_store_open.specs.declared.fault.OpeningFault.{OpeningFault}
 use Rattle.dr_store_open.specs.declared.fault.OpeningFault.TheVariants as opening
 use Rattle.dr_store_open.specs.declared.finding.FoundTables.{FoundTables}
-use Rattle.dr_store_open.specs.DataSets.{IsOwn}
 use Rattle.dr_store_open.specs.Faults.{IsOfData}
-use Rattle.dr_store_open.specs.Places.{HasOwnOn, IsPlaceOf, IsPlacedBy}
+use Rattle.dr_store_open.specs.Places.{HasOwnOn, IsOpenedBy, IsOtherOn, IsPlaceOf, IsPlacedBy}
 use Rattle.dr_store_open.specs.Renewing.{HasNoRows, KeepsRows}
 
 -- ---- what is tested of rows
@@ -153,6 +151,7 @@ pub record IsLedgerOpened (part : Part) (result : Result (Option FoundTables) Le
   pub is_not : HasCleanDisk new → IfNotFound result (HasNoLedgerOf part old.now)
   pub kept : HasCleanDisk new → IfFound result (λ found. IsLedgerFound found.next part old new)
   pub are : HasCleanDisk new → IfFound result (AreOf part new.committed.trees)
+  pub was : HasCleanDisk new → IfFound result (λ found. old.now ≡ new.committed)
   pub looks : OnlyLooks old new
 
 -- What only reads of tables that stand ready does: they stand so still, where it isn't refused.
@@ -168,9 +167,7 @@ module _ {D : Type 0} {g : Ghosts D} where
   -- of its item.
   abbrev pub HasOther : {E : Type 0} → Result (Opened D g) E → Part → Trees → Type 0
   HasOther result part db =
-      (shelf after : LedgerShelf D g)
-      × IsPlacedBy part db shelf
-      × (IsCleanOn after → ((uid : Text) → IsOwn (StandsOn shelf) uid db) → ⊥)
+      (shelf : LedgerShelf D g) × IsOpenedBy part db shelf × IsOtherOn db shelf
 
   -- Why a ledger isn't opened whose tables were found: its data sets aren't the items'; or it is a
   -- fault of the file of its data sets, which no ledger has that has them in its rows.

@@ -3,6 +3,7 @@ use Rattle.std.specs.Prelude.{◌≡◌, ℕ, Bool, true, false, List, []}
 use Rattle.sqlite.specs.Tree.{Trees}
 use Rattle.sqlite_disk.specs.declared.Disk.{Ghosts}
 use Rattle.sqlite_disk.specs.Disk.{Only}
+use Rattle.dr_base.specs.Texts.{Text}
 use Rattle.dr_site.specs.Parts.{Part}
 use Rattle.dr_store_bodies.specs.declared.extent.Extent.{Extent}
 use Rattle.dr_store_bodies.specs.Bodies.{extents}
@@ -19,6 +20,7 @@ use Rattle.dr_store_open.specs.declared.data.Keeping.{Keeping}
 use Rattle.dr_store_open.specs.declared.data.Keeping.TheVariants as keeping
 use Rattle.dr_store_open.specs.declared.data.Place.{Place}
 use Rattle.dr_store_open.specs.declared.data.Place.TheVariants.{InRows, InFile}
+use Rattle.dr_store_open.specs.DataSets.{IsOwn}
 
 -- the site's tables have no mark, or they have one, which says this key and the mark of the file
 abbrev pub IsPlaceOf : Part → Trees → Place → Type 0
@@ -30,6 +32,11 @@ IsPlaceOf part db (InFile said) =
 abbrev pub names_in : Keeping → Bool
 names_in keeping.InRows = false
 names_in keeping.InFile = true
+
+-- whether the cells of a ledger whose data sets are there name places
+abbrev pub names_at : Place → Bool
+names_at InRows = false
+names_at (InFile said) = true
 
 -- the bytes of a mark, which is nothing where the data sets are in rows, say this place
 abbrev pub IsPlaceIn : List ℕ → Place → Type 0
@@ -49,15 +56,26 @@ module _ {D : Type 0} {g : Ghosts D} where
   IsFileWith said list (Rows it) = ⊥
   IsFileWith said list (File it) = (it.key ≡ said.key) × HasExtents list (extents it.bodies)
 
-  -- the shelf is where the tables say
+  -- the shelf was opened where the tables say, in a file under their key
+  abbrev pub IsOpenedBy : Part → Trees → LedgerShelf D g → Type 0
+  IsOpenedBy part db shelf = (place : Place) × IsPlaceOf part db place × IsAt place shelf
+
+  -- the cells of the shelf name places just where the tables have a mark
   abbrev pub IsPlacedBy : Part → Trees → LedgerShelf D g → Type 0
-  IsPlacedBy part db shelf = (place : Place) × IsPlaceOf part db place × IsAt place shelf
+  IsPlacedBy part db shelf =
+      (place : Place) × IsPlaceOf part db place × (named_on shelf ≡ names_at place)
 
   -- its cells are those of the tables, and stand for the data sets of their book, unless a wrong
   -- answer of the file was taken as true
   abbrev pub HasOwnOn : Trees → LedgerShelf D g → Type 0
   HasOwnOn db shelf =
       IsCleanOn shelf → HaveOwn (UsesOn shelf) (StandsOn shelf) (AreApartIf (named_on shelf)) db
+
+  -- the shelf was looked at, and not each cell stood for the data set of its item
+  abbrev pub IsOtherOn : Trees → LedgerShelf D g → Type 0
+  IsOtherOn db shelf =
+      (after : LedgerShelf D g)
+      × (IsCleanOn after → ((uid : Text) → IsOwn (StandsOn shelf) uid db) → ⊥)
 
   -- the file has the head of this mark, and whatever a crash leaves has it
   abbrev pub IsBegun : DataMark → D → Type 0

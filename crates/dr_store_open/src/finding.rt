@@ -1,5 +1,5 @@
 //! Tables that are found.
-ghost use Rattle.std.specs.Prelude.{◌≡◌, ◌+◌, MatchOption, length};
+ghost use Rattle.std.specs.Prelude.{◌≡◌, ◌↔◌, ◌+◌, IsTrue, MatchOption, length};
 ghost use Rattle.sqlite.specs.Held.{state};
 ghost use Rattle.sqlite.specs.Tree.{Trees};
 ghost use Rattle.dr_ledger.specs.Replies.{Reads};
@@ -46,12 +46,19 @@ fn place_in(mark: &[u8]) -> Option<Place>
     }
 }
 
+/// Whether the node is the site's.
+fn is_node(owner: &Owner, site: &Site) -> bool
+    ensures { IsTrue result ↔ (owner.now.node ≡ site.now.name) }
+{
+    owner.node == *site.name()
+}
+
 /// Where the data sets are, if the node and the plan are the site's.
 fn place_of(owner: &Owner, site: &Site) -> Option<Place>
     ensures { (db : Trees) → IsSiteOf owner.now.node owner.now.plan db
         → MatchOption result (IsOwnedBy site.now db → ⊥) (IsPlaceOf site.now db) }
 {
-    if owner.node != *site.name() {
+    if !is_node(owner, site) {
         return None;
     }
     match mark_for(owner.plan.as_bytes(), site.digest()) {

@@ -9,15 +9,19 @@ ghost use Rattle.dr_store_calls.specs.Adoptions.{IsOwnedBy};
 ghost use Rattle.dr_store_calls.specs.Calling.{IsKept};
 ghost use Rattle.dr_store_audit.specs.Older.{IsOlder};
 ghost use Rattle.dr_store_open.specs.Renewing.{KeepsRows};
-ghost use Rattle.dr_store_shelf.specs.Either.{named_on};
+ghost use Rattle.dr_store_shelf.specs.Either.{AreApartIf, UsesOn, named_on};
+ghost use Rattle.dr_store_schema.specs.Books.{bodies_of};
 ghost use Rattle.dr_store_changes.specs.Writing.{IsReady};
+ghost use Rattle.dr_store_calls.specs.LettingGo.{AreEachApart};
+ghost use Rattle.dr_store.specs.Owning.{AreUsed};
 ghost use Rattle.dr_store_open.specs.declared.data.Keeping.TheVariants as wanted;
 ghost use Rattle.dr_store_open.specs.declared.fault.OpeningFault.TheVariants as opening;
 ghost use Rattle.dr_store_open.specs.Opening.{AreOf, HasLedgerOf, HasNewLedger, IsBlank};
 ghost use Rattle.dr_store_open.specs.Opening.{IsBroughtOver, IsLedgerOpened, IsNext, IsWhy};
 ghost use Rattle.dr_store_open.specs.Opening.{IsWhyNot, IsWholeOpened, LeavesFile};
 ghost use Rattle.dr_store_open.specs.Opening.{LeavesOldOrCommitted, StaysAsFound, StaysReady};
-ghost use Rattle.dr_store_open.specs.Places.{HasOwnOn, IsPlacedBy, names_in};
+ghost use Rattle.dr_store_open.specs.Faults.{IsOfData};
+ghost use Rattle.dr_store_open.specs.Places.{HasOwnOn, IsOtherOn, IsPlacedBy, names_in};
 
 use crate::beside::new_data;
 use crate::bodies::test_all;
@@ -31,7 +35,7 @@ use crate::testing::test_tables;
 use dr_ledger::LedgerFault;
 use dr_site::Site;
 use dr_store_audit::is_ours;
-use dr_store_data::DataFile;
+use dr_store_data::{DataFile, LedgerShelf};
 use sqlite::{Alter, Connection};
 use sqlite_disk::Disk;
 use sqlite_schema::schema::Schema;
@@ -90,8 +94,45 @@ pub fn find<S: Alter>(
     find_tested(conn, alloc, site)
 }
 
-/// The shelf of a ledger whose tables were found, with each data set that is there looked at. The
-/// file that was made for it, if one was, is its own.
+/// A ledger whose tables were found, with its shelf, where each data set that is there is that of
+/// its instance.
+fn open_on<S: Alter, D: Disk>(
+    conn: &mut Connection<S>,
+    alloc: Global,
+    shelf: LedgerShelf<D>,
+    site: &Site,
+    found: FoundTables,
+) -> Result<Opened<D>, OpeningFault>
+    requires ready { HasCleanDisk (state S.Store conn.old)
+        → IsReady found.next (state S.Store conn.old) }
+    requires are { HasCleanDisk (state S.Store conn.old)
+        → AreOf site.now (state S.Store conn.old).now.trees found }
+    requires used { HasCleanDisk (state S.Store conn.old)
+        → AreUsed (UsesOn shelf) (bodies_of (state S.Store conn.old).now.trees) }
+    ensures ready { StaysReady found.next result (state S.Store conn.old) (state S.Store conn.new) }
+    ensures next { IfOk result (λ it. it.next ≡ found.next) }
+    ensures named { IfOk result (λ it. named_on it.shelf ≡ named_on shelf) }
+    ensures own { HasCleanDisk (state S.Store conn.new)
+        → AreEachApart (AreApartIf (named_on shelf))
+        (bodies_of (state S.Store conn.old).now.trees)
+        → IfOk result (λ it. HasOwnOn (state S.Store conn.old).now.trees it.shelf) }
+    ensures other { HasCleanDisk (state S.Store conn.new)
+        → IfErr result (λ fault. fault ≡ opening.OtherSite
+        → IsOtherOn (state S.Store conn.old).now.trees shelf) }
+    ensures data { IfErr result (λ fault. IsOfData fault → ⊥) }
+{
+    let mut shelf = shelf;
+    match test_all(conn, &mut shelf, alloc, &found) {
+        Ok(()) => Ok(Opened {
+            shelf,
+            next: found.next,
+        }),
+        Err(fault) => Err(fault),
+    }
+}
+
+/// A ledger whose tables were found, with its shelf, which is opened where they say. The file that
+/// was made for it, if one was, is its own.
 fn open_found<S: Alter, F: DataFile>(
     conn: &mut Connection<S>,
     alloc: Global,
@@ -114,12 +155,8 @@ fn open_found<S: Alter, F: DataFile>(
         → IfErr result (IsWhyNot result site.now (state S.Store conn.old).now.trees) }
     ensures there { IfErr result (λ fault. fault ≢ opening.DataIsThere) }
 {
-    let mut shelf = shelf_of(conn, alloc, data, made, &found)?;
-    match test_all(conn, &mut shelf, alloc, &found) {
-        Ok(()) => Ok(Opened {
-            shelf,
-            next: found.next,
-        }),
+    match shelf_of(conn, alloc, data, made, &found) {
+        Ok(shelf) => open_on(conn, alloc, shelf, site, found),
         Err(fault) => Err(fault),
     }
 }

@@ -16,7 +16,8 @@ ghost use Rattle.dr_store_calls.specs.LettingGo.{AreEachApart};
 ghost use Rattle.dr_store.specs.Owning.{AreUsed};
 ghost use Rattle.dr_store_open.specs.declared.data.Place.TheVariants as place;
 ghost use Rattle.dr_store_open.specs.declared.fault.OpeningFault.TheVariants as opening;
-ghost use Rattle.dr_store_open.specs.DataSets.{AreListed, AreListedIf, IsExtentAt, NamesExtent};
+ghost use Rattle.dr_store_open.specs.DataSets.{AddsExtent, AreListed, AreListedIf, IsExtentAt};
+ghost use Rattle.dr_store_open.specs.DataSets.{NamesExtent};
 ghost use Rattle.dr_store_open.specs.DataSets.{extents_under};
 ghost use Rattle.dr_store_open.specs.Faults.{IsOfOpening};
 ghost use Rattle.dr_store_open.specs.Opening.{Seen, StaysReady};
@@ -57,7 +58,25 @@ fn push_extent(list: &mut Vec<Extent>, extent: Extent) -> Result<bool, LedgerFau
     Ok(true)
 }
 
-/// Puts the extent of a print whose data set is there at the list's end, if its cell names one.
+/// Puts the extent that the cell of that uid names at the list's end, if it names one.
+fn add_named<'x, S: Alter>(
+    conn: &mut Connection<S>,
+    alloc: Global,
+    list: &mut Vec<Extent>,
+    uid: &'x Text,
+) -> Result<bool, LedgerFault>
+    ensures asked { Asked IsLedger result (state S.Store conn.old) (state S.Store conn.new)
+        (λ added. IsTrue added
+        → AddsExtent uid.now (state S.Store conn.old).now.trees list.old.items list.new.items) }
+{
+    match find_extent(conn, alloc, uid) {
+        Ok(Some(extent)) => push_extent(list, extent),
+        Ok(None) => Ok(false),
+        Err(fault) => Err(fault),
+    }
+}
+
+/// The same for a print whose data set is there.
 fn add_extent<'x, S: Alter>(
     conn: &mut Connection<S>,
     alloc: Global,
@@ -69,14 +88,10 @@ fn add_extent<'x, S: Alter>(
         × (list.new.items
         ≡ list.old.items ++ extents_under (state S.Store conn.old).now.trees print.now)) }
 {
-    if !print.1.whole {
-        return Ok(true);
+    if print.1.whole {
+        return add_named(conn, alloc, list, &print.0);
     }
-    match find_extent(conn, alloc, &print.0) {
-        Ok(Some(extent)) => push_extent(list, extent),
-        Ok(None) => Ok(false),
-        Err(fault) => Err(fault),
-    }
+    Ok(true)
 }
 
 /// The extents that the cells of these prints name, in their order; None where one names none.
@@ -158,6 +173,7 @@ fn shelf_in_file<'x, S: Alter, F: DataFile>(
         → IsReady found.now.next (state S.Store conn.old) }
     ensures ready { StaysReady found.now.next result (state S.Store conn.old)
         (state S.Store conn.new) }
+    ensures at { IfOk result (IsAt (place.InFile said.now)) }
     ensures file { HasCleanDisk (state S.Store conn.new)
         → IfOk result (λ shelf. (list : List AnExtent)
         × AreListed (state S.Store conn.old).now.trees found.now.prints.items list
