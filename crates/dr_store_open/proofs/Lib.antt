@@ -5,6 +5,7 @@ mod Emptied
 mod Filling
 mod Fresh
 mod Left
+mod Opens
 mod Queried
 mod Refused
 mod Reread

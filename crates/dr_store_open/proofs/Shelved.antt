@@ -35,7 +35,6 @@ use Rattle.dr_store_open.specs.Faults.{IsOfData}
 
 -- ---- what a test told
 
-
 pub as_told : (Was Is : Type 0) (own : Bool) (r : Result (Unit {0}) OpeningFault)
     → MatchResult r (λ done. IsTrue own) (λ fault. (own ≡ false) × (fault ≡ opening.OtherSite))
     → Tells Was Is own
@@ -47,7 +46,7 @@ pub not_other : (own : Bool) (r : Result (Unit {0}) OpeningFault)
     → MatchResult r (λ done. IsTrue own) (λ fault. (own ≡ false) × (fault ≡ opening.OtherSite))
     → IfErr r (λ fault. IsOfData fault → ⊥)
 not_other own (Ok done) yes = tt
-not_other own (Err fault) no = λ data. subst IsOfData no.1 data
+not_other own (Err fault) no = λ it. subst IsOfData no.1 it
 
 -- ---- pieces of lists
 
@@ -212,8 +211,8 @@ pub added_under : (db : Trees) (p : Text × Print) (was is : List Extent) → p.
 added_under db p was is whole (cell, content, long, more) = (
   λ there. (cell, content, long),
   more ∙ ap (λ l. was ++ l) (sym (
-  ap (λ b. cond b (extent_in (unwrap_or (map.get (contents_in (db 1)) p.0) []) ∷ []) []) whole
-  ∙ ap (λ o. extent_in (unwrap_or o []) ∷ []) content)),
+      ap (λ b. cond b (extent_in (unwrap_or (map.get (contents_in (db 1)) p.0) []) ∷ []) []) whole
+      ∙ ap (λ o. extent_in (unwrap_or o []) ∷ []) content)),
 )
 
 pub none_under : (db : Trees) (p : Text × Print) (was : List Extent) → p.1.whole ≡ false
@@ -221,7 +220,7 @@ pub none_under : (db : Trees) (p : Text × Print) (was : List Extent) → p.1.wh
 none_under db p was whole = (
   λ there. absurd (true≢false (sym there ∙ whole)),
   sym (append-nil was)
-  ∙ ap (λ l. was ++ l) (sym (ap (λ b. cond b (extent_in (unwrap_or (map.get (contents_in (db 1)) p.0) []) ∷ []) []) whole)),
+      ∙ ap (λ l. was ++ l) (sym (ap (λ b. cond b (extent_in (unwrap_or (map.get (contents_in (db 1)) p.0) []) ∷ []) []) whole)),
 )
 
 pub listed_none : (db : Trees) (prints : List (Text × Print)) (list : List Extent) → list ≡ [] → AreListed db (take 0 prints) list

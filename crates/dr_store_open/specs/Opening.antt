@@ -184,15 +184,16 @@ module _ {D : Type 0} {g : Ghosts D} where
       × (IsOfData fault → was.schema ≡ tables → IsOwnedWith [] part was.trees → ⊥)
 
   -- What opens a ledger whose tables are there does. Where it answers, the ledger is found with its
-  -- shelf. Whatever it answers, it only looks at the tables.
-  pub record IsWholeOpened (part : Part) (result : Result (Opened D g) OpeningFault)
-      (old new : State) : Type 0 where
+  -- shelf. Whatever it answers, it only looks at the tables. `Stood` says that they weren't made just
+  -- now.
+  pub record IsWholeOpened (Stood : Type 0) (part : Part)
+      (result : Result (Opened D g) OpeningFault) (old new : State) : Type 0 where
     pub has : IfOk result (λ it. old.now.schema ≡ tables)
     pub kept : HasCleanDisk new → IfOk result (λ it. IsLedgerFound it.next part old new)
     pub placed : HasCleanDisk new
         → IfOk result (λ it. IsPlacedBy part new.committed.trees it.shelf)
     pub own : HasCleanDisk new → IfOk result (λ it. HasOwnOn new.committed.trees it.shelf)
-    pub why : HasCleanDisk new → IfErr result (IsWhy result part old.now)
+    pub why : Stood → HasCleanDisk new → IfErr result (IsWhy result part old.now)
     pub looks : OnlyLooks old new
 
 -- there is no table, no index and no view

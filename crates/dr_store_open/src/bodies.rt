@@ -220,7 +220,7 @@ pub fn test_all<'x, S: Alter, B: Shelf>(
         fault ≡ opening.OtherSite
         → All (AreOwnUnder (B.Shelf.stands shelf.old) (state S.Store conn.old).now.trees)
         found.now.prints.items → ⊥) }
-    ensures data { IfErr result (λ fault. IsOfData fault → ⊥) }
+    ensures of_data { IfErr result (λ fault. IsOfData fault → ⊥) }
     ensures uses { (cell : List ℕ) → B.Shelf.uses shelf.old cell → B.Shelf.uses shelf.new cell }
     ensures named { B.Shelf.named shelf.new ≡ B.Shelf.named shelf.old }
     ensures clean { B.Shelf.is_clean shelf.new → B.Shelf.is_clean shelf.old }

@@ -63,7 +63,7 @@ impl<T: Drop> From<AllocFailed<T>> for OpeningFault {
 /// The fault of an opening where a ledger answers this.
 pub fn opening_fault(fault: LedgerFault) -> OpeningFault
     ensures other { result ≢ opening.OtherSite }
-    ensures data { IsOfData result → ⊥ }
+    ensures of_data { IsOfData result → ⊥ }
     ensures memory { (result ≡ opening.Memory) ↔ (fault ≡ ledger.Memory) }
 {
     match fault {
@@ -75,7 +75,7 @@ pub fn opening_fault(fault: LedgerFault) -> OpeningFault
 /// The fault of an opening where the database answers this.
 pub fn of_error(error: &SqlError) -> OpeningFault
     ensures other { result ≢ opening.OtherSite }
-    ensures data { IsOfData result → ⊥ }
+    ensures of_data { IsOfData result → ⊥ }
     ensures memory { (result ≡ opening.Memory) ↔ IsWantOfMemory error.now }
 {
     opening_fault(fault_of(error))
@@ -84,7 +84,7 @@ pub fn of_error(error: &SqlError) -> OpeningFault
 /// The fault of an opening where tables that were found aren't taken.
 pub fn of_finding(fault: FindingFault) -> OpeningFault
     ensures other { (result ≡ opening.OtherSite) ↔ (fault ≡ finding.OtherSite) }
-    ensures data { IsOfData result → ⊥ }
+    ensures of_data { IsOfData result → ⊥ }
     ensures memory { (result ≡ opening.Memory) ↔ (fault ≡ finding.Memory) }
 {
     match fault {
@@ -126,7 +126,7 @@ pub fn of_data(fault: DataFileFault) -> OpeningFault
 /// A fault of the tables alone.
 pub fn of_tables(fault: OpeningFault) -> OpeningFault
     ensures other { (result ≡ opening.OtherSite) ↔ (fault ≡ opening.OtherSite) }
-    ensures data { IsOfData result → ⊥ }
+    ensures of_data { IsOfData result → ⊥ }
 {
     match fault {
         OpeningFault::OtherSite => OpeningFault::OtherSite,

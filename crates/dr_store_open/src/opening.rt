@@ -8,7 +8,7 @@ ghost use Rattle.sqlite_trees.specs.View.{doubt};
 ghost use Rattle.dr_store_calls.specs.Adoptions.{IsOwnedBy};
 ghost use Rattle.dr_store_calls.specs.Calling.{IsKept};
 ghost use Rattle.dr_store_audit.specs.Older.{IsOlder};
-ghost use Rattle.dr_store_open.specs.Renewing.{KeepsRows};
+ghost use Rattle.dr_store_open.specs.Renewing.{HasNoRows, KeepsRows};
 ghost use Rattle.dr_store_shelf.specs.Either.{AreApartIf, UsesOn, named_on};
 ghost use Rattle.dr_store_schema.specs.Books.{bodies_of};
 ghost use Rattle.dr_store_changes.specs.Writing.{IsReady};
@@ -19,7 +19,8 @@ ghost use Rattle.dr_store_open.specs.declared.fault.OpeningFault.TheVariants as 
 ghost use Rattle.dr_store_open.specs.Opening.{AreOf, HasLedgerOf, HasNewLedger, IsBlank};
 ghost use Rattle.dr_store_open.specs.Opening.{IsBroughtOver, IsLedgerOpened, IsNext, IsWhy};
 ghost use Rattle.dr_store_open.specs.Opening.{IsWhyNot, IsWholeOpened, LeavesFile};
-ghost use Rattle.dr_store_open.specs.Opening.{LeavesOldOrCommitted, StaysAsFound, StaysReady};
+ghost use Rattle.dr_store_open.specs.Opening.{LeavesOldOr, LeavesOldOrCommitted};
+ghost use Rattle.dr_store_open.specs.Opening.{StaysAsFound, StaysReady};
 ghost use Rattle.dr_store_open.specs.Faults.{IsOfData};
 ghost use Rattle.dr_store_open.specs.Places.{HasOwnOn, IsOtherOn, IsPlacedBy, names_in};
 
@@ -119,7 +120,7 @@ fn open_on<S: Alter, D: Disk>(
     ensures other { HasCleanDisk (state S.Store conn.new)
         → IfErr result (λ fault. fault ≡ opening.OtherSite
         → IsOtherOn (state S.Store conn.old).now.trees shelf) }
-    ensures data { IfErr result (λ fault. IsOfData fault → ⊥) }
+    ensures of_data { IfErr result (λ fault. IsOfData fault → ⊥) }
 {
     let mut shelf = shelf;
     match test_all(conn, &mut shelf, alloc, &found) {
@@ -175,7 +176,8 @@ pub fn find_ledger<S: Alter, F: DataFile>(
     site: &Site,
 ) -> Result<Opened<F::Disk>, OpeningFault>
     requires { conn.old.in_transaction ≡ false }
-    ensures whole { IsWholeOpened site.now result (state S.Store conn.old) (state S.Store conn.new) }
+    ensures whole { IsWholeOpened (Unit {0}) site.now result (state S.Store conn.old)
+        (state S.Store conn.new) }
     ensures there { IfErr result (λ fault. fault ≢ opening.DataIsThere) }
 {
     match find(conn, alloc, site) {
@@ -185,8 +187,34 @@ pub fn find_ledger<S: Alter, F: DataFile>(
     }
 }
 
-/// Makes what a new ledger has, where the file has no table, and says whether it did: first the
-/// file of its data sets, if it is to have one, and then its tables.
+/// Makes the tables of a new ledger with this mark, beside which this file is made, if one is.
+fn make_with<S: Alter, D: Drop>(
+    conn: &mut Connection<S>,
+    alloc: Global,
+    site: &Site,
+    beside: (Option<D>, Vec<u8>),
+) -> Result<(bool, Option<D>), OpeningFault>
+    requires { conn.old.in_transaction ≡ false }
+    ensures idle { conn.new.in_transaction ≡ false }
+    ensures clean { doubt (state S.Store conn.old).is_clean
+        ≤ doubt (state S.Store conn.new).is_clean }
+    ensures made { IfOk result (λ made. made.0 ≡ true) }
+    ensures leaves { HasCleanDisk (state S.Store conn.new)
+        → OnOk result (LeavesOldOrCommitted (state S.Store conn.old) (state S.Store conn.new)) }
+    ensures crash { HasCleanDisk (state S.Store conn.new)
+        → LeavesOldOr (λ d. d.schema ≡ tables → HasNoRows d) (state S.Store conn.old)
+        (state S.Store conn.new) }
+    ensures of_data { IfErr result (λ fault. IsOfData fault → ⊥) }
+{
+    let (disk, mark) = beside;
+    match make(conn, alloc, site, &mark) {
+        Ok(()) => Ok((true, disk)),
+        Err(fault) => Err(of_tables(fault)),
+    }
+}
+
+/// Makes what a new ledger has: first the file of its data sets, if it is to have one, and then its
+/// tables.
 ///
 /// Errors: DataIsThere; InUse; Store; Memory.
 fn make_new<S: Alter, F: DataFile>(
@@ -200,25 +228,49 @@ fn make_new<S: Alter, F: DataFile>(
     ensures idle { conn.new.in_transaction ≡ false }
     ensures clean { doubt (state S.Store conn.old).is_clean
         ≤ doubt (state S.Store conn.new).is_clean }
-    ensures found { IfOk result (λ made. made.0 ≡ false
-        → (IsBlank (state S.Store conn.old).now.schema → ⊥) × (conn.new ≡ conn.old)) }
-    ensures made { IfOk result (λ made. made.0 ≡ true
-        → IsBlank (state S.Store conn.old).now.schema
-        × (HasCleanDisk (state S.Store conn.new)
-        → LeavesOldOrCommitted (state S.Store conn.old) (state S.Store conn.new))) }
+    ensures made { IfOk result (λ made. made.0 ≡ true) }
+    ensures leaves { HasCleanDisk (state S.Store conn.new)
+        → OnOk result (LeavesOldOrCommitted (state S.Store conn.old) (state S.Store conn.new)) }
+    ensures crash { HasCleanDisk (state S.Store conn.new)
+        → LeavesOldOr (λ d. d.schema ≡ tables → HasNoRows d) (state S.Store conn.old)
+        (state S.Store conn.new) }
+    ensures there { IfErr result (λ fault. fault ≡ opening.DataIsThere → keeping ≡ wanted.InFile) }
+{
+    match new_data(alloc, data, keeping) {
+        Ok(beside) => make_with(conn, alloc, site, beside),
+        Err(fault) => Err(fault),
+    }
+}
+
+/// Brings a file from before over. Nothing is made.
+fn renewed<S: Alter, D: Drop>(
+    conn: &mut Connection<S>,
+    alloc: Global,
+    site: &Site,
+) -> Result<(bool, Option<D>), OpeningFault>
+    requires { conn.old.in_transaction ≡ false }
+    ensures idle { conn.new.in_transaction ≡ false }
+    ensures clean { doubt (state S.Store conn.old).is_clean
+        ≤ doubt (state S.Store conn.new).is_clean }
+    ensures none { IfOk result (λ made. made.0 ≡ false) }
+    ensures found { OnOk result
+        ((IsOlder (state S.Store conn.old).now.schema → ⊥)
+        → StaysAsFound (state S.Store conn.old) (state S.Store conn.new)) }
+    ensures leaves { HasCleanDisk (state S.Store conn.new)
+        → OnOk result (LeavesOldOrCommitted (state S.Store conn.old) (state S.Store conn.new)) }
+    ensures kept { HasCleanDisk (state S.Store conn.new)
+        → IsOlder (state S.Store conn.old).now.schema
+        → (state S.Store conn.new).now.schema ≡ tables
+        → (state S.Store conn.new).committed.schema ≡ tables
+        → OnOk result (KeepsRows (state S.Store conn.old).now (state S.Store conn.new).committed) }
     ensures file { HasCleanDisk (state S.Store conn.new)
         → LeavesFile (state S.Store conn.old) (state S.Store conn.new) }
     ensures ours { (state S.Store conn.old).now.schema ≡ tables
-        → MatchResult result (λ made. made.0 ≡ false) (λ fault. ⊥) × (conn.new ≡ conn.old) }
-    ensures there { IfErr result (λ fault. fault ≡ opening.DataIsThere
-        → (keeping ≡ wanted.InFile) × IsBlank (state S.Store conn.old).now.schema) }
+        → IfErr result (λ fault. ⊥) × (conn.new ≡ conn.old) }
+    ensures of_data { IfErr result (λ fault. IsOfData fault → ⊥) }
 {
-    if !is_blank(conn.schema()) {
-        return Ok((false, None));
-    }
-    let (disk, mark) = new_data(alloc, data, keeping)?;
-    match make(conn, alloc, site, &mark) {
-        Ok(()) => Ok((true, disk)),
+    match renew_older(conn, alloc, site) {
+        Ok(()) => Ok((false, None)),
         Err(fault) => Err(of_tables(fault)),
     }
 }
@@ -248,8 +300,7 @@ fn prepare<S: Alter, F: DataFile>(
         → IsOlder (state S.Store conn.old).now.schema
         → (state S.Store conn.new).now.schema ≡ tables
         → (state S.Store conn.new).committed.schema ≡ tables
-        → IfOk result (λ made. made.0 ≡ false
-        → KeepsRows (state S.Store conn.old).now (state S.Store conn.new).committed) }
+        → OnOk result (KeepsRows (state S.Store conn.old).now (state S.Store conn.new).committed) }
     ensures file { HasCleanDisk (state S.Store conn.new)
         → LeavesFile (state S.Store conn.old) (state S.Store conn.new) }
     ensures ours { (state S.Store conn.old).now.schema ≡ tables
@@ -257,27 +308,51 @@ fn prepare<S: Alter, F: DataFile>(
     ensures there { IfErr result (λ fault. fault ≡ opening.DataIsThere
         → (keeping ≡ wanted.InFile) × IsBlank (state S.Store conn.old).now.schema) }
 {
-    let made = make_new(conn, alloc, data, keeping, site)?;
-    if made.0 {
-        return Ok(made);
+    if is_blank(conn.schema()) {
+        return make_new(conn, alloc, data, keeping, site);
     }
-    match renew_older(conn, alloc, site) {
-        Ok(()) => Ok((false, None)),
-        Err(fault) => Err(of_tables(fault)),
-    }
+    renewed(conn, alloc, site)
 }
 
-/// Whether a ledger whose tables were made just now has no line yet, and its data sets are where
-/// they were wanted.
-fn is_as_made<D: Disk>(made: bool, keeping: Keeping, opened: &Opened<D>) -> bool
-    ensures { IsTrue result
-        ↔ (made ≡ true
-        → (opened.now.next ≡ 1) × (named_on opened.now.shelf ≡ names_in keeping)) }
+/// A ledger that was opened, where it is as it was made, if its tables were made just now: without
+/// any line, and with its data sets where they were wanted.
+fn as_made<D: Disk>(
+    made: bool,
+    keeping: Keeping,
+    opened: Opened<D>,
+) -> Result<Opened<D>, OpeningFault>
+    ensures { MatchResult result (λ it. (it ≡ opened)
+        × (made ≡ true → (it.next ≡ 1) × (named_on it.shelf ≡ names_in keeping)))
+        (λ fault. (fault ≡ opening.OtherSite) × (made ≡ true)) }
 {
-    if made {
-        return opened.next == 1 && is_wanted(keeping, &opened.shelf);
+    if made && (opened.next != 1 || !is_wanted(keeping, &opened.shelf)) {
+        return Err(OpeningFault::OtherSite);
     }
-    true
+    Ok(opened)
+}
+
+/// This site's ledger in a file whose tables are made, and whose file of data sets is this one, if
+/// it was made just now.
+fn open_made<S: Alter, F: DataFile>(
+    conn: &mut Connection<S>,
+    alloc: Global,
+    data: &F,
+    keeping: Keeping,
+    site: &Site,
+    made: (bool, Option<F::Disk>),
+) -> Result<Opened<F::Disk>, OpeningFault>
+    requires { conn.old.in_transaction ≡ false }
+    ensures whole { IsWholeOpened (made.0 ≡ false) site.now result (state S.Store conn.old)
+        (state S.Store conn.new) }
+    ensures made { made.0 ≡ true
+        → IfOk result (λ it. (it.next ≡ 1) × (named_on it.shelf ≡ names_in keeping)) }
+    ensures there { IfErr result (λ fault. fault ≢ opening.DataIsThere) }
+{
+    let (is_new, disk) = made;
+    match find_ledger(conn, alloc, data, disk, site) {
+        Ok(opened) => as_made(is_new, keeping, opened),
+        Err(fault) => Err(fault),
+    }
 }
 
 /// This site's ledger in a file: its shelf, and the number of its next line. Its tables are made
@@ -333,14 +408,8 @@ pub fn open<S: Alter, F: DataFile>(
     ensures clean { doubt (state S.Store conn.old).is_clean
         ≤ doubt (state S.Store conn.new).is_clean }
 {
-    let (made, disk) = prepare(conn, alloc, data, keeping, site)?;
-    match find_ledger(conn, alloc, data, disk, site) {
-        Ok(opened) => {
-            if !is_as_made(made, keeping, &opened) {
-                return Err(OpeningFault::OtherSite);
-            }
-            Ok(opened)
-        }
+    match prepare(conn, alloc, data, keeping, site) {
+        Ok(made) => open_made(conn, alloc, data, keeping, site, made),
         Err(fault) => Err(fault),
     }
 }

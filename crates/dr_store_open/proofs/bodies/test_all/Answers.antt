@@ -35,8 +35,8 @@ returns-in-Ok-clause-own g c clean whole used =
     subst (λ ps. Tells (Was ps) (Is ps) c.in-Ok.own) same (tells whole (subst Used (sym same) used)) in
     as_told (Was given) (Is given) c.in-Ok.own c.told.result c.told.ensures told
 
-pub returns-in-Ok-clause-data : goal.returns-in-Ok-clause-data
-returns-in-Ok-clause-data g c = not_other c.in-Ok.own c.told.result c.told.ensures
+pub returns-in-Ok-clause-of_data : goal.returns-in-Ok-clause-of_data
+returns-in-Ok-clause-of_data g c = not_other c.in-Ok.own c.told.result c.told.ensures
 
 pub returns-in-Err-clause-ready : goal.returns-in-Err-clause-ready
 returns-in-Err-clause-ready g c =

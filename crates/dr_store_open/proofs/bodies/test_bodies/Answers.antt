@@ -122,8 +122,8 @@ returns-then-not-own-clause-seen g c =
     (λ db one y two clean used. (
       λ yes. absurd (true≢false (sym yes ∙ two.0)),
       λ every. absurd (two.1 clean (λ whole cell there. inv.2 cell (here db.trees used whole cell there))
-      (λ whole. read_on Stood0 StoodI db.trees p (λ cell bytes there stood. (inv.1 cell bytes (here db.trees used whole cell there) stood).1)
-      (subst (AreOwnUnder Stood0 db.trees) (sym c.print-item.is) (every i p c.loop-print-test.true)) whole)),
+          (λ whole. read_on Stood0 StoodI db.trees p (λ cell bytes there stood. (inv.1 cell bytes (here db.trees used whole cell there) stood).1)
+          (subst (AreOwnUnder Stood0 db.trees) (sym c.print-item.is) (every i p c.loop-print-test.true)) whole)),
     )) inv.0
     (seen_as mid new c.in-Ok.own (Ok false) (λ own. g.B.Shelf.is_clean shelf → AreUsedUnder UsedI mid.now.trees p → Tells (AreOwnUnder StoodI mid.now.trees p) (AreOwnUnder Held mid.now.trees p) own) (Two mid.now)
     (λ h. (refl, λ clean used under. true≢false (sym ((h clean used).1 under) ∙ c.if-not-own.true))) step.seen)
