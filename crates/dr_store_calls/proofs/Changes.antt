@@ -156,7 +156,7 @@ module _ (n : ℕ) (part next : Part) (old new : State) (still : old.in_transact
         let it = adopted_so k.ready k.ledger asks new.committed.trees (w.ok clean k.ready (before k asks)).1 in
         record { reply = it.book; bodies = it.bodies; owner = it.owner; same = tt };
     crash = λ clean k asks db left. elim ((w.crash k.ready (before k asks)).crash clean db left) [
-      | inl before ↦ inl before
+      | inl h ↦ inl h
       | inr made ↦ inr (adopted_so k.ready k.ledger asks db made)
     ];
   }
