@@ -29,9 +29,9 @@ use Rattle.dr_store_calls.specs.LettingGo.{AreEachApart}
 use Rattle.dr_store.specs.Owning.{AreUsed}
 use Rattle.dr_store_audit.specs.Older.{IsOlder}
 use Rattle.dr_store_open.specs.declared.data.Keeping.{Keeping}
-use Rattle.dr_store_open.specs.declared.data.Opened.{Opened}
-use Rattle.dr_store_open.specs.declared.data.Place.{Place}
-use Rattle.dr_store_open.specs.declared.data.Place.TheVariants as put
+use Rattle.dr_store_open.specs.declared.data.OpenedLedger.{OpenedLedger}
+use Rattle.dr_store_open.specs.declared.data.DataPlace.{DataPlace}
+use Rattle.dr_store_open.specs.declared.data.DataPlace.TheVariants as put
 use Rattle.dr_store_open.specs.declared.fault.OpeningFault.{OpeningFault}
 use Rattle.dr_store_open.specs.declared.fault.OpeningFault.TheVariants as opening
 use Rattle.dr_store_open.specs.declared.finding.FoundTables.{FoundTables}
@@ -73,13 +73,13 @@ pub still_now : (n : ℕ) (old new : State) → IsReady n old → IsReady n new 
 still_now n old new was is same = is.settled ∙ same ∙ sym was.settled
 
 -- a ledger that has no mark has its data sets in rows
-pub not_in_rows : (part : Part) (db : Trees) (place : Place) → IsPlaceOf part db place → IsOwnedWith [] part db → place ≡ put.InRows
+pub not_in_rows : (part : Part) (db : Trees) (place : DataPlace) → IsPlaceOf part db place → IsOwnedWith [] part db → place ≡ put.InRows
 not_in_rows part db place is mine = places_are_one part part db place put.InRows is mine
 
 -- ---- a shelf
 
 module _ {D : Type 0} {g : Ghosts D} where
-  pub at_named : (place : Place) (shelf : LedgerShelf D g) → IsAt place shelf → named_on shelf ≡ names_at place
+  pub at_named : (place : DataPlace) (shelf : LedgerShelf D g) → IsAt place shelf → named_on shelf ≡ names_at place
   at_named put.InRows (Rows it) is = refl
   at_named put.InRows (File it) is = absurd is
   at_named (put.InFile said) (Rows it) is = absurd is
@@ -129,7 +129,7 @@ module _ {D : Type 0} {g : Ghosts D} where
 
   -- ---- a ledger that was found with its shelf
 
-  pub whole_found : (part : Part) (old mid new : State) (found : FoundTables) (r : Result (Opened D g) OpeningFault)
+  pub whole_found : (part : Part) (old mid new : State) (found : FoundTables) (r : Result (OpenedLedger D g) OpeningFault)
       → IsLedgerOpened part (Ok (Some found)) old mid
       → StaysReady found.next r mid new
       → IfOk r (λ it. it.next ≡ found.next)
@@ -205,16 +205,16 @@ module _ {D : Type 0} {g : Ghosts D} where
   }
 
   -- where its tables may have been made just now
-  pub whole_made : (Stood : Type 0) (made : Bool) (keeping : Keeping) (part : Part) (old new : State) (opened : Opened D g) (r : Result (Opened D g) OpeningFault)
+  pub whole_made : (Stood : Type 0) (made : Bool) (keeping : Keeping) (part : Part) (old new : State) (opened : OpenedLedger D g) (r : Result (OpenedLedger D g) OpeningFault)
       → (Stood → made ≡ false)
       → IsWholeOpened (Unit {0}) part (Ok opened) old new
       → MatchResult r (λ it. (it ≡ opened) × (made ≡ true → (it.next ≡ 1) × (named_on it.shelf ≡ names_in keeping))) (λ fault. (fault ≡ opening.OtherSite) × (made ≡ true))
       → IsWholeOpened Stood part r old new
   whole_made Stood made keeping part old new opened (Ok it) stood w m = record {
     has = w.has;
-    kept = λ clean. subst (λ (o : Opened D g). IsLedgerFound o.next part old new) (sym m.0) (w.kept clean);
-    placed = λ clean. subst (λ (o : Opened D g). IsPlacedBy part new.committed.trees o.shelf) (sym m.0) (w.placed clean);
-    own = λ clean. subst (λ (o : Opened D g). HasOwnOn new.committed.trees o.shelf) (sym m.0) (w.own clean);
+    kept = λ clean. subst (λ (o : OpenedLedger D g). IsLedgerFound o.next part old new) (sym m.0) (w.kept clean);
+    placed = λ clean. subst (λ (o : OpenedLedger D g). IsPlacedBy part new.committed.trees o.shelf) (sym m.0) (w.placed clean);
+    own = λ clean. subst (λ (o : OpenedLedger D g). HasOwnOn new.committed.trees o.shelf) (sym m.0) (w.own clean);
     why = λ is clean. tt;
     looks = w.looks;
   }
@@ -232,13 +232,13 @@ module _ {D : Type 0} {g : Ghosts D} where
       → IsWholeOpened {D = D} {g = g} Stood part (Err fault) old new
   whole_refused Stood part old new fault w = record { has = tt; kept = λ clean. tt; placed = λ clean. tt; own = λ clean. tt; why = λ is. w.why tt; looks = w.looks }
 
-  pub is_made : (made : Bool) (keeping : Keeping) (opened : Opened D g) (r : Result (Opened D g) OpeningFault) → made ≡ true
+  pub is_made : (made : Bool) (keeping : Keeping) (opened : OpenedLedger D g) (r : Result (OpenedLedger D g) OpeningFault) → made ≡ true
       → MatchResult r (λ it. (it ≡ opened) × (made ≡ true → (it.next ≡ 1) × (named_on it.shelf ≡ names_in keeping))) (λ fault. (fault ≡ opening.OtherSite) × (made ≡ true))
       → IfOk r (λ it. (it.next ≡ 1) × (named_on it.shelf ≡ names_in keeping))
   is_made made keeping opened (Ok it) was m = m.1 was
   is_made made keeping opened (Err fault) was m = tt
 
-  pub made_why : (made : Bool) (keeping : Keeping) (opened : Opened D g) (r : Result (Opened D g) OpeningFault)
+  pub made_why : (made : Bool) (keeping : Keeping) (opened : OpenedLedger D g) (r : Result (OpenedLedger D g) OpeningFault)
       → MatchResult r (λ it. (it ≡ opened) × (made ≡ true → (it.next ≡ 1) × (named_on it.shelf ≡ names_in keeping))) (λ fault. (fault ≡ opening.OtherSite) × (made ≡ true))
       → IfErr r (λ fault. fault ≢ opening.DataIsThere)
   made_why made keeping opened (Ok it) m = tt
@@ -250,34 +250,34 @@ module _ {D : Type 0} {g : Ghosts D} where
   -- ---- an opening as a whole: first what was made or brought over, and then what was found
 
   module _ (made : Bool) (part : Part) (old mid new : State) where
-    pub kept_of : (r : Result (Opened D g) OpeningFault) → IsWholeOpened (made ≡ false) part r mid new
+    pub kept_of : (r : Result (OpenedLedger D g) OpeningFault) → IsWholeOpened (made ≡ false) part r mid new
         → IfOk r (λ it. HasCleanDisk new → IsKept it.next part new × IsOwnedBy part new.committed.trees)
     kept_of (Ok it) w = λ clean. let is = w.kept clean in (is.kept, is.owned)
     kept_of (Err fault) w = tt
 
-    pub next_of : (r : Result (Opened D g) OpeningFault) → IsWholeOpened (made ≡ false) part r mid new
+    pub next_of : (r : Result (OpenedLedger D g) OpeningFault) → IsWholeOpened (made ≡ false) part r mid new
         → IfOk r (λ it. HasCleanDisk new → IsNext it.next new.committed.trees)
     next_of (Ok it) w = λ clean. (w.kept clean).next
     next_of (Err fault) w = tt
 
-    pub is_of : (r : Result (Opened D g) OpeningFault) → IsWholeOpened (made ≡ false) part r mid new
+    pub is_of : (r : Result (OpenedLedger D g) OpeningFault) → IsWholeOpened (made ≡ false) part r mid new
         → IfOk r (λ it. HasCleanDisk new → HasLedgerOf it.next part new.committed)
     is_of (Ok it) w = λ clean. (w.kept clean).ledger
     is_of (Err fault) w = tt
 
-    pub placed_of : (r : Result (Opened D g) OpeningFault) → IsWholeOpened (made ≡ false) part r mid new
+    pub placed_of : (r : Result (OpenedLedger D g) OpeningFault) → IsWholeOpened (made ≡ false) part r mid new
         → IfOk r (λ it. HasCleanDisk new → IsPlacedBy part new.committed.trees it.shelf)
     placed_of (Ok it) w = w.placed
     placed_of (Err fault) w = tt
 
-    pub own_of : (r : Result (Opened D g) OpeningFault) → IsWholeOpened (made ≡ false) part r mid new
+    pub own_of : (r : Result (OpenedLedger D g) OpeningFault) → IsWholeOpened (made ≡ false) part r mid new
         → IfOk r (λ it. HasCleanDisk new → HasOwnOn new.committed.trees it.shelf)
     own_of (Ok it) w = w.own
     own_of (Err fault) w = tt
 
     pub found_of : (made ≡ true → IsBlank old.now.schema)
         → (made ≡ false → (IsBlank old.now.schema → ⊥) × ((IsOlder old.now.schema → ⊥) → StaysAsFound old mid))
-        → (r : Result (Opened D g) OpeningFault) → IsWholeOpened (made ≡ false) part r mid new
+        → (r : Result (OpenedLedger D g) OpeningFault) → IsWholeOpened (made ≡ false) part r mid new
         → IfOk r (λ it. HasCleanDisk new → (IsBlank old.now.schema → ⊥) → (IsOlder old.now.schema → ⊥) → StaysAsFound old new)
     found_of blank stays (Ok it) w = λ clean not_blank not_older. elim (cases_Bool made) [
       | inl was ↦ absurd (not_blank (blank was))
@@ -288,7 +288,7 @@ module _ {D : Type 0} {g : Ghosts D} where
     pub older_of : (made ≡ true → IsBlank old.now.schema)
         → (HasCleanDisk mid → LeavesOldOrCommitted old mid)
         → (HasCleanDisk mid → IsOlder old.now.schema → mid.now.schema ≡ tables → mid.committed.schema ≡ tables → KeepsRows old.now mid.committed)
-        → (r : Result (Opened D g) OpeningFault) → IsWholeOpened (made ≡ false) part r mid new
+        → (r : Result (OpenedLedger D g) OpeningFault) → IsWholeOpened (made ≡ false) part r mid new
         → IfOk r (λ it. HasCleanDisk new → IsOlder old.now.schema → IsBroughtOver old new)
     older_of blank leaves keeps (Ok it) w = λ clean older.
         let early : HasCleanDisk mid = omega (arith, w.looks.clean, clean) in
@@ -297,7 +297,7 @@ module _ {D : Type 0} {g : Ghosts D} where
 
     pub made_of : (made ≡ false → (IsBlank old.now.schema → ⊥) × ((IsOlder old.now.schema → ⊥) → StaysAsFound old mid))
         → (HasCleanDisk mid → LeavesOldOrCommitted old mid)
-        → (keeping : Keeping) (r : Result (Opened D g) OpeningFault) → IsWholeOpened (made ≡ false) part r mid new
+        → (keeping : Keeping) (r : Result (OpenedLedger D g) OpeningFault) → IsWholeOpened (made ≡ false) part r mid new
         → (made ≡ true → IfOk r (λ it. (it.next ≡ 1) × (named_on it.shelf ≡ names_in keeping)))
         → IfOk r (λ it. HasCleanDisk new → IsBlank old.now.schema → HasNewLedger old new)
     made_of stays leaves keeping (Ok it) w m = λ clean blank. elim (cases_Bool made) [
@@ -310,7 +310,7 @@ module _ {D : Type 0} {g : Ghosts D} where
     made_of stays leaves keeping (Err fault) w m = tt
 
     pub wanted_of : (made ≡ false → (IsBlank old.now.schema → ⊥) × ((IsOlder old.now.schema → ⊥) → StaysAsFound old mid))
-        → (keeping : Keeping) (r : Result (Opened D g) OpeningFault)
+        → (keeping : Keeping) (r : Result (OpenedLedger D g) OpeningFault)
         → (made ≡ true → IfOk r (λ it. (it.next ≡ 1) × (named_on it.shelf ≡ names_in keeping)))
         → IfOk r (λ it. IsBlank old.now.schema → named_on it.shelf ≡ names_in keeping)
     wanted_of stays keeping (Ok it) m = λ blank. elim (cases_Bool made) [
@@ -320,7 +320,7 @@ module _ {D : Type 0} {g : Ghosts D} where
     wanted_of stays keeping (Err fault) m = tt
 
     pub refused_of : (old.now.schema ≡ tables → (made ≡ false) × (mid ≡ old))
-        → (r : Result (Opened D g) OpeningFault) → IsWholeOpened (made ≡ false) part r mid new
+        → (r : Result (OpenedLedger D g) OpeningFault) → IsWholeOpened (made ≡ false) part r mid new
         → IfErr r (λ fault. HasCleanDisk new → IsWhy r part old.now fault)
     refused_of ours (Ok it) w = tt
     refused_of ours (Err fault) w = λ clean. (

@@ -27,8 +27,8 @@ use Rattle.dr_store_lists.specs.declared.listing.JournalRow.{JournalRow}
 use Rattle.dr_store_audit.specs.Found.{HoldTogether}
 use Rattle.dr_store_audit.specs.Journal.{CountUp}
 use Rattle.dr_store_schema.specs.Tables.{tables}
-use Rattle.dr_store_open.specs.declared.data.Place.{Place}
-use Rattle.dr_store_open.specs.declared.data.Place.TheVariants as put
+use Rattle.dr_store_open.specs.declared.data.DataPlace.{DataPlace}
+use Rattle.dr_store_open.specs.declared.data.DataPlace.TheVariants as put
 use Rattle.dr_store_open.specs.declared.finding.FoundTables.{FoundTables}
 use Rattle.dr_store_open.specs.Places.{IsPlaceIn, IsPlaceOf}
 use Rattle.dr_store_open.specs.Renewing.{KeepsRows}
@@ -85,7 +85,7 @@ not_agreed part db notes next journal after apart n is =
     apart (subst (λ k. HoldTogether k part db notes) same
     (subst (HoldTogether n part db) (sym journal.notes) is.hold))
 
-pub whole_if : (part : Part) (place : Place) (db : Trees) (found : Option FoundTables)
+pub whole_if : (part : Part) (place : DataPlace) (db : Trees) (found : Option FoundTables)
     → IsAgreedIf part place db found → IsPlaceOf part db place → IsWholeIf part db found
 whole_if part place db None agrees says = λ n is mine. agrees n is
 whole_if part place db (Some found) agrees says = agrees says
@@ -93,7 +93,7 @@ whole_if part place db (Some found) agrees says = agrees says
 -- ---- where the data sets are
 
 -- what the owner's row says of the place
-pub placed : (part : Part) (db : Trees) (mark cell : List ℕ) (place : Option Place)
+pub placed : (part : Part) (db : Trees) (mark cell : List ℕ) (place : Option DataPlace)
     → IsPlanWith mark part.digest cell → IsSiteOf part.name cell db
     → MatchOption place (IsMark mark → ⊥) (IsPlaceIn mark)
     → MatchOption place (IsOwnedBy part db → ⊥) (IsPlaceOf part db)
@@ -101,7 +101,7 @@ placed part db mark cell None with site none = λ owned. none with.marked
 placed part db mark cell (Some put.InRows) with site is = (cell, subst (λ m. IsPlanWith m part.digest cell) is with, site)
 placed part db mark cell (Some (put.InFile said)) with site is = (mark, (cell, with, site), is)
 
-pub owned_at : (part : Part) (db : Trees) (place : Place) → IsPlaceOf part db place → IsOwnedBy part db
+pub owned_at : (part : Part) (db : Trees) (place : DataPlace) → IsPlaceOf part db place → IsOwnedBy part db
 owned_at part db put.InRows is = ([], is)
 owned_at part db (put.InFile said) is = (is.0, is.1)
 

@@ -30,8 +30,8 @@ use Rattle.dr_store_calls.specs.Calling.{IsKept}
 use Rattle.dr_store.specs.Owning.{HaveOwn}
 use Rattle.dr_store_audit.specs.Found.{HoldTogether}
 use Rattle.dr_store_audit.specs.Older.{IsOlder}
-use Rattle.dr_store_open.specs.declared.data.Opened.{Opened}
-use Rattle.dr_store_open.specs.declared.data.Place.{Place}
+use Rattle.dr_store_open.specs.declared.data.OpenedLedger.{OpenedLedger}
+use Rattle.dr_store_open.specs.declared.data.DataPlace.{DataPlace}
 use Rattle.dr_store_open.specs.declared.fault.OpeningFault.{OpeningFault}
 use Rattle.dr_store_open.specs.declared.fault.OpeningFault.TheVariants as opening
 use Rattle.dr_store_open.specs.declared.finding.FoundTables.{FoundTables}
@@ -71,7 +71,7 @@ pub record AreOf (part : Part) (db : Trees) (found : FoundTables) : Type 0 where
   pub prints : found.prints.items ≡ map.entries (whole_prints_of db)
 
 -- it is found in tables whose owner's row says that place, or they are no ledger's of that site
-abbrev pub IsAgreedIf : Part → Place → Trees → Option FoundTables → Type 0
+abbrev pub IsAgreedIf : Part → DataPlace → Trees → Option FoundTables → Type 0
 IsAgreedIf part place db None = (n : ℕ) → IsAgreed n part db → ⊥
 IsAgreedIf part place db (Some found) = IsPlaceOf part db place → AreOf part db found
 
@@ -163,31 +163,35 @@ pub record StaysReady {A E : Type 0} (n : ℕ) (result : Result A E) (old new : 
 -- ---- a ledger with its shelf
 
 module _ {D : Type 0} {g : Ghosts D} where
-  -- A shelf was opened where the tables say, and looked at, and not each cell stood for the data set
-  -- of its item.
-  abbrev pub HasOther : {E : Type 0} → Result (Opened D g) E → Part → Trees → Type 0
+  -- A shelf was opened where the tables say, and looked at, and not each cell stood for the data
+  -- set of its item.
+  abbrev pub HasOther : {E : Type 0} → Result (OpenedLedger D g) E → Part → Trees → Type 0
   HasOther result part db =
       (shelf : LedgerShelf D g) × IsOpenedBy part db shelf × IsOtherOn db shelf
 
   -- Why a ledger isn't opened whose tables were found: its data sets aren't the items'; or it is a
   -- fault of the file of its data sets, which no ledger has that has them in its rows.
-  abbrev pub IsWhyNot : {E : Type 0} → Result (Opened D g) E → Part → Trees → OpeningFault → Type 0
+  abbrev pub IsWhyNot : {E : Type 0}
+      → Result (OpenedLedger D g) E
+      → Part → Trees → OpeningFault → Type 0
   IsWhyNot result part db fault =
       (fault ≡ opening.OtherSite → HasOther result part db)
       × (IsOfData fault → IsOwnedWith [] part db → ⊥)
 
   -- Why none is opened: the file has no ledger of this site, or it is as above.
-  abbrev pub IsWhy : {E : Type 0} → Result (Opened D g) E → Part → Database → OpeningFault → Type 0
+  abbrev pub IsWhy : {E : Type 0}
+      → Result (OpenedLedger D g) E
+      → Part → Database → OpeningFault → Type 0
   IsWhy result part was fault =
       (fault ≡ opening.OtherSite
       → (n : ℕ) → HasLedgerOf n part was → HasOther result part was.trees)
       × (IsOfData fault → was.schema ≡ tables → IsOwnedWith [] part was.trees → ⊥)
 
   -- What opens a ledger whose tables are there does. Where it answers, the ledger is found with its
-  -- shelf. Whatever it answers, it only looks at the tables. `Stood` says that they weren't made just
-  -- now.
+  -- shelf. Whatever it answers, it only looks at the tables. `Stood` says that they weren't made
+  -- just now.
   pub record IsWholeOpened (Stood : Type 0) (part : Part)
-      (result : Result (Opened D g) OpeningFault) (old new : State) : Type 0 where
+      (result : Result (OpenedLedger D g) OpeningFault) (old new : State) : Type 0 where
     pub has : IfOk result (λ it. old.now.schema ≡ tables)
     pub kept : HasCleanDisk new → IfOk result (λ it. IsLedgerFound it.next part old new)
     pub placed : HasCleanDisk new
@@ -267,7 +271,7 @@ NewLedgersAreLedgers =
 -- a ledger has its data sets in its rows, or in one file, under one key and with one mark
 abbrev pub PlacesAreOne : Type 0
 PlacesAreOne =
-    (part other : Part) (db : Trees) (place beside : Place)
+    (part other : Part) (db : Trees) (place beside : DataPlace)
     → IsPlaceOf part db place
     → IsPlaceOf other db beside
     → place ≡ beside

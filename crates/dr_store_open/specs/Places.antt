@@ -18,12 +18,12 @@ use Rattle.dr_store_calls.specs.Adoptions.{IsOwnedWith}
 use Rattle.dr_store.specs.Owning.{HaveOwn}
 use Rattle.dr_store_open.specs.declared.data.Keeping.{Keeping}
 use Rattle.dr_store_open.specs.declared.data.Keeping.TheVariants as keeping
-use Rattle.dr_store_open.specs.declared.data.Place.{Place}
-use Rattle.dr_store_open.specs.declared.data.Place.TheVariants.{InRows, InFile}
+use Rattle.dr_store_open.specs.declared.data.DataPlace.{DataPlace}
+use Rattle.dr_store_open.specs.declared.data.DataPlace.TheVariants.{InRows, InFile}
 use Rattle.dr_store_open.specs.DataSets.{IsOwn}
 
 -- the site's tables have no mark, or they have one, which says this key and the mark of the file
-abbrev pub IsPlaceOf : Part → Trees → Place → Type 0
+abbrev pub IsPlaceOf : Part → Trees → DataPlace → Type 0
 IsPlaceOf part db InRows = IsOwnedWith [] part db
 IsPlaceOf part db (InFile said) =
     (mark : List ℕ) × IsOwnedWith mark part db × IsMarkOf mark said
@@ -34,18 +34,18 @@ names_in keeping.InRows = false
 names_in keeping.InFile = true
 
 -- whether the cells of a ledger whose data sets are there name places
-abbrev pub names_at : Place → Bool
+abbrev pub names_at : DataPlace → Bool
 names_at InRows = false
 names_at (InFile said) = true
 
 -- the bytes of a mark, which is nothing where the data sets are in rows, say this place
-abbrev pub IsPlaceIn : List ℕ → Place → Type 0
+abbrev pub IsPlaceIn : List ℕ → DataPlace → Type 0
 IsPlaceIn mark InRows = mark ≡ []
 IsPlaceIn mark (InFile said) = IsMarkOf mark said
 
 module _ {D : Type 0} {g : Ghosts D} where
   -- the shelf is in that place
-  abbrev pub IsAt : Place → LedgerShelf D g → Type 0
+  abbrev pub IsAt : DataPlace → LedgerShelf D g → Type 0
   IsAt InRows (Rows it) = Unit {0}
   IsAt InRows (File it) = ⊥
   IsAt (InFile said) (Rows it) = ⊥
@@ -58,12 +58,12 @@ module _ {D : Type 0} {g : Ghosts D} where
 
   -- the shelf was opened where the tables say, in a file under their key
   abbrev pub IsOpenedBy : Part → Trees → LedgerShelf D g → Type 0
-  IsOpenedBy part db shelf = (place : Place) × IsPlaceOf part db place × IsAt place shelf
+  IsOpenedBy part db shelf = (place : DataPlace) × IsPlaceOf part db place × IsAt place shelf
 
   -- the cells of the shelf name places just where the tables have a mark
   abbrev pub IsPlacedBy : Part → Trees → LedgerShelf D g → Type 0
   IsPlacedBy part db shelf =
-      (place : Place) × IsPlaceOf part db place × (named_on shelf ≡ names_at place)
+      (place : DataPlace) × IsPlaceOf part db place × (named_on shelf ≡ names_at place)
 
   -- its cells are those of the tables, and stand for the data sets of their book, unless a wrong
   -- answer of the file was taken as true

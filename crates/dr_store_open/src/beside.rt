@@ -1,5 +1,5 @@
 //! The file of a new ledger's data sets.
-ghost use Rattle.std.specs.Prelude.{◌≡◌, IfErr, IfOk, IfSome, None, Some, []};
+ghost use Rattle.std.specs.Prelude.{◌≡◌, IfErr, IfOk, MatchOption, None, Some, []};
 ghost use Rattle.dr_store_data.specs.declared.mark.DataMark.{DataMark as AMark};
 ghost use Rattle.dr_store_data.specs.Heads.{bytes_of_mark};
 ghost use Rattle.dr_store_open.specs.declared.data.Keeping.TheVariants as wanted;
@@ -30,7 +30,7 @@ fn begun<D: Disk + Drop>(
     alloc: Global,
     mark: &DataMark,
 ) -> Result<(Option<D>, Vec<u8>), OpeningFault>
-    ensures head { IfOk result (λ made. IfSome made.0 (IsBegun mark.now)) }
+    ensures head { IfOk result (λ made. MatchOption made.0 ⊥ (IsBegun mark.now)) }
     ensures bytes { IfOk result (λ made. made.1.items ≡ bytes_of_mark mark.now) }
 {
     let mut disk = disk;
@@ -48,7 +48,7 @@ fn drawn<F: DataFile>(
 ) -> Result<(Option<F::Disk>, Vec<u8>), OpeningFault>
     ensures { IfOk result (λ made. (said : AMark)
         × (made.1.items ≡ bytes_of_mark said)
-        × IfSome made.0 (IsBegun said)) }
+        × MatchOption made.0 ⊥ (IsBegun said)) }
 {
     match data.draw(alloc) {
         Ok(mark) => begun(disk, alloc, &mark),
@@ -63,7 +63,7 @@ fn new_file<F: DataFile>(
 ) -> Result<(Option<F::Disk>, Vec<u8>), OpeningFault>
     ensures { IfOk result (λ made. (said : AMark)
         × (made.1.items ≡ bytes_of_mark said)
-        × IfSome made.0 (IsBegun said)) }
+        × MatchOption made.0 ⊥ (IsBegun said)) }
 {
     match data.make(alloc) {
         Ok(disk) => drawn(alloc, data, disk),
@@ -82,9 +82,10 @@ pub fn new_data<F: DataFile>(
 ) -> Result<(Option<F::Disk>, Vec<u8>), OpeningFault>
     ensures rows { keeping ≡ wanted.InRows
         → IfOk result (λ made. (made.0 ≡ None) × (made.1.items ≡ [])) }
-    ensures file { IfOk result (λ made. IfSome made.0 (λ disk. (said : AMark)
+    ensures file { keeping ≡ wanted.InFile
+        → IfOk result (λ made. (said : AMark)
         × (made.1.items ≡ bytes_of_mark said)
-        × IsBegun said disk)) }
+        × MatchOption made.0 ⊥ (IsBegun said)) }
     ensures why { IfErr result (λ fault. keeping ≡ wanted.InFile) }
 {
     match keeping {

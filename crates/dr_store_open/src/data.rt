@@ -18,14 +18,14 @@ pub enum Keeping {
 /// Where the tables of a ledger say that its data sets are: in its rows, or in the file with this
 /// mark.
 #[derive(Clone, Copy, PartialEq, Eq, Debug, Drop)]
-pub enum Place {
+pub enum DataPlace {
     InRows,
     InFile(DataMark),
 }
 
 /// A ledger's shelf, and the number of its next line.
 #[derive(Drop)]
-pub struct Opened<D: Disk> {
+pub struct OpenedLedger<D: Disk> {
     pub shelf: LedgerShelf<D>,
     pub next: u64,
 }

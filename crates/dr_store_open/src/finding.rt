@@ -12,7 +12,7 @@ ghost use Rattle.dr_store_open.specs.Listed.{AreWholeListsOf};
 ghost use Rattle.dr_store_open.specs.Opening.{IsAgreedIf, IsWholeIf, Seen};
 ghost use Rattle.dr_store_open.specs.Places.{IsPlaceIn, IsPlaceOf};
 
-use crate::data::Place;
+use crate::data::DataPlace;
 use crate::listed::{Journal, Stock, WholeLists, list_all};
 use dr_base::Text;
 use dr_ledger::LedgerFault;
@@ -29,19 +29,19 @@ use std::alloc::Global;
 #[derive(Drop)]
 pub struct FoundTables {
     pub next: u64,
-    pub place: Place,
+    pub place: DataPlace,
     pub prints: Vec<(Text, Print)>,
 }
 
 /// The place that these bytes say, which are a mark or nothing.
-fn place_in(mark: &[u8]) -> Option<Place>
+fn place_in(mark: &[u8]) -> Option<DataPlace>
     ensures { MatchOption result (IsMark mark.now → ⊥) (IsPlaceIn mark.now) }
 {
     if mark.is_empty() {
-        return Some(Place::InRows);
+        return Some(DataPlace::InRows);
     }
     match mark_in(mark) {
-        Some(said) => Some(Place::InFile(said)),
+        Some(said) => Some(DataPlace::InFile(said)),
         None => None,
     }
 }
@@ -54,7 +54,7 @@ fn is_node(owner: &Owner, site: &Site) -> bool
 }
 
 /// Where the data sets are, if the node and the plan are the site's.
-fn place_of(owner: &Owner, site: &Site) -> Option<Place>
+fn place_of(owner: &Owner, site: &Site) -> Option<DataPlace>
     ensures { (db : Trees) → IsSiteOf owner.now.node owner.now.plan db
         → MatchOption result (IsOwnedBy site.now db → ⊥) (IsPlaceOf site.now db) }
 {
@@ -113,7 +113,7 @@ fn agree_all(alloc: Global, site: &Site, lists: &WholeLists, next: u64) -> Resul
 fn compare(
     alloc: Global,
     site: &Site,
-    place: Place,
+    place: DataPlace,
     lists: WholeLists,
 ) -> Result<Option<FoundTables>, LedgerFault>
     ensures { (db : Trees) → AreWholeListsOf db lists
@@ -136,7 +136,7 @@ fn find_lists<'x, S: Alter>(
     conn: &mut Connection<S>,
     alloc: Global,
     site: &'x Site,
-    place: Place,
+    place: DataPlace,
 ) -> Result<Option<FoundTables>, LedgerFault>
     ensures asked { Asked IsLedger result (state S.Store conn.old) (state S.Store conn.new)
         (IsAgreedIf site.now place (state S.Store conn.old).now.trees) }

@@ -9,7 +9,7 @@ ghost use Rattle.dr_store_open.specs.declared.fault.OpeningFault.TheVariants as 
 ghost use Rattle.dr_store_open.specs.Opening.{HasLedgerOf, IsBlank};
 ghost use Rattle.dr_store_open.specs.Places.{HasOwnOn, IsPlacedBy, names_in};
 
-use crate::data::{Keeping, Opened};
+use crate::data::{Keeping, OpenedLedger};
 use crate::fault::OpeningFault;
 use crate::opening::on;
 use dr_site::Site;
@@ -24,7 +24,7 @@ use std::alloc::Global;
 pub fn ledger_of<S: Alter, D: Disk>(
     alloc: Global,
     conn: Connection<S>,
-    opened: Opened<D>,
+    opened: OpenedLedger<D>,
     site: Site,
     moment: Option<u64>,
 ) -> SqlLedger<S, LedgerShelf<D>>
@@ -37,7 +37,7 @@ pub fn ledger_of<S: Alter, D: Disk>(
     ensures conn { result.conn ≡ conn }
     ensures shelf { result.shelf ≡ opened.shelf }
 {
-    let Opened { shelf, next } = opened;
+    let OpenedLedger { shelf, next } = opened;
     SqlLedger::of(alloc, conn, shelf, site, next, moment)
 }
 

@@ -23,7 +23,7 @@ mod sheets;
 mod shelving;
 mod testing;
 
-pub use data::{Keeping, Opened, Place};
+pub use data::{DataPlace, Keeping, OpenedLedger};
 pub use dr_store_data::{DataFile, DataFileFault, DataMark};
 pub use fault::OpeningFault;
 pub use ledger::{ledger_of, ledger_on};

@@ -26,7 +26,7 @@ ghost use Rattle.dr_store_open.specs.Places.{HasOwnOn, IsOtherOn, IsPlacedBy, na
 
 use crate::beside::new_data;
 use crate::bodies::test_all;
-use crate::data::{Keeping, Opened, is_wanted};
+use crate::data::{Keeping, OpenedLedger, is_wanted};
 use crate::fault::{OpeningFault, of_tables, opening_fault};
 use crate::finding::{FoundTables, find_owned};
 use crate::making::make;
@@ -103,7 +103,7 @@ fn open_on<S: Alter, D: Disk>(
     shelf: LedgerShelf<D>,
     site: &Site,
     found: FoundTables,
-) -> Result<Opened<D>, OpeningFault>
+) -> Result<OpenedLedger<D>, OpeningFault>
     requires ready { HasCleanDisk (state S.Store conn.old)
         → IsReady found.next (state S.Store conn.old) }
     requires are { HasCleanDisk (state S.Store conn.old)
@@ -124,7 +124,7 @@ fn open_on<S: Alter, D: Disk>(
 {
     let mut shelf = shelf;
     match test_all(conn, &mut shelf, alloc, &found) {
-        Ok(()) => Ok(Opened {
+        Ok(()) => Ok(OpenedLedger {
             shelf,
             next: found.next,
         }),
@@ -141,7 +141,7 @@ fn open_found<S: Alter, F: DataFile>(
     made: Option<F::Disk>,
     site: &Site,
     found: FoundTables,
-) -> Result<Opened<F::Disk>, OpeningFault>
+) -> Result<OpenedLedger<F::Disk>, OpeningFault>
     requires ready { HasCleanDisk (state S.Store conn.old)
         → IsReady found.next (state S.Store conn.old) }
     requires are { HasCleanDisk (state S.Store conn.old)
@@ -174,7 +174,7 @@ pub fn find_ledger<S: Alter, F: DataFile>(
     data: &F,
     made: Option<F::Disk>,
     site: &Site,
-) -> Result<Opened<F::Disk>, OpeningFault>
+) -> Result<OpenedLedger<F::Disk>, OpeningFault>
     requires { conn.old.in_transaction ≡ false }
     ensures whole { IsWholeOpened (Unit {0}) site.now result (state S.Store conn.old)
         (state S.Store conn.new) }
@@ -319,8 +319,8 @@ fn prepare<S: Alter, F: DataFile>(
 fn as_made<D: Disk>(
     made: bool,
     keeping: Keeping,
-    opened: Opened<D>,
-) -> Result<Opened<D>, OpeningFault>
+    opened: OpenedLedger<D>,
+) -> Result<OpenedLedger<D>, OpeningFault>
     ensures { MatchResult result (λ it. (it ≡ opened)
         × (made ≡ true → (it.next ≡ 1) × (named_on it.shelf ≡ names_in keeping)))
         (λ fault. (fault ≡ opening.OtherSite) × (made ≡ true)) }
@@ -340,7 +340,7 @@ fn open_made<S: Alter, F: DataFile>(
     keeping: Keeping,
     site: &Site,
     made: (bool, Option<F::Disk>),
-) -> Result<Opened<F::Disk>, OpeningFault>
+) -> Result<OpenedLedger<F::Disk>, OpeningFault>
     requires { conn.old.in_transaction ≡ false }
     ensures whole { IsWholeOpened (made.0 ≡ false) site.now result (state S.Store conn.old)
         (state S.Store conn.new) }
@@ -373,7 +373,7 @@ pub fn open<S: Alter, F: DataFile>(
     data: &F,
     keeping: Keeping,
     site: &Site,
-) -> Result<Opened<F::Disk>, OpeningFault>
+) -> Result<OpenedLedger<F::Disk>, OpeningFault>
     requires { conn.old.in_transaction ≡ false }
     ensures kept { IfOk result (λ it. HasCleanDisk (state S.Store conn.new)
         → IsKept it.next site.now (state S.Store conn.new)
@@ -424,7 +424,7 @@ pub fn on<S: Alter + Drop, F: DataFile>(
     data: &F,
     keeping: Keeping,
     site: &Site,
-) -> Result<(Connection<S>, Opened<F::Disk>), OpeningFault>
+) -> Result<(Connection<S>, OpenedLedger<F::Disk>), OpeningFault>
     requires { conn.in_transaction ≡ false }
     ensures kept { IfOk result (λ it. HasCleanDisk (state S.Store it.0)
         → IsKept it.1.next site.now (state S.Store it.0)

@@ -6,7 +6,8 @@ ghost use Rattle.sqlite.specs.Held.{state};
 ghost use Rattle.sqlite.specs.State.{HasCleanDisk};
 ghost use Rattle.dr_ledger.specs.Replies.{Reads};
 ghost use Rattle.dr_store_bodies.specs.declared.extent.Extent.{Extent as AnExtent};
-ghost use Rattle.dr_store_shelf.specs.Either.{AreApartIf, UsesOn, named_on};
+ghost use Rattle.dr_store_shelf.specs.Either.{AreApartIf, IsCleanOn, UsesOn, named_on};
+ghost use Rattle.dr_store_data.specs.Heads.{HasHead};
 ghost use Rattle.dr_store_schema.specs.Books.{bodies_of};
 ghost use Rattle.dr_store_schema.specs.Ledgers.{IsLedger};
 ghost use Rattle.dr_store_changes.specs.Writing.{IsReady};
@@ -14,7 +15,7 @@ ghost use Rattle.dr_store_reads.specs.Queries.{Asked};
 ghost use Rattle.dr_store_lists.specs.Lists.{whole_prints_of};
 ghost use Rattle.dr_store_calls.specs.LettingGo.{AreEachApart};
 ghost use Rattle.dr_store.specs.Owning.{AreUsed};
-ghost use Rattle.dr_store_open.specs.declared.data.Place.TheVariants as place;
+ghost use Rattle.dr_store_open.specs.declared.data.DataPlace.TheVariants as place;
 ghost use Rattle.dr_store_open.specs.declared.fault.OpeningFault.TheVariants as opening;
 ghost use Rattle.dr_store_open.specs.DataSets.{AddsExtent, AreListed, AreListedIf, IsExtentAt};
 ghost use Rattle.dr_store_open.specs.DataSets.{NamesExtent};
@@ -23,7 +24,7 @@ ghost use Rattle.dr_store_open.specs.Faults.{IsOfOpening};
 ghost use Rattle.dr_store_open.specs.Opening.{Seen, StaysReady};
 ghost use Rattle.dr_store_open.specs.Places.{IsAt, IsFileWith};
 
-use crate::data::Place;
+use crate::data::DataPlace;
 use crate::fault::{OpeningFault, of_data, opening_fault};
 use crate::finding::FoundTables;
 use dr_base::Text;
@@ -32,6 +33,7 @@ use dr_store_data::{DataFile, DataMark, Extent, InRow, LedgerShelf, open_in};
 use dr_store_reads::{Print, find_job};
 use dr_store_shelf::extent_of;
 use sqlite::{Alter, Connection};
+use sqlite_disk::Disk;
 use std::alloc::Global;
 
 /// The extent that the cell of that uid names, if it names one.
@@ -141,7 +143,26 @@ fn disk_of<F: DataFile>(
     }
 }
 
-/// The shelf over the file with this mark, in which these extents are in use.
+/// The shelf over this file, which has this mark, and in which these extents are in use.
+fn shelf_over<D: Disk + Drop>(
+    alloc: Global,
+    disk: D,
+    said: &DataMark,
+    list: Vec<Extent>,
+) -> Result<LedgerShelf<D>, OpeningFault>
+    ensures file { IfOk result (IsFileWith said.now list.items) }
+    ensures marked { IfOk result (λ shelf. IsCleanOn shelf
+        → HasHead said.now.mark (D.Disk.seen disk)) }
+    ensures why { IfErr result IsOfOpening }
+{
+    match open_in(alloc, disk, said, list) {
+        Ok(Some(file)) => Ok(LedgerShelf::InFile(file)),
+        Ok(None) => Err(OpeningFault::NoData),
+        Err(fault) => Err(of_data(fault)),
+    }
+}
+
+/// The shelf over the ledger's file, which has this mark, and in which these extents are in use.
 fn file_shelf<F: DataFile>(
     alloc: Global,
     data: &F,
@@ -152,11 +173,9 @@ fn file_shelf<F: DataFile>(
     ensures file { IfOk result (IsFileWith said.now list.items) }
     ensures why { IfErr result IsOfOpening }
 {
-    let disk = disk_of(alloc, data, made)?;
-    match open_in(alloc, disk, said, list) {
-        Ok(Some(file)) => Ok(LedgerShelf::InFile(file)),
-        Ok(None) => Err(OpeningFault::NoData),
-        Err(fault) => Err(of_data(fault)),
+    match disk_of(alloc, data, made) {
+        Ok(disk) => shelf_over(alloc, disk, said, list),
+        Err(fault) => Err(fault),
     }
 }
 
@@ -214,7 +233,7 @@ pub fn shelf_of<'x, S: Alter, F: DataFile>(
     ensures rows { found.now.place ≡ place.InRows → IfErr result (λ fault. ⊥) }
 {
     match &found.place {
-        Place::InRows => Ok(LedgerShelf::InRow(InRow)),
-        Place::InFile(said) => shelf_in_file(conn, alloc, data, made, said, found),
+        DataPlace::InRows => Ok(LedgerShelf::InRow(InRow)),
+        DataPlace::InFile(said) => shelf_in_file(conn, alloc, data, made, said, found),
     }
 }
