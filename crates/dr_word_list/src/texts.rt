@@ -27,7 +27,8 @@ pub struct Registry<'s, F, O> {
 impl<F: Files, O: Ledgers> Registry<'_, F, O> {
     /// Makes the ledger of a node, as `making` says.
     ///
-    /// Errors: those of `open_node`, with NotOpened and IsThere where there is one.
+    /// Errors: those of `open_node`, with NotOpened and IsThere where there is one, and DataIsThere
+    /// where there is a file of data sets in the place of its own.
     pub(crate) fn make<'a>(
         self,
         alloc: Global,
