@@ -1,5 +1,5 @@
 //! The system's files as databases, and ledgers in databases.
-ghost use Rattle.std.specs.Prelude.{◌≡◌, IfOk, false};
+ghost use Rattle.std.specs.Prelude.{◌≡◌, ◌<◌, ◌↔◌, IfOk, IsTrue, false};
 ghost use Rattle.sqlite.specs.Held.{state};
 ghost use Rattle.dr_word_rehearse.specs.Looks.{IsFoundBy};
 ghost use Rattle.dr_router.specs.Opening.{HasLedgerIn, fault_of_database, fault_of_opening};
@@ -15,7 +15,8 @@ use dr_run_token::{SystemTokens, Tokens};
 use dr_site::Site;
 use dr_store::SqlLedger;
 use dr_store_audit::{is_ours, lacking};
-use dr_store_open::{DataFile, DataFileFault, DataMark, Keeping, OpeningFault, ledger_on};
+use dr_store_data::{DataFile, DataFileFault, DataMark, HEAD_SIZE};
+use dr_store_open::{Keeping, OpeningFault, ledger_on};
 use dr_store_shelf::LedgerShelf;
 use dr_word_adopt::ShowsFiles;
 use dr_word_check::Disk;
@@ -64,8 +65,12 @@ pub trait Databases {
     fn now(&self) -> Option<u64>;
 }
 
-/// A file of data sets with more bytes than these has some behind its head.
-const HEAD: u64 = 4096;
+/// Whether a file of data sets that has so many bytes has some behind its head.
+fn is_beyond_head(length: u64) -> bool
+    ensures { IsTrue result ↔ (4096 < length) }
+{
+    length > HEAD_SIZE as u64
+}
 
 /// The system's files.
 #[derive(Drop)]
@@ -84,7 +89,7 @@ impl<'a> Databases for SystemFiles<'a> {
     fn has_data(&self, alloc: Global, path: &str) -> Result<bool, DataFileFault> {
         let path = data_name(alloc, path)?;
         match data_length(self.0, path.as_str())? {
-            Some(length) => Ok(length > HEAD),
+            Some(length) => Ok(is_beyond_head(length)),
             None => Ok(false),
         }
     }
@@ -100,7 +105,7 @@ impl<'a> Databases for SystemFiles<'a> {
     fn make_data(&self, alloc: Global, path: &str) -> Result<File, DataFileFault> {
         let path = data_path(self.0, alloc, path)?;
         match data_length(self.0, path.as_str())? {
-            Some(length) if length > HEAD => Err(DataFileFault::IsThere),
+            Some(length) if is_beyond_head(length) => Err(DataFileFault::IsThere),
             _ => file_of(self.0, path.as_str()),
         }
     }
