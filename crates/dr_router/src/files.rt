@@ -4,6 +4,9 @@ ghost use Rattle.sqlite.specs.Held.{state};
 ghost use Rattle.dr_word_rehearse.specs.Looks.{IsFoundBy};
 ghost use Rattle.dr_router.specs.Opening.{HasLedgerIn, fault_of_database, fault_of_opening};
 ghost use Rattle.dr_router.specs.Opening.{fault_of_data, keeping_of};
+ghost use Rattle.dr_store_open.specs.Opening.{IsBlank};
+ghost use Rattle.dr_store_open.specs.Places.{names_in};
+ghost use Rattle.dr_store_shelf.specs.Either.{named_on};
 
 use crate::beside::{DataBeside, data_length, data_name, data_path, draw, file_of};
 use dr_base::Text;
@@ -279,7 +282,9 @@ fn ledger_over<S: Alter + Drop, F: DataFile>(
 ) -> Result<SqlLedger<S, LedgerShelf<F::Disk>>, OpenFault>
     requires { conn.in_transaction ≡ false }
     ensures of { IfOk result (λ l. l.site ≡ site) }
-    ensures is { IfOk result (λ l. HasLedgerIn l.site (state S.Store l.conn)) }
+    ensures is { IfOk result (λ l. HasLedgerIn l.site (state S.Store l.conn) l.shelf) }
+    ensures wanted { IfOk result (λ l. IsBlank (state S.Store conn).now.schema
+        → named_on l.shelf ≡ names_in keeping) }
 {
     match ledger_on(alloc, conn, data, keeping, site, now) {
         Ok(ledger) => Ok(ledger),
@@ -300,7 +305,7 @@ impl<D: Databases + Drop> Ledgers for StoredLedgers<D> {
     type Ledger = SqlLedger<D::Store, LedgerShelf<D::Disk>>;
 
     ghost opens = { λ files path ledger.
-        HasLedgerIn ledger.site (state D.Store.Store ledger.conn) };
+        HasLedgerIn ledger.site (state D.Store.Store ledger.conn) ledger.shelf };
 
     fn open(
         &self,
@@ -344,8 +349,8 @@ fn found_over<S: Alter + Drop, F: DataFile>(
     now: Option<u64>,
 ) -> Result<LedgerFound<SqlLedger<S, LedgerShelf<F::Disk>>>, OpenFault>
     requires { conn.in_transaction ≡ false }
-    ensures { IfOk result (IsFoundBy (λ l. HasLedgerIn l.site (state S.Store l.conn)) (λ l. l.site)
-        site) }
+    ensures { IfOk result (IsFoundBy (λ l. HasLedgerIn l.site (state S.Store l.conn) l.shelf)
+        (λ l. l.site) site) }
 {
     if !is_ours(conn.schema()) {
         if lacking(conn.schema()).is_some() {
