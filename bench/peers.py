@@ -1,16 +1,20 @@
 #!/usr/bin/env python3
-"""Measures running nodes of the built program beside dcmtk's storescp, on loopback and this machine's disk, all in one
-run. Nodes are of both kinds: with their data sets in their tables, and in a file of their own (`new --data-file`).
+"""Measures running nodes of the built program beside dcmtk's storescp, and beside Orthanc where that is installed, on
+loopback and this machine's disk, all in one run. Nodes are of both kinds: with their data sets in their tables, and in a
+file of their own (`new --data-file`).
 
-    bench/peers.py            # some minutes, on a machine that does nothing else
-    bench/peers.py --tiny     # a few small files: whether it runs, not how fast
+    bench/peers.py              # some minutes, on a machine that does nothing else
+    bench/peers.py --data-file  # the same without what a data file has no part in
+    bench/peers.py --tiny       # a few small files: whether it runs, not how fast
 
 storescp never syncs a file that it writes (seen by strace, 3.6.7); a node acknowledges what is synced. So the disk's
 own syncs are measured too: a node can't acknowledge more instances a second than the disk syncs, association by
-association.
+association. Orthanc has its own settings but for names and folders, by which it syncs each file (`SyncStorageArea`).
 """
+import json
 import os
 import random
+import shutil
 import sqlite3
 import statistics
 import struct
@@ -32,8 +36,9 @@ TINY = (('1 kB', 1 << 10, 3), ('16 kB', 16 << 10, 3), ('1 MB', 1 << 20, 2))
 
 
 def image(size):
-    """An element of pixels of about that size, whose bytes differ."""
-    return element(0x7FE0, 0x10, b'OW', random.Random(size).randbytes(size))
+    """Elements of about that size: a patient, a study and a series, without which Orthanc takes nothing, and pixels whose bytes differ."""
+    ids = element(0x10, 0x20, b'LO', b'P1') + element(0x20, 0xD, b'UI', b'1.2.3.8') + element(0x20, 0xE, b'UI', b'1.2.3.9')
+    return ids + element(0x7FE0, 0x10, b'OW', random.Random(size).randbytes(size))
 
 
 def put_files(room, name, size, count):
@@ -68,6 +73,17 @@ def forking_storescp(room):
     return process
 
 
+def orthanc(room):
+    """Orthanc by its own settings, but for its name, its port and its folders."""
+    settings = {'Name': 'ARCH', 'StorageDirectory': 'stored', 'IndexDirectory': 'stored', 'HttpServerEnabled': False, 'DicomAet': 'ARCH',
+                'DicomPort': room.ports['ARCH'], 'DicomModalities': {'gate': ['GATE', '127.0.0.1', room.ports['GATE']]}}
+    room.put('orthanc.json', json.dumps(settings).encode())
+    with open(f'{room.folder}/orthanc.log', 'wb') as log:
+        process = room.start('Orthanc', 'orthanc.json', stdout=log, stderr=log)
+    room.wait_for('ARCH', process)
+    return process
+
+
 def row(what, *figures):
     print(f'{what:<58}' + ''.join(f'{figure:>16}' for figure in figures), flush=True)
 
@@ -91,19 +107,23 @@ def syncs(count):
 
 
 def receiving(sizes):
-    """The same files by dcmsend into a node of each kind that keeps them, and into storescp; the shorter of two runs each, in turn."""
-    row('receiving by dcmsend: files a second', 'node', 'with data file', 'storescp', 'node/storescp', 'file/storescp')
+    """The same files by dcmsend into a node of each kind that keeps them, into storescp, and into Orthanc where it is; the shorter of two runs each, in
+    turn. Behind each figure but storescp's is how many times storescp's it is."""
+    others = {'with data file': ours_with_data, **({'Orthanc': orthanc} if shutil.which('Orthanc') else {})}
+    receivers = {'node': ours, **others, 'storescp': storescp}
+    row('receiving by dcmsend: files a second', *receivers)
     for name, size, count in sizes:
         best = {}
         for _ in range(2):
-            for start in ours, ours_with_data, storescp:
+            for receiver, start in receivers.items():
                 with Room() as room:
                     put_files(room, 'files', size, count)
                     process = start(room)
                     spent = send(room, 'ARCH', 'files', 'GATE')
-                    best[start] = min(spent, best.get(start, spent))
+                    best[receiver] = min(spent, best.get(receiver, spent))
                     stop(process)
-        row(f'  {count} of {name}', *(rate(count, best[start]) for start in best), *(f'{best[storescp] / best[start]:.2f}' for start in (ours, ours_with_data)))
+        base = best['storescp']
+        row(f'  {count} of {name}', *(rate(count, spent) + ('' if receiver == 'storescp' else f'; {base / spent:.2f}') for receiver, spent in best.items()))
 
 
 def ours(room):
@@ -128,31 +148,40 @@ KINDS = (('', ()), (', with data files', ('GATE', 'ARCH')))
 
 
 def forwarding(sizes):
-    """What waits at GATE goes to ARCH over one association, between nodes of each kind. It is queued while ARCH takes connections and
+    """The shorter of two runs. What waits at GATE goes to ARCH over one association, between nodes of each kind. It is queued while ARCH takes connections and
     answers none, so that each row is due at once when GATE starts again."""
-    row('forwarding: files a second')
-    for name, size, count, kind, nodes in ((*one, *kind) for one in sizes for kind in KINDS):
-        with Room() as room:
-            with_data(room, *nodes)
-            put_files(room, 'files', size, count)
-            mute = room.start(sys.executable, '-c', 'import socket, sys, time\n'
-                              'listener = socket.create_server(("127.0.0.1", int(sys.argv[1])))\ntime.sleep(3600)', str(room.ports['ARCH']))
-            room.wait_for('ARCH', mute)
-            gate = room.serve('GATE', 0)
-            send(room, 'GATE', 'files', 'CT1')
-            stop(gate)
-            stop(mute)
-            arch = room.serve('ARCH', 0)
-            begun = time.monotonic()
-            gate = room.serve('GATE', 1)
-            with Requestor(room.ports['GATE'], 'CT1', 'GATE') as caller:
-                caller.release()
-            out, err = gate.communicate(timeout=LONG)
-            spent = time.monotonic() - begun
-            done = sum(line.endswith('\tdone') for line in out.decode().splitlines())
-            assert done == count, (done, count, err)
-            stop(arch)
-            row(f'  {count} of {name}{kind}', rate(count, spent), f'{count * size / spent / 1e6:.1f} MB/s')
+    row('forwarding: files a second', 'in tables', '', 'with data files', '')
+    for name, size, count in sizes:
+        best = {}
+        for kind, nodes in KINDS + KINDS:
+            spent = forwarded(size, count, nodes)
+            best[kind] = min(spent, best.get(kind, spent))
+        row(f'  {count} of {name}', *(figure for spent in best.values() for figure in (rate(count, spent), f'{count * size / spent / 1e6:.1f} MB/s')))
+
+
+def forwarded(size, count, nodes):
+    """How long GATE takes, from its start on, for so many files that wait there for ARCH. These nodes have data files."""
+    with Room() as room:
+        with_data(room, *nodes)
+        put_files(room, 'files', size, count)
+        mute = room.start(sys.executable, '-c', 'import socket, sys, time\n'
+                          'listener = socket.create_server(("127.0.0.1", int(sys.argv[1])))\ntime.sleep(3600)', str(room.ports['ARCH']))
+        room.wait_for('ARCH', mute)
+        gate = room.serve('GATE', 0)
+        send(room, 'GATE', 'files', 'CT1')
+        stop(gate)
+        stop(mute)
+        arch = room.serve('ARCH', 0)
+        begun = time.monotonic()
+        gate = room.serve('GATE', 1)
+        with Requestor(room.ports['GATE'], 'CT1', 'GATE') as caller:
+            caller.release()
+        out, err = gate.communicate(timeout=LONG)
+        spent = time.monotonic() - begun
+        done = sum(line.endswith('\tdone') for line in out.decode().splitlines())
+        assert done == count, (done, count, err)
+        stop(arch)
+        return spent
 
 
 def associations(count):
@@ -296,12 +325,13 @@ def starting(count, size, kind, nodes):
 def main():
     if not os.path.exists(PROGRAM):
         sys.exit(f'{PROGRAM} is not built')
-    tiny = sys.argv[1:] == ['--tiny']
+    tiny = '--tiny' in sys.argv[1:]
     sizes = TINY if tiny else SIZES
     syncs(20 if tiny else 500)
     receiving(sizes)
-    forwarding(sizes[:2])
-    associations(8 if tiny else 400)
+    forwarding(sizes)
+    if '--data-file' not in sys.argv[1:]:
+        associations(8 if tiny else 400)
     storing_at_once(64 if tiny else 3200)
     for (kind, nodes), start in zip(KINDS, (ours, ours_with_data)):
         memory(sizes[2][1], kind, start)

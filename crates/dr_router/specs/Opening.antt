@@ -4,6 +4,7 @@ use Rattle.sqlite.specs.State.{State, HasCleanDisk}
 use Rattle.sqlite.specs.declared.error.Error.{Error}
 use Rattle.sqlite.specs.declared.error.Error.TheVariants.{SqliteFailure}
 use Rattle.sqlite.specs.declared.error.ErrorCode.TheVariants.{DatabaseBusy, OutOfMemory}
+use Rattle.sqlite_disk.specs.declared.Disk.{Ghosts}
 use Rattle.dr_run_open.specs.declared.ledgers.Making.{Making}
 use Rattle.dr_run_open.specs.declared.ledgers.Making.TheVariants as making
 use Rattle.dr_run_open.specs.declared.ledgers.OpenFault.{OpenFault}
@@ -16,6 +17,8 @@ use Rattle.dr_store_data.specs.declared.fault.DataFileFault.TheVariants as besid
 use Rattle.dr_store_open.specs.declared.data.Keeping.{Keeping}
 use Rattle.dr_store_open.specs.declared.data.Keeping.TheVariants as keeping
 use Rattle.dr_store_open.specs.Opening.{HasLedgerOf}
+use Rattle.dr_store_open.specs.Places.{HasOwnOn, IsPlacedBy}
+use Rattle.dr_store_shelf.specs.declared.either.LedgerShelf.{LedgerShelf}
 
 -- where its database isn't opened
 abbrev pub fault_of_database : Error → OpenFault
@@ -48,6 +51,11 @@ keeping_of making.Never = keeping.InRows
 keeping_of making.Wanted = keeping.InRows
 keeping_of making.WantedWithData = keeping.InFile
 
--- while the disk has returned what was written, the file has a ledger of that site
-abbrev pub HasLedgerIn : Part → State → Type 0
-HasLedgerIn part s = HasCleanDisk s → (n : ℕ) × HasLedgerOf n part s.committed
+-- While the disk has returned what was written, the file has a ledger of that site. Its data sets
+-- are where its tables say, and each cell stands for that of its instance.
+abbrev pub HasLedgerIn : {D : Type 0} {g : Ghosts D} → Part → State → LedgerShelf D g → Type 0
+HasLedgerIn part s shelf =
+    HasCleanDisk s
+    → ((n : ℕ) × HasLedgerOf n part s.committed)
+    × IsPlacedBy part s.committed.trees shelf
+    × HasOwnOn s.committed.trees shelf

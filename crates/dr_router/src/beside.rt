@@ -1,6 +1,6 @@
 //! The file of a database's data sets, as an opening comes to it.
 use crate::files::Databases;
-use dr_store_open::{DataFile, DataFileFault, DataMark};
+use dr_store_data::{DataFile, DataFileFault, DataMark};
 use sqlite::{File, Files, Unknown};
 use sqlite_std_file::{OpenError, open};
 use std::alloc::{AllocError, Global};
@@ -51,6 +51,8 @@ fn path_of(alloc: Global, database: &str) -> Result<String, AllocError> {
 }
 
 /// Its path beside a database of that path.
+///
+/// Errors: Memory.
 pub fn data_name(alloc: Global, database: &str) -> Result<String, DataFileFault> {
     match path_of(alloc, database) {
         Ok(path) => Ok(path),
@@ -59,6 +61,8 @@ pub fn data_name(alloc: Global, database: &str) -> Result<String, DataFileFault>
 }
 
 /// Its path beside a database that is there: where links lead to that.
+///
+/// Errors: Store, Memory.
 pub fn data_path(rt: &HostRuntime, alloc: Global, database: &str) -> Result<String, DataFileFault> {
     let real = match fs::canonicalize(rt, database) {
         Ok(real) => real,
@@ -68,9 +72,12 @@ pub fn data_path(rt: &HostRuntime, alloc: Global, database: &str) -> Result<Stri
 }
 
 /// How many bytes it has, if it is there.
+///
+/// Errors: Store, also where what is there is no plain file; Memory.
 pub fn data_length(rt: &HostRuntime, path: &str) -> Result<Option<u64>, DataFileFault> {
     match fs::metadata(rt, path) {
-        Ok(found) => Ok(Some(found.len())),
+        Ok(found) if found.is_file() => Ok(Some(found.len())),
+        Ok(_) => Err(DataFileFault::Store),
         Err(error) if error.kind() == ErrorKind::NotFound => Ok(None),
         Err(error) => Err(fault_of(&error)),
     }
@@ -78,6 +85,8 @@ pub fn data_length(rt: &HostRuntime, path: &str) -> Result<Option<u64>, DataFile
 
 /// The file with that path, locked, on the disk with its folder; it is made where none is. It is
 /// opened as a database with its log, and the log stays empty.
+///
+/// Errors: InUse, Store, Memory.
 pub fn file_of(rt: &HostRuntime, path: &str) -> Result<File, DataFileFault> {
     match open(rt, path, Unknown) {
         Ok(Files { log, db }) => {
@@ -92,6 +101,8 @@ pub fn file_of(rt: &HostRuntime, path: &str) -> Result<File, DataFileFault> {
 }
 
 /// Fills this with random bytes.
+///
+/// Errors: Store, Memory.
 pub fn draw(rt: &HostRuntime, bytes: &mut [u8]) -> Result<(), DataFileFault> {
     match rt.fill_bytes(bytes) {
         Ok(()) => Ok(()),

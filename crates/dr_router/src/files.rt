@@ -1,9 +1,12 @@
 //! The system's files as databases, and ledgers in databases.
-ghost use Rattle.std.specs.Prelude.{◌≡◌, IfOk, false};
+ghost use Rattle.std.specs.Prelude.{◌≡◌, ◌<◌, ◌↔◌, IfOk, IsTrue, false};
 ghost use Rattle.sqlite.specs.Held.{state};
 ghost use Rattle.dr_word_rehearse.specs.Looks.{IsFoundBy};
 ghost use Rattle.dr_router.specs.Opening.{HasLedgerIn, fault_of_database, fault_of_opening};
 ghost use Rattle.dr_router.specs.Opening.{fault_of_data, keeping_of};
+ghost use Rattle.dr_store_open.specs.Opening.{IsBlank};
+ghost use Rattle.dr_store_open.specs.Places.{names_in};
+ghost use Rattle.dr_store_shelf.specs.Either.{named_on};
 
 use crate::beside::{DataBeside, data_length, data_name, data_path, draw, file_of};
 use dr_base::Text;
@@ -15,7 +18,8 @@ use dr_run_token::{SystemTokens, Tokens};
 use dr_site::Site;
 use dr_store::SqlLedger;
 use dr_store_audit::{is_ours, lacking};
-use dr_store_open::{DataFile, DataFileFault, DataMark, Keeping, OpeningFault, ledger_on};
+use dr_store_data::{DataFile, DataFileFault, DataMark, HEAD_SIZE};
+use dr_store_open::{Keeping, OpeningFault, ledger_on};
 use dr_store_shelf::LedgerShelf;
 use dr_word_adopt::ShowsFiles;
 use dr_word_check::Disk;
@@ -64,8 +68,12 @@ pub trait Databases {
     fn now(&self) -> Option<u64>;
 }
 
-/// A file of data sets with more bytes than these has some behind its head.
-const HEAD: u64 = 4096;
+/// Whether a file of data sets that has so many bytes has some behind its head.
+fn is_beyond_head(length: u64) -> bool
+    ensures { IsTrue result ↔ (4096 < length) }
+{
+    length > HEAD_SIZE as u64
+}
 
 /// The system's files.
 #[derive(Drop)]
@@ -84,7 +92,7 @@ impl<'a> Databases for SystemFiles<'a> {
     fn has_data(&self, alloc: Global, path: &str) -> Result<bool, DataFileFault> {
         let path = data_name(alloc, path)?;
         match data_length(self.0, path.as_str())? {
-            Some(length) => Ok(length > HEAD),
+            Some(length) => Ok(is_beyond_head(length)),
             None => Ok(false),
         }
     }
@@ -100,7 +108,7 @@ impl<'a> Databases for SystemFiles<'a> {
     fn make_data(&self, alloc: Global, path: &str) -> Result<File, DataFileFault> {
         let path = data_path(self.0, alloc, path)?;
         match data_length(self.0, path.as_str())? {
-            Some(length) if length > HEAD => Err(DataFileFault::IsThere),
+            Some(length) if is_beyond_head(length) => Err(DataFileFault::IsThere),
             _ => file_of(self.0, path.as_str()),
         }
     }
@@ -274,7 +282,9 @@ fn ledger_over<S: Alter + Drop, F: DataFile>(
 ) -> Result<SqlLedger<S, LedgerShelf<F::Disk>>, OpenFault>
     requires { conn.in_transaction ≡ false }
     ensures of { IfOk result (λ l. l.site ≡ site) }
-    ensures is { IfOk result (λ l. HasLedgerIn l.site (state S.Store l.conn)) }
+    ensures is { IfOk result (λ l. HasLedgerIn l.site (state S.Store l.conn) l.shelf) }
+    ensures wanted { IfOk result (λ l. IsBlank (state S.Store conn).now.schema
+        → named_on l.shelf ≡ names_in keeping) }
 {
     match ledger_on(alloc, conn, data, keeping, site, now) {
         Ok(ledger) => Ok(ledger),
@@ -295,7 +305,7 @@ impl<D: Databases + Drop> Ledgers for StoredLedgers<D> {
     type Ledger = SqlLedger<D::Store, LedgerShelf<D::Disk>>;
 
     ghost opens = { λ files path ledger.
-        HasLedgerIn ledger.site (state D.Store.Store ledger.conn) };
+        HasLedgerIn ledger.site (state D.Store.Store ledger.conn) ledger.shelf };
 
     fn open(
         &self,
@@ -339,8 +349,8 @@ fn found_over<S: Alter + Drop, F: DataFile>(
     now: Option<u64>,
 ) -> Result<LedgerFound<SqlLedger<S, LedgerShelf<F::Disk>>>, OpenFault>
     requires { conn.in_transaction ≡ false }
-    ensures { IfOk result (IsFoundBy (λ l. HasLedgerIn l.site (state S.Store l.conn)) (λ l. l.site)
-        site) }
+    ensures { IfOk result (IsFoundBy (λ l. HasLedgerIn l.site (state S.Store l.conn) l.shelf)
+        (λ l. l.site) site) }
 {
     if !is_ours(conn.schema()) {
         if lacking(conn.schema()).is_some() {
