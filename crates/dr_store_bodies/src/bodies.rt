@@ -1,6 +1,6 @@
 //! The data sets of a ledger in one file.
-ghost use Rattle.std.specs.Prelude.{◌≡◌, ◌≢◌, ◌==◌, ◌∷◌, [], ℕ, ◌+◌, ◌^◌, ◌%◌, ◌<◌, ◌≤◌, take};
-ghost use Rattle.std.specs.Prelude.{drop, List, length, not, filter};
+ghost use Rattle.std.specs.Prelude.{◌≡◌, ◌≢◌, ◌==◌, ◌↔◌, ◌∷◌, [], ℕ, ◌+◌, ◌^◌, ◌%◌, ◌<◌, ◌≤◌};
+ghost use Rattle.std.specs.Prelude.{take, drop, List, length, not, filter};
 ghost use Rattle.std.specs.Prelude.{All, AllPairs, Contains, IfErr, IfOk, OnOk, OnErr, IsTrue};
 ghost use Rattle.dr_store_bodies.specs.declared.extent.Extent.{Extent};
 ghost use Rattle.sqlite_disk.specs.Disk.{Only};
@@ -42,6 +42,13 @@ impl<D: Disk> Bodies<D> {
             disk: file,
             extents: Vec::new(alloc),
         }
+    }
+
+    /// Whether no sync has failed. After one that has, nothing more is put, read or cut.
+    pub fn may_be_used(&self) -> bool
+        ensures { IsTrue result ↔ IsUsable self.now }
+    {
+        self.disk.may_be_used()
     }
 
     /// The extents in use: each is filled, no two overlap, and where the medium told no lie, each

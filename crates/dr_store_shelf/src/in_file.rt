@@ -111,6 +111,10 @@ impl<D: Disk> Shelf for InFile<D> {
         true
     }
 
+    fn may_be_used(&self) -> bool {
+        self.bodies.may_be_used()
+    }
+
     fn put(&mut self, body: &[u8]) -> Result<BodyCell, ShelfFault> {
         let cell = blank_cell(self.alloc, self.key, body)?;
         let extent = self.bodies.put(body)?;

@@ -1,6 +1,6 @@
 //! A place for data sets.
 ghost use Rattle.std.specs.Prelude.{◌≡◌, ◌<◌, ℕ, List, length, IfErr, IfOk, OnErr, Bool};
-ghost use Rattle.std.specs.Prelude.{MatchOption, false};
+ghost use Rattle.std.specs.Prelude.{◌↔◌, IsTrue, MatchOption, false};
 ghost use Rattle.dr_store_shelf.specs.Shelves.{IsWhyNotPut, IsWhyNotRead, bytes_of};
 
 use crate::fault::ShelfFault;
@@ -77,6 +77,11 @@ pub trait Shelf {
         ensures named { result ≡ named self.now }
         ensures free { result ≡ false
             → (cell other : List ℕ) → apart (named self.now) cell other };
+
+    /// Whether no sync has failed. After one that has, nothing more is put or read, since what was
+    /// written may be lost with no further word.
+    fn may_be_used(&self) -> bool
+        ensures { IsTrue result ↔ is_usable self.now };
 
     /// Puts a data set, durably: whoever commits a row with the cell afterwards finds it, whatever
     /// crash comes.
