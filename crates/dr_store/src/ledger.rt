@@ -13,7 +13,7 @@ ghost use Rattle.dr_store_calls.specs.Calling.{IsSafe};
 ghost use Rattle.dr_store_calls.specs.Knowing.{IsAccepted};
 ghost use Rattle.dr_store.specs.Counting.{failures_after};
 ghost use Rattle.dr_store.specs.Owning.{IsCovered, KeepsOwn, bodies_with};
-ghost use Rattle.dr_store.specs.Surviving.{Wrote};
+ghost use Rattle.dr_store.specs.Surviving.{TakesOver, Wrote};
 
 use crate::counting::{counted, next_after};
 use crate::listing::{first_unfit, list_arrivals, list_kept, list_rows, list_rows_and_keys};
@@ -263,12 +263,13 @@ impl<S: Alter, B: Shelf> SqlLedger<S, B> {
     }
 
     /// Adopts the plan of the next site of its node, as `Ledger::adopt` says, and survives a crash
-    /// at any moment.
+    /// at any moment. The tables keep the mark of the file that has their data sets.
     fn adopt_in(&mut self, own: Site) -> Result<(), LedgerFault>
         ensures wrote { Wrote result (state S.Store self.old.conn) (state S.Store self.new.conn)
             (λ base db. Adopting (book_of base) result (book_of db)
             × OnlyLetsGo (bodies_with (B.Shelf.body_of self.old.shelf) base)
-            (bodies_with (B.Shelf.body_of self.new.shelf) db))
+            (bodies_with (B.Shelf.body_of self.new.shelf) db)
+            × TakesOver own result base db)
             (IsAdopted own) }
         ensures covered { HasCleanDisk (state S.Store self.new.conn)
             → IsSafe (state S.Store self.old.conn)

@@ -1,6 +1,6 @@
 -- What is found in a file, and what an opening answers.
 use Rattle.std.specs.Prelude.{All, ◌≡◌, ◌≤◌, ◌+◌, ◌⊎◌, ℕ, zero, suc, false, IsTrue, List, [], ◌∷◌}
-use Rattle.std.specs.Prelude.{Option, None}
+use Rattle.std.specs.Prelude.{Option, None, ◌++◌}
 use Rattle.std.specs.Prelude.{Some, Result, Ok, Err, OnOk, length, true}
 use Rattle.std.specs.FinMap as map
 use Rattle.sha2.specs.Sha256.{sha256}
@@ -19,13 +19,13 @@ use Rattle.dr_ledger.specs.Replies.{Reads}
 use Rattle.dr_store_schema.specs.Books.{AreBelow, bodies_of, book_of, items_of, lines_of}
 use Rattle.dr_store_schema.specs.Ledgers.{AreRows, IsCounted}
 use Rattle.dr_store_schema.specs.Tables.{tables}
-use Rattle.dr_store_writes.specs.Effects.{site_row}
+use Rattle.dr_store_writes.specs.Effects.{IsSiteOf, site_row}
 use Rattle.std.specs.List.{AllByRecursion}
 use Rattle.dr_store_reads.specs.Queries.{IsJobOf, Stays}
 use Rattle.dr_store_reads.specs.declared.finding.Print.{Print}
 use Rattle.dr_store_lists.specs.Lists.{notes_of}
 use Rattle.dr_store_lists.specs.declared.listing.JournalRow.{JournalRow}
-use Rattle.dr_store_calls.specs.Adoptions.{IsOwnedBy}
+use Rattle.dr_store_calls.specs.Adoptions.{IsMark, IsOwnedBy}
 use Rattle.dr_store_calls.specs.Calling.{IsKept}
 use Rattle.dr_store_audit.specs.Found.{HoldTogether}
 use Rattle.dr_store_audit.specs.Older.{IsOlder}
@@ -219,15 +219,18 @@ pub record LeavesFile (old new : State) : Type 0 where
 
 -- ---- laws
 
--- the trees of a site's new ledger, which has no row but the owner's
-abbrev pub new_trees : Part → Trees
-new_trees part zero = site_row part.name part.digest ∷ []
-new_trees part (suc tree) = []
+-- the trees of a site's new ledger, which has no row but the owner's, with that mark
+abbrev pub new_trees : Part → List ℕ → Trees
+new_trees part mark zero = site_row part.name (part.digest ++ mark) ∷ []
+new_trees part mark (suc tree) = []
 
 -- a new ledger is one of its site, and its next line is the first
 abbrev pub NewLedgersAreLedgers : Type 0
 NewLedgersAreLedgers =
-    (part : Part) → HasLedgerOf 1 part (record { schema = tables; trees = new_trees part })
+    (part : Part) (mark : List ℕ)
+    → length part.digest ≡ 32
+    → IsMark mark
+    → HasLedgerOf 1 part (record { schema = tables; trees = new_trees part mark })
 
 -- what a database has is one node's ledger, under one plan, and its next line has one number
 abbrev pub LedgersAreOne : Type 0
@@ -236,9 +239,15 @@ LedgersAreOne =
     → HasLedgerOf n part db → HasLedgerOf m other db
     → (n ≡ m) × (part.name ≡ other.name) × (part.digest ≡ other.digest)
 
--- without an owner, or with a line under another number than its place, there is none
+-- without an owner, with other bytes behind a plan's SHA-256 than those of a mark, or with a line
+-- under another number than its place, there is none
 pub record BadTablesAreNone : Type 0 where
   pub unowned : (part : Part) (db : Database) → db.trees 0 ≡ [] → HasNoLedgerOf part db
+  pub unmarked : (part : Part) (db : Database) (node : Text) (digest mark : List ℕ)
+      → IsSiteOf node (digest ++ mark) db.trees
+      → length digest ≡ 32
+      → (IsMark mark → ⊥)
+      → HasNoLedgerOf part db
   pub renumbered : (part : Part) (db : Database) (note : JournalRow) (rest : List (ℕ × JournalRow))
       → map.entries (notes_of db.trees) ≡ (2, note) ∷ rest
       → HasNoLedgerOf part db

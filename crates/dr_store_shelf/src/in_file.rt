@@ -73,6 +73,8 @@ impl<D: Disk> InFile<D> {
         ensures keeps { (other bytes : List ℕ) → IsUsed self.old.bodies other
             → Stands self.old.key self.old.bodies other bytes
             → IsUsed self.new.bodies other × Stands self.new.key self.new.bodies other bytes }
+        ensures uses { (other : List ℕ) → IsUsed self.old.bodies other
+            → IsUsed self.new.bodies other }
         ensures clean { IsClean self.new.bodies → IsClean self.old.bodies }
         ensures why { IfErr result (λ fault. IsClean self.new.bodies → (bytes : List ℕ)
             → IsWhyNotRead (IsUsable self.old.bodies)
@@ -94,6 +96,8 @@ impl<D: Disk> InFile<D> {
         ensures keeps { (other bytes : List ℕ) → IsUsed self.old.bodies other
             → Stands self.old.key self.old.bodies other bytes
             → IsUsed self.new.bodies other × Stands self.new.key self.new.bodies other bytes }
+        ensures uses { (other : List ℕ) → IsUsed self.old.bodies other
+            → IsUsed self.new.bodies other }
         ensures clean { IsClean self.new.bodies → IsClean self.old.bodies }
         ensures why { IfErr result (λ fault. IsClean self.new.bodies → (bytes : List ℕ)
             → IsWhyNotRead (IsUsable self.old.bodies)

@@ -130,6 +130,7 @@ pub trait Shelf {
             (λ got. stands self.old cell.items got.items)) }
         ensures keeps { (other bytes : List ℕ) → uses self.old other → stands self.old other bytes
             → uses self.new other × stands self.new other bytes }
+        ensures uses { (other : List ℕ) → uses self.old other → uses self.new other }
         ensures named { named self.new ≡ named self.old }
         ensures clean { is_clean self.new → is_clean self.old }
         ensures why { IfErr result (λ fault. is_clean self.new
