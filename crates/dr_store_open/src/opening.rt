@@ -178,6 +178,11 @@ pub fn find_ledger<S: Alter, F: DataFile>(
     requires { conn.old.in_transaction ≡ false }
     ensures whole { IsWholeOpened (Unit {0}) site.now result (state S.Store conn.old)
         (state S.Store conn.new) }
+    ensures kept { IfOk result (λ it. HasCleanDisk (state S.Store conn.new)
+        → IsKept it.next site.now (state S.Store conn.new)) }
+    ensures own { IfOk result (λ it. HasCleanDisk (state S.Store conn.new)
+        → HasOwnOn (state S.Store conn.new).committed.trees it.shelf) }
+    ensures idle { conn.new.in_transaction ≡ false }
     ensures there { IfErr result (λ fault. fault ≢ opening.DataIsThere) }
 {
     match find(conn, alloc, site) {
