@@ -30,7 +30,8 @@ pub struct Bodies<D: Disk> {
 }
 
 impl<D: Disk> Bodies<D> {
-    ghost use Rattle.dr_store_bodies.specs.Bodies.{disk, extents, seen, IsHeld, IsClean, IsUsable};
+    ghost use Rattle.dr_store_bodies.specs.Bodies.{disk, extents, faults, seen, IsHeld, IsClean};
+    ghost use Rattle.dr_store_bodies.specs.Bodies.{IsUsable};
     ghost use Rattle.dr_store_bodies.specs.Refusals.{IsWhyNotCut, IsWhyNotPut, IsWhyNotRead};
 
     /// A file with no extent in use. What it contains is left as it is, and overwritten.
@@ -179,6 +180,8 @@ impl<D: Disk> Bodies<D> {
         ensures keeps { (e : Extent) (bytes : List ℕ)
             → Contains (extents self.old) e → IsHeld self.old e bytes → IsHeld self.new e bytes }
         ensures clean { IsClean self.new → IsClean self.old }
+        ensures usable { OnOk result (IsUsable self.new) }
+        ensures faults { OnOk result (faults self.new ≡ faults self.old) }
         ensures why { IfErr result (IsWhyNotCut self.old self.new) }
     {
         if !self.disk.may_be_used() {

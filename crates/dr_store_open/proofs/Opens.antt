@@ -204,6 +204,16 @@ module _ {D : Type 0} {g : Ghosts D} where
     looks = f.looks;
   }
 
+  pub found_kept : (part : Part) (old new : State) (r : Result (OpenedLedger D g) OpeningFault) → IsWholeOpened (Unit {0}) part r old new
+      → IfOk r (λ it. HasCleanDisk new → IsKept it.next part new)
+  found_kept part old new (Ok it) w = λ clean. (w.kept clean).kept
+  found_kept part old new (Err fault) w = tt
+
+  pub found_own : (part : Part) (old new : State) (r : Result (OpenedLedger D g) OpeningFault) → IsWholeOpened (Unit {0}) part r old new
+      → IfOk r (λ it. HasCleanDisk new → HasOwnOn new.committed.trees it.shelf)
+  found_own part old new (Ok it) w = w.own
+  found_own part old new (Err fault) w = tt
+
   -- where its tables may have been made just now
   pub whole_made : (Stood : Type 0) (made : Bool) (keeping : Keeping) (part : Part) (old new : State) (opened : OpenedLedger D g) (r : Result (OpenedLedger D g) OpeningFault)
       → (Stood → made ≡ false)

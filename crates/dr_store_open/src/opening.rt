@@ -97,7 +97,7 @@ pub fn find<S: Alter>(
 
 /// A ledger whose tables were found, with its shelf, where each data set that is there is that of
 /// its instance.
-fn open_on<S: Alter, D: Disk>(
+fn open_on<S: Alter, D: Disk + Drop>(
     conn: &mut Connection<S>,
     alloc: Global,
     shelf: LedgerShelf<D>,
@@ -178,6 +178,11 @@ pub fn find_ledger<S: Alter, F: DataFile>(
     requires { conn.old.in_transaction ≡ false }
     ensures whole { IsWholeOpened (Unit {0}) site.now result (state S.Store conn.old)
         (state S.Store conn.new) }
+    ensures kept { IfOk result (λ it. HasCleanDisk (state S.Store conn.new)
+        → IsKept it.next site.now (state S.Store conn.new)) }
+    ensures own { IfOk result (λ it. HasCleanDisk (state S.Store conn.new)
+        → HasOwnOn (state S.Store conn.new).committed.trees it.shelf) }
+    ensures idle { conn.new.in_transaction ≡ false }
     ensures there { IfErr result (λ fault. fault ≢ opening.DataIsThere) }
 {
     match find(conn, alloc, site) {
@@ -316,7 +321,7 @@ fn prepare<S: Alter, F: DataFile>(
 
 /// A ledger that was opened, where it is as it was made, if its tables were made just now: without
 /// any line, and with its data sets where they were wanted.
-fn as_made<D: Disk>(
+fn as_made<D: Disk + Drop>(
     made: bool,
     keeping: Keeping,
     opened: OpenedLedger<D>,

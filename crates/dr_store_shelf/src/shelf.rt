@@ -137,8 +137,8 @@ pub trait Shelf {
             → IsWhyNotRead (is_usable self.old) (Unit {0}) fault) };
 
     /// Lets a data set go, whose cell no row has, and that no row gets after a crash either. Where
-    /// a cell names a place, this one is in use no more. No byte is touched until its place is
-    /// taken by another.
+    /// a cell names a place, this one is in use no more. No byte is touched before another data set
+    /// comes.
     fn let_go(&mut self, cell: &[u8])
         ensures gone { (apart (named self.old) cell.now cell.now → ⊥)
             → uses self.new cell.now → ⊥ }

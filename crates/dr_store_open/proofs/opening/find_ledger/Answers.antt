@@ -4,7 +4,7 @@ use Rattle.sqlite.specs.Held.{state}
 use Rattle.dr_store_open.specs.declared.finding.FoundTables.{FoundTables}
 use Rattle.dr_store_open.specs.Faults.{IsOfData}
 use Rattle.dr_store_open.specs.Opening.{AreOf, IsLedgerOpened}
-use Rattle.dr_store_open.proofs.Opens.{whole_failed, whole_found, whole_none}
+use Rattle.dr_store_open.proofs.Opens.{found_kept, found_own, whole_failed, whole_found, whole_none}
 use Rattle.dr_store_open.proofs.opening.find_ledger.Goals as goal
 
 pub open_found-requires-clause-ready : goal.open_found-requires-clause-ready
@@ -32,6 +32,35 @@ returns-in-Ok-Some-clause-whole g c =
     let f : IsLedgerOpened c.args.site.now (Ok (Some c.in-Ok-Some.found)) old mid = subst If c.in-Ok-Some.field-0-is c.in-Ok-Some.ensures in
     let it = c.open_found.ensures in
     whole_found c.args.site.now old mid new c.in-Ok-Some.found c.open_found.result f it.ready it.next it.placed it.own it.why
+
+pub returns-in-Ok-Some-clause-kept : goal.returns-in-Ok-Some-clause-kept
+returns-in-Ok-Some-clause-kept g c =
+    let old = state g.S.Store c.args.conn.now in
+    let mid = state g.S.Store c.find.new.conn in
+    let new = state g.S.Store c.open_found.new.conn in
+    let If : Option FoundTables → Type 0 = λ o. IsLedgerOpened c.args.site.now (Ok o) old mid in
+    let f : IsLedgerOpened c.args.site.now (Ok (Some c.in-Ok-Some.found)) old mid = subst If c.in-Ok-Some.field-0-is c.in-Ok-Some.ensures in
+    let it = c.open_found.ensures in
+    found_kept c.args.site.now old new c.open_found.result (whole_found c.args.site.now old mid new c.in-Ok-Some.found c.open_found.result f it.ready it.next it.placed it.own it.why)
+
+pub returns-in-Ok-Some-clause-own : goal.returns-in-Ok-Some-clause-own
+returns-in-Ok-Some-clause-own g c =
+    let old = state g.S.Store c.args.conn.now in
+    let mid = state g.S.Store c.find.new.conn in
+    let new = state g.S.Store c.open_found.new.conn in
+    let If : Option FoundTables → Type 0 = λ o. IsLedgerOpened c.args.site.now (Ok o) old mid in
+    let f : IsLedgerOpened c.args.site.now (Ok (Some c.in-Ok-Some.found)) old mid = subst If c.in-Ok-Some.field-0-is c.in-Ok-Some.ensures in
+    let it = c.open_found.ensures in
+    found_own c.args.site.now old new c.open_found.result (whole_found c.args.site.now old mid new c.in-Ok-Some.found c.open_found.result f it.ready it.next it.placed it.own it.why)
+
+pub returns-in-Ok-Some-clause-idle : goal.returns-in-Ok-Some-clause-idle
+returns-in-Ok-Some-clause-idle g c = c.open_found.ensures.ready.looks.idle (c.in-Ok-Some.ensures.looks.idle c.requires)
+
+pub returns-in-Ok-None-clause-idle : goal.returns-in-Ok-None-clause-idle
+returns-in-Ok-None-clause-idle g c = c.in-Ok-None.ensures.looks.idle c.requires
+
+pub returns-in-Err-clause-idle : goal.returns-in-Err-clause-idle
+returns-in-Err-clause-idle g c = c.in-Err.ensures.looks.idle c.requires
 
 pub returns-in-Ok-None-clause-whole : goal.returns-in-Ok-None-clause-whole
 returns-in-Ok-None-clause-whole g c =
