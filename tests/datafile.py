@@ -435,6 +435,48 @@ def wait_at_gate(room, uid, size, seed=0, ledger=None):
     ended(gate)
 
 
+def cut():
+    """As the first data set comes after a start, the file is cut behind the last one that is there. What only lists leaves its length, also by the tables of
+    another day."""
+    with Room() as room:
+        make(room, 'GATE')
+        keep_tables(room, 'first')
+        wait_at_gate(room, '1.2.7.0', 10_000)
+        keep_tables(room, 'second')
+        for number in range(1, 4):
+            wait_at_gate(room, f'1.2.7.{number}', 200_000, number)
+        (_, small), *others = places(room, 'GATE')
+        whole, size, left = stored(room, 'GATE'), length(room, 'GATE'), HEAD + 4096 * -(-small // 4096)
+        same((len(others), size), (3, sum(others[-1])))
+        # the tables of two other days list what they have, and so the file is as long as before
+        for day, had in ('first', 0), ('second', 1):
+            os.symlink('GATE.db.data', f'{room.folder}/{day}.db.data')
+            same(book(room, 'GATE', ledger=f'{day}.db')[1], f'lines\t{had}')
+            same(length(room, 'GATE'), size)
+        same(stored(room, 'GATE'), whole)
+        # nothing is left but the first: the file is cut as the next one comes
+        arch = room.serve('ARCH', 1)
+        with Requestor(room.ports['ARCH'], 'GATE', 'ARCH') as link:
+            same(link.store(b'1.2.7.0', data_set(b'1.2.7.0', pixels(9_000))), 0)
+            same(link.release(), RELEASED)
+        ended(arch)
+        arch, gate = room.serve('ARCH', 0), Asked(room, 'GATE', 0)
+        gate.wait('/rows?dest=ARCH', lambda rows: [row['state'] for row in rows] == ['held'] + 3 * ['done'])
+        stop(gate.process)
+        stop(arch)
+        same((list(stored(room, 'GATE')), length(room, 'GATE')), (['1.2.7.0'], size))
+        wait_at_gate(room, '1.2.7.4', 20_000, 4)
+        same(places(room, 'GATE')[1][0], left)
+        same(length(room, 'GATE'), sum(places(room, 'GATE')[1]))
+
+
+def keep_tables(room, name):
+    """A copy of the tables of GATE as they are, under another name."""
+    for end in ENDS[:2]:
+        if os.path.exists(f'{room.folder}/GATE{end}'):
+            shutil.copyfile(f'{room.folder}/GATE{end}', f'{room.folder}/{name}{end}')
+
+
 # ---- what is refused
 
 def refused():
@@ -704,5 +746,5 @@ def names():
 
 
 if __name__ == '__main__':
-    run_cases('datafile', made, both_kinds, let_go, taken_again, killed, brought_over, another_form, together, refused, changed, changed_while_it_runs, by_hand, rows_by_hand,
+    run_cases('datafile', made, both_kinds, let_go, taken_again, killed, brought_over, another_form, together, cut, refused, changed, changed_while_it_runs, by_hand, rows_by_hand,
               full, not_copied, names)
