@@ -85,7 +85,6 @@ module _ (part : Part) (mark : List ℕ) where
         together = λ uid. no_key uid ∙ sym (no_print uid);
         numbered = subst (CountUp 1) (sym (no_entries nat_cmp JournalRow)) tt;
       };
-      own = λ uid body there. absurd (no_body uid body there);
     };
   }
 
