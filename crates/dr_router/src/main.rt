@@ -6,6 +6,7 @@ ghost use Rattle.std.specs.Prelude.{◌≡◌};
 ghost use Rattle.std.specs.Process.{exit_status};
 ghost use Rattle.dr_run_open.specs.Statuses.{status_number};
 
+mod beside;
 mod events;
 mod files;
 mod input;
@@ -45,6 +46,7 @@ fn run_over_files<
 ) -> Status
 where
     D::Store: Send,
+    D::Disk: Send,
 {
     let machine = Machine {
         files,

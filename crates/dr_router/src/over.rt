@@ -95,6 +95,7 @@ pub fn run_on<
 ) -> Status
 where
     D::Store: Send,
+    D::Disk: Send,
     N::Socket: Send,
     N::Listener: Sync,
 {

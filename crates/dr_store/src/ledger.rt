@@ -17,7 +17,7 @@ ghost use Rattle.dr_store.specs.Surviving.{TakesOver, Wrote};
 
 use crate::counting::{counted, next_after};
 use crate::listing::{first_unfit, list_arrivals, list_kept, list_rows, list_rows_and_keys};
-use crate::reading::{admit, due_row, has_data_set, has_item, next_job};
+use crate::reading::{admit, due_row, has_data_set, has_in, next_job};
 use crate::telling::{list_lines, tell_behind, tell_journal};
 use dr_base::{Seq, Text};
 use dr_cert::Sealed;
@@ -381,7 +381,7 @@ impl<S: Alter, B: Shelf> Ledger for SqlLedger<S, B> {
     }
 
     fn has(&mut self, uid: &Text) -> Result<bool, LedgerFault> {
-        let answer = has_item(&mut self.conn, self.alloc, uid);
+        let answer = has_in(&mut self.conn, &self.shelf, self.alloc, uid);
         self.failures = counted(&answer, self.failures);
         answer
     }

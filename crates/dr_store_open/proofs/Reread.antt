@@ -14,7 +14,8 @@ use Rattle.dr_ledger.proofs.Reading.{items_are_one}
 use Rattle.dr_store_schema.specs.Books.{contents_in, instance_by, prints_of}
 use Rattle.dr_store_reads.specs.Queries.{IsJobOf}
 use Rattle.dr_store_reads.specs.declared.finding.Print.{Print}
-use Rattle.dr_store_open.specs.DataSets.{AreOwnUnder, IsOwnBy, IsReadAs, IsSpelled, Tells, with_body}
+use Rattle.dr_store.specs.Reading.{with_body}
+use Rattle.dr_store_open.specs.DataSets.{AreOwnUnder, IsOwnBy, IsReadAs, IsSpelled, Tells}
 
 inner : {X : Type 0} (x y : X) → Some x ≡ Some y → x ≡ y
 inner x y e = cc

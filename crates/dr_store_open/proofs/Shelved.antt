@@ -30,7 +30,8 @@ use Rattle.dr_store_data.specs.Opened.{BeginApart}
 use Rattle.dr_store.specs.Owning.{AreUsed}
 use Rattle.dr_store_open.specs.declared.fault.OpeningFault.{OpeningFault}
 use Rattle.dr_store_open.specs.declared.fault.OpeningFault.TheVariants as opening
-use Rattle.dr_store_open.specs.DataSets.{AddsExtent, AreListed, AreOwnUnder, AreUsedUnder, IsExtentAt, IsOwn, NamesExtent, IsOwnBy, IsReadAs, IsSpelled, Tells, extents_under, with_body}
+use Rattle.dr_store.specs.Reading.{with_body}
+use Rattle.dr_store_open.specs.DataSets.{AddsExtent, AreListed, AreOwnUnder, AreUsedUnder, IsExtentAt, IsOwn, NamesExtent, IsOwnBy, IsReadAs, IsSpelled, Tells, extents_under}
 use Rattle.dr_store_open.specs.Faults.{IsOfData}
 
 -- ---- what a test told

@@ -14,6 +14,7 @@ use Rattle.dr_store_shelf.specs.Cells.{extent_in}
 use Rattle.dr_store_schema.specs.Books.{bodies_of, contents_in, items_of}
 use Rattle.dr_store_reads.specs.Queries.{IsJobOf}
 use Rattle.dr_store_reads.specs.declared.finding.Print.{Print}
+use Rattle.dr_store.specs.Reading.{with_body}
 
 -- the cell of that uid, if it is there, stands for the data set of the item
 abbrev pub IsOwn : (List ℕ → List ℕ → Type 0) → Text → Trees → Type 0
@@ -26,10 +27,6 @@ IsOwn Stands uid db =
 -- the data set has this length and this SHA-256
 abbrev pub IsSpelled : Job → Print → Type 0
 IsSpelled job print = (length job.body ≡ print.size) × (sha256 job.body ≡ print.digest)
-
--- the job with that data set
-abbrev pub with_body : Job → List ℕ → Job
-with_body job body = record { uid = job.uid; key = job.key; body = body }
 
 -- The cell of this job stands for a data set that is read as an item of the job's uid and key, with
 -- this print.

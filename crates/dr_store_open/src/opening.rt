@@ -97,7 +97,7 @@ pub fn find<S: Alter>(
 
 /// A ledger whose tables were found, with its shelf, where each data set that is there is that of
 /// its instance.
-fn open_on<S: Alter, D: Disk>(
+fn open_on<S: Alter, D: Disk + Drop>(
     conn: &mut Connection<S>,
     alloc: Global,
     shelf: LedgerShelf<D>,
@@ -321,7 +321,7 @@ fn prepare<S: Alter, F: DataFile>(
 
 /// A ledger whose tables were made just now, where it has no line yet, and its data sets are where
 /// they were wanted.
-fn as_new<D: Disk>(
+fn as_new<D: Disk + Drop>(
     keeping: Keeping,
     opened: OpenedLedger<D>,
 ) -> Result<OpenedLedger<D>, OpeningFault>
@@ -339,7 +339,7 @@ fn as_new<D: Disk>(
 }
 
 /// A ledger that was opened, where it is as it was made, if its tables were made just now.
-fn as_made<D: Disk>(
+fn as_made<D: Disk + Drop>(
     made: bool,
     keeping: Keeping,
     opened: OpenedLedger<D>,

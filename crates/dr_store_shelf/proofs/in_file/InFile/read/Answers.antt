@@ -1,5 +1,5 @@
 use Rattle.std.proofs.Common.{◌≡◌, length, drop, take_at, ap, ◌∙◌, subst, sym, Contains, rules}
-use Rattle.std.proofs.Common.{List, ℕ, IsTrue}
+use Rattle.std.proofs.Common.{IsTrue}
 use Rattle.dr_store_bodies.specs.declared.extent.Extent.{Extent}
 use Rattle.dr_store_bodies.specs.Extents.{Stand}
 use Rattle.dr_store_shelf.specs.Cells.{Passes, extent_in}
