@@ -115,7 +115,7 @@ module _ (n : ℕ) (part next : Part) (old new : State) (still : old.in_transact
   owned ready l asks = (next.name, was, asks)
 
   -- the site whose the tables were
-  last : Part
+  abbrev last : Part
   last = record {
     name = next.name;
     max_pdu = next.max_pdu;
