@@ -47,7 +47,7 @@ use Rattle.dr_world_tie.proofs.World.{world_steps, beside_beginning}
 not_over : (c : Core) (state : State) → state_of c.phase ≡ state → is_gone state ≡ false → is_over c ≡ true → ⊥
 not_over c state e f over = false≢true (sym f ∙ (sym (ap is_gone e) ∙ over))
 
-caller_off : (on : Bool) (stage : Stage) (receiver : Text) (c : Core) → IsCaller on stage receiver c → is_over c ≡ true → on ≡ false
+pub caller_off : (on : Bool) (stage : Stage) (receiver : Text) (c : Core) → IsCaller on stage receiver c → is_over c ≡ true → on ≡ false
 caller_off false stage receiver c h over = refl
 caller_off true Asking receiver c h over = absurd (not_over c Sta5 (state_is c true Sta5 h.0) refl over)
 caller_off true (Answering accepted) receiver c h over = absurd (not_over c Sta5 (state_is c true Sta5 h.0) refl over)
@@ -57,7 +57,7 @@ caller_off true (Storing accepted item) receiver c h over = absurd (not_over c S
 caller_off true (Replying accepted item status) receiver c h over = absurd (not_over c Sta6 (state_is c true Sta6 h.0.0) refl over)
 caller_off true Gone receiver c h over = absurd h
 
-receiver_off : (on : Bool) (stage : Stage) (caller : Text) (c : Core) → IsReceiver on stage caller c → is_over c ≡ true → on ≡ false
+pub receiver_off : (on : Bool) (stage : Stage) (caller : Text) (c : Core) → IsReceiver on stage caller c → is_over c ≡ true → on ≡ false
 receiver_off false stage caller c h over = refl
 receiver_off true Asking caller c h over = absurd (not_over c Sta2 (state_is c false Sta2 h.0) refl over)
 receiver_off true (Answering accepted) caller c h over = absurd (not_over c Sta6 (state_is c false Sta6 h.0.0.0) refl over)
