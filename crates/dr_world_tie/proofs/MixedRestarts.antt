@@ -232,9 +232,11 @@ module _ (ours : Ours) (plan : Network) (certificate : Certificate) (b : MixedWo
       covered = λ n link there its.
           (let was = link_was w node mixed_callers n link there in
           let away = receiver_was w node mixed_callers n link there in
-          let a = shows.covered n link was.0 its in
-          (a.0, still_there a.0 link was.1 away
-          (place_of ours plan certificate b w shows a.0 n link a.1 was.0) ∙ a.1));
+          let a = shows.covered n link was.0 its in (
+            a.0,
+            still_there a.0 link was.1 away
+                (place_of ours plan certificate b w shows a.0 n link a.1 was.0) ∙ a.1,
+          ));
     },
     λ name. gone.books name,
     λ n link here.

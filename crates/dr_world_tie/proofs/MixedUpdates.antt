@@ -60,14 +60,20 @@ module _ (ours : Ours) (plan : Network) (certificate : Certificate) where
     end_of_number i n link at here Acceptor node k s =
         let t : ShowsBy ours plan certificate w (Some n) Acceptor node k =
         subst (λ (o : Option ℕ). ShowsBy ours plan certificate w o Acceptor node k) at s in
-        inl (refl, subst (λ (l : Link). IsCalledBy ours plan node l k.core)
-        (one_link w n t.1.0 link t.1.1 here) t.1.2)
+        inl (
+          refl,
+          subst (λ (l : Link). IsCalledBy ours plan node l k.core)
+              (one_link w n t.1.0 link t.1.1 here) t.1.2,
+        )
     end_of_number i n link at here Requestor node k s =
         let number_is : s.0 ≡ n = same_Some s.0 n (sym s.1 ∙ at) in
         let found : IsLink w n s.2.1.0 =
         subst (λ (m : ℕ). IsLink w m s.2.1.0) number_is s.2.1.1 in
-        inr (refl, subst (λ (l : Link). IsCallOf ours node l k.core)
-        (one_link w n s.2.1.0 link found here) s.2.1.2)
+        inr (
+          refl,
+          subst (λ (l : Link). IsCallOf ours node l k.core)
+              (one_link w n s.2.1.0 link found here) s.2.1.2,
+        )
 
     pub pair_of_number : (i n : ℕ) (link : Link) → shows.numbers i ≡ Some n → IsLink w n link
         → (k : Channel)
