@@ -16,6 +16,7 @@ pub mod Fragments
 pub mod Fronts
 pub mod Giving
 pub mod LinksToOthers
+pub mod MixedChanges
 pub mod MixedCounts
 pub mod MixedRestarts
 pub mod MixedUpdates

@@ -304,12 +304,14 @@ module _ (ours : Ours) (plan : Network) (certificate : Certificate) where
     pub plan_is_taken : (acts : List Act) × (u : World)
         × RunsAmong ours plan w acts next u
         × ShowsOwn ours next own new u
+        × (u.links ≡ map_of.empty)
     plan_is_taken = (
       cleared.acts ++ Turn next ∷ [],
       turned,
       runs_on ours cleared.acts (Turn next ∷ []) plan plan next w v turned cleared.runs
           ((certified.formed, certified.sound), (turned, turns, (refl, refl))),
       turned_shown,
+      refl,
     )
 
 -- ---- any deeds

@@ -29,6 +29,7 @@ ghost use Rattle.dr_world_tie.specs.ForeignCalls.{ResponsesAreReplies};
 ghost use Rattle.dr_world_tie.specs.ForeignLinks.{WhatAcceptorsHear, WhatRequestorsHear};
 ghost use Rattle.dr_world_tie.specs.ForeignWorlds.{EndsAreAskedSo, OthersAreNotHere};
 ghost use Rattle.dr_world_tie.specs.ForeignWorlds.{OursCanListen, OwnWorldsKeepTheClaims};
+ghost use Rattle.dr_world_tie.specs.MixedChanges.{MixedCanTake, MixedChangesKeepTheClaims};
 ghost use Rattle.dr_world_tie.specs.MixedWorlds.{BothKindsStandThere, MixedWorldsKeepTheClaims};
 ghost use Rattle.dr_world_tie.specs.MixedWorlds.{OwnRunsAreMixed, PairsAreOurs};
 ghost use Rattle.dr_world_tie.specs.MixedWorlds.{WiresCarryWhatIsWritten};
@@ -269,4 +270,11 @@ pub fn changes_among_others()
     ensures claims { OwnChangesKeepTheClaims }
     ensures takes { OursCanTake }
     ensures first { OursMayTakeAtFirst }
+{}
+
+/// And the same where nodes of ours have both kinds of links. Between two of ours nothing is under
+/// way when they take a plan.
+pub fn changes_with_both_kinds()
+    ensures claims { MixedChangesKeepTheClaims }
+    ensures takes { MixedCanTake }
 {}
