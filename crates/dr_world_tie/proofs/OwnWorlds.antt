@@ -1,6 +1,6 @@
 -- Nodes of ours among other makers' products, to which alone they have links.
 use Rattle.std.proofs.Common.{◌≡◌, ◌≢◌, ℕ, ◌<◌, ◌≤◌, Bool, true, false, List, [], ◌∷◌, ◌++◌, Option}
-use Rattle.std.proofs.Common.{Some, None, refl, sym, ap, subst, ◌∙◌, inl, inr, ◌⊎◌, arith}
+use Rattle.std.proofs.Common.{Some, None, refl, sym, ap, subst, ◌∙◌, inl, inr, arith}
 use Rattle.std.specs.Prelude.{◌==◌, ◌+◌, ◌^◌, min, if◌then◌else◌}
 use Rattle.std.specs.FinMap as map_of
 use Rattle.std.specs.FinSet as set
@@ -13,22 +13,12 @@ use Rattle.dr_plan_model.specs.Networks.{Network}
 use Rattle.dr_plan_sound.specs.declared.certificate.Certificate.{Certificate}
 use Rattle.dr_site.specs.Sites.{IsCertified}
 use Rattle.dr_ledger.specs.Items.{instance_of}
-use Rattle.dr_pdu.specs.Feeding.{fresh}
-use Rattle.dr_session.specs.Ends.{accepting, requesting}
-use Rattle.dr_ledger.proofs.Maps.{get_other, same_or_not, texts, ties_itself}
-use Rattle.dr_session.specs.declared.ends.Input.{Input}
-use Rattle.dr_session.specs.declared.ends.Input.TheVariants as input
+use Rattle.dr_ledger.proofs.Maps.{same_or_not, texts, ties_itself}
 use Rattle.dr_world_model.specs.Worlds.{Link, World, same_text, start}
-use Rattle.dr_world_model.specs.Worlds.{Stage, Asking, Answering, Rejecting, Open, Storing}
-use Rattle.dr_world_model.specs.Worlds.{Replying, Gone}
-use Rattle.dr_world_model.specs.Steps.{IsLink, NoneIsPending, pending}
-use Rattle.dr_session.specs.declared.ends.Core.{Core}
-use Rattle.dr_session.specs.Pendings.{pending_of}
-use Rattle.dr_ledger.specs.declared.item.Instance.{Instance}
-use Rattle.dr_world_model.specs.Events.{Event, Ask, Drop, Forget, Refuse, Requeue, Take, Tick}
+use Rattle.dr_world_model.specs.Steps.{IsLink, NoneIsPending}
+use Rattle.dr_world_model.specs.Events.{Event, Drop, Forget, Refuse, Requeue, Take, Tick}
 use Rattle.dr_world_model.specs.Events.{StayAway as AwayEvent}
-use Rattle.dr_world_model.specs.Steps.{IsHop, asked, new_link, passed}
-use Rattle.dr_world_model.proofs.Lookups.{numbers as numbers_of}
+use Rattle.dr_world_model.specs.Steps.{passed}
 use Rattle.dr_world_model.specs.Among.{Ours, Act, ArrivesAtOurs, Own, RunsAmong, HeadlineAmong}
 use Rattle.dr_world_model.proofs.AmongActs.{headline_holds_among}
 use Rattle.dr_world_tie.specs.ByteWorlds.{Side, Requestor, Acceptor}
@@ -36,32 +26,27 @@ use Rattle.dr_world_tie.specs.Desks.{Desk, LedgerStep}
 use Rattle.dr_session.specs.Desks.{Settle, Settling}
 use Rattle.dr_ledger.specs.declared.item.Outcome.TheVariants.{Broken}
 use Rattle.dr_world_tie.specs.Channels.{LiveTerminal}
-use Rattle.dr_world_tie.specs.Nodes.{GivesUpAt, HappensAt, OnlyAt}
+use Rattle.dr_world_tie.specs.Nodes.{GivesUpAt, HappensAt}
 use Rattle.dr_world_tie.specs.Ties.{IsDeskOf, with_desk}
-use Rattle.dr_world_tie.specs.Foreign.{CallsAsNoneOfOurs, Came, ComeAll, OnlyOf, OthersHaveNone}
+use Rattle.dr_world_tie.specs.Foreign.{OnlyOf, OthersHaveNone}
 use Rattle.dr_world_tie.specs.Foreign.{ShowsForeign}
-use Rattle.dr_world_tie.specs.ForeignCalls.{CallsIn, LeadsTo, ShowsCall, acts_of, acts_of_all}
-use Rattle.dr_world_tie.specs.ForeignCalls.{CallsAt, IsCallOf, acts_of_push}
+use Rattle.dr_world_tie.specs.ForeignCalls.{CallsAt, IsCallOf}
 use Rattle.dr_world_tie.specs.ForeignWorlds.{OwnEnd, OwnWorld, with_end, with_done, own_beginning}
 use Rattle.dr_world_tie.specs.ForeignWorlds.{OwnStep, Listens, Opens, Hears, Meets}
-use Rattle.dr_world_tie.specs.ForeignWorlds.{Submits, Passes, HearsWhat, MeetsWhat}
-use Rattle.dr_world_tie.specs.ForeignWorlds.{BeginsListening, BeginsCalling, DoesAlone}
+use Rattle.dr_world_tie.specs.ForeignWorlds.{Submits, Passes}
+use Rattle.dr_world_tie.specs.ForeignWorlds.{DoesAlone}
 use Rattle.dr_world_tie.specs.ForeignWorlds.{EndsAreAskedSo, OthersAreNotHere, OursCanListen}
 use Rattle.dr_world_tie.specs.ForeignWorlds.{Forgets, NoneAwaits}
 use Rattle.dr_world_tie.specs.ForeignWorlds.{GivesUp, OwnSteps, PutsBack, Refuses, Restarts}
 use Rattle.dr_world_tie.specs.ForeignWorlds.{StaysAway}
 use Rattle.dr_world_tie.specs.ForeignWorlds.{OwnRuns, ShowsBy, ShowsOwn, OwnWorldsKeepTheClaims}
-use Rattle.dr_world_tie.proofs.Foreigners.{acceptors_begin, all_only, all_run, are_kept, only_none}
-use Rattle.dr_world_tie.proofs.Foreigners.{one_input_comes, runs_on}
-use Rattle.dr_world_tie.proofs.ForeignPushes.{one_push_comes, requestors_begin}
-use Rattle.dr_world_tie.proofs.ForeignReplies.{one_answer_comes}
-use Rattle.dr_world_tie.proofs.LinksToOthers.{what_acceptors_hear, what_requestors_hear}
+use Rattle.dr_world_tie.proofs.Foreigners.{runs_on}
 use Rattle.dr_world_tie.proofs.Nodes.{giving_up_is_drop, refusing_is_refuse}
 use Rattle.dr_world_tie.proofs.Nodes.{requeueing_is_requeue, staying_away_is_stay_away}
 use Rattle.dr_world_tie.proofs.Nodes.{forgetting_is_forget, submitting_takes}
 use Rattle.dr_world_tie.proofs.OwnRestarts.{restart_is_shown, without_is}
 use Rattle.dr_world_tie.proofs.Foreigners.{one_link}
-use Rattle.dr_world_tie.proofs.EndsAlone.{Beside, Counts, hears, listens, meets, opens, shown_call}
+use Rattle.dr_world_tie.proofs.EndsAlone.{Beside, Counts, hears, listens, meets, opens}
 use Rattle.dr_world_tie.proofs.EndsAlone.{only_at, pend_by, shown_as, shown_still}
 
 module _ (ours : Ours) (plan : Network) (certificate : Certificate) where
@@ -282,8 +267,8 @@ module _ (ours : Ours) (plan : Network) (certificate : Certificate) where
     abbrev Shown_own : OwnWorld → World → Type 0
     Shown_own c v = ShowsOwn ours plan certificate c v
 
-    beside : Beside ours plan certificate b w Shown_own (λ i. Unit {0})
-    beside = record {
+    ends_beside : Beside ours plan certificate b w Shown_own (λ i. Unit {0})
+    ends_beside = record {
       time = shows.time;
       desks = shows.desks;
       numbers = shows.numbers;
@@ -348,8 +333,11 @@ module _ (ours : Ours) (plan : Network) (certificate : Certificate) where
         → NoneIsPending w node uid
     none_pending node uid none its number link item there caller on pend same =
         let a = shows.called number link there (ap ours caller ∙ its) in
-        let s = shown_call ours plan certificate certified b w Shown_own (λ j. Unit {0}) beside
-        others a.0 a.1 a.2 a.4 in
+        let s : ShowsBy ours plan certificate w (shows.numbers a.0) Requestor a.1.node a.1.terminal =
+        subst
+        (λ (z : Side).
+        ShowsBy ours plan certificate w (shows.numbers a.0) z a.1.node a.1.terminal) a.4
+        (shows.ends a.0 a.1 a.2) in
         let number_is : s.0 ≡ number = same_Some s.0 number (sym s.1 ∙ a.3) in
         let at : IsLink w number s.2.1.0 =
         subst (λ (n : ℕ). IsLink w n s.2.1.0) number_is s.2.1.1 in
@@ -366,13 +354,13 @@ module _ (ours : Ours) (plan : Network) (certificate : Certificate) where
         → OwnSteps ours plan certificate b step new
         → Acts w new
     one_step (Listens i node) new h = listens ours plan certificate certified b w Shown_own
-        (λ j. Unit {0}) beside others i node new tt h
+        (λ j. Unit {0}) ends_beside others i node new tt h
     one_step (Opens i node dest) new h = opens ours plan certificate certified b w Shown_own
-        (λ j. Unit {0}) beside others i node dest new tt h
+        (λ j. Unit {0}) ends_beside others i node dest new tt h
     one_step (Hears i came) new h = hears ours plan certificate certified b w Shown_own
-        (λ j. Unit {0}) beside others i came new h
+        (λ j. Unit {0}) ends_beside others i came new h
     one_step (Meets i what) new h = meets ours plan certificate certified b w Shown_own
-        (λ j. Unit {0}) beside others i what new h
+        (λ j. Unit {0}) ends_beside others i what new h
     one_step (Submits node item) new h = alone node _ new h
         (Take node (instance_of item) h.does.0) h.own
         (submitting_takes plan w node item (b.desks node) h.after h.does.0 h.is_node
