@@ -122,9 +122,9 @@ module _ {D : Type 0} {g : Ghosts D} where
       → AreUsed (UsesOn shelf) (bodies_of db)
       → (IsCleanOn after → All (AreUsedUnder (UsesOn shelf) db) prints → All (AreOwnUnder (StandsOn shelf) db) prints → ⊥)
       → IsOtherOn db shelf
-  is_other shelf after db prints are together used no = (
+  is_other shelf after db prints are together used apart = (
     after,
-    λ clean own. no clean (used_under (UsesOn shelf) db prints are used) (all_read (StandsOn shelf) db prints are together own),
+    λ clean own. apart clean (used_under (UsesOn shelf) db prints are used) (all_read (StandsOn shelf) db prints are together own),
   )
 
   -- ---- a ledger that was found with its shelf
@@ -213,6 +213,12 @@ module _ {D : Type 0} {g : Ghosts D} where
       → IfOk r (λ it. HasCleanDisk new → HasOwnOn new.committed.trees it.shelf)
   found_own part old new (Ok it) w = w.own
   found_own part old new (Err fault) w = tt
+
+  pub new_as : (made : Bool) (keeping : Keeping) (opened : OpenedLedger D g) (r : Result (OpenedLedger D g) OpeningFault) → made ≡ true
+      → MatchResult r (λ it. (it ≡ opened) × (it.next ≡ 1) × (named_on it.shelf ≡ names_in keeping)) (λ fault. fault ≡ opening.OtherSite)
+      → MatchResult r (λ it. (it ≡ opened) × (made ≡ true → (it.next ≡ 1) × (named_on it.shelf ≡ names_in keeping))) (λ fault. (fault ≡ opening.OtherSite) × (made ≡ true))
+  new_as made keeping opened (Ok it) was m = (m.0, λ yes. (m.1, m.2))
+  new_as made keeping opened (Err fault) was m = (m, was)
 
   -- where its tables may have been made just now
   pub whole_made : (Stood : Type 0) (made : Bool) (keeping : Keeping) (part : Part) (old new : State) (opened : OpenedLedger D g) (r : Result (OpenedLedger D g) OpeningFault)

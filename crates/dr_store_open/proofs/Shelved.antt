@@ -40,14 +40,14 @@ pub as_told : (Was Is : Type 0) (own : Bool) (r : Result (Unit {0}) OpeningFault
     → MatchResult r (λ done. IsTrue own) (λ fault. (own ≡ false) × (fault ≡ opening.OtherSite))
     → Tells Was Is own
     → MatchResult r (λ done. Is) (λ fault. fault ≡ opening.OtherSite → Was → ⊥)
-as_told Was Is own (Ok done) yes told = told.0 yes
-as_told Was Is own (Err fault) no told = λ other was. true≢false (sym (told.1 was) ∙ no.0)
+as_told Was Is own (Ok done) true_is told = told.0 true_is
+as_told Was Is own (Err fault) false_is told = λ other was. true≢false (sym (told.1 was) ∙ false_is.0)
 
 pub not_other : (own : Bool) (r : Result (Unit {0}) OpeningFault)
     → MatchResult r (λ done. IsTrue own) (λ fault. (own ≡ false) × (fault ≡ opening.OtherSite))
     → IfErr r (λ fault. IsOfData fault → ⊥)
-not_other own (Ok done) yes = tt
-not_other own (Err fault) no = λ it. subst IsOfData no.1 it
+not_other own (Ok done) true_is = tt
+not_other own (Err fault) false_is = λ it. subst IsOfData false_is.1 it
 
 -- ---- pieces of lists
 

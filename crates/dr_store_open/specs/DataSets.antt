@@ -62,7 +62,7 @@ AreUsedUnder Uses db p = p.1.whole ≡ true → IsUsedAt Uses p.0 db
 -- what a test tells, between which the shelf may have changed: where it says yes, this is so, and
 -- where that was so before, it says yes
 abbrev pub Tells : (Was Is : Type 0) → Bool → Type 0
-Tells Was Is yes = (IsTrue yes → Is) × (Was → IsTrue yes)
+Tells Was Is told = (IsTrue told → Is) × (Was → IsTrue told)
 
 -- ---- the extents that cells name
 

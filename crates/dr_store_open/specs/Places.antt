@@ -43,6 +43,10 @@ abbrev pub IsPlaceIn : List ℕ → DataPlace → Type 0
 IsPlaceIn mark InRows = mark ≡ []
 IsPlaceIn mark (InFile said) = IsMarkOf mark said
 
+-- a file that shows this has the head of the mark, and whatever a crash leaves of it
+abbrev pub IsBegun : DataMark → List ℕ → (List ℕ → Type 0) → Type 0
+IsBegun said seen may_leave = HasHead said.mark seen × Only seen may_leave
+
 module _ {D : Type 0} {g : Ghosts D} where
   -- the shelf is in that place
   abbrev pub IsAt : DataPlace → LedgerShelf D g → Type 0
@@ -76,7 +80,3 @@ module _ {D : Type 0} {g : Ghosts D} where
   IsOtherOn db shelf =
       (after : LedgerShelf D g)
       × (IsCleanOn after → ((uid : Text) → IsOwn (StandsOn shelf) uid db) → ⊥)
-
-  -- the file has the head of this mark, and whatever a crash leaves has it
-  abbrev pub IsBegun : DataMark → D → Type 0
-  IsBegun said disk = HasHead said.mark (g.seen disk) × Only (g.seen disk) (g.may_leave disk)

@@ -30,7 +30,8 @@ fn begun<D: Disk + Drop>(
     alloc: Global,
     mark: &DataMark,
 ) -> Result<(Option<D>, Vec<u8>), OpeningFault>
-    ensures head { IfOk result (λ made. MatchOption made.0 ⊥ (IsBegun mark.now)) }
+    ensures head { IfOk result (λ made. MatchOption made.0 ⊥ (λ it.
+        IsBegun mark.now (D.Disk.seen it) (D.Disk.may_leave it))) }
     ensures bytes { IfOk result (λ made. made.1.items ≡ bytes_of_mark mark.now) }
 {
     let mut disk = disk;
@@ -48,7 +49,8 @@ fn drawn<F: DataFile>(
 ) -> Result<(Option<F::Disk>, Vec<u8>), OpeningFault>
     ensures { IfOk result (λ made. (said : AMark)
         × (made.1.items ≡ bytes_of_mark said)
-        × MatchOption made.0 ⊥ (IsBegun said)) }
+        × MatchOption made.0 ⊥ (λ it. IsBegun said (F.Disk.Disk.seen it)
+        (F.Disk.Disk.may_leave it))) }
 {
     match data.draw(alloc) {
         Ok(mark) => begun(disk, alloc, &mark),
@@ -63,7 +65,8 @@ fn new_file<F: DataFile>(
 ) -> Result<(Option<F::Disk>, Vec<u8>), OpeningFault>
     ensures { IfOk result (λ made. (said : AMark)
         × (made.1.items ≡ bytes_of_mark said)
-        × MatchOption made.0 ⊥ (IsBegun said)) }
+        × MatchOption made.0 ⊥ (λ it. IsBegun said (F.Disk.Disk.seen it)
+        (F.Disk.Disk.may_leave it))) }
 {
     match data.make(alloc) {
         Ok(disk) => drawn(alloc, data, disk),
@@ -85,7 +88,8 @@ pub fn new_data<F: DataFile>(
     ensures file { keeping ≡ wanted.InFile
         → IfOk result (λ made. (said : AMark)
         × (made.1.items ≡ bytes_of_mark said)
-        × MatchOption made.0 ⊥ (IsBegun said)) }
+        × MatchOption made.0 ⊥ (λ it. IsBegun said (F.Disk.Disk.seen it)
+        (F.Disk.Disk.may_leave it))) }
     ensures why { IfErr result (λ fault. keeping ≡ wanted.InFile) }
 {
     match keeping {

@@ -319,8 +319,26 @@ fn prepare<S: Alter, F: DataFile>(
     renewed(conn, alloc, site)
 }
 
-/// A ledger that was opened, where it is as it was made, if its tables were made just now: without
-/// any line, and with its data sets where they were wanted.
+/// A ledger whose tables were made just now, where it has no line yet, and its data sets are where
+/// they were wanted.
+fn as_new<D: Disk + Drop>(
+    keeping: Keeping,
+    opened: OpenedLedger<D>,
+) -> Result<OpenedLedger<D>, OpeningFault>
+    ensures { MatchResult result
+        (λ it. (it ≡ opened) × (it.next ≡ 1) × (named_on it.shelf ≡ names_in keeping))
+        (λ fault. fault ≡ opening.OtherSite) }
+{
+    if opened.next != 1 {
+        return Err(OpeningFault::OtherSite);
+    }
+    if !is_wanted(keeping, &opened.shelf) {
+        return Err(OpeningFault::OtherSite);
+    }
+    Ok(opened)
+}
+
+/// A ledger that was opened, where it is as it was made, if its tables were made just now.
 fn as_made<D: Disk + Drop>(
     made: bool,
     keeping: Keeping,
@@ -330,8 +348,8 @@ fn as_made<D: Disk + Drop>(
         × (made ≡ true → (it.next ≡ 1) × (named_on it.shelf ≡ names_in keeping)))
         (λ fault. (fault ≡ opening.OtherSite) × (made ≡ true)) }
 {
-    if made && (opened.next != 1 || !is_wanted(keeping, &opened.shelf)) {
-        return Err(OpeningFault::OtherSite);
+    if made {
+        return as_new(keeping, opened);
     }
     Ok(opened)
 }

@@ -5,6 +5,9 @@ use Rattle.dr_store_open.proofs.Chains.{ready_again, ready_not}
 use Rattle.dr_store_open.proofs.Opens.{has_own, is_other}
 use Rattle.dr_store_open.proofs.opening.open_on.Goals as goal
 
+pub test_all-requires : goal.test_all-requires
+test_all-requires g c = c.requires.ready
+
 pub returns-in-Ok-clause-ready : goal.returns-in-Ok-clause-ready
 returns-in-Ok-clause-ready g c =
     ready_again c.args.found.next (state g.S.Store c.args.conn.now) (state g.S.Store c.test_all.new.conn) _ _ c.in-Ok.ensures.ready
