@@ -128,7 +128,10 @@ fn open_on<S: Alter, D: Disk + Drop>(
             shelf,
             next: found.next,
         }),
-        Err(fault) => Err(fault),
+        Err(fault) => {
+            drop(shelf);
+            Err(fault)
+        }
     }
 }
 

@@ -95,7 +95,7 @@ use Rattle.dr_world.specs.Runs.{step_of}
 use Rattle.dr_world.specs.Shows.{Contents, ShowsBytes, desk_at}
 use Rattle.dr_world.specs.Whole.{contents}
 use Rattle.dr_world.proofs.Ending.{ended_over}
-use Rattle.dr_world.proofs.Sited.{bytes_keep, reacts_keep}
+use Rattle.dr_world_tie.proofs.Sited.{bytes_keep, reacts_keep}
 
 -- a number is the other, or not
 place : (n number : ℕ) → ((n ≡ number) × ((n == number) ≡ true)) ⊎ ((eq_by_cmp nat_cmp n number ≡ false) × ((n == number) ≡ false))

@@ -49,7 +49,7 @@ use Rattle.dr_world.proofs.AtNodes.{one_seat}
 use Rattle.dr_world.proofs.Doing.{caller_done, receiver_done, still_seated}
 use Rattle.dr_world.proofs.Meeting.{Happened, happens, is_moment, abort_noted, release_noted, late_noted}
 use Rattle.dr_world.proofs.Noted.{WritesIf, push_rests}
-use Rattle.dr_world.proofs.Sited.{reacts_keep}
+use Rattle.dr_world_tie.proofs.Sited.{reacts_keep}
 
 -- ---- the two sides
 

@@ -8,7 +8,6 @@ pub mod LettingGo
 pub mod StayingAway
 pub mod Stepping
 pub mod Scanners
-pub mod Sited
 pub mod Noted
 pub mod Doing
 pub mod Meeting

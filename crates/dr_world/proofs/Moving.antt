@@ -25,7 +25,7 @@ use Rattle.dr_world.specs.Ends.{name_at, wire_at}
 use Rattle.dr_world.specs.Nodes.{event_at}
 use Rattle.dr_world.proofs.Asking.{Found, found, shown, end_of, node_of, accepts, read_at, wire_of, named_so}
 use Rattle.dr_world.proofs.Meeting.{hears, is_moment}
-use Rattle.dr_world.proofs.Sited.{bytes_keep}
+use Rattle.dr_world_tie.proofs.Sited.{bytes_keep}
 
 -- where bytes are on the wire
 caller_reads : (xs : List ℕ) → xs ≢ [] → (plan : Network) (b : ByteWorld) (number : ℕ) (k : Channel) (n : ℕ) (after : ByteWorld) → nat_le 1 n ≡ true → CallerHears plan b number k n after → CallerReads xs plan b number k n Done after

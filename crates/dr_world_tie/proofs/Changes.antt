@@ -3,12 +3,11 @@ use Rattle.std.proofs.Common.{◌≡◌, ℕ, Bool, true, false, List, [], ◌�
 use Rattle.std.proofs.Math.Logic.{∥∥₁_map, ∥∥₁_elim, ∥∥₁_prop}
 use Rattle.std.proofs.lemmas.Bool.{false≢true}
 use Rattle.std.specs.Prelude.{◌≢◌}
-use Rattle.std.specs.Option.{option_map_or}
 use Rattle.std.specs.Ordering.{nat_cmp}
 use Rattle.std.specs.FinMap as map_of
 use Rattle.std.specs.FinMap.{FinMap}
 use Rattle.std.specs.FinSet as set
-use Rattle.dr_base.specs.Texts.{Text, text_cmp}
+use Rattle.dr_base.specs.Texts.{Text}
 use Rattle.dr_route.specs.Routes.{local}
 use Rattle.dr_route.specs.declared.key.Key.{Key}
 use Rattle.dr_plan_model.specs.Networks.{Network}
@@ -30,15 +29,15 @@ use Rattle.dr_session.specs.Ends.{is_gone}
 use Rattle.dr_session.specs.Ledgers.{Desk, desk}
 use Rattle.dr_world_model.specs.Worlds.{World, Link, Stage, Asking, Answering, Rejecting, Open, Storing, Replying, Gone, start}
 use Rattle.dr_world_model.specs.Steps.{IsLink}
-use Rattle.dr_world_model.specs.Events.{Event, HasNode, Step}
+use Rattle.dr_world_model.specs.Events.{HasNode}
 use Rattle.dr_world_model.specs.Runs.{Action, Occurs, Adopt, Adopts, Runs}
 use Rattle.dr_world_model.proofs.AdoptionsKept.{no_row, node_or_not}
 use Rattle.dr_world_model.proofs.FromSafety.{headline_holds}
 use Rattle.dr_world_model.proofs.Lasting.{kept_stays_kept}
-use Rattle.dr_world_tie.specs.Channels.{Channel, ShowsLink, IsCaller, IsReceiver}
+use Rattle.dr_world_tie.specs.Channels.{Channel, IsCaller, IsReceiver}
 use Rattle.dr_world_tie.specs.ByteWorlds.{ByteWorld, beginning, WorldStep, StepNote, is_over}
 use Rattle.dr_world_tie.specs.Shown.{ShowsWorld, ShowsAt, Comes}
-use Rattle.dr_world_tie.specs.Changes.{AllAreOver, TakesPlan, PlansAreAdopted, Deed, Does, Takes, RunsThrough, ComesThrough, ChangesKeepTheHeadline, WhatIsKeptStaysThrough, PlansCanBeTaken, NewWorldsMayTake, WhatIsTakenIsOne}
+use Rattle.dr_world_tie.specs.Changes.{TakesPlan, PlansAreAdopted, Deed, Does, Takes, RunsThrough, ChangesKeepTheHeadline, WhatIsKeptStaysThrough, PlansCanBeTaken, NewWorldsMayTake, WhatIsTakenIsOne}
 use Rattle.dr_world_tie.proofs.Others.{state_is, shown_channel}
 use Rattle.dr_world_tie.proofs.World.{world_steps, beside_beginning}
 
@@ -47,7 +46,7 @@ use Rattle.dr_world_tie.proofs.World.{world_steps, beside_beginning}
 not_over : (c : Core) (state : State) → state_of c.phase ≡ state → is_gone state ≡ false → is_over c ≡ true → ⊥
 not_over c state e f over = false≢true (sym f ∙ (sym (ap is_gone e) ∙ over))
 
-caller_off : (on : Bool) (stage : Stage) (receiver : Text) (c : Core) → IsCaller on stage receiver c → is_over c ≡ true → on ≡ false
+pub caller_off : (on : Bool) (stage : Stage) (receiver : Text) (c : Core) → IsCaller on stage receiver c → is_over c ≡ true → on ≡ false
 caller_off false stage receiver c h over = refl
 caller_off true Asking receiver c h over = absurd (not_over c Sta5 (state_is c true Sta5 h.0) refl over)
 caller_off true (Answering accepted) receiver c h over = absurd (not_over c Sta5 (state_is c true Sta5 h.0) refl over)
@@ -57,7 +56,7 @@ caller_off true (Storing accepted item) receiver c h over = absurd (not_over c S
 caller_off true (Replying accepted item status) receiver c h over = absurd (not_over c Sta6 (state_is c true Sta6 h.0.0) refl over)
 caller_off true Gone receiver c h over = absurd h
 
-receiver_off : (on : Bool) (stage : Stage) (caller : Text) (c : Core) → IsReceiver on stage caller c → is_over c ≡ true → on ≡ false
+pub receiver_off : (on : Bool) (stage : Stage) (caller : Text) (c : Core) → IsReceiver on stage caller c → is_over c ≡ true → on ≡ false
 receiver_off false stage caller c h over = refl
 receiver_off true Asking caller c h over = absurd (not_over c Sta2 (state_is c false Sta2 h.0) refl over)
 receiver_off true (Answering accepted) caller c h over = absurd (not_over c Sta6 (state_is c false Sta6 h.0.0.0) refl over)

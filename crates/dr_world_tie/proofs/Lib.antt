@@ -11,10 +11,16 @@ pub mod ContextSets
 pub mod ForeignPushes
 pub mod ForeignReplies
 pub mod Foreigners
+pub mod EndsAlone
 pub mod Fragments
 pub mod Fronts
 pub mod Giving
 pub mod LinksToOthers
+pub mod MixedChanges
+pub mod MixedCounts
+pub mod MixedRestarts
+pub mod MixedUpdates
+pub mod MixedWorlds
 pub mod Moves
 pub mod Moving
 pub mod Nodes
@@ -24,6 +30,7 @@ pub mod Opening
 pub mod OwnChanges
 pub mod OwnRestarts
 pub mod OwnWorlds
+pub mod PairsCome
 pub mod Pendings
 pub mod Pushing
 pub mod Rejections
@@ -32,6 +39,7 @@ pub mod Requests
 pub mod Responses
 pub mod Restarted
 pub mod Restarting
+pub mod Sited
 pub mod Sites
 pub mod Shown
 pub mod Stores

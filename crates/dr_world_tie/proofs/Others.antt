@@ -53,7 +53,7 @@ not_open : (c : Core) (state : State) → state_of c.phase ≡ state → is_open
 not_open c state e f h = false≢true (sym f ∙ (sym (ap is_open e) ∙ h))
 
 -- an open end is one of an accepted association
-accepted_there : (on : Bool) (stage : Stage) (caller : Text) (c : Core) → IsReceiver on stage caller c → is_open (state_of c.phase) ≡ true → (on ≡ true) × IsAccepted stage
+pub accepted_there : (on : Bool) (stage : Stage) (caller : Text) (c : Core) → IsReceiver on stage caller c → is_open (state_of c.phase) ≡ true → (on ≡ true) × IsAccepted stage
 accepted_there true Asking caller c h open_it = absurd (not_open c Sta2 (state_is c false Sta2 h.0) refl open_it)
 accepted_there true (Answering accepted) caller c h open_it = (refl, answering accepted)
 accepted_there true (Open accepted) caller c h open_it = (refl, opened accepted)
@@ -65,7 +65,7 @@ accepted_there false stage caller c (free, inl none) open_it = absurd (not_open 
 accepted_there false stage caller c (free, inr (inl (side, at, awaits, none))) open_it = absurd (false≢true side)
 accepted_there false stage caller c (free, inr (inr at)) open_it = absurd (not_open c Sta13 (state_is c false Sta13 at) refl open_it)
 
-open_there : (stage : Stage) (caller : Text) (c : Core) → IsReceiver true stage caller c → IsAccepted stage → is_open (state_of c.phase) ≡ true
+pub open_there : (stage : Stage) (caller : Text) (c : Core) → IsReceiver true stage caller c → IsAccepted stage → is_open (state_of c.phase) ≡ true
 open_there stage caller c h (answering accepted) = ap is_open (state_is c false Sta6 h.0.0.0)
 open_there stage caller c h (opened accepted) = ap is_open (state_is c false Sta6 h.0.0.0)
 open_there stage caller c h (storing accepted item) = ap is_open (state_is c false Sta6 h.0.0)

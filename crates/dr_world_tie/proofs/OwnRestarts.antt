@@ -1,6 +1,6 @@
 -- A node of ours starts anew among other makers' products.
-use Rattle.std.proofs.Common.{◌≡◌, ◌≢◌, ◌⊎◌, ◌≤◌, ℕ, Bool, true, false, List, [], ◌∷◌, Option, None, Some, Err}
-use Rattle.std.proofs.Common.{Contains, refl, sym, ap, subst, ◌∙◌, inl, inr, arith}
+use Rattle.std.proofs.Common.{◌≡◌, ◌≢◌, ◌≤◌, ℕ, Bool, true, false, List, [], ◌∷◌, Option, None, Some, Err}
+use Rattle.std.proofs.Common.{Contains, refl, sym, ap, subst, ◌∙◌, inl, inr}
 use Rattle.std.specs.Prelude.{AllPairs, cond, not, if◌then◌else◌}
 use Rattle.std.specs.declared.cmp.Ordering.TheVariants.{Equal, Less}
 use Rattle.std.specs.Ordering.{nat_cmp}
@@ -31,8 +31,8 @@ use Rattle.dr_world_model.proofs.Pinned.{restarts_in_order}
 use Rattle.dr_world_model.proofs.Restarting.{callers_are_those_who_call}
 use Rattle.dr_world_tie.specs.ByteWorlds.{Acceptor, Requestor, Side}
 use Rattle.dr_world_tie.specs.Channels.{LiveTerminal}
-use Rattle.dr_world_tie.specs.Foreign.{OthersHaveNone, ShowsForeign}
-use Rattle.dr_world_tie.specs.ForeignCalls.{IsCallOf, ShowsCall}
+use Rattle.dr_world_tie.specs.Foreign.{OthersHaveNone}
+use Rattle.dr_world_tie.specs.ForeignCalls.{IsCallOf}
 use Rattle.dr_world_tie.specs.ForeignWorlds.{OwnEnd, OwnWorld, ShowsBy, ShowsOwn, without_node}
 use Rattle.dr_world_tie.proofs.Foreigners.{none_waits, one_link, same_books}
 use Rattle.dr_world_tie.proofs.Others.{as_pairs}
@@ -104,22 +104,22 @@ not_below_itself n h = (let e : Less ≡ Equal = sym h ∙ tied_itself numbers.t
 
 module _ (node : Text) where
   -- another product called the node, and is on
-  abbrev IsCaller : World → ℕ → Type 0
+  abbrev pub IsCaller : World → ℕ → Type 0
   IsCaller w number =
       (link : Link) × IsLink w number link × (link.receiver ≡ node)
       × (link.caller_connected ≡ true)
       × (w.books link.caller ≡ empty_book)
 
   -- all of these have left
-  record AllLeft (w : World) (all : List ℕ) : Type 0 where
-    mid : World
-    answers : List (Option Answer)
-    leave : LeaveAll w all answers mid
-    books : (name : Text) → mid.books name ≡ w.books name
-    armed : mid.armed ≡ w.armed
-    rest : (mid.time ≡ w.time) × (mid.stood ≡ w.stood) × (mid.opened ≡ w.opened)
-    others : (n : ℕ) → (Contains all n → ⊥) → map_of.get mid.links n ≡ map_of.get w.links n
-    called : (n : ℕ) → Contains all n → (link : Link) × IsLink mid n link × (link.receiver ≡ node)
+  pub record AllLeft (w : World) (all : List ℕ) : Type 0 where
+    pub mid : World
+    pub answers : List (Option Answer)
+    pub leave : LeaveAll w all answers mid
+    pub books : (name : Text) → mid.books name ≡ w.books name
+    pub armed : mid.armed ≡ w.armed
+    pub rest : (mid.time ≡ w.time) × (mid.stood ≡ w.stood) × (mid.opened ≡ w.opened)
+    pub others : (n : ℕ) → (Contains all n → ⊥) → map_of.get mid.links n ≡ map_of.get w.links n
+    pub called : (n : ℕ) → Contains all n → (link : Link) × IsLink mid n link × (link.receiver ≡ node)
 
   all_left : (all : List ℕ) → AllPairs (λ p q. nat_cmp p q ≡ Less) all → (w : World)
       → ((n : ℕ) → Contains all n → IsCaller w n)
@@ -209,11 +209,11 @@ module _ (node : Text) where
       ∙ ap (λ (c : Bool). if c then None else Some e) apart
 
   -- the number of an end that is left
-  abbrev left_number : Option OwnEnd → Option ℕ → Option ℕ
+  abbrev pub left_number : Option OwnEnd → Option ℕ → Option ℕ
   left_number None number = number
   left_number (Some e) number = if same_text e.node node then None else number
 
-  left_was : (q : Option OwnEnd) (number : Option ℕ) (n : ℕ) → left_number q number ≡ Some n
+  pub left_was : (q : Option OwnEnd) (number : Option ℕ) (n : ℕ) → left_number q number ≡ Some n
       → number ≡ Some n
   left_was None number n h = h
   left_was (Some e) number n h = by_name (same_text e.node node) h
@@ -222,14 +222,14 @@ module _ (node : Text) where
       by_name true f = (let g : None ≡ Some n = f in absurd (cc g))
       by_name false f = f
 
-  left_still : (q : Option OwnEnd) (e : OwnEnd) (number : Option ℕ) → q ≡ Some e
+  pub left_still : (q : Option OwnEnd) (e : OwnEnd) (number : Option ℕ) → q ≡ Some e
       → same_text e.node node ≡ false
       → left_number q number ≡ number
   left_still q e number is apart =
       ap (λ (z : Option OwnEnd). left_number z number) is
       ∙ ap (λ (c : Bool). if c then None else number) apart
 
-  left_free : (q : Option OwnEnd) (number : Option ℕ) → (q ≡ None → number ≡ None)
+  pub left_free : (q : Option OwnEnd) (number : Option ℕ) → (q ≡ None → number ≡ None)
       → without_node node q ≡ None
       → left_number q number ≡ None
   left_free None number free none = free refl
@@ -239,6 +239,144 @@ module _ (node : Text) where
           → (if c then None else number) ≡ None
       by_name true f = refl
       by_name false f = (let g : Some e ≡ None = f in absurd (cc g))
+
+-- ---- a node that only others call, connected
+
+module _ (w : World) (node : Text)
+    (callers : (n : ℕ) → Contains (callers_of w node) n → IsCaller node w n) where
+  pub all_gone : AllLeft node w (callers_of w node)
+  all_gone = all_left node (callers_of w node) (as_pairs (callers_of w node) (restarts_in_order w node)) w
+      callers
+
+  abbrev pub started_anew : World
+  started_anew = with_links all_gone.mid (links_without all_gone.mid.links node)
+
+  got : (n : ℕ) → map_of.get started_anew.links n
+      ≡ cond (not (is_of node (map_of.get all_gone.mid.links n))) (map_of.get all_gone.mid.links n) None
+  unfolding links_without
+  got n =
+      let p : ℕ → Bool = λ m. not (is_of node (map_of.get all_gone.mid.links m)) in
+      map_of.get-retain_keys all_gone.mid.links p n (λ x e. ap p (sym (numbers.exact n x e)))
+
+  pub named_node : (name : Text) → name ≡ node → same_text name node ≡ true
+  named_node name same = ap (λ (z : Text). same_text z node) same ∙ ties_itself texts node
+
+  -- a link of other nodes stays as it was
+  pub kept_link : (n : ℕ) (link : Link) → IsLink w n link → same_text link.caller node ≡ false
+      → same_text link.receiver node ≡ false
+      → IsLink started_anew n link
+  kept_link n link here caller receiver =
+      let mid_is : map_of.get all_gone.mid.links n ≡ Some link = all_gone.others n (λ among.
+      (let c = (callers_are_those_who_call w node n).0 among in
+      let same : c.0 ≡ link = one_link w n c.0 link c.1 here in
+      false≢true (sym receiver
+      ∙ named_node link.receiver (ap (λ (l : Link). l.receiver) (sym same) ∙ c.2)))) ∙ here in
+      let none_of : is_of node (map_of.get all_gone.mid.links n) ≡ false =
+      ap (λ (o : Option Link). is_of node o) mid_is
+      ∙ (ap (λ (c : Bool). cond c true (same_text link.receiver node)) caller ∙ receiver) in
+      got n
+      ∙ (ap (λ (c : Bool). cond (not c) (map_of.get all_gone.mid.links n) None) none_of ∙ mid_is)
+
+  -- and what is there was there
+  pub link_was : (n : ℕ) (link : Link) → IsLink started_anew n link
+      → IsLink w n link × (same_text link.caller node ≡ false)
+  link_was n link here = by_link (map_of.get all_gone.mid.links n) refl (sym (got n) ∙ here)
+    where
+      by_of : (l : Link) → map_of.get all_gone.mid.links n ≡ Some l
+          → (c : Bool) → is_of node (Some l) ≡ c
+          → cond (not c) (Some l) None ≡ Some link
+          → IsLink w n link × (same_text link.caller node ≡ false)
+      by_of l at true e f = (let g : None ≡ Some link = f in absurd (cc g))
+      by_of l at false e f =
+          let same : l ≡ link = same_Some l link f in
+          let none_of : is_of node (Some link) ≡ false =
+          subst (λ (z : Link). is_of node (Some z) ≡ false) same e in (
+            sym (all_gone.others n (λ among.
+                (let c = all_gone.called n among in
+                let one : c.0 ≡ l = same_Some c.0 l (sym c.1 ∙ at) in
+                false≢true (sym e ∙ either (same_text l.caller node)
+                (named_node l.receiver (ap (λ (z : Link). z.receiver) (sym one) ∙ c.2))))))
+                ∙ (at ∙ f),
+            first_false (same_text link.caller node) none_of,
+          )
+        where
+          either : (c : Bool) → same_text l.receiver node ≡ true
+              → cond c true (same_text l.receiver node) ≡ true
+          either true h = refl
+          either false h = h
+
+          first_false : (c : Bool) → cond c true (same_text link.receiver node) ≡ false → c ≡ false
+          first_false true h = absurd (false≢true (sym h))
+          first_false false h = refl
+
+      by_link : (o : Option Link) → map_of.get all_gone.mid.links n ≡ o
+          → cond (not (is_of node o)) o None ≡ Some link
+          → IsLink w n link × (same_text link.caller node ≡ false)
+      by_link None at f = (let g : None ≡ Some link = f in absurd (cc g))
+      by_link (Some l) at f = by_of l at (is_of node (Some l)) refl f
+
+  -- and its receiver is another node
+  pub receiver_was : (n : ℕ) (link : Link) → IsLink started_anew n link
+      → same_text link.receiver node ≡ false
+  receiver_was n link here = by_link (map_of.get all_gone.mid.links n) (sym (got n) ∙ here)
+    where
+      second_false : (c d : Bool) → cond c true d ≡ false → d ≡ false
+      second_false true d h = absurd (false≢true (sym h))
+      second_false false d h = h
+
+      by_of : (l : Link) (c : Bool) → is_of node (Some l) ≡ c
+          → cond (not c) (Some l) None ≡ Some link
+          → same_text link.receiver node ≡ false
+      by_of l true e f = (let g : None ≡ Some link = f in absurd (cc g))
+      by_of l false e f =
+          let none_of : is_of node (Some link) ≡ false =
+          subst (λ (z : Link). is_of node (Some z) ≡ false) (same_Some l link f) e in
+          second_false (same_text link.caller node) (same_text link.receiver node) none_of
+
+      by_link : (o : Option Link) → cond (not (is_of node o)) o None ≡ Some link
+          → same_text link.receiver node ≡ false
+      by_link None f = (let g : None ≡ Some link = f in absurd (cc g))
+      by_link (Some l) f = by_of l (is_of node (Some l)) refl f
+
+-- what stands at other nodes stays shown
+module _ (ours : Ours) (plan : Network) (certificate : Certificate) (w : World) (node : Text)
+    (own : ours node ≡ true)
+    (callers : (n : ℕ) → Contains (callers_of w node) n → IsCaller node w n) where
+  apart_from : (name : Text) → ours name ≡ false → same_text name node ≡ false
+  apart_from name away = elim (same_or_not texts name node) [
+    | inl same ↦ absurd (false≢true (sym away ∙ (ap ours same ∙ own)))
+    | inr apart ↦ apart
+  ]
+
+  -- an end of another node is shown as before
+  pub end_still : (at : Option ℕ) (side : Side) (name : Text) (k : LiveTerminal)
+      → same_text name node ≡ false
+      → ShowsBy ours plan certificate w at side name k
+      → ShowsBy ours plan certificate (started_anew w node callers) at side name k
+  end_still None Acceptor name k apart h = h
+  end_still (Some m) Acceptor name k apart h = (
+    h.0,
+    (
+      h.1.0,
+      kept_link w node callers m h.1.0 h.1.1 (apart_from h.1.0.caller h.1.2.caller)
+          (ap (λ (z : Text). same_text z node) h.1.2.receiver ∙ apart),
+      h.1.2,
+    ),
+  )
+  end_still at Requestor name k apart h = (
+    h.0,
+    h.1,
+    (
+      h.2.0,
+      (
+        h.2.1.0,
+        kept_link w node callers h.0 h.2.1.0 h.2.1.1
+            (ap (λ (z : Text). same_text z node) h.2.1.2.caller ∙ apart)
+            (apart_from h.2.1.0.receiver h.2.1.2.receiver),
+        h.2.1.2,
+      ),
+    ),
+  )
 
 -- ---- the node
 
@@ -268,8 +406,8 @@ module _ (ours : Ours) (plan : Network) (certificate : Certificate) (b : OwnWorl
       (one_link w n s.2.1.0 link at here) s.2.1.2 in
       call.receiver
 
-  callers : (n : ℕ) → Contains (callers_of w node) n → IsCaller node w n
-  callers n among =
+  own_callers : (n : ℕ) → Contains (callers_of w node) n → IsCaller node w n
+  own_callers n among =
       let c = (callers_are_those_who_call w node n).0 among in (
         c.0,
         c.1,
@@ -282,143 +420,19 @@ module _ (ours : Ours) (plan : Network) (certificate : Certificate) (b : OwnWorl
         ]),
       )
 
-  all : AllLeft node w (callers_of w node)
-  all = all_left node (callers_of w node) (as_pairs (callers_of w node) (restarts_in_order w node)) w
-      callers
+  abbrev gone : AllLeft node w (callers_of w node)
+  gone = all_gone w node own_callers
 
-  abbrev after : World
-  after = with_links all.mid (links_without all.mid.links node)
-
-  got : (n : ℕ) → map_of.get after.links n
-      ≡ cond (not (is_of node (map_of.get all.mid.links n))) (map_of.get all.mid.links n) None
-  unfolding links_without
-  got n =
-      let p : ℕ → Bool = λ m. not (is_of node (map_of.get all.mid.links m)) in
-      map_of.get-retain_keys all.mid.links p n (λ x e. ap p (sym (numbers.exact n x e)))
-
-  named_node : (name : Text) → name ≡ node → same_text name node ≡ true
-  named_node name same = ap (λ (z : Text). same_text z node) same ∙ ties_itself texts node
-
-  apart_from : (name : Text) → ours name ≡ false → same_text name node ≡ false
-  apart_from name away = elim (same_or_not texts name node) [
-    | inl same ↦ absurd (false≢true (sym away ∙ (ap ours same ∙ own)))
-    | inr apart ↦ apart
-  ]
-
-  -- a link of other nodes stays as it was
-  kept_link : (n : ℕ) (link : Link) → IsLink w n link → same_text link.caller node ≡ false
-      → same_text link.receiver node ≡ false
-      → IsLink after n link
-  kept_link n link here caller receiver =
-      let mid_is : map_of.get all.mid.links n ≡ Some link = all.others n (λ among.
-      (let c = (callers_are_those_who_call w node n).0 among in
-      let same : c.0 ≡ link = one_link w n c.0 link c.1 here in
-      false≢true (sym receiver
-      ∙ named_node link.receiver (ap (λ (l : Link). l.receiver) (sym same) ∙ c.2)))) ∙ here in
-      let none_of : is_of node (map_of.get all.mid.links n) ≡ false =
-      ap (λ (o : Option Link). is_of node o) mid_is
-      ∙ (ap (λ (c : Bool). cond c true (same_text link.receiver node)) caller ∙ receiver) in
-      got n
-      ∙ (ap (λ (c : Bool). cond (not c) (map_of.get all.mid.links n) None) none_of ∙ mid_is)
-
-  -- and what is there was there
-  link_was : (n : ℕ) (link : Link) → IsLink after n link
-      → IsLink w n link × (same_text link.caller node ≡ false)
-  link_was n link here = by_link (map_of.get all.mid.links n) refl (sym (got n) ∙ here)
-    where
-      by_of : (l : Link) → map_of.get all.mid.links n ≡ Some l
-          → (c : Bool) → is_of node (Some l) ≡ c
-          → cond (not c) (Some l) None ≡ Some link
-          → IsLink w n link × (same_text link.caller node ≡ false)
-      by_of l at true e f = (let g : None ≡ Some link = f in absurd (cc g))
-      by_of l at false e f =
-          let same : l ≡ link = same_Some l link f in
-          let none_of : is_of node (Some link) ≡ false =
-          subst (λ (z : Link). is_of node (Some z) ≡ false) same e in (
-            sym (all.others n (λ among.
-                (let c = all.called n among in
-                let one : c.0 ≡ l = same_Some c.0 l (sym c.1 ∙ at) in
-                false≢true (sym e ∙ either (same_text l.caller node)
-                (named_node l.receiver (ap (λ (z : Link). z.receiver) (sym one) ∙ c.2))))))
-                ∙ (at ∙ f),
-            first_false (same_text link.caller node) none_of,
-          )
-        where
-          either : (c : Bool) → same_text l.receiver node ≡ true
-              → cond c true (same_text l.receiver node) ≡ true
-          either true h = refl
-          either false h = h
-
-          first_false : (c : Bool) → cond c true (same_text link.receiver node) ≡ false → c ≡ false
-          first_false true h = absurd (false≢true (sym h))
-          first_false false h = refl
-
-      by_link : (o : Option Link) → map_of.get all.mid.links n ≡ o
-          → cond (not (is_of node o)) o None ≡ Some link
-          → IsLink w n link × (same_text link.caller node ≡ false)
-      by_link None at f = (let g : None ≡ Some link = f in absurd (cc g))
-      by_link (Some l) at f = by_of l at (is_of node (Some l)) refl f
-
-  -- and its receiver is another node
-  receiver_was : (n : ℕ) (link : Link) → IsLink after n link
-      → same_text link.receiver node ≡ false
-  receiver_was n link here = by_link (map_of.get all.mid.links n) (sym (got n) ∙ here)
-    where
-      second_false : (c d : Bool) → cond c true d ≡ false → d ≡ false
-      second_false true d h = absurd (false≢true (sym h))
-      second_false false d h = h
-
-      by_of : (l : Link) (c : Bool) → is_of node (Some l) ≡ c
-          → cond (not c) (Some l) None ≡ Some link
-          → same_text link.receiver node ≡ false
-      by_of l true e f = (let g : None ≡ Some link = f in absurd (cc g))
-      by_of l false e f =
-          let none_of : is_of node (Some link) ≡ false =
-          subst (λ (z : Link). is_of node (Some z) ≡ false) (same_Some l link f) e in
-          second_false (same_text link.caller node) (same_text link.receiver node) none_of
-
-      by_link : (o : Option Link) → cond (not (is_of node o)) o None ≡ Some link
-          → same_text link.receiver node ≡ false
-      by_link None f = (let g : None ≡ Some link = f in absurd (cc g))
-      by_link (Some l) f = by_of l (is_of node (Some l)) refl f
-
-  -- an end of another node is shown as before
-  end_still : (at : Option ℕ) (side : Side) (name : Text) (k : LiveTerminal)
-      → same_text name node ≡ false
-      → ShowsBy ours plan certificate w at side name k
-      → ShowsBy ours plan certificate after at side name k
-  end_still None Acceptor name k apart h = h
-  end_still (Some m) Acceptor name k apart h = (
-    h.0,
-    (
-      h.1.0,
-      kept_link m h.1.0 h.1.1 (apart_from h.1.0.caller h.1.2.caller)
-          (ap (λ (z : Text). same_text z node) h.1.2.receiver ∙ apart),
-      h.1.2,
-    ),
-  )
-  end_still at Requestor name k apart h = (
-    h.0,
-    h.1,
-    (
-      h.2.0,
-      (
-        h.2.1.0,
-        kept_link h.0 h.2.1.0 h.2.1.1
-            (ap (λ (z : Text). same_text z node) h.2.1.2.caller ∙ apart)
-            (apart_from h.2.1.0.receiver h.2.1.2.receiver),
-        h.2.1.2,
-      ),
-    ),
-  )
+  abbrev anew : World
+  anew = started_anew w node own_callers
 
   -- the requestor of a link that is left
-  still_called : (n : ℕ) (link : Link) → IsLink after n link → ours link.caller ≡ true
+  still_called : (n : ℕ) (link : Link) → IsLink anew n link → ours link.caller ≡ true
       → (i : ℕ) × (e : OwnEnd) × (without_node node (b.ends i) ≡ Some e)
       × (left_number node (b.ends i) (shows.numbers i) ≡ Some n)
       × (e.side ≡ Requestor)
   still_called n link here mine =
-      let was = link_was n link here in
+      let was = link_was w node own_callers n link here in
       let a = shows.called n link was.0 mine in
       let s : ShowsBy ours plan certificate w (shows.numbers a.0) Requestor a.1.node a.1.terminal =
       subst
@@ -448,34 +462,34 @@ module _ (ours : Ours) (plan : Network) (certificate : Certificate) (b : OwnWorl
       × (same_text link.caller node ≡ false)
       × (same_text link.receiver node ≡ false))
   restarts_alone = (
-    Own (Restart node all.answers) ∷ [],
-    after,
-    (tt, (after, (all.mid, all.leave, refl), (refl, refl))),
+    Own (Restart node gone.answers) ∷ [],
+    anew,
+    (tt, (anew, (gone.mid, gone.leave, refl), (refl, refl))),
     record {
-      time = all.rest.0 ∙ shows.time;
+      time = gone.rest.0 ∙ shows.time;
       desks = λ name its. (
-        (shows.desks name its).0 ∙ sym (all.books name),
-        (shows.desks name its).1 ∙ sym (ap (λ (a : _). set.contains a name) all.armed),
+        (shows.desks name its).0 ∙ sym (gone.books name),
+        (shows.desks name its).1 ∙ sym (ap (λ (a : _). set.contains a name) gone.armed),
       );
       numbers = λ i. left_number node (b.ends i) (shows.numbers i);
       own = λ i e there. shows.own i e (without_is node (b.ends i) e there).0;
       ends = λ i e there.
           (let was = without_is node (b.ends i) e there in
-          subst (λ (o : Option ℕ). ShowsBy ours plan certificate after o e.side e.node e.terminal)
+          subst (λ (o : Option ℕ). ShowsBy ours plan certificate anew o e.side e.node e.terminal)
           (sym (left_still node (b.ends i) e (shows.numbers i) was.0 was.1))
-          (end_still (shows.numbers i) e.side e.node e.terminal was.1 (shows.ends i e was.0)));
+          (end_still ours plan certificate w node own own_callers (shows.numbers i) e.side e.node e.terminal was.1 (shows.ends i e was.0)));
       apart = λ i j n at also. shows.apart i j n (left_was node (b.ends i) (shows.numbers i) n at)
           (left_was node (b.ends j) (shows.numbers j) n also);
       known = λ i n at. (
           let few : n ≤ w.opened =
           shows.known i n (left_was node (b.ends i) (shows.numbers i) n at) in
-          subst (λ (m : ℕ). n ≤ m) (sym all.rest.2) few);
+          subst (λ (m : ℕ). n ≤ m) (sym gone.rest.2) few);
       free = λ i none. left_free node (b.ends i) (shows.numbers i) (λ e. shows.free i e) none;
       called = λ n link there its. still_called n link there its;
     },
-    λ name. all.books name,
+    λ name. gone.books name,
     λ n link here.
-        (let was = link_was n link here in (was.0, was.1, receiver_was n link here)),
+        (let was = link_was w node own_callers n link here in (was.0, was.1, receiver_was w node own_callers n link here)),
   )
 
   pub restart_is_shown : (acts : List Act) × (v : World)

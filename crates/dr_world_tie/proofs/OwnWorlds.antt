@@ -1,6 +1,6 @@
 -- Nodes of ours among other makers' products, to which alone they have links.
 use Rattle.std.proofs.Common.{◌≡◌, ◌≢◌, ℕ, ◌<◌, ◌≤◌, Bool, true, false, List, [], ◌∷◌, ◌++◌, Option}
-use Rattle.std.proofs.Common.{Some, None, refl, sym, ap, subst, ◌∙◌, inl, inr, ◌⊎◌, arith}
+use Rattle.std.proofs.Common.{Some, None, refl, sym, ap, subst, ◌∙◌, inl, inr, arith}
 use Rattle.std.specs.Prelude.{◌==◌, ◌+◌, ◌^◌, min, if◌then◌else◌}
 use Rattle.std.specs.FinMap as map_of
 use Rattle.std.specs.FinSet as set
@@ -13,22 +13,12 @@ use Rattle.dr_plan_model.specs.Networks.{Network}
 use Rattle.dr_plan_sound.specs.declared.certificate.Certificate.{Certificate}
 use Rattle.dr_site.specs.Sites.{IsCertified}
 use Rattle.dr_ledger.specs.Items.{instance_of}
-use Rattle.dr_pdu.specs.Feeding.{fresh}
-use Rattle.dr_session.specs.Ends.{accepting, requesting}
-use Rattle.dr_ledger.proofs.Maps.{get_other, same_or_not, texts, ties_itself}
-use Rattle.dr_session.specs.declared.ends.Input.{Input}
-use Rattle.dr_session.specs.declared.ends.Input.TheVariants as input
+use Rattle.dr_ledger.proofs.Maps.{same_or_not, texts, ties_itself}
 use Rattle.dr_world_model.specs.Worlds.{Link, World, same_text, start}
-use Rattle.dr_world_model.specs.Worlds.{Stage, Asking, Answering, Rejecting, Open, Storing}
-use Rattle.dr_world_model.specs.Worlds.{Replying, Gone}
-use Rattle.dr_world_model.specs.Steps.{IsLink, NoneIsPending, pending}
-use Rattle.dr_session.specs.declared.ends.Core.{Core}
-use Rattle.dr_session.specs.Pendings.{pending_of}
-use Rattle.dr_ledger.specs.declared.item.Instance.{Instance}
-use Rattle.dr_world_model.specs.Events.{Event, Ask, Drop, Forget, Refuse, Requeue, Take, Tick}
+use Rattle.dr_world_model.specs.Steps.{IsLink, NoneIsPending}
+use Rattle.dr_world_model.specs.Events.{Event, Drop, Forget, Refuse, Requeue, Take, Tick}
 use Rattle.dr_world_model.specs.Events.{StayAway as AwayEvent}
-use Rattle.dr_world_model.specs.Steps.{IsHop, asked, new_link, passed}
-use Rattle.dr_world_model.proofs.Lookups.{numbers as numbers_of}
+use Rattle.dr_world_model.specs.Steps.{passed}
 use Rattle.dr_world_model.specs.Among.{Ours, Act, ArrivesAtOurs, Own, RunsAmong, HeadlineAmong}
 use Rattle.dr_world_model.proofs.AmongActs.{headline_holds_among}
 use Rattle.dr_world_tie.specs.ByteWorlds.{Side, Requestor, Acceptor}
@@ -36,73 +26,30 @@ use Rattle.dr_world_tie.specs.Desks.{Desk, LedgerStep}
 use Rattle.dr_session.specs.Desks.{Settle, Settling}
 use Rattle.dr_ledger.specs.declared.item.Outcome.TheVariants.{Broken}
 use Rattle.dr_world_tie.specs.Channels.{LiveTerminal}
-use Rattle.dr_world_tie.specs.Nodes.{GivesUpAt, HappensAt, OnlyAt}
+use Rattle.dr_world_tie.specs.Nodes.{GivesUpAt, HappensAt}
 use Rattle.dr_world_tie.specs.Ties.{IsDeskOf, with_desk}
-use Rattle.dr_world_tie.specs.Foreign.{CallsAsNoneOfOurs, Came, ComeAll, OnlyOf, OthersHaveNone}
+use Rattle.dr_world_tie.specs.Foreign.{OnlyOf, OthersHaveNone}
 use Rattle.dr_world_tie.specs.Foreign.{ShowsForeign}
-use Rattle.dr_world_tie.specs.ForeignCalls.{CallsIn, LeadsTo, ShowsCall, acts_of, acts_of_all}
-use Rattle.dr_world_tie.specs.ForeignCalls.{CallsAt, IsCallOf, acts_of_push}
+use Rattle.dr_world_tie.specs.ForeignCalls.{CallsAt, IsCallOf}
 use Rattle.dr_world_tie.specs.ForeignWorlds.{OwnEnd, OwnWorld, with_end, with_done, own_beginning}
 use Rattle.dr_world_tie.specs.ForeignWorlds.{OwnStep, Listens, Opens, Hears, Meets}
-use Rattle.dr_world_tie.specs.ForeignWorlds.{Submits, Passes, HearsWhat, MeetsWhat}
-use Rattle.dr_world_tie.specs.ForeignWorlds.{BeginsListening, BeginsCalling, DoesAlone}
+use Rattle.dr_world_tie.specs.ForeignWorlds.{Submits, Passes}
+use Rattle.dr_world_tie.specs.ForeignWorlds.{DoesAlone}
 use Rattle.dr_world_tie.specs.ForeignWorlds.{EndsAreAskedSo, OthersAreNotHere, OursCanListen}
 use Rattle.dr_world_tie.specs.ForeignWorlds.{Forgets, NoneAwaits}
 use Rattle.dr_world_tie.specs.ForeignWorlds.{GivesUp, OwnSteps, PutsBack, Refuses, Restarts}
 use Rattle.dr_world_tie.specs.ForeignWorlds.{StaysAway}
 use Rattle.dr_world_tie.specs.ForeignWorlds.{OwnRuns, ShowsBy, ShowsOwn, OwnWorldsKeepTheClaims}
-use Rattle.dr_world_tie.proofs.Foreigners.{acceptors_begin, all_only, all_run, are_kept, only_none}
-use Rattle.dr_world_tie.proofs.Foreigners.{one_input_comes, runs_on}
-use Rattle.dr_world_tie.proofs.ForeignPushes.{one_push_comes, requestors_begin}
-use Rattle.dr_world_tie.proofs.ForeignReplies.{one_answer_comes}
-use Rattle.dr_world_tie.proofs.LinksToOthers.{what_acceptors_hear, what_requestors_hear}
+use Rattle.dr_world_tie.proofs.Foreigners.{runs_on}
 use Rattle.dr_world_tie.proofs.Nodes.{giving_up_is_drop, refusing_is_refuse}
 use Rattle.dr_world_tie.proofs.Nodes.{requeueing_is_requeue, staying_away_is_stay_away}
 use Rattle.dr_world_tie.proofs.Nodes.{forgetting_is_forget, submitting_takes}
 use Rattle.dr_world_tie.proofs.OwnRestarts.{restart_is_shown, without_is}
-use Rattle.dr_world_tie.proofs.Foreigners.{all_kept, one_link}
-
--- a number from then on is the one before, or a new one
-abbrev Counts : World → World → Option ℕ → Option ℕ → Type 0
-Counts w v number next =
-    (n : ℕ) → next ≡ Some n → (number ≡ Some n) ⊎ ((w.opened < n) × (n ≤ v.opened))
-
-all_counted : (ours : Ours) (plan : Network) (name : Text) (cames : List Came) (w v : World)
-    (number next : Option ℕ) (acts : List Act) (written : _)
-    → ComeAll ours plan name w number cames acts written v next
-    → Counts w v number next
-all_counted ours plan name [] w v number next acts written h n e = inl (sym h.3 ∙ e)
-all_counted ours plan name (came ∷ cames) w v number next acts written h n e =
-    elim (all_counted ours plan name cames h.4 v h.5 next h.1 h.3 h.8 n e) [
-      | inl was ↦ elim (h.6.counted n was) [
-        | inl before ↦ inl before
-        | inr new ↦
-            (let a : w.opened < n = new.0 in
-            let b : n ≤ h.4.opened = new.1 in
-            let d : h.4.opened ≤ v.opened =
-            (all_only ours plan name cames h.4 v h.5 next h.1 h.3 h.8).opened in
-            inr (a, omega (arith, b, d)))
-      ]
-      | inr new ↦ (
-          let a : h.4.opened < n = new.0 in
-          let d : w.opened ≤ h.4.opened = h.6.only.opened in
-          inr (omega (arith, a, d), new.1))
-    ]
+use Rattle.dr_world_tie.proofs.Foreigners.{one_link}
+use Rattle.dr_world_tie.proofs.EndsAlone.{Beside, Counts, hears, listens, meets, opens}
+use Rattle.dr_world_tie.proofs.EndsAlone.{only_at, pend_by, shown_as, shown_still}
 
 module _ (ours : Ours) (plan : Network) (certificate : Certificate) where
-  -- what isn't touched stays shown
-  shown_still :
-      (w v : World) (next at : Option ℕ) (name : Text) (side : Side) (node : Text) (k : LiveTerminal)
-      → OnlyOf w v next name
-      → ((m : ℕ) → at ≡ Some m → next ≢ Some m)
-      → ShowsBy ours plan certificate w at side node k
-      → ShowsBy ours plan certificate v at side node k
-  shown_still w v next None name Acceptor node k only apart h = h
-  shown_still w v next (Some m) name Acceptor node k only apart h =
-      (h.0, (h.1.0, only.links m (apart m refl) ∙ h.1.1, h.1.2))
-  shown_still w v next at name Requestor node k only apart h =
-      (h.0, h.1, (h.2.0, (h.2.1.0, only.links h.0 (apart h.0 h.1) ∙ h.2.1.1, h.2.1.2)))
-
   module _ (b : OwnWorld) (w : World) (shows : ShowsOwn ours plan certificate b w) (i : ℕ)
       (node : Text) (own : ours node ≡ true) (v : World) (next : Option ℕ)
       (only : OnlyOf w v next node) (counts : Counts w v (shows.numbers i) next) (t : Desk)
@@ -192,7 +139,7 @@ module _ (ours : Ours) (plan : Network) (certificate : Certificate) where
         | inr not_it ↦ subst
             (λ (o : Option ℕ). ShowsBy ours plan certificate v o e.side e.node e.terminal)
             (sym (beside j not_it))
-            (shown_still w v next (shows.numbers j) node e.side e.node e.terminal only
+            (shown_still ours plan certificate w v next (shows.numbers j) node e.side e.node e.terminal only
             (untouched j not_it) (shows.ends j e (is_other j e not_it there)))
       ];
       apart = apart_now;
@@ -316,290 +263,21 @@ module _ (ours : Ours) (plan : Network) (certificate : Certificate) where
     as_new : (new made : OwnWorld) → new ≡ made → Acts w made → Acts w new
     as_new new made e h = subst (λ (z : OwnWorld). Acts w z) (sym e) h
 
-    -- the numbers with none at a free place
-    hears : (i : ℕ) (came : _) (new : OwnWorld)
-        → HearsWhat ours plan certificate b i came new
-        → Acts w new
-    hears i came new h = as_new new _ h.is (by_side h.end.side refl)
-      where
-        by_side : (side : Side) → h.end.side ≡ side
-            → Acts w
-            (with_done b i
-            (record {
-              side = h.end.side;
-              node = h.end.node;
-              terminal = record { core = h.core; ear = h.left.ear };
-            }) h.after)
-        by_side Acceptor e =
-            let own = shows.own i h.end h.there in
-            let shown :
-            ShowsForeign ours plan certificate h.end.node w (shows.numbers i) h.end.terminal =
-            subst
-            (λ (z : Side).
-            ShowsBy ours plan certificate w (shows.numbers i) z h.end.node h.end.terminal) e
-            (shows.ends i h.end h.there) in
-            let a = what_acceptors_hear ours plan certificate certified h.end.node w
-            (shows.numbers i) h.end.terminal (b.desks h.end.node) record {
-              own = own;
-              others = others;
-              desk = shows.desks h.end.node own;
-              shows = shown;
-            } h.moment came h.acts h.left h.after (h.none e) h.hears in
-            let core_is : a.0 ≡ h.core = same_Some a.0 h.core (sym a.1 ∙ h.lives) in
-            let all = a.2.4 in
-            let v : World = a.2.2 in
-            let next : Option ℕ = a.2.3 in
-            let only =
-            all_only ours plan h.end.node a.2.0 w v (shows.numbers i) next a.2.1 h.acts all in
-            let shown_now : ShowsForeign ours plan certificate h.end.node v next
-            (record { core = h.core; ear = h.left.ear }) = subst
-            (λ (c : _). ShowsForeign ours plan certificate h.end.node v next
-            (record { core = c; ear = h.left.ear })) core_is a.2.5.shows in (
-              a.2.1,
-              v,
-              all_run ours plan h.end.node a.2.0 w v (shows.numbers i) next a.2.1 h.acts all,
-              done b w shows i h.end.node own v next only
-                  (all_counted ours plan h.end.node a.2.0 w v (shows.numbers i) next a.2.1 h.acts
-                  all) h.after a.2.5.desk h.end.side (record { core = h.core; ear = h.left.ear })
-                  (all_kept ours plan h.end.node a.2.0 w v (shows.numbers i) next a.2.1 h.acts all)
-                  (subst
-                  (λ (z : Side). ShowsBy ours plan certificate v next z h.end.node
-                  (record { core = h.core; ear = h.left.ear })) (sym e) shown_now),
-            )
-        by_side Requestor e =
-            let own = shows.own i h.end h.there in
-            let shown :
-            ShowsBy ours plan certificate w (shows.numbers i) Requestor h.end.node h.end.terminal =
-            subst
-            (λ (z : Side).
-            ShowsBy ours plan certificate w (shows.numbers i) z h.end.node h.end.terminal) e
-            (shows.ends i h.end h.there) in
-            let a = what_requestors_hear ours plan certificate certified h.end.node w shown.0
-            h.end.terminal (b.desks h.end.node) record {
-              own = own;
-              desk = shows.desks h.end.node own;
-              shows = shown.2;
-            } h.moment (h.now ∙ sym shows.time) came h.acts h.left h.after h.hears in
-            let core_is : a.0 ≡ h.core = same_Some a.0 h.core (sym a.1 ∙ h.lives) in
-            let v : World = a.2.1 in
-            let shown_now : ShowsCall ours plan certificate h.end.node v shown.0
-            (record { core = h.core; ear = h.left.ear }) = subst
-            (λ (c : _). ShowsCall ours plan certificate h.end.node v shown.0
-            (record { core = c; ear = h.left.ear })) core_is a.2.4.shows in (
-              acts_of_all shown.0 a.2.0,
-              v,
-              a.2.2.runs,
-              done b w shows i h.end.node own v (Some shown.0) a.2.2.only
-                  (λ n q. inl (shown.1 ∙ q)) h.after a.2.4.desk h.end.side
-                  (record { core = h.core; ear = h.left.ear })
-                  (λ n q. sym shown.1 ∙ q)
-                  (subst
-                  (λ (z : Side). ShowsBy ours plan certificate v (Some shown.0) z h.end.node
-                  (record { core = h.core; ear = h.left.ear })) (sym e) (shown.0, refl, shown_now)),
-            )
+    -- an end may stand at any place: there is nothing else
+    abbrev Shown_own : OwnWorld → World → Type 0
+    Shown_own c v = ShowsOwn ours plan certificate c v
 
-    -- a free place had no number
-    none_before : (i : ℕ) → b.ends i ≡ None → (next : Option ℕ) (n : ℕ) → shows.numbers i ≡ Some n
-        → next ≡ Some n
-    none_before i free next n q =
-        (let f : None ≡ Some n = sym (shows.free i free) ∙ q in absurd (cc f))
-
-    -- an end at a place of its own
-    listens : (i : ℕ) (node : Text) (new : OwnWorld)
-        → BeginsListening ours plan certificate b i node new
-        → Acts w new
-    listens i node new h = as_new new _ h.is (
-      [],
-      w,
-      (refl, refl),
-      done b w shows i node h.own w None (only_none w None node)
-          (λ n q. absurd (cc q)) (b.desks node) (shows.desks node h.own) Acceptor
-          (record { core = accepting h.site b.time; ear = fresh h.site.max_pdu })
-          (none_before i h.free None)
-          (subst
-          (λ (n : Text). ShowsForeign ours plan certificate n w None
-          (record { core = accepting h.site b.time; ear = fresh h.site.max_pdu })) h.named
-          (acceptors_begin ours plan certificate h.site w b.time h.part)),
-    )
-
-    only_asked : (node dest : Text) → OnlyOf w (asked w node dest) (Some (w.opened + 1)) node
-    only_asked node dest = record {
-      books = λ other apart. refl;
-      links = λ other apart. elim (same_or_not numbers_of other (w.opened + 1)) [
-        | inl same ↦ absurd (apart (ap (λ (n : ℕ). Some n) (sym same)))
-        | inr is_not ↦ get_other numbers_of w.links (w.opened + 1) (new_link node dest) other is_not
-      ];
-      armed = λ other apart. refl;
-      rest = (refl, refl);
-      opened = omega arith;
-    }
-
-    opens : (i : ℕ) (node dest : Text) (new : OwnWorld)
-        → BeginsCalling ours plan certificate b i node dest new
-        → Acts w new
-    opens i node dest new h =
-        let k : LiveTerminal =
-        record { core = requesting (Some h.site) dest h.rq b.time; ear = fresh h.site.max_pdu } in
-        let P : Text → Type 0 = λ n. ours n ≡ true → IsHop plan n dest → IsDeskOf w n (b.desks node)
-        → RunsAmong ours plan w (Own (Ask n dest) ∷ []) plan (asked w n dest)
-        × CallsIn ours plan certificate n (asked w n dest) (w.opened + 1) k (b.desks node)
-        in
-        let a = subst P h.named
-        (λ own hop at. requestors_begin ours plan certificate h.site dest h.rq b.time w
-        (b.desks node) h.part own h.away hop h.proposal at) h.own h.hop
-        (shows.desks node h.own) in
-        let v : World = asked w node dest in
-        as_new new _ h.is (
-          Own (Ask node dest) ∷ [],
-          v,
-          a.0,
-          done b w shows i node h.own v (Some (w.opened + 1)) (only_asked node dest)
-              (λ n q.
-              (let same : w.opened + 1 ≡ n = same_Some (w.opened + 1) n q in
-              inr (omega (arith, same), omega (arith, same)))) (b.desks node) a.1.desk Requestor k
-              (none_before i h.free (Some (w.opened + 1)))
-              (w.opened + 1, refl, a.1.shows),
-        )
-
-    -- a requestor is asked for something
-    finishes : (i : ℕ) (h_end : OwnEnd) (own : ours h_end.node ≡ true) (n : ℕ)
-        → shows.numbers i ≡ Some n → h_end.side ≡ Requestor
-        → (acts : List Act) (v : World) (t : Desk) (k : LiveTerminal)
-        → LeadsTo ours plan h_end.node w n acts v
-        → CallsIn ours plan certificate h_end.node v n k t
-        → Acts w (with_done b i (record { side = h_end.side; node = h_end.node; terminal = k }) t)
-    finishes i h_end own n at e acts v t k leads calls = (
-      acts,
-      v,
-      leads.runs,
-      done b w shows i h_end.node own v (Some n) leads.only
-          (λ m q. inl (at ∙ q)) t calls.desk h_end.side k
-          (λ m q. sym at ∙ q)
-          (subst
-          (λ (z : Side). ShowsBy ours plan certificate v (Some n) z h_end.node k) (sym e)
-          (n, refl, calls.shows)),
-    )
-
-    shown_call : (i : ℕ) (e : OwnEnd) → b.ends i ≡ Some e → e.side ≡ Requestor
-        → ShowsBy ours plan certificate w (shows.numbers i) Requestor e.node e.terminal
-    shown_call i e there calls = subst
-        (λ (z : Side). ShowsBy ours plan certificate w (shows.numbers i) z e.node e.terminal) calls
-        (shows.ends i e there)
-
-    pushes : (i : ℕ) (new : OwnWorld)
-        → MeetsWhat ours plan certificate b i input.PushAsked new
-        → Acts w new
-    pushes i new h =
-        let own = shows.own i h.end h.there in
-        let shown = shown_call i h.end h.there h.may in
-        let a = one_push_comes ours plan certificate h.end.node w shown.0 h.end.terminal
-        (b.desks h.end.node) record {
-          own = own;
-          desk = shows.desks h.end.node own;
-          shows = shown.2;
-        } h.moment (h.now ∙ sym shows.time) h.effect h.after h.reacts in
-        as_new new _ h.is
-        (finishes i h.end own shown.0 shown.1 h.may (acts_of_push shown.0 a.0) a.1 h.after
-        (record { core = h.effect.core; ear = h.end.terminal.ear }) a.2 a.4)
-
-    -- a requestor is told something else
-    tells : (i : ℕ) (what : Input) (new : OwnWorld) → what ≢ input.PushAsked
-        → (h : MeetsWhat ours plan certificate b i what new)
-        → h.end.side ≡ Requestor
-        → Acts w new
-    tells i what new other h calls =
-        let own = shows.own i h.end h.there in
-        let shown = shown_call i h.end h.there calls in
-        let a = one_answer_comes ours plan certificate certified h.end.node w shown.0 h.end.terminal
-        (b.desks h.end.node) record {
-          own = own;
-          desk = shows.desks h.end.node own;
-          shows = shown.2;
-        } h.moment (h.now ∙ sym shows.time) what other h.effect h.after h.reacts in
-        as_new new _ h.is
-        (finishes i h.end own shown.0 shown.1 calls (acts_of shown.0 a.0) a.1 h.after
-        (record { core = h.effect.core; ear = h.end.terminal.ear }) a.2 a.4)
-
-    -- an acceptor is
-    told : (i : ℕ) (what : Input) (new : OwnWorld)
-        → CallsAsNoneOfOurs ours what
-        → (h : MeetsWhat ours plan certificate b i what new)
-        → h.end.side ≡ Acceptor
-        → Acts w new
-    told i what new none h listens =
-        let own = shows.own i h.end h.there in
-        let shown :
-        ShowsForeign ours plan certificate h.end.node w (shows.numbers i) h.end.terminal = subst
-        (λ (z : Side).
-        ShowsBy ours plan certificate w (shows.numbers i) z h.end.node h.end.terminal) listens
-        (shows.ends i h.end h.there) in
-        let a = one_input_comes ours plan certificate certified h.end.node w (shows.numbers i)
-        h.end.terminal (b.desks h.end.node) record {
-          own = own;
-          others = others;
-          desk = shows.desks h.end.node own;
-          shows = shown;
-        } h.moment what none h.effect h.after h.reacts in
-        let k : LiveTerminal = record { core = h.effect.core; ear = h.end.terminal.ear } in
-        as_new new _ h.is (
-          a.1,
-          a.2,
-          a.4.runs,
-          done b w shows i h.end.node own a.2 a.3 a.4.only a.4.counted h.after a.6.desk h.end.side k
-              (are_kept w h.end.node (shows.numbers i) a.0 a.1 a.3 a.4.are)
-              (subst
-              (λ (z : Side). ShowsBy ours plan certificate a.2 a.3 z h.end.node k) (sym listens)
-              a.6.shows),
-        )
-
-    either : (i : ℕ) (what : Input) (new : OwnWorld)
-        → what ≢ input.PushAsked
-        → CallsAsNoneOfOurs ours what
-        → MeetsWhat ours plan certificate b i what new
-        → Acts w new
-    either i what new other none h = by_side h.end.side refl
-      where
-        by_side : (side : Side) → h.end.side ≡ side → Acts w new
-        by_side Requestor e = tells i what new other h e
-        by_side Acceptor e = told i what new none h e
-
-    meets : (i : ℕ) (what : Input) (new : OwnWorld)
-        → MeetsWhat ours plan certificate b i what new
-        → Acts w new
-    meets i input.PushAsked new h = pushes i new h
-    meets i input.ReleaseAsked new h = tells i input.ReleaseAsked new (λ e. cc e) h h.may
-    meets i input.AbortAsked new h = either i input.AbortAsked new (λ e. cc e) tt h
-    meets i input.Ended new h = either i input.Ended new (λ e. cc e) tt h
-    meets i input.Late new h = either i input.Late new (λ e. cc e) tt h
-    meets i (input.Request rq) new h = absurd h.may
-    meets i (input.Acceptance ac) new h = absurd h.may
-    meets i (input.Rejection rj) new h = absurd h.may
-    meets i (input.Value value) new h = absurd h.may
-    meets i input.NoValue new h = absurd h.may
-    meets i input.ReleaseRq new h = absurd h.may
-    meets i input.ReleaseRp new h = absurd h.may
-    meets i (input.Abort a) new h = absurd h.may
-    meets i input.Unknown new h = absurd h.may
-    meets i input.Invalid new h = absurd h.may
-
-    -- links stay as they are
-    shown_as : (v : World) → v.links ≡ w.links
-        → (at : Option ℕ) (side : Side) (node : Text) (k : LiveTerminal)
-        → ShowsBy ours plan certificate w at side node k
-        → ShowsBy ours plan certificate v at side node k
-    shown_as v same None Acceptor node k h = h
-    shown_as v same (Some m) Acceptor node k h =
-        (h.0, (h.1.0, ap (λ (l : _). map_of.get l m) same ∙ h.1.1, h.1.2))
-    shown_as v same at Requestor node k h =
-        (h.0, h.1, (h.2.0, (h.2.1.0, ap (λ (l : _). map_of.get l h.0) same ∙ h.2.1.1, h.2.1.2)))
-
-    only_at : (v : World) (name : Text) → OnlyAt w v name → OnlyOf w v None name
-    only_at v name o = record {
-      books = o.books;
-      links = λ other apart. ap (λ (l : _). map_of.get l other) o.links;
-      armed = o.armed;
-      rest = (o.rest.0, o.rest.1);
-      opened = (let e : v.opened ≡ w.opened = o.rest.2 in omega (arith, e));
+    ends_beside : Beside ours plan certificate b w Shown_own (λ i. Unit {0})
+    ends_beside = record {
+      time = shows.time;
+      desks = shows.desks;
+      numbers = shows.numbers;
+      own = shows.own;
+      ends = shows.ends;
+      stands = λ i e there. tt;
+      free = λ i none may. shows.free i none;
+      done = λ i may node own v next only counts t desk_is side k keeps shown.
+          done b w shows i node own v next only counts t desk_is side k keeps shown;
     }
 
     alone : (node : Text) (Does : Desk → Desk → Type 0) (new : OwnWorld)
@@ -613,11 +291,11 @@ module _ (ours : Ours) (plan : Network) (certificate : Certificate) where
       (arrives, (a.after, a.step, (refl, refl))),
       record {
         time = a.only.rest.0 ∙ shows.time;
-        desks = desks_now b w shows 0 node h.own a.after None (only_at a.after node a.only)
+        desks = desks_now b w shows 0 node h.own a.after None (only_at w a.after node a.only)
             (λ n q. absurd (cc q)) h.after a.desk_is;
         numbers = shows.numbers;
         own = shows.own;
-        ends = λ i e there. shown_as a.after a.only.links (shows.numbers i) e.side e.node e.terminal
+        ends = λ i e there. shown_as ours plan certificate w a.after a.only.links (shows.numbers i) e.side e.node e.terminal
             (shows.ends i e there);
         apart = shows.apart;
         known = λ i n at. (
@@ -642,7 +320,7 @@ module _ (ours : Ours) (plan : Network) (certificate : Certificate) where
         desks = shows.desks;
         numbers = shows.numbers;
         own = shows.own;
-        ends = λ i e there. shown_as (passed w ms) refl (shows.numbers i) e.side e.node e.terminal
+        ends = λ i e there. shown_as ours plan certificate w (passed w ms) refl (shows.numbers i) e.side e.node e.terminal
             (shows.ends i e there);
         apart = shows.apart;
         known = shows.known;
@@ -651,25 +329,15 @@ module _ (ours : Ours) (plan : Network) (certificate : Certificate) where
       },
     )
 
-    -- what a requestor has pending, and its link in the message world
-    pend_by : (st : Stage) (receiver : Text) (c : Core) (item : Instance)
-        → CallsAt true st receiver c
-        → pending st ≡ Some item
-        → pending_of c.pending ≡ Some item.uid
-    pend_by Asking receiver c item h e = absurd (cc e)
-    pend_by (Answering accepted) receiver c item h e = absurd h
-    pend_by Rejecting receiver c item h e = absurd h
-    pend_by (Open accepted) receiver c item h e = absurd (cc e)
-    pend_by (Storing accepted it) receiver c item h e =
-        ap pending_of h.1.2 ∙ ap (λ (x : Instance). Some x.uid) (same_Some it item e)
-    pend_by (Replying accepted it status) receiver c item h e = absurd h
-    pend_by Gone receiver c item h e = absurd h
-
     none_pending : (node uid : Text) → NoneAwaits b node uid → ours node ≡ true
         → NoneIsPending w node uid
     none_pending node uid none its number link item there caller on pend same =
         let a = shows.called number link there (ap ours caller ∙ its) in
-        let s = shown_call a.0 a.1 a.2 a.4 in
+        let s : ShowsBy ours plan certificate w (shows.numbers a.0) Requestor a.1.node a.1.terminal =
+        subst
+        (λ (z : Side).
+        ShowsBy ours plan certificate w (shows.numbers a.0) z a.1.node a.1.terminal) a.4
+        (shows.ends a.0 a.1 a.2) in
         let number_is : s.0 ≡ number = same_Some s.0 number (sym s.1 ∙ a.3) in
         let at : IsLink w number s.2.1.0 =
         subst (λ (n : ℕ). IsLink w n s.2.1.0) number_is s.2.1.1 in
@@ -685,10 +353,14 @@ module _ (ours : Ours) (plan : Network) (certificate : Certificate) where
     pub one_step : (step : OwnStep) (new : OwnWorld)
         → OwnSteps ours plan certificate b step new
         → Acts w new
-    one_step (Listens i node) new h = listens i node new h
-    one_step (Opens i node dest) new h = opens i node dest new h
-    one_step (Hears i came) new h = hears i came new h
-    one_step (Meets i what) new h = meets i what new h
+    one_step (Listens i node) new h = listens ours plan certificate certified b w Shown_own
+        (λ j. Unit {0}) ends_beside others i node new tt h
+    one_step (Opens i node dest) new h = opens ours plan certificate certified b w Shown_own
+        (λ j. Unit {0}) ends_beside others i node dest new tt h
+    one_step (Hears i came) new h = hears ours plan certificate certified b w Shown_own
+        (λ j. Unit {0}) ends_beside others i came new h
+    one_step (Meets i what) new h = meets ours plan certificate certified b w Shown_own
+        (λ j. Unit {0}) ends_beside others i what new h
     one_step (Submits node item) new h = alone node _ new h
         (Take node (instance_of item) h.does.0) h.own
         (submitting_takes plan w node item (b.desks node) h.after h.does.0 h.is_node

@@ -49,7 +49,7 @@ pends_there true (Replying accepted item status) receiver c uid h has =
 pends_there true Gone receiver c uid h has = absurd h
 
 -- and what its link has an end has
-pends_here : (stage : Stage) (receiver : Text) (c : Core) (item : Instance) →
+pub pends_here : (stage : Stage) (receiver : Text) (c : Core) (item : Instance) →
     IsCaller true stage receiver c → pending stage ≡ Some item → pending_of c.pending ≡ Some item.uid
 pends_here Asking receiver c item h is = absurd (impossible item is)
 pends_here (Answering accepted) receiver c item h is = absurd (impossible item is)

@@ -29,6 +29,10 @@ ghost use Rattle.dr_world_tie.specs.ForeignCalls.{ResponsesAreReplies};
 ghost use Rattle.dr_world_tie.specs.ForeignLinks.{WhatAcceptorsHear, WhatRequestorsHear};
 ghost use Rattle.dr_world_tie.specs.ForeignWorlds.{EndsAreAskedSo, OthersAreNotHere};
 ghost use Rattle.dr_world_tie.specs.ForeignWorlds.{OursCanListen, OwnWorldsKeepTheClaims};
+ghost use Rattle.dr_world_tie.specs.MixedChanges.{MixedCanTake, MixedChangesKeepTheClaims};
+ghost use Rattle.dr_world_tie.specs.MixedWorlds.{BothKindsStandThere, MixedWorldsKeepTheClaims};
+ghost use Rattle.dr_world_tie.specs.MixedWorlds.{OwnRunsAreMixed, PairsAreOurs};
+ghost use Rattle.dr_world_tie.specs.MixedWorlds.{WiresCarryWhatIsWritten};
 ghost use Rattle.dr_world_tie.specs.Moves.{CallerMoves, ReceiverMoves};
 ghost use Rattle.dr_world_tie.specs.OwnChanges.{OursCanTake, OursMayTakeAtFirst};
 ghost use Rattle.dr_world_tie.specs.OwnChanges.{OwnChangesKeepTheClaims};
@@ -250,9 +254,27 @@ pub fn claims_hold_among_others()
     ensures asked { EndsAreAskedSo }
 {}
 
+/// After whatever happens at nodes of ours that have links to each other beside those to other
+/// makers' products, the four claims hold of their books. A link between two of ours is no other's,
+/// and nobody else writes on it.
+pub fn claims_hold_with_both_kinds()
+    ensures claims { MixedWorldsKeepTheClaims }
+    ensures own { OwnRunsAreMixed }
+    ensures both { BothKindsStandThere }
+    ensures pairs { PairsAreOurs }
+    ensures wires { WiresCarryWhatIsWritten }
+{}
+
 /// The same through changes of plan, which all of ours take at once. What may be taken can be.
 pub fn changes_among_others()
     ensures claims { OwnChangesKeepTheClaims }
     ensures takes { OursCanTake }
     ensures first { OursMayTakeAtFirst }
+{}
+
+/// And the same where nodes of ours have both kinds of links. Between two of ours nothing is under
+/// way when they take a plan.
+pub fn changes_with_both_kinds()
+    ensures claims { MixedChangesKeepTheClaims }
+    ensures takes { MixedCanTake }
 {}

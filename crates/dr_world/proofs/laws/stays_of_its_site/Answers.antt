@@ -1,4 +1,4 @@
-use Rattle.dr_world.proofs.Sited.{reacts_keep}
+use Rattle.dr_world_tie.proofs.Sited.{reacts_keep}
 use Rattle.dr_world.proofs.laws.stays_of_its_site.Goals as goal
 
 pub returns : goal.returns
