@@ -191,12 +191,12 @@ module _ (db : Trees) (prints : List (Text × Print)) (are : prints ≡ map.entr
       some is = let one = ap length is in omega (arith, one)
 
       at_same : (xs : List (Text × Print)) (i j : ℕ) (p q : Text × Print) → i ≡ j → i < length xs → get_or xs i p ≡ get_or xs j q
-      at_same xs i j p q same low = ap (λ k. get_or xs k p) same ∙ whatever xs j p q (omega (arith, same, low))
+      at_same xs i j p q same low = ap (λ k. get_or xs k p) same ∙ other xs j p q (omega (arith, same, low))
         where
-          whatever : (xs : List (Text × Print)) (k : ℕ) (d e : Text × Print) → k < length xs → get_or xs k d ≡ get_or xs k e
-          whatever [] k d e low = absurd (omega (arith, low))
-          whatever (x ∷ xs) zero d e low = refl
-          whatever (x ∷ xs) (suc k) d e low = whatever xs k d e (omega (arith, low))
+          other : (xs : List (Text × Print)) (k : ℕ) (d e : Text × Print) → k < length xs → get_or xs k d ≡ get_or xs k e
+          other [] k d e low = absurd (omega (arith, low))
+          other (x ∷ xs) zero d e low = refl
+          other (x ∷ xs) (suc k) d e low = other xs k d e (omega (arith, low))
 
 -- ---- a list that grows
 

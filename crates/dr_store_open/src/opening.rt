@@ -128,10 +128,7 @@ fn open_on<S: Alter, D: Disk + Drop>(
             shelf,
             next: found.next,
         }),
-        Err(fault) => {
-            drop(shelf);
-            Err(fault)
-        }
+        Err(fault) => Err(fault),
     }
 }
 

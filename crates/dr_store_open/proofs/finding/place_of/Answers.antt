@@ -1,4 +1,4 @@
-use Rattle.std.proofs.Common.{◌≡◌, ◌∙◌, ℕ, List, rules, sym, subst}
+use Rattle.std.proofs.Common.{◌≡◌, ◌∙◌, ℕ, List, sym, subst}
 use Rattle.dr_store_writes.specs.Effects.{IsSiteOf}
 use Rattle.dr_store_calls.specs.Adoptions.{IsPlanWith}
 use Rattle.dr_store_calls.proofs.Owners.{never, one_owner}
@@ -15,12 +15,8 @@ pub returns-in-Some : goal.returns-in-Some
 returns-in-Some c db site =
     let owner = c.args.owner.now in
     let part = c.args.site.now in
-    let mark = c.in-Some.mark.now in
     let node : owner.node ≡ part.name = c.is_node.ensures.0 c.if-not-is_node.false in
-    let digest : c.digest.result.now ≡ part.digest = search rules in
-    let plan : c.as_bytes.result.now ≡ owner.plan = c.as_bytes.ensures in
-    let with : IsPlanWith mark part.digest owner.plan = subst (IsPlanWith mark part.digest) plan (subst (λ d. IsPlanWith mark d c.as_bytes.result.now) digest c.in-Some.ensures) in
-    placed part db mark owner.plan c.place_in.result with (subst (λ name. IsSiteOf name owner.plan db) node site) c.place_in.ensures
+    placed part db c.in-Some.mark.now owner.plan c.place_in.result c.in-Some.ensures (subst (λ name. IsSiteOf name owner.plan db) node site) c.place_in.ensures
 
 pub returns-in-None : goal.returns-in-None
 returns-in-None c db site owned =
@@ -28,7 +24,4 @@ returns-in-None c db site owned =
     let part = c.args.site.now in
     let it = owned.1 in
     let same : owner.plan ≡ it.0 = (one_owner db owner.node part.name owner.plan it.0 site it.2).1 in
-    let digest : c.digest.result.now ≡ part.digest = search rules in
-    let plan : c.as_bytes.result.now ≡ owner.plan = c.as_bytes.ensures in
-    let with : IsPlanWith owned.0 part.digest owner.plan = subst (IsPlanWith owned.0 part.digest) (sym same) it.1 in
-    c.in-None.ensures owned.0 (subst (λ d. IsPlanWith owned.0 d c.as_bytes.result.now) (sym digest) (subst (IsPlanWith owned.0 part.digest) (sym plan) with))
+    c.in-None.ensures owned.0 (subst (IsPlanWith owned.0 part.digest) (sym same) it.1)

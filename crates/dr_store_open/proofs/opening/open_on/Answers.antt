@@ -20,12 +20,12 @@ returns-in-Ok-clause-own g c clean apart =
     let it = c.in-Ok.ensures in
     has_own c.args.shelf c.test_all.new.shelf old.now.trees c.args.found.prints.items (c.requires.are early).prints (c.requires.used early) apart it.uses it.named (λ whole under. it.own clean whole under)
 
-pub returns-clause-ready : goal.returns-clause-ready
-returns-clause-ready g c =
+pub returns-in-Err-clause-ready : goal.returns-in-Err-clause-ready
+returns-in-Err-clause-ready g c =
     ready_not c.args.found.next (state g.S.Store c.args.conn.now) (state g.S.Store c.test_all.new.conn) _ c.in-Err.fault c.in-Err.ensures.ready
 
-pub returns-clause-other : goal.returns-clause-other
-returns-clause-other g c clean other =
+pub returns-in-Err-clause-other : goal.returns-in-Err-clause-other
+returns-in-Err-clause-other g c clean other =
     let old = state g.S.Store c.args.conn.now in
     let new = state g.S.Store c.test_all.new.conn in
     let early : HasCleanDisk old = omega (arith, c.in-Err.ensures.ready.looks.clean, clean) in

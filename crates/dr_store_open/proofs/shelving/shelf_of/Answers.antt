@@ -14,5 +14,5 @@ pub returns-in-InFile-clause-used : goal.returns-in-InFile-clause-used
 returns-in-InFile-clause-used g c clean are =
     let db = (state g.S.Store c.args.conn.now).now.trees in
     if_ok_as _ _ c.shelf_in_file.result
-    (λ shelf it. file_used c.in-InFile.said db c.args.found.now.prints.items are it.0 it.1 shelf it.2)
+    (λ shelf it. file_used c.in-InFile.said.now db c.args.found.now.prints.items are it.0 it.1 shelf it.2)
     (c.shelf_in_file.ensures.file clean)
