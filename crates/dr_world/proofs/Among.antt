@@ -1674,7 +1674,10 @@ module _ (ours : Ours) (plan next : Network) (certificate seal : Certificate) (b
 
   mixed_take : MixedTake ours plan m next taken
   mixed_take = record {
-    over = λ i k there. h.may.over i k (link_there i k there);
+    may = record {
+      over = λ i k there. h.may.over i k (link_there i k there);
+      own = ours_take.may;
+    };
     own = ours_take;
     pairs = λ number. refl;
   }

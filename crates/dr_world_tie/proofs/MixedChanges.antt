@@ -174,7 +174,7 @@ module _ (ours : Ours) (plan : Network) (certificate : Certificate) where
       (b new : MixedWorld) (w : World) (shown : ShowsMixed ours plan certificate b w)
       (others : OthersHaveNone ours w) (h : MixedTake ours plan b next new) where
     gone : NoneBetween b w (map_of.keys w.links)
-    gone = all_gone_between (map_of.keys w.links) b w shown others h.over
+    gone = all_gone_between (map_of.keys w.links) b w shown others h.may.over
 
     abbrev v : World
     v = gone.mid
@@ -347,5 +347,5 @@ pub mixed_can_take : MixedCanTake
 mixed_can_take ours plan next b may =
     let own = ours_can_take ours plan next b.own may.own in (
       record { own = own.0; pairs = λ number. None },
-      record { over = may.over; own = own.1; pairs = λ number. refl },
+      record { may = may; own = own.1; pairs = λ number. refl },
     )

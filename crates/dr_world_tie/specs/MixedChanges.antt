@@ -29,7 +29,7 @@ pub record MayMixedTake (ours : Ours) (plan : Network) (b : MixedWorld)
 -- All of ours take it at once: no link is left.
 pub record MixedTake (ours : Ours) (plan : Network) (b : MixedWorld) (next : Network)
     (new : MixedWorld) : Type 0 where
-  pub over : PairsAreOver b.pairs
+  pub may : MayMixedTake ours plan b next
   pub own : OursTake ours plan b.own next new.own
   pub pairs : (number : ℕ) → new.pairs number ≡ None
 
