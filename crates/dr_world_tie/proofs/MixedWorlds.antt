@@ -655,6 +655,9 @@ module _ (ours : Ours) (plan : Network) (certificate : Certificate) where
   abbrev alone_world : OwnWorld → MixedWorld
   alone_world o = record { own = o; pairs = λ number. None }
 
+  abbrev made_of : OwnWorld → (ℕ → Option Channel) → MixedWorld
+  made_of o q = record { own = o; pairs = q }
+
   own_on : (steps : List OwnStep) (o new : OwnWorld)
       → OwnRuns ours plan certificate o steps new
       → MixedRuns ours plan certificate (alone_world o) (mapped Alone steps) (alone_world new)
@@ -666,8 +669,7 @@ module _ (ours : Ours) (plan : Network) (certificate : Certificate) where
       (
         mid,
         one,
-        ap (λ (q : ℕ → Option Channel). record { own = mid; pairs = q })
-            (sym (none_after step)),
+        ap (λ (q : ℕ → Option Channel). made_of mid q) (sym (none_after step)),
       ),
     ),
     own_on steps mid new rest,
