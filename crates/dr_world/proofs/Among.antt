@@ -835,6 +835,9 @@ module _ (ours : Ours) (plan : Network) (certificate : Certificate) where
             (pair_there false true away its ∙ sym (pair_flags l false true (ap ours caller_same ∙ away) (ap ours receiver_same ∙ its)))
             (λ n apart. ap (λ (q : Bool). if q then Some next_end else m.own.ends n) apart) (λ n apart. refl))
 
+        abbrev emptied_of : LiveTerminal → LiveTerminal → Channel
+        emptied_of v w = record { caller = v; receiver = w; to_caller = []; to_receiver = [] }
+
         -- between two of ours: the acceptor's end, then the requestor's, and then the wires
         both_ours : ours (caller_of k) ≡ true → ours (receiver_of k) ≡ true → Goes m closed_world
         both_ours its also =
@@ -853,7 +856,8 @@ module _ (ours : Ours) (plan : Network) (certificate : Certificate) where
             let next : MixedWorld = record { own = second.last.own; pairs = with_pair second.last.pairs number z } in
             let caller_is : q.caller ≡ record { core = x.core; ear = k.caller.ear } = second.caller_is ∙ ap (λ (v : LiveTerminal). let w : LiveTerminal = record { core = x.core; ear = v.ear } in w) first.caller_is in
             let receiver_is : q.receiver ≡ record { core = y.core; ear = k.receiver.ear } = second.receiver_is ∙ first.receiver_is in
-            let z_is : z ≡ l = ap (λ (v : LiveTerminal × LiveTerminal). let w : Channel = record { caller = v.0; receiver = v.1; to_caller = []; to_receiver = [] } in w) (λ j. (caller_is j, receiver_is j)) in
+            let x_end : LiveTerminal = record { core = x.core; ear = k.caller.ear } in
+            let z_is : z ≡ l = ap (λ (v : LiveTerminal). emptied_of v q.receiver) caller_is ∙ ap (λ (v : LiveTerminal). emptied_of x_end v) receiver_is in
             let over_x : is_over x.core ≡ true = ap is_gone (ended_over (LedgerStep plan (caller_of k)) late k.caller.core t x (with_desk b.desks (receiver_of k) u (caller_of k)) c) in
             let over_y : is_over y.core ≡ true = ap is_gone (ended_over (LedgerStep plan (receiver_of k)) early k.receiver.core u y (b.desks (receiver_of k)) r) in
             let emptied : MixedRuns ours plan certificate second.last (Empties number ∷ []) next = (
@@ -1180,7 +1184,8 @@ module _ (ours : Ours) (plan : Network) (certificate : Certificate) where
       -- ---- the far ends have their connections ended
 
       there_alike : (z k : Channel) → caller_of z ≡ caller_of k → receiver_of z ≡ receiver_of k → bytes.is_there node (Some z) ≡ bytes.is_there node (Some k)
-      there_alike z k e f = ap (λ (p : Text × Text). same_text p.0 node || same_text p.1 node) (λ j. (e j, f j))
+      there_alike z k e f = ap (λ (n : Text). same_text n node || same_text (receiver_of z) node) e
+      ∙ ap (λ (n : Text). same_text (caller_of k) node || same_text n node) f
 
       -- what is left of an end alone: it is the node's own, or over
       abbrev LoneLeft : OwnEnd → Type 0
