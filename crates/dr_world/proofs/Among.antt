@@ -1185,7 +1185,7 @@ module _ (ours : Ours) (plan : Network) (certificate : Certificate) where
 
       there_alike : (z k : Channel) → caller_of z ≡ caller_of k → receiver_of z ≡ receiver_of k → bytes.is_there node (Some z) ≡ bytes.is_there node (Some k)
       there_alike z k e f = ap (λ (n : Text). same_text n node || same_text (receiver_of z) node) e
-      ∙ ap (λ (n : Text). same_text (caller_of k) node || same_text n node) f
+          ∙ ap (λ (n : Text). same_text (caller_of k) node || same_text n node) f
 
       -- what is left of an end alone: it is the node's own, or over
       abbrev LoneLeft : OwnEnd → Type 0
