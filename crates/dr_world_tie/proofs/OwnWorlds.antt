@@ -61,7 +61,7 @@ use Rattle.dr_world_tie.proofs.Nodes.{requeueing_is_requeue, staying_away_is_sta
 use Rattle.dr_world_tie.proofs.Nodes.{forgetting_is_forget, submitting_takes}
 use Rattle.dr_world_tie.proofs.OwnRestarts.{restart_is_shown, without_is}
 use Rattle.dr_world_tie.proofs.Foreigners.{one_link}
-use Rattle.dr_world_tie.proofs.EndsAlone.{Beside, Counts, hears, listens, meets, opens, shown_call}
+use Rattle.dr_world_tie.proofs.EndsAlone.{Beside, Counts, hears, listens, meets, opens}
 use Rattle.dr_world_tie.proofs.EndsAlone.{only_at, pend_by, shown_as, shown_still}
 
 module _ (ours : Ours) (plan : Network) (certificate : Certificate) where
@@ -282,8 +282,8 @@ module _ (ours : Ours) (plan : Network) (certificate : Certificate) where
     abbrev Shown_own : OwnWorld → World → Type 0
     Shown_own c v = ShowsOwn ours plan certificate c v
 
-    beside : Beside ours plan certificate b w Shown_own (λ i. Unit {0})
-    beside = record {
+    ends_beside : Beside ours plan certificate b w Shown_own (λ i. Unit {0})
+    ends_beside = record {
       time = shows.time;
       desks = shows.desks;
       numbers = shows.numbers;
@@ -348,8 +348,11 @@ module _ (ours : Ours) (plan : Network) (certificate : Certificate) where
         → NoneIsPending w node uid
     none_pending node uid none its number link item there caller on pend same =
         let a = shows.called number link there (ap ours caller ∙ its) in
-        let s = shown_call ours plan certificate certified b w Shown_own (λ j. Unit {0}) beside
-        others a.0 a.1 a.2 a.4 in
+        let s : ShowsBy ours plan certificate w (shows.numbers a.0) Requestor a.1.node a.1.terminal =
+        subst
+        (λ (z : Side).
+        ShowsBy ours plan certificate w (shows.numbers a.0) z a.1.node a.1.terminal) a.4
+        (shows.ends a.0 a.1 a.2) in
         let number_is : s.0 ≡ number = same_Some s.0 number (sym s.1 ∙ a.3) in
         let at : IsLink w number s.2.1.0 =
         subst (λ (n : ℕ). IsLink w n s.2.1.0) number_is s.2.1.1 in
@@ -366,13 +369,13 @@ module _ (ours : Ours) (plan : Network) (certificate : Certificate) where
         → OwnSteps ours plan certificate b step new
         → Acts w new
     one_step (Listens i node) new h = listens ours plan certificate certified b w Shown_own
-        (λ j. Unit {0}) beside others i node new tt h
+        (λ j. Unit {0}) ends_beside others i node new tt h
     one_step (Opens i node dest) new h = opens ours plan certificate certified b w Shown_own
-        (λ j. Unit {0}) beside others i node dest new tt h
+        (λ j. Unit {0}) ends_beside others i node dest new tt h
     one_step (Hears i came) new h = hears ours plan certificate certified b w Shown_own
-        (λ j. Unit {0}) beside others i came new h
+        (λ j. Unit {0}) ends_beside others i came new h
     one_step (Meets i what) new h = meets ours plan certificate certified b w Shown_own
-        (λ j. Unit {0}) beside others i what new h
+        (λ j. Unit {0}) ends_beside others i what new h
     one_step (Submits node item) new h = alone node _ new h
         (Take node (instance_of item) h.does.0) h.own
         (submitting_takes plan w node item (b.desks node) h.after h.does.0 h.is_node
