@@ -3,12 +3,11 @@ use Rattle.std.proofs.Common.{◌≡◌, ℕ, Bool, true, false, List, [], ◌�
 use Rattle.std.proofs.Math.Logic.{∥∥₁_map, ∥∥₁_elim, ∥∥₁_prop}
 use Rattle.std.proofs.lemmas.Bool.{false≢true}
 use Rattle.std.specs.Prelude.{◌≢◌}
-use Rattle.std.specs.Option.{option_map_or}
 use Rattle.std.specs.Ordering.{nat_cmp}
 use Rattle.std.specs.FinMap as map_of
 use Rattle.std.specs.FinMap.{FinMap}
 use Rattle.std.specs.FinSet as set
-use Rattle.dr_base.specs.Texts.{Text, text_cmp}
+use Rattle.dr_base.specs.Texts.{Text}
 use Rattle.dr_route.specs.Routes.{local}
 use Rattle.dr_route.specs.declared.key.Key.{Key}
 use Rattle.dr_plan_model.specs.Networks.{Network}
@@ -30,15 +29,15 @@ use Rattle.dr_session.specs.Ends.{is_gone}
 use Rattle.dr_session.specs.Ledgers.{Desk, desk}
 use Rattle.dr_world_model.specs.Worlds.{World, Link, Stage, Asking, Answering, Rejecting, Open, Storing, Replying, Gone, start}
 use Rattle.dr_world_model.specs.Steps.{IsLink}
-use Rattle.dr_world_model.specs.Events.{Event, HasNode, Step}
+use Rattle.dr_world_model.specs.Events.{HasNode}
 use Rattle.dr_world_model.specs.Runs.{Action, Occurs, Adopt, Adopts, Runs}
 use Rattle.dr_world_model.proofs.AdoptionsKept.{no_row, node_or_not}
 use Rattle.dr_world_model.proofs.FromSafety.{headline_holds}
 use Rattle.dr_world_model.proofs.Lasting.{kept_stays_kept}
-use Rattle.dr_world_tie.specs.Channels.{Channel, ShowsLink, IsCaller, IsReceiver}
+use Rattle.dr_world_tie.specs.Channels.{Channel, IsCaller, IsReceiver}
 use Rattle.dr_world_tie.specs.ByteWorlds.{ByteWorld, beginning, WorldStep, StepNote, is_over}
 use Rattle.dr_world_tie.specs.Shown.{ShowsWorld, ShowsAt, Comes}
-use Rattle.dr_world_tie.specs.Changes.{AllAreOver, TakesPlan, PlansAreAdopted, Deed, Does, Takes, RunsThrough, ComesThrough, ChangesKeepTheHeadline, WhatIsKeptStaysThrough, PlansCanBeTaken, NewWorldsMayTake, WhatIsTakenIsOne}
+use Rattle.dr_world_tie.specs.Changes.{TakesPlan, PlansAreAdopted, Deed, Does, Takes, RunsThrough, ChangesKeepTheHeadline, WhatIsKeptStaysThrough, PlansCanBeTaken, NewWorldsMayTake, WhatIsTakenIsOne}
 use Rattle.dr_world_tie.proofs.Others.{state_is, shown_channel}
 use Rattle.dr_world_tie.proofs.World.{world_steps, beside_beginning}
 

@@ -1,5 +1,5 @@
 -- Nodes of ours that have links to each other, and to other makers' products, take another plan.
-use Rattle.std.proofs.Common.{◌≡◌, ◌⊎◌, ℕ, Bool, true, false, List, [], ◌∷◌, ◌++◌, Option, None, Some}
+use Rattle.std.proofs.Common.{◌≡◌, ℕ, true, false, List, [], ◌∷◌, ◌++◌, Option, None, Some}
 use Rattle.std.proofs.Common.{Contains, refl, sym, ap, subst, ◌∙◌, inl, inr, is_some}
 use Rattle.std.proofs.Math.Logic.{∥∥₁_map, ∥∥₁_elim, ∥∥₁_prop}
 use Rattle.std.specs.Ordering.{nat_cmp}
@@ -11,11 +11,10 @@ use Rattle.dr_plan_model.proofs.Gathered.{Contains-cons_cases, nothing_in_nil}
 use Rattle.dr_plan_sound.specs.declared.certificate.Certificate.{Certificate}
 use Rattle.dr_site.specs.Sites.{IsCertified}
 use Rattle.dr_ledger.specs.Adopting.{IsFit}
-use Rattle.dr_ledger.specs.Books.{Adoption, after, empty_book}
+use Rattle.dr_ledger.specs.Books.{Adoption, after}
 use Rattle.dr_ledger.proofs.Maps.{texts, ties_itself}
 use Rattle.dr_session.specs.Ledgers.{Desk, desk}
 use Rattle.dr_world_model.specs.Worlds.{Link, World, same_text, start}
-use Rattle.dr_world_model.specs.Events.{HasNode}
 use Rattle.dr_world_model.specs.Steps.{IsLink}
 use Rattle.dr_world_model.specs.Among.{Act, HeadlineAmong, Ours, RunsAmong}
 use Rattle.dr_world_model.proofs.AmongActs.{headline_holds_among}
@@ -24,11 +23,11 @@ use Rattle.dr_world_tie.specs.ByteWorlds.{Requestor}
 use Rattle.dr_world_tie.specs.Channels.{Channel}
 use Rattle.dr_world_tie.specs.Foreign.{OthersHaveNone}
 use Rattle.dr_world_tie.specs.ForeignWorlds.{OwnEnd, OwnWorld, ShowsOwn}
-use Rattle.dr_world_tie.specs.MixedChanges.{MayMixedTake, MixedCanTake, MixedChangesKeepTheClaims}
+use Rattle.dr_world_tie.specs.MixedChanges.{MixedCanTake, MixedChangesKeepTheClaims}
 use Rattle.dr_world_tie.specs.MixedChanges.{MixedDeed, MixedDoes, MixedRunsThrough, MixedTake}
 use Rattle.dr_world_tie.specs.MixedChanges.{MixedTakes, PairsAreOver}
-use Rattle.dr_world_tie.specs.MixedWorlds.{MixedStep, MixedSteps, MixedWorld, ShowsMixed, ShowsPair}
-use Rattle.dr_world_tie.specs.MixedWorlds.{mixed_beginning, without_pair}
+use Rattle.dr_world_tie.specs.MixedWorlds.{MixedWorld, ShowsMixed}
+use Rattle.dr_world_tie.specs.MixedWorlds.{mixed_beginning}
 use Rattle.dr_world_tie.specs.OwnChanges.{MayOursTake, OursTake}
 use Rattle.dr_world_tie.proofs.Foreigners.{one_link, runs_on}
 use Rattle.dr_world_tie.proofs.MixedRestarts.{left_world, mixed_restarts, pair_was}

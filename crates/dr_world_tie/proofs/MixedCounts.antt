@@ -1,5 +1,5 @@
 -- A node's other associations, counted in both worlds: those with others, and those with ours.
-use Rattle.std.proofs.Common.{◌≡◌, ◌≢◌, ◌⊎◌, ℕ, ◌<◌, ◌≤◌, Bool, true, false, List, [], ◌∷◌, Option, None, Some}
+use Rattle.std.proofs.Common.{◌≡◌, ◌≢◌, ℕ, ◌≤◌, Bool, true, false, List, [], ◌∷◌, Option, None, Some}
 use Rattle.std.proofs.Common.{Contains, get_or, length, refl, sym, ap, subst, ◌∙◌, inl, inr, arith}
 use Rattle.std.specs.Prelude.{AllPairs}
 use Rattle.std.specs.Ordering.{nat_cmp}
@@ -25,13 +25,13 @@ use Rattle.dr_session.specs.declared.ends.Core.{Core}
 use Rattle.dr_world_model.specs.Worlds.{World, Link, Stage, Asking, Answering, Rejecting, Open, Storing, Replying, Gone}
 use Rattle.dr_world_model.specs.Steps.{IsLink, others, others_of}
 use Rattle.dr_world_model.specs.Among.{Ours}
-use Rattle.dr_world_model.specs.Pinning.{IsAccepted, answering, opened, storing, replying}
+use Rattle.dr_world_model.specs.Pinning.{IsAccepted, answering, opened, replying}
 use Rattle.dr_world_model.proofs.Counted.{others_are_counted}
 use Rattle.dr_world_model.proofs.Lookups.{numbers}
-use Rattle.dr_world_tie.specs.Channels.{Channel, IsOff, IsReceiver, LiveTerminal}
-use Rattle.dr_world_tie.specs.ByteWorlds.{Acceptor, Side, is_open, receiver_of}
-use Rattle.dr_world_tie.specs.Foreign.{IsCalledBy, ShowsForeign, StandsAt}
-use Rattle.dr_world_tie.specs.ForeignWorlds.{OwnEnd, ShowsBy}
+use Rattle.dr_world_tie.specs.Channels.{IsOff, IsReceiver, LiveTerminal}
+use Rattle.dr_world_tie.specs.ByteWorlds.{Side, is_open}
+use Rattle.dr_world_tie.specs.Foreign.{ShowsForeign, StandsAt}
+use Rattle.dr_world_tie.specs.ForeignWorlds.{ShowsBy}
 use Rattle.dr_world_tie.specs.MixedWorlds.{CountsOthers, IsOpenAt, MixedWorld, ShowsMixed}
 use Rattle.dr_world_tie.proofs.MixedUpdates.{PlaceOf, place_of}
 use Rattle.dr_world_tie.proofs.Others.{accepted_there, as_pairs, open_there, state_is}

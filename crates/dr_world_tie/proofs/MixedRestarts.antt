@@ -1,6 +1,6 @@
 -- A node of ours starts anew where there are links between two of ours, whose callers have had
 -- their connections ended before.
-use Rattle.std.proofs.Common.{◌≡◌, ◌≢◌, ◌⊎◌, ◌≤◌, ℕ, Bool, true, false, List, [], ◌∷◌, Option, None, Some}
+use Rattle.std.proofs.Common.{◌≡◌, ◌≤◌, ℕ, Bool, true, false, List, [], ◌∷◌, Option, None, Some}
 use Rattle.std.proofs.Common.{Contains, refl, sym, ap, subst, ◌∙◌, inl, inr}
 use Rattle.std.specs.Prelude.{◌||◌, if◌then◌else◌}
 use Rattle.std.specs.FinSet as set
@@ -18,7 +18,7 @@ use Rattle.dr_world_tie.specs.ByteWorlds.{caller_of, is_there, receiver_of}
 use Rattle.dr_world_tie.specs.Channels.{Channel}
 use Rattle.dr_world_tie.specs.Foreign.{OthersHaveNone}
 use Rattle.dr_world_tie.specs.ForeignWorlds.{OwnEnd, ShowsBy, without_node}
-use Rattle.dr_world_tie.specs.MixedWorlds.{CallersAreOver, HasOurs, MixedWorld, ShowsMixed, ShowsPair}
+use Rattle.dr_world_tie.specs.MixedWorlds.{CallersAreOver, MixedWorld, ShowsMixed, ShowsPair}
 use Rattle.dr_world_tie.specs.MixedWorlds.{without_pair}
 use Rattle.dr_world_tie.proofs.Changes.{caller_off}
 use Rattle.dr_world_tie.proofs.MixedUpdates.{PlaceOf, pair_alone, place_of}

@@ -1,14 +1,14 @@
 -- One end, or one link between two of ours, in the place of another: the rest stays shown.
 use Rattle.std.proofs.Common.{◌≡◌, ◌≢◌, ◌⊎◌, ℕ, ◌<◌, ◌≤◌, Bool, true, false, Option, None, Some}
 use Rattle.std.proofs.Common.{refl, sym, ap, subst, ◌∙◌, inl, inr, arith}
-use Rattle.std.specs.Prelude.{◌==◌, ◌+◌, if◌then◌else◌}
+use Rattle.std.specs.Prelude.{◌==◌, if◌then◌else◌}
 use Rattle.std.proofs.lemmas.Bool.{cases_Bool, eq-eqb, eqb-true, eqb-false}
 use Rattle.std.proofs.lemmas.Option.{same_Some}
 use Rattle.dr_base.specs.Texts.{Text}
 use Rattle.dr_plan_model.specs.Networks.{Network}
 use Rattle.dr_plan_sound.specs.declared.certificate.Certificate.{Certificate}
 use Rattle.dr_ledger.proofs.Maps.{same_or_not, texts, ties_itself}
-use Rattle.dr_world_model.specs.Worlds.{Link, World, same_text}
+use Rattle.dr_world_model.specs.Worlds.{Link, World}
 use Rattle.dr_world_model.specs.Steps.{IsLink}
 use Rattle.dr_world_model.specs.Among.{Ours}
 use Rattle.dr_world_tie.specs.ByteWorlds.{Side, Requestor, Acceptor}

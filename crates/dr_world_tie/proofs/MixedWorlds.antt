@@ -1,12 +1,12 @@
 -- Nodes of ours that have links to each other beside those to other makers' products.
-use Rattle.std.proofs.Common.{◌≡◌, ◌≢◌, ℕ, ◌<◌, ◌≤◌, Bool, true, false, List, [], ◌∷◌, ◌++◌, take, Option}
-use Rattle.std.proofs.Common.{Some, None, refl, sym, ap, subst, ◌∙◌, inl, inr, ◌⊎◌, arith}
+use Rattle.std.proofs.Common.{◌≡◌, ℕ, ◌≤◌, Bool, true, false, List, [], ◌∷◌, ◌++◌, take, Option}
+use Rattle.std.proofs.Common.{Some, None, refl, sym, ap, subst, ◌∙◌, inl, inr, arith}
 use Rattle.std.proofs.Math.Logic.{∥∥₁_map, ∥∥₁_elim, ∥∥₁_prop}
-use Rattle.std.specs.Prelude.{◌==◌, ◌+◌, ◌^◌, min, if◌then◌else◌, map as mapped}
+use Rattle.std.specs.Prelude.{◌+◌, ◌^◌, min, if◌then◌else◌, map as mapped}
 use Rattle.std.specs.Ordering.{nat_cmp}
 use Rattle.std.specs.FinMap as map_of
 use Rattle.std.specs.FinSet as set
-use Rattle.std.proofs.lemmas.Bool.{cases_Bool, eq-eqb, false≢true}
+use Rattle.std.proofs.lemmas.Bool.{eq-eqb, false≢true}
 use Rattle.std.proofs.lemmas.Option.{same_Some}
 use Rattle.dr_base.specs.Texts.{Text, text_cmp}
 use Rattle.dr_plan_model.specs.Networks.{Network}
@@ -22,38 +22,35 @@ use Rattle.dr_ledger.specs.Items.{instance_of}
 use Rattle.dr_ledger.specs.declared.item.Instance.{Instance}
 use Rattle.dr_ledger.specs.declared.item.Outcome.TheVariants.{Broken}
 use Rattle.dr_ledger.proofs.Maps.{get_new, same_or_not, texts, ties_itself}
-use Rattle.dr_pdu.specs.Feeding.{Feeding, fresh}
+use Rattle.dr_pdu.specs.Feeding.{fresh}
 use Rattle.dr_session.specs.Desks.{Settle, Settling}
 use Rattle.dr_session.specs.Ends.{accepting}
-use Rattle.dr_session.specs.declared.ends.Effect.{Effect}
 use Rattle.dr_session.specs.declared.ends.Input.{Input}
-use Rattle.dr_session.specs.declared.ends.Moment.{Moment}
-use Rattle.dr_session.specs.Pendings.{pending_of}
 use Rattle.dr_session.specs.Plays.{PlaysBytes, Reacts, at_moment}
 use Rattle.dr_world_model.specs.Worlds.{Link, World, same_text, start}
 use Rattle.dr_world_model.specs.Events.{Event, Ask, Drop, Forget, Refuse, Requeue, Take, Tick}
 use Rattle.dr_world_model.specs.Events.{StayAway as AwayEvent}
-use Rattle.dr_world_model.specs.Steps.{IsHop, IsLink, NoneIsPending, asked, new_link, others, passed}
+use Rattle.dr_world_model.specs.Steps.{IsHop, NoneIsPending, asked, new_link, passed}
 use Rattle.dr_world_model.specs.Steps.{pending}
 use Rattle.dr_world_model.specs.Among.{Ours, Act, ArrivesAtOurs, Own, RunsAmong, HeadlineAmong}
 use Rattle.dr_world_model.proofs.AmongActs.{headline_holds_among}
 use Rattle.dr_world_model.proofs.Lookups.{numbers as numbers_of}
-use Rattle.dr_world_tie.specs.ByteWorlds.{Side, Requestor, Acceptor, caller_of, opened_between}
+use Rattle.dr_world_tie.specs.ByteWorlds.{Requestor, Acceptor, caller_of, opened_between}
 use Rattle.dr_world_tie.specs.ByteWorlds.{receiver_of}
 use Rattle.dr_world_tie.specs.Desks.{Desk, LedgerStep}
-use Rattle.dr_world_tie.specs.Channels.{Channel, IsCaller, LiveTerminal, ShowsLink, site_in}
+use Rattle.dr_world_tie.specs.Channels.{Channel, IsCaller, ShowsLink, site_in}
 use Rattle.dr_world_tie.specs.Nodes.{GivesUpAt, HappensAt}
 use Rattle.dr_world_tie.specs.Ties.{IsDeskOf, IsOpened, caller_did, caller_read, receiver_did}
 use Rattle.dr_world_tie.specs.Ties.{receiver_read, with_desk}
 use Rattle.dr_world_tie.specs.Foreign.{OnlyOf, OthersHaveNone}
-use Rattle.dr_world_tie.specs.ForeignCalls.{CallsAt, IsCallOf}
+use Rattle.dr_world_tie.specs.ForeignCalls.{CallsAt}
 use Rattle.dr_world_tie.specs.ForeignWorlds.{OwnEnd, OwnWorld, own_beginning, with_done}
 use Rattle.dr_world_tie.specs.ForeignWorlds.{OwnStep, Listens, Opens, Hears, Meets}
 use Rattle.dr_world_tie.specs.ForeignWorlds.{Submits, Passes, DoesAlone, Forgets, NoneAwaits}
 use Rattle.dr_world_tie.specs.ForeignWorlds.{GivesUp, OwnRuns, OwnSteps, PutsBack, Refuses, Restarts}
-use Rattle.dr_world_tie.specs.ForeignWorlds.{ShowsBy, StaysAway}
+use Rattle.dr_world_tie.specs.ForeignWorlds.{StaysAway}
 use Rattle.dr_world_tie.specs.MixedWorlds.{Alone, Asks, BothKindsStandThere, CallerIsAsked}
-use Rattle.dr_world_tie.specs.MixedWorlds.{CallerIsMoved, CountsOthers, Empties, HasOurs, IsEmptied}
+use Rattle.dr_world_tie.specs.MixedWorlds.{CallerIsMoved, CountsOthers, Empties, IsEmptied}
 use Rattle.dr_world_tie.specs.MixedWorlds.{Joins, JoinsTo, MayBeside, MixedRuns, MixedStep}
 use Rattle.dr_world_tie.specs.MixedWorlds.{MixedSteps, MixedWorld, MixedWorldsKeepTheClaims, Moves}
 use Rattle.dr_world_tie.specs.MixedWorlds.{NonePends, OwnRunsAreMixed, PairsAreOurs}
@@ -62,7 +59,7 @@ use Rattle.dr_world_tie.specs.MixedWorlds.{WiresCarryWhatIsWritten, done_between
 use Rattle.dr_world_tie.specs.MixedWorlds.{pairs_after, with_pair, without_pair}
 use Rattle.dr_world_tie.proofs.Changes.{caller_off, receiver_off}
 use Rattle.dr_world_tie.proofs.EndsAlone.{Beside, hears, listens, meets, only_asked, only_at, opens}
-use Rattle.dr_world_tie.proofs.EndsAlone.{pend_by, shown_as, shown_still}
+use Rattle.dr_world_tie.proofs.EndsAlone.{pend_by, shown_as}
 use Rattle.dr_world_tie.proofs.Foreigners.{only_none, runs_on}
 use Rattle.dr_world_tie.proofs.MixedCounts.{counts_agree}
 use Rattle.dr_world_tie.proofs.MixedRestarts.{mixed_restarts}

@@ -1,5 +1,5 @@
 -- Nodes of ours take another plan among other makers' products.
-use Rattle.std.proofs.Common.{◌≡◌, ◌⊎◌, ℕ, Bool, true, false, List, [], ◌∷◌, ◌++◌, Option, None, Some}
+use Rattle.std.proofs.Common.{◌≡◌, ℕ, Bool, true, false, List, [], ◌∷◌, ◌++◌, Option, None, Some}
 use Rattle.std.proofs.Common.{Contains, refl, sym, ap, subst, ◌∙◌, inl, inr, is_some}
 use Rattle.std.specs.Prelude.{cond}
 use Rattle.std.specs.Ordering.{nat_cmp}
@@ -18,7 +18,7 @@ use Rattle.dr_ledger.specs.Adopting.{IsFit}
 use Rattle.dr_ledger.specs.Books.{Adoption, Book, after, empty_book, is_queued}
 use Rattle.dr_ledger.specs.Pairs.{pair_cmp}
 use Rattle.dr_ledger.proofs.Maps.{texts, ties_itself}
-use Rattle.dr_session.specs.Ledgers.{Desk, desk}
+use Rattle.dr_session.specs.Ledgers.{Desk}
 use Rattle.dr_world_model.specs.Worlds.{Link, World, same_text, start}
 use Rattle.dr_world_model.specs.Events.{HasNode}
 use Rattle.dr_world_model.specs.Steps.{IsLink}
@@ -28,9 +28,9 @@ use Rattle.dr_world_model.proofs.AmongActs.{headline_holds_among}
 use Rattle.dr_world_model.proofs.Picking.{in_any}
 use Rattle.dr_world_tie.specs.Ties.{IsDeskOf}
 use Rattle.dr_world_tie.specs.Foreign.{OthersHaveNone}
-use Rattle.dr_world_tie.specs.ForeignWorlds.{OwnEnd, OwnStep, OwnWorld, ShowsOwn, own_beginning}
+use Rattle.dr_world_tie.specs.ForeignWorlds.{OwnEnd, OwnWorld, ShowsOwn, own_beginning}
 use Rattle.dr_world_tie.specs.ForeignWorlds.{without_node}
-use Rattle.dr_world_tie.specs.OwnChanges.{MayOursTake, OursCanTake, OursMayTakeAtFirst, OursTake}
+use Rattle.dr_world_tie.specs.OwnChanges.{OursCanTake, OursMayTakeAtFirst, OursTake}
 use Rattle.dr_world_tie.specs.OwnChanges.{OwnChangesKeepTheClaims, OwnDeed, OwnDoes, OwnRunsThrough}
 use Rattle.dr_world_tie.specs.OwnChanges.{OwnTakes}
 use Rattle.dr_world_tie.proofs.Changes.{at_node, elsewhere, node_apart, reached_goes, taken}

@@ -1,6 +1,6 @@
 -- A node of ours starts anew among other makers' products.
-use Rattle.std.proofs.Common.{◌≡◌, ◌≢◌, ◌⊎◌, ◌≤◌, ℕ, Bool, true, false, List, [], ◌∷◌, Option, None, Some, Err}
-use Rattle.std.proofs.Common.{Contains, refl, sym, ap, subst, ◌∙◌, inl, inr, arith}
+use Rattle.std.proofs.Common.{◌≡◌, ◌≢◌, ◌≤◌, ℕ, Bool, true, false, List, [], ◌∷◌, Option, None, Some, Err}
+use Rattle.std.proofs.Common.{Contains, refl, sym, ap, subst, ◌∙◌, inl, inr}
 use Rattle.std.specs.Prelude.{AllPairs, cond, not, if◌then◌else◌}
 use Rattle.std.specs.declared.cmp.Ordering.TheVariants.{Equal, Less}
 use Rattle.std.specs.Ordering.{nat_cmp}
@@ -31,8 +31,8 @@ use Rattle.dr_world_model.proofs.Pinned.{restarts_in_order}
 use Rattle.dr_world_model.proofs.Restarting.{callers_are_those_who_call}
 use Rattle.dr_world_tie.specs.ByteWorlds.{Acceptor, Requestor, Side}
 use Rattle.dr_world_tie.specs.Channels.{LiveTerminal}
-use Rattle.dr_world_tie.specs.Foreign.{OthersHaveNone, ShowsForeign}
-use Rattle.dr_world_tie.specs.ForeignCalls.{IsCallOf, ShowsCall}
+use Rattle.dr_world_tie.specs.Foreign.{OthersHaveNone}
+use Rattle.dr_world_tie.specs.ForeignCalls.{IsCallOf}
 use Rattle.dr_world_tie.specs.ForeignWorlds.{OwnEnd, OwnWorld, ShowsBy, ShowsOwn, without_node}
 use Rattle.dr_world_tie.proofs.Foreigners.{none_waits, one_link, same_books}
 use Rattle.dr_world_tie.proofs.Others.{as_pairs}

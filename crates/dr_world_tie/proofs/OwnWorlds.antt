@@ -1,6 +1,6 @@
 -- Nodes of ours among other makers' products, to which alone they have links.
 use Rattle.std.proofs.Common.{◌≡◌, ◌≢◌, ℕ, ◌<◌, ◌≤◌, Bool, true, false, List, [], ◌∷◌, ◌++◌, Option}
-use Rattle.std.proofs.Common.{Some, None, refl, sym, ap, subst, ◌∙◌, inl, inr, ◌⊎◌, arith}
+use Rattle.std.proofs.Common.{Some, None, refl, sym, ap, subst, ◌∙◌, inl, inr, arith}
 use Rattle.std.specs.Prelude.{◌==◌, ◌+◌, ◌^◌, min, if◌then◌else◌}
 use Rattle.std.specs.FinMap as map_of
 use Rattle.std.specs.FinSet as set
@@ -13,22 +13,12 @@ use Rattle.dr_plan_model.specs.Networks.{Network}
 use Rattle.dr_plan_sound.specs.declared.certificate.Certificate.{Certificate}
 use Rattle.dr_site.specs.Sites.{IsCertified}
 use Rattle.dr_ledger.specs.Items.{instance_of}
-use Rattle.dr_pdu.specs.Feeding.{fresh}
-use Rattle.dr_session.specs.Ends.{accepting, requesting}
-use Rattle.dr_ledger.proofs.Maps.{get_other, same_or_not, texts, ties_itself}
-use Rattle.dr_session.specs.declared.ends.Input.{Input}
-use Rattle.dr_session.specs.declared.ends.Input.TheVariants as input
+use Rattle.dr_ledger.proofs.Maps.{same_or_not, texts, ties_itself}
 use Rattle.dr_world_model.specs.Worlds.{Link, World, same_text, start}
-use Rattle.dr_world_model.specs.Worlds.{Stage, Asking, Answering, Rejecting, Open, Storing}
-use Rattle.dr_world_model.specs.Worlds.{Replying, Gone}
-use Rattle.dr_world_model.specs.Steps.{IsLink, NoneIsPending, pending}
-use Rattle.dr_session.specs.declared.ends.Core.{Core}
-use Rattle.dr_session.specs.Pendings.{pending_of}
-use Rattle.dr_ledger.specs.declared.item.Instance.{Instance}
-use Rattle.dr_world_model.specs.Events.{Event, Ask, Drop, Forget, Refuse, Requeue, Take, Tick}
+use Rattle.dr_world_model.specs.Steps.{IsLink, NoneIsPending}
+use Rattle.dr_world_model.specs.Events.{Event, Drop, Forget, Refuse, Requeue, Take, Tick}
 use Rattle.dr_world_model.specs.Events.{StayAway as AwayEvent}
-use Rattle.dr_world_model.specs.Steps.{IsHop, asked, new_link, passed}
-use Rattle.dr_world_model.proofs.Lookups.{numbers as numbers_of}
+use Rattle.dr_world_model.specs.Steps.{passed}
 use Rattle.dr_world_model.specs.Among.{Ours, Act, ArrivesAtOurs, Own, RunsAmong, HeadlineAmong}
 use Rattle.dr_world_model.proofs.AmongActs.{headline_holds_among}
 use Rattle.dr_world_tie.specs.ByteWorlds.{Side, Requestor, Acceptor}
@@ -36,26 +26,21 @@ use Rattle.dr_world_tie.specs.Desks.{Desk, LedgerStep}
 use Rattle.dr_session.specs.Desks.{Settle, Settling}
 use Rattle.dr_ledger.specs.declared.item.Outcome.TheVariants.{Broken}
 use Rattle.dr_world_tie.specs.Channels.{LiveTerminal}
-use Rattle.dr_world_tie.specs.Nodes.{GivesUpAt, HappensAt, OnlyAt}
+use Rattle.dr_world_tie.specs.Nodes.{GivesUpAt, HappensAt}
 use Rattle.dr_world_tie.specs.Ties.{IsDeskOf, with_desk}
-use Rattle.dr_world_tie.specs.Foreign.{CallsAsNoneOfOurs, Came, ComeAll, OnlyOf, OthersHaveNone}
+use Rattle.dr_world_tie.specs.Foreign.{OnlyOf, OthersHaveNone}
 use Rattle.dr_world_tie.specs.Foreign.{ShowsForeign}
-use Rattle.dr_world_tie.specs.ForeignCalls.{CallsIn, LeadsTo, ShowsCall, acts_of, acts_of_all}
-use Rattle.dr_world_tie.specs.ForeignCalls.{CallsAt, IsCallOf, acts_of_push}
+use Rattle.dr_world_tie.specs.ForeignCalls.{CallsAt, IsCallOf}
 use Rattle.dr_world_tie.specs.ForeignWorlds.{OwnEnd, OwnWorld, with_end, with_done, own_beginning}
 use Rattle.dr_world_tie.specs.ForeignWorlds.{OwnStep, Listens, Opens, Hears, Meets}
-use Rattle.dr_world_tie.specs.ForeignWorlds.{Submits, Passes, HearsWhat, MeetsWhat}
-use Rattle.dr_world_tie.specs.ForeignWorlds.{BeginsListening, BeginsCalling, DoesAlone}
+use Rattle.dr_world_tie.specs.ForeignWorlds.{Submits, Passes}
+use Rattle.dr_world_tie.specs.ForeignWorlds.{DoesAlone}
 use Rattle.dr_world_tie.specs.ForeignWorlds.{EndsAreAskedSo, OthersAreNotHere, OursCanListen}
 use Rattle.dr_world_tie.specs.ForeignWorlds.{Forgets, NoneAwaits}
 use Rattle.dr_world_tie.specs.ForeignWorlds.{GivesUp, OwnSteps, PutsBack, Refuses, Restarts}
 use Rattle.dr_world_tie.specs.ForeignWorlds.{StaysAway}
 use Rattle.dr_world_tie.specs.ForeignWorlds.{OwnRuns, ShowsBy, ShowsOwn, OwnWorldsKeepTheClaims}
-use Rattle.dr_world_tie.proofs.Foreigners.{acceptors_begin, all_only, all_run, are_kept, only_none}
-use Rattle.dr_world_tie.proofs.Foreigners.{one_input_comes, runs_on}
-use Rattle.dr_world_tie.proofs.ForeignPushes.{one_push_comes, requestors_begin}
-use Rattle.dr_world_tie.proofs.ForeignReplies.{one_answer_comes}
-use Rattle.dr_world_tie.proofs.LinksToOthers.{what_acceptors_hear, what_requestors_hear}
+use Rattle.dr_world_tie.proofs.Foreigners.{runs_on}
 use Rattle.dr_world_tie.proofs.Nodes.{giving_up_is_drop, refusing_is_refuse}
 use Rattle.dr_world_tie.proofs.Nodes.{requeueing_is_requeue, staying_away_is_stay_away}
 use Rattle.dr_world_tie.proofs.Nodes.{forgetting_is_forget, submitting_takes}

@@ -1,6 +1,6 @@
 -- What happens at one end of a link between two of ours, in a world of messages in which others may
 -- do what they want.
-use Rattle.std.proofs.Common.{◌≡◌, ◌≢◌, ◌⊎◌, ℕ, ◌≤◌, Bool, true, false, List, [], ◌∷◌, take, length, Option, Some, None, refl, sym, ap, subst, ◌∙◌, inl, inr, arith}
+use Rattle.std.proofs.Common.{◌≡◌, ◌≢◌, ◌⊎◌, ℕ, Bool, true, false, List, [], ◌∷◌, take, Option, Some, None, refl, sym, ap, subst, ◌∙◌, inl, inr, arith}
 use Rattle.std.proofs.Math.Logic.{∥∥₁_map}
 use Rattle.std.specs.Prelude.{◌&&◌, not, is_some}
 use Rattle.std.specs.Option.{option_map_or}
@@ -24,7 +24,7 @@ use Rattle.dr_session.specs.declared.ends.Input.TheVariants as input
 use Rattle.dr_session.specs.declared.ends.Moment.{Moment}
 use Rattle.dr_session.specs.declared.ends.Pending.{Pending}
 use Rattle.dr_session.specs.Plays.{Reacts, PlaysBytes, at_moment}
-use Rattle.dr_session.specs.Reactions.{effect, is_idle, is_free, is_requestor}
+use Rattle.dr_session.specs.Reactions.{is_idle, is_free, is_requestor}
 use Rattle.dr_world_model.specs.Worlds.{World, Link, Stage, Asking, Answering, Rejecting, Open, Storing, Replying, Gone}
 use Rattle.dr_world_model.specs.Steps.{IsLink, others}
 use Rattle.dr_world_model.specs.Events.{Event, Take, Ask, AgreeReceiver, AgreeCaller, Give, Receive, Answered, BreakCaller, BreakReceiver, Close, Restart, Requeue, Drop, StayAway, Forget, Refuse, Tick}

@@ -1,6 +1,6 @@
 -- Nodes of ours that have links to each other beside those to other makers' products: what may
 -- happen there, and that the four claims hold after any of it.
-use Rattle.std.specs.Prelude.{◌≢◌, ◌≡◌, ◌↔◌, ◌⊎◌, ◌≤◌, ◌&&◌, ◌==◌, if◌then◌else◌, ℕ, Bool, true}
+use Rattle.std.specs.Prelude.{◌≢◌, ◌≡◌, ◌↔◌, ◌⊎◌, ◌≤◌, ◌&&◌, ◌==◌, if◌then◌else◌, ℕ, true}
 use Rattle.std.specs.Prelude.{false, List, [], ◌∷◌, length, take, Contains, Option, None, Some}
 use Rattle.std.specs.Prelude.{map as mapped}
 use Rattle.std.specs.Ordering.{nat_cmp}
