@@ -62,7 +62,7 @@ use Rattle.dr_world_tie.proofs.EndsAlone.{Beside, hears, listens, meets, only_as
 use Rattle.dr_world_tie.proofs.EndsAlone.{pend_by, shown_as}
 use Rattle.dr_world_tie.proofs.Foreigners.{only_none, runs_on}
 use Rattle.dr_world_tie.proofs.MixedCounts.{counts_agree}
-use Rattle.dr_world_tie.proofs.MixedRestarts.{mixed_restarts}
+use Rattle.dr_world_tie.proofs.MixedRestarts.{mixed_restarts, pair_was}
 use Rattle.dr_world_tie.proofs.MixedUpdates.{PlaceOf, desks_with, end_is_shown, no_pair, pair_alone}
 use Rattle.dr_world_tie.proofs.MixedUpdates.{pair_is_shown, pair_still, place_of}
 use Rattle.dr_world_tie.proofs.Nodes.{giving_up_is_drop, refusing_is_refuse}
@@ -748,20 +748,49 @@ placed pairs number k l there = same_Some k l
     (subst (λ (c : Bool). (if c then Some k else pairs number) ≡ Some l)
     (eq-eqb number number refl) there)
 
+-- a link that is there after something happened beside it was there
+was_there : (step : OwnStep) (pairs : ℕ → Option Channel) (number : ℕ) (l : Channel)
+    → pairs_after step pairs number ≡ Some l
+    → pairs number ≡ Some l
+was_there (Restarts node) pairs number l h = (pair_was node (pairs number) l h).0
+was_there (Listens i node) pairs number l h = h
+was_there (Opens i node dest) pairs number l h = h
+was_there (Hears i came) pairs number l h = h
+was_there (Meets i what) pairs number l h = h
+was_there (Submits node item) pairs number l h = h
+was_there (StaysAway node uid dest) pairs number l h = h
+was_there (PutsBack node uid dest) pairs number l h = h
+was_there (GivesUp node uid dest) pairs number l h = h
+was_there (Forgets node uid) pairs number l h = h
+was_there (Refuses node) pairs number l h = h
+was_there (Passes ms) pairs number l h = h
+
 pub wires_carry_what_is_written : WiresCarryWhatIsWritten
 wires_carry_what_is_written = record {
-  asked = λ ours plan certificate b new number what k l h at there.
+  caller_asked = λ ours plan certificate b new number what k l h at there.
+      (let same : h.pair ≡ k = same_Some h.pair k (sym h.there ∙ at) in
+      let now : caller_did h.pair h.effect ≡ l = placed b.pairs number
+      (caller_did h.pair h.effect) l
+      (ap (λ (z : MixedWorld). z.pairs number) (sym h.is) ∙ there) in
+      (h.effect, sym now ∙ ap (λ (z : Channel). caller_did z h.effect) same));
+  receiver_asked = λ ours plan certificate b new number what k l h at there.
       (let same : h.pair ≡ k = same_Some h.pair k (sym h.there ∙ at) in
       let now : receiver_did h.pair h.effect ≡ l = placed b.pairs number
       (receiver_did h.pair h.effect) l
       (ap (λ (z : MixedWorld). z.pairs number) (sym h.is) ∙ there) in
       (h.effect, sym now ∙ ap (λ (z : Channel). receiver_did z h.effect) same));
-  moved = λ ours plan certificate b new number n k l h at there.
+  caller_moved = λ ours plan certificate b new number n k l h at there.
+      (let same : h.pair ≡ k = same_Some h.pair k (sym h.there ∙ at) in
+      let now : caller_read h.pair n h.ear h.effect ≡ l = placed b.pairs number
+      (caller_read h.pair n h.ear h.effect) l
+      (ap (λ (z : MixedWorld). z.pairs number) (sym h.is) ∙ there) in
+      (h.ear, h.effect, sym now ∙ ap (λ (z : Channel). caller_read z n h.ear h.effect) same));
+  receiver_moved = λ ours plan certificate b new number n k l h at there.
       (let same : h.pair ≡ k = same_Some h.pair k (sym h.there ∙ at) in
       let now : receiver_read h.pair n h.ear h.effect ≡ l = placed b.pairs number
       (receiver_read h.pair n h.ear h.effect) l
       (ap (λ (z : MixedWorld). z.pairs number) (sym h.is) ∙ there) in
       (h.ear, h.effect, sym now ∙ ap (λ (z : Channel). receiver_read z n h.ear h.effect) same));
-  beside = λ ours plan certificate b new number place came h.
-      ap (λ (z : MixedWorld). z.pairs number) h.1.2;
+  beside = λ ours plan certificate b new number step l h there. was_there step b.pairs number l
+      (ap (λ (z : MixedWorld). z.pairs number) (sym h.1.2) ∙ there);
 }

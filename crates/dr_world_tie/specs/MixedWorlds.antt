@@ -19,7 +19,6 @@ use Rattle.dr_nego.specs.Agreeing.{AssociateRq}
 use Rattle.dr_nego.specs.Proposing.{IsHopTo, IsProposal}
 use Rattle.dr_session.specs.declared.ends.Core.{Core}
 use Rattle.dr_session.specs.declared.ends.Effect.{Effect}
-use Rattle.dr_session.specs.declared.ends.Heard.{Heard}
 use Rattle.dr_session.specs.declared.ends.Input.{Input}
 use Rattle.dr_session.specs.declared.ends.Input.TheVariants.{AbortAsked, Ended, Late, PushAsked}
 use Rattle.dr_session.specs.declared.ends.Input.TheVariants.{ReleaseAsked}
@@ -384,20 +383,31 @@ pub record PairsAreOurs : Type 0 where
       (at : Option ℕ) (k : Channel)
       → ours (receiver_of k) ≡ false → ShowsPair ours plan certificate w at k → ⊥
 
--- What comes to an end of such a link is what the other end wrote: its wire gets what that end
--- writes, and loses what is read.
+-- What comes to an end of such a link is what the other end wrote: each wire gets what its writer
+-- writes, and loses what its reader reads. Where something happens beside it the link stays as it
+-- is, or is gone.
 pub record WiresCarryWhatIsWritten : Type 0 where
-  pub asked : (ours : Ours) (plan : Network) (certificate : Certificate) (b new : MixedWorld)
-      (number : ℕ) (input : Input) (k l : Channel)
+  pub caller_asked : (ours : Ours) (plan : Network) (certificate : Certificate)
+      (b new : MixedWorld) (number : ℕ) (input : Input) (k l : Channel)
+      → MixedSteps ours plan certificate b (Asks number Requestor input) new
+      → b.pairs number ≡ Some k → new.pairs number ≡ Some l
+      → (x : Effect) × (l ≡ caller_did k x)
+  pub receiver_asked : (ours : Ours) (plan : Network) (certificate : Certificate)
+      (b new : MixedWorld) (number : ℕ) (input : Input) (k l : Channel)
       → MixedSteps ours plan certificate b (Asks number Acceptor input) new
       → b.pairs number ≡ Some k → new.pairs number ≡ Some l
       → (x : Effect) × (l ≡ receiver_did k x)
-  pub moved : (ours : Ours) (plan : Network) (certificate : Certificate) (b new : MixedWorld)
-      (number n : ℕ) (k l : Channel)
+  pub caller_moved : (ours : Ours) (plan : Network) (certificate : Certificate)
+      (b new : MixedWorld) (number n : ℕ) (k l : Channel)
+      → MixedSteps ours plan certificate b (Moves number Requestor n) new
+      → b.pairs number ≡ Some k → new.pairs number ≡ Some l
+      → (ear : Feeding) × (x : Effect) × (l ≡ caller_read k n ear x)
+  pub receiver_moved : (ours : Ours) (plan : Network) (certificate : Certificate)
+      (b new : MixedWorld) (number n : ℕ) (k l : Channel)
       → MixedSteps ours plan certificate b (Moves number Acceptor n) new
       → b.pairs number ≡ Some k → new.pairs number ≡ Some l
       → (ear : Feeding) × (x : Effect) × (l ≡ receiver_read k n ear x)
   pub beside : (ours : Ours) (plan : Network) (certificate : Certificate) (b new : MixedWorld)
-      (number place : ℕ) (came : Heard)
-      → MixedSteps ours plan certificate b (Alone (Hears place came)) new
-      → new.pairs number ≡ b.pairs number
+      (number : ℕ) (step : OwnStep) (l : Channel)
+      → MixedSteps ours plan certificate b (Alone step) new
+      → new.pairs number ≡ Some l → b.pairs number ≡ Some l
