@@ -1,2 +1,4 @@
+mod Chained
 mod InTurn
+mod Leafing
 mod Noting

@@ -5,7 +5,7 @@ use crate::monitor::Monitor;
 use crate::reporting::{LastTold, report_changes};
 use crate::shutting::{EndStage, Wake};
 use crate::signal::{BEGIN, News};
-use crate::sweeper::Sweeper;
+use crate::sweeper::{Sweeper, tell_turn};
 use dr_desk::Sharing;
 use dr_ledger_views::Views;
 use dr_run_net::{Listening, Network};
@@ -55,7 +55,7 @@ pub fn keep<
         stage = wake.stops(rt, stage, now, log);
         told = report_changes(node, told, now, false);
         if stage == EndStage::Serving {
-            sweeper.turn(node, now);
+            tell_turn(node, sweeper.turn(node, now));
         }
         let news = wake.signal.wait(rt, TURN);
         if news.doubts && wake.ends(rt, node.desk, log) {

@@ -3,8 +3,9 @@ ghost use Rattle.std.specs.Prelude.{◌≡◌, ◌++◌, [], List, IfOk, None, S
 ghost use Rattle.std.specs.Prelude.{◌&&◌, cond, option_copied, true};
 ghost use Rattle.dr_base.specs.Texts.{Text as Words};
 ghost use Rattle.dr_ledger_history.specs.declared.line.JournalLine.{JournalLine as LineValue};
-ghost use Rattle.dr_run_serve.specs.Pasts.{HasNoted, IsFoundIn, IsQueueOf, Knows};
-ghost use Rattle.dr_run_serve.specs.Pasts.{ended_by, ends_row, is_uid, known_by, later};
+ghost use Rattle.dr_run_serve.specs.Pasts.{HasNoted, IsFoundIn, IsQueueOf, Knows, ReadsOn};
+ghost use Rattle.dr_run_serve.specs.Pasts.{ReadsPage, TellsPage, counted_from, ended_by, ends_row};
+ghost use Rattle.dr_run_serve.specs.Pasts.{is_uid, known_by, later};
 
 use crate::sweep::{OverInstance, Sweep};
 use dr_base::Text;
@@ -211,6 +212,32 @@ impl Past {
         Ok(())
     }
 
+    /// Reads a page; whether no line was left.
+    ///
+    /// Errors: Store, Memory; then the next call goes on behind what was noted.
+    fn read_page<R: Wait, L: Views, B: Sharing>(
+        &mut self,
+        rt: &R,
+        desk: &SharedDesk<L, B>,
+    ) -> Result<bool, LedgerFault>
+        ensures { (lines : List LineValue)
+            → HasNoted lines self.old
+            → (more : List LineValue)
+            × HasNoted (lines ++ more) self.new
+            × ReadsPage (TellsPage L.site L.book L.bodies L.stands L.failed B.site B.first
+            L.numbered) (counted_from 0 lines) result more }
+    {
+        let page = match desk.lines_behind(rt, self.after, PAGE) {
+            Ok(page) => page,
+            Err(fault) => return Err(fault),
+        };
+        if page.is_empty() {
+            return Ok(true);
+        }
+        self.note_page(page.as_slice())?;
+        Ok(false)
+    }
+
     /// Reads on, so much at most; whether that was all. The lock is given back between two pages.
     ///
     /// Errors: Store, Memory; then the next call goes on behind what was noted.
@@ -218,13 +245,22 @@ impl Past {
         &mut self,
         rt: &R,
         desk: &SharedDesk<L, B>,
-    ) -> Result<bool, LedgerFault> {
-        for _ in 0..PAGES {
-            let page = desk.lines_behind(rt, self.after, PAGE)?;
-            if page.is_empty() {
+    ) -> Result<bool, LedgerFault>
+        ensures { (lines : List LineValue)
+            → HasNoted lines self.old
+            → (more : List LineValue)
+            × HasNoted (lines ++ more) self.new
+            × ReadsOn (TellsPage L.site L.book L.bodies L.stands L.failed B.site B.first
+            L.numbered) (counted_from 0 lines) result more }
+    {
+        for _turn in 0..PAGES {
+            let is_all = match self.read_page(rt, desk) {
+                Ok(is_all) => is_all,
+                Err(fault) => return Err(fault),
+            };
+            if is_all {
                 return Ok(true);
             }
-            self.note_page(page.as_slice())?;
         }
         Ok(false)
     }

@@ -461,7 +461,7 @@ where
             drop(senders);
             return Err(ServeFault::Memory);
         };
-        let sweeper = Sweeper::new(pass, terms.forget_after);
+        let sweeper = Sweeper::new(alloc, pass, terms.forget_after);
         let Ok(asked) = passes_of(rt, alloc, desk, terms.control) else {
             drop(senders);
             drop(sweeper);
