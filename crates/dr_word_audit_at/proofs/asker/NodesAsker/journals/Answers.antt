@@ -1,0 +1,22 @@
+use Rattle.std.proofs.Common.{◌≡◌, ◌<◌, length, arith, subst, List}
+use Rattle.std.proofs.lemmas.List.{take_all}
+use Rattle.dr_word_audit_at.proofs.Asked.{all_more, names_more, stops_err, there, zip_first}
+use Rattle.dr_word_audit_at.proofs.asker.NodesAsker.journals.Goals as goal
+
+pub loop-place-preserved : goal.loop-place-preserved
+loop-place-preserved g c =
+    let i = c.loop-place.place in
+    let few : i < length c.args.first.now = (let same = c.requires.0 in let lt = c.loop-place-test.true in omega (arith, same, lt)) in
+    let had = c.loop-place.journals.items in
+    let have = c.push.new.self.items in
+    let inv = c.loop-place.invariant in (
+      names_more had have c.in-Ok.journal c.args.names.now i c.index-names-place.result.now c.loop-place-test.true c.index-names-place.is c.in_ok-push.ensures.items c.in-Ok.ensures.name inv.0,
+      all_more _ had have c.in-Ok.journal c.in_ok-push.ensures.items inv.1 c.in-Ok.ensures.told,
+      zip_first _ c.args.first.now had have i c.index-first-place.result c.in-Ok.journal few c.index-first-place.is c.in_ok-push.ensures.items inv.2 c.in-Ok.ensures.whole,
+    )
+
+pub returns-in-Err-clause-stops : goal.returns-in-Err-clause-stops
+returns-in-Err-clause-stops g c = c.asking.ensures c.args.names.now (there c.args.names.now c.loop-place.place c.index-names-place.result.now c.loop-place-test.true c.index-names-place.is)
+
+pub returns-in_err-push-clause-stops : goal.returns-in_err-push-clause-stops
+returns-in_err-push-clause-stops g c = stops_err c.args.names.now c.from_residual.result c.from_residual.ensures.0 c.from_residual.ensures.1
