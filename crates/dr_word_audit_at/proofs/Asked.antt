@@ -9,7 +9,7 @@ use Rattle.std.proofs.lemmas.List.{append_assoc, map_push, take_more}
 use Rattle.dr_base.specs.Texts.{Text}
 use Rattle.dr_world_audit.specs.Sites.{names as names_of}
 use Rattle.dr_world_audit.specs.declared.audit.NodeJournal.{NodeJournal}
-use Rattle.dr_word_audit_at.specs.Running.{IsBefore, StopsAt, StopsBy}
+use Rattle.dr_word_audit_at.specs.Running.{HasStopped, IsBefore, StopsAt}
 use Rattle.dr_word_audit_at.specs.declared.stopping.NodesStopped.{NodesStopped}
 use Rattle.dr_word_audit_at.specs.declared.stopping.NodesStopped.TheVariants as stops
 
@@ -62,37 +62,31 @@ there names i name lt at = (i, lt, sym at)
 
 -- ---- what stops
 
-pub before_stops : (names : List Text) (stop : NodesStopped) → IsBefore stop → StopsAt names stop
-before_stops names (stops.Halted stop) h = tt
-before_stops names (stops.Asking fault node) h = absurd h
-before_stops names (stops.Twice node) h = tt
-before_stops names stops.Memory h = tt
-
 -- at no node
-pub nowhere_stops : (names : List Text) (stop : NodesStopped) → StopsAt [] stop → StopsAt names stop
-nowhere_stops names (stops.Halted stop) h = tt
+nowhere_stops : (names : List Text) (stop : NodesStopped) → StopsAt [] stop → StopsAt names stop
+nowhere_stops names (stops.Halted stop) h = absurd h
 nowhere_stops names (stops.Asking fault node) (inl none) = inl none
 nowhere_stops names (stops.Asking fault node) (inr there) = absurd (omega (arith, there.1))
-nowhere_stops names (stops.Twice node) h = tt
+nowhere_stops names (stops.Twice node) h = absurd h
 nowhere_stops names stops.Memory h = tt
 
 module _ {A : Type 0} where
-  -- a `?` on what no node was asked for
-  pub before_err : (r : Result A NodesStopped) → IsErr r → IsErrAnd r IsBefore → IfErr r IsBefore
-  before_err (Ok a) err h = tt
-  before_err (Err stop) err h = h
-
-  pub stops_err : (names : List Text) (r : Result A NodesStopped) → IsErr r → IsErrAnd r IsBefore → IfErr r (StopsAt names)
-  stops_err names (Ok a) err h = tt
-  stops_err names (Err stop) err h = before_stops names stop h
+  -- what a `?` hands on
+  pub err_as : (P : NodesStopped → Type 0) (why : NodesStopped) (r : Result A NodesStopped) → IsErr r → IsErrAnd r (λ (e : NodesStopped). e ≡ why) → P why → IfErr r P
+  err_as P why (Ok a) err gives h = absurd (false≢true err)
+  err_as P why (Err e) err gives h = subst P (sym gives) h
 
   pub nowhere_err : (names : List Text) (r : Result A NodesStopped) → IfErr r (StopsAt []) → IfErr r (StopsAt names)
   nowhere_err names (Ok a) h = tt
   nowhere_err names (Err stop) h = nowhere_stops names stop h
 
-  pub before_all : (names : List Text) (r : Result A NodesStopped) → IfErr r IsBefore → IfErr r (StopsAt names)
-  before_all names (Ok a) h = tt
-  before_all names (Err stop) h = before_stops names stop h
+  pub before_err : (names : List Text) (r : Result A NodesStopped) → IfErr r IsBefore → IfErr r (HasStopped names)
+  before_err names (Ok a) h = tt
+  before_err names (Err stop) h = inl h
+
+  pub at_err : (names : List Text) (r : Result A NodesStopped) → IfErr r (StopsAt names) → IfErr r (HasStopped names)
+  at_err names (Ok a) h = tt
+  at_err names (Err stop) h = inr h
 
 -- ---- what is written
 

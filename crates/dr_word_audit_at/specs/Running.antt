@@ -43,21 +43,25 @@ fault_lines fault node = codes "dr_router: " ++ fault ++ codes "\n" ++ at_line n
 
 -- ---- why nothing is concluded
 
--- no node was asked yet
+-- before a node was asked
 abbrev pub IsBefore : NodesStopped → Type 0
 IsBefore (stops.Halted stop) = Unit {0}
 IsBefore (stops.Asking fault node) = ⊥
 IsBefore (stops.Twice node) = Unit {0}
 IsBefore stops.Memory = Unit {0}
 
--- at a node of one of these names, or at none
+-- at a node of one of these names, or at none; or memory ran out
 abbrev pub StopsAt : List Text → NodesStopped → Type 0
-StopsAt names (stops.Halted stop) = Unit {0}
+StopsAt names (stops.Halted stop) = ⊥
 StopsAt names (stops.Asking fault node) = (node ≡ []) ⊎ Contains names node
-StopsAt names (stops.Twice node) = Unit {0}
+StopsAt names (stops.Twice node) = ⊥
 StopsAt names stops.Memory = Unit {0}
 
--- the same, of the plan that is held so, where all but these others are asked
+-- before a node was asked, or at one of these
+abbrev pub HasStopped : List Text → NodesStopped → Type 0
+HasStopped names stop = IsBefore stop ⊎ StopsAt names stop
+
+-- the same, of the nodes of the plan that is held so, of all but these others
 abbrev pub StopsBy : (Text → Type 0) → (Text → Type 0) → List Text → NodesStopped → Type 0
 StopsBy plan certificate others stop =
     IsBefore stop

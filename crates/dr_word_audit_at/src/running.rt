@@ -7,8 +7,8 @@ ghost use Rattle.dr_word_audit.specs.Names.{our_names as own_names};
 ghost use Rattle.dr_word_audit.specs.declared.audited.Audited.TheVariants.{No};
 ghost use Rattle.dr_word_audit_at.specs.Cuts.{IsConcluded, IsJudged};
 ghost use Rattle.dr_word_audit_at.specs.Running.{AreRead, ConcludesAll, ConcludesBy, ConcludesOf};
-ghost use Rattle.dr_word_audit_at.specs.Running.{EndsRunning, IsBefore, StopsAt, StopsBy};
-ghost use Rattle.dr_word_audit_at.specs.Running.{no_address};
+ghost use Rattle.dr_word_audit_at.specs.Running.{EndsRunning, HasStopped, IsBefore, StopsAt};
+ghost use Rattle.dr_word_audit_at.specs.Running.{StopsBy, no_address};
 
 use crate::asker::{Addresses, NodesAsker, address_of, addresses_of};
 use crate::figuring::told_of;
@@ -331,7 +331,7 @@ fn audit_sealed<'a, N: Network, C: Clock>(
 ) -> Result<Audited, NodesStopped<'a>>
     ensures concluded { IfOk result (ConcludesAll (N.connects way.entry.network.now) N.Socket.sends
         sealed.now.plan (mapped text_of given.now.others.items)) }
-    ensures stops { IfErr result (StopsAt
+    ensures stops { IfErr result (HasStopped
         (own_names (mapped text_of given.now.others.items) sealed.now.plan.nodes)) }
 {
     let nodes = match nodes_given(alloc, sealed, given) {

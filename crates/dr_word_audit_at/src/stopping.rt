@@ -37,9 +37,10 @@ impl<'a> From<Halt<'a>> for NodesStopped<'a> {
 }
 
 impl<'a> From<AllocError> for NodesStopped<'a> {
-    ghost use Rattle.dr_word_audit_at.specs.Running.{IsBefore};
+    ghost use Rattle.std.specs.Prelude.{◌≡◌};
+    ghost use Rattle.dr_word_audit_at.specs.declared.stopping.NodesStopped.TheVariants.{Memory};
 
-    ghost from_gives = { λ _ stop. IsBefore stop };
+    ghost from_gives = { λ _ stop. stop ≡ Memory };
 
     fn from(_: AllocError) -> NodesStopped<'a> {
         NodesStopped::Memory
@@ -47,9 +48,10 @@ impl<'a> From<AllocError> for NodesStopped<'a> {
 }
 
 impl<'a, T: Drop> From<AllocFailed<T>> for NodesStopped<'a> {
-    ghost use Rattle.dr_word_audit_at.specs.Running.{IsBefore};
+    ghost use Rattle.std.specs.Prelude.{◌≡◌};
+    ghost use Rattle.dr_word_audit_at.specs.declared.stopping.NodesStopped.TheVariants.{Memory};
 
-    ghost from_gives = { λ _ stop. IsBefore stop };
+    ghost from_gives = { λ _ stop. stop ≡ Memory };
 
     fn from(_: AllocFailed<T>) -> NodesStopped<'a> {
         NodesStopped::Memory

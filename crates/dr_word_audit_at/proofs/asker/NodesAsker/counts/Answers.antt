@@ -2,7 +2,9 @@ use Rattle.std.proofs.Common.{subst, List}
 use Rattle.std.proofs.lemmas.List.{take_all}
 use Rattle.std.specs.List.{AllZip}
 use Rattle.dr_word_audit_at.specs.Running.{IsCountedAt}
-use Rattle.dr_word_audit_at.proofs.Asked.{stops_err, there, zip_second}
+use Rattle.dr_word_audit_at.specs.Running.{StopsAt}
+use Rattle.dr_word_audit_at.specs.declared.stopping.NodesStopped.TheVariants.{Memory}
+use Rattle.dr_word_audit_at.proofs.Asked.{err_as, there, zip_second}
 use Rattle.dr_word_audit_at.proofs.asker.NodesAsker.counts.Goals as goal
 
 pub loop-name-preserved : goal.loop-name-preserved
@@ -13,7 +15,7 @@ pub returns-in-Err-clause-stops : goal.returns-in-Err-clause-stops
 returns-in-Err-clause-stops g c = c.asking.ensures c.args.names.now (there c.args.names.now c.loop-name.name-index c.name-item.result.now c.loop-name-test.true c.name-item.is)
 
 pub returns-in_err-push-clause-stops : goal.returns-in_err-push-clause-stops
-returns-in_err-push-clause-stops g c = stops_err c.args.names.now c.from_residual.result c.from_residual.ensures.0 c.from_residual.ensures.1
+returns-in_err-push-clause-stops g c = err_as (StopsAt c.args.names.now) Memory c.from_residual.result c.from_residual.ensures.0 c.from_residual.ensures.1 tt
 
 pub returns-clause-told : goal.returns-clause-told
 returns-clause-told g c = ?

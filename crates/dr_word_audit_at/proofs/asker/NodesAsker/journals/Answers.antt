@@ -1,6 +1,8 @@
 use Rattle.std.proofs.Common.{◌≡◌, ◌<◌, length, arith, subst, List}
 use Rattle.std.proofs.lemmas.List.{take_all}
-use Rattle.dr_word_audit_at.proofs.Asked.{all_more, names_more, stops_err, there, zip_first}
+use Rattle.dr_word_audit_at.specs.Running.{StopsAt}
+use Rattle.dr_word_audit_at.specs.declared.stopping.NodesStopped.TheVariants.{Memory}
+use Rattle.dr_word_audit_at.proofs.Asked.{all_more, err_as, names_more, there, zip_first}
 use Rattle.dr_word_audit_at.proofs.asker.NodesAsker.journals.Goals as goal
 
 pub loop-place-preserved : goal.loop-place-preserved
@@ -19,4 +21,4 @@ pub returns-in-Err-clause-stops : goal.returns-in-Err-clause-stops
 returns-in-Err-clause-stops g c = c.asking.ensures c.args.names.now (there c.args.names.now c.loop-place.place c.index-names-place.result.now c.loop-place-test.true c.index-names-place.is)
 
 pub returns-in_err-push-clause-stops : goal.returns-in_err-push-clause-stops
-returns-in_err-push-clause-stops g c = stops_err c.args.names.now c.from_residual.result c.from_residual.ensures.0 c.from_residual.ensures.1
+returns-in_err-push-clause-stops g c = err_as (StopsAt c.args.names.now) Memory c.from_residual.result c.from_residual.ensures.0 c.from_residual.ensures.1 tt
