@@ -176,3 +176,9 @@ module _ (tells : ℕ → Result (List JournalLine) LedgerFault → Type 0) wher
       ⊎ ((more : List JournalLine)
       × ReadsOn (counted_from 0 lines) (Ok true) more
       × (why ≡ fault.Memory) × HasNoted [] past)
+
+  -- what is known to be over: the queue, or else what is found
+  abbrev pub IsKnown : List JournalLine → Option Sweep → Result (Option Sweep) LedgerFault
+      → Past → Type 0
+  IsKnown lines (Some sweep) known past = known ≡ Ok (Some sweep)
+  IsKnown lines None known past = FindsOver lines known past

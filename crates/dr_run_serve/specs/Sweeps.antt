@@ -9,7 +9,7 @@ use Rattle.dr_ledger.specs.declared.fault.LedgerFault.{LedgerFault}
 use Rattle.dr_ledger.specs.declared.fault.LedgerFault.TheVariants as fault
 use Rattle.dr_ledger_history.specs.declared.line.JournalLine.{JournalLine}
 use Rattle.dr_run_control.specs.Consoles.{Calls, State}
-use Rattle.dr_run_serve.specs.Pasts.{FindsOver}
+use Rattle.dr_run_serve.specs.Pasts.{IsKnown}
 use Rattle.dr_run_serve.specs.declared.past.Past.{Past}
 use Rattle.dr_run_serve.specs.declared.sweep.OverInstance.{OverInstance}
 use Rattle.dr_run_serve.specs.declared.sweep.Sweep.{Sweep}
@@ -114,18 +114,12 @@ module _ {L : Type 0} (site_of : L → Part) (book : L → Book) (stands : L →
 
   module _ (tells : ℕ → Result (List JournalLine) LedgerFault → Type 0)
       (lines : List JournalLine) where
-    -- What is known to be over: the queue, or else what is found in the journal, of which these
-    -- lines had been read.
-    abbrev pub Knows : Option Sweep → Result (Option Sweep) LedgerFault → Past → Type 0
-    Knows (Some sweep) known past = known ≡ Ok (Some sweep)
-    Knows None known past = FindsOver tells lines known past
-
-    -- what is known to be over is forgotten, where it is due
+    -- what is known to be over is forgotten, where it is due; these lines had been read
     abbrev pub SweepsOnce : ℕ → Option Sweep → State → Result ℕ LedgerFault
         → Option Sweep → Past → State → Type 0
     SweepsOnce since had s came left past t =
         (known : Result (Option Sweep) LedgerFault)
-        × Knows had known past
+        × IsKnown tells lines had known past
         × ForgetsKnown since known s came left t
 
     -- A turn at that moment: what has been over for so many milliseconds is forgotten. Nothing is

@@ -1,15 +1,14 @@
 //! The one who has a node forget what has been over for long.
-ghost use Rattle.std.specs.Prelude.{◌≡◌, ◌++◌, [], List, IfOk, Err, None, Ok, Some, option_map};
-ghost use Rattle.dr_ledger.specs.declared.fault.LedgerFault.TheVariants.{Memory};
+ghost use Rattle.std.specs.Prelude.{◌≡◌, ◌++◌, [], List, None, Some};
 ghost use Rattle.dr_ledger_history.specs.declared.line.JournalLine.{JournalLine as LineValue};
-ghost use Rattle.dr_run_serve.specs.Pasts.{FindsOver, HasNoted, IsFoundIn, TellsPage};
-ghost use Rattle.dr_run_serve.specs.Sweeps.{ForgetsDue, ForgetsFirst, Knows, SweepsOnce, Turns};
-ghost use Rattle.dr_run_serve.specs.Sweeps.{counted, next_turn};
+ghost use Rattle.dr_run_serve.specs.Pasts.{HasNoted, TellsPage};
+ghost use Rattle.dr_run_serve.specs.Sweeps.{ForgetsDue, ForgetsFirst, SweepsOnce, Turns, counted};
+ghost use Rattle.dr_run_serve.specs.Sweeps.{next_turn};
 ghost use Rattle.dr_run_serve.specs.declared.sweep.OverInstance.{OverInstance as OverValue};
 
 use crate::events::{tell_forgotten, tell_unswept};
 use crate::live::LiveNode;
-use crate::past::Past;
+use crate::past::{DeskJournal, Past};
 use crate::signal::Signal;
 use crate::sweep::Sweep;
 use dr_desk::{Pass, SharedDesk, Sharing};
@@ -17,7 +16,7 @@ use dr_ledger::{LedgerFault, LetsGo};
 use dr_ledger_views::Views;
 use dr_session::Clock;
 use log::Log;
-use std::alloc::{AllocError, Global};
+use std::alloc::Global;
 use std::mem;
 use std::sync::Wait;
 
@@ -123,69 +122,6 @@ fn forget_due<R: Wait, L: LetsGo, B: Sharing>(
     Ok(count)
 }
 
-/// What came to be over by all lines, of which what they say was noted; and nothing is noted any
-/// more.
-///
-/// Errors: want of memory.
-fn found(alloc: Global, past: &mut Past) -> Result<Sweep, AllocError>
-    ensures over { IfOk result (λ sweep. (lines : List LineValue)
-        → HasNoted lines past.old
-        → IsFoundIn lines sweep.queue.items) }
-    ensures none { HasNoted [] past.new }
-{
-    let whole = mem::replace(past, Past::new(alloc));
-    let sweep = whole.into_sweep(alloc)?;
-    Ok(sweep)
-}
-
-/// Reads on in the journal; what is over by it, once all of it was read.
-///
-/// Errors: Store, Memory; then the next call goes on where this one ended, or from the beginning.
-fn read_past<R: Wait, L: Views, B: Sharing>(
-    rt: &R,
-    alloc: Global,
-    desk: &SharedDesk<L, B>,
-    past: &mut Past,
-) -> Result<Option<Sweep>, LedgerFault>
-    ensures { (lines : List LineValue)
-        → HasNoted lines past.old
-        → FindsOver (TellsPage L.site L.book L.bodies L.stands L.failed B.site B.first L.numbered)
-        lines result past.new }
-{
-    let is_all = match past.read_on(rt, desk) {
-        Ok(is_all) => is_all,
-        Err(fault) => return Err(fault),
-    };
-    if !is_all {
-        return Ok(None);
-    }
-    match found(alloc, past) {
-        Ok(sweep) => Ok(Some(sweep)),
-        Err(AllocError) => Err(LedgerFault::Memory),
-    }
-}
-
-/// What is over, where that is known, or can be found.
-///
-/// Errors: those of `read_past`.
-fn known<R: Wait, L: Views, B: Sharing>(
-    rt: &R,
-    alloc: Global,
-    desk: &SharedDesk<L, B>,
-    sweep: Option<Sweep>,
-    past: &mut Past,
-) -> Result<Option<Sweep>, LedgerFault>
-    ensures { (lines : List LineValue)
-        → HasNoted lines past.old
-        → Knows (TellsPage L.site L.book L.bodies L.stands L.failed B.site B.first L.numbered)
-        lines sweep result past.new }
-{
-    match sweep {
-        Some(sweep) => Ok(Some(sweep)),
-        None => read_past(rt, alloc, desk, past),
-    }
-}
-
 impl<B: Sharing> Sweeper<B> {
     /// One who forgets what has been over for so many milliseconds.
     pub fn new(alloc: Global, pass: Pass<B>, after: Option<u64>) -> Sweeper<B>
@@ -233,8 +169,12 @@ impl<B: Sharing> Sweeper<B> {
             (self.new.pass.made.count, self.new.pass.receipts.items) }
         ensures terms { (self.new.after ≡ self.old.after) × (self.new.next ≡ self.old.next) }
     {
+        let journal = DeskJournal {
+            rt: node.rt,
+            desk: node.desk,
+        };
         let had = mem::replace(&mut self.sweep, None);
-        let mut sweep = match known(node.rt, node.alloc, node.desk, had, &mut self.past) {
+        let mut sweep = match journal.known(node.alloc, had, &mut self.past) {
             Ok(Some(sweep)) => sweep,
             Ok(None) => return Ok(0),
             Err(fault) => return Err(fault),

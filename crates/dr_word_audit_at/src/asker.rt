@@ -162,7 +162,8 @@ impl<'x, N: Network, C: Clock> NodesAsker<'x, N, C> {
         Ok(NodeJournal { name, lines })
     }
 
-    /// The journals of these nodes, so many lines of each, which are no fewer than there were first.
+    /// The journals of these nodes, so many lines of each, which are no fewer than there were
+    /// first.
     ///
     /// Errors: those of `journal_at`, at a node; Memory.
     pub fn journals<'a>(
