@@ -88,6 +88,12 @@ module _ {A : Type 0} where
   at_err names (Ok a) h = tt
   at_err names (Err stop) h = inr h
 
+-- ---- what comes of it
+
+pub if_ok : {A E : Type 0} (P Q : A → Type 0) → ((a : A) → P a → Q a) → (r : Result A E) → IfOk r P → IfOk r Q
+if_ok P Q turn (Ok a) h = turn a h
+if_ok P Q turn (Err why) h = tt
+
 -- ---- what is written
 
 pub appends_more : (a b c : Option Text) (x y : Text) → Appends a b x → Appends b c y → Appends a c (x ++ y)

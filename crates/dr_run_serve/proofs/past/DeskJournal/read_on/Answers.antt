@@ -5,7 +5,7 @@ use Rattle.dr_run_serve.proofs.Leafing.{PageCame, came_fault, came_part, came_wh
 use Rattle.dr_run_serve.proofs.past.DeskJournal.read_on.Goals as goal
 
 pub loop-turn-init : goal.loop-turn-init
-loop-turn-init g c = λ lines had. so_none _ lines c.args.past.now had
+loop-turn-init g c = λ lines had. so_none (TellsPage g.L.Ledger.site g.L.Ledger.book g.L.Ledger.bodies g.L.Ledger.stands g.L.Ledger.failed g.B.Sharing.site g.B.Sharing.first g.L.Views.numbered) lines c.args.past.now had
 
 pub loop-turn-preserved : goal.loop-turn-preserved
 loop-turn-preserved g c = λ lines had.
@@ -28,4 +28,4 @@ returns-in-Err g c = λ lines had.
     came_fault tells lines c.loop-turn._turn c.loop-turn.past c.read_page.new.past so c.in-Err.fault c.loop-turn.auto._turn-end (c.in-Err.ensures (lines ++ joined so.0) so.3)
 
 pub returns : goal.returns
-returns g c = λ lines had. came_part _ lines c.loop-turn._turn c.loop-turn.past (omega (arith, c.loop-turn-test.false, c.loop-turn.auto._turn-end)) (c.loop-turn.invariant lines had)
+returns g c = λ lines had. came_part (TellsPage g.L.Ledger.site g.L.Ledger.book g.L.Ledger.bodies g.L.Ledger.stands g.L.Ledger.failed g.B.Sharing.site g.B.Sharing.first g.L.Views.numbered) lines c.loop-turn._turn c.loop-turn.past (omega (arith, c.loop-turn-test.false, c.loop-turn.auto._turn-end)) (c.loop-turn.invariant lines had)
