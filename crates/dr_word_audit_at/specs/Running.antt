@@ -1,8 +1,11 @@
 -- The word `audit` at nodes that run: what is concluded of which nodes, and how the word ends.
-use Rattle.std.specs.Prelude.{◌≡◌, ◌⊎◌, ◌≤◌, ℕ, Bool, List, [], ◌∷◌, ◌++◌, Contains, Result}
-use Rattle.std.specs.Prelude.{Ok, Err, codes, length}
+use Rattle.std.specs.Prelude.{◌≡◌, ◌⊎◌, ◌≤◌, ◌==◌, ℕ, Bool, List, [], ◌∷◌, ◌++◌, Contains, Result}
+use Rattle.std.specs.Prelude.{None, Some, Ok, Err, codes, length, map as mapped}
+use Rattle.std.specs.Prelude.{option_and_then, position, slice_get}
+use Rattle.std.specs.Borrow.{Bor}
 use Rattle.std.specs.Io.KnownBytes.{Appends}
-use Rattle.std.specs.List.{AllByRecursion, AllZip}
+use Rattle.std.specs.List.{AllByRecursion, AllZip, after_first, before_first}
+use Rattle.std.specs.Str.{bytes_eq}
 use Rattle.std.specs.declared.io.Error.{Error}
 use Rattle.std.specs.declared.option.Option.{Option}
 use Rattle.hex.specs.Hex.{encode_lower}
@@ -23,6 +26,7 @@ use Rattle.dr_word_audit.specs.declared.audited.Audited.{Audited}
 use Rattle.dr_word_audit.specs.declared.audited.Audited.TheVariants.{No}
 use Rattle.dr_word_audit_at.specs.Cuts.{IsConcluded}
 use Rattle.dr_word_audit_at.specs.Pages.{IsCountedBy, IsReadBy}
+use Rattle.dr_word_audit_at.specs.declared.asker.Addresses.{Addresses}
 use Rattle.dr_word_audit_at.specs.declared.stopping.NodesStopped.{NodesStopped}
 use Rattle.dr_word_audit_at.specs.declared.stopping.NodesStopped.TheVariants as stops
 
@@ -40,6 +44,27 @@ at_line (byte ∷ bytes) = codes "  node " ++ (byte ∷ bytes) ++ codes "\n"
 -- why nothing is concluded, and at which node
 abbrev pub fault_lines : Text → Text → Text
 fault_lines fault node = codes "dr_router: " ++ fault ++ codes "\n" ++ at_line node
+
+-- ---- addresses
+
+-- of a word as `GATE=10.0.0.1:8042` the name, before the first equals sign, and what is behind it
+abbrev pub name_given : Bor (List ℕ) → Text
+name_given word = before_first (λ byte. byte == 61) word.now
+
+abbrev pub address_given : Bor (List ℕ) → Text
+address_given word = after_first (λ byte. byte == 61) word.now
+
+-- the address of the node of that name: it stands where the name stands first
+abbrev pub address_at : List Text → List Text → Text → Option Text
+address_at names all name =
+    option_and_then (slice_get all) (position (λ one. bytes_eq one name) names)
+
+abbrev pub address_in : Addresses → Text → Option Text
+address_in all = address_at all.names.items all.at.items
+
+-- the same, by these words
+abbrev pub address_by : List (Bor (List ℕ)) → Text → Option Text
+address_by words = address_at (mapped name_given words) (mapped address_given words)
 
 -- ---- why nothing is concluded
 
@@ -95,18 +120,20 @@ abbrev pub HasLines : ℕ → NodeJournal → Type 0
 HasLines count node = count ≤ length node.lines
 
 module _ {L : Type 0} (connects : Text → Result L Error → Type 0)
-    (sends : L → Text → Bool → L → Type 0) where
-  -- the lines of the journal were told by the node of its name, by the plan of that digest, at some
+    (sends : L → Text → Bool → L → Type 0) (address : Text → Option Text) where
+  -- the lines of the journal were told by the node of its name, by the plan of that digest, at its
   -- address
   abbrev pub IsReadAt : Text → NodeJournal → Type 0
   IsReadAt digest node =
       (at : Text) × (token : Option Text)
+      × (address node.name ≡ Some at)
       × IsReadBy (AnswersBy connects sends at token) node.name digest node.lines
 
   -- so many lines it has, as the node of that name told
   abbrev pub IsCountedAt : Text → ℕ → Text → Type 0
   IsCountedAt digest count name =
       (at : Text) × (token : Option Text)
+      × (address name ≡ Some at)
       × IsCountedBy (AnswersBy connects sends at token) name digest count
 
   -- the journals of the nodes of these names were read, each with all lines that were there first
@@ -130,6 +157,7 @@ module _ {L : Type 0} (connects : Text → Result L Error → Type 0)
       ConcludesOf (encode_lower plan.digest) (our_names others plan.nodes) plan audited
       ⊎ ((name : Text)
       × Contains (our_names others plan.nodes) name
+      × (address name ≡ None)
       × (audited ≡ No (no_address name)))
 
   -- the same, by the plan and the certificate that are held so

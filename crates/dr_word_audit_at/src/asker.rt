@@ -1,8 +1,11 @@
 //! Who asks nodes that run for their journals, each at its address.
-ghost use Rattle.std.specs.Prelude.{◌≡◌, ◌≤◌, IfErr, IfOk, length};
-ghost use Rattle.std.specs.List.{AllByRecursion, AllZip};
+ghost use Rattle.std.specs.Prelude.{◌≡◌, ◌≤◌, ◌++◌, ◌∷◌, ◌==◌, [], IfErr, IfOk, drop, length};
+ghost use Rattle.std.specs.Prelude.{map as mapped, option_map};
+ghost use Rattle.std.specs.List.{AllByRecursion, AllZip, after_first, before_first};
+ghost use Rattle.std.specs.List.{position_or_len};
 ghost use Rattle.dr_world_audit.specs.Sites.{names as names_in};
 ghost use Rattle.dr_word_audit_at.specs.Running.{HasLines, IsCountedAt, IsReadAt, StopsAt};
+ghost use Rattle.dr_word_audit_at.specs.Running.{address_given, address_in, name_given};
 
 use crate::paging::{count_of, read_lines};
 use crate::stopping::{NodesStopped, asking};
@@ -17,33 +20,53 @@ use std::alloc::{AllocError, Global};
 
 /// Nodes that run, each with the address of its control connection.
 #[derive(Drop)]
-pub(crate) struct Addresses {
+pub struct Addresses {
     pub names: Vec<Text>,
     at: Vec<Text>,
 }
 
 /// Where the name ends that a word gives to an address.
-fn name_end(word: &[u8]) -> usize {
+fn name_end(word: &[u8]) -> usize
+    ensures place { result ≡ position_or_len (λ byte. byte == 61) word.now }
+    ensures within { result ≤ length word.now }
+{
     match word.iter().position(|byte| *byte == b'=') {
         Some(end) => end,
         None => word.len(),
     }
 }
 
+/// What stands behind the first byte.
+fn behind_first(bytes: &[u8]) -> &[u8]
+    ensures { result.now ≡ drop 1 bytes.now }
+{
+    match bytes {
+        [_first, rest @ ..] => rest,
+        [] => bytes,
+    }
+}
+
 /// Adds the node that a word names, with its address.
-fn add_address(alloc: Global, all: &mut Addresses, word: &[u8]) -> Result<(), AllocError> {
-    let (name, rest) = word.split_at(name_end(word).min(word.len()));
-    let at = match rest {
-        [_equals, at @ ..] => at,
-        [] => rest,
-    };
-    all.names.push(Text::copy_of(alloc, name)?)?;
-    all.at.push(Text::copy_of(alloc, at)?)?;
+fn add_address(alloc: Global, all: &mut Addresses, word: &[u8]) -> Result<(), AllocError>
+    ensures { IfOk result (λ _.
+        (all.new.names.items ≡ all.old.names.items
+        ++ before_first (λ byte. byte == 61) word.now ∷ [])
+        × (all.new.at.items ≡ all.old.at.items
+        ++ after_first (λ byte. byte == 61) word.now ∷ [])) }
+{
+    let (name, rest) = word.split_at(name_end(word));
+    let name = Text::copy_of(alloc, name)?;
+    let at = Text::copy_of(alloc, behind_first(rest))?;
+    all.names.push(name)?;
+    all.at.push(at)?;
     Ok(())
 }
 
 /// The nodes that the words name.
-pub(crate) fn addresses_of(alloc: Global, words: &[&str]) -> Result<Addresses, AllocError> {
+pub(crate) fn addresses_of(alloc: Global, words: &[&str]) -> Result<Addresses, AllocError>
+    ensures { IfOk result (λ all. (all.names.items ≡ mapped name_given words.now)
+        × (all.at.items ≡ mapped address_given words.now)) }
+{
     let mut all = Addresses {
         names: Vec::new(alloc),
         at: Vec::new(alloc),
@@ -55,7 +78,10 @@ pub(crate) fn addresses_of(alloc: Global, words: &[&str]) -> Result<Addresses, A
 }
 
 /// The address of the node of that name.
-pub(crate) fn address_of<'x>(all: &'x Addresses, name: &Text) -> Option<&'x Text> {
+pub(crate) fn address_of<'x>(all: &'x Addresses, name: &Text) -> Option<&'x Text>
+    ensures { option_map (λ at. at.now) result
+        ≡ address_in all.now name.now }
+{
     match all.names.as_slice().iter().position(|one| *one == *name) {
         Some(place) => all.at.as_slice().get(place),
         None => None,
@@ -77,7 +103,8 @@ pub(crate) struct NodesAsker<'x, N: Network, C: Clock> {
 impl<'x, N: Network, C: Clock> NodesAsker<'x, N, C> {
     /// Who asks at an address.
     fn caller(&self, at: &'x Text) -> Caller<'x, N, C>
-        ensures { result.network.now ≡ self.now.network.now }
+        ensures network { result.network.now ≡ self.now.network.now }
+        ensures at { result.at.now ≡ at.now }
     {
         Caller {
             alloc: self.alloc,
@@ -93,7 +120,9 @@ impl<'x, N: Network, C: Clock> NodesAsker<'x, N, C> {
     /// Errors: those of `count_of`.
     fn count_at(&self, name: &Text) -> Result<u64, AskFault>
         ensures { IfOk result (λ count. IsCountedAt (N.connects self.now.network.now)
-            N.Socket.sends self.now.digest.now count name.now) }
+            N.Socket.sends
+            (address_in self.now.addresses.now)
+            self.now.digest.now count name.now) }
     {
         let Some(at) = address_of(self.addresses, name) else {
             return Err(AskFault::NoConnection);
@@ -112,7 +141,9 @@ impl<'x, N: Network, C: Clock> NodesAsker<'x, N, C> {
     /// Errors: those of `read_lines`.
     fn lines_at(&self, name: &Text, count: u64) -> Result<Seq<JournalLine>, AskFault>
         ensures told { IfOk result (λ lines. IsReadAt (N.connects self.now.network.now)
-            N.Socket.sends self.now.digest.now (record { name = name.now; lines = lines })) }
+            N.Socket.sends
+            (address_in self.now.addresses.now)
+            self.now.digest.now (record { name = name.now; lines = lines })) }
         ensures count { IfOk result (λ lines. length lines ≡ count) }
     {
         let Some(at) = address_of(self.addresses, name) else {
@@ -131,8 +162,10 @@ impl<'x, N: Network, C: Clock> NodesAsker<'x, N, C> {
     ///
     /// Errors: those of `count_at`, at a node; Memory.
     pub fn counts<'a>(&self, names: &[Text]) -> Result<Vec<u64>, NodesStopped<'a>>
-        ensures told { IfOk result (λ counts. AllZip (IsCountedAt (N.connects self.now.network.now)
-            N.Socket.sends self.now.digest.now) counts.items names.now) }
+        ensures told { IfOk result (λ counts. AllZip (IsCountedAt
+            (N.connects self.now.network.now) N.Socket.sends
+            (address_in self.now.addresses.now)
+            self.now.digest.now) counts.items names.now) }
         ensures stops { IfErr result (StopsAt names.now) }
     {
         let mut counts = Vec::new(self.alloc);
@@ -150,8 +183,9 @@ impl<'x, N: Network, C: Clock> NodesAsker<'x, N, C> {
     /// Errors: those of `lines_at`; Shrunk.
     fn journal_at(&self, name: &Text, had: u64, count: u64) -> Result<NodeJournal, AskFault>
         ensures name { IfOk result (λ node. node.name ≡ name.now) }
-        ensures told { IfOk result (IsReadAt (N.connects self.now.network.now)
-            N.Socket.sends self.now.digest.now) }
+        ensures told { IfOk result (IsReadAt (N.connects self.now.network.now) N.Socket.sends
+            (address_in self.now.addresses.now)
+            self.now.digest.now) }
         ensures whole { IfOk result (HasLines had) }
     {
         if count < had {
@@ -175,7 +209,9 @@ impl<'x, N: Network, C: Clock> NodesAsker<'x, N, C> {
         requires { (length first.now ≡ length names.now) × (length last.now ≡ length names.now) }
         ensures names { IfOk result (λ all. names_in all.items ≡ names.now) }
         ensures told { IfOk result (λ all. AllByRecursion (IsReadAt
-            (N.connects self.now.network.now) N.Socket.sends self.now.digest.now) all.items) }
+            (N.connects self.now.network.now) N.Socket.sends
+            (address_in self.now.addresses.now)
+            self.now.digest.now) all.items) }
         ensures whole { IfOk result (λ all. AllZip HasLines first.now all.items) }
         ensures stops { IfErr result (StopsAt names.now) }
     {

@@ -1,5 +1,5 @@
 //! The word `audit` over files, tokens and a network.
-ghost use Rattle.std.specs.Prelude.{◌≡◌, [], Contains, IfErr, IfOk, IfSome, length};
+ghost use Rattle.std.specs.Prelude.{◌≡◌, [], Contains, IfErr, IfOk, IfSome, None, length};
 ghost use Rattle.std.specs.Prelude.{map as mapped};
 ghost use Rattle.hex.specs.Hex.{encode_lower};
 ghost use Rattle.dr_word_adopt.specs.Names.{text_of};
@@ -8,7 +8,8 @@ ghost use Rattle.dr_word_audit.specs.declared.audited.Audited.TheVariants.{No};
 ghost use Rattle.dr_word_audit_at.specs.Cuts.{IsConcluded, IsJudged};
 ghost use Rattle.dr_word_audit_at.specs.Running.{AreRead, ConcludesAll, ConcludesBy, ConcludesOf};
 ghost use Rattle.dr_word_audit_at.specs.Running.{EndsRunning, HasStopped, IsBefore, StopsAt};
-ghost use Rattle.dr_word_audit_at.specs.Running.{StopsBy, no_address};
+ghost use Rattle.dr_word_audit_at.specs.Running.{StopsBy, address_by, address_given, address_in};
+ghost use Rattle.dr_word_audit_at.specs.Running.{name_given, no_address};
 
 use crate::asker::{Addresses, NodesAsker, address_of, addresses_of};
 use crate::figuring::told_of;
@@ -74,7 +75,8 @@ fn test_once<'a>(names: &[Text], others: &[Text]) -> Result<(), NodesStopped<'a>
 
 /// The first of these nodes that has no address.
 fn lacking<'x>(all: &Addresses, names: &'x [Text]) -> Option<&'x Text>
-    ensures { IfSome result (λ name. Contains names.now name.now) }
+    ensures { IfSome result (λ name. Contains names.now name.now
+        × (address_in all.now name.now ≡ None)) }
 {
     for name in names {
         if address_of(all, name).is_none() {
@@ -170,6 +172,7 @@ fn read_all<'a, N: Network, C: Clock>(
     names: &[Text],
 ) -> Result<ReadNodes, NodesStopped<'a>>
     ensures told { IfOk result (λ read. AreRead (N.connects asker.now.network.now) N.Socket.sends
+        (address_in asker.now.addresses.now)
         asker.now.digest.now names.now read.first.items read.journals.items) }
     ensures stops { IfErr result (StopsAt names.now) }
 {
@@ -221,6 +224,7 @@ fn audit_by<'a, N: Network, C: Clock>(
     names: &[Text],
 ) -> Result<Audited, NodesStopped<'a>>
     ensures concluded { IfOk result (ConcludesOf (N.connects asker.now.network.now) N.Socket.sends
+        (address_in asker.now.addresses.now)
         asker.now.digest.now names.now sealed.now.plan) }
     ensures stops { IfErr result (StopsAt names.now) }
 {
@@ -247,7 +251,9 @@ fn nodes_given<'a>(
     given: &RunningNodes<'a>,
 ) -> Result<GivenNodes, NodesStopped<'a>>
     ensures nodes { IfOk result (λ nodes.
-        (nodes.others.items ≡ mapped text_of given.now.others.items)
+        (nodes.addresses.names.items ≡ mapped name_given given.now.running.items)
+        × (nodes.addresses.at.items ≡ mapped address_given given.now.running.items)
+        × (nodes.others.items ≡ mapped text_of given.now.others.items)
         × (nodes.names.items ≡ own_names nodes.others.items sealed.now.plan.nodes)) }
     ensures stops { IfErr result IsBefore }
 {
@@ -297,6 +303,7 @@ fn audit_given_nodes<'a, N: Network, C: Clock>(
     token: Option<&Text>,
 ) -> Result<Audited, NodesStopped<'a>>
     ensures concluded { IfOk result (ConcludesOf (N.connects way.entry.network.now) N.Socket.sends
+        (address_in nodes.now.addresses)
         (encode_lower sealed.now.plan.digest) nodes.now.names.items sealed.now.plan) }
     ensures stops { IfErr result (StopsAt nodes.now.names.items) }
 {
@@ -330,7 +337,8 @@ fn audit_sealed<'a, N: Network, C: Clock>(
     token: Option<&Text>,
 ) -> Result<Audited, NodesStopped<'a>>
     ensures concluded { IfOk result (ConcludesAll (N.connects way.entry.network.now) N.Socket.sends
-        sealed.now.plan (mapped text_of given.now.others.items)) }
+        (address_by given.now.running.items) sealed.now.plan
+        (mapped text_of given.now.others.items)) }
     ensures stops { IfErr result (HasStopped
         (own_names (mapped text_of given.now.others.items) sealed.now.plan.nodes)) }
 {
@@ -354,7 +362,7 @@ fn audit_given<'a, F: Files + Tokens, N: Network, C: Clock>(
     way: Way<'_, N, C>,
 ) -> Result<Audited, NodesStopped<'a>>
     ensures concluded { IfOk result (ConcludesBy (N.connects way.entry.network.now) N.Socket.sends
-        (F.holds files.now given.now.plan.now)
+        (address_by given.now.running.items) (F.holds files.now given.now.plan.now)
         (F.holds files.now given.now.certificate.now) (mapped text_of given.now.others.items)) }
     ensures stops { IfErr result (StopsBy (F.holds files.now given.now.plan.now)
         (F.holds files.now given.now.certificate.now) (mapped text_of given.now.others.items)) }
@@ -386,7 +394,7 @@ pub fn audit_running<'a, F: Files + Tokens, N: Network, C: Clock, W: Write, E: W
     faults: &mut E,
 ) -> Result<Status, Failure<'a>>
     ensures { IfOk result (EndsRunning (N.connects way.entry.network.now) N.Socket.sends
-        (F.holds files.now given.entry.plan.now)
+        (address_by given.entry.running.items) (F.holds files.now given.entry.plan.now)
         (F.holds files.now given.entry.certificate.now) (mapped text_of given.entry.others.items)
         (W.contents output.old) (W.contents output.new)
         (E.contents faults.old) (E.contents faults.new)) }

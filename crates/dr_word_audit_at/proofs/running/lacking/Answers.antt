@@ -2,4 +2,4 @@ use Rattle.std.proofs.Common.{sym}
 use Rattle.dr_word_audit_at.proofs.running.lacking.Goals as goal
 
 pub returns-then-is_none : goal.returns-then-is_none
-returns-then-is_none c = (c.loop-name.name-index, c.loop-name-test.true, sym c.name-item.is)
+returns-then-is_none c = ((c.loop-name.name-index, c.loop-name-test.true, sym c.name-item.is), ?)
