@@ -16,7 +16,7 @@ use dr_ledger::{LedgerFault, LetsGo};
 use dr_ledger_views::Views;
 use dr_session::Clock;
 use log::Log;
-use std::alloc::Global;
+use std::alloc::{AllocError, Global};
 use std::mem;
 use std::sync::Wait;
 
@@ -44,12 +44,13 @@ fn take_in<R: Wait>(rt: &R, sweep: &mut Sweep, signal: &Signal)
     ensures { (more : List OverValue)
         × (sweep.new.queue.items ≡ sweep.old.queue.items ++ more) }
 {
-    for _ in 0..MOST {
+    for _over in 0..MOST {
         let Some(over) = signal.next_over(rt) else {
             return;
         };
-        if sweep.add(over).is_err() {
-            return;
+        match sweep.add(over) {
+            Ok(()) => {}
+            Err(AllocError) => return,
         }
     }
 }
