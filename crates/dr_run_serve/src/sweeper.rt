@@ -44,7 +44,7 @@ fn take_in<R: Wait>(rt: &R, sweep: &mut Sweep, signal: &Signal)
     ensures { (more : List OverValue)
         × (sweep.new.queue.items ≡ sweep.old.queue.items ++ more) }
 {
-    for _over in 0..MOST {
+    for _turn in 0..MOST {
         let Some(over) = signal.next_over(rt) else {
             return;
         };
