@@ -138,6 +138,14 @@ impl<B: Sharing> Sweeper<B> {
         }
     }
 
+    /// Its pass.
+    pub fn into_pass(self) -> Pass<B>
+        ensures { result ≡ self.pass }
+    {
+        let Sweeper { pass, .. } = self;
+        pass
+    }
+
     /// What is known to be over.
     fn put(&mut self, sweep: Sweep)
         requires { self.old.sweep ≡ None }
