@@ -2,3 +2,4 @@ mod Chained
 mod InTurn
 mod Leafing
 mod Noting
+mod Wholly
