@@ -149,13 +149,11 @@ impl<B: Sharing> Sweeper<B> {
     /// What is known to be over.
     fn put(&mut self, sweep: Sweep)
         requires { self.old.sweep ≡ None }
-        ensures { self.new ≡ record {
-          pass = self.old.pass;
-          after = self.old.after;
-          next = self.old.next;
-          past = self.old.past;
-          sweep = Some sweep;
-        } }
+        ensures pass { (self.new.pass.made.count ≡ self.old.pass.made.count)
+            × (self.new.pass.receipts.items ≡ self.old.pass.receipts.items) }
+        ensures terms { (self.new.after ≡ self.old.after) × (self.new.next ≡ self.old.next) }
+        ensures past { self.new.past ≡ self.old.past }
+        ensures sweep { self.new.sweep ≡ Some sweep }
     {
         self.sweep = Some(sweep);
     }

@@ -22,7 +22,7 @@ loop-turn-preserved g c =
     let one : One y came z = subst P c.in-Ok-Some.field-0-is c.in-Ok-Some.ensures in (
       h.0 ++ came ∷ [],
       chain_more One h.0 x y z came h.1 one,
-      c.counted.ensures ∙ ap (λ n. counted n came) h.2 ∙ sym (counted_more 0 h.0 came),
+      c.counted-count.ensures ∙ ap (λ n. counted n came) h.2 ∙ sym (counted_more 0 h.0 came),
       length_push h.0 came ∙ ap (λ n. n + 1) h.3,
     )
 
