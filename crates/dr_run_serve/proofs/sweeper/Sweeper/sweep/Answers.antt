@@ -21,7 +21,7 @@ returns-clause-sweeps g c = λ lines had.
     let s : State = (c.args.self.now.pass.made.count, c.args.self.now.pass.receipts.items) in
     let more = c.take_in.ensures.0 in
     let F : List OverInstance → ℕ → List Receipt → Type 0 = λ queue n receipts.
-        ForgetsDue g.L.Ledger.site g.L.Ledger.book g.L.Ledger.stands g.L.Ledger.failed g.B.Sharing.site g.B.Sharing.first c.args.since queue s c.forget_due-came.result c.forget_due-came.new.sweep.queue.items (n, receipts) in
+    ForgetsDue g.L.Ledger.site g.L.Ledger.book g.L.Ledger.stands g.L.Ledger.failed g.B.Sharing.site g.B.Sharing.first c.args.since queue s c.forget_due-came.result c.forget_due-came.new.sweep.queue.items (n, receipts) in
     let count = c.forget_due-came.new.pass.made.count in
     let receipts = c.forget_due-came.new.pass.receipts.items in
     let all : F (sweep.queue.items ++ more) count receipts = subst (λ (queue : List OverInstance). F queue count receipts) c.take_in.ensures.1 c.forget_due-came.ensures in
