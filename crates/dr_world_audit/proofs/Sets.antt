@@ -22,11 +22,8 @@ use Rattle.dr_route.specs.contracts.key.KeyOrd.TheImpl as keys
 use Rattle.dr_ledger.proofs.Maps.{texts}
 use Rattle.dr_world_model.proofs.Lookups.{numbers}
 use Rattle.dr_world_audit.specs.declared.hop.AuditHop.{AuditHop}
-use Rattle.dr_world_audit.specs.contracts.hop.AuditHopOrd.TheImpl as hops
 use Rattle.dr_world_audit.specs.contracts.hop.AuditHopOrd.TheImpl.Laws as hop_laws
-
-abbrev pub hop_cmp : AuditHop → AuditHop → Ordering
-hop_cmp = hops.cmp-value.it
+use Rattle.dr_world_audit.specs.Orders.{hop_cmp}
 
 then_equal : (o p : Ordering) → ordering_then o p ≡ Equal → (o ≡ Equal) × (p ≡ Equal)
 then_equal Less p e = absurd (cc e)
@@ -52,10 +49,10 @@ key_exact a b e =
 
 pub hop_exact : CmpEqualImpliesEq hop_cmp
 hop_exact a b e =
-    let f = then_equal (text_cmp a.from b.from) _ e in
+    let u = then_equal (text_cmp a.uid b.uid) _ e in
+    let f = then_equal (text_cmp a.from b.from) _ u.1 in
     let t = then_equal (text_cmp a.to b.to) _ f.1 in
-    let u = then_equal (text_cmp a.uid b.uid) _ t.1 in
-    let k = then_equal (keys.cmp-value.it a.key b.key) _ u.1 in
+    let k = then_equal (keys.cmp-value.it a.key b.key) _ t.1 in
     let s = then_equal (nat_cmp a.size b.size) (text_cmp a.digest b.digest) k.1 in
     let from_is = exact_bytes a.from b.from f.0 in
     let to_is = exact_bytes a.to b.to t.0 in
@@ -63,7 +60,7 @@ hop_exact a b e =
     let key_is = key_exact a.key b.key k.0 in
     let size_is = numbers.exact a.size b.size s.0 in
     let digest_is = exact_bytes a.digest b.digest s.1 in
-    (λ j. record { from = from_is j; to = to_is j; uid = uid_is j; key = key_is j; size = size_is j; digest = digest_is j })
+    (λ j. record { uid = uid_is j; from = from_is j; to = to_is j; key = key_is j; size = size_is j; digest = digest_is j })
 
 pub hop_in : (s : BTreeSet AuditHop) (k : AuditHop) → IsTrue (contains hop_cmp s k) ↔ Contains s.keys k
 hop_in s k = btree_set_contains_iff hop_laws.total-law hop_exact s k

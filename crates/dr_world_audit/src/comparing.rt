@@ -4,14 +4,17 @@ ghost use Rattle.dr_world_audit.specs.Comparing.{FirstUnanswered, FirstUnsent, I
 ghost use Rattle.dr_world_audit.specs.Comparing.{IsUnsent};
 ghost use Rattle.dr_world_audit.specs.declared.hop.AuditHop.{AuditHop as Held};
 
-use crate::hop::AuditHop;
+use crate::place::HopPlace;
 use dr_base::Text;
 use dr_route::is_local;
 use std::alloc::{AllocError, Global};
 use std::collections::BTreeSet;
 
 /// The hops as a set.
-pub fn set_of(alloc: Global, hops: Vec<AuditHop>) -> Result<BTreeSet<AuditHop>, AllocError>
+pub fn set_of<'a>(
+    alloc: Global,
+    hops: Vec<HopPlace<'a>>,
+) -> Result<BTreeSet<HopPlace<'a>>, AllocError>
     ensures { IfOk result (λ s. (h : Held) → Contains s.keys h ↔ Contains hops.items h) }
 {
     let mut set = BTreeSet::new(alloc);
@@ -22,7 +25,7 @@ pub fn set_of(alloc: Global, hops: Vec<AuditHop>) -> Result<BTreeSet<AuditHop>, 
 }
 
 /// Whether the hop is one of these.
-fn is_among(hop: &AuditHop, hops: &BTreeSet<AuditHop>) -> bool
+fn is_among<'a>(hop: &HopPlace<'a>, hops: &BTreeSet<HopPlace<'a>>) -> bool
     ensures { IsTrue result ↔ Contains hops.now.keys hop.now }
 {
     hops.contains(hop)
@@ -36,11 +39,11 @@ pub fn is_ours(name: &Text, ours: &BTreeSet<Text>) -> bool
 }
 
 /// The first hop that one of ours notes as done to another and that didn't come there.
-pub fn first_unanswered<'a>(
+pub fn first_unanswered<'d, 'a>(
     ours: &BTreeSet<Text>,
-    done: &'a [AuditHop],
-    came: &BTreeSet<AuditHop>,
-) -> Option<&'a AuditHop>
+    done: &'d [HopPlace<'a>],
+    came: &BTreeSet<HopPlace<'a>>,
+) -> Option<&'d HopPlace<'a>>
     ensures { FirstUnanswered ours.now.keys done.now came.now.keys (option_copied result) }
 {
     for hop in done {
@@ -52,22 +55,26 @@ pub fn first_unanswered<'a>(
 }
 
 /// Whether the hop is to another of ours and didn't come there.
-fn is_unanswered(ours: &BTreeSet<Text>, hop: &AuditHop, came: &BTreeSet<AuditHop>) -> bool
+fn is_unanswered<'a>(
+    ours: &BTreeSet<Text>,
+    hop: &HopPlace<'a>,
+    came: &BTreeSet<HopPlace<'a>>,
+) -> bool
     ensures yes { IsTrue result → IsUnanswered ours.now.keys came.now.keys hop.now }
     ensures no { result ≡ false → IsUnanswered ours.now.keys came.now.keys hop.now → ⊥ }
 {
-    if !is_ours(&hop.to, ours) {
+    if !is_ours(hop.to_node(), ours) {
         return false;
     }
     !is_among(hop, came)
 }
 
 /// The first hop that came from another of ours and that wasn't to go on there.
-pub fn first_unsent<'a>(
+pub fn first_unsent<'c, 'a>(
     ours: &BTreeSet<Text>,
-    came: &'a [AuditHop],
-    sent: &BTreeSet<AuditHop>,
-) -> Option<&'a AuditHop>
+    came: &'c [HopPlace<'a>],
+    sent: &BTreeSet<HopPlace<'a>>,
+) -> Option<&'c HopPlace<'a>>
     ensures { FirstUnsent ours.now.keys came.now sent.now.keys (option_copied result) }
 {
     for hop in came {
@@ -79,11 +86,11 @@ pub fn first_unsent<'a>(
 }
 
 /// Whether the hop came from another of ours and wasn't to go on there.
-fn is_unsent(ours: &BTreeSet<Text>, hop: &AuditHop, sent: &BTreeSet<AuditHop>) -> bool
+fn is_unsent<'a>(ours: &BTreeSet<Text>, hop: &HopPlace<'a>, sent: &BTreeSet<HopPlace<'a>>) -> bool
     ensures yes { IsTrue result → IsUnsent ours.now.keys sent.now.keys hop.now }
     ensures no { result ≡ false → IsUnsent ours.now.keys sent.now.keys hop.now → ⊥ }
 {
-    if is_local(&hop.from) || !is_ours(&hop.from, ours) {
+    if is_local(hop.from_node()) || !is_ours(hop.from_node(), ours) {
         return false;
     }
     !is_among(hop, sent)
