@@ -10,7 +10,7 @@ ghost use Rattle.dr_world_audit.specs.Sites.{is_fair as is_fair_outcome, names};
 ghost use Rattle.dr_world_audit.specs.Stops.{Compares, IsVerdictOf, ReadsAll, ReadsNode, StopsFor};
 ghost use Rattle.dr_world_audit.specs.Stops.{IsFaultOf, IsTwice, Refuses, TestsAnswers};
 
-use crate::comparing::{first_unanswered, first_unsent, is_ours, set_of};
+use crate::comparing::{first_unanswered, first_unsent, in_order, is_ours};
 use crate::fault::JournalFault;
 use crate::place::HopPlace;
 use crate::reading::read_journal;
@@ -305,22 +305,18 @@ fn unanswered_at(hop: &HopPlace<'_>) -> Result<Mismatch, AllocError>
 
 /// The first hop that doesn't match: one that came without a reason, or one that was answered and
 /// didn't come.
-fn compare<'a>(
-    alloc: Global,
-    ours: &BTreeSet<Text>,
-    trail: Trail<'a>,
-) -> Result<Option<Mismatch>, AllocError>
+fn compare<'a>(ours: &BTreeSet<Text>, trail: Trail<'a>) -> Result<Option<Mismatch>, AllocError>
     ensures { IfOk result
-        (Compares ours.now.keys trail.came.items trail.sent.items trail.done.items) }
+        (Compares ours.now.keys trail.entry.came.items trail.entry.sent.items trail.entry.done.items) }
 {
     let Trail { came, sent, done } = trail;
-    let sent = set_of(alloc, sent)?;
-    if let Some(hop) = first_unsent(ours, came.as_slice(), &sent) {
+    let sent = in_order(sent);
+    if let Some(hop) = first_unsent(ours, came.as_slice(), sent.as_slice()) {
         let mismatch = unsent_at(hop)?;
         return Ok(Some(mismatch));
     }
-    let came = set_of(alloc, came)?;
-    if let Some(hop) = first_unanswered(ours, done.as_slice(), &came) {
+    let came = in_order(came);
+    if let Some(hop) = first_unanswered(ours, done.as_slice(), came.as_slice()) {
         let mismatch = unanswered_at(hop)?;
         return Ok(Some(mismatch));
     }
@@ -361,7 +357,7 @@ pub fn audit(
         Ok(()) => {}
         Err(stop) => return verdict_of(stop),
     }
-    match compare(alloc, &ours, trail)? {
+    match compare(&ours, trail)? {
         Some(mismatch) => Ok(AuditVerdict::No(mismatch)),
         None => Ok(AuditVerdict::Holds),
     }

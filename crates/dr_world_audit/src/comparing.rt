@@ -1,34 +1,35 @@
 //! Whether hops are among others.
-ghost use Rattle.std.specs.Prelude.{◌≡◌, ◌↔◌, Contains, IfOk, IsTrue, false, option_copied};
+ghost use Rattle.std.specs.Prelude.{◌≡◌, ◌↔◌, Contains, IsTrue, false, option_copied};
+ghost use Rattle.std.specs.List.Sorted.{IsSorted};
 ghost use Rattle.dr_world_audit.specs.Comparing.{FirstUnanswered, FirstUnsent, IsUnanswered};
 ghost use Rattle.dr_world_audit.specs.Comparing.{IsUnsent};
+ghost use Rattle.dr_world_audit.specs.Orders.{hop_cmp};
 ghost use Rattle.dr_world_audit.specs.declared.hop.AuditHop.{AuditHop as Held};
 
 use crate::place::HopPlace;
 use dr_base::Text;
 use dr_route::is_local;
-use std::alloc::{AllocError, Global};
 use std::collections::BTreeSet;
 
-/// The hops as a set.
-pub fn set_of<'a>(
-    alloc: Global,
-    hops: Vec<HopPlace<'a>>,
-) -> Result<BTreeSet<HopPlace<'a>>, AllocError>
-    ensures { IfOk result (λ s. (h : Held) → Contains s.keys h ↔ Contains hops.items h) }
+/// The hops in their order.
+pub fn in_order<'a>(hops: Vec<HopPlace<'a>>) -> Vec<HopPlace<'a>>
+    ensures same { (h : Held) → Contains result.items h ↔ Contains hops.entry.items h }
+    ensures ordered { IsSorted hop_cmp result.items }
 {
-    let mut set = BTreeSet::new(alloc);
-    for hop in hops {
-        set.insert(hop)?;
-    }
-    Ok(set)
+    let mut hops = hops;
+    hops.sort_unstable();
+    hops
 }
 
-/// Whether the hop is one of these.
-fn is_among<'a>(hop: &HopPlace<'a>, hops: &BTreeSet<HopPlace<'a>>) -> bool
-    ensures { IsTrue result ↔ Contains hops.now.keys hop.now }
+/// Whether the hop is one of these, which are in their order: a binary search.
+fn is_among<'a>(hop: &HopPlace<'a>, hops: &[HopPlace<'a>]) -> bool
+    requires { IsSorted hop_cmp hops.now }
+    ensures { IsTrue result ↔ Contains hops.now hop.now }
 {
-    hops.contains(hop)
+    match hops.binary_search(hop) {
+        Ok(_place) => true,
+        Err(_place) => false,
+    }
 }
 
 /// Whether the name is one of these.
@@ -42,9 +43,10 @@ pub fn is_ours(name: &Text, ours: &BTreeSet<Text>) -> bool
 pub fn first_unanswered<'d, 'a>(
     ours: &BTreeSet<Text>,
     done: &'d [HopPlace<'a>],
-    came: &BTreeSet<HopPlace<'a>>,
+    came: &[HopPlace<'a>],
 ) -> Option<&'d HopPlace<'a>>
-    ensures { FirstUnanswered ours.now.keys done.now came.now.keys (option_copied result) }
+    requires { IsSorted hop_cmp came.now }
+    ensures { FirstUnanswered ours.now.keys done.now came.now (option_copied result) }
 {
     for hop in done {
         if is_unanswered(ours, hop, came) {
@@ -58,10 +60,11 @@ pub fn first_unanswered<'d, 'a>(
 fn is_unanswered<'a>(
     ours: &BTreeSet<Text>,
     hop: &HopPlace<'a>,
-    came: &BTreeSet<HopPlace<'a>>,
+    came: &[HopPlace<'a>],
 ) -> bool
-    ensures yes { IsTrue result → IsUnanswered ours.now.keys came.now.keys hop.now }
-    ensures no { result ≡ false → IsUnanswered ours.now.keys came.now.keys hop.now → ⊥ }
+    requires { IsSorted hop_cmp came.now }
+    ensures yes { IsTrue result → IsUnanswered ours.now.keys came.now hop.now }
+    ensures no { result ≡ false → IsUnanswered ours.now.keys came.now hop.now → ⊥ }
 {
     if !is_ours(hop.to_node(), ours) {
         return false;
@@ -73,9 +76,10 @@ fn is_unanswered<'a>(
 pub fn first_unsent<'c, 'a>(
     ours: &BTreeSet<Text>,
     came: &'c [HopPlace<'a>],
-    sent: &BTreeSet<HopPlace<'a>>,
+    sent: &[HopPlace<'a>],
 ) -> Option<&'c HopPlace<'a>>
-    ensures { FirstUnsent ours.now.keys came.now sent.now.keys (option_copied result) }
+    requires { IsSorted hop_cmp sent.now }
+    ensures { FirstUnsent ours.now.keys came.now sent.now (option_copied result) }
 {
     for hop in came {
         if is_unsent(ours, hop, sent) {
@@ -86,9 +90,10 @@ pub fn first_unsent<'c, 'a>(
 }
 
 /// Whether the hop came from another of ours and wasn't to go on there.
-fn is_unsent<'a>(ours: &BTreeSet<Text>, hop: &HopPlace<'a>, sent: &BTreeSet<HopPlace<'a>>) -> bool
-    ensures yes { IsTrue result → IsUnsent ours.now.keys sent.now.keys hop.now }
-    ensures no { result ≡ false → IsUnsent ours.now.keys sent.now.keys hop.now → ⊥ }
+fn is_unsent<'a>(ours: &BTreeSet<Text>, hop: &HopPlace<'a>, sent: &[HopPlace<'a>]) -> bool
+    requires { IsSorted hop_cmp sent.now }
+    ensures yes { IsTrue result → IsUnsent ours.now.keys sent.now hop.now }
+    ensures no { result ≡ false → IsUnsent ours.now.keys sent.now hop.now → ⊥ }
 {
     if is_local(hop.from_node()) || !is_ours(hop.from_node(), ours) {
         return false;
