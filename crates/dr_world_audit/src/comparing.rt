@@ -57,11 +57,7 @@ pub fn first_unanswered<'d, 'a>(
 }
 
 /// Whether the hop is to another of ours and didn't come there.
-fn is_unanswered<'a>(
-    ours: &BTreeSet<Text>,
-    hop: &HopPlace<'a>,
-    came: &[HopPlace<'a>],
-) -> bool
+fn is_unanswered<'a>(ours: &BTreeSet<Text>, hop: &HopPlace<'a>, came: &[HopPlace<'a>]) -> bool
     requires { IsSorted hop_cmp came.now }
     ensures yes { IsTrue result → IsUnanswered ours.now.keys came.now hop.now }
     ensures no { result ≡ false → IsUnanswered ours.now.keys came.now hop.now → ⊥ }

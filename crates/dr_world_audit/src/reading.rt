@@ -6,7 +6,7 @@ ghost use Rattle.dr_world_audit.specs.Readings.{Reads};
 use crate::fault::{JournalFault, of_history};
 use crate::replay::{count_past, tell_past, tell_since};
 use crate::standing::stand_all;
-use crate::trail::{Trail, instances_of};
+use crate::trail::{Trail, arrivals_of};
 use dr_base::Text;
 use dr_cert::Sealed;
 use dr_ledger_history::JournalLine;
@@ -37,7 +37,7 @@ pub fn read_journal<'a>(
         Ok(()) => {}
         Err(fault) => return Err(fault),
     }
-    let known = instances_of(alloc, lines)?;
+    let known = arrivals_of(alloc, lines)?;
     match tell_since(alloc, site, name, &known, since, told, trail) {
         Ok(_all) => Ok(()),
         Err(fault) => Err(of_history(fault)),

@@ -11,7 +11,6 @@ ghost use Rattle.dr_world_journals.specs.Journals.{until_adoption};
 
 use crate::trail::{Trail, note};
 use dr_base::Text;
-use dr_ledger::Instance;
 use dr_ledger_history::{History, HistoryFault, JournalLine, copy_line};
 use dr_site::Site;
 use std::alloc::Global;
@@ -72,7 +71,7 @@ pub fn tell_since<'a>(
     alloc: Global,
     site: &Site,
     name: &'a Text,
-    known: &BTreeMap<&'a Text, &'a Instance>,
+    known: &BTreeMap<&'a Text, &'a JournalLine>,
     lines: &'a [JournalLine],
     told: History,
     trail: &mut Trail<'a>,

@@ -84,19 +84,55 @@ pub fn push_found<'a>(
     push_copy(alloc, hops, from, to, found)
 }
 
-/// The instance of the last arrival of each UID. Nothing has to be known of it: what is found in it
-/// is compared with what the history has.
-pub fn instances_of<'a>(
+/// The last first arrival of each UID. Nothing has to be known of it: what is found in it is compared
+/// with what is looked for.
+pub fn arrivals_of<'a>(
     alloc: Global,
     lines: &'a [JournalLine],
-) -> Result<BTreeMap<&'a Text, &'a Instance>, AllocError> {
+) -> Result<BTreeMap<&'a Text, &'a JournalLine>, AllocError> {
     let mut known = BTreeMap::new(alloc);
     for line in lines {
         if let JournalLine::Arrival { instance, .. } = line {
-            known.insert(&instance.uid, instance)?;
+            known.insert(&instance.uid, line)?;
         }
     }
     Ok(known)
+}
+
+/// The instance of that first arrival.
+fn known_instance<'a>(
+    known: &BTreeMap<&'a Text, &'a JournalLine>,
+    uid: &'a Text,
+) -> Option<&'a Instance> {
+    let line: &'a JournalLine = known.get(&uid)?;
+    match line {
+        JournalLine::Arrival { instance, .. } => Some(instance),
+        _ => None,
+    }
+}
+
+/// The nodes to which that first arrival went on.
+fn known_targets<'a>(
+    known: &BTreeMap<&'a Text, &'a JournalLine>,
+    uid: &'a Text,
+) -> Option<&'a [Text]> {
+    let line: &'a JournalLine = known.get(&uid)?;
+    match line {
+        JournalLine::Arrival { to, .. } => Some(to.as_slice()),
+        _ => None,
+    }
+}
+
+/// The name among these, if it is there.
+fn name_among<'a>(names: Option<&'a [Text]>, name: &Text) -> Option<&'a Text>
+    ensures { IfSome result (λ found. found.now ≡ name.now) }
+{
+    for other in names? {
+        if *other == *name {
+            return Some(other);
+        }
+    }
+    None
 }
 
 /// Notes an instance of a line on its way to each of these nodes that the line names.
@@ -115,19 +151,40 @@ fn push_each<'a>(
     Ok(())
 }
 
-/// Notes an instance on its way to each of these nodes, which no line names.
-fn copy_each<'a>(
+/// Notes an instance of a line on its way to a node. It copies nothing where the name is among
+/// those that lines have.
+fn push_named<'a>(
     alloc: Global,
     hops: &mut Vec<HopPlace<'a>>,
-    from: &Text,
-    instance: &Instance,
+    from: &'a Text,
+    instance: &'a Instance,
+    next: &Text,
+    names: Option<&'a [Text]>,
+) -> Result<(), AllocError>
+    ensures { OnOk result
+        (grows_by hops.old.items ((from.now, next.now, instance.now) ∷ []) hops.new.items) }
+{
+    match name_among(names, next) {
+        Some(name) => push_line(hops, from, name, instance),
+        None => push_copy(alloc, hops, from, next, instance),
+    }
+}
+
+/// Notes an instance of a line on its way to each of these nodes, whose names may be among those
+/// that lines have.
+fn push_each_named<'a>(
+    alloc: Global,
+    hops: &mut Vec<HopPlace<'a>>,
+    from: &'a Text,
+    instance: &'a Instance,
     to: &[Text],
+    names: Option<&'a [Text]>,
 ) -> Result<(), AllocError>
     ensures { OnOk result
         (grows_by hops.old.items (to_each from.now instance.now to.now) hops.new.items) }
 {
     for next in to {
-        push_copy(alloc, hops, from, next, instance)?;
+        push_named(alloc, hops, from, instance, next, names)?;
     }
     Ok(())
 }
@@ -199,6 +256,7 @@ fn note_repeat<'a>(
     ends: (&'a Text, &'a Text),
     instance: &'a Instance,
     to: &[Text],
+    names: Option<&'a [Text]>,
     trail: &mut Trail<'a>,
 ) -> Result<(), AllocError>
     ensures { OnOk result
@@ -206,7 +264,7 @@ fn note_repeat<'a>(
         (to_each ends.entry.1.now instance.now to.now) [] trail.new) }
 {
     push_line(&mut trail.came, ends.0, ends.1, instance)?;
-    copy_each(alloc, &mut trail.sent, ends.1, instance, to)?;
+    push_each_named(alloc, &mut trail.sent, ends.1, instance, to, names)?;
     Ok(())
 }
 
@@ -218,14 +276,6 @@ fn targets_of(alloc: Global, site: &Site, caller: &Text, key: &Key) -> Result<Se
     Ok(targets.to)
 }
 
-/// The instance of the UID, of the last line that has it.
-fn known_at<'a>(known: &BTreeMap<&'a Text, &'a Instance>, uid: &'a Text) -> Option<&'a Instance> {
-    match known.get(&uid) {
-        Some(instance) => Some(*instance),
-        None => None,
-    }
-}
-
 /// Notes what a line of the node of that name says, by its site and what the history has before
 /// the line.
 pub fn note<'a>(
@@ -233,7 +283,7 @@ pub fn note<'a>(
     site: &Site,
     name: &'a Text,
     history: &History,
-    known: &BTreeMap<&'a Text, &'a Instance>,
+    known: &BTreeMap<&'a Text, &'a JournalLine>,
     line: &'a JournalLine,
     trail: &mut Trail<'a>,
 ) -> Result<(), AllocError>
@@ -252,7 +302,8 @@ pub fn note<'a>(
         } => note_arrival((caller, name), instance, to.as_slice(), trail),
         JournalLine::Repeat { caller, instance } => {
             let to = targets_of(alloc, site, caller, &instance.key)?;
-            note_repeat(alloc, (caller, name), instance, to.as_slice(), trail)
+            let names = known_targets(known, &instance.uid);
+            note_repeat(alloc, (caller, name), instance, to.as_slice(), names, trail)
         }
         JournalLine::Settling {
             uid,
@@ -261,7 +312,7 @@ pub fn note<'a>(
             now: _,
         } => {
             let found = history.item(uid);
-            let line = known_at(known, uid);
+            let line = known_instance(known, uid);
             push_outcome(alloc, &mut trail.done, (name, dest), *outcome, found, line)
         }
         JournalLine::Requeuing { .. } => Ok(()),

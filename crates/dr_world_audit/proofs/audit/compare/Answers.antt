@@ -26,7 +26,7 @@ returns-in-Some-first_unanswered c =
 pub returns : goal.returns
 returns c = (
   λ hop among u. c.in_default.ensures hop (subst (λ hs. Contains hs hop) (sym c.as_slice.ensures.value) among)
-  (u.0, u.1, λ h. u.2 ((c.in_order-sent.ensures.same hop).0 (subst (λ hs. Contains hs hop) c.as_slice-2.ensures.value h))),
+      (u.0, u.1, λ h. u.2 ((c.in_order-sent.ensures.same hop).0 (subst (λ hs. Contains hs hop) c.as_slice-2.ensures.value h))),
   λ hop among u. c.in_default-first_unanswered.ensures hop (subst (λ hs. Contains hs hop) (sym c.as_slice-3.ensures.value) among)
-  (u.0, λ h. u.1 ((c.in_order-came.ensures.same hop).0 (subst (λ hs. Contains hs hop) c.as_slice-4.ensures.value h))),
+      (u.0, λ h. u.1 ((c.in_order-came.ensures.same hop).0 (subst (λ hs. Contains hs hop) c.as_slice-4.ensures.value h))),
 )
