@@ -307,7 +307,8 @@ fn unanswered_at(hop: &HopPlace<'_>) -> Result<Mismatch, AllocError>
 /// didn't come.
 fn compare<'a>(ours: &BTreeSet<Text>, trail: Trail<'a>) -> Result<Option<Mismatch>, AllocError>
     ensures { IfOk result
-        (Compares ours.now.keys trail.entry.came.items trail.entry.sent.items trail.entry.done.items) }
+        (Compares ours.now.keys trail.entry.came.items trail.entry.sent.items
+        trail.entry.done.items) }
 {
     let Trail { came, sent, done } = trail;
     let sent = in_order(sent);

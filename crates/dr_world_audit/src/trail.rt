@@ -84,8 +84,8 @@ pub fn push_found<'a>(
     push_copy(alloc, hops, from, to, found)
 }
 
-/// The last first arrival of each UID. Nothing has to be known of it: what is found in it is compared
-/// with what is looked for.
+/// The line of the last first arrival of each UID. Nothing has to be known of it: what is found in
+/// it is compared with what is looked for.
 pub fn arrivals_of<'a>(
     alloc: Global,
     lines: &'a [JournalLine],
