@@ -255,8 +255,14 @@ fn read_node<'a>(
         Err(SiteFault::NoNode) => return Err(AuditStop::Fault(AuditFault::NoNode)),
         Err(SiteFault::Memory) => return Err(AuditStop::Fault(AuditFault::Memory)),
     };
-    let lines = node.lines.as_slice();
-    match read_journal(alloc, sealed, &site, &node.name, lines, trail) {
+    match read_journal(
+        alloc,
+        sealed,
+        &site,
+        &node.name,
+        node.lines.as_slice(),
+        trail,
+    ) {
         Ok(()) => Ok(()),
         Err(fault) => Err(stop_of(node, fault)),
     }

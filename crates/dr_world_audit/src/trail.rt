@@ -84,16 +84,18 @@ pub fn push_found<'a>(
     push_copy(alloc, hops, from, to, found)
 }
 
-/// The line of the last first arrival of each UID. Nothing has to be known of it: what is found in
-/// it is compared with what is looked for.
+/// The line of the last first arrival of each UID, where it goes on to a node: no other is settled.
+/// Nothing has to be known of it: what is found in it is compared with what is looked for.
 pub fn arrivals_of<'a>(
     alloc: Global,
     lines: &'a [JournalLine],
 ) -> Result<BTreeMap<&'a Text, &'a JournalLine>, AllocError> {
     let mut known = BTreeMap::new(alloc);
     for line in lines {
-        if let JournalLine::Arrival { instance, .. } = line {
-            known.insert(&instance.uid, line)?;
+        if let JournalLine::Arrival { instance, to, .. } = line {
+            if !to.as_slice().is_empty() {
+                known.insert(&instance.uid, line)?;
+            }
         }
     }
     Ok(known)
