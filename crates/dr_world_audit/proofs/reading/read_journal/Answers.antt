@@ -65,8 +65,8 @@ returns-in-Ok-tell_since c =
     let both = c.in-Ok-tell_since.ensures past (begun plan site lines past since all until before told c.in-Ok.ensures) in
     read_all plan site lines past since all until before told (content c.in-Ok-tell_since._all.parts) old mid c.tell_since.new.trail c.in-Ok.ensures (subst S (sym c.requires) c.in-Ok-stand_all.ensures) refl refl both.0 both.1
 
-pub returns-in-Err-tell_since : goal.returns-in-Err-tell_since
-returns-in-Err-tell_since c =
+pub returns : goal.returns
+returns c =
     let plan = c.args.sealed.now.plan in
     let site = c.args.site.now in
     let lines = mapped line_of c.args.lines.now in
