@@ -19,13 +19,13 @@ pub struct DataBeside<'x, D: Databases> {
 }
 
 impl<'x, D: Databases> DataFile for DataBeside<'x, D> {
-    type Disk = D::Disk;
+    type Disk = File;
 
-    fn open(&self, alloc: Global) -> Result<D::Disk, DataFileFault> {
+    fn open(&self, alloc: Global) -> Result<File, DataFileFault> {
         self.databases.open_data(alloc, self.path)
     }
 
-    fn make(&self, alloc: Global) -> Result<D::Disk, DataFileFault> {
+    fn make(&self, alloc: Global) -> Result<File, DataFileFault> {
         self.databases.make_data(alloc, self.path)
     }
 

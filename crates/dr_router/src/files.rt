@@ -34,9 +34,6 @@ use std::{fs, io};
 pub trait Databases {
     type Store: Alter + Drop;
 
-    /// A file of data sets.
-    type Disk: sqlite_disk::Disk + Drop;
-
     fn open_database(&self, path: &str) -> Result<Connection<Self::Store>, Error>
         ensures { IfOk result (λ conn. conn.in_transaction ≡ false) };
 
@@ -49,12 +46,12 @@ pub trait Databases {
     /// The file of the data sets of the database with that path, which is open. None is made.
     ///
     /// Errors: Missing, InUse, Store, Memory.
-    fn open_data(&self, alloc: Global, path: &str) -> Result<Self::Disk, DataFileFault>;
+    fn open_data(&self, alloc: Global, path: &str) -> Result<File, DataFileFault>;
 
     /// A new one, where none is or one that has nothing behind its head.
     ///
     /// Errors: IsThere, InUse, Store, Memory.
-    fn make_data(&self, alloc: Global, path: &str) -> Result<Self::Disk, DataFileFault>;
+    fn make_data(&self, alloc: Global, path: &str) -> Result<File, DataFileFault>;
 
     /// A random key and a random mark.
     ///
@@ -81,8 +78,6 @@ pub struct SystemFiles<'a>(pub &'a HostRuntime);
 
 impl<'a> Databases for SystemFiles<'a> {
     type Store = FileStore<File>;
-
-    type Disk = File;
 
     /// A file that isn't there is made.
     fn open_database(&self, path: &str) -> Result<Connection<FileStore<File>>, Error> {
@@ -302,7 +297,7 @@ impl<D: Databases + Drop> Ledgers for StoredLedgers<D> {
     ghost use Rattle.sqlite.specs.Held.{state};
     ghost use Rattle.dr_router.specs.Opening.{HasLedgerIn};
 
-    type Ledger = SqlLedger<D::Store, LedgerShelf<D::Disk>>;
+    type Ledger = SqlLedger<D::Store, LedgerShelf<File>>;
 
     ghost opens = { λ files path ledger.
         HasLedgerIn ledger.site (state D.Store.Store ledger.conn) ledger.shelf };
@@ -313,7 +308,7 @@ impl<D: Databases + Drop> Ledgers for StoredLedgers<D> {
         path: &str,
         site: Site,
         making: Making,
-    ) -> Result<SqlLedger<D::Store, LedgerShelf<D::Disk>>, OpenFault> {
+    ) -> Result<SqlLedger<D::Store, LedgerShelf<File>>, OpenFault> {
         if let Some(fault) = making.refusal(self.0.is_there(path)) {
             return Err(fault);
         }
@@ -370,7 +365,7 @@ impl<D: Databases + Drop> Finds for StoredLedgers<D> {
         alloc: Global,
         path: &str,
         site: Site,
-    ) -> Result<LedgerFound<SqlLedger<D::Store, LedgerShelf<D::Disk>>>, OpenFault> {
+    ) -> Result<LedgerFound<SqlLedger<D::Store, LedgerShelf<File>>>, OpenFault> {
         if !self.0.is_there(path) {
             return Err(OpenFault::NoLedger);
         }

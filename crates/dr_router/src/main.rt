@@ -46,7 +46,6 @@ fn run_over_files<
 ) -> Status
 where
     D::Store: Send,
-    D::Disk: Send,
 {
     let machine = Machine {
         files,

@@ -95,7 +95,6 @@ pub fn run_on<
 ) -> Status
 where
     D::Store: Send,
-    D::Disk: Send,
     N::Socket: Send,
     N::Listener: Sync,
 {
