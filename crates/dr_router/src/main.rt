@@ -6,6 +6,7 @@ ghost use Rattle.std.specs.Prelude.{◌≡◌};
 ghost use Rattle.std.specs.Process.{exit_status};
 ghost use Rattle.dr_run_open.specs.Statuses.{status_number};
 
+mod beside;
 mod events;
 mod files;
 mod input;
