@@ -1,4 +1,4 @@
--- The order of hops, by which sets of them are sorted.
+-- The order of hops, by which lists of them are sorted.
 use Rattle.std.specs.Ordering.{nat_cmp, ordering_then}
 use Rattle.std.specs.declared.cmp.Ordering.{Ordering}
 use Rattle.dr_base.specs.Texts.{text_cmp}
