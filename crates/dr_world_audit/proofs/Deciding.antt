@@ -32,7 +32,8 @@ use Rattle.dr_world_audit.specs.Sites.{AreApart, DoesHold, DoesNotHold, IsForNoR
 use Rattle.dr_world_audit.specs.Stops.{Compares}
 use Rattle.dr_world_audit.specs.contracts.hop.AuditHopOrd.TheImpl.Laws as hop_laws
 use Rattle.dr_world_audit.proofs.Named.{book_is, named_in, others_are_empty, ours_found, ours_in}
-use Rattle.dr_world_audit.proofs.Sets.{hop_cmp, hop_exact}
+use Rattle.dr_world_audit.specs.Orders.{hop_cmp}
+use Rattle.dr_world_audit.proofs.Sets.{hop_exact}
 use Rattle.dr_world_audit.proofs.Stopping.{is_fair_of, mapped_from, mapped_has}
 use Rattle.dr_world_journals.specs.Hops.{Hop, came, came_by, came_to, done, done_at, done_by, goals, hop_of as hops_of, if_row, if_success, sent_from, standing, stands_at, to_each, went, went_by}
 use Rattle.dr_world_journals.specs.Journals.{AnswersAreFair, AreHistories, Match, until_adoption}

@@ -1,13 +1,16 @@
 -- Hops as keys: equal keys are the same.
-use Rattle.std.proofs.Common.{◌≡◌, ◌⊎◌, inl, inr, refl, sym, ◌∙◌, ap, subst, Bool, true, false, List, [], ◌∷◌, ◌++◌, length, Contains}
+use Rattle.std.proofs.Common.{◌≡◌, ◌⊎◌, inl, inr, refl, sym, ◌∙◌, ap, subst, Bool, true, false, ℕ, ◌<◌, List, [], ◌∷◌, ◌++◌, length, get_or, Contains, arith}
 use Rattle.std.specs.Prelude.{◌↔◌, IsTrue}
 use Rattle.std.specs.declared.cmp.Ordering.{Ordering}
 use Rattle.std.specs.declared.cmp.Ordering.TheVariants.{Less, Equal, Greater}
-use Rattle.std.specs.Ordering.{nat_cmp, ordering_then}
+use Rattle.std.specs.Ordering.{nat_cmp, ordering_index, ordering_then}
+use Rattle.std.specs.List.Sorted.{IsNonDecreasingBy, IsPartitionPoint, IsSorted}
 use Rattle.std.specs.BTreeSet.{BTreeSet, contains, Updates}
 use Rattle.std.specs.BTreeMap.{is_at}
 use Rattle.std.specs.Cmp.{Equal-is}
-use Rattle.std.proofs.lemmas.List.{append-nil, append_assoc, nil_from_length}
+use Rattle.std.proofs.lemmas.Bool.{cases_lt}
+use Rattle.std.proofs.lemmas.Cmp.{tied_itself}
+use Rattle.std.proofs.lemmas.List.Sorted.{searchable_from_sorted}
 use Rattle.std.proofs.lemmas.List.Elements.{Contains-append_left, Contains-append_right, Contains-push_cases}
 use Rattle.std.proofs.lemmas.Bool.{cases_Bool}
 use Rattle.std.proofs.lemmas.Map.Lookups.{exact_bytes, CmpEqualImpliesEq}
@@ -22,11 +25,8 @@ use Rattle.dr_route.specs.contracts.key.KeyOrd.TheImpl as keys
 use Rattle.dr_ledger.proofs.Maps.{texts}
 use Rattle.dr_world_model.proofs.Lookups.{numbers}
 use Rattle.dr_world_audit.specs.declared.hop.AuditHop.{AuditHop}
-use Rattle.dr_world_audit.specs.contracts.hop.AuditHopOrd.TheImpl as hops
 use Rattle.dr_world_audit.specs.contracts.hop.AuditHopOrd.TheImpl.Laws as hop_laws
-
-abbrev pub hop_cmp : AuditHop → AuditHop → Ordering
-hop_cmp = hops.cmp-value.it
+use Rattle.dr_world_audit.specs.Orders.{hop_cmp}
 
 then_equal : (o p : Ordering) → ordering_then o p ≡ Equal → (o ≡ Equal) × (p ≡ Equal)
 then_equal Less p e = absurd (cc e)
@@ -52,10 +52,10 @@ key_exact a b e =
 
 pub hop_exact : CmpEqualImpliesEq hop_cmp
 hop_exact a b e =
-    let f = then_equal (text_cmp a.from b.from) _ e in
+    let u = then_equal (text_cmp a.uid b.uid) _ e in
+    let f = then_equal (text_cmp a.from b.from) _ u.1 in
     let t = then_equal (text_cmp a.to b.to) _ f.1 in
-    let u = then_equal (text_cmp a.uid b.uid) _ t.1 in
-    let k = then_equal (keys.cmp-value.it a.key b.key) _ u.1 in
+    let k = then_equal (keys.cmp-value.it a.key b.key) _ t.1 in
     let s = then_equal (nat_cmp a.size b.size) (text_cmp a.digest b.digest) k.1 in
     let from_is = exact_bytes a.from b.from f.0 in
     let to_is = exact_bytes a.to b.to t.0 in
@@ -63,47 +63,28 @@ hop_exact a b e =
     let key_is = key_exact a.key b.key k.0 in
     let size_is = numbers.exact a.size b.size s.0 in
     let digest_is = exact_bytes a.digest b.digest s.1 in
-    (λ j. record { from = from_is j; to = to_is j; uid = uid_is j; key = key_is j; size = size_is j; digest = digest_is j })
+    (λ j. record { uid = uid_is j; from = from_is j; to = to_is j; key = key_is j; size = size_is j; digest = digest_is j })
 
-pub hop_in : (s : BTreeSet AuditHop) (k : AuditHop) → IsTrue (contains hop_cmp s k) ↔ Contains s.keys k
-hop_in s k = btree_set_contains_iff hop_laws.total-law hop_exact s k
+-- ---- hops in their order
+hops_rise : (hops : List AuditHop) (hop : AuditHop) → IsSorted hop_cmp hops → IsNonDecreasingBy (λ (h : AuditHop). ordering_index (hop_cmp h hop)) hops
+hops_rise hops hop sorted = searchable_from_sorted hop_laws.total-law (λ (h : AuditHop). h) hops hop sorted
 
--- ---- a set with one more
-pub hop_added : (s n : BTreeSet AuditHop) (k : AuditHop) → Updates hop_cmp s n k true → (m : AuditHop) → Contains n.keys m ↔ (Contains s.keys m ⊎ (k ≡ m))
-hop_added s n k h m =
-    let in_n = hop_in n m in
-    let in_s = hop_in s m in (
-      λ had. elim (cases_Bool (is_at (hop_cmp k) m)) [
-        | inl here ↦ inr (hop_exact k m ((Equal-is (hop_cmp k m)).0 here))
-        | inr apart ↦ inl (in_s.0 (sym (h.2 m apart) ∙ in_n.1 had))
-      ],
-      λ had. elim had [
-        | inl before ↦ in_n.0 (h.0 m ∙ elim (cases_Bool (is_at (hop_cmp k) m)) [
-          | inl here ↦ rw here refl
-          | inr apart ↦ rw apart (in_s.1 before)
-        ])
-        | inr same ↦
-            let P : AuditHop → Type 0 = λ x. Contains n.keys x in
-            subst P same ((hop_in n k).0 h.1)
-      ],
-    )
+pub hop_found : (hops : List AuditHop) (hop : AuditHop) (k : ℕ) → k < length hops → ((d : AuditHop) → hop_cmp (get_or hops k d) hop ≡ Equal) → Contains hops hop
+hop_found hops hop k lt equal = (k, lt, hop_exact (get_or hops k hop) hop (equal hop))
 
--- the set has one more, and so has the list
-pub one_more : (old new done : List AuditHop) (k : AuditHop) → ((h : AuditHop) → Contains old h ↔ Contains done h) → ((h : AuditHop) → Contains new h ↔ (Contains old h ⊎ (k ≡ h))) → (h : AuditHop) → Contains new h ↔ Contains (done ++ k ∷ []) h
-one_more old new done k so_far added h = (
-  λ had. elim ((added h).0 had) [
-    | inl was ↦ Contains-append_left done (k ∷ []) h ((so_far h).0 was)
-    | inr same ↦ Contains-append_right done (k ∷ []) h (subst (Contains (k ∷ [])) same (Contains-here k []))
-  ],
-  λ among. (added h).1 (elim (Contains-push_cases done k h among) [ inl was ↦ inl ((so_far h).1 was) | inr same ↦ inr same ]),
-)
-
--- ---- lists that are taken one by one
-pub goes_on : {X : Type 0} (all done : List X) (x : X) (left rest : List X) → all ≡ done ++ left → left ≡ x ∷ rest → all ≡ (done ++ x ∷ []) ++ rest
-goes_on all done x left rest so_far next = so_far ∙ (ap (λ ys. done ++ ys) next ∙ sym (append_assoc done (x ∷ []) rest))
-
-pub comes_to_end : {X : Type 0} (all done left : List X) → all ≡ done ++ left → length left ≡ 0 → all ≡ done
-comes_to_end all done left so_far none = so_far ∙ (ap (λ ys. done ++ ys) (nil_from_length left none) ∙ append-nil done)
+pub hop_not_found : (hops : List AuditHop) (hop : AuditHop) (i : ℕ) → IsSorted hop_cmp hops →
+    (IsNonDecreasingBy (λ (h : AuditHop). ordering_index (hop_cmp h hop)) hops → IsPartitionPoint (λ (h : AuditHop). hop_cmp h hop ≡ Less) (λ (h : AuditHop). hop_cmp h hop ≡ Greater) hops i) →
+    Contains hops hop → ⊥
+hop_not_found hops hop i sorted parted has =
+    let p = parted (hops_rise hops hop sorted) in
+    let k : ℕ = has.0 in
+    let in_range : k < length hops = has.1 in
+    let at : get_or hops k hop ≡ hop = has.2 in
+    let equal : hop_cmp (get_or hops k hop) hop ≡ Equal = ap (λ (h : AuditHop). hop_cmp h hop) at ∙ tied_itself hop_laws.total-law hop in
+    elim (cases_lt k i) [
+      | inl before ↦ (let less : hop_cmp (get_or hops k hop) hop ≡ Less = p.0 k hop (omega arith) before in let e : Less ≡ Equal = sym less ∙ equal in absurd (cc e))
+      | inr after ↦ (let more : hop_cmp (get_or hops k hop) hop ≡ Greater = p.1 k hop (omega arith) in_range in let e : Greater ≡ Equal = sym more ∙ equal in absurd (cc e))
+    ]
 
 -- ---- names
 pub name_in : (s : BTreeSet Text) (k : Text) → IsTrue (contains text_cmp s k) ↔ Contains s.keys k

@@ -1,7 +1,9 @@
 pub mod Comparing
 pub mod Hops
+pub mod Orders
 pub mod Readings
 pub mod Replays
+pub mod Seen
 pub mod Sites
 pub mod Standing
 pub mod Stops

@@ -10,9 +10,9 @@ ghost use Rattle.dr_world_audit.specs.Sites.{is_fair as is_fair_outcome, names};
 ghost use Rattle.dr_world_audit.specs.Stops.{Compares, IsVerdictOf, ReadsAll, ReadsNode, StopsFor};
 ghost use Rattle.dr_world_audit.specs.Stops.{IsFaultOf, IsTwice, Refuses, TestsAnswers};
 
-use crate::comparing::{first_unanswered, first_unsent, is_ours, set_of};
+use crate::comparing::{first_unanswered, first_unsent, in_order, is_ours};
 use crate::fault::JournalFault;
-use crate::hop::AuditHop;
+use crate::place::HopPlace;
 use crate::reading::read_journal;
 use crate::trail::Trail;
 use dr_base::{Seq, Text};
@@ -235,12 +235,12 @@ fn stop_of(node: &NodeJournal, fault: JournalFault) -> AuditStop
 }
 
 /// Reads the journal of a node.
-fn read_node(
+fn read_node<'a>(
     alloc: Global,
     sealed: &Sealed,
     ours: &BTreeSet<Text>,
-    node: &NodeJournal,
-    trail: &mut Trail,
+    node: &'a NodeJournal,
+    trail: &mut Trail<'a>,
 ) -> Result<(), AuditStop>
     ensures { ReadsNode sealed.now.plan ours.now.keys node.now trail.old trail.new result }
 {
@@ -255,19 +255,26 @@ fn read_node(
         Err(SiteFault::NoNode) => return Err(AuditStop::Fault(AuditFault::NoNode)),
         Err(SiteFault::Memory) => return Err(AuditStop::Fault(AuditFault::Memory)),
     };
-    match read_journal(alloc, sealed, &site, node.lines.as_slice(), trail) {
+    match read_journal(
+        alloc,
+        sealed,
+        &site,
+        &node.name,
+        node.lines.as_slice(),
+        trail,
+    ) {
         Ok(()) => Ok(()),
         Err(fault) => Err(stop_of(node, fault)),
     }
 }
 
 /// Reads the journals of all nodes.
-fn read_all(
+fn read_all<'a>(
     alloc: Global,
     sealed: &Sealed,
     ours: &BTreeSet<Text>,
-    nodes: &[NodeJournal],
-    trail: &mut Trail,
+    nodes: &'a [NodeJournal],
+    trail: &mut Trail<'a>,
 ) -> Result<(), AuditStop>
     ensures { ReadsAll sealed.now.plan ours.now.keys nodes.now trail.old trail.new result }
 {
@@ -281,45 +288,42 @@ fn read_all(
 }
 
 /// The mismatch of a hop that had no reason.
-fn unsent_at(hop: &AuditHop) -> Result<Mismatch, AllocError>
+fn unsent_at(hop: &HopPlace<'_>) -> Result<Mismatch, AllocError>
     ensures { IfOk result (λ m. m ≡ what.NoReason hop.now.to hop.now.uid hop.now.from) }
 {
     Ok(Mismatch::NoReason {
-        node: hop.to.clone()?,
-        uid: hop.uid.clone()?,
-        from: hop.from.clone()?,
+        node: hop.to_node().clone()?,
+        uid: hop.uid().clone()?,
+        from: hop.from_node().clone()?,
     })
 }
 
 /// The mismatch of a hop that didn't arrive.
-fn unanswered_at(hop: &AuditHop) -> Result<Mismatch, AllocError>
+fn unanswered_at(hop: &HopPlace<'_>) -> Result<Mismatch, AllocError>
     ensures { IfOk result (λ m. m ≡ what.NoArrival hop.now.from hop.now.uid hop.now.to) }
 {
     Ok(Mismatch::NoArrival {
-        node: hop.from.clone()?,
-        uid: hop.uid.clone()?,
-        to: hop.to.clone()?,
+        node: hop.from_node().clone()?,
+        uid: hop.uid().clone()?,
+        to: hop.to_node().clone()?,
     })
 }
 
 /// The first hop that doesn't match: one that came without a reason, or one that was answered and
 /// didn't come.
-fn compare(
-    alloc: Global,
-    ours: &BTreeSet<Text>,
-    trail: Trail,
-) -> Result<Option<Mismatch>, AllocError>
+fn compare<'a>(ours: &BTreeSet<Text>, trail: Trail<'a>) -> Result<Option<Mismatch>, AllocError>
     ensures { IfOk result
-        (Compares ours.now.keys trail.came.items trail.sent.items trail.done.items) }
+        (Compares ours.now.keys trail.entry.came.items trail.entry.sent.items
+        trail.entry.done.items) }
 {
     let Trail { came, sent, done } = trail;
-    let sent = set_of(alloc, sent)?;
-    if let Some(hop) = first_unsent(ours, came.as_slice(), &sent) {
+    let sent = in_order(sent);
+    if let Some(hop) = first_unsent(ours, came.as_slice(), sent.as_slice()) {
         let mismatch = unsent_at(hop)?;
         return Ok(Some(mismatch));
     }
-    let came = set_of(alloc, came)?;
-    if let Some(hop) = first_unanswered(ours, done.as_slice(), &came) {
+    let came = in_order(came);
+    if let Some(hop) = first_unanswered(ours, done.as_slice(), came.as_slice()) {
         let mismatch = unanswered_at(hop)?;
         return Ok(Some(mismatch));
     }
@@ -360,7 +364,7 @@ pub fn audit(
         Ok(()) => {}
         Err(stop) => return verdict_of(stop),
     }
-    match compare(alloc, &ours, trail)? {
+    match compare(&ours, trail)? {
         Some(mismatch) => Ok(AuditVerdict::No(mismatch)),
         None => Ok(AuditVerdict::Holds),
     }

@@ -7,12 +7,13 @@ use dr_ledger::Instance;
 use dr_route::Key;
 use std::alloc::{AllocError, Global};
 
-/// An instance on its way from the one node to the other.
+/// An instance on its way from the one node to the other. Hops are compared by the UID first, by
+/// which most differ.
 #[derive(PartialEq, Eq, PartialOrd, Ord, Drop)]
 pub struct AuditHop {
+    pub uid: Text,
     pub from: Text,
     pub to: Text,
-    pub uid: Text,
     pub key: Key,
     pub size: u64,
     pub digest: Text,
@@ -28,9 +29,9 @@ pub fn hop_of(
     ensures { IfOk result (λ h. h ≡ hop_at (from.now, to.now, instance.now)) }
 {
     Ok(AuditHop {
+        uid: instance.uid.clone()?,
         from: from.clone()?,
         to: to.clone()?,
-        uid: instance.uid.clone()?,
         key: instance.key.clone()?,
         size: instance.size,
         digest: Text::copy_of(alloc, &instance.digest)?,

@@ -6,6 +6,7 @@ pub mod audit;
 mod comparing;
 mod fault;
 mod hop;
+mod place;
 mod reading;
 mod replay;
 mod standing;

@@ -6,23 +6,26 @@ ghost use Rattle.dr_world_audit.specs.Readings.{Reads};
 use crate::fault::{JournalFault, of_history};
 use crate::replay::{count_past, tell_past, tell_since};
 use crate::standing::stand_all;
-use crate::trail::Trail;
+use crate::trail::{Trail, arrivals_of};
+use dr_base::Text;
 use dr_cert::Sealed;
 use dr_ledger_history::JournalLine;
 use dr_site::Site;
 use std::alloc::Global;
 
-/// Reads the journal of a node: notes what it says of instances between nodes.
+/// Reads the journal of the node of that name: notes what it says of instances between nodes.
 ///
 /// Errors: NoCall where it is no history of the node; Unfit where the plan has no hop for a row
 /// that was carried over; Memory.
-pub fn read_journal(
+pub fn read_journal<'a>(
     alloc: Global,
     sealed: &Sealed,
     site: &Site,
-    lines: &[JournalLine],
-    trail: &mut Trail,
+    name: &'a Text,
+    lines: &'a [JournalLine],
+    trail: &mut Trail<'a>,
 ) -> Result<(), JournalFault>
+    requires { site.now.name ≡ name.now }
     ensures { Reads sealed.now.plan site.now (mapped line_of lines.now) trail.old trail.new result }
 {
     let (past, since) = lines.split_at(count_past(lines));
@@ -30,11 +33,12 @@ pub fn read_journal(
         Ok(told) => told,
         Err(fault) => return Err(of_history(fault)),
     };
-    match stand_all(alloc, (sealed, site.name()), &told, past, &mut trail.sent) {
+    match stand_all(alloc, (sealed, name), &told, past, &mut trail.sent) {
         Ok(()) => {}
         Err(fault) => return Err(fault),
     }
-    match tell_since(alloc, site, since, told, trail) {
+    let known = arrivals_of(alloc, lines)?;
+    match tell_since(alloc, site, name, &known, since, told, trail) {
         Ok(_all) => Ok(()),
         Err(fault) => Err(of_history(fault)),
     }

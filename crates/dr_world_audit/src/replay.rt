@@ -10,9 +10,11 @@ ghost use Rattle.dr_world_audit.specs.Replays.{TellsAll, TellsAllSince, is_an_ad
 ghost use Rattle.dr_world_journals.specs.Journals.{until_adoption};
 
 use crate::trail::{Trail, note};
+use dr_base::Text;
 use dr_ledger_history::{History, HistoryFault, JournalLine, copy_line};
 use dr_site::Site;
 use std::alloc::Global;
+use std::collections::BTreeMap;
 
 /// Whether it is an adoption.
 fn is_adoption(line: &JournalLine) -> bool
@@ -61,24 +63,27 @@ pub fn tell_past(alloc: Global, lines: &[JournalLine]) -> Result<History, Histor
     Ok(history)
 }
 
-/// Tells the lines since the last adoption, which the node of this site added, and notes what they
-/// say.
+/// Tells the lines since the last adoption, which the node of this site and name added, and notes
+/// what they say.
 ///
 /// Errors: NoCall where they are no history; Memory.
-pub fn tell_since(
+pub fn tell_since<'a>(
     alloc: Global,
     site: &Site,
-    lines: &[JournalLine],
+    name: &'a Text,
+    known: &BTreeMap<&'a Text, &'a JournalLine>,
+    lines: &'a [JournalLine],
     told: History,
-    trail: &mut Trail,
+    trail: &mut Trail<'a>,
 ) -> Result<History, HistoryFault>
+    requires { site.now.name ≡ name.now }
     ensures { (past : List Line)
         → IsToldSince (site_routing site.now) past [] (content told.parts)
         → TellsAllSince site.now past (mapped line_of lines.now) trail.old trail.new result }
 {
     let mut history = told;
     for line in lines {
-        note(alloc, site, &history, line, trail)?;
+        note(alloc, site, name, &history, known, line, trail)?;
         match history.tell(site, copy_line(line)?) {
             Ok(next) => history = next,
             Err(fault) => return Err(fault),

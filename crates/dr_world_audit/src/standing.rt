@@ -7,8 +7,8 @@ ghost use Rattle.dr_world_audit.specs.Standing.{FitsAt, Stands, StandsAt, UnfitA
 ghost use Rattle.dr_world_journals.specs.Hops.{goals, goals_by, stands_at};
 
 use crate::fault::JournalFault;
-use crate::hop::AuditHop;
-use crate::trail::push_hop;
+use crate::place::HopPlace;
+use crate::trail::push_found;
 use dr_base::Text;
 use dr_cert::Sealed;
 use dr_ledger::Instance;
@@ -25,15 +25,18 @@ fn standing_at<'a>(told: &'a History, at: &(Text, Text)) -> Option<&'a Instance>
     told.item(&at.0)
 }
 
-/// Notes the goal's row, if it stands; whether the plan has a hop for it then.
-fn stand_at(
+/// Notes the row of a line's goal, if it stands; whether the plan has a hop for it then. `goal` has
+/// the node of the goal and the instance of the line, as they stand in the line.
+fn stand_at<'a>(
     alloc: Global,
     sealed: &Sealed,
-    name: &Text,
+    name: &'a Text,
     told: &History,
     at: &(Text, Text),
-    sent: &mut Vec<AuditHop>,
+    goal: (&'a Text, &'a Instance),
+    sent: &mut Vec<HopPlace<'a>>,
 ) -> Result<bool, AllocError>
+    requires { at.now.1 ≡ goal.0.now }
     ensures hops { OnOk result
         (grows_by sent.old.items (stands_at name.now (book_of (content told.now.parts)) at.now)
         sent.new.items) }
@@ -45,7 +48,7 @@ fn stand_at(
     let Some(instance) = standing_at(told, at) else {
         return Ok(true);
     };
-    push_hop(alloc, sent, name, &at.1, instance)?;
+    push_found(alloc, sent, name, goal.0, instance, Some(goal.1))?;
     match sealed.rank(name, &at.1, &instance.key) {
         Some(_) => Ok(true),
         None => Ok(false),
@@ -55,20 +58,20 @@ fn stand_at(
 /// Notes the rows of an instance that stand for these nodes.
 ///
 /// Errors: Unfit; Memory.
-fn stand_each(
+fn stand_each<'a>(
     alloc: Global,
-    ends: (&Sealed, &Text),
+    ends: (&Sealed, &'a Text),
     told: &History,
-    uid: &Text,
-    to: &[Text],
-    sent: &mut Vec<AuditHop>,
+    instance: &'a Instance,
+    to: &'a [Text],
+    sent: &mut Vec<HopPlace<'a>>,
 ) -> Result<(), JournalFault>
     ensures { Stands ends.entry.0.now.plan ends.entry.1.now (book_of (content told.now.parts))
-        (goals_to uid.now to.now) sent.old.items sent.new.items result }
+        (goals_to instance.now.uid to.now) sent.old.items sent.new.items result }
 {
     for next in to {
-        let at = (uid.clone()?, next.clone()?);
-        if !stand_at(alloc, ends.0, ends.1, told, &at, sent)? {
+        let at = (instance.uid.clone()?, next.clone()?);
+        if !stand_at(alloc, ends.0, ends.1, told, &at, (next, instance), sent)? {
             let (uid, to) = at;
             return Err(JournalFault::Unfit { uid, to });
         }
@@ -79,12 +82,12 @@ fn stand_each(
 /// Notes the rows that stand for a line's goals.
 ///
 /// Errors: Unfit; Memory.
-fn stand_line(
+fn stand_line<'a>(
     alloc: Global,
-    ends: (&Sealed, &Text),
+    ends: (&Sealed, &'a Text),
     told: &History,
-    line: &JournalLine,
-    sent: &mut Vec<AuditHop>,
+    line: &'a JournalLine,
+    sent: &mut Vec<HopPlace<'a>>,
 ) -> Result<(), JournalFault>
     ensures { Stands ends.entry.0.now.plan ends.entry.1.now (book_of (content told.now.parts))
         (goals_by (line_of line.now)) sent.old.items sent.new.items result }
@@ -95,7 +98,7 @@ fn stand_line(
             instance,
             to,
             keep: _,
-        } => stand_each(alloc, ends, told, &instance.uid, to.as_slice(), sent),
+        } => stand_each(alloc, ends, told, instance, to.as_slice(), sent),
         JournalLine::Repeat { .. } => Ok(()),
         JournalLine::Settling { .. } => Ok(()),
         JournalLine::Requeuing { .. } => Ok(()),
@@ -108,12 +111,12 @@ fn stand_line(
 /// Notes the rows that stand for the goals of these lines.
 ///
 /// Errors: Unfit where the plan has no hop for one; Memory.
-pub fn stand_all(
+pub fn stand_all<'a>(
     alloc: Global,
-    ends: (&Sealed, &Text),
+    ends: (&Sealed, &'a Text),
     told: &History,
-    lines: &[JournalLine],
-    sent: &mut Vec<AuditHop>,
+    lines: &'a [JournalLine],
+    sent: &mut Vec<HopPlace<'a>>,
 ) -> Result<(), JournalFault>
     ensures { Stands ends.entry.0.now.plan ends.entry.1.now (book_of (content told.now.parts))
         (goals (mapped line_of lines.now)) sent.old.items sent.new.items result }

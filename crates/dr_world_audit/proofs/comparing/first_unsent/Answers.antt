@@ -14,7 +14,7 @@ loop-hop-preserved c =
     let more : take (i + 1) all ≡ take i all ++ one ∷ [] = rw (← c.hop-item.is) at e in
     λ hop among.
     let P : List Held → Type 0 = λ hs. Contains hs hop in
-    let Q : Held → Type 0 = λ h. IsUnsent c.args.ours.now.keys c.args.sent.now.keys h → ⊥ in
+    let Q : Held → Type 0 = λ h. IsUnsent c.args.ours.now.keys c.args.sent.now h → ⊥ in
     elim (Contains-push_cases (take i all) one hop (subst P more among)) [
       | inl was ↦ c.loop-hop.invariant hop was
       | inr same ↦ subst Q same (c.if-is_unsent.ensures.no refl)

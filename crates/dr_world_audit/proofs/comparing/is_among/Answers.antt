@@ -1,6 +1,9 @@
-use Rattle.std.proofs.Common.{sym, ◌∙◌}
-use Rattle.dr_world_audit.proofs.Sets.{hop_in}
+use Rattle.std.proofs.Common.{refl}
+use Rattle.dr_world_audit.proofs.Sets.{hop_found, hop_not_found}
 use Rattle.dr_world_audit.proofs.comparing.is_among.Goals as goal
 
-pub returns : goal.returns
-returns c = (let h = hop_in c.args.hops.now c.args.hop.now in (λ t. h.0 (sym c.contains.ensures ∙ t), λ k. c.contains.ensures ∙ h.1 k))
+pub returns-in-Ok : goal.returns-in-Ok
+returns-in-Ok c = (λ t. hop_found c.args.hops.now c.args.hop.now c.in-Ok._place c.in-Ok.ensures.bound c.in-Ok.ensures.ok, λ among. refl)
+
+pub returns-in-Err : goal.returns-in-Err
+returns-in-Err c = (λ t. absurd (let e : ⊥ = cc in e), λ among. absurd (hop_not_found c.args.hops.now c.args.hop.now c.in-Err._place c.requires c.in-Err.ensures.position among))

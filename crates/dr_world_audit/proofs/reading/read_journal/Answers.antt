@@ -45,7 +45,7 @@ returns-in-Err-stand_all c =
     let told = content c.in-Ok.told.parts in
     let mid : Trail = record { came = old.came; sent = c.stand_all.new.sent; done = old.done } in
     let S : Text → Type 0 = λ n. Stands plan n (book_of told) (goals past) old.sent.items c.stand_all.new.sent.items (Err c.in-Err-stand_all.fault) in
-    stand_fails plan site lines past since all until before told c.in-Err-stand_all.fault c.stand_all.new.sent.items old mid c.in-Ok.ensures (subst S c.name.ensures c.in-Err-stand_all.ensures)
+    stand_fails plan site lines past since all until before told c.in-Err-stand_all.fault c.stand_all.new.sent.items old mid c.in-Ok.ensures (subst S (sym c.requires) c.in-Err-stand_all.ensures)
 
 pub returns-in-Ok-tell_since : goal.returns-in-Ok-tell_since
 returns-in-Ok-tell_since c =
@@ -63,10 +63,10 @@ returns-in-Ok-tell_since c =
     let mid : Trail = record { came = old.came; sent = c.stand_all.new.sent; done = old.done } in
     let S : Text → Type 0 = λ n. AllStand plan n (book_of told) (goals past) old.sent.items c.stand_all.new.sent.items in
     let both = c.in-Ok-tell_since.ensures past (begun plan site lines past since all until before told c.in-Ok.ensures) in
-    read_all plan site lines past since all until before told (content c.in-Ok-tell_since._all.parts) old mid c.tell_since.new.trail c.in-Ok.ensures (subst S c.name.ensures c.in-Ok-stand_all.ensures) refl refl both.0 both.1
+    read_all plan site lines past since all until before told (content c.in-Ok-tell_since._all.parts) old mid c.tell_since.new.trail c.in-Ok.ensures (subst S (sym c.requires) c.in-Ok-stand_all.ensures) refl refl both.0 both.1
 
-pub returns-in-Err-tell_since : goal.returns-in-Err-tell_since
-returns-in-Err-tell_since c =
+pub returns : goal.returns
+returns c =
     let plan = c.args.sealed.now.plan in
     let site = c.args.site.now in
     let lines = mapped line_of c.args.lines.now in

@@ -12,7 +12,7 @@ loop-next-preserved c =
     let plan = c.args.ends.0.now.plan in
     let name = c.args.ends.1.now in
     let b = book_of (content c.args.told.now.parts) in
-    let uid = c.args.uid.now in
+    let uid = c.args.instance.now.uid in
     let to = c.args.to.now in
     let i = c.loop-next.next-index in
     let next = c.next-item.result in
@@ -34,6 +34,6 @@ returns c =
     let plan = c.args.ends.0.now.plan in
     let name = c.args.ends.1.now in
     let b = book_of (content c.args.told.now.parts) in
-    let uid = c.args.uid.now in
+    let uid = c.args.instance.now.uid in
     let P : List Text → Type 0 = λ to. AllStand plan name b (goals_to uid to) c.args.sent.now.items c.loop-next.sent.items in
     subst P (take_all c.loop-next.next-index c.args.to.now (omega (arith, c.loop-next-test.false))) c.loop-next.invariant

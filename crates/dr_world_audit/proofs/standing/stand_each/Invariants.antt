@@ -7,5 +7,5 @@ use Rattle.dr_world_journals.specs.Hops.{standing}
 use Rattle.dr_world_audit.proofs.standing.stand_each.Given as goal
 
 abbrev pub invariant-loop-next : goal.invariant-loop-next
-invariant-loop-next l = grows_by l.fn.sent.items (standing l.ends.1.now (book_of (content l.told.parts)) (goals_to l.uid (take l.next-index l.to))) l.sent.items
-    × ((at : Pair) → Contains (goals_to l.uid (take l.next-index l.to)) at → FitsAt l.ends.0.now.plan l.ends.1.now (book_of (content l.told.parts)) at)
+invariant-loop-next l = grows_by l.fn.sent.items (standing l.ends.1.now (book_of (content l.told.parts)) (goals_to l.instance.uid (take l.next-index l.to))) l.sent.items
+    × ((at : Pair) → Contains (goals_to l.instance.uid (take l.next-index l.to)) at → FitsAt l.ends.0.now.plan l.ends.1.now (book_of (content l.told.parts)) at)
