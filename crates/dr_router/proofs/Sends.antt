@@ -16,6 +16,8 @@ host_sends = search sendable depth 20
 
 pub shelf_sends : IsSend the_row
 shelf_sends = recorded_send _ _ _ the_type.to_one
-    (struct_send (declared.shape the_type)
-    (either_sends _ (disk host unknown calls no_dict start no_dict no_dict)
-    (file_sends host unknown calls start host_sends), tt))
+    (struct_send (declared.shape the_type) (
+      either_sends _ (disk host unknown calls no_dict start no_dict no_dict)
+          (file_sends host unknown calls start host_sends),
+      tt,
+    ))

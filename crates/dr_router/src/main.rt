@@ -92,7 +92,15 @@ fn run_over_databases<
 where
     D::Store: Send,
 {
-    run_over_files(rt, threads, words, clock, cut, files, StoredLedgers(databases))
+    run_over_files(
+        rt,
+        threads,
+        words,
+        clock,
+        cut,
+        files,
+        StoredLedgers(databases),
+    )
 }
 
 /// Runs the program on its words, which fails only where they can't be read. `threads` is the

@@ -23,18 +23,18 @@ returns-in-Ok-clause-is g c clean =
       (
         next,
         subst (λ site. HasLedgerOf next site (state g.S.Store made.conn).committed) (sym of)
-        (subst (λ h. HasLedgerOf next c.args.site (state g.S.Store h).committed) (sym same)
-        (c.in-Ok.ensures.is was)),
+            (subst (λ h. HasLedgerOf next c.args.site (state g.S.Store h).committed) (sym same)
+            (c.in-Ok.ensures.is was)),
       ),
       subst (λ site. IsPlacedBy site (state g.S.Store made.conn).committed.trees made.shelf.0)
-      (sym of)
-      (subst (λ s. IsPlacedBy c.args.site (state g.S.Store made.conn).committed.trees s)
-      (sym shelf)
-      (subst (λ h. IsPlacedBy c.args.site (state g.S.Store h).committed.trees
-      c.in-Ok.opened.shelf) (sym same) (c.in-Ok.ensures.placed was))),
+          (sym of)
+          (subst (λ s. IsPlacedBy c.args.site (state g.S.Store made.conn).committed.trees s)
+          (sym shelf)
+          (subst (λ h. IsPlacedBy c.args.site (state g.S.Store h).committed.trees
+          c.in-Ok.opened.shelf) (sym same) (c.in-Ok.ensures.placed was))),
       subst (λ s. HasOwnOn (state g.S.Store made.conn).committed.trees s) (sym shelf)
-      (subst (λ h. HasOwnOn (state g.S.Store h).committed.trees c.in-Ok.opened.shelf) (sym same)
-      (c.in-Ok.ensures.own was)),
+          (subst (λ h. HasOwnOn (state g.S.Store h).committed.trees c.in-Ok.opened.shelf) (sym same)
+          (c.in-Ok.ensures.own was)),
     )
 
 pub returns-in-Ok-clause-wanted : goal.returns-in-Ok-clause-wanted
