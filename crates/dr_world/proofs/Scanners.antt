@@ -26,10 +26,14 @@ use Rattle.dr_world_tie.specs.Foreign.{CallsAsNoneOfOurs}
 use Rattle.dr_world_tie.specs.Moves.{IsLeft}
 use Rattle.dr_world_tie.specs.Ties.{receiver_as}
 use Rattle.dr_world_tie.specs.ByteWorlds as bytes
-use Rattle.dr_world_tie.specs.ByteWorlds.{Acceptor, ByteWorld, Requestor, StepNote, Steps, is_over, opened_between, with_done}
+use Rattle.dr_world_tie.specs.ByteWorlds.{Acceptor, ByteWorld, Requestor, StepNote, Steps, WorldStep, caller_of, is_over, opened_between, receiver_of, with_done}
 use Rattle.dr_world_tie.proofs.Fronts.{hears_one}
-use Rattle.dr_world.specs.Among.{FitsFrom, IsComing, IsOfAnother, NoneNamesOurs, ScriptsFit, sendings}
-use Rattle.dr_world.specs.Others.{Writes, WritesIn, with_written}
+use Rattle.dr_world.specs.declared.deed.Deed.{Deed}
+use Rattle.dr_world.specs.declared.deed.Deed.TheVariants as deed
+use Rattle.dr_world.specs.Adopted.{certificate_after, plan_after}
+use Rattle.dr_world.specs.Among.{FitsFrom, IsComing, IsOfAnother, NoneNamesOurs, ScriptsFit, StepFits, WritesFit, sendings}
+use Rattle.dr_world.specs.Others.{NoneWrites, Writes, WritesIn, with_written}
+use Rattle.dr_world.specs.Runs.{step_of}
 use Rattle.dr_world.proofs.Among.{names_are_looked_at}
 
 module _ (ours : Ours) (plan : Network) (certificate : Certificate) where
@@ -146,6 +150,38 @@ module _ (ours : Ours) (plan : Network) (certificate : Certificate) where
       let here : map.get new.links 1 ≡ Some l = ap (λ (z : ByteWorld). map.get z.links 1) is ∙ get_new numbers bytes.beginning.links 1 l in
       subst (LinkReady pdus) (same_Some l k (sym here ∙ at)) ((refl, refl, each receiver is_to named_to), ap ours named_from ∙ away)
 
+-- ---- scripts of ours
+
+step_of_ours : (ours : Ours) (b : ByteWorld) (step : WorldStep) → ((name : Text) → ours name ≡ true) → StepFits ours b step
+step_of_ours ours b (bytes.Move number Acceptor n) all = λ k at mine away. absurd (false≢true (sym away ∙ all (caller_of k)))
+step_of_ours ours b step all = tt
+
+deeds_of_ours : (ours : Ours) (deeds : List Deed) (plan : Network) (certificate : Certificate) (b : ByteWorld) → ((name : Text) → ours name ≡ true) → NoneWrites deeds → FitsFrom ours plan certificate b deeds
+deeds_of_ours ours [] plan certificate b all none = tt
+deeds_of_ours ours (deed.Step step ∷ deeds) plan certificate b all none =
+    (step_of_ours ours b (step_of step) all, λ note mid h. deeds_of_ours ours deeds plan certificate mid all none)
+deeds_of_ours ours (deed.Adopt next ∷ deeds) plan certificate b all none =
+    λ change mid h. deeds_of_ours ours deeds (plan_after next.plan change plan) (certificate_after next.certificate change certificate) mid all none
+deeds_of_ours ours (deed.Bytes link side piece ∷ deeds) plan certificate b all none = absurd none
+
+-- ---- single deeds, beside others
+
+other_steps : (ours : Ours) (b : ByteWorld) (step : WorldStep) → ((number n : ℕ) → step ≡ bytes.Move number Acceptor n → ⊥) → StepFits ours b step
+other_steps ours b (bytes.Move number Acceptor n) no = absurd (no number n refl)
+other_steps ours b step no = tt
+
+called_by_ours : (ours : Ours) (b : ByteWorld) (number n : ℕ) (k : Channel) → map.get b.links number ≡ Some k → ours (caller_of k) ≡ true → StepFits ours b (bytes.Move number Acceptor n)
+called_by_ours ours b number n k at its = λ other there mine away.
+    absurd (false≢true (sym away ∙ (ap (λ (z : Channel). ours (caller_of z)) (same_Some other k (sym there ∙ at)) ∙ its)))
+
+others_write : (ours : Ours) (b : ByteWorld) (number : ℕ) (k : Channel) → map.get b.links number ≡ Some k → (ours (caller_of k) ≡ false) ⊎ (ours (receiver_of k) ≡ false) → WritesFit ours b number
+others_write ours b number k at theirs other there its =
+    let same : k ≡ other = same_Some k other (sym at ∙ there) in
+    elim theirs [
+      | inl calls ↦ absurd (false≢true (sym calls ∙ (ap (λ (z : Channel). ours (caller_of z)) same ∙ its)))
+      | inr called ↦ sym (ap (λ (z : Channel). ours (receiver_of z)) same) ∙ called
+    ]
+
 pub scripts_fit : ScriptsFit
 scripts_fit = record {
   scanner = λ ours plan certificate from to pdus away each. (
@@ -153,7 +189,11 @@ scripts_fit = record {
     (λ note mid h. sends ours plan certificate pdus mid (by ours plan certificate from to pdus away each note mid h)),
   );
   between = λ ours plan certificate from to. (tt, (λ note mid h. tt));
-  written = λ ours plan certificate from to side piece deeds opened mine also opens fits.
+  own = λ ours plan certificate b deeds all none. deeds_of_ours ours deeds plan certificate b all none;
+  steps = other_steps;
+  called = called_by_ours;
+  others = others_write;
+  overwritten = λ ours plan certificate from to side piece deeds opened mine also opens fits.
       let l : Channel = opened_between opens.0 opens.1 opens.2 0 in
       let here : map.get opened.links 1 ≡ Some l = ap (λ (z : ByteWorld). map.get z.links 1) opens.10 ∙ get_new numbers bytes.beginning.links 1 l in
       let away : ours (bytes.receiver_of l) ≡ false = (fits.1 bytes.Done opened (inl (refl, opens))).0 l here (ap ours opens.5 ∙ mine) in

@@ -1,7 +1,7 @@
 -- Scripts in which other products write: what a world of ours has of a world of bytes, what is
 -- asked of a script, and the four claims of ours.
-use Rattle.std.specs.Prelude.{◌≡◌, ℕ, Bool, true, false, List, [], ◌∷◌, ◌++◌, length, take, Option}
-use Rattle.std.specs.Prelude.{None, Some}
+use Rattle.std.specs.Prelude.{◌≡◌, ◌⊎◌, ℕ, Bool, true, false, List, [], ◌∷◌, ◌++◌, length, take}
+use Rattle.std.specs.Prelude.{Option, None, Some}
 use Rattle.std.specs.List.{AllByRecursion}
 use Rattle.std.specs.FinMap as map
 use Rattle.std.specs.BTreeMap as tree
@@ -35,7 +35,7 @@ use Rattle.dr_world.specs.declared.world.World.{World}
 use Rattle.dr_world.specs.declared.changing.Change.{Change}
 use Rattle.dr_world.specs.Adopted.{Changes, certificate_after, plan_after}
 use Rattle.dr_world.specs.Ends.{named}
-use Rattle.dr_world.specs.Others.{Writes}
+use Rattle.dr_world.specs.Others.{NoneWrites, Writes}
 use Rattle.dr_world.specs.Runs.{step_of}
 
 -- ---- what is ours
@@ -173,8 +173,10 @@ IsOfAnother ours limit p =
     Fits p × MeetsLimit limit p × AllByRecursion (CallsAsNoneOfOurs ours) (inputs_of p)
 
 -- A script fits in which another product asks a node for an association, and sends what it wants.
--- So does one that opens a link between any two. One fits not in which somebody else writes on a
--- link between two of ours.
+-- So does one that opens a link between any two, and, where all are ours, each in which nobody else
+-- writes. Beside others all steps fit but moves to an acceptor, and so do those over a link that
+-- one of ours opened. Others may write on each link of which an end isn't ours. One fits not in
+-- which somebody else writes on a link between two of ours.
 pub record ScriptsFit : Type 0 where
   pub scanner : (ours : Ours) (plan : Network) (certificate : Certificate) (from to : Text)
       (pdus : List Pdu)
@@ -187,7 +189,23 @@ pub record ScriptsFit : Type 0 where
       (deed.Step (script.Open from to) ∷ sendings pdus)
   pub between : (ours : Ours) (plan : Network) (certificate : Certificate) (from to : Text)
       → FitsFrom ours plan certificate beginning (deed.Step (script.Open from to) ∷ [])
-  pub written : (ours : Ours) (plan : Network) (certificate : Certificate) (from to : Text)
+  pub own : (ours : Ours) (plan : Network) (certificate : Certificate) (b : ByteWorld)
+      (deeds : List Deed)
+      → ((name : Text) → ours name ≡ true)
+      → NoneWrites deeds
+      → FitsFrom ours plan certificate b deeds
+  pub steps : (ours : Ours) (b : ByteWorld) (step : WorldStep)
+      → ((number n : ℕ) → step ≡ Move number Acceptor n → ⊥)
+      → StepFits ours b step
+  pub called : (ours : Ours) (b : ByteWorld) (number n : ℕ) (k : Channel)
+      → map.get b.links number ≡ Some k
+      → ours (caller_of k) ≡ true
+      → StepFits ours b (Move number Acceptor n)
+  pub others : (ours : Ours) (b : ByteWorld) (number : ℕ) (k : Channel)
+      → map.get b.links number ≡ Some k
+      → (ours (caller_of k) ≡ false) ⊎ (ours (receiver_of k) ≡ false)
+      → WritesFit ours b number
+  pub overwritten : (ours : Ours) (plan : Network) (certificate : Certificate) (from to : Text)
       (by : Side) (bytes : List ℕ) (deeds : List Deed) (opened : ByteWorld)
       → ours from ≡ true → ours to ≡ true → Opens plan certificate beginning from to opened
       → FitsFrom ours plan certificate beginning
