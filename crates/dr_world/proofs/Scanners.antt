@@ -167,8 +167,8 @@ deeds_of_ours ours (deed.Bytes link side piece ∷ deeds) plan certificate b all
 -- ---- single deeds, beside others
 
 other_steps : (ours : Ours) (b : ByteWorld) (step : WorldStep) → ((number n : ℕ) → step ≡ bytes.Move number Acceptor n → ⊥) → StepFits ours b step
-other_steps ours b (bytes.Move number Acceptor n) no = absurd (no number n refl)
-other_steps ours b step no = tt
+other_steps ours b (bytes.Move number Acceptor n) apart = absurd (apart number n refl)
+other_steps ours b step apart = tt
 
 called_by_ours : (ours : Ours) (b : ByteWorld) (number n : ℕ) (k : Channel) → map.get b.links number ≡ Some k → ours (caller_of k) ≡ true → StepFits ours b (bytes.Move number Acceptor n)
 called_by_ours ours b number n k at its = λ other there mine away.
