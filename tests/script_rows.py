@@ -155,6 +155,10 @@ SCANNER = [('open', 'CT1', 'GATE'), *written(1, 'requestor', ASKED, STORED)]
 SCANNED = 'node ARCH|lines 0|node CT1|lines 0|' + GATE_WAITS
 ARCHIVE = [*FIRST, ('open', 'GATE', 'ARCH'), *written(2, 'acceptor', accepted(0)), ('push', 2)]
 ARCHIVED = 'node ARCH|lines 0|' + CT1_SENT
+# both at once, and a link between two of ours, GATE and HUB, over which the same instance goes
+BESIDE = [*SCANNER, ('open', 'GATE', 'ARCH'), *written(2, 'acceptor', accepted(0)), *opened('GATE', 'HUB', 3), ('push', 2), ('push', 3)]
+BESIDE_REPORT = 'node ARCH|lines 0|node CT1|lines 0|node GATE|arrival CT1 1.2.3.4|row 1.2.3.4 ARCH {}|row 1.2.3.4 HUB {}|lines {}|node HUB|'
+HUB_KEEPS = 'arrival GATE 1.2.3.4|kept 1.2.3.4 70|lines 1|'
 # the same by words: CT1 asks as the plan says, and GATE has sent what it has
 OTHERS_OPEN = [('foreign', 'CT1'), ('open', 'CT1', 'GATE'), *moved(1, 'acceptor')]
 
@@ -312,6 +316,17 @@ ROWS = [
     ('.. that rejects', three_nodes, [*FIRST, ('open', 'GATE', 'ARCH'), *written(2, 'acceptor', REJECTED)], ARCHIVED + TRIED),
     ('.. that takes no context', three_nodes, [*FIRST, ('open', 'GATE', 'ARCH'), *written(2, 'acceptor', accepted(3)), ('push', 2)],
      ARCHIVED + GATE_WAITS.replace('waiting 0 0|lines 1', 'held no-context|lines 2')),
+    ('a scanner and an archive of another make beside a link between two of ours', to_both,
+     [*BESIDE, *moved(3, 'acceptor', 'acceptor', 'requestor'), *written(2, 'acceptor', answered(0))], BESIDE_REPORT.format('done', 'done', 3) + HUB_KEEPS),
+    ('.. that is lost before the answer', to_both, [*BESIDE, *moved(3, 'acceptor', 'acceptor'), ('close', 3), *written(2, 'acceptor', answered(0))],
+     BESIDE_REPORT.format('done', 'waiting 1 1000', 3) + HUB_KEEPS),
+    ('.. of which the node that was called stops', to_both, [*BESIDE, *moved(3, 'acceptor', 'acceptor'), ('restart', 'HUB'), *written(2, 'acceptor', answered(0))],
+     BESIDE_REPORT.format('done', 'waiting 1 1000', 3) + HUB_KEEPS),
+    ('.. of which the node that called stops', to_both, [*BESIDE, ('restart', 'GATE'), *written(2, 'acceptor', answered(0))],
+     BESIDE_REPORT.format('waiting 0 0', 'waiting 0 0', 1) + 'lines 0|'),
+    ('.. and a change of plan behind it', to_both,
+     [*BESIDE, *moved(3, 'acceptor', 'acceptor', 'requestor'), ('close', 1), ('close', 2), ('close', 3), ('adopt', to_both)],
+     'node ARCH|lines 1|node CT1|lines 1|node GATE|row 1.2.3.4 ARCH waiting 1 1000|lines 4|node HUB|kept 1.2.3.4 70|lines 2|'),
     ('what is written on no link', three_nodes, [('bytes', 1, 'acceptor', '00')], NOTHING),
     ('a node of another make', three_nodes, [*FIRST, ('foreign', 'ARCH')], 'node ARCH|foreign|' + CT1_SENT + GATE_WAITS),
     ('.. twice, and one that is no node', three_nodes, [*2 * [('foreign', 'ARCH')], ('foreign', 'NOBODY')],

@@ -42,6 +42,7 @@ REACHED = {
     'heard': {'request', 'acceptance', 'rejection', 'command', 'data', 'response', 'release', 'released', 'abort'},
     'status': {0x0000, 0xA700, 0xC0F1},
     'foreign': {'a node', 'no-node'}, 'not taken': {'submit', 'push', 'move', 'abort', 'release', 'late', 'forget', 'drop', 'requeue', 'away', 'refuse'},
+    'links': {'between ours and to others at once'},
     'store': {'done', 'no-link', 'not-foreign', 'both-foreign', 'no-context'}, 'answer': {'done', 'no-link', 'not-foreign', 'both-foreign', 'not-asked'},
 }
 
@@ -111,7 +112,7 @@ class Play:
 
     def __init__(self, text, model, dice, happened, wrong):
         self.world, self.dice, self.happened, self.lines = World(model, model.reached()), dice, happened, []
-        self.text, self.files = text, {}
+        self.text, self.files, self.has_both = text, {}, False
         self.others_from = 0.16 if dice.random() < 0.4 else 0.09    # in most scripts each node is ours
         self.world.wrong = wrong
         self.world.note = self.note
@@ -125,6 +126,13 @@ class Play:
 
     def tell(self, *words):
         self.lines.append('\t'.join(map(str, words)))
+
+    def look_at_links(self):
+        """Whether there is a link between two of ours beside one to another maker's node; it's noted once."""
+        others = self.world.others
+        if others and not self.has_both and {(caller.node in others) + (receiver.node in others) for caller, receiver in self.world.links.values()} >= {0, 1}:
+            self.has_both = True
+            self.note('links', 'between ours and to others at once')
 
     def do(self, word, *told):
         """One step: a line of the script, and what becomes of it in the world."""
@@ -140,6 +148,7 @@ class Play:
             self.note('not taken', word)
         else:
             self.note(word, getattr(self.world, {'abort': 'abort_at'}.get(word, word))(*told))
+        self.look_at_links()
 
     def random_item(self):
         dice = self.dice

@@ -14,8 +14,8 @@ use Rattle.dr_world_model.specs.Worlds as model
 use Rattle.dr_world_model.specs.Claims.{Headline}
 use Rattle.dr_world_model.specs.Runs.{Action, Adopt as Adopting, Occurs, Runs}
 use Rattle.dr_world_tie.specs.ByteWorlds.{ByteWorld, StepNote, Steps, beginning}
-use Rattle.dr_world_tie.specs.ForeignWorlds.{OwnWorld, own_beginning}
-use Rattle.dr_world_tie.specs.OwnChanges.{OwnDeed, OwnRunsThrough}
+use Rattle.dr_world_tie.specs.MixedChanges.{MixedDeed, MixedRunsThrough}
+use Rattle.dr_world_tie.specs.MixedWorlds.{MixedWorld, mixed_beginning}
 use Rattle.dr_world_tie.specs.Shown.{ComesAbout, RunsOf}
 use Rattle.dr_world_script.specs.declared.step.Side.{Side}
 use Rattle.dr_world_script.specs.declared.step.Step.{Step}
@@ -28,7 +28,7 @@ use Rattle.dr_world.specs.declared.fault.WorldFault.TheVariants as fault
 use Rattle.dr_world.specs.declared.steps.StepNote.{StepNote as Note}
 use Rattle.dr_world.specs.declared.world.World.{World}
 use Rattle.dr_world.specs.Adopted.{Changes, ChangesTo, certificate_after, plan_after}
-use Rattle.dr_world.specs.Among.{FitsFrom, HasOurEnds, HoldsAmong}
+use Rattle.dr_world.specs.Among.{FitsFrom, HasOurs, HoldsAmong}
 use Rattle.dr_world.specs.Ends.{named}
 use Rattle.dr_world.specs.Others.{NoneWrites, Writes, WritesAt}
 use Rattle.dr_world.specs.Runs.{IsBeside, step_of}
@@ -235,7 +235,8 @@ StepsAloneRun =
 abbrev pub EventsAloneLead : Type 0
 EventsAloneLead = (plan : Network) (v : model.World) → ComesBy plan [] v → ComesAbout plan v
 
--- A script that fits nodes of ours is a run of their ends alone, through the plans that were taken.
+-- A script that fits nodes of ours is a run of a world of ours, through the plans that were taken:
+-- of their ends whose peers are other products, and of the links between them.
 abbrev pub FitScriptsAreOwnRuns : Type 0
 FitScriptsAreOwnRuns =
     (ours : Ours) (plan last : Network) (certificate its : Certificate)
@@ -243,9 +244,9 @@ FitScriptsAreOwnRuns =
     → IsCertified plan certificate
     → FitsFrom ours plan certificate beginning deeds
     → PlaysThrough plan certificate beginning deeds changes last its b
-    → (own : List OwnDeed) × (o : OwnWorld)
-    × OwnRunsThrough ours plan certificate own_beginning own last its o
-    × HasOurEnds ours b o
+    → (own : List MixedDeed) × (m : MixedWorld)
+    × MixedRunsThrough ours plan certificate mixed_beginning own last its m
+    × HasOurs ours b m
 
 -- So the four claims among others hold of their books, whatever the other products write.
 abbrev pub FitScriptsKeepTheClaims : {L : Type 0} {l : Ghosts L} → World L l → Type 0

@@ -84,10 +84,11 @@ pub fn deeds_alone_are_done()
     ensures { DeedsAloneAreDone }
 {}
 
-/// A script in which other products write is a run of the ends of ours alone, where no link is
-/// between two of ours and no request that comes to one of ours names one. So the four claims among
-/// others hold of our nodes' books. Which requests these are is told by the name of their caller. A
-/// scanner of another make may send what it wants.
+/// A script in which other products write is a run of a world of ours, of the ends whose peers are
+/// other products and of the links between two of ours, where nobody else writes on these and no
+/// request of another product names one of ours. So the four claims among others hold of our nodes'
+/// books. Which requests these are is told by the name of their caller. A scanner of another make
+/// may send what it wants.
 pub fn others_are_played<L: Ledger>(_world: &World<L>)
     ensures runs { FitScriptsAreOwnRuns }
     ensures claims { FitScriptsKeepTheClaims _world.now }
