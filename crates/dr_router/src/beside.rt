@@ -1,6 +1,7 @@
 //! The file of a database's data sets, as an opening comes to it.
-use crate::files::Databases;
-use dr_store_data::{DataFile, DataFileFault, DataMark};
+ghost use Rattle.std.specs.Prelude.{◌<◌, ◌↔◌, IsTrue};
+
+use dr_store_data::{DataFile, DataFileFault, DataMark, HEAD_SIZE};
 use sqlite::{File, Files, Unknown};
 use sqlite_std_file::{OpenError, open};
 use std::alloc::{AllocError, Global};
@@ -11,26 +12,40 @@ use std::{fs, io};
 /// What its name has behind that of the database.
 const DATA: &str = ".data";
 
-/// What lies beside the database with that path, among these databases.
+/// What lies beside the database with that path.
 #[derive(Drop)]
-pub struct DataBeside<'x, D: Databases> {
-    pub databases: &'x D,
+pub struct DataBeside<'x> {
+    pub rt: &'x HostRuntime,
     pub path: &'x str,
 }
 
-impl<'x, D: Databases> DataFile for DataBeside<'x, D> {
+impl<'x> DataFile for DataBeside<'x> {
     type Disk = File;
 
     fn open(&self, alloc: Global) -> Result<File, DataFileFault> {
-        self.databases.open_data(alloc, self.path)
+        let path = data_path(self.rt, alloc, self.path)?;
+        match data_length(self.rt, path.as_str())? {
+            Some(_) => file_of(self.rt, path.as_str()),
+            None => Err(DataFileFault::Missing),
+        }
     }
 
     fn make(&self, alloc: Global) -> Result<File, DataFileFault> {
-        self.databases.make_data(alloc, self.path)
+        let path = data_path(self.rt, alloc, self.path)?;
+        match data_length(self.rt, path.as_str())? {
+            Some(length) if is_beyond_head(length) => Err(DataFileFault::IsThere),
+            _ => file_of(self.rt, path.as_str()),
+        }
     }
 
     fn draw(&self, _alloc: Global) -> Result<DataMark, DataFileFault> {
-        self.databases.draw_mark()
+        let (mut key, mut mark) = ([0u8; 8], [0u8; 16]);
+        draw(self.rt, &mut key)?;
+        draw(self.rt, &mut mark)?;
+        Ok(DataMark {
+            key: u64::from_le_bytes(key),
+            mark,
+        })
     }
 }
 
@@ -98,6 +113,13 @@ pub fn file_of(rt: &HostRuntime, path: &str) -> Result<File, DataFileFault> {
         Err(OpenError::Io(error)) => Err(fault_of(&error)),
         Err(OpenError::HotJournal) => Err(DataFileFault::Store),
     }
+}
+
+/// Whether a file of data sets that has so many bytes has some behind its head.
+pub fn is_beyond_head(length: u64) -> bool
+    ensures { IsTrue result ↔ (4096 < length) }
+{
+    length > HEAD_SIZE as u64
 }
 
 /// Fills this with random bytes.

@@ -1,5 +1,5 @@
 //! The system's files as databases, and ledgers in databases.
-ghost use Rattle.std.specs.Prelude.{◌≡◌, ◌<◌, ◌↔◌, IfOk, IsTrue, false};
+ghost use Rattle.std.specs.Prelude.{◌≡◌, IfOk, false};
 ghost use Rattle.sqlite.specs.Held.{state};
 ghost use Rattle.dr_word_rehearse.specs.Looks.{IsFoundBy};
 ghost use Rattle.dr_router.specs.Opening.{HasLedgerIn, fault_of_database, fault_of_opening};
@@ -10,7 +10,7 @@ ghost use Rattle.dr_store_open.specs.Opening.{IsBlank};
 ghost use Rattle.dr_store_open.specs.Places.{HasOwnOn, names_in};
 ghost use Rattle.dr_store_shelf.specs.Either.{named_on};
 
-use crate::beside::{DataBeside, data_length, data_name, data_path, draw, file_of};
+use crate::beside::{DataBeside, data_length, data_name, is_beyond_head};
 use crate::shelf::FileShelf;
 use dr_base::Text;
 use dr_run_backup::{BackupFault, Backups, LedgerCopy, SystemBackups};
@@ -21,8 +21,9 @@ use dr_run_token::{SystemTokens, Tokens};
 use dr_site::Site;
 use dr_store::SqlLedger;
 use dr_store_audit::{is_ours, lacking};
-use dr_store_data::{DataFileFault, DataMark, HEAD_SIZE};
+use dr_store_data::DataFileFault;
 use dr_store_open::{Keeping, OpenedLedger, OpeningFault, on};
+use dr_store_shelf::Shelf;
 use dr_word_adopt::ShowsFiles;
 use dr_word_check::Disk;
 use dr_word_rehearse::{Finds, LedgerFound};
@@ -32,105 +33,65 @@ use std::io::ErrorKind;
 use std::time::Clock;
 use std::{fs, io};
 
-/// Where databases are opened by a path, and beside each the file of its data sets.
+/// Where ledgers are in databases, each opened by a path with the shelf of its data sets.
 pub trait Databases {
+    ghost use Rattle.std.specs.Prelude.{◌≡◌, IfOk};
+    ghost use Rattle.sqlite.specs.Held.{state};
+    ghost use Rattle.sqlite.specs.State.{State};
+    ghost use Rattle.dr_site.specs.Parts.{Part};
+    ghost use Rattle.dr_word_rehearse.specs.Looks.{IsFoundBy};
+
     type Store: Alter + Drop;
 
-    fn open_database(&self, path: &str) -> Result<Connection<Self::Store>, Error>
-        ensures { IfOk result (λ conn. conn.in_transaction ≡ false) };
+    type Shelf: Shelf + Drop;
 
-    /// Whether one that may hold data sets lies where one would be made for a database of that
-    /// path, which isn't there yet.
-    ///
-    /// Errors: Store, Memory.
-    fn has_data(&self, alloc: Global, path: &str) -> Result<bool, DataFileFault>;
+    // In a database with this state, and on this shelf, is a ledger of that site.
+    ghost has: { Part → State → Self.Shelf → Type 0 };
 
-    /// The file of the data sets of the database with that path, which is open. None is made.
+    /// The ledger of a site, which is made where none is.
     ///
-    /// Errors: Missing, InUse, Store, Memory.
-    fn open_data(&self, alloc: Global, path: &str) -> Result<File, DataFileFault>;
+    /// Errors: OtherSite, NoData, DataIsThere, InUse, Store, Memory.
+    fn open_ledger(
+        &self,
+        alloc: Global,
+        path: &str,
+        site: Site,
+        making: Making,
+    ) -> Result<SqlLedger<Self::Store, Self::Shelf>, OpenFault>
+        ensures of { IfOk result (λ l. l.site ≡ site) }
+        ensures is { IfOk result (λ l. has l.site (state Self.Store.Store l.conn) l.shelf) };
 
-    /// A new one, where none is or one that has nothing behind its head.
+    /// The ledger of a site, or that it is one from before.
     ///
-    /// Errors: IsThere, InUse, Store, Memory.
-    fn make_data(&self, alloc: Global, path: &str) -> Result<File, DataFileFault>;
-
-    /// A random key and a random mark.
-    ///
-    /// Errors: Store, Memory.
-    fn draw_mark(&self) -> Result<DataMark, DataFileFault>;
+    /// Errors: OtherSite, NoData, InUse, Store, Memory.
+    fn find_ledger(
+        &self,
+        alloc: Global,
+        path: &str,
+        site: Site,
+    ) -> Result<LedgerFound<SqlLedger<Self::Store, Self::Shelf>>, OpenFault>
+        ensures { IfOk result (IsFoundBy
+            (λ l. has l.site (state Self.Store.Store l.conn) l.shelf) (λ l. l.site) site) };
 
     /// Whether something is there, or it can't be told.
     fn is_there(&self, path: &str) -> bool;
-
-    /// The present moment (milliseconds since 1970), if it can be told.
-    fn now(&self) -> Option<u64>;
-}
-
-/// Whether a file of data sets that has so many bytes has some behind its head.
-fn is_beyond_head(length: u64) -> bool
-    ensures { IsTrue result ↔ (4096 < length) }
-{
-    length > HEAD_SIZE as u64
 }
 
 /// The system's files.
 #[derive(Drop)]
 pub struct SystemFiles<'a>(pub &'a HostRuntime);
 
-impl<'a> Databases for SystemFiles<'a> {
-    type Store = FileStore<File>;
+/// The database with that path; a file that isn't there is made.
+fn open_database(rt: &HostRuntime, path: &str) -> Result<Connection<FileStore<File>>, Error>
+    ensures { IfOk result (λ conn. conn.in_transaction ≡ false) }
+{
+    Connection::open(rt, path)
+}
 
-    /// A file that isn't there is made.
-    fn open_database(&self, path: &str) -> Result<Connection<FileStore<File>>, Error> {
-        Connection::open(self.0, path)
-    }
-
-    fn has_data(&self, alloc: Global, path: &str) -> Result<bool, DataFileFault> {
-        let path = data_name(alloc, path)?;
-        match data_length(self.0, path.as_str())? {
-            Some(length) => Ok(is_beyond_head(length)),
-            None => Ok(false),
-        }
-    }
-
-    fn open_data(&self, alloc: Global, path: &str) -> Result<File, DataFileFault> {
-        let path = data_path(self.0, alloc, path)?;
-        match data_length(self.0, path.as_str())? {
-            Some(_) => file_of(self.0, path.as_str()),
-            None => Err(DataFileFault::Missing),
-        }
-    }
-
-    fn make_data(&self, alloc: Global, path: &str) -> Result<File, DataFileFault> {
-        let path = data_path(self.0, alloc, path)?;
-        match data_length(self.0, path.as_str())? {
-            Some(length) if is_beyond_head(length) => Err(DataFileFault::IsThere),
-            _ => file_of(self.0, path.as_str()),
-        }
-    }
-
-    fn draw_mark(&self) -> Result<DataMark, DataFileFault> {
-        let (mut key, mut mark) = ([0u8; 8], [0u8; 16]);
-        draw(self.0, &mut key)?;
-        draw(self.0, &mut mark)?;
-        Ok(DataMark {
-            key: u64::from_le_bytes(key),
-            mark,
-        })
-    }
-
-    fn is_there(&self, path: &str) -> bool {
-        match fs::metadata(self.0, path) {
-            Ok(_) => true,
-            Err(error) => !matches!(error.kind(), ErrorKind::NotFound | ErrorKind::NotADirectory),
-        }
-    }
-
-    fn now(&self) -> Option<u64> {
-        let time = self.0.since_1970().ok()?;
-        u64::try_from(time.as_millis()).ok()
-    }
+/// The present moment (milliseconds since 1970), if it can be told.
+fn now(rt: &HostRuntime) -> Option<u64> {
+    let time = rt.since_1970().ok()?;
+    u64::try_from(time.as_millis()).ok()
 }
 
 /// The system's files, as they are read and written by name, asked before a report is written, and
@@ -237,18 +198,25 @@ fn data_fault(fault: DataFileFault) -> OpenFault
     }
 }
 
+/// Whether one that may hold data sets lies where one would be made for a database of that path,
+/// which isn't there yet.
+///
+/// Errors: Store, Memory.
+fn has_data(rt: &HostRuntime, alloc: Global, path: &str) -> Result<bool, DataFileFault> {
+    let path = data_name(alloc, path)?;
+    match data_length(rt, path.as_str())? {
+        Some(length) => Ok(is_beyond_head(length)),
+        None => Ok(false),
+    }
+}
+
 /// Why a ledger isn't made as it is wanted, before its database is: a file of data sets is where
 /// its own is to be.
-fn data_refusal<D: Databases>(
-    alloc: Global,
-    databases: &D,
-    path: &str,
-    making: Making,
-) -> Option<OpenFault> {
+fn data_refusal(rt: &HostRuntime, alloc: Global, path: &str, making: Making) -> Option<OpenFault> {
     if making != Making::WantedWithData {
         return None;
     }
-    match databases.has_data(alloc, path) {
+    match has_data(rt, alloc, path) {
         Ok(false) => None,
         Ok(true) => Some(OpenFault::DataIsThere),
         Err(fault) => Some(data_fault(fault)),
@@ -291,10 +259,10 @@ fn stored_ledger<S: Alter>(
 
 /// The ledger of a site over a connection to its database, beside which is the file of its data
 /// sets, if it has one. It is told the moment.
-fn ledger_over<S: Alter + Drop, D: Databases>(
+fn ledger_over<S: Alter + Drop>(
     alloc: Global,
     conn: Connection<S>,
-    data: &DataBeside<'_, D>,
+    data: &DataBeside<'_>,
     keeping: Keeping,
     site: Site,
     now: Option<u64>,
@@ -311,59 +279,12 @@ fn ledger_over<S: Alter + Drop, D: Databases>(
     }
 }
 
-/// Ledgers, each in a database of its own, and with its data sets in that or in a file beside it.
-#[derive(Drop)]
-pub struct StoredLedgers<D: Databases + Drop>(pub D);
-
-/// What opens is a ledger of its site, as far as its disk has returned what was written. What a
-/// path leads to is claimed by no contract.
-impl<D: Databases + Drop> Ledgers for StoredLedgers<D> {
-    ghost use Rattle.sqlite.specs.Held.{state};
-    ghost use Rattle.dr_router.specs.Opening.{HasLedgerIn};
-
-    type Ledger = SqlLedger<D::Store, FileShelf>;
-
-    ghost opens = { λ files path ledger.
-        HasLedgerIn ledger.site (state D.Store.Store ledger.conn) ledger.shelf.0 };
-
-    fn open(
-        &self,
-        alloc: Global,
-        path: &str,
-        site: Site,
-        making: Making,
-    ) -> Result<SqlLedger<D::Store, FileShelf>, OpenFault> {
-        if let Some(fault) = making.refusal(self.0.is_there(path)) {
-            return Err(fault);
-        }
-        if let Some(fault) = data_refusal(alloc, &self.0, path, making) {
-            return Err(fault);
-        }
-        let data = DataBeside {
-            databases: &self.0,
-            path,
-        };
-        match self.0.open_database(path) {
-            Ok(conn) => ledger_over(alloc, conn, &data, keeping_of(making), site, self.0.now()),
-            Err(error) => Err(file_fault(&error)),
-        }
-    }
-}
-
-impl<D: Databases + Drop> ShowsFiles for StoredLedgers<D> {
-    ghost shows = { λ files path is_there. Unit {0} };
-
-    fn is_there(&self, path: &str) -> bool {
-        self.0.is_there(path)
-    }
-}
-
 /// What is found over a connection to a database. Where its tables are those of today, opening its
 /// ledger changes nothing of it.
-fn found_over<S: Alter + Drop, D: Databases>(
+fn found_over<S: Alter + Drop>(
     alloc: Global,
     conn: Connection<S>,
-    data: &DataBeside<'_, D>,
+    data: &DataBeside<'_>,
     site: Site,
     now: Option<u64>,
 ) -> Result<LedgerFound<SqlLedger<S, FileShelf>>, OpenFault>
@@ -383,23 +304,101 @@ fn found_over<S: Alter + Drop, D: Databases>(
     }
 }
 
+/// What opens is a ledger of its site, as far as its disk has returned what was written. What a
+/// path leads to is claimed by no contract.
+impl<'a> Databases for SystemFiles<'a> {
+    ghost use Rattle.dr_router.specs.Opening.{HasLedgerIn};
+
+    type Store = FileStore<File>;
+
+    type Shelf = FileShelf;
+
+    ghost has = { λ part s shelf. HasLedgerIn part s shelf.0 };
+
+    fn open_ledger(
+        &self,
+        alloc: Global,
+        path: &str,
+        site: Site,
+        making: Making,
+    ) -> Result<SqlLedger<FileStore<File>, FileShelf>, OpenFault> {
+        if let Some(fault) = data_refusal(self.0, alloc, path, making) {
+            return Err(fault);
+        }
+        let data = DataBeside { rt: self.0, path };
+        match open_database(self.0, path) {
+            Ok(conn) => ledger_over(alloc, conn, &data, keeping_of(making), site, now(self.0)),
+            Err(error) => Err(file_fault(&error)),
+        }
+    }
+
+    fn find_ledger(
+        &self,
+        alloc: Global,
+        path: &str,
+        site: Site,
+    ) -> Result<LedgerFound<SqlLedger<FileStore<File>, FileShelf>>, OpenFault> {
+        let data = DataBeside { rt: self.0, path };
+        match open_database(self.0, path) {
+            Ok(conn) => found_over(alloc, conn, &data, site, now(self.0)),
+            Err(error) => Err(file_fault(&error)),
+        }
+    }
+
+    fn is_there(&self, path: &str) -> bool {
+        match fs::metadata(self.0, path) {
+            Ok(_) => true,
+            Err(error) => !matches!(error.kind(), ErrorKind::NotFound | ErrorKind::NotADirectory),
+        }
+    }
+}
+
+/// Ledgers, each in a database of its own, and with its data sets in that or in a file beside it.
+#[derive(Drop)]
+pub struct StoredLedgers<D: Databases + Drop>(pub D);
+
+/// What opens is what its database has. It is said of any databases, since a store and a shelf that
+/// are named have too many types for the prover to compare.
+impl<D: Databases + Drop> Ledgers for StoredLedgers<D> {
+    ghost use Rattle.sqlite.specs.Held.{state};
+
+    type Ledger = SqlLedger<D::Store, D::Shelf>;
+
+    ghost opens = { λ files path ledger.
+        D.Databases.has ledger.site (state D.Store.Store ledger.conn) ledger.shelf };
+
+    fn open(
+        &self,
+        alloc: Global,
+        path: &str,
+        site: Site,
+        making: Making,
+    ) -> Result<SqlLedger<D::Store, D::Shelf>, OpenFault> {
+        if let Some(fault) = making.refusal(self.0.is_there(path)) {
+            return Err(fault);
+        }
+        self.0.open_ledger(alloc, path, site, making)
+    }
+}
+
+impl<D: Databases + Drop> ShowsFiles for StoredLedgers<D> {
+    ghost shows = { λ files path is_there. Unit {0} };
+
+    fn is_there(&self, path: &str) -> bool {
+        self.0.is_there(path)
+    }
+}
+
 impl<D: Databases + Drop> Finds for StoredLedgers<D> {
     fn find(
         &self,
         alloc: Global,
         path: &str,
         site: Site,
-    ) -> Result<LedgerFound<SqlLedger<D::Store, FileShelf>>, OpenFault> {
+    ) -> Result<LedgerFound<SqlLedger<D::Store, D::Shelf>>, OpenFault> {
         if !self.0.is_there(path) {
             return Err(OpenFault::NoLedger);
         }
-        let data = DataBeside {
-            databases: &self.0,
-            path,
-        };
-        match self.0.open_database(path) {
-            Ok(conn) => found_over(alloc, conn, &data, site, self.0.now()),
-            Err(error) => Err(file_fault(&error)),
-        }
+        self.0.find_ledger(alloc, path, site)
     }
 }

@@ -31,8 +31,9 @@ use std::thread::Threads;
 use std::{io, time};
 
 /// Runs the program on these words, over the system's network, clock, log, input and outputs, and
-/// any files and ledgers. Ledgers in databases come in `run_over_databases`, and the system's files
-/// in `run` alone: all types at once are too many for the prover to compare.
+/// any files and ledgers. The system's types come one after another, each in a function of its own,
+/// and databases last, where no other type is left: all at once are too many for the prover to
+/// compare.
 fn run_over_files<
     'x,
     T: Threads + Wait + Sync + time::Clock,
@@ -74,33 +75,35 @@ where
     )
 }
 
-/// The same, over ledgers in any databases.
-fn run_over_databases<
-    'x,
-    T: Threads + Wait + Sync + time::Clock,
-    F: Files + Backups + Tokens + Sync + Drop,
-    D: Databases + Drop,
->(
+/// The same, over the system's files.
+fn run_over_ledgers<'x, T: Threads + Wait + Sync + time::Clock, O: Finds + Drop>(
     rt: &'x HostRuntime,
     threads: &'x T,
     words: &[&str],
     clock: &'x SystemClock<'x, HostRuntime>,
     cut: &'x Cut,
-    files: F,
+    ledgers: O,
+) -> Status
+where
+    O::Ledger: Send + TellsJournal,
+{
+    run_over_files(rt, threads, words, clock, cut, SystemDisk::new(rt), ledgers)
+}
+
+/// The same, over ledgers in any databases.
+fn run_over_databases<'x, T: Threads + Wait + Sync + time::Clock, D: Databases + Drop>(
+    rt: &'x HostRuntime,
+    threads: &'x T,
+    words: &[&str],
+    clock: &'x SystemClock<'x, HostRuntime>,
+    cut: &'x Cut,
     databases: D,
 ) -> Status
 where
     D::Store: Send,
+    D::Shelf: Send,
 {
-    run_over_files(
-        rt,
-        threads,
-        words,
-        clock,
-        cut,
-        files,
-        StoredLedgers(databases),
-    )
+    run_over_ledgers(rt, threads, words, clock, cut, StoredLedgers(databases))
 }
 
 /// Runs the program on its words, which fails only where they can't be read. `threads` is the
@@ -116,8 +119,7 @@ fn run<'x, T: Threads + Wait + Sync + time::Clock>(
     for word in given.as_slice() {
         words.push(word.as_str())?;
     }
-    let (files, databases) = (SystemDisk::new(rt), SystemFiles(rt));
-    Ok(run_over_databases(rt, threads, words.as_slice(), clock, cut, files, databases))
+    Ok(run_over_databases(rt, threads, words.as_slice(), clock, cut, SystemFiles(rt)))
 }
 
 /// What the process ends with.
