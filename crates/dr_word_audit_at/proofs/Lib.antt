@@ -1,3 +1,4 @@
+mod Asked
 mod CutJournals
 mod CutsBegin
 mod Noted

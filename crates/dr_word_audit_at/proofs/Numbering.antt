@@ -10,8 +10,9 @@ use Rattle.dr_base.specs.Texts.{Text}
 use Rattle.dr_ledger_history.specs.declared.line.JournalLine.{JournalLine}
 use Rattle.dr_run_ask.specs.declared.answer.HttpAnswer.{HttpAnswer}
 use Rattle.dr_run_ask.specs.declared.call.HttpCall.{HttpCall}
+use Rattle.dr_run_ask.specs.declared.call.HttpCall.TheVariants.{Status}
 use Rattle.dr_run_ask.specs.declared.fault.AskFault.{AskFault}
-use Rattle.dr_word_audit_at.specs.Pages.{AddsIf, Asks, AsksFor, Counts, CountsLines, Exchange, GrowsBy, HasLineOf, Heard, IsNodes, WasTold, Numbered, ReadsLines, ReadsPage}
+use Rattle.dr_word_audit_at.specs.Pages.{AddsIf, AreHeard, Asks, AsksFor, Counts, CountsLines, Exchange, GrowsBy, HasLineOf, Heard, IsCountedBy, IsNodes, IsReadBy, WasTold, Numbered, ReadsLines, ReadsPage}
 
 numbered_more : (P : ℕ → JournalLine → Type 0) (after : ℕ) (xs ys : List JournalLine) → Numbered P after xs → Numbered P (after + length xs) ys → Numbered P after (xs ++ ys)
 numbered_more P after [] ys a b =
@@ -99,3 +100,22 @@ module _ {S : Type 0} (answers : S → HttpCall → Result HttpAnswer AskFault �
         heard_more read.0 (one ∷ []) old mid new read.1 (new, asks.2, refl),
         subst (λ (xs : List JournalLine). Numbered Q 0 xs) (sym page.3.1) (numbered_more Q 0 had more before (subst (λ n. Numbered Q n more) e now)),
       )
+
+  module _ (s : S) (asks : HttpCall → Result HttpAnswer AskFault → Type 0) (by : (call : HttpCall) (came : Result HttpAnswer AskFault) (t : S) → answers s call came t → (t ≡ s) × asks call came) where
+    heard_by : (heard : List Exchange) (t : S) → Heard answers heard s t → AreHeard asks heard
+    heard_by [] t h = tt
+    heard_by (one ∷ more) t h =
+        let came = by one.0 one.1 h.0 h.1 in
+        (came.1, heard_by more t (subst (λ (m : S). Heard answers more m t) came.0 h.2))
+
+    -- what was read of one who stays as they are
+    pub read_by : (name digest : Text) (lines : List JournalLine) (t : S) → ReadsLines answers name digest s lines t → IsReadBy asks name digest lines
+    read_by name digest lines t h = record { heard = h.0; are = heard_by h.0 t h.1; told = h.2 }
+
+    pub counted_by : (name digest : Text) (count : ℕ) (t : S) → Counts answers name digest s count t → IsCountedBy asks name digest count
+    counted_by name digest count t h = record {
+      answer = h.0;
+      asked = (by Status (Ok h.0) t h.1.0).1;
+      of = (h.1.1, h.1.2);
+      counts = h.2;
+    }

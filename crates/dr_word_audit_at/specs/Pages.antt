@@ -2,6 +2,7 @@
 use Rattle.std.specs.Prelude.{◌≡◌, ◌⊎◌, ℕ, ◌+◌, List, [], ◌∷◌, ◌++◌, Contains, length, Some, Result}
 use Rattle.std.specs.Prelude.{Ok}
 use Rattle.std.specs.Prelude.{codes}
+use Rattle.std.specs.List.{AllByRecursion}
 use Rattle.std.specs.Str.Lines.{lines as text_lines}
 use Rattle.serde_json.specs.Data.{Data}
 use Rattle.serde_json.specs.Read.{read}
@@ -12,6 +13,7 @@ use Rattle.dr_run_ask.specs.Conversations.{IsOf, IsSeen}
 use Rattle.dr_run_ask.specs.Lines.{FirstLineIs, number_at}
 use Rattle.dr_run_ask.specs.declared.answer.HttpAnswer.{HttpAnswer}
 use Rattle.dr_run_ask.specs.declared.call.HttpCall.{HttpCall}
+use Rattle.dr_run_ask.specs.declared.call.HttpCall.TheVariants.{Status}
 use Rattle.dr_run_ask.specs.declared.fault.AskFault.{AskFault}
 use Rattle.dr_run_request.specs.declared.route.Route.TheVariants as routes
 use Rattle.dr_word_audit_at.specs.Saying.{SaysLine}
@@ -110,3 +112,23 @@ module _ {S : Type 0} (answers : S → HttpCall → Result HttpAnswer AskFault �
       (heard : List Exchange)
       × Heard heard old new
       × Numbered (WasTold name digest heard) 0 lines
+
+-- ---- of whom it was asked
+
+module _ (asks : HttpCall → Result HttpAnswer AskFault → Type 0) where
+  -- each of these was asked, and came to that
+  abbrev pub AreHeard : List Exchange → Type 0
+  AreHeard = AllByRecursion (λ (one : Exchange). asks one.0 one.1)
+
+  -- the lines are the first ones of the journal of the node of that name, as it told them
+  pub record IsReadBy (name digest : Text) (lines : List JournalLine) : Type 0 where
+    pub heard : List Exchange
+    pub are : AreHeard heard
+    pub told : Numbered (WasTold name digest heard) 0 lines
+
+  -- and so many it has, as it told
+  pub record IsCountedBy (name digest : Text) (count : ℕ) : Type 0 where
+    pub answer : HttpAnswer
+    pub asked : asks Status (Ok answer)
+    pub of : IsNodes name digest answer
+    pub counts : CountsLines answer.body.items count

@@ -8,6 +8,7 @@
 //! stands there.
 #![tactic(auto)]
 
+mod asker;
 pub mod cutting;
 mod figuring;
 pub mod judging;
@@ -15,6 +16,7 @@ pub mod laws;
 mod moving;
 mod paging;
 mod running;
+mod stopping;
 mod told;
 
 pub use running::audit_running;

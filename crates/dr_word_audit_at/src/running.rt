@@ -1,99 +1,38 @@
 //! The word `audit` over files, tokens and a network.
-ghost use Rattle.std.specs.Prelude.{◌≡◌, IfOk, length};
+ghost use Rattle.std.specs.Prelude.{◌≡◌, [], Contains, IfErr, IfOk, IfSome, None, length};
+ghost use Rattle.std.specs.Prelude.{map as mapped};
+ghost use Rattle.hex.specs.Hex.{encode_lower};
+ghost use Rattle.dr_word_adopt.specs.Names.{text_of};
+ghost use Rattle.dr_word_audit.specs.Names.{our_names as own_names};
+ghost use Rattle.dr_word_audit.specs.declared.audited.Audited.TheVariants.{No};
 ghost use Rattle.dr_word_audit_at.specs.Cuts.{IsConcluded, IsJudged};
+ghost use Rattle.dr_word_audit_at.specs.Running.{AreRead, ConcludesAll, ConcludesBy, ConcludesOf};
+ghost use Rattle.dr_word_audit_at.specs.Running.{EndsRunning, HasStopped, IsBefore, StopsAt};
+ghost use Rattle.dr_word_audit_at.specs.Running.{StopsBy, address_by, address_given, address_in};
+ghost use Rattle.dr_word_audit_at.specs.Running.{name_given, no_address};
 
+use crate::asker::{Addresses, NodesAsker, address_of, addresses_of};
 use crate::figuring::told_of;
 use crate::judging::{Judged, judge};
-use crate::paging::{count_of, read_lines};
-use dr_base::{Seq, Text};
+use crate::stopping::{NodesStopped, tell_stopped};
+use dr_base::Text;
 use dr_cert::Sealed;
-use dr_ledger_history::JournalLine;
 use dr_plan_model::Plan;
-use dr_run_ask::{AskFault, Meant};
+use dr_run_ask::AskFault;
 use dr_run_files::{Failure, Files};
 use dr_run_net::Network;
 use dr_run_open::{Halt, Status, seal_files};
 use dr_run_token::Tokens;
 use dr_session::Clock;
-use dr_word_adopt::{Halted, is_among, stranger_in, tell_stop, texts_of};
-use dr_word_at::{Caller, Way, digest_of, status_of, token_at};
+use dr_word_adopt::{Halted, is_among, stranger_in, texts_of};
+use dr_word_at::{Way, token_at};
 use dr_word_audit::naming::our_names;
 use dr_word_audit::printing::short_line;
 use dr_word_audit::{Audited, tell_audit, tell_verdict};
 use dr_word_line::RunningNodes;
 use dr_world_audit::audit::{AuditFault, AuditVerdict, NodeJournal};
-use std::alloc::{AllocError, AllocFailed, Global};
-use std::io;
+use std::alloc::{AllocError, Global};
 use std::io::Write;
-
-/// Why an audit of nodes that run comes to nothing.
-#[derive(Drop)]
-enum NodesStopped<'a> {
-    /// Before any node was asked.
-    Halted(Halted<'a>),
-    /// At the node of that name, or on the way to it.
-    Asking(AskFault, Text),
-    /// Two addresses are of one node, or one is of a node that is named as another maker's.
-    Twice(Text),
-    Memory,
-}
-
-impl<'a> From<Halt<'a>> for NodesStopped<'a> {
-    fn from(halt: Halt<'a>) -> NodesStopped<'a> {
-        NodesStopped::Halted(Halted { halt, node: None })
-    }
-}
-
-impl<'a> From<AllocError> for NodesStopped<'a> {
-    fn from(_: AllocError) -> NodesStopped<'a> {
-        NodesStopped::Memory
-    }
-}
-
-impl<'a, T: Drop> From<AllocFailed<T>> for NodesStopped<'a> {
-    fn from(_: AllocFailed<T>) -> NodesStopped<'a> {
-        NodesStopped::Memory
-    }
-}
-
-/// Nodes that run, each with the address of its control connection.
-#[derive(Drop)]
-struct Addresses {
-    names: Vec<Text>,
-    at: Vec<Text>,
-}
-
-/// Where the name ends that a word gives to an address.
-fn name_end(word: &[u8]) -> usize {
-    match word.iter().position(|byte| *byte == b'=') {
-        Some(end) => end,
-        None => word.len(),
-    }
-}
-
-/// Adds the node that a word names, with its address.
-fn add_address(alloc: Global, all: &mut Addresses, word: &[u8]) -> Result<(), AllocError> {
-    let (name, rest) = word.split_at(name_end(word).min(word.len()));
-    let at = match rest {
-        [_equals, at @ ..] => at,
-        [] => rest,
-    };
-    all.names.push(Text::copy_of(alloc, name)?)?;
-    all.at.push(Text::copy_of(alloc, at)?)?;
-    Ok(())
-}
-
-/// The nodes that the words name.
-fn addresses_of(alloc: Global, words: &[&str]) -> Result<Addresses, AllocError> {
-    let mut all = Addresses {
-        names: Vec::new(alloc),
-        at: Vec::new(alloc),
-    };
-    for word in words {
-        add_address(alloc, &mut all, word.as_bytes())?;
-    }
-    Ok(all)
-}
 
 /// The first of these names that stands there once more, or among the others.
 fn twice_in<'x>(names: &'x [Text], others: &[Text]) -> Option<&'x Text> {
@@ -113,7 +52,9 @@ fn twice_in<'x>(names: &'x [Text], others: &[Text]) -> Option<&'x Text> {
 /// Whether all of the names are of nodes of the plan.
 ///
 /// Errors: NoNode, Memory.
-fn test_known<'a>(plan: &Plan, names: &[Text]) -> Result<(), NodesStopped<'a>> {
+fn test_known<'a>(plan: &Plan, names: &[Text]) -> Result<(), NodesStopped<'a>>
+    ensures { IfErr result IsBefore }
+{
     match stranger_in(plan, names) {
         Some(name) => Err(NodesStopped::Halted(Halted::at(name, Halt::NoNode))),
         None => Ok(()),
@@ -123,23 +64,20 @@ fn test_known<'a>(plan: &Plan, names: &[Text]) -> Result<(), NodesStopped<'a>> {
 /// Whether each of the nodes is named once, and none is among the others.
 ///
 /// Errors: Twice, Memory.
-fn test_once<'a>(names: &[Text], others: &[Text]) -> Result<(), NodesStopped<'a>> {
+fn test_once<'a>(names: &[Text], others: &[Text]) -> Result<(), NodesStopped<'a>>
+    ensures { IfErr result IsBefore }
+{
     match twice_in(names, others) {
         Some(name) => Err(NodesStopped::Twice(name.clone()?)),
         None => Ok(()),
     }
 }
 
-/// The address of the node of that name.
-fn address_of<'x>(all: &'x Addresses, name: &Text) -> Option<&'x Text> {
-    match all.names.as_slice().iter().position(|one| *one == *name) {
-        Some(place) => all.at.as_slice().get(place),
-        None => None,
-    }
-}
-
 /// The first of these nodes that has no address.
-fn lacking<'x>(all: &Addresses, names: &'x [Text]) -> Option<&'x Text> {
+fn lacking<'x>(all: &Addresses, names: &'x [Text]) -> Option<&'x Text>
+    ensures { IfSome result (λ name. Contains names.now name.now
+        × (address_in all.now name.now ≡ None)) }
+{
     for name in names {
         if address_of(all, name).is_none() {
             return Some(name);
@@ -148,117 +86,10 @@ fn lacking<'x>(all: &Addresses, names: &'x [Text]) -> Option<&'x Text> {
     None
 }
 
-/// Who asks nodes that run: over which way, at which addresses, with which token, and for which
-/// plan, of which the digest is given in lower-case hexadecimal digits.
-#[derive(Drop)]
-struct NodesAsker<'x, N: Network, C: Clock> {
-    alloc: Global,
-    network: &'x N,
-    clock: &'x C,
-    addresses: &'x Addresses,
-    token: Option<&'x Text>,
-    digest: &'x Text,
-}
-
-impl<'x, N: Network, C: Clock> NodesAsker<'x, N, C> {
-    /// Who asks at an address.
-    fn caller(&self, at: &'x Text) -> Caller<'x, N, C> {
-        Caller {
-            alloc: self.alloc,
-            network: self.network,
-            clock: self.clock,
-            at,
-            token: self.token,
-        }
-    }
-
-    /// How many lines the journal of the node of that name has.
-    ///
-    /// Errors: those of `count_of`.
-    fn count_at(&self, name: &Text) -> Result<u64, AskFault> {
-        let Some(at) = address_of(self.addresses, name) else {
-            return Err(AskFault::NoConnection);
-        };
-        let mut caller = self.caller(at);
-        let meant = Meant {
-            name,
-            digest: self.digest,
-        };
-        count_of(self.alloc, &mut caller, meant)
-    }
-
-    /// The first lines of the journal of the node of that name, so many.
-    ///
-    /// Errors: those of `read_lines`.
-    fn lines_at(&self, name: &Text, count: u64) -> Result<Seq<JournalLine>, AskFault> {
-        let Some(at) = address_of(self.addresses, name) else {
-            return Err(AskFault::NoConnection);
-        };
-        let mut caller = self.caller(at);
-        let meant = Meant {
-            name,
-            digest: self.digest,
-        };
-        read_lines(self.alloc, &mut caller, meant, count)
-    }
-
-    /// How many lines the journals of these nodes have.
-    ///
-    /// Errors: those of `count_at`, at a node; Memory.
-    fn counts<'a>(&self, names: &[Text]) -> Result<Vec<u64>, NodesStopped<'a>> {
-        let mut counts = Vec::new(self.alloc);
-        for name in names {
-            match self.count_at(name) {
-                Ok(count) => counts.push(count)?,
-                Err(fault) => return Err(NodesStopped::Asking(fault, name.clone()?)),
-            }
-        }
-        Ok(counts)
-    }
-
-    /// The journal of the node of that name, so many lines, which are no fewer than there were.
-    ///
-    /// Errors: those of `lines_at`; Shrunk.
-    fn journal_at(&self, name: &Text, had: u64, count: u64) -> Result<NodeJournal, AskFault> {
-        if count < had {
-            return Err(AskFault::Shrunk);
-        }
-        let lines = self.lines_at(name, count)?;
-        let name = name.clone()?;
-        Ok(NodeJournal { name, lines })
-    }
-
-    /// The journals of these nodes, so many lines of each.
-    ///
-    /// Errors: those of `journal_at`, at a node; Memory.
-    fn journals<'a>(
-        &self,
-        names: &[Text],
-        first: &[u64],
-        last: &[u64],
-    ) -> Result<Vec<NodeJournal>, NodesStopped<'a>> {
-        let mut journals = Vec::new(self.alloc);
-        for (place, name) in names.iter().enumerate() {
-            let (had, count) = (number_at(first, place), number_at(last, place));
-            match self.journal_at(name, had, count) {
-                Ok(journal) => journals.push(journal)?,
-                Err(fault) => return Err(NodesStopped::Asking(fault, name.clone()?)),
-            }
-        }
-        Ok(journals)
-    }
-}
-
-/// The number at that place; 0 where there is none.
-fn number_at(numbers: &[u64], place: usize) -> u64 {
-    match numbers.get(place) {
-        Some(number) => *number,
-        None => 0,
-    }
-}
-
 /// The numbers of lines as places.
-fn places_of(alloc: Global, counts: &[u64]) -> Result<Vec<usize>, AllocError> {
+fn places_of(alloc: Global, counts: &[u64]) -> Result<Vec<usize>, AllocError>
+    ensures { IfOk result (λ places. places.items ≡ counts.now) }
+{
     let mut places = Vec::new(alloc);
     for count in counts {
         places.push(*count as usize)?;
@@ -326,59 +157,199 @@ fn conclude(
     Ok(audited)
 }
 
+/// What was read of nodes: how many lines each had first, and the journals.
+#[derive(Drop)]
+struct ReadNodes {
+    first: Vec<u64>,
+    journals: Vec<NodeJournal>,
+}
+
+/// Reads the journals of these nodes.
+///
+/// Errors: those of `NodesAsker`.
+fn read_all<'a, N: Network, C: Clock>(
+    asker: &NodesAsker<'_, N, C>,
+    names: &[Text],
+) -> Result<ReadNodes, NodesStopped<'a>>
+    ensures told { IfOk result (λ read. AreRead (N.connects asker.now.network.now) N.Socket.sends
+        (address_in asker.now.addresses.now)
+        asker.now.digest.now names.now read.first.items read.journals.items) }
+    ensures stops { IfErr result (StopsAt names.now) }
+{
+    let first = match asker.counts(names) {
+        Ok(first) => first,
+        Err(stop) => return Err(stop),
+    };
+    let last = match asker.counts(names) {
+        Ok(last) => last,
+        Err(stop) => return Err(stop),
+    };
+    match asker.journals(names, first.as_slice(), last.as_slice()) {
+        Ok(journals) => Ok(ReadNodes { first, journals }),
+        Err(stop) => Err(stop),
+    }
+}
+
+/// What is concluded of the journals that were read.
+///
+/// Errors: those of `conclude`; Memory.
+fn conclude_read<'a>(
+    alloc: Global,
+    sealed: &Sealed,
+    others: &[Text],
+    read: &ReadNodes,
+) -> Result<Audited, NodesStopped<'a>>
+    ensures concluded { IfOk result
+        (IsConcluded sealed.now.plan read.now.first.items read.now.journals.items) }
+    ensures stops { IfErr result (StopsAt []) }
+{
+    let places = places_of(alloc, read.first.as_slice())?;
+    if places.len() != read.journals.len() {
+        return Err(NodesStopped::Memory);
+    }
+    match conclude(alloc, sealed, others, places, read.journals.as_slice()) {
+        Ok(audited) => Ok(audited),
+        Err(AskFault::Memory) => Err(NodesStopped::Memory),
+        Err(fault) => Err(NodesStopped::Asking(fault, Text::empty(alloc))),
+    }
+}
+
 /// Reads the journals of these nodes, and audits them.
 ///
-/// Errors: those of `NodesAsker`, at a node; those of `conclude`; Memory.
+/// Errors: those of `read_all` and `conclude_read`.
 fn audit_by<'a, N: Network, C: Clock>(
     asker: &NodesAsker<'_, N, C>,
     sealed: &Sealed,
     others: &[Text],
     names: &[Text],
-) -> Result<Audited, NodesStopped<'a>> {
-    let first = asker.counts(names)?;
-    let last = asker.counts(names)?;
-    let read = asker.journals(names, first.as_slice(), last.as_slice())?;
-    let places = places_of(asker.alloc, first.as_slice())?;
-    if places.len() != read.len() {
-        return Err(NodesStopped::Memory);
-    }
-    match conclude(asker.alloc, sealed, others, places, read.as_slice()) {
-        Ok(audited) => Ok(audited),
-        Err(AskFault::Memory) => Err(NodesStopped::Memory),
-        Err(fault) => Err(NodesStopped::Asking(fault, Text::empty(asker.alloc))),
+) -> Result<Audited, NodesStopped<'a>>
+    ensures concluded { IfOk result (ConcludesOf (N.connects asker.now.network.now) N.Socket.sends
+        (address_in asker.now.addresses.now)
+        asker.now.digest.now names.now sealed.now.plan) }
+    ensures stops { IfErr result (StopsAt names.now) }
+{
+    match read_all(asker, names) {
+        Ok(read) => conclude_read(asker.alloc, sealed, others, &read),
+        Err(stop) => Err(stop),
     }
 }
 
-/// Audits nodes of the sealed plan at these addresses, all but the others.
+/// Which nodes are audited: those with these addresses; their names; and the others.
+#[derive(Drop)]
+struct GivenNodes {
+    addresses: Addresses,
+    names: Vec<Text>,
+    others: Vec<Text>,
+}
+
+/// The nodes that the words name.
 ///
-/// Errors: NoNode, Twice; those of `audit_by`; Memory.
-fn audit_sealed<'a, N: Network, C: Clock>(
+/// Errors: NoNode, Twice, Memory.
+fn nodes_given<'a>(
     alloc: Global,
-    way: Way<'_, N, C>,
     sealed: &Sealed,
     given: &RunningNodes<'a>,
-    token: Option<&Text>,
-) -> Result<Audited, NodesStopped<'a>> {
+) -> Result<GivenNodes, NodesStopped<'a>>
+    ensures nodes { IfOk result (λ nodes.
+        (nodes.addresses.names.items ≡ mapped name_given given.now.running.items)
+        × (nodes.addresses.at.items ≡ mapped address_given given.now.running.items)
+        × (nodes.others.items ≡ mapped text_of given.now.others.items)
+        × (nodes.names.items ≡ own_names nodes.others.items sealed.now.plan.nodes)) }
+    ensures stops { IfErr result IsBefore }
+{
     let others = texts_of(alloc, given.others.as_slice())?;
     let addresses = addresses_of(alloc, given.running.as_slice())?;
     test_known(sealed.plan(), others.as_slice())?;
     test_known(sealed.plan(), addresses.names.as_slice())?;
     test_once(addresses.names.as_slice(), others.as_slice())?;
     let names = our_names(alloc, sealed.plan(), others.as_slice())?;
-    if let Some(name) = lacking(&addresses, names.as_slice()) {
-        let text = short_line(alloc, b"A7 NoAddress", name)?;
-        return Ok(Audited::No(text));
-    }
-    let digest = digest_of(alloc, sealed)?;
+    Ok(GivenNodes {
+        addresses,
+        names,
+        others,
+    })
+}
+
+/// The line of a node that has no address.
+///
+/// Errors: want of memory.
+fn told_lacking<'a>(alloc: Global, name: &Text) -> Result<Audited, NodesStopped<'a>>
+    ensures line { IfOk result (λ audited. audited ≡ No (no_address name.now)) }
+    ensures stops { IfErr result IsBefore }
+{
+    let text = short_line(alloc, b"A7 NoAddress", name)?;
+    Ok(Audited::No(text))
+}
+
+/// The digest of the plan, in lower-case hexadecimal digits.
+///
+/// Errors: want of memory.
+fn digits_of(alloc: Global, sealed: &Sealed) -> Result<Text, AllocError>
+    ensures { IfOk result (λ digits. digits ≡ encode_lower sealed.now.plan.digest) }
+{
+    let digits = hex::encode(alloc, sealed.plan().digest().as_slice())?;
+    let copy = Text::copy_of(alloc, digits.as_bytes())?;
+    Ok(copy)
+}
+
+/// Audits these nodes of the sealed plan, over that way.
+///
+/// Errors: those of `audit_by`; Memory.
+fn audit_given_nodes<'a, N: Network, C: Clock>(
+    alloc: Global,
+    way: Way<'_, N, C>,
+    sealed: &Sealed,
+    nodes: &GivenNodes,
+    token: Option<&Text>,
+) -> Result<Audited, NodesStopped<'a>>
+    ensures concluded { IfOk result (ConcludesOf (N.connects way.entry.network.now) N.Socket.sends
+        (address_in nodes.now.addresses)
+        (encode_lower sealed.now.plan.digest) nodes.now.names.items sealed.now.plan) }
+    ensures stops { IfErr result (StopsAt nodes.now.names.items) }
+{
+    let Ok(digest) = digits_of(alloc, sealed) else {
+        return Err(NodesStopped::Memory);
+    };
     let asker = NodesAsker {
         alloc,
         network: way.network,
         clock: way.clock,
-        addresses: &addresses,
+        addresses: &nodes.addresses,
         token,
         digest: &digest,
     };
-    audit_by(&asker, sealed, others.as_slice(), names.as_slice())
+    audit_by(
+        &asker,
+        sealed,
+        nodes.others.as_slice(),
+        nodes.names.as_slice(),
+    )
+}
+
+/// Audits nodes of the sealed plan at these addresses, all but the others.
+///
+/// Errors: those of `nodes_given` and `audit_given_nodes`.
+fn audit_sealed<'a, N: Network, C: Clock>(
+    alloc: Global,
+    way: Way<'_, N, C>,
+    sealed: &Sealed,
+    given: &RunningNodes<'a>,
+    token: Option<&Text>,
+) -> Result<Audited, NodesStopped<'a>>
+    ensures concluded { IfOk result (ConcludesAll (N.connects way.entry.network.now) N.Socket.sends
+        (address_by given.now.running.items) sealed.now.plan
+        (mapped text_of given.now.others.items)) }
+    ensures stops { IfErr result (HasStopped
+        (own_names (mapped text_of given.now.others.items) sealed.now.plan.nodes)) }
+{
+    let nodes = match nodes_given(alloc, sealed, given) {
+        Ok(nodes) => nodes,
+        Err(stop) => return Err(stop),
+    };
+    match lacking(&nodes.addresses, nodes.names.as_slice()) {
+        Some(name) => told_lacking(alloc, name),
+        None => audit_given_nodes(alloc, way, sealed, &nodes, token),
+    }
 }
 
 /// Audits the nodes by the plan and the certificate in these files.
@@ -389,8 +360,17 @@ fn audit_given<'a, F: Files + Tokens, N: Network, C: Clock>(
     files: &F,
     given: &RunningNodes<'a>,
     way: Way<'_, N, C>,
-) -> Result<Audited, NodesStopped<'a>> {
-    let token = token_at(alloc, files, given.token)?;
+) -> Result<Audited, NodesStopped<'a>>
+    ensures concluded { IfOk result (ConcludesBy (N.connects way.entry.network.now) N.Socket.sends
+        (address_by given.now.running.items) (F.holds files.now given.now.plan.now)
+        (F.holds files.now given.now.certificate.now) (mapped text_of given.now.others.items)) }
+    ensures stops { IfErr result (StopsBy (F.holds files.now given.now.plan.now)
+        (F.holds files.now given.now.certificate.now) (mapped text_of given.now.others.items)) }
+{
+    let token = match token_at(alloc, files, given.token) {
+        Ok(token) => token,
+        Err(halt) => return Err(NodesStopped::from(halt)),
+    };
     let sealed = match seal_files(alloc, files, given.plan, given.certificate) {
         Ok(sealed) => sealed,
         Err(halt) => return Err(NodesStopped::from(halt)),
@@ -398,17 +378,6 @@ fn audit_given<'a, F: Files + Tokens, N: Network, C: Clock>(
     let came = audit_sealed(alloc, way, &sealed, given, token.as_ref());
     drop(sealed);
     came
-}
-
-/// Writes that, and at which node it is.
-fn tell_at<E: Write>(fault: &str, node: &Text, faults: &mut E) -> io::Result<()> {
-    writeln!(faults, "dr_router: {fault}")?;
-    if node.is_empty() {
-        return Ok(());
-    }
-    faults.write_all(b"  node ")?;
-    faults.write_all(node.as_bytes())?;
-    faults.write_all(b"\n")
 }
 
 /// Reads the journals of nodes that run, of all nodes of the plan but the others, and prints
@@ -423,23 +392,17 @@ pub fn audit_running<'a, F: Files + Tokens, N: Network, C: Clock, W: Write, E: W
     way: Way<'_, N, C>,
     output: &mut W,
     faults: &mut E,
-) -> Result<Status, Failure<'a>> {
+) -> Result<Status, Failure<'a>>
+    ensures { IfOk result (EndsRunning (N.connects way.entry.network.now) N.Socket.sends
+        (address_by given.entry.running.items) (F.holds files.now given.entry.plan.now)
+        (F.holds files.now given.entry.certificate.now) (mapped text_of given.entry.others.items)
+        (W.contents output.old) (W.contents output.new)
+        (E.contents faults.old) (E.contents faults.new)) }
+{
     let came = audit_given(alloc, files, &given, way);
     drop(given);
     match came {
         Ok(audited) => tell_audit(&audited, output),
-        Err(NodesStopped::Halted(stop)) => tell_stop(stop, output, faults),
-        Err(NodesStopped::Asking(fault, node)) => {
-            tell_at(fault.name(), &node, faults)?;
-            Ok(status_of(fault))
-        }
-        Err(NodesStopped::Twice(node)) => {
-            tell_at("Twice", &node, faults)?;
-            Ok(Status::Refused)
-        }
-        Err(NodesStopped::Memory) => {
-            tell_at("Memory", &Text::empty(alloc), faults)?;
-            Ok(Status::Memory)
-        }
+        Err(stop) => tell_stopped(alloc, stop, output, faults),
     }
 }
