@@ -1,15 +1,16 @@
 -- Nodes that are asked one after the other, and what stops that.
-use Rattle.std.proofs.Common.{◌≡◌, ◌∙◌, inl, inr, ap, sym, subst, refl, arith, ℕ, ◌+◌, ◌<◌, ◌≤◌, List, [], ◌∷◌, ◌++◌, length, take, get_or, map, Contains, Bool, Option, None, Some, Ok, Err, Result}
+use Rattle.std.proofs.Common.{◌≡◌, ◌∙◌, inl, inr, ap, sym, subst, refl, arith, ℕ, ◌+◌, ◌<◌, ◌≤◌, List, [], ◌∷◌, ◌++◌, length, take, get_or, map, Contains, Bool, true, false, Option, None, Some, Ok, Err, Result}
 use Rattle.std.specs.Prelude.{IfErr, IfOk}
 use Rattle.std.specs.List.{AllByRecursion, AllZip}
 use Rattle.std.specs.Result.{IsErr, IsErrAnd}
 use Rattle.std.specs.Io.KnownBytes.{Appends}
 use Rattle.std.proofs.lemmas.Bool.{false≢true}
-use Rattle.std.proofs.lemmas.List.{append_assoc, map_push, take_more}
+use Rattle.std.specs.Prelude.{◌==◌, codes}
+use Rattle.std.proofs.lemmas.List.{append-nil, append_assoc, map_push, take_more}
 use Rattle.dr_base.specs.Texts.{Text}
 use Rattle.dr_world_audit.specs.Sites.{names as names_of}
 use Rattle.dr_world_audit.specs.declared.audit.NodeJournal.{NodeJournal}
-use Rattle.dr_word_audit_at.specs.Running.{HasStopped, IsBefore, StopsAt}
+use Rattle.dr_word_audit_at.specs.Running.{HasStopped, IsBefore, StopsAt, fault_lines}
 use Rattle.dr_word_audit_at.specs.declared.stopping.NodesStopped.{NodesStopped}
 use Rattle.dr_word_audit_at.specs.declared.stopping.NodesStopped.TheVariants as stops
 
@@ -101,3 +102,14 @@ appends_more None b c x y h i = tt
 appends_more (Some as') None c x y h i = absurd h
 appends_more (Some as') (Some bs) None x y h i = absurd i
 appends_more (Some as') (Some bs) (Some cs) x y h i = i ∙ ap (λ (ls : Text). ls ++ y) h ∙ append_assoc as' x y
+
+-- a fault at no node
+pub lines_none : (old new : Option Text) (fault node : Text) → (length node == 0) ≡ true → Appends old new (codes "dr_router: " ++ fault ++ codes "\n") → Appends old new (fault_lines fault node)
+lines_none old new fault [] none h = subst (λ (text : Text). Appends old new text) (sym (append-nil (codes "dr_router: " ++ fault ++ codes "\n"))) h
+lines_none old new fault (byte ∷ bytes) none h = absurd (false≢true none)
+
+-- and one at a node
+pub lines_node : (old mid new : Option Text) (fault node : Text) → (length node == 0) ≡ false → Appends old mid (codes "dr_router: " ++ fault ++ codes "\n") → Appends mid new (codes "  node " ++ node ++ codes "\n")
+    → Appends old new (fault_lines fault node)
+lines_node old mid new fault [] some h i = absurd (false≢true (sym some))
+lines_node old mid new fault (byte ∷ bytes) some h i = appends_more old mid new (codes "dr_router: " ++ fault ++ codes "\n") (codes "  node " ++ (byte ∷ bytes) ++ codes "\n") h i
