@@ -1,5 +1,4 @@
-use Rattle.std.proofs.Common.{◌≤◌, ◌<◌, refl, arith, Result, Ok, Err}
-use Rattle.dr_run_control.specs.Consoles.{State}
+use Rattle.std.proofs.Common.{◌≤◌, refl, arith, Ok, Err}
 use Rattle.dr_run_serve.specs.Pasts.{TellsPage}
 use Rattle.dr_run_serve.proofs.Turning.{turns_early, turns_never, turns_swept}
 use Rattle.dr_run_serve.proofs.sweeper.Sweeper.turn.Goals as goal
