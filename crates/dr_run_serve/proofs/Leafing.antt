@@ -1,7 +1,7 @@
 -- Pages of a journal, as they are read one behind the other.
 use Rattle.std.proofs.Common.{◌≡◌, ◌∙◌, ap, sym, subst, refl, arith, inl, inr, ℕ, ◌≤◌, ◌+◌, ◌++◌, List, [], ◌∷◌, Bool, true, false, length, Result, Ok, Err}
 use Rattle.std.specs.Prelude.{◌==◌}
-use Rattle.std.proofs.lemmas.Bool.{eqb-true, eqb-false, false≢true}
+use Rattle.std.proofs.lemmas.Bool.{eqb-true, false≢true}
 use Rattle.std.proofs.lemmas.List.{append-nil, append_assoc, length_push, nil_from_length}
 use Rattle.std.specs.Result.{IsErr, IsErrAnd}
 use Rattle.dr_ledger.specs.declared.fault.LedgerFault.{LedgerFault}

@@ -20,7 +20,7 @@ module _ {L : Type 0} (site_of : L → Part) (book : L → Book) (stands : L →
   pub turns_early : (terms : Option ℕ) (after next now : ℕ) (had : Option Sweep) (s : State) (past : Past) → terms ≡ Some after → now < next → HasNoted lines past
       → Turns site_of book stands failed own first tells lines terms next now had s (Ok 0) had past s
   turns_early terms after next now had s past is early noted =
-      subst (λ (o : Option ℕ). Turns site_of book stands failed own first tells lines o next now had s (Ok 0) had past s) (sym is) (inl (early, refl, refl, refl, noted))
+      subst (λ (o : Option ℕ). Turns site_of book stands failed own first tells lines o next now had s (Ok 0) had past s) (sym is) (inl (early, (refl, refl, refl, noted)))
 
   -- what is over is forgotten
   pub turns_swept : (terms : Option ℕ) (after since next now : ℕ) (had : Option Sweep) (s : State) (came : Result ℕ LedgerFault) (left : Option Sweep) (past : Past) (t : State) → terms ≡ Some after → since ≡ now - after → next ≤ now

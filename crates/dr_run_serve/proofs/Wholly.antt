@@ -1,12 +1,12 @@
 -- Pages of one journal are its lines, from the first one on.
-use Rattle.std.proofs.Common.{◌≡◌, ◌∙◌, ap, sym, subst, refl, arith, inl, inr, ℕ, ◌<◌, ◌≤◌, ◌+◌, ◌^◌, ◌++◌, List, [], ◌∷◌, Bool, true, false, length, take, drop, Result, Ok, Err}
+use Rattle.std.proofs.Common.{◌≡◌, ◌∙◌, ap, sym, subst, refl, arith, inl, inr, ℕ, ◌<◌, ◌+◌, ◌^◌, ◌++◌, List, [], ◌∷◌, Bool, true, false, length, take, drop, Result, Ok, Err}
 use Rattle.std.proofs.Math.Nat.{min-eq_left}
 use Rattle.std.proofs.lemmas.List.{append-nil, append_assoc, length-append, take-append-drop}
 use Rattle.dr_ledger.specs.declared.fault.LedgerFault.{LedgerFault}
 use Rattle.dr_ledger_history.specs.declared.line.JournalLine.{JournalLine}
 use Rattle.dr_run_answer.specs.Journals.{next_number}
 use Rattle.dr_run_serve.specs.Laws.{BeginningsAreRead, TellsOf, TheWholeIsRead}
-use Rattle.dr_run_serve.specs.Pasts.{ArePages, EndsPages, ReadsOn, ReadsPage, counted_from, joined}
+use Rattle.dr_run_serve.specs.Pasts.{ArePages, ReadsOn, counted_from, joined}
 
 counted_is : (n : ℕ) (xs : List JournalLine) → n + length xs < 2 ^ 63 → counted_from n xs ≡ n + length xs
 counted_is n [] small = omega arith

@@ -1,6 +1,5 @@
-use Rattle.std.proofs.Common.{◌≡◌, ◌∙◌, subst, sym, ap, refl, arith, inl, inr, Option, None, Some, Result, Ok, List, Bool, ◌∷◌, [], ◌++◌, ◌+◌, ◌<◌}
+use Rattle.std.proofs.Common.{◌≡◌, ◌∙◌, subst, sym, ap, refl, arith, inl, inr, Option, None, Some, Ok, List, Bool, ◌∷◌, [], ◌++◌, ◌+◌, ◌<◌}
 use Rattle.std.proofs.lemmas.List.{length_push}
-use Rattle.dr_ledger.specs.declared.fault.LedgerFault.{LedgerFault}
 use Rattle.dr_run_control.specs.Consoles.{State}
 use Rattle.dr_run_serve.specs.Sweeps.{Chain, ForgetsFirst, ForgetsOne, IsNotDue, counted}
 use Rattle.dr_run_serve.specs.declared.sweep.OverInstance.{OverInstance}

@@ -1,6 +1,5 @@
-use Rattle.std.proofs.Common.{◌≡◌, ap, arith, subst, List, Bool, ◌++◌, true, false, Result, Ok}
-use Rattle.dr_ledger_history.specs.declared.line.JournalLine.{JournalLine}
-use Rattle.dr_run_serve.specs.Pasts.{HasNoted, TellsPage, joined}
+use Rattle.std.proofs.Common.{arith, subst, Bool, ◌++◌, true, false, Ok}
+use Rattle.dr_run_serve.specs.Pasts.{TellsPage, joined}
 use Rattle.dr_run_serve.proofs.Leafing.{PageCame, came_fault, came_part, came_whole, so_more, so_none}
 use Rattle.dr_run_serve.proofs.past.DeskJournal.read_on.Goals as goal
 

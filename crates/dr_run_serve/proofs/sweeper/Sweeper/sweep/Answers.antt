@@ -1,4 +1,4 @@
-use Rattle.std.proofs.Common.{◌≡◌, ◌++◌, List, Option, Some, Ok, ℕ, subst, sym}
+use Rattle.std.proofs.Common.{◌++◌, List, Option, Some, Ok, ℕ, subst, sym}
 use Rattle.dr_desk.specs.declared.receipt.Receipt.{Receipt}
 use Rattle.dr_run_control.specs.Consoles.{State}
 use Rattle.dr_run_serve.specs.Pasts.{IsKnown, TellsPage}
