@@ -65,6 +65,10 @@ abbrev pub IsMadeWith : List ℕ → Part → Database → Type 0
 IsMadeWith mark part db =
     (cell : List ℕ) × IsPlanWith mark part.digest cell × IsMadeFor part.name cell db
 
+-- with some mark
+abbrev pub IsMadeBy : Part → Database → Type 0
+IsMadeBy part db = (mark : List ℕ) × IsMadeWith mark part db
+
 -- these are queries over the tables
 pub record AreQueries (schema : Schema) : Type 0 where
   pub site : IsQuery schema text.the_site

@@ -7,7 +7,7 @@ ghost use Rattle.dr_store_schema.specs.Tables.{tables};
 ghost use Rattle.dr_store_writes.specs.Effects.{CommitsNothing};
 ghost use Rattle.dr_store_calls.specs.Adoptions.{IsMark};
 ghost use Rattle.dr_store_open.specs.Opening.{LeavesOldOr, LeavesOldOrCommitted};
-ghost use Rattle.dr_store_open.specs.Renewing.{HasNoRows, IsMadeFor, IsMadeWith};
+ghost use Rattle.dr_store_open.specs.Renewing.{IsMadeFor, IsMadeWith};
 
 use crate::asking::run_texts;
 use crate::fault::{OpeningFault, of_error};
@@ -146,17 +146,14 @@ pub fn make<S: Alter>(
     site: &Site,
     mark: &[u8],
 ) -> Result<(), OpeningFault>
-    requires { conn.old.in_transaction ≡ false }
+    requires idle { conn.old.in_transaction ≡ false }
+    requires marked { IsMark mark.now }
     ensures idle { conn.new.in_transaction ≡ false }
     ensures clean { doubt (state S.Store conn.old).is_clean
         ≤ doubt (state S.Store conn.new).is_clean }
     ensures made { HasCleanDisk (state S.Store conn.new)
         → OnOk result (LeavesOldOrCommitted (state S.Store conn.old) (state S.Store conn.new)) }
     ensures crash { HasCleanDisk (state S.Store conn.new)
-        → LeavesOldOr (λ d. d.schema ≡ tables → HasNoRows d) (state S.Store conn.old)
-        (state S.Store conn.new) }
-    ensures owner { IsMark mark.now
-        → HasCleanDisk (state S.Store conn.new)
         → LeavesOldOr (λ d. d.schema ≡ tables → IsMadeWith mark.now site.now d)
         (state S.Store conn.old) (state S.Store conn.new) }
 {

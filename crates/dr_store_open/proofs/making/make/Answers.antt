@@ -3,18 +3,12 @@ use Rattle.sqlite.specs.Effect.{Database}
 use Rattle.sqlite.specs.Held.{state}
 use Rattle.dr_store_schema.specs.Tables.{tables}
 use Rattle.dr_store_calls.specs.Adoptions.{IsPlanWith}
-use Rattle.dr_store_open.specs.Renewing.{HasNoRows, IsMadeFor, IsMadeWith}
+use Rattle.dr_store_open.specs.Renewing.{IsMadeFor, IsMadeWith}
 use Rattle.dr_store_open.proofs.Filling.{leaves_more}
 use Rattle.dr_store_open.proofs.making.make.Goals as goal
 
 pub returns-in-Ok-clause-crash : goal.returns-in-Ok-clause-crash
 returns-in-Ok-clause-crash g c clean =
-    let Made : Database → Type 0 = λ d. d.schema ≡ tables → IsMadeFor c.name.result.now c.deref.result.now d in
-    leaves_more (state g.S.Store c.args.conn.now) (state g.S.Store c.make_for.new.conn) Made (λ d. d.schema ≡ tables → HasNoRows d)
-    (λ d made named. (made named).others) (c.make_for.ensures.crash clean)
-
-pub returns-in-Ok-clause-owner : goal.returns-in-Ok-clause-owner
-returns-in-Ok-clause-owner g c marked clean =
     let part = c.args.site.now in
     let mark = c.args.mark.now in
     let made = c.in-Ok.cell.items in
@@ -22,7 +16,7 @@ returns-in-Ok-clause-owner g c marked clean =
     let same : made ≡ cell = search rules in
     let has : IsPlanWith mark part.digest cell =
     subst (IsPlanWith mark part.digest) same
-    (subst (λ d. IsPlanWith mark d made) c.digest.ensures (c.in-Ok.ensures marked)) in
+    (subst (λ d. IsPlanWith mark d made) c.digest.ensures (c.in-Ok.ensures c.requires.marked)) in
     let Made : Database → Type 0 = λ d. d.schema ≡ tables → IsMadeFor c.name.result.now cell d in
     leaves_more (state g.S.Store c.args.conn.now) (state g.S.Store c.make_for.new.conn) Made (λ d. d.schema ≡ tables → IsMadeWith mark part d)
     (λ d made named. (cell, has, subst (λ node. IsMadeFor node cell d) c.name.ensures (made named))) (c.make_for.ensures.crash clean)
