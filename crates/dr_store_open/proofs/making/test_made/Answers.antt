@@ -1,5 +1,6 @@
-use Rattle.std.proofs.Common.{◌∙◌, sym, subst}
+use Rattle.std.proofs.Common.{◌∙◌, Some, sym, subst}
 use Rattle.sqlite.specs.Held.{state}
+use Rattle.dr_store_reads.specs.Queries.{IsOwnerAsShown}
 use Rattle.dr_store_open.specs.Renewing.{AreQueries}
 use Rattle.dr_store_open.proofs.Emptied.{made_for}
 use Rattle.dr_store_open.proofs.Queried.{new_queries}
@@ -12,4 +13,5 @@ returns-clause-made g c clean named =
     let queries : AreQueries old.now.schema = subst AreQueries (sym (sym (c.in_ok-sheets.ensures.schema clean) ∙ named)) new_queries in
     let told = c.in_ok-sheets.ensures.answers clean queries in
     made_for old.now new.now c.in_ok-sheets.sheets c.args.node.now c.args.cell.now told.0 told.1 (c.has_no_rows.ensures c.if-not-has_no_rows.false)
-    (c.shows_owner.ensures c.if-not-shows_owner.false)
+    (subst (λ rows. IsOwnerAsShown rows (Some (record { node = c.args.node.now; plan = c.args.cell.now }))) c.as_slice.ensures.value
+    (c.shows_owner.ensures c.if-not-shows_owner.false))

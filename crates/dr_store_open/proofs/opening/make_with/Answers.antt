@@ -1,0 +1,24 @@
+use Rattle.std.proofs.Common.{rules, ◌≡◌, sym, subst}
+use Rattle.sqlite.specs.Held.{state}
+use Rattle.dr_store_schema.specs.Tables.{tables}
+use Rattle.dr_store_calls.specs.Adoptions.{IsMark}
+use Rattle.dr_store_open.specs.Opening.{LeavesOldOr}
+use Rattle.dr_store_open.specs.Renewing.{IsMadeWith}
+use Rattle.dr_store_open.proofs.opening.make_with.Goals as goal
+
+pub make-requires-clause-marked : goal.make-requires-clause-marked
+make-requires-clause-marked g c =
+    let same : c.args.beside.1.items ≡ c.deref.result.now = search rules in
+    subst IsMark same c.requires.marked
+
+pub returns-in-Ok-clause-crash : goal.returns-in-Ok-clause-crash
+returns-in-Ok-clause-crash g c clean =
+    let same : c.deref.result.now ≡ c.args.beside.1.items = search rules in
+    subst (λ mark. LeavesOldOr (λ d. d.schema ≡ tables → IsMadeWith mark c.args.site.now d) (state g.S.Store c.args.conn.now) (state g.S.Store c.make.new.conn)) same
+    (c.make.ensures.crash clean)
+
+pub returns-in-Err-clause-crash : goal.returns-in-Err-clause-crash
+returns-in-Err-clause-crash g c clean =
+    let same : c.deref.result.now ≡ c.args.beside.1.items = search rules in
+    subst (λ mark. LeavesOldOr (λ d. d.schema ≡ tables → IsMadeWith mark c.args.site.now d) (state g.S.Store c.args.conn.now) (state g.S.Store c.make.new.conn)) same
+    (c.make.ensures.crash clean)
