@@ -3,7 +3,6 @@ ghost use Rattle.std.specs.Prelude.{◌≡◌, IfErr, IfOk, MatchOption, None, S
 ghost use Rattle.dr_store_data.specs.declared.mark.DataMark.{DataMark as AMark};
 ghost use Rattle.dr_store_data.specs.Heads.{bytes_of_mark};
 ghost use Rattle.dr_store_open.specs.declared.data.Keeping.TheVariants as wanted;
-ghost use Rattle.dr_store_calls.specs.Adoptions.{IsMark};
 ghost use Rattle.dr_store_open.specs.Places.{IsBegun};
 
 use crate::data::Keeping;
@@ -20,7 +19,6 @@ fn with_mark<D: Disk + Drop>(
 ) -> Result<(Option<D>, Vec<u8>), OpeningFault>
     ensures disk { IfOk result (λ made. made.0 ≡ Some disk) }
     ensures bytes { IfOk result (λ made. made.1.items ≡ bytes_of_mark mark.now) }
-    ensures marked { IfOk result (λ made. IsMark made.1.items) }
 {
     let bytes = mark_bytes(alloc, mark)?;
     Ok((Some(disk), bytes))
@@ -35,7 +33,6 @@ fn begun<D: Disk + Drop>(
     ensures head { IfOk result (λ made. MatchOption made.0 ⊥ (λ it.
         IsBegun mark.now (D.Disk.seen it) (D.Disk.may_leave it))) }
     ensures bytes { IfOk result (λ made. made.1.items ≡ bytes_of_mark mark.now) }
-    ensures marked { IfOk result (λ made. IsMark made.1.items) }
 {
     let mut disk = disk;
     match make_head(&mut disk, alloc, &mark.mark) {
@@ -50,11 +47,10 @@ fn drawn<F: DataFile>(
     data: &F,
     disk: F::Disk,
 ) -> Result<(Option<F::Disk>, Vec<u8>), OpeningFault>
-    ensures file { IfOk result (λ made. (said : AMark)
+    ensures { IfOk result (λ made. (said : AMark)
         × (made.1.items ≡ bytes_of_mark said)
         × MatchOption made.0 ⊥ (λ it. IsBegun said (F.Disk.Disk.seen it)
         (F.Disk.Disk.may_leave it))) }
-    ensures marked { IfOk result (λ made. IsMark made.1.items) }
 {
     match data.draw(alloc) {
         Ok(mark) => begun(disk, alloc, &mark),
@@ -67,11 +63,10 @@ fn new_file<F: DataFile>(
     alloc: Global,
     data: &F,
 ) -> Result<(Option<F::Disk>, Vec<u8>), OpeningFault>
-    ensures file { IfOk result (λ made. (said : AMark)
+    ensures { IfOk result (λ made. (said : AMark)
         × (made.1.items ≡ bytes_of_mark said)
         × MatchOption made.0 ⊥ (λ it. IsBegun said (F.Disk.Disk.seen it)
         (F.Disk.Disk.may_leave it))) }
-    ensures marked { IfOk result (λ made. IsMark made.1.items) }
 {
     match data.make(alloc) {
         Ok(disk) => drawn(alloc, data, disk),
@@ -95,7 +90,6 @@ pub fn new_data<F: DataFile>(
         × (made.1.items ≡ bytes_of_mark said)
         × MatchOption made.0 ⊥ (λ it. IsBegun said (F.Disk.Disk.seen it)
         (F.Disk.Disk.may_leave it))) }
-    ensures marked { IfOk result (λ made. IsMark made.1.items) }
     ensures why { IfErr result (λ fault. keeping ≡ wanted.InFile) }
 {
     match keeping {

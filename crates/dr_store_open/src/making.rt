@@ -5,7 +5,6 @@ ghost use Rattle.sqlite.specs.State.{HasCleanDisk};
 ghost use Rattle.sqlite_trees.specs.View.{doubt};
 ghost use Rattle.dr_store_schema.specs.Tables.{tables};
 ghost use Rattle.dr_store_writes.specs.Effects.{CommitsNothing};
-ghost use Rattle.dr_store_calls.specs.Adoptions.{IsMark};
 ghost use Rattle.dr_store_open.specs.Opening.{LeavesOldOr, LeavesOldOrCommitted};
 ghost use Rattle.dr_store_open.specs.Renewing.{IsMadeFor, IsMadeWith};
 
@@ -15,7 +14,7 @@ use crate::owner::shows_owner;
 use crate::sheets::{Sheets, ask_sheets};
 use dr_base::Text;
 use dr_site::Site;
-use dr_store_calls::plan_cell;
+use dr_store_calls::{is_mark, plan_cell};
 use dr_store_writes::add_site;
 use sqlite::{Alter, Connection, Transaction};
 use std::alloc::Global;
@@ -137,17 +136,16 @@ fn make_for<S: Alter>(
 
 /// Makes the tables of a new ledger of this site, as one transaction. They say that its data sets
 /// are in the file with this mark or, where the mark is nothing, in rows. Whatever it answers, a
-/// crash leaves what it could leave before, or all of the tables.
+/// crash leaves what it could leave before, or all of the tables, whose owner's row says so.
 ///
-/// Errors: Store, Memory.
+/// Errors: Store, also for bytes that are no mark; Memory.
 pub fn make<S: Alter>(
     conn: &mut Connection<S>,
     alloc: Global,
     site: &Site,
     mark: &[u8],
 ) -> Result<(), OpeningFault>
-    requires idle { conn.old.in_transaction ≡ false }
-    requires marked { IsMark mark.now }
+    requires { conn.old.in_transaction ≡ false }
     ensures idle { conn.new.in_transaction ≡ false }
     ensures clean { doubt (state S.Store conn.old).is_clean
         ≤ doubt (state S.Store conn.new).is_clean }
@@ -157,6 +155,9 @@ pub fn make<S: Alter>(
         → LeavesOldOr (λ d. d.schema ≡ tables → IsMadeWith mark.now site.now d)
         (state S.Store conn.old) (state S.Store conn.new) }
 {
+    if !is_mark(mark) {
+        return Err(OpeningFault::Store);
+    }
     match plan_cell(alloc, site.digest(), mark) {
         Ok(cell) => make_for(conn, site.name(), &cell),
         Err(_) => Err(OpeningFault::Memory),

@@ -5,7 +5,7 @@ ghost use Rattle.sqlite.specs.Held.{state};
 ghost use Rattle.sqlite.specs.State.{HasCleanDisk, IsLive};
 ghost use Rattle.dr_store_schema.specs.Tables.{tables};
 ghost use Rattle.sqlite_trees.specs.View.{doubt};
-ghost use Rattle.dr_store_calls.specs.Adoptions.{IsMark, IsOwnedBy};
+ghost use Rattle.dr_store_calls.specs.Adoptions.{IsOwnedBy};
 ghost use Rattle.dr_store_calls.specs.Calling.{IsKept};
 ghost use Rattle.dr_store_audit.specs.Older.{IsOlder};
 ghost use Rattle.dr_store_open.specs.Renewing.{IsMadeBy, IsMadeWith, KeepsRows};
@@ -202,8 +202,7 @@ fn make_with<S: Alter, D: Drop>(
     site: &Site,
     beside: (Option<D>, Vec<u8>),
 ) -> Result<(bool, Option<D>), OpeningFault>
-    requires idle { conn.old.in_transaction ≡ false }
-    requires marked { IsMark beside.1.items }
+    requires { conn.old.in_transaction ≡ false }
     ensures idle { conn.new.in_transaction ≡ false }
     ensures clean { doubt (state S.Store conn.old).is_clean
         ≤ doubt (state S.Store conn.new).is_clean }

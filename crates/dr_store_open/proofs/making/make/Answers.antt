@@ -16,7 +16,7 @@ returns-in-Ok-clause-crash g c clean =
     let same : made ≡ cell = search rules in
     let has : IsPlanWith mark part.digest cell =
     subst (IsPlanWith mark part.digest) same
-    (subst (λ d. IsPlanWith mark d made) c.digest.ensures (c.in-Ok.ensures c.requires.marked)) in
+    (subst (λ d. IsPlanWith mark d made) c.digest.ensures (c.in-Ok.ensures (c.is_mark.ensures.0 c.if-not-is_mark.false))) in
     let Made : Database → Type 0 = λ d. d.schema ≡ tables → IsMadeFor c.name.result.now cell d in
     leaves_more (state g.S.Store c.args.conn.now) (state g.S.Store c.make_for.new.conn) Made (λ d. d.schema ≡ tables → IsMadeWith mark part d)
     (λ d made named. (cell, has, subst (λ node. IsMadeFor node cell d) c.name.ensures (made named))) (c.make_for.ensures.crash clean)

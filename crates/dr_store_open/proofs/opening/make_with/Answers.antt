@@ -1,15 +1,9 @@
-use Rattle.std.proofs.Common.{rules, ◌≡◌, sym, subst}
+use Rattle.std.proofs.Common.{rules, ◌≡◌, subst}
 use Rattle.sqlite.specs.Held.{state}
 use Rattle.dr_store_schema.specs.Tables.{tables}
-use Rattle.dr_store_calls.specs.Adoptions.{IsMark}
 use Rattle.dr_store_open.specs.Opening.{LeavesOldOr}
 use Rattle.dr_store_open.specs.Renewing.{IsMadeWith}
 use Rattle.dr_store_open.proofs.opening.make_with.Goals as goal
-
-pub make-requires-clause-marked : goal.make-requires-clause-marked
-make-requires-clause-marked g c =
-    let same : c.args.beside.1.items ≡ c.deref.result.now = search rules in
-    subst IsMark same c.requires.marked
 
 pub returns-in-Ok-clause-crash : goal.returns-in-Ok-clause-crash
 returns-in-Ok-clause-crash g c clean =
