@@ -17,7 +17,7 @@ FILES = ("crates/*/specs/**/*.antt", "crates/*/proofs/**/*.antt", "crates/*/src/
 # An import: the crate, the folder, the path of the file, and names in braces where it has some.
 IMPORT = re.compile(r"use Rattle\.(dr_\w+)\.(specs|proofs)\.([\w.+-]+?)(?:\.\{([^}]*)\}| as \w+|;|\n)")
 # What the kit makes of the sources.
-MADE = re.compile(r"declared\b|contracts\b|.*\.(?:Goals|Given|Met)\b|.*\.TheVariants\b")
+MADE = re.compile(r"declared\b|contracts\b|.*\.(?:Goals|Given|Met)\b|.*\.(?:TheVariants|TheSendSync)\b")
 
 
 @functools.cache

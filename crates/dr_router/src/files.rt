@@ -4,11 +4,14 @@ ghost use Rattle.sqlite.specs.Held.{state};
 ghost use Rattle.dr_word_rehearse.specs.Looks.{IsFoundBy};
 ghost use Rattle.dr_router.specs.Opening.{HasLedgerIn, fault_of_database, fault_of_opening};
 ghost use Rattle.dr_router.specs.Opening.{fault_of_data, keeping_of};
+ghost use Rattle.sqlite.specs.State.{HasCleanDisk};
+ghost use Rattle.dr_store_calls.specs.Calling.{IsKept};
 ghost use Rattle.dr_store_open.specs.Opening.{IsBlank};
-ghost use Rattle.dr_store_open.specs.Places.{names_in};
+ghost use Rattle.dr_store_open.specs.Places.{HasOwnOn, names_in};
 ghost use Rattle.dr_store_shelf.specs.Either.{named_on};
 
 use crate::beside::{DataBeside, data_length, data_name, data_path, draw, file_of};
+use crate::shelf::FileShelf;
 use dr_base::Text;
 use dr_run_backup::{BackupFault, Backups, LedgerCopy, SystemBackups};
 use dr_run_files::Files;
@@ -18,9 +21,8 @@ use dr_run_token::{SystemTokens, Tokens};
 use dr_site::Site;
 use dr_store::SqlLedger;
 use dr_store_audit::{is_ours, lacking};
-use dr_store_data::{DataFile, DataFileFault, DataMark, HEAD_SIZE};
-use dr_store_open::{Keeping, OpeningFault, ledger_on};
-use dr_store_shelf::LedgerShelf;
+use dr_store_data::{DataFileFault, DataMark, HEAD_SIZE};
+use dr_store_open::{Keeping, OpenedLedger, OpeningFault, on};
 use dr_word_adopt::ShowsFiles;
 use dr_word_check::Disk;
 use dr_word_rehearse::{Finds, LedgerFound};
@@ -265,24 +267,46 @@ fn keeping_of(making: Making) -> Keeping
     }
 }
 
-/// The ledger of a site over a connection to its database, beside which is the file of its data
-/// sets, if it has one. It is told the moment.
-fn ledger_over<S: Alter + Drop, F: DataFile>(
+/// The ledger of this site, over a connection to its tables and the shelf of their cells, as they
+/// were opened. It is told the moment (milliseconds since 1970).
+fn stored_ledger<S: Alter>(
     alloc: Global,
     conn: Connection<S>,
-    data: &F,
+    opened: OpenedLedger<File>,
+    site: Site,
+    now: Option<u64>,
+) -> SqlLedger<S, FileShelf>
+    requires idle { conn.in_transaction ≡ false }
+    requires kept { HasCleanDisk (state S.Store conn)
+        → IsKept opened.next site (state S.Store conn) }
+    requires own { HasCleanDisk (state S.Store conn)
+        → HasOwnOn (state S.Store conn).committed.trees opened.shelf }
+    ensures site { result.site ≡ site }
+    ensures conn { result.conn ≡ conn }
+    ensures shelf { result.shelf.0 ≡ opened.shelf }
+{
+    let OpenedLedger { shelf, next } = opened;
+    SqlLedger::of(alloc, conn, FileShelf(shelf), site, next, now)
+}
+
+/// The ledger of a site over a connection to its database, beside which is the file of its data
+/// sets, if it has one. It is told the moment.
+fn ledger_over<S: Alter + Drop, D: Databases>(
+    alloc: Global,
+    conn: Connection<S>,
+    data: &DataBeside<'_, D>,
     keeping: Keeping,
     site: Site,
     now: Option<u64>,
-) -> Result<SqlLedger<S, LedgerShelf<F::Disk>>, OpenFault>
+) -> Result<SqlLedger<S, FileShelf>, OpenFault>
     requires { conn.in_transaction ≡ false }
     ensures of { IfOk result (λ l. l.site ≡ site) }
-    ensures is { IfOk result (λ l. HasLedgerIn l.site (state S.Store l.conn) l.shelf) }
+    ensures is { IfOk result (λ l. HasLedgerIn l.site (state S.Store l.conn) l.shelf.0) }
     ensures wanted { IfOk result (λ l. IsBlank (state S.Store conn).now.schema
-        → named_on l.shelf ≡ names_in keeping) }
+        → named_on l.shelf.0 ≡ names_in keeping) }
 {
-    match ledger_on(alloc, conn, data, keeping, site, now) {
-        Ok(ledger) => Ok(ledger),
+    match on(conn, alloc, data, keeping, &site) {
+        Ok((conn, opened)) => Ok(stored_ledger(alloc, conn, opened, site, now)),
         Err(fault) => Err(ledger_fault(fault)),
     }
 }
@@ -297,10 +321,10 @@ impl<D: Databases + Drop> Ledgers for StoredLedgers<D> {
     ghost use Rattle.sqlite.specs.Held.{state};
     ghost use Rattle.dr_router.specs.Opening.{HasLedgerIn};
 
-    type Ledger = SqlLedger<D::Store, LedgerShelf<File>>;
+    type Ledger = SqlLedger<D::Store, FileShelf>;
 
     ghost opens = { λ files path ledger.
-        HasLedgerIn ledger.site (state D.Store.Store ledger.conn) ledger.shelf };
+        HasLedgerIn ledger.site (state D.Store.Store ledger.conn) ledger.shelf.0 };
 
     fn open(
         &self,
@@ -308,7 +332,7 @@ impl<D: Databases + Drop> Ledgers for StoredLedgers<D> {
         path: &str,
         site: Site,
         making: Making,
-    ) -> Result<SqlLedger<D::Store, LedgerShelf<File>>, OpenFault> {
+    ) -> Result<SqlLedger<D::Store, FileShelf>, OpenFault> {
         if let Some(fault) = making.refusal(self.0.is_there(path)) {
             return Err(fault);
         }
@@ -336,15 +360,15 @@ impl<D: Databases + Drop> ShowsFiles for StoredLedgers<D> {
 
 /// What is found over a connection to a database. Where its tables are those of today, opening its
 /// ledger changes nothing of it.
-fn found_over<S: Alter + Drop, F: DataFile>(
+fn found_over<S: Alter + Drop, D: Databases>(
     alloc: Global,
     conn: Connection<S>,
-    data: &F,
+    data: &DataBeside<'_, D>,
     site: Site,
     now: Option<u64>,
-) -> Result<LedgerFound<SqlLedger<S, LedgerShelf<F::Disk>>>, OpenFault>
+) -> Result<LedgerFound<SqlLedger<S, FileShelf>>, OpenFault>
     requires { conn.in_transaction ≡ false }
-    ensures { IfOk result (IsFoundBy (λ l. HasLedgerIn l.site (state S.Store l.conn) l.shelf)
+    ensures { IfOk result (IsFoundBy (λ l. HasLedgerIn l.site (state S.Store l.conn) l.shelf.0)
         (λ l. l.site) site) }
 {
     if !is_ours(conn.schema()) {
@@ -365,7 +389,7 @@ impl<D: Databases + Drop> Finds for StoredLedgers<D> {
         alloc: Global,
         path: &str,
         site: Site,
-    ) -> Result<LedgerFound<SqlLedger<D::Store, LedgerShelf<File>>>, OpenFault> {
+    ) -> Result<LedgerFound<SqlLedger<D::Store, FileShelf>>, OpenFault> {
         if !self.0.is_there(path) {
             return Err(OpenFault::NoLedger);
         }

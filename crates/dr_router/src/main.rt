@@ -11,30 +11,33 @@ mod events;
 mod files;
 mod input;
 mod over;
+mod shelf;
 
 use crate::events::EventLog;
 use crate::files::{Databases, StoredLedgers, SystemDisk, SystemFiles};
 use crate::input::InputEnd;
 use crate::over::{ClockAt, Machine, run_on};
+use dr_ledger_journal::TellsJournal;
 use dr_run_backup::Backups;
 use dr_run_files::Files;
 use dr_run_net::{Cut, Sockets, SystemClock};
 use dr_run_open::Status;
 use dr_run_token::Tokens;
 use dr_word_check::{given_words, tell_unread_words};
+use dr_word_rehearse::Finds;
 use std::process::ExitCode;
 use std::sync::Wait;
 use std::thread::Threads;
 use std::{io, time};
 
 /// Runs the program on these words, over the system's network, clock, log, input and outputs, and
-/// any files. The files are the system's in `run` alone: all types at once are too many for the
-/// prover to compare.
+/// any files and ledgers. Ledgers in databases come in `run_over_databases`, and the system's files
+/// in `run` alone: all types at once are too many for the prover to compare.
 fn run_over_files<
     'x,
     T: Threads + Wait + Sync + time::Clock,
     F: Files + Backups + Tokens + Sync + Drop,
-    D: Databases + Drop,
+    O: Finds + Drop,
 >(
     rt: &'x HostRuntime,
     threads: &'x T,
@@ -42,14 +45,14 @@ fn run_over_files<
     clock: &'x SystemClock<'x, HostRuntime>,
     cut: &'x Cut,
     files: F,
-    databases: D,
+    ledgers: O,
 ) -> Status
 where
-    D::Store: Send,
+    O::Ledger: Send + TellsJournal,
 {
     let machine = Machine {
         files,
-        ledgers: StoredLedgers(databases),
+        ledgers,
         network: Sockets::new(rt, clock, cut),
         clock: ClockAt(clock),
         log: EventLog { rt, clock },
@@ -71,6 +74,35 @@ where
     )
 }
 
+/// The same, over ledgers in any databases.
+fn run_over_databases<
+    'x,
+    T: Threads + Wait + Sync + time::Clock,
+    F: Files + Backups + Tokens + Sync + Drop,
+    D: Databases + Drop,
+>(
+    rt: &'x HostRuntime,
+    threads: &'x T,
+    words: &[&str],
+    clock: &'x SystemClock<'x, HostRuntime>,
+    cut: &'x Cut,
+    files: F,
+    databases: D,
+) -> Status
+where
+    D::Store: Send,
+{
+    run_over_files(
+        rt,
+        threads,
+        words,
+        clock,
+        cut,
+        files,
+        StoredLedgers(databases),
+    )
+}
+
 /// Runs the program on its words, which fails only where they can't be read. `threads` is the
 /// runtime too, by which nodes run.
 fn run<'x, T: Threads + Wait + Sync + time::Clock>(
@@ -85,7 +117,7 @@ fn run<'x, T: Threads + Wait + Sync + time::Clock>(
         words.push(word.as_str())?;
     }
     let (files, databases) = (SystemDisk::new(rt), SystemFiles(rt));
-    Ok(run_over_files(rt, threads, words.as_slice(), clock, cut, files, databases))
+    Ok(run_over_databases(rt, threads, words.as_slice(), clock, cut, files, databases))
 }
 
 /// What the process ends with.
