@@ -11,7 +11,7 @@ ghost use Rattle.dr_word_line.specs.declared.words.Duty.{Duty as DutyValue};
 ghost use Rattle.dr_word_line.specs.declared.words.PlanChange.{PlanChange as PlanChangeValue};
 ghost use Rattle.dr_word_line.specs.declared.words.SiteFiles.{SiteFiles as SiteFilesValue};
 
-use crate::option::is_no_option;
+use crate::option::{are_paths, is_no_option, is_with_three};
 use crate::words::{
     Duty, PlanChange, Serving, SiteFiles, Task, USUAL_DAYS, USUAL_MEMORY, USUAL_WAITS,
     USUAL_WORKERS, Verbosity,
@@ -25,12 +25,8 @@ fn read_change<'a>(words: &'a [&'a str]) -> Option<Task<'a>>
 {
     match words {
         [word, plan, certificate, next_plan, next_certificate, folder]
-            if *word == "adopt"
-                && is_no_option(plan)
-                && is_no_option(certificate)
-                && is_no_option(next_plan)
-                && is_no_option(next_certificate)
-                && is_no_option(folder) => {
+            if is_with_three("adopt", word, plan, certificate, folder)
+                && are_paths(next_plan, next_certificate) => {
             let change = PlanChange {
                 plan,
                 certificate,
@@ -51,10 +47,7 @@ fn read_audit<'a>(words: &'a [&'a str]) -> Option<Task<'a>>
 {
     match words {
         [word, plan, certificate, folder]
-            if *word == "audit"
-                && is_no_option(plan)
-                && is_no_option(certificate)
-                && is_no_option(folder) => {
+            if is_with_three("audit", word, plan, certificate, folder) => {
             let given = SiteFiles {
                 plan,
                 certificate,
@@ -76,10 +69,7 @@ fn at_node<'a>(name: &str, words: &'a [&'a str]) -> Option<(NodeFiles<'a>, &'a [
 {
     match words {
         [word, plan, certificate, node, ledger, more @ ..]
-            if *word == name
-                && is_no_option(plan)
-                && is_no_option(certificate)
-                && is_no_option(ledger) => {
+            if is_with_three(name, word, plan, certificate, ledger) => {
             let given = NodeFiles {
                 plan,
                 certificate,

@@ -7,7 +7,7 @@ ghost use Rattle.dr_word_line.specs.declared.words.Errand.{Errand as ErrandValue
 ghost use Rattle.dr_word_line.specs.declared.words.Errand.TheVariants as errands;
 ghost use Rattle.dr_word_line.specs.declared.words.RunningNode.{RunningNode as RunningNodeValue};
 
-use crate::option::is_no_option;
+use crate::option::{is_no_option, is_with_two};
 use crate::words::{Errand, RunningNode, Task};
 
 /// Whether the words say where a running node may be asked.
@@ -27,10 +27,7 @@ fn at_running<'a>(name: &str, words: &'a [&'a str]) -> Option<(RunningNode<'a>, 
 {
     match words {
         [word, plan, certificate, node, option, at, more @ ..]
-            if *word == name
-                && is_no_option(plan)
-                && is_no_option(certificate)
-                && is_at(option, at) => {
+            if is_with_two(name, word, plan, certificate) && is_at(option, at) => {
             let given = RunningNode {
                 plan,
                 certificate,
