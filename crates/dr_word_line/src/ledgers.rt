@@ -223,16 +223,9 @@ fn read_whole<'a>(words: &'a [&'a str]) -> Option<Task<'a>>
     ensures with_data { IfNone result
         ((given : NodeFilesValue) → IsMakeWithDataOf words.now given → ⊥) }
 {
-    if let Some(asked) = read_listing(words) {
-        return Some(asked);
-    }
-    if let Some(asked) = read_serving(words) {
-        return Some(asked);
-    }
-    match read_making(words) {
-        Some(asked) => Some(asked),
-        None => None,
-    }
+    read_listing(words)
+        .or(read_serving(words))
+        .or(read_making(words))
 }
 
 /// What words ask of rows and instances of a ledger, if they are of such a form.
@@ -251,16 +244,9 @@ fn read_rows<'a>(words: &'a [&'a str]) -> Option<Task<'a>>
     ensures forget { IfNone result
         ((given : NodeFilesValue) (uid : Bor (List ℕ)) → IsForgetOf words.now given uid → ⊥) }
 {
-    if let Some(asked) = read_requeue(words) {
-        return Some(asked);
-    }
-    if let Some(asked) = read_giving_up(words) {
-        return Some(asked);
-    }
-    match read_forgetting(words) {
-        Some(asked) => Some(asked),
-        None => None,
-    }
+    read_requeue(words)
+        .or(read_giving_up(words))
+        .or(read_forgetting(words))
 }
 
 /// What words ask a node to do with its ledger, if they are of such a form.
@@ -269,16 +255,9 @@ fn read_duty<'a>(words: &'a [&'a str]) -> Option<Task<'a>>
     ensures duty { IfNone result
         ((given : NodeFilesValue) (duty : DutyValue) → IsDutyOf words.now given duty → ⊥) }
 {
-    if let Some(asked) = read_whole(words) {
-        return Some(asked);
-    }
-    if let Some(asked) = read_rows(words) {
-        return Some(asked);
-    }
-    match read_sending(words) {
-        Some(asked) => Some(asked),
-        None => None,
-    }
+    read_whole(words)
+        .or(read_rows(words))
+        .or(read_sending(words))
 }
 
 /// What plain words ask a node to do with its ledger, or of the ledgers of all nodes: those of a
@@ -290,14 +269,7 @@ pub(crate) fn read_ledger<'a>(words: &'a [&'a str]) -> Option<Task<'a>>
     ensures adopt { IfNone result ((change : PlanChangeValue) → IsAdoptOf words.now change → ⊥) }
     ensures audit { IfNone result ((given : SiteFilesValue) → IsAuditOf words.now given → ⊥) }
 {
-    if let Some(asked) = read_duty(words) {
-        return Some(asked);
-    }
-    if let Some(asked) = read_change(words) {
-        return Some(asked);
-    }
-    match read_audit(words) {
-        Some(asked) => Some(asked),
-        None => None,
-    }
+    read_duty(words)
+        .or(read_change(words))
+        .or(read_audit(words))
 }

@@ -178,16 +178,9 @@ pub(crate) fn read_alone<'a>(words: &'a [&'a str]) -> Option<Task<'a>>
     ensures expand { IfNone result ((plan : Bor (List ℕ)) → IsExpandOf words.now plan → ⊥) }
     ensures imported { IfNone result ((table : Bor (List ℕ)) → IsImportOf words.now table → ⊥) }
 {
-    if let Some(asked) = read_check(words) {
-        return Some(asked);
-    }
-    if let Some(asked) = read_expand(words) {
-        return Some(asked);
-    }
-    match read_import(words) {
-        Some(asked) => Some(asked),
-        None => None,
-    }
+    read_check(words)
+        .or(read_expand(words))
+        .or(read_import(words))
 }
 
 /// What words ask of a plan and of what they name beside it, if they are of such a form.
@@ -210,16 +203,9 @@ pub(crate) fn read_named<'a>(words: &'a [&'a str]) -> Option<Task<'a>>
         → IsExpectOf words.now plan certificate path
         → ⊥) }
 {
-    if let Some(asked) = read_pair(words) {
-        return Some(asked);
-    }
-    if let Some(asked) = read_question(words) {
-        return Some(asked);
-    }
-    match read_expect(words) {
-        Some(asked) => Some(asked),
-        None => None,
-    }
+    read_pair(words)
+        .or(read_question(words))
+        .or(read_expect(words))
 }
 
 /// What words ask of two plans, or of an instance's way, if they are of such a form.
@@ -238,11 +224,5 @@ pub(crate) fn read_ways<'a>(words: &'a [&'a str]) -> Option<Task<'a>>
         → IsKeyRouteOf words.now plan certificate at key
         → ⊥) }
 {
-    if let Some(asked) = read_diff(words) {
-        return Some(asked);
-    }
-    match read_route(words) {
-        Some(asked) => Some(asked),
-        None => None,
-    }
+    read_diff(words).or(read_route(words))
 }

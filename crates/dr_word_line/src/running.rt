@@ -213,16 +213,9 @@ fn read_rows<'a>(words: &'a [&'a str]) -> Option<Task<'a>>
         → IsErrandOf words.now given (errands.Forget uid)
         → ⊥) }
 {
-    if let Some(asked) = read_requeue(words) {
-        return Some(asked);
-    }
-    if let Some(asked) = read_giving_up(words) {
-        return Some(asked);
-    }
-    match read_forgetting(words) {
-        Some(asked) => Some(asked),
-        None => None,
-    }
+    read_requeue(words)
+        .or(read_giving_up(words))
+        .or(read_forgetting(words))
 }
 
 /// What else words tell a running node to do, if they are of such a form.
@@ -239,16 +232,9 @@ fn read_work<'a>(words: &'a [&'a str]) -> Option<Task<'a>>
     ensures stop { IfNone result
         ((given : RunningNodeValue) → IsErrandOf words.now given errands.Stop → ⊥) }
 {
-    if let Some(asked) = read_visiting(words) {
-        return Some(asked);
-    }
-    if let Some(asked) = read_backup(words) {
-        return Some(asked);
-    }
-    match read_stopping(words) {
-        Some(asked) => Some(asked),
-        None => None,
-    }
+    read_visiting(words)
+        .or(read_backup(words))
+        .or(read_stopping(words))
 }
 
 /// What words ask of a running node, or tell it to do, if they are of such a form.
@@ -259,14 +245,7 @@ pub(crate) fn read_running<'a>(words: &'a [&'a str]) -> Option<Task<'a>>
         → IsErrandOf words.now given errand
         → ⊥) }
 {
-    if let Some(asked) = read_question(words) {
-        return Some(asked);
-    }
-    if let Some(asked) = read_rows(words) {
-        return Some(asked);
-    }
-    match read_work(words) {
-        Some(asked) => Some(asked),
-        None => None,
-    }
+    read_question(words)
+        .or(read_rows(words))
+        .or(read_work(words))
 }
