@@ -123,13 +123,15 @@ fn days_of(given: &ArgMatches<'_>) -> Option<u32> {
 
 /// Where a node may be asked and told to act, as clap has read it, if it may.
 fn control_of<'a>(given: &ArgMatches<'a>) -> Option<Controlled<'a>> {
-    let at = given.get_str("CONTROL")?;
-    Some(Controlled {
-        at,
-        token: given.get_str("TOKEN"),
-        host: given.get_str("HOST"),
-        is_for_anyone: given.get_flag("ANYONE"),
-    })
+    match given.get_str("CONTROL") {
+        Some(at) => Some(Controlled {
+            at,
+            token: given.get_str("TOKEN"),
+            host: given.get_str("HOST"),
+            is_for_anyone: given.get_flag("ANYONE"),
+        }),
+        None => None,
+    }
 }
 
 /// How a node is to serve, as clap has read it.
@@ -289,20 +291,31 @@ fn names_running(words: &[&str]) -> bool {
     false
 }
 
-/// Which nodes that run are to be audited, as clap has read it.
-fn audit_at<'a>(alloc: Global, given: &ArgMatches<'a>) -> Result<Task<'a>, AllocError> {
-    let others = others_of(alloc, given)?;
-    let mut running = Vec::new(alloc);
-    if let Some(nodes) = given.get_strs("AT") {
-        running.extend_from_slice(nodes)?;
-    }
-    Ok(Task::AuditRunning(RunningNodes {
+/// The nodes of a plan of which these run, and these are of other makers, as clap has read it.
+fn nodes_of<'a>(
+    given: &ArgMatches<'a>,
+    running: Vec<&'a str>,
+    others: Vec<&'a str>,
+) -> RunningNodes<'a> {
+    RunningNodes {
         plan: given.get_str("PLAN").unwrap_or(""),
         certificate: given.get_str("CERT").unwrap_or(""),
         running,
         others,
         token: given.get_str("TOKEN"),
-    }))
+    }
+}
+
+/// Which nodes that run are to be audited, as clap has read it.
+fn audit_at<'a>(alloc: Global, given: &ArgMatches<'a>) -> Result<Task<'a>, AllocError> {
+    let others = others_of(alloc, given)?;
+    match named_by(alloc, given, "AT") {
+        Ok(running) => Ok(Task::AuditRunning(nodes_of(given, running, others))),
+        Err(fault) => {
+            drop(others);
+            Err(fault)
+        }
+    }
 }
 
 /// Which node that runs is named, as clap has read it.
