@@ -17,28 +17,25 @@ use crate::events::EventLog;
 use crate::files::{Databases, StoredLedgers, SystemDisk, SystemFiles};
 use crate::input::InputEnd;
 use crate::over::{ClockAt, Machine, run_on};
-use dr_ledger_journal::TellsJournal;
 use dr_run_backup::Backups;
 use dr_run_files::Files;
 use dr_run_net::{Cut, Sockets, SystemClock};
 use dr_run_open::Status;
 use dr_run_token::Tokens;
 use dr_word_check::{given_words, tell_unread_words};
-use dr_word_rehearse::Finds;
 use std::process::ExitCode;
 use std::sync::Wait;
 use std::thread::Threads;
 use std::{io, time};
 
 /// Runs the program on these words, over the system's network, clock, log, input and outputs, and
-/// any files and ledgers. The system's types come one after another, each in a function of its own,
-/// and databases last, where no other type is left: all at once are too many for the prover to
-/// compare.
+/// any files. The files are the system's in `run` alone: all types at once are too many for the
+/// prover to compare.
 fn run_over_files<
     'x,
     T: Threads + Wait + Sync + time::Clock,
     F: Files + Backups + Tokens + Sync + Drop,
-    O: Finds + Drop,
+    D: Databases + Drop,
 >(
     rt: &'x HostRuntime,
     threads: &'x T,
@@ -46,14 +43,14 @@ fn run_over_files<
     clock: &'x SystemClock<'x, HostRuntime>,
     cut: &'x Cut,
     files: F,
-    ledgers: O,
+    databases: D,
 ) -> Status
 where
-    O::Ledger: Send + TellsJournal,
+    D::Store: Send,
 {
     let machine = Machine {
         files,
-        ledgers,
+        ledgers: StoredLedgers(databases),
         network: Sockets::new(rt, clock, cut),
         clock: ClockAt(clock),
         log: EventLog { rt, clock },
@@ -75,36 +72,6 @@ where
     )
 }
 
-/// The same, over the system's files.
-fn run_over_ledgers<'x, T: Threads + Wait + Sync + time::Clock, O: Finds + Drop>(
-    rt: &'x HostRuntime,
-    threads: &'x T,
-    words: &[&str],
-    clock: &'x SystemClock<'x, HostRuntime>,
-    cut: &'x Cut,
-    ledgers: O,
-) -> Status
-where
-    O::Ledger: Send + TellsJournal,
-{
-    run_over_files(rt, threads, words, clock, cut, SystemDisk::new(rt), ledgers)
-}
-
-/// The same, over ledgers in any databases.
-fn run_over_databases<'x, T: Threads + Wait + Sync + time::Clock, D: Databases + Drop>(
-    rt: &'x HostRuntime,
-    threads: &'x T,
-    words: &[&str],
-    clock: &'x SystemClock<'x, HostRuntime>,
-    cut: &'x Cut,
-    databases: D,
-) -> Status
-where
-    D::Store: Send,
-{
-    run_over_ledgers(rt, threads, words, clock, cut, StoredLedgers(databases))
-}
-
 /// Runs the program on its words, which fails only where they can't be read. `threads` is the
 /// runtime too, by which nodes run.
 fn run<'x, T: Threads + Wait + Sync + time::Clock>(
@@ -118,7 +85,8 @@ fn run<'x, T: Threads + Wait + Sync + time::Clock>(
     for word in given.as_slice() {
         words.push(word.as_str())?;
     }
-    Ok(run_over_databases(rt, threads, words.as_slice(), clock, cut, SystemFiles(rt)))
+    let (files, databases) = (SystemDisk::new(rt), SystemFiles(rt));
+    Ok(run_over_files(rt, threads, words.as_slice(), clock, cut, files, databases))
 }
 
 /// What the process ends with.

@@ -1,4 +1,5 @@
 //! The program over anything that it can run on.
+use crate::files::{Databases, StoredLedgers};
 use dr_ledger_journal::TellsJournal;
 use dr_run_backup::Backups;
 use dr_run_files::Files;
@@ -29,12 +30,12 @@ impl<'a, C: Clock> Clock for ClockAt<'a, C> {
     }
 }
 
-/// What the program runs on: files, what opens its ledgers, a network, a clock, a log, and what may
-/// end a node from without.
+/// What the program runs on: files, databases in which its ledgers are, a network, a clock, a log,
+/// and what may end a node from without.
 #[derive(Drop)]
-pub struct Machine<F: Drop, O: Drop, N: Drop, C: Drop, G: Drop, U: Drop> {
+pub struct Machine<F: Drop, D: Databases + Drop, N: Drop, C: Drop, G: Drop, U: Drop> {
     pub files: F,
-    pub ledgers: O,
+    pub ledgers: StoredLedgers<D>,
     pub network: N,
     pub clock: C,
     pub log: G,
@@ -71,15 +72,14 @@ where
     run_words(rt, alloc, words, input, output, faults, system)
 }
 
-/// The same on a machine. It names no ledger, since the prover would compare all that one is of
-/// beside ten types.
+/// The same on a machine, whose ledgers are in databases.
 pub fn run_on<
     T: Threads + Wait + Sync + time::Clock,
     R: Read,
     W: Write,
     E: Write,
     F: Files + Backups + Tokens + Sync + Drop,
-    O: Finds + Drop,
+    D: Databases + Drop,
     N: Network + Sync + Drop,
     C: Clock + Sync + Drop,
     G: Log + Sync + Drop,
@@ -91,10 +91,10 @@ pub fn run_on<
     input: &mut R,
     output: &mut W,
     faults: &mut E,
-    machine: &Machine<F, O, N, C, G, U>,
+    machine: &Machine<F, D, N, C, G, U>,
 ) -> Status
 where
-    O::Ledger: Send + TellsJournal,
+    D::Store: Send,
     N::Socket: Send,
     N::Listener: Sync,
 {

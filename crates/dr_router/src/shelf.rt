@@ -10,60 +10,54 @@ use sqlite::File;
 pub struct FileShelf(pub LedgerShelf<File>);
 
 impl Shelf for FileShelf {
-    ghost use Rattle.dr_store_shelf.specs.Either.{AreApartIf, apart_swaps};
-    ghost use Rattle.dr_router.specs.Shelf.{IsCleanIn, IsUsableIn, PassesIn, StandsIn, UsesIn};
-    ghost use Rattle.dr_router.specs.Shelf.{body_in, faults_in, named_in, only_in, passed_in};
+    ghost use Rattle.dr_store_shelf.specs.Either.{AreApartIf, IsCleanOn, IsUsableOn, PassesOn};
+    ghost use Rattle.dr_store_shelf.specs.Either.{StandsOn, UsesOn, apart_swaps, body_on};
+    ghost use Rattle.dr_store_shelf.specs.Either.{faults_on, named_on, only_on, passed_on};
 
-    ghost stands = { StandsIn };
+    ghost stands = { λ it. StandsOn it.0 };
 
-    ghost uses = { UsesIn };
+    ghost uses = { λ it. UsesOn it.0 };
 
-    ghost body_of = { body_in };
+    ghost body_of = { λ it. body_on it.0 };
 
-    ghost named = { named_in };
+    ghost named = { λ it. named_on it.0 };
 
     ghost apart = { AreApartIf };
 
     ghost swaps = { apart_swaps };
 
-    ghost passes = { PassesIn };
+    ghost passes = { λ it. PassesOn it.0 };
 
-    ghost is_clean = { IsCleanIn };
+    ghost is_clean = { λ it. IsCleanOn it.0 };
 
-    ghost is_usable = { IsUsableIn };
+    ghost is_usable = { λ it. IsUsableOn it.0 };
 
-    ghost faults = { faults_in };
+    ghost faults = { λ it. faults_on it.0 };
 
-    ghost only = { only_in };
+    ghost only = { λ it. only_on it.0 };
 
-    ghost passed = { passed_in };
+    ghost passed = { λ it. passed_on it.0 };
 
-    #[tactic(auto, unfolding(crate::specs::Shelf::named_in))]
     fn names_places(&self) -> bool {
         self.0.names_places()
     }
 
-    #[tactic(auto, unfolding(crate::specs::Shelf::IsUsableIn))]
     fn may_be_used(&self) -> bool {
         self.0.may_be_used()
     }
 
-    #[tactic(auto, unfolding(crate::specs::Shelf::StandsIn, crate::specs::Shelf::UsesIn, crate::specs::Shelf::named_in, crate::specs::Shelf::IsCleanIn, crate::specs::Shelf::IsUsableIn, crate::specs::Shelf::faults_in))]
     fn put(&mut self, body: &[u8]) -> Result<BodyCell, ShelfFault> {
         self.0.put(body)
     }
 
-    #[tactic(auto, unfolding(crate::specs::Shelf::StandsIn, crate::specs::Shelf::UsesIn, crate::specs::Shelf::PassesIn, crate::specs::Shelf::named_in, crate::specs::Shelf::IsCleanIn, crate::specs::Shelf::IsUsableIn))]
     fn get(&mut self, cell: Vec<u8>) -> Result<Vec<u8>, ShelfFault> {
         self.0.get(cell)
     }
 
-    #[tactic(auto, unfolding(crate::specs::Shelf::StandsIn, crate::specs::Shelf::UsesIn, crate::specs::Shelf::named_in, crate::specs::Shelf::IsCleanIn, crate::specs::Shelf::IsUsableIn))]
     fn look(&mut self, cell: Vec<u8>) -> Result<Option<Vec<u8>>, ShelfFault> {
         self.0.look(cell)
     }
 
-    #[tactic(auto, unfolding(crate::specs::Shelf::StandsIn, crate::specs::Shelf::UsesIn, crate::specs::Shelf::named_in, crate::specs::Shelf::IsCleanIn))]
     fn let_go(&mut self, cell: &[u8]) {
         self.0.let_go(cell)
     }

@@ -1,8 +1,6 @@
-use Rattle.dr_router.specs.Shelf.{IsCleanIn, StandsIn, UsesIn, named_in}
 use Rattle.dr_router.proofs.files.stored_ledger.Goals as goal
 
 -- the cells were looked at
 pub of-requires-clause-kept : goal.of-requires-clause-kept
-unfolding StandsIn UsesIn named_in IsCleanIn
 of-requires-clause-kept g c whole safe =
     ∣ record { kept = c.requires.kept safe.0; own = c.requires.own safe.0 whole } ∣₁
