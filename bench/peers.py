@@ -1,16 +1,20 @@
 #!/usr/bin/env python3
-"""Measures running nodes of the built program beside dcmtk's storescp, on loopback and this machine's disk, all in one
-run.
+"""Measures running nodes of the built program beside dcmtk's storescp, and beside Orthanc where that is installed, on
+loopback and this machine's disk, all in one run. Nodes are of both kinds: with their data sets in their tables, and in a
+file of their own (`new --data-file`).
 
-    bench/peers.py            # some minutes, on a machine that does nothing else
-    bench/peers.py --tiny     # a few small files: whether it runs, not how fast
+    bench/peers.py              # some minutes, on a machine that does nothing else
+    bench/peers.py --data-file  # the same without what a data file has no part in
+    bench/peers.py --tiny       # a few small files: whether it runs, not how fast
 
 storescp never syncs a file that it writes (seen by strace, 3.6.7); a node acknowledges what is synced. So the disk's
 own syncs are measured too: a node can't acknowledge more instances a second than the disk syncs, association by
-association.
+association. Orthanc has its own settings but for names and folders, by which it syncs each file (`SyncStorageArea`).
 """
+import json
 import os
 import random
+import shutil
 import sqlite3
 import statistics
 import struct
@@ -32,8 +36,9 @@ TINY = (('1 kB', 1 << 10, 3), ('16 kB', 16 << 10, 3), ('1 MB', 1 << 20, 2))
 
 
 def image(size):
-    """An element of pixels of about that size, whose bytes differ."""
-    return element(0x7FE0, 0x10, b'OW', random.Random(size).randbytes(size))
+    """Elements of about that size: a patient, a study and a series, without which Orthanc takes nothing, and pixels whose bytes differ."""
+    ids = element(0x10, 0x20, b'LO', b'P1') + element(0x20, 0xD, b'UI', b'1.2.3.8') + element(0x20, 0xE, b'UI', b'1.2.3.9')
+    return ids + element(0x7FE0, 0x10, b'OW', random.Random(size).randbytes(size))
 
 
 def put_files(room, name, size, count):
@@ -68,6 +73,17 @@ def forking_storescp(room):
     return process
 
 
+def orthanc(room):
+    """Orthanc by its own settings, but for its name, its port and its folders."""
+    settings = {'Name': 'ARCH', 'StorageDirectory': 'stored', 'IndexDirectory': 'stored', 'HttpServerEnabled': False, 'DicomAet': 'ARCH',
+                'DicomPort': room.ports['ARCH'], 'DicomModalities': {'gate': ['GATE', '127.0.0.1', room.ports['GATE']]}}
+    room.put('orthanc.json', json.dumps(settings).encode())
+    with open(f'{room.folder}/orthanc.log', 'wb') as log:
+        process = room.start('Orthanc', 'orthanc.json', stdout=log, stderr=log)
+    room.wait_for('ARCH', process)
+    return process
+
+
 def row(what, *figures):
     print(f'{what:<58}' + ''.join(f'{figure:>16}' for figure in figures), flush=True)
 
@@ -91,19 +107,23 @@ def syncs(count):
 
 
 def receiving(sizes):
-    """The same files by dcmsend into a node that keeps them, and into storescp; the shorter of two runs each, in turn."""
-    row('receiving by dcmsend: files a second', 'node', 'storescp', 'node/storescp')
+    """The same files by dcmsend into a node of each kind that keeps them, into storescp, and into Orthanc where it is; the shorter of two runs each, in
+    turn. Behind each figure but storescp's is how many times storescp's it is."""
+    others = {'with data file': ours_with_data, **({'Orthanc': orthanc} if shutil.which('Orthanc') else {})}
+    receivers = {'node': ours, **others, 'storescp': storescp}
+    row('receiving by dcmsend: files a second', *receivers)
     for name, size, count in sizes:
         best = {}
         for _ in range(2):
-            for start in ours, storescp:
+            for receiver, start in receivers.items():
                 with Room() as room:
                     put_files(room, 'files', size, count)
                     process = start(room)
                     spent = send(room, 'ARCH', 'files', 'GATE')
-                    best[start] = min(spent, best.get(start, spent))
+                    best[receiver] = min(spent, best.get(receiver, spent))
                     stop(process)
-        row(f'  {count} of {name}', rate(count, best[ours]), rate(count, best[storescp]), f'{best[storescp] / best[ours]:.2f}')
+        base = best['storescp']
+        row(f'  {count} of {name}', *(rate(count, spent) + ('' if receiver == 'storescp' else f'; {base / spent:.2f}') for receiver, spent in best.items()))
 
 
 def ours(room):
@@ -111,31 +131,57 @@ def ours(room):
     return room.serve('ARCH', 0, env={**os.environ, **LETS_GO})
 
 
+def with_data(room, *nodes):
+    """Ledgers with their data sets in files of their own."""
+    for node in nodes:
+        made = room.at('new', node, '--data-file')
+        assert made.returncode == 0, made
+
+
+def ours_with_data(room):
+    """A node whose data sets are in a file of their own."""
+    with_data(room, 'ARCH')
+    return ours(room)
+
+
+KINDS = (('', ()), (', with data files', ('GATE', 'ARCH')))
+
+
 def forwarding(sizes):
-    """What waits at GATE goes to ARCH over one association. It is queued while ARCH takes connections and answers none, so that
-    each row is due at once when GATE starts again."""
-    row('forwarding: files a second')
+    """The shorter of two runs. What waits at GATE goes to ARCH over one association, between nodes of each kind. It is queued while ARCH takes connections and
+    answers none, so that each row is due at once when GATE starts again."""
+    row('forwarding: files a second', 'in tables', '', 'with data files', '')
     for name, size, count in sizes:
-        with Room() as room:
-            put_files(room, 'files', size, count)
-            mute = room.start(sys.executable, '-c', 'import socket, sys, time\n'
-                              'listener = socket.create_server(("127.0.0.1", int(sys.argv[1])))\ntime.sleep(3600)', str(room.ports['ARCH']))
-            room.wait_for('ARCH', mute)
-            gate = room.serve('GATE', 0)
-            send(room, 'GATE', 'files', 'CT1')
-            stop(gate)
-            stop(mute)
-            arch = room.serve('ARCH', 0)
-            begun = time.monotonic()
-            gate = room.serve('GATE', 1)
-            with Requestor(room.ports['GATE'], 'CT1', 'GATE') as caller:
-                caller.release()
-            out, err = gate.communicate(timeout=LONG)
-            spent = time.monotonic() - begun
-            done = sum(line.endswith('\tdone') for line in out.decode().splitlines())
-            assert done == count, (done, count, err)
-            stop(arch)
-            row(f'  {count} of {name}', rate(count, spent), f'{count * size / spent / 1e6:.1f} MB/s')
+        best = {}
+        for kind, nodes in KINDS + KINDS:
+            spent = forwarded(size, count, nodes)
+            best[kind] = min(spent, best.get(kind, spent))
+        row(f'  {count} of {name}', *(figure for spent in best.values() for figure in (rate(count, spent), f'{count * size / spent / 1e6:.1f} MB/s')))
+
+
+def forwarded(size, count, nodes):
+    """How long GATE takes, from its start on, for so many files that wait there for ARCH. These nodes have data files."""
+    with Room() as room:
+        with_data(room, *nodes)
+        put_files(room, 'files', size, count)
+        mute = room.start(sys.executable, '-c', 'import socket, sys, time\n'
+                          'listener = socket.create_server(("127.0.0.1", int(sys.argv[1])))\ntime.sleep(3600)', str(room.ports['ARCH']))
+        room.wait_for('ARCH', mute)
+        gate = room.serve('GATE', 0)
+        send(room, 'GATE', 'files', 'CT1')
+        stop(gate)
+        stop(mute)
+        arch = room.serve('ARCH', 0)
+        begun = time.monotonic()
+        gate = room.serve('GATE', 1)
+        with Requestor(room.ports['GATE'], 'CT1', 'GATE') as caller:
+            caller.release()
+        out, err = gate.communicate(timeout=LONG)
+        spent = time.monotonic() - begun
+        done = sum(line.endswith('\tdone') for line in out.decode().splitlines())
+        assert done == count, (done, count, err)
+        stop(arch)
+        return spent
 
 
 def associations(count):
@@ -164,10 +210,10 @@ def associations(count):
 
 def storing_at_once(count):
     """Images of 1 kB, over 1, 8 and 64 associations at a time, each of which stores its share one after another."""
-    row('images of 1 kB stored by several at a time, a second', 'node', 'storescp --fork', 'node/storescp')
+    row('images of 1 kB stored by several at a time, a second', 'node', 'with data file', 'storescp --fork', 'node/storescp', 'file/storescp')
     for at_once in 1, 8, 64:
         spent = {}
-        for start in ours, forking_storescp:
+        for start in ours, ours_with_data, forking_storescp:
             with Room() as room:
                 process, pixels = start(room), image(1 << 10)
                 def store_share(share):
@@ -179,14 +225,14 @@ def storing_at_once(count):
                 spent[start] = timed([lambda share=share: store_share(share) for share in range(at_once)])
                 stop(process)
         made = count // at_once * at_once
-        row(f'  {made}, {at_once} at a time', rate(made, spent[ours]), rate(made, spent[forking_storescp]),
-            f'{spent[forking_storescp] / spent[ours]:.2f}')
+        row(f'  {made}, {at_once} at a time', *(rate(made, spent[start]) for start in spent),
+            *(f'{spent[forking_storescp] / spent[start]:.2f}' for start in (ours, ours_with_data)))
 
 
-def crowd(at_once, size):
+def crowd(at_once, size, kind, start):
     """So many associations that bring a data set of that size at the same time, each again until it is taken: the greatest memory."""
     with Room() as room:
-        arch, tries = ours(room), []
+        arch, tries = start(room), []
         head = len(data_set(b'1.2.3.10', element(0x7FE0, 0x10, b'OW', b'')))
         # what they have in common is made once: this process has all of them at a time
         rest = values(3, 0, bytes(size - head))
@@ -211,7 +257,7 @@ def crowd(at_once, size):
         spent = timed([lambda number=number: store_until_taken(number) for number in range(10, 10 + at_once)])
         peak = most_memory(arch)
         stop(arch)
-        row(f'{at_once} x {size / 1e6:.0f} MB at once: greatest memory, A700H, a second', f'{peak:.0f} MB', len(tries) - at_once,
+        row(f'{at_once} x {size / 1e6:.0f} MB at once{kind}: memory, A700H, a second', f'{peak:.0f} MB', len(tries) - at_once,
             f'{at_once * size / spent / 1e6:.0f} MB')
         # `list` would read all of it first, which takes minutes
         with sqlite3.connect(f'{room.folder}/ARCH.db') as ledger:
@@ -243,49 +289,55 @@ def most_memory(process):
         return next(int(line.split()[1]) * 1024 / 1e6 for line in file if line.startswith('VmHWM'))
 
 
-def memory(size):
+def memory(size, kind, start):
     """The node's greatest resident memory: before anything came, and behind four transfers at once."""
     with Room() as room:
         for number in range(4):
             room.put(f'{number}.dcm', part10(f'1.2.3.{number}'.encode(), image(size)))
-        arch = ours(room)
+        arch = start(room)
         idle = most_memory(arch)
         senders = [room.start('storescu', '-aet', 'GATE', '-aec', 'ARCH', '127.0.0.1', str(room.ports['ARCH']), f'{number}.dcm') for number in range(4)]
         for sender in senders:
             sender.communicate(timeout=LONG)
             assert sender.returncode == 0, sender.args
-        row(f'greatest memory: idle, and with 4 x {size >> 20} MB at once', f'{idle:.1f} MB', f'{most_memory(arch):.1f} MB')
+        row(f'greatest memory{kind}: idle, and 4 x {size >> 20} MB at once', f'{idle:.1f} MB', f'{most_memory(arch):.1f} MB')
         stop(arch)
 
 
-def starting(count):
-    """From the start of a process until it listens: with no file, and with one of so many instances."""
+def starting(count, size, kind, nodes):
+    """From the start of a process until it listens: with a new file, and with one of so many instances that it keeps; and the memory then."""
     def start(room):
         begun = time.monotonic()
-        stop(room.serve('ARCH', 0))
-        return time.monotonic() - begun
+        process = room.serve('ARCH', 0)
+        spent, peak = time.monotonic() - begun, most_memory(process)
+        stop(process)
+        return f'{spent:.2f} s', f'{peak:.0f} MB'
     with Room() as room:
+        with_data(room, *nodes)
         new = start(room)
-        put_files(room, 'files', 1 << 10, count)
+        put_files(room, 'files', size, count)
         process = room.serve('ARCH', 0)
         send(room, 'ARCH', 'files', 'GATE')
         stop(process)
-        row(f'start to listening: a new file, and {count} lines', f'{new:.2f} s', f'{start(room):.2f} s')
+        row(f'start{kind}: new, and {count} of {size >> 10} kB', *new, *start(room))
 
 
 def main():
     if not os.path.exists(PROGRAM):
         sys.exit(f'{PROGRAM} is not built')
-    tiny = sys.argv[1:] == ['--tiny']
+    tiny = '--tiny' in sys.argv[1:]
     sizes = TINY if tiny else SIZES
     syncs(20 if tiny else 500)
     receiving(sizes)
-    forwarding(sizes[:2])
-    associations(8 if tiny else 400)
+    forwarding(sizes)
+    if '--data-file' not in sys.argv[1:]:
+        associations(8 if tiny else 400)
     storing_at_once(64 if tiny else 3200)
-    memory(sizes[2][1])
-    crowd(*(4, 1 << 20) if tiny else (64, (64 << 20) - 4096))
-    starting(10 if tiny else 5000)
+    for (kind, nodes), start in zip(KINDS, (ours, ours_with_data)):
+        memory(sizes[2][1], kind, start)
+        crowd(*(4, 1 << 20) if tiny else (64, (64 << 20) - 4096), kind, start)
+        starting(10 if tiny else 5000, 1 << 10, kind, nodes)
+        starting(4 if tiny else 1000, 512 << 10, kind, nodes)
 
 
 main()

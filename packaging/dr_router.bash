@@ -93,6 +93,8 @@ _dr_router() {
             mapfile -t COMPREPLY < <(compgen -W "--links --log --report --workers --memory --connect --request --write --message --idle --until-input-ends --must-exist --forget-after --forget-never --control --control-token --control-host --control-anyone" -- "$current") ;;
         "stop 5" | "visit 5" | "backup 5")
             mapfile -t COMPREPLY < <(compgen -W "--at" -- "$current") ;;
+        "new 6")
+            mapfile -t COMPREPLY < <(compgen -W "--data-file" -- "$current") ;;
         "list 6")
             mapfile -t COMPREPLY < <(compgen -W "--summary --long" -- "$current") ;;
         "diff 6")

@@ -56,6 +56,7 @@ def main():
     compare('a node without a ledger', ['GATE'], offered('adopt', plan, 'certificate', plan, 'certificate', 'plans', '--without', 'G'))
     compare('one more', ['--without'], offered('adopt', plan, 'certificate', plan, 'certificate', 'plans', '--without', 'GATE', '--w'))
     compare('the option of a word', ['--fail-on-lost'], offered('diff', plan, 'certificate', plan, 'certificate', '--f'))
+    compare('data sets in a file of their own', ['--data-file'], offered('new', plan, 'certificate', 'GATE', 'gate.db', ''))
     compare('a running node', ['--at'], offered('stop', plan, 'certificate', 'GATE', ''))
     compare('a running node to visit from', ['--at'], offered('visit', plan, 'certificate', 'GATE', ''))
     compare('a node to visit', ['ARCH'], offered('visit', plan, 'certificate', 'GATE', '--at', '127.0.0.1:8042', '--token', 'token', 'A'))

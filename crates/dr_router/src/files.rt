@@ -1,9 +1,17 @@
 //! The system's files as databases, and ledgers in databases.
-ghost use Rattle.std.specs.Prelude.{◌≡◌, IfOk, false};
+ghost use Rattle.std.specs.Prelude.{◌≡◌, ◌<◌, ◌↔◌, IfOk, IsTrue, false};
 ghost use Rattle.sqlite.specs.Held.{state};
 ghost use Rattle.dr_word_rehearse.specs.Looks.{IsFoundBy};
 ghost use Rattle.dr_router.specs.Opening.{HasLedgerIn, fault_of_database, fault_of_opening};
+ghost use Rattle.dr_router.specs.Opening.{fault_of_data, keeping_of};
+ghost use Rattle.sqlite.specs.State.{HasCleanDisk};
+ghost use Rattle.dr_store_calls.specs.Calling.{IsKept};
+ghost use Rattle.dr_store_open.specs.Opening.{IsBlank};
+ghost use Rattle.dr_store_open.specs.Places.{HasOwnOn, names_in};
+ghost use Rattle.dr_store_shelf.specs.Either.{named_on};
 
+use crate::beside::{DataBeside, data_length, data_name, data_path, draw, file_of};
+use crate::shelf::FileShelf;
 use dr_base::Text;
 use dr_run_backup::{BackupFault, Backups, LedgerCopy, SystemBackups};
 use dr_run_files::Files;
@@ -13,8 +21,8 @@ use dr_run_token::{SystemTokens, Tokens};
 use dr_site::Site;
 use dr_store::SqlLedger;
 use dr_store_audit::{is_ours, lacking};
-use dr_store_open::{OpeningFault, ledger_on};
-use dr_store_shelf::InRow;
+use dr_store_data::{DataFileFault, DataMark, HEAD_SIZE};
+use dr_store_open::{Keeping, OpenedLedger, OpeningFault, on};
 use dr_word_adopt::ShowsFiles;
 use dr_word_check::Disk;
 use dr_word_rehearse::{Finds, LedgerFound};
@@ -24,18 +32,46 @@ use std::io::ErrorKind;
 use std::time::Clock;
 use std::{fs, io};
 
-/// Where databases are opened by a path.
+/// Where databases are opened by a path, and beside each the file of its data sets.
 pub trait Databases {
     type Store: Alter + Drop;
 
     fn open_database(&self, path: &str) -> Result<Connection<Self::Store>, Error>
         ensures { IfOk result (λ conn. conn.in_transaction ≡ false) };
 
+    /// Whether one that may hold data sets lies where one would be made for a database of that
+    /// path, which isn't there yet.
+    ///
+    /// Errors: Store, Memory.
+    fn has_data(&self, alloc: Global, path: &str) -> Result<bool, DataFileFault>;
+
+    /// The file of the data sets of the database with that path, which is open. None is made.
+    ///
+    /// Errors: Missing, InUse, Store, Memory.
+    fn open_data(&self, alloc: Global, path: &str) -> Result<File, DataFileFault>;
+
+    /// A new one, where none is or one that has nothing behind its head.
+    ///
+    /// Errors: IsThere, InUse, Store, Memory.
+    fn make_data(&self, alloc: Global, path: &str) -> Result<File, DataFileFault>;
+
+    /// A random key and a random mark.
+    ///
+    /// Errors: Store, Memory.
+    fn draw_mark(&self) -> Result<DataMark, DataFileFault>;
+
     /// Whether something is there, or it can't be told.
     fn is_there(&self, path: &str) -> bool;
 
     /// The present moment (milliseconds since 1970), if it can be told.
     fn now(&self) -> Option<u64>;
+}
+
+/// Whether a file of data sets that has so many bytes has some behind its head.
+fn is_beyond_head(length: u64) -> bool
+    ensures { IsTrue result ↔ (4096 < length) }
+{
+    length > HEAD_SIZE as u64
 }
 
 /// The system's files.
@@ -48,6 +84,40 @@ impl<'a> Databases for SystemFiles<'a> {
     /// A file that isn't there is made.
     fn open_database(&self, path: &str) -> Result<Connection<FileStore<File>>, Error> {
         Connection::open(self.0, path)
+    }
+
+    fn has_data(&self, alloc: Global, path: &str) -> Result<bool, DataFileFault> {
+        let path = data_name(alloc, path)?;
+        match data_length(self.0, path.as_str())? {
+            Some(length) => Ok(is_beyond_head(length)),
+            None => Ok(false),
+        }
+    }
+
+    fn open_data(&self, alloc: Global, path: &str) -> Result<File, DataFileFault> {
+        let path = data_path(self.0, alloc, path)?;
+        match data_length(self.0, path.as_str())? {
+            Some(_) => file_of(self.0, path.as_str()),
+            None => Err(DataFileFault::Missing),
+        }
+    }
+
+    fn make_data(&self, alloc: Global, path: &str) -> Result<File, DataFileFault> {
+        let path = data_path(self.0, alloc, path)?;
+        match data_length(self.0, path.as_str())? {
+            Some(length) if is_beyond_head(length) => Err(DataFileFault::IsThere),
+            _ => file_of(self.0, path.as_str()),
+        }
+    }
+
+    fn draw_mark(&self) -> Result<DataMark, DataFileFault> {
+        let (mut key, mut mark) = ([0u8; 8], [0u8; 16]);
+        draw(self.0, &mut key)?;
+        draw(self.0, &mut mark)?;
+        Ok(DataMark {
+            key: u64::from_le_bytes(key),
+            mark,
+        })
     }
 
     fn is_there(&self, path: &str) -> bool {
@@ -146,29 +216,102 @@ fn ledger_fault(fault: OpeningFault) -> OpenFault
 {
     match fault {
         OpeningFault::OtherSite => OpenFault::OtherSite,
+        OpeningFault::NoData => OpenFault::NoData,
+        OpeningFault::DataIsThere => OpenFault::DataIsThere,
+        OpeningFault::InUse => OpenFault::InUse,
         OpeningFault::Store => OpenFault::Store,
         OpeningFault::Memory => OpenFault::Memory,
     }
 }
 
-/// The ledger of a site over a connection to its database, which is told the moment.
-fn ledger_over<S: Alter + Drop>(
+/// Why a ledger isn't opened whose data file isn't looked for, made or opened.
+fn data_fault(fault: DataFileFault) -> OpenFault
+    ensures { result ≡ fault_of_data fault }
+{
+    match fault {
+        DataFileFault::Missing => OpenFault::NoData,
+        DataFileFault::IsThere => OpenFault::DataIsThere,
+        DataFileFault::InUse => OpenFault::InUse,
+        DataFileFault::Store => OpenFault::Store,
+        DataFileFault::Memory => OpenFault::Memory,
+    }
+}
+
+/// Why a ledger isn't made as it is wanted, before its database is: a file of data sets is where
+/// its own is to be.
+fn data_refusal<D: Databases>(
+    alloc: Global,
+    databases: &D,
+    path: &str,
+    making: Making,
+) -> Option<OpenFault> {
+    if making != Making::WantedWithData {
+        return None;
+    }
+    match databases.has_data(alloc, path) {
+        Ok(false) => None,
+        Ok(true) => Some(OpenFault::DataIsThere),
+        Err(fault) => Some(data_fault(fault)),
+    }
+}
+
+/// Where a new ledger has its data sets.
+fn keeping_of(making: Making) -> Keeping
+    ensures { result ≡ keeping_of making }
+{
+    match making {
+        Making::WantedWithData => Keeping::InFile,
+        Making::Allowed => Keeping::InRows,
+        Making::Never => Keeping::InRows,
+        Making::Wanted => Keeping::InRows,
+    }
+}
+
+/// The ledger of this site, over a connection to its tables and the shelf of their cells, as they
+/// were opened. It is told the moment (milliseconds since 1970).
+fn stored_ledger<S: Alter>(
     alloc: Global,
     conn: Connection<S>,
+    opened: OpenedLedger<File>,
     site: Site,
     now: Option<u64>,
-) -> Result<SqlLedger<S, InRow>, OpenFault>
+) -> SqlLedger<S, FileShelf>
+    requires idle { conn.in_transaction ≡ false }
+    requires kept { HasCleanDisk (state S.Store conn)
+        → IsKept opened.next site (state S.Store conn) }
+    requires own { HasCleanDisk (state S.Store conn)
+        → HasOwnOn (state S.Store conn).committed.trees opened.shelf }
+    ensures site { result.site ≡ site }
+    ensures conn { result.conn ≡ conn }
+    ensures shelf { result.shelf.0 ≡ opened.shelf }
+{
+    let OpenedLedger { shelf, next } = opened;
+    SqlLedger::of(alloc, conn, FileShelf(shelf), site, next, now)
+}
+
+/// The ledger of a site over a connection to its database, beside which is the file of its data
+/// sets, if it has one. It is told the moment.
+fn ledger_over<S: Alter + Drop, D: Databases>(
+    alloc: Global,
+    conn: Connection<S>,
+    data: &DataBeside<'_, D>,
+    keeping: Keeping,
+    site: Site,
+    now: Option<u64>,
+) -> Result<SqlLedger<S, FileShelf>, OpenFault>
     requires { conn.in_transaction ≡ false }
     ensures of { IfOk result (λ l. l.site ≡ site) }
-    ensures is { IfOk result (λ l. HasLedgerIn l.site (state S.Store l.conn)) }
+    ensures is { IfOk result (λ l. HasLedgerIn l.site (state S.Store l.conn) l.shelf.0) }
+    ensures wanted { IfOk result (λ l. IsBlank (state S.Store conn).now.schema
+        → named_on l.shelf.0 ≡ names_in keeping) }
 {
-    match ledger_on(alloc, conn, site, now) {
-        Ok(ledger) => Ok(ledger),
+    match on(conn, alloc, data, keeping, &site) {
+        Ok((conn, opened)) => Ok(stored_ledger(alloc, conn, opened, site, now)),
         Err(fault) => Err(ledger_fault(fault)),
     }
 }
 
-/// Ledgers, each in a database of its own.
+/// Ledgers, each in a database of its own, and with its data sets in that or in a file beside it.
 #[derive(Drop)]
 pub struct StoredLedgers<D: Databases + Drop>(pub D);
 
@@ -178,10 +321,10 @@ impl<D: Databases + Drop> Ledgers for StoredLedgers<D> {
     ghost use Rattle.sqlite.specs.Held.{state};
     ghost use Rattle.dr_router.specs.Opening.{HasLedgerIn};
 
-    type Ledger = SqlLedger<D::Store, InRow>;
+    type Ledger = SqlLedger<D::Store, FileShelf>;
 
     ghost opens = { λ files path ledger.
-        HasLedgerIn ledger.site (state D.Store.Store ledger.conn) };
+        HasLedgerIn ledger.site (state D.Store.Store ledger.conn) ledger.shelf.0 };
 
     fn open(
         &self,
@@ -189,12 +332,19 @@ impl<D: Databases + Drop> Ledgers for StoredLedgers<D> {
         path: &str,
         site: Site,
         making: Making,
-    ) -> Result<SqlLedger<D::Store, InRow>, OpenFault> {
+    ) -> Result<SqlLedger<D::Store, FileShelf>, OpenFault> {
         if let Some(fault) = making.refusal(self.0.is_there(path)) {
             return Err(fault);
         }
+        if let Some(fault) = data_refusal(alloc, &self.0, path, making) {
+            return Err(fault);
+        }
+        let data = DataBeside {
+            databases: &self.0,
+            path,
+        };
         match self.0.open_database(path) {
-            Ok(conn) => ledger_over(alloc, conn, site, self.0.now()),
+            Ok(conn) => ledger_over(alloc, conn, &data, keeping_of(making), site, self.0.now()),
             Err(error) => Err(file_fault(&error)),
         }
     }
@@ -210,15 +360,16 @@ impl<D: Databases + Drop> ShowsFiles for StoredLedgers<D> {
 
 /// What is found over a connection to a database. Where its tables are those of today, opening its
 /// ledger changes nothing of it.
-fn found_over<S: Alter + Drop>(
+fn found_over<S: Alter + Drop, D: Databases>(
     alloc: Global,
     conn: Connection<S>,
+    data: &DataBeside<'_, D>,
     site: Site,
     now: Option<u64>,
-) -> Result<LedgerFound<SqlLedger<S, InRow>>, OpenFault>
+) -> Result<LedgerFound<SqlLedger<S, FileShelf>>, OpenFault>
     requires { conn.in_transaction ≡ false }
-    ensures { IfOk result (IsFoundBy (λ l. HasLedgerIn l.site (state S.Store l.conn)) (λ l. l.site)
-        site) }
+    ensures { IfOk result (IsFoundBy (λ l. HasLedgerIn l.site (state S.Store l.conn) l.shelf.0)
+        (λ l. l.site) site) }
 {
     if !is_ours(conn.schema()) {
         if lacking(conn.schema()).is_some() {
@@ -226,7 +377,7 @@ fn found_over<S: Alter + Drop>(
         }
         return Err(OpenFault::OtherSite);
     }
-    match ledger_over(alloc, conn, site, now) {
+    match ledger_over(alloc, conn, data, Keeping::InRows, site, now) {
         Ok(ledger) => Ok(LedgerFound::Ledger(ledger)),
         Err(fault) => Err(fault),
     }
@@ -238,12 +389,16 @@ impl<D: Databases + Drop> Finds for StoredLedgers<D> {
         alloc: Global,
         path: &str,
         site: Site,
-    ) -> Result<LedgerFound<SqlLedger<D::Store, InRow>>, OpenFault> {
+    ) -> Result<LedgerFound<SqlLedger<D::Store, FileShelf>>, OpenFault> {
         if !self.0.is_there(path) {
             return Err(OpenFault::NoLedger);
         }
+        let data = DataBeside {
+            databases: &self.0,
+            path,
+        };
         match self.0.open_database(path) {
-            Ok(conn) => found_over(alloc, conn, site, self.0.now()),
+            Ok(conn) => found_over(alloc, conn, &data, site, self.0.now()),
             Err(error) => Err(file_fault(&error)),
         }
     }

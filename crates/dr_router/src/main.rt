@@ -6,10 +6,12 @@ ghost use Rattle.std.specs.Prelude.{◌≡◌};
 ghost use Rattle.std.specs.Process.{exit_status};
 ghost use Rattle.dr_run_open.specs.Statuses.{status_number};
 
+mod beside;
 mod events;
 mod files;
 mod input;
 mod over;
+mod shelf;
 
 use crate::events::EventLog;
 use crate::files::{Databases, StoredLedgers, SystemDisk, SystemFiles};

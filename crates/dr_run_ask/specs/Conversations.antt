@@ -16,7 +16,7 @@ use Rattle.dr_run_ask.specs.declared.fault.AskFault.TheVariants.{Unknown, Closed
 use Rattle.dr_run_ask.specs.declared.fault.AskFault.TheVariants.{Shrunk, NotHeld, NotOver, Store}
 use Rattle.dr_run_ask.specs.declared.fault.AskFault.TheVariants.{Memory}
 use Rattle.dr_run_ask.specs.declared.fault.AskFault.TheVariants.{OwnFile, IsThere, NoPath, Busy}
-use Rattle.dr_run_ask.specs.declared.fault.AskFault.TheVariants.{GivenUp, NoCopy}
+use Rattle.dr_run_ask.specs.declared.fault.AskFault.TheVariants.{GivenUp, NoCopy, DataFile}
 
 -- the answer's first line is of the node of that name, and, where it tells the digest of its plan,
 -- of that plan
@@ -64,6 +64,7 @@ name_told NoPath = Some (codes "Q4 NoPath")
 name_told Busy = Some (codes "Q5 Busy")
 name_told GivenUp = Some (codes "Q6 GivenUp")
 name_told NoCopy = Some (codes "Q7 NoCopy")
+name_told DataFile = Some (codes "Q8 DataFile")
 name_told Store = Some (codes "G3 Store")
 name_told Memory = Some (codes "Memory")
 

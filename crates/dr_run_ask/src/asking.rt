@@ -163,6 +163,9 @@ fn copy_fault(name: &[u8]) -> Option<AskFault>
     if is_same(name, b"Q7 NoCopy") {
         return Some(AskFault::NoCopy);
     }
+    if is_same(name, b"Q8 DataFile") {
+        return Some(AskFault::DataFile);
+    }
     None
 }
 

@@ -46,6 +46,8 @@ pub enum AskFault {
     GivenUp,
     /// The node couldn't read or write a file of the copy.
     NoCopy,
+    /// The node has its data sets in a file of their own, which isn't copied while it runs.
+    DataFile,
     /// The node's store failed.
     Store,
     /// There was no memory.
@@ -98,6 +100,7 @@ impl AskFault {
             AskFault::Busy => "Q5 Busy",
             AskFault::GivenUp => "Q6 GivenUp",
             AskFault::NoCopy => "Q7 NoCopy",
+            AskFault::DataFile => "Q8 DataFile",
             AskFault::Store => "G3 Store",
             AskFault::Memory => "Memory",
         }

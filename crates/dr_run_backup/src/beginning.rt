@@ -1,6 +1,7 @@
 //! Where ledgers are copied.
 use crate::copy::LedgerCopy;
 use crate::fault::BackupFault;
+use crate::pair::path_of;
 use dr_run_report::{Paths, test_copy};
 use std::alloc::Global;
 use std::fs;
@@ -39,10 +40,26 @@ impl<'a> SystemBackups<'a> {
     }
 }
 
+/// What the file of a ledger's data sets has behind the name of its database.
+const DATA: &str = ".data";
+
+/// Whether a file of data sets lies beside the database with that path, where links lead.
+///
+/// Errors: NoCopy, Memory.
+fn has_data<P: Paths>(alloc: Global, paths: &P, ledger: &str) -> Result<bool, BackupFault> {
+    let Some(real) = paths.real_path(alloc, ledger)? else {
+        return Ok(false);
+    };
+    let path = path_of(alloc, real.as_str(), DATA)?;
+    let found = paths.file_id(path.as_str())?;
+    Ok(found.is_some())
+}
+
 /// Begins a copy of the ledger whose database has the first path, to the second. That one begins at
 /// the root, since who asks stands elsewhere than the node.
 ///
-/// Errors: NoPath; OwnFile, IsThere, of each of the files that the copy takes; NoCopy, Memory.
+/// Errors: NoPath; DataFile, before any file is made; OwnFile, IsThere, of each of the files that
+/// the copy takes; NoCopy, Memory.
 pub fn begin_copy<'x, P: Backups>(
     alloc: Global,
     files: &'x P,
@@ -51,6 +68,9 @@ pub fn begin_copy<'x, P: Backups>(
 ) -> Result<LedgerCopy<'x>, BackupFault> {
     if !path.starts_with('/') {
         return Err(BackupFault::NoPath);
+    }
+    if has_data(alloc, files, ledger)? {
+        return Err(BackupFault::DataFile);
     }
     test_copy(alloc, files, ledger, path)??;
     files.copy_of(alloc, ledger, path)

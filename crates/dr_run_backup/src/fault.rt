@@ -24,6 +24,8 @@ pub enum BackupFault {
     GivenUp,
     /// A file wasn't read or written.
     NoCopy(io::Error),
+    /// The ledger has its data sets in a file of their own, which isn't copied.
+    DataFile,
     Memory,
 }
 
@@ -39,6 +41,7 @@ impl BackupFault {
             BackupFault::Busy => "Q5 Busy",
             BackupFault::GivenUp => "Q6 GivenUp",
             BackupFault::NoCopy(_) => "Q7 NoCopy",
+            BackupFault::DataFile => "Q8 DataFile",
             BackupFault::Memory => "Memory",
         }
     }

@@ -7,8 +7,8 @@
 //!
 //! - `LedgerCopy`: the copy while it is made, in files beside its own names, which it takes when it
 //!   is whole and nothing is there. Whoever makes it says when calls wait.
-//! - `Backups`: a file system in which ledgers are copied; `begin_copy` tests first that the names
-//!   are free (`dr_run_report`).
+//! - `Backups`: a file system in which ledgers are copied; `begin_copy` tests first that the ledger
+//!   has no file of data sets, which isn't copied, and that the names are free (`dr_run_report`).
 //! - `BackupFault`: why there is no copy.
 #![tactic(auto)]
 

@@ -38,12 +38,13 @@ status_of_fault ledger.Store = 503
 status_of_fault ledger.Memory = 503
 
 -- the status of a copy that wasn't made: its path is none, or it is in conflict with what is there
--- or goes on, or it may be better later
+-- or goes on, or with what the ledger is, or it may be better later
 abbrev pub status_of_copy : BackupFault → ℕ
 status_of_copy copy.NoPath = 400
 status_of_copy copy.OwnFile = 409
 status_of_copy copy.IsThere = 409
 status_of_copy copy.Busy = 409
+status_of_copy copy.DataFile = 409
 status_of_copy copy.GivenUp = 503
 status_of_copy (copy.NoCopy error) = 503
 status_of_copy copy.Memory = 503

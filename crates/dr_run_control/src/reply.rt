@@ -171,7 +171,8 @@ fn status_of_copy(fault: BackupFault) -> StatusCode
 {
     match fault {
         BackupFault::NoPath => StatusCode::BAD_REQUEST,
-        BackupFault::OwnFile | BackupFault::IsThere | BackupFault::Busy => StatusCode::CONFLICT,
+        BackupFault::OwnFile | BackupFault::IsThere | BackupFault::Busy | BackupFault::DataFile =>
+            StatusCode::CONFLICT,
         BackupFault::GivenUp | BackupFault::NoCopy(_) | BackupFault::Memory => {
             StatusCode::SERVICE_UNAVAILABLE
         }

@@ -70,14 +70,19 @@ Sites sealed name (Err NoNode) = NamesNoNode sealed.plan name
 Sites sealed name (Err Memory) = Unit {0}
 Sites sealed name (Err halt) = ⊥
 
+-- why a new ledger isn't made by a path at which something is there, or isn't
+abbrev pub refusal_of_new : Bool → Option OpenFault
+refusal_of_new true = Some opening.IsThere
+refusal_of_new false = None
+
 -- why a ledger isn't opened by a path at which something is there, or isn't: none may be made, or
 -- one must be
 abbrev pub refusal_of : Making → Bool → Option OpenFault
 refusal_of making.Allowed there = None
 refusal_of making.Never true = None
 refusal_of making.Never false = Some opening.NoLedger
-refusal_of making.Wanted true = Some opening.IsThere
-refusal_of making.Wanted false = None
+refusal_of making.Wanted there = refusal_of_new there
+refusal_of making.WantedWithData there = refusal_of_new there
 
 -- why a site's ledger isn't opened
 abbrev pub IsUnopened : Halt → Type 0

@@ -102,7 +102,8 @@ fn status_of_opening(fault: OpenFault) -> Status
     ensures { result ≡ status_by (halts.NotOpened fault) }
 {
     match fault {
-        OpenFault::OtherSite | OpenFault::IsThere => Status::Refused,
+        OpenFault::OtherSite | OpenFault::NoData | OpenFault::IsThere | OpenFault::DataIsThere =>
+            Status::Refused,
         OpenFault::InUse | OpenFault::Store | OpenFault::NoLedger => Status::InputOutput,
         OpenFault::Memory => Status::Memory,
     }

@@ -1,6 +1,6 @@
 //! Where ledgers are.
 ghost use Rattle.std.specs.Prelude.{◌≡◌};
-ghost use Rattle.dr_run_open.specs.Openings.{refusal_of};
+ghost use Rattle.dr_run_open.specs.Openings.{refusal_of, refusal_of_new};
 
 use dr_ledger::{Ledger, LetsGo};
 use dr_ledger_views::Views;
@@ -14,6 +14,9 @@ pub enum OpenFault {
     /// It is of another node or of another plan, or no ledger at all.
     #[error("G6 OtherSite")]
     OtherSite,
+    /// The file of its data sets isn't there, is too short, or is of another ledger.
+    #[error("G6 OtherSite: DB.data")]
+    NoData,
     /// Another program has it open.
     #[error("G3 Store: in use")]
     InUse,
@@ -26,6 +29,9 @@ pub enum OpenFault {
     /// There is a file already, and a new one is to be made.
     #[error("G9 IsThere")]
     IsThere,
+    /// There is a file of data sets already where a new one is to be made.
+    #[error("G9 IsThere: DB.data")]
+    DataIsThere,
     #[error("Memory")]
     Memory,
 }
@@ -33,12 +39,24 @@ pub enum OpenFault {
 /// Whether a ledger's file may be made.
 #[derive(Clone, Copy, PartialEq, Eq, Debug)]
 pub enum Making {
-    /// One is made where none is.
+    /// One is made where none is, with its data sets in its tables.
     Allowed,
     /// None is made: it has to be there.
     Never,
-    /// One is made: none may be there.
+    /// One is made, with its data sets in its tables: none may be there.
     Wanted,
+    /// One is made, with its data sets in a file of their own: none may be there.
+    WantedWithData,
+}
+
+/// Why a new ledger isn't made by a path at which something is there, or isn't.
+fn refusal_of_new(is_there: bool) -> Option<OpenFault>
+    ensures { result ≡ refusal_of_new is_there }
+{
+    if is_there {
+        return Some(OpenFault::IsThere);
+    }
+    None
 }
 
 impl Making {
@@ -54,12 +72,8 @@ impl Making {
                 }
                 Some(OpenFault::NoLedger)
             }
-            Making::Wanted => {
-                if is_there {
-                    return Some(OpenFault::IsThere);
-                }
-                None
-            }
+            Making::Wanted => refusal_of_new(is_there),
+            Making::WantedWithData => refusal_of_new(is_there),
         }
     }
 }

@@ -148,7 +148,7 @@ impl<'a, R: Wait, L: Ledger, B: Sharing, C: Clock, G: Monitor> Copier<'a, R, L, 
 
     /// Copies the ledger to that path. Where that fails, what was made of it is taken away.
     ///
-    /// Errors: NoPath, OwnFile, IsThere, GivenUp, NoCopy, Memory.
+    /// Errors: NoPath, DataFile, OwnFile, IsThere, GivenUp, NoCopy, Memory.
     pub fn copy_to(&self, path: &Text) -> Result<Copied, BackupFault> {
         let Ok(path) = str::from_utf8(path.as_bytes()) else {
             return Err(BackupFault::NoPath);

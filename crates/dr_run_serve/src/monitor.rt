@@ -19,7 +19,7 @@ pub trait Monitor: Log {
 
     /// Begins a copy of the node's ledger, to that path.
     ///
-    /// Errors: NoPath, OwnFile, IsThere, NoCopy, Memory.
+    /// Errors: NoPath, DataFile, OwnFile, IsThere, NoCopy, Memory.
     fn begin_copy(&self, alloc: Global, path: &str) -> Result<LedgerCopy<'_>, BackupFault>;
 }
 

@@ -56,6 +56,14 @@ pub failed_as : {A B : Type 0} (n : ℕ) (part : Part) (e : LedgerFault) (old ne
 failed_as {A} {B} n part e old new Shows Says l =
     looked_failed {A = A} {B = B} n part old new Shows e Nothing (λ base db. (db ≡ base) × Reads {A = B} (Err e) (Says base)) (λ base db. ⊥) l (λ base asks own. (refl, own_reads e (Says base) own))
 
+-- where nothing was asked, as the shelf may not be used any more
+pub looked_shut : {A : Type 0} (n : ℕ) (part : Part) (s : State) (Shows : Trees → A → Type 0) → Looked {A = A} n part (Err fault.Store) s s Shows
+looked_shut {A} n part s Shows =
+    let r : Result A LedgerFault = Err fault.Store in
+    let Both : Trees → Trees → Type 0 = λ base db. (db ≡ base) × Reads r (Shows base) in
+    let None : Trees → Trees → Type 0 = λ base db. ⊥ in
+    still_called n part r s Nothing Both None (λ db given. (refl, tt)) (lasts_any r)
+
 -- one query, and then another
 pub looked_both : {A B : Type 0} (n : ℕ) (part : Part) (old mid new : State) (Shows : Trees → A → Type 0) (a : A) (r : Result B LedgerFault) (Then Says : Trees → B → Type 0) → Looked n part (Ok a) old mid Shows → Looked n part r mid new Then
     → ((base : Trees) → IsLedgerOf n part base → Shows base a → (b : B) → Then base b → Says base b) → Looked n part r old new Says

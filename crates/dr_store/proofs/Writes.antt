@@ -184,18 +184,18 @@ module _ {A : Type 0} {Uses : List ℕ → Type 0} {Stands Apart : List ℕ → 
 -- ---- what is said of the tables and of a shelf
 
 -- the premise of a ledger over tables lasts with that of its shelf
-pub with_shelf : {A : Type 0} (r : Result A LedgerFault) (Was Is Trusted Trusts Stood Stands : Type 0) → (Is → Was) → PremiseLasts r Trusted Trusts Stood Stands → PremiseLasts r (Trusted × Was) (Trusts × Is) (Stood × Was) (Stands × Is)
-with_shelf {A} r Was Is Trusted Trusts Stood Stands was l = record { trusted = λ t. (l.trusted t.0, was t.1); lasts = go r l.lasts }
+pub with_shelf : {A : Type 0} (r : Result A LedgerFault) (Was Is Trusted Trusts Stood Stands : Type 0) → (Is → Was) → (Is → PremiseLasts r Trusted Trusts Stood Stands) → PremiseLasts r (Trusted × Was) (Trusts × Is) (Stood × Was) (Stands × Is)
+with_shelf {A} r Was Is Trusted Trusts Stood Stands was l = record { trusted = λ t. ((l t.1).trusted t.0, was t.1); lasts = go r (λ is. (l is).lasts) }
   where
-    go : (q : Result A LedgerFault) → LastsAfter q (Trusts → Stood → Stands) → LastsAfter q (Trusts × Is → Stood × Was → Stands × Is)
-    go (Ok value) f = λ t s. (f t.0 s.0, t.1)
+    go : (q : Result A LedgerFault) → (Is → LastsAfter q (Trusts → Stood → Stands)) → LastsAfter q (Trusts × Is → Stood × Was → Stands × Is)
+    go (Ok value) f = λ t s. (f t.1 t.0 s.0, t.1)
     go (Err fault.Store) f = tt
     go (Err fault.Memory) f = tt
-    go (Err fault.NoLine) f = λ t s. (f t.0 s.0, t.1)
-    go (Err fault.Conflict) f = λ t s. (f t.0 s.0, t.1)
-    go (Err fault.NotWaiting) f = λ t s. (f t.0 s.0, t.1)
-    go (Err fault.NotHeld) f = λ t s. (f t.0 s.0, t.1)
-    go (Err fault.NotOver) f = λ t s. (f t.0 s.0, t.1)
+    go (Err fault.NoLine) f = λ t s. (f t.1 t.0 s.0, t.1)
+    go (Err fault.Conflict) f = λ t s. (f t.1 t.0 s.0, t.1)
+    go (Err fault.NotWaiting) f = λ t s. (f t.1 t.0 s.0, t.1)
+    go (Err fault.NotHeld) f = λ t s. (f t.1 t.0 s.0, t.1)
+    go (Err fault.NotOver) f = λ t s. (f t.1 t.0 s.0, t.1)
 
 -- ---- a call that reads
 
@@ -217,12 +217,6 @@ module _ {A : Type 0} {Uses : List ℕ → Type 0} {Stands Apart : List ℕ → 
   pub looked_kept : IsSafe new → ∥ KeepsOwn Uses Stands Apart n part new ∥₁
   looked_kept = looked_kept_by Uses Stands (λ own. own)
 
-  pub looked_lasting_by : (Was Is : Type 0) → (Is → Was) → PremiseLasts r (HasCleanDisk old × Was) (HasCleanDisk new × Is) (IsSafe old × Was) (IsSafe new × Is)
-  looked_lasting_by Was Is was = with_shelf r Was Is (HasCleanDisk old) (HasCleanDisk new) (IsSafe old) (IsSafe new) was (lasting n n part part r old new Same (λ base db. ⊥) kept done)
-
-  pub looked_lasting : (Clean : Type 0) → PremiseLasts r (HasCleanDisk old × Clean) (HasCleanDisk new × Clean) (IsSafe old × Clean) (IsSafe new × Clean)
-  looked_lasting Clean = looked_lasting_by Clean Clean (λ clean. clean)
-
   pub looked_same : IsSafe new → new.committed.trees ≡ old.committed.trees
   looked_same safe = ∥∥₁_elim (kept (looked_safe safe)) (Trees-set _ _) (λ k. (l.answers safe.0 safe.1 k.kept tt).0)
 
@@ -236,3 +230,14 @@ module _ {A : Type 0} {Uses : List ℕ → Type 0} {Stands Apart : List ℕ → 
   pub looked_says : (Says : A → Type 0) → (KeepsOwn Uses Stands Apart n part old → (a : A) → Shows old.committed.trees a → Says a) → ((a : A) → Stable (Says a)) → IsSafe new → Reads r Says
   looked_says Says says stable safe =
       reads_stable r Says stable (∥∥₁_map (kept (looked_safe safe)) (λ k. reads_as r (Shows old.committed.trees) Says (says k) (l.answers safe.0 safe.1 k.kept tt).1))
+
+module _ {A : Type 0} {Uses : List ℕ → Type 0} {Stands Apart : List ℕ → List ℕ → Type 0} (n : ℕ) (part : Part) (r : Result A LedgerFault) (old new : State) (Shows : Trees → A → Type 0) where
+  -- the premise lasts through a call that reads, where the cells are kept as long as the shelf is clean
+  pub looked_lasting_by : (Was Is : Type 0) → (Is → Was) → (Was → IsSafe old → ∥ KeepsOwn Uses Stands Apart n part old ∥₁) → Looked n part r old new Shows → PremiseLasts r (HasCleanDisk old × Was) (HasCleanDisk new × Is) (IsSafe old × Was) (IsSafe new × Is)
+  looked_lasting_by Was Is was kept l =
+      let Same : Trees → Trees → Type 0 = λ base db. (db ≡ base) × Reads r (Shows base) in
+      let None : Trees → Trees → Type 0 = λ base db. ⊥ in
+      with_shelf r Was Is (HasCleanDisk old) (HasCleanDisk new) (IsSafe old) (IsSafe new) was (λ is. lasting n n part part r old new Same None (kept (was is)) (called Uses Stands Apart n n part r old new Same None l))
+
+  pub looked_lasting : (Clean : Type 0) → (Clean → IsSafe old → ∥ KeepsOwn Uses Stands Apart n part old ∥₁) → Looked n part r old new Shows → PremiseLasts r (HasCleanDisk old × Clean) (HasCleanDisk new × Clean) (IsSafe old × Clean) (IsSafe new × Clean)
+  looked_lasting Clean kept l = looked_lasting_by Clean Clean (λ clean. clean) kept l

@@ -1,5 +1,5 @@
 -- A call that writes, by the tables before and after it, and what a crash leaves of it.
-use Rattle.std.specs.Prelude.{◌≡◌, ◌⊎◌, ℕ, Result, Ok, OnOk}
+use Rattle.std.specs.Prelude.{◌≡◌, ◌⊎◌, ℕ, Result, Ok, Err, OnOk}
 use Rattle.sqlite.specs.State.{State, HasCleanDisk}
 use Rattle.sqlite.specs.Tree.{Trees}
 use Rattle.dr_base.specs.Texts.{Text}
@@ -11,7 +11,7 @@ use Rattle.dr_ledger.specs.Adopting.{Adopting}
 use Rattle.dr_ledger.specs.Books.{Book}
 use Rattle.dr_ledger.specs.Replies.{Drops, Forgets, PremiseLasts, Requeues, Settles}
 use Rattle.dr_store_schema.specs.Books.{book_of}
-use Rattle.dr_store_calls.specs.Adoptions.{IsAdopted}
+use Rattle.dr_store_calls.specs.Adoptions.{IsAdopted, IsTakenOver}
 use Rattle.dr_store_calls.specs.Calling.{IsSafe}
 use Rattle.dr_store_calls.specs.Knowing.{IsAccepted}
 
@@ -28,6 +28,12 @@ pub record Wrote {A : Type 0} (result : Result A LedgerFault) (old new : State)
       → ∥ (db ≡ old.committed.trees) ⊎ Makes old.committed.trees db ∥₁
   pub durable : HasCleanDisk new → IsSafe old
       → OnOk result ((db : Trees) → new.may_leave db → db ≡ new.committed.trees)
+
+-- where an adoption was accepted, the next site has taken the tables over, with their mark, and
+-- else they are as they were
+abbrev pub TakesOver : Part → Result (Unit {0}) LedgerFault → Trees → Trees → Type 0
+TakesOver next (Ok done) base db = ∥ IsTakenOver next base db ∥₁
+TakesOver next (Err why) base db = db ≡ base
 
 -- ---- laws
 

@@ -13,11 +13,11 @@ ghost use Rattle.dr_store_calls.specs.Calling.{IsSafe};
 ghost use Rattle.dr_store_calls.specs.Knowing.{IsAccepted};
 ghost use Rattle.dr_store.specs.Counting.{failures_after};
 ghost use Rattle.dr_store.specs.Owning.{IsCovered, KeepsOwn, bodies_with};
-ghost use Rattle.dr_store.specs.Surviving.{Wrote};
+ghost use Rattle.dr_store.specs.Surviving.{TakesOver, Wrote};
 
 use crate::counting::{counted, next_after};
 use crate::listing::{first_unfit, list_arrivals, list_kept, list_rows, list_rows_and_keys};
-use crate::reading::{admit, due_row, has_data_set, has_item, next_job};
+use crate::reading::{admit, due_row, has_data_set, has_in, next_job};
 use crate::telling::{list_lines, tell_behind, tell_journal};
 use dr_base::{Seq, Text};
 use dr_cert::Sealed;
@@ -48,7 +48,8 @@ pub struct SqlLedger<S: Alter, B: Shelf> {
     moment: Option<u64>,
     failures: u64,
     ghost idle: { conn.in_transaction ≡ false },
-    ghost kept: { IsSafe (state S.Store conn)
+    ghost kept: { B.Shelf.is_clean shelf
+        → IsSafe (state S.Store conn)
         → ∥ KeepsOwn (B.Shelf.uses shelf) (B.Shelf.stands shelf)
         (B.Shelf.apart (B.Shelf.named shelf)) next site
         (state S.Store conn) ∥₁ },
@@ -67,7 +68,8 @@ impl<S: Alter, B: Shelf> SqlLedger<S, B> {
         moment: Option<u64>,
     ) -> SqlLedger<S, B>
         requires idle { conn.in_transaction ≡ false }
-        requires kept { IsSafe (state S.Store conn)
+        requires kept { B.Shelf.is_clean shelf
+            → IsSafe (state S.Store conn)
             → ∥ KeepsOwn (B.Shelf.uses shelf) (B.Shelf.stands shelf)
             (B.Shelf.apart (B.Shelf.named shelf)) next site
             (state S.Store conn) ∥₁ }
@@ -109,14 +111,16 @@ impl<S: Alter, B: Shelf> SqlLedger<S, B> {
     /// Takes an item from a caller, as `Ledger::arrive` says, and survives a crash at any moment.
     /// If its data set comes into the tables, it is put on the shelf before its line is committed.
     fn arrive_in(&mut self, caller: &Text, item: Item) -> Result<Arrived, LedgerFault>
-        ensures wrote { Wrote result (state S.Store self.old.conn) (state S.Store self.new.conn)
+        ensures wrote { B.Shelf.is_clean self.new.shelf
+            → Wrote result (state S.Store self.old.conn) (state S.Store self.new.conn)
             (λ base db. Arrives (site_routing self.old.site) caller.now (instance_of item)
             (book_of base) result (book_of db)
             × OnlyTakes item (bodies_with (B.Shelf.body_of self.old.shelf) base)
             (bodies_with (B.Shelf.body_of self.new.shelf) db))
             (λ base db. IsAccepted self.old.site caller.now (instance_of item) (book_of base)
             (book_of db)) }
-        ensures covered { HasCleanDisk (state S.Store self.new.conn)
+        ensures covered { B.Shelf.is_clean self.new.shelf
+            → HasCleanDisk (state S.Store self.new.conn)
             → IsSafe (state S.Store self.old.conn)
             → IsCovered (B.Shelf.uses self.new.shelf) (B.Shelf.stands self.new.shelf)
             (B.Shelf.apart (B.Shelf.named self.new.shelf))
@@ -154,12 +158,14 @@ impl<S: Alter, B: Shelf> SqlLedger<S, B> {
         now: u64,
     ) -> Result<(), LedgerFault>
         requires { now ≤ 2 ^ 62 }
-        ensures wrote { Wrote result (state S.Store self.old.conn) (state S.Store self.new.conn)
+        ensures wrote { B.Shelf.is_clean self.new.shelf
+            → Wrote result (state S.Store self.old.conn) (state S.Store self.new.conn)
             (λ base db. Settles uid.now dest.now outcome now (book_of base) result (book_of db)
             × OnlyLetsGo (bodies_with (B.Shelf.body_of self.old.shelf) base)
             (bodies_with (B.Shelf.body_of self.new.shelf) db))
             (λ base db. Settles uid.now dest.now outcome now (book_of base) (Ok tt) (book_of db)) }
-        ensures covered { HasCleanDisk (state S.Store self.new.conn)
+        ensures covered { B.Shelf.is_clean self.new.shelf
+            → HasCleanDisk (state S.Store self.new.conn)
             → IsSafe (state S.Store self.old.conn)
             → IsCovered (B.Shelf.uses self.new.shelf) (B.Shelf.stands self.new.shelf)
             (B.Shelf.apart (B.Shelf.named self.new.shelf))
@@ -185,12 +191,14 @@ impl<S: Alter, B: Shelf> SqlLedger<S, B> {
 
     /// Queues a held row again, as `Ledger::requeue` says, and survives a crash at any moment.
     fn requeue_in(&mut self, uid: &Text, dest: &Text) -> Result<(), LedgerFault>
-        ensures wrote { Wrote result (state S.Store self.old.conn) (state S.Store self.new.conn)
+        ensures wrote { B.Shelf.is_clean self.new.shelf
+            → Wrote result (state S.Store self.old.conn) (state S.Store self.new.conn)
             (λ base db. Requeues uid.now dest.now (book_of base) result (book_of db)
             × OnlyLetsGo (bodies_with (B.Shelf.body_of self.old.shelf) base)
             (bodies_with (B.Shelf.body_of self.new.shelf) db))
             (λ base db. Requeues uid.now dest.now (book_of base) (Ok tt) (book_of db)) }
-        ensures covered { HasCleanDisk (state S.Store self.new.conn)
+        ensures covered { B.Shelf.is_clean self.new.shelf
+            → HasCleanDisk (state S.Store self.new.conn)
             → IsSafe (state S.Store self.old.conn)
             → IsCovered (B.Shelf.uses self.new.shelf) (B.Shelf.stands self.new.shelf)
             (B.Shelf.apart (B.Shelf.named self.new.shelf))
@@ -210,12 +218,14 @@ impl<S: Alter, B: Shelf> SqlLedger<S, B> {
     /// a data set that went is let go once that is committed.
     fn give_up_in(&mut self, uid: &Text, dest: &Text, now: u64) -> Result<(), LedgerFault>
         requires { now ≤ 2 ^ 62 }
-        ensures wrote { Wrote result (state S.Store self.old.conn) (state S.Store self.new.conn)
+        ensures wrote { B.Shelf.is_clean self.new.shelf
+            → Wrote result (state S.Store self.old.conn) (state S.Store self.new.conn)
             (λ base db. Drops uid.now dest.now now (book_of base) result (book_of db)
             × OnlyLetsGo (bodies_with (B.Shelf.body_of self.old.shelf) base)
             (bodies_with (B.Shelf.body_of self.new.shelf) db))
             (λ base db. Drops uid.now dest.now now (book_of base) (Ok tt) (book_of db)) }
-        ensures covered { HasCleanDisk (state S.Store self.new.conn)
+        ensures covered { B.Shelf.is_clean self.new.shelf
+            → HasCleanDisk (state S.Store self.new.conn)
             → IsSafe (state S.Store self.old.conn)
             → IsCovered (B.Shelf.uses self.new.shelf) (B.Shelf.stands self.new.shelf)
             (B.Shelf.apart (B.Shelf.named self.new.shelf))
@@ -241,12 +251,14 @@ impl<S: Alter, B: Shelf> SqlLedger<S, B> {
     /// Forgets an instance that is over, as `LetsGo::forget` says, and survives a crash at any
     /// moment.
     fn forget_in(&mut self, uid: &Text) -> Result<(), LedgerFault>
-        ensures wrote { Wrote result (state S.Store self.old.conn) (state S.Store self.new.conn)
+        ensures wrote { B.Shelf.is_clean self.new.shelf
+            → Wrote result (state S.Store self.old.conn) (state S.Store self.new.conn)
             (λ base db. Forgets uid.now (book_of base) result (book_of db)
             × OnlyLetsGo (bodies_with (B.Shelf.body_of self.old.shelf) base)
             (bodies_with (B.Shelf.body_of self.new.shelf) db))
             (λ base db. Forgets uid.now (book_of base) (Ok tt) (book_of db)) }
-        ensures covered { HasCleanDisk (state S.Store self.new.conn)
+        ensures covered { B.Shelf.is_clean self.new.shelf
+            → HasCleanDisk (state S.Store self.new.conn)
             → IsSafe (state S.Store self.old.conn)
             → IsCovered (B.Shelf.uses self.new.shelf) (B.Shelf.stands self.new.shelf)
             (B.Shelf.apart (B.Shelf.named self.new.shelf))
@@ -263,14 +275,17 @@ impl<S: Alter, B: Shelf> SqlLedger<S, B> {
     }
 
     /// Adopts the plan of the next site of its node, as `Ledger::adopt` says, and survives a crash
-    /// at any moment.
+    /// at any moment. The tables keep the mark of the file that has their data sets.
     fn adopt_in(&mut self, own: Site) -> Result<(), LedgerFault>
-        ensures wrote { Wrote result (state S.Store self.old.conn) (state S.Store self.new.conn)
+        ensures wrote { B.Shelf.is_clean self.new.shelf
+            → Wrote result (state S.Store self.old.conn) (state S.Store self.new.conn)
             (λ base db. Adopting (book_of base) result (book_of db)
             × OnlyLetsGo (bodies_with (B.Shelf.body_of self.old.shelf) base)
-            (bodies_with (B.Shelf.body_of self.new.shelf) db))
+            (bodies_with (B.Shelf.body_of self.new.shelf) db)
+            × TakesOver own result base db)
             (IsAdopted own) }
-        ensures covered { HasCleanDisk (state S.Store self.new.conn)
+        ensures covered { B.Shelf.is_clean self.new.shelf
+            → HasCleanDisk (state S.Store self.new.conn)
             → IsSafe (state S.Store self.old.conn)
             → IsCovered (B.Shelf.uses self.new.shelf) (B.Shelf.stands self.new.shelf)
             (B.Shelf.apart (B.Shelf.named self.new.shelf))
@@ -323,9 +338,9 @@ impl<S: Alter, B: Shelf> Ledger for SqlLedger<S, B> {
 
     ghost armed = { λ l. false };
 
-    ghost journalled = { λ l safe. ∥∥₁_map (l.kept safe.0) (λ k. k.kept.ledger.journalled) };
+    ghost journalled = { λ l safe. ∥∥₁_map (l.kept safe.1 safe.0) (λ k. k.kept.ledger.journalled) };
 
-    ghost bodied = { λ l safe. ∥∥₁_map (l.kept safe.0) (λ k.
+    ghost bodied = { λ l safe. ∥∥₁_map (l.kept safe.1 safe.0) (λ k.
         has_bodies (B.Shelf.stands l.shelf) (B.Shelf.body_of l.shelf) (B.Shelf.only l.shelf)
         (state S.Store l.conn).committed.trees k.kept.ledger.bodied k.own.own) };
 
@@ -366,7 +381,7 @@ impl<S: Alter, B: Shelf> Ledger for SqlLedger<S, B> {
     }
 
     fn has(&mut self, uid: &Text) -> Result<bool, LedgerFault> {
-        let answer = has_item(&mut self.conn, self.alloc, uid);
+        let answer = has_in(&mut self.conn, &self.shelf, self.alloc, uid);
         self.failures = counted(&answer, self.failures);
         answer
     }

@@ -1,9 +1,10 @@
 //! What the tables show of one instance, of one row, and of what is due.
-ghost use Rattle.std.specs.Prelude.{◌≡◌, ℕ, List, Some, false};
+ghost use Rattle.std.specs.Prelude.{◌≡◌, ℕ, List, Err, Some, false};
 ghost use Rattle.std.specs.FinMap as map;
 ghost use Rattle.sqlite.specs.Held.{state};
 ghost use Rattle.sqlite.specs.Tree.{Trees};
 ghost use Rattle.dr_site.specs.Parts.{Part};
+ghost use Rattle.dr_ledger.specs.declared.fault.LedgerFault.TheVariants.{Store};
 ghost use Rattle.dr_ledger.specs.Items.{instance_of};
 ghost use Rattle.dr_ledger.specs.Replies.{Admits, Dues, Reads};
 ghost use Rattle.dr_ledger.specs.SiteRoutes.{site_routing};
@@ -23,7 +24,7 @@ use sqlite::{Alter, Connection};
 use std::alloc::Global;
 
 /// Whether an instance with this uid is there.
-pub fn has_item<S: Alter>(
+fn has_item<S: Alter>(
     conn: &mut Connection<S>,
     alloc: Global,
     uid: &Text,
@@ -37,6 +38,28 @@ pub fn has_item<S: Alter>(
         Ok(key) => Ok(key.is_some()),
         Err(fault) => Err(fault),
     }
+}
+
+/// The same, of a ledger whose data sets are on this shelf: Store where that may not be used any
+/// more. A call that only reads the tables wouldn't show it.
+pub fn has_in<S: Alter, B>(
+    conn: &mut Connection<S>,
+    shelf: &B,
+    alloc: Global,
+    uid: &Text,
+) -> Result<bool, LedgerFault>
+where
+    B: Shelf,
+    ensures looked { (n : ℕ) (part : Part)
+        → Looked n part result (state S.Store conn.old) (state S.Store conn.new)
+        (λ base there. there ≡ map.contains_key (items_of base) uid.now) }
+    ensures shut { (B.Shelf.is_usable shelf.now → ⊥) → result ≡ Err Store }
+    ensures idle { conn.old.in_transaction ≡ false → conn.new.in_transaction ≡ false }
+{
+    if !shelf.may_be_used() {
+        return Err(LedgerFault::Store);
+    }
+    has_item(conn, alloc, uid)
 }
 
 /// Whether its data set is there. It isn't read.

@@ -1,6 +1,6 @@
 //! The data sets of a ledger in one file.
-ghost use Rattle.std.specs.Prelude.{◌≡◌, ◌≢◌, ◌==◌, ◌∷◌, [], ℕ, ◌+◌, ◌^◌, ◌%◌, ◌<◌, ◌≤◌, take};
-ghost use Rattle.std.specs.Prelude.{drop, List, length, not, filter};
+ghost use Rattle.std.specs.Prelude.{◌≡◌, ◌≢◌, ◌==◌, ◌↔◌, ◌∷◌, [], ℕ, ◌+◌, ◌^◌, ◌%◌, ◌<◌, ◌≤◌};
+ghost use Rattle.std.specs.Prelude.{take, drop, List, length, not, filter};
 ghost use Rattle.std.specs.Prelude.{All, AllPairs, Contains, IfErr, IfOk, OnOk, OnErr, IsTrue};
 ghost use Rattle.dr_store_bodies.specs.declared.extent.Extent.{Extent};
 ghost use Rattle.sqlite_disk.specs.Disk.{Only};
@@ -30,7 +30,8 @@ pub struct Bodies<D: Disk> {
 }
 
 impl<D: Disk> Bodies<D> {
-    ghost use Rattle.dr_store_bodies.specs.Bodies.{disk, extents, seen, IsHeld, IsClean, IsUsable};
+    ghost use Rattle.dr_store_bodies.specs.Bodies.{disk, extents, faults, seen, IsHeld, IsClean};
+    ghost use Rattle.dr_store_bodies.specs.Bodies.{IsUsable};
     ghost use Rattle.dr_store_bodies.specs.Refusals.{IsWhyNotCut, IsWhyNotPut, IsWhyNotRead};
 
     /// A file with no extent in use. What it contains is left as it is, and overwritten.
@@ -42,6 +43,13 @@ impl<D: Disk> Bodies<D> {
             disk: file,
             extents: Vec::new(alloc),
         }
+    }
+
+    /// Whether no sync has failed. After one that has, nothing more is put, read or cut.
+    pub fn may_be_used(&self) -> bool
+        ensures { IsTrue result ↔ IsUsable self.now }
+    {
+        self.disk.may_be_used()
     }
 
     /// The extents in use: each is filled, no two overlap, and where the medium told no lie, each
@@ -172,6 +180,8 @@ impl<D: Disk> Bodies<D> {
         ensures keeps { (e : Extent) (bytes : List ℕ)
             → Contains (extents self.old) e → IsHeld self.old e bytes → IsHeld self.new e bytes }
         ensures clean { IsClean self.new → IsClean self.old }
+        ensures usable { OnOk result (IsUsable self.new) }
+        ensures faults { OnOk result (faults self.new ≡ faults self.old) }
         ensures why { IfErr result (IsWhyNotCut self.old self.new) }
     {
         if !self.disk.may_be_used() {

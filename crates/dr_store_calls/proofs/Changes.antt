@@ -4,7 +4,6 @@ use Rattle.sqlite.specs.declared.types.Value.TheVariants.{Int}
 use Rattle.sqlite.specs.Effect.{Database}
 use Rattle.sqlite.specs.State.{State, HasCleanDisk}
 use Rattle.sqlite.specs.Tree.{Trees, put_row}
-use Rattle.dr_base.specs.Texts.{Text}
 use Rattle.dr_site.specs.Parts.{Part}
 use Rattle.dr_ledger.specs.declared.fault.LedgerFault.{LedgerFault}
 use Rattle.dr_ledger.specs.declared.fault.LedgerFault.TheVariants as fault
@@ -16,8 +15,8 @@ use Rattle.dr_store_writes.specs.Effects.{AddsRow, DropsArrivals, DropsOver, Goe
 use Rattle.dr_store_changes.specs.Writing.{IsMade, IsReady, Written}
 use Rattle.dr_store_changes.proofs.Movements.{goes_over}
 use Rattle.dr_store_calls.specs.Calling.{Called, IsKept, IsLedgerOf, IsOwnFault, Looked, Nothing}
-use Rattle.dr_store_calls.proofs.Calls.{below_of, looked_failed, still_called, unmade_called}
-use Rattle.dr_store_calls.specs.Adoptions.{Adopted, AdoptsPlan, AnswersAdoption, Clears, IsAdopted, NotesPlan}
+use Rattle.dr_store_calls.proofs.Calls.{below_of, looked_failed, own_lasts, still_called, unmade_called}
+use Rattle.dr_store_calls.specs.Adoptions.{Adopted, AdoptsPlan, AnswersAdoption, Clears, IsAdopted, IsPlanWith, NotesPlan}
 use Rattle.dr_store_calls.proofs.Adoptions.{adopted_ledgers_are_of_the_next, adoptions_adopt}
 
 -- ---- the statements
@@ -110,20 +109,41 @@ module _ (n : ℕ) (part next : Part) (old new : State) (Asks : Trees → Type 0
     crash = c.crash;
   }
 
--- what was written, where the tables had this owner
-abbrev pub OwnedBy : Text → Trees → Type 0
-OwnedBy node base = (was : List ℕ) × IsSiteOf node was base
+-- what was written, where the tables had this owner: its cell has the mark that the next one gets
+module _ (n : ℕ) (part next : Part) (old new : State) (still : old.in_transaction ≡ false → new.in_transaction ≡ false) (mark digest was cell : List ℕ) (had : IsPlanWith mark digest was) (has : IsPlanWith mark next.digest cell) (moment : Option ℕ) where
+  owned : IsReady n old → IsLedgerOf n part old.committed.trees → IsSiteOf next.name was old.committed.trees → HasSite old.committed.trees
+  owned ready l asks = (next.name, was, asks)
 
-module _ (n : ℕ) (part next : Part) (old new : State) (still : old.in_transaction ≡ false → new.in_transaction ≡ false) (node : Text) (named : node ≡ next.name) (moment : Option ℕ) where
-  owned : IsReady n old → IsLedgerOf n part old.committed.trees → OwnedBy node old.committed.trees → HasSite old.committed.trees
-  owned ready l asks = (node, asks.0, asks.1)
+  -- the site whose the tables were
+  abbrev last : Part
+  last = record {
+    name = next.name;
+    max_pdu = next.max_pdu;
+    digest = digest;
+    rules = next.rules;
+    accepts = next.accepts;
+    flows = next.flows;
+    lines = next.lines;
+    hops = next.hops;
+    literals = next.literals;
+  }
 
-  adopted_so : IsReady n old → IsLedgerOf n part old.committed.trees → OwnedBy node old.committed.trees → (db : Trees) → AdoptsPlan next.digest n moment old.committed.trees db → IsAdopted next old.committed.trees db
+  adopted_so : IsReady n old → IsLedgerOf n part old.committed.trees → IsSiteOf next.name was old.committed.trees → (db : Trees) → AdoptsPlan cell n moment old.committed.trees db → IsAdopted next old.committed.trees db
   adopted_so ready l asks db w =
-      let it = adoptions_adopt old.committed.trees db next.digest n moment (below_of n old ready) w in
-      record { book = it.0; bodies = it.1; owner = subst (λ name. IsSiteOf name next.digest db) named (w.site node asks.0 asks.1) }
+      let it = adoptions_adopt old.committed.trees db cell n moment (below_of n old ready) w in
+      record {
+        book = it.0;
+        bodies = it.1;
+        owner = record {
+          was = last;
+          node = refl;
+          mark = mark;
+          owned = (was, had, asks);
+          owns = (cell, has, w.site next.name was asks);
+        };
+      }
 
-  pub written_adopted : (r : Result (Unit {0}) LedgerFault) → IfErr r IsOwnFault → Written {E = LedgerFault} n HasSite (AdoptsPlan next.digest n moment) r old new → Adopted n part next r old new (OwnedBy node)
+  pub written_adopted : (r : Result (Unit {0}) LedgerFault) → IfErr r IsOwnFault → Written {E = LedgerFault} n HasSite (AdoptsPlan cell n moment) r old new → Adopted n part next r old new (IsSiteOf next.name was)
   written_adopted (Ok done) own w = record {
     clean = w.clean;
     was_open = w.was_open;
@@ -131,25 +151,41 @@ module _ (n : ℕ) (part next : Part) (old new : State) (still : old.in_transact
     lasts = λ clean k asks. (w.ok clean k.ready (before k asks)).0.is_open;
     kept = λ clean is_open k asks.
         let it = w.ok clean k.ready (before k asks) in
-        record { ready = it.0; ledger = adopted_ledgers_are_of_the_next part next old.committed.trees new.committed.trees next.digest n moment (below_of n old k.ready) k.ledger it.1 };
+        record { ready = it.0; ledger = adopted_ledgers_are_of_the_next part next old.committed.trees new.committed.trees cell n moment (below_of n old k.ready) k.ledger it.1 };
     answers = λ clean is_open k asks.
         let it = adopted_so k.ready k.ledger asks new.committed.trees (w.ok clean k.ready (before k asks)).1 in
         record { reply = it.book; bodies = it.bodies; owner = it.owner; same = tt };
     crash = λ clean k asks db left. elim ((w.crash k.ready (before k asks)).crash clean db left) [
-      | inl was ↦ inl was
+      | inl h ↦ inl h
       | inr made ↦ inr (adopted_so k.ready k.ledger asks db made)
     ];
   }
     where
-      before : IsKept n part old → OwnedBy node old.committed.trees → HasSite old.now.trees
-      before k asks = subst (λ (d : Database). HasSite d.trees) (sym k.ready.settled) (node, asks.0, asks.1)
-  written_adopted (Err e) own w = refused_adopted n part next old new (OwnedBy node) e (λ clean is_open k. own)
-      (unmade_called {A = Unit {0}} n part HasSite (OwnedBy node) (AdoptsPlan next.digest n moment) Stood (IsAdopted next) old new still owned e own w adopted_so (λ asks. refl))
+      before : IsKept n part old → IsSiteOf next.name was old.committed.trees → HasSite old.now.trees
+      before k asks = subst (λ (d : Database). HasSite d.trees) (sym k.ready.settled) (next.name, was, asks)
+  written_adopted (Err e) own w = refused_adopted n part next old new (IsSiteOf next.name was) e (λ clean is_open k. own)
+      (unmade_called {A = Unit {0}} n part HasSite (IsSiteOf next.name was) (AdoptsPlan cell n moment) Stood (IsAdopted next) old new still owned e own w adopted_so (λ asks. refl))
 
 -- where nothing is tried
-pub not_adopted : (n : ℕ) (part next : Part) (s : State) (Asks : Trees → Type 0) → Adopted n part next (Err fault.Store) s s Asks
-not_adopted n part next s Asks = refused_adopted n part next s s Asks fault.Store (λ clean is_open k. inl refl)
-    (still_called {A = Unit {0}} n part (Err fault.Store) s Asks Stood (IsAdopted next) (λ db asks. refl) (λ P h. tt))
+pub not_adopted : (n : ℕ) (part next : Part) (s : State) (Asks : Trees → Type 0) (e : LedgerFault) → IsOwnFault e → Adopted n part next (Err e) s s Asks
+not_adopted n part next s Asks e own = refused_adopted n part next s s Asks e (λ clean is_open k. own)
+    (still_called {A = Unit {0}} n part (Err e) s Asks Stood (IsAdopted next) (λ db asks. refl) (λ P h. own_lasts e P own))
+
+-- where a fault is Store
+pub not_stored : (n : ℕ) (part next : Part) (s : State) (Asks : Trees → Type 0) → Adopted n part next (Err fault.Store) s s Asks
+not_stored n part next s Asks = not_adopted n part next s Asks fault.Store (inl refl)
+
+-- what is asked of the tables is the same
+pub adopted_where : (n : ℕ) (part next : Part) (r : Result (Unit {0}) LedgerFault) (old new : State) (Asks More : Trees → Type 0) → ((db : Trees) → More db → Asks db) → Adopted n part next r old new Asks → Adopted n part next r old new More
+adopted_where n part next r old new Asks More gives c = record {
+  clean = c.clean;
+  was_open = c.was_open;
+  idle = c.idle;
+  lasts = λ clean k asks. c.lasts clean k (gives old.committed.trees asks);
+  kept = λ clean is_open k asks. c.kept clean is_open k (gives old.committed.trees asks);
+  answers = λ clean is_open k asks. c.answers clean is_open k (gives old.committed.trees asks);
+  crash = λ clean k asks db left. c.crash clean k (gives old.committed.trees asks) db left;
+}
 
 -- the owner was read, and then it was adopted
 module _ {A : Type 0} (n : ℕ) (part next : Part) (old mid new : State) (Shows : Trees → A → Type 0) where
@@ -182,7 +218,7 @@ module _ {A : Type 0} (n : ℕ) (part next : Part) (old mid new : State) (Shows 
 
 -- the owner was read, and it wasn't tried
 pub looked_only : {A : Type 0} (n : ℕ) (part next : Part) (old new : State) (Shows : Trees → A → Type 0) (a : A) → Looked n part (Ok a) old new Shows → Adopted n part next (Err fault.Store) old new Nothing
-looked_only n part next old new Shows a l = looked_adopted n part next old new new Shows a (Err fault.Store) Nothing l (not_adopted n part next new Nothing) (λ db shown. tt)
+looked_only n part next old new Shows a l = looked_adopted n part next old new new Shows a (Err fault.Store) Nothing l (not_stored n part next new Nothing) (λ db shown. tt)
 
 own_of : {A : Type 0} (e : LedgerFault) (Shows : A → Type 0) → Reads (Err e) Shows → IsOwnFault e
 own_of fault.Store Shows h = inl refl

@@ -6,6 +6,7 @@ pub mod Going
 pub mod Knows
 pub mod Moves
 pub mod Overs
+pub mod Owners
 pub mod Reading
 pub mod Shelved
 pub mod Takings

@@ -1,11 +1,11 @@
 -- Laws of adoptions.
-use Rattle.std.specs.Prelude.{◌≡◌, ◌+◌, ℕ, List, Option}
+use Rattle.std.specs.Prelude.{◌≡◌, ◌+◌, ℕ, List, [], Option}
 use Rattle.sqlite.specs.Tree.{Trees}
 use Rattle.dr_site.specs.Parts.{Part}
 use Rattle.dr_ledger.specs.Books.{Adoption, after}
 use Rattle.dr_store_schema.specs.Books.{AreBelow, bodies_of, book_of}
 use Rattle.dr_store_calls.specs.Calling.{IsLedgerOf}
-use Rattle.dr_store_calls.specs.Adoptions.{AdoptsPlan}
+use Rattle.dr_store_calls.specs.Adoptions.{AdoptsPlan, IsAdopted, IsOwnedBy, IsOwnedWith}
 
 -- What an adoption makes of the tables is what it makes of the book; the data sets are the same.
 abbrev pub AdoptionsAdopt : Type 0
@@ -21,3 +21,20 @@ AdoptedLedgersAreOfTheNext =
     (part next : Part) (old new : Trees) (plan : List ℕ) (n : ℕ) (moment : Option ℕ)
     → AreBelow n (old 11) → IsLedgerOf n part old → AdoptsPlan plan n moment old new
     → IsLedgerOf (n + 1) next new
+
+-- Tables have one owner: one node, one plan, and one mark.
+abbrev pub OwnersAreOne : Type 0
+OwnersAreOne =
+    (mark last : List ℕ) (part other : Part) (db : Trees)
+    → IsOwnedWith mark part db → IsOwnedWith last other db
+    → (part.name ≡ other.name) × (part.digest ≡ other.digest) × (mark ≡ last)
+
+-- Whatever the mark was before an adoption, it is the same after it.
+abbrev pub AdoptionsKeepTheMark : Type 0
+AdoptionsKeepTheMark =
+    (part next : Part) (mark : List ℕ) (base db : Trees)
+    → IsAdopted next base db → IsOwnedWith mark part base → IsOwnedWith mark next db
+
+-- Where site has no row, nobody owns the tables.
+abbrev pub EmptyTablesAreOwnedByNone : Type 0
+EmptyTablesAreOwnedByNone = (part : Part) (db : Trees) → db 0 ≡ [] → IsOwnedBy part db → ⊥

@@ -1,6 +1,6 @@
 -- What an adoption makes of the tables, and what its call shows.
-use Rattle.std.specs.Prelude.{◌≡◌, ◌≤◌, ◌⊎◌, ℕ, false, IsTrue, List, [], Option, Result, OnErr}
-use Rattle.std.specs.Prelude.{OnOk}
+use Rattle.std.specs.Prelude.{◌≡◌, ◌≤◌, ◌++◌, ◌⊎◌, ℕ, false, IsTrue, List, [], Option, Result}
+use Rattle.std.specs.Prelude.{OnErr, OnOk, length}
 use Rattle.sqlite.specs.State.{State, HasCleanDisk}
 use Rattle.sqlite.specs.Tree.{Trees, put_row}
 use Rattle.sqlite_trees.specs.View.{doubt}
@@ -27,8 +27,8 @@ pub record Clears (old new : Trees) : Type 0 where
   pub journal : new 11 ≡ old 11
   pub targets : new 12 ≡ old 12
 
--- the plan in force is this one, for the same node, and line n is an adoption; all other tables
--- stay
+-- site has this for the plan in force, for the same node, and line n is an adoption; all other
+-- tables stay
 pub record NotesPlan (plan : List ℕ) (n : ℕ) (moment : Option ℕ) (old new : Trees) : Type 0 where
   pub site : (node : Text) (was : List ℕ) → IsSiteOf node was old → IsSiteOf node plan new
   pub journal : new 11 ≡ put_row (adopted_line n moment) (old 11)
@@ -39,9 +39,9 @@ pub record NotesPlan (plan : List ℕ) (n : ℕ) (moment : Option ℕ) (old new 
   pub queue : new 9 ≡ old 9
   pub targets : new 12 ≡ old 12
 
--- An adoption of the plan with this SHA-256 as line n, at that moment: arrivals and rows that are
--- over have left, the line stands in the journal, and the plan is in force for the same node. All
--- else stays.
+-- An adoption as line n, at that moment, of the plan for which site has this then: arrivals and
+-- rows that are over have left, the line stands in the journal, and the plan is in force for the
+-- same node. All else stays.
 pub record AdoptsPlan (plan : List ℕ) (n : ℕ) (moment : Option ℕ) (old new : Trees) : Type 0 where
   pub site : (node : Text) (was : List ℕ) → IsSiteOf node was old → IsSiteOf node plan new
   pub items : new 1 ≡ old 1
@@ -52,25 +52,51 @@ pub record AdoptsPlan (plan : List ℕ) (n : ℕ) (moment : Option ℕ) (old new
   pub journal : new 11 ≡ put_row (adopted_line n moment) (old 11)
   pub targets : new 12 ≡ old 12
 
+-- ---- whose the tables are
+
+-- nothing, where the data sets are in rows, or the 24 bytes of a key and of the mark of the file
+-- that has them
+abbrev pub IsMark : List ℕ → Type 0
+IsMark mark = (mark ≡ []) ⊎ (length mark ≡ 24)
+
+-- what site has for a plan: its SHA-256, which has 32 bytes, and right behind it the mark
+pub record IsPlanWith (mark digest cell : List ℕ) : Type 0 where
+  pub long : length digest ≡ 32
+  pub marked : IsMark mark
+  pub is : cell ≡ digest ++ mark
+
+-- the tables are owned by the site: by its node, under its plan, with this mark
+abbrev pub IsOwnedWith : List ℕ → Part → Trees → Type 0
+IsOwnedWith mark part db =
+    (cell : List ℕ) × IsPlanWith mark part.digest cell × IsSiteOf part.name cell db
+
+-- with some mark
+abbrev pub IsOwnedBy : Part → Trees → Type 0
+IsOwnedBy part db = (mark : List ℕ) × IsOwnedWith mark part db
+
+-- a site of the same node owned the tables, and the next one owns them, with the same mark
+pub record IsTakenOver (next : Part) (base db : Trees) : Type 0 where
+  pub was : Part
+  pub node : was.name ≡ next.name
+  pub mark : List ℕ
+  pub owned : IsOwnedWith mark was base
+  pub owns : IsOwnedWith mark next db
+
 -- ---- the call
 
--- the tables are owned by the site: by its node, under its plan
-abbrev pub IsOwnedBy : Part → Trees → Type 0
-IsOwnedBy part db = IsSiteOf part.name part.digest db
-
 -- the book after an adoption that was accepted, with the same data sets, in tables that the next
--- site owns
+-- site has taken over
 pub record IsAdopted (next : Part) (base db : Trees) : Type 0 where
   pub book : book_of db ≡ after Adoption (book_of base)
   pub bodies : bodies_of db ≡ bodies_of base
-  pub owner : IsOwnedBy next db
+  pub owner : IsTakenOver next base db
 
 -- Book, data sets and tables after an adoption with this answer.
 pub record AnswersAdoption (next : Part) (result : Result (Unit {0}) LedgerFault)
     (base db : Trees) : Type 0 where
   pub reply : Adopting (book_of base) result (book_of db)
   pub bodies : bodies_of db ≡ bodies_of base
-  pub owner : OnOk result (IsOwnedBy next db)
+  pub owner : OnOk result (IsTakenOver next base db)
   pub same : OnErr result (db ≡ base)
 
 -- An adoption of the next site's plan by a ledger of this site, whose next line has number n. Where

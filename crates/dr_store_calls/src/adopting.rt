@@ -5,69 +5,97 @@ ghost use Rattle.dr_site.specs.Parts.{Part};
 ghost use Rattle.dr_store_writes.specs.Effects.{HasSite, IsSiteOf};
 ghost use Rattle.dr_store_changes.specs.Writing.{Written};
 ghost use Rattle.dr_store_calls.specs.Calling.{IsOwnFault, Nothing};
-ghost use Rattle.dr_store_calls.specs.Adoptions.{Adopted, AdoptsPlan};
+ghost use Rattle.dr_store_calls.specs.Adoptions.{Adopted, AdoptsPlan, IsPlanWith};
 
+use crate::owning::{mark_behind, plan_cell};
 use crate::plan::NewPlan;
-use dr_base::Text;
 use dr_base::same::Same;
 use dr_ledger::{LedgerFault, MOST_LINES};
 use dr_site::Site;
 use dr_store_changes::write;
-use dr_store_reads::{fault_of, find_owner};
+use dr_store_reads::{Owner, fault_of, find_owner};
 use sqlite::{Alter, Connection};
 use std::alloc::Global;
 
-/// Sets the plan in force as one transaction.
+/// Sets what site has for the plan in force, as one transaction.
 fn write_plan<S: Alter>(
     conn: &mut Connection<S>,
     n: u64,
     moment: Option<u64>,
-    digest: &[u8],
+    cell: &[u8],
 ) -> Result<(), LedgerFault>
     requires { conn.old.in_transaction ≡ false }
     ensures idle { conn.new.in_transaction ≡ false }
     ensures number { OnOk result (n ≤ 2 ^ 62) }
     ensures fault { IfErr result IsOwnFault }
-    ensures written { Written n HasSite (AdoptsPlan digest.now n moment) result
+    ensures written { Written n HasSite (AdoptsPlan cell.now n moment) result
         (state S.Store conn.old) (state S.Store conn.new) }
 {
     if n > MOST_LINES {
         return Err(LedgerFault::Store);
     }
-    let change = NewPlan { digest, moment };
+    let change = NewPlan { cell, moment };
     match write(conn, n, &change) {
         Ok(()) => Ok(()),
         Err(error) => Err(fault_of(&error)),
     }
 }
 
-/// Adopts the plan of the next site, where the tables are owned by this node.
-fn adopt_at<S: Alter>(
+/// Adopts the plan of the next site, with this mark, where the tables have this owner.
+fn adopt_with<S: Alter>(
     conn: &mut Connection<S>,
+    alloc: Global,
     n: u64,
     moment: Option<u64>,
     next: &Site,
-    node: &Text,
+    mark: &[u8],
+) -> Result<(), LedgerFault>
+    requires { conn.old.in_transaction ≡ false }
+    ensures adopted { (part : Part) (was : List ℕ) (digest : List ℕ)
+        → IsPlanWith mark.now digest was
+        → Adopted n part next.now result (state S.Store conn.old) (state S.Store conn.new)
+        (IsSiteOf next.now.name was) }
+    ensures number { OnOk result (n ≤ 2 ^ 62) }
+    ensures idle { conn.new.in_transaction ≡ false }
+{
+    match plan_cell(alloc, next.digest(), mark) {
+        Ok(cell) => write_plan(conn, n, moment, &cell),
+        Err(_) => Err(LedgerFault::Memory),
+    }
+}
+
+/// Adopts the plan of the next site, where the tables have this owner.
+fn adopt_from<S: Alter>(
+    conn: &mut Connection<S>,
+    alloc: Global,
+    n: u64,
+    moment: Option<u64>,
+    next: &Site,
+    owner: &Owner,
 ) -> Result<(), LedgerFault>
     requires { conn.old.in_transaction ≡ false }
     ensures adopted { (part : Part)
         → Adopted n part next.now result (state S.Store conn.old) (state S.Store conn.new)
-        (λ base. (was : List ℕ) × IsSiteOf node.now was base) }
+        (IsSiteOf owner.now.node owner.now.plan) }
     ensures number { OnOk result (n ≤ 2 ^ 62) }
     ensures idle { conn.new.in_transaction ≡ false }
 {
-    if !node.is_same(next.name()) {
+    if !owner.node.is_same(next.name()) {
         return Err(LedgerFault::Store);
     }
-    write_plan(conn, n, moment, next.digest())
+    let Some(mark) = mark_behind(owner.plan.as_bytes()) else {
+        return Err(LedgerFault::Store);
+    };
+    adopt_with(conn, alloc, n, moment, next, mark)
 }
 
 /// Adopts the plan of the next site of the tables' node, as line `n` of the journal, at that
 /// moment: arrivals and done rows leave, and the tables are from now on those of a ledger of that
-/// site. Data sets stay, since just those are needed that were needed before.
+/// site. Data sets stay, since just those are needed that were needed before, and so does the mark
+/// of the file that has them.
 ///
-/// Errors: Store, also where the tables aren't those of the next site's node, or the journal is
-/// full; Memory.
+/// Errors: Store, also where the tables aren't those of the next site's node, or nobody owns them,
+/// or the journal is full; Memory.
 pub fn adopt<S: Alter>(
     conn: &mut Connection<S>,
     alloc: Global,
@@ -82,7 +110,7 @@ pub fn adopt<S: Alter>(
     ensures idle { conn.new.in_transaction ≡ false }
 {
     match find_owner(conn, alloc) {
-        Ok(Some(owner)) => adopt_at(conn, n, moment, next, &owner.node),
+        Ok(Some(owner)) => adopt_from(conn, alloc, n, moment, next, &owner),
         Ok(None) => Err(LedgerFault::Store),
         Err(fault) => Err(fault),
     }

@@ -1,5 +1,7 @@
 //! What an adoption makes of the book.
 ghost use Rattle.dr_store_calls.specs.AdoptionLaws.{AdoptedLedgersAreOfTheNext, AdoptionsAdopt};
+ghost use Rattle.dr_store_calls.specs.AdoptionLaws.{AdoptionsKeepTheMark, OwnersAreOne};
+ghost use Rattle.dr_store_calls.specs.AdoptionLaws.{EmptyTablesAreOwnedByNone};
 
 /// Where arrivals and done rows leave, and the line of an adoption stands in the journal, the book
 /// is that after an adoption.
@@ -10,4 +12,19 @@ pub fn adoptions_adopt()
 /// The tables are then those of a ledger of the next site.
 pub fn adopted_ledgers_are_of_the_next()
     ensures { AdoptedLedgersAreOfTheNext }
+{}
+
+/// Tables have one owner, with one mark.
+pub fn owners_are_one()
+    ensures { OwnersAreOne }
+{}
+
+/// Where site has no row, they have none.
+pub fn empty_tables_are_owned_by_none()
+    ensures { EmptyTablesAreOwnedByNone }
+{}
+
+/// No adoption loses the mark of the file that has a ledger's data sets.
+pub fn adoptions_keep_the_mark()
+    ensures { AdoptionsKeepTheMark }
 {}

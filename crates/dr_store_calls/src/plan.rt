@@ -23,7 +23,7 @@ fn clear<S: Alter>(tx: &mut Transaction<'_, S>) -> Result<(), Error>
     Ok(())
 }
 
-/// Sets the plan in force, and adds the line of its adoption.
+/// Sets what site has for the plan in force, and adds the line of its adoption.
 fn note_plan<'x, S: Alter>(
     tx: &mut Transaction<'_, S>,
     n: u64,
@@ -47,8 +47,8 @@ fn note_plan<'x, S: Alter>(
 /// The plan that is in force from now on.
 #[derive(Drop)]
 pub struct NewPlan<'x> {
-    /// Its SHA-256.
-    pub digest: &'x [u8],
+    /// What site has for it: its SHA-256, and the mark behind it.
+    pub cell: &'x [u8],
     /// The moment (milliseconds), if it is known.
     pub moment: Option<u64>,
 }
@@ -59,11 +59,11 @@ impl TableChange for NewPlan<'_> {
 
     ghost asks = { λ s. HasSite };
 
-    ghost makes = { λ s n. AdoptsPlan s.digest.now n s.moment };
+    ghost makes = { λ s n. AdoptsPlan s.cell.now n s.moment };
 
     fn run<S: Alter>(&self, tx: &mut Transaction<'_, S>, n: u64) -> Result<(), Error> {
         clear(tx)?;
-        note_plan(tx, n, self.moment, self.digest)?;
+        note_plan(tx, n, self.moment, self.cell)?;
         Ok(())
     }
 }

@@ -1,5 +1,5 @@
 -- Queries, one after another.
-use Rattle.std.proofs.Common.{◌≡◌, inl, inr, Ok, Err, Result, OnOk, IsTrue, refl, sym, subst, ◌∙◌, arith}
+use Rattle.std.proofs.Common.{◌≡◌, inl, inr, ℕ, Ok, Err, Result, OnOk, IsTrue, refl, sym, subst, ◌∙◌, arith}
 use Rattle.sqlite.specs.Effect.{Database}
 use Rattle.sqlite.specs.State.{State, HasCleanDisk}
 use Rattle.dr_ledger.specs.declared.fault.LedgerFault.{LedgerFault}
@@ -7,7 +7,9 @@ use Rattle.dr_ledger.specs.Replies.{Reads}
 use Rattle.dr_store_schema.specs.Ledgers.{IsLedger}
 use Rattle.dr_store_reads.specs.Queries.{Asked, HasTables, Stays}
 use Rattle.dr_store_reads.proofs.Outcomes.{reads_fault, reads_map}
-use Rattle.dr_store_open.specs.Opening.{Seen}
+use Rattle.dr_store_schema.specs.Books.{AreBelow}
+use Rattle.dr_store_changes.specs.Writing.{IsReady}
+use Rattle.dr_store_open.specs.Opening.{OnlyLooks, Seen, StaysReady}
 
 if_both : {A E B C : Type 0} (r : Result A E) → (B → C) → OnOk r B → OnOk r C
 if_both (Ok x) f h = f h
@@ -191,3 +193,93 @@ two_asked {B = B} old mid new x y z One Two Both says one two =
     (asked_then {Asks = IsLedger} {More = IsLedger} old mid new x (Ok y) One Two Pair
     (λ is_open has shown. has) (λ db shown w more. (shown, more)) one
     (as_seen mid new (Ok y) (Two mid.now) two))
+
+-- ---- tables that stand ready
+
+pub looks_then : (old mid new : State) → OnlyLooks old mid → OnlyLooks mid new → OnlyLooks old new
+looks_then old mid new one two = record {
+  stays = λ clean is_open.
+      let last = two.stays clean is_open in
+      let first = one.stays (early clean) last.0 in
+      (first.0, last.1 ∙ first.1);
+  leaves = λ clean db left. one.leaves (early clean) db (two.leaves clean db left);
+  clean = omega (arith, one.clean, two.clean);
+  idle = λ h. two.idle (one.idle h);
+}
+  where
+    early : HasCleanDisk new → HasCleanDisk mid
+    early clean = omega (arith, two.clean, clean)
+
+module _ {A : Type 0} (n : ℕ) (old new : State) (r : Result A LedgerFault) (Shows : A → Type 0) (ready : HasCleanDisk old → IsReady n old) (s : Seen IsLedger r old new Shows) where
+  early : HasCleanDisk new → HasCleanDisk old
+  early clean = omega (arith, s.clean, clean)
+
+  pub only_looks : OnlyLooks old new
+  only_looks = record {
+    stays = λ clean is_open. (s.was_open clean is_open, (s.stays clean is_open (ready (early clean)).ledger).committed);
+    leaves = λ clean. s.leaves clean (ready (early clean)).is_open (ready (early clean)).ledger;
+    clean = s.clean;
+    idle = s.idle;
+  }
+
+  stands : HasCleanDisk new → IsTrue new.is_open × (new.now ≡ old.now) → IsReady n new × (new.committed ≡ old.committed)
+  stands clean same =
+      let was = ready (early clean) in
+      let committed = (s.stays clean same.0 was.ledger).committed in (
+        record {
+          is_open = same.0;
+          ledger = subst IsLedger (sym same.1) was.ledger;
+          settled = same.1 ∙ was.settled ∙ sym committed;
+          below = subst (λ (d : Database). AreBelow n (d.trees 11)) (sym same.1) was.below;
+        },
+        committed,
+      )
+
+  pub still_ready : HasCleanDisk new → OnOk r (IsReady n new × (new.committed ≡ old.committed))
+  still_ready clean = if_both r (stands clean) (s.same clean (ready (early clean)).is_open (ready (early clean)).ledger)
+
+  -- what it showed
+  pub shown_ready : HasCleanDisk new → Reads r Shows
+  shown_ready clean = s.shown clean (ready (early clean)).is_open (ready (early clean)).ledger
+
+-- what is made of an answer, whatever it is
+pub ready_as : {A B E : Type 0} (n : ℕ) (old new : State) (x : A) (q : Result B E) (Shows : A → Type 0) → (HasCleanDisk old → IsReady n old) → Seen IsLedger (Ok x) old new Shows → StaysReady n q old new
+ready_as n old new x q Shows ready s = record {
+  ready = λ clean. if_done q (still_ready n old new (Ok x) Shows ready s clean).0;
+  same = λ clean. if_done q (still_ready n old new (Ok x) Shows ready s clean).1;
+  looks = only_looks n old new (Ok x) Shows ready s;
+}
+
+-- a call that failed
+pub ready_failed : {A B E : Type 0} (n : ℕ) (old new : State) (why : LedgerFault) (fault : E) (Shows : A → Type 0) → (HasCleanDisk old → IsReady n old) → Seen {A = A} IsLedger (Err why) old new Shows → StaysReady {A = B} n (Err fault) old new
+ready_failed n old new why fault Shows ready s = record {
+  ready = λ clean. tt;
+  same = λ clean. tt;
+  looks = only_looks n old new (Err why) Shows ready s;
+}
+
+-- where no call is made
+pub ready_still : {B E : Type 0} (n : ℕ) (s : State) (q : Result B E) → (HasCleanDisk s → IsReady n s) → StaysReady n q s s
+ready_still n s q ready = record {
+  ready = λ clean. if_done q (ready clean);
+  same = λ clean. if_done q refl;
+  looks = record { stays = λ clean is_open. (is_open, refl); leaves = λ clean db left. left; clean = omega arith; idle = λ h. h };
+}
+
+-- the same of another answer
+pub ready_again : {A B E F : Type 0} (n : ℕ) (old new : State) (x : A) (y : B) → StaysReady {A = A} {E = E} n (Ok x) old new → StaysReady {A = B} {E = F} n (Ok y) old new
+ready_again n old new x y s = record { ready = s.ready; same = s.same; looks = s.looks }
+
+pub ready_not : {A B E F : Type 0} (n : ℕ) (old new : State) (q : Result A E) (f : F) → StaysReady n q old new → StaysReady {A = B} {E = F} n (Err f) old new
+ready_not n old new q f s = record { ready = λ clean. tt; same = λ clean. tt; looks = s.looks }
+
+-- one after another
+pub ready_then : {A B E F : Type 0} (n : ℕ) (old mid new : State) (x : A) (q : Result B F) → StaysReady {A = A} {E = E} n (Ok x) old mid → StaysReady n q mid new → StaysReady n q old new
+ready_then n old mid new x q one two = record {
+  ready = two.ready;
+  same = λ clean. if_both q (λ e. e ∙ one.same (early clean)) (two.same clean);
+  looks = looks_then old mid new one.looks two.looks;
+}
+  where
+    early : HasCleanDisk new → HasCleanDisk mid
+    early clean = omega (arith, two.looks.clean, clean)

@@ -1,9 +1,9 @@
 -- What a new ledger's tables are, and what isn't a ledger's.
-use Rattle.std.proofs.Common.{◌≡◌, ◌∙◌, ◌+◌, ℕ, false, inl, inr, List, [], ◌∷◌, Some, is_some}
-use Rattle.std.proofs.Common.{length, refl, sym, ap, subst, arith}
+use Rattle.std.proofs.Common.{◌≡◌, ◌∙◌, ◌+◌, ◌++◌, ℕ, false, inl, inr, List, [], ◌∷◌, Some}
+use Rattle.std.proofs.Common.{is_some, drop, drop_at, length, refl, sym, ap, subst, arith}
 use Rattle.std.specs.Ordering.{nat_cmp}
 use Rattle.std.specs.FinMap as map
-use Rattle.sqlite.specs.Order.{Row}
+use Rattle.sqlite.specs.Effect.{Database}
 use Rattle.dr_base.specs.Texts.{Text, text_cmp}
 use Rattle.dr_route.specs.declared.key.Key.{Key}
 use Rattle.dr_site.specs.Parts.{Part}
@@ -17,22 +17,23 @@ use Rattle.dr_ledger.proofs.Wholes.{no_entry, no_member}
 use Rattle.dr_store_schema.specs.Books.{bodies_of, book_of}
 use Rattle.dr_store_schema.specs.Tables.{tables}
 use Rattle.dr_store_schema.proofs.WhatIsWritten.{empty_tables_are_empty, no_entries}
-use Rattle.dr_store_writes.specs.Effects.{site_row}
+use Rattle.dr_store_writes.specs.Effects.{IsSiteOf}
 use Rattle.dr_store_reads.specs.declared.finding.Print.{Print}
 use Rattle.dr_store_lists.specs.declared.listing.JournalRow.{JournalRow}
+use Rattle.dr_store_calls.specs.Adoptions.{IsMark, IsOwnedBy}
+use Rattle.dr_store_calls.proofs.Owners.{mark_of, one_owner, owned_by_none, owners_are_one}
 use Rattle.dr_store_audit.specs.Journal.{CountUp}
 use Rattle.dr_store_open.specs.Opening.{BadTablesAreNone, HasLedgerOf, LedgersAreOne}
 use Rattle.dr_store_open.specs.Opening.{NewLedgersAreLedgers, new_trees}
-use Rattle.dr_store_open.proofs.Wholly.{one_owner}
 
-module _ (part : Part) where
-  book : book_of (new_trees part) ≡ empty_book
+module _ (part : Part) (mark : List ℕ) where
+  book : book_of (new_trees part mark) ≡ empty_book
   book = empty_tables_are_empty.book
 
-  bodies : bodies_of (new_trees part) ≡ map.empty
+  bodies : bodies_of (new_trees part mark) ≡ map.empty
   bodies = empty_tables_are_empty.bodies
 
-  no_body : (uid : Text) (body : List ℕ) → map.get (bodies_of (new_trees part)) uid ≡ Some body → ⊥
+  no_body : (uid : Text) (body : List ℕ) → map.get (bodies_of (new_trees part mark)) uid ≡ Some body → ⊥
   no_body uid body there =
       let P : Bodies → Type 0 = λ all. map.get all uid ≡ Some body in
       no_entry text_cmp uid body (subst P bodies there)
@@ -63,10 +64,10 @@ module _ (part : Part) where
       → is_some (map.get (map.empty {X = Print} {R = text_cmp}) uid) ≡ false
   no_print uid = ap is_some (map.get-empty text_cmp uid)
 
-  new_ledger_is : HasLedgerOf 1 part (record { schema = tables; trees = new_trees part })
-  new_ledger_is = record {
+  new_ledger_is : length part.digest ≡ 32 → IsMark mark → HasLedgerOf 1 part (record { schema = tables; trees = new_trees part mark })
+  new_ledger_is long marked = record {
     schema = refl;
-    owned = refl;
+    owned = (mark, (part.digest ++ mark, record { long = long; marked = marked; is = refl }, refl));
     agreed = record {
       next = ap (λ (b : Book). length b.lines + 1) (sym book);
       below = tt;
@@ -84,25 +85,35 @@ module _ (part : Part) where
         together = λ uid. no_key uid ∙ sym (no_print uid);
         numbered = subst (CountUp 1) (sym (no_entries nat_cmp JournalRow)) tt;
       };
-      own = λ uid body there. absurd (no_body uid body there);
     };
   }
 
 pub new_ledgers_are : NewLedgersAreLedgers
-new_ledgers_are part = new_ledger_is part
+new_ledgers_are part mark long marked = new_ledger_is part mark long marked
 
 pub ledgers_are_one : LedgersAreOne
 ledgers_are_one n m part other db one two =
     let owner =
-    one_owner db.trees part.name other.name part.digest other.digest one.owned two.owned in
+    owners_are_one one.owned.0 two.owned.0 part other db.trees one.owned.1 two.owned.1 in
     (one.agreed.next ∙ sym two.agreed.next, owner.0, owner.1)
 
-nobody : (row : Row) → [] ≡ row ∷ [] → ⊥
-nobody row e = cc
+-- the cell of an owner, beside one that has no mark
+no_owner : (part : Part) (db : Database) (node : Text) (digest mark : List ℕ)
+    → IsSiteOf node (digest ++ mark) db.trees → length digest ≡ 32 → (IsMark mark → ⊥)
+    → IsOwnedBy part db.trees → ⊥
+no_owner part db node digest mark site long other owned =
+    let last = owned.0 in
+    let it = owned.1 in
+    let same = (one_owner db.trees node part.name (digest ++ mark) it.0 site it.2).1 in
+    let is : last ≡ mark =
+    sym (mark_of last part.digest it.0 it.1) ∙ ap (drop 32) (sym same) ∙ drop_at digest mark 32 long in
+    other (subst IsMark is it.1.marked)
 
 pub bad_tables_are_none : BadTablesAreNone
 bad_tables_are_none = record {
-  unowned = λ part db none n is. nobody (site_row part.name part.digest) (sym none ∙ is.owned);
+  unowned = λ part db none n is. owned_by_none part db.trees none is.owned;
+  unmarked = λ part db node digest mark site long other n is.
+      no_owner part db node digest mark site long other is.owned;
   renumbered = λ part db note rest all n is.
       let up : CountUp 1 ((2, note) ∷ rest) = subst (CountUp 1) all is.agreed.hold.numbered in
       let same : 2 ≡ 1 = up.0 in

@@ -5,7 +5,9 @@ mod Emptied
 mod Filling
 mod Fresh
 mod Left
+mod Opens
 mod Queried
 mod Refused
 mod Reread
+mod Shelved
 mod Wholly

@@ -1,3 +1,6 @@
+pub mod DataSets
+pub mod Faults
 pub mod Listed
 pub mod Opening
+pub mod Places
 pub mod Renewing

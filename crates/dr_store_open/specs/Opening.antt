@@ -1,12 +1,11 @@
 -- What is found in a file, and what an opening answers.
-use Rattle.std.specs.Prelude.{All, ◌≡◌, ◌≤◌, ◌+◌, ◌⊎◌, ℕ, zero, suc, false, IsTrue, List, [], ◌∷◌}
-use Rattle.std.specs.Prelude.{Option, None}
-use Rattle.std.specs.Prelude.{Some, Result, Ok, Err, OnOk, length, true}
+use Rattle.std.specs.Prelude.{◌≡◌, ◌≤◌, ◌+◌, ◌++◌, ◌⊎◌, ℕ, zero, suc, false, IsTrue, List, [], ◌∷◌}
+use Rattle.std.specs.Prelude.{IfErr, IfOk, Option, None, Some, Result, Ok, Err, OnOk, length}
 use Rattle.std.specs.FinMap as map
-use Rattle.sha2.specs.Sha256.{sha256}
 use Rattle.sqlite.specs.Effect.{Database}
 use Rattle.sqlite.specs.State.{State, HasCleanDisk}
 use Rattle.sqlite.specs.Tree.{Trees}
+use Rattle.sqlite_disk.specs.declared.Disk.{Ghosts}
 use Rattle.sqlite_schema.specs.declared.schema.Schema.{Schema}
 use Rattle.sqlite_trees.specs.View.{doubt}
 use Rattle.dr_base.specs.Texts.{Text}
@@ -16,19 +15,28 @@ use Rattle.dr_ledger.specs.declared.fault.LedgerFault.{LedgerFault}
 use Rattle.dr_ledger.specs.Books.{empty_book}
 use Rattle.dr_ledger.specs.Items.{IsItem, instance_of}
 use Rattle.dr_ledger.specs.Replies.{Reads}
+use Rattle.dr_store_shelf.specs.declared.either.LedgerShelf.{LedgerShelf}
 use Rattle.dr_store_schema.specs.Books.{AreBelow, bodies_of, book_of, items_of, lines_of}
 use Rattle.dr_store_schema.specs.Ledgers.{AreRows, IsCounted}
 use Rattle.dr_store_schema.specs.Tables.{tables}
-use Rattle.dr_store_writes.specs.Effects.{site_row}
+use Rattle.dr_store_writes.specs.Effects.{IsSiteOf, site_row}
 use Rattle.std.specs.List.{AllByRecursion}
-use Rattle.dr_store_reads.specs.Queries.{IsJobOf, Stays}
-use Rattle.dr_store_reads.specs.declared.finding.Print.{Print}
-use Rattle.dr_store_lists.specs.Lists.{notes_of}
+use Rattle.dr_store_reads.specs.Queries.{Stays}
+use Rattle.dr_store_lists.specs.Lists.{notes_of, whole_prints_of}
 use Rattle.dr_store_lists.specs.declared.listing.JournalRow.{JournalRow}
-use Rattle.dr_store_calls.specs.Adoptions.{IsOwnedBy}
+use Rattle.dr_store_changes.specs.Writing.{IsReady}
+use Rattle.dr_store_calls.specs.Adoptions.{IsMark, IsOwnedBy, IsOwnedWith}
 use Rattle.dr_store_calls.specs.Calling.{IsKept}
+use Rattle.dr_store.specs.Owning.{HaveOwn}
 use Rattle.dr_store_audit.specs.Found.{HoldTogether}
 use Rattle.dr_store_audit.specs.Older.{IsOlder}
+use Rattle.dr_store_open.specs.declared.data.OpenedLedger.{OpenedLedger}
+use Rattle.dr_store_open.specs.declared.data.DataPlace.{DataPlace}
+use Rattle.dr_store_open.specs.declared.fault.OpeningFault.{OpeningFault}
+use Rattle.dr_store_open.specs.declared.fault.OpeningFault.TheVariants as opening
+use Rattle.dr_store_open.specs.declared.finding.FoundTables.{FoundTables}
+use Rattle.dr_store_open.specs.Faults.{IsOfData}
+use Rattle.dr_store_open.specs.Places.{HasOwnOn, IsOpenedBy, IsOtherOn, IsPlaceOf, IsPlacedBy}
 use Rattle.dr_store_open.specs.Renewing.{HasNoRows, KeepsRows}
 
 -- ---- what is tested of rows
@@ -42,63 +50,39 @@ pub record AreTested (db : Trees) : Type 0 where
   pub queue : AreRows (db 9)
   pub counted : AllByRecursion IsCounted (db 9)
 
--- ---- data sets
-
--- a data set of that uid, if it is there, is that of the item
-abbrev pub IsOwn : Text → Trees → Type 0
-IsOwn uid db =
-    (body : List ℕ)
-    → map.get (bodies_of db) uid ≡ Some body
-    → (item : Job) × IsItem item × (item.body ≡ body)
-    × (map.get (items_of db) uid ≡ Some (instance_of item))
-
--- the data set has this length and this SHA-256
-abbrev pub IsSpelled : Job → Print → Type 0
-IsSpelled job print = (length job.body ≡ print.size) × (sha256 job.body ≡ print.digest)
-
--- what stands in the row of that uid for its data set is read as an item of this uid and the row's
--- key, with this print
-abbrev pub IsReadAs : Text → Print → Trees → Type 0
-IsReadAs uid print db =
-    (job : Job) × IsJobOf uid db (Some job) × IsItem job × IsSpelled job print
-
--- where the print says that the data set is there, it is read as the item's
-abbrev pub AreOwnUnder : Trees → Text × Print → Type 0
-AreOwnUnder db p = p.1.whole ≡ true → IsReadAs p.0 p.1 db
-
 -- ---- all of it
 
 -- the next line after all lines, which are numbered from 1, has number n
 abbrev pub IsNext : ℕ → Trees → Type 0
 IsNext n db = n ≡ length (lines_of db) + 1
 
--- The tables are those of a ledger of that site, whose next line has number n: they hold together,
--- and each data set that is there is its item's.
+-- The tables are those of a ledger of that site, whose next line has number n: they hold together.
+-- For which data sets their cells stand is another matter (`HaveOwn`).
 pub record IsAgreed (n : ℕ) (part : Part) (db : Trees) : Type 0 where
   pub next : IsNext n db
   pub below : AreBelow n (db 11)
   pub hold : HoldTogether n part db (map.entries (notes_of db))
-  pub own : (uid : Text) → IsOwn uid db
 
--- they are, or they are no ledger's of that site
-abbrev pub IsAgreedIf : Part → Trees → Option ℕ → Type 0
-IsAgreedIf part db None = (n : ℕ) → IsAgreed n part db → ⊥
-IsAgreedIf part db (Some n) = IsAgreed n part db
+-- What is found in the tables of a ledger of that site: the number of its next line, where its data
+-- sets are, and all prints.
+pub record AreOf (part : Part) (db : Trees) (found : FoundTables) : Type 0 where
+  pub agreed : IsAgreed found.next part db
+  pub place : IsPlaceOf part db found.place
+  pub prints : found.prints.items ≡ map.entries (whole_prints_of db)
+
+-- it is found in tables whose owner's row says that place, or they are no ledger's of that site
+abbrev pub IsAgreedIf : Part → DataPlace → Trees → Option FoundTables → Type 0
+IsAgreedIf part place db None = (n : ℕ) → IsAgreed n part db → ⊥
+IsAgreedIf part place db (Some found) = IsPlaceOf part db place → AreOf part db found
 
 -- the tables are those of a ledger of that site, and it owns them; or they aren't, or it doesn't
-abbrev pub IsWholeIf : Part → Trees → Option ℕ → Type 0
+abbrev pub IsWholeIf : Part → Trees → Option FoundTables → Type 0
 IsWholeIf part db None = (n : ℕ) → IsAgreed n part db → IsOwnedBy part db → ⊥
-IsWholeIf part db (Some n) = IsAgreed n part db × IsOwnedBy part db
+IsWholeIf part db (Some found) = AreOf part db found
 
 -- each line has a number
 abbrev pub HasNumbers : Trees → Type 0
 HasNumbers db = (m : ℕ) × AreBelow m (db 11)
-
--- each data set that is there was read again as its item's, and the next line has this number; or
--- one of them isn't read so
-abbrev pub AreReadIf : Trees → List (Text × Print) → ℕ → Option ℕ → Type 0
-AreReadIf db prints next None = All (AreOwnUnder db) prints → ⊥
-AreReadIf db prints next (Some n) = (n ≡ next) × All (AreOwnUnder db) prints
 
 -- The database has a ledger of that site, whose next line has number n: it has just a ledger's
 -- tables, the site owns them, and they are those of a ledger of that site.
@@ -150,19 +134,71 @@ pub record IsLedgerFound (n : ℕ) (part : Part) (old new : State) : Type 0 wher
   pub ledger : HasLedgerOf n part new.committed
   pub same : new.committed ≡ old.committed
 
--- What tells whether a file has a ledger of this site does. Where it says the number n of the next
--- line, that ledger is found; where it says none, the file has no ledger of this site. Whatever it
--- answers, nothing is committed, and a crash leaves only what it could leave before.
-pub record IsLedgerOpened (part : Part) (result : Result (Option ℕ) LedgerFault)
-    (old new : State) : Type 0 where
-  pub has : IfFound result (λ n. old.now.schema ≡ tables)
-  pub is_not : HasCleanDisk new → IfNotFound result (HasNoLedgerOf part old.now)
-  pub kept : HasCleanDisk new → IfFound result (λ n. IsLedgerFound n part old new)
+-- Whatever the call answers, nothing is committed, and a crash leaves only what it could leave
+-- before.
+pub record OnlyLooks (old new : State) : Type 0 where
   pub stays : HasCleanDisk new → IsTrue new.is_open
       → IsTrue old.is_open × (new.committed ≡ old.committed)
   pub leaves : HasCleanDisk new → (db : Trees) → new.may_leave db → old.may_leave db
   pub clean : doubt old.is_clean ≤ doubt new.is_clean
   pub idle : old.in_transaction ≡ false → new.in_transaction ≡ false
+
+-- What tells whether a file has the tables of a ledger of this site does. Where it says what they
+-- have, that ledger is found; where it says nothing, the file has no ledger of this site.
+pub record IsLedgerOpened (part : Part) (result : Result (Option FoundTables) LedgerFault)
+    (old new : State) : Type 0 where
+  pub has : IfFound result (λ found. old.now.schema ≡ tables)
+  pub is_not : HasCleanDisk new → IfNotFound result (HasNoLedgerOf part old.now)
+  pub kept : HasCleanDisk new → IfFound result (λ found. IsLedgerFound found.next part old new)
+  pub are : HasCleanDisk new → IfFound result (AreOf part new.committed.trees)
+  pub was : HasCleanDisk new → IfFound result (λ found. old.now ≡ new.committed)
+  pub looks : OnlyLooks old new
+
+-- What only reads of tables that stand ready does: they stand so still, where it isn't refused.
+pub record StaysReady {A E : Type 0} (n : ℕ) (result : Result A E) (old new : State) : Type 0 where
+  pub ready : HasCleanDisk new → OnOk result (IsReady n new)
+  pub same : HasCleanDisk new → OnOk result (new.committed ≡ old.committed)
+  pub looks : OnlyLooks old new
+
+-- ---- a ledger with its shelf
+
+module _ {D : Type 0} {g : Ghosts D} where
+  -- A shelf was opened where the tables say, and looked at, and not each cell stood for the data
+  -- set of its item.
+  abbrev pub HasOther : {E : Type 0} → Result (OpenedLedger D g) E → Part → Trees → Type 0
+  HasOther result part db =
+      (shelf : LedgerShelf D g) × IsOpenedBy part db shelf × IsOtherOn db shelf
+
+  -- Why a ledger isn't opened whose tables were found: its data sets aren't the items'; or it is a
+  -- fault of the file of its data sets, which no ledger has that has them in its rows.
+  abbrev pub IsWhyNot : {E : Type 0}
+      → Result (OpenedLedger D g) E
+      → Part → Trees → OpeningFault → Type 0
+  IsWhyNot result part db fault =
+      (fault ≡ opening.OtherSite → HasOther result part db)
+      × (IsOfData fault → IsOwnedWith [] part db → ⊥)
+
+  -- Why none is opened: the file has no ledger of this site, or it is as above.
+  abbrev pub IsWhy : {E : Type 0}
+      → Result (OpenedLedger D g) E
+      → Part → Database → OpeningFault → Type 0
+  IsWhy result part was fault =
+      (fault ≡ opening.OtherSite
+      → (n : ℕ) → HasLedgerOf n part was → HasOther result part was.trees)
+      × (IsOfData fault → was.schema ≡ tables → IsOwnedWith [] part was.trees → ⊥)
+
+  -- What opens a ledger whose tables are there does. Where it answers, the ledger is found with its
+  -- shelf. Whatever it answers, it only looks at the tables. `Stood` says that they weren't made
+  -- just now.
+  pub record IsWholeOpened (Stood : Type 0) (part : Part)
+      (result : Result (OpenedLedger D g) OpeningFault) (old new : State) : Type 0 where
+    pub has : IfOk result (λ it. old.now.schema ≡ tables)
+    pub kept : HasCleanDisk new → IfOk result (λ it. IsLedgerFound it.next part old new)
+    pub placed : HasCleanDisk new
+        → IfOk result (λ it. IsPlacedBy part new.committed.trees it.shelf)
+    pub own : HasCleanDisk new → IfOk result (λ it. HasOwnOn new.committed.trees it.shelf)
+    pub why : Stood → HasCleanDisk new → IfErr result (IsWhy result part old.now)
+    pub looks : OnlyLooks old new
 
 -- there is no table, no index and no view
 pub record IsBlank (schema : Schema) : Type 0 where
@@ -219,15 +255,36 @@ pub record LeavesFile (old new : State) : Type 0 where
 
 -- ---- laws
 
--- the trees of a site's new ledger, which has no row but the owner's
-abbrev pub new_trees : Part → Trees
-new_trees part zero = site_row part.name part.digest ∷ []
-new_trees part (suc tree) = []
+-- the trees of a site's new ledger, which has no row but the owner's, with that mark
+abbrev pub new_trees : Part → List ℕ → Trees
+new_trees part mark zero = site_row part.name (part.digest ++ mark) ∷ []
+new_trees part mark (suc tree) = []
 
 -- a new ledger is one of its site, and its next line is the first
 abbrev pub NewLedgersAreLedgers : Type 0
 NewLedgersAreLedgers =
-    (part : Part) → HasLedgerOf 1 part (record { schema = tables; trees = new_trees part })
+    (part : Part) (mark : List ℕ)
+    → length part.digest ≡ 32
+    → IsMark mark
+    → HasLedgerOf 1 part (record { schema = tables; trees = new_trees part mark })
+
+-- a ledger has its data sets in its rows, or in one file, under one key and with one mark
+abbrev pub PlacesAreOne : Type 0
+PlacesAreOne =
+    (part other : Part) (db : Trees) (place beside : DataPlace)
+    → IsPlaceOf part db place
+    → IsPlaceOf other db beside
+    → place ≡ beside
+
+-- where cells are the data sets themselves, each that is there is that of its item
+abbrev pub RowsHaveDataSets : Type 0
+RowsHaveDataSets =
+    (db : Trees)
+    → HaveOwn (λ cell. Unit {0}) (λ cell bytes. cell ≡ bytes) (λ cell other. Unit {0}) db
+    → (uid : Text) (body : List ℕ)
+    → map.get (bodies_of db) uid ≡ Some body
+    → (item : Job) × IsItem item × (item.body ≡ body)
+    × (map.get (items_of db) uid ≡ Some (instance_of item))
 
 -- what a database has is one node's ledger, under one plan, and its next line has one number
 abbrev pub LedgersAreOne : Type 0
@@ -236,9 +293,15 @@ LedgersAreOne =
     → HasLedgerOf n part db → HasLedgerOf m other db
     → (n ≡ m) × (part.name ≡ other.name) × (part.digest ≡ other.digest)
 
--- without an owner, or with a line under another number than its place, there is none
+-- without an owner, with other bytes behind a plan's SHA-256 than those of a mark, or with a line
+-- under another number than its place, there is none
 pub record BadTablesAreNone : Type 0 where
   pub unowned : (part : Part) (db : Database) → db.trees 0 ≡ [] → HasNoLedgerOf part db
+  pub unmarked : (part : Part) (db : Database) (node : Text) (digest mark : List ℕ)
+      → IsSiteOf node (digest ++ mark) db.trees
+      → length digest ≡ 32
+      → (IsMark mark → ⊥)
+      → HasNoLedgerOf part db
   pub renumbered : (part : Part) (db : Database) (note : JournalRow) (rest : List (ℕ × JournalRow))
       → map.entries (notes_of db.trees) ≡ (2, note) ∷ rest
       → HasNoLedgerOf part db

@@ -2,11 +2,14 @@
 ghost use Rattle.std.specs.Prelude.{◌≡◌, ◌≢◌, ◌↔◌};
 ghost use Rattle.dr_ledger.specs.declared.fault.LedgerFault.TheVariants as ledger;
 ghost use Rattle.dr_store_audit.specs.declared.fault.FindingFault.TheVariants as finding;
+ghost use Rattle.dr_store_data.specs.declared.fault.DataFileFault.TheVariants as file;
 ghost use Rattle.dr_store_open.specs.declared.fault.OpeningFault.TheVariants as opening;
+ghost use Rattle.dr_store_open.specs.Faults.{IsOfData};
 ghost use Rattle.dr_store_reads.specs.Queries.{IsWantOfMemory};
 
 use dr_ledger::LedgerFault;
 use dr_store_audit::FindingFault;
+use dr_store_data::DataFileFault;
 use dr_store_reads::fault_of;
 use sqlite::Error as SqlError;
 use std::alloc::{AllocError, AllocFailed};
@@ -19,6 +22,16 @@ pub enum OpeningFault {
     /// what the journal's lines make.
     #[error("OtherSite")]
     OtherSite,
+    /// Its data sets are in a file, and that isn't there, has another mark, or hasn't the extents
+    /// that its cells name.
+    #[error("NoData")]
+    NoData,
+    /// A new ledger was wanted with its data sets in a file, and there is one with data sets.
+    #[error("DataIsThere")]
+    DataIsThere,
+    /// Another process uses the file of its data sets.
+    #[error("InUse")]
+    InUse,
     #[error("Store")]
     Store,
     #[error("Memory")]
@@ -50,6 +63,7 @@ impl<T: Drop> From<AllocFailed<T>> for OpeningFault {
 /// The fault of an opening where a ledger answers this.
 pub fn opening_fault(fault: LedgerFault) -> OpeningFault
     ensures other { result ≢ opening.OtherSite }
+    ensures of_data { IsOfData result → ⊥ }
     ensures memory { (result ≡ opening.Memory) ↔ (fault ≡ ledger.Memory) }
 {
     match fault {
@@ -61,6 +75,7 @@ pub fn opening_fault(fault: LedgerFault) -> OpeningFault
 /// The fault of an opening where the database answers this.
 pub fn of_error(error: &SqlError) -> OpeningFault
     ensures other { result ≢ opening.OtherSite }
+    ensures of_data { IsOfData result → ⊥ }
     ensures memory { (result ≡ opening.Memory) ↔ IsWantOfMemory error.now }
 {
     opening_fault(fault_of(error))
@@ -69,10 +84,53 @@ pub fn of_error(error: &SqlError) -> OpeningFault
 /// The fault of an opening where tables that were found aren't taken.
 pub fn of_finding(fault: FindingFault) -> OpeningFault
     ensures other { (result ≡ opening.OtherSite) ↔ (fault ≡ finding.OtherSite) }
+    ensures of_data { IsOfData result → ⊥ }
     ensures memory { (result ≡ opening.Memory) ↔ (fault ≡ finding.Memory) }
 {
     match fault {
         FindingFault::OtherSite => OpeningFault::OtherSite,
         FindingFault::Memory => OpeningFault::Memory,
+    }
+}
+
+/// The fault where a new file of data sets isn't made.
+pub fn of_making(fault: DataFileFault) -> OpeningFault
+    ensures other { result ≢ opening.OtherSite }
+    ensures there { (result ≡ opening.DataIsThere) ↔ (fault ≡ file.IsThere) }
+    ensures lost { result ≢ opening.NoData }
+{
+    match fault {
+        DataFileFault::IsThere => OpeningFault::DataIsThere,
+        DataFileFault::InUse => OpeningFault::InUse,
+        DataFileFault::Memory => OpeningFault::Memory,
+        DataFileFault::Missing => OpeningFault::Store,
+        DataFileFault::Store => OpeningFault::Store,
+    }
+}
+
+/// The fault where the file of a ledger's data sets isn't opened.
+pub fn of_data(fault: DataFileFault) -> OpeningFault
+    ensures other { result ≢ opening.OtherSite }
+    ensures there { result ≢ opening.DataIsThere }
+    ensures lost { (result ≡ opening.NoData) ↔ (fault ≡ file.Missing) }
+{
+    match fault {
+        DataFileFault::Missing => OpeningFault::NoData,
+        DataFileFault::InUse => OpeningFault::InUse,
+        DataFileFault::Memory => OpeningFault::Memory,
+        DataFileFault::IsThere => OpeningFault::Store,
+        DataFileFault::Store => OpeningFault::Store,
+    }
+}
+
+/// A fault of the tables alone.
+pub fn of_tables(fault: OpeningFault) -> OpeningFault
+    ensures other { (result ≡ opening.OtherSite) ↔ (fault ≡ opening.OtherSite) }
+    ensures of_data { IsOfData result → ⊥ }
+{
+    match fault {
+        OpeningFault::OtherSite => OpeningFault::OtherSite,
+        OpeningFault::Memory => OpeningFault::Memory,
+        _ => OpeningFault::Store,
     }
 }

@@ -1,43 +1,70 @@
 //! Tables that are found.
-ghost use Rattle.std.specs.Prelude.{◌≡◌, ◌↔◌, ◌+◌, IsTrue, MatchOption, false, length};
+ghost use Rattle.std.specs.Prelude.{◌≡◌, ◌↔◌, ◌+◌, IsTrue, MatchOption, length};
 ghost use Rattle.sqlite.specs.Held.{state};
 ghost use Rattle.sqlite.specs.Tree.{Trees};
+ghost use Rattle.dr_ledger.specs.Replies.{Reads};
 ghost use Rattle.dr_store_schema.specs.Ledgers.{IsLedger};
 ghost use Rattle.dr_store_reads.specs.Queries.{Asked};
 ghost use Rattle.dr_store_audit.specs.Found.{AgreesAs, HoldTogether};
 ghost use Rattle.dr_store_writes.specs.Effects.{IsSiteOf};
+ghost use Rattle.dr_store_calls.specs.Adoptions.{IsMark, IsOwnedBy};
 ghost use Rattle.dr_store_open.specs.Listed.{AreWholeListsOf};
-ghost use Rattle.dr_store_open.specs.Opening.{AreReadIf, IsAgreedIf, IsWholeIf, Seen};
+ghost use Rattle.dr_store_open.specs.Opening.{IsAgreedIf, IsWholeIf, Seen};
+ghost use Rattle.dr_store_open.specs.Places.{IsPlaceIn, IsPlaceOf};
 
-use crate::bodies::test_bodies;
-use crate::listed::{Journal, WholeLists, list_all};
+use crate::data::DataPlace;
+use crate::listed::{Journal, Stock, WholeLists, list_all};
 use dr_base::Text;
 use dr_ledger::LedgerFault;
 use dr_site::Site;
 use dr_store_audit::{FindingFault, TableLists, agree};
+use dr_store_calls::mark_for;
+use dr_store_data::mark_in;
 use dr_store_reads::{Owner, Print, find_owner};
 use sqlite::{Alter, Connection};
 use std::alloc::Global;
 
-/// Whether the node and the plan are the site's.
-fn is_owner(owner: &Owner, site: &Site) -> bool
-    ensures { IsTrue result
-        ↔ ((owner.now.node ≡ site.now.name) × (owner.now.plan ≡ site.now.digest)) }
-{
-    if owner.node != *site.name() {
-        return false;
-    }
-    owner.plan.as_bytes() == site.digest().as_slice()
+/// What is found in the tables of a ledger: the number of its next line, where its data sets are,
+/// and all prints.
+#[derive(Drop)]
+pub struct FoundTables {
+    pub next: u64,
+    pub place: DataPlace,
+    pub prints: Vec<(Text, Print)>,
 }
 
-/// The number of the next line, if the tables are a ledger's.
-fn next_if(is: bool, next: u64) -> Option<u64>
-    ensures { MatchOption result (is ≡ false) (λ n. IsTrue is × (n ≡ next)) }
+/// The place that these bytes say, which are a mark or nothing.
+fn place_in(mark: &[u8]) -> Option<DataPlace>
+    ensures { MatchOption result (IsMark mark.now → ⊥) (IsPlaceIn mark.now) }
 {
-    if is {
-        return Some(next);
+    if mark.is_empty() {
+        return Some(DataPlace::InRows);
     }
-    None
+    match mark_in(mark) {
+        Some(said) => Some(DataPlace::InFile(said)),
+        None => None,
+    }
+}
+
+/// Whether the node is the site's.
+fn is_node(owner: &Owner, site: &Site) -> bool
+    ensures { IsTrue result ↔ (owner.now.node ≡ site.now.name) }
+{
+    owner.node == *site.name()
+}
+
+/// Where the data sets are, if the node and the plan are the site's.
+fn place_of(owner: &Owner, site: &Site) -> Option<DataPlace>
+    ensures { (db : Trees) → IsSiteOf owner.now.node owner.now.plan db
+        → MatchOption result (IsOwnedBy site.now db → ⊥) (IsPlaceOf site.now db) }
+{
+    if !is_node(owner, site) {
+        return None;
+    }
+    match mark_for(owner.plan.as_bytes(), site.digest()) {
+        Some(mark) => place_in(mark),
+        None => None,
+    }
 }
 
 /// The number of the line after these, where they are numbered from 1.
@@ -47,20 +74,21 @@ fn number_after(journal: &Journal) -> u64
     journal.notes.len() as u64 + 1
 }
 
-/// Reads each data set again.
-fn read_bodies<'x, S: Alter>(
-    conn: &mut Connection<S>,
-    alloc: Global,
-    prints: &'x [(Text, Print)],
-    next: u64,
-) -> Result<Option<u64>, LedgerFault>
-    ensures seen { Seen IsLedger result (state S.Store conn.old) (state S.Store conn.new)
-        (AreReadIf (state S.Store conn.old).now.trees prints.now next) }
+/// All prints of the lists.
+fn prints_of(lists: WholeLists) -> Vec<(Text, Print)>
+    ensures { result ≡ lists.stock.prints }
 {
-    match test_bodies(conn, alloc, prints) {
-        Ok(own) => Ok(next_if(own, next)),
-        Err(fault) => Err(fault),
-    }
+    let WholeLists {
+        stock,
+        moves: _,
+        journal: _,
+    } = lists;
+    let Stock {
+        keys: _,
+        prints,
+        arrivals: _,
+    } = stock;
+    prints
 }
 
 /// Compares all lists with what the journal's lines make.
@@ -81,36 +109,40 @@ fn agree_all(alloc: Global, site: &Site, lists: &WholeLists, next: u64) -> Resul
     agree(alloc, site, &tables, next)
 }
 
-/// Compares all lists with what the journal's lines make, and reads each data set again.
-fn compare<'x, S: Alter>(
-    conn: &mut Connection<S>,
+/// Compares all lists with what the journal's lines make, where the owner's row says that place.
+fn compare(
     alloc: Global,
-    site: &'x Site,
-    lists: &'x WholeLists,
-) -> Result<Option<u64>, LedgerFault>
-    ensures seen { Seen IsLedger result (state S.Store conn.old) (state S.Store conn.new)
-        (λ found. AreWholeListsOf (state S.Store conn.old).now.trees lists.now
-        → IsAgreedIf site.now (state S.Store conn.old).now.trees found) }
+    site: &Site,
+    place: DataPlace,
+    lists: WholeLists,
+) -> Result<Option<FoundTables>, LedgerFault>
+    ensures { (db : Trees) → AreWholeListsOf db lists
+        → Reads result (IsAgreedIf site.now place db) }
 {
     let next = number_after(&lists.journal);
-    match agree_all(alloc, site, lists, next) {
-        Ok(()) => read_bodies(conn, alloc, lists.stock.prints.as_slice(), next),
+    match agree_all(alloc, site, &lists, next) {
+        Ok(()) => Ok(Some(FoundTables {
+            next,
+            place,
+            prints: prints_of(lists),
+        })),
         Err(FindingFault::OtherSite) => Ok(None),
         Err(FindingFault::Memory) => Err(LedgerFault::Memory),
     }
 }
 
 /// Compares all tables but site with what the journal's lines make.
-pub fn find_lists<'x, S: Alter>(
+fn find_lists<'x, S: Alter>(
     conn: &mut Connection<S>,
     alloc: Global,
     site: &'x Site,
-) -> Result<Option<u64>, LedgerFault>
+    place: DataPlace,
+) -> Result<Option<FoundTables>, LedgerFault>
     ensures asked { Asked IsLedger result (state S.Store conn.old) (state S.Store conn.new)
-        (λ found. IsAgreedIf site.now (state S.Store conn.old).now.trees found) }
+        (IsAgreedIf site.now place (state S.Store conn.old).now.trees) }
 {
     match list_all(conn, alloc) {
-        Ok(lists) => compare(conn, alloc, site, &lists),
+        Ok(lists) => compare(alloc, site, place, lists),
         Err(fault) => Err(fault),
     }
 }
@@ -120,7 +152,7 @@ pub fn find_owned<'x, S: Alter>(
     conn: &mut Connection<S>,
     alloc: Global,
     site: &'x Site,
-) -> Result<Option<u64>, LedgerFault>
+) -> Result<Option<FoundTables>, LedgerFault>
     ensures asked { Asked IsLedger result (state S.Store conn.old) (state S.Store conn.new)
         (IsWholeIf site.now (state S.Store conn.old).now.trees) }
 {
@@ -137,13 +169,13 @@ fn with_owner<'x, S: Alter>(
     alloc: Global,
     site: &'x Site,
     owner: &'x Owner,
-) -> Result<Option<u64>, LedgerFault>
+) -> Result<Option<FoundTables>, LedgerFault>
     ensures seen { Seen IsLedger result (state S.Store conn.old) (state S.Store conn.new)
         (λ found. IsSiteOf owner.now.node owner.now.plan (state S.Store conn.old).now.trees
         → IsWholeIf site.now (state S.Store conn.old).now.trees found) }
 {
-    if !is_owner(owner, site) {
-        return Ok(None);
+    match place_of(owner, site) {
+        Some(place) => find_lists(conn, alloc, site, place),
+        None => Ok(None),
     }
-    find_lists(conn, alloc, site)
 }

@@ -6,7 +6,8 @@ ghost use Rattle.dr_store_schema.specs.Tables.{tables};
 ghost use Rattle.dr_store_audit.specs.Older.{IsOlder};
 ghost use Rattle.dr_store_open.specs.Opening.{BadTablesAreNone, IsBlank, LeavesFile, LeavesOldOr};
 ghost use Rattle.dr_store_open.specs.Opening.{LeavesOldOrCommitted, LedgersAreOne};
-ghost use Rattle.dr_store_open.specs.Opening.{NewLedgersAreLedgers, StaysAsFound};
+ghost use Rattle.dr_store_open.specs.Opening.{NewLedgersAreLedgers, PlacesAreOne};
+ghost use Rattle.dr_store_open.specs.Opening.{RowsHaveDataSets, StaysAsFound};
 ghost use Rattle.dr_store_open.specs.Renewing.{HasNoRows, KeepsRows};
 
 use sqlite::{Alter, Connection};
@@ -23,9 +24,21 @@ pub fn a_file_has_one_ledger()
     ensures { LedgersAreOne }
 {}
 
-/// Tables without an owner are no ledger's, nor those whose first line isn't numbered 1.
+/// Tables without an owner are no ledger's, nor those in which other bytes than a mark's stand
+/// behind the plan's SHA-256, nor those whose first line isn't numbered 1.
 pub fn bad_tables_are_no_ledgers()
     ensures { BadTablesAreNone }
+{}
+
+/// A ledger has its data sets in its rows, or all in one file: its tables say one place.
+pub fn data_sets_are_in_one_place()
+    ensures { PlacesAreOne }
+{}
+
+/// Where the cells of a ledger's tables are its data sets themselves, each that is there is that of
+/// its item.
+pub fn rows_have_data_sets()
+    ensures { RowsHaveDataSets }
 {}
 
 /// Of a file that has a ledger's tables of today an opening makes nothing, also where it refuses

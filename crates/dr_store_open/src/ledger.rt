@@ -1,56 +1,75 @@
-//! A file's ledger, opened, as a ledger over its connection, with its data sets in their rows.
-ghost use Rattle.std.specs.Prelude.{◌≡◌, ℕ, IfOk, false};
+//! A file's ledger, opened, as a ledger over its connection and its shelf.
+ghost use Rattle.std.specs.Prelude.{◌≡◌, ℕ, IfErr, IfOk, false};
 ghost use Rattle.sqlite.specs.Held.{state};
 ghost use Rattle.sqlite.specs.State.{HasCleanDisk};
+ghost use Rattle.dr_store_shelf.specs.Either.{named_on};
 ghost use Rattle.dr_store_calls.specs.Calling.{IsKept};
-ghost use Rattle.dr_store_open.specs.Opening.{HasLedgerOf};
+ghost use Rattle.dr_store_open.specs.declared.data.Keeping.TheVariants as wanted;
+ghost use Rattle.dr_store_open.specs.declared.fault.OpeningFault.TheVariants as opening;
+ghost use Rattle.dr_store_open.specs.Opening.{HasLedgerOf, IsBlank};
+ghost use Rattle.dr_store_open.specs.Places.{HasOwnOn, IsPlacedBy, names_in};
 
+use crate::data::{Keeping, OpenedLedger};
 use crate::fault::OpeningFault;
 use crate::opening::on;
 use dr_site::Site;
 use dr_store::SqlLedger;
-use dr_store_shelf::InRow;
+use dr_store_data::{DataFile, LedgerShelf};
 use sqlite::{Alter, Connection};
+use sqlite_disk::Disk;
 use std::alloc::Global;
 
-/// The ledger of this site, over a connection to its tables, each of whose cells is the data set
-/// itself. The number of its next line is `next`, and the moment that it was told (milliseconds
-/// since 1970) is `moment`.
-pub fn in_rows<S: Alter>(
+/// The ledger of this site, over a connection to its tables and the shelf of their cells, as they
+/// were opened. The moment that it was told (milliseconds since 1970) is `moment`.
+pub fn ledger_of<S: Alter, D: Disk>(
     alloc: Global,
     conn: Connection<S>,
+    opened: OpenedLedger<D>,
     site: Site,
-    next: u64,
     moment: Option<u64>,
-) -> SqlLedger<S, InRow>
+) -> SqlLedger<S, LedgerShelf<D>>
     requires idle { conn.in_transaction ≡ false }
-    requires kept { HasCleanDisk (state S.Store conn) → IsKept next site (state S.Store conn) }
-    requires is { HasCleanDisk (state S.Store conn)
-        → HasLedgerOf next site (state S.Store conn).committed }
+    requires kept { HasCleanDisk (state S.Store conn)
+        → IsKept opened.next site (state S.Store conn) }
+    requires own { HasCleanDisk (state S.Store conn)
+        → HasOwnOn (state S.Store conn).committed.trees opened.shelf }
     ensures site { result.site ≡ site }
     ensures conn { result.conn ≡ conn }
+    ensures shelf { result.shelf ≡ opened.shelf }
 {
-    SqlLedger::of(alloc, conn, InRow, site, next, moment)
+    let OpenedLedger { shelf, next } = opened;
+    SqlLedger::of(alloc, conn, shelf, site, next, moment)
 }
 
 /// The ledger of a site over a connection to a file: its tables are made where the file has none, a
 /// file from before is brought over, and then they are compared with what the journal's lines make.
-/// Each data set stands in its row. The ledger is told that moment (milliseconds since 1970).
+/// A new ledger has its data sets where they are wanted; of any other the tables say where they
+/// are, and there each is looked at. The ledger is told that moment (milliseconds since 1970).
 ///
-/// Errors: OtherSite, Store, Memory.
-pub fn ledger_on<S: Alter + Drop>(
+/// Errors: OtherSite, NoData, DataIsThere, InUse, Store, Memory.
+pub fn ledger_on<S: Alter + Drop, F: DataFile>(
     alloc: Global,
     conn: Connection<S>,
+    data: &F,
+    keeping: Keeping,
     site: Site,
     moment: Option<u64>,
-) -> Result<SqlLedger<S, InRow>, OpeningFault>
+) -> Result<SqlLedger<S, LedgerShelf<F::Disk>>, OpeningFault>
     requires { conn.in_transaction ≡ false }
     ensures of { IfOk result (λ l. l.site ≡ site) }
     ensures is { IfOk result (λ l. HasCleanDisk (state S.Store l.conn)
         → (n : ℕ) × HasLedgerOf n l.site (state S.Store l.conn).committed) }
+    ensures placed { IfOk result (λ l. HasCleanDisk (state S.Store l.conn)
+        → IsPlacedBy l.site (state S.Store l.conn).committed.trees l.shelf) }
+    ensures own { IfOk result (λ l. HasCleanDisk (state S.Store l.conn)
+        → HasOwnOn (state S.Store l.conn).committed.trees l.shelf) }
+    ensures wanted { IfOk result (λ l. IsBlank (state S.Store conn).now.schema
+        → named_on l.shelf ≡ names_in keeping) }
+    ensures there { IfErr result (λ fault. fault ≡ opening.DataIsThere
+        → (keeping ≡ wanted.InFile) × IsBlank (state S.Store conn).now.schema) }
 {
-    match on(conn, alloc, &site) {
-        Ok((conn, next)) => Ok(in_rows(alloc, conn, site, next, moment)),
+    match on(conn, alloc, data, keeping, &site) {
+        Ok((conn, opened)) => Ok(ledger_of(alloc, conn, opened, site, moment)),
         Err(fault) => Err(fault),
     }
 }

@@ -6,9 +6,11 @@
 
 mod alike;
 mod asking;
+mod beside;
 mod bodies;
+pub mod data;
 mod fault;
-mod finding;
+pub mod finding;
 pub mod laws;
 mod ledger;
 mod lines;
@@ -18,8 +20,11 @@ mod older;
 pub mod opening;
 mod renewing;
 mod sheets;
+mod shelving;
 mod testing;
 
+pub use data::{DataPlace, Keeping, OpenedLedger};
+pub use dr_store_data::{DataFile, DataFileFault, DataMark};
 pub use fault::OpeningFault;
-pub use ledger::{in_rows, ledger_on};
-pub use opening::{on, open};
+pub use ledger::{ledger_of, ledger_on};
+pub use opening::{find_ledger, on, open};

@@ -12,8 +12,10 @@ use crate::asking::run_texts;
 use crate::fault::{OpeningFault, of_error};
 use crate::sheets::{Sheets, ask_sheets};
 use dr_site::Site;
+use dr_store_calls::plan_cell;
 use dr_store_writes::add_site;
 use sqlite::{Alter, Connection, Transaction};
+use std::alloc::Global;
 
 /// The tables whose place no other one changes.
 const FIRST: [&str; 2] = [
@@ -33,15 +35,36 @@ pub(crate) const LATER: [&str; 8] = [
     "CREATE INDEX arrival_uid ON arrival (uid)",
 ];
 
-/// Puts in whose ledger it is.
-fn put_owner<'x, S: Alter>(tx: &mut Transaction<'_, S>, site: &'x Site) -> Result<(), OpeningFault>
+/// Puts in whose ledger it is, with this for its plan.
+fn put_cell<'x, S: Alter>(
+    tx: &mut Transaction<'_, S>,
+    site: &'x Site,
+    cell: &'x [u8],
+) -> Result<(), OpeningFault>
     ensures same_reference { tx.new.conn.ghost_name ≡ tx.old.conn.ghost_name }
     ensures survives { CommitsNothing (state S.Store tx.old.conn.now)
         (state S.Store tx.new.conn.now) }
 {
-    match add_site(tx, site.name(), site.digest()) {
+    match add_site(tx, site.name(), cell) {
         Ok(_) => Ok(()),
         Err(error) => Err(of_error(&error)),
+    }
+}
+
+/// Puts in whose ledger it is, with the mark of the file that has its data sets, or with none.
+fn put_owner<'x, S: Alter>(
+    tx: &mut Transaction<'_, S>,
+    alloc: Global,
+    site: &'x Site,
+    mark: &'x [u8],
+) -> Result<(), OpeningFault>
+    ensures same_reference { tx.new.conn.ghost_name ≡ tx.old.conn.ghost_name }
+    ensures survives { CommitsNothing (state S.Store tx.old.conn.now)
+        (state S.Store tx.new.conn.now) }
+{
+    match plan_cell(alloc, site.digest(), mark) {
+        Ok(cell) => put_cell(tx, site, &cell),
+        Err(_) => Err(OpeningFault::Memory),
     }
 }
 
@@ -75,7 +98,12 @@ fn test_empty<S: Alter>(tx: &mut Transaction<'_, S>) -> Result<(), OpeningFault>
 }
 
 /// All statements that make the tables of a new ledger of this site, and a look at what they made.
-fn fill<'x, S: Alter>(tx: &mut Transaction<'_, S>, site: &'x Site) -> Result<(), OpeningFault>
+fn fill<'x, S: Alter>(
+    tx: &mut Transaction<'_, S>,
+    alloc: Global,
+    site: &'x Site,
+    mark: &'x [u8],
+) -> Result<(), OpeningFault>
     ensures same_reference { tx.new.conn.ghost_name ≡ tx.old.conn.ghost_name }
     ensures survives { CommitsNothing (state S.Store tx.old.conn.now)
         (state S.Store tx.new.conn.now) }
@@ -85,15 +113,21 @@ fn fill<'x, S: Alter>(tx: &mut Transaction<'_, S>, site: &'x Site) -> Result<(),
 {
     run_texts(tx, FIRST.as_slice())?;
     run_texts(tx, LATER.as_slice())?;
-    put_owner(tx, site)?;
+    put_owner(tx, alloc, site, mark)?;
     test_empty(tx)
 }
 
-/// Makes the tables of a new ledger of this site, as one transaction. Whatever it answers, a crash
-/// leaves what it could leave before, or all of the tables.
+/// Makes the tables of a new ledger of this site, as one transaction. They say that its data sets
+/// are in the file with this mark or, where the mark is nothing, in rows. Whatever it answers, a
+/// crash leaves what it could leave before, or all of the tables.
 ///
 /// Errors: Store, Memory.
-pub fn make<S: Alter>(conn: &mut Connection<S>, site: &Site) -> Result<(), OpeningFault>
+pub fn make<S: Alter>(
+    conn: &mut Connection<S>,
+    alloc: Global,
+    site: &Site,
+    mark: &[u8],
+) -> Result<(), OpeningFault>
     requires { conn.old.in_transaction ≡ false }
     ensures idle { conn.new.in_transaction ≡ false }
     ensures clean { doubt (state S.Store conn.old).is_clean
@@ -105,7 +139,7 @@ pub fn make<S: Alter>(conn: &mut Connection<S>, site: &Site) -> Result<(), Openi
         (state S.Store conn.new) }
 {
     let mut tx = conn.transaction();
-    fill(&mut tx, site)?;
+    fill(&mut tx, alloc, site, mark)?;
     match tx.commit() {
         Ok(()) => Ok(()),
         Err(error) => Err(of_error(&error)),

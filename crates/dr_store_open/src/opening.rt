@@ -1,6 +1,6 @@
 //! A file's ledger, opened.
 ghost use Rattle.std.specs.Prelude.{◌≡◌, ◌≤◌, ◌↔◌, IfErr, IfOk, MatchResult, OnOk, false};
-ghost use Rattle.std.specs.Prelude.{IsTrue, true};
+ghost use Rattle.std.specs.Prelude.{◌≢◌, IsTrue, true};
 ghost use Rattle.sqlite.specs.Held.{state};
 ghost use Rattle.sqlite.specs.State.{HasCleanDisk, IsLive};
 ghost use Rattle.dr_store_schema.specs.Tables.{tables};
@@ -8,23 +8,37 @@ ghost use Rattle.sqlite_trees.specs.View.{doubt};
 ghost use Rattle.dr_store_calls.specs.Adoptions.{IsOwnedBy};
 ghost use Rattle.dr_store_calls.specs.Calling.{IsKept};
 ghost use Rattle.dr_store_audit.specs.Older.{IsOlder};
-ghost use Rattle.dr_store_open.specs.Renewing.{KeepsRows};
+ghost use Rattle.dr_store_open.specs.Renewing.{HasNoRows, KeepsRows};
+ghost use Rattle.dr_store_shelf.specs.Either.{AreApartIf, UsesOn, named_on};
+ghost use Rattle.dr_store_schema.specs.Books.{bodies_of};
+ghost use Rattle.dr_store_changes.specs.Writing.{IsReady};
+ghost use Rattle.dr_store_calls.specs.LettingGo.{AreEachApart};
+ghost use Rattle.dr_store.specs.Owning.{AreUsed};
+ghost use Rattle.dr_store_open.specs.declared.data.Keeping.TheVariants as wanted;
 ghost use Rattle.dr_store_open.specs.declared.fault.OpeningFault.TheVariants as opening;
-ghost use Rattle.dr_store_open.specs.Opening.{HasLedgerOf, HasNewLedger, HasNoLedgerOf, IsBlank};
-ghost use Rattle.dr_store_open.specs.Opening.{IsBroughtOver, IsNext};
-ghost use Rattle.dr_store_open.specs.Opening.{IsLedgerOpened, LeavesFile};
-ghost use Rattle.dr_store_open.specs.Opening.{LeavesOldOrCommitted};
-ghost use Rattle.dr_store_open.specs.Opening.{StaysAsFound};
+ghost use Rattle.dr_store_open.specs.Opening.{AreOf, HasLedgerOf, HasNewLedger, IsBlank};
+ghost use Rattle.dr_store_open.specs.Opening.{IsBroughtOver, IsLedgerOpened, IsNext, IsWhy};
+ghost use Rattle.dr_store_open.specs.Opening.{IsWhyNot, IsWholeOpened, LeavesFile};
+ghost use Rattle.dr_store_open.specs.Opening.{LeavesOldOr, LeavesOldOrCommitted};
+ghost use Rattle.dr_store_open.specs.Opening.{StaysAsFound, StaysReady};
+ghost use Rattle.dr_store_open.specs.Faults.{IsOfData};
+ghost use Rattle.dr_store_open.specs.Places.{HasOwnOn, IsOtherOn, IsPlacedBy, names_in};
 
-use crate::fault::{OpeningFault, opening_fault};
-use crate::finding::find_owned;
+use crate::beside::new_data;
+use crate::bodies::test_all;
+use crate::data::{Keeping, OpenedLedger, is_wanted};
+use crate::fault::{OpeningFault, of_tables, opening_fault};
+use crate::finding::{FoundTables, find_owned};
 use crate::making::make;
 use crate::renewing::renew_older;
+use crate::shelving::shelf_of;
 use crate::testing::test_tables;
 use dr_ledger::LedgerFault;
 use dr_site::Site;
 use dr_store_audit::is_ours;
+use dr_store_data::{DataFile, LedgerShelf};
 use sqlite::{Alter, Connection};
+use sqlite_disk::Disk;
 use sqlite_schema::schema::Schema;
 use std::alloc::Global;
 
@@ -41,12 +55,12 @@ fn is_blank(schema: &Schema) -> bool
     schema.views.is_empty()
 }
 
-/// The number of the next line, if the tables are those of a ledger of this site.
+/// What the tables have, if they are those of a ledger of this site.
 fn find_tested<S: Alter>(
     conn: &mut Connection<S>,
     alloc: Global,
     site: &Site,
-) -> Result<Option<u64>, LedgerFault>
+) -> Result<Option<FoundTables>, LedgerFault>
     requires schema { (state S.Store conn.old).now.schema ≡ tables }
     requires live { IsLive (state S.Store conn.old) }
     requires settled { IsTrue (state S.Store conn.old).is_open
@@ -59,16 +73,16 @@ fn find_tested<S: Alter>(
     }
 }
 
-/// The number of the next line, if the file has a ledger of this site: its tables are just a
-/// ledger's, the node and the plan are the site's, all rows are what the journal's lines make,
-/// which are a history of that ledger, and each data set that is there is read again.
+/// What the tables have, if the file has those of a ledger of this site: its tables are just a
+/// ledger's, the node and the plan are the site's, and all rows are what the journal's lines make,
+/// which are a history of that ledger. Its data sets aren't looked at.
 ///
 /// Errors: Store, Memory.
 pub fn find<S: Alter>(
     conn: &mut Connection<S>,
     alloc: Global,
     site: &Site,
-) -> Result<Option<u64>, LedgerFault>
+) -> Result<Option<FoundTables>, LedgerFault>
     requires { conn.old.in_transaction ≡ false }
     ensures { IsLedgerOpened site.now result (state S.Store conn.old) (state S.Store conn.new) }
 {
@@ -81,170 +95,395 @@ pub fn find<S: Alter>(
     find_tested(conn, alloc, site)
 }
 
-/// Makes the tables of a new ledger, where the file has no table, and says whether it did.
-///
-/// Errors: Store, Memory.
-fn make_new<S: Alter>(conn: &mut Connection<S>, site: &Site) -> Result<bool, OpeningFault>
-    requires { conn.old.in_transaction ≡ false }
-    ensures idle { conn.new.in_transaction ≡ false }
-    ensures clean { doubt (state S.Store conn.old).is_clean
-        ≤ doubt (state S.Store conn.new).is_clean }
-    ensures found { IfOk result (λ made.
-        made ≡ false → (IsBlank (state S.Store conn.old).now.schema → ⊥) × (conn.new ≡ conn.old)) }
-    ensures made { IfOk result (λ made. made ≡ true
-        → IsBlank (state S.Store conn.old).now.schema
-        × (HasCleanDisk (state S.Store conn.new)
-        → LeavesOldOrCommitted (state S.Store conn.old) (state S.Store conn.new))) }
-    ensures file { HasCleanDisk (state S.Store conn.new)
-        → LeavesFile (state S.Store conn.old) (state S.Store conn.new) }
-    ensures ours { (state S.Store conn.old).now.schema ≡ tables
-        → MatchResult result (λ made. made ≡ false) (λ fault. ⊥) × (conn.new ≡ conn.old) }
-{
-    if !is_blank(conn.schema()) {
-        return Ok(false);
-    }
-    match make(conn, site) {
-        Ok(()) => Ok(true),
-        Err(fault) => Err(fault),
-    }
-}
-
-/// Makes the tables of a new ledger, where the file has no table, and says whether it did; a file
-/// from before is brought over.
-fn prepare<S: Alter>(
+/// A ledger whose tables were found, with its shelf, where each data set that is there is that of
+/// its instance.
+fn open_on<S: Alter, D: Disk + Drop>(
     conn: &mut Connection<S>,
     alloc: Global,
+    shelf: LedgerShelf<D>,
     site: &Site,
-) -> Result<bool, OpeningFault>
-    requires { conn.old.in_transaction ≡ false }
-    ensures idle { conn.new.in_transaction ≡ false }
-    ensures clean { doubt (state S.Store conn.old).is_clean
-        ≤ doubt (state S.Store conn.new).is_clean }
-    ensures found { IfOk result (λ made. made ≡ false
-        → (IsBlank (state S.Store conn.old).now.schema → ⊥)
-        × ((IsOlder (state S.Store conn.old).now.schema → ⊥)
-        → StaysAsFound (state S.Store conn.old) (state S.Store conn.new))) }
-    ensures leaves { HasCleanDisk (state S.Store conn.new)
-        → OnOk result (LeavesOldOrCommitted (state S.Store conn.old) (state S.Store conn.new)) }
-    ensures made { IfOk result (λ made. made ≡ true → IsBlank (state S.Store conn.old).now.schema) }
-    ensures kept { HasCleanDisk (state S.Store conn.new)
-        → IsOlder (state S.Store conn.old).now.schema
-        → (state S.Store conn.new).now.schema ≡ tables
-        → (state S.Store conn.new).committed.schema ≡ tables
-        → IfOk result (λ made.
-        made ≡ false → KeepsRows (state S.Store conn.old).now (state S.Store conn.new).committed) }
-    ensures file { HasCleanDisk (state S.Store conn.new)
-        → LeavesFile (state S.Store conn.old) (state S.Store conn.new) }
-    ensures ours { (state S.Store conn.old).now.schema ≡ tables
-        → MatchResult result (λ made. made ≡ false) (λ fault. ⊥) × (conn.new ≡ conn.old) }
+    found: FoundTables,
+) -> Result<OpenedLedger<D>, OpeningFault>
+    requires ready { HasCleanDisk (state S.Store conn.old)
+        → IsReady found.next (state S.Store conn.old) }
+    requires are { HasCleanDisk (state S.Store conn.old)
+        → AreOf site.now (state S.Store conn.old).now.trees found }
+    requires used { HasCleanDisk (state S.Store conn.old)
+        → AreUsed (UsesOn shelf) (bodies_of (state S.Store conn.old).now.trees) }
+    ensures ready { StaysReady found.next result (state S.Store conn.old) (state S.Store conn.new) }
+    ensures next { IfOk result (λ it. it.next ≡ found.next) }
+    ensures named { IfOk result (λ it. named_on it.shelf ≡ named_on shelf) }
+    ensures own { HasCleanDisk (state S.Store conn.new)
+        → AreEachApart (AreApartIf (named_on shelf))
+        (bodies_of (state S.Store conn.old).now.trees)
+        → IfOk result (λ it. HasOwnOn (state S.Store conn.old).now.trees it.shelf) }
+    ensures other { HasCleanDisk (state S.Store conn.new)
+        → IfErr result (λ fault. fault ≡ opening.OtherSite
+        → IsOtherOn (state S.Store conn.old).now.trees shelf) }
+    ensures of_data { IfErr result (λ fault. IsOfData fault → ⊥) }
 {
-    if make_new(conn, site)? {
-        return Ok(true);
-    }
-    match renew_older(conn, alloc, site) {
-        Ok(()) => Ok(false),
-        Err(fault) => Err(fault),
-    }
-}
-
-/// Whether a ledger whose tables were made just now has no line yet.
-fn is_as_made(made: bool, next: u64) -> bool
-    ensures { IsTrue result ↔ (made ≡ true → next ≡ 1) }
-{
-    if made {
-        return next == 1;
-    }
-    true
-}
-
-/// The number of the next line of this site's ledger in a file: its tables are made where the file
-/// has none, and else they are found, and compared with what the journal's lines make; a file from
-/// before, which lacks some of them, is brought over first, as one transaction.
-///
-/// Whatever it answers, a crash leaves what it could leave before, or what an opening makes of the
-/// file, whole. A file that has other tables than none or those of before stays as it was.
-///
-/// Errors: OtherSite, never where the file has a ledger of this site in the tables of today; Store;
-/// Memory.
-pub fn open<S: Alter>(
-    conn: &mut Connection<S>,
-    alloc: Global,
-    site: &Site,
-) -> Result<u64, OpeningFault>
-    requires { conn.old.in_transaction ≡ false }
-    ensures kept { IfOk result (λ next. HasCleanDisk (state S.Store conn.new)
-        → IsKept next site.now (state S.Store conn.new)
-        × IsOwnedBy site.now (state S.Store conn.new).committed.trees) }
-    ensures next { IfOk result (λ next. HasCleanDisk (state S.Store conn.new)
-        → IsNext next (state S.Store conn.new).committed.trees) }
-    ensures found { IfOk result (λ next. HasCleanDisk (state S.Store conn.new)
-        → (IsBlank (state S.Store conn.old).now.schema → ⊥)
-        → (IsOlder (state S.Store conn.old).now.schema → ⊥)
-        → StaysAsFound (state S.Store conn.old) (state S.Store conn.new)) }
-    ensures older { IfOk result (λ next. HasCleanDisk (state S.Store conn.new)
-        → IsOlder (state S.Store conn.old).now.schema
-        → IsBroughtOver (state S.Store conn.old) (state S.Store conn.new)) }
-    ensures made { IfOk result (λ next. HasCleanDisk (state S.Store conn.new)
-        → IsBlank (state S.Store conn.old).now.schema
-        → HasNewLedger (state S.Store conn.old) (state S.Store conn.new)) }
-    ensures file { HasCleanDisk (state S.Store conn.new)
-        → LeavesFile (state S.Store conn.old) (state S.Store conn.new) }
-    ensures refused { IfErr result (λ fault. HasCleanDisk (state S.Store conn.new)
-        → fault ≡ opening.OtherSite
-        → HasNoLedgerOf site.now (state S.Store conn.old).now) }
-    ensures is { IfOk result (λ next. HasCleanDisk (state S.Store conn.new)
-        → HasLedgerOf next site.now (state S.Store conn.new).committed) }
-    ensures idle { conn.new.in_transaction ≡ false }
-    ensures clean { doubt (state S.Store conn.old).is_clean
-        ≤ doubt (state S.Store conn.new).is_clean }
-{
-    let made = prepare(conn, alloc, site)?;
-    match find(conn, alloc, site) {
-        Ok(Some(next)) => {
-            if !is_as_made(made, next) {
-                return Err(OpeningFault::OtherSite);
-            }
-            Ok(next)
+    let mut shelf = shelf;
+    match test_all(conn, &mut shelf, alloc, &found) {
+        Ok(()) => Ok(OpenedLedger {
+            shelf,
+            next: found.next,
+        }),
+        Err(fault) => {
+            drop(shelf);
+            Err(fault)
         }
+    }
+}
+
+/// A ledger whose tables were found, with its shelf, which is opened where they say. The file that
+/// was made for it, if one was, is its own.
+fn open_found<S: Alter, F: DataFile>(
+    conn: &mut Connection<S>,
+    alloc: Global,
+    data: &F,
+    made: Option<F::Disk>,
+    site: &Site,
+    found: FoundTables,
+) -> Result<OpenedLedger<F::Disk>, OpeningFault>
+    requires ready { HasCleanDisk (state S.Store conn.old)
+        → IsReady found.next (state S.Store conn.old) }
+    requires are { HasCleanDisk (state S.Store conn.old)
+        → AreOf site.now (state S.Store conn.old).now.trees found }
+    ensures ready { StaysReady found.next result (state S.Store conn.old) (state S.Store conn.new) }
+    ensures next { IfOk result (λ it. it.next ≡ found.next) }
+    ensures placed { HasCleanDisk (state S.Store conn.new)
+        → IfOk result (λ it. IsPlacedBy site.now (state S.Store conn.old).now.trees it.shelf) }
+    ensures own { HasCleanDisk (state S.Store conn.new)
+        → IfOk result (λ it. HasOwnOn (state S.Store conn.old).now.trees it.shelf) }
+    ensures why { HasCleanDisk (state S.Store conn.new)
+        → IfErr result (IsWhyNot result site.now (state S.Store conn.old).now.trees) }
+    ensures there { IfErr result (λ fault. fault ≢ opening.DataIsThere) }
+{
+    match shelf_of(conn, alloc, data, made, &found) {
+        Ok(shelf) => open_on(conn, alloc, shelf, site, found),
+        Err(fault) => Err(fault),
+    }
+}
+
+/// The shelf of this site's ledger in a file whose tables are made, and the number of its next
+/// line. Its tables are found and compared with what the journal's lines make. Then its shelf is
+/// opened where they say, and each data set that is there is looked at once. It only reads.
+///
+/// Errors: OtherSite, never where the file has a ledger of this site whose cells stand for its data
+/// sets; NoData and InUse, never where its data sets are in its rows; Store; Memory.
+pub fn find_ledger<S: Alter, F: DataFile>(
+    conn: &mut Connection<S>,
+    alloc: Global,
+    data: &F,
+    made: Option<F::Disk>,
+    site: &Site,
+) -> Result<OpenedLedger<F::Disk>, OpeningFault>
+    requires { conn.old.in_transaction ≡ false }
+    ensures whole { IsWholeOpened (Unit {0}) site.now result (state S.Store conn.old)
+        (state S.Store conn.new) }
+    ensures kept { IfOk result (λ it. HasCleanDisk (state S.Store conn.new)
+        → IsKept it.next site.now (state S.Store conn.new)) }
+    ensures own { IfOk result (λ it. HasCleanDisk (state S.Store conn.new)
+        → HasOwnOn (state S.Store conn.new).committed.trees it.shelf) }
+    ensures idle { conn.new.in_transaction ≡ false }
+    ensures there { IfErr result (λ fault. fault ≢ opening.DataIsThere) }
+{
+    match find(conn, alloc, site) {
+        Ok(Some(found)) => open_found(conn, alloc, data, made, site, found),
         Ok(None) => Err(OpeningFault::OtherSite),
         Err(fault) => Err(opening_fault(fault)),
     }
 }
 
-/// The ledger of this site in a file, with the number of its next line, as `open` finds it. A
-/// refusal closes the connection and gives nothing back.
-///
-/// Errors: OtherSite; Store; Memory.
-pub fn on<S: Alter + Drop>(
-    conn: Connection<S>,
+/// Makes the tables of a new ledger with this mark, beside which this file is made, if one is.
+fn make_with<S: Alter, D: Drop>(
+    conn: &mut Connection<S>,
     alloc: Global,
     site: &Site,
-) -> Result<(Connection<S>, u64), OpeningFault>
+    beside: (Option<D>, Vec<u8>),
+) -> Result<(bool, Option<D>), OpeningFault>
+    requires { conn.old.in_transaction ≡ false }
+    ensures idle { conn.new.in_transaction ≡ false }
+    ensures clean { doubt (state S.Store conn.old).is_clean
+        ≤ doubt (state S.Store conn.new).is_clean }
+    ensures made { IfOk result (λ made. made.0 ≡ true) }
+    ensures leaves { HasCleanDisk (state S.Store conn.new)
+        → OnOk result (LeavesOldOrCommitted (state S.Store conn.old) (state S.Store conn.new)) }
+    ensures crash { HasCleanDisk (state S.Store conn.new)
+        → LeavesOldOr (λ d. d.schema ≡ tables → HasNoRows d) (state S.Store conn.old)
+        (state S.Store conn.new) }
+    ensures of_data { IfErr result (λ fault. IsOfData fault → ⊥) }
+{
+    let (disk, mark) = beside;
+    match make(conn, alloc, site, &mark) {
+        Ok(()) => Ok((true, disk)),
+        Err(fault) => Err(of_tables(fault)),
+    }
+}
+
+/// Makes what a new ledger has: first the file of its data sets, if it is to have one, and then its
+/// tables.
+///
+/// Errors: DataIsThere; InUse; Store; Memory.
+fn make_new<S: Alter, F: DataFile>(
+    conn: &mut Connection<S>,
+    alloc: Global,
+    data: &F,
+    keeping: Keeping,
+    site: &Site,
+) -> Result<(bool, Option<F::Disk>), OpeningFault>
+    requires { conn.old.in_transaction ≡ false }
+    ensures idle { conn.new.in_transaction ≡ false }
+    ensures clean { doubt (state S.Store conn.old).is_clean
+        ≤ doubt (state S.Store conn.new).is_clean }
+    ensures made { IfOk result (λ made. made.0 ≡ true) }
+    ensures leaves { HasCleanDisk (state S.Store conn.new)
+        → OnOk result (LeavesOldOrCommitted (state S.Store conn.old) (state S.Store conn.new)) }
+    ensures crash { HasCleanDisk (state S.Store conn.new)
+        → LeavesOldOr (λ d. d.schema ≡ tables → HasNoRows d) (state S.Store conn.old)
+        (state S.Store conn.new) }
+    ensures there { IfErr result (λ fault. fault ≡ opening.DataIsThere → keeping ≡ wanted.InFile) }
+{
+    match new_data(alloc, data, keeping) {
+        Ok(beside) => make_with(conn, alloc, site, beside),
+        Err(fault) => Err(fault),
+    }
+}
+
+/// Brings a file from before over. Nothing is made.
+fn renewed<S: Alter, D: Drop>(
+    conn: &mut Connection<S>,
+    alloc: Global,
+    site: &Site,
+) -> Result<(bool, Option<D>), OpeningFault>
+    requires { conn.old.in_transaction ≡ false }
+    ensures idle { conn.new.in_transaction ≡ false }
+    ensures clean { doubt (state S.Store conn.old).is_clean
+        ≤ doubt (state S.Store conn.new).is_clean }
+    ensures none { IfOk result (λ made. made.0 ≡ false) }
+    ensures found { OnOk result
+        ((IsOlder (state S.Store conn.old).now.schema → ⊥)
+        → StaysAsFound (state S.Store conn.old) (state S.Store conn.new)) }
+    ensures leaves { HasCleanDisk (state S.Store conn.new)
+        → OnOk result (LeavesOldOrCommitted (state S.Store conn.old) (state S.Store conn.new)) }
+    ensures kept { HasCleanDisk (state S.Store conn.new)
+        → IsOlder (state S.Store conn.old).now.schema
+        → (state S.Store conn.new).now.schema ≡ tables
+        → (state S.Store conn.new).committed.schema ≡ tables
+        → OnOk result (KeepsRows (state S.Store conn.old).now (state S.Store conn.new).committed) }
+    ensures file { HasCleanDisk (state S.Store conn.new)
+        → LeavesFile (state S.Store conn.old) (state S.Store conn.new) }
+    ensures ours { (state S.Store conn.old).now.schema ≡ tables
+        → IfErr result (λ fault. ⊥) × (conn.new ≡ conn.old) }
+    ensures of_data { IfErr result (λ fault. IsOfData fault → ⊥) }
+{
+    match renew_older(conn, alloc, site) {
+        Ok(()) => Ok((false, None)),
+        Err(fault) => Err(of_tables(fault)),
+    }
+}
+
+/// Makes what a new ledger has, where the file has no table, and says whether it did; a file from
+/// before is brought over.
+fn prepare<S: Alter, F: DataFile>(
+    conn: &mut Connection<S>,
+    alloc: Global,
+    data: &F,
+    keeping: Keeping,
+    site: &Site,
+) -> Result<(bool, Option<F::Disk>), OpeningFault>
+    requires { conn.old.in_transaction ≡ false }
+    ensures idle { conn.new.in_transaction ≡ false }
+    ensures clean { doubt (state S.Store conn.old).is_clean
+        ≤ doubt (state S.Store conn.new).is_clean }
+    ensures found { IfOk result (λ made. made.0 ≡ false
+        → (IsBlank (state S.Store conn.old).now.schema → ⊥)
+        × ((IsOlder (state S.Store conn.old).now.schema → ⊥)
+        → StaysAsFound (state S.Store conn.old) (state S.Store conn.new))) }
+    ensures leaves { HasCleanDisk (state S.Store conn.new)
+        → OnOk result (LeavesOldOrCommitted (state S.Store conn.old) (state S.Store conn.new)) }
+    ensures made { IfOk result (λ made. made.0 ≡ true
+        → IsBlank (state S.Store conn.old).now.schema) }
+    ensures kept { HasCleanDisk (state S.Store conn.new)
+        → IsOlder (state S.Store conn.old).now.schema
+        → (state S.Store conn.new).now.schema ≡ tables
+        → (state S.Store conn.new).committed.schema ≡ tables
+        → OnOk result (KeepsRows (state S.Store conn.old).now (state S.Store conn.new).committed) }
+    ensures file { HasCleanDisk (state S.Store conn.new)
+        → LeavesFile (state S.Store conn.old) (state S.Store conn.new) }
+    ensures ours { (state S.Store conn.old).now.schema ≡ tables
+        → MatchResult result (λ made. made.0 ≡ false) (λ fault. ⊥) × (conn.new ≡ conn.old) }
+    ensures there { IfErr result (λ fault. fault ≡ opening.DataIsThere
+        → (keeping ≡ wanted.InFile) × IsBlank (state S.Store conn.old).now.schema) }
+{
+    if is_blank(conn.schema()) {
+        return make_new(conn, alloc, data, keeping, site);
+    }
+    renewed(conn, alloc, site)
+}
+
+/// A ledger whose tables were made just now, where it has no line yet, and its data sets are where
+/// they were wanted.
+fn as_new<D: Disk + Drop>(
+    keeping: Keeping,
+    opened: OpenedLedger<D>,
+) -> Result<OpenedLedger<D>, OpeningFault>
+    ensures { MatchResult result
+        (λ it. (it ≡ opened) × (it.next ≡ 1) × (named_on it.shelf ≡ names_in keeping))
+        (λ fault. fault ≡ opening.OtherSite) }
+{
+    if opened.next != 1 {
+        return Err(OpeningFault::OtherSite);
+    }
+    if !is_wanted(keeping, &opened.shelf) {
+        return Err(OpeningFault::OtherSite);
+    }
+    Ok(opened)
+}
+
+/// A ledger that was opened, where it is as it was made, if its tables were made just now.
+fn as_made<D: Disk + Drop>(
+    made: bool,
+    keeping: Keeping,
+    opened: OpenedLedger<D>,
+) -> Result<OpenedLedger<D>, OpeningFault>
+    ensures { MatchResult result (λ it. (it ≡ opened)
+        × (made ≡ true → (it.next ≡ 1) × (named_on it.shelf ≡ names_in keeping)))
+        (λ fault. (fault ≡ opening.OtherSite) × (made ≡ true)) }
+{
+    if made {
+        return as_new(keeping, opened);
+    }
+    Ok(opened)
+}
+
+/// This site's ledger in a file whose tables are made, and whose file of data sets is this one, if
+/// it was made just now.
+fn open_made<S: Alter, F: DataFile>(
+    conn: &mut Connection<S>,
+    alloc: Global,
+    data: &F,
+    keeping: Keeping,
+    site: &Site,
+    made: (bool, Option<F::Disk>),
+) -> Result<OpenedLedger<F::Disk>, OpeningFault>
+    requires { conn.old.in_transaction ≡ false }
+    ensures whole { IsWholeOpened (made.0 ≡ false) site.now result (state S.Store conn.old)
+        (state S.Store conn.new) }
+    ensures made { made.0 ≡ true
+        → IfOk result (λ it. (it.next ≡ 1) × (named_on it.shelf ≡ names_in keeping)) }
+    ensures there { IfErr result (λ fault. fault ≢ opening.DataIsThere) }
+{
+    let (is_new, disk) = made;
+    match find_ledger(conn, alloc, data, disk, site) {
+        Ok(opened) => as_made(is_new, keeping, opened),
+        Err(fault) => Err(fault),
+    }
+}
+
+/// This site's ledger in a file: its shelf, and the number of its next line. Its tables are made
+/// where the file has none, and else they are found, and compared with what the journal's lines
+/// make; a file from before, which lacks some of them, is brought over first, as one transaction.
+/// Then its shelf is opened where its tables say, and each data set is looked at.
+///
+/// Whatever it answers, a crash leaves what it could leave before, or what an opening makes of the
+/// file, whole. A file that has other tables than none or those of before stays as it was.
+///
+/// Errors: OtherSite, never where the file has a ledger of this site in the tables of today whose
+/// cells stand for its data sets; NoData and InUse, never where such a ledger's data sets are in
+/// its rows; DataIsThere, only where a new ledger is wanted with its data sets in a file; Store;
+/// Memory.
+pub fn open<S: Alter, F: DataFile>(
+    conn: &mut Connection<S>,
+    alloc: Global,
+    data: &F,
+    keeping: Keeping,
+    site: &Site,
+) -> Result<OpenedLedger<F::Disk>, OpeningFault>
+    requires { conn.old.in_transaction ≡ false }
+    ensures kept { IfOk result (λ it. HasCleanDisk (state S.Store conn.new)
+        → IsKept it.next site.now (state S.Store conn.new)
+        × IsOwnedBy site.now (state S.Store conn.new).committed.trees) }
+    ensures next { IfOk result (λ it. HasCleanDisk (state S.Store conn.new)
+        → IsNext it.next (state S.Store conn.new).committed.trees) }
+    ensures placed { IfOk result (λ it. HasCleanDisk (state S.Store conn.new)
+        → IsPlacedBy site.now (state S.Store conn.new).committed.trees it.shelf) }
+    ensures own { IfOk result (λ it. HasCleanDisk (state S.Store conn.new)
+        → HasOwnOn (state S.Store conn.new).committed.trees it.shelf) }
+    ensures found { IfOk result (λ it. HasCleanDisk (state S.Store conn.new)
+        → (IsBlank (state S.Store conn.old).now.schema → ⊥)
+        → (IsOlder (state S.Store conn.old).now.schema → ⊥)
+        → StaysAsFound (state S.Store conn.old) (state S.Store conn.new)) }
+    ensures older { IfOk result (λ it. HasCleanDisk (state S.Store conn.new)
+        → IsOlder (state S.Store conn.old).now.schema
+        → IsBroughtOver (state S.Store conn.old) (state S.Store conn.new)) }
+    ensures made { IfOk result (λ it. HasCleanDisk (state S.Store conn.new)
+        → IsBlank (state S.Store conn.old).now.schema
+        → HasNewLedger (state S.Store conn.old) (state S.Store conn.new)) }
+    ensures wanted { IfOk result (λ it. IsBlank (state S.Store conn.old).now.schema
+        → named_on it.shelf ≡ names_in keeping) }
+    ensures file { HasCleanDisk (state S.Store conn.new)
+        → LeavesFile (state S.Store conn.old) (state S.Store conn.new) }
+    ensures refused { IfErr result (λ fault. HasCleanDisk (state S.Store conn.new)
+        → IsWhy result site.now (state S.Store conn.old).now fault) }
+    ensures there { IfErr result (λ fault. fault ≡ opening.DataIsThere
+        → (keeping ≡ wanted.InFile) × IsBlank (state S.Store conn.old).now.schema) }
+    ensures is { IfOk result (λ it. HasCleanDisk (state S.Store conn.new)
+        → HasLedgerOf it.next site.now (state S.Store conn.new).committed) }
+    ensures idle { conn.new.in_transaction ≡ false }
+    ensures clean { doubt (state S.Store conn.old).is_clean
+        ≤ doubt (state S.Store conn.new).is_clean }
+{
+    match prepare(conn, alloc, data, keeping, site) {
+        Ok(made) => open_made(conn, alloc, data, keeping, site, made),
+        Err(fault) => Err(fault),
+    }
+}
+
+/// The connection to a file with this site's ledger, and its shelf and the number of its next line,
+/// as `open` finds them. A refusal closes the connection and gives nothing back.
+///
+/// Errors: OtherSite; NoData; DataIsThere; InUse; Store; Memory.
+pub fn on<S: Alter + Drop, F: DataFile>(
+    conn: Connection<S>,
+    alloc: Global,
+    data: &F,
+    keeping: Keeping,
+    site: &Site,
+) -> Result<(Connection<S>, OpenedLedger<F::Disk>), OpeningFault>
     requires { conn.in_transaction ≡ false }
-    ensures kept { IfOk result (λ opened. HasCleanDisk (state S.Store opened.0)
-        → IsKept opened.1 site.now (state S.Store opened.0)
-        × IsOwnedBy site.now (state S.Store opened.0).committed.trees) }
-    ensures next { IfOk result (λ opened. HasCleanDisk (state S.Store opened.0)
-        → IsNext opened.1 (state S.Store opened.0).committed.trees) }
-    ensures found { IfOk result (λ opened. HasCleanDisk (state S.Store opened.0)
+    ensures kept { IfOk result (λ it. HasCleanDisk (state S.Store it.0)
+        → IsKept it.1.next site.now (state S.Store it.0)
+        × IsOwnedBy site.now (state S.Store it.0).committed.trees) }
+    ensures next { IfOk result (λ it. HasCleanDisk (state S.Store it.0)
+        → IsNext it.1.next (state S.Store it.0).committed.trees) }
+    ensures placed { IfOk result (λ it. HasCleanDisk (state S.Store it.0)
+        → IsPlacedBy site.now (state S.Store it.0).committed.trees it.1.shelf) }
+    ensures own { IfOk result (λ it. HasCleanDisk (state S.Store it.0)
+        → HasOwnOn (state S.Store it.0).committed.trees it.1.shelf) }
+    ensures found { IfOk result (λ it. HasCleanDisk (state S.Store it.0)
         → (IsBlank (state S.Store conn).now.schema → ⊥)
         → (IsOlder (state S.Store conn).now.schema → ⊥)
-        → StaysAsFound (state S.Store conn) (state S.Store opened.0)) }
-    ensures older { IfOk result (λ opened. HasCleanDisk (state S.Store opened.0)
+        → StaysAsFound (state S.Store conn) (state S.Store it.0)) }
+    ensures older { IfOk result (λ it. HasCleanDisk (state S.Store it.0)
         → IsOlder (state S.Store conn).now.schema
-        → IsBroughtOver (state S.Store conn) (state S.Store opened.0)) }
-    ensures made { IfOk result (λ opened. HasCleanDisk (state S.Store opened.0)
+        → IsBroughtOver (state S.Store conn) (state S.Store it.0)) }
+    ensures made { IfOk result (λ it. HasCleanDisk (state S.Store it.0)
         → IsBlank (state S.Store conn).now.schema
-        → HasNewLedger (state S.Store conn) (state S.Store opened.0)) }
-    ensures is { IfOk result (λ opened. HasCleanDisk (state S.Store opened.0)
-        → HasLedgerOf opened.1 site.now (state S.Store opened.0).committed) }
-    ensures idle { IfOk result (λ opened. opened.0.in_transaction ≡ false) }
-    ensures clean { IfOk result (λ opened.
-        doubt (state S.Store conn).is_clean ≤ doubt (state S.Store opened.0).is_clean) }
+        → HasNewLedger (state S.Store conn) (state S.Store it.0)) }
+    ensures wanted { IfOk result (λ it. IsBlank (state S.Store conn).now.schema
+        → named_on it.1.shelf ≡ names_in keeping) }
+    ensures there { IfErr result (λ fault. fault ≡ opening.DataIsThere
+        → (keeping ≡ wanted.InFile) × IsBlank (state S.Store conn).now.schema) }
+    ensures is { IfOk result (λ it. HasCleanDisk (state S.Store it.0)
+        → HasLedgerOf it.1.next site.now (state S.Store it.0).committed) }
+    ensures idle { IfOk result (λ it. it.0.in_transaction ≡ false) }
+    ensures clean { IfOk result (λ it.
+        doubt (state S.Store conn).is_clean ≤ doubt (state S.Store it.0).is_clean) }
 {
     let mut conn = conn;
-    match open(&mut conn, alloc, site) {
-        Ok(next) => Ok((conn, next)),
+    match open(&mut conn, alloc, data, keeping, site) {
+        Ok(opened) => Ok((conn, opened)),
         Err(fault) => Err(fault),
     }
 }

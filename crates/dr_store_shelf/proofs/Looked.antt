@@ -1,7 +1,6 @@
 -- What is seen at an extent in use stands there.
-use Rattle.std.proofs.Common.{◌≡◌, ℕ, ◌+◌, ◌<◌, ◌≤◌, List, length, take, drop, slice_index, sym, ◌∙◌, arith}
+use Rattle.std.proofs.Common.{◌≡◌, ℕ, ◌+◌, ◌<◌, ◌≤◌, List, length, drop, slice_index, sym, ◌∙◌, arith}
 use Rattle.std.proofs.Common.{length-take, length-drop, get_or-take, get_or-drop, Result, Ok, Err, IfOk}
-use Rattle.sqlite_disk.specs.Disk.{Holds}
 use Rattle.dr_store_bodies.specs.declared.extent.Extent.{Extent}
 use Rattle.dr_store_bodies.specs.Extents.{IsSafe, Stand, end_of}
 use Rattle.dr_store_shelf.specs.Cells.{shown}

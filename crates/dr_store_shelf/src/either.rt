@@ -48,6 +48,13 @@ impl<D: Disk> Shelf for LedgerShelf<D> {
         }
     }
 
+    fn may_be_used(&self) -> bool {
+        match self {
+            LedgerShelf::InRow(rows) => rows.may_be_used(),
+            LedgerShelf::InFile(file) => file.may_be_used(),
+        }
+    }
+
     fn put(&mut self, body: &[u8]) -> Result<BodyCell, ShelfFault> {
         match self {
             LedgerShelf::InRow(rows) => rows.put(body),

@@ -1,9 +1,11 @@
 //! Data sets in a file beside the database.
-ghost use Rattle.std.specs.Prelude.{◌≡◌, ◌<◌, ℕ, List, All, AllPairs, IfErr, IfOk, IsTrue};
-ghost use Rattle.dr_store_bodies.specs.Bodies.{IsClean, IsHeld, IsUsable, extents};
-ghost use Rattle.dr_store_bodies.specs.Extents.{LiesBefore, Stand};
+ghost use Rattle.std.specs.Prelude.{◌≡◌, ◌<◌, ◌≤◌, ℕ, List, All, AllPairs, Contains, length};
+ghost use Rattle.std.specs.Prelude.{IfErr, IfOk, IsTrue, OnOk, false};
+ghost use Rattle.dr_store_bodies.specs.declared.extent.Extent.{Extent};
+ghost use Rattle.dr_store_bodies.specs.Bodies.{IsClean, IsHeld, IsUsable, extents, faults, seen};
+ghost use Rattle.dr_store_bodies.specs.Extents.{LiesBefore, Stand, end_of};
 ghost use Rattle.dr_store_shelf.specs.Cells.{Passes, extent_in};
-ghost use Rattle.dr_store_shelf.specs.Shelves.{IsUsed, IsWhyNotRead, Stands};
+ghost use Rattle.dr_store_shelf.specs.Shelves.{IsUsed, IsWhyNotPut, IsWhyNotRead, Stands};
 
 use crate::cell::{blank_cell, extent_of, passes, placed_cell};
 use crate::fault::ShelfFault;
@@ -19,6 +21,8 @@ pub struct InFile<D: Disk> {
     /// The key under which the digests are taken: it stays the same as long as the file is kept.
     key: u64,
     bodies: Bodies<D>,
+    /// Whether the file was cut behind its last extent, since it was opened.
+    is_cut: bool,
 }
 
 impl<D: Disk> InFile<D> {
@@ -27,7 +31,37 @@ impl<D: Disk> InFile<D> {
         ensures file { result.bodies ≡ bodies }
         ensures key { result.key ≡ key }
     {
-        InFile { alloc, key, bodies }
+        InFile {
+            alloc,
+            key,
+            bodies,
+            is_cut: false,
+        }
+    }
+
+    /// Cuts the file behind its last extent, once after it was opened. That is done as the first
+    /// data set comes, and not by the opening: one that is refused, as beside the tables of another
+    /// day, changes nothing of a file.
+    fn cut_once(&mut self) -> Result<(), ShelfFault>
+        ensures ends { OnOk result (self.old.is_cut ≡ false → (size : ℕ)
+            → All (λ e. end_of e ≤ size) (extents self.old.bodies)
+            → length (seen self.new.bodies) ≤ size) }
+        ensures once { OnOk result (IsTrue self.new.is_cut) }
+        ensures key { self.new.key ≡ self.old.key }
+        ensures listed { extents self.new.bodies ≡ extents self.old.bodies }
+        ensures keeps { (e : Extent) (bytes : List ℕ) → Contains (extents self.old.bodies) e
+            → IsHeld self.old.bodies e bytes → IsHeld self.new.bodies e bytes }
+        ensures clean { IsClean self.new.bodies → IsClean self.old.bodies }
+        ensures usable { OnOk result (IsUsable self.old.bodies → IsUsable self.new.bodies) }
+        ensures faults { OnOk result (faults self.new.bodies ≡ faults self.old.bodies) }
+        ensures why { IfErr result (IsWhyNotPut (IsUsable self.old.bodies)
+            (faults self.old.bodies) (faults self.new.bodies)) }
+    {
+        if !self.is_cut {
+            self.bodies.cut()?;
+            self.is_cut = true;
+        }
+        Ok(())
     }
 
     /// Reads what the extent of a cell holds, and tests it.
@@ -39,6 +73,8 @@ impl<D: Disk> InFile<D> {
         ensures keeps { (other bytes : List ℕ) → IsUsed self.old.bodies other
             → Stands self.old.key self.old.bodies other bytes
             → IsUsed self.new.bodies other × Stands self.new.key self.new.bodies other bytes }
+        ensures uses { (other : List ℕ) → IsUsed self.old.bodies other
+            → IsUsed self.new.bodies other }
         ensures clean { IsClean self.new.bodies → IsClean self.old.bodies }
         ensures why { IfErr result (λ fault. IsClean self.new.bodies → (bytes : List ℕ)
             → IsWhyNotRead (IsUsable self.old.bodies)
@@ -60,6 +96,8 @@ impl<D: Disk> InFile<D> {
         ensures keeps { (other bytes : List ℕ) → IsUsed self.old.bodies other
             → Stands self.old.key self.old.bodies other bytes
             → IsUsed self.new.bodies other × Stands self.new.key self.new.bodies other bytes }
+        ensures uses { (other : List ℕ) → IsUsed self.old.bodies other
+            → IsUsed self.new.bodies other }
         ensures clean { IsClean self.new.bodies → IsClean self.old.bodies }
         ensures why { IfErr result (λ fault. IsClean self.new.bodies → (bytes : List ℕ)
             → IsWhyNotRead (IsUsable self.old.bodies)
@@ -107,8 +145,13 @@ impl<D: Disk> Shelf for InFile<D> {
         true
     }
 
+    fn may_be_used(&self) -> bool {
+        self.bodies.may_be_used()
+    }
+
     fn put(&mut self, body: &[u8]) -> Result<BodyCell, ShelfFault> {
         let cell = blank_cell(self.alloc, self.key, body)?;
+        self.cut_once()?;
         let extent = self.bodies.put(body)?;
         Ok(BodyCell::Name(placed_cell(cell, extent.at)))
     }
@@ -162,7 +205,12 @@ impl<D: Disk + Drop> InFile<D> {
     {
         let bodies = Bodies::open(file, list)?;
         let _extents = bodies.extents();
-        Ok(InFile { alloc, key, bodies })
+        Ok(InFile {
+            alloc,
+            key,
+            bodies,
+            is_cut: false,
+        })
     }
 }
 
@@ -174,12 +222,18 @@ impl<D: Crash + Drop> InFile<D> {
             → Stands self.key self.bodies cell bytes
             → IsUsed it.bodies cell × Stands it.key it.bodies cell bytes) }
     {
-        let InFile { alloc, key, bodies } = self;
+        let InFile {
+            alloc,
+            key,
+            bodies,
+            is_cut: _,
+        } = self;
         let left = bodies.restart()?;
         Ok(InFile {
             alloc,
             key,
             bodies: left,
+            is_cut: false,
         })
     }
 }

@@ -37,6 +37,10 @@ impl Shelf for InRow {
         false
     }
 
+    fn may_be_used(&self) -> bool {
+        true
+    }
+
     fn put(&mut self, _body: &[u8]) -> Result<BodyCell, ShelfFault> {
         Ok(BodyCell::Itself)
     }

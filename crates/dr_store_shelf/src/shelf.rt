@@ -1,6 +1,6 @@
 //! A place for data sets.
 ghost use Rattle.std.specs.Prelude.{◌≡◌, ◌<◌, ℕ, List, length, IfErr, IfOk, OnErr, Bool};
-ghost use Rattle.std.specs.Prelude.{MatchOption, false};
+ghost use Rattle.std.specs.Prelude.{◌↔◌, IsTrue, MatchOption, false};
 ghost use Rattle.dr_store_shelf.specs.Shelves.{IsWhyNotPut, IsWhyNotRead, bytes_of};
 
 use crate::fault::ShelfFault;
@@ -78,6 +78,11 @@ pub trait Shelf {
         ensures free { result ≡ false
             → (cell other : List ℕ) → apart (named self.now) cell other };
 
+    /// Whether no sync has failed. After one that has, nothing more is put or read, since what was
+    /// written may be lost with no further word.
+    fn may_be_used(&self) -> bool
+        ensures { IsTrue result ↔ is_usable self.now };
+
     /// Puts a data set, durably: whoever commits a row with the cell afterwards finds it, whatever
     /// crash comes.
     ///
@@ -125,14 +130,15 @@ pub trait Shelf {
             (λ got. stands self.old cell.items got.items)) }
         ensures keeps { (other bytes : List ℕ) → uses self.old other → stands self.old other bytes
             → uses self.new other × stands self.new other bytes }
+        ensures uses { (other : List ℕ) → uses self.old other → uses self.new other }
         ensures named { named self.new ≡ named self.old }
         ensures clean { is_clean self.new → is_clean self.old }
         ensures why { IfErr result (λ fault. is_clean self.new
             → IsWhyNotRead (is_usable self.old) (Unit {0}) fault) };
 
     /// Lets a data set go, whose cell no row has, and that no row gets after a crash either. Where
-    /// a cell names a place, this one is in use no more. No byte is touched until its place is
-    /// taken by another.
+    /// a cell names a place, this one is in use no more. No byte is touched before another data set
+    /// comes.
     fn let_go(&mut self, cell: &[u8])
         ensures gone { (apart (named self.old) cell.now cell.now → ⊥)
             → uses self.new cell.now → ⊥ }

@@ -38,6 +38,7 @@ status_of faults.NoPath = ends.Refused
 status_of faults.Busy = ends.Refused
 status_of faults.GivenUp = ends.Refused
 status_of faults.NoCopy = ends.InputOutput
+status_of faults.DataFile = ends.Refused
 status_of faults.Store = ends.InputOutput
 status_of faults.Memory = ends.Memory
 

@@ -42,7 +42,8 @@ pub fn status_of(fault: AskFault) -> Status
         | AskFault::IsThere
         | AskFault::NoPath
         | AskFault::Busy
-        | AskFault::GivenUp => Status::Refused,
+        | AskFault::GivenUp
+        | AskFault::DataFile => Status::Refused,
         AskFault::Memory => Status::Memory,
     }
 }

@@ -72,9 +72,11 @@ IsConclusion plan nodes told (No text) =
 abbrev pub is_missing : Halt → Bool
 is_missing (NotOpened opening.NoLedger) = true
 is_missing (NotOpened opening.OtherSite) = false
+is_missing (NotOpened opening.NoData) = false
 is_missing (NotOpened opening.InUse) = false
 is_missing (NotOpened opening.Store) = false
 is_missing (NotOpened opening.IsThere) = false
+is_missing (NotOpened opening.DataIsThere) = false
 is_missing (NotOpened opening.Memory) = false
 is_missing (NoPlan told) = false
 is_missing (NoCertificate fault) = false

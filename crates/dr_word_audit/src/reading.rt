@@ -74,9 +74,11 @@ fn is_no_ledger(fault: OpenFault) -> bool
     match fault {
         OpenFault::NoLedger => true,
         OpenFault::OtherSite => false,
+        OpenFault::NoData => false,
         OpenFault::InUse => false,
         OpenFault::Store => false,
         OpenFault::IsThere => false,
+        OpenFault::DataIsThere => false,
         OpenFault::Memory => false,
     }
 }

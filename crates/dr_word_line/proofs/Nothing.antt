@@ -14,7 +14,7 @@ use Rattle.dr_word_line.specs.declared.words.PlanChange.{PlanChange}
 use Rattle.dr_word_line.specs.declared.words.SiteFiles.{SiteFiles}
 use Rattle.dr_word_line.specs.declared.words.NextPlan.{NextPlan}
 use Rattle.dr_word_line.specs.declared.words.Question.TheVariants as questions
-use Rattle.dr_word_line.specs.Words.{Asks, IsAdoptOf, IsAuditOf, IsCheckOf, IsDiffOf, IsDutyOf, IsEchoOf, IsErrandOf, IsExpandOf, IsExpectOf, IsFileRouteOf, IsForgetOf, IsGiveUpOf, IsGraphOf, IsImportOf, IsKeyRouteOf, IsLintOf, IsListOf, IsMakeOf, IsPlainCheck, IsRequeueAllOf, IsRequeueOf, IsSendOf, IsServeOf, IsSimulateOf, IsSummaryOf, IsVerifyOf}
+use Rattle.dr_word_line.specs.Words.{Asks, IsAdoptOf, IsAuditOf, IsCheckOf, IsDiffOf, IsDutyOf, IsEchoOf, IsErrandOf, IsExpandOf, IsExpectOf, IsFileRouteOf, IsForgetOf, IsGiveUpOf, IsGraphOf, IsImportOf, IsKeyRouteOf, IsLintOf, IsListOf, IsMakeOf, IsMakeWithDataOf, IsPlainCheck, IsRequeueAllOf, IsRequeueOf, IsSendOf, IsServeOf, IsSimulateOf, IsSummaryOf, IsVerifyOf}
 
 -- no duty is asked for, where none of each kind is
 module _ (words : List (Bor (List ℕ)))
@@ -26,9 +26,11 @@ module _ (words : List (Bor (List ℕ)))
     (requeue_all : (given : NodeFiles) (dest : Bor (List ℕ)) → IsRequeueAllOf words given dest → ⊥)
     (give_up : (given : NodeFiles) (uid dest : Bor (List ℕ)) → IsGiveUpOf words given uid dest → ⊥)
     (forget : (given : NodeFiles) (uid : Bor (List ℕ)) → IsForgetOf words given uid → ⊥)
-    (make : (given : NodeFiles) → IsMakeOf words given → ⊥) where
+    (make : (given : NodeFiles) → IsMakeOf words given → ⊥)
+    (with_data : (given : NodeFiles) → IsMakeWithDataOf words given → ⊥) where
   pub no_duty : (given : NodeFiles) (duty : Duty) → IsDutyOf words given duty → ⊥
   no_duty given duties.Make h = make given h
+  no_duty given duties.MakeWithData h = with_data given h
   no_duty given duties.List h = list given h
   no_duty given duties.ListLong h = absurd h
   no_duty given duties.Summary h = summary given h

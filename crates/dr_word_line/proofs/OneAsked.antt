@@ -46,7 +46,8 @@ of_six word given e =
     cond (initial word == 108) (asks.AtNode given duties.Summary)
     (cond (initial word == 115) (asks.AtNode given (duties.Send e))
     (cond (initial word == 102) (asks.AtNode given (duties.Forget e))
-    (asks.Adopt (record { plan = given.plan; certificate = given.certificate; next_plan = given.node; next_certificate = given.ledger; folder = e }))))
+    (cond (initial word == 110) (asks.AtNode given duties.MakeWithData)
+    (asks.Adopt (record { plan = given.plan; certificate = given.certificate; next_plan = given.node; next_certificate = given.ledger; folder = e })))))
 
 -- what requeue, or a word and six more ask for
 abbrev of_held : List ℕ → NodeFiles → Word → Word → Task
@@ -177,6 +178,9 @@ module _ (words : List Word) where
   is_meant (asks.AtNode given duties.Summary) h =
       subst (Means (asks.AtNode given duties.Summary)) (sym h.1.1)
       (at_ledger_6 h.1.0.now given h.0 h.1.5 (subst (λ n. of_six n given h.0 ≡ asks.AtNode given duties.Summary) (sym h.1.2) refl))
+  is_meant (asks.AtNode given duties.MakeWithData) h =
+      subst (Means (asks.AtNode given duties.MakeWithData)) (sym h.1.1)
+      (at_ledger_6 h.1.0.now given h.0 h.1.5 (subst (λ n. of_six n given h.0 ≡ asks.AtNode given duties.MakeWithData) (sym h.1.2) refl))
   is_meant (asks.AtNode given (duties.Send file)) h =
       subst (Means (asks.AtNode given (duties.Send file))) (sym h.0.1)
       (at_ledger_6 h.0.0.now given file h.0.5 (subst (λ n. of_six n given file ≡ asks.AtNode given (duties.Send file)) (sym h.0.2) refl))

@@ -18,7 +18,7 @@ use Rattle.dr_word_line.specs.declared.words.Duty.{Duty}
 use Rattle.dr_word_line.specs.declared.words.Duty.TheVariants.{List as ToList, ListLong, Summary}
 use Rattle.dr_word_line.specs.declared.words.Duty.TheVariants.{Requeue}
 use Rattle.dr_word_line.specs.declared.words.Duty.TheVariants.{RequeueAll, GiveUp, Forget, Make}
-use Rattle.dr_word_line.specs.declared.words.Duty.TheVariants.{Send, Serve}
+use Rattle.dr_word_line.specs.declared.words.Duty.TheVariants.{Send, Serve, MakeWithData}
 use Rattle.dr_word_line.specs.declared.words.Errand.{Errand}
 use Rattle.dr_word_line.specs.declared.words.Errand.TheVariants as errands
 use Rattle.dr_word_line.specs.declared.words.RunningNode.{RunningNode}
@@ -191,6 +191,14 @@ IsAtNode name words given more =
 abbrev pub IsMakeOf : List (Bor (List ℕ)) → NodeFiles → Type 0
 IsMakeOf words given = IsAtNode (codes "new") words given []
 
+-- the same words and the option --data-file: they ask to make it with its data sets in a file of
+-- their own
+abbrev pub IsMakeWithDataOf : List (Bor (List ℕ)) → NodeFiles → Type 0
+IsMakeWithDataOf words given =
+    (option : Bor (List ℕ))
+    × IsAtNode (codes "new") words given (option ∷ [])
+    × (option.now ≡ codes "--data-file")
+
 -- the word list and what names a node and its ledger: they ask for what the node has
 abbrev pub IsListOf : List (Bor (List ℕ)) → NodeFiles → Type 0
 IsListOf words given = IsAtNode (codes "list") words given []
@@ -259,6 +267,7 @@ plain_serving = record {
 -- for by options, of which nothing is said here
 abbrev pub IsDutyOf : List (Bor (List ℕ)) → NodeFiles → Duty → Type 0
 IsDutyOf words given Make = IsMakeOf words given
+IsDutyOf words given MakeWithData = IsMakeWithDataOf words given
 IsDutyOf words given ToList = IsListOf words given
 IsDutyOf words given ListLong = ⊥
 IsDutyOf words given Summary = IsSummaryOf words given

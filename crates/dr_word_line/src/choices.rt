@@ -36,6 +36,7 @@ pub(crate) enum Choice {
     Reason,
     Other,
     AllHeld,
+    DataFile,
     File,
     Links,
     Log,
@@ -82,6 +83,7 @@ impl<'a> Makes<Arg<'a>> for Choice {
             Choice::Reason => reason(alloc),
             Choice::Other => Ok(other(alloc)),
             Choice::AllHeld => all_held(alloc),
+            Choice::DataFile => Ok(data_file(alloc)),
             Choice::File => Ok(needed(alloc, "FILE", "a Part 10 file")),
             Choice::Links => Ok(links(alloc)),
             Choice::Log => Ok(log(alloc)),
@@ -176,6 +178,16 @@ fn fails<'a>(alloc: Global) -> Arg<'a> {
         "FAILS",
         "fail-on-lost",
         "ends with the status 1 where an instance isn't kept any more where it was",
+    )
+}
+
+/// The option of `new` for data sets in a file of their own.
+fn data_file<'a>(alloc: Global) -> Arg<'a> {
+    flag(
+        alloc,
+        "DATAFILE",
+        "data-file",
+        "keeps its data sets in a file of their own beside DB, named DB.data",
     )
 }
 

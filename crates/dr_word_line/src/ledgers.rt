@@ -3,6 +3,7 @@ ghost use Rattle.std.specs.Prelude.{ℕ, List, IfNone, IfSome};
 ghost use Rattle.std.specs.Borrow.{Bor};
 ghost use Rattle.dr_word_line.specs.Words.{Asks, IsAdoptOf, IsAtNode, IsAuditOf, IsDutyOf};
 ghost use Rattle.dr_word_line.specs.Words.{IsForgetOf, IsGiveUpOf, IsListOf, IsMakeOf};
+ghost use Rattle.dr_word_line.specs.Words.{IsMakeWithDataOf};
 ghost use Rattle.dr_word_line.specs.Words.{IsRequeueAllOf, IsRequeueOf, IsSendOf, IsServeOf};
 ghost use Rattle.dr_word_line.specs.Words.{IsSummaryOf};
 ghost use Rattle.dr_run_files.specs.declared.node.NodeFiles.{NodeFiles as NodeFilesValue};
@@ -139,12 +140,15 @@ fn read_serving<'a>(words: &'a [&'a str]) -> Option<Task<'a>>
 fn read_making<'a>(words: &'a [&'a str]) -> Option<Task<'a>>
     ensures asked { IfSome result (λ asked. Asks words.now asked) }
     ensures make { IfNone result ((given : NodeFilesValue) → IsMakeOf words.now given → ⊥) }
+    ensures with_data { IfNone result
+        ((given : NodeFilesValue) → IsMakeWithDataOf words.now given → ⊥) }
 {
     let Some((given, more)) = at_node("new", words) else {
         return None;
     };
     match more {
         [] => Some(Task::AtNode(given, Duty::Make)),
+        [option] if *option == "--data-file" => Some(Task::AtNode(given, Duty::MakeWithData)),
         _ => None,
     }
 }
@@ -226,6 +230,8 @@ fn read_whole<'a>(words: &'a [&'a str]) -> Option<Task<'a>>
     ensures summary { IfNone result ((given : NodeFilesValue) → IsSummaryOf words.now given → ⊥) }
     ensures serve { IfNone result ((given : NodeFilesValue) → IsServeOf words.now given → ⊥) }
     ensures make { IfNone result ((given : NodeFilesValue) → IsMakeOf words.now given → ⊥) }
+    ensures with_data { IfNone result
+        ((given : NodeFilesValue) → IsMakeWithDataOf words.now given → ⊥) }
 {
     if let Some(asked) = read_listing(words) {
         return Some(asked);

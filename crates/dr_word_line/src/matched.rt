@@ -174,6 +174,7 @@ fn requeue_of<'a>(given: &ArgMatches<'a>) -> Duty<'a> {
 /// What a word asks a node to do, as clap has read it, if it asks that.
 fn duty_of<'a>(name: &str, given: &ArgMatches<'a>) -> Option<Duty<'a>> {
     match name {
+        "new" if given.get_flag("DATAFILE") => Some(Duty::MakeWithData),
         "new" => Some(Duty::Make),
         "list" if given.get_flag("SUMMARY") => Some(Duty::Summary),
         "list" if given.get_flag("LONG") => Some(Duty::ListLong),

@@ -44,7 +44,7 @@ pub(crate) fn requeue<'a>(alloc: Global, values: &[Value<'a>]) -> Result<Command
 /// The word `new`.
 pub(crate) fn make_ledger<'a>(alloc: Global) -> Result<Command<'a>, AllocError> {
     let about = "Makes the ledger of a node, where there is none";
-    word(alloc, "new", about, LEDGER, &[])
+    word(alloc, "new", about, LEDGER, &[Choice::DataFile])
 }
 
 /// The word `drop`.

@@ -145,8 +145,10 @@ pub struct Serving<'a> {
 /// What a node may be asked to do with its ledger.
 #[derive(Clone, Copy, Drop)]
 pub enum Duty<'a> {
-    /// To make it, where none is.
+    /// To make it, where none is, with its data sets in its tables.
     Make,
+    /// The same with its data sets in a file of their own beside it.
+    MakeWithData,
     /// To print what it has.
     List,
     /// The same with names of classes and with dates.

@@ -12,7 +12,7 @@ use crate::requeuing::HeldRow;
 use crate::texts::Registry;
 use dr_base::Text;
 use dr_run_files::{Failure, Files, NodeFiles};
-use dr_run_open::{Halt, Ledgers, Status, finish};
+use dr_run_open::{Halt, Ledgers, Making, Status, finish};
 use std::alloc::Global;
 use std::io::Write;
 
@@ -39,8 +39,8 @@ impl<F: Files, O: Ledgers, W: Write, E: Write> LedgerClerk<'_, F, O, W, E> {
         finish(came, output, faults)
     }
 
-    /// Makes the ledger of a node, where there is none. The node's plan and certificate are in
-    /// these files.
+    /// Makes the ledger of a node, where there is none, with its data sets in its tables. The
+    /// node's plan and certificate are in these files.
     ///
     /// Errors: Stream, File.
     pub fn make<'a>(self, alloc: Global, given: NodeFiles<'a>) -> Result<Status, Failure<'a>>
@@ -51,7 +51,26 @@ impl<F: Files, O: Ledgers, W: Write, E: Write> LedgerClerk<'_, F, O, W, E> {
             O.Ledger.site O.Ledger.book O.Ledger.stands given.entry.node.now came
             × Ends came (W.contents self.entry.output.now) (W.contents self.exit.0.now) status) }
     {
-        let came = self.registry.make(alloc, given);
+        let came = self.registry.make(alloc, given, Making::Wanted);
+        self.end(came)
+    }
+
+    /// The same, with its data sets in a file of their own beside it.
+    ///
+    /// Errors: Stream, File.
+    pub fn make_with_data<'a>(
+        self,
+        alloc: Global,
+        given: NodeFiles<'a>,
+    ) -> Result<Status, Failure<'a>>
+        ensures { IfOk result (λ status. (came : Result Words HaltValue)
+            × Made (F.holds self.entry.registry.files.now given.entry.plan.now)
+            (F.holds self.entry.registry.files.now given.entry.certificate.now)
+            (O.opens self.entry.registry.ledgers.now given.entry.ledger.now)
+            O.Ledger.site O.Ledger.book O.Ledger.stands given.entry.node.now came
+            × Ends came (W.contents self.entry.output.now) (W.contents self.exit.0.now) status) }
+    {
+        let came = self.registry.make(alloc, given, Making::WantedWithData);
         self.end(came)
     }
 

@@ -1,6 +1,7 @@
 //! The words of the program that only look into a node's ledger, queue a row again, or let go.
 //!
-//! `LedgerClerk` does them: `make` the word `new`; `list` and `requeue` the words of these names;
+//! `LedgerClerk` does them: `make` and `make_with_data` the word `new`; `list` and `requeue` the
+//! words of these names;
 //! `list_long`, `summarize` and `requeue_all` these with the options that print names and dates,
 //! that count what there is, and that take all held rows to a node; `give_up` and `forget` the
 //! words `drop` and `forget`. `put_queue_line` adds the line of the rows to a node to such a

@@ -25,17 +25,23 @@ pub struct Registry<'s, F, O> {
 }
 
 impl<F: Files, O: Ledgers> Registry<'_, F, O> {
-    /// Makes the ledger of a node.
+    /// Makes the ledger of a node, as `making` says.
     ///
-    /// Errors: those of `open_node`, with NotOpened and IsThere where there is one.
-    pub(crate) fn make<'a>(self, alloc: Global, given: NodeFiles<'a>) -> Result<Text, Halt<'a>>
+    /// Errors: those of `open_node`, with NotOpened and IsThere where there is one, and DataIsThere
+    /// where there is a file of data sets in the place of its own.
+    pub(crate) fn make<'a>(
+        self,
+        alloc: Global,
+        given: NodeFiles<'a>,
+        making: Making,
+    ) -> Result<Text, Halt<'a>>
         ensures { Made (F.holds self.entry.files.now given.entry.plan.now)
             (F.holds self.entry.files.now given.entry.certificate.now)
             (O.opens self.entry.ledgers.now given.entry.ledger.now)
             O.Ledger.site O.Ledger.book O.Ledger.stands given.entry.node.now result }
     {
         let line = line_of(alloc)?;
-        match open_node(alloc, self.files, self.ledgers, given, Making::Wanted) {
+        match open_node(alloc, self.files, self.ledgers, given, making) {
             Ok(opened) => {
                 drop(opened);
                 Ok(line)

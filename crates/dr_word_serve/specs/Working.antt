@@ -7,7 +7,7 @@ use Rattle.dr_word_line.specs.declared.words.Duty.{Duty}
 use Rattle.dr_word_line.specs.declared.words.Duty.TheVariants.{List as ToList, ListLong, Summary}
 use Rattle.dr_word_line.specs.declared.words.Duty.TheVariants.{Requeue}
 use Rattle.dr_word_line.specs.declared.words.Duty.TheVariants.{RequeueAll, GiveUp, Forget, Make}
-use Rattle.dr_word_line.specs.declared.words.Duty.TheVariants.{Send, Serve}
+use Rattle.dr_word_line.specs.declared.words.Duty.TheVariants.{Send, Serve, MakeWithData}
 use Rattle.dr_run_files.specs.declared.node.NodeFiles.{NodeFiles}
 use Rattle.dr_ledger.specs.Books.{Book}
 use Rattle.dr_run_open.specs.Ends.{Ends}
@@ -29,6 +29,11 @@ module _ {L : Type 0} (holds : List ℕ → Text → Type 0) (opens : List ℕ �
   -- output had before and after, and the exit status.
   abbrev pub Works : Duty → Option Text → Option Text → Status → Type 0
   Works Make old new status =
+      (came : Result Text Halt)
+      × Made (holds given.plan.now) (holds given.certificate.now) (opens given.ledger.now) site_of
+      book stands given.node.now came
+      × Ends came old new status
+  Works MakeWithData old new status =
       (came : Result Text Halt)
       × Made (holds given.plan.now) (holds given.certificate.now) (opens given.ledger.now) site_of
       book stands given.node.now came

@@ -66,6 +66,7 @@ where
     };
     match duty {
         Duty::Make => clerk.make(alloc, given),
+        Duty::MakeWithData => clerk.make_with_data(alloc, given),
         Duty::List => clerk.list(alloc, given),
         Duty::ListLong => clerk.list_long(alloc, given),
         Duty::Summary => clerk.summarize(alloc, given),

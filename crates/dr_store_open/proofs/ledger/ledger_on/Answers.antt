@@ -1,18 +1,42 @@
-use Rattle.std.proofs.Common.{sym, subst}
+use Rattle.std.proofs.Common.{◌≡◌, ◌∙◌, ap, sym, subst}
 use Rattle.sqlite.specs.Held.{state}
 use Rattle.sqlite.specs.State.{HasCleanDisk}
+use Rattle.dr_store_shelf.specs.Either.{named_on}
 use Rattle.dr_store_open.specs.Opening.{HasLedgerOf}
+use Rattle.dr_store_open.specs.Places.{HasOwnOn, IsPlacedBy}
 use Rattle.dr_store_open.proofs.ledger.ledger_on.Goals as goal
 
-pub in_rows-requires-clause-kept : goal.in_rows-requires-clause-kept
-in_rows-requires-clause-kept g c clean = (c.in-Ok.ensures.kept clean).0
+pub ledger_of-requires-clause-kept : goal.ledger_of-requires-clause-kept
+ledger_of-requires-clause-kept g c clean = (c.in-Ok.ensures.kept clean).0
+
+pub ledger_of-requires-clause-own : goal.ledger_of-requires-clause-own
+ledger_of-requires-clause-own g c clean = c.in-Ok.ensures.own clean
 
 pub returns-in-Ok-clause-is : goal.returns-in-Ok-clause-is
 returns-in-Ok-clause-is g c clean =
-    let next = c.in-Ok.next in
-    let same = c.in_rows.ensures.conn in
+    let next = c.in-Ok.opened.next in
+    let same = c.ledger_of.ensures.conn in
     let is = c.in-Ok.ensures.is (subst (λ h. HasCleanDisk (state g.S.Store h)) same clean) in (
       next,
-      subst (λ site. HasLedgerOf next site (state g.S.Store c.in_rows.result.conn).committed) (sym c.in_rows.ensures.site)
+      subst (λ site. HasLedgerOf next site (state g.S.Store c.ledger_of.result.conn).committed) (sym c.ledger_of.ensures.site)
           (subst (λ h. HasLedgerOf next c.args.site (state g.S.Store h).committed) (sym same) is),
     )
+
+pub returns-in-Ok-clause-placed : goal.returns-in-Ok-clause-placed
+returns-in-Ok-clause-placed g c clean =
+    let same = c.ledger_of.ensures.conn in
+    let shelf = c.ledger_of.ensures.shelf in
+    let is = c.in-Ok.ensures.placed (subst (λ h. HasCleanDisk (state g.S.Store h)) same clean) in
+    subst (λ site. IsPlacedBy site (state g.S.Store c.ledger_of.result.conn).committed.trees c.ledger_of.result.shelf) (sym c.ledger_of.ensures.site)
+    (subst (λ s. IsPlacedBy c.args.site (state g.S.Store c.ledger_of.result.conn).committed.trees s) (sym shelf)
+    (subst (λ h. IsPlacedBy c.args.site (state g.S.Store h).committed.trees c.in-Ok.opened.shelf) (sym same) is))
+
+pub returns-in-Ok-clause-own : goal.returns-in-Ok-clause-own
+returns-in-Ok-clause-own g c clean =
+    let same = c.ledger_of.ensures.conn in
+    let is = c.in-Ok.ensures.own (subst (λ h. HasCleanDisk (state g.S.Store h)) same clean) in
+    subst (λ s. HasOwnOn (state g.S.Store c.ledger_of.result.conn).committed.trees s) (sym c.ledger_of.ensures.shelf)
+    (subst (λ h. HasOwnOn (state g.S.Store h).committed.trees c.in-Ok.opened.shelf) (sym same) is)
+
+pub returns-in-Ok-clause-wanted : goal.returns-in-Ok-clause-wanted
+returns-in-Ok-clause-wanted g c blank = ap named_on c.ledger_of.ensures.shelf ∙ c.in-Ok.ensures.wanted blank

@@ -1,35 +1,59 @@
-use Rattle.std.proofs.Common.{◌≡◌, ◌∙◌, false, refl, sym, subst}
+use Rattle.std.proofs.Common.{◌≡◌, ◌∙◌, IsTrue, false, inl, inr, true, true≢false, sym, subst}
 use Rattle.sqlite.specs.Held.{state}
-use Rattle.dr_store_schema.specs.Tables.{tables}
-use Rattle.dr_store_audit.specs.Older.{IsOlder}
-use Rattle.dr_store_open.specs.Opening.{LeavesOldOrCommitted, StaysAsFound}
-use Rattle.dr_store_open.specs.Renewing.{KeepsRows}
+use Rattle.dr_store_open.specs.Faults.{IsOfData}
+use Rattle.dr_store_open.specs.Opening.{IsBlank}
+use Rattle.dr_store_open.proofs.Blank.{blank_no_older}
+use Rattle.dr_store_open.proofs.Left.{tables_not_blank}
+use Rattle.dr_store_open.proofs.Opens.{if_err_as, if_ok_as, ok_given, ours_as}
 use Rattle.dr_store_open.proofs.opening.prepare.Goals as goal
 
-pub returns-in-Ok-clause-found : goal.returns-in-Ok-clause-found
-returns-in-Ok-clause-found g c same =
-    let stood : c.in_ok-make_new.field-0 ≡ false = c.if-branch.false in
-    let it = c.in_ok-make_new.ensures.found stood in
-    (it.0, λ no. subst (λ h. StaysAsFound (state g.S.Store h) (state g.S.Store c.renew_older.new.conn)) it.1 (c.in-Ok.ensures.found (λ older. no (subst (λ h. IsOlder (state g.S.Store h).now.schema) it.1 older))))
+pub returns-then-is_blank-clause-found : goal.returns-then-is_blank-clause-found
+returns-then-is_blank-clause-found g c =
+    if_ok_as _ _ c.make_new.result (λ it yes no. absurd (true≢false (sym yes ∙ no))) c.make_new.ensures.made
 
-pub returns-in-Ok-clause-leaves : goal.returns-in-Ok-clause-leaves
-returns-in-Ok-clause-leaves g c clean =
-    let stood : c.in_ok-make_new.field-0 ≡ false = c.if-branch.false in
-    subst (λ h. LeavesOldOrCommitted (state g.S.Store h) (state g.S.Store c.renew_older.new.conn)) (c.in_ok-make_new.ensures.found stood).1 (c.in-Ok.ensures.leaves clean)
+pub returns-then-is_blank-clause-made : goal.returns-then-is_blank-clause-made
+returns-then-is_blank-clause-made g c =
+    let blank : IsBlank (state g.S.Store c.args.conn.now).now.schema = subst IsBlank c.schema.ensures.value (c.is_blank.ensures.0 c.if-is_blank.true) in
+    if_ok_as _ _ c.make_new.result (λ it yes was. blank) c.make_new.ensures.made
 
-pub returns-in-Ok-clause-kept : goal.returns-in-Ok-clause-kept
-returns-in-Ok-clause-kept g c clean older named committed same =
-    let stood : c.in_ok-make_new.field-0 ≡ false = c.if-branch.false in
-    let it = c.in_ok-make_new.ensures.found stood in
-    subst (λ h. KeepsRows (state g.S.Store h).now (state g.S.Store c.renew_older.new.conn).committed) it.1 (c.in-Ok.ensures.kept clean (subst (λ h. IsOlder (state g.S.Store h).now.schema) (sym it.1) older) named committed)
+pub returns-then-is_blank-clause-kept : goal.returns-then-is_blank-clause-kept
+returns-then-is_blank-clause-kept g c clean older =
+    let blank : IsBlank (state g.S.Store c.args.conn.now).now.schema = subst IsBlank c.schema.ensures.value (c.is_blank.ensures.0 c.if-is_blank.true) in
+    absurd (blank_no_older (state g.S.Store c.args.conn.now).now.schema blank.tables older)
 
-pub returns-in-Ok-clause-ours : goal.returns-in-Ok-clause-ours
-returns-in-Ok-clause-ours g c named =
-    let one = (c.in_ok-make_new.ensures.ours named).1 in
-    let two = c.in-Ok.ensures.ours (subst (λ h. (state g.S.Store h).now.schema ≡ tables) (sym one) named) in
-    (refl, two.1 ∙ one)
+pub returns-then-is_blank-clause-file : goal.returns-then-is_blank-clause-file
+returns-then-is_blank-clause-file g c clean =
+    let blank : IsBlank (state g.S.Store c.args.conn.now).now.schema = subst IsBlank c.schema.ensures.value (c.is_blank.ensures.0 c.if-is_blank.true) in
+    record {
+      crash = λ db h. elim (c.make_new.ensures.crash clean db h) [
+        | inl before ↦ inl before
+        | inr made ↦ inr (made.0, made.1, inl (blank, made.2))
+      ];
+      stays = λ no older is_open. absurd (no blank);
+    }
 
-pub returns-in-Err-clause-ours : goal.returns-in-Err-clause-ours
-returns-in-Err-clause-ours g c named =
-    let one = (c.in_ok-make_new.ensures.ours named).1 in
-    absurd (c.in-Err.ensures.ours (subst (λ h. (state g.S.Store h).now.schema ≡ tables) (sym one) named)).0
+pub returns-then-is_blank-clause-ours : goal.returns-then-is_blank-clause-ours
+returns-then-is_blank-clause-ours g c named =
+    let blank : IsBlank (state g.S.Store c.args.conn.now).now.schema = subst IsBlank c.schema.ensures.value (c.is_blank.ensures.0 c.if-is_blank.true) in
+    absurd (tables_not_blank (state g.S.Store c.args.conn.now).now.schema named blank)
+
+pub returns-then-is_blank-clause-there : goal.returns-then-is_blank-clause-there
+returns-then-is_blank-clause-there g c =
+    let blank : IsBlank (state g.S.Store c.args.conn.now).now.schema = subst IsBlank c.schema.ensures.value (c.is_blank.ensures.0 c.if-is_blank.true) in
+    if_err_as _ _ c.make_new.result (λ fault h e. (h e, blank)) c.make_new.ensures.there
+
+pub returns-clause-found : goal.returns-clause-found
+returns-clause-found g c =
+    let not_blank : IsBlank (state g.S.Store c.args.conn.now).now.schema → ⊥ =
+    λ blank. true≢false (sym (c.is_blank.ensures.1 (subst IsBlank (sym c.schema.ensures.value) blank)) ∙ c.if-is_blank.false) in
+    ok_given _ _ c.renewed.result (λ h it stood. (not_blank, h)) c.renewed.ensures.found
+
+pub returns-clause-made : goal.returns-clause-made
+returns-clause-made g c =
+    if_ok_as _ _ c.renewed.result (λ it no yes. absurd (true≢false (sym yes ∙ no))) c.renewed.ensures.none
+
+pub returns-clause-ours : goal.returns-clause-ours
+returns-clause-ours g c named = let it = c.renewed.ensures.ours named in (ours_as c.renewed.result it.0 c.renewed.ensures.none, it.1)
+
+pub returns-clause-there : goal.returns-clause-there
+returns-clause-there g c = if_err_as _ _ c.renewed.result (λ fault beside e. absurd (beside (subst IsOfData (sym e) tt))) c.renewed.ensures.of_data

@@ -73,3 +73,10 @@ returns-in-Make g c =
     (VisitsBy (g.N.Network.connects c.args.system.network.now) g.N.Socket.Link.hears g.N.Socket.Link.sends g.N.Socket.Link.closes (own.step-value g.row.O-Ledger g.O.Ledger.Ledger g.O.Ledger.Ledger-dict).it (tallied.finds-value g.row.O-Ledger g.O.Ledger.Ledger g.O.Ledger.Ledger-dict).it (g.C.Clock.tells c.args.system.clock.now)) (g.C.Clock.tells c.args.system.clock.now)
     c.args.given duty (g.W.Write.contents c.args.output.now) (g.W.Write.contents c.make.new.self.0)) in
     subst P (sym c.in-Make.is) c.make.ensures
+
+pub returns-in-MakeWithData : goal.returns-in-MakeWithData
+returns-in-MakeWithData g c =
+    let P : Duty → Type 0 = λ duty. IfOk c.make_with_data.result (Works (g.F.Files.holds c.args.system.files.now) (g.O.Ledgers.opens c.args.system.ledgers.now) g.O.Ledger.Ledger.site g.O.Ledger.Ledger.book g.O.Ledger.Ledger.stands
+    (VisitsBy (g.N.Network.connects c.args.system.network.now) g.N.Socket.Link.hears g.N.Socket.Link.sends g.N.Socket.Link.closes (own.step-value g.row.O-Ledger g.O.Ledger.Ledger g.O.Ledger.Ledger-dict).it (tallied.finds-value g.row.O-Ledger g.O.Ledger.Ledger g.O.Ledger.Ledger-dict).it (g.C.Clock.tells c.args.system.clock.now)) (g.C.Clock.tells c.args.system.clock.now)
+    c.args.given duty (g.W.Write.contents c.args.output.now) (g.W.Write.contents c.make_with_data.new.self.0)) in
+    subst P (sym c.in-MakeWithData.is) c.make_with_data.ensures

@@ -39,12 +39,12 @@ invariant_of-self g c =
     let done = called Used Stood Apart n (advanced r n) part r old new Cells Makes c.arrive-answer.ensures.called in
     record {
       idle = c.arrive-answer.ensures.idle;
-      kept = subst (λ m. IsSafe new → ∥ KeepsOwn Uses Stands ApartNow m part new ∥₁) (sym c.next_after-self.ensures) (subst (λ places. IsSafe new → ∥ KeepsOwn Uses Stands (g.B.Shelf.apart places) (advanced r n) part new ∥₁) (sym c.arrive-answer.ensures.named) (still_kept n (advanced r n) part part r old new Cells Makes c.args.self.now.kept done Uses Stands
+      kept = λ clean. subst (λ m. IsSafe new → ∥ KeepsOwn Uses Stands ApartNow m part new ∥₁) (sym c.next_after-self.ensures) (subst (λ places. IsSafe new → ∥ KeepsOwn Uses Stands (g.B.Shelf.apart places) (advanced r n) part new ∥₁) (sym c.arrive-answer.ensures.named) (still_kept n (advanced r n) part part r old new Cells Makes (c.args.self.now.kept (c.arrive-answer.ensures.clean clean)) done Uses Stands
           (λ k it own. arrived c.arrive-answer.ensures.keeps Same (g.B.Shelf.swaps (g.B.Shelf.named c.args.self.now.shelf)) part caller item r old.committed.trees new.committed.trees it own)));
     }
 
 pub returns-clause-wrote : goal.returns-clause-wrote
-returns-clause-wrote g c =
+returns-clause-wrote g c clean =
     let n = c.args.self.now.next in
     let part = c.args.self.now.site in
     let caller = c.args.caller.now in
@@ -68,12 +68,12 @@ returns-clause-wrote g c =
     let done = making Used Stood Apart n (advanced r n) part part r old new Answers Makes Less (λ base db it. it.0) (answering Used Stood Apart n (advanced r n) part part r old new Cells Answers Makes
     (λ own it. (it.0, only_takes c.arrive-answer.ensures.keeps was_of body_of (g.B.Shelf.only was) (g.B.Shelf.only shelf) Same item old.committed.trees new.committed.trees it.1 own))
     (called Used Stood Apart n (advanced r n) part r old new Cells Makes c.arrive-answer.ensures.called)) in
-    wrote n (advanced r n) part part r old new Answers Less c.args.self.now.kept done (λ db is_open left. g.met.S.Store.settled c.args.self.now.conn.store db is_open left)
+    wrote n (advanced r n) part part r old new Answers Less (c.args.self.now.kept (c.arrive-answer.ensures.clean clean)) done (λ db is_open left. g.met.S.Store.settled c.args.self.now.conn.store db is_open left)
     (λ db is_open left. g.met.S.Store.settled c.arrive-answer.new.conn.store db is_open left)
     (both (arrives part caller (instance_of item) (book_of old.committed.trees) r (book_of new.committed.trees)) (takes item (bodies_with was_of old.committed.trees) (bodies_with body_of new.committed.trees)))
 
 pub returns-clause-covered : goal.returns-clause-covered
-returns-clause-covered g c =
+returns-clause-covered g c clean =
     let n = c.args.self.now.next in
     let part = c.args.self.now.site in
     let caller = c.args.caller.now in
@@ -97,7 +97,7 @@ returns-clause-covered g c =
     let keeps = c.arrive-answer.ensures.keeps in
     subst (λ places. HasCleanDisk new → IsSafe old → IsCovered Uses Stands (g.B.Shelf.apart places) new.may_leave)
     (sym c.arrive-answer.ensures.named) (
-    covered n (advanced r n) part part r old new Cells Makes c.args.self.now.kept done
+    covered n (advanced r n) part part r old new Cells Makes (c.args.self.now.kept (c.arrive-answer.ensures.clean clean)) done
     (λ db is_open left. g.met.S.Store.settled c.args.self.now.conn.store db is_open left)
     (λ db is_open left. g.met.S.Store.settled c.arrive-answer.new.conn.store db is_open left)
     Uses Stands

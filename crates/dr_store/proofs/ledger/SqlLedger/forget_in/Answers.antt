@@ -28,12 +28,12 @@ invariant_of-self g c =
     let done = called Uses Stands Apart n (advanced r n) part r old new Answers Makes (c.forget-answer.ensures.called part) in
     record {
       idle = c.forget-answer.ensures.idle;
-      kept = subst (λ m. IsSafe new → ∥ KeepsOwn Uses Stands Apart m part new ∥₁) (sym c.next_after-self.ensures) (still_kept n (advanced r n) part part r old new Answers Makes c.args.self.now.kept done Uses Stands
+      kept = λ clean. subst (λ m. IsSafe new → ∥ KeepsOwn Uses Stands Apart m part new ∥₁) (sym c.next_after-self.ensures) (still_kept n (advanced r n) part part r old new Answers Makes (c.args.self.now.kept clean) done Uses Stands
           (λ k it own. forgotten uid r old.committed.trees new.committed.trees k.ledger.bodied it own));
     }
 
 pub returns-clause-wrote : goal.returns-clause-wrote
-returns-clause-wrote g c =
+returns-clause-wrote g c clean =
     let n = c.args.self.now.next in
     let Uses = g.B.Shelf.uses c.args.self.now.shelf in
     let Stands = g.B.Shelf.stands c.args.self.now.shelf in
@@ -50,12 +50,12 @@ returns-clause-wrote g c =
     let Less : Trees → Trees → Type 0 = λ base db. Forgets uid (book_of base) (Ok tt) (book_of db) in
     let done = making Uses Stands Apart n (advanced r n) part part r old new Answers Makes Less (λ base db it. it.0) (answering Uses Stands Apart n (advanced r n) part part r old new Cells Answers Makes (λ own it. (it.0, lets_go_with body_of old.committed.trees new.committed.trees it.1))
     (called Uses Stands Apart n (advanced r n) part r old new Cells Makes (c.forget-answer.ensures.called part))) in
-    wrote n (advanced r n) part part r old new Answers Less c.args.self.now.kept done (λ db is_open left. g.met.S.Store.settled c.args.self.now.conn.store db is_open left)
+    wrote n (advanced r n) part part r old new Answers Less (c.args.self.now.kept clean) done (λ db is_open left. g.met.S.Store.settled c.args.self.now.conn.store db is_open left)
     (λ db is_open left. g.met.S.Store.settled c.forget-answer.new.conn.store db is_open left)
     (both (forgets uid (book_of old.committed.trees) r (book_of new.committed.trees)) (lets_go (bodies_with body_of old.committed.trees) (bodies_with body_of new.committed.trees)))
 
 pub returns-clause-covered : goal.returns-clause-covered
-returns-clause-covered g c =
+returns-clause-covered g c clean =
     let n = c.args.self.now.next in
     let Uses = g.B.Shelf.uses c.args.self.now.shelf in
     let Stands = g.B.Shelf.stands c.args.self.now.shelf in
@@ -75,7 +75,7 @@ returns-clause-covered g c =
     let done =
     called Uses Stands Apart n (advanced r n) part r old new Answers Makes
     (c.forget-answer.ensures.called part) in
-    covered n (advanced r n) part part r old new Answers Makes c.args.self.now.kept done
+    covered n (advanced r n) part part r old new Answers Makes (c.args.self.now.kept clean) done
     (λ db is_open left. g.met.S.Store.settled c.args.self.now.conn.store db is_open left)
     (λ db is_open left. g.met.S.Store.settled c.forget-answer.new.conn.store db is_open left)
     Uses Stands

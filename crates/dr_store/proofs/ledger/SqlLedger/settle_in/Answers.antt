@@ -45,18 +45,18 @@ invariant_of-self g c =
     (c.settle-answer.ensures.called part) in
     record {
       idle = c.settle-answer.ensures.idle;
-      kept = subst
+      kept = λ clean. subst
           (λ m. IsSafe new → ∥ KeepsOwn Uses Stands ApartNow m part new ∥₁)
           (sym c.next_after-self.ensures)
           (subst (λ places. IsSafe new → ∥ KeepsOwn Uses Stands (g.B.Shelf.apart places) (advanced r n) part new ∥₁)
           (sym c.settle-answer.ensures.named)
-          (still_kept n (advanced r n) part part r old new Answers Makes c.args.self.now.kept done
+          (still_kept n (advanced r n) part part r old new Answers Makes (c.args.self.now.kept (c.settle-answer.ensures.clean clean)) done
           Uses Stands
           (λ k it own. settled_go uid dest outcome now r old.committed.trees new.committed.trees it own)));
     }
 
 pub returns-clause-wrote : goal.returns-clause-wrote
-returns-clause-wrote g c =
+returns-clause-wrote g c clean =
     let n = c.args.self.now.next in
     let was = c.args.self.now.shelf in
     let shelf = c.settle-answer.new.shelf in
@@ -95,14 +95,14 @@ returns-clause-wrote g c =
     ))
     (called Used Stood Apart n (advanced r n) part r old new Cells Makes
     (c.settle-answer.ensures.called part))) in
-    wrote n (advanced r n) part part r old new Answers Less c.args.self.now.kept done
+    wrote n (advanced r n) part part r old new Answers Less (c.args.self.now.kept (c.settle-answer.ensures.clean clean)) done
     (λ db is_open left. g.met.S.Store.settled c.args.self.now.conn.store db is_open left)
     (λ db is_open left. g.met.S.Store.settled c.settle-answer.new.conn.store db is_open left)
     (both (settles uid dest outcome now (book_of old.committed.trees) r (book_of new.committed.trees))
     (lets_go (bodies_with was_of old.committed.trees) (bodies_with body_of new.committed.trees)))
 
 pub returns-clause-covered : goal.returns-clause-covered
-returns-clause-covered g c =
+returns-clause-covered g c clean =
     let n = c.args.self.now.next in
     let was = c.args.self.now.shelf in
     let shelf = c.settle-answer.new.shelf in
@@ -134,7 +134,7 @@ returns-clause-covered g c =
     (λ made had. settled uid dest outcome now (Ok tt) old.committed.trees db made had) may own in
     subst (λ places. HasCleanDisk new → IsSafe old → IsCovered Uses Stands (g.B.Shelf.apart places) new.may_leave)
     (sym c.settle-answer.ensures.named) (
-    covered n (advanced r n) part part r old new Answers Makes c.args.self.now.kept done
+    covered n (advanced r n) part part r old new Answers Makes (c.args.self.now.kept (c.settle-answer.ensures.clean clean)) done
     (λ db is_open left. g.met.S.Store.settled c.args.self.now.conn.store db is_open left)
     (λ db is_open left. g.met.S.Store.settled c.settle-answer.new.conn.store db is_open left)
     Uses Stands

@@ -13,13 +13,13 @@ invariant_of-self g c =
     let n = c.args.self.now.next in
     let part = c.args.self.now.site in
     let uid = c.args.uid.now in
-    let r = c.has_item-answer.result in
+    let r = c.has_in-answer.result in
     let old = state g.S.Store c.args.self.now.conn in
-    let new = state g.S.Store c.has_item-answer.new.conn in
+    let new = state g.S.Store c.has_in-answer.new.conn in
     let Shows : Trees → Bool → Type 0 = λ base there. there ≡ map.contains_key (items_of base) uid in
     record {
-      idle = c.has_item-answer.ensures.idle c.args.self.now.idle;
-      kept = looked_kept n part r old new Shows c.args.self.now.kept (c.has_item-answer.ensures.looked n part);
+      idle = c.has_in-answer.ensures.idle c.args.self.now.idle;
+      kept = λ clean. looked_kept n part r old new Shows (c.args.self.now.kept clean) (c.has_in-answer.ensures.looked n part);
     }
 
 -- by hand: the search loses itself in what the trait asks
@@ -28,18 +28,18 @@ returns g c =
     let n = c.args.self.now.next in
     let part = c.args.self.now.site in
     let uid = c.args.uid.now in
-    let r = c.has_item-answer.result in
+    let r = c.has_in-answer.result in
     let old = state g.S.Store c.args.self.now.conn in
-    let new = state g.S.Store c.has_item-answer.new.conn in
+    let new = state g.S.Store c.has_in-answer.new.conn in
     let Shows : Trees → Bool → Type 0 = λ base there. there ≡ map.contains_key (items_of base) uid in
     let kept = c.args.self.now.kept in
-    let looked = (c.has_item-answer.ensures.looked n part) in
+    let looked = (c.has_in-answer.ensures.looked n part) in
     record {
-      reply = λ safe. looked_reads n part r old new Shows kept looked (λ there. of_prop (Bool-set _ _)) safe.0;
-      same = λ safe. looked_books n part r old new Shows kept looked (g.B.Shelf.body_of c.args.self.now.shelf) safe.0;
+      reply = λ safe. looked_reads n part r old new Shows (kept safe.1) looked (λ there. of_prop (Bool-set _ _)) safe.0;
+      same = λ safe. looked_books n part r old new Shows (kept safe.1) looked (g.B.Shelf.body_of c.args.self.now.shelf) safe.0;
       counts = c.counted-self.ensures.counts;
       armed = refl;
-      stood = λ safe. (looked_safe n part r old new Shows kept looked safe.0, safe.1);
-      lasts = looked_lasting n part r old new Shows kept looked (g.B.Shelf.is_clean c.args.self.now.shelf);
+      stood = λ safe. (looked_safe n part r old new Shows (kept safe.1) looked safe.0, safe.1);
+      lasts = looked_lasting n part r old new Shows (g.B.Shelf.is_clean c.args.self.now.shelf) kept looked;
       site = refl;
     }

@@ -21,7 +21,7 @@ invariant_of-self g c =
     let Shows : Trees → Bool → Type 0 = λ base there. there ≡ map.contains_key (bodies_of base) uid in
     record {
       idle = c.has_data_set-answer.ensures.idle c.args.self.now.idle;
-      kept = looked_kept n part r old new Shows c.args.self.now.kept (c.has_data_set-answer.ensures.looked n part);
+      kept = λ clean. looked_kept n part r old new Shows (c.args.self.now.kept clean) (c.has_data_set-answer.ensures.looked n part);
     }
 
 -- by hand: the search loses itself in what the trait asks
@@ -39,11 +39,11 @@ returns g c =
     record {
       reply = λ safe.
           let P : Bool → Type 0 = λ has. Reads r (λ (there : Bool). there ≡ has) in
-          subst P (sym (there_at (g.B.Shelf.body_of c.args.self.now.shelf) old.committed.trees uid)) (looked_reads n part r old new Shows kept looked (λ there. of_prop (Bool-set _ _)) safe.0);
-      same = λ safe. looked_books n part r old new Shows kept looked (g.B.Shelf.body_of c.args.self.now.shelf) safe.0;
+          subst P (sym (there_at (g.B.Shelf.body_of c.args.self.now.shelf) old.committed.trees uid)) (looked_reads n part r old new Shows (kept safe.1) looked (λ there. of_prop (Bool-set _ _)) safe.0);
+      same = λ safe. looked_books n part r old new Shows (kept safe.1) looked (g.B.Shelf.body_of c.args.self.now.shelf) safe.0;
       counts = c.counted-self.ensures.counts;
       armed = refl;
-      stood = λ safe. (looked_safe n part r old new Shows kept looked safe.0, safe.1);
-      lasts = looked_lasting n part r old new Shows kept looked (g.B.Shelf.is_clean c.args.self.now.shelf);
+      stood = λ safe. (looked_safe n part r old new Shows (kept safe.1) looked safe.0, safe.1);
+      lasts = looked_lasting n part r old new Shows (g.B.Shelf.is_clean c.args.self.now.shelf) kept looked;
       site = refl;
     }

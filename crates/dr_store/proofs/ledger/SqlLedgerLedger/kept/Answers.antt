@@ -18,7 +18,7 @@ invariant_of-self g c =
     let Shows : Trees → List (Text × ℕ) → Type 0 = λ base. AreKept (book_of base) in
     record {
       idle = c.list_kept-answer.ensures.idle c.args.self.now.idle;
-      kept = looked_kept n part r old new Shows c.args.self.now.kept (c.list_kept-answer.ensures.looked n part);
+      kept = λ clean. looked_kept n part r old new Shows (c.args.self.now.kept clean) (c.list_kept-answer.ensures.looked n part);
     }
 
 -- by hand: the search loses itself in what the trait asks
@@ -33,11 +33,11 @@ returns g c =
     let kept = c.args.self.now.kept in
     let looked = (c.list_kept-answer.ensures.looked n part) in
     record {
-      reply = λ safe. looked_reads n part r old new Shows kept looked (are_kept (book_of old.committed.trees)) safe.0;
-      same = λ safe. looked_books n part r old new Shows kept looked (g.B.Shelf.body_of c.args.self.now.shelf) safe.0;
+      reply = λ safe. looked_reads n part r old new Shows (kept safe.1) looked (are_kept (book_of old.committed.trees)) safe.0;
+      same = λ safe. looked_books n part r old new Shows (kept safe.1) looked (g.B.Shelf.body_of c.args.self.now.shelf) safe.0;
       counts = c.counted-self.ensures.counts;
       armed = refl;
-      stood = λ safe. (looked_safe n part r old new Shows kept looked safe.0, safe.1);
-      lasts = looked_lasting n part r old new Shows kept looked (g.B.Shelf.is_clean c.args.self.now.shelf);
+      stood = λ safe. (looked_safe n part r old new Shows (kept safe.1) looked safe.0, safe.1);
+      lasts = looked_lasting n part r old new Shows (g.B.Shelf.is_clean c.args.self.now.shelf) kept looked;
       site = refl;
     }

@@ -30,7 +30,7 @@ invariant_of-self g c =
     let Shows : Trees → Option Job → Type 0 = λ base job. g.B.Shelf.is_clean shelf → NextsRead (g.B.Shelf.stands was) base dest now job in
     record {
       idle = c.next_job-answer.ensures.idle c.args.self.now.idle;
-      kept = subst (λ places. IsSafe new → ∥ KeepsOwn (g.B.Shelf.uses shelf) (g.B.Shelf.stands shelf) (g.B.Shelf.apart places) n part new ∥₁) (sym c.next_job-answer.ensures.named) (looked_kept_by n part r old new Shows c.args.self.now.kept (c.next_job-answer.ensures.looked n part) (g.B.Shelf.uses shelf) (g.B.Shelf.stands shelf) (still_own c.next_job-answer.ensures.keeps old.committed.trees));
+      kept = λ clean. subst (λ places. IsSafe new → ∥ KeepsOwn (g.B.Shelf.uses shelf) (g.B.Shelf.stands shelf) (g.B.Shelf.apart places) n part new ∥₁) (sym c.next_job-answer.ensures.named) (looked_kept_by n part r old new Shows (c.args.self.now.kept (c.next_job-answer.ensures.clean clean)) (c.next_job-answer.ensures.looked n part) (g.B.Shelf.uses shelf) (g.B.Shelf.stands shelf) (still_own c.next_job-answer.ensures.keeps old.committed.trees));
     }
 
 -- by hand: the search loses itself in what the trait asks
@@ -54,17 +54,17 @@ returns g c =
     let looked = c.next_job-answer.ensures.looked n part in
     let clean = c.next_job-answer.ensures.clean in
     record {
-      reply = λ safe. looked_says n part r old new Shows kept looked (NextsWith (book_of old.committed.trees) (bodies_with was_of old.committed.trees) dest now)
+      reply = λ safe. looked_says n part r old new Shows (kept (clean safe.1)) looked (NextsWith (book_of old.committed.trees) (bodies_with was_of old.committed.trees) dest now)
           (λ k job read. next_of Stands was_of (g.B.Shelf.only was) old.committed.trees dest now job k.kept.ledger.bodied k.own.own (read safe.1)) (nexts (book_of old.committed.trees) (bodies_with was_of old.committed.trees) dest now) safe.0;
       same = λ safe.
-          let books = looked_books n part r old new Shows kept looked body_of safe.0 in (
+          let books = looked_books n part r old new Shows (kept (clean safe.1)) looked body_of safe.0 in (
             books.0,
             books.1 ∙ by_code coded_bodies (bodies_with body_of old.committed.trees) (bodies_with was_of old.committed.trees)
-                (∥∥₁_map (kept (looked_safe n part r old new Shows kept looked safe.0)) (λ k. same_bodies keeps was_of body_of (g.B.Shelf.only was) (g.B.Shelf.only shelf) old.committed.trees k.own)),
+                (∥∥₁_map (kept (clean safe.1) (looked_safe n part r old new Shows (kept (clean safe.1)) looked safe.0)) (λ k. same_bodies keeps was_of body_of (g.B.Shelf.only was) (g.B.Shelf.only shelf) old.committed.trees k.own)),
           );
       counts = c.counted-self.ensures.counts;
       armed = refl;
-      stood = λ safe. (looked_safe n part r old new Shows kept looked safe.0, clean safe.1);
-      lasts = looked_lasting_by n part r old new Shows kept looked (g.B.Shelf.is_clean was) (g.B.Shelf.is_clean shelf) clean;
+      stood = λ safe. (looked_safe n part r old new Shows (kept (clean safe.1)) looked safe.0, clean safe.1);
+      lasts = looked_lasting_by n part r old new Shows (g.B.Shelf.is_clean was) (g.B.Shelf.is_clean shelf) clean kept looked;
       site = refl;
     }

@@ -23,7 +23,7 @@ invariant_of-self g c =
     let Shows : Trees → Option Progress → Type 0 = λ base row. row ≡ map.get (rows_of base) (uid, dest) in
     record {
       idle = c.find_row-answer.ensures.asked.idle c.args.self.now.idle;
-      kept = looked_kept n part r old new Shows c.args.self.now.kept (asked_looked n part r old new Shows c.find_row-answer.ensures.asked);
+      kept = λ clean. looked_kept n part r old new Shows (c.args.self.now.kept clean) (asked_looked n part r old new Shows c.find_row-answer.ensures.asked);
     }
 
 -- by hand: the search loses itself in what the trait asks
@@ -40,11 +40,11 @@ returns g c =
     let kept = c.args.self.now.kept in
     let looked = (asked_looked n part r old new Shows c.find_row-answer.ensures.asked) in
     record {
-      reply = λ safe. looked_reads n part r old new Shows kept looked (λ row. by_code (coded_option coded_progress) _ _) safe.0;
-      same = λ safe. looked_books n part r old new Shows kept looked (g.B.Shelf.body_of c.args.self.now.shelf) safe.0;
+      reply = λ safe. looked_reads n part r old new Shows (kept safe.1) looked (λ row. by_code (coded_option coded_progress) _ _) safe.0;
+      same = λ safe. looked_books n part r old new Shows (kept safe.1) looked (g.B.Shelf.body_of c.args.self.now.shelf) safe.0;
       counts = c.counted-self.ensures.counts;
       armed = refl;
-      stood = λ safe. (looked_safe n part r old new Shows kept looked safe.0, safe.1);
-      lasts = looked_lasting n part r old new Shows kept looked (g.B.Shelf.is_clean c.args.self.now.shelf);
+      stood = λ safe. (looked_safe n part r old new Shows (kept safe.1) looked safe.0, safe.1);
+      lasts = looked_lasting n part r old new Shows (g.B.Shelf.is_clean c.args.self.now.shelf) kept looked;
       site = refl;
     }

@@ -7,11 +7,11 @@ returns g c =
     let e = c.requeue_in.ensures in
     let r = c.requeue_in.result in
     record {
-      reply = λ safe. (e.wrote.answers safe.0).0;
-      bodies = λ safe. (e.wrote.answers safe.0).1;
+      reply = λ safe. ((e.wrote safe.1).answers safe.0).0;
+      bodies = λ safe. ((e.wrote safe.1).answers safe.0).1;
       counts = e.counts;
       armed = λ safe. arms _ r;
-      stood = λ safe. (e.wrote.stood safe.0, e.clean safe.1);
-      lasts = with_shelf r _ _ _ _ _ _ e.clean e.wrote.lasts;
+      stood = λ safe. ((e.wrote safe.1).stood safe.0, e.clean safe.1);
+      lasts = with_shelf r _ _ _ _ _ _ e.clean (λ clean. (e.wrote clean).lasts);
       site = e.site;
     }

@@ -27,7 +27,7 @@ invariant_of-self g c =
     let Shows : Trees → Vec (Pair × Progress) Global × Vec (Text × Key) Global → Type 0 = λ base both. (both.0.items ≡ map.entries (rows_of base)) × (both.1.items ≡ map.entries (keys_of base)) in
     let looked = c.list_rows_and_keys-listed.ensures.looked n part in
     let kept = c.args.self.now.kept in
-    record { idle = c.list_rows_and_keys-listed.ensures.idle c.args.self.now.idle; kept = looked_kept n part r old new Shows kept looked }
+    record { idle = c.list_rows_and_keys-listed.ensures.idle c.args.self.now.idle; kept = λ clean. looked_kept n part r old new Shows (kept clean) looked }
 
 -- by hand: the search loses itself in what the trait asks
 pub returns : goal.returns
@@ -46,14 +46,13 @@ returns g c =
     let answer = c.first_unfit-answer.result in
     let P : Text → Type 0 = λ name. UnfitsOf Rows Keys plan name r answer in
     let told : UnfitsOf Rows Keys plan part.name r answer = subst P c.name.ensures c.first_unfit-answer.ensures in
-    let read = looked_reads n part r old new Shows kept looked (λ l. both (by_code (coded_list (coded× coded_pair coded_progress)) _ _) (by_code (coded_list (coded× coded_text coded_key)) _ _)) in
-    let lasts = looked_lasting n part r old new Shows kept looked (g.B.Shelf.is_clean c.args.self.now.shelf) in
+    let lasts = looked_lasting n part r old new Shows (g.B.Shelf.is_clean c.args.self.now.shelf) kept looked in
     record {
-      reply = λ safe. answers Rows Keys plan part.name old.committed.trees r answer told (read safe.0);
-      same = λ safe. looked_books n part r old new Shows kept looked (g.B.Shelf.body_of c.args.self.now.shelf) safe.0;
+      reply = λ safe. answers Rows Keys plan part.name old.committed.trees r answer told (looked_reads n part r old new Shows (kept safe.1) looked (λ l. both (by_code (coded_list (coded× coded_pair coded_progress)) _ _) (by_code (coded_list (coded× coded_text coded_key)) _ _)) safe.0);
+      same = λ safe. looked_books n part r old new Shows (kept safe.1) looked (g.B.Shelf.body_of c.args.self.now.shelf) safe.0;
       counts = c.counted-self.ensures.counts;
       armed = refl;
-      stood = λ safe. (looked_safe n part r old new Shows kept looked safe.0, safe.1);
+      stood = λ safe. (looked_safe n part r old new Shows (kept safe.1) looked safe.0, safe.1);
       lasts = record { trusted = lasts.trusted; lasts = lasting Rows Keys plan part.name old.committed.trees r answer _ told lasts.lasts };
       site = refl;
     }

@@ -18,7 +18,7 @@ invariant_of-self g c =
     let Shows : Trees → Bool → Type 0 = λ base over. IsTrue over ↔ IsOver (book_of base) uid in
     record {
       idle = c.is_over-answer.ensures.idle c.args.self.now.idle;
-      kept = looked_kept n part r old new Shows c.args.self.now.kept (c.is_over-answer.ensures.looked n part);
+      kept = λ clean. looked_kept n part r old new Shows (c.args.self.now.kept clean) (c.is_over-answer.ensures.looked n part);
     }
 
 -- by hand: the search loses itself in what the trait asks
@@ -34,11 +34,11 @@ returns g c =
     let kept = c.args.self.now.kept in
     let looked = c.is_over-answer.ensures.looked n part in
     record {
-      reply = λ safe. looked_reads n part r old new Shows kept looked (λ over. over_told (book_of old.committed.trees) uid over) safe.0;
-      same = λ safe. looked_books n part r old new Shows kept looked (g.B.Shelf.body_of c.args.self.now.shelf) safe.0;
+      reply = λ safe. looked_reads n part r old new Shows (kept safe.1) looked (λ over. over_told (book_of old.committed.trees) uid over) safe.0;
+      same = λ safe. looked_books n part r old new Shows (kept safe.1) looked (g.B.Shelf.body_of c.args.self.now.shelf) safe.0;
       counts = c.counted-self.ensures.counts;
       armed = refl;
-      stood = λ safe. (looked_safe n part r old new Shows kept looked safe.0, safe.1);
-      lasts = looked_lasting n part r old new Shows kept looked (g.B.Shelf.is_clean c.args.self.now.shelf);
+      stood = λ safe. (looked_safe n part r old new Shows (kept safe.1) looked safe.0, safe.1);
+      lasts = looked_lasting n part r old new Shows (g.B.Shelf.is_clean c.args.self.now.shelf) kept looked;
       site = refl;
     }

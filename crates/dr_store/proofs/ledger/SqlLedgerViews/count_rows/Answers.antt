@@ -23,7 +23,7 @@ invariant_of-self g c =
     let looked = asked_looked n part r old new Shows c.count_rows-answer.ensures.asked in
     record {
       idle = c.count_rows-answer.ensures.asked.idle c.args.self.now.idle;
-      kept = looked_kept n part r old new Shows c.args.self.now.kept looked;
+      kept = λ clean. looked_kept n part r old new Shows (c.args.self.now.kept clean) looked;
     }
 
 -- by hand: the search loses itself in what the trait asks
@@ -40,11 +40,11 @@ returns g c =
     let looked = asked_looked n part r old new Shows c.count_rows-answer.ensures.asked in
     let kept = c.args.self.now.kept in
     record {
-      reply = λ safe. looked_reads n part r old new Shows kept looked (λ m. by_code coded_ℕ _ _) safe.0;
-      same = λ safe. looked_books n part r old new Shows kept looked (g.B.Shelf.body_of c.args.self.now.shelf) safe.0;
+      reply = λ safe. looked_reads n part r old new Shows (kept safe.1) looked (λ m. by_code coded_ℕ _ _) safe.0;
+      same = λ safe. looked_books n part r old new Shows (kept safe.1) looked (g.B.Shelf.body_of c.args.self.now.shelf) safe.0;
       counts = c.counted-self.ensures.counts;
       armed = refl;
-      stood = λ safe. (looked_safe n part r old new Shows kept looked safe.0, safe.1);
-      lasts = looked_lasting n part r old new Shows kept looked (g.B.Shelf.is_clean c.args.self.now.shelf);
+      stood = λ safe. (looked_safe n part r old new Shows (kept safe.1) looked safe.0, safe.1);
+      lasts = looked_lasting n part r old new Shows (g.B.Shelf.is_clean c.args.self.now.shelf) kept looked;
       site = refl;
     }

@@ -9,7 +9,7 @@ use Rattle.dr_store_calls.proofs.plan.NewPlanTableChange.run.Goals as goal
 pub returns-clause-step : goal.returns-clause-step
 returns-clause-step g c =
     let n = c.args.n in
-    let plan = c.args.self.now.digest.now in
+    let plan = c.args.self.now.cell.now in
     let old = state g.S.Store c.args.tx.now.conn.now in
     let mid = state g.S.Store c.clear.new.tx.conn.now in
     let new = state g.S.Store c.note_plan.new.tx.conn.now in

@@ -5,3 +5,6 @@ returns-in-InFile-clause-found g c = rw c.in-InFile.is c.look-in-InFile.ensures.
 
 pub returns-in-InFile-clause-keeps : goal.returns-in-InFile-clause-keeps
 returns-in-InFile-clause-keeps g c = rw c.in-InFile.is c.look-in-InFile.ensures.keeps
+
+pub returns-in-InFile-clause-uses : goal.returns-in-InFile-clause-uses
+returns-in-InFile-clause-uses g c = rw c.in-InFile.is c.look-in-InFile.ensures.uses

@@ -1,5 +1,5 @@
 use Rattle.std.proofs.Common.{◌≡◌, length, drop, take_at, ap, ◌∙◌, subst, sym, Contains, rules}
-use Rattle.std.proofs.Common.{List, ℕ, IsTrue}
+use Rattle.std.proofs.Common.{IsTrue}
 use Rattle.dr_store_bodies.specs.declared.extent.Extent.{Extent}
 use Rattle.dr_store_bodies.specs.Extents.{Stand}
 use Rattle.dr_store_shelf.specs.Cells.{Passes, extent_in}
@@ -52,3 +52,21 @@ returns-then-not-passes-clause-why g c = λ clean bytes stands.
     let yes : IsTrue c.passes.result = c.passes.ensures.1
     (subst (Passes c.args.self.now.key c.args.cell.now) (sym shown) stands.1) in
     absurd (search rules)
+
+pub returns-in_err-get-clause-uses : goal.returns-in_err-get-clause-uses
+returns-in_err-get-clause-uses g c = λ other used. (
+  used.0,
+  subst (λ xs. Contains xs (extent_in other)) (sym c.get.ensures.listed) used.1,
+)
+
+pub returns-then-not-passes-clause-uses : goal.returns-then-not-passes-clause-uses
+returns-then-not-passes-clause-uses g c = λ other used. (
+  used.0,
+  subst (λ xs. Contains xs (extent_in other)) (sym c.get.ensures.listed) used.1,
+)
+
+pub returns-clause-uses : goal.returns-clause-uses
+returns-clause-uses g c = λ other used. (
+  used.0,
+  subst (λ xs. Contains xs (extent_in other)) (sym c.get.ensures.listed) used.1,
+)

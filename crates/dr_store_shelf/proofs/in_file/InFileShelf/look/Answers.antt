@@ -1,4 +1,4 @@
-use Rattle.std.proofs.Common.{◌≡◌, subst, sym, All, List, [], ℕ, IsTrue}
+use Rattle.std.proofs.Common.{◌≡◌, subst, sym, All, List, [], ℕ}
 use Rattle.std.proofs.lemmas.List.Elements.{All-contains}
 use Rattle.dr_store_bodies.specs.declared.extent.Extent.{Extent}
 use Rattle.dr_store_bodies.specs.Bodies.{IsUsable, extents}

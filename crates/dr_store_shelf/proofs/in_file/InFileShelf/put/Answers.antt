@@ -1,4 +1,4 @@
-use Rattle.std.proofs.Common.{◌≡◌, ◌≢◌, ◌<◌, ◌^◌, List, ℕ, [], ◌∷◌, length, All, Contains}
+use Rattle.std.proofs.Common.{◌≢◌, ◌<◌, ◌^◌, [], ◌∷◌, length, Contains}
 use Rattle.std.proofs.Common.{subst, sym, ap, ◌∙◌, rules}
 use Rattle.std.proofs.lemmas.List.Sorted.{Contains-permutation}
 use Rattle.std.proofs.lemmas.List.Elements.{All-contains, Contains-append_left}
@@ -11,17 +11,38 @@ use Rattle.dr_store_shelf.proofs.CellLemmas.{extent_named}
 use Rattle.dr_store_shelf.proofs.Kept.{on_err}
 use Rattle.dr_store_shelf.proofs.in_file.InFileShelf.put.Goals as goal
 
-pub returns-in_err-extent-clause-keeps : goal.returns-in_err-extent-clause-keeps
-returns-in_err-extent-clause-keeps g c = λ cell bytes used stands. (
-  (used.0, subst (λ xs. Contains xs (extent_in cell)) (sym c.in_err-extent.ensures.unlisted) used.1),
-  (c.put.ensures.keeps (extent_in cell) bytes used.1 stands.0, stands.1),
+-- what was there before the file was cut is there behind that
+pub returns-in_err-cut_once-clause-keeps : goal.returns-in_err-cut_once-clause-keeps
+returns-in_err-cut_once-clause-keeps g c = λ cell bytes used stands. (
+  (used.0, subst (λ xs. Contains xs (extent_in cell)) (sym c.cut_once.ensures.listed) used.1),
+  (c.cut_once.ensures.keeps (extent_in cell) bytes used.1 stands.0, rw c.cut_once.ensures.key stands.1),
 )
+
+pub returns-in_err-cut_once-clause-unused : goal.returns-in_err-cut_once-clause-unused
+returns-in_err-cut_once-clause-unused g c =
+    on_err c.from_residual-in_err-cut_once.result (λ cell used. (
+      used.0,
+      subst (λ xs. Contains xs (extent_in cell)) c.cut_once.ensures.listed used.1,
+    ))
+
+pub returns-in_err-extent-clause-keeps : goal.returns-in_err-extent-clause-keeps
+returns-in_err-extent-clause-keeps g c = λ cell bytes used stands.
+    let e : Extent = extent_in cell in
+    let within : Contains (extents c.cut_once.new.self.bodies) e =
+    subst (λ xs. Contains xs e) (sym c.cut_once.ensures.listed) used.1 in (
+      (used.0, subst (λ xs. Contains xs e) (sym c.in_err-extent.ensures.unlisted) within),
+      (
+        c.put.ensures.keeps e bytes within (c.cut_once.ensures.keeps e bytes used.1 stands.0),
+        subst (λ key. Passes key cell bytes) (sym c.cut_once.ensures.key) stands.1,
+      ),
+    )
 
 pub returns-in_err-extent-clause-unused : goal.returns-in_err-extent-clause-unused
 returns-in_err-extent-clause-unused g c =
     on_err c.from_residual-in_err-extent.result (λ cell used. (
       used.0,
-      subst (λ xs. Contains xs (extent_in cell)) c.in_err-extent.ensures.unlisted used.1,
+      subst (λ xs. Contains xs (extent_in cell)) c.cut_once.ensures.listed
+          (subst (λ xs. Contains xs (extent_in cell)) c.in_err-extent.ensures.unlisted used.1),
     ))
 
 pub returns-clause-stands : goal.returns-clause-stands
@@ -37,7 +58,7 @@ returns-clause-stands g c =
     c.placed_cell.ensures in (
       subst (λ (f : Extent). Stand (g.D.Disk.seen disk) (g.D.Disk.may_leave disk) f body)
           (sym it.0) held,
-      it.1,
+      subst (λ key. Passes key c.placed_cell.result.items body) (sym c.cut_once.ensures.key) it.1,
     )
 
 pub returns-clause-used : goal.returns-clause-used
@@ -45,7 +66,7 @@ returns-clause-used g c =
     let body = c.args.body.now in
     let e : Extent = c.in_ok-extent.extent in
     let held = c.in_ok-extent.ensures.held in
-    let old = extents c.args.self.now.bodies in
+    let old = extents c.cut_once.new.self.bodies in
     let new = extents c.put.new.self in
     let one : e.at < 2 ^ 64 = search rules in
     let two : length body < 2 ^ 64 = search rules in
@@ -63,7 +84,9 @@ returns-clause-beside g c = λ other used.
     let body = c.args.body.now in
     let e : Extent = c.in_ok-extent.extent in
     let held = c.in_ok-extent.ensures.held in
-    let old = extents c.args.self.now.bodies in
+    let old = extents c.cut_once.new.self.bodies in
+    let within : Contains old (extent_in other) =
+    subst (λ xs. Contains xs (extent_in other)) (sym c.cut_once.ensures.listed) used.1 in
     let one : e.at < 2 ^ 64 = search rules in
     let two : length body < 2 ^ 64 = search rules in
     let it = extent_named c.args.self.now.key e body c.in_ok-cell.cell.items
@@ -71,18 +94,24 @@ returns-clause-beside g c = λ other used.
     c.placed_cell.ensures in
     let another : (extent_in other).at ≢ e.at =
     All-contains (λ (f : Extent). f.at ≢ e.at) old (extent_in other)
-    c.in_ok-extent.ensures.other used.1 in
+    c.in_ok-extent.ensures.other within in
     λ same. another (sym same ∙ ap (λ (f : Extent). f.at) it.0)
 
 pub returns-clause-keeps : goal.returns-clause-keeps
 returns-clause-keeps g c = λ cell bytes used stands.
     let e : Extent = c.in_ok-extent.extent in
-    let old = extents c.args.self.now.bodies in
-    let new = extents c.put.new.self in (
+    let old = extents c.cut_once.new.self.bodies in
+    let new = extents c.put.new.self in
+    let within : Contains old (extent_in cell) =
+    subst (λ xs. Contains xs (extent_in cell)) (sym c.cut_once.ensures.listed) used.1 in (
       (
         used.0,
         Contains-permutation (e ∷ old) new (extent_in cell) c.in_ok-extent.ensures.listed
-            (Contains-append_right (e ∷ []) old (extent_in cell) used.1),
+            (Contains-append_right (e ∷ []) old (extent_in cell) within),
       ),
-      (c.put.ensures.keeps (extent_in cell) bytes used.1 stands.0, stands.1),
+      (
+        c.put.ensures.keeps (extent_in cell) bytes within
+            (c.cut_once.ensures.keeps (extent_in cell) bytes used.1 stands.0),
+        subst (λ key. Passes key cell bytes) (sym c.cut_once.ensures.key) stands.1,
+      ),
     )

@@ -1,0 +1,82 @@
+-- Where the data sets of a ledger are, as the owner's row of its tables says it, and its shelf.
+use Rattle.std.specs.Prelude.{◌≡◌, ℕ, Bool, true, false, List, []}
+use Rattle.sqlite.specs.Tree.{Trees}
+use Rattle.sqlite_disk.specs.declared.Disk.{Ghosts}
+use Rattle.sqlite_disk.specs.Disk.{Only}
+use Rattle.dr_base.specs.Texts.{Text}
+use Rattle.dr_site.specs.Parts.{Part}
+use Rattle.dr_store_bodies.specs.declared.extent.Extent.{Extent}
+use Rattle.dr_store_bodies.specs.Bodies.{extents}
+use Rattle.dr_store_shelf.specs.declared.either.LedgerShelf.{LedgerShelf}
+use Rattle.dr_store_shelf.specs.declared.either.LedgerShelf.TheVariants.{InRow as Rows}
+use Rattle.dr_store_shelf.specs.declared.either.LedgerShelf.TheVariants.{InFile as File}
+use Rattle.dr_store_shelf.specs.Either.{AreApartIf, IsCleanOn, StandsOn, UsesOn, named_on}
+use Rattle.dr_store_data.specs.declared.mark.DataMark.{DataMark}
+use Rattle.dr_store_data.specs.Heads.{HasHead, IsMarkOf}
+use Rattle.dr_store_data.specs.Opened.{HasExtents}
+use Rattle.dr_store_calls.specs.Adoptions.{IsOwnedWith}
+use Rattle.dr_store.specs.Owning.{HaveOwn}
+use Rattle.dr_store_open.specs.declared.data.Keeping.{Keeping}
+use Rattle.dr_store_open.specs.declared.data.Keeping.TheVariants as keeping
+use Rattle.dr_store_open.specs.declared.data.DataPlace.{DataPlace}
+use Rattle.dr_store_open.specs.declared.data.DataPlace.TheVariants.{InRows, InFile}
+use Rattle.dr_store_open.specs.DataSets.{IsOwn}
+
+-- the site's tables have no mark, or they have one, which says this key and the mark of the file
+abbrev pub IsPlaceOf : Part → Trees → DataPlace → Type 0
+IsPlaceOf part db InRows = IsOwnedWith [] part db
+IsPlaceOf part db (InFile said) =
+    (mark : List ℕ) × IsOwnedWith mark part db × IsMarkOf mark said
+
+-- whether the cells of a new ledger name places
+abbrev pub names_in : Keeping → Bool
+names_in keeping.InRows = false
+names_in keeping.InFile = true
+
+-- whether the cells of a ledger whose data sets are there name places
+abbrev pub names_at : DataPlace → Bool
+names_at InRows = false
+names_at (InFile said) = true
+
+-- the bytes of a mark, which is nothing where the data sets are in rows, say this place
+abbrev pub IsPlaceIn : List ℕ → DataPlace → Type 0
+IsPlaceIn mark InRows = mark ≡ []
+IsPlaceIn mark (InFile said) = IsMarkOf mark said
+
+-- a file that shows this has the head of the mark, and whatever a crash leaves of it
+abbrev pub IsBegun : DataMark → List ℕ → (List ℕ → Type 0) → Type 0
+IsBegun said seen may_leave = HasHead said.mark seen × Only seen may_leave
+
+module _ {D : Type 0} {g : Ghosts D} where
+  -- the shelf is in that place
+  abbrev pub IsAt : DataPlace → LedgerShelf D g → Type 0
+  IsAt InRows (Rows it) = Unit {0}
+  IsAt InRows (File it) = ⊥
+  IsAt (InFile said) (Rows it) = ⊥
+  IsAt (InFile said) (File it) = it.key ≡ said.key
+
+  -- it is in a file, under that key, and in use are the extents of the list
+  abbrev pub IsFileWith : DataMark → List Extent → LedgerShelf D g → Type 0
+  IsFileWith said list (Rows it) = ⊥
+  IsFileWith said list (File it) = (it.key ≡ said.key) × HasExtents list (extents it.bodies)
+
+  -- the shelf was opened where the tables say, in a file under their key
+  abbrev pub IsOpenedBy : Part → Trees → LedgerShelf D g → Type 0
+  IsOpenedBy part db shelf = (place : DataPlace) × IsPlaceOf part db place × IsAt place shelf
+
+  -- the cells of the shelf name places just where the tables have a mark
+  abbrev pub IsPlacedBy : Part → Trees → LedgerShelf D g → Type 0
+  IsPlacedBy part db shelf =
+      (place : DataPlace) × IsPlaceOf part db place × (named_on shelf ≡ names_at place)
+
+  -- its cells are those of the tables, and stand for the data sets of their book, unless a wrong
+  -- answer of the file was taken as true
+  abbrev pub HasOwnOn : Trees → LedgerShelf D g → Type 0
+  HasOwnOn db shelf =
+      IsCleanOn shelf → HaveOwn (UsesOn shelf) (StandsOn shelf) (AreApartIf (named_on shelf)) db
+
+  -- the shelf was looked at, and not each cell stood for the data set of its item
+  abbrev pub IsOtherOn : Trees → LedgerShelf D g → Type 0
+  IsOtherOn db shelf =
+      (after : LedgerShelf D g)
+      × (IsCleanOn after → ((uid : Text) → IsOwn (StandsOn shelf) uid db) → ⊥)
