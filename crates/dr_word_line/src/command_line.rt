@@ -4,7 +4,7 @@ use crate::node_words::{
 };
 use crate::parts::{Makes, RUNNING, add_all, add_both};
 use crate::plan_words::{
-    CHECK, DIFF, ECHO, EXPAND, EXPECT, GRAPH, IMPORT, LINT, ROUTE, SIMULATE, VERIFY, Word,
+    CHECK, CommandWord, DIFF, ECHO, EXPAND, EXPECT, GRAPH, IMPORT, LINT, ROUTE, SIMULATE, VERIFY,
 };
 use crate::words::VERSION;
 use clap::Command;
@@ -97,15 +97,15 @@ const RUNNING_VERBS: &[Verb] = &[
 ];
 
 /// The same word of a node that runs.
-fn at_running(word: Word) -> Word {
-    Word {
+fn at_running(word: CommandWord) -> CommandWord {
+    CommandWord {
         values: RUNNING,
         ..word
     }
 }
 
 impl Verb {
-    fn word(self) -> Word {
+    fn word(self) -> CommandWord {
         match self {
             Verb::Check => CHECK,
             Verb::Expand => EXPAND,
@@ -140,7 +140,7 @@ impl Verb {
 }
 
 /// That word, as clap knows it.
-fn make_word<'a>(alloc: Global, word: Word) -> Result<Command<'a>, AllocError> {
+fn make_word<'a>(alloc: Global, word: CommandWord) -> Result<Command<'a>, AllocError> {
     add_both(
         alloc,
         called(alloc, word.name, word.about),

@@ -1,11 +1,11 @@
 //! The words about nodes, as clap knows them.
 use crate::choices::Choice;
 use crate::parts::{CERTIFICATE, LEDGER, PLAN, RUNNING, SEALED};
-use crate::plan_words::Word;
+use crate::plan_words::CommandWord;
 use crate::serve_options::ServeOption;
 
 /// The word `list`.
-pub(crate) const LIST: Word = Word {
+pub(crate) const LIST: CommandWord = CommandWord {
     name: "list",
     about: "Prints what a node has: its arrivals, what it keeps, and what is queued",
     values: LEDGER,
@@ -19,7 +19,7 @@ pub(crate) const LIST: Word = Word {
 };
 
 /// The word `requeue`.
-pub(crate) const REQUEUE: Word = Word {
+pub(crate) const REQUEUE: CommandWord = CommandWord {
     name: "requeue",
     about: "Queues held rows of a node again",
     values: LEDGER,
@@ -33,7 +33,7 @@ pub(crate) const REQUEUE: Word = Word {
 };
 
 /// The word `new`.
-pub(crate) const NEW: Word = Word {
+pub(crate) const NEW: CommandWord = CommandWord {
     name: "new",
     about: "Makes the ledger of a node, where there is none",
     values: LEDGER,
@@ -41,7 +41,7 @@ pub(crate) const NEW: Word = Word {
 };
 
 /// The word `drop`.
-pub(crate) const DROP: Word = Word {
+pub(crate) const DROP: CommandWord = CommandWord {
     name: "drop",
     about: "Gives up a held row of a node: it is never sent, and the journal says so",
     values: LEDGER,
@@ -55,7 +55,7 @@ pub(crate) const DROP: Word = Word {
 };
 
 /// The word `forget`.
-pub(crate) const FORGET: Word = Word {
+pub(crate) const FORGET: CommandWord = CommandWord {
     name: "forget",
     about: "Forgets an instance that a node doesn't keep and has still to send nowhere",
     values: LEDGER,
@@ -63,7 +63,7 @@ pub(crate) const FORGET: Word = Word {
 };
 
 /// The word `visit`.
-pub(crate) const VISIT: Word = Word {
+pub(crate) const VISIT: CommandWord = CommandWord {
     name: "visit",
     about: "Has a node that runs visit a next node now",
     values: RUNNING,
@@ -71,7 +71,7 @@ pub(crate) const VISIT: Word = Word {
 };
 
 /// The word `backup`.
-pub(crate) const BACKUP: Word = Word {
+pub(crate) const BACKUP: CommandWord = CommandWord {
     name: "backup",
     about: "Copies the ledger of a node that runs, which goes on",
     values: RUNNING,
@@ -79,23 +79,27 @@ pub(crate) const BACKUP: Word = Word {
 };
 
 /// The word `stop`.
-pub(crate) const STOP: Word = Word {
+pub(crate) const STOP: CommandWord = CommandWord {
     name: "stop",
     about: "Ends a node that runs, in order",
     values: RUNNING,
     choices: &[Choice::AtNeeded, Choice::AtToken],
 };
 
+/// What is said of the word `send`.
+const ABOUT_SEND: &str =
+    "Brings an instance to a node, sends what is due once, and prints what the node has then";
+
 /// The word `send`.
-pub(crate) const SEND: Word = Word {
+pub(crate) const SEND: CommandWord = CommandWord {
     name: "send",
-    about: "Brings an instance to a node, sends what is due once, and prints what the node has then",
+    about: ABOUT_SEND,
     values: LEDGER,
     choices: &[Choice::File],
 };
 
 /// The word `adopt`.
-pub(crate) const ADOPT: Word = Word {
+pub(crate) const ADOPT: CommandWord = CommandWord {
     name: "adopt",
     about: "Brings the ledgers of all nodes of a plan over to another plan, while no node runs",
     values: &[
@@ -109,7 +113,7 @@ pub(crate) const ADOPT: Word = Word {
 };
 
 /// The word `audit`.
-pub(crate) const AUDIT: Word = Word {
+pub(crate) const AUDIT: CommandWord = CommandWord {
     name: "audit",
     about: "Audits the ledgers of all nodes of a plan, while no node runs",
     values: &[
@@ -121,17 +125,21 @@ pub(crate) const AUDIT: Word = Word {
 };
 
 /// The word `audit` for nodes that run.
-pub(crate) const AUDIT_RUNNING: Word = Word {
+pub(crate) const AUDIT_RUNNING: CommandWord = CommandWord {
     name: "audit",
     about: "Audits the journals of all nodes of a plan, while they run",
     values: SEALED,
     choices: &[Choice::Other, Choice::AtEach, Choice::AtToken],
 };
 
+/// What is said of the word `serve`.
+const ABOUT_SERVE: &str =
+    "Serves associations at a node's address and sends what is due; prints in the end what the node has";
+
 /// The word `serve`.
-pub(crate) const SERVE: Word = Word {
+pub(crate) const SERVE: CommandWord = CommandWord {
     name: "serve",
-    about: "Serves associations at a node's address and sends what is due; prints in the end what the node has",
+    about: ABOUT_SERVE,
     values: LEDGER,
     choices: &[
         Choice::Serve(ServeOption::Links),

@@ -26,8 +26,8 @@ pub(crate) const LEDGER: &[Value<'static>] = &[
 /// What names a node that runs.
 pub(crate) const RUNNING: &[Value<'static>] = &[PLAN, CERTIFICATE, ("NODE", "the node")];
 
-/// How words give a value: it has a name and what is said of it, and an option has its word too, and
-/// what the help calls its value.
+/// How words give a value: it has a name and what is said of it, and an option has its word too,
+/// and what the help calls its value.
 #[derive(Clone, Copy)]
 pub(crate) enum Shape {
     /// A value that has to be given.

@@ -4,7 +4,7 @@ use crate::parts::{CERTIFICATE, PLAN, SEALED, Value};
 
 /// A word with values that have to be given, and with others.
 #[derive(Clone, Copy)]
-pub(crate) struct Word {
+pub(crate) struct CommandWord {
     pub name: &'static str,
     /// What is said of it.
     pub about: &'static str,
@@ -13,7 +13,7 @@ pub(crate) struct Word {
 }
 
 /// The word `check`.
-pub(crate) const CHECK: Word = Word {
+pub(crate) const CHECK: CommandWord = CommandWord {
     name: "check",
     about: "Checks a plan, and prints its certificate or what is wrong with it",
     values: &[],
@@ -21,7 +21,7 @@ pub(crate) const CHECK: Word = Word {
 };
 
 /// The word `expand`.
-pub(crate) const EXPAND: Word = Word {
+pub(crate) const EXPAND: CommandWord = CommandWord {
     name: "expand",
     about: "Prints a plan of format 3 without names, sets, groups and lists",
     values: &[PLAN],
@@ -29,7 +29,7 @@ pub(crate) const EXPAND: Word = Word {
 };
 
 /// The word `import`.
-pub(crate) const IMPORT: Word = Word {
+pub(crate) const IMPORT: CommandWord = CommandWord {
     name: "import",
     about: "Prints a plan to begin with, for the devices of a table",
     values: &[("CSV", "the file with the table, a line for each device")],
@@ -37,7 +37,7 @@ pub(crate) const IMPORT: Word = Word {
 };
 
 /// The word `verify`.
-pub(crate) const VERIFY: Word = Word {
+pub(crate) const VERIFY: CommandWord = CommandWord {
     name: "verify",
     about: "Verifies that the plan is sound and that the certificate is its own",
     values: &[PLAN, ("CERT", "the file with the certificate")],
@@ -45,7 +45,7 @@ pub(crate) const VERIFY: Word = Word {
 };
 
 /// The word `simulate`.
-pub(crate) const SIMULATE: Word = Word {
+pub(crate) const SIMULATE: CommandWord = CommandWord {
     name: "simulate",
     about: "Plays a script of steps in a world of the plan's nodes, and prints what each has then",
     values: &[PLAN, CERTIFICATE, ("SCRIPT", "the file with the script")],
@@ -53,7 +53,7 @@ pub(crate) const SIMULATE: Word = Word {
 };
 
 /// The word `echo`.
-pub(crate) const ECHO: Word = Word {
+pub(crate) const ECHO: CommandWord = CommandWord {
     name: "echo",
     about: "Asks a node for an echo as another one, and prints how it answers",
     values: &[
@@ -64,10 +64,14 @@ pub(crate) const ECHO: Word = Word {
     choices: &[],
 };
 
+/// What is said of the word `route`.
+const ABOUT_ROUTE: &str =
+    "Prints where an instance goes that enters at a node: its hops, and the nodes that keep it";
+
 /// The word `route`.
-pub(crate) const ROUTE: Word = Word {
+pub(crate) const ROUTE: CommandWord = CommandWord {
     name: "route",
-    about: "Prints where an instance goes that enters at a node: its hops, and the nodes that keep it",
+    about: ABOUT_ROUTE,
     values: &[
         PLAN,
         CERTIFICATE,
@@ -86,7 +90,7 @@ pub(crate) const ROUTE: Word = Word {
 };
 
 /// The word `graph`.
-pub(crate) const GRAPH: Word = Word {
+pub(crate) const GRAPH: CommandWord = CommandWord {
     name: "graph",
     about: "Prints the network of a plan as a graph for Graphviz",
     values: SEALED,
@@ -94,7 +98,7 @@ pub(crate) const GRAPH: Word = Word {
 };
 
 /// The word `lint`.
-pub(crate) const LINT: Word = Word {
+pub(crate) const LINT: CommandWord = CommandWord {
     name: "lint",
     about: "Prints what is sound in a plan and still looks wrong",
     values: SEALED,
@@ -102,7 +106,7 @@ pub(crate) const LINT: Word = Word {
 };
 
 /// The word `expect`.
-pub(crate) const EXPECT: Word = Word {
+pub(crate) const EXPECT: CommandWord = CommandWord {
     name: "expect",
     about: "Tests a plan against what a file expects of it, for all instances",
     values: &[
@@ -114,7 +118,7 @@ pub(crate) const EXPECT: Word = Word {
 };
 
 /// The word `diff`.
-pub(crate) const DIFF: Word = Word {
+pub(crate) const DIFF: CommandWord = CommandWord {
     name: "diff",
     about: "Prints which instances other nodes keep by the next plan",
     values: &[
