@@ -2,3 +2,4 @@ mod Fronts
 mod Nothing
 mod OneAsked
 mod Places
+mod Trying

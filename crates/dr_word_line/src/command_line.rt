@@ -1,21 +1,24 @@
 //! The command line as clap knows it: its words in their order.
 use crate::node_words::{
-    adopt, audit, audit_running, backup, forget, give_up, list, make_ledger, requeue, send, serve,
-    stop, visit,
+    ADOPT, AUDIT, AUDIT_RUNNING, BACKUP, DROP, FORGET, LIST, NEW, REQUEUE, SEND, SERVE, STOP, VISIT,
 };
-use crate::parts::{LEDGER, Makes, RUNNING, add_all};
+use crate::parts::{Makes, RUNNING, add_all, add_both};
 use crate::plan_words::{
-    check, diff, echo, expand, expect, graph, import_table, lint, route, simulate, verify,
+    CHECK, CommandWord, DIFF, ECHO, EXPAND, EXPECT, GRAPH, IMPORT, LINT, ROUTE, SIMULATE, VERIFY,
 };
 use crate::words::VERSION;
 use clap::Command;
 use std::alloc::{AllocError, Global};
 
+/// A word, or the program, with nothing in it yet.
+fn called<'a>(alloc: Global, name: &'a str, about: &'a str) -> Command<'a> {
+    Command::new(alloc, name).about(about)
+}
+
 /// The program, with no word yet.
 fn program<'a>(alloc: Global) -> Result<Command<'a>, AllocError> {
-    Command::new(alloc, "dr_router")
+    called(alloc, "dr_router", "A DICOM store-and-forward router")
         .version(VERSION)
-        .about("A DICOM store-and-forward router")
         .no_binary_name(true)
         .subcommand_required(true)
         .bin_name("dr_router")
@@ -47,6 +50,12 @@ enum Verb {
     Stop,
     Adopt,
     Audit,
+    /// The same word of a node that runs, which has no value for a ledger.
+    AtList,
+    AtRequeue,
+    AtDrop,
+    AtForget,
+    AtAudit,
 }
 
 const VERBS: &[Verb] = &[
@@ -75,71 +84,86 @@ const VERBS: &[Verb] = &[
     Verb::Audit,
 ];
 
-impl<'a> Makes<Command<'a>> for Verb {
-    fn make(self, alloc: Global) -> Result<Command<'a>, AllocError> {
-        match self {
-            Verb::Check => check(alloc),
-            Verb::Expand => expand(alloc),
-            Verb::Import => import_table(alloc),
-            Verb::Verify => verify(alloc),
-            Verb::Route => route(alloc),
-            Verb::Graph => graph(alloc),
-            Verb::Lint => lint(alloc),
-            Verb::Expect => expect(alloc),
-            Verb::Diff => diff(alloc),
-            Verb::Simulate => simulate(alloc),
-            Verb::Echo => echo(alloc),
-            Verb::New => make_ledger(alloc),
-            Verb::Serve => serve(alloc),
-            Verb::Send => send(alloc),
-            Verb::List => list(alloc, LEDGER),
-            Verb::Requeue => requeue(alloc, LEDGER),
-            Verb::Drop => give_up(alloc, LEDGER),
-            Verb::Forget => forget(alloc, LEDGER),
-            Verb::Visit => visit(alloc),
-            Verb::Backup => backup(alloc),
-            Verb::Stop => stop(alloc),
-            Verb::Adopt => adopt(alloc),
-            Verb::Audit => audit(alloc),
-        }
-    }
-}
-
-/// The command line of the program.
-pub fn command_line<'a>(alloc: Global) -> Result<Command<'a>, AllocError> {
-    add_all(alloc, program(alloc), VERBS)
-}
-
-/// The same word of a node that runs, which has no value for a ledger.
-#[derive(Clone, Copy)]
-struct Running(Verb);
-
 /// The words for a node that runs.
-const RUNNING_VERBS: &[Running] = &[
-    Running(Verb::List),
-    Running(Verb::Requeue),
-    Running(Verb::Drop),
-    Running(Verb::Forget),
-    Running(Verb::Visit),
-    Running(Verb::Backup),
-    Running(Verb::Stop),
-    Running(Verb::Audit),
+const RUNNING_VERBS: &[Verb] = &[
+    Verb::AtList,
+    Verb::AtRequeue,
+    Verb::AtDrop,
+    Verb::AtForget,
+    Verb::Visit,
+    Verb::Backup,
+    Verb::Stop,
+    Verb::AtAudit,
 ];
 
-impl<'a> Makes<Command<'a>> for Running {
-    fn make(self, alloc: Global) -> Result<Command<'a>, AllocError> {
-        match self.0 {
-            Verb::List => list(alloc, RUNNING),
-            Verb::Requeue => requeue(alloc, RUNNING),
-            Verb::Drop => give_up(alloc, RUNNING),
-            Verb::Forget => forget(alloc, RUNNING),
-            Verb::Audit => audit_running(alloc),
-            other => other.make(alloc),
+/// The same word of a node that runs.
+fn at_running(word: CommandWord) -> CommandWord {
+    CommandWord {
+        values: RUNNING,
+        ..word
+    }
+}
+
+impl Verb {
+    fn word(self) -> CommandWord {
+        match self {
+            Verb::Check => CHECK,
+            Verb::Expand => EXPAND,
+            Verb::Import => IMPORT,
+            Verb::Verify => VERIFY,
+            Verb::Route => ROUTE,
+            Verb::Graph => GRAPH,
+            Verb::Lint => LINT,
+            Verb::Expect => EXPECT,
+            Verb::Diff => DIFF,
+            Verb::Simulate => SIMULATE,
+            Verb::Echo => ECHO,
+            Verb::New => NEW,
+            Verb::Serve => SERVE,
+            Verb::Send => SEND,
+            Verb::List => LIST,
+            Verb::Requeue => REQUEUE,
+            Verb::Drop => DROP,
+            Verb::Forget => FORGET,
+            Verb::Visit => VISIT,
+            Verb::Backup => BACKUP,
+            Verb::Stop => STOP,
+            Verb::Adopt => ADOPT,
+            Verb::Audit => AUDIT,
+            Verb::AtList => at_running(LIST),
+            Verb::AtRequeue => at_running(REQUEUE),
+            Verb::AtDrop => at_running(DROP),
+            Verb::AtForget => at_running(FORGET),
+            Verb::AtAudit => AUDIT_RUNNING,
         }
     }
 }
 
-/// The command line of words with `--at`.
-pub fn running_line<'a>(alloc: Global) -> Result<Command<'a>, AllocError> {
-    add_all(alloc, program(alloc), RUNNING_VERBS)
+/// That word, as clap knows it.
+fn make_word<'a>(alloc: Global, word: CommandWord) -> Result<Command<'a>, AllocError> {
+    add_both(
+        alloc,
+        called(alloc, word.name, word.about),
+        word.values,
+        word.choices,
+    )
+}
+
+impl<'a> Makes<Command<'a>> for Verb {
+    fn make(self, alloc: Global) -> Result<Command<'a>, AllocError> {
+        make_word(alloc, self.word())
+    }
+}
+
+/// The words of the program, or those for a node that runs.
+fn verbs_of(is_running: bool) -> &'static [Verb] {
+    if is_running {
+        return RUNNING_VERBS;
+    }
+    VERBS
+}
+
+/// The command line of the program, or that of words with `--at`.
+pub(crate) fn command_line<'a>(alloc: Global, is_running: bool) -> Result<Command<'a>, AllocError> {
+    add_all(alloc, program(alloc), verbs_of(is_running))
 }

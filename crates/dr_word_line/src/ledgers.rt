@@ -11,7 +11,7 @@ ghost use Rattle.dr_word_line.specs.declared.words.Duty.{Duty as DutyValue};
 ghost use Rattle.dr_word_line.specs.declared.words.PlanChange.{PlanChange as PlanChangeValue};
 ghost use Rattle.dr_word_line.specs.declared.words.SiteFiles.{SiteFiles as SiteFilesValue};
 
-use crate::option::is_no_option;
+use crate::option::{are_paths, is_no_option, is_with_three};
 use crate::words::{
     Duty, PlanChange, Serving, SiteFiles, Task, USUAL_DAYS, USUAL_MEMORY, USUAL_WAITS,
     USUAL_WORKERS, Verbosity,
@@ -25,12 +25,8 @@ fn read_change<'a>(words: &'a [&'a str]) -> Option<Task<'a>>
 {
     match words {
         [word, plan, certificate, next_plan, next_certificate, folder]
-            if *word == "adopt"
-                && is_no_option(plan)
-                && is_no_option(certificate)
-                && is_no_option(next_plan)
-                && is_no_option(next_certificate)
-                && is_no_option(folder) => {
+            if is_with_three("adopt", word, plan, certificate, folder)
+                && are_paths(next_plan, next_certificate) => {
             let change = PlanChange {
                 plan,
                 certificate,
@@ -51,10 +47,7 @@ fn read_audit<'a>(words: &'a [&'a str]) -> Option<Task<'a>>
 {
     match words {
         [word, plan, certificate, folder]
-            if *word == "audit"
-                && is_no_option(plan)
-                && is_no_option(certificate)
-                && is_no_option(folder) => {
+            if is_with_three("audit", word, plan, certificate, folder) => {
             let given = SiteFiles {
                 plan,
                 certificate,
@@ -76,10 +69,7 @@ fn at_node<'a>(name: &str, words: &'a [&'a str]) -> Option<(NodeFiles<'a>, &'a [
 {
     match words {
         [word, plan, certificate, node, ledger, more @ ..]
-            if *word == name
-                && is_no_option(plan)
-                && is_no_option(certificate)
-                && is_no_option(ledger) => {
+            if is_with_three(name, word, plan, certificate, ledger) => {
             let given = NodeFiles {
                 plan,
                 certificate,
@@ -233,16 +223,9 @@ fn read_whole<'a>(words: &'a [&'a str]) -> Option<Task<'a>>
     ensures with_data { IfNone result
         ((given : NodeFilesValue) → IsMakeWithDataOf words.now given → ⊥) }
 {
-    if let Some(asked) = read_listing(words) {
-        return Some(asked);
-    }
-    if let Some(asked) = read_serving(words) {
-        return Some(asked);
-    }
-    match read_making(words) {
-        Some(asked) => Some(asked),
-        None => None,
-    }
+    read_listing(words)
+        .or(read_serving(words))
+        .or(read_making(words))
 }
 
 /// What words ask of rows and instances of a ledger, if they are of such a form.
@@ -261,16 +244,9 @@ fn read_rows<'a>(words: &'a [&'a str]) -> Option<Task<'a>>
     ensures forget { IfNone result
         ((given : NodeFilesValue) (uid : Bor (List ℕ)) → IsForgetOf words.now given uid → ⊥) }
 {
-    if let Some(asked) = read_requeue(words) {
-        return Some(asked);
-    }
-    if let Some(asked) = read_giving_up(words) {
-        return Some(asked);
-    }
-    match read_forgetting(words) {
-        Some(asked) => Some(asked),
-        None => None,
-    }
+    read_requeue(words)
+        .or(read_giving_up(words))
+        .or(read_forgetting(words))
 }
 
 /// What words ask a node to do with its ledger, if they are of such a form.
@@ -279,16 +255,9 @@ fn read_duty<'a>(words: &'a [&'a str]) -> Option<Task<'a>>
     ensures duty { IfNone result
         ((given : NodeFilesValue) (duty : DutyValue) → IsDutyOf words.now given duty → ⊥) }
 {
-    if let Some(asked) = read_whole(words) {
-        return Some(asked);
-    }
-    if let Some(asked) = read_rows(words) {
-        return Some(asked);
-    }
-    match read_sending(words) {
-        Some(asked) => Some(asked),
-        None => None,
-    }
+    read_whole(words)
+        .or(read_rows(words))
+        .or(read_sending(words))
 }
 
 /// What plain words ask a node to do with its ledger, or of the ledgers of all nodes: those of a
@@ -300,14 +269,7 @@ pub(crate) fn read_ledger<'a>(words: &'a [&'a str]) -> Option<Task<'a>>
     ensures adopt { IfNone result ((change : PlanChangeValue) → IsAdoptOf words.now change → ⊥) }
     ensures audit { IfNone result ((given : SiteFilesValue) → IsAuditOf words.now given → ⊥) }
 {
-    if let Some(asked) = read_duty(words) {
-        return Some(asked);
-    }
-    if let Some(asked) = read_change(words) {
-        return Some(asked);
-    }
-    match read_audit(words) {
-        Some(asked) => Some(asked),
-        None => None,
-    }
+    read_duty(words)
+        .or(read_change(words))
+        .or(read_audit(words))
 }

@@ -1,12 +1,12 @@
 //! What clap makes of words: options, help, and what the program doesn't know.
 
-use crate::command_line::{command_line, running_line};
+use crate::command_line::command_line;
 use crate::words::{
     Controlled, Duty, Errand, KeyWords, NextPlan, PlanChange, Question, RunningNode, RunningNodes,
     Serving, SiteFiles, Task, USUAL_DAYS, USUAL_MEMORY, USUAL_WAITS, USUAL_WORKERS, Verbosity,
     Waits,
 };
-use clap::ArgMatches;
+use clap::{ArgMatches, Command};
 use dr_run_files::NodeFiles;
 use std::alloc::{AllocError, Global};
 
@@ -123,13 +123,15 @@ fn days_of(given: &ArgMatches<'_>) -> Option<u32> {
 
 /// Where a node may be asked and told to act, as clap has read it, if it may.
 fn control_of<'a>(given: &ArgMatches<'a>) -> Option<Controlled<'a>> {
-    let at = given.get_str("CONTROL")?;
-    Some(Controlled {
-        at,
-        token: given.get_str("TOKEN"),
-        host: given.get_str("HOST"),
-        is_for_anyone: given.get_flag("ANYONE"),
-    })
+    match given.get_str("CONTROL") {
+        Some(at) => Some(Controlled {
+            at,
+            token: given.get_str("TOKEN"),
+            host: given.get_str("HOST"),
+            is_for_anyone: given.get_flag("ANYONE"),
+        }),
+        None => None,
+    }
 }
 
 /// How a node is to serve, as clap has read it.
@@ -289,20 +291,42 @@ fn names_running(words: &[&str]) -> bool {
     false
 }
 
-/// Which nodes that run are to be audited, as clap has read it.
-fn audit_at<'a>(alloc: Global, given: &ArgMatches<'a>) -> Result<Task<'a>, AllocError> {
-    let others = others_of(alloc, given)?;
-    let mut running = Vec::new(alloc);
-    if let Some(nodes) = given.get_strs("AT") {
-        running.extend_from_slice(nodes)?;
-    }
-    Ok(Task::AuditRunning(RunningNodes {
+/// The nodes of a plan of which these run, and these are of other makers, as clap has read it.
+fn nodes_of<'a>(
+    given: &ArgMatches<'a>,
+    running: Vec<&'a str>,
+    others: Vec<&'a str>,
+) -> RunningNodes<'a> {
+    RunningNodes {
         plan: given.get_str("PLAN").unwrap_or(""),
         certificate: given.get_str("CERT").unwrap_or(""),
         running,
         others,
         token: given.get_str("TOKEN"),
-    }))
+    }
+}
+
+/// Which nodes that run are to be audited, as clap has read it.
+fn audit_at<'a>(alloc: Global, given: &ArgMatches<'a>) -> Result<Task<'a>, AllocError> {
+    let others = others_of(alloc, given)?;
+    match named_by(alloc, given, "AT") {
+        Ok(running) => Ok(Task::AuditRunning(nodes_of(given, running, others))),
+        Err(fault) => {
+            drop(others);
+            Err(fault)
+        }
+    }
+}
+
+/// Which node that runs is named, as clap has read it.
+fn running_of<'a>(given: &ArgMatches<'a>) -> RunningNode<'a> {
+    RunningNode {
+        plan: given.get_str("PLAN").unwrap_or(""),
+        certificate: given.get_str("CERT").unwrap_or(""),
+        node: given.get_str("NODE").unwrap_or(""),
+        at: given.get_str("AT").unwrap_or(""),
+        token: given.get_str("TOKEN"),
+    }
 }
 
 /// What a word about a node that runs asks for, as clap has read it.
@@ -311,32 +335,9 @@ fn read_running_word<'a>(
     name: &str,
     given: &ArgMatches<'a>,
 ) -> Result<Task<'a>, AllocError> {
-    if name == "audit" {
-        return audit_at(alloc, given);
-    }
-    let running = RunningNode {
-        plan: given.get_str("PLAN").unwrap_or(""),
-        certificate: given.get_str("CERT").unwrap_or(""),
-        node: given.get_str("NODE").unwrap_or(""),
-        at: given.get_str("AT").unwrap_or(""),
-        token: given.get_str("TOKEN"),
-    };
-    Ok(Task::AtRunning(running, errand_of(name, given)))
-}
-
-/// What clap makes of words about a node that runs.
-fn read_at<'a>(alloc: Global, words: &'a [&'a str]) -> Result<Task<'a>, AllocError> {
-    let line = running_line(alloc)?;
-    match line.try_get_matches_from(words) {
-        Ok(matches) => {
-            let asked = match matches.subcommand() {
-                Some((name, given)) => read_running_word(alloc, name, given),
-                None => Ok(Task::CheckInput),
-            };
-            drop(matches);
-            asked
-        }
-        Err(error) => Ok(Task::Told(error)),
+    match name {
+        "audit" => audit_at(alloc, given),
+        _ => Ok(Task::AtRunning(running_of(given), errand_of(name, given))),
     }
 }
 
@@ -372,21 +373,39 @@ fn read_word<'a>(
     }
 }
 
-/// What clap makes of the words: options, help, and what the program doesn't know.
-pub(crate) fn read_others<'a>(alloc: Global, words: &'a [&'a str]) -> Result<Task<'a>, AllocError> {
-    if names_running(words) {
-        return read_at(alloc, words);
+/// What the word that clap has found asks for.
+fn read_matches<'a>(
+    alloc: Global,
+    matches: &ArgMatches<'a>,
+    is_running: bool,
+) -> Result<Task<'a>, AllocError> {
+    match matches.subcommand() {
+        Some((name, given)) if is_running => read_running_word(alloc, name, given),
+        Some((name, given)) => read_word(alloc, name, given),
+        None => Ok(Task::CheckInput),
     }
-    let line = command_line(alloc)?;
+}
+
+/// What clap makes of the words by this command line.
+fn read_by<'a>(
+    alloc: Global,
+    line: Command<'a>,
+    words: &'a [&'a str],
+    is_running: bool,
+) -> Result<Task<'a>, AllocError> {
     match line.try_get_matches_from(words) {
         Ok(matches) => {
-            let asked = match matches.subcommand() {
-                Some((name, given)) => read_word(alloc, name, given),
-                None => Ok(Task::CheckInput),
-            };
+            let asked = read_matches(alloc, &matches, is_running);
             drop(matches);
             asked
         }
         Err(error) => Ok(Task::Told(error)),
     }
+}
+
+/// What clap makes of the words: options, help, and what the program doesn't know.
+pub(crate) fn read_others<'a>(alloc: Global, words: &'a [&'a str]) -> Result<Task<'a>, AllocError> {
+    let is_running = names_running(words);
+    let line = command_line(alloc, is_running)?;
+    read_by(alloc, line, words, is_running)
 }

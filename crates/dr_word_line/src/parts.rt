@@ -26,67 +26,74 @@ pub(crate) const LEDGER: &[Value<'static>] = &[
 /// What names a node that runs.
 pub(crate) const RUNNING: &[Value<'static>] = &[PLAN, CERTIFICATE, ("NODE", "the node")];
 
-/// A value that has to be given.
-pub(crate) fn needed<'a>(alloc: Global, name: &'a str, help: &'a str) -> Arg<'a> {
-    Arg::new(alloc, name)
-        .action(ArgAction::Set)
-        .required(true)
-        .help(help)
+/// How words give a value: it has a name and what is said of it, and an option has its word too,
+/// and what the help calls its value.
+#[derive(Clone, Copy)]
+pub(crate) enum Shape {
+    /// A value that has to be given.
+    Needed(Value<'static>),
+    /// A value that may be left out.
+    Optional(Value<'static>),
+    /// An option that has no value.
+    Flag(Value<'static>, &'static str),
+    /// An option with a value.
+    Valued(Value<'static>, &'static str, &'static str),
+    /// The same, which has to be given.
+    Required(Value<'static>, &'static str, &'static str),
+    /// The same, which may be given more than once; a value may begin with a hyphen.
+    Each(Value<'static>, &'static str, &'static str),
+    /// The same, whose value is a number of 32 bits.
+    Number(Value<'static>, &'static str, &'static str),
+    /// The same, whose value is a number of 16 bits.
+    Small(Value<'static>, &'static str, &'static str),
+    /// The same, whose value is a level of a log.
+    Level(Value<'static>, &'static str, &'static str),
 }
 
-/// A value that may be left out.
-pub(crate) fn optional<'a>(alloc: Global, name: &'a str, help: &'a str) -> Arg<'a> {
-    Arg::new(alloc, name).action(ArgAction::Set).help(help)
-}
+/// The levels of a log.
+const LEVELS: &[&str] = &["error", "info", "debug"];
 
-/// An option that has no value.
-pub(crate) fn flag<'a>(alloc: Global, name: &'a str, word: &'a str, help: &'a str) -> Arg<'a> {
-    Arg::new(alloc, name)
-        .long(word)
-        .action(ArgAction::SetTrue)
-        .help(help)
-}
-
-/// An option with a value: its name and what is said of it, its word, and what the help calls the
-/// value.
-pub(crate) fn option<'a>(
-    alloc: Global,
-    value: Value<'a>,
-    word: &'a str,
-    called: &'a str,
-) -> Arg<'a> {
+/// A value that words take by its place.
+fn placed<'a>(alloc: Global, value: Value<'a>) -> Arg<'a> {
     Arg::new(alloc, value.0)
-        .long(word)
         .action(ArgAction::Set)
-        .value_name(called)
         .help(value.1)
 }
 
-/// The same, whose value is a number of 32 bits.
-pub(crate) fn number<'a>(
-    alloc: Global,
-    value: Value<'a>,
-    word: &'a str,
-    called: &'a str,
-) -> Arg<'a> {
-    option(alloc, value, word, called).value_parser(value_parser!(u32))
+/// An option that has no value.
+fn flag<'a>(alloc: Global, value: Value<'a>, word: &'a str) -> Arg<'a> {
+    Arg::new(alloc, value.0)
+        .long(word)
+        .action(ArgAction::SetTrue)
+        .help(value.1)
 }
 
-/// The same, which may be given more than once; a value may begin with a hyphen.
-pub(crate) fn each<'a>(alloc: Global, value: Value<'a>, word: &'a str, called: &'a str) -> Arg<'a> {
-    option(alloc, value, word, called)
-        .action(ArgAction::Append)
-        .allow_hyphen_values(true)
+/// An option with a value.
+fn option<'a>(alloc: Global, value: Value<'a>, word: &'a str, called: &'a str) -> Arg<'a> {
+    placed(alloc, value).long(word).value_name(called)
 }
 
-/// An option that says nothing without that other.
-pub(crate) fn needs<'a>(option: Arg<'a>, other: &'a str) -> Result<Arg<'a>, AllocError> {
-    option.requires_arg(other)
-}
-
-/// An option that isn't given beside that other.
-pub(crate) fn excludes<'a>(option: Arg<'a>, other: &'a str) -> Result<Arg<'a>, AllocError> {
-    option.conflicts_with(other)
+/// What clap is told of such a value.
+pub(crate) fn shaped<'a>(alloc: Global, shape: Shape) -> Arg<'a> {
+    match shape {
+        Shape::Needed(value) => placed(alloc, value).required(true),
+        Shape::Optional(value) => placed(alloc, value),
+        Shape::Flag(value, word) => flag(alloc, value, word),
+        Shape::Valued(value, word, called) => option(alloc, value, word, called),
+        Shape::Required(value, word, called) => option(alloc, value, word, called).required(true),
+        Shape::Each(value, word, called) => option(alloc, value, word, called)
+            .action(ArgAction::Append)
+            .allow_hyphen_values(true),
+        Shape::Number(value, word, called) => option(alloc, value, word, called).value_parser(
+            value_parser!(u32),
+        ),
+        Shape::Small(value, word, called) => option(alloc, value, word, called).value_parser(
+            value_parser!(u16),
+        ),
+        Shape::Level(value, word, called) => option(alloc, value, word, called).value_parser(
+            LEVELS,
+        ),
+    }
 }
 
 /// Whether the value is the name of a node, which may begin with a hyphen.
@@ -115,6 +122,27 @@ impl<'a> Takes<Command<'a>> for Command<'a> {
     }
 }
 
+/// What binds a value to another one.
+#[derive(Clone, Copy, Drop)]
+pub(crate) enum Bound {
+    /// It says nothing without that one.
+    Needs(&'static str),
+    /// It isn't given beside that one.
+    Excludes(&'static str),
+    /// It has to be given where that one isn't.
+    Unless(&'static str),
+}
+
+impl<'a> Takes<Bound> for Arg<'a> {
+    fn take(self, bound: Bound) -> Result<Arg<'a>, AllocError> {
+        match bound {
+            Bound::Needs(other) => self.requires_arg(other),
+            Bound::Excludes(other) => self.conflicts_with(other),
+            Bound::Unless(other) => self.required_unless_present(other),
+        }
+    }
+}
+
 /// What names a part.
 pub(crate) trait Makes<P>: Copy {
     fn make(self, alloc: Global) -> Result<P, AllocError>;
@@ -122,7 +150,17 @@ pub(crate) trait Makes<P>: Copy {
 
 impl<'a> Makes<Arg<'a>> for Value<'a> {
     fn make(self, alloc: Global) -> Result<Arg<'a>, AllocError> {
-        Ok(needed(alloc, self.0, self.1).allow_hyphen_values(names_a_node(self.0)))
+        Ok(
+            placed(alloc, self)
+                .required(true)
+                .allow_hyphen_values(names_a_node(self.0)),
+        )
+    }
+}
+
+impl Makes<Bound> for Bound {
+    fn make(self, _alloc: Global) -> Result<Bound, AllocError> {
+        Ok(self)
     }
 }
 
@@ -142,4 +180,14 @@ pub(crate) fn add_all<W: Takes<P>, P: Drop, N: Makes<P>>(
         whole = add(whole, name.make(alloc))?;
     }
     Ok(whole)
+}
+
+/// The whole with the parts of both lists.
+pub(crate) fn add_both<W: Takes<P>, P: Drop, N: Makes<P>, M: Makes<P>>(
+    alloc: Global,
+    whole: W,
+    names: &[N],
+    others: &[M],
+) -> Result<W, AllocError> {
+    add_all(alloc, add_all(alloc, Ok(whole), names), others)
 }

@@ -8,7 +8,7 @@ ghost use Rattle.dr_word_line.specs.Words.{IsLintOf, IsPlainCheck, IsSimulateOf,
 ghost use Rattle.dr_word_line.specs.declared.words.KeyWords.{KeyWords as KeyWordsValue};
 ghost use Rattle.dr_word_line.specs.declared.words.NextPlan.{NextPlan as NextPlanValue};
 
-use crate::option::is_no_option;
+use crate::option::{are_paths, is_no_option, is_with_path, is_with_three, is_with_two};
 use crate::words::{KeyWords, NextPlan, Question, Task};
 
 /// What words ask of a plan's text alone, if they are of such a form.
@@ -60,16 +60,14 @@ fn read_pair<'a>(words: &'a [&'a str]) -> Option<Task<'a>>
         ((plan caller called : Bor (List ℕ)) → IsEchoOf words.now plan caller called → ⊥) }
 {
     match words {
-        [word, plan, certificate]
-            if *word == "verify" && is_no_option(plan) && is_no_option(certificate) => {
+        [word, plan, certificate] if is_with_two("verify", word, plan, certificate) => {
             Some(Task::Verify(plan, certificate))
         }
         [word, plan, certificate, script]
-            if *word == "simulate"
-                && is_no_option(plan)
-                && is_no_option(certificate)
-                && is_no_option(script) => { Some(Task::Simulate(plan, certificate, script)) }
-        [word, plan, caller, called] if *word == "echo" && is_no_option(plan) => {
+            if is_with_three("simulate", word, plan, certificate, script) => {
+            Some(Task::Simulate(plan, certificate, script))
+        }
+        [word, plan, caller, called] if is_with_path("echo", word, plan) => {
             Some(Task::Echo(plan, caller, called))
         }
         _ => None,
@@ -85,12 +83,10 @@ fn read_question<'a>(words: &'a [&'a str]) -> Option<Task<'a>>
         ((plan certificate : Bor (List ℕ)) → IsLintOf words.now plan certificate → ⊥) }
 {
     match words {
-        [word, plan, certificate]
-            if *word == "graph" && is_no_option(plan) && is_no_option(certificate) => {
+        [word, plan, certificate] if is_with_two("graph", word, plan, certificate) => {
             Some(Task::Question(plan, certificate, Question::Graph))
         }
-        [word, plan, certificate]
-            if *word == "lint" && is_no_option(plan) && is_no_option(certificate) => {
+        [word, plan, certificate] if is_with_two("lint", word, plan, certificate) => {
             Some(Task::Question(plan, certificate, Question::Lint))
         }
         _ => None,
@@ -106,13 +102,8 @@ fn read_expect<'a>(words: &'a [&'a str]) -> Option<Task<'a>>
         → ⊥) }
 {
     match words {
-        [word, plan, certificate, path]
-            if *word == "expect"
-                && is_no_option(plan)
-                && is_no_option(certificate)
-                && is_no_option(path) => {
-            Some(Task::Question(plan, certificate, Question::Expect(path)))
-        }
+        [word, plan, certificate, path] if is_with_three("expect", word, plan, certificate, path) =>
+            { Some(Task::Question(plan, certificate, Question::Expect(path))) }
         _ => None,
     }
 }
@@ -127,11 +118,8 @@ fn read_diff<'a>(words: &'a [&'a str]) -> Option<Task<'a>>
 {
     match words {
         [word, plan, certificate, next_plan, next_certificate]
-            if *word == "diff"
-                && is_no_option(plan)
-                && is_no_option(certificate)
-                && is_no_option(next_plan)
-                && is_no_option(next_certificate) => {
+            if is_with_two("diff", word, plan, certificate)
+                && are_paths(next_plan, next_certificate) => {
             let next = NextPlan {
                 plan: next_plan,
                 certificate: next_certificate,
@@ -157,10 +145,7 @@ fn read_route<'a>(words: &'a [&'a str]) -> Option<Task<'a>>
 {
     match words {
         [word, plan, certificate, at, path]
-            if *word == "route"
-                && is_no_option(plan)
-                && is_no_option(certificate)
-                && is_no_option(path) => {
+            if is_with_three("route", word, plan, certificate, path) => {
             Some(Task::Question(plan, certificate, Question::RouteOfFile(at, path)))
         }
         [
@@ -172,7 +157,7 @@ fn read_route<'a>(words: &'a [&'a str]) -> Option<Task<'a>>
             syntax,
             modality,
             station,
-        ] if *word == "route" && is_no_option(plan) && is_no_option(certificate) => {
+        ] if is_with_two("route", word, plan, certificate) => {
             let key = KeyWords {
                 class,
                 syntax,
@@ -193,16 +178,9 @@ pub(crate) fn read_alone<'a>(words: &'a [&'a str]) -> Option<Task<'a>>
     ensures expand { IfNone result ((plan : Bor (List ℕ)) → IsExpandOf words.now plan → ⊥) }
     ensures imported { IfNone result ((table : Bor (List ℕ)) → IsImportOf words.now table → ⊥) }
 {
-    if let Some(asked) = read_check(words) {
-        return Some(asked);
-    }
-    if let Some(asked) = read_expand(words) {
-        return Some(asked);
-    }
-    match read_import(words) {
-        Some(asked) => Some(asked),
-        None => None,
-    }
+    read_check(words)
+        .or(read_expand(words))
+        .or(read_import(words))
 }
 
 /// What words ask of a plan and of what they name beside it, if they are of such a form.
@@ -225,16 +203,9 @@ pub(crate) fn read_named<'a>(words: &'a [&'a str]) -> Option<Task<'a>>
         → IsExpectOf words.now plan certificate path
         → ⊥) }
 {
-    if let Some(asked) = read_pair(words) {
-        return Some(asked);
-    }
-    if let Some(asked) = read_question(words) {
-        return Some(asked);
-    }
-    match read_expect(words) {
-        Some(asked) => Some(asked),
-        None => None,
-    }
+    read_pair(words)
+        .or(read_question(words))
+        .or(read_expect(words))
 }
 
 /// What words ask of two plans, or of an instance's way, if they are of such a form.
@@ -253,11 +224,5 @@ pub(crate) fn read_ways<'a>(words: &'a [&'a str]) -> Option<Task<'a>>
         → IsKeyRouteOf words.now plan certificate at key
         → ⊥) }
 {
-    if let Some(asked) = read_diff(words) {
-        return Some(asked);
-    }
-    match read_route(words) {
-        Some(asked) => Some(asked),
-        None => None,
-    }
+    read_diff(words).or(read_route(words))
 }

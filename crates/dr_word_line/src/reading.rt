@@ -14,31 +14,19 @@ use std::alloc::{AllocError, Global};
 fn read_plain<'a>(words: &'a [&'a str]) -> Option<Task<'a>>
     ensures { Reads words.now result }
 {
-    if let Some(asked) = read_alone(words) {
-        return Some(asked);
-    }
-    if let Some(asked) = read_named(words) {
-        return Some(asked);
-    }
-    if let Some(asked) = read_ways(words) {
-        return Some(asked);
-    }
-    if let Some(asked) = read_ledger(words) {
-        return Some(asked);
-    }
-    match read_running(words) {
-        Some(asked) => Some(asked),
-        None => None,
-    }
+    read_alone(words)
+        .or(read_named(words))
+        .or(read_ways(words))
+        .or(read_ledger(words))
+        .or(read_running(words))
 }
 
 /// What the words ask for.
 pub fn read_words<'a>(alloc: Global, words: &'a [&'a str]) -> Result<Task<'a>, AllocError>
     ensures { IfOk result (λ found. (asked : TaskValue) → Asks words.now asked → found ≡ asked) }
 {
-    if let Some(asked) = read_plain(words) {
-        return Ok(asked);
+    match read_plain(words) {
+        Some(asked) => Ok(asked),
+        None => read_others(alloc, words),
     }
-    let others = read_others(alloc, words)?;
-    Ok(others)
 }

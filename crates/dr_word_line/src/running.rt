@@ -7,7 +7,7 @@ ghost use Rattle.dr_word_line.specs.declared.words.Errand.{Errand as ErrandValue
 ghost use Rattle.dr_word_line.specs.declared.words.Errand.TheVariants as errands;
 ghost use Rattle.dr_word_line.specs.declared.words.RunningNode.{RunningNode as RunningNodeValue};
 
-use crate::option::is_no_option;
+use crate::option::{is_no_option, is_with_two};
 use crate::words::{Errand, RunningNode, Task};
 
 /// Whether the words say where a running node may be asked.
@@ -27,10 +27,7 @@ fn at_running<'a>(name: &str, words: &'a [&'a str]) -> Option<(RunningNode<'a>, 
 {
     match words {
         [word, plan, certificate, node, option, at, more @ ..]
-            if *word == name
-                && is_no_option(plan)
-                && is_no_option(certificate)
-                && is_at(option, at) => {
+            if is_with_two(name, word, plan, certificate) && is_at(option, at) => {
             let given = RunningNode {
                 plan,
                 certificate,
@@ -216,16 +213,9 @@ fn read_rows<'a>(words: &'a [&'a str]) -> Option<Task<'a>>
         → IsErrandOf words.now given (errands.Forget uid)
         → ⊥) }
 {
-    if let Some(asked) = read_requeue(words) {
-        return Some(asked);
-    }
-    if let Some(asked) = read_giving_up(words) {
-        return Some(asked);
-    }
-    match read_forgetting(words) {
-        Some(asked) => Some(asked),
-        None => None,
-    }
+    read_requeue(words)
+        .or(read_giving_up(words))
+        .or(read_forgetting(words))
 }
 
 /// What else words tell a running node to do, if they are of such a form.
@@ -242,16 +232,9 @@ fn read_work<'a>(words: &'a [&'a str]) -> Option<Task<'a>>
     ensures stop { IfNone result
         ((given : RunningNodeValue) → IsErrandOf words.now given errands.Stop → ⊥) }
 {
-    if let Some(asked) = read_visiting(words) {
-        return Some(asked);
-    }
-    if let Some(asked) = read_backup(words) {
-        return Some(asked);
-    }
-    match read_stopping(words) {
-        Some(asked) => Some(asked),
-        None => None,
-    }
+    read_visiting(words)
+        .or(read_backup(words))
+        .or(read_stopping(words))
 }
 
 /// What words ask of a running node, or tell it to do, if they are of such a form.
@@ -262,14 +245,7 @@ pub(crate) fn read_running<'a>(words: &'a [&'a str]) -> Option<Task<'a>>
         → IsErrandOf words.now given errand
         → ⊥) }
 {
-    if let Some(asked) = read_question(words) {
-        return Some(asked);
-    }
-    if let Some(asked) = read_rows(words) {
-        return Some(asked);
-    }
-    match read_work(words) {
-        Some(asked) => Some(asked),
-        None => None,
-    }
+    read_question(words)
+        .or(read_rows(words))
+        .or(read_work(words))
 }

@@ -1,171 +1,218 @@
 //! The options of the word `serve`.
-use crate::parts::{excludes, flag, needs, number, option};
-use clap::{Arg, value_parser};
-use std::alloc::{AllocError, Global};
+use crate::parts::{Bound, Shape};
 
-/// The levels of a log.
-const LEVELS: &[&str] = &["error", "info", "debug"];
+#[derive(Clone, Copy)]
+pub(crate) enum ServeOption {
+    Links,
+    Log,
+    Report,
+    Workers,
+    Memory,
+    Connect,
+    Request,
+    Write,
+    Message,
+    Idle,
+    UntilInputEnds,
+    MustExist,
+    ForgetAfter,
+    ForgetNever,
+    Control,
+    Token,
+    Host,
+    Anyone,
+}
 
 /// After how many associations `serve` ends.
-pub(crate) fn links<'a>(alloc: Global) -> Arg<'a> {
-    number(
-        alloc,
-        (
-            "LINKS",
-            "ends after so many associations, for 0 never (0 to 4294967295)",
-        ),
-        "links",
-        "N",
-    )
-}
+const LINKS: Shape = Shape::Number(
+    (
+        "LINKS",
+        "ends after so many associations, for 0 never (0 to 4294967295)",
+    ),
+    "links",
+    "N",
+);
 
 /// What `serve` logs.
-pub(crate) fn log<'a>(alloc: Global) -> Arg<'a> {
-    option(
-        alloc,
-        (
-            "LOG",
-            "what is logged on the standard error: error, info (the default) or debug",
-        ),
-        "log",
-        "LEVEL",
-    )
-    .value_parser(LEVELS)
-}
+const LOG: Shape = Shape::Level(
+    (
+        "LOG",
+        "what is logged on the standard error: error, info (the default) or debug",
+    ),
+    "log",
+    "LEVEL",
+);
 
 /// Where `serve` writes what the node has.
-pub(crate) fn report<'a>(alloc: Global) -> Arg<'a> {
-    option(
-        alloc,
-        (
-            "REPORT",
-            "writes what the node has to that file, at most every ten seconds",
-        ),
-        "report",
-        "FILE",
-    )
-}
+const REPORT: Shape = Shape::Valued(
+    (
+        "REPORT",
+        "writes what the node has to that file, at most every ten seconds",
+    ),
+    "report",
+    "FILE",
+);
 
 /// How many threads serve.
-pub(crate) fn workers<'a>(alloc: Global) -> Arg<'a> {
-    option(
-        alloc,
-        (
-            "WORKERS",
-            "how many threads serve associations, 1 to 264 (the default)",
-        ),
-        "workers",
-        "N",
-    )
-    .value_parser(value_parser!(u16))
-}
+const WORKERS: Shape = Shape::Small(
+    (
+        "WORKERS",
+        "how many threads serve associations, 1 to 264 (the default)",
+    ),
+    "workers",
+    "N",
+);
 
 /// How much memory data sets take.
-pub(crate) fn memory<'a>(alloc: Global) -> Arg<'a> {
-    number(
-        alloc,
-        (
-            "MEMORY",
-            "how much all associations hold in memory of data sets, at least 128 (1024)",
-        ),
-        "memory",
-        "MB",
-    )
-}
+const MEMORY: Shape = Shape::Number(
+    (
+        "MEMORY",
+        "how much all associations hold in memory of data sets, at least 128 (1024)",
+    ),
+    "memory",
+    "MB",
+);
 
-/// How long `serve` waits for something.
-pub(crate) fn seconds<'a>(alloc: Global, name: &'a str, option: &'a str, help: &'a str) -> Arg<'a> {
-    number(alloc, (name, help), option, "SECONDS")
-}
+/// How long `serve` waits for its peers.
+const CONNECT: Shape = Shape::Number(
+    ("CONNECT", "gives a connect up then (10)"),
+    "connect",
+    "SECONDS",
+);
+
+const REQUEST: Shape = Shape::Number(
+    (
+        "REQUEST",
+        "who connects has to have asked for an association by then, 1 to 600 (30)",
+    ),
+    "request",
+    "SECONDS",
+);
+
+const WRITE: Shape = Shape::Number(
+    (
+        "WRITE",
+        "a PDU that isn't taken by then ends an association (60)",
+    ),
+    "write",
+    "SECONDS",
+);
+
+const MESSAGE: Shape = Shape::Number(
+    (
+        "MESSAGE",
+        "64 kB of a message that has begun, or its end, have to come within that time (30)",
+    ),
+    "message",
+    "SECONDS",
+);
+
+const IDLE: Shape = Shape::Number(
+    (
+        "IDLE",
+        "so much silence between two messages ends an association (600)",
+    ),
+    "idle",
+    "SECONDS",
+);
 
 /// Whether `serve` ends with its input.
-pub(crate) fn until_input_ends<'a>(alloc: Global) -> Arg<'a> {
-    flag(
-        alloc,
-        "UNTIL",
-        "until-input-ends",
-        "ends in order when the standard input ends",
-    )
-}
+const UNTIL_INPUT_ENDS: Shape = Shape::Flag(
+    ("UNTIL", "ends in order when the standard input ends"),
+    "until-input-ends",
+);
 
 /// Whether `serve` asks for a ledger that is there.
-pub(crate) fn must_exist<'a>(alloc: Global) -> Arg<'a> {
-    flag(
-        alloc,
+const MUST_EXIST: Shape = Shape::Flag(
+    (
         "EXIST",
-        "must-exist",
         "refuses a ledger's file that isn't there, where else one is made",
-    )
-}
+    ),
+    "must-exist",
+);
 
 /// After how many days `serve` forgets.
-pub(crate) fn forget_after<'a>(alloc: Global) -> Result<Arg<'a>, AllocError> {
-    excludes(
-        number(
-            alloc,
-            (
-                "DAYS",
-                "forgets what was sent on everywhere and isn't kept after so many days (30)",
-            ),
-            "forget-after",
-            "DAYS",
-        ),
-        "NEVER",
-    )
-}
+const FORGET_AFTER: Shape = Shape::Number(
+    (
+        "DAYS",
+        "forgets what was sent on everywhere and isn't kept after so many days (30)",
+    ),
+    "forget-after",
+    "DAYS",
+);
 
 /// The option of `serve` to forget nothing.
-pub(crate) fn forget_never<'a>(alloc: Global) -> Arg<'a> {
-    flag(alloc, "NEVER", "forget-never", "forgets nothing")
-}
+const FORGET_NEVER: Shape = Shape::Flag(("NEVER", "forgets nothing"), "forget-never");
 
 /// Where `serve` may be asked and told to act.
-pub(crate) fn control<'a>(alloc: Global) -> Arg<'a> {
-    option(
-        alloc,
-        (
-            "CONTROL",
-            "may be asked there what it has, and told to act, by HTTP",
-        ),
-        "control",
-        "HOST:PORT",
-    )
-}
+const CONTROL: Shape = Shape::Valued(
+    (
+        "CONTROL",
+        "may be asked there what it has, and told to act, by HTTP",
+    ),
+    "control",
+    "HOST:PORT",
+);
 
 /// Who may tell it to act.
-pub(crate) fn token<'a>(alloc: Global) -> Arg<'a> {
-    option(
-        alloc,
-        (
-            "TOKEN",
-            "the file with the token that an act needs; without it nothing can be acted",
-        ),
-        "control-token",
-        "FILE",
-    )
-}
+const TOKEN: Shape = Shape::Valued(
+    (
+        "TOKEN",
+        "the file with the token that an act needs; without it nothing can be acted",
+    ),
+    "control-token",
+    "FILE",
+);
 
 /// By which name it may be called there, too.
-pub(crate) fn host<'a>(alloc: Global) -> Arg<'a> {
-    option(
-        alloc,
-        ("HOST", "one name more by which a request may call it"),
-        "control-host",
-        "HOST",
-    )
-}
+const HOST: Shape = Shape::Valued(
+    ("HOST", "one name more by which a request may call it"),
+    "control-host",
+    "HOST",
+);
 
 /// Whether it may be asked from other machines.
-pub(crate) fn anyone<'a>(alloc: Global) -> Arg<'a> {
-    flag(
-        alloc,
+const ANYONE: Shape = Shape::Flag(
+    (
         "ANYONE",
-        "control-anyone",
         "allows an address that other machines reach; to read needs the token then, too",
-    )
-}
+    ),
+    "control-anyone",
+);
 
-/// Such an option says nothing without an address.
-pub(crate) fn with_control<'a>(option: Arg<'a>) -> Result<Arg<'a>, AllocError> {
-    needs(option, "CONTROL")
+impl ServeOption {
+    /// What it is like.
+    pub(crate) fn shape(self) -> Shape {
+        match self {
+            ServeOption::Links => LINKS,
+            ServeOption::Log => LOG,
+            ServeOption::Report => REPORT,
+            ServeOption::Workers => WORKERS,
+            ServeOption::Memory => MEMORY,
+            ServeOption::Connect => CONNECT,
+            ServeOption::Request => REQUEST,
+            ServeOption::Write => WRITE,
+            ServeOption::Message => MESSAGE,
+            ServeOption::Idle => IDLE,
+            ServeOption::UntilInputEnds => UNTIL_INPUT_ENDS,
+            ServeOption::MustExist => MUST_EXIST,
+            ServeOption::ForgetAfter => FORGET_AFTER,
+            ServeOption::ForgetNever => FORGET_NEVER,
+            ServeOption::Control => CONTROL,
+            ServeOption::Token => TOKEN,
+            ServeOption::Host => HOST,
+            ServeOption::Anyone => ANYONE,
+        }
+    }
+
+    /// What binds it to others.
+    pub(crate) fn bounds(self) -> &'static [Bound] {
+        match self {
+            ServeOption::ForgetAfter => &[Bound::Excludes("NEVER")],
+            ServeOption::Token | ServeOption::Host | ServeOption::Anyone => &[Bound::Needs(
+                "CONTROL",
+            )],
+            _ => &[],
+        }
+    }
 }

@@ -1,14 +1,14 @@
-use Rattle.dr_word_line.proofs.Places.{places_6, same_word}
+use Rattle.dr_word_line.proofs.Places.{places_6}
 use Rattle.dr_word_line.proofs.ledgers.read_change.Goals as goal
 
 pub returns-in-len6-clause-asked : goal.returns-in-len6-clause-asked
 returns-in-len6-clause-asked c = (
   _,
   places_6 _ c.args.words.now c.in-len6.len_at_least c.in-len6.len_below,
-  same_word _ _ _ c.eq.ensures c.if-eq.true,
-  c.is_no_option.ensures.0 c.if-is_no_option.true,
-  c.is_no_option-then-is_no_option.ensures.0 c.if-is_no_option-2.true,
-  c.is_no_option-then-is_no_option-2.ensures.0 c.if-is_no_option-3.true,
-  c.is_no_option-then-is_no_option-3.ensures.0 c.if-is_no_option-4.true,
-  c.is_no_option-then-is_no_option-4.ensures.0 c.if-is_no_option-5.true,
+  (c.is_with_three.ensures.0 c.if-is_with_three.true).0,
+  (c.is_with_three.ensures.0 c.if-is_with_three.true).1,
+  (c.is_with_three.ensures.0 c.if-is_with_three.true).2,
+  (c.are_paths.ensures.0 c.if-are_paths.true).0,
+  (c.are_paths.ensures.0 c.if-are_paths.true).1,
+  (c.is_with_three.ensures.0 c.if-is_with_three.true).3,
 )

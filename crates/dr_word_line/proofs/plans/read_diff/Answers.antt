@@ -1,5 +1,5 @@
 use Rattle.std.proofs.Common.{refl}
-use Rattle.dr_word_line.proofs.Places.{places_5, same_word}
+use Rattle.dr_word_line.proofs.Places.{places_5}
 use Rattle.dr_word_line.proofs.plans.read_diff.Goals as goal
 
 pub returns-in-len5-clause-asked : goal.returns-in-len5-clause-asked
@@ -7,11 +7,11 @@ returns-in-len5-clause-asked c = (
   (
     _,
     places_5 _ c.args.words.now c.in-len5.len_at_least c.in-len5.len_below,
-    same_word _ _ _ c.eq.ensures c.if-eq.true,
-    c.is_no_option.ensures.0 c.if-is_no_option.true,
-    c.is_no_option-then-is_no_option.ensures.0 c.if-is_no_option-2.true,
-    c.is_no_option-then-is_no_option-2.ensures.0 c.if-is_no_option-3.true,
-    c.is_no_option-then-is_no_option-3.ensures.0 c.if-is_no_option-4.true,
+    (c.is_with_two.ensures.0 c.if-is_with_two.true).0,
+    (c.is_with_two.ensures.0 c.if-is_with_two.true).1,
+    (c.is_with_two.ensures.0 c.if-is_with_two.true).2,
+    (c.are_paths.ensures.0 c.if-are_paths.true).0,
+    (c.are_paths.ensures.0 c.if-are_paths.true).1,
   ),
   refl,
 )
