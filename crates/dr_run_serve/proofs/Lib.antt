@@ -1,2 +1,6 @@
+mod Chained
 mod InTurn
+mod Leafing
 mod Noting
+mod Turning
+mod Wholly

@@ -1,4 +1,5 @@
 pub mod Dues
+pub mod Laws
 pub mod Pasts
 pub mod Rests
 pub mod Rounds

@@ -1,21 +1,30 @@
 -- What came to be over by the lines of a journal: when a row of an instance was last done or
 -- dropped. What was forgotten since isn't here any more, nor is what the node keeps.
-use Rattle.std.specs.Prelude.{◌≡◌, ◌↔◌, ℕ, Bool, true, false, cond, ◌&&◌, max}
-use Rattle.std.specs.Prelude.{List, [], ◌∷◌, ◌++◌}
-use Rattle.std.specs.Prelude.{Contains, Option, None, Some}
+use Rattle.std.specs.Prelude.{◌≡◌, ◌≢◌, ◌≤◌, ◌↔◌, ◌⊎◌, ℕ, Bool, true, false, cond, ◌&&◌, max}
+use Rattle.std.specs.Prelude.{List, [], ◌∷◌, ◌++◌, flat_map, length, map as mapped}
+use Rattle.std.specs.Prelude.{Contains, Option, None, Some, Result, Ok, Err}
 use Rattle.std.specs.BTreeMap as tree
 use Rattle.std.specs.BTreeMap.{is_at}
 use Rattle.std.specs.BTreeSet as set
 use Rattle.std.specs.List.Sorted.{IsNonDecreasingBy}
 use Rattle.dr_base.specs.Texts.{Text, text_cmp}
-use Rattle.dr_ledger.specs.Books.{is_success}
+use Rattle.dr_desk.specs.Reading.{Reading}
+use Rattle.dr_ledger.specs.Bodies.{Bodies}
+use Rattle.dr_ledger.specs.Books.{Book, Line, is_success}
+use Rattle.dr_ledger.specs.Replies.{Reads}
+use Rattle.dr_ledger.specs.declared.fault.LedgerFault.{LedgerFault}
+use Rattle.dr_ledger.specs.declared.fault.LedgerFault.TheVariants as fault
 use Rattle.dr_ledger.specs.declared.item.Outcome.{Outcome}
 use Rattle.dr_ledger.specs.declared.item.Outcome.TheVariants.{Status, Broken, NoContext}
+use Rattle.dr_ledger_history.specs.Lines.{line_of}
 use Rattle.dr_ledger_history.specs.declared.line.JournalLine.{JournalLine}
 use Rattle.dr_ledger_history.specs.declared.line.JournalLine.TheVariants as told
+use Rattle.dr_ledger_views.specs.Numbers.{AreBehind}
 use Rattle.dr_run_answer.specs.Journals.{next_number}
 use Rattle.dr_run_serve.specs.declared.past.Past.{Past}
 use Rattle.dr_run_serve.specs.declared.sweep.OverInstance.{OverInstance}
+use Rattle.dr_run_serve.specs.declared.sweep.Sweep.{Sweep}
+use Rattle.dr_site.specs.Parts.{Part}
 
 -- ---- one instance
 
@@ -97,3 +106,80 @@ pub record IsQueueOf (ends : tree.BTreeMap Text ℕ) (queue : List OverInstance)
   pub ordered : IsNonDecreasingBy (λ (over : OverInstance). over.at) queue
   pub just : (uid : Text) (at : ℕ)
       → Contains queue (record { uid = uid; at = at }) ↔ (tree.get text_cmp ends uid ≡ Some at)
+
+-- ---- as a desk tells them
+
+module _ {L : Type 0} (site_of : L → Part) (book : L → Book) (bodies : L → Bodies)
+    (stands : L → Type 0) (failed : L → ℕ) (own : Part) (first : List Line)
+    (numbered : L → List (ℕ × Line)) where
+  -- at some moment the desk answered that to the question for the lines behind that number
+  abbrev pub TellsPage : ℕ → Result (List JournalLine) LedgerFault → Type 0
+  TellsPage after came =
+      Reading site_of book bodies stands failed own first
+      (λ ledger answer. Reads answer (λ lines.
+      AreBehind after 256 (numbered ledger) (mapped line_of lines))) came
+
+-- all lines of these pages
+abbrev pub joined : List (List JournalLine) → List JournalLine
+joined pages = flat_map (λ (page : List JournalLine). page) pages
+
+module _ (tells : ℕ → Result (List JournalLine) LedgerFault → Type 0) where
+  -- What was read behind that number, of one page. True: no line was told. False: the lines that
+  -- were told. Else no lines, for the fault that was told; or the first of those that were told,
+  -- where memory ran out behind them.
+  abbrev pub ReadsPage : ℕ → Result Bool LedgerFault → List JournalLine → Type 0
+  ReadsPage after (Ok true) more = (more ≡ []) × tells after (Ok [])
+  ReadsPage after (Ok false) more = (more ≢ []) × tells after (Ok more)
+  ReadsPage after (Err why) more =
+      ((more ≡ []) × tells after (Err why))
+      ⊎ ((rest : List JournalLine)
+      × (why ≡ fault.Memory) × tells after (Ok (more ++ rest)))
+
+  -- pages were read, each behind the one before, and lines were told in each
+  abbrev pub ArePages : ℕ → List (List JournalLine) → Type 0
+  ArePages after [] = Unit {0}
+  ArePages after (page ∷ pages) =
+      ReadsPage after (Ok false) page × ArePages (counted_from after page) pages
+
+  -- What comes behind so many pages: the last one, or no more than a hundred are read.
+  abbrev pub EndsPages : ℕ → ℕ → Result Bool LedgerFault → List JournalLine → Type 0
+  EndsPages after count (Ok true) last = ReadsPage after (Ok true) last
+  EndsPages after count (Ok false) last = (last ≡ []) × (count ≡ 100)
+  EndsPages after count (Err why) last = ReadsPage after (Err why) last
+
+  -- What was read behind that number: all lines of pages, a hundred at most, and of the last one
+  -- what could be. True: no line was told behind them.
+  abbrev pub ReadsOn : ℕ → Result Bool LedgerFault → List JournalLine → Type 0
+  ReadsOn after result more =
+      (pages : List (List JournalLine)) × (last : List JournalLine)
+      × ArePages after pages
+      × (length pages ≤ 100)
+      × (more ≡ joined pages ++ last)
+      × EndsPages (counted_from after (joined pages)) (length pages) result last
+
+  -- What reading on came to, where these lines had been read: what is over by all lines, and none is
+  -- noted any more; nothing yet, and the lines are noted; or what the end of it was, and the lines
+  -- are noted, or none is, where memory ran out behind the last one.
+  abbrev pub FindsOver : List JournalLine → Result (Option Sweep) LedgerFault → Past → Type 0
+  FindsOver lines (Ok (Some sweep)) past =
+      (more : List JournalLine)
+      × ReadsOn (counted_from 0 lines) (Ok true) more
+      × IsFoundIn (lines ++ more) sweep.queue.items
+      × HasNoted [] past
+  FindsOver lines (Ok None) past =
+      (more : List JournalLine)
+      × ReadsOn (counted_from 0 lines) (Ok false) more
+      × HasNoted (lines ++ more) past
+  FindsOver lines (Err why) past =
+      ((more : List JournalLine)
+      × ReadsOn (counted_from 0 lines) (Err why) more
+      × HasNoted (lines ++ more) past)
+      ⊎ ((more : List JournalLine)
+      × ReadsOn (counted_from 0 lines) (Ok true) more
+      × (why ≡ fault.Memory) × HasNoted [] past)
+
+  -- what is known to be over: the queue, and no line was read; or else what is found
+  abbrev pub IsKnown : List JournalLine → Option Sweep → Result (Option Sweep) LedgerFault
+      → Past → Type 0
+  IsKnown lines (Some sweep) known past = (known ≡ Ok (Some sweep)) × HasNoted lines past
+  IsKnown lines None known past = FindsOver lines known past

@@ -1,4 +1,6 @@
 //! The rows to a next node that wait, and since when each of their instances is here.
+ghost use Rattle.std.specs.Prelude.{◌≡◌, ◌+◌, ◌-◌, ◌^◌, ◌==◌, [], Some, cond, false, min};
+
 use dr_base::Text;
 use dr_run_control::RowSearch;
 use std::alloc::{AllocError, Global};
@@ -28,7 +30,10 @@ pub struct WaitingRows {
 
 impl WaitingRows {
     /// None is noted; some may be there from before.
-    pub fn new(alloc: Global) -> WaitingRows {
+    pub fn new(alloc: Global) -> WaitingRows
+        ensures { (result.is_asked ≡ false) × (result.is_full ≡ false) × (result.round ≡ 0)
+            × (result.after ≡ Some []) }
+    {
         WaitingRows {
             alloc,
             moments: BTreeMap::new(alloc),
@@ -41,7 +46,13 @@ impl WaitingRows {
     }
 
     /// Rows may wait that aren't noted, wherever they are.
-    pub fn doubt(&mut self) {
+    pub fn doubt(&mut self)
+        ensures round { self.new.round ≡ min (self.old.round + 1) (2 ^ 64 - 1) }
+        ensures after { self.new.after ≡ Some [] }
+        ensures rows { (self.new.moments ≡ self.old.moments) × (self.new.ages ≡ self.old.ages) }
+        ensures flags { (self.new.is_asked ≡ self.old.is_asked)
+            × (self.new.is_full ≡ self.old.is_full) }
+    {
         self.round = self.round.saturating_add(1);
         self.after = Some(Text::empty(self.alloc));
     }
@@ -67,7 +78,13 @@ impl WaitingRows {
 
     /// In that round rows were noted up to a UID, or all of them. Where another round has begun
     /// meanwhile, nothing changes.
-    pub fn note_search(&mut self, round: u64, last: Option<Text>) {
+    pub fn note_search(&mut self, round: u64, last: Option<Text>)
+        ensures after { self.new.after ≡ cond (self.old.round == round) last self.old.after }
+        ensures round { self.new.round ≡ self.old.round }
+        ensures rows { (self.new.moments ≡ self.old.moments) × (self.new.ages ≡ self.old.ages) }
+        ensures flags { (self.new.is_asked ≡ self.old.is_asked)
+            × (self.new.is_full ≡ self.old.is_full) }
+    {
         if self.round == round {
             self.after = last;
         }

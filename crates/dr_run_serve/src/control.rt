@@ -1,5 +1,7 @@
 //! The control connection of a node that runs: who asks over it what the node has, and tells it to
 //! act.
+ghost use Rattle.std.specs.Prelude.{◌≡◌};
+
 use crate::caller::{ASKED, CallerInput, Outgoing, drain};
 use crate::copying::{Copied, Copier};
 use crate::events::{tell_act, tell_copied, tell_refused, tell_told_to_stop, tell_uncopied};
@@ -56,7 +58,9 @@ impl ControlPort {
         keys: RandomState,
         access: Access,
         version: String,
-    ) -> ControlPort {
+    ) -> ControlPort
+        ensures { (result.access ≡ access) × (result.version ≡ version) }
+    {
         ControlPort {
             listener,
             keys,

@@ -5,8 +5,8 @@ use crate::monitor::Monitor;
 use crate::reporting::{LastTold, report_changes};
 use crate::shutting::{EndStage, Wake};
 use crate::signal::{BEGIN, News};
-use crate::sweeper::Sweeper;
-use dr_desk::Sharing;
+use crate::sweeper::{Sweeper, tell_turn};
+use dr_desk::{Pass, Sharing};
 use dr_ledger_views::Views;
 use dr_run_net::{Listening, Network};
 use dr_session::Clock;
@@ -30,6 +30,48 @@ fn tell_lacking<G: Log>(log: &G, senders: usize, news: News) {
 /// Tells what has changed, now and then, until nobody serves or sends any more; then once more. It
 /// has the node forget what has been over for long. Where somebody doubts the store and it is shut,
 /// it ends the node. It visits no hop and serves nobody, so that neither holds it up.
+fn keep_on<
+    R: Wait + time::Clock,
+    L: Views,
+    B: Sharing,
+    D: Listening,
+    N: Network,
+    C: Clock,
+    G: Monitor,
+>(
+    node: &LiveNode<'_, R, L, B, C, G>,
+    senders: usize,
+    sweeper: &mut Sweeper<B>,
+    wake: &Wake<'_, D, N>,
+) {
+    let (rt, clock, log) = (node.rt, node.clock, node.log);
+    if !wake.signal.has_begun(rt, BEGIN) {
+        return;
+    }
+    let (mut told, mut stage, mut looks) = (LastTold::new(), EndStage::Serving, 0u32);
+    for _ in rt.forever() {
+        let now = clock.now();
+        stage = wake.stops(rt, stage, now, log);
+        told = report_changes(node, told, now, false);
+        if stage == EndStage::Serving {
+            tell_turn(node, sweeper.turn(node, now));
+        }
+        let news = wake.signal.wait(rt, TURN);
+        if news.doubts && wake.ends(rt, node.desk, log) {
+            return;
+        }
+        if news.over && news.sent {
+            report_changes(node, told, clock.now(), true);
+            return;
+        }
+        looks = looks.saturating_add(1);
+        if looks == PATIENCE {
+            tell_lacking(log, senders, news);
+        }
+    }
+}
+
+/// The same with a pass, by which it forgets what has been over for so many milliseconds; the pass.
 pub fn keep<
     R: Wait + time::Clock,
     L: Views,
@@ -41,34 +83,11 @@ pub fn keep<
 >(
     node: &LiveNode<'_, R, L, B, C, G>,
     senders: usize,
-    sweeper: Sweeper<B>,
+    pass: Pass<B>,
+    after: Option<u64>,
     wake: &Wake<'_, D, N>,
-) -> Sweeper<B> {
-    let (rt, clock, log) = (node.rt, node.clock, node.log);
-    let mut sweeper = sweeper;
-    if !wake.signal.has_begun(rt, BEGIN) {
-        return sweeper;
-    }
-    let (mut told, mut stage, mut looks) = (LastTold::new(), EndStage::Serving, 0u32);
-    for _ in rt.forever() {
-        let now = clock.now();
-        stage = wake.stops(rt, stage, now, log);
-        told = report_changes(node, told, now, false);
-        if stage == EndStage::Serving {
-            sweeper.turn(node, now);
-        }
-        let news = wake.signal.wait(rt, TURN);
-        if news.doubts && wake.ends(rt, node.desk, log) {
-            return sweeper;
-        }
-        if news.over && news.sent {
-            report_changes(node, told, clock.now(), true);
-            return sweeper;
-        }
-        looks = looks.saturating_add(1);
-        if looks == PATIENCE {
-            tell_lacking(log, senders, news);
-        }
-    }
-    sweeper
+) -> Pass<B> {
+    let mut sweeper = Sweeper::new(node.alloc, pass, after);
+    keep_on(node, senders, &mut sweeper, wake);
+    sweeper.into_pass()
 }

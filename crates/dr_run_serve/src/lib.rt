@@ -31,6 +31,7 @@ mod copying;
 mod events;
 mod intake;
 mod keeper;
+pub mod laws;
 mod live;
 mod monitor;
 mod open;

@@ -3,8 +3,10 @@ ghost use Rattle.std.specs.Prelude.{◌≡◌, ◌++◌, [], List, IfOk, None, S
 ghost use Rattle.std.specs.Prelude.{◌&&◌, cond, option_copied, true};
 ghost use Rattle.dr_base.specs.Texts.{Text as Words};
 ghost use Rattle.dr_ledger_history.specs.declared.line.JournalLine.{JournalLine as LineValue};
-ghost use Rattle.dr_run_serve.specs.Pasts.{HasNoted, IsFoundIn, IsQueueOf, Knows};
-ghost use Rattle.dr_run_serve.specs.Pasts.{ended_by, ends_row, is_uid, known_by, later};
+ghost use Rattle.dr_run_serve.specs.Pasts.{FindsOver, HasNoted, IsFoundIn, IsKnown, IsQueueOf};
+ghost use Rattle.dr_run_serve.specs.Pasts.{Knows, ReadsOn};
+ghost use Rattle.dr_run_serve.specs.Pasts.{ReadsPage, TellsPage, counted_from, ended_by, ends_row};
+ghost use Rattle.dr_run_serve.specs.Pasts.{is_uid, known_by, later};
 
 use crate::sweep::{OverInstance, Sweep};
 use dr_base::Text;
@@ -14,6 +16,7 @@ use dr_ledger_history::JournalLine;
 use dr_ledger_views::Views;
 use std::alloc::{AllocError, Global};
 use std::collections::{BTreeMap, BTreeSet};
+use std::mem;
 use std::sync::Wait;
 
 /// So many lines are read under the lock at a time.
@@ -211,24 +214,6 @@ impl Past {
         Ok(())
     }
 
-    /// Reads on, so much at most; whether that was all. The lock is given back between two pages.
-    ///
-    /// Errors: Store, Memory; then the next call goes on behind what was noted.
-    pub fn read_on<R: Wait, L: Views, B: Sharing>(
-        &mut self,
-        rt: &R,
-        desk: &SharedDesk<L, B>,
-    ) -> Result<bool, LedgerFault> {
-        for _ in 0..PAGES {
-            let page = desk.lines_behind(rt, self.after, PAGE)?;
-            if page.is_empty() {
-                return Ok(true);
-            }
-            self.note_page(page.as_slice())?;
-        }
-        Ok(false)
-    }
-
     /// What came to be over, or may have: the ledger decides at each forgetting.
     ///
     /// Errors: want of memory.
@@ -240,5 +225,116 @@ impl Past {
         let Past { ends, .. } = self;
         let sweep = in_order(alloc, ends)?;
         Ok(sweep)
+    }
+
+    /// The same by all that was noted; and nothing is noted any more.
+    ///
+    /// Errors: want of memory.
+    fn take(&mut self, alloc: Global) -> Result<Sweep, AllocError>
+        ensures over { IfOk result (λ sweep. (lines : List LineValue)
+            → HasNoted lines self.old
+            → IsFoundIn lines sweep.queue.items) }
+        ensures none { HasNoted [] self.new }
+    {
+        let whole = mem::replace(self, Past::new(alloc));
+        let sweep = whole.into_sweep(alloc)?;
+        Ok(sweep)
+    }
+}
+
+/// A node's journal, as its desk tells it.
+#[derive(Drop)]
+pub struct DeskJournal<'a, R: Wait, L: Views, B: Sharing> {
+    pub rt: &'a R,
+    pub desk: &'a SharedDesk<L, B>,
+}
+
+impl<'a, R: Wait, L: Views, B: Sharing> DeskJournal<'a, R, L, B> {
+    /// Reads a page; whether no line was left.
+    ///
+    /// Errors: Store, Memory; then the next call goes on behind what was noted.
+    fn read_page(&self, past: &mut Past) -> Result<bool, LedgerFault>
+        ensures { (lines : List LineValue)
+            → HasNoted lines past.old
+            → (more : List LineValue)
+            × HasNoted (lines ++ more) past.new
+            × ReadsPage (TellsPage L.site L.book L.bodies L.stands L.failed B.site B.first
+            L.numbered) (counted_from 0 lines) result more }
+    {
+        let page = match self.desk.lines_behind(self.rt, past.after, PAGE) {
+            Ok(page) => page,
+            Err(fault) => return Err(fault),
+        };
+        if page.is_empty() {
+            return Ok(true);
+        }
+        past.note_page(page.as_slice())?;
+        Ok(false)
+    }
+
+    /// Reads on, so much at most; whether that was all. The lock is given back between two pages.
+    ///
+    /// Errors: Store, Memory; then the next call goes on behind what was noted.
+    fn read_on(&self, past: &mut Past) -> Result<bool, LedgerFault>
+        ensures { (lines : List LineValue)
+            → HasNoted lines past.old
+            → (more : List LineValue)
+            × HasNoted (lines ++ more) past.new
+            × ReadsOn (TellsPage L.site L.book L.bodies L.stands L.failed B.site B.first
+            L.numbered) (counted_from 0 lines) result more }
+    {
+        for _turn in 0..PAGES {
+            let is_all = match self.read_page(past) {
+                Ok(is_all) => is_all,
+                Err(fault) => return Err(fault),
+            };
+            if is_all {
+                return Ok(true);
+            }
+        }
+        Ok(false)
+    }
+
+    /// Reads on; what is over by all lines, once all were read.
+    ///
+    /// Errors: Store, Memory; then the next call goes on where this one ended, or from the
+    /// beginning.
+    fn find(&self, alloc: Global, past: &mut Past) -> Result<Option<Sweep>, LedgerFault>
+        ensures { (lines : List LineValue)
+            → HasNoted lines past.old
+            → FindsOver (TellsPage L.site L.book L.bodies L.stands L.failed B.site B.first
+            L.numbered) lines result past.new }
+    {
+        let is_all = match self.read_on(past) {
+            Ok(is_all) => is_all,
+            Err(fault) => return Err(fault),
+        };
+        if is_all {
+            return match past.take(alloc) {
+                Ok(sweep) => Ok(Some(sweep)),
+                Err(AllocError) => Err(LedgerFault::Memory),
+            };
+        }
+        Ok(None)
+    }
+
+    /// What is over, where that is known, or can be found.
+    ///
+    /// Errors: those of `find`.
+    pub fn known(
+        &self,
+        alloc: Global,
+        sweep: Option<Sweep>,
+        past: &mut Past,
+    ) -> Result<Option<Sweep>, LedgerFault>
+        ensures { (lines : List LineValue)
+            → HasNoted lines past.old
+            → IsKnown (TellsPage L.site L.book L.bodies L.stands L.failed B.site B.first
+            L.numbered) lines sweep result past.new }
+    {
+        match sweep {
+            Some(sweep) => Ok(Some(sweep)),
+            None => self.find(alloc, past),
+        }
     }
 }

@@ -1,6 +1,12 @@
 //! The one who sends to a hop.
-ghost use Rattle.std.specs.Prelude.{◌≡◌, ◌↔◌, IsTrue, max, true};
-ghost use Rattle.dr_run_serve.specs.Rests.{IsVisited, rest_end};
+ghost use Rattle.std.specs.Prelude.{◌≡◌, ◌↔◌, ℕ, IfOk, IsTrue, Option, Result, max, true};
+ghost use Rattle.std.specs.FinMap as map;
+ghost use Rattle.dr_desk.specs.Reading.{Reading};
+ghost use Rattle.dr_ledger.specs.Replies.{Reads};
+ghost use Rattle.dr_ledger.specs.declared.fault.LedgerFault.{LedgerFault as Fault};
+ghost use Rattle.dr_ledger_views.specs.Views.{IsLeast, dues};
+ghost use Rattle.dr_run_serve.specs.Dues.{due_of};
+ghost use Rattle.dr_run_serve.specs.Rests.{IsNoRest, IsVisited, rest_end};
 
 use crate::events::{tell_visit, word_of_visit};
 use crate::live::LiveNode;
@@ -41,7 +47,13 @@ impl<B: Sharing> HopSender<B> {
     /// One who has not looked yet.
     ///
     /// Errors: want of memory.
-    pub fn new(pass: Pass<B>, hop: &NextHop) -> Result<HopSender<B>, AllocError> {
+    pub fn new(pass: Pass<B>, hop: &NextHop) -> Result<HopSender<B>, AllocError>
+        ensures { IfOk result (λ sender. (sender.pass ≡ pass)
+            × (sender.hop.dest ≡ hop.now.dest)
+            × (sender.hop.address ≡ hop.now.address)
+            × (sender.hop.due ≡ 0)
+            × IsNoRest sender.rest) }
+    {
         let dest = hop.dest.clone()?;
         let address = hop.address.clone()?;
         Ok(HopSender {
@@ -56,17 +68,24 @@ impl<B: Sharing> HopSender<B> {
     }
 }
 
-/// From which moment on the first of the rows that wait for the destination is due.
+/// From which moment on the first of the rows that wait for the destination is due; the last moment
+/// of all where none waits.
 ///
 /// Errors: Store, Memory.
 fn next_due<R: Wait, L: Views, B: Sharing>(
     rt: &R,
     desk: &SharedDesk<L, B>,
     dest: &Text,
-) -> Result<u64, LedgerFault> {
-    match desk.first_due(rt, dest)? {
-        Some(due) => Ok(due),
-        None => Ok(NEVER),
+) -> Result<u64, LedgerFault>
+    ensures { (found : Result (Option ℕ) Fault)
+        × Reading L.site L.book L.bodies L.stands L.failed B.site B.first
+        (λ l answer. Reads answer (IsLeast (dues (map.entries (L.book l).rows) dest.now))) found
+        × (result ≡ due_of found) }
+{
+    match desk.first_due(rt, dest) {
+        Ok(Some(due)) => Ok(due),
+        Ok(None) => Ok(NEVER),
+        Err(fault) => Err(fault),
     }
 }
 

@@ -14,7 +14,6 @@ use crate::sender::{HopSender, send_rows};
 use crate::shutting::Wake;
 use crate::signal::{BEGIN, Signal};
 use crate::stop::Terms;
-use crate::sweeper::Sweeper;
 use crate::watch::Watch;
 use crossbeam_channel::{Receiver, Sender, bounded};
 use dr_desk::{CloseFault, Desk, Pass, SharedDesk, Sharing};
@@ -136,19 +135,19 @@ fn accept_links<
     true
 }
 
-/// What those who serve come back with, and those who send and the one who sweeps.
+/// What those who serve come back with, and those who send; and the pass of the one who sweeps.
 type Came<B> = (
     Result<Vec<Pass<B>>, WorkersFault>,
-    (Vec<HopSender<B>>, Sweeper<B>),
+    (Vec<HopSender<B>>, Pass<B>),
 );
 
-/// All that came back of those who served: their passes, those who sent, the one who swept, and the
-/// passes of those who were asked.
+/// All that came back of those who served: their passes, those who sent, the pass of the one who
+/// swept, and those of the ones who were asked.
 #[derive(Drop)]
 struct Served<B: Sharing> {
     served: Result<Vec<Pass<B>>, WorkersFault>,
     senders: Vec<HopSender<B>>,
-    sweeper: Sweeper<B>,
+    swept: Pass<B>,
     asked: Vec<Pass<B>>,
 }
 
@@ -246,9 +245,10 @@ where
     fn send_and_keep(
         &self,
         senders: Vec<HopSender<B>>,
-        sweeper: Sweeper<B>,
-    ) -> (Vec<HopSender<B>>, Sweeper<B>) {
+        swept: Pass<B>,
+    ) -> (Vec<HopSender<B>>, Pass<B>) {
         let (node, wake, count) = (&self.live, &self.wake, senders.len());
+        let after = self.terms.forget_after;
         thread::join(
             node.rt,
             ||
@@ -256,13 +256,13 @@ where
                     × IsSend D.Socket.row × IsSync D.row × IsSync N.row × IsSend N.Socket.row
                     × IsSync N.Listener.row × IsSync C.row × IsSync G.row }
             { self.send_all(senders) },
-            || keep(node, count, sweeper, wake),
+            || keep(node, count, swept, after, wake),
         )
     }
 
     /// Serves, sends and tells of the node, side by side; the passes of those who serve, those who
-    /// send, and the one who sweeps. When that is over, nobody may ask any more.
-    fn serve_and_send(&self, senders: Vec<HopSender<B>>, sweeper: Sweeper<B>) -> Came<B> {
+    /// send, and the pass of the one who sweeps. When that is over, nobody may ask any more.
+    fn serve_and_send(&self, senders: Vec<HopSender<B>>, swept: Pass<B>) -> Came<B> {
         let came = thread::join(
             self.live.rt,
             ||
@@ -274,7 +274,7 @@ where
                 requires { IsSync R.row × IsSend L.row × IsSend B.row × IsSync B.row
                     × IsSend D.Socket.row × IsSync D.row × IsSync N.row × IsSend N.Socket.row
                     × IsSync N.Listener.row × IsSync C.row × IsSync G.row }
-            { self.send_and_keep(senders, sweeper) },
+            { self.send_and_keep(senders, swept) },
         );
         if let Some(port) = self.terms.control {
             port.close();
@@ -286,17 +286,17 @@ where
     fn serve_all(
         &self,
         senders: Vec<HopSender<B>>,
-        sweeper: Sweeper<B>,
+        swept: Pass<B>,
         asked: Vec<Pass<B>>,
     ) -> Served<B> {
         let (node, terms, since) = (&self.live, self.terms, self.live.clock.now());
-        let ((served, (senders, sweeper)), asked) = thread::join(
+        let ((served, (senders, swept)), asked) = thread::join(
             node.rt,
             ||
                 requires { IsSync R.row × IsSend L.row × IsSend B.row × IsSync B.row
                     × IsSend D.Socket.row × IsSync D.row × IsSync N.row × IsSend N.Socket.row
                     × IsSync N.Listener.row × IsSync C.row × IsSync G.row }
-            { self.serve_and_send(senders, sweeper) },
+            { self.serve_and_send(senders, swept) },
             ||
                 requires { IsSync R.row × IsSend L.row × IsSend B.row × IsSync B.row × IsSync C.row
                     × IsSync G.row }
@@ -305,7 +305,7 @@ where
         Served {
             served,
             senders,
-            sweeper,
+            swept,
             asked,
         }
     }
@@ -331,22 +331,21 @@ fn senders_of<R: Wait, L: Views, B: Sharing>(
     Ok(senders)
 }
 
-/// The passes of those who served, of those who sent, and of the one who swept.
+/// The passes of those who served, of those who sent, and that of the one who swept.
 ///
 /// Errors: Memory.
 fn with_senders<B: Sharing>(
     passes: Result<Vec<Pass<B>>, WorkersFault>,
     senders: Vec<HopSender<B>>,
-    sweeper: Sweeper<B>,
+    swept: Pass<B>,
 ) -> Result<Vec<Pass<B>>, ServeFault> {
     let Ok(passes) = passes else {
         drop(senders);
-        drop(sweeper);
+        drop(swept);
         return Err(ServeFault::Memory);
     };
     let mut passes = passes;
-    let Sweeper { pass, .. } = sweeper;
-    passes.push(pass)?;
+    passes.push(swept)?;
     for sender in senders {
         let HopSender { pass, .. } = sender;
         passes.push(pass)?;
@@ -385,10 +384,10 @@ fn all_passes<B: Sharing>(came: Served<B>, is_shut: bool) -> Result<Vec<Pass<B>>
     let Served {
         served,
         senders,
-        sweeper,
+        swept,
         asked,
     } = came;
-    with_asked(with_senders(served, senders, sweeper), asked)
+    with_asked(with_senders(served, senders, swept), asked)
 }
 
 /// The desk is no longer shared.
@@ -457,14 +456,13 @@ where
         let Ok(senders) = senders_of(rt, alloc, desk, hops) else {
             return Err(ServeFault::Memory);
         };
-        let Ok(pass) = desk.pass(rt, alloc) else {
+        let Ok(swept) = desk.pass(rt, alloc) else {
             drop(senders);
             return Err(ServeFault::Memory);
         };
-        let sweeper = Sweeper::new(pass, terms.forget_after);
         let Ok(asked) = passes_of(rt, alloc, desk, terms.control) else {
             drop(senders);
-            drop(sweeper);
+            drop(swept);
             return Err(ServeFault::Memory);
         };
         let live = LiveNode {
@@ -484,7 +482,7 @@ where
             stop: terms.stop,
         };
         let node = ServingNode { live, wake, terms };
-        let came = node.serve_all(senders, sweeper, asked);
+        let came = node.serve_all(senders, swept, asked);
         all_passes(came, signal.is_shut())
     }
 

@@ -1,9 +1,14 @@
 //! The one who has a node forget what has been over for long.
-ghost use Rattle.dr_run_serve.specs.Sweeps.{ForgetsFirst};
+ghost use Rattle.std.specs.Prelude.{◌≡◌, ◌++◌, [], List, None, Some};
+ghost use Rattle.dr_ledger_history.specs.declared.line.JournalLine.{JournalLine as LineValue};
+ghost use Rattle.dr_run_serve.specs.Pasts.{HasNoted, TellsPage};
+ghost use Rattle.dr_run_serve.specs.Sweeps.{ForgetsDue, ForgetsFirst, SweepsOnce, Turns, counted};
+ghost use Rattle.dr_run_serve.specs.Sweeps.{next_turn};
+ghost use Rattle.dr_run_serve.specs.declared.sweep.OverInstance.{OverInstance as OverValue};
 
 use crate::events::{tell_forgotten, tell_unswept};
 use crate::live::LiveNode;
-use crate::past::Past;
+use crate::past::{DeskJournal, Past};
 use crate::signal::Signal;
 use crate::sweep::Sweep;
 use dr_desk::{Pass, SharedDesk, Sharing};
@@ -11,7 +16,7 @@ use dr_ledger::{LedgerFault, LetsGo};
 use dr_ledger_views::Views;
 use dr_session::Clock;
 use log::Log;
-use std::alloc::Global;
+use std::alloc::{AllocError, Global};
 use std::mem;
 use std::sync::Wait;
 
@@ -29,19 +34,23 @@ pub struct Sweeper<B: Sharing> {
     pub pass: Pass<B>,
     after: Option<u64>,
     next: u64,
-    past: Option<Past>,
+    past: Past,
     sweep: Option<Sweep>,
 }
 
 /// Takes in what came to be over since the last turn. What there is no memory for is found at the
 /// next start.
-fn take_in<R: Wait>(rt: &R, sweep: &mut Sweep, signal: &Signal) {
-    for _ in 0..MOST {
+fn take_in<R: Wait>(rt: &R, sweep: &mut Sweep, signal: &Signal)
+    ensures { (more : List OverValue)
+        × (sweep.new.queue.items ≡ sweep.old.queue.items ++ more) }
+{
+    for _turn in 0..MOST {
         let Some(over) = signal.next_over(rt) else {
             return;
         };
-        if sweep.add(over).is_err() {
-            return;
+        match sweep.add(over) {
+            Ok(()) => {}
+            Err(AllocError) => return,
         }
     }
 }
@@ -78,8 +87,18 @@ fn forget_first<R: Wait, L: LetsGo, B: Sharing>(
     }
 }
 
-/// Forgets those that have been over since that moment or longer, the longest first, so many at
-/// most; how many there were.
+/// One more, if it was forgotten.
+fn counted(count: u64, is_forgotten: bool) -> u64
+    ensures { result ≡ counted count is_forgotten }
+{
+    if is_forgotten {
+        return count.saturating_add(1);
+    }
+    count
+}
+
+/// Forgets the first of those that have been over since that moment or longer, one after the other,
+/// so many at most; how many there were.
 ///
 /// Errors: Store, Memory; then what wasn't forgotten is tried again at the next turn.
 fn forget_due<R: Wait, L: LetsGo, B: Sharing>(
@@ -88,12 +107,17 @@ fn forget_due<R: Wait, L: LetsGo, B: Sharing>(
     pass: &mut Pass<B>,
     sweep: &mut Sweep,
     since: u64,
-) -> Result<u64, LedgerFault> {
+) -> Result<u64, LedgerFault>
+    ensures { ForgetsDue L.site L.book L.stands L.failed B.site B.first since
+        sweep.old.queue.items (pass.old.made.count, pass.old.receipts.items) result
+        sweep.new.queue.items (pass.new.made.count, pass.new.receipts.items) }
+{
     let mut count = 0u64;
-    for _ in 0..MOST {
-        match forget_first(rt, desk, pass, sweep, since)? {
-            None => return Ok(count),
-            Some(is_forgotten) => count = count.saturating_add(u64::from(is_forgotten)),
+    for _turn in 0..MOST {
+        match forget_first(rt, desk, pass, sweep, since) {
+            Ok(Some(is_forgotten)) => count = counted(count, is_forgotten),
+            Ok(None) => return Ok(count),
+            Err(fault) => return Err(fault),
         }
     }
     Ok(count)
@@ -101,55 +125,37 @@ fn forget_due<R: Wait, L: LetsGo, B: Sharing>(
 
 impl<B: Sharing> Sweeper<B> {
     /// One who forgets what has been over for so many milliseconds.
-    pub fn new(pass: Pass<B>, after: Option<u64>) -> Sweeper<B> {
+    pub fn new(alloc: Global, pass: Pass<B>, after: Option<u64>) -> Sweeper<B>
+        ensures terms { (result.pass ≡ pass) × (result.after ≡ after) × (result.next ≡ 0) }
+        ensures read { HasNoted [] result.past × (result.sweep ≡ None) }
+    {
         Sweeper {
             pass,
             after,
             next: 0,
-            past: None,
+            past: Past::new(alloc),
             sweep: None,
         }
     }
 
-    /// Reads on in the journal; what is over by it, once all of it was read.
-    ///
-    /// Errors: Store, Memory; then the next call goes on where this one ended.
-    fn read_past<R: Wait, L: Views>(
-        &mut self,
-        rt: &R,
-        alloc: Global,
-        desk: &SharedDesk<L, B>,
-    ) -> Result<Option<Sweep>, LedgerFault> {
-        let mut past = match mem::replace(&mut self.past, None) {
-            Some(past) => past,
-            None => Past::new(alloc),
-        };
-        match past.read_on(rt, desk) {
-            Ok(true) => Ok(Some(past.into_sweep(alloc)?)),
-            Ok(false) => {
-                self.past = Some(past);
-                Ok(None)
-            }
-            Err(fault) => {
-                self.past = Some(past);
-                Err(fault)
-            }
-        }
+    /// Its pass.
+    pub fn into_pass(self) -> Pass<B>
+        ensures { result ≡ self.pass }
+    {
+        let Sweeper { pass, .. } = self;
+        pass
     }
 
-    /// What is over, where that is known already.
-    ///
-    /// Errors: Store, Memory.
-    fn known<R: Wait, L: Views>(
-        &mut self,
-        rt: &R,
-        alloc: Global,
-        desk: &SharedDesk<L, B>,
-    ) -> Result<Option<Sweep>, LedgerFault> {
-        match mem::replace(&mut self.sweep, None) {
-            Some(sweep) => Ok(Some(sweep)),
-            None => self.read_past(rt, alloc, desk),
-        }
+    /// What is known to be over.
+    fn put(&mut self, sweep: Sweep)
+        requires { self.old.sweep ≡ None }
+        ensures pass { (self.new.pass.made.count ≡ self.old.pass.made.count)
+            × (self.new.pass.receipts.items ≡ self.old.pass.receipts.items) }
+        ensures terms { (self.new.after ≡ self.old.after) × (self.new.next ≡ self.old.next) }
+        ensures past { self.new.past ≡ self.old.past }
+        ensures sweep { self.new.sweep ≡ Some sweep }
+    {
+        self.sweep = Some(sweep);
     }
 
     /// Reads on in the journal, where it wasn't read whole yet, or forgets what has been over for
@@ -160,37 +166,79 @@ impl<B: Sharing> Sweeper<B> {
         &mut self,
         node: &LiveNode<'_, R, L, B, C, G>,
         since: u64,
-    ) -> Result<u64, LedgerFault> {
-        let Some(mut sweep) = self.known(node.rt, node.alloc, node.desk)? else {
-            return Ok(0);
+    ) -> Result<u64, LedgerFault>
+        ensures sweeps { (lines : List LineValue)
+            → HasNoted lines self.old.past
+            → SweepsOnce L.site L.book L.stands L.failed B.site B.first
+            (TellsPage L.site L.book L.bodies L.stands L.failed B.site B.first L.numbered) lines
+            since self.old.sweep (self.old.pass.made.count, self.old.pass.receipts.items) result
+            self.new.sweep self.new.past
+            (self.new.pass.made.count, self.new.pass.receipts.items) }
+        ensures terms { (self.new.after ≡ self.old.after) × (self.new.next ≡ self.old.next) }
+    {
+        let journal = DeskJournal {
+            rt: node.rt,
+            desk: node.desk,
+        };
+        let had = mem::replace(&mut self.sweep, None);
+        let mut sweep = match journal.known(node.alloc, had, &mut self.past) {
+            Ok(Some(sweep)) => sweep,
+            Ok(None) => return Ok(0),
+            Err(fault) => return Err(fault),
         };
         take_in(node.rt, &mut sweep, node.signal);
         let came = forget_due(node.rt, node.desk, &mut self.pass, &mut sweep, since);
-        self.sweep = Some(sweep);
+        self.put(sweep);
         came
     }
 
-    /// A turn: what has been over for long enough is forgotten, so many at most. Where the store
-    /// refuses that, the next turn comes a minute later.
+    /// A turn: what has been over for long enough is forgotten, so many at most; how many instances
+    /// there were. Where the store refuses that, the next turn comes a minute later.
+    ///
+    /// Errors: Store, Memory.
     pub fn turn<R: Wait, L: Views, C: Clock, G: Log>(
         &mut self,
         node: &LiveNode<'_, R, L, B, C, G>,
         now: u64,
-    ) {
+    ) -> Result<u64, LedgerFault>
+        ensures turns { (lines : List LineValue)
+            → HasNoted lines self.old.past
+            → Turns L.site L.book L.stands L.failed B.site B.first
+            (TellsPage L.site L.book L.bodies L.stands L.failed B.site B.first L.numbered) lines
+            self.old.after self.old.next now self.old.sweep
+            (self.old.pass.made.count, self.old.pass.receipts.items) result
+            self.new.sweep self.new.past
+            (self.new.pass.made.count, self.new.pass.receipts.items) }
+        ensures next { (self.new.after ≡ self.old.after)
+            × (self.new.next ≡ next_turn self.old.next now result) }
+    {
         let Some(after) = self.after else {
-            return;
+            return Ok(0);
         };
         if now < self.next {
-            return;
+            return Ok(0);
         }
         match self.sweep(node, now.saturating_sub(after)) {
-            Ok(0) => {}
-            Ok(count) => tell_forgotten(node.log, count),
+            Ok(count) => Ok(count),
             Err(fault) => {
                 self.next = now.saturating_add(PAUSE);
-                node.signal.doubt(node.rt);
-                tell_unswept(node.log, fault);
+                Err(fault)
             }
+        }
+    }
+}
+
+/// Tells what came of a turn, where something did.
+pub fn tell_turn<R: Wait, L: Views, B: Sharing, C: Clock, G: Log>(
+    node: &LiveNode<'_, R, L, B, C, G>,
+    came: Result<u64, LedgerFault>,
+) {
+    match came {
+        Ok(0) => {}
+        Ok(count) => tell_forgotten(node.log, count),
+        Err(fault) => {
+            node.signal.doubt(node.rt);
+            tell_unswept(node.log, fault);
         }
     }
 }

@@ -1,6 +1,6 @@
 //! Requests over a network, each in a connection of its own.
 ghost use Rattle.std.specs.Prelude.{◌≡◌, IfOk, Ok, true, option_map};
-ghost use Rattle.dr_run_ask.specs.Calls.{request_of};
+ghost use Rattle.dr_word_at.specs.Callers.{AnswersBy};
 
 use dr_base::Text;
 use dr_run_ask::{AskFault, Asks, HttpAnswer, HttpCall, MOST, answer_in, request_bytes};
@@ -104,16 +104,14 @@ fn exchange<L: Link, C: Clock>(
 }
 
 /// An answer comes only to the request that is meant, which was sent over a link that leads to the
-/// address.
+/// address. Who asks stays as they are.
 impl<'a, N: Network, C: Clock> Asks for Caller<'a, N, C> {
-    ghost use Rattle.std.specs.Prelude.{◌≡◌, IfOk, Ok, true, option_map};
-    ghost use Rattle.dr_run_ask.specs.Calls.{request_of};
+    ghost use Rattle.std.specs.Prelude.{◌≡◌, option_map};
+    ghost use Rattle.dr_word_at.specs.Callers.{AnswersBy};
 
-    ghost answers = { λ s call result t. IfOk result (λ _.
-        (link mid : N.Socket)
-        × N.connects s.network.now s.at.now (Ok link)
-        × N.Socket.sends link (request_of s.at.now (option_map (λ token. token.now) s.token) call)
-        true mid) };
+    ghost answers = { λ s call result t. (t ≡ s)
+        × AnswersBy (N.connects s.network.now) N.Socket.sends s.at.now
+        (option_map (λ token. token.now) s.token) call result };
 
     fn ask(&mut self, call: HttpCall<'_>) -> Result<HttpAnswer, AskFault> {
         let bytes = request_bytes(self.alloc, self.at, self.token, call)?;
