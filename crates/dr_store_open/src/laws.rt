@@ -3,14 +3,17 @@ ghost use Rattle.std.specs.Prelude.{◌≡◌, ◌⊎◌, IsTrue};
 ghost use Rattle.sqlite.specs.Held.{state};
 ghost use Rattle.sqlite.specs.Tree.{Trees};
 ghost use Rattle.dr_store_schema.specs.Tables.{tables};
+ghost use Rattle.dr_site.specs.Parts.{Part};
 ghost use Rattle.dr_store_audit.specs.Older.{IsOlder};
 ghost use Rattle.dr_store_open.specs.Opening.{BadTablesAreNone, IsBlank, LeavesFile, LeavesOldOr};
 ghost use Rattle.dr_store_open.specs.Opening.{LeavesOldOrCommitted, LedgersAreOne};
+ghost use Rattle.dr_store_open.specs.Opening.{MarkedTablesHaveTheirFile};
 ghost use Rattle.dr_store_open.specs.Opening.{NewLedgersAreLedgers, PlacesAreOne};
 ghost use Rattle.dr_store_open.specs.Opening.{RowsHaveDataSets, StaysAsFound};
-ghost use Rattle.dr_store_open.specs.Renewing.{HasNoRows, KeepsRows};
+ghost use Rattle.dr_store_open.specs.Renewing.{IsMadeBy, KeepsRows};
 
 use sqlite::{Alter, Connection};
+use sqlite_disk::Disk;
 
 /// A new ledger's database has a ledger of its site, whose next line is the first: such a file is
 /// never refused.
@@ -35,6 +38,11 @@ pub fn data_sets_are_in_one_place()
     ensures { PlacesAreOne }
 {}
 
+/// Where a ledger's tables have a mark, its shelf comes of a file with that mark, and of no other.
+pub fn marked_tables_have_their_file<D: Disk>()
+    ensures { MarkedTablesHaveTheirFile D.Disk }
+{}
+
 /// Where the cells of a ledger's tables are its data sets themselves, each that is there is that of
 /// its item.
 pub fn rows_have_data_sets()
@@ -44,11 +52,13 @@ pub fn rows_have_data_sets()
 /// Of a file that has a ledger's tables of today an opening makes nothing, also where it refuses
 /// the file: what is committed stays, and a crash leaves only what it could leave before.
 pub fn a_ledger_stays<S: Alter>(before: &Connection<S>, after: &Connection<S>)
-    ensures crash { LeavesFile (state S.Store before.now) (state S.Store after.now)
+    ensures crash { (part : Part)
+        → LeavesFile part (state S.Store before.now) (state S.Store after.now)
         → (state S.Store before.now).now.schema ≡ tables
         → (db : Trees) → (state S.Store after.now).may_leave db
         → (state S.Store before.now).may_leave db }
-    ensures stays { LeavesFile (state S.Store before.now) (state S.Store after.now)
+    ensures stays { (part : Part)
+        → LeavesFile part (state S.Store before.now) (state S.Store after.now)
         → (state S.Store before.now).now.schema ≡ tables
         → IsTrue (state S.Store after.now).is_open
         → (state S.Store after.now).committed ≡ (state S.Store before.now).committed }
@@ -56,7 +66,8 @@ pub fn a_ledger_stays<S: Alter>(before: &Connection<S>, after: &Connection<S>)
 
 /// Of a file that has other tables, or a view alone, it makes nothing either.
 pub fn another_file_stays<S: Alter>(before: &Connection<S>, after: &Connection<S>)
-    ensures { LeavesFile (state S.Store before.now) (state S.Store after.now)
+    ensures { (part : Part)
+        → LeavesFile part (state S.Store before.now) (state S.Store after.now)
         → (IsBlank (state S.Store before.now).now.schema → ⊥)
         → (IsOlder (state S.Store before.now).now.schema → ⊥)
         → (db : Trees) → (state S.Store after.now).may_leave db
@@ -66,18 +77,20 @@ pub fn another_file_stays<S: Alter>(before: &Connection<S>, after: &Connection<S
 /// Of a file from before it leaves what there was, or, where the tables are those of today, all
 /// that it had.
 pub fn an_older_file_keeps_its_rows<S: Alter>(before: &Connection<S>, after: &Connection<S>)
-    ensures { LeavesFile (state S.Store before.now) (state S.Store after.now)
+    ensures { (part : Part)
+        → LeavesFile part (state S.Store before.now) (state S.Store after.now)
         → IsOlder (state S.Store before.now).now.schema
         → LeavesOldOr (λ d. d.schema ≡ tables → KeepsRows (state S.Store before.now).now d)
         (state S.Store before.now) (state S.Store after.now) }
 {}
 
 /// Of a file without tables it leaves what there was, or, where the tables are those of today, a
-/// ledger without an instance, an arrival, a row or a line.
+/// ledger of its own site without an instance, an arrival, a row or a line.
 pub fn a_new_file_has_no_rows<S: Alter>(before: &Connection<S>, after: &Connection<S>)
-    ensures { LeavesFile (state S.Store before.now) (state S.Store after.now)
+    ensures { (part : Part)
+        → LeavesFile part (state S.Store before.now) (state S.Store after.now)
         → IsBlank (state S.Store before.now).now.schema
-        → LeavesOldOr (λ d. d.schema ≡ tables → HasNoRows d) (state S.Store before.now)
+        → LeavesOldOr (λ d. d.schema ≡ tables → IsMadeBy part d) (state S.Store before.now)
         (state S.Store after.now) }
 {}
 
