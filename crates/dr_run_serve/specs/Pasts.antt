@@ -157,9 +157,9 @@ module _ (tells : ℕ → Result (List JournalLine) LedgerFault → Type 0) wher
       × (more ≡ joined pages ++ last)
       × EndsPages (counted_from after (joined pages)) (length pages) result last
 
-  -- What reading on came to, where these lines had been read: what is over by all lines, and none is
-  -- noted any more; nothing yet, and the lines are noted; or what the end of it was, and the lines
-  -- are noted, or none is, where memory ran out behind the last one.
+  -- What reading on came to, where these lines had been read: what is over by all lines, and none
+  -- is noted any more; nothing yet, and the lines are noted; or what the end of it was, and the
+  -- lines are noted, or none is, where memory ran out behind the last one.
   abbrev pub FindsOver : List JournalLine → Result (Option Sweep) LedgerFault → Past → Type 0
   FindsOver lines (Ok (Some sweep)) past =
       (more : List JournalLine)
