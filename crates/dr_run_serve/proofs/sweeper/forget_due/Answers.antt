@@ -1,4 +1,4 @@
-use Rattle.std.proofs.Common.{◌≡◌, ◌∙◌, subst, sym, ap, refl, arith, inl, inr, Option, None, Ok, List, Bool, ◌∷◌, [], ◌++◌, ◌+◌, ◌<◌}
+use Rattle.std.proofs.Common.{◌≡◌, ◌∙◌, subst, sym, ap, refl, arith, inl, inr, Option, None, Some, Ok, List, Bool, ◌∷◌, [], ◌++◌, ◌+◌, ◌<◌}
 use Rattle.std.proofs.lemmas.List.{length_push}
 use Rattle.dr_run_control.specs.Consoles.{State}
 use Rattle.dr_run_serve.specs.Sweeps.{Chain, ForgetsFirst, ForgetsOne, IsNotDue, counted}
