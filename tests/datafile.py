@@ -36,9 +36,9 @@ HEAD = 4096
 DIGEST, KEY, MARK = 32, 8, 16
 # the files of a ledger, by what stands behind its name
 ENDS = '.db', '.db-wal', '.db.data', '.db.data-wal'
-# A cell that is cut, is too long, names another place, a place in the head, or one that is behind the file's end.
-CELLS_CHANGED = tuple(f'UPDATE item SET body = {body} WHERE length(body) > 0' for body in (
-    'substr(body, 1, 16)', "body || x'00'", "x'0020' || substr(body, 3)", "x'0000' || substr(body, 3)", "substr(body, 1, 4) || x'01000000' || substr(body, 9)"))
+# A cell that is cut, names another place, a place in the head, or one that is behind the file's end. Bytes behind its digests say nothing.
+CELLS_CHANGED = tuple(f'UPDATE item SET body = CAST({body} AS BLOB) WHERE length(body) > 0' for body in (
+    'substr(body, 1, 16)', "x'0020' || substr(body, 3)", "x'0000' || substr(body, 3)", "substr(body, 1, 4) || x'01000000' || substr(body, 9)"))
 # nothing but the four values; less than a piece of 256 kB, some more, and several
 SIZES = 0, 20_000, 300_000, 1_500_000
 # of images at full speed, one of them so large that a kill may come while it is written
@@ -583,7 +583,7 @@ def changed_while_it_runs():
         flip(path, at + size // 2)
         arch = room.serve('ARCH', 0)
         same(gate.act('/visit', dest='ARCH'), DONE)
-        room.wait_for_event('GATE', 'ledger dest="ARCH" settled=0 fault="G3 Store"')
+        room.wait_for_event('GATE', 'ledger dest="ARCH" settled=1 fault="G3 Store"')
         end = time.monotonic() + LIMIT
         while gate.ask('GET', '/health')[0] != 503:
             assert time.monotonic() < end
