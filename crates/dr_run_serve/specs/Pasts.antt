@@ -10,7 +10,7 @@ use Rattle.std.specs.List.Sorted.{IsNonDecreasingBy}
 use Rattle.dr_base.specs.Texts.{Text, text_cmp}
 use Rattle.dr_ledger.specs.Books.{is_success}
 use Rattle.dr_ledger.specs.declared.item.Outcome.{Outcome}
-use Rattle.dr_ledger.specs.declared.item.Outcome.TheVariants.{Status, Broken, NoContext}
+use Rattle.dr_ledger.specs.declared.item.Outcome.TheVariants.{Status, Broken, NoContext, Unreadable}
 use Rattle.dr_ledger_history.specs.declared.line.JournalLine.{JournalLine}
 use Rattle.dr_ledger_history.specs.declared.line.JournalLine.TheVariants as told
 use Rattle.dr_run_answer.specs.Journals.{next_number}
@@ -24,6 +24,7 @@ abbrev pub ends_row : Outcome → Bool
 ends_row (Status status) = is_success status
 ends_row Broken = false
 ends_row NoContext = false
+ends_row Unreadable = false
 
 -- it is the same uid
 abbrev pub is_uid : Text → Text → Bool

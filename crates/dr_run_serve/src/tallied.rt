@@ -8,7 +8,7 @@ use crate::events::tell_row;
 use crate::signal::Signal;
 use dr_base::Text;
 use dr_desk::{Pass, SharedDesk, Sharing};
-use dr_ledger::{Arrived, Item, Job, Ledger, LedgerFault, Outcome, Progress};
+use dr_ledger::{Arrived, Item, Ledger, LedgerFault, NextRow, Outcome, Progress};
 use dr_session::DeskPort;
 use dr_session::desk::LedgerDesk;
 use log::Log;
@@ -74,7 +74,7 @@ impl<L: Ledger> DeskPort for OwnPort<L> {
         answer
     }
 
-    fn next(&mut self, dest: &Text, now: u64) -> Result<Option<Job>, LedgerFault> {
+    fn next(&mut self, dest: &Text, now: u64) -> Result<Option<NextRow>, LedgerFault> {
         self.desk.next(dest, now)
     }
 
@@ -129,7 +129,7 @@ impl<'a, R: Wait, L: Ledger, B: Sharing, G: Log> DeskPort for SharedPort<'a, R, 
         self.desk.arrive(self.rt, self.pass, caller, item)
     }
 
-    fn next(&mut self, dest: &Text, now: u64) -> Result<Option<Job>, LedgerFault> {
+    fn next(&mut self, dest: &Text, now: u64) -> Result<Option<NextRow>, LedgerFault> {
         if self.signal.is_ending() {
             return Ok(None);
         }
