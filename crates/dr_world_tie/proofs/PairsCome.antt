@@ -233,7 +233,10 @@ module _ (ours : Ours) (plan : Network) (certificate : Certificate) where
             | inl given ↦ ∥∥₁_map given (λ g. happened w number (Give number g.0) link.caller t (caller_did k x) tt g.1)
             | inr more ↦ elim more [
               | inl broke ↦ ∣ happened w number (BreakCaller number None) link.caller t (caller_did k x) tt broke ∣₁
-              | inr none ↦ ∣ unmoved w number link link.caller s t (caller_did k x) here at_desk none.0 none.1 ∣₁
+              | inr rest ↦ elim rest [
+                | inl passed ↦ ∣ happened w number (PassOver number passed.0) link.caller t (caller_did k x) tt passed.1 ∣₁
+                | inr none ↦ ∣ unmoved w number link link.caller s t (caller_did k x) here at_desk none.0 none.1 ∣₁
+              ]
             ]
           ]
           by_stage on Asking e c = absurd (asking_sends_none k.caller.core link.receiver c ready)
