@@ -19,7 +19,7 @@ use Rattle.dr_ledger_views.specs.declared.moments.Origin.{Origin}
 use Rattle.dr_ledger_views.specs.declared.stage.HopTally.{HopTally}
 use Rattle.dr_ledger_views.specs.Numbers.{AreBehind}
 use Rattle.dr_ledger_views.specs.Views.{AreCallers, page_of, rows_of}
-use Rattle.dr_ledger.specs.Bodies.{Bodies}
+use Rattle.dr_ledger.specs.Bodies.{Bodies, IsNeeded}
 use Rattle.dr_ledger.specs.Books.{Book, Line, Row}
 use Rattle.dr_ledger.specs.Replies.{Drops, Forgets, IsOver, Reads, Requeues}
 use Rattle.dr_ledger.specs.declared.fault.LedgerFault.{LedgerFault}
