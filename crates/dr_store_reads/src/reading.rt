@@ -133,9 +133,11 @@ pub fn read_progress(row: &Row, first: usize) -> Option<Progress>
             let why: Option<i64> = row.get(first + 3).ok()?;
             match why {
                 None => Some(Progress::Held(Cause::NoContext)),
-                Some(-2) => Some(Progress::Held(Cause::Unreadable)),
-                Some(status) => {
-                    let status = u16::try_from(status).ok()?;
+                Some(number) => {
+                    if number == -2 {
+                        return Some(Progress::Held(Cause::Unreadable));
+                    }
+                    let status = u16::try_from(number).ok()?;
                     Some(Progress::Held(Cause::Status(status)))
                 }
             }
