@@ -1,6 +1,5 @@
 -- What a call leaves that only read: no data set is lost.
 use Rattle.std.proofs.Common.{◌≡◌, sym, subst, inl, inr}
-use Rattle.dr_base.specs.Texts.{Text}
 use Rattle.dr_ledger.specs.Bodies.{Bodies, IsNeeded, IsThere, LosesNone}
 use Rattle.dr_ledger.specs.Books.{Book}
 
