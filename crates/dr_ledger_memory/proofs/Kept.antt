@@ -33,12 +33,13 @@ all_there part p order h uid needed = by_found (map.get (data_sets p) uid) refl
     by_found (Some body) is = (body, is)
     by_found None is = absurd (∥∥₁_elim h (λ x y. absurd x) (λ s.
         let there = has_all p order s.whole uid needed in
-        let e : None ≡ Some there.0 = sym is ∙ there.1 in cc e))
+        let e : None ≡ Some there.0 = sym is ∙ there.1 in
+        absurd (cc e)))
 
 -- a data set is there just where it is needed
 pub there_where_needed : (part : Part) (p : Parts) → tree.IsOrdered text_cmp p.held → ∥ PartsAreSound part p ∥₁ → (uid : Text) (b : Bool) → b ≡ map.contains_key (data_sets p) uid
     → IsTrue b ↔ IsNeeded (content p) uid
-there_where_needed part p order h uid b is = (λ t. is_needed (map.get (data_sets p) uid) refl (sym is ∙ t), λ n. let there = all_there part p order h uid n in is ∙ ap is_some there.1)
+there_where_needed part p order h uid b is = (λ t. is_needed (map.get (data_sets p) uid) refl (sym is ∙ t), λ n. (let there = all_there part p order h uid n in is ∙ ap is_some there.1))
   where
     is_needed : (o : Option (List ℕ)) → map.get (data_sets p) uid ≡ o → map.contains_key (data_sets p) uid ≡ true → IsNeeded (content p) uid
     is_needed None at t = absurd (let e : ◌≡◌ {A = Bool} false true = sym (ap is_some at) ∙ t in cc e)
