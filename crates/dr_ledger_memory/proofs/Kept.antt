@@ -1,5 +1,5 @@
 -- What a ledger in memory promises of its book, whatever was called.
-use Rattle.std.proofs.Common.{◌≡◌, ◌∙◌, ap, inl, inr, is_some, Bool, true, false, ℕ, List, [], None, Option, Some, subst, sym}
+use Rattle.std.proofs.Common.{◌≡◌, ◌∙◌, ap, inl, inr, is_some, refl, Bool, true, false, ℕ, List, [], None, Option, Some, subst, sym}
 use Rattle.std.specs.Prelude.{◌↔◌, IsTrue}
 use Rattle.std.specs.FinMap as map
 use Rattle.std.specs.Map.{keys_of}
