@@ -4,6 +4,7 @@ use Rattle.sqlite.specs.State.{State, HasCleanDisk, KeepsCounts, Shows, Survives
 use Rattle.sqlite.specs.declared.error.Error.{Error}
 use Rattle.sqlite.specs.Effect.{Database}
 use Rattle.sqlite.proofs.StateLemmas.{survives_then}
+use Rattle.dr_site.specs.Parts.{Part}
 use Rattle.dr_store_writes.specs.Effects.{CommitsNothing}
 use Rattle.dr_store_open.specs.Opening.{LeavesFile, LeavesOldOr, LeavesOldOrCommitted}
 
@@ -49,8 +50,8 @@ leaves_failed old mid new Makes filled survives clean =
     ]
 
 -- where nothing is done
-pub file_still : (s : State) → LeavesFile s s
-file_still s = record { crash = λ db left. inl left; stays = λ blank older is_open. refl }
+pub file_still : (part : Part) (s : State) → LeavesFile part s s
+file_still part s = record { crash = λ db left. inl left; stays = λ blank older is_open. refl }
 
 -- what is made of a file of this kind
 pub leaves_more : (old new : State) (One Two : Database → Type 0) → ((d : Database) → One d → Two d)

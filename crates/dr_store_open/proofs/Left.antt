@@ -4,11 +4,12 @@ use Rattle.sqlite.specs.Schema.{Schema}
 use Rattle.sqlite.specs.Table.{Table}
 use Rattle.sqlite.specs.State.{State}
 use Rattle.sqlite.specs.Tree.{Trees}
+use Rattle.dr_site.specs.Parts.{Part}
 use Rattle.dr_store_schema.specs.Tables.{tables}
 use Rattle.dr_store_audit.specs.Older.{IsOlder}
 use Rattle.dr_store_audit.proofs.Less.{no_older_is_new}
 use Rattle.dr_store_open.specs.Opening.{IsBlank, LeavesOldOr, MayMake}
-use Rattle.dr_store_open.specs.Renewing.{HasNoRows, KeepsRows}
+use Rattle.dr_store_open.specs.Renewing.{IsMadeBy, KeepsRows}
 use Rattle.dr_store_open.proofs.Blank.{blank_no_older}
 
 -- a ledger's tables are some
@@ -16,17 +17,17 @@ pub tables_not_blank : (schema : Schema) → schema ≡ tables → IsBlank schem
 tables_not_blank schema is blank =
     let n : 8 ≡ 0 = ap (λ (ts : List Table). length ts) (sym (ap (λ (s : Schema). s.tables) is) ∙ blank.tables) in omega (arith, n)
 
-pub nothing_made : (old new : State) → LeavesOldOr (MayMake old.now) old new
+pub nothing_made : (part : Part) (old new : State) → LeavesOldOr (MayMake part old.now) old new
     → (IsBlank old.now.schema → ⊥) → (IsOlder old.now.schema → ⊥)
     → (db : Trees) → new.may_leave db → old.may_leave db
-nothing_made old new left blank older db h = elim (left db h) [
+nothing_made part old new left blank older db h = elim (left db h) [
   | inl before ↦ before
   | inr made ↦ elim made.2 [ inl new_one ↦ absurd (blank new_one.0) | inr renewed ↦ absurd (older renewed.0) ]
 ]
 
-pub kept_or_before : (old new : State) → LeavesOldOr (MayMake old.now) old new → IsOlder old.now.schema
+pub kept_or_before : (part : Part) (old new : State) → LeavesOldOr (MayMake part old.now) old new → IsOlder old.now.schema
     → LeavesOldOr (λ d. d.schema ≡ tables → KeepsRows old.now d) old new
-kept_or_before old new left older db h = elim (left db h) [
+kept_or_before part old new left older db h = elim (left db h) [
   | inl before ↦ inl before
   | inr made ↦ elim made.2 [
     | inl new_one ↦ absurd (blank_no_older old.now.schema new_one.0.tables older)
@@ -34,9 +35,9 @@ kept_or_before old new left older db h = elim (left db h) [
   ]
 ]
 
-pub empty_or_before : (old new : State) → LeavesOldOr (MayMake old.now) old new → IsBlank old.now.schema
-    → LeavesOldOr (λ d. d.schema ≡ tables → HasNoRows d) old new
-empty_or_before old new left blank db h = elim (left db h) [
+pub empty_or_before : (part : Part) (old new : State) → LeavesOldOr (MayMake part old.now) old new → IsBlank old.now.schema
+    → LeavesOldOr (λ d. d.schema ≡ tables → IsMadeBy part d) old new
+empty_or_before part old new left blank db h = elim (left db h) [
   | inl before ↦ inl before
   | inr made ↦ elim made.2 [
     | inl new_one ↦ inr (made.0, made.1, new_one.1)

@@ -238,10 +238,10 @@ brought_over n part old mid new is leaves left kept = record {
 }
 
 -- whatever was found, nothing was done to the file since
-pub file_found : (old mid new : State)
-    → (HasCleanDisk mid → LeavesFile old mid) → OnlyLooks mid new
-    → HasCleanDisk new → LeavesFile old new
-file_found old mid new left is clean =
+pub file_found : (part : Part) (old mid new : State)
+    → (HasCleanDisk mid → LeavesFile part old mid) → OnlyLooks mid new
+    → HasCleanDisk new → LeavesFile part old new
+file_found part old mid new left is clean =
     let early : HasCleanDisk mid = omega (arith, is.clean, clean) in
     record {
       crash = λ db h. (left early).crash db (is.leaves clean db h);

@@ -37,7 +37,7 @@ use Rattle.dr_store_open.specs.declared.fault.OpeningFault.TheVariants as openin
 use Rattle.dr_store_open.specs.declared.finding.FoundTables.{FoundTables}
 use Rattle.dr_store_open.specs.Faults.{IsOfData}
 use Rattle.dr_store_open.specs.Places.{HasOwnOn, IsOpenedBy, IsOtherOn, IsPlaceOf, IsPlacedBy}
-use Rattle.dr_store_open.specs.Renewing.{HasNoRows, KeepsRows}
+use Rattle.dr_store_open.specs.Renewing.{IsMadeBy, KeepsRows}
 
 -- ---- what is tested of rows
 
@@ -235,19 +235,19 @@ abbrev pub LeavesOldOr : (Database → Type 0) → State → State → Type 0
 LeavesOldOr Makes old new =
     (db : Trees) → new.may_leave db → old.may_leave db ⊎ ((d : Database) × (d.trees ≡ db) × Makes d)
 
--- What an opening may make of a file. One without tables gets those of a ledger, and no row but the
--- owner's; one from before gets the tables of today, and keeps what it had. Of any other file it
--- makes nothing.
-abbrev pub MayMake : Database → Database → Type 0
-MayMake was d =
-    (IsBlank was.schema × (d.schema ≡ tables → HasNoRows d))
+-- What an opening for a site may make of a file. One without tables gets those of a new ledger of
+-- that site, with no row but the owner's; one from before gets the tables of today, and keeps what
+-- it had. Of any other file it makes nothing.
+abbrev pub MayMake : Part → Database → Database → Type 0
+MayMake part was d =
+    (IsBlank was.schema × (d.schema ≡ tables → IsMadeBy part d))
     ⊎ (IsOlder was.schema × (d.schema ≡ tables → KeepsRows was d))
 
 -- What an opening leaves, whatever it answers, also where the file is refused. A crash leaves what
 -- it could leave before, or what an opening makes of the file, whole. Where that is nothing, what
 -- was committed stays, as far as the connection is open still.
-pub record LeavesFile (old new : State) : Type 0 where
-  pub crash : LeavesOldOr (MayMake old.now) old new
+pub record LeavesFile (part : Part) (old new : State) : Type 0 where
+  pub crash : LeavesOldOr (MayMake part old.now) old new
   pub stays : (IsBlank old.now.schema → ⊥)
       → (IsOlder old.now.schema → ⊥)
       → IsTrue new.is_open

@@ -1,12 +1,16 @@
 -- What a file from before keeps where it is brought over.
-use Rattle.std.specs.Prelude.{◌≡◌, ℕ, false, List, [], Ok, codes}
+use Rattle.std.specs.Prelude.{◌≡◌, ℕ, false, List, [], Some, Ok, codes}
 use Rattle.sqlite.specs.Effect.{Database, Reads}
 use Rattle.sqlite.specs.Given.{IsPlain}
 use Rattle.sqlite.specs.Listing.{reads_listing, understood}
 use Rattle.sqlite.specs.Order.{Row}
 use Rattle.sqlite.specs.Schema.{Schema}
 use Rattle.sqlite_resolve.specs.declared.compiled.Compiled.{Compiled}
+use Rattle.dr_base.specs.Texts.{Text}
+use Rattle.dr_site.specs.Parts.{Part}
 use Rattle.dr_store_schema.specs.Statements as text
+use Rattle.dr_store_reads.specs.Queries.{IsOwnerAsShown}
+use Rattle.dr_store_calls.specs.Adoptions.{IsPlanWith}
 use Rattle.dr_store_open.specs.declared.sheets.Sheets.{Sheets}
 
 -- the journal by the columns that it had, which say of each line what call it was
@@ -47,6 +51,23 @@ pub record HasNoRows (db : Database) : Type 0 where
   pub kept : IsAnswer text.all_kept db []
   pub rows : IsAnswer text.all_rows db []
   pub lines : IsAnswer all_calls db []
+
+-- The tables of a ledger that was made just now, for the node and with that for its plan: site has
+-- one row, which says so, and no other table has a row.
+pub record IsMadeFor (node : Text) (cell : List ℕ) (db : Database) : Type 0 where
+  pub rows : List Row
+  pub site : IsAnswer text.the_site db rows
+  pub owner : IsOwnerAsShown rows (Some (record { node = node; plan = cell }))
+  pub others : HasNoRows db
+
+-- for the site, with this mark
+abbrev pub IsMadeWith : List ℕ → Part → Database → Type 0
+IsMadeWith mark part db =
+    (cell : List ℕ) × IsPlanWith mark part.digest cell × IsMadeFor part.name cell db
+
+-- with some mark
+abbrev pub IsMadeBy : Part → Database → Type 0
+IsMadeBy part db = (mark : List ℕ) × IsMadeWith mark part db
 
 -- these are queries over the tables
 pub record AreQueries (schema : Schema) : Type 0 where

@@ -3,12 +3,13 @@ ghost use Rattle.std.specs.Prelude.{◌≡◌, ◌⊎◌, IsTrue};
 ghost use Rattle.sqlite.specs.Held.{state};
 ghost use Rattle.sqlite.specs.Tree.{Trees};
 ghost use Rattle.dr_store_schema.specs.Tables.{tables};
+ghost use Rattle.dr_site.specs.Parts.{Part};
 ghost use Rattle.dr_store_audit.specs.Older.{IsOlder};
 ghost use Rattle.dr_store_open.specs.Opening.{BadTablesAreNone, IsBlank, LeavesFile, LeavesOldOr};
 ghost use Rattle.dr_store_open.specs.Opening.{LeavesOldOrCommitted, LedgersAreOne};
 ghost use Rattle.dr_store_open.specs.Opening.{NewLedgersAreLedgers, PlacesAreOne};
 ghost use Rattle.dr_store_open.specs.Opening.{RowsHaveDataSets, StaysAsFound};
-ghost use Rattle.dr_store_open.specs.Renewing.{HasNoRows, KeepsRows};
+ghost use Rattle.dr_store_open.specs.Renewing.{IsMadeBy, KeepsRows};
 
 use sqlite::{Alter, Connection};
 
@@ -44,11 +45,13 @@ pub fn rows_have_data_sets()
 /// Of a file that has a ledger's tables of today an opening makes nothing, also where it refuses
 /// the file: what is committed stays, and a crash leaves only what it could leave before.
 pub fn a_ledger_stays<S: Alter>(before: &Connection<S>, after: &Connection<S>)
-    ensures crash { LeavesFile (state S.Store before.now) (state S.Store after.now)
+    ensures crash { (part : Part)
+        → LeavesFile part (state S.Store before.now) (state S.Store after.now)
         → (state S.Store before.now).now.schema ≡ tables
         → (db : Trees) → (state S.Store after.now).may_leave db
         → (state S.Store before.now).may_leave db }
-    ensures stays { LeavesFile (state S.Store before.now) (state S.Store after.now)
+    ensures stays { (part : Part)
+        → LeavesFile part (state S.Store before.now) (state S.Store after.now)
         → (state S.Store before.now).now.schema ≡ tables
         → IsTrue (state S.Store after.now).is_open
         → (state S.Store after.now).committed ≡ (state S.Store before.now).committed }
@@ -56,7 +59,8 @@ pub fn a_ledger_stays<S: Alter>(before: &Connection<S>, after: &Connection<S>)
 
 /// Of a file that has other tables, or a view alone, it makes nothing either.
 pub fn another_file_stays<S: Alter>(before: &Connection<S>, after: &Connection<S>)
-    ensures { LeavesFile (state S.Store before.now) (state S.Store after.now)
+    ensures { (part : Part)
+        → LeavesFile part (state S.Store before.now) (state S.Store after.now)
         → (IsBlank (state S.Store before.now).now.schema → ⊥)
         → (IsOlder (state S.Store before.now).now.schema → ⊥)
         → (db : Trees) → (state S.Store after.now).may_leave db
@@ -66,18 +70,20 @@ pub fn another_file_stays<S: Alter>(before: &Connection<S>, after: &Connection<S
 /// Of a file from before it leaves what there was, or, where the tables are those of today, all
 /// that it had.
 pub fn an_older_file_keeps_its_rows<S: Alter>(before: &Connection<S>, after: &Connection<S>)
-    ensures { LeavesFile (state S.Store before.now) (state S.Store after.now)
+    ensures { (part : Part)
+        → LeavesFile part (state S.Store before.now) (state S.Store after.now)
         → IsOlder (state S.Store before.now).now.schema
         → LeavesOldOr (λ d. d.schema ≡ tables → KeepsRows (state S.Store before.now).now d)
         (state S.Store before.now) (state S.Store after.now) }
 {}
 
 /// Of a file without tables it leaves what there was, or, where the tables are those of today, a
-/// ledger without an instance, an arrival, a row or a line.
+/// ledger of its own site without an instance, an arrival, a row or a line.
 pub fn a_new_file_has_no_rows<S: Alter>(before: &Connection<S>, after: &Connection<S>)
-    ensures { LeavesFile (state S.Store before.now) (state S.Store after.now)
+    ensures { (part : Part)
+        → LeavesFile part (state S.Store before.now) (state S.Store after.now)
         → IsBlank (state S.Store before.now).now.schema
-        → LeavesOldOr (λ d. d.schema ≡ tables → HasNoRows d) (state S.Store before.now)
+        → LeavesOldOr (λ d. d.schema ≡ tables → IsMadeBy part d) (state S.Store before.now)
         (state S.Store after.now) }
 {}
 

@@ -18,6 +18,7 @@ mod listed;
 pub mod making;
 mod older;
 pub mod opening;
+mod owner;
 mod renewing;
 mod sheets;
 mod shelving;

@@ -6,13 +6,15 @@ ghost use Rattle.sqlite_trees.specs.View.{doubt};
 ghost use Rattle.dr_store_schema.specs.Tables.{tables};
 ghost use Rattle.dr_store_writes.specs.Effects.{CommitsNothing};
 ghost use Rattle.dr_store_open.specs.Opening.{LeavesOldOr, LeavesOldOrCommitted};
-ghost use Rattle.dr_store_open.specs.Renewing.{HasNoRows};
+ghost use Rattle.dr_store_open.specs.Renewing.{IsMadeFor, IsMadeWith};
 
 use crate::asking::run_texts;
 use crate::fault::{OpeningFault, of_error};
+use crate::owner::shows_owner;
 use crate::sheets::{Sheets, ask_sheets};
+use dr_base::Text;
 use dr_site::Site;
-use dr_store_calls::plan_cell;
+use dr_store_calls::{is_mark, plan_cell};
 use dr_store_writes::add_site;
 use sqlite::{Alter, Connection, Transaction};
 use std::alloc::Global;
@@ -36,35 +38,18 @@ pub(crate) const LATER: [&str; 8] = [
 ];
 
 /// Puts in whose ledger it is, with this for its plan.
-fn put_cell<'x, S: Alter>(
+fn put_owner<'x, S: Alter>(
     tx: &mut Transaction<'_, S>,
-    site: &'x Site,
+    node: &'x Text,
     cell: &'x [u8],
 ) -> Result<(), OpeningFault>
     ensures same_reference { tx.new.conn.ghost_name ≡ tx.old.conn.ghost_name }
     ensures survives { CommitsNothing (state S.Store tx.old.conn.now)
         (state S.Store tx.new.conn.now) }
 {
-    match add_site(tx, site.name(), cell) {
+    match add_site(tx, node, cell) {
         Ok(_) => Ok(()),
         Err(error) => Err(of_error(&error)),
-    }
-}
-
-/// Puts in whose ledger it is, with the mark of the file that has its data sets, or with none.
-fn put_owner<'x, S: Alter>(
-    tx: &mut Transaction<'_, S>,
-    alloc: Global,
-    site: &'x Site,
-    mark: &'x [u8],
-) -> Result<(), OpeningFault>
-    ensures same_reference { tx.new.conn.ghost_name ≡ tx.old.conn.ghost_name }
-    ensures survives { CommitsNothing (state S.Store tx.old.conn.now)
-        (state S.Store tx.new.conn.now) }
-{
-    match plan_cell(alloc, site.digest(), mark) {
-        Ok(cell) => put_cell(tx, site, &cell),
-        Err(_) => Err(OpeningFault::Memory),
     }
 }
 
@@ -81,47 +66,79 @@ fn has_no_rows(sheets: &Sheets) -> bool
     sheets.kept.is_empty() && sheets.rows.is_empty() && sheets.lines.is_empty()
 }
 
-/// Tests that no table has a row, but for the owner's.
-fn test_empty<S: Alter>(tx: &mut Transaction<'_, S>) -> Result<(), OpeningFault>
+/// Tests that no table has a row, but for the owner's, which is this one.
+fn test_made<'x, S: Alter>(
+    tx: &mut Transaction<'_, S>,
+    node: &'x Text,
+    cell: &'x [u8],
+) -> Result<(), OpeningFault>
     ensures same_reference { tx.new.conn.ghost_name ≡ tx.old.conn.ghost_name }
     ensures survives { CommitsNothing (state S.Store tx.old.conn.now)
         (state S.Store tx.new.conn.now) }
-    ensures empty { HasCleanDisk (state S.Store tx.new.conn.now)
+    ensures made { HasCleanDisk (state S.Store tx.new.conn.now)
         → (state S.Store tx.new.conn.now).now.schema ≡ tables
-        → OnOk result (HasNoRows (state S.Store tx.new.conn.now).now) }
+        → OnOk result
+        (IsMadeFor node.now cell.now (state S.Store tx.new.conn.now).now) }
 {
     let sheets = ask_sheets(tx)?;
     if !has_no_rows(&sheets) {
         return Err(OpeningFault::Store);
     }
+    if !shows_owner(sheets.site.as_slice(), node, cell) {
+        return Err(OpeningFault::Store);
+    }
     Ok(())
 }
 
-/// All statements that make the tables of a new ledger of this site, and a look at what they made.
+/// All statements that make the tables of a new ledger of this owner, and a look at what they made.
 fn fill<'x, S: Alter>(
     tx: &mut Transaction<'_, S>,
-    alloc: Global,
-    site: &'x Site,
-    mark: &'x [u8],
+    node: &'x Text,
+    cell: &'x [u8],
 ) -> Result<(), OpeningFault>
     ensures same_reference { tx.new.conn.ghost_name ≡ tx.old.conn.ghost_name }
     ensures survives { CommitsNothing (state S.Store tx.old.conn.now)
         (state S.Store tx.new.conn.now) }
-    ensures empty { HasCleanDisk (state S.Store tx.new.conn.now)
+    ensures made { HasCleanDisk (state S.Store tx.new.conn.now)
         → (state S.Store tx.new.conn.now).now.schema ≡ tables
-        → OnOk result (HasNoRows (state S.Store tx.new.conn.now).now) }
+        → OnOk result
+        (IsMadeFor node.now cell.now (state S.Store tx.new.conn.now).now) }
 {
     run_texts(tx, FIRST.as_slice())?;
     run_texts(tx, LATER.as_slice())?;
-    put_owner(tx, alloc, site, mark)?;
-    test_empty(tx)
+    put_owner(tx, node, cell)?;
+    test_made(tx, node, cell)
+}
+
+/// Makes the tables of a new ledger of this owner, as one transaction.
+fn make_for<S: Alter>(
+    conn: &mut Connection<S>,
+    node: &Text,
+    cell: &[u8],
+) -> Result<(), OpeningFault>
+    requires { conn.old.in_transaction ≡ false }
+    ensures idle { conn.new.in_transaction ≡ false }
+    ensures clean { doubt (state S.Store conn.old).is_clean
+        ≤ doubt (state S.Store conn.new).is_clean }
+    ensures made { HasCleanDisk (state S.Store conn.new)
+        → OnOk result (LeavesOldOrCommitted (state S.Store conn.old) (state S.Store conn.new)) }
+    ensures crash { HasCleanDisk (state S.Store conn.new)
+        → LeavesOldOr (λ d. d.schema ≡ tables → IsMadeFor node.now cell.now d)
+        (state S.Store conn.old) (state S.Store conn.new) }
+{
+    let mut tx = conn.transaction();
+    fill(&mut tx, node, cell)?;
+    match tx.commit() {
+        Ok(()) => Ok(()),
+        Err(error) => Err(of_error(&error)),
+    }
 }
 
 /// Makes the tables of a new ledger of this site, as one transaction. They say that its data sets
 /// are in the file with this mark or, where the mark is nothing, in rows. Whatever it answers, a
-/// crash leaves what it could leave before, or all of the tables.
+/// crash leaves what it could leave before, or all of the tables, whose owner's row says so.
 ///
-/// Errors: Store, Memory.
+/// Errors: Store, also for bytes that are no mark; Memory.
 pub fn make<S: Alter>(
     conn: &mut Connection<S>,
     alloc: Global,
@@ -135,13 +152,14 @@ pub fn make<S: Alter>(
     ensures made { HasCleanDisk (state S.Store conn.new)
         → OnOk result (LeavesOldOrCommitted (state S.Store conn.old) (state S.Store conn.new)) }
     ensures crash { HasCleanDisk (state S.Store conn.new)
-        → LeavesOldOr (λ d. d.schema ≡ tables → HasNoRows d) (state S.Store conn.old)
-        (state S.Store conn.new) }
+        → LeavesOldOr (λ d. d.schema ≡ tables → IsMadeWith mark.now site.now d)
+        (state S.Store conn.old) (state S.Store conn.new) }
 {
-    let mut tx = conn.transaction();
-    fill(&mut tx, alloc, site, mark)?;
-    match tx.commit() {
-        Ok(()) => Ok(()),
-        Err(error) => Err(of_error(&error)),
+    if !is_mark(mark) {
+        return Err(OpeningFault::Store);
+    }
+    match plan_cell(alloc, site.digest(), mark) {
+        Ok(cell) => make_for(conn, site.name(), &cell),
+        Err(_) => Err(OpeningFault::Memory),
     }
 }

@@ -8,7 +8,7 @@ ghost use Rattle.sqlite_trees.specs.View.{doubt};
 ghost use Rattle.dr_store_calls.specs.Adoptions.{IsOwnedBy};
 ghost use Rattle.dr_store_calls.specs.Calling.{IsKept};
 ghost use Rattle.dr_store_audit.specs.Older.{IsOlder};
-ghost use Rattle.dr_store_open.specs.Renewing.{HasNoRows, KeepsRows};
+ghost use Rattle.dr_store_open.specs.Renewing.{IsMadeBy, IsMadeWith, KeepsRows};
 ghost use Rattle.dr_store_shelf.specs.Either.{AreApartIf, UsesOn, named_on};
 ghost use Rattle.dr_store_schema.specs.Books.{bodies_of};
 ghost use Rattle.dr_store_changes.specs.Writing.{IsReady};
@@ -210,8 +210,8 @@ fn make_with<S: Alter, D: Drop>(
     ensures leaves { HasCleanDisk (state S.Store conn.new)
         → OnOk result (LeavesOldOrCommitted (state S.Store conn.old) (state S.Store conn.new)) }
     ensures crash { HasCleanDisk (state S.Store conn.new)
-        → LeavesOldOr (λ d. d.schema ≡ tables → HasNoRows d) (state S.Store conn.old)
-        (state S.Store conn.new) }
+        → LeavesOldOr (λ d. d.schema ≡ tables → IsMadeWith beside.1.items site.now d)
+        (state S.Store conn.old) (state S.Store conn.new) }
     ensures of_data { IfErr result (λ fault. IsOfData fault → ⊥) }
 {
     let (disk, mark) = beside;
@@ -240,7 +240,7 @@ fn make_new<S: Alter, F: DataFile>(
     ensures leaves { HasCleanDisk (state S.Store conn.new)
         → OnOk result (LeavesOldOrCommitted (state S.Store conn.old) (state S.Store conn.new)) }
     ensures crash { HasCleanDisk (state S.Store conn.new)
-        → LeavesOldOr (λ d. d.schema ≡ tables → HasNoRows d) (state S.Store conn.old)
+        → LeavesOldOr (λ d. d.schema ≡ tables → IsMadeBy site.now d) (state S.Store conn.old)
         (state S.Store conn.new) }
     ensures there { IfErr result (λ fault. fault ≡ opening.DataIsThere → keeping ≡ wanted.InFile) }
 {
@@ -272,7 +272,7 @@ fn renewed<S: Alter, D: Drop>(
         → (state S.Store conn.new).committed.schema ≡ tables
         → OnOk result (KeepsRows (state S.Store conn.old).now (state S.Store conn.new).committed) }
     ensures file { HasCleanDisk (state S.Store conn.new)
-        → LeavesFile (state S.Store conn.old) (state S.Store conn.new) }
+        → LeavesFile site.now (state S.Store conn.old) (state S.Store conn.new) }
     ensures ours { (state S.Store conn.old).now.schema ≡ tables
         → IfErr result (λ fault. ⊥) × (conn.new ≡ conn.old) }
     ensures of_data { IfErr result (λ fault. IsOfData fault → ⊥) }
@@ -310,7 +310,7 @@ fn prepare<S: Alter, F: DataFile>(
         → (state S.Store conn.new).committed.schema ≡ tables
         → OnOk result (KeepsRows (state S.Store conn.old).now (state S.Store conn.new).committed) }
     ensures file { HasCleanDisk (state S.Store conn.new)
-        → LeavesFile (state S.Store conn.old) (state S.Store conn.new) }
+        → LeavesFile site.now (state S.Store conn.old) (state S.Store conn.new) }
     ensures ours { (state S.Store conn.old).now.schema ≡ tables
         → MatchResult result (λ made. made.0 ≡ false) (λ fault. ⊥) × (conn.new ≡ conn.old) }
     ensures there { IfErr result (λ fault. fault ≡ opening.DataIsThere
@@ -423,7 +423,7 @@ pub fn open<S: Alter, F: DataFile>(
     ensures wanted { IfOk result (λ it. IsBlank (state S.Store conn.old).now.schema
         → named_on it.shelf ≡ names_in keeping) }
     ensures file { HasCleanDisk (state S.Store conn.new)
-        → LeavesFile (state S.Store conn.old) (state S.Store conn.new) }
+        → LeavesFile site.now (state S.Store conn.old) (state S.Store conn.new) }
     ensures refused { IfErr result (λ fault. HasCleanDisk (state S.Store conn.new)
         → IsWhy result site.now (state S.Store conn.old).now fault) }
     ensures there { IfErr result (λ fault. fault ≡ opening.DataIsThere

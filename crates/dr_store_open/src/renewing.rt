@@ -380,7 +380,7 @@ pub fn renew_older<S: Alter>(
         → (state S.Store conn.new).committed.schema ≡ tables
         → OnOk result (KeepsRows (state S.Store conn.old).now (state S.Store conn.new).committed) }
     ensures file { HasCleanDisk (state S.Store conn.new)
-        → LeavesFile (state S.Store conn.old) (state S.Store conn.new) }
+        → LeavesFile site.now (state S.Store conn.old) (state S.Store conn.new) }
     ensures ours { (state S.Store conn.old).now.schema ≡ tables
         → IfErr result (λ fault. ⊥) × (conn.new ≡ conn.old) }
 {

@@ -3,5 +3,5 @@ use Rattle.dr_store_open.proofs.Left.{nothing_made}
 use Rattle.dr_store_open.proofs.laws.another_file_stays.Goals as goal
 
 pub returns : goal.returns
-returns g c left blank older =
-    nothing_made (state g.S.Store c.args.before.now) (state g.S.Store c.args.after.now) left.crash blank older
+returns g c part left blank older =
+    nothing_made part (state g.S.Store c.args.before.now) (state g.S.Store c.args.after.now) left.crash blank older

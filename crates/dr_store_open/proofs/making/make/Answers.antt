@@ -1,33 +1,22 @@
-use Rattle.std.proofs.Common.{rules, ◌≡◌, subst}
+use Rattle.std.proofs.Common.{◌≡◌, rules, subst}
 use Rattle.sqlite.specs.Effect.{Database}
 use Rattle.sqlite.specs.Held.{state}
-use Rattle.sqlite.specs.State.{HasCleanDisk}
 use Rattle.dr_store_schema.specs.Tables.{tables}
-use Rattle.dr_store_open.specs.Opening.{LeavesOldOr}
-use Rattle.dr_store_open.specs.Renewing.{HasNoRows}
-use Rattle.dr_store_open.proofs.Filling.{leaves_tried}
+use Rattle.dr_store_calls.specs.Adoptions.{IsPlanWith}
+use Rattle.dr_store_open.specs.Renewing.{IsMadeFor, IsMadeWith}
+use Rattle.dr_store_open.proofs.Filling.{leaves_more}
 use Rattle.dr_store_open.proofs.making.make.Goals as goal
-
--- what the tables are made to
-abbrev pub IsNew : Database → Type 0
-IsNew d = d.schema ≡ tables → HasNoRows d
 
 pub returns-in-Ok-clause-crash : goal.returns-in-Ok-clause-crash
 returns-in-Ok-clause-crash g c clean =
-    let old = c.args.conn.now in
-    let mid = c.fill.new.tx.conn.now in
-    let begun = c.transaction-tx.ensures.begun in
-    let last = c.commit.new.self.0 in
-    let same : last ≡ c.conn-2-1.given.0 = search rules in
-    subst (λ h. HasCleanDisk (state g.S.Store h) → LeavesOldOr IsNew (state g.S.Store old) (state g.S.Store h)) same
-    (leaves_tried (state g.S.Store old) (state g.S.Store mid) (state g.S.Store last) IsNew (rw begun at c.in_ok-fill.ensures.survives) c.in_ok-fill.ensures.empty c.commit.ensures.survives) clean
-
-pub returns-in-Err-clause-crash : goal.returns-in-Err-clause-crash
-returns-in-Err-clause-crash g c clean =
-    let old = c.args.conn.now in
-    let mid = c.fill.new.tx.conn.now in
-    let begun = c.transaction-tx.ensures.begun in
-    let last = c.commit.new.self.0 in
-    let same : last ≡ c.conn-2-1.given.0 = search rules in
-    subst (λ h. HasCleanDisk (state g.S.Store h) → LeavesOldOr IsNew (state g.S.Store old) (state g.S.Store h)) same
-    (leaves_tried (state g.S.Store old) (state g.S.Store mid) (state g.S.Store last) IsNew (rw begun at c.in_ok-fill.ensures.survives) c.in_ok-fill.ensures.empty c.commit.ensures.survives) clean
+    let part = c.args.site.now in
+    let mark = c.args.mark.now in
+    let made = c.in-Ok.cell.items in
+    let cell = c.deref.result.now in
+    let same : made ≡ cell = search rules in
+    let has : IsPlanWith mark part.digest cell =
+    subst (IsPlanWith mark part.digest) same
+    (subst (λ d. IsPlanWith mark d made) c.digest.ensures (c.in-Ok.ensures (c.is_mark.ensures.0 c.if-not-is_mark.false))) in
+    let Made : Database → Type 0 = λ d. d.schema ≡ tables → IsMadeFor c.name.result.now cell d in
+    leaves_more (state g.S.Store c.args.conn.now) (state g.S.Store c.make_for.new.conn) Made (λ d. d.schema ≡ tables → IsMadeWith mark part d)
+    (λ d made named. (cell, has, subst (λ node. IsMadeFor node cell d) c.name.ensures (made named))) (c.make_for.ensures.crash clean)

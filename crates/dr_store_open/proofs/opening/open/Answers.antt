@@ -44,7 +44,7 @@ returns-in-Ok-clause-wanted g c =
 
 pub returns-in-Ok-clause-file : goal.returns-in-Ok-clause-file
 returns-in-Ok-clause-file g c clean =
-    file_found (state g.S.Store c.args.conn.now) (state g.S.Store c.prepare.new.conn) (state g.S.Store c.open_made.new.conn) c.in-Ok.ensures.file c.open_made.ensures.whole.looks clean
+    file_found c.args.site.now (state g.S.Store c.args.conn.now) (state g.S.Store c.prepare.new.conn) (state g.S.Store c.open_made.new.conn) c.in-Ok.ensures.file c.open_made.ensures.whole.looks clean
 
 pub returns-in-Ok-clause-refused : goal.returns-in-Ok-clause-refused
 returns-in-Ok-clause-refused g c =

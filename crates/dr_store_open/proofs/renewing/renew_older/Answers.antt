@@ -36,7 +36,7 @@ returns-in-Some-clause-file g c clean =
     let older : IsOlder old.now.schema = (c.in-Some.lacks, sym c.schema.ensures.value ∙ c.in-Some.ensures) in
     let One : Database → Type 0 = λ d. AreQueries d.schema → KeepsRows old.now d in
     record {
-      crash = leaves_more old new One (MayMake old.now) (λ d kept. inr (older, λ named. kept (subst AreQueries (sym named) new_queries)))
+      crash = leaves_more old new One (MayMake c.args.site.now old.now) (λ d kept. inr (older, λ named. kept (subst AreQueries (sym named) new_queries)))
           (c.bring_over.ensures.crash clean (queries_of old.now.schema older));
       stays = λ blank other is_open. absurd (other older);
     }
