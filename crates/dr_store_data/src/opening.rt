@@ -2,7 +2,7 @@
 ghost use Rattle.std.specs.Prelude.{◌≡◌, ◌∷◌, IfOk};
 ghost use Rattle.std.specs.Prelude.{IfSome};
 ghost use Rattle.std.specs.List.Sorted.{IsPermutation};
-ghost use Rattle.dr_store_bodies.specs.Bodies.{IsClean, extents};
+ghost use Rattle.dr_store_bodies.specs.Bodies.{IsClean, extents, seen};
 ghost use Rattle.dr_store_data.specs.Heads.{HasHead, head_extent};
 ghost use Rattle.dr_store_data.specs.Opened.{HasExtents};
 
@@ -58,8 +58,10 @@ pub fn open_in<D: Disk + Drop>(
     ensures key { IfOk result (λ found. IfSome found (λ it. it.key ≡ mark.now.key)) }
     ensures opened { IfOk result (λ found.
         IfSome found (λ it. HasExtents list.items (extents it.bodies))) }
+    ensures shows { IfOk result (λ found.
+        IfSome found (λ it. seen it.bodies ≡ D.Disk.seen file)) }
     ensures marked { IfOk result (λ found. IfSome found (λ it. IsClean it.bodies
-        → HasHead mark.now.mark (D.Disk.seen file))) }
+        → HasHead mark.now.mark (seen it.bodies))) }
 {
     let mut medium = file;
     if !has_head(&mut medium, alloc, &mark.mark)? {

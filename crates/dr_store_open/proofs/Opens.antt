@@ -23,6 +23,7 @@ use Rattle.dr_store_changes.specs.Writing.{IsReady}
 use Rattle.dr_store_reads.specs.declared.finding.Print.{Print}
 use Rattle.dr_store_lists.specs.Lists.{keys_of, whole_prints_of}
 use Rattle.dr_store_data.specs.declared.mark.DataMark.{DataMark}
+use Rattle.dr_store_data.specs.Heads.{HasHead, IsMarkOf}
 use Rattle.dr_store_calls.specs.Adoptions.{IsOwnedBy, IsOwnedWith}
 use Rattle.dr_store_calls.specs.Calling.{IsKept, IsLedgerOf}
 use Rattle.dr_store_calls.specs.LettingGo.{AreEachApart}
@@ -37,7 +38,7 @@ use Rattle.dr_store_open.specs.declared.fault.OpeningFault.TheVariants as openin
 use Rattle.dr_store_open.specs.declared.finding.FoundTables.{FoundTables}
 use Rattle.dr_store_open.specs.DataSets.{AreListed, AreOwnUnder, AreUsedUnder, IsHeldBy, IsOwn}
 use Rattle.dr_store_open.specs.Faults.{IsOfData}
-use Rattle.dr_store_open.specs.Places.{HasOwnOn, IsAt, IsFileWith, IsOtherOn, IsPlaceOf, IsPlacedBy, names_at, names_in}
+use Rattle.dr_store_open.specs.Places.{ComesOf, HasOwnOn, IsAt, IsFileWith, IsOtherOn, IsPlaceOf, IsPlacedBy, names_at, names_in, seen_on}
 use Rattle.dr_store_open.specs.Renewing.{KeepsRows}
 use Rattle.dr_store_open.specs.Opening.{AreOf, HasLedgerOf, HasNewLedger, IsBlank, IsBroughtOver, IsLedgerFound, IsLedgerOpened, IsNext, IsWhy, IsWhyNot, IsWholeOpened, LeavesOldOrCommitted, StaysAsFound, StaysReady}
 use Rattle.dr_store_open.proofs.Blank.{blank_no_older}
@@ -88,6 +89,18 @@ module _ {D : Type 0} {g : Ghosts D} where
   pub file_at : (said : DataMark) (list : List Extent) (shelf : LedgerShelf D g) → IsFileWith said list shelf → IsAt (put.InFile said) shelf
   file_at said list (Rows it) is = absurd is
   file_at said list (File it) is = is.0
+
+  head_at : (said : DataMark) (shelf : LedgerShelf D g) → IsAt (put.InFile said) shelf → IsCleanOn shelf → HasHead said.mark (seen_on shelf)
+  head_at said (Rows it) is = absurd is
+  head_at said (File it) is = is.1
+
+  -- the file that the tables name
+  pub their_file : (part other : Part) (db : Trees) (mark : List ℕ) (said : DataMark) (shelf : LedgerShelf D g)
+      → IsOwnedWith mark part db → IsMarkOf mark said → IsPlacedBy other db shelf
+      → (first : LedgerShelf D g) × (IsCleanOn first → HasHead said.mark (seen_on first)) × ComesOf first shelf
+  their_file part other db mark said shelf owned is placed =
+      let same : placed.place ≡ put.InFile said = places_are_one other part db placed.place (put.InFile said) placed.says (mark, owned, is) in
+      (placed.first, head_at said placed.first (subst (λ place. IsAt place placed.first) same placed.opened), placed.since)
 
   -- the cells that were listed are in use, and each two are apart
   pub file_used : (said : DataMark) (db : Trees) (prints : List (Text × Print)) → prints ≡ map.entries (whole_prints_of db)

@@ -16,6 +16,7 @@ use Rattle.dr_ledger.specs.Books.{empty_book}
 use Rattle.dr_ledger.specs.Items.{IsItem, instance_of}
 use Rattle.dr_ledger.specs.Replies.{Reads}
 use Rattle.dr_store_shelf.specs.declared.either.LedgerShelf.{LedgerShelf}
+use Rattle.dr_store_shelf.specs.Either.{IsCleanOn}
 use Rattle.dr_store_schema.specs.Books.{AreBelow, bodies_of, book_of, items_of, lines_of}
 use Rattle.dr_store_schema.specs.Ledgers.{AreRows, IsCounted}
 use Rattle.dr_store_schema.specs.Tables.{tables}
@@ -25,6 +26,8 @@ use Rattle.dr_store_reads.specs.Queries.{Stays}
 use Rattle.dr_store_lists.specs.Lists.{notes_of, whole_prints_of}
 use Rattle.dr_store_lists.specs.declared.listing.JournalRow.{JournalRow}
 use Rattle.dr_store_changes.specs.Writing.{IsReady}
+use Rattle.dr_store_data.specs.declared.mark.DataMark.{DataMark}
+use Rattle.dr_store_data.specs.Heads.{HasHead, IsMarkOf}
 use Rattle.dr_store_calls.specs.Adoptions.{IsMark, IsOwnedBy, IsOwnedWith}
 use Rattle.dr_store_calls.specs.Calling.{IsKept}
 use Rattle.dr_store.specs.Owning.{HaveOwn}
@@ -36,7 +39,8 @@ use Rattle.dr_store_open.specs.declared.fault.OpeningFault.{OpeningFault}
 use Rattle.dr_store_open.specs.declared.fault.OpeningFault.TheVariants as opening
 use Rattle.dr_store_open.specs.declared.finding.FoundTables.{FoundTables}
 use Rattle.dr_store_open.specs.Faults.{IsOfData}
-use Rattle.dr_store_open.specs.Places.{HasOwnOn, IsOpenedBy, IsOtherOn, IsPlaceOf, IsPlacedBy}
+use Rattle.dr_store_open.specs.Places.{ComesOf, HasOwnOn, IsOpenedBy, IsOtherOn, IsPlaceOf}
+use Rattle.dr_store_open.specs.Places.{IsPlacedBy, seen_on}
 use Rattle.dr_store_open.specs.Renewing.{IsMadeBy, KeepsRows}
 
 -- ---- what is tested of rows
@@ -275,6 +279,18 @@ PlacesAreOne =
     → IsPlaceOf part db place
     → IsPlaceOf other db beside
     → place ≡ beside
+
+module _ {D : Type 0} (g : Ghosts D) where
+  -- where the tables have a mark, a ledger's shelf comes of a file that has it, and of no other
+  abbrev pub MarkedTablesHaveTheirFile : Type 0
+  MarkedTablesHaveTheirFile =
+      (part other : Part) (db : Trees) (mark : List ℕ) (said : DataMark) (shelf : LedgerShelf D g)
+      → IsOwnedWith mark part db
+      → IsMarkOf mark said
+      → IsPlacedBy other db shelf
+      → (first : LedgerShelf D g)
+      × (IsCleanOn first → HasHead said.mark (seen_on first))
+      × ComesOf first shelf
 
 -- where cells are the data sets themselves, each that is there is that of its item
 abbrev pub RowsHaveDataSets : Type 0

@@ -6,11 +6,13 @@ use Rattle.sqlite_disk.specs.Disk.{Only}
 use Rattle.dr_base.specs.Texts.{Text}
 use Rattle.dr_site.specs.Parts.{Part}
 use Rattle.dr_store_bodies.specs.declared.extent.Extent.{Extent}
-use Rattle.dr_store_bodies.specs.Bodies.{extents}
+use Rattle.dr_store_bodies.specs.declared.bodies.Bodies.{Bodies}
+use Rattle.dr_store_bodies.specs.Bodies.{IsClean, extents, seen}
 use Rattle.dr_store_shelf.specs.declared.either.LedgerShelf.{LedgerShelf}
 use Rattle.dr_store_shelf.specs.declared.either.LedgerShelf.TheVariants.{InRow as Rows}
 use Rattle.dr_store_shelf.specs.declared.either.LedgerShelf.TheVariants.{InFile as File}
 use Rattle.dr_store_shelf.specs.Either.{AreApartIf, IsCleanOn, StandsOn, UsesOn, named_on}
+use Rattle.dr_store_shelf.specs.Shelves.{KeepsCells}
 use Rattle.dr_store_data.specs.declared.mark.DataMark.{DataMark}
 use Rattle.dr_store_data.specs.Heads.{HasHead, IsMarkOf}
 use Rattle.dr_store_data.specs.Opened.{HasExtents}
@@ -48,26 +50,50 @@ abbrev pub IsBegun : DataMark → List ℕ → (List ℕ → Type 0) → Type 0
 IsBegun said seen may_leave = HasHead said.mark seen × Only seen may_leave
 
 module _ {D : Type 0} {g : Ghosts D} where
+  -- digests are taken under that key, and the file shows the head with that mark, unless a wrong
+  -- answer of it was taken as true
+  abbrev pub IsUnder : DataMark → ℕ → Bodies D g → Type 0
+  IsUnder said key file = (key ≡ said.key) × (IsClean file → HasHead said.mark (seen file))
+
+  -- what is seen of the shelf's file, if it has one
+  abbrev pub seen_on : LedgerShelf D g → List ℕ
+  seen_on (Rows it) = []
+  seen_on (File it) = seen it.bodies
+
   -- the shelf is in that place
   abbrev pub IsAt : DataPlace → LedgerShelf D g → Type 0
   IsAt InRows (Rows it) = Unit {0}
   IsAt InRows (File it) = ⊥
   IsAt (InFile said) (Rows it) = ⊥
-  IsAt (InFile said) (File it) = it.key ≡ said.key
+  IsAt (InFile said) (File it) = IsUnder said it.key it.bodies
 
-  -- it is in a file, under that key, and in use are the extents of the list
+  -- it is in a file, under that key and with that mark, and in use are the extents of the list
   abbrev pub IsFileWith : DataMark → List Extent → LedgerShelf D g → Type 0
   IsFileWith said list (Rows it) = ⊥
-  IsFileWith said list (File it) = (it.key ≡ said.key) × HasExtents list (extents it.bodies)
+  IsFileWith said list (File it) =
+      IsUnder said it.key it.bodies × HasExtents list (extents it.bodies)
 
-  -- the shelf was opened where the tables say, in a file under their key
+  -- the shelf was opened where the tables say, in a file under their key and with their mark
   abbrev pub IsOpenedBy : Part → Trees → LedgerShelf D g → Type 0
   IsOpenedBy part db shelf = (place : DataPlace) × IsPlaceOf part db place × IsAt place shelf
 
-  -- the cells of the shelf name places just where the tables have a mark
-  abbrev pub IsPlacedBy : Part → Trees → LedgerShelf D g → Type 0
-  IsPlacedBy part db shelf =
-      (place : DataPlace) × IsPlaceOf part db place × (named_on shelf ≡ names_at place)
+  -- The shelf comes of that one, at whose cells one looked: each that was in use and stood for some
+  -- bytes does so still.
+  abbrev pub ComesOf : (first shelf : LedgerShelf D g) → Type 0
+  ComesOf first shelf =
+      (named_on shelf ≡ named_on first)
+      × (IsCleanOn shelf → IsCleanOn first)
+      × KeepsCells (UsesOn first) (StandsOn first) (UsesOn shelf) (StandsOn shelf)
+
+  -- The shelf is where the tables say: its cells name places just where they have a mark, and it
+  -- comes of one that was opened under their key, over a file with their mark.
+  pub record IsPlacedBy (part : Part) (db : Trees) (shelf : LedgerShelf D g) : Type 0 where
+    pub place : DataPlace
+    pub says : IsPlaceOf part db place
+    pub named : named_on shelf ≡ names_at place
+    pub first : LedgerShelf D g
+    pub opened : IsAt place first
+    pub since : ComesOf first shelf
 
   -- its cells are those of the tables, and stand for the data sets of their book, unless a wrong
   -- answer of the file was taken as true

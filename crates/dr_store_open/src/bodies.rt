@@ -221,6 +221,8 @@ pub fn test_all<'x, S: Alter, B: Shelf>(
         → All (AreOwnUnder (B.Shelf.stands shelf.old) (state S.Store conn.old).now.trees)
         found.now.prints.items → ⊥) }
     ensures of_data { IfErr result (λ fault. IsOfData fault → ⊥) }
+    ensures keeps { KeepsCells (B.Shelf.uses shelf.old) (B.Shelf.stands shelf.old)
+        (B.Shelf.uses shelf.new) (B.Shelf.stands shelf.new) }
     ensures uses { (cell : List ℕ) → B.Shelf.uses shelf.old cell → B.Shelf.uses shelf.new cell }
     ensures named { B.Shelf.named shelf.new ≡ B.Shelf.named shelf.old }
     ensures clean { B.Shelf.is_clean shelf.new → B.Shelf.is_clean shelf.old }

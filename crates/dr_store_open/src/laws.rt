@@ -7,11 +7,13 @@ ghost use Rattle.dr_site.specs.Parts.{Part};
 ghost use Rattle.dr_store_audit.specs.Older.{IsOlder};
 ghost use Rattle.dr_store_open.specs.Opening.{BadTablesAreNone, IsBlank, LeavesFile, LeavesOldOr};
 ghost use Rattle.dr_store_open.specs.Opening.{LeavesOldOrCommitted, LedgersAreOne};
+ghost use Rattle.dr_store_open.specs.Opening.{MarkedTablesHaveTheirFile};
 ghost use Rattle.dr_store_open.specs.Opening.{NewLedgersAreLedgers, PlacesAreOne};
 ghost use Rattle.dr_store_open.specs.Opening.{RowsHaveDataSets, StaysAsFound};
 ghost use Rattle.dr_store_open.specs.Renewing.{IsMadeBy, KeepsRows};
 
 use sqlite::{Alter, Connection};
+use sqlite_disk::Disk;
 
 /// A new ledger's database has a ledger of its site, whose next line is the first: such a file is
 /// never refused.
@@ -34,6 +36,11 @@ pub fn bad_tables_are_no_ledgers()
 /// A ledger has its data sets in its rows, or all in one file: its tables say one place.
 pub fn data_sets_are_in_one_place()
     ensures { PlacesAreOne }
+{}
+
+/// Where a ledger's tables have a mark, its shelf comes of a file with that mark, and of no other.
+pub fn marked_tables_have_their_file<D: Disk>()
+    ensures { MarkedTablesHaveTheirFile D.Disk }
 {}
 
 /// Where the cells of a ledger's tables are its data sets themselves, each that is there is that of

@@ -22,7 +22,7 @@ ghost use Rattle.dr_store_open.specs.Opening.{IsWhyNot, IsWholeOpened, LeavesFil
 ghost use Rattle.dr_store_open.specs.Opening.{LeavesOldOr, LeavesOldOrCommitted};
 ghost use Rattle.dr_store_open.specs.Opening.{StaysAsFound, StaysReady};
 ghost use Rattle.dr_store_open.specs.Faults.{IsOfData};
-ghost use Rattle.dr_store_open.specs.Places.{HasOwnOn, IsOtherOn, IsPlacedBy, names_in};
+ghost use Rattle.dr_store_open.specs.Places.{ComesOf, HasOwnOn, IsOtherOn, IsPlacedBy, names_in};
 
 use crate::beside::new_data;
 use crate::bodies::test_all;
@@ -112,7 +112,7 @@ fn open_on<S: Alter, D: Disk + Drop>(
         → AreUsed (UsesOn shelf) (bodies_of (state S.Store conn.old).now.trees) }
     ensures ready { StaysReady found.next result (state S.Store conn.old) (state S.Store conn.new) }
     ensures next { IfOk result (λ it. it.next ≡ found.next) }
-    ensures named { IfOk result (λ it. named_on it.shelf ≡ named_on shelf) }
+    ensures since { IfOk result (λ it. ComesOf shelf it.shelf) }
     ensures own { HasCleanDisk (state S.Store conn.new)
         → AreEachApart (AreApartIf (named_on shelf))
         (bodies_of (state S.Store conn.old).now.trees)

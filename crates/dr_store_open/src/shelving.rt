@@ -6,8 +6,7 @@ ghost use Rattle.sqlite.specs.Held.{state};
 ghost use Rattle.sqlite.specs.State.{HasCleanDisk};
 ghost use Rattle.dr_ledger.specs.Replies.{Reads};
 ghost use Rattle.dr_store_bodies.specs.declared.extent.Extent.{Extent as AnExtent};
-ghost use Rattle.dr_store_shelf.specs.Either.{AreApartIf, IsCleanOn, UsesOn, named_on};
-ghost use Rattle.dr_store_data.specs.Heads.{HasHead};
+ghost use Rattle.dr_store_shelf.specs.Either.{AreApartIf, UsesOn, named_on};
 ghost use Rattle.dr_store_schema.specs.Books.{bodies_of};
 ghost use Rattle.dr_store_schema.specs.Ledgers.{IsLedger};
 ghost use Rattle.dr_store_changes.specs.Writing.{IsReady};
@@ -151,8 +150,6 @@ fn shelf_over<D: Disk + Drop>(
     list: Vec<Extent>,
 ) -> Result<LedgerShelf<D>, OpeningFault>
     ensures file { IfOk result (IsFileWith said.now list.items) }
-    ensures marked { IfOk result (λ shelf. IsCleanOn shelf
-        → HasHead said.now.mark (D.Disk.seen disk)) }
     ensures why { IfErr result IsOfOpening }
 {
     match open_in(alloc, disk, said, list) {

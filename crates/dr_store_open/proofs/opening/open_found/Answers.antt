@@ -51,7 +51,15 @@ returns-in-Ok-clause-placed g c clean =
     let late : HasCleanDisk mid = omega (arith, c.open_on.ensures.ready.looks.clean, clean) in
     let early : HasCleanDisk old = omega (arith, c.in-Ok.ensures.ready.looks.clean, late) in
     let place = c.args.found.place in
-    if_ok_as _ _ c.open_on.result (λ it named. (place, (c.requires.are early).place, named ∙ at_named place c.in-Ok.shelf c.in-Ok.ensures.at)) c.open_on.ensures.named
+    if_ok_as _ _ c.open_on.result
+    (λ it since. record {
+      place = place;
+      says = (c.requires.are early).place;
+      named = since.0 ∙ at_named place c.in-Ok.shelf c.in-Ok.ensures.at;
+      first = c.in-Ok.shelf;
+      opened = c.in-Ok.ensures.at;
+      since = since;
+    }) c.open_on.ensures.since
 
 pub returns-in-Ok-clause-own : goal.returns-in-Ok-clause-own
 returns-in-Ok-clause-own g c clean =

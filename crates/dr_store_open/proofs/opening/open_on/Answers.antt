@@ -31,3 +31,6 @@ returns-clause-other g c clean other =
     let early : HasCleanDisk old = omega (arith, c.in-Err.ensures.ready.looks.clean, clean) in
     let are = c.requires.are early in
     is_other c.args.shelf c.test_all.new.shelf old.now.trees c.args.found.prints.items are.prints are.agreed.hold.together (c.requires.used early) (λ whole under. c.in-Err.ensures.own clean whole under other)
+
+pub returns-in-Ok-clause-since : goal.returns-in-Ok-clause-since
+returns-in-Ok-clause-since g c = let it = c.in-Ok.ensures in (it.named, it.clean, it.keeps)
