@@ -1,11 +1,12 @@
 -- What a shelf gives out for a data set, and why it refuses one.
-use Rattle.std.specs.Prelude.{◌≢◌, ◌≤◌, ℕ, List, Contains, length}
+use Rattle.std.specs.Prelude.{◌≢◌, ◌≤◌, ℕ, List, All, Contains, length}
 use Rattle.sqlite_disk.specs.declared.Disk.{Ghosts}
 use Rattle.sqlite_disk.specs.Disk.{MoreFaults}
 use Rattle.dr_store_bodies.specs.declared.bodies.Bodies.{Bodies}
 use Rattle.dr_store_bodies.specs.declared.fault.BodyFault.{BodyFault}
 use Rattle.dr_store_bodies.specs.declared.fault.BodyFault.TheVariants as body
-use Rattle.dr_store_bodies.specs.Bodies.{extents, IsHeld}
+use Rattle.dr_store_bodies.specs.Bodies.{extents, seen, IsHeld}
+use Rattle.dr_store_bodies.specs.Extents.{end_of}
 use Rattle.dr_store_shelf.specs.declared.fault.ShelfFault.{ShelfFault}
 use Rattle.dr_store_shelf.specs.declared.fault.ShelfFault.TheVariants as fault
 use Rattle.dr_store_shelf.specs.declared.shelf.BodyCell.{BodyCell}
@@ -62,6 +63,11 @@ module _ {D : Type 0} {g : Ghosts D} where
   -- the cell's test
   abbrev pub Stands : ℕ → Bodies D g → List ℕ → List ℕ → Type 0
   Stands key file cell bytes = IsHeld file (extent_in cell) bytes × Passes key cell bytes
+
+  -- the file ends where the last extent in use does, or before
+  abbrev pub EndsWithLast : Bodies D g → Type 0
+  EndsWithLast file =
+      (size : ℕ) → All (λ e. end_of e ≤ size) (extents file) → length (seen file) ≤ size
 
   -- the cell has an extent, which is in use
   abbrev pub IsUsed : Bodies D g → List ℕ → Type 0

@@ -30,6 +30,7 @@ impl<D: Disk> InFile<D> {
     pub fn of(alloc: Global, key: u64, bodies: Bodies<D>) -> InFile<D>
         ensures file { result.bodies ≡ bodies }
         ensures key { result.key ≡ key }
+        ensures uncut { result.is_cut ≡ false }
     {
         InFile {
             alloc,
@@ -70,6 +71,7 @@ impl<D: Disk> InFile<D> {
         ensures read { IfOk result (λ got. IsClean self.new.bodies → (bytes : List ℕ)
             → IsHeld self.old.bodies (extent_in cell.now) bytes → got.items ≡ bytes) }
         ensures tested { IfOk result (λ got. Passes self.old.key cell.now got.items) }
+        ensures cut { self.new.is_cut ≡ self.old.is_cut }
         ensures keeps { (other bytes : List ℕ) → IsUsed self.old.bodies other
             → Stands self.old.key self.old.bodies other bytes
             → IsUsed self.new.bodies other × Stands self.new.key self.new.bodies other bytes }
@@ -93,6 +95,7 @@ impl<D: Disk> InFile<D> {
         ensures read { IfOk result (λ got. IsClean self.new.bodies → (bytes : List ℕ)
             → IsHeld self.old.bodies (extent_in cell.now) bytes → got.items ≡ bytes) }
         ensures tested { IfOk result (λ got. Passes self.old.key cell.now got.items) }
+        ensures cut { self.new.is_cut ≡ self.old.is_cut }
         ensures keeps { (other bytes : List ℕ) → IsUsed self.old.bodies other
             → Stands self.old.key self.old.bodies other bytes
             → IsUsed self.new.bodies other × Stands self.new.key self.new.bodies other bytes }
@@ -111,10 +114,10 @@ impl<D: Disk> InFile<D> {
 }
 
 impl<D: Disk> Shelf for InFile<D> {
-    ghost use Rattle.std.specs.Prelude.{true};
+    ghost use Rattle.std.specs.Prelude.{◌≡◌, false, true};
     ghost use Rattle.dr_store_bodies.specs.Bodies.{IsClean, IsUsable, faults, seen};
     ghost use Rattle.dr_store_shelf.specs.Cells.{Passes, extent_in, shown};
-    ghost use Rattle.dr_store_shelf.specs.Shelves.{AreApart, IsUsed, Stands};
+    ghost use Rattle.dr_store_shelf.specs.Shelves.{AreApart, EndsWithLast, IsUsed, Stands};
     ghost use Rattle.dr_store_shelf.specs.Held.{apart_from_each_other, held_is_shown};
 
     ghost stands = { λ it. Stands it.key it.bodies };
@@ -130,6 +133,10 @@ impl<D: Disk> Shelf for InFile<D> {
     ghost swaps = { λ _. apart_from_each_other };
 
     ghost passes = { λ it. Passes it.key };
+
+    ghost is_new = { λ it. it.is_cut ≡ false };
+
+    ghost ends = { λ it. EndsWithLast it.bodies };
 
     ghost is_clean = { λ it. IsClean it.bodies };
 
@@ -202,6 +209,7 @@ impl<D: Disk + Drop> InFile<D> {
         ensures filled { IfOk result (λ it. All (λ e. 0 < e.size) list.items) }
         ensures apart { IfOk result (λ it. AllPairs LiesBefore list.items) }
         ensures shows { IfOk result (λ it. D.Disk.seen it.bodies.disk ≡ D.Disk.seen file) }
+        ensures uncut { IfOk result (λ it. it.is_cut ≡ false) }
     {
         let bodies = Bodies::open(file, list)?;
         let _extents = bodies.extents();
@@ -221,6 +229,7 @@ impl<D: Crash + Drop> InFile<D> {
         ensures keeps { IfOk result (λ it. (cell bytes : List ℕ) → IsUsed self.bodies cell
             → Stands self.key self.bodies cell bytes
             → IsUsed it.bodies cell × Stands it.key it.bodies cell bytes) }
+        ensures uncut { IfOk result (λ it. it.is_cut ≡ false) }
     {
         let InFile {
             alloc,

@@ -1,6 +1,6 @@
 //! A place for data sets.
 ghost use Rattle.std.specs.Prelude.{◌≡◌, ◌<◌, ℕ, List, length, IfErr, IfOk, OnErr, Bool};
-ghost use Rattle.std.specs.Prelude.{◌↔◌, IsTrue, MatchOption, false};
+ghost use Rattle.std.specs.Prelude.{◌↔◌, IsTrue, MatchOption, OnOk, false};
 ghost use Rattle.dr_store_shelf.specs.Shelves.{IsWhyNotPut, IsWhyNotRead, bytes_of};
 
 use crate::fault::ShelfFault;
@@ -55,6 +55,12 @@ pub trait Shelf {
     // These bytes pass the test that the cell has for them.
     ghost passes: { Self → List ℕ → List ℕ → Type 0 };
 
+    // No data set was put since the shelf was opened.
+    ghost is_new: { Self → Type 0 };
+
+    // Nothing lies behind the places of the cells in use.
+    ghost ends: { Self → Type 0 };
+
     // No wrong answer of a medium has been taken as true.
     ghost is_clean: { Self → Type 0 };
 
@@ -84,7 +90,8 @@ pub trait Shelf {
         ensures { IsTrue result ↔ is_usable self.now };
 
     /// Puts a data set, durably: whoever commits a row with the cell afterwards finds it, whatever
-    /// crash comes.
+    /// crash comes. As the first one comes after an opening, what an earlier process left behind
+    /// all others goes.
     ///
     /// Errors: Io where a call of the disk failed, Memory, Unusable, Full. None leaves a cell in
     /// use that wasn't.
@@ -99,6 +106,7 @@ pub trait Shelf {
             → uses self.new cell × stands self.new cell bytes }
         ensures unused { OnErr result
             ((cell : List ℕ) → uses self.new cell → uses self.old cell) }
+        ensures ends { OnOk result (is_new self.old → ends self.new) }
         ensures named { named self.new ≡ named self.old }
         ensures clean { is_clean self.new → is_clean self.old }
         ensures why { IfErr result
@@ -116,6 +124,7 @@ pub trait Shelf {
         ensures keeps { (other bytes : List ℕ) → uses self.old other → stands self.old other bytes
             → uses self.new other × stands self.new other bytes }
         ensures named { named self.new ≡ named self.old }
+        ensures since { is_new self.old → is_new self.new }
         ensures clean { is_clean self.new → is_clean self.old }
         ensures why { IfErr result (λ fault. is_clean self.new → (bytes : List ℕ)
             → IsWhyNotRead (is_usable self.old) (stands self.old cell.items bytes) fault) };
@@ -132,6 +141,7 @@ pub trait Shelf {
             → uses self.new other × stands self.new other bytes }
         ensures uses { (other : List ℕ) → uses self.old other → uses self.new other }
         ensures named { named self.new ≡ named self.old }
+        ensures since { is_new self.old → is_new self.new }
         ensures clean { is_clean self.new → is_clean self.old }
         ensures why { IfErr result (λ fault. is_clean self.new
             → IsWhyNotRead (is_usable self.old) (Unit {0}) fault) };
@@ -146,5 +156,6 @@ pub trait Shelf {
             → uses self.old other → stands self.old other bytes
             → uses self.new other × stands self.new other bytes }
         ensures named { named self.new ≡ named self.old }
+        ensures since { is_new self.old → is_new self.new }
         ensures clean { is_clean self.new → is_clean self.old };
 }

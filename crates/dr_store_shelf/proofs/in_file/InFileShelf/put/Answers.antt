@@ -1,14 +1,14 @@
-use Rattle.std.proofs.Common.{◌≢◌, ◌<◌, ◌^◌, [], ◌∷◌, length, Contains}
+use Rattle.std.proofs.Common.{◌≢◌, ◌<◌, ◌≤◌, ◌^◌, [], ◌∷◌, length, All, Contains}
 use Rattle.std.proofs.Common.{subst, sym, ap, ◌∙◌, rules}
 use Rattle.std.proofs.lemmas.List.Sorted.{Contains-permutation}
 use Rattle.std.proofs.lemmas.List.Elements.{All-contains, Contains-append_left}
 use Rattle.std.proofs.lemmas.List.Elements.{Contains-append_right, Contains-push}
 use Rattle.dr_store_bodies.specs.declared.extent.Extent.{Extent}
 use Rattle.dr_store_bodies.specs.Bodies.{extents}
-use Rattle.dr_store_bodies.specs.Extents.{Stand}
+use Rattle.dr_store_bodies.specs.Extents.{Stand, end_of}
 use Rattle.dr_store_shelf.specs.Cells.{Passes, extent_in}
 use Rattle.dr_store_shelf.proofs.CellLemmas.{extent_named}
-use Rattle.dr_store_shelf.proofs.Kept.{on_err}
+use Rattle.dr_store_shelf.proofs.Kept.{all_fewer, on_err}
 use Rattle.dr_store_shelf.proofs.in_file.InFileShelf.put.Goals as goal
 
 -- what was there before the file was cut is there behind that
@@ -115,3 +115,16 @@ returns-clause-keeps g c = λ cell bytes used stands.
         subst (λ key. Passes key cell bytes) (sym c.cut_once.ensures.key) stands.1,
       ),
     )
+
+-- as the first one is put, the file was cut, and what was put ends where its extent does
+pub returns-clause-ends : goal.returns-clause-ends
+returns-clause-ends g c fresh size all =
+    let e : Extent = c.in_ok-extent.extent in
+    let old = extents c.cut_once.new.self.bodies in
+    let new = extents c.put.new.self in
+    let within : All (λ (f : Extent). end_of f ≤ size) (extents c.args.self.now.bodies) =
+    subst (All (λ (f : Extent). end_of f ≤ size)) c.cut_once.ensures.listed
+    (all_fewer (λ (f : Extent). end_of f ≤ size) old new
+    (λ f there. Contains-permutation (e ∷ old) new f c.in_ok-extent.ensures.listed
+    (Contains-append_right (e ∷ []) old f there)) all) in
+    c.in_ok-extent.ensures.ends size (c.in_ok-cut_once.ensures.ends fresh size within) all
