@@ -54,6 +54,13 @@ abbrev pub KeepsCells : (Used : List ℕ → Type 0)
 KeepsCells Used Stood Uses Stands =
     (cell bytes : List ℕ) → Used cell → Stood cell bytes → Uses cell × Stands cell bytes
 
+-- Each cell that was in use and stands for some bytes stood for them before.
+abbrev pub StoodBefore : (Used : List ℕ → Type 0)
+    → (Stood : List ℕ → List ℕ → Type 0)
+    → (Stands : List ℕ → List ℕ → Type 0) → Type 0
+StoodBefore Used Stood Stands =
+    (cell bytes : List ℕ) → Used cell → Stands cell bytes → Stood cell bytes
+
 -- two cells name different places
 abbrev pub AreApart : List ℕ → List ℕ → Type 0
 AreApart cell other = (extent_in cell).at ≢ (extent_in other).at

@@ -6,6 +6,7 @@ ghost use Rattle.dr_store_bodies.specs.Bodies.{IsClean, IsHeld, IsUsable, extent
 ghost use Rattle.dr_store_bodies.specs.Extents.{LiesBefore, Stand, end_of};
 ghost use Rattle.dr_store_shelf.specs.Cells.{Passes, extent_in};
 ghost use Rattle.dr_store_shelf.specs.Shelves.{IsUsed, IsWhyNotPut, IsWhyNotRead, Stands};
+ghost use Rattle.dr_store_shelf.specs.Shelves.{StoodBefore};
 
 use crate::cell::{blank_cell, extent_of, passes, placed_cell};
 use crate::fault::ShelfFault;
@@ -75,6 +76,8 @@ impl<D: Disk> InFile<D> {
         ensures keeps { (other bytes : List ℕ) → IsUsed self.old.bodies other
             → Stands self.old.key self.old.bodies other bytes
             → IsUsed self.new.bodies other × Stands self.new.key self.new.bodies other bytes }
+        ensures same { IsClean self.new.bodies → StoodBefore (IsUsed self.old.bodies)
+            (Stands self.old.key self.old.bodies) (Stands self.new.key self.new.bodies) }
         ensures uses { (other : List ℕ) → IsUsed self.old.bodies other
             → IsUsed self.new.bodies other }
         ensures clean { IsClean self.new.bodies → IsClean self.old.bodies }
@@ -82,6 +85,7 @@ impl<D: Disk> InFile<D> {
             → IsWhyNotRead (IsUsable self.old.bodies)
             (Stands self.old.key self.old.bodies cell.now bytes) fault) }
     {
+        let _extents = self.bodies.extents();
         let mut bytes = vec![in self.alloc; 0u8; extent.size]?;
         self.bodies.get(extent, &mut bytes)?;
         if !passes(self.key, cell, &bytes) {
@@ -99,6 +103,8 @@ impl<D: Disk> InFile<D> {
         ensures keeps { (other bytes : List ℕ) → IsUsed self.old.bodies other
             → Stands self.old.key self.old.bodies other bytes
             → IsUsed self.new.bodies other × Stands self.new.key self.new.bodies other bytes }
+        ensures same { IsClean self.new.bodies → StoodBefore (IsUsed self.old.bodies)
+            (Stands self.old.key self.old.bodies) (Stands self.new.key self.new.bodies) }
         ensures uses { (other : List ℕ) → IsUsed self.old.bodies other
             → IsUsed self.new.bodies other }
         ensures clean { IsClean self.new.bodies → IsClean self.old.bodies }
@@ -157,6 +163,7 @@ impl<D: Disk> Shelf for InFile<D> {
     }
 
     fn put(&mut self, body: &[u8]) -> Result<BodyCell, ShelfFault> {
+        let _extents = self.bodies.extents();
         let cell = blank_cell(self.alloc, self.key, body)?;
         self.cut_once()?;
         let extent = self.bodies.put(body)?;

@@ -14,3 +14,6 @@ returns-in-InFile-clause-why g c = rw c.in-InFile.is c.get-in-InFile.ensures.why
 
 pub returns-in-InFile-clause-since : goal.returns-in-InFile-clause-since
 returns-in-InFile-clause-since g c = rw c.in-InFile.is c.get-in-InFile.ensures.since
+
+pub returns-in-InFile-clause-same : goal.returns-in-InFile-clause-same
+returns-in-InFile-clause-same g c = rw c.in-InFile.is c.get-in-InFile.ensures.same

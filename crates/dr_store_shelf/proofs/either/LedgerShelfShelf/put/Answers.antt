@@ -8,3 +8,6 @@ returns-in-InFile-clause-keeps g c = rw c.in-InFile.is c.put-in-InFile.ensures.k
 
 pub returns-in-InFile-clause-ends : goal.returns-in-InFile-clause-ends
 returns-in-InFile-clause-ends g c = rw c.in-InFile.is c.put-in-InFile.ensures.ends
+
+pub returns-in-InFile-clause-same : goal.returns-in-InFile-clause-same
+returns-in-InFile-clause-same g c = rw c.in-InFile.is c.put-in-InFile.ensures.same

@@ -42,3 +42,10 @@ returns-in-Some-clause-gone g c = λ one used.
     All-contains (λ e. test e ≡ true) (filter test (extents c.args.self.now.bodies))
     (extent_in cell) (filter_passes test (extents c.args.self.now.bodies)) left in
     false≢true (sym (ap not (eq-eqb (extent_in cell).at gone.at (sym is))) ∙ stays)
+
+pub returns-in-Some-clause-same : goal.returns-in-Some-clause-same
+returns-in-Some-clause-same g c = λ clean other bytes used stands. (
+  subst (λ disk. Stand (g.D.Disk.seen disk) (g.D.Disk.may_leave disk) (extent_in other) bytes)
+      c.free.ensures.untouched stands.0,
+  stands.1,
+)
