@@ -1,7 +1,7 @@
 -- What is seen at an extent in use stands there.
 use Rattle.std.proofs.Common.{◌≡◌, ℕ, ◌+◌, ◌<◌, ◌≤◌, List, length, drop, slice_index, sym, ◌∙◌, arith}
 use Rattle.std.proofs.Common.{length-take, length-drop, get_or-take, get_or-drop, Result, Ok, Err, IfOk}
-use Rattle.std.proofs.Common.{All, Contains, subst}
+use Rattle.std.proofs.Common.{All, Contains}
 use Rattle.std.proofs.lemmas.List.Elements.{All-contains}
 use Rattle.dr_store_bodies.specs.declared.extent.Extent.{Extent}
 use Rattle.dr_store_bodies.specs.Extents.{IsSafe, Stand, end_of}
@@ -32,15 +32,12 @@ module _ (seen : List ℕ) (e : Extent) (within : end_of e ≤ length seen) wher
         };
   }
 
--- what stands at an extent that was in use stood there before, where all that stood there stays
-pub stood_before :
-    (seen later : List ℕ) (may will : List ℕ → Type 0) (uses : List Extent) (e : Extent) (bytes : List ℕ)
+-- at an extent that was in use the same is shown as before, where all that stood there stays
+pub shown_as_before :
+    (seen later : List ℕ) (may will : List ℕ → Type 0) (uses : List Extent) (e : Extent)
     → All (IsSafe seen may) uses → Contains uses e
     → ((held : List ℕ) → Stand seen may e held → Stand later will e held)
-    → Stand later will e bytes → Stand seen may e bytes
-stood_before seen later may will uses e bytes all used keeps is =
+    → shown later e ≡ shown seen e
+shown_as_before seen later may will uses e all used keeps =
     let safe : IsSafe seen may e = All-contains (IsSafe seen may) uses e all used in
-    let was : Stand seen may e (shown seen e) = seen_stands seen e safe.0 may safe in
-    let same : shown seen e ≡ bytes =
-    sym (held_is_shown later will e (shown seen e) (keeps (shown seen e) was)) ∙ held_is_shown later will e bytes is in
-    subst (Stand seen may e) same was
+    held_is_shown later will e (shown seen e) (keeps (shown seen e) (seen_stands seen e safe.0 may safe))

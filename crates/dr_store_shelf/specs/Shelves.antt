@@ -1,5 +1,5 @@
 -- What a shelf gives out for a data set, and why it refuses one.
-use Rattle.std.specs.Prelude.{◌≢◌, ◌≤◌, ℕ, List, All, Contains, length}
+use Rattle.std.specs.Prelude.{◌≡◌, ◌≢◌, ◌≤◌, ℕ, List, All, Contains, length}
 use Rattle.sqlite_disk.specs.declared.Disk.{Ghosts}
 use Rattle.sqlite_disk.specs.Disk.{MoreFaults}
 use Rattle.dr_store_bodies.specs.declared.bodies.Bodies.{Bodies}
@@ -11,7 +11,7 @@ use Rattle.dr_store_shelf.specs.declared.fault.ShelfFault.{ShelfFault}
 use Rattle.dr_store_shelf.specs.declared.fault.ShelfFault.TheVariants as fault
 use Rattle.dr_store_shelf.specs.declared.shelf.BodyCell.{BodyCell}
 use Rattle.dr_store_shelf.specs.declared.shelf.BodyCell.TheVariants.{Itself, Name}
-use Rattle.dr_store_shelf.specs.Cells.{Passes, extent_in}
+use Rattle.dr_store_shelf.specs.Cells.{Passes, extent_in, shown}
 
 -- the bytes of a cell that was given out for this data set
 abbrev pub bytes_of : BodyCell → List ℕ → List ℕ
@@ -54,12 +54,10 @@ abbrev pub KeepsCells : (Used : List ℕ → Type 0)
 KeepsCells Used Stood Uses Stands =
     (cell bytes : List ℕ) → Used cell → Stood cell bytes → Uses cell × Stands cell bytes
 
--- Each cell that was in use and stands for some bytes stood for them before.
-abbrev pub StoodBefore : (Used : List ℕ → Type 0)
-    → (Stood : List ℕ → List ℕ → Type 0)
-    → (Stands : List ℕ → List ℕ → Type 0) → Type 0
-StoodBefore Used Stood Stands =
-    (cell bytes : List ℕ) → Used cell → Stands cell bytes → Stood cell bytes
+-- By each cell that was in use the same bytes are shown as before, whether or not it stands for
+-- them.
+abbrev pub ShowsAsBefore : (Used : List ℕ → Type 0) → (was is : List ℕ → List ℕ) → Type 0
+ShowsAsBefore Used was is = (cell : List ℕ) → Used cell → is cell ≡ was cell
 
 -- two cells name different places
 abbrev pub AreApart : List ℕ → List ℕ → Type 0
@@ -75,6 +73,10 @@ module _ {D : Type 0} {g : Ghosts D} where
   abbrev pub EndsWithLast : Bodies D g → Type 0
   EndsWithLast file =
       (size : ℕ) → All (λ e. end_of e ≤ size) (extents file) → length (seen file) ≤ size
+
+  -- what is seen at the cell's extent
+  abbrev pub shown_by : Bodies D g → List ℕ → List ℕ
+  shown_by file cell = shown (seen file) (extent_in cell)
 
   -- the cell has an extent, which is in use
   abbrev pub IsUsed : Bodies D g → List ℕ → Type 0

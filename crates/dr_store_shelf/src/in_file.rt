@@ -6,7 +6,7 @@ ghost use Rattle.dr_store_bodies.specs.Bodies.{IsClean, IsHeld, IsUsable, extent
 ghost use Rattle.dr_store_bodies.specs.Extents.{LiesBefore, Stand, end_of};
 ghost use Rattle.dr_store_shelf.specs.Cells.{Passes, extent_in};
 ghost use Rattle.dr_store_shelf.specs.Shelves.{IsUsed, IsWhyNotPut, IsWhyNotRead, Stands};
-ghost use Rattle.dr_store_shelf.specs.Shelves.{StoodBefore};
+ghost use Rattle.dr_store_shelf.specs.Shelves.{ShowsAsBefore, shown_by};
 
 use crate::cell::{blank_cell, extent_of, passes, placed_cell};
 use crate::fault::ShelfFault;
@@ -76,8 +76,8 @@ impl<D: Disk> InFile<D> {
         ensures keeps { (other bytes : List ℕ) → IsUsed self.old.bodies other
             → Stands self.old.key self.old.bodies other bytes
             → IsUsed self.new.bodies other × Stands self.new.key self.new.bodies other bytes }
-        ensures same { IsClean self.new.bodies → StoodBefore (IsUsed self.old.bodies)
-            (Stands self.old.key self.old.bodies) (Stands self.new.key self.new.bodies) }
+        ensures shows { IsClean self.new.bodies → ShowsAsBefore (IsUsed self.old.bodies)
+            (shown_by self.old.bodies) (shown_by self.new.bodies) }
         ensures uses { (other : List ℕ) → IsUsed self.old.bodies other
             → IsUsed self.new.bodies other }
         ensures clean { IsClean self.new.bodies → IsClean self.old.bodies }
@@ -103,8 +103,8 @@ impl<D: Disk> InFile<D> {
         ensures keeps { (other bytes : List ℕ) → IsUsed self.old.bodies other
             → Stands self.old.key self.old.bodies other bytes
             → IsUsed self.new.bodies other × Stands self.new.key self.new.bodies other bytes }
-        ensures same { IsClean self.new.bodies → StoodBefore (IsUsed self.old.bodies)
-            (Stands self.old.key self.old.bodies) (Stands self.new.key self.new.bodies) }
+        ensures shows { IsClean self.new.bodies → ShowsAsBefore (IsUsed self.old.bodies)
+            (shown_by self.old.bodies) (shown_by self.new.bodies) }
         ensures uses { (other : List ℕ) → IsUsed self.old.bodies other
             → IsUsed self.new.bodies other }
         ensures clean { IsClean self.new.bodies → IsClean self.old.bodies }
@@ -124,13 +124,14 @@ impl<D: Disk> Shelf for InFile<D> {
     ghost use Rattle.dr_store_bodies.specs.Bodies.{IsClean, IsUsable, faults, seen};
     ghost use Rattle.dr_store_shelf.specs.Cells.{Passes, extent_in, shown};
     ghost use Rattle.dr_store_shelf.specs.Shelves.{AreApart, EndsWithLast, IsUsed, Stands};
+    ghost use Rattle.dr_store_shelf.specs.Shelves.{shown_by};
     ghost use Rattle.dr_store_shelf.specs.Held.{apart_from_each_other, held_is_shown};
 
     ghost stands = { λ it. Stands it.key it.bodies };
 
     ghost uses = { λ it. IsUsed it.bodies };
 
-    ghost body_of = { λ it cell. shown (seen it.bodies) (extent_in cell) };
+    ghost body_of = { λ it. shown_by it.bodies };
 
     ghost named = { λ _. true };
 

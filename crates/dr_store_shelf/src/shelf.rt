@@ -1,7 +1,7 @@
 //! A place for data sets.
 ghost use Rattle.std.specs.Prelude.{◌≡◌, ◌<◌, ℕ, List, length, IfErr, IfOk, OnErr, Bool};
 ghost use Rattle.std.specs.Prelude.{◌↔◌, IsTrue, MatchOption, OnOk, false};
-ghost use Rattle.dr_store_shelf.specs.Shelves.{IsWhyNotPut, IsWhyNotRead, StoodBefore, bytes_of};
+ghost use Rattle.dr_store_shelf.specs.Shelves.{IsWhyNotPut, IsWhyNotRead, ShowsAsBefore, bytes_of};
 
 use crate::fault::ShelfFault;
 
@@ -29,8 +29,8 @@ impl BodyCell {
 /// A place for data sets, which gives out a cell for each.
 ///
 /// A cell that is in use stands for the same bytes until it is let go, whatever else is put, read
-/// or let go, and whether or not a call is refused. One that stands for some bytes stood for them
-/// before each call, as far as the medium answered rightly.
+/// or let go, and whether or not a call is refused. By one that is in use each call leaves the same
+/// bytes, also where it stands for none, as far as the medium answered rightly.
 pub trait Shelf {
     // The cell stands for these bytes: they are what is read by it, now and after a crash at this
     // moment.
@@ -39,7 +39,7 @@ pub trait Shelf {
     // The cell is in use.
     ghost uses: { Self → List ℕ → Type 0 };
 
-    // The bytes for which the cell stands, if it stands for any.
+    // The bytes that are shown by the cell, for which it stands, if it stands for any.
     ghost body_of: { Self → List ℕ → List ℕ };
 
     // Whether its cells name places, which stays as it is.
@@ -105,8 +105,8 @@ pub trait Shelf {
             → apart (named self.old) (bytes_of cell body.now) other) }
         ensures keeps { (cell bytes : List ℕ) → uses self.old cell → stands self.old cell bytes
             → uses self.new cell × stands self.new cell bytes }
-        ensures same { is_clean self.new
-            → StoodBefore (uses self.old) (stands self.old) (stands self.new) }
+        ensures shows { is_clean self.new
+            → ShowsAsBefore (uses self.old) (body_of self.old) (body_of self.new) }
         ensures unused { OnErr result
             ((cell : List ℕ) → uses self.new cell → uses self.old cell) }
         ensures ends { OnOk result (is_new self.old → ends self.new) }
@@ -126,8 +126,8 @@ pub trait Shelf {
         ensures tested { IfOk result (λ got. passes self.old cell.items got.items) }
         ensures keeps { (other bytes : List ℕ) → uses self.old other → stands self.old other bytes
             → uses self.new other × stands self.new other bytes }
-        ensures same { is_clean self.new
-            → StoodBefore (uses self.old) (stands self.old) (stands self.new) }
+        ensures shows { is_clean self.new
+            → ShowsAsBefore (uses self.old) (body_of self.old) (body_of self.new) }
         ensures named { named self.new ≡ named self.old }
         ensures since { is_new self.old → is_new self.new }
         ensures clean { is_clean self.new → is_clean self.old }
@@ -144,8 +144,8 @@ pub trait Shelf {
             (λ got. stands self.old cell.items got.items)) }
         ensures keeps { (other bytes : List ℕ) → uses self.old other → stands self.old other bytes
             → uses self.new other × stands self.new other bytes }
-        ensures same { is_clean self.new
-            → StoodBefore (uses self.old) (stands self.old) (stands self.new) }
+        ensures shows { is_clean self.new
+            → ShowsAsBefore (uses self.old) (body_of self.old) (body_of self.new) }
         ensures uses { (other : List ℕ) → uses self.old other → uses self.new other }
         ensures named { named self.new ≡ named self.old }
         ensures since { is_new self.old → is_new self.new }
@@ -162,8 +162,8 @@ pub trait Shelf {
         ensures keeps { (other bytes : List ℕ) → apart (named self.old) cell.now other
             → uses self.old other → stands self.old other bytes
             → uses self.new other × stands self.new other bytes }
-        ensures same { is_clean self.new
-            → StoodBefore (uses self.old) (stands self.old) (stands self.new) }
+        ensures shows { is_clean self.new
+            → ShowsAsBefore (uses self.old) (body_of self.old) (body_of self.new) }
         ensures named { named self.new ≡ named self.old }
         ensures since { is_new self.old → is_new self.new }
         ensures clean { is_clean self.new → is_clean self.old };

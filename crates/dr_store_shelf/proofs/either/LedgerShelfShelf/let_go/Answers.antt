@@ -6,5 +6,5 @@ returns-in-InFile-clause-keeps g c = rw c.in-InFile.is c.let_go-in-InFile.ensure
 pub returns-in-InFile-clause-since : goal.returns-in-InFile-clause-since
 returns-in-InFile-clause-since g c = rw c.in-InFile.is c.let_go-in-InFile.ensures.since
 
-pub returns-in-InFile-clause-same : goal.returns-in-InFile-clause-same
-returns-in-InFile-clause-same g c = rw c.in-InFile.is c.let_go-in-InFile.ensures.same
+pub returns-in-InFile-clause-shows : goal.returns-in-InFile-clause-shows
+returns-in-InFile-clause-shows g c = rw c.in-InFile.is c.let_go-in-InFile.ensures.shows

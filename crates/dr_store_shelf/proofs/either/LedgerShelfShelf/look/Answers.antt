@@ -12,5 +12,5 @@ returns-in-InFile-clause-uses g c = rw c.in-InFile.is c.look-in-InFile.ensures.u
 pub returns-in-InFile-clause-since : goal.returns-in-InFile-clause-since
 returns-in-InFile-clause-since g c = rw c.in-InFile.is c.look-in-InFile.ensures.since
 
-pub returns-in-InFile-clause-same : goal.returns-in-InFile-clause-same
-returns-in-InFile-clause-same g c = rw c.in-InFile.is c.look-in-InFile.ensures.same
+pub returns-in-InFile-clause-shows : goal.returns-in-InFile-clause-shows
+returns-in-InFile-clause-shows g c = rw c.in-InFile.is c.look-in-InFile.ensures.shows

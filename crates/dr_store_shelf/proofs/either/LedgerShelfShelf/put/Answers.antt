@@ -9,5 +9,5 @@ returns-in-InFile-clause-keeps g c = rw c.in-InFile.is c.put-in-InFile.ensures.k
 pub returns-in-InFile-clause-ends : goal.returns-in-InFile-clause-ends
 returns-in-InFile-clause-ends g c = rw c.in-InFile.is c.put-in-InFile.ensures.ends
 
-pub returns-in-InFile-clause-same : goal.returns-in-InFile-clause-same
-returns-in-InFile-clause-same g c = rw c.in-InFile.is c.put-in-InFile.ensures.same
+pub returns-in-InFile-clause-shows : goal.returns-in-InFile-clause-shows
+returns-in-InFile-clause-shows g c = rw c.in-InFile.is c.put-in-InFile.ensures.shows

@@ -4,7 +4,7 @@ use Rattle.dr_store_bodies.specs.declared.extent.Extent.{Extent}
 use Rattle.dr_store_bodies.specs.Bodies.{extents}
 use Rattle.dr_store_bodies.specs.Extents.{IsSafe, Stand}
 use Rattle.dr_store_shelf.specs.Cells.{Passes, extent_in}
-use Rattle.dr_store_shelf.proofs.Looked.{stood_before}
+use Rattle.dr_store_shelf.proofs.Looked.{shown_as_before}
 use Rattle.dr_store_shelf.proofs.in_file.InFile.read.Goals as goal
 
 pub returns-in_err-get-clause-keeps : goal.returns-in_err-get-clause-keeps
@@ -73,8 +73,8 @@ returns-clause-uses g c = λ other used. (
   subst (λ xs. Contains xs (extent_in other)) (sym c.get.ensures.listed) used.1,
 )
 
-pub returns-in_err-get-clause-same : goal.returns-in_err-get-clause-same
-returns-in_err-get-clause-same g c = λ clean other bytes used stands.
+pub returns-in_err-get-clause-shows : goal.returns-in_err-get-clause-shows
+returns-in_err-get-clause-shows g c = λ clean other used.
     let was = c.args.self.now.bodies.disk in
     let new = c.get.new.self.disk in
     let seen : List ℕ = g.D.Disk.seen was in
@@ -82,14 +82,12 @@ returns-in_err-get-clause-same g c = λ clean other bytes used stands.
     let uses = extents c.args.self.now.bodies in
     let all : All (IsSafe seen may) uses =
     subst (All (IsSafe seen may)) c.extents-extents.ensures.all
-    (c.extents-extents.ensures.safe (c.get.ensures.clean clean)) in (
-      stood_before seen (g.D.Disk.seen new) may (g.D.Disk.may_leave new) uses (extent_in other)
-          bytes all used.1 (λ held is. c.get.ensures.keeps (extent_in other) held is) stands.0,
-      stands.1,
-    )
+    (c.extents-extents.ensures.safe (c.get.ensures.clean clean)) in
+    shown_as_before seen (g.D.Disk.seen new) may (g.D.Disk.may_leave new) uses (extent_in other) all used.1
+    (λ held is. c.get.ensures.keeps (extent_in other) held is)
 
-pub returns-then-not-passes-clause-same : goal.returns-then-not-passes-clause-same
-returns-then-not-passes-clause-same g c = λ clean other bytes used stands.
+pub returns-then-not-passes-clause-shows : goal.returns-then-not-passes-clause-shows
+returns-then-not-passes-clause-shows g c = λ clean other used.
     let was = c.args.self.now.bodies.disk in
     let new = c.get.new.self.disk in
     let seen : List ℕ = g.D.Disk.seen was in
@@ -97,14 +95,12 @@ returns-then-not-passes-clause-same g c = λ clean other bytes used stands.
     let uses = extents c.args.self.now.bodies in
     let all : All (IsSafe seen may) uses =
     subst (All (IsSafe seen may)) c.extents-extents.ensures.all
-    (c.extents-extents.ensures.safe (c.get.ensures.clean clean)) in (
-      stood_before seen (g.D.Disk.seen new) may (g.D.Disk.may_leave new) uses (extent_in other)
-          bytes all used.1 (λ held is. c.get.ensures.keeps (extent_in other) held is) stands.0,
-      stands.1,
-    )
+    (c.extents-extents.ensures.safe (c.get.ensures.clean clean)) in
+    shown_as_before seen (g.D.Disk.seen new) may (g.D.Disk.may_leave new) uses (extent_in other) all used.1
+    (λ held is. c.get.ensures.keeps (extent_in other) held is)
 
-pub returns-clause-same : goal.returns-clause-same
-returns-clause-same g c = λ clean other bytes used stands.
+pub returns-clause-shows : goal.returns-clause-shows
+returns-clause-shows g c = λ clean other used.
     let was = c.args.self.now.bodies.disk in
     let new = c.get.new.self.disk in
     let seen : List ℕ = g.D.Disk.seen was in
@@ -112,8 +108,6 @@ returns-clause-same g c = λ clean other bytes used stands.
     let uses = extents c.args.self.now.bodies in
     let all : All (IsSafe seen may) uses =
     subst (All (IsSafe seen may)) c.extents-extents.ensures.all
-    (c.extents-extents.ensures.safe (c.get.ensures.clean clean)) in (
-      stood_before seen (g.D.Disk.seen new) may (g.D.Disk.may_leave new) uses (extent_in other)
-          bytes all used.1 (λ held is. c.get.ensures.keeps (extent_in other) held is) stands.0,
-      stands.1,
-    )
+    (c.extents-extents.ensures.safe (c.get.ensures.clean clean)) in
+    shown_as_before seen (g.D.Disk.seen new) may (g.D.Disk.may_leave new) uses (extent_in other) all used.1
+    (λ held is. c.get.ensures.keeps (extent_in other) held is)

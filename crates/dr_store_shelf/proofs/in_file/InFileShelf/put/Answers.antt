@@ -9,7 +9,7 @@ use Rattle.dr_store_bodies.specs.Extents.{IsSafe, Stand, end_of}
 use Rattle.dr_store_shelf.specs.Cells.{Passes, extent_in}
 use Rattle.dr_store_shelf.proofs.CellLemmas.{extent_named}
 use Rattle.dr_store_shelf.proofs.Kept.{all_fewer, on_err}
-use Rattle.dr_store_shelf.proofs.Looked.{stood_before}
+use Rattle.dr_store_shelf.proofs.Looked.{shown_as_before}
 use Rattle.dr_store_shelf.proofs.in_file.InFileShelf.put.Goals as goal
 
 -- what was there before the file was cut is there behind that
@@ -130,8 +130,8 @@ returns-clause-ends g c fresh size all =
     (Contains-append_right (e ∷ []) old f there)) all) in
     c.in_ok-extent.ensures.ends size (c.in_ok-cut_once.ensures.ends fresh size within) all
 
-pub returns-in_err-cut_once-clause-same : goal.returns-in_err-cut_once-clause-same
-returns-in_err-cut_once-clause-same g c = λ clean cell bytes used stands.
+pub returns-in_err-cut_once-clause-shows : goal.returns-in_err-cut_once-clause-shows
+returns-in_err-cut_once-clause-shows g c = λ clean cell used.
     let e : Extent = extent_in cell in
     let was = c.args.self.now.bodies.disk in
     let new = c.cut_once.new.self.bodies.disk in
@@ -140,14 +140,12 @@ returns-in_err-cut_once-clause-same g c = λ clean cell bytes used stands.
     let uses = extents c.args.self.now.bodies in
     let all : All (IsSafe seen may) uses =
     subst (All (IsSafe seen may)) c.extents-extents.ensures.all
-    (c.extents-extents.ensures.safe (c.cut_once.ensures.clean clean)) in (
-      stood_before seen (g.D.Disk.seen new) may (g.D.Disk.may_leave new) uses e bytes all used.1
-          (λ held is. c.cut_once.ensures.keeps e held used.1 is) stands.0,
-      subst (λ key. Passes key cell bytes) c.cut_once.ensures.key stands.1,
-    )
+    (c.extents-extents.ensures.safe (c.cut_once.ensures.clean clean)) in
+    shown_as_before seen (g.D.Disk.seen new) may (g.D.Disk.may_leave new) uses e all used.1
+    (λ held is. c.cut_once.ensures.keeps e held used.1 is)
 
-pub returns-in_err-extent-clause-same : goal.returns-in_err-extent-clause-same
-returns-in_err-extent-clause-same g c = λ clean cell bytes used stands.
+pub returns-in_err-extent-clause-shows : goal.returns-in_err-extent-clause-shows
+returns-in_err-extent-clause-shows g c = λ clean cell used.
     let e : Extent = extent_in cell in
     let was = c.args.self.now.bodies.disk in
     let new = c.put.new.self.disk in
@@ -158,14 +156,12 @@ returns-in_err-extent-clause-same g c = λ clean cell bytes used stands.
     subst (λ xs. Contains xs e) (sym c.cut_once.ensures.listed) used.1 in
     let all : All (IsSafe seen may) uses =
     subst (All (IsSafe seen may)) c.extents-extents.ensures.all
-    (c.extents-extents.ensures.safe (c.cut_once.ensures.clean (c.put.ensures.clean clean))) in (
-      stood_before seen (g.D.Disk.seen new) may (g.D.Disk.may_leave new) uses e bytes all used.1
-          (λ held is. c.put.ensures.keeps e held within (c.cut_once.ensures.keeps e held used.1 is)) stands.0,
-      subst (λ key. Passes key cell bytes) c.cut_once.ensures.key stands.1,
-    )
+    (c.extents-extents.ensures.safe (c.cut_once.ensures.clean (c.put.ensures.clean clean))) in
+    shown_as_before seen (g.D.Disk.seen new) may (g.D.Disk.may_leave new) uses e all used.1
+    (λ held is. c.put.ensures.keeps e held within (c.cut_once.ensures.keeps e held used.1 is))
 
-pub returns-clause-same : goal.returns-clause-same
-returns-clause-same g c = λ clean cell bytes used stands.
+pub returns-clause-shows : goal.returns-clause-shows
+returns-clause-shows g c = λ clean cell used.
     let e : Extent = extent_in cell in
     let was = c.args.self.now.bodies.disk in
     let new = c.put.new.self.disk in
@@ -176,8 +172,6 @@ returns-clause-same g c = λ clean cell bytes used stands.
     subst (λ xs. Contains xs e) (sym c.cut_once.ensures.listed) used.1 in
     let all : All (IsSafe seen may) uses =
     subst (All (IsSafe seen may)) c.extents-extents.ensures.all
-    (c.extents-extents.ensures.safe (c.cut_once.ensures.clean (c.put.ensures.clean clean))) in (
-      stood_before seen (g.D.Disk.seen new) may (g.D.Disk.may_leave new) uses e bytes all used.1
-          (λ held is. c.put.ensures.keeps e held within (c.cut_once.ensures.keeps e held used.1 is)) stands.0,
-      subst (λ key. Passes key cell bytes) c.cut_once.ensures.key stands.1,
-    )
+    (c.extents-extents.ensures.safe (c.cut_once.ensures.clean (c.put.ensures.clean clean))) in
+    shown_as_before seen (g.D.Disk.seen new) may (g.D.Disk.may_leave new) uses e all used.1
+    (λ held is. c.put.ensures.keeps e held within (c.cut_once.ensures.keeps e held used.1 is))
