@@ -174,7 +174,7 @@ def line_told(ledger, row):
     if kind in (2, 3, 6):
         line |= {'uid': uid, 'dest': dest}
     if kind == 2:
-        line |= {'outcome': 'broken' if outcome is None else 'no-context' if outcome < 0 else f'{outcome:04X}'}
+        line |= {'outcome': 'broken' if outcome is None else f'{outcome:04X}' if outcome >= 0 else {-1: 'no-context', -2: 'unreadable'}[outcome]}
     if kind in (2, 6):
         line |= {'moment': moment}
     return line | ({'uid': uid} if kind == 5 else {})

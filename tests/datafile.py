@@ -36,9 +36,9 @@ HEAD = 4096
 DIGEST, KEY, MARK = 32, 8, 16
 # the files of a ledger, by what stands behind its name
 ENDS = '.db', '.db-wal', '.db.data', '.db.data-wal'
-# A cell that is cut, names another place, a place in the head, or one that is behind the file's end. Bytes behind its digests say nothing.
+# A cell that is cut, has a byte behind its digests, names another place, a place in the head, or one that is behind the file's end.
 CELLS_CHANGED = tuple(f'UPDATE item SET body = CAST({body} AS BLOB) WHERE length(body) > 0' for body in (
-    'substr(body, 1, 16)', "x'0020' || substr(body, 3)", "x'0000' || substr(body, 3)", "substr(body, 1, 4) || x'01000000' || substr(body, 9)"))
+    'substr(body, 1, 16)', "body || x'00'", "x'0020' || substr(body, 3)", "x'0000' || substr(body, 3)", "substr(body, 1, 4) || x'01000000' || substr(body, 9)"))
 # nothing but the four values; less than a piece of 256 kB, some more, and several
 SIZES = 0, 20_000, 300_000, 1_500_000
 # of images at full speed, one of them so large that a kill may come while it is written
@@ -573,8 +573,8 @@ def changed():
 
 
 def changed_while_it_runs():
-    """A node sends no bytes but those that it took: where one was changed below it, each visit fails by name and the next node gets nothing, and what comes
-    is taken all the same. When the byte is as it was all of it goes on."""
+    """A node sends no bytes but those that it took: where one was changed below it, the row is held by name, the next node gets nothing of it, and the hop
+    goes on with what comes. When the byte is as it was and a person asks for the row again, it goes over."""
     with Room() as room:
         make(room, 'GATE', 'ARCH')
         wait_at_gate(room, '1.2.3.4', 300_000)
@@ -583,21 +583,53 @@ def changed_while_it_runs():
         flip(path, at + size // 2)
         arch = room.serve('ARCH', 0)
         same(gate.act('/visit', dest='ARCH'), DONE)
-        room.wait_for_event('GATE', 'ledger dest="ARCH" settled=1 fault="G3 Store"')
-        end = time.monotonic() + LIMIT
-        while gate.ask('GET', '/health')[0] != 503:
-            assert time.monotonic() < end
-            time.sleep(0.05)
+        room.wait_for_event('GATE', 'unreadable dest="ARCH" uid=1.2.3.4')
         with Requestor(room.ports['GATE'], 'CT1', 'GATE') as link:
             same(link.store(b'1.2.3.5', data_set(b'1.2.3.5', pixels(20_000))), 0)
             same(link.release(), RELEASED)
-        same([row['state'] for row in gate.read('/rows?dest=ARCH') if row['uid'] == '1.2.3.4'], ['waiting'])
+        gate.wait('/rows?dest=ARCH', lambda rows: [(row['state'], row.get('cause')) for row in rows] == [('held', 'unreadable'), ('done', None)])
+        # asked for while the byte is another one, it is held again
+        same(gate.act('/requeue', uid='1.2.3.4', dest='ARCH'), DONE)
+        end = time.monotonic() + LIMIT
+        while room.text('GATE.log').count('unreadable dest="ARCH" uid=1.2.3.4') < 2:
+            assert time.monotonic() < end
+            time.sleep(0.05)
         flip(path, at + size // 2)
-        same(gate.act('/visit', dest='ARCH'), DONE)
+        same(gate.act('/requeue', uid='1.2.3.4', dest='ARCH'), DONE)
         gate.wait('/rows?dest=ARCH', all_done(2))
         stop(gate.process)
         stop(arch)
         same(stored(room, 'ARCH'), {'1.2.3.4': data_set(b'1.2.3.4', pixels(300_000)), '1.2.3.5': data_set(b'1.2.3.5', pixels(20_000))})
+
+
+def brought_again():
+    """Without a copy a spoilt data set is brought again: as long as the node knows the instance it takes none in its place, not even the same. Once its row
+    is dropped by name and it is forgotten, it is new, and goes over."""
+    with Room() as room:
+        make(room, 'GATE', 'ARCH')
+        wait_at_gate(room, '1.2.3.4', 300_000)
+        path, ((at, size),) = f'{room.folder}/GATE.db.data', places(room, 'GATE')
+        gate = Asked(room, 'GATE', 0)
+        flip(path, at + size // 2)
+        arch = room.serve('ARCH', 0)
+        same(gate.act('/visit', dest='ARCH'), DONE)
+        gate.wait('/rows?dest=ARCH', lambda rows: [row.get('cause') for row in rows] == ['unreadable'])
+
+        def bring():
+            with Requestor(room.ports['GATE'], 'CT1', 'GATE') as link:
+                same(link.store(b'1.2.3.4', data_set(b'1.2.3.4', pixels(300_000))), 0)
+                same(link.release(), RELEASED)
+
+        bring()
+        same([(row['state'], row.get('cause')) for row in gate.read('/rows?dest=ARCH')], [('held', 'unreadable')])
+        same(gate.act('/forget', uid='1.2.3.4'), (409, '{"fault":"G7 NotOver"}\n'))
+        same(gate.act('/drop', uid='1.2.3.4', dest='ARCH'), DONE)
+        same(gate.act('/forget', uid='1.2.3.4'), DONE)
+        bring()
+        gate.wait('/rows?dest=ARCH', all_done(1))
+        stop(gate.process)
+        stop(arch)
+        same(stored(room, 'ARCH'), {'1.2.3.4': data_set(b'1.2.3.4', pixels(300_000))})
 
 
 def by_hand():
@@ -746,5 +778,5 @@ def names():
 
 
 if __name__ == '__main__':
-    run_cases('datafile', made, both_kinds, let_go, taken_again, killed, brought_over, another_form, together, cut, refused, changed, changed_while_it_runs, by_hand, rows_by_hand,
+    run_cases('datafile', made, both_kinds, let_go, taken_again, killed, brought_over, another_form, together, cut, refused, changed, changed_while_it_runs, brought_again, by_hand, rows_by_hand,
               full, not_copied, names)

@@ -38,7 +38,7 @@ def broken_claim(plan, journals):
 def changed_line(line, names, items, dice):
     """The line, with another caller, item, target or outcome."""
     if line[0] == 'settling':
-        return (*line[:3], dice.choice([SUCCESS, SUCCESS, NO_STORE, CONFLICT, NO_LINE, 'NoContext', 'Broken']))
+        return (*line[:3], dice.choice([SUCCESS, SUCCESS, NO_STORE, CONFLICT, NO_LINE, 'NoContext', 'Broken', 'Unreadable']))
     if line[0] in ('arrival', 'repeat'):
         item = dice.choice([line[2], line[2]._replace(body='z'), dice.choice(items)])
         caller = dice.choice([line[1], LOCAL, dice.choice(names)])
@@ -66,7 +66,7 @@ def changed(plan, journals, items, dice):
     else:
         waiting = [at for at, row in replayed(lines).rows.items() if row[0] == 'waiting']
         if waiting:
-            lines.append(('settling', *dice.choice(sorted(waiting)), dice.choice([SUCCESS, SUCCESS, NO_LINE, 'NoContext'])))
+            lines.append(('settling', *dice.choice(sorted(waiting)), dice.choice([SUCCESS, SUCCESS, NO_LINE, 'NoContext', 'Unreadable'])))
     return {**journals, name: lines}
 
 

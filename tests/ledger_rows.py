@@ -92,6 +92,10 @@ class Site:
 
 # ---- ledgers; each call gives what is printed of its answer
 
+# outcomes that hold a row without a status, and the names of their causes
+NO_ANSWERS = {'no-context': 'NoContext', 'unreadable': 'Unreadable'}
+
+
 def told(row):
     if row is None:
         return 'None'
@@ -100,7 +104,7 @@ def told(row):
         return f'Some(Waiting {{ tries: {parts[0]}, due: {parts[1]} }})'
     if kind in ('done', 'dropped'):
         return f'Some({kind.title()})'
-    return f'Some(Held({"NoContext" if parts[0] == "no-context" else f"Status({parts[0]})"}))'
+    return f'Some(Held({NO_ANSWERS.get(parts[0]) or f"Status({parts[0]})"}))'
 
 
 def shown_rows(rows):
@@ -173,7 +177,7 @@ class Ledger:
         if row is None or row[0] != 'waiting':
             raise Refused('NotWaiting')
         self.add(f'settling {uid} {dest} {outcome} {now}')
-        status = None if outcome in ('broken', 'no-context') else int(outcome, 16)
+        status = None if outcome == 'broken' or outcome in NO_ANSWERS else int(outcome, 16)
         if status is not None and (status == 0 or 0xB000 <= status <= 0xBFFF):
             row = ('done',)
         elif outcome == 'broken' or status is not None and 0xA700 <= status <= 0xA7FF:
@@ -225,7 +229,7 @@ class Ledger:
     def report(self):
         def state(row):
             if row[0] == 'held':
-                return 'held\t' + (row[1] if row[1] == 'no-context' else f'{row[1]:04X}')
+                return 'held\t' + (row[1] if row[1] in NO_ANSWERS else f'{row[1]:04X}')
             return '\t'.join(map(str, row))
         rows = [*(f'arrival\t{c}\t{u}' for c, u in sorted(self.arrivals)), *(f'kept\t{u}\t{len(self.items[u][2])}' for u in sorted(self.kept)),
                 *(f'row\t{u}\t{d}\t{state(r)}' for (u, d), r in sorted(self.rows.items())), f'lines\t{len(self.journal)}']
@@ -293,7 +297,7 @@ def row_before(number, line):
         return number, kind, *words[:2], None, kind, None
     if what == 'settling':
         uid, dest, outcome, now = words
-        return number, 2, None, uid, dest, {'broken': None, 'no-context': -1}[outcome] if len(outcome) > 4 else int(outcome, 16), int(now)
+        return number, 2, None, uid, dest, {'broken': None, 'no-context': -1, 'unreadable': -2}[outcome] if len(outcome) > 4 else int(outcome, 16), int(now)
     return (number, 3, None, *words, None, None) if what == 'requeuing' else (number, 4, *5 * [None])
 
 

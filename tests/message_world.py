@@ -20,14 +20,14 @@ WRONG = {
     'restart_drops_waiting_rows', 'success_without_an_arrival', 'done_rows_stand', 'adoption_forgets_what_is_kept', 'half_the_pairs_accepted',
     'carried_rows_forgotten', 'kept_is_forgotten', 'queued_is_forgotten', 'arrivals_not_forgotten', 'rows_not_forgotten', 'pending_is_forgotten',
     'dropped_arrivals_stand', 'dropped_rows_stay_dropped', 'dropped_without_a_line', 'dropped_rows_stand', 'every_row_is_dropped',
-    'away_is_done',
+    'away_is_done', 'unreadable_is_done', 'unreadable_is_gone',
 }
 # what runs must reach: each event with each reply of its call that a sound plan allows
 REACHED = {
     'take': {'New', 'Again', 'NoLine', 'Conflict', 'Store', 'Memory'}, 'receive': {'New', 'Again', 'Conflict', 'Store', 'Memory'},
     'answered': {'Ok', 'NotWaiting', 'Store', 'Memory'}, 'agree_caller': {'opened', 'Ok', 'Store', 'idle'}, 'agree_receiver': {'accepted', 'rejected'},
     'break_caller': {'Ok', 'Store', 'idle'}, 'close': {'Ok', 'Store', 'idle'}, 'restart': {'Ok', 'Store', 'idle'}, 'requeue': {'Ok', 'NotHeld', 'Store'},
-    'stay_away': {'Ok', 'NotWaiting', 'Store', 'Memory'}, 'forget': {'Ok', 'NotOver', 'Store'},
+    'stay_away': {'Ok', 'NotWaiting', 'Store', 'Memory'}, 'pass_over': {'Ok', 'Store', 'Memory'}, 'forget': {'Ok', 'NotOver', 'Store'},
     'drop': {'Ok', 'NotHeld', 'Store'}, 'meets': {'an arrival a dropped row', 'an answer a dropped row', 'an adoption a dropped row', 'a forgetting a dropped row'},
     'adopt': {'refused', 'the same', 'another', 'another with a row'}, 'ask': {'-'}, 'give': {'-'}, 'break_receiver': {'-'}, 'refuse': {'-'}, 'tick': {'-'},
 }
@@ -156,6 +156,14 @@ class World:
             return '-'
         answer = self.settle(link.caller, item.uid, link.receiver, 'NoContext')
         link.caller_connected = answer not in ('Store', 'Memory')
+        return answer
+
+    def pass_over(self, link):
+        item = self.first_due(link.caller, link.receiver)
+        link.caller_connected = False
+        answer = self.settle(link.caller, item.uid, link.receiver, SUCCESS if 'unreadable_is_done' in self.wrong else 'Unreadable')
+        if 'unreadable_is_gone' in self.wrong:
+            self.books[link.caller].rows.pop((item.uid, link.receiver), None)
         return answer
 
     def receive(self, link):
@@ -297,7 +305,7 @@ def random_event(w, dice):
         if link.caller_connected and link.stage in ('answering', 'rejecting'):
             ready.append((w.agree_caller, link))
         if link.caller_connected and link.stage == 'open' and w.first_due(link.caller, link.receiver):
-            ready += [(w.give, link)] * 2
+            ready += [(w.give, link)] * 2 if dice.random() < 0.9 else [(w.pass_over, link)]
         if link.caller_connected and link.stage == 'replying':
             ready += [(w.answered, link)] * 2
     if choice < 0.70 and ready:

@@ -67,18 +67,25 @@ def rlib_of(name):
     return f"{TOP}/crates/{name}/out/rlib/{name}.rlib"
 
 
-def words_of(name, jobs=1):
-    """The words by which the kit's prover is called for a crate, in a folder that has its sources."""
+def words_of(name, jobs=1, as_source=()):
+    """The words by which the kit's prover is called for a crate, in a folder that has its sources. Libraries below it that are in
+    `as_source`, with all that stands on them, are read as they are written; the others have to be made."""
     own, of_kit = listed()[name]
     is_program = os.path.isfile(f"{TOP}/crates/{name}/src/main.rt")
     words = ["--crate-name", name, f"src/{'main' if is_program else 'lib'}.rt"]
-    for library in ["std", *of_kit]:
+    more = ["core", *(it for library in as_source for it in listed()[library][1])] if as_source else []
+    for library in dict.fromkeys(["std", *of_kit, *more]):
         words += ["--extern", f"{library}={kit()}/rlibs/{library}.rlib"]
     words += ["-L", f"dependency={kit()}/rlibs"]
-    for library in own:
-        words += ["--extern", f"{library}={rlib_of(library)}"]
+    for library in below(name) if as_source else own:
+        if library not in as_source:
+            words += ["--extern", f"{library}={rlib_of(library)}"]
     for library in below(name):
-        words += ["-L", f"dependency={os.path.dirname(rlib_of(library))}"]
+        if library in as_source:
+            uses = dict.fromkeys(["core", "std", *listed()[library][1], *listed()[library][0]])
+            words += ["--lib", f"{library}:{','.join(uses)}={TOP}/crates/{library}/src/lib.rt"]
+        else:
+            words += ["-L", f"dependency={os.path.dirname(rlib_of(library))}"]
     words += ["--antt-project", f"{kit()}/rattle/logic/antt-project.json", "--logic-built", f"{kit()}/logic_built"]
     return [*words, "--links", f"{name}=", "--jobs", str(jobs)]
 

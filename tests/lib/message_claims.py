@@ -47,7 +47,7 @@ def has_arrival(w, name, caller, item):
 def none_refused(w):
     for name, book in w.books.items():
         for line in book.journal:
-            claim(line[0] != 'settling' or line[3] in ('Broken', SUCCESS, NO_STORE, CONFLICT), 'NoneRefused', name, line)
+            claim(line[0] != 'settling' or line[3] in ('Broken', 'Unreadable', SUCCESS, NO_STORE, CONFLICT), 'NoneRefused', name, line)
     for link in w.links.values():
         if link.stage in ('open', 'storing', 'replying'):
             claim(link.accepted >= w.plan.hops[link.caller, link.receiver], 'NoneRefused', 'pairs', link.caller, link.receiver)

@@ -113,7 +113,7 @@ def failing(plan, journals, without=()):
             return 'successes'
         if 'arrivals' in asked and not all(caller == LOCAL or is_sent_on(plan, journals, caller, item, name) for caller, item in had(lines)):
             return 'arrivals'
-        if 'fair' in asked and any(line[0] == 'settling' and line[3] not in ('Broken', SUCCESS, NO_STORE, CONFLICT) for line in lines):
+        if 'fair' in asked and any(line[0] == 'settling' and line[3] not in ('Broken', 'Unreadable', SUCCESS, NO_STORE, CONFLICT) for line in lines):
             return 'fair'
     return None
 

@@ -11,7 +11,7 @@ use Rattle.dr_plan_model.specs.declared.plan.Node.{Node}
 use Rattle.dr_ledger.specs.declared.fault.LedgerFault.{LedgerFault}
 use Rattle.dr_ledger.specs.declared.fault.LedgerFault.TheVariants as ledger
 use Rattle.dr_ledger.specs.Adopting.{Adopting, IsFit, Unfits}
-use Rattle.dr_ledger.specs.Bodies.{Bodies, HasBodies, IsNeeded, OnlyLetsGo}
+use Rattle.dr_ledger.specs.Bodies.{Bodies, HasBodies, IsNeeded, LosesNone, OnlyLetsGo}
 use Rattle.dr_ledger.specs.Books.{Adoption, Book, after}
 use Rattle.dr_ledger.specs.Replies.{Counts, HasRisen}
 use Rattle.dr_ledger.proofs.Maps.{texts}
@@ -68,19 +68,21 @@ none_or_some : {X : Type 0} (o : Option X) → (o ≡ None) ⊎ ((x : X) × (o �
 none_or_some None = inl refl
 none_or_some (Some x) = inr (x, refl)
 
--- where all that was needed is needed still, and data sets were only let go, none was
-pub same_bodies : (b c : Book) (old new : Bodies) → ∥ HasBodies b old ∥₁ → ∥ HasBodies c new ∥₁
+-- where all that was needed is needed still, data sets were only let go, and none was lost, none was
+-- let go
+pub same_bodies : (b c : Book) (old new : Bodies) → ∥ HasBodies b old ∥₁
     → ((uid : Text) → IsNeeded b uid → IsNeeded c uid)
     → OnlyLetsGo old new
+    → LosesNone b old c new
     → new ≡ old
-same_bodies b c old new had has needed lets_go = map.same_map texts.total texts.exact new old each
+same_bodies b c old new had needed lets_go loses = map.same_map texts.total texts.exact new old each
   where
     gone : (uid : Text) → map.get new uid ≡ None → (body : List ℕ) → map.get old uid ≡ Some body → ⊥
     gone uid none body was =
-        ∥∥₁_elim had (λ x y. absurd x) (λ h. ∥∥₁_elim has (λ x y. absurd x) (λ k.
-        let there = (k.there uid).1 (needed uid ((h.there uid).0 (body, was))) in
+        ∥∥₁_elim had (λ x y. absurd x) (λ h.
+        let there = loses uid (needed uid (h.there uid body was)) (inl (body, was)) in
         let e : None ≡ Some there.0 = sym none ∙ there.1 in
-        cc))
+        cc)
 
     each : (uid : Text) → map.get new uid ≡ map.get old uid
     each uid = elim (none_or_some (map.get new uid)) [
@@ -189,9 +191,10 @@ module _ {L : Type 0} (site_of : L → Part) (book : L → Book) (bodies : L →
       → (stands new → stands old)
       → (stands new → book new ≡ after Adoption (book old))
       → (stands new → OnlyLetsGo (bodies old) (bodies new))
+      → (stands new → LosesNone (book old) (bodies old) (book new) (bodies new))
       → failed old ≤ failed new
       → HasTaken site_of book bodies stands failed next own old new
-  went_over next own old new bodied part named fit site stood adopted lets_go falls = record {
+  went_over next own old new bodied part named fit site stood adopted lets_go loses falls = record {
     part = part;
     named = named;
     site = site;
@@ -199,10 +202,10 @@ module _ {L : Type 0} (site_of : L → Part) (book : L → Book) (bodies : L →
     fit = λ s. fit (stood s);
     adopted = adopted;
     data_sets = λ s. same_bodies (book old) (book new) (bodies old) (bodies new)
-        (bodied old (stood s)) (bodied new s)
+        (bodied old (stood s))
         (λ uid needed. subst
         (λ (b : Book). IsNeeded b uid) (sym (adopted s))
-        ((adoptions_need_the_same (book old) uid).1 needed)) (lets_go s);
+        ((adoptions_need_the_same (book old) uid).1 needed)) (lets_go s) (loses s);
     never_falls = falls;
   }
 
@@ -213,17 +216,19 @@ module _ {L : Type 0} (site_of : L → Part) (book : L → Book) (bodies : L →
       → (stands new → stands old)
       → (stands new → Adopting (book old) (Err why) (book new))
       → (stands new → OnlyLetsGo (bodies old) (bodies new))
+      → (stands new → LosesNone (book old) (bodies old) (book new) (bodies new))
       → failed old ≤ failed new
       → IsAsItWas site_of book bodies stands failed old new
-  stayed why own old new bodied site stood reply lets_go falls =
+  stayed why own old new bodied site stood reply lets_go loses falls =
       let same : stands new → book new ≡ book old = λ s. left (book old) (book new) why (reply s) in
       record {
         site = site;
         stood = stood;
         same = same;
         data_sets = λ s. same_bodies (book old) (book new) (bodies old) (bodies new)
-            (bodied old (stood s)) (bodied new s)
-            (λ uid needed. subst (λ (b : Book). IsNeeded b uid) (sym (same s)) needed) (lets_go s);
+            (bodied old (stood s))
+            (λ uid needed. subst (λ (b : Book). IsNeeded b uid) (sym (same s)) needed) (lets_go s)
+            (loses s);
         never_falls = falls;
       }
 

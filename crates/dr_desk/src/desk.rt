@@ -5,7 +5,7 @@ ghost use Rattle.dr_ledger.specs.SiteRoutes.{site_routing};
 
 use dr_base::{Seq, Text};
 use dr_cert::Sealed;
-use dr_ledger::{Arrived, Entry, Item, Job, Ledger, LedgerFault, LetsGo, Outcome, Progress};
+use dr_ledger::{Arrived, Entry, Item, Ledger, LedgerFault, LetsGo, NextRow, Outcome, Progress};
 use dr_ledger_history::JournalLine;
 use dr_ledger_views::{Moments, Origin, Stage, Views};
 use dr_site::Site;
@@ -64,7 +64,7 @@ impl<L: Ledger> Ledger for Desk<L> {
         self.ledger.arrive(caller, item)
     }
 
-    fn next(&mut self, dest: &Text, now: u64) -> Result<Option<Job>, LedgerFault> {
+    fn next(&mut self, dest: &Text, now: u64) -> Result<Option<NextRow>, LedgerFault> {
         self.ledger.next(dest, now)
     }
 

@@ -4,7 +4,7 @@ ghost use Rattle.std.specs.Prelude.{◌-◌, ◌↔◌, IsTrue, OnErr, OnOk, len
 ghost use Rattle.std.specs.FinMap as map;
 ghost use Rattle.std.proofs.Props.{props};
 ghost use Rattle.dr_ledger.specs.Adopting.{Unfits};
-ghost use Rattle.dr_ledger.specs.Bodies.{NextsWith};
+ghost use Rattle.dr_ledger.specs.Bodies.{IsNeeded, NextsWith};
 ghost use Rattle.dr_ledger.specs.Books.{most_lines};
 ghost use Rattle.dr_ledger.specs.Items.{instance_of};
 ghost use Rattle.dr_ledger.specs.Histories.{IsJournalled};
@@ -25,7 +25,7 @@ use crate::sharing::Sharing;
 use dr_base::{Seq, Text};
 use dr_cert::Sealed;
 use dr_ledger::{
-    Arrived, Entry, Item, Job, Ledger, LedgerFault, LetsGo, MOST_LINES, Outcome, Progress,
+    Arrived, Entry, Item, Ledger, LedgerFault, LetsGo, MOST_LINES, NextRow, Outcome, Progress,
 };
 use std::alloc::Global;
 use std::sync::ledger::{Book, Share};
@@ -205,7 +205,7 @@ impl<L: Ledger, B: Sharing> HeldDesk<L, B> {
     }
 
     /// The ledger's `next`.
-    pub(crate) fn next(&mut self, dest: &Text, now: u64) -> Result<Option<Job>, LedgerFault>
+    pub(crate) fn next(&mut self, dest: &Text, now: u64) -> Result<Option<NextRow>, LedgerFault>
         ensures { Answered L.site L.book L.bodies L.stands L.failed B.site B.first
             (λ l answer. Reads answer (NextsWith (L.book l) (L.bodies l) dest.now now))
             result self.old.desk.ledger self.new.desk.ledger }
@@ -244,7 +244,7 @@ impl<L: Ledger, B: Sharing> HeldDesk<L, B> {
     /// The ledger's `has_body`.
     pub(crate) fn has_body(&mut self, uid: &Text) -> Result<bool, LedgerFault>
         ensures { Answered L.site L.book L.bodies L.stands L.failed B.site B.first
-            (λ l answer. Reads answer (λ there. there ≡ map.contains_key (L.bodies l) uid.now))
+            (λ l answer. Reads answer (λ needed. IsTrue needed ↔ IsNeeded (L.book l) uid.now))
             result self.old.desk.ledger self.new.desk.ledger }
     {
         self.desk.has_body(uid)

@@ -3,7 +3,7 @@ ghost use Rattle.std.specs.Prelude.{◌≡◌, ◌⊎◌, ◌<◌, ◌≤◌, �
 ghost use Rattle.std.specs.Prelude.{◌↔◌, IsTrue, MatchResult, map as mapped};
 ghost use Rattle.std.specs.FinMap as map;
 ghost use Rattle.dr_ledger.specs.Adopting.{Unfits};
-ghost use Rattle.dr_ledger.specs.Bodies.{NextsWith};
+ghost use Rattle.dr_ledger.specs.Bodies.{IsNeeded, NextsWith};
 ghost use Rattle.dr_ledger.specs.Items.{instance_of};
 ghost use Rattle.dr_ledger.specs.Pairs.{pair_cmp};
 ghost use Rattle.dr_ledger.specs.Replies.{Admits, AreKept, Arrives, Drops, Dues, Forgets, IsOver};
@@ -24,7 +24,7 @@ use crate::receipt::{Call, Receipt, Reply, arrival, dropping, forgetting, requeu
 use crate::sharing::Sharing;
 use dr_base::{Seq, Text};
 use dr_cert::Sealed;
-use dr_ledger::{Arrived, Entry, Item, Job, Ledger, LedgerFault, LetsGo, Outcome, Progress};
+use dr_ledger::{Arrived, Entry, Item, Ledger, LedgerFault, LetsGo, NextRow, Outcome, Progress};
 use dr_site::Site;
 use std::alloc::Global;
 use std::sync::ledger::Blank;
@@ -236,7 +236,12 @@ impl<L: Ledger, B: Sharing> SharedDesk<L, B> {
     }
 
     /// The ledger's `next`.
-    pub fn next<R: Wait>(&self, rt: &R, dest: &Text, now: u64) -> Result<Option<Job>, LedgerFault>
+    pub fn next<R: Wait>(
+        &self,
+        rt: &R,
+        dest: &Text,
+        now: u64,
+    ) -> Result<Option<NextRow>, LedgerFault>
         ensures { Reading L.site L.book L.bodies L.stands L.failed B.site B.first
             (λ l answer. Reads answer (NextsWith (L.book l) (L.bodies l) dest.now now)) result }
     {
@@ -273,7 +278,7 @@ impl<L: Ledger, B: Sharing> SharedDesk<L, B> {
     /// The ledger's `has_body`.
     pub fn has_body<R: Wait>(&self, rt: &R, uid: &Text) -> Result<bool, LedgerFault>
         ensures { Reading L.site L.book L.bodies L.stands L.failed B.site B.first
-            (λ l answer. Reads answer (λ there. there ≡ map.contains_key (L.bodies l) uid.now))
+            (λ l answer. Reads answer (λ needed. IsTrue needed ↔ IsNeeded (L.book l) uid.now))
             result }
     {
         self.held.lock(rt).has_body(uid)

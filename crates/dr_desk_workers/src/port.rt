@@ -5,7 +5,7 @@ use crate::counts::SessionCounts;
 use crate::gate::{Gate, Point};
 use dr_base::Text;
 use dr_desk::{Pass, SharedDesk, Sharing};
-use dr_ledger::{Arrived, Instance, Item, Job, Ledger, LedgerFault, Outcome};
+use dr_ledger::{Arrived, Instance, Item, Ledger, LedgerFault, NextRow, Outcome};
 use dr_route::Targets;
 use dr_session::DeskPort;
 use std::alloc::{AllocError, Global};
@@ -82,7 +82,7 @@ impl<'a, R: Wait, L: Ledger, B: Sharing, G: Gate> DeskPort for SessionPort<'a, R
         answer
     }
 
-    fn next(&mut self, dest: &Text, now: u64) -> Result<Option<Job>, LedgerFault> {
+    fn next(&mut self, dest: &Text, now: u64) -> Result<Option<NextRow>, LedgerFault> {
         self.desk.next(self.rt, dest, now)
     }
 

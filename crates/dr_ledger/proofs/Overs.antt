@@ -19,10 +19,10 @@ use Rattle.dr_ledger.proofs.Forgotten.{Apart, item_is, row_is, arrival_is, no_wa
 use Rattle.dr_ledger.proofs.Maps.{texts, cases_of, same_or_not, ties_itself}
 
 -- ---- answers
-abbrev IsOwed : Book → Text → Type 0
+abbrev pub IsOwed : Book → Text → Type 0
 IsOwed b uid = (dest : Text) × (row : Progress) × (map.get b.rows (uid, dest) ≡ Some row) × (is_queued row ≡ true)
 
-abbrev AreOver : Book → Text → List Pair → Type 0
+abbrev pub AreOver : Book → Text → List Pair → Type 0
 AreOver b uid ks = (dest : Text) (row : Progress) → Contains ks (uid, dest) → map.get b.rows (uid, dest) ≡ Some row → is_queued row ≡ false
 
 inside : (x y : Progress) → Some x ≡ Some y → x ≡ y
@@ -36,7 +36,7 @@ owed_or_not b uid dest (Some Dropped) at = inr (λ row h. sym (ap is_queued (ins
 owed_or_not b uid dest (Some (Held why)) at = inl (dest, Held why, at, refl)
 owed_or_not b uid dest (Some (Waiting tries due)) at = inl (dest, Waiting tries due, at, refl)
 
-owed_among : (b : Book) (uid : Text) (ks : List Pair) → IsOwed b uid ⊎ AreOver b uid ks
+pub owed_among : (b : Book) (uid : Text) (ks : List Pair) → IsOwed b uid ⊎ AreOver b uid ks
 owed_among b uid [] = inr (λ dest row among h. absurd (nothing_in_nil (uid, dest) among))
 owed_among b uid (k ∷ ks) = elim (owed_among b uid ks) [
   | inl owed ↦ inl owed

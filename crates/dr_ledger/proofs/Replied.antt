@@ -1,5 +1,5 @@
 -- The status of the response for what an arrival was answered.
-use Rattle.std.proofs.Common.{◌≡◌, refl, arith, Ok, Err}
+use Rattle.std.proofs.Common.{refl, arith, Ok, Err}
 use Rattle.dr_ledger.specs.declared.fault.LedgerFault.TheVariants as fault
 use Rattle.dr_ledger.specs.Laws.{AreStatuses, StatusesHaveTwoBytes, ZeroIsSuccess}
 

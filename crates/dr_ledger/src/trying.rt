@@ -17,6 +17,7 @@ pub fn moved(tries: u32, outcome: Outcome, now: u64) -> Progress
         Outcome::Status(status) => answered(tries, status, now),
         Outcome::Broken => tried_again(tries, now),
         Outcome::NoContext => Progress::Held(Cause::NoContext),
+        Outcome::Unreadable => Progress::Held(Cause::Unreadable),
     }
 }
 

@@ -17,6 +17,7 @@ use Rattle.dr_ledger.specs.declared.content.Job.{Job}
 use Rattle.dr_ledger.specs.declared.item.Instance.{Instance}
 use Rattle.dr_ledger.specs.declared.item.Progress.{Progress}
 use Rattle.dr_ledger.specs.declared.item.Progress.TheVariants.{Waiting, Held, Done, Dropped}
+use Rattle.dr_ledger.specs.declared.content.NextRow.TheVariants.{Whole}
 use Rattle.dr_ledger.specs.Bodies.{NextsWith}
 use Rattle.dr_ledger.specs.Items.{instance_of}
 use Rattle.dr_ledger.specs.Replies.{IsDue}
@@ -96,7 +97,7 @@ module _ (part : Part) (p : Parts) (sp : tree.IsOrdered text_cmp p.held) (sound 
         let w = waits_from (row_in (at p.held key.1.1) key.0) key.1.0 facts.1 in
         (w.0, ap (λ u. map.get (content p).rows (u, dest)) j.uid_is ∙ (row_at p sp key.1.1 dest ∙ (ap (row_in (at p.held key.1.1)) (sym goes) ∙ w.1)))
 
-    pub next_is : NextsWith (content p) (data_sets p) dest now (Some job)
+    pub next_is : NextsWith (content p) (data_sets p) dest now (Some (Whole job))
     next_is = (
       record {
         due = key.1.0;

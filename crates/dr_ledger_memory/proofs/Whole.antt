@@ -11,7 +11,7 @@ use Rattle.std.proofs.lemmas.Map.Views.{tells_apart}
 use Rattle.dr_base.specs.Texts.{Text, text_cmp}
 use Rattle.dr_ledger.specs.declared.content.Job.{Job}
 use Rattle.dr_ledger.specs.declared.item.Progress.{Progress}
-use Rattle.dr_ledger.specs.Bodies.{HasBodies, IsNeeded}
+use Rattle.dr_ledger.specs.Bodies.{HasAll, HasBodies, IsNeeded}
 use Rattle.dr_ledger.specs.Books.{is_queued}
 use Rattle.dr_ledger.specs.Items.{IsItem, instance_of}
 use Rattle.dr_ledger.proofs.Growing.{inside}
@@ -135,12 +135,12 @@ module _ (p : Parts) (order : tree.IsOrdered text_cmp p.held) (whole : AreWhole 
   own_item uid body None is h = absurd (nothing_found body h)
   own_item uid body (Some entry) is h = (let i = (whole uid entry is).own body h in (i.0, i.1, i.2, ap Some i.3))
 
+  pub has_all : HasAll (content p) (data_sets p)
+  has_all uid n = let b = needed_body uid (at p.held uid) refl (needed_so p order (at p.held uid) (of_book p order uid n)) in (b.0, body_at p order uid ∙ b.1)
+
   pub has_bodies : HasBodies (content p) (data_sets p)
   has_bodies = record {
-    there = λ uid. (
-      λ h. to_book p order uid (so_needed p order (at p.held uid) (body_needed uid h.0 (at p.held uid) refl (sym (body_at p order uid) ∙ h.1))),
-      λ n. (let b = needed_body uid (at p.held uid) refl (needed_so p order (at p.held uid) (of_book p order uid n)) in (b.0, body_at p order uid ∙ b.1)),
-    );
+    there = λ uid body h. to_book p order uid (so_needed p order (at p.held uid) (body_needed uid body (at p.held uid) refl (sym (body_at p order uid) ∙ h)));
     own = λ uid body h. (let i = own_item uid body (at p.held uid) refl (sym (body_at p order uid) ∙ h) in (i.0, i.1, i.2, item_at p order uid ∙ i.3));
   }
 

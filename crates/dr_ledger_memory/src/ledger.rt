@@ -34,8 +34,8 @@ use crate::waiting::first_due;
 use dr_base::{Seq, Text};
 use dr_cert::Sealed;
 use dr_ledger::{
-    Arrived, Cause, Entry, Instance, Item, Job, Ledger, LedgerFault, LetsGo, Outcome, Progress,
-    moved,
+    Arrived, Cause, Entry, Instance, Item, Job, Ledger, LedgerFault, LetsGo, NextRow, Outcome,
+    Progress, moved,
 };
 use dr_ledger_history::{JournalLine, copy_page, entries_of};
 use dr_ledger_views::listing::{
@@ -378,7 +378,7 @@ impl MemoryLedger {
     }
 
     /// What the first row that is due is about, with its data set.
-    fn next_job(&self, dest: &Text, now: u64) -> Result<Option<Job>, LedgerFault>
+    fn next_job(&self, dest: &Text, now: u64) -> Result<Option<NextRow>, LedgerFault>
         ensures { ShowsOrFails result
             (NextsWith (content self.now.parts) (data_sets self.now.parts) dest.now now) }
     {
@@ -387,7 +387,7 @@ impl MemoryLedger {
             return Ok(None);
         };
         match self.job(uid) {
-            Ok(job) => Ok(Some(job)),
+            Ok(job) => Ok(Some(NextRow::Whole(job))),
             Err(_) => Err(LedgerFault::Memory),
         }
     }
@@ -623,7 +623,7 @@ impl Ledger for MemoryLedger {
         self.arrive_at(caller, item)
     }
 
-    fn next(&mut self, dest: &Text, now: u64) -> Result<Option<Job>, LedgerFault> {
+    fn next(&mut self, dest: &Text, now: u64) -> Result<Option<NextRow>, LedgerFault> {
         self.next_job(dest, now)
     }
 

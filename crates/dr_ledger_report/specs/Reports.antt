@@ -26,6 +26,7 @@ line_of word fields = word ++ flat_map next_field fields ++ (10 ∷ [])
 abbrev pub cause_field : Cause → Text
 cause_field (cause.Status status) = encode_upper (status / 256 ∷ status % 256 ∷ [])
 cause_field cause.NoContext = codes "no-context"
+cause_field cause.Unreadable = codes "unreadable"
 
 -- how far a row is: done; dropped; waiting, how often it was tried, and the moment from which on it
 -- is due; or held, and why

@@ -34,6 +34,7 @@ pub fn put_cause(out: &mut Vec<u8>, cause: Cause) -> Result<(), AllocError>
             add_field(out, digits.as_bytes())
         }
         Cause::NoContext => add_field(out, b"no-context"),
+        Cause::Unreadable => add_field(out, b"unreadable"),
     }
 }
 

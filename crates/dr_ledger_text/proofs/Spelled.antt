@@ -164,6 +164,13 @@ same_outcome outcome.Broken (outcome.Status t) p q e = let f : 6 ≡ length (enc
 same_outcome outcome.NoContext (outcome.Status t) p q e = let f : 10 ≡ length (encode_upper (halves t)) = ap (λ (l : List ℕ). length l) e in absurd (omega (arith, f, four_digits t))
 same_outcome outcome.Broken outcome.NoContext p q e = let f : 6 ≡ 10 = ap (λ (l : List ℕ). length l) e in absurd (omega (arith, f))
 same_outcome outcome.NoContext outcome.Broken p q e = let f : 10 ≡ 6 = ap (λ (l : List ℕ). length l) e in absurd (omega (arith, f))
+same_outcome outcome.Unreadable outcome.Unreadable p q e = refl
+same_outcome (outcome.Status s) outcome.Unreadable p q e = let f : length (encode_upper (halves s)) ≡ 10 = ap (λ (l : List ℕ). length l) e in absurd (omega (arith, f, four_digits s))
+same_outcome outcome.Unreadable (outcome.Status t) p q e = let f : 10 ≡ length (encode_upper (halves t)) = ap (λ (l : List ℕ). length l) e in absurd (omega (arith, f, four_digits t))
+same_outcome outcome.Broken outcome.Unreadable p q e = let f : 6 ≡ 10 = ap (λ (l : List ℕ). length l) e in absurd (omega (arith, f))
+same_outcome outcome.Unreadable outcome.Broken p q e = let f : 10 ≡ 6 = ap (λ (l : List ℕ). length l) e in absurd (omega (arith, f))
+same_outcome outcome.NoContext outcome.Unreadable p q e = let f : 110 ≡ 117 = ap (λ (l : List ℕ). get_or l 0 0) e in absurd (omega (arith, f))
+same_outcome outcome.Unreadable outcome.NoContext p q e = let f : 117 ≡ 110 = ap (λ (l : List ℕ). get_or l 0 0) e in absurd (omega (arith, f))
 
 -- ---- a row, and an arrival
 

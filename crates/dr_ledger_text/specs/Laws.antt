@@ -17,6 +17,7 @@ abbrev pub FitsOutcome : Outcome → Type 0
 FitsOutcome (outcome.Status status) = status < 2 ^ 16
 FitsOutcome outcome.Broken = Unit {0}
 FitsOutcome outcome.NoContext = Unit {0}
+FitsOutcome outcome.Unreadable = Unit {0}
 
 -- a line as the program has it
 abbrev pub FitsLine : JournalLine → Type 0

@@ -43,6 +43,7 @@ abbrev pub outcome_text : Outcome → Text
 outcome_text (outcome.Status status) = encode_upper (status / 256 ∷ status % 256 ∷ [])
 outcome_text outcome.Broken = codes "broken"
 outcome_text outcome.NoContext = codes "no-context"
+outcome_text outcome.Unreadable = codes "unreadable"
 
 -- which call it is of, and of which row
 abbrev pub kind_part : Text → Text

@@ -168,6 +168,7 @@ fn put_outcome(out: &mut Vec<u8>, outcome: Outcome) -> Result<(), AllocError>
         }
         Outcome::Broken => put_word(out, "outcome", b"broken"),
         Outcome::NoContext => put_word(out, "outcome", b"no-context"),
+        Outcome::Unreadable => put_word(out, "outcome", b"unreadable"),
     }
 }
 

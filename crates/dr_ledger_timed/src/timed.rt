@@ -4,7 +4,7 @@ ghost use Rattle.std.specs.Prelude.{◌≡◌, ◌↔◌};
 use crate::meter::{Meter, moment};
 use dr_base::{Seq, Text};
 use dr_cert::Sealed;
-use dr_ledger::{Arrived, Entry, Item, Job, Ledger, LedgerFault, LetsGo, Outcome, Progress};
+use dr_ledger::{Arrived, Entry, Item, Ledger, LedgerFault, LetsGo, NextRow, Outcome, Progress};
 use dr_ledger_history::JournalLine;
 use dr_ledger_views::{Moments, Origin, Stage, Views};
 use dr_site::Site;
@@ -95,7 +95,7 @@ impl<'a, L: Moments, R: Clock> Ledger for Timed<'a, L, R> {
         answer
     }
 
-    fn next(&mut self, dest: &Text, now: u64) -> Result<Option<Job>, LedgerFault> {
+    fn next(&mut self, dest: &Text, now: u64) -> Result<Option<NextRow>, LedgerFault> {
         let began = self.begin();
         let answer = self.ledger.next(dest, now);
         self.end(began);

@@ -10,7 +10,8 @@ use sqlite::File;
 pub struct FileShelf(pub LedgerShelf<File>);
 
 impl Shelf for FileShelf {
-    ghost use Rattle.dr_store_shelf.specs.Either.{AreApartIf, IsCleanOn, IsUsableOn, PassesOn};
+    ghost use Rattle.dr_store_shelf.specs.Either.{AreApartIf, EndsOn, IsCleanOn, IsNewOn};
+    ghost use Rattle.dr_store_shelf.specs.Either.{IsUsableOn, PassesOn};
     ghost use Rattle.dr_store_shelf.specs.Either.{StandsOn, UsesOn, apart_swaps, body_on};
     ghost use Rattle.dr_store_shelf.specs.Either.{faults_on, named_on, only_on, passed_on};
 
@@ -27,6 +28,10 @@ impl Shelf for FileShelf {
     ghost swaps = { apart_swaps };
 
     ghost passes = { λ it. PassesOn it.0 };
+
+    ghost is_new = { λ it. IsNewOn it.0 };
+
+    ghost ends = { λ it. EndsOn it.0 };
 
     ghost is_clean = { λ it. IsCleanOn it.0 };
 

@@ -35,6 +35,7 @@ abbrev pub cause_part : Cause → Text
 cause_part (cause.Status status) =
     word (codes "cause") (encode_upper (status / 256 ∷ status % 256 ∷ []))
 cause_part cause.NoContext = word (codes "cause") (codes "no-context")
+cause_part cause.Unreadable = word (codes "cause") (codes "unreadable")
 
 -- a row waits: how often it was tried, and from when on it is due
 abbrev pub waiting_part : ℕ → ℕ → Text

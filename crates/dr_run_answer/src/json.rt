@@ -79,6 +79,7 @@ fn put_cause(out: &mut Vec<u8>, cause: Cause) -> Result<(), AllocError>
             put_word(out, "cause", digits.as_bytes())
         }
         Cause::NoContext => put_word(out, "cause", b"no-context"),
+        Cause::Unreadable => put_word(out, "cause", b"unreadable"),
     }
 }
 

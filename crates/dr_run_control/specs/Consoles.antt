@@ -19,7 +19,7 @@ use Rattle.dr_ledger_views.specs.declared.moments.Origin.{Origin}
 use Rattle.dr_ledger_views.specs.declared.stage.HopTally.{HopTally}
 use Rattle.dr_ledger_views.specs.Numbers.{AreBehind}
 use Rattle.dr_ledger_views.specs.Views.{AreCallers, page_of, rows_of}
-use Rattle.dr_ledger.specs.Bodies.{Bodies}
+use Rattle.dr_ledger.specs.Bodies.{Bodies, IsNeeded}
 use Rattle.dr_ledger.specs.Books.{Book, Line, Row}
 use Rattle.dr_ledger.specs.Replies.{Drops, Forgets, IsOver, Reads, Requeues}
 use Rattle.dr_ledger.specs.declared.fault.LedgerFault.{LedgerFault}
@@ -269,8 +269,8 @@ module _ {L : Type 0} (site_of : L → Part) (book : L → Book) (bodies : L →
   -- what is told of an instance, each part as the ledger has it at a moment of its own
   pub record AreParts (uid : Text) (body over : Bool) (callers : List Text) (rows : List Row)
       : Type 0 where
-    pub is_there : Reading site_of book bodies stands failed own first
-        (λ l answer. Reads answer (λ there. there ≡ map.contains_key (bodies l) uid)) (Ok body)
+    pub is_needed : Reading site_of book bodies stands failed own first
+        (λ l answer. Reads answer (λ needed. IsTrue needed ↔ IsNeeded (book l) uid)) (Ok body)
     pub is_over : Reading site_of book bodies stands failed own first
         (λ l answer. Reads answer (λ over. IsTrue over ↔ IsOver (book l) uid)) (Ok over)
     pub brought : Reading site_of book bodies stands failed own first

@@ -30,6 +30,7 @@ abbrev pub cause_words : Cause → Text
 cause_words (cause.Status status) =
     codes "status " ++ encode_upper (status / 256 ∷ status % 256 ∷ [])
 cause_words cause.NoContext = codes "no presentation context"
+cause_words cause.Unreadable = codes "data set unreadable"
 
 -- in how many seconds that moment is, or for how many it has been
 abbrev pub moment_words : ℕ → ℕ → Text

@@ -43,6 +43,7 @@ fn put_cause(out: &mut Vec<u8>, cause: Cause) -> Result<(), AllocError>
             out.extend_from_slice(digits.as_bytes())
         }
         Cause::NoContext => out.extend_from_slice(b"no presentation context"),
+        Cause::Unreadable => out.extend_from_slice(b"data set unreadable"),
     }
 }
 

@@ -15,7 +15,7 @@ use Rattle.dr_ledger.specs.Replies.{Reads}
 use Rattle.dr_ledger.specs.declared.fault.LedgerFault.{LedgerFault}
 use Rattle.dr_ledger.specs.declared.fault.LedgerFault.TheVariants as fault
 use Rattle.dr_ledger.specs.declared.item.Outcome.{Outcome}
-use Rattle.dr_ledger.specs.declared.item.Outcome.TheVariants.{Status, Broken, NoContext}
+use Rattle.dr_ledger.specs.declared.item.Outcome.TheVariants.{Status, Broken, NoContext, Unreadable}
 use Rattle.dr_ledger_history.specs.Lines.{line_of}
 use Rattle.dr_ledger_history.specs.declared.line.JournalLine.{JournalLine}
 use Rattle.dr_ledger_history.specs.declared.line.JournalLine.TheVariants as told
@@ -33,6 +33,7 @@ abbrev pub ends_row : Outcome → Bool
 ends_row (Status status) = is_success status
 ends_row Broken = false
 ends_row NoContext = false
+ends_row Unreadable = false
 
 -- it is the same uid
 abbrev pub is_uid : Text → Text → Bool

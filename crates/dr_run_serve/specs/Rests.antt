@@ -3,6 +3,7 @@ use Rattle.std.specs.Prelude.{◌≡◌, ◌⊎◌, ◌≤◌, ◌<◌, ◌+◌,
 use Rattle.dr_session.specs.declared.ends.Ended.{Ended as End}
 use Rattle.dr_session.specs.declared.ends.Ended.TheVariants as end
 use Rattle.dr_run_serve.specs.declared.rest.Rest.{Rest}
+use Rattle.dr_run_serve.specs.declared.resting.Noted.{Noted}
 use Rattle.dr_run_serve.specs.declared.visit.Visit.{Visit}
 use Rattle.dr_run_serve.specs.declared.visit.Visit.TheVariants as visit
 
@@ -19,30 +20,34 @@ rest_end rest = rest.since + rest_length rest.short rest.wait
 abbrev pub IsNoRest : Rest → Type 0
 IsNoRest rest = (rest.since ≡ 0) × (rest.wait ≡ 0) × (rest.short ≡ false)
 
--- A visit failed at that moment. Its rest is twice as long as the one before, from 1 s to 300 s;
--- where more than one outcome was noted, the next node had taken something, and it is 1 s.
-abbrev pub IsRestOfFailure : Rest → ℕ → ℕ → Rest → Type 0
-IsRestOfFailure rest settled now after =
+-- A visit failed at that moment. Its rest is twice as long as the one before, from 1 s to 300 s.
+-- It is 1 s where more than one outcome was noted, since then the next node had taken something;
+-- and where a row was passed over, since then the node ended it by itself, and the hop goes on.
+abbrev pub IsRestOfFailure : Rest → Noted → ℕ → Rest → Type 0
+IsRestOfFailure rest noted now after =
     (after.since ≡ now)
     × (after.short ≡ false)
-    × (1 < settled → after.wait ≡ 1000)
-    × (settled ≤ 1 → after.wait ≡ max 1000 (min 300000 (2 * rest.wait)))
+    × (1 < noted.settled → after.wait ≡ 1000)
+    × (noted.passed ≡ true → after.wait ≡ 1000)
+    × (noted.settled ≤ 1
+    → noted.passed ≡ false
+    → after.wait ≡ max 1000 (min 300000 (2 * rest.wait)))
 
 -- The rest behind an association that ended so.
-abbrev pub IsRestAfterEnd : Rest → End → ℕ → ℕ → Rest → Type 0
-IsRestAfterEnd rest end.Released settled now after = IsNoRest after
-IsRestAfterEnd rest (end.Rejected _) settled now after = IsRestOfFailure rest settled now after
-IsRestAfterEnd rest end.Aborted settled now after = IsRestOfFailure rest settled now after
-IsRestAfterEnd rest end.Closed settled now after = IsRestOfFailure rest settled now after
+abbrev pub IsRestAfterEnd : Rest → End → Noted → ℕ → Rest → Type 0
+IsRestAfterEnd rest end.Released noted now after = IsNoRest after
+IsRestAfterEnd rest (end.Rejected _) noted now after = IsRestOfFailure rest noted now after
+IsRestAfterEnd rest end.Aborted noted now after = IsRestOfFailure rest noted now after
+IsRestAfterEnd rest end.Closed noted now after = IsRestOfFailure rest noted now after
 
--- The rest behind a visit that ended at that moment, at which so many outcomes were noted. One at
--- which nothing was due says nothing of the next node.
-abbrev pub IsRestAfter : Rest → Visit → ℕ → ℕ → Rest → Type 0
-IsRestAfter rest visit.Idle settled now after = after ≡ rest
-IsRestAfter rest (visit.Unreached _) settled now after = IsRestOfFailure rest settled now after
-IsRestAfter rest (visit.Ended ended) settled now after =
-    IsRestAfterEnd rest ended settled now after
-IsRestAfter rest (visit.Failed _) settled now after = IsRestOfFailure rest settled now after
+-- The rest behind a visit that ended at that moment, at which that was noted. One at which nothing
+-- was due says nothing of the next node.
+abbrev pub IsRestAfter : Rest → Visit → Noted → ℕ → Rest → Type 0
+IsRestAfter rest visit.Idle noted now after = after ≡ rest
+IsRestAfter rest (visit.Unreached _) noted now after = IsRestOfFailure rest noted now after
+IsRestAfter rest (visit.Ended ended) noted now after =
+    IsRestAfterEnd rest ended noted now after
+IsRestAfter rest (visit.Failed _) noted now after = IsRestOfFailure rest noted now after
 
 -- A hop whose first row is due at that moment, and that has this rest, is visited now: the row is
 -- due and the rest is over, or it is the last visit of all.

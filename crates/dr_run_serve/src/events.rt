@@ -8,7 +8,7 @@ use crate::copying::Copied;
 use crate::visit::Visit;
 use dr_base::Text;
 use dr_desk_workers::Tally;
-use dr_ledger::{Arrived, Instance, LedgerFault, Outcome, Progress};
+use dr_ledger::{Arrived, Cause, Instance, LedgerFault, Outcome, Progress};
 use dr_route::Key;
 use dr_run_answer::ResponseCount;
 use dr_run_backup::BackupFault;
@@ -246,8 +246,15 @@ impl Display for OutcomeShown {
             Outcome::Status(status) => write!(f, "{status:04X}"),
             Outcome::Broken => f.write_str("-"),
             Outcome::NoContext => f.write_str("no context"),
+            Outcome::Unreadable => f.write_str("unreadable"),
         }
     }
+}
+
+/// Tells of a row whose data set can't be read: its medium is to be looked at. It is held.
+fn tell_unreadable<G: Log>(log: &G, uid: &Text, dest: &Text) {
+    let (uid, dest) = (Escaped(uid.as_bytes()), Escaped(dest.as_bytes()));
+    error!(log; target: "row", "unreadable dest=\"{dest}\" uid={uid}");
 }
 
 /// Tells of a row that is held.
@@ -293,6 +300,7 @@ pub fn tell_row<G: Log>(
 ) {
     match came {
         Some(Progress::Done) => tell_settled(log, "done", uid, dest, outcome),
+        Some(Progress::Held(Cause::Unreadable)) => tell_unreadable(log, uid, dest),
         Some(Progress::Held(_)) => tell_held(log, uid, dest, outcome),
         Some(Progress::Waiting { tries, due }) => {
             tell_waiting(log, uid, dest, outcome, tries, due);

@@ -41,7 +41,7 @@ fn ends(outcome: Outcome) -> bool
 {
     match outcome {
         Outcome::Status(status) => is_success(status),
-        Outcome::Broken | Outcome::NoContext => false,
+        Outcome::Broken | Outcome::NoContext | Outcome::Unreadable => false,
     }
 }
 

@@ -11,7 +11,7 @@ ghost use Rattle.dr_run_serve.specs.Rests.{IsNoRest, IsVisited, rest_end};
 use crate::events::{tell_visit, word_of_visit};
 use crate::live::LiveNode;
 use crate::rest::Rest;
-use crate::resting::rest_after;
+use crate::resting::{Noted, rest_after};
 use crate::shutting::is_shut;
 use crate::signal::BEGIN;
 use crate::tallied::{SharedPort, Tallied};
@@ -89,8 +89,8 @@ fn next_due<R: Wait, L: Views, B: Sharing>(
     }
 }
 
-/// A visit of the one who sends: what came of it, and how many outcomes were noted. That the store
-/// is shut is told by who ends the node.
+/// A visit of the one who sends: what came of it, and what was noted. Who ends the node tells that
+/// the store is shut.
 ///
 /// Errors: those of a visit.
 fn visit<R: Wait, L: Ledger, B: Sharing, N: Network, C: Clock, G: Log>(
@@ -98,7 +98,7 @@ fn visit<R: Wait, L: Ledger, B: Sharing, N: Network, C: Clock, G: Log>(
     network: &N,
     pass: &mut Pass<B>,
     hop: &NextHop,
-) -> Result<(Visit, u64), LedgerFault> {
+) -> Result<(Visit, Noted), LedgerFault> {
     let (rt, desk, log) = (node.rt, node.desk, node.log);
     let before = pass.count();
     let mut port = SharedPort {
@@ -107,14 +107,16 @@ fn visit<R: Wait, L: Ledger, B: Sharing, N: Network, C: Clock, G: Log>(
         pass,
         signal: node.signal,
         log,
+        passed: false,
     };
     let visited = visit_hop(node.alloc, desk.site(), hop, network, &mut port, node.clock);
     let settled = port.tally().saturating_sub(before);
+    let passed = port.passed;
     if visited.is_err() && is_shut(rt, desk) {
         return Err(LedgerFault::Store);
     }
     tell_visit(log, &hop.dest, &visited, settled);
-    Ok((visited?, settled))
+    Ok((visited?, Noted { settled, passed }))
 }
 
 /// Visits the hop, and notes when it is to be visited again. What came of the visit, in a word.
@@ -126,8 +128,8 @@ fn send<R: Wait, L: Views, B: Sharing, N: Network, C: Clock, G: Log>(
     sender: &mut HopSender<B>,
 ) -> Result<Option<&'static str>, LedgerFault> {
     let HopSender { pass, hop, rest } = sender;
-    let (visit, settled) = visit(node, network, pass, hop)?;
-    *rest = rest_after(*rest, &visit, settled, node.clock.now());
+    let (visit, noted) = visit(node, network, pass, hop)?;
+    *rest = rest_after(*rest, &visit, noted, node.clock.now());
     hop.due = next_due(node.rt, node.desk, &hop.dest)?;
     Ok(word_of_visit(&visit))
 }

@@ -8,7 +8,7 @@ use crate::events::tell_row;
 use crate::signal::Signal;
 use dr_base::Text;
 use dr_desk::{Pass, SharedDesk, Sharing};
-use dr_ledger::{Arrived, Item, Job, Ledger, LedgerFault, Outcome, Progress};
+use dr_ledger::{Arrived, Cause, Item, Ledger, LedgerFault, NextRow, Outcome, Progress};
 use dr_session::DeskPort;
 use dr_session::desk::LedgerDesk;
 use log::Log;
@@ -31,7 +31,7 @@ pub trait Tallied: DeskPort {
 }
 
 /// How far a row is after an outcome; None where that can't be read. That a row is done after a
-/// success is known.
+/// success is known, and that one whose data set can't be read is held for that.
 fn came_of<R: Wait, L: Ledger, B: Sharing>(
     rt: &R,
     desk: &SharedDesk<L, B>,
@@ -41,6 +41,9 @@ fn came_of<R: Wait, L: Ledger, B: Sharing>(
 ) -> Option<Progress> {
     if outcome == Outcome::Status(0) {
         return Some(Progress::Done);
+    }
+    if outcome == Outcome::Unreadable {
+        return Some(Progress::Held(Cause::Unreadable));
     }
     desk.progress(rt, uid, dest).unwrap_or(None)
 }
@@ -74,7 +77,7 @@ impl<L: Ledger> DeskPort for OwnPort<L> {
         answer
     }
 
-    fn next(&mut self, dest: &Text, now: u64) -> Result<Option<Job>, LedgerFault> {
+    fn next(&mut self, dest: &Text, now: u64) -> Result<Option<NextRow>, LedgerFault> {
         self.desk.next(dest, now)
     }
 
@@ -109,7 +112,8 @@ impl<L: Ledger> Tallied for OwnPort<L> {
 }
 
 /// A shared desk, with the pass of the one who sends. What comes of each row that was sent is
-/// logged. Where the node ends no row is given out, so that the association is released.
+/// logged. Where the node ends no row is given out, so that the association is released. It keeps
+/// whether a row was passed over, since its data set can't be read.
 #[derive(Drop)]
 pub struct SharedPort<'a, R: Wait, L: Ledger, B: Sharing, G: Log> {
     pub rt: &'a R,
@@ -117,6 +121,7 @@ pub struct SharedPort<'a, R: Wait, L: Ledger, B: Sharing, G: Log> {
     pub pass: &'a mut Pass<B>,
     pub signal: &'a Signal,
     pub log: &'a G,
+    pub passed: bool,
 }
 
 impl<'a, R: Wait, L: Ledger, B: Sharing, G: Log> DeskPort for SharedPort<'a, R, L, B, G> {
@@ -129,7 +134,7 @@ impl<'a, R: Wait, L: Ledger, B: Sharing, G: Log> DeskPort for SharedPort<'a, R, 
         self.desk.arrive(self.rt, self.pass, caller, item)
     }
 
-    fn next(&mut self, dest: &Text, now: u64) -> Result<Option<Job>, LedgerFault> {
+    fn next(&mut self, dest: &Text, now: u64) -> Result<Option<NextRow>, LedgerFault> {
         if self.signal.is_ending() {
             return Ok(None);
         }
@@ -154,6 +159,7 @@ impl<'a, R: Wait, L: Ledger, B: Sharing, G: Log> DeskPort for SharedPort<'a, R, 
             .desk
             .settle(self.rt, self.pass, uid, dest, outcome, now);
         if settled.is_ok() {
+            self.passed = self.passed || outcome == Outcome::Unreadable;
             let came = came_of(self.rt, self.desk, uid, dest, outcome);
             let is_done = matches!(came, Some(Progress::Done));
             if !matches!(came, Some(Progress::Waiting { .. }) | None) {

@@ -15,6 +15,8 @@ use Rattle.dr_dimse.specs.declared.command.Command.{Command}
 use Rattle.dr_dimse.specs.declared.command.Command.TheVariants.{StoreRq, StoreRsp, EchoRq, EchoRsp, Other}
 use Rattle.dr_site.specs.Parts.{Part}
 use Rattle.dr_ledger.specs.declared.content.Job.{Job}
+use Rattle.dr_ledger.specs.declared.content.NextRow.{NextRow}
+use Rattle.dr_ledger.specs.declared.content.NextRow.TheVariants as next
 use Rattle.dr_ledger.specs.declared.item.Arrived.{Arrived}
 use Rattle.dr_ledger.specs.declared.fault.LedgerFault.{LedgerFault}
 use Rattle.dr_ledger.specs.declared.fault.LedgerFault.TheVariants as fault
@@ -37,7 +39,7 @@ use Rattle.dr_session.specs.declared.ends.Pending.{Pending}
 use Rattle.dr_session.specs.declared.ends.Told.{Told}
 use Rattle.dr_session.specs.declared.ends.Told.TheVariants.{Plain, Quiet, Fault, Strange, Store, Whole, Agreement}
 use Rattle.dr_session.specs.Desks.{DeskAnswer, Arrive, Arrival, Upcoming, First, Settling}
-use Rattle.dr_session.specs.Reactions.{Reaction, turn, occurs, moves, acts, hears, stores, stored, arrives, brings, is_named, requested, requested_other, replied, settles_by, status_for, decides, decides_at, rj, agrees, can_be_named, due, gives, gives_in, refused, leaves, leaves_by, aborts, aborts_desk, abort_pdu, aborted, released, desk_failed, settled_with, left, stepped_by, noted, reason_of, settling, arrival, job, row, write, effect, quiet, is_requestor, is_taken, event_of, rejected as marked}
+use Rattle.dr_session.specs.Reactions.{Reaction, turn, occurs, moves, acts, hears, stores, stored, arrives, brings, is_named, requested, requested_other, replied, settles_by, status_for, decides, decides_at, rj, agrees, can_be_named, due, gives, gives_in, refused, leaves, leaves_by, aborts, aborts_desk, abort_pdu, aborted, released, desk_failed, settled_with, left, stepped_by, noted, reason_of, settling, arrival, job, row, write, effect, quiet, is_requestor, is_taken, event_of, rejected as marked, aborts_idle}
 use Rattle.dr_ledger.specs.Replies.{store_status}
 use Rattle.dr_session.specs.declared.ends.LinkAction.TheVariants.{Close}
 use Rattle.dr_session.specs.Turns.{Ends, Asks}
@@ -67,8 +69,8 @@ module _ (peer : Text) (now : ℕ) where
   came follow Own (First d) = tt
   came follow Own (Settling r) = tt
 
-  handed : (follow : Result (Option Job) LedgerFault → Reaction) (Own : Text → Type 0)
-      → ((d : Result (Option Job) LedgerFault) → SettlesOwn (follow d) peer now (λ uid. Own uid ⊎ Given (Upcoming d) uid))
+  handed : (follow : Result (Option NextRow) LedgerFault → Reaction) (Own : Text → Type 0)
+      → ((d : Result (Option NextRow) LedgerFault) → SettlesOwn (follow d) peer now (λ uid. Own uid ⊎ Given (Upcoming d) uid))
       → (reply : DeskAnswer) → SettlesOwn (job follow reply) peer now (λ uid. Own uid ⊎ Given reply uid)
   handed follow Own h (Upcoming d) = h d
   handed follow Own h (Arrival r) = tt
@@ -161,8 +163,10 @@ giving : (agreed : Option Agreed) (at : Moment) (item : Job) (c : Core) (Own : T
 giving (Some agreed) at item c Own own = giving_in (context_for agreed item.key.class (syntax_uid item.key.syntax)) agreed at item c Own own
 giving None at item c Own own = tt
 
-pushing : (at : Moment) (c : Core) (Own : Text → Type 0) (d : Result (Option Job) LedgerFault) → SettlesOwn (due at c d) c.peer at.now (λ uid. Own uid ⊎ Given (Upcoming d) uid)
-pushing at c Own (Ok (Some item)) =
+pushing : (at : Moment) (c : Core) (Own : Text → Type 0) (d : Result (Option NextRow) LedgerFault) → SettlesOwn (due at c d) c.peer at.now (λ uid. Own uid ⊎ Given (Upcoming d) uid)
+pushing at c Own (Ok (Some (next.Unreadable found))) =
+    (inr refl, refl, refl, λ reply. settled c.peer at.now (aborts_idle at c) (aborts_desk at c) (λ uid. Own uid ⊎ (uid ≡ found)) tt tt reply)
+pushing at c Own (Ok (Some (next.Whole item))) =
     either c.peer at.now (can_be_named item) (gives c.agreed at item c) (aborts_desk at c) (λ uid. Own uid ⊎ (uid ≡ item.uid))
     (giving c.agreed at item c (λ uid. Own uid ⊎ (uid ≡ item.uid)) (inr refl)) tt
 pushing at c Own (Ok None) = tt

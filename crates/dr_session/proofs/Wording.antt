@@ -16,6 +16,8 @@ use Rattle.dr_dimse.specs.declared.command.Command.{Command}
 use Rattle.dr_dimse.specs.declared.command.Command.TheVariants.{StoreRq, StoreRsp, EchoRq, EchoRsp, Other}
 use Rattle.dr_site.specs.Parts.{Part}
 use Rattle.dr_ledger.specs.declared.content.Job.{Job}
+use Rattle.dr_ledger.specs.declared.content.NextRow.{NextRow}
+use Rattle.dr_ledger.specs.declared.content.NextRow.TheVariants as next
 use Rattle.dr_ledger.specs.declared.item.Arrived.{Arrived}
 use Rattle.dr_ledger.specs.declared.fault.LedgerFault.{LedgerFault}
 use Rattle.dr_ledger.specs.declared.fault.LedgerFault.TheVariants as fault
@@ -39,7 +41,7 @@ use Rattle.dr_session.specs.declared.ends.Pending.{Pending}
 use Rattle.dr_session.specs.declared.ends.Told.{Told}
 use Rattle.dr_session.specs.declared.ends.Told.TheVariants.{Plain, Quiet, Fault, Strange, Store, Whole, Agreement}
 use Rattle.dr_session.specs.Desks.{DeskCall, DeskAnswer, Arrival, Upcoming, First, Settling}
-use Rattle.dr_session.specs.Reactions.{Reaction, turn, occurs, moves, acts, hears, stores, requested, requested_other, echo_status, replied, settles_by, status_for, decides, decides_at, rj, agrees, can_be_named, due, gives, gives_in, store_pdus, id_after, refused, leaves_by, aborts, aborts_desk, abort_pdu, aborted, released, desk_failed, settled_with, left, stepped_by, noted, reason_of, says, settling, arrival, job, row, write, effect, quiet, is_requestor, is_taken, rejected as marked}
+use Rattle.dr_session.specs.Reactions.{Reaction, turn, occurs, moves, acts, hears, stores, requested, requested_other, echo_status, replied, settles_by, status_for, decides, decides_at, rj, agrees, can_be_named, due, gives, gives_in, store_pdus, id_after, refused, leaves_by, aborts, aborts_desk, abort_pdu, aborted, released, desk_failed, settled_with, left, stepped_by, noted, reason_of, says, settling, arrival, job, row, write, effect, quiet, is_requestor, is_taken, rejected as marked, aborts_idle}
 use Rattle.dr_session.specs.declared.ends.LinkAction.TheVariants.{Close}
 use Rattle.dr_session.specs.Turns.{Ends, Asks, Fails, Turns}
 use Rattle.dr_session.specs.Laws.{HasNoData, IsOther}
@@ -96,7 +98,7 @@ module _ (Is : LinkAction → Type 0) (Of : Option Part → Option Agreed → Ty
   came follow h (First d) = tt
   came follow h (Settling r) = tt
 
-  handed : (follow : Result (Option Job) LedgerFault → Reaction) → ((r : Result (Option Job) LedgerFault) → Spells Is Of (follow r)) → (reply : DeskAnswer) → Spells Is Of (job follow reply)
+  handed : (follow : Result (Option NextRow) LedgerFault → Reaction) → ((r : Result (Option NextRow) LedgerFault) → Spells Is Of (follow r)) → (reply : DeskAnswer) → Spells Is Of (job follow reply)
   handed follow h (Upcoming d) = h d
   handed follow h (Arrival r) = tt
   handed follow h (First d) = tt
@@ -212,8 +214,9 @@ module _ (Is : LinkAction → Type 0) (Of : Option Part → Option Agreed → Ty
     giving (Some agreed) at item c same k = giving_in (context_for agreed item.key.class (syntax_uid item.key.syntax)) agreed at item c same k
     giving None at item c same k = (tt, k)
 
-    pushing : (at : Moment) (c : Core) (d : Result (Option Job) LedgerFault) → Of c.site c.agreed → Spells Is Of (due at c d)
-    pushing at c (Ok (Some item)) k = either (can_be_named item) (gives c.agreed at item c) (aborts_desk at c) (giving c.agreed at item c refl k) (abort_alone 0 0, k)
+    pushing : (at : Moment) (c : Core) (d : Result (Option NextRow) LedgerFault) → Of c.site c.agreed → Spells Is Of (due at c d)
+    pushing at c (Ok (Some (next.Unreadable uid))) k = λ reply. settled (aborts_idle at c) (aborts_desk at c) (abort_alone 0 0, k) (abort_alone 0 0, k) reply
+    pushing at c (Ok (Some (next.Whole item))) k = either (can_be_named item) (gives c.agreed at item c) (aborts_desk at c) (giving c.agreed at item c refl k) (abort_alone 0 0, k)
     pushing at c (Ok None) k = (tt, k)
     pushing at c (Err fault.Memory) k = tt
     pushing at c (Err fault.NoLine) k = (abort_alone 0 0, k)

@@ -13,7 +13,10 @@ use Rattle.dr_pdu.specs.declared.pdu.Pdv.{Pdv}
 use Rattle.dr_base.specs.Texts.{Text}
 use Rattle.dr_dimse.specs.declared.command.Command.{Command}
 use Rattle.dr_dimse.specs.declared.command.Command.TheVariants.{StoreRsp, EchoRsp, Other}
+use Rattle.dr_ledger.specs.declared.content.NextRow.TheVariants.{Unreadable}
+use Rattle.dr_ledger.specs.declared.fault.LedgerFault.TheVariants as ledger
 use Rattle.dr_ledger.specs.declared.item.Outcome.TheVariants.{Broken, Status}
+use Rattle.dr_ledger.specs.declared.item.Outcome.TheVariants as outcome
 use Rattle.dr_nego.specs.declared.agreed.Agreed.{Agreed}
 use Rattle.dr_nego.specs.declared.fault.NegoFault.TheVariants.{StrangeId}
 use Rattle.dr_nego.specs.Agreeing.{AssociateRq, AssociateAc}
@@ -35,9 +38,9 @@ use Rattle.dr_session.specs.declared.ends.Moment.{Moment}
 use Rattle.dr_session.specs.declared.ends.Pending.{Pending}
 use Rattle.dr_session.specs.declared.ends.Told.{Told}
 use Rattle.dr_session.specs.declared.ends.Told.TheVariants as told
-use Rattle.dr_session.specs.Desks.{DeskCall, Next, Due, Settle}
+use Rattle.dr_session.specs.Desks.{DeskAnswer, DeskCall, Next, Due, Settle, Settling}
 use Rattle.dr_session.specs.Ends.{unmarked, ended_by, idle_in}
-use Rattle.dr_session.specs.Reactions.{Reaction, turn, rj, write}
+use Rattle.dr_session.specs.Reactions.{Reaction, due, turn, rj, write}
 use Rattle.dr_session.specs.Turns.{Ends, Asks, Fails}
 
 -- ---- where an end stands
@@ -195,6 +198,33 @@ pub record Pushes (c : Core) (at : Moment) : Type 0 where
   pub accepting : Does c at (acceptor Sta6 ∷ []) (told.Plain input.PushAsked) 6 [] Closed
   pub leaving : Does c at (requestor Sta7 ∷ []) (told.Plain input.PushAsked) 7 [] Closed
   pub late : Does c at closing (told.Plain input.PushAsked) 13 [] Closed
+
+-- ---- a row that can't be read
+
+-- what follows on an answer
+abbrev pub on_answer : Reaction → DeskAnswer → Reaction
+on_answer (Asks call follow) reply = follow reply
+on_answer (Ends x) reply = Ends x
+on_answer Fails reply = Fails
+
+-- The first row that is due can't be read: it is settled so, nothing of it is written, and the end
+-- aborts, also where the row isn't waiting any more or the store fails.
+pub record Passings (c : Core) (at : Moment) (uid : Text) : Type 0 where
+  pub settles :
+      calls (due at (placed (requestor Sta6) c) (Ok (Some (Unreadable uid))))
+      ≡ Some (Settle uid c.peer outcome.Unreadable at.now)
+  pub leaves : shows
+      (on_answer (due at (placed (requestor Sta6) c) (Ok (Some (Unreadable uid))))
+      (Settling (Ok tt)))
+      ≡ Some (record { state = 13; acts = abort 0 0; ended = Aborted })
+  pub settled_before : shows
+      (on_answer (due at (placed (requestor Sta6) c) (Ok (Some (Unreadable uid))))
+      (Settling (Err ledger.NotWaiting)))
+      ≡ Some (record { state = 13; acts = abort 0 0; ended = Aborted })
+  pub store_fails : shows
+      (on_answer (due at (placed (requestor Sta6) c) (Ok (Some (Unreadable uid))))
+      (Settling (Err ledger.Store)))
+      ≡ Some (record { state = 13; acts = abort 0 0; ended = Aborted })
 
 -- ---- events 11 to 14: the release
 

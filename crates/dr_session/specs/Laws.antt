@@ -15,6 +15,7 @@ use Rattle.dr_dimse.specs.declared.command.Command.{Command}
 use Rattle.dr_dimse.specs.declared.command.Command.TheVariants.{StoreRsp}
 use Rattle.dr_nego.specs.declared.agreed.Agreed.{Agreed}
 use Rattle.dr_ledger.specs.declared.content.Job.{Job}
+use Rattle.dr_ledger.specs.declared.content.NextRow.TheVariants.{Whole, Unreadable}
 use Rattle.dr_ledger.specs.declared.item.Arrived.{Arrived}
 use Rattle.dr_session.specs.declared.ends.Found.{Found}
 use Rattle.dr_session.specs.declared.ends.Found.TheVariants.{Read}
@@ -246,7 +247,8 @@ HearsNothing {S} step =
 
 -- the answer hands out that instance, or tells its uid
 abbrev pub Given : DeskAnswer → Text → Type 0
-Given (Upcoming (Ok (Some item))) uid = uid ≡ item.uid
+Given (Upcoming (Ok (Some (Whole item)))) uid = uid ≡ item.uid
+Given (Upcoming (Ok (Some (Unreadable found)))) uid = uid ≡ found
 Given (First (Ok (Some found))) uid = uid ≡ found
 Given reply uid = ⊥
 

@@ -34,8 +34,11 @@ use Rattle.dr_dimse.specs.declared.message.Awaited.{Awaited}
 use Rattle.dr_dimse.specs.declared.message.Awaited.TheVariants.{AnswerTo, Nothing}
 use Rattle.dr_dimse.specs.Taking.{MessageStage, Assembling}
 use Rattle.dr_ledger.specs.declared.content.Job.{Job}
+use Rattle.dr_ledger.specs.declared.content.NextRow.{NextRow}
+use Rattle.dr_ledger.specs.declared.content.NextRow.TheVariants as next
 use Rattle.dr_ledger.specs.declared.item.Arrived.{Arrived}
 use Rattle.dr_ledger.specs.declared.item.Outcome.TheVariants.{Status, Broken, NoContext}
+use Rattle.dr_ledger.specs.declared.item.Outcome.TheVariants as outcome
 use Rattle.dr_ledger.specs.declared.fault.LedgerFault.{LedgerFault}
 use Rattle.dr_ledger.specs.declared.fault.LedgerFault.TheVariants as fault
 use Rattle.dr_nego.specs.declared.agreed.Agreed.{Agreed}
@@ -173,7 +176,7 @@ arrival follow (Upcoming d) = Fails
 arrival follow (First d) = Fails
 arrival follow (Settling r) = Fails
 
-abbrev pub job : (Result (Option Job) LedgerFault → Reaction) → DeskAnswer → Reaction
+abbrev pub job : (Result (Option NextRow) LedgerFault → Reaction) → DeskAnswer → Reaction
 job follow (Upcoming d) = follow d
 job follow (Arrival r) = Fails
 job follow (First d) = Fails
@@ -210,6 +213,11 @@ leaves at acts c = leaves_by c.pending at.now acts c
 abbrev pub aborts : Moment → Core → Reaction
 aborts at c =
     leaves at (write (abort_pdu 0 0 ∷ []) ∷ []) (aborted (stepped_by AbortRequest at.now c))
+
+-- it does so with nothing pending
+abbrev pub aborts_idle : Moment → Core → Reaction
+aborts_idle at c = Ends
+    (effect (write (abort_pdu 0 0 ∷ []) ∷ []) (aborted (left (stepped_by AbortRequest at.now c))))
 
 -- it does so as a store failed: what was pending is left as it is
 abbrev pub aborts_desk : Moment → Core → Reaction
@@ -372,8 +380,18 @@ can_be_named item = is_uid item.key.class && is_uid item.uid
 abbrev pub hands : Moment → Core → Job → Reaction
 hands at c item = if can_be_named item then gives c.agreed at item c else aborts_desk at c
 
-abbrev pub due : Moment → Core → Result (Option Job) LedgerFault → Reaction
-due at c (Ok (Some item)) = hands at c item
+-- what can't be read is settled so, and the end aborts by itself: nothing was sent
+abbrev pub passes_over : Moment → Text → Core → Reaction
+passes_over at uid c = Asks (Settle uid c.peer outcome.Unreadable at.now)
+    (settling (aborts_idle at c) (aborts_desk at c))
+
+-- what the desk hands out goes over, if it can be read
+abbrev pub hands_row : Moment → Core → NextRow → Reaction
+hands_row at c (next.Whole item) = hands at c item
+hands_row at c (next.Unreadable uid) = passes_over at uid c
+
+abbrev pub due : Moment → Core → Result (Option NextRow) LedgerFault → Reaction
+due at c (Ok (Some row)) = hands_row at c row
 due at c (Ok None) = quiet (dried c)
 due at c (Err fault.Memory) = Fails
 due at c (Err why) = aborts_desk at c

@@ -4,7 +4,7 @@ ghost use Rattle.dr_session.specs.Links.{EchoStep};
 use crate::ends::Ended;
 use crate::port::DeskPort;
 use dr_base::Text;
-use dr_ledger::{Arrived, Item, Job, LedgerFault, Outcome};
+use dr_ledger::{Arrived, Item, LedgerFault, NextRow, Outcome};
 
 /// It keeps the status of the response that settles the echo. Nothing is due there, and nothing
 /// arrives.
@@ -30,7 +30,7 @@ impl DeskPort for EchoDesk {
         Err(LedgerFault::NoLine)
     }
 
-    fn next(&mut self, _dest: &Text, _now: u64) -> Result<Option<Job>, LedgerFault> {
+    fn next(&mut self, _dest: &Text, _now: u64) -> Result<Option<NextRow>, LedgerFault> {
         Ok(None)
     }
 
@@ -52,6 +52,7 @@ impl DeskPort for EchoDesk {
             }
             Outcome::Broken => Ok(()),
             Outcome::NoContext => Ok(()),
+            Outcome::Unreadable => Ok(()),
         }
     }
 }

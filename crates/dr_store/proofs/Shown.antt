@@ -1,5 +1,5 @@
 -- What a ledger's calls that read show holds where it merely holds.
-use Rattle.std.proofs.Common.{◌≡◌, ◌≢◌, ◌↔◌, ℕ, ◌≤◌, Bool, true, List, [], ◌∷◌, length, slice_index_or, Contains, All, map as mapped, Option, Some, None, refl, sym, ap, subst, ◌∙◌}
+use Rattle.std.proofs.Common.{◌≡◌, ◌≢◌, ◌↔◌, IsTrue, inl, inr, ℕ, ◌≤◌, Bool, true, List, [], ◌∷◌, length, slice_index_or, Contains, All, map as mapped, Option, Some, None, refl, sym, ap, subst, ◌∙◌}
 use Rattle.std.proofs.Math.Logic.{∥∥₁_elim, ∥∥₁_map}
 use mathlib.Core.Bool.{Bool-set}
 use Rattle.std.specs.Coded.{Coded, coded_list, coded_option, coded_ℕ, le_prop, ×_prop, Unit-prop}
@@ -11,15 +11,17 @@ use Rattle.std.specs.FinSet as set
 use Rattle.std.specs.FinSet.{FinSet}
 use Rattle.std.specs.List.Sorted.{IsStrictlySortedBy, IsStrictlySortedBy-prop}
 use Rattle.dr_base.specs.Texts.{Text, text_cmp}
-use Rattle.dr_ledger.specs.declared.content.Job.{Job}
+use Rattle.dr_ledger.specs.declared.content.NextRow.{NextRow}
+use Rattle.dr_ledger.specs.declared.content.NextRow.TheVariants.{Whole, Unreadable}
 use Rattle.dr_ledger.specs.declared.item.Instance.{Instance}
 use Rattle.dr_ledger.specs.declared.item.Progress.{Progress}
 use Rattle.dr_ledger.specs.declared.item.Progress.TheVariants.{Waiting, Held, Done, Dropped}
-use Rattle.dr_ledger.specs.Bodies.{Bodies, NextsWith}
+use Rattle.dr_ledger.specs.Bodies.{Bodies, IsNeeded, NextsWith}
 use Rattle.dr_ledger.specs.Books.{Book}
 use Rattle.dr_ledger.specs.Items.{instance_of}
 use Rattle.dr_ledger.specs.Replies.{AreKept, Dues, IsDue, IsNext, Lists}
 use Rattle.dr_ledger.proofs.Growing.{inside}
+use Rattle.dr_ledger.proofs.Needs.{needed_or_not}
 use Rattle.dr_ledger.specs.Pairs.{pair_cmp}
 use Rattle.dr_ledger_views.specs.Views.{AreCallers, IsLeast}
 use Rattle.dr_store.proofs.Sets.{coded_instance, coded_text}
@@ -54,9 +56,27 @@ is_next b dest now item = go (map.get b.rows (item.uid, dest)) refl
           least = λ uid other due_too later. impossible (∥∥₁_map h (λ n. n.least uid other due_too (subst (λ d. ordering_then (nat_cmp d other) (text_cmp item.uid uid) ≡ Greater) (sym (same n)) later)));
         }
 
-pub nexts : (b : Book) (bodies : Bodies) (dest : Text) (now : ℕ) (job : Option Job) → Stable (NextsWith b bodies dest now job)
+unreadable : (b : Book) (bodies : Bodies) (dest : Text) (now : ℕ) (uid : Text) → Stable (NextsWith b bodies dest now (Some (Unreadable uid)))
+unreadable b bodies dest now uid = go (map.get b.items uid) refl
+  where
+    go : (o : Option Instance) → map.get b.items uid ≡ o → Stable (NextsWith b bodies dest now (Some (Unreadable uid)))
+    go None is h = absurd (impossible (∥∥₁_map h (λ n. let e : None ≡ Some n.0 = sym is ∙ (ap (map.get b.items) (sym n.1) ∙ n.2.has) in absurd (let f : ⊥ = cc in f))))
+    go (Some item) is h =
+        let same : (n : NextsWith b bodies dest now (Some (Unreadable uid))) → n.0 ≡ item = λ n. inside n.0 item (sym n.2.has ∙ (ap (map.get b.items) n.1 ∙ is)) in (
+          item,
+          by_code coded_text item.uid uid (∥∥₁_map h (λ n. ap (λ (i : Instance). i.uid) (sym (same n)) ∙ n.1)),
+          is_next b dest now item (∥∥₁_map h (λ n. subst (IsNext b dest now) (same n) n.2)),
+          by_code (coded_option (coded_list coded_ℕ)) (map.get bodies uid) None (∥∥₁_map h (λ n. n.3)),
+        )
+
+-- whether a data set is needed can be told
+pub needs : (b : Book) (uid : Text) (said : Bool) → Stable (IsTrue said ↔ IsNeeded b uid)
+needs b uid said = both (each (λ t. of_dec (elim (needed_or_not b uid) [ inl n ↦ yes n | inr none ↦ no none ]))) (each (λ n. of_prop (Bool-set _ _)))
+
+pub nexts : (b : Book) (bodies : Bodies) (dest : Text) (now : ℕ) (row : Option NextRow) → Stable (NextsWith b bodies dest now row)
 nexts b bodies dest now None = each (λ uid. each (λ due. never))
-nexts b bodies dest now (Some job) = both (is_next b dest now (instance_of job)) (by_code (coded_option (coded_list coded_ℕ)) (map.get bodies job.uid) (Some job.body))
+nexts b bodies dest now (Some (Unreadable uid)) = unreadable b bodies dest now uid
+nexts b bodies dest now (Some (Whole job)) = both (is_next b dest now (instance_of job)) (by_code (coded_option (coded_list coded_ℕ)) (map.get bodies job.uid) (Some job.body))
 
 module _ (b : Book) (dest : Text) (now : ℕ) (uid : Text) where
   is_first : Stable (Dues b dest now (Some uid))

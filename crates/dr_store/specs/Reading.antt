@@ -3,6 +3,8 @@ use Rattle.std.specs.Prelude.{◌≡◌, ◌≢◌, ℕ, List, Option, Some, Non
 use Rattle.sqlite.specs.Tree.{Trees}
 use Rattle.dr_base.specs.Texts.{Text}
 use Rattle.dr_ledger.specs.declared.content.Job.{Job}
+use Rattle.dr_ledger.specs.declared.content.NextRow.{NextRow}
+use Rattle.dr_ledger.specs.declared.content.NextRow.TheVariants.{Whole, Unreadable}
 use Rattle.dr_ledger.specs.declared.fault.LedgerFault.{LedgerFault}
 use Rattle.dr_ledger.specs.declared.fault.LedgerFault.TheVariants as fault
 use Rattle.dr_store_calls.specs.declared.knowing.Known.{Known}
@@ -31,11 +33,16 @@ pub record IsReadBy (Stands : List ℕ → List ℕ → Type 0) (stored job : Jo
   pub read : (bytes : List ℕ) → Stands stored.body bytes → job.body ≡ bytes
 
 -- the instance of the first row that is due, with its data set, which was read by the cell in its
--- row, or none where no row is due
-abbrev pub NextsRead : (List ℕ → List ℕ → Type 0) → Trees → Text → ℕ → Option Job → Type 0
+-- row, or its uid, where the cell stands for no data set, or none where no row is due
+abbrev pub NextsRead : (List ℕ → List ℕ → Type 0) → Trees → Text → ℕ → Option NextRow → Type 0
 NextsRead Stands db dest now None = IsFirstDue db dest now None
-NextsRead Stands db dest now (Some job) =
+NextsRead Stands db dest now (Some (Whole job)) =
     (stored : Job) × NextsStored db dest now (Some stored) × IsReadBy Stands stored job
+NextsRead Stands db dest now (Some (Unreadable uid)) =
+    (stored : Job)
+    × NextsStored db dest now (Some stored)
+    × (uid ≡ stored.uid)
+    × ((bytes : List ℕ) → Stands stored.body bytes → ⊥)
 
 -- an arrival is refused just where another instance has its uid
 abbrev pub AdmitsKnown : Known → Result (Unit {0}) LedgerFault → Type 0

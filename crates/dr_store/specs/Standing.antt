@@ -68,7 +68,7 @@ module _ (body_of : List ℕ → List ℕ) where
       → map.get (bodies_with body_of db) uid ≡ Some (body_of cell)
   body_there db uid cell h = body_at db uid ∙ ap (option_map body_of) h
 
--- the data sets are those that the book needs
+-- the data sets are such as the book needs
 pub has_bodies : (Stands : List ℕ → List ℕ → Type 0) (body_of : List ℕ → List ℕ)
     → ((cell bytes : List ℕ) → Stands cell bytes → body_of cell ≡ bytes)
     → (db : Trees)
@@ -76,14 +76,9 @@ pub has_bodies : (Stands : List ℕ → List ℕ → Type 0) (body_of : List ℕ
     → AreOwn Stands (book_of db) (bodies_of db)
     → HasBodies (book_of db) (bodies_with body_of db)
 has_bodies Stands body_of only db has own = record {
-  there = λ uid. (
-    λ is.
-        let at = cell_at body_of db uid is.0 is.1 in
-        (has.there uid).0 (at.0, at.1),
-    λ needed.
-        let at = (has.there uid).1 needed in
-        (body_of at.0, body_there body_of db uid at.0 at.1),
-  );
+  there = λ uid body is.
+      let at = cell_at body_of db uid body is in
+      (has.there uid).0 (at.0, at.1);
   own = λ uid body h.
       let at = cell_at body_of db uid body h in
       let it = own uid at.0 at.1 in

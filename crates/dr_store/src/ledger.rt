@@ -21,7 +21,7 @@ use crate::reading::{admit, due_row, has_data_set, has_in, next_job};
 use crate::telling::{list_lines, tell_behind, tell_journal};
 use dr_base::{Seq, Text};
 use dr_cert::Sealed;
-use dr_ledger::{Arrived, Entry, Item, Job, Ledger, LedgerFault, LetsGo, Outcome, Progress};
+use dr_ledger::{Arrived, Entry, Item, Ledger, LedgerFault, LetsGo, NextRow, Outcome, Progress};
 use dr_ledger_history::JournalLine;
 use dr_ledger_journal::TellsJournal;
 use dr_ledger_views::{Moments, Origin, Stage, Views};
@@ -348,7 +348,7 @@ impl<S: Alter, B: Shelf> Ledger for SqlLedger<S, B> {
         self.arrive_in(caller, item)
     }
 
-    fn next(&mut self, dest: &Text, now: u64) -> Result<Option<Job>, LedgerFault> {
+    fn next(&mut self, dest: &Text, now: u64) -> Result<Option<NextRow>, LedgerFault> {
         let answer = next_job(&mut self.conn, &mut self.shelf, self.alloc, dest, now);
         self.failures = counted(&answer, self.failures);
         answer

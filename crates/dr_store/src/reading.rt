@@ -15,11 +15,11 @@ ghost use Rattle.dr_store_shelf.specs.Shelves.{KeepsCells};
 ghost use Rattle.dr_store.specs.Reading.{AdmitsKnown, IsWholeJob, NextsRead, NextsStored};
 
 use dr_base::{Octets, Text};
-use dr_ledger::{Instance, Item, Job, LedgerFault};
+use dr_ledger::{Instance, Item, Job, LedgerFault, NextRow};
 use dr_site::Site;
 use dr_store_calls::{Known, know, shelf_fault};
 use dr_store_reads::{find_item, find_job, find_key, find_next};
-use dr_store_shelf::Shelf;
+use dr_store_shelf::{Shelf, ShelfFault};
 use sqlite::{Alter, Connection};
 use std::alloc::Global;
 
@@ -118,11 +118,12 @@ fn next_stored<S: Alter>(
     }
 }
 
-/// What is due, with its data set in the place of the cell that stood for it.
-fn read_by<B: Shelf>(shelf: &mut B, stored: Job) -> Result<Option<Job>, LedgerFault>
+/// What is due, with its data set in the place of the cell that stood for it; or only its uid,
+/// where the bytes don't pass the cell's test.
+fn read_by<B: Shelf>(shelf: &mut B, stored: Job) -> Result<Option<NextRow>, LedgerFault>
     ensures read { (db : Trees) (dest : List ℕ) (now : ℕ) → NextsStored db dest now (Some stored)
-        → Reads result (λ job. B.Shelf.is_clean shelf.new
-        → NextsRead (B.Shelf.stands shelf.old) db dest now job) }
+        → Reads result (λ row. B.Shelf.is_clean shelf.new
+        → NextsRead (B.Shelf.stands shelf.old) db dest now row) }
     ensures keeps { KeepsCells (B.Shelf.uses shelf.old) (B.Shelf.stands shelf.old)
         (B.Shelf.uses shelf.new) (B.Shelf.stands shelf.new) }
     ensures named { B.Shelf.named shelf.new ≡ B.Shelf.named shelf.old }
@@ -130,20 +131,21 @@ fn read_by<B: Shelf>(shelf: &mut B, stored: Job) -> Result<Option<Job>, LedgerFa
 {
     let Job { uid, key, body } = stored;
     match shelf.get(body.into_vec()) {
-        Ok(bytes) => Ok(Some(Job {
+        Ok(bytes) => Ok(Some(NextRow::Whole(Job {
             uid,
             key,
             body: Octets::from_vec(bytes),
-        })),
+        }))),
+        Err(ShelfFault::Unreadable) => Ok(Some(NextRow::Unreadable(uid))),
         Err(fault) => Err(shelf_fault(fault)),
     }
 }
 
 /// The same, where a row is due.
-fn read_due<B: Shelf>(shelf: &mut B, due: Option<Job>) -> Result<Option<Job>, LedgerFault>
+fn read_due<B: Shelf>(shelf: &mut B, due: Option<Job>) -> Result<Option<NextRow>, LedgerFault>
     ensures read { (db : Trees) (dest : List ℕ) (now : ℕ) → NextsStored db dest now due
-        → Reads result (λ job. B.Shelf.is_clean shelf.new
-        → NextsRead (B.Shelf.stands shelf.old) db dest now job) }
+        → Reads result (λ row. B.Shelf.is_clean shelf.new
+        → NextsRead (B.Shelf.stands shelf.old) db dest now row) }
     ensures keeps { KeepsCells (B.Shelf.uses shelf.old) (B.Shelf.stands shelf.old)
         (B.Shelf.uses shelf.new) (B.Shelf.stands shelf.new) }
     ensures named { B.Shelf.named shelf.new ≡ B.Shelf.named shelf.old }
@@ -163,13 +165,13 @@ pub fn next_job<S: Alter, B>(
     alloc: Global,
     dest: &Text,
     now: u64,
-) -> Result<Option<Job>, LedgerFault>
+) -> Result<Option<NextRow>, LedgerFault>
 where
     B: Shelf,
     ensures looked { (n : ℕ) (part : Part)
         → Looked n part result (state S.Store conn.old) (state S.Store conn.new)
-        (λ base job. B.Shelf.is_clean shelf.new
-        → NextsRead (B.Shelf.stands shelf.old) base dest.now now job) }
+        (λ base row. B.Shelf.is_clean shelf.new
+        → NextsRead (B.Shelf.stands shelf.old) base dest.now now row) }
     ensures keeps { KeepsCells (B.Shelf.uses shelf.old) (B.Shelf.stands shelf.old)
         (B.Shelf.uses shelf.new) (B.Shelf.stands shelf.new) }
     ensures named { B.Shelf.named shelf.new ≡ B.Shelf.named shelf.old }

@@ -79,6 +79,8 @@ impl<D: Disk> Bodies<D> {
         ensures aligned { IfOk result (λ e. e.at % 4096 ≡ 0) }
         ensures first { IfOk result (λ e. IsFirstPlace (extents self.old) (length body.now) e.at) }
         ensures other { IfOk result (λ e. All (λ f. f.at ≢ e.at) (extents self.old)) }
+        ensures ends { OnOk result ((size : ℕ) → length (seen self.old) ≤ size
+            → All (λ e. end_of e ≤ size) (extents self.new) → length (seen self.new) ≤ size) }
         ensures unlisted { OnErr result (extents self.new ≡ extents self.old) }
         ensures keeps { (e : Extent) (bytes : List ℕ)
             → Contains (extents self.old) e → IsHeld self.old e bytes → IsHeld self.new e bytes }

@@ -16,7 +16,7 @@ use Rattle.dr_ledger.specs.declared.item.Instance.{Instance}
 use Rattle.dr_ledger.specs.Items.{IsItem, instance_of}
 use Rattle.dr_ledger.proofs.Maps.{texts}
 use Rattle.dr_store_bodies.specs.declared.extent.Extent.{Extent}
-use Rattle.dr_store_shelf.specs.Cells.{extent_in}
+use Rattle.dr_store_shelf.specs.Cells.{EndsWithDigests, extent_in}
 use Rattle.dr_store_shelf.specs.Shelves.{AreApart}
 use Rattle.dr_store_schema.specs.Books.{bodies_of, contents_in, instance_by, is_whole, items_of, print_or_none, prints_of, wholes_in}
 use Rattle.dr_store_changes.proofs.LettingGo.{body_at}
@@ -145,14 +145,14 @@ module _ (db : Trees) (prints : List (Text × Print)) (are : prints ≡ map.entr
       ∙ ap (λ o. extent_in (unwrap_or o []) ∷ []) content
 
   -- each cell names an extent of the list
-  pub names : (uid : Text) (cell : List ℕ) → map.get (bodies_of db) uid ≡ Some cell → (16 ≤ length cell) × Contains list (extent_in cell)
+  pub names : (uid : Text) (cell : List ℕ) → map.get (bodies_of db) uid ≡ Some cell → EndsWithDigests cell × Contains list (extent_in cell)
   names uid cell there =
       let it = printed db prints are uid cell there in
       let p : Text × Print = (uid, it.0) in
       let named_by = All-contains (NamesExtent db) prints p listed.each it.1 it.2 in
       let same : named_by.0 ≡ cell = inside named_by.0 cell (sym named_by.1 ∙ it.3) in
       let place = it.1 in (
-        subst (λ c. 16 ≤ length c) same named_by.2,
+        subst EndsWithDigests same named_by.2,
         subst (λ l. Contains l (extent_in cell)) (sym listed.are)
             (first_there (extents_under db) prints place.0 p (extent_in cell) place.1 (ap (extents_under db) place.2 ∙ named p cell it.2 it.3)),
       )
@@ -202,7 +202,7 @@ module _ (db : Trees) (prints : List (Text × Print)) (are : prints ≡ map.entr
 
 pub extent_at : (uid : Text) (db : Trees) (job : Job) (cell : List ℕ) (found : Option Extent)
     → cell ≡ job.body → IsJobOf uid db (Some job)
-    → MatchOption found (length cell < 16) (λ e. (16 ≤ length cell) × (e ≡ extent_in cell))
+    → MatchOption found (EndsWithDigests cell → ⊥) (λ e. EndsWithDigests cell × (e ≡ extent_in cell))
     → IsExtentAt uid db found
 extent_at uid db job cell None same is found = tt
 extent_at uid db job cell (Some e) same is found = (cell, is.2 ∙ ap Some (sym same), found.0, found.1)

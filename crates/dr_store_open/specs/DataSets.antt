@@ -10,7 +10,7 @@ use Rattle.dr_base.specs.Texts.{Text}
 use Rattle.dr_ledger.specs.declared.content.Job.{Job}
 use Rattle.dr_ledger.specs.Items.{IsItem, instance_of}
 use Rattle.dr_store_bodies.specs.declared.extent.Extent.{Extent}
-use Rattle.dr_store_shelf.specs.Cells.{extent_in}
+use Rattle.dr_store_shelf.specs.Cells.{EndsWithDigests, extent_in}
 use Rattle.dr_store_schema.specs.Books.{bodies_of, contents_in, items_of}
 use Rattle.dr_store_reads.specs.Queries.{IsJobOf}
 use Rattle.dr_store_reads.specs.declared.finding.Print.{Print}
@@ -72,7 +72,7 @@ IsExtentAt uid db None = Unit {0}
 IsExtentAt uid db (Some e) =
     (cell : List ℕ)
     × (map.get (contents_in (db 1)) uid ≡ Some cell)
-    × (16 ≤ length cell)
+    × EndsWithDigests cell
     × (e ≡ extent_in cell)
 
 -- the cell in the row of that uid names an extent, which comes behind those of the list
@@ -80,7 +80,7 @@ abbrev pub AddsExtent : Text → Trees → (old new : List Extent) → Type 0
 AddsExtent uid db old new =
     (cell : List ℕ)
     × (map.get (contents_in (db 1)) uid ≡ Some cell)
-    × (16 ≤ length cell)
+    × EndsWithDigests cell
     × (new ≡ old ++ extent_in cell ∷ [])
 
 -- the extent of a print whose data set is there
@@ -92,7 +92,7 @@ extents_under db p =
 abbrev pub NamesExtent : Trees → Text × Print → Type 0
 NamesExtent db p =
     p.1.whole ≡ true
-    → (cell : List ℕ) × (map.get (contents_in (db 1)) p.0 ≡ Some cell) × (16 ≤ length cell)
+    → (cell : List ℕ) × (map.get (contents_in (db 1)) p.0 ≡ Some cell) × EndsWithDigests cell
 
 -- the list has the extents of these prints, one behind the other, and each names one
 pub record AreListed (db : Trees) (prints : List (Text × Print)) (list : List Extent) : Type 0 where

@@ -99,8 +99,11 @@ pub fn read_outcome(row: &Row, at: usize) -> Result<Outcome, LedgerFault>
     match row.get_ref(at) {
         Ok(ValueRef::Null) => Ok(Outcome::Broken),
         Ok(ValueRef::Int(number)) => {
-            if number < 0 {
+            if number == -1 {
                 return Ok(Outcome::NoContext);
+            }
+            if number == -2 {
+                return Ok(Outcome::Unreadable);
             }
             match u16::try_from(number) {
                 Ok(status) => Ok(Outcome::Status(status)),
@@ -127,11 +130,14 @@ pub fn read_progress(row: &Row, first: usize) -> Option<Progress>
             Some(Progress::Waiting { tries, due })
         }
         1 => {
-            let why: Option<u32> = row.get(first + 3).ok()?;
+            let why: Option<i64> = row.get(first + 3).ok()?;
             match why {
                 None => Some(Progress::Held(Cause::NoContext)),
-                Some(status) => {
-                    let status = u16::try_from(status).ok()?;
+                Some(number) => {
+                    if number == -2 {
+                        return Some(Progress::Held(Cause::Unreadable));
+                    }
+                    let status = u16::try_from(number).ok()?;
                     Some(Progress::Held(Cause::Status(status)))
                 }
             }

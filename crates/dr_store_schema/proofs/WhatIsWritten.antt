@@ -26,6 +26,7 @@ progress_back : (p : Progress) → progress_in (Int (pos (state_of p))) (Int (po
 progress_back (Waiting tries due) = refl
 progress_back (Held (cause.Status status)) = refl
 progress_back (Held cause.NoContext) = refl
+progress_back (Held cause.Unreadable) = refl
 progress_back Done = refl
 progress_back Dropped = refl
 
@@ -33,6 +34,7 @@ pub outcome_back : (what : Outcome) → outcome_in (outcome_value what) ≡ what
 outcome_back (outcome.Status status) = refl
 outcome_back outcome.Broken = refl
 outcome_back outcome.NoContext = refl
+outcome_back outcome.Unreadable = refl
 
 syntax_back : (syntax : Syntax) → syntax_marked (mark_of syntax) ≡ syntax
 syntax_back Implicit = refl

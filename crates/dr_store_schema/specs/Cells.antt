@@ -74,11 +74,13 @@ mark_of Implicit = 73 ∷ []
 mark_of Explicit = 69 ∷ []
 
 -- ---- queue: how far an instance is. State 0 waits, 1 is held, 2 is done, 3 is dropped; a held
--- row's cause is a status, or NULL where the association had no presentation context.
+-- row's cause is a status, NULL where the association had no presentation context, or -2 where the
+-- data set can't be read.
 
 abbrev pub cause_in : Value → Cause
 cause_in Null = cause.NoContext
-cause_in (Int n) = cause.Status (natural n)
+cause_in (Int (pos status)) = cause.Status status
+cause_in (Int (negsuc n)) = cause.Unreadable
 cause_in (Real x) = cause.NoContext
 cause_in (Text t) = cause.NoContext
 cause_in (Blob b) = cause.NoContext
@@ -115,6 +117,7 @@ due_of Dropped = 0
 abbrev pub cause_value : Cause → Value
 cause_value (cause.Status status) = Int (pos status)
 cause_value cause.NoContext = Null
+cause_value cause.Unreadable = Int (negsuc 1)
 
 abbrev pub why_of : Progress → Value
 why_of (Waiting tries due) = Null
@@ -126,13 +129,14 @@ why_of Dropped = Null
 abbrev pub cells : Progress → Row
 cells p = Int (pos (state_of p)) ∷ Int (pos (tries_of p)) ∷ Int (pos (due_of p)) ∷ why_of p ∷ []
 
--- ---- journal: outcomes. NULL is a broken association, -1 stands for no presentation context, all
--- else is the response's status.
+-- ---- journal: outcomes. NULL is a broken association, -1 stands for no presentation context, -2
+-- for a data set that can't be read, all else is the response's status.
 
 abbrev pub outcome_in : Value → Outcome
 outcome_in Null = outcome.Broken
 outcome_in (Int (pos status)) = outcome.Status status
-outcome_in (Int (negsuc n)) = outcome.NoContext
+outcome_in (Int (negsuc zero)) = outcome.NoContext
+outcome_in (Int (negsuc (suc n))) = outcome.Unreadable
 outcome_in (Real x) = outcome.Broken
 outcome_in (Text t) = outcome.Broken
 outcome_in (Blob b) = outcome.Broken
@@ -141,3 +145,4 @@ abbrev pub outcome_value : Outcome → Value
 outcome_value (outcome.Status status) = Int (pos status)
 outcome_value outcome.Broken = Null
 outcome_value outcome.NoContext = Int (negsuc 0)
+outcome_value outcome.Unreadable = Int (negsuc 1)

@@ -1,13 +1,13 @@
 -- Numbers that are written are read.
-use Rattle.std.proofs.Common.{◌≡◌, ℕ, zero, suc, ◌+◌, ◌*◌, ◌^◌, ◌<◌, List, [], ◌∷◌, ◌++◌}
+use Rattle.std.proofs.Common.{◌≡◌, ℕ, zero, suc, ◌+◌, ◌*◌, ◌^◌, ◌<◌, ◌≤◌, List, [], ◌∷◌, ◌++◌}
 use Rattle.std.proofs.Common.{subst, length, take, drop, slice_index, refl, sym, ap, ◌∙◌, arith}
 use Rattle.std.proofs.Common.{◌-◌, min, length-drop, length-append, take_at, drop_at, drop-drop}
-use Rattle.std.specs.Int.{w64, from_le_bytes, to_le_bytes}
-use Rattle.std.proofs.lemmas.List.{take_min}
+use Rattle.std.specs.Int.{w64, div_ceil, from_le_bytes, to_le_bytes}
+use Rattle.std.proofs.lemmas.List.{drop-append-le, nil_from_length, take-append-drop, take-append-le, take_min}
 use Rattle.std.proofs.lemmas.Nat.{from_le_bytes-to_le_bytes_8}
 use Rattle.dr_store_bodies.specs.declared.extent.Extent.{Extent}
 use Rattle.dr_store_bodies.specs.Sums.{AreSums, piece_of}
-use Rattle.dr_store_shelf.specs.Cells.{Fit, Passes, extent_in, number_at}
+use Rattle.dr_store_shelf.specs.Cells.{EndsWithDigests, Fit, Passes, extent_in, number_at}
 use Rattle.dr_store_shelf.specs.Cells.{piece, written}
 use Rattle.dr_store_shelf.specs.Cells.{IsBlankCell}
 use Rattle.dr_store_shelf.specs.Laws.{Says, placed}
@@ -46,6 +46,33 @@ piece_at size bytes from i at =
     ∙ take_min size (drop from bytes)
     ∙ ap (λ n. take size (drop n bytes)) at
 
+-- as many pieces as have a digest
+counted :
+    (size count : ℕ) → size ≤ count * piece → ((i : ℕ) → i < count → i * piece < size)
+    → div_ceil size piece ≡ count
+counted size zero enough no_more = omega (arith, enough)
+counted size (suc last) enough no_more = omega (arith, enough, no_more last (omega arith))
+
+-- the length that a cell says is the same where something stands behind it
+same_length : (cell tail : List ℕ) → 16 ≤ length cell → number_at (cell ++ tail) 8 ≡ number_at cell 8
+same_length cell tail long =
+    ap (λ rest. from_le_bytes w64 (take 8 rest)) (drop-append-le 8 cell tail (omega (arith, long)))
+    ∙ ap (from_le_bytes w64) (take-append-le 8 (drop 8 cell) tail (omega (arith, long, length-drop 8 cell)))
+
+pub nothing_behind :
+    (cell tail : List ℕ) → EndsWithDigests cell → EndsWithDigests (cell ++ tail) → tail ≡ []
+nothing_behind cell tail ends longer =
+    let long : 16 ≤ length cell = omega (arith, ends) in
+    let same = ap (λ n. div_ceil n piece) (same_length cell tail long) in
+    nil_from_length tail (omega (arith, ends, longer, same, length-append cell tail))
+
+pub nothing_cut :
+    (cell : List ℕ) (n : ℕ) → EndsWithDigests cell → EndsWithDigests (take n cell) → length cell ≤ n
+nothing_cut cell n ends shorter =
+    let whole : take n cell ++ drop n cell ≡ cell = take-append-drop n cell in
+    let none = nothing_behind (take n cell) (drop n cell) shorter (subst EndsWithDigests (sym whole) ends) in
+    omega (arith, ap length none, length-drop n cell)
+
 pub says :
     (key at : ℕ) (body sums : List ℕ) → AreSums key piece body sums
     → Fit (at ∷ length body ∷ sums) → Says key at body sums
@@ -58,7 +85,7 @@ says key at body sums are fits =
     record {
       extent = λ j. record { at = place j; size = size j };
       passes = record {
-        long = omega (arith, count);
+        ends = count ∙ omega (arith, ap (λ n. div_ceil n piece) size, counted (length body) (length sums) are.enough are.no_more);
         whole = sym size;
         each = λ i low.
             let within : i < length sums = omega (arith, low, are.enough) in (

@@ -1,8 +1,9 @@
 -- What stays in a list that is filtered.
 use Rattle.std.proofs.Common.{◌≡◌, ◌<◌, ◌⊎◌, inl, inr, sym, ◌∙◌, ap, subst, List, [], ◌∷◌, Contains}
-use Rattle.std.proofs.Common.{Bool, true, filter, arith, Result, Ok, Err, OnErr}
+use Rattle.std.proofs.Common.{All, Bool, true, filter, arith, slice_index_or, Result, Ok, Err, OnErr}
 use Rattle.std.proofs.lemmas.Bool.{cases_Bool, false≢true}
-use Rattle.std.proofs.lemmas.List.Elements.{Contains-append_left, Contains-append_right}
+use Rattle.std.proofs.lemmas.List.{get_or_default}
+use Rattle.std.proofs.lemmas.List.Elements.{All-contains, Contains-append_left, Contains-append_right}
 use Rattle.std.proofs.lemmas.List.Elements.{Contains-append_cases, Contains-push_cases}
 use Rattle.std.proofs.lemmas.List.Elements.{Contains-push}
 
@@ -43,3 +44,11 @@ kept_in {X = X} test (y ∷ ys) x among holds =
 pub on_err : {A E P : Type 0} (r : Result A E) → P → OnErr r P
 on_err (Ok value) it = tt
 on_err (Err why) it = it
+
+-- what holds of all holds of some of them
+pub all_fewer :
+    {X : Type 0} (P : X → Type 0) (some all : List X)
+    → ((x : X) → Contains some x → Contains all x) → All P all → All P some
+all_fewer P some all among holds i d low =
+    let x = slice_index_or some i d in
+    All-contains P all x holds (among x (i, low, get_or_default some i x d low))

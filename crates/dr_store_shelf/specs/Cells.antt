@@ -1,7 +1,7 @@
 -- Cells that name a place in a file: the place, the length, and a digest of each piece.
 use Rattle.std.specs.Prelude.{◌≡◌, ℕ, ◌+◌, ◌*◌, ◌^◌, ◌<◌, ◌≤◌, List, ◌∷◌, length, take, drop}
 use Rattle.std.specs.Prelude.{slice_index}
-use Rattle.std.specs.Int.{w64, from_le_bytes, to_le_bytes}
+use Rattle.std.specs.Int.{w64, div_ceil, from_le_bytes, to_le_bytes}
 use Rattle.sqlite_disk.specs.Digest.{digest}
 use Rattle.dr_store_bodies.specs.declared.extent.Extent.{Extent}
 use Rattle.std.specs.List.{flat_map}
@@ -27,6 +27,11 @@ number_at cell at = from_le_bytes w64 (take 8 (drop at cell))
 abbrev pub extent_in : List ℕ → Extent
 extent_in cell = record { at = number_at cell 0; size = number_at cell 8 }
 
+-- The cell ends with its digests: behind place and length it has one for each piece of so many
+-- bytes, and nothing else.
+abbrev pub EndsWithDigests : List ℕ → Type 0
+EndsWithDigests cell = length cell ≡ 16 + div_ceil (number_at cell 8) piece * 8
+
 -- what is seen at an extent
 abbrev pub shown : List ℕ → Extent → List ℕ
 shown seen e = take e.size (drop e.at seen)
@@ -41,9 +46,10 @@ HaveDigests key cell bytes =
     (i : ℕ) → i * piece < length bytes
     → (24 + i * 8 ≤ length cell) × (sum_in cell i ≡ digest key (piece_of piece bytes i))
 
--- The bytes have the length that the cell says, and each piece of them has its digest.
+-- The bytes have the length that the cell says, and each piece of them has its digest, behind which
+-- the cell has nothing.
 pub record Passes (key : ℕ) (cell bytes : List ℕ) : Type 0 where
-  pub long : 16 ≤ length cell
+  pub ends : EndsWithDigests cell
   pub whole : length bytes ≡ (extent_in cell).size
   pub each : HaveDigests key cell bytes
 

@@ -7,7 +7,7 @@ use Rattle.dr_store_shelf.specs.declared.either.LedgerShelf.TheVariants.{InRow a
 use Rattle.dr_store_shelf.specs.declared.either.LedgerShelf.TheVariants.{InFile as File}
 use Rattle.dr_store_shelf.specs.Cells.{Passes, extent_in, shown}
 use Rattle.dr_store_shelf.specs.Held.{apart_from_each_other, held_is_shown}
-use Rattle.dr_store_shelf.specs.Shelves.{AreApart, IsUsed, Stands}
+use Rattle.dr_store_shelf.specs.Shelves.{AreApart, EndsWithLast, IsUsed, Stands}
 
 -- two cells that name places name different ones; of others each can be let go
 abbrev pub AreApartIf : Bool → List ℕ → List ℕ → Type 0
@@ -39,6 +39,14 @@ module _ {D : Type 0} {g : Ghosts D} where
   abbrev pub PassesOn : LedgerShelf D g → List ℕ → List ℕ → Type 0
   PassesOn (Rows it) cell bytes = cell ≡ bytes
   PassesOn (File it) cell bytes = Passes it.key cell bytes
+
+  abbrev pub IsNewOn : LedgerShelf D g → Type 0
+  IsNewOn (Rows it) = Unit {0}
+  IsNewOn (File it) = it.is_cut ≡ false
+
+  abbrev pub EndsOn : LedgerShelf D g → Type 0
+  EndsOn (Rows it) = Unit {0}
+  EndsOn (File it) = EndsWithLast it.bodies
 
   abbrev pub IsCleanOn : LedgerShelf D g → Type 0
   IsCleanOn (Rows it) = Unit {0}

@@ -1,8 +1,9 @@
 -- Laws of cells.
-use Rattle.std.specs.Prelude.{◌≡◌, ℕ, ◌*◌, ◌<◌, List, ◌∷◌, length, slice_index}
+use Rattle.std.specs.Prelude.{◌≡◌, ℕ, ◌*◌, ◌<◌, ◌≤◌, List, [], ◌∷◌, ◌++◌, length, slice_index}
+use Rattle.std.specs.Prelude.{take}
 use Rattle.dr_store_bodies.specs.declared.extent.Extent.{Extent}
 use Rattle.dr_store_bodies.specs.Sums.{AreSums}
-use Rattle.dr_store_shelf.specs.Cells.{Fit, Passes, extent_in, number_at}
+use Rattle.dr_store_shelf.specs.Cells.{EndsWithDigests, Fit, Passes, extent_in, number_at}
 use Rattle.dr_store_shelf.specs.Cells.{piece, written}
 
 -- each number stands at its place
@@ -30,3 +31,13 @@ BodyCellsSayWhatWasWritten =
     → AreSums key piece body sums
     → Fit (at ∷ length body ∷ sums)
     → Says key at body sums
+
+-- a cell that ends with its digests does so with no byte more
+abbrev pub NothingStandsBehind : Type 0
+NothingStandsBehind =
+    (cell tail : List ℕ) → EndsWithDigests cell → EndsWithDigests (cell ++ tail) → tail ≡ []
+
+-- and with no byte less
+abbrev pub NothingWasCut : Type 0
+NothingWasCut =
+    (cell : List ℕ) (n : ℕ) → EndsWithDigests cell → EndsWithDigests (take n cell) → length cell ≤ n

@@ -1,16 +1,17 @@
 -- What a shelf gives out for a data set, and why it refuses one.
-use Rattle.std.specs.Prelude.{◌≢◌, ◌≤◌, ℕ, List, Contains, length}
+use Rattle.std.specs.Prelude.{◌≡◌, ◌≢◌, ◌≤◌, ℕ, List, All, Contains, length}
 use Rattle.sqlite_disk.specs.declared.Disk.{Ghosts}
 use Rattle.sqlite_disk.specs.Disk.{MoreFaults}
 use Rattle.dr_store_bodies.specs.declared.bodies.Bodies.{Bodies}
 use Rattle.dr_store_bodies.specs.declared.fault.BodyFault.{BodyFault}
 use Rattle.dr_store_bodies.specs.declared.fault.BodyFault.TheVariants as body
-use Rattle.dr_store_bodies.specs.Bodies.{extents, IsHeld}
+use Rattle.dr_store_bodies.specs.Bodies.{extents, seen, IsHeld}
+use Rattle.dr_store_bodies.specs.Extents.{end_of}
 use Rattle.dr_store_shelf.specs.declared.fault.ShelfFault.{ShelfFault}
 use Rattle.dr_store_shelf.specs.declared.fault.ShelfFault.TheVariants as fault
 use Rattle.dr_store_shelf.specs.declared.shelf.BodyCell.{BodyCell}
 use Rattle.dr_store_shelf.specs.declared.shelf.BodyCell.TheVariants.{Itself, Name}
-use Rattle.dr_store_shelf.specs.Cells.{Passes, extent_in}
+use Rattle.dr_store_shelf.specs.Cells.{EndsWithDigests, Passes, extent_in, shown}
 
 -- the bytes of a cell that was given out for this data set
 abbrev pub bytes_of : BodyCell → List ℕ → List ℕ
@@ -53,6 +54,11 @@ abbrev pub KeepsCells : (Used : List ℕ → Type 0)
 KeepsCells Used Stood Uses Stands =
     (cell bytes : List ℕ) → Used cell → Stood cell bytes → Uses cell × Stands cell bytes
 
+-- By each cell that was in use the same bytes are shown as before, whether or not it stands for
+-- them.
+abbrev pub ShowsAsBefore : (Used : List ℕ → Type 0) → (was is : List ℕ → List ℕ) → Type 0
+ShowsAsBefore Used was is = (cell : List ℕ) → Used cell → is cell ≡ was cell
+
 -- two cells name different places
 abbrev pub AreApart : List ℕ → List ℕ → Type 0
 AreApart cell other = (extent_in cell).at ≢ (extent_in other).at
@@ -63,6 +69,15 @@ module _ {D : Type 0} {g : Ghosts D} where
   abbrev pub Stands : ℕ → Bodies D g → List ℕ → List ℕ → Type 0
   Stands key file cell bytes = IsHeld file (extent_in cell) bytes × Passes key cell bytes
 
-  -- the cell has an extent, which is in use
+  -- the file ends where the last extent in use does, or before
+  abbrev pub EndsWithLast : Bodies D g → Type 0
+  EndsWithLast file =
+      (size : ℕ) → All (λ e. end_of e ≤ size) (extents file) → length (seen file) ≤ size
+
+  -- what is seen at the cell's extent
+  abbrev pub shown_by : Bodies D g → List ℕ → List ℕ
+  shown_by file cell = shown (seen file) (extent_in cell)
+
+  -- the cell ends with its digests, and its extent is in use
   abbrev pub IsUsed : Bodies D g → List ℕ → Type 0
-  IsUsed file cell = (16 ≤ length cell) × Contains (extents file) (extent_in cell)
+  IsUsed file cell = EndsWithDigests cell × Contains (extents file) (extent_in cell)

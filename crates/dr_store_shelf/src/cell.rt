@@ -3,8 +3,8 @@ ghost use Rattle.std.specs.Prelude.{◌≡◌, ◌≤◌, ◌<◌, ◌+◌, ◌*
 ghost use Rattle.std.specs.Prelude.{IfOk, IsTrue, MatchOption, OnOk, drop, length, slice_index};
 ghost use Rattle.std.specs.Int.{w64, to_le_bytes};
 ghost use Rattle.sqlite_disk.specs.Digest.{digest};
-ghost use Rattle.dr_store_shelf.specs.Cells.{Fit, HaveDigests, IsBlankCell, Passes, extent_in};
-ghost use Rattle.dr_store_shelf.specs.Cells.{number_at, sum_in, written};
+ghost use Rattle.dr_store_shelf.specs.Cells.{EndsWithDigests, Fit, HaveDigests, IsBlankCell};
+ghost use Rattle.dr_store_shelf.specs.Cells.{Passes, extent_in, number_at, sum_in, written};
 
 use dr_store_bodies::{Extent, PIECE, sums_of};
 use sqlite_disk::digest_of;
@@ -22,16 +22,19 @@ fn number_at(cell: &[u8], at: usize) -> Option<u64>
     Some(u64::from_le_bytes(*bytes))
 }
 
-/// The extent that the cell names.
+/// The extent that the cell names, unless the cell was cut, or has bytes behind its digests.
 pub fn extent_of(cell: &[u8]) -> Option<Extent>
-    ensures { MatchOption result (length cell.now < 16)
-        (λ e. (16 ≤ length cell.now) × (e ≡ extent_in cell.now)) }
+    ensures { MatchOption result (EndsWithDigests cell.now → ⊥)
+        (λ e. EndsWithDigests cell.now × (e ≡ extent_in cell.now)) }
 {
     let at = number_at(cell, 0)?;
-    let size = number_at(cell, 8)?;
+    let size = number_at(cell, 8)? as usize;
+    if cell.len() != 16 + size.div_ceil(PIECE) * 8 {
+        return None;
+    }
     Some(Extent {
         at: at as usize,
-        size: size as usize,
+        size,
     })
 }
 

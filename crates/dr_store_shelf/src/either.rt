@@ -13,7 +13,8 @@ pub enum LedgerShelf<D: Disk> {
 }
 
 impl<D: Disk> Shelf for LedgerShelf<D> {
-    ghost use Rattle.dr_store_shelf.specs.Either.{AreApartIf, IsCleanOn, IsUsableOn, PassesOn};
+    ghost use Rattle.dr_store_shelf.specs.Either.{AreApartIf, EndsOn, IsCleanOn, IsNewOn};
+    ghost use Rattle.dr_store_shelf.specs.Either.{IsUsableOn, PassesOn};
     ghost use Rattle.dr_store_shelf.specs.Either.{StandsOn, UsesOn, apart_swaps, body_on};
     ghost use Rattle.dr_store_shelf.specs.Either.{faults_on, named_on, only_on, passed_on};
 
@@ -30,6 +31,10 @@ impl<D: Disk> Shelf for LedgerShelf<D> {
     ghost swaps = { apart_swaps };
 
     ghost passes = { λ it. PassesOn it };
+
+    ghost is_new = { λ it. IsNewOn it };
+
+    ghost ends = { λ it. EndsOn it };
 
     ghost is_clean = { λ it. IsCleanOn it };
 

@@ -6,6 +6,7 @@ ghost use Rattle.dr_store_bodies.specs.Bodies.{IsClean, IsHeld, IsUsable, extent
 ghost use Rattle.dr_store_bodies.specs.Extents.{LiesBefore, Stand, end_of};
 ghost use Rattle.dr_store_shelf.specs.Cells.{Passes, extent_in};
 ghost use Rattle.dr_store_shelf.specs.Shelves.{IsUsed, IsWhyNotPut, IsWhyNotRead, Stands};
+ghost use Rattle.dr_store_shelf.specs.Shelves.{ShowsAsBefore, shown_by};
 
 use crate::cell::{blank_cell, extent_of, passes, placed_cell};
 use crate::fault::ShelfFault;
@@ -30,6 +31,7 @@ impl<D: Disk> InFile<D> {
     pub fn of(alloc: Global, key: u64, bodies: Bodies<D>) -> InFile<D>
         ensures file { result.bodies ≡ bodies }
         ensures key { result.key ≡ key }
+        ensures uncut { result.is_cut ≡ false }
     {
         InFile {
             alloc,
@@ -70,9 +72,12 @@ impl<D: Disk> InFile<D> {
         ensures read { IfOk result (λ got. IsClean self.new.bodies → (bytes : List ℕ)
             → IsHeld self.old.bodies (extent_in cell.now) bytes → got.items ≡ bytes) }
         ensures tested { IfOk result (λ got. Passes self.old.key cell.now got.items) }
+        ensures cut { self.new.is_cut ≡ self.old.is_cut }
         ensures keeps { (other bytes : List ℕ) → IsUsed self.old.bodies other
             → Stands self.old.key self.old.bodies other bytes
             → IsUsed self.new.bodies other × Stands self.new.key self.new.bodies other bytes }
+        ensures shows { IsClean self.new.bodies → ShowsAsBefore (IsUsed self.old.bodies)
+            (shown_by self.old.bodies) (shown_by self.new.bodies) }
         ensures uses { (other : List ℕ) → IsUsed self.old.bodies other
             → IsUsed self.new.bodies other }
         ensures clean { IsClean self.new.bodies → IsClean self.old.bodies }
@@ -80,6 +85,7 @@ impl<D: Disk> InFile<D> {
             → IsWhyNotRead (IsUsable self.old.bodies)
             (Stands self.old.key self.old.bodies cell.now bytes) fault) }
     {
+        let _extents = self.bodies.extents();
         let mut bytes = vec![in self.alloc; 0u8; extent.size]?;
         self.bodies.get(extent, &mut bytes)?;
         if !passes(self.key, cell, &bytes) {
@@ -93,9 +99,12 @@ impl<D: Disk> InFile<D> {
         ensures read { IfOk result (λ got. IsClean self.new.bodies → (bytes : List ℕ)
             → IsHeld self.old.bodies (extent_in cell.now) bytes → got.items ≡ bytes) }
         ensures tested { IfOk result (λ got. Passes self.old.key cell.now got.items) }
+        ensures cut { self.new.is_cut ≡ self.old.is_cut }
         ensures keeps { (other bytes : List ℕ) → IsUsed self.old.bodies other
             → Stands self.old.key self.old.bodies other bytes
             → IsUsed self.new.bodies other × Stands self.new.key self.new.bodies other bytes }
+        ensures shows { IsClean self.new.bodies → ShowsAsBefore (IsUsed self.old.bodies)
+            (shown_by self.old.bodies) (shown_by self.new.bodies) }
         ensures uses { (other : List ℕ) → IsUsed self.old.bodies other
             → IsUsed self.new.bodies other }
         ensures clean { IsClean self.new.bodies → IsClean self.old.bodies }
@@ -111,17 +120,18 @@ impl<D: Disk> InFile<D> {
 }
 
 impl<D: Disk> Shelf for InFile<D> {
-    ghost use Rattle.std.specs.Prelude.{true};
+    ghost use Rattle.std.specs.Prelude.{◌≡◌, false, true};
     ghost use Rattle.dr_store_bodies.specs.Bodies.{IsClean, IsUsable, faults, seen};
     ghost use Rattle.dr_store_shelf.specs.Cells.{Passes, extent_in, shown};
-    ghost use Rattle.dr_store_shelf.specs.Shelves.{AreApart, IsUsed, Stands};
+    ghost use Rattle.dr_store_shelf.specs.Shelves.{AreApart, EndsWithLast, IsUsed, Stands};
+    ghost use Rattle.dr_store_shelf.specs.Shelves.{shown_by};
     ghost use Rattle.dr_store_shelf.specs.Held.{apart_from_each_other, held_is_shown};
 
     ghost stands = { λ it. Stands it.key it.bodies };
 
     ghost uses = { λ it. IsUsed it.bodies };
 
-    ghost body_of = { λ it cell. shown (seen it.bodies) (extent_in cell) };
+    ghost body_of = { λ it. shown_by it.bodies };
 
     ghost named = { λ _. true };
 
@@ -130,6 +140,10 @@ impl<D: Disk> Shelf for InFile<D> {
     ghost swaps = { λ _. apart_from_each_other };
 
     ghost passes = { λ it. Passes it.key };
+
+    ghost is_new = { λ it. it.is_cut ≡ false };
+
+    ghost ends = { λ it. EndsWithLast it.bodies };
 
     ghost is_clean = { λ it. IsClean it.bodies };
 
@@ -150,6 +164,7 @@ impl<D: Disk> Shelf for InFile<D> {
     }
 
     fn put(&mut self, body: &[u8]) -> Result<BodyCell, ShelfFault> {
+        let _extents = self.bodies.extents();
         let cell = blank_cell(self.alloc, self.key, body)?;
         self.cut_once()?;
         let extent = self.bodies.put(body)?;
@@ -202,6 +217,7 @@ impl<D: Disk + Drop> InFile<D> {
         ensures filled { IfOk result (λ it. All (λ e. 0 < e.size) list.items) }
         ensures apart { IfOk result (λ it. AllPairs LiesBefore list.items) }
         ensures shows { IfOk result (λ it. D.Disk.seen it.bodies.disk ≡ D.Disk.seen file) }
+        ensures uncut { IfOk result (λ it. it.is_cut ≡ false) }
     {
         let bodies = Bodies::open(file, list)?;
         let _extents = bodies.extents();
@@ -221,6 +237,7 @@ impl<D: Crash + Drop> InFile<D> {
         ensures keeps { IfOk result (λ it. (cell bytes : List ℕ) → IsUsed self.bodies cell
             → Stands self.key self.bodies cell bytes
             → IsUsed it.bodies cell × Stands it.key it.bodies cell bytes) }
+        ensures uncut { IfOk result (λ it. it.is_cut ≡ false) }
     {
         let InFile {
             alloc,

@@ -23,6 +23,10 @@ impl Shelf for InRow {
 
     ghost passes = { λ _ cell bytes. cell ≡ bytes };
 
+    ghost is_new = { λ _. Unit {0} };
+
+    ghost ends = { λ _. Unit {0} };
+
     ghost is_clean = { λ _. Unit {0} };
 
     ghost is_usable = { λ _. Unit {0} };

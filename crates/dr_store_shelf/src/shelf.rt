@@ -1,7 +1,7 @@
 //! A place for data sets.
 ghost use Rattle.std.specs.Prelude.{◌≡◌, ◌<◌, ℕ, List, length, IfErr, IfOk, OnErr, Bool};
-ghost use Rattle.std.specs.Prelude.{◌↔◌, IsTrue, MatchOption, false};
-ghost use Rattle.dr_store_shelf.specs.Shelves.{IsWhyNotPut, IsWhyNotRead, bytes_of};
+ghost use Rattle.std.specs.Prelude.{◌↔◌, IsTrue, MatchOption, OnOk, false};
+ghost use Rattle.dr_store_shelf.specs.Shelves.{IsWhyNotPut, IsWhyNotRead, ShowsAsBefore, bytes_of};
 
 use crate::fault::ShelfFault;
 
@@ -29,7 +29,8 @@ impl BodyCell {
 /// A place for data sets, which gives out a cell for each.
 ///
 /// A cell that is in use stands for the same bytes until it is let go, whatever else is put, read
-/// or let go, and whether or not a call is refused.
+/// or let go, and whether or not a call is refused. By one that is in use each call leaves the same
+/// bytes, also where it stands for none, as far as the medium answered rightly.
 pub trait Shelf {
     // The cell stands for these bytes: they are what is read by it, now and after a crash at this
     // moment.
@@ -38,7 +39,7 @@ pub trait Shelf {
     // The cell is in use.
     ghost uses: { Self → List ℕ → Type 0 };
 
-    // The bytes for which the cell stands, if it stands for any.
+    // The bytes that are shown by the cell, for which it stands, if it stands for any.
     ghost body_of: { Self → List ℕ → List ℕ };
 
     // Whether its cells name places, which stays as it is.
@@ -54,6 +55,12 @@ pub trait Shelf {
 
     // These bytes pass the test that the cell has for them.
     ghost passes: { Self → List ℕ → List ℕ → Type 0 };
+
+    // No data set was put since the shelf was opened.
+    ghost is_new: { Self → Type 0 };
+
+    // Nothing lies behind the places of the cells in use.
+    ghost ends: { Self → Type 0 };
 
     // No wrong answer of a medium has been taken as true.
     ghost is_clean: { Self → Type 0 };
@@ -84,7 +91,8 @@ pub trait Shelf {
         ensures { IsTrue result ↔ is_usable self.now };
 
     /// Puts a data set, durably: whoever commits a row with the cell afterwards finds it, whatever
-    /// crash comes.
+    /// crash comes. As the first one comes after an opening, what an earlier process left behind
+    /// all others goes.
     ///
     /// Errors: Io where a call of the disk failed, Memory, Unusable, Full. None leaves a cell in
     /// use that wasn't.
@@ -97,8 +105,11 @@ pub trait Shelf {
             → apart (named self.old) (bytes_of cell body.now) other) }
         ensures keeps { (cell bytes : List ℕ) → uses self.old cell → stands self.old cell bytes
             → uses self.new cell × stands self.new cell bytes }
+        ensures shows { is_clean self.new
+            → ShowsAsBefore (uses self.old) (body_of self.old) (body_of self.new) }
         ensures unused { OnErr result
             ((cell : List ℕ) → uses self.new cell → uses self.old cell) }
+        ensures ends { OnOk result (is_new self.old → ends self.new) }
         ensures named { named self.new ≡ named self.old }
         ensures clean { is_clean self.new → is_clean self.old }
         ensures why { IfErr result
@@ -115,7 +126,10 @@ pub trait Shelf {
         ensures tested { IfOk result (λ got. passes self.old cell.items got.items) }
         ensures keeps { (other bytes : List ℕ) → uses self.old other → stands self.old other bytes
             → uses self.new other × stands self.new other bytes }
+        ensures shows { is_clean self.new
+            → ShowsAsBefore (uses self.old) (body_of self.old) (body_of self.new) }
         ensures named { named self.new ≡ named self.old }
+        ensures since { is_new self.old → is_new self.new }
         ensures clean { is_clean self.new → is_clean self.old }
         ensures why { IfErr result (λ fault. is_clean self.new → (bytes : List ℕ)
             → IsWhyNotRead (is_usable self.old) (stands self.old cell.items bytes) fault) };
@@ -130,8 +144,11 @@ pub trait Shelf {
             (λ got. stands self.old cell.items got.items)) }
         ensures keeps { (other bytes : List ℕ) → uses self.old other → stands self.old other bytes
             → uses self.new other × stands self.new other bytes }
+        ensures shows { is_clean self.new
+            → ShowsAsBefore (uses self.old) (body_of self.old) (body_of self.new) }
         ensures uses { (other : List ℕ) → uses self.old other → uses self.new other }
         ensures named { named self.new ≡ named self.old }
+        ensures since { is_new self.old → is_new self.new }
         ensures clean { is_clean self.new → is_clean self.old }
         ensures why { IfErr result (λ fault. is_clean self.new
             → IsWhyNotRead (is_usable self.old) (Unit {0}) fault) };
@@ -145,6 +162,9 @@ pub trait Shelf {
         ensures keeps { (other bytes : List ℕ) → apart (named self.old) cell.now other
             → uses self.old other → stands self.old other bytes
             → uses self.new other × stands self.new other bytes }
+        ensures shows { is_clean self.new
+            → ShowsAsBefore (uses self.old) (body_of self.old) (body_of self.new) }
         ensures named { named self.new ≡ named self.old }
+        ensures since { is_new self.old → is_new self.new }
         ensures clean { is_clean self.new → is_clean self.old };
 }

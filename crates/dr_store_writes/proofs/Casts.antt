@@ -29,6 +29,7 @@ pub cast_why : (p : Progress) → cast Integer (why_of p) ≡ why_of p
 cast_why (Waiting tries due) = cast_null
 cast_why (Held (cause.Status status)) = cast_int (pos status)
 cast_why (Held cause.NoContext) = cast_null
+cast_why (Held cause.Unreadable) = cast_int (negsuc 1)
 cast_why Done = cast_null
 cast_why Dropped = cast_null
 
@@ -36,6 +37,7 @@ pub cast_outcome : (what : Outcome) → cast Integer (outcome_value what) ≡ ou
 cast_outcome (outcome.Status status) = cast_int (pos status)
 cast_outcome outcome.Broken = cast_null
 cast_outcome outcome.NoContext = cast_int (negsuc 0)
+cast_outcome outcome.Unreadable = cast_int (negsuc 1)
 
 pub cast_moment : (moment : Option ℕ) → cast Integer (moment_value moment) ≡ moment_value moment
 cast_moment None = cast_null
@@ -45,6 +47,7 @@ pub bound_why : (p : Progress) → bound_value (why_of p) ≡ why_of p
 bound_why (Waiting tries due) = refl
 bound_why (Held (cause.Status status)) = refl
 bound_why (Held cause.NoContext) = refl
+bound_why (Held cause.Unreadable) = refl
 bound_why Done = refl
 bound_why Dropped = refl
 
@@ -52,6 +55,7 @@ pub bound_outcome : (what : Outcome) → bound_value (outcome_value what) ≡ ou
 bound_outcome (outcome.Status status) = refl
 bound_outcome outcome.Broken = refl
 bound_outcome outcome.NoContext = refl
+bound_outcome outcome.Unreadable = refl
 
 pub bound_moment : (moment : Option ℕ) → bound_value (moment_value moment) ≡ moment_value moment
 bound_moment None = refl

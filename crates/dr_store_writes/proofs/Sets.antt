@@ -52,6 +52,7 @@ stored_back : (id : ℤ) (at : Pair) (p : Progress) → entry_in (stored_row id 
 stored_back id at (Waiting tries due) = refl
 stored_back id at (Held (cause.Status status)) = refl
 stored_back id at (Held cause.NoContext) = refl
+stored_back id at (Held cause.Unreadable) = refl
 stored_back id at Done = refl
 stored_back id at Dropped = refl
 

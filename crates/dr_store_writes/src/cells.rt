@@ -76,6 +76,7 @@ pub fn why_cell(progress: Progress) -> ValueRef<'static>
 {
     match progress {
         Progress::Held(Cause::Status(status)) => ValueRef::Int(i64::from(status)),
+        Progress::Held(Cause::Unreadable) => ValueRef::Int(-2),
         Progress::Held(Cause::NoContext)
         | Progress::Waiting { .. }
         | Progress::Done
@@ -90,5 +91,6 @@ pub fn outcome_cell(outcome: Outcome) -> ValueRef<'static>
         Outcome::Status(status) => ValueRef::Int(i64::from(status)),
         Outcome::Broken => ValueRef::Null,
         Outcome::NoContext => ValueRef::Int(-1),
+        Outcome::Unreadable => ValueRef::Int(-2),
     }
 }

@@ -3,7 +3,7 @@ use Rattle.std.specs.Prelude.{ℕ, Bool, true, false, ◌&&◌, List, [], ◌∷
 use Rattle.std.specs.Prelude.{Some, filter, length}
 use Rattle.dr_base.specs.Texts.{Text, next_field}
 use Rattle.dr_ledger.specs.declared.item.Outcome.{Outcome}
-use Rattle.dr_ledger.specs.declared.item.Outcome.TheVariants.{Status, Broken, NoContext}
+use Rattle.dr_ledger.specs.declared.item.Outcome.TheVariants.{Status, Broken, NoContext, Unreadable}
 use Rattle.dr_ledger.specs.Books.{Line, Arrival, Repeat, Settling, Requeuing, Dropping, Row}
 use Rattle.dr_ledger.specs.Books.{Forgetting, Adoption, is_success, since_adoption}
 use Rattle.dr_ledger_views.specs.Views.{is_at as is_at_stage}
@@ -19,6 +19,7 @@ abbrev pub is_taken : Outcome → Bool
 is_taken (Status status) = is_success status
 is_taken Broken = false
 is_taken NoContext = false
+is_taken Unreadable = false
 
 -- the line is of a first arrival
 abbrev pub is_first : Line → Bool

@@ -47,6 +47,7 @@ pub fn is_taken(outcome: Outcome) -> bool
         Outcome::Status(status) => is_success(status),
         Outcome::Broken => false,
         Outcome::NoContext => false,
+        Outcome::Unreadable => false,
     }
 }
 

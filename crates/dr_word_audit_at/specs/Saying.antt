@@ -67,6 +67,7 @@ SaysOutcome value (outcome.Status status) =
     × (status ≡ high * 256 + low)
 SaysOutcome value outcome.Broken = text_at (codes "outcome") value ≡ Some (codes "broken")
 SaysOutcome value outcome.NoContext = text_at (codes "outcome") value ≡ Some (codes "no-context")
+SaysOutcome value outcome.Unreadable = text_at (codes "outcome") value ≡ Some (codes "unreadable")
 
 -- a line of a call of that kind
 abbrev pub SaysOf : Text → Data → JournalLine → Type 0

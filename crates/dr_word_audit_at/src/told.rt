@@ -239,6 +239,9 @@ fn outcome_in(alloc: Global, value: &Value) -> Result<Outcome, AskFault>
     if is_same(word.as_bytes(), b"no-context") {
         return Ok(Outcome::NoContext);
     }
+    if is_same(word.as_bytes(), b"unreadable") {
+        return Ok(Outcome::Unreadable);
+    }
     let status = status_of(alloc, word)?;
     Ok(Outcome::Status(status))
 }

@@ -1,7 +1,7 @@
 -- What is read of nodes, and their reports.
 use Rattle.std.proofs.Common.{◌≡◌, ℕ, ◌+◌, ◌<◌, ◌≤◌, Bool, true, false, cond, List, [], ◌∷◌, ◌++◌, length, take, get_or, append_assoc, map as mapped, Option, None, Some, Result, refl, sym, ap, subst, ◌∙◌, inl, inr}
 use Rattle.std.specs.Option.{option_map, IsSome}
-use Rattle.std.specs.Prelude.{Contains}
+use Rattle.std.specs.Prelude.{Contains, IsTrue, ◌↔◌}
 use Rattle.std.specs.Ordering.{eq_by_cmp}
 use Rattle.std.specs.Cmp.{eq_by_cmp_equiv}
 use Rattle.std.specs.FinMap as map
@@ -12,6 +12,7 @@ use Rattle.std.proofs.lemmas.Map.Views.{tells_apart, Contains-keys_from_lookup, 
 use Rattle.dr_base.specs.Texts.{Text, text_cmp}
 use Rattle.dr_ledger.specs.declared.fault.LedgerFault.{LedgerFault}
 use Rattle.dr_ledger.specs.declared.ledger.Ledger.{Ghosts}
+use Rattle.dr_ledger.specs.Bodies.{IsNeeded}
 use Rattle.dr_ledger.specs.Books.{Book}
 use Rattle.dr_ledger.specs.Pairs.{pair_cmp}
 use Rattle.dr_ledger.specs.Replies.{AreKept, Lists, entry_of}
@@ -25,7 +26,7 @@ use Rattle.dr_world.specs.declared.listing.Listing.{Listing}
 use Rattle.dr_world.specs.declared.world.World.{World}
 use Rattle.dr_world.specs.Nodes.{AllStandIn, seat_of, seats_of}
 use Rattle.dr_world.specs.Shows.{Seat}
-use Rattle.dr_world.specs.Reports.{AreNamesOf, AreReports, AreSameNodes, AreWritten, HasReport, IsListingOf, IsReported, IsSameNode, IsToldOf, ListsBook, bodies_of, books_of, foreign_line, has_in}
+use Rattle.dr_world.specs.Reports.{AreNamesOf, AreReports, AreSameNodes, AreWritten, HasReport, IsListingOf, IsReported, IsSameNode, IsToldOf, ListsBook, IsNeededIn, books_of, foreign_line}
 use Rattle.dr_world.specs.Whole.{AllStand, IsSameWorld, contents}
 
 -- ---- one node
@@ -79,8 +80,8 @@ module _ {L : Type 0} {l : Ghosts L} where
   pub unlisted : (old : BTreeMap Text (Node L l)) (name : Text) → None ≡ tree.get text_cmp old name → ListsBook (books_of old name) None
   unlisted old name none = (let P : Option (Node L l) → Type 0 = λ o. ListsBook (option_map (λ n. l.book n.desk.ledger) o) None in subst P none tt)
 
-  pub no_bodies : (old : BTreeMap Text (Node L l)) (name uid : Text) → None ≡ tree.get text_cmp old name → None ≡ has_in (bodies_of old name) uid
-  no_bodies old name uid none = ap (λ (o : Option (Node L l)). has_in (option_map (λ n. l.bodies n.desk.ledger) o) uid) none
+  pub no_bodies : (old : BTreeMap Text (Node L l)) (name uid : Text) → None ≡ tree.get text_cmp old name → IsNeededIn (books_of old name) uid None
+  no_bodies old name uid none = (let P : Option (Node L l) → Type 0 = λ o. IsNeededIn (option_map (λ n. l.book n.desk.ledger) o) uid None in subst P none tt)
 
   module _ (old new : BTreeMap Text (Node L l)) (name : Text) (n after : Node L l) (has : Some n ≡ tree.get text_cmp old name)
       (updates : (q : Text) → tree.get text_cmp new q ≡ cond (is_at (text_cmp name) q) (Some after) (tree.get text_cmp old q)) where
@@ -116,8 +117,10 @@ module _ {L : Type 0} {l : Ghosts L} where
         let P : Option (Node L l) → Type 0 = λ o. ListsBook (option_map (λ n. l.book n.desk.ledger) o) (Some x) in
         subst P has (h (all name after now_here))
 
-    pub has_there : (uid : Text) (b : Bool) → (l.stands after.desk.ledger → b ≡ map.contains_key (l.bodies n.desk.ledger) uid) → AllStandIn new → Some b ≡ has_in (bodies_of old name) uid
-    has_there uid b h all = ap Some (h (all name after now_here)) ∙ ap (λ (o : Option (Node L l)). has_in (option_map (λ n. l.bodies n.desk.ledger) o) uid) has
+    pub has_there : (uid : Text) (b : Bool) → (l.stands after.desk.ledger → IsTrue b ↔ IsNeeded (l.book n.desk.ledger) uid) → AllStandIn new → IsNeededIn (books_of old name) uid (Some b)
+    has_there uid b h all =
+        let P : Option (Node L l) → Type 0 = λ o. IsNeededIn (option_map (λ n. l.book n.desk.ledger) o) uid (Some b) in
+        subst P has (h (all name after now_here))
 
   -- ---- names
 

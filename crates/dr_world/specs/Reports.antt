@@ -1,6 +1,6 @@
 -- What is read of a world's nodes, and their reports.
 use Rattle.std.specs.Prelude.{◌≡◌, ◌⊎◌, ◌↔◌, ℕ, Bool, List, [], ◌∷◌, ◌++◌, map as mapped}
-use Rattle.std.specs.Prelude.{Contains, Option, Some, None, codes}
+use Rattle.std.specs.Prelude.{Contains, IsTrue, Option, Some, None, codes}
 use Rattle.std.specs.Option.{option_map}
 use Rattle.std.specs.FinMap as map
 use Rattle.std.specs.BTreeMap as tree
@@ -8,7 +8,7 @@ use Rattle.std.specs.BTreeMap.{BTreeMap}
 use Rattle.std.specs.List.Sorted.{IsStrictlySortedBy}
 use Rattle.dr_base.specs.Texts.{Text, text_cmp}
 use Rattle.dr_ledger.specs.declared.ledger.Ledger.{Ghosts}
-use Rattle.dr_ledger.specs.Bodies.{Bodies}
+use Rattle.dr_ledger.specs.Bodies.{IsNeeded}
 use Rattle.dr_ledger.specs.Books.{Book}
 use Rattle.dr_ledger.specs.Pairs.{pair_cmp}
 use Rattle.dr_ledger.specs.Replies.{AreKept, Lists, entry_of}
@@ -20,11 +20,6 @@ use Rattle.dr_world.specs.Nodes.{AllStandIn, seats_of}
 -- the nodes' books by name; another name has none
 abbrev pub books_of : {L : Type 0} {l : Ghosts L} → BTreeMap Text (Node L l) → Text → Option Book
 books_of {L} {l} nodes name = option_map (λ n. l.book n.desk.ledger) (tree.get text_cmp nodes name)
-
--- and their data sets
-abbrev pub bodies_of : {L : Type 0} {l : Ghosts L} → BTreeMap Text (Node L l) → Text → Option Bodies
-bodies_of {L} {l} nodes name =
-    option_map (λ n. l.bodies n.desk.ledger) (tree.get text_cmp nodes name)
 
 -- what a book has, in lists
 pub record IsListingOf (b : Book) (x : Listing) : Type 0 where
@@ -39,9 +34,11 @@ ListsBook (Some b) (Some x) = IsListingOf b x
 ListsBook None None = Unit {0}
 ListsBook other x = ⊥
 
--- whether a data set of that uid is there
-abbrev pub has_in : Option Bodies → Text → Option Bool
-has_in bodies uid = option_map (λ b. map.contains_key b uid) bodies
+-- whether a node that is there needs the data set of that uid
+abbrev pub IsNeededIn : Option Book → Text → Option Bool → Type 0
+IsNeededIn (Some b) uid (Some needed) = IsTrue needed ↔ IsNeeded b uid
+IsNeededIn None uid None = Unit {0}
+IsNeededIn other uid needed = ⊥
 
 -- A node as it was; where its ledger's premise stands after it, it stood before, and the ledger has
 -- what it had.

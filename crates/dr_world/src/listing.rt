@@ -2,8 +2,8 @@
 ghost use Rattle.std.specs.Prelude.{◌≡◌, ◌++◌, IfOk, OnOk, length};
 ghost use Rattle.dr_ledger_report.specs.Reports.{name_line, report_of};
 ghost use Rattle.dr_world.specs.Reports.{AreNamesOf, AreSameNodes, AreWritten, HasReport};
-ghost use Rattle.dr_world.specs.Reports.{IsListingOf, IsSameNode, ListsBook, bodies_of, books_of};
-ghost use Rattle.dr_world.specs.Reports.{foreign_line, has_in};
+ghost use Rattle.dr_world.specs.Reports.{IsListingOf, IsNeededIn, IsSameNode, ListsBook, books_of};
+ghost use Rattle.dr_world.specs.Reports.{foreign_line};
 ghost use Rattle.dr_world.specs.Nodes.{AllStandIn};
 
 use crate::fault::WorldFault;
@@ -72,8 +72,8 @@ pub fn list_at<L: Ledger>(
     }
 }
 
-/// Whether the node of that name has the data set of that uid: it does while the uid is kept or a
-/// row of it isn't done. None where there is no such node.
+/// Whether the node of that name needs the data set of that uid: it does while the uid is kept or a
+/// row of it is still queued. None where there is no such node.
 ///
 /// Errors: Store, Memory.
 pub fn has_body_at<L: Ledger>(
@@ -82,7 +82,7 @@ pub fn has_body_at<L: Ledger>(
     uid: &Text,
 ) -> Result<Option<bool>, WorldFault>
     ensures has { IfOk result (λ o.
-        AllStandIn nodes.new → o ≡ has_in (bodies_of nodes.old name.now) uid.now) }
+        AllStandIn nodes.new → IsNeededIn (books_of nodes.old name.now) uid.now o) }
     ensures same { AreSameNodes nodes.old nodes.new }
 {
     let Some(node) = nodes.get_mut(name) else {

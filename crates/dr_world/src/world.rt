@@ -18,7 +18,7 @@ ghost use Rattle.dr_world.specs.declared.fault.WorldFault.{WorldFault as FaultVa
 ghost use Rattle.dr_world.specs.declared.fault.WorldFault.TheVariants.{Memory as MemoryFault};
 ghost use Rattle.dr_world.specs.Played.{HoldsThrough, PlaysOn};
 ghost use Rattle.dr_world.specs.Runs.{StepsOn, HoldsAfter, HoldsAfterAll, Leads, step_of};
-ghost use Rattle.dr_world.specs.Reports.{IsReported, ListsBook, bodies_of, books_of, has_in};
+ghost use Rattle.dr_world.specs.Reports.{IsNeededIn, IsReported, ListsBook, books_of};
 ghost use Rattle.dr_world.specs.Restarted.{AllFarHear, FarHears};
 ghost use Rattle.dr_world.specs.Whole.{AllStand, Calls, GivesUp, HasTicked, IsSameWorld};
 ghost use Rattle.dr_world.specs.Whole.{IsToldToRefuse, LetsGoOf, Meets, Puts, StaysAwayFrom};
@@ -341,13 +341,13 @@ impl<L: Ledger> World<L> {
         list_at(&mut self.nodes, name)
     }
 
-    /// Whether the node of that name has the data set of that uid: it does while the uid is kept or
-    /// a row of it is still queued. None where no node has that name.
+    /// Whether the node of that name needs the data set of that uid: it does while the uid is kept
+    /// or a row of it is still queued. None where no node has that name.
     ///
     /// Errors: Store, where the ledger's store fails; Memory.
     pub fn has_body(&mut self, name: &Text, uid: &Text) -> Result<Option<bool>, WorldFault>
         ensures has { IfOk result (λ o.
-            AllStand self.new → o ≡ has_in (bodies_of self.old.nodes name.now) uid.now) }
+            AllStand self.new → IsNeededIn (books_of self.old.nodes name.now) uid.now o) }
         ensures same { IsSameWorld self.old self.new }
     {
         has_body_at(&mut self.nodes, name, uid)

@@ -13,7 +13,7 @@ use Rattle.dr_plan_model.proofs.Gathered.{nothing_in_nil, only_one, Contains-con
 use Rattle.dr_plan_sound.specs.Soundness.{IsSound}
 use Rattle.dr_ledger.specs.declared.item.Instance.{Instance}
 use Rattle.dr_ledger.specs.declared.item.Outcome.{Outcome}
-use Rattle.dr_ledger.specs.declared.item.Outcome.TheVariants.{Status, Broken, NoContext}
+use Rattle.dr_ledger.specs.declared.item.Outcome.TheVariants.{Status, Broken, NoContext, Unreadable}
 use Rattle.dr_ledger.specs.Books.{Book, Line, Arrival, Repeat, Settling, Requeuing, Dropping, Forgetting, Adoption, Fold, after, since_adoption}
 use Rattle.dr_ledger.specs.Histories.{IsSince}
 use Rattle.dr_ledger.specs.Pairs.{Pair}
@@ -130,6 +130,7 @@ success_name : (name dest : Text) (outcome : Outcome) (o : Option Instance) (h :
 success_name name dest (Status status) o h c = one_name name dest o h (cond_from _ (hops_of name dest o) h c)
 success_name name dest Broken o h c = absurd (nothing_in_nil h c)
 success_name name dest NoContext o h c = absurd (nothing_in_nil h c)
+success_name name dest Unreadable o h c = absurd (nothing_in_nil h c)
 
 done_name : (name : Text) (b : Book) (lines : List Line) (h : Hop) → Contains (done name b lines) h → h.0 ≡ name
 done_name name b [] h c = absurd (nothing_in_nil h c)
@@ -174,6 +175,7 @@ fair_is (Status status) h = elim (either_true (status == 0) ((status == 0xA700) 
     nat_is a b h = (Decides-eqb a b).0 h
 fair_is Broken h = tt
 fair_is NoContext h = absurd (let e : ⊥ = cc in e)
+fair_is Unreadable h = tt
 
 cases : (b : Bool) → (b ≡ true) ⊎ (b ≡ false)
 cases true = inl refl

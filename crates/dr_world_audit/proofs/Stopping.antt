@@ -10,7 +10,7 @@ use Rattle.dr_plan_model.specs.Networks.{Network}
 use Rattle.dr_plan_model.proofs.Gathered.{nothing_in_nil, Contains-cons_cases, Contains-here, Contains-there}
 use Rattle.dr_ledger_history.specs.Lines.{line_of}
 use Rattle.dr_ledger.specs.declared.item.Outcome.{Outcome}
-use Rattle.dr_ledger.specs.declared.item.Outcome.TheVariants.{Status, Broken, NoContext}
+use Rattle.dr_ledger.specs.declared.item.Outcome.TheVariants.{Status, Broken, NoContext, Unreadable}
 use Rattle.dr_ledger_history.specs.declared.line.JournalLine.{JournalLine}
 use Rattle.dr_ledger_history.specs.declared.line.JournalLine.TheVariants as told
 use Rattle.dr_world_model.specs.Claims.{IsFairOutcome}
@@ -93,6 +93,7 @@ is_fair_of (Status status) (inr (inl a)) = (let P : ℕ → Type 0 = λ s. is_fa
 is_fair_of (Status status) (inr (inr c)) = (let P : ℕ → Type 0 = λ s. is_fair (Status s) ≡ true in subst P (sym c) refl)
 is_fair_of Broken h = refl
 is_fair_of NoContext h = absurd h
+is_fair_of Unreadable h = refl
 
 -- a line that isn't fair
 pub settled_unfair : (ours : List Text) (node : NodeJournal) (line : JournalLine) (uid dest : Text) (outcome : Outcome) (now : ℕ) → line ≡ told.Settling uid dest outcome now → (a b n : Text) → a ≡ uid → b ≡ dest → n ≡ node.name →

@@ -6,7 +6,7 @@ use Rattle.dr_plan_model.specs.Networks.{Network}
 use Rattle.dr_plan_model.specs.Walks.{Goes}
 use Rattle.dr_ledger.specs.declared.item.Instance.{Instance}
 use Rattle.dr_ledger.specs.declared.item.Outcome.{Outcome}
-use Rattle.dr_ledger.specs.declared.item.Outcome.TheVariants.{Status, Broken, NoContext}
+use Rattle.dr_ledger.specs.declared.item.Outcome.TheVariants.{Status, Broken, NoContext, Unreadable}
 use Rattle.dr_ledger.specs.Books.{Line, Arrival, Repeat, Settling, Requeuing, Dropping}
 use Rattle.dr_ledger.specs.Books.{Forgetting, Adoption, Fold, empty_book}
 use Rattle.dr_ledger.specs.Histories.{IsSince}
@@ -58,6 +58,7 @@ abbrev pub is_fair : Outcome → Bool
 is_fair (Status status) = (status == 0) || ((status == 0xA700) || (status == 0xC0F1))
 is_fair Broken = true
 is_fair NoContext = false
+is_fair Unreadable = true
 
 -- the line settles a row to one of these by an outcome that isn't fair
 abbrev pub IsUnfair : List Text → Line → Type 0

@@ -106,7 +106,8 @@ fn names_of(alloc: Global, nodes: &[NodeJournal]) -> Result<BTreeSet<Text>, Audi
 }
 
 /// Whether the outcome of a try is one that a sound plan leaves room for between two of its nodes:
-/// success, out of resources (`A700H`), a conflict (`C0F1H`), or no answer.
+/// success, out of resources (`A700H`), a conflict (`C0F1H`), no answer, or a data set that can't
+/// be read.
 pub fn is_fair(outcome: Outcome) -> bool
     ensures { result ≡ is_fair_outcome outcome }
 {
@@ -114,6 +115,7 @@ pub fn is_fair(outcome: Outcome) -> bool
         Outcome::Status(status) => status == 0 || status == 0xA700 || status == 0xC0F1,
         Outcome::Broken => true,
         Outcome::NoContext => false,
+        Outcome::Unreadable => true,
     }
 }
 

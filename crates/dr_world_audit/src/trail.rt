@@ -233,6 +233,7 @@ fn push_outcome<'a>(
         }
         Outcome::Broken => Ok(()),
         Outcome::NoContext => Ok(()),
+        Outcome::Unreadable => Ok(()),
     }
 }
 

@@ -12,7 +12,7 @@ use Rattle.dr_plan_model.specs.Walks.{Sends}
 use Rattle.dr_plan_model.proofs.Gathered.{nothing_in_nil, only_one, Contains-cons_cases, Contains-here, Contains-there}
 use Rattle.dr_ledger.specs.declared.item.Instance.{Instance}
 use Rattle.dr_ledger.specs.declared.item.Outcome.{Outcome}
-use Rattle.dr_ledger.specs.declared.item.Outcome.TheVariants.{Status, Broken, NoContext}
+use Rattle.dr_ledger.specs.declared.item.Outcome.TheVariants.{Status, Broken, NoContext, Unreadable}
 use Rattle.dr_ledger.specs.declared.item.Progress.{Progress}
 use Rattle.dr_ledger.specs.declared.item.Progress.TheVariants.{Waiting, Held}
 use Rattle.dr_ledger.specs.Books.{Book, Line, Arrival, Repeat, Settling, Requeuing, Dropping, Forgetting, Adoption, Fold, after, empty_book, folded, is_success, since_adoption}
@@ -237,6 +237,7 @@ settled_out name past uid dest (Status status) now h named c =
     })
 settled_out name past uid dest Broken now h named c = absurd (nothing_in_nil h c)
 settled_out name past uid dest NoContext now h named c = absurd (nothing_in_nil h c)
+settled_out name past uid dest Unreadable now h named c = absurd (nothing_in_nil h c)
 
 line_done : (name : Text) (past : List Line) (line : Line) (h : Hop) → ((u : Text) (i : Instance) → map.get (Fold past).items u ≡ Some i → i.uid ≡ u) → Contains (done_by name (Fold past) line) h → Noted (past ++ line ∷ []) h
 line_done name past (Arrival caller item to keep) h named c = absurd (nothing_in_nil h c)

@@ -15,7 +15,7 @@ use Rattle.dr_ledger.specs.declared.fault.LedgerFault.TheVariants as fault
 use Rattle.dr_ledger.specs.declared.item.Arrived.TheVariants.{New, Again}
 use Rattle.dr_ledger.specs.declared.item.Instance.{Instance}
 use Rattle.dr_ledger.specs.declared.item.Outcome.{Outcome}
-use Rattle.dr_ledger.specs.declared.item.Outcome.TheVariants.{Status, Broken, NoContext}
+use Rattle.dr_ledger.specs.declared.item.Outcome.TheVariants.{Status, Broken, NoContext, Unreadable}
 use Rattle.dr_ledger.specs.declared.item.Progress.TheVariants.{Waiting}
 use Rattle.dr_ledger.specs.Books.{Book, Line, Arrival, Repeat, Settling, Requeuing, Dropping, Forgetting}
 use Rattle.dr_ledger.specs.PlanRoutes.{plan_routing}
@@ -26,7 +26,7 @@ use Rattle.dr_ledger.proofs.Since.{Acknowledges, none_taken, nothing_taken, take
 use Rattle.dr_world_model.specs.Among.{Act, Agrees, Calls, Does, Doing, Other, Ours, Own, Replies, RunsAmong, Stores, Takes, Turn, Turns, answered_link}
 use Rattle.dr_world_model.specs.Calls.{Answer, Arriving, CalledAt, Settlement, StoreOutcome}
 use Rattle.dr_world_model.specs.Claims.{Has, HadArrival, IsToSend, WasCarriedOver}
-use Rattle.dr_world_model.specs.Events.{Event, Take, Ask, AgreeReceiver, AgreeCaller, Give, Receive, Answered, BreakCaller, BreakReceiver, Close, Restart, Requeue, Drop, Forget, Refuse, StayAway, Tick, Step}
+use Rattle.dr_world_model.specs.Events.{Event, Take, Ask, AgreeReceiver, AgreeCaller, Give, PassOver, Receive, Answered, BreakCaller, BreakReceiver, Close, Restart, Requeue, Drop, Forget, Refuse, StayAway, Tick, Step}
 use Rattle.dr_world_model.specs.Steps.{IsLink, asked, SettlesFirst, OpensLink, pending, SettlesPending, Leaves, LeavesIfOn, LeaveAll, callers_of, Gives, Receives, new_link, passed}
 use Rattle.dr_world_model.specs.Worlds.{World, Link, Contexts, Asking, Answering, Rejecting, Open, Storing, Replying, Gone, at_stage, start, with_armed, with_link, without_caller, without_receiver}
 use Rattle.dr_world_model.proofs.AdoptionsKept.{no_row, node_or_not}
@@ -417,6 +417,8 @@ module _ (ours : Ours) (plan : Network) where
   ]
   step_reasons (Give number answer) w new safe g r s = given w new number answer safe g r s
   step_reasons (Receive number reply) w new safe g r s = received w new number reply g r s
+  step_reasons (PassOver number answer) w new safe g r s = by_quiet w new g r
+      (still w s.mid new number s.link (without_caller s.link) refl refl refl s.is (by_settling w s.mid s.link.caller s.item.uid s.link.receiver Unreadable answer number s.link s.call s.at))
   step_reasons (Answered number answer) w new safe g r s = by_quiet w new g r
       (emptied w s.mid new number _ (open_stores_nothing s.accepted) s.is (quiet_settling w s.mid s.link.caller s.item.uid s.link.receiver (Status s.status) answer s.call))
   step_reasons (BreakCaller number answer) w new safe g r s = by_quiet w new g r (leaves_quiet w new number answer s)

@@ -8,7 +8,7 @@ use Rattle.dr_route.specs.Routes.{local}
 use Rattle.dr_plan_model.specs.Networks.{Network}
 use Rattle.dr_ledger.specs.declared.item.Instance.{Instance}
 use Rattle.dr_ledger.specs.declared.item.Outcome.{Outcome}
-use Rattle.dr_ledger.specs.declared.item.Outcome.TheVariants.{Status, Broken, NoContext}
+use Rattle.dr_ledger.specs.declared.item.Outcome.TheVariants.{Status, Broken, NoContext, Unreadable}
 use Rattle.dr_ledger.specs.declared.item.Progress.{Progress}
 use Rattle.dr_ledger.specs.Books.{Book, Line, Arrival, Repeat, Settling, Requeuing, Dropping}
 use Rattle.dr_ledger.specs.Books.{Forgetting, Adoption, Fold, after, is_success, since_adoption}
@@ -70,6 +70,7 @@ abbrev pub if_success : Outcome → List Hop → List Hop
 if_success (Status status) hops = cond (is_success status) hops []
 if_success Broken hops = []
 if_success NoContext hops = []
+if_success Unreadable hops = []
 
 -- what a line says that was answered with success: of the item that the book has then
 abbrev pub done_by : Text → Book → Line → List Hop

@@ -14,7 +14,7 @@ use Rattle.dr_plan_model.proofs.Gathered.{nothing_in_nil}
 use Rattle.dr_plan_sound.specs.Soundness.{IsSound}
 use Rattle.dr_plan_sound.proofs.Ranks.{sound_has_rank}
 use Rattle.dr_ledger.specs.declared.item.Instance.{Instance}
-use Rattle.dr_ledger.specs.declared.item.Outcome.TheVariants.{Status, Broken, NoContext}
+use Rattle.dr_ledger.specs.declared.item.Outcome.TheVariants.{Status, Broken, NoContext, Unreadable}
 use Rattle.dr_ledger.specs.declared.item.Progress.{Progress}
 use Rattle.dr_ledger.specs.declared.item.Progress.TheVariants.{Waiting, Done}
 use Rattle.dr_ledger.specs.Books.{Book, Line, Settling, Adoption, after, empty_book, is_queued, Fold}
@@ -29,11 +29,11 @@ use Rattle.dr_world_model.specs.Among.{Ours, ArrivesAtOurs, Doing, Calls, Takes,
 use Rattle.dr_world_model.specs.Worlds.{World, Link, Contexts, Stage, Asking, Answering, Rejecting, Open, Storing, Replying, Gone, start, with_link, with_links, without_caller, at_stage}
 use Rattle.dr_world_model.specs.Calls.{Answer, Settlement}
 use Rattle.dr_ledger.specs.Replies.{store_status, Reply}
-use Rattle.dr_world_model.specs.Steps.{IsLink, SettlesFirst, OpensLink, pending, SettlesPending, Leaves, LeavesIfOn, LeaveAll, callers_of, links_without, ReadsAnswer, Gives, Receives, ReadsReply}
-use Rattle.dr_world_model.specs.Events.{Event, Take, Ask, AgreeReceiver, AgreeCaller, Give, Receive, Answered, BreakCaller, BreakReceiver, Close, Restart, Requeue, Drop, Forget, Refuse, StayAway, Tick, HasNode, Step}
+use Rattle.dr_world_model.specs.Steps.{IsLink, SettlesFirst, OpensLink, pending, SettlesPending, Leaves, LeavesIfOn, LeaveAll, callers_of, links_without, ReadsAnswer, Gives, Receives, ReadsReply, PassesOver}
+use Rattle.dr_world_model.specs.Events.{Event, Take, Ask, AgreeReceiver, AgreeCaller, Give, PassOver, Receive, Answered, BreakCaller, BreakReceiver, Close, Restart, Requeue, Drop, Forget, Refuse, StayAway, Tick, HasNode, Step}
 use Rattle.dr_world_model.specs.Claims.{CoversHop, HadArrival, IsKeptAt, IsOpen, IsToGo, IsToSend, NobodyDropped, WasGivenUp}
 use Rattle.dr_world_model.proofs.AdoptionsKept.{adopted_right, empty_right, no_row, node_or_not, queued_not_done, was_queued}
-use Rattle.dr_world_model.proofs.CallsKept.{one_item, broken_not_done}
+use Rattle.dr_world_model.proofs.CallsKept.{one_item, broken_not_done, unreadable_not_done}
 use Rattle.dr_world_model.proofs.EventsKept.{covers_of, fair_status_of, not_refused, status_inside, success_of, was_link}
 use Rattle.dr_world_model.proofs.FromSafety.{given_before, none_given, none_given_here, reaches_keeper}
 use Rattle.dr_world_model.proofs.Keeping.{IsRight, Noted, Took}
@@ -161,6 +161,12 @@ module _ (ours : Ours) (plan : Network) where
       (λ own near e i u has. subst (HadArrival w link.receiver link.caller) (one_item w link.caller s.item i (sym u) ((fair.1 own).1 s.on) has) ((fair.2 near).1 (status_inside s.status 0 e))) s.call in
       subst (LivesAmong ours plan w) (sym s.is) (then_link w s.mid number _ (lives w s.mid kept) fair.0)
 
+  passes_among : (w new : World) (number : ℕ) (answer : Answer) → IsSafeAmong ours plan w → PassesOver w number answer new → LivesAmong ours plan w new
+  passes_among w new number answer safe s =
+      let kept = settlement_among ours plan w safe s.link.caller s.item.uid s.link.receiver Unreadable answer s.mid (λ own near. tt) (λ own near e. absurd (unreadable_not_done e)) s.call in
+      subst (LivesAmong ours plan w) (sym s.is) (then_link w s.mid number (without_caller s.link) (lives w s.mid kept)
+      (off_fair s.mid s.link.caller s.link.receiver s.link.caller_connected s.link.stage (still_fair w s.mid number s.link s.at kept (safe.links number s.link s.at))))
+
   pending_among : (w new : World) (link : Link) (item : Option Instance) (answer : Option Answer) → IsSafeAmong ours plan w → SettlesPending w link item answer new → KeptAmong ours plan w new
   pending_among w new link (Some item) (Some answer) safe s = broken_among w new link.caller item.uid link.receiver answer safe s
   pending_among w new link None None safe s = unchanged_among ours plan w safe new s
@@ -202,6 +208,7 @@ module _ (ours : Ours) (plan : Network) where
   step_among sound (AgreeCaller number answer) w new safe own s = reads_among w new number answer safe s
   step_among sound (Give number answer) w new safe own s = gives_among w new number answer safe s
   step_among sound (Receive number reply) w new safe own s = receives_among w new number reply safe own s
+  step_among sound (PassOver number answer) w new safe own s = passes_among w new number answer safe s
   step_among sound (Answered number answer) w new safe own s = replied_among w new number answer safe s
   step_among sound (BreakCaller number answer) w new safe own s = leaves_among w new number answer safe s
   step_among sound (BreakReceiver number) w new safe own s = subst (LivesAmong ours plan w) (sym s.is) (only_link w number _ safe (safe.links number s.link s.at))

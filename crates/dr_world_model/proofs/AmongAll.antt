@@ -8,7 +8,7 @@ use Rattle.dr_ledger.specs.declared.item.Instance.{Instance}
 use Rattle.dr_ledger.specs.Books.{Line, Arrival, Repeat, Settling, Requeuing, Dropping, Forgetting, Adoption}
 use Rattle.dr_world_model.specs.Among.{all_ours, acts_of, AllOursIsTheHeadline, OthersCanDo, ArrivesAtOurs, Doing, Calls, Takes, Agrees, Stores, Replies, Does, Turns, RunsAmong, HasEntry, IsAnsweredAmong, IsCoveredAmong, HeadlineAmong}
 use Rattle.dr_world_model.specs.Worlds.{World}
-use Rattle.dr_world_model.specs.Events.{Event, Take, Ask, AgreeReceiver, AgreeCaller, Give, Receive, Answered, BreakCaller, BreakReceiver, Close, Restart, Requeue, Drop, Forget, Refuse, StayAway, Tick}
+use Rattle.dr_world_model.specs.Events.{Event, Take, Ask, AgreeReceiver, AgreeCaller, Give, PassOver, Receive, Answered, BreakCaller, BreakReceiver, Close, Restart, Requeue, Drop, Forget, Refuse, StayAway, Tick}
 use Rattle.dr_world_model.specs.Runs.{Action, Occurs, Adopt, Adopts, Runs}
 use Rattle.dr_world_model.specs.Claims.{HasSource, Headline, IsAnswered, IsCovered, IsFairLine}
 
@@ -22,6 +22,7 @@ at_ours w (Ask caller receiver) = tt
 at_ours w (AgreeReceiver link answer) = tt
 at_ours w (AgreeCaller link answer) = tt
 at_ours w (Give link answer) = tt
+at_ours w (PassOver link answer) = tt
 at_ours w (Answered link answer) = tt
 at_ours w (BreakCaller link answer) = tt
 at_ours w (BreakReceiver link) = tt

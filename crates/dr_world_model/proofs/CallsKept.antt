@@ -13,7 +13,7 @@ use Rattle.dr_ledger.specs.declared.item.Cause.{Cause}
 use Rattle.dr_ledger.specs.declared.item.Cause.TheVariants as cause
 use Rattle.dr_ledger.specs.declared.item.Instance.{Instance}
 use Rattle.dr_ledger.specs.declared.item.Outcome.{Outcome}
-use Rattle.dr_ledger.specs.declared.item.Outcome.TheVariants.{Status, Broken, NoContext}
+use Rattle.dr_ledger.specs.declared.item.Outcome.TheVariants.{Status, Broken, NoContext, Unreadable}
 use Rattle.dr_ledger.specs.declared.item.Progress.{Progress}
 use Rattle.dr_ledger.specs.declared.item.Progress.TheVariants.{Waiting, Held, Done, Dropped}
 use Rattle.dr_ledger.specs.Books.{Book, Line, Arrival, Repeat, Settling, Requeuing, Dropping, Forgetting, Adoption, after, row_after, tried, is_success, is_refused_for_now, Fold}
@@ -65,6 +65,7 @@ unfolding row_after
 settled_not_dropped tries (Status status) now = of_both (is_success status) (is_refused_for_now status) Done (tried tries now) (Held (cause.Status status)) (λ e. cc) (λ e. cc) (λ e. cc)
 settled_not_dropped tries Broken now = λ e. cc
 settled_not_dropped tries NoContext now = λ e. cc
+settled_not_dropped tries Unreadable now = λ e. cc
 
 retried : (tries now : ℕ) → row_after tries (Status 42752) now ≡ tried tries now
 unfolding row_after
@@ -78,8 +79,15 @@ pub broken_retried : (tries now : ℕ) → row_after tries Broken now ≡ tried 
 unfolding row_after
 broken_retried tries now = refl
 
+unreadable_held : (tries now : ℕ) → row_after tries Unreadable now ≡ Held cause.Unreadable
+unfolding row_after
+unreadable_held tries now = refl
+
 pub broken_not_done : Broken ≢ Status 0
 broken_not_done e = cc
+
+pub unreadable_not_done : Unreadable ≢ Status 0
+unreadable_not_done e = cc
 
 -- of the fair outcomes success alone is done
 pub done_only : (outcome : Outcome) → IsFairOutcome outcome → (tries now : ℕ) → row_after tries outcome now ≡ Done → outcome ≡ Status 0
@@ -92,6 +100,7 @@ done_only (Status status) fair tries now d = elim fair [
 ]
 done_only Broken fair tries now d = absurd (waiting_not_done _ _ (sym (broken_retried tries now) ∙ d))
 done_only NoContext fair tries now d = absurd fair
+done_only Unreadable fair tries now d = absurd (held_not_done _ (sym (unreadable_held tries now) ∙ d))
 
 -- of the fair statuses 0 alone is success
 pub fair_success : (status : ℕ) → IsFairStatus status → is_success status ≡ true → status ≡ 0

@@ -13,19 +13,19 @@ use Rattle.dr_plan_model.specs.Walks.{Accepts, IsReached}
 use Rattle.dr_plan_sound.specs.Soundness.{IsSound}
 use Rattle.dr_ledger.specs.declared.fault.LedgerFault.TheVariants as fault
 use Rattle.dr_ledger.specs.declared.item.Instance.{Instance}
-use Rattle.dr_ledger.specs.declared.item.Outcome.TheVariants.{Status, Broken}
+use Rattle.dr_ledger.specs.declared.item.Outcome.TheVariants.{Status, Broken, Unreadable}
 use Rattle.dr_ledger.specs.declared.item.Progress.TheVariants.{Waiting}
 use Rattle.dr_ledger.specs.Replies.{IsNext, store_status, Reply}
 use Rattle.dr_world_model.specs.Worlds.{World, Link, Contexts, Stage, Asking, Answering, Rejecting, Open, Storing, Replying, Gone, with_link, with_links, without_caller, at_stage}
 use Rattle.dr_world_model.specs.Calls.{Answer, Arriving, Settlement}
-use Rattle.dr_world_model.specs.Steps.{IsLink, AcceptsOffered, SettlesFirst, OpensLink, pending, SettlesPending, Leaves, LeavesIfOn, LeaveAll, callers_of, links_without, is_of, ReadsAnswer, Gives, Receives, ReadsReply}
-use Rattle.dr_world_model.specs.Events.{Event, Take, Ask, AgreeReceiver, AgreeCaller, Give, Receive, Answered, BreakCaller, BreakReceiver, Close, Restart, Requeue, Drop, Forget, Refuse, StayAway, Tick, Step}
+use Rattle.dr_world_model.specs.Steps.{IsLink, AcceptsOffered, SettlesFirst, OpensLink, pending, SettlesPending, Leaves, LeavesIfOn, LeaveAll, callers_of, links_without, is_of, ReadsAnswer, Gives, Receives, ReadsReply, PassesOver}
+use Rattle.dr_world_model.specs.Events.{Event, Take, Ask, AgreeReceiver, AgreeCaller, Give, PassOver, Receive, Answered, BreakCaller, BreakReceiver, Close, Restart, Requeue, Drop, Forget, Refuse, StayAway, Tick, Step}
 use Rattle.dr_world_model.specs.Claims.{HadArrival, IsFairStatus, CoversHop}
 use Rattle.dr_ledger.proofs.Maps.{got}
 use Rattle.dr_world_model.proofs.Lookups.{numbers}
 use Rattle.dr_world_model.proofs.Walking.{goes_reached}
 use Rattle.dr_world_model.proofs.Safety.{IsSent, IsFairStage, IsFairLink, IsSafe, WorldGrows, world_same, world_on, same_grows, source_still, stage_still, same_books, put_link}
-use Rattle.dr_world_model.proofs.CallsKept.{Kept, IsSuccess, one_item, broken_not_done, sent_of, unchanged, arriving_kept, settlement_kept, requeue_kept, giving_up_kept, forgetting_kept}
+use Rattle.dr_world_model.proofs.CallsKept.{Kept, IsSuccess, one_item, broken_not_done, sent_of, unchanged, arriving_kept, settlement_kept, requeue_kept, giving_up_kept, forgetting_kept, unreadable_not_done}
 
 -- the new world is safe, and what is kept and was acknowledged stays so
 pub record Lives (plan : Network) (old new : World) : Type 0 where
@@ -168,6 +168,12 @@ replied_kept plan w new number answer safe s =
     (λ e i u has. subst (HadArrival w link.receiver link.caller) (one_item w link.caller s.item i (sym u) (fair.2 s.on) has) (fair.4 (status_inside s.status 0 e))) s.call in
     subst (Lives plan w) (sym s.is) (then_link plan w s.mid number _ (lives plan w s.mid kept) fair.0)
 
+passes_kept : (plan : Network) (w new : World) (number : ℕ) (answer : Answer) → IsSafe plan w → PassesOver w number answer new → Lives plan w new
+passes_kept plan w new number answer safe s =
+    let kept = settlement_kept plan w safe s.link.caller s.item.uid s.link.receiver Unreadable answer s.mid tt (λ e. absurd (unreadable_not_done e)) s.call in
+    subst (Lives plan w) (sym s.is) (then_link plan w s.mid number (without_caller s.link) (lives plan w s.mid kept)
+    (off_fair plan s.mid s.link.caller s.link.receiver s.link.caller_connected s.link.stage (still_fair plan w s.mid number s.link s.at kept (safe.links number s.link s.at))))
+
 pending_kept : (plan : Network) (w new : World) (link : Link) (item : Option Instance) (answer : Option Answer) → IsSafe plan w → SettlesPending w link item answer new → Kept plan w new
 pending_kept plan w new link (Some item) (Some answer) safe s = broken_kept plan w new link.caller item.uid link.receiver answer safe s
 pending_kept plan w new link None None safe s = unchanged plan w safe new s
@@ -220,6 +226,7 @@ step_kept plan sound (AgreeReceiver number None) w new safe s = subst (Lives pla
 step_kept plan sound (AgreeCaller number answer) w new safe s = reads_kept plan w new number answer safe s
 step_kept plan sound (Give number answer) w new safe s = gives_kept plan w new number answer safe s
 step_kept plan sound (Receive number reply) w new safe s = receives_kept plan w new number reply safe s
+step_kept plan sound (PassOver number answer) w new safe s = passes_kept plan w new number answer safe s
 step_kept plan sound (Answered number answer) w new safe s = replied_kept plan w new number answer safe s
 step_kept plan sound (BreakCaller number answer) w new safe s = leaves_kept plan w new number answer safe s
 step_kept plan sound (BreakReceiver number) w new safe s = subst (Lives plan w) (sym s.is) (only_link plan w number _ safe (safe.links number s.link s.at))

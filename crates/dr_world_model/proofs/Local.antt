@@ -13,7 +13,7 @@ use Rattle.dr_ledger.proofs.Maps.{texts, same_or_not, got, get_other, cases_of}
 use Rattle.dr_world_model.specs.Worlds.{World, Link, same_text, with_link, without_caller}
 use Rattle.dr_world_model.specs.Calls.{Answer, StoreOutcome, CalledAt}
 use Rattle.dr_world_model.specs.Steps.{IsLink, SettlesFirst, OpensLink, pending, SettlesPending, Leaves, LeavesIfOn, LeaveAll, callers_of, is_of, links_without, Gives}
-use Rattle.dr_world_model.specs.Events.{Take, Ask, AgreeReceiver, AgreeCaller, Give, Receive, Answered, BreakCaller, BreakReceiver, Close, Restart, Requeue, Drop, Forget, Refuse, StayAway, Tick}
+use Rattle.dr_world_model.specs.Events.{Take, Ask, AgreeReceiver, AgreeCaller, Give, PassOver, Receive, Answered, BreakCaller, BreakReceiver, Close, Restart, Requeue, Drop, Forget, Refuse, StayAway, Tick}
 use Rattle.dr_world_model.specs.Pinning.{EventsAreLocal}
 use Rattle.dr_world_model.proofs.Lookups.{numbers}
 use Rattle.dr_world_model.proofs.Safety.{book_there}
@@ -174,6 +174,9 @@ events_are_local plan w v (Give number answer) s = gives_local w v number answer
 events_are_local plan w v (Receive number reply) s =
     let W : Text → Type 0 = λ n. (link : Link) × IsLink w number link × (link.receiver ≡ n) in
     then w s.mid v W (λ m. m ≡ number) (called_local _ w s.mid s.link.receiver _ s.call.book W (λ m. m ≡ number) s.call.called (s.link, s.at, refl)) (linked_local s.mid v number _ W (λ m. m ≡ number) s.is refl)
+events_are_local plan w v (PassOver number answer) s =
+    let W : Text → Type 0 = λ n. (link : Link) × IsLink w number link × (link.caller ≡ n) in
+    then w s.mid v W (λ m. m ≡ number) (called_local _ w s.mid s.link.caller _ s.call.book W (λ m. m ≡ number) s.call.called (s.link, s.at, refl)) (linked_local s.mid v number _ W (λ m. m ≡ number) s.is refl)
 events_are_local plan w v (Answered number answer) s =
     let W : Text → Type 0 = λ n. (link : Link) × IsLink w number link × (link.caller ≡ n) in
     then w s.mid v W (λ m. m ≡ number) (called_local _ w s.mid s.link.caller _ s.call.book W (λ m. m ≡ number) s.call.called (s.link, s.at, refl)) (linked_local s.mid v number _ W (λ m. m ≡ number) s.is refl)

@@ -7,12 +7,12 @@ use Rattle.dr_base.specs.Texts.{Text, text_cmp}
 use Rattle.dr_route.specs.Routes.{local}
 use Rattle.dr_plan_model.specs.Networks.{Network}
 use Rattle.dr_ledger.specs.declared.item.Instance.{Instance}
-use Rattle.dr_ledger.specs.declared.item.Outcome.TheVariants.{Status, Broken, NoContext}
+use Rattle.dr_ledger.specs.declared.item.Outcome.TheVariants.{Status, Broken, NoContext, Unreadable}
 use Rattle.dr_ledger.specs.Replies.{IsNext, store_status, Reply}
 use Rattle.dr_world_model.specs.Worlds.{World, Link, Contexts, Answering, Rejecting, Open, Storing, Replying, Gone, with_armed, with_link, with_links, without_caller, without_receiver, at_stage}
 use Rattle.dr_world_model.specs.Calls.{Answer, Arriving, Settlement}
-use Rattle.dr_world_model.specs.Steps.{IsLink, AnswersRequest, SettlesFirst, OpensLink, ReadsAnswer, after_settling, GivesItem, Gives, Receives, ReadsReply, pending, SettlesPending, Leaves, LeavesIfOn, LeaveAll, Closes, Restarts, callers_of, links_without}
-use Rattle.dr_world_model.specs.Events.{Event, Take, Ask, AgreeReceiver, AgreeCaller, Give, Receive, Answered, BreakCaller, BreakReceiver, Close, Restart, Requeue, Drop, Forget, Refuse, StayAway, Tick, Step}
+use Rattle.dr_world_model.specs.Steps.{IsLink, AnswersRequest, SettlesFirst, OpensLink, ReadsAnswer, after_settling, GivesItem, Gives, Receives, ReadsReply, pending, SettlesPending, Leaves, LeavesIfOn, LeaveAll, Closes, Restarts, callers_of, links_without, PassesOver}
+use Rattle.dr_world_model.specs.Events.{Event, Take, Ask, AgreeReceiver, AgreeCaller, Give, PassOver, Receive, Answered, BreakCaller, BreakReceiver, Close, Restart, Requeue, Drop, Forget, Refuse, StayAway, Tick, Step}
 use Rattle.dr_world_model.specs.Laws.{StepIsAFunction, AdoptionIsAFunction}
 use Rattle.dr_world_model.proofs.AdoptionsKept.{node_or_not}
 use Rattle.dr_world_model.proofs.OneReply.{next_same, Alike, same_alike, link_alike, alike_same, same_link, arriving_alike, settlement_alike, requeueing_alike, giving_up_alike, letting_go_alike}
@@ -120,6 +120,16 @@ module _ (w : World) where
       subst (λ v. Alike v b) (sym (p.is ∙ ap (λ t. with_link p.mid number (L t)) (λ j. (e j, f.0 j, f.1 j))))
       (subst (λ v. Alike (with_link p.mid number (L (q.link, q.accepted, q.item))) v) (sym q.is) (link_alike p.mid q.mid number (L (q.link, q.accepted, q.item)) mids))
 
+  passes_alike : (a b : World) (number : ℕ) (answer : Answer) → PassesOver w number answer a → PassesOver w number answer b → Alike a b
+  passes_alike a b number answer p q =
+      let e = same_link w number p.link q.link p.at q.at in
+      let N : Link → Type 0 = λ link. IsNext (w.books link.caller) link.receiver w.time p.item in
+      let g = next_same (w.books q.link.caller) q.link.receiver w.time p.item q.item (subst N e p.first) q.first in
+      let P : Link × Instance → Type 0 = λ t. Settlement w t.0.caller t.1.uid t.0.receiver Unreadable answer p.mid in
+      let mids = settlement_alike w w.armed p.mid q.mid q.link.caller q.item.uid q.link.receiver Unreadable answer (subst P (λ j. (e j, g j)) p.call) q.call in
+      subst (λ v. Alike v b) (sym (p.is ∙ ap (λ link. with_link p.mid number (without_caller link)) e))
+      (subst (λ v. Alike (with_link p.mid number (without_caller q.link)) v) (sym q.is) (link_alike p.mid q.mid number (without_caller q.link) mids))
+
   replied_alike : (a b : World) (number : ℕ) (answer : Answer) → ReadsReply w number answer a → ReadsReply w number answer b → Alike a b
   replied_alike a b number answer p q =
       let e = same_link w number p.link q.link p.at q.at in
@@ -176,6 +186,7 @@ step_alike plan w (AgreeReceiver number answer) a b p q = same_alike a b (answer
 step_alike plan w (AgreeCaller number answer) a b p q = reads_alike w a b number answer p q
 step_alike plan w (Give number answer) a b p q = gives_alike w a b number answer p q
 step_alike plan w (Receive number reply) a b p q = receives_alike w plan a b number reply p q
+step_alike plan w (PassOver number answer) a b p q = passes_alike w a b number answer p q
 step_alike plan w (Answered number answer) a b p q = replied_alike w a b number answer p q
 step_alike plan w (BreakCaller number answer) a b p q = leaves_alike w w.armed a b number answer p q
 step_alike plan w (BreakReceiver number) a b p q =

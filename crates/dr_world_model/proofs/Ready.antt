@@ -13,7 +13,7 @@ use Rattle.dr_plan_sound.proofs.Hopping.{reached_entry}
 use Rattle.dr_ledger.specs.declared.fault.LedgerFault.TheVariants as fault
 use Rattle.dr_ledger.specs.declared.item.Instance.{Instance}
 use Rattle.dr_ledger.specs.declared.item.Outcome.{Outcome}
-use Rattle.dr_ledger.specs.declared.item.Outcome.TheVariants.{Status, Broken, NoContext}
+use Rattle.dr_ledger.specs.declared.item.Outcome.TheVariants.{Status, Broken, NoContext, Unreadable}
 use Rattle.dr_ledger.specs.declared.item.Arrived.TheVariants.{Again}
 use Rattle.dr_ledger.specs.Books.{Book, Repeat, Settling, Requeuing, Dropping, Forgetting, after, empty_book}
 use Rattle.dr_ledger.specs.PlanRoutes.{plan_routing}
@@ -105,6 +105,22 @@ module _ (plan : Network) (w : World) where
             stage = stage;
             first = first;
             then = (lacks, (mid, settles w link.caller item.uid link.receiver NoContext writes (first.row.0.0, first.due, first.row.0.1), refl));
+          },
+        );
+    unreadable = λ number link accepted item on stage first writes.
+        let mid = settled w link.caller item.uid link.receiver Unreadable in (
+          with_link mid number (without_caller link),
+          record {
+            link = link;
+            accepted = accepted;
+            item = item;
+            at = on.0;
+            on = on.1;
+            stage = stage;
+            first = first;
+            mid = mid;
+            call = settles w link.caller item.uid link.receiver Unreadable writes (first.row.0.0, first.due, first.row.0.1);
+            is = refl;
           },
         );
     receive = λ number link accepted item on stage writes admitted none.
@@ -213,6 +229,21 @@ module _ (plan : Network) (w : World) where
         mid = unwritten link.caller;
         broken = (let P : Option Instance → Type 0 = λ o. SettlesPending w link o (Some (Err fault.Store)) (unwritten link.caller) in
             subst P (sym waiting) (unsettled link.caller item.uid link.receiver Broken));
+        is = refl;
+      },
+    );
+    unreadable = λ number link accepted item on stage first. (
+      with_link (unwritten link.caller) number (without_caller link),
+      record {
+        link = link;
+        accepted = accepted;
+        item = item;
+        at = on.0;
+        on = on.1;
+        stage = stage;
+        first = first;
+        mid = unwritten link.caller;
+        call = unsettled link.caller item.uid link.receiver Unreadable;
         is = refl;
       },
     );

@@ -9,7 +9,7 @@ use Rattle.dr_route.specs.Routes.{local}
 use Rattle.dr_plan_model.specs.Networks.{Network}
 use Rattle.dr_ledger.specs.declared.item.Instance.{Instance}
 use Rattle.dr_ledger.specs.declared.item.Outcome.{Outcome}
-use Rattle.dr_ledger.specs.declared.item.Outcome.TheVariants.{Status, Broken, NoContext}
+use Rattle.dr_ledger.specs.declared.item.Outcome.TheVariants.{Status, Broken, NoContext, Unreadable}
 use Rattle.dr_ledger.proofs.Maps.{get_new}
 use Rattle.dr_world_model.proofs.Lookups.{numbers}
 use Rattle.dr_world_model.proofs.OneReply.{same_link}
@@ -17,7 +17,7 @@ use Rattle.dr_world_model.specs.Worlds.{World, Link, with_link, with_links, with
 use Rattle.dr_world_model.specs.Calls.{Answer, Arriving, Settlement, Requeueing, GivingUp, LettingGo}
 use Rattle.dr_ledger.specs.Replies.{Reply}
 use Rattle.dr_world_model.specs.Steps.{IsHop, IsLink, SettlesFirst, OpensLink, pending, SettlesPending, Leaves, LeavesIfOn, LeaveAll, callers_of, links_without, asked, passed, Gives}
-use Rattle.dr_world_model.specs.Events.{HasNode, Event, Take, Ask, AgreeReceiver, AgreeCaller, Give, Receive, Answered, BreakCaller, BreakReceiver, Close, Restart, Requeue, Drop, Forget, Refuse, StayAway, Tick, Step}
+use Rattle.dr_world_model.specs.Events.{HasNode, Event, Take, Ask, AgreeReceiver, AgreeCaller, Give, PassOver, Receive, Answered, BreakCaller, BreakReceiver, Close, Restart, Requeue, Drop, Forget, Refuse, StayAway, Tick, Step}
 
 -- P is kept by what events are made of
 pub record Closed (plan : Network) (P : World → Type 0) : Type 0 where
@@ -106,6 +106,8 @@ module _ (plan : Network) (P : World → Type 0) (closed : Closed plan P) where
   step_keeps w (Give number answer) v s p = gives w v number answer s p
   step_keeps w (Receive number reply) v s p =
       simply s.mid v number s.link _ (refl, refl) s.is (ap (λ (u : World). map.get u.links number) s.call.called.is ∙ s.at) (closed.arriving w s.mid s.link.receiver s.link.caller s.item reply s.call p)
+  step_keeps w (PassOver number answer) v s p =
+      changed s.mid v number s.link _ (refl, refl) s.is (by_settling w s.mid s.link.caller s.item.uid s.link.receiver Unreadable answer number s.link s.call s.at p)
   step_keeps w (Answered number answer) v s p =
       changed s.mid v number s.link _ (refl, refl) s.is (by_settling w s.mid s.link.caller s.item.uid s.link.receiver (Status s.status) answer number s.link s.call s.at p)
   step_keeps w (BreakCaller number answer) v s p = leaves w v number answer s p

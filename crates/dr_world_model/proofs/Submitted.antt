@@ -13,7 +13,7 @@ use Rattle.dr_ledger.specs.declared.fault.LedgerFault.TheVariants as fault
 use Rattle.dr_ledger.specs.declared.item.Arrived.TheVariants.{New, Again}
 use Rattle.dr_ledger.specs.declared.item.Instance.{Instance}
 use Rattle.dr_ledger.specs.declared.item.Outcome.{Outcome}
-use Rattle.dr_ledger.specs.declared.item.Outcome.TheVariants.{Status, Broken, NoContext}
+use Rattle.dr_ledger.specs.declared.item.Outcome.TheVariants.{Status, Broken, NoContext, Unreadable}
 use Rattle.dr_ledger.specs.Books.{Book}
 use Rattle.dr_ledger.specs.Items.{instance_of}
 use Rattle.dr_ledger.specs.Replies.{Arrives, Requeues, Drops, Forgets, Settles, Reply}
@@ -23,7 +23,7 @@ use Rattle.dr_ledger.proofs.Needs.{one_instance_is_one_item}
 use Rattle.dr_world_model.specs.Worlds.{World, Link, start, with_link}
 use Rattle.dr_world_model.specs.Calls.{Answer, StoreOutcome, CalledAt, Arriving, Settlement}
 use Rattle.dr_world_model.specs.Steps.{IsLink, SettlesFirst, OpensLink, pending, SettlesPending, Leaves, LeavesIfOn, LeaveAll, callers_of, Gives}
-use Rattle.dr_world_model.specs.Events.{Event, Take, Ask, AgreeReceiver, AgreeCaller, Give, Receive, Answered, BreakCaller, BreakReceiver, Close, Restart, Requeue, Drop, Forget, Refuse, StayAway, Tick, Step}
+use Rattle.dr_world_model.specs.Events.{Event, Take, Ask, AgreeReceiver, AgreeCaller, Give, PassOver, Receive, Answered, BreakCaller, BreakReceiver, Close, Restart, Requeue, Drop, Forget, Refuse, StayAway, Tick, Step}
 use Rattle.dr_world_model.specs.Runs.{Adopts, Action, Occurs, Adopt, Runs}
 use Rattle.dr_world_model.specs.Unchanged.{IsSubmitted, NothingIsMadeUp, WasSubmitted, WhatIsThereIsUnchanged}
 use Rattle.dr_ledger.proofs.Forgotten.{item_left}
@@ -202,6 +202,8 @@ module _ (T : Instance → Type 0) where
     where
       some_is : (a b : Instance) → Some a ≡ Some b → a ≡ b
       some_is a b e = cc
+  step_known plan w (PassOver number answer) v s t k =
+      as_before s.mid v number s.link _ s.is refl (by_settling w s.mid s.link.caller s.item.uid s.link.receiver Unreadable answer number s.link s.call s.at k)
   step_known plan w (Answered number answer) v s t k =
       emptied s.mid v number _ s.is refl (settling w s.mid s.link.caller s.item.uid s.link.receiver (Status s.status) answer s.call k)
   step_known plan w (BreakCaller number answer) v s t k = leaves w v number answer s k

@@ -22,7 +22,8 @@ use Rattle.dr_world_model.specs.Worlds.{Open, Storing, Replying, start, with_lin
 use Rattle.dr_world_model.specs.Worlds.{at_stage}
 use Rattle.dr_world_model.specs.Steps.{IsLink, asked}
 use Rattle.dr_world_model.specs.Events.{Event, Take, Ask, AgreeReceiver, AgreeCaller, Give, Receive}
-use Rattle.dr_world_model.specs.Events.{Answered, BreakCaller, BreakReceiver, Close, Restart}
+use Rattle.dr_world_model.specs.Events.{Answered, BreakCaller, BreakReceiver, Close, PassOver}
+use Rattle.dr_world_model.specs.Events.{Restart}
 use Rattle.dr_world_model.specs.Events.{Requeue, Drop, Forget, Refuse, StayAway, Tick, HasNode}
 use Rattle.dr_world_model.specs.Events.{Step}
 use Rattle.dr_world_model.specs.Runs.{IsAdoptable, Action, Occurs, Adopt, Runs}
@@ -47,6 +48,7 @@ ArrivesAtOurs ours w (Ask caller receiver) = Unit {0}
 ArrivesAtOurs ours w (AgreeReceiver link answer) = Unit {0}
 ArrivesAtOurs ours w (AgreeCaller link answer) = Unit {0}
 ArrivesAtOurs ours w (Give link answer) = Unit {0}
+ArrivesAtOurs ours w (PassOver link answer) = Unit {0}
 ArrivesAtOurs ours w (Answered link answer) = Unit {0}
 ArrivesAtOurs ours w (BreakCaller link answer) = Unit {0}
 ArrivesAtOurs ours w (BreakReceiver link) = Unit {0}

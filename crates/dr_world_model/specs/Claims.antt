@@ -12,7 +12,7 @@ use Rattle.dr_plan_model.specs.Walks.{Sends, IsWalk, last_place, GoesOver, IsDes
 use Rattle.dr_plan_sound.specs.Soundness.{IsRank}
 use Rattle.dr_ledger.specs.declared.item.Instance.{Instance}
 use Rattle.dr_ledger.specs.declared.item.Outcome.{Outcome}
-use Rattle.dr_ledger.specs.declared.item.Outcome.TheVariants.{Status, Broken, NoContext}
+use Rattle.dr_ledger.specs.declared.item.Outcome.TheVariants.{Status, Broken, NoContext, Unreadable}
 use Rattle.dr_ledger.specs.declared.item.Progress.{Progress}
 use Rattle.dr_ledger.specs.declared.item.Progress.TheVariants.{Done}
 use Rattle.dr_ledger.specs.Books.{Book, Line, Arrival, Repeat, Settling, Requeuing, Dropping}
@@ -64,11 +64,13 @@ pub record HasItems (w : World) : Type 0 where
 abbrev pub IsFairStatus : ℕ → Type 0
 IsFairStatus status = (status ≡ 0) ⊎ ((status ≡ 0xA700) ⊎ (status ≡ 0xC0F1))
 
--- the outcome of a try is fair: a fair status, or no answer; want of a presentation context is not
+-- the outcome of a try is fair: a fair status, no answer, or a data set that can't be read; want of
+-- a presentation context is not
 abbrev pub IsFairOutcome : Outcome → Type 0
 IsFairOutcome (Status status) = IsFairStatus status
 IsFairOutcome Broken = Unit {0}
 IsFairOutcome NoContext = ⊥
+IsFairOutcome Unreadable = Unit {0}
 
 -- each settling of a journal has a fair outcome; other lines have none
 abbrev pub IsFairLine : Line → Type 0

@@ -13,7 +13,7 @@ use Rattle.dr_world_model.specs.Calls.{Answer, Arriving, Requeueing, GivingUp, L
 use Rattle.dr_ledger.specs.Replies.{Reply}
 use Rattle.dr_world_model.specs.Steps.{IsHop, asked, AnswersRequest, ReadsAnswer, Gives, Receives}
 use Rattle.dr_world_model.specs.Steps.{ReadsReply, Leaves, ReceiverDrops, Closes, Restarts}
-use Rattle.dr_world_model.specs.Steps.{NoneIsPending, StaysAway, passed}
+use Rattle.dr_world_model.specs.Steps.{NoneIsPending, PassesOver, StaysAway, passed}
 
 -- `None` in place of an answer: nothing was settled.
 pub data Event : Type 0 where
@@ -23,6 +23,8 @@ pub data Event : Type 0 where
   AgreeReceiver : (link : ℕ) → (answer : Option Contexts) → Event
   AgreeCaller : (link : ℕ) → (answer : Option Answer) → Event  -- the first reads what was answered
   Give : (link : ℕ) → (answer : Option Answer) → Event  -- it sends the first row that is due
+  -- its data set can't be read: it is passed over, and the first disconnects
+  PassOver : (link : ℕ) → (answer : Answer) → Event
   Receive : (link : ℕ) → (reply : Reply) → Event  -- the other takes it
   Answered : (link : ℕ) → (answer : Answer) → Event  -- the first reads the response
   BreakCaller : (link : ℕ) → (answer : Option Answer) → Event  -- a side disconnects
@@ -55,6 +57,7 @@ Step plan old (Ask caller receiver) new =
 Step plan old (AgreeReceiver link answer) new = AnswersRequest plan old link answer new
 Step plan old (AgreeCaller link answer) new = ReadsAnswer old link answer new
 Step plan old (Give link answer) new = Gives old link answer new
+Step plan old (PassOver link answer) new = PassesOver old link answer new
 Step plan old (Receive link reply) new = Receives plan old link reply new
 Step plan old (Answered link answer) new = ReadsReply old link answer new
 Step plan old (BreakCaller link answer) new = Leaves old link answer new

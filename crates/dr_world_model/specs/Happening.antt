@@ -18,7 +18,8 @@ use Rattle.dr_world_model.specs.Calls.{Answer}
 use Rattle.dr_world_model.specs.Steps.{IsHop, IsLink, AcceptsOffered, NoneIsPending, others}
 use Rattle.dr_world_model.specs.Steps.{pending}
 use Rattle.dr_world_model.specs.Events.{Event, Take, Ask, AgreeReceiver, AgreeCaller, Give, Receive}
-use Rattle.dr_world_model.specs.Events.{Answered, BreakCaller, BreakReceiver, Close, Restart}
+use Rattle.dr_world_model.specs.Events.{Answered, BreakCaller, BreakReceiver, Close, PassOver}
+use Rattle.dr_world_model.specs.Events.{Restart}
 use Rattle.dr_world_model.specs.Events.{Requeue, Drop, Forget, Refuse, StayAway, Tick}
 use Rattle.dr_world_model.specs.Events.{HasNode, Step}
 use Rattle.dr_world_model.specs.Runs.{IsAdoptable, MayAdopt, Adopts, Occurs, Adopt, Runs}
@@ -96,7 +97,8 @@ pub record OpeningsHappen (plan : Network) (w : World) : Type 0 where
       → ((item : Instance) → IsNext (w.books link.caller) link.receiver w.time item → ⊥)
       → CanHappen plan w (AgreeCaller number None)
 
--- over an open link the first row that is due can go over, be taken or refused, and be settled
+-- over an open link the first row that is due can go over, be taken or refused, and be settled,
+-- also where it can't be read
 pub record StoresHappen (plan : Network) (w : World) : Type 0 where
   pub give : (number : ℕ) (link : Link) (accepted : Contexts) (item : Instance)
       → IsCallers w number link
@@ -111,6 +113,12 @@ pub record StoresHappen (plan : Network) (w : World) : Type 0 where
       → set.contains accepted (item.key.class, item.key.syntax) ≡ false
       → Writes w link.caller
       → CanHappen plan w (Give number (Some (Ok tt)))
+  pub unreadable : (number : ℕ) (link : Link) (accepted : Contexts) (item : Instance)
+      → IsCallers w number link
+      → link.stage ≡ Open accepted
+      → IsNext (w.books link.caller) link.receiver w.time item
+      → Writes w link.caller
+      → CanHappen plan w (PassOver number (Ok tt))
   pub receive : (number : ℕ) (link : Link) (accepted : Contexts) (item : Instance)
       → IsReceivers w number link
       → link.stage ≡ Storing accepted item
@@ -165,6 +173,11 @@ pub record RefusalsHappen (plan : Network) (w : World) : Type 0 where
       → IsCallers w number link
       → pending link.stage ≡ Some item
       → CanHappen plan w (BreakCaller number (Some (Err fault.Store)))
+  pub unreadable : (number : ℕ) (link : Link) (accepted : Contexts) (item : Instance)
+      → IsCallers w number link
+      → link.stage ≡ Open accepted
+      → IsNext (w.books link.caller) link.receiver w.time item
+      → CanHappen plan w (PassOver number (Err fault.Store))
   pub away : (node uid dest : Text) → HasNode plan node
       → CanHappen plan w (StayAway node uid dest (Err fault.Store))
   pub requeue : (node uid dest : Text) → HasNode plan node

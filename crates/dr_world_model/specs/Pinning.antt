@@ -18,7 +18,8 @@ use Rattle.dr_world_model.specs.Steps.{IsLink, AnswersRequest, ReadsAnswer, Rece
 use Rattle.dr_world_model.specs.Steps.{ReceiverDrops, Closes, Restarts, others, others_of}
 use Rattle.dr_world_model.specs.Steps.{callers_of}
 use Rattle.dr_world_model.specs.Events.{Event, Take, Ask, AgreeReceiver, AgreeCaller, Give, Receive}
-use Rattle.dr_world_model.specs.Events.{Answered, BreakCaller, BreakReceiver, Close, Restart}
+use Rattle.dr_world_model.specs.Events.{Answered, BreakCaller, BreakReceiver, Close, PassOver}
+use Rattle.dr_world_model.specs.Events.{Restart}
 use Rattle.dr_world_model.specs.Events.{Requeue, Drop, Forget, Refuse, StayAway, Tick, Step}
 use Rattle.dr_world_model.specs.Claims.{HasRow}
 use Rattle.dr_world_model.specs.Endings.{IsUnderWay}
@@ -42,6 +43,7 @@ WritesAt w (AgreeReceiver link answer) name = ⊥
 WritesAt w (AgreeCaller link answer) name = IsCallerOf w link name
 WritesAt w (Give link answer) name = IsCallerOf w link name
 WritesAt w (Receive link reply) name = IsReceiverOf w link name
+WritesAt w (PassOver link answer) name = IsCallerOf w link name
 WritesAt w (Answered link answer) name = IsCallerOf w link name
 WritesAt w (BreakCaller link answer) name = IsCallerOf w link name
 WritesAt w (BreakReceiver link) name = ⊥
@@ -64,6 +66,7 @@ Touches w (AgreeReceiver link answer) number = number ≡ link
 Touches w (AgreeCaller link answer) number = number ≡ link
 Touches w (Give link answer) number = number ≡ link
 Touches w (Receive link reply) number = number ≡ link
+Touches w (PassOver link answer) number = number ≡ link
 Touches w (Answered link answer) number = number ≡ link
 Touches w (BreakCaller link answer) number = number ≡ link
 Touches w (BreakReceiver link) number = number ≡ link

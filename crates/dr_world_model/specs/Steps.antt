@@ -12,7 +12,7 @@ use Rattle.dr_plan_model.specs.Networks.{Network}
 use Rattle.dr_plan_model.specs.Walks.{Accepts, Goes, GoesOver}
 use Rattle.dr_ledger.specs.declared.item.Instance.{Instance}
 use Rattle.dr_ledger.specs.declared.fault.LedgerFault.TheVariants as fault
-use Rattle.dr_ledger.specs.declared.item.Outcome.TheVariants.{Status, Broken, NoContext}
+use Rattle.dr_ledger.specs.declared.item.Outcome.TheVariants.{Status, Broken, NoContext, Unreadable}
 use Rattle.dr_ledger.specs.Replies.{IsNext, store_status, Reply}
 use Rattle.dr_world_model.specs.Worlds.{World, Link, Contexts, Stage, Asking, Answering, Rejecting}
 use Rattle.dr_world_model.specs.Worlds.{Open, Storing, Replying, Gone, same_text, with_link}
@@ -184,6 +184,20 @@ pub record Gives (old : World) (number : ℕ) (reply : Option Answer) (new : Wor
   pub stage : link.stage ≡ Open accepted
   pub first : IsNext (old.books link.caller) link.receiver old.time item
   pub then : GivesItem old number link accepted item reply new
+
+-- The caller of an open link finds that the first row that is due can't be read: it is settled so,
+-- nothing goes over, and the caller disconnects, whatever its book answers.
+pub record PassesOver (old : World) (number : ℕ) (answer : Answer) (new : World) : Type 0 where
+  pub link : Link
+  pub accepted : Contexts
+  pub item : Instance
+  pub at : IsLink old number link
+  pub on : link.caller_connected ≡ true
+  pub stage : link.stage ≡ Open accepted
+  pub first : IsNext (old.books link.caller) link.receiver old.time item
+  pub mid : World
+  pub call : Settlement old link.caller item.uid link.receiver Unreadable answer mid
+  pub is : new ≡ with_link mid number (without_caller link)
 
 -- the receiver takes the instance, and its reply is under way
 pub record Receives (plan : Network) (old : World) (number : ℕ) (reply : Reply)

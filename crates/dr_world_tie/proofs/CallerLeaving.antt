@@ -190,6 +190,26 @@ module _ (plan : Network) (certificate : Certificate) (w : World) (number : ℕ)
   middle None (Some answer) h = absurd h
   middle (Some item) None h = absurd h
 
+  -- the channel of a caller that left, by what it wrote then
+  pub off_shown : (pdus : List Pdu) → x.core.site ≡ k.caller.core.site → x.core.peer ≡ k.caller.core.peer → x.core.proposed ≡ k.caller.core.proposed
+      → IsOff x.core true → bytes_of x.acts ≡ spellings pdus → AllByRecursion IsControl pdus → AreFit k.receiver.ear.limit pdus
+      → ShowsLink plan certificate (caller_as k wire ear x) (without_caller link)
+  off_shown pdus site peer proposed off bytes control fits = record {
+    hop = shows.hop;
+    from = subst (λ (p : Option Part). IsPartOf plan certificate (site_in p) × ((site_in p).name ≡ link.caller) × (ear.limit ≡ (site_in p).max_pdu) × (p ≡ Some (site_in p))) (sym site) (shows.from.0, shows.from.1, limit ∙ shows.from.2, shows.from.3);
+    to = shows.to;
+    peer = peer ∙ shows.peer;
+    caller_agrees = λ o. absurd (false≢true o);
+    receiver_agrees = λ o. (let A : Option Part → Type 0 = λ p. AgreesOn (site_in p) (site_of k.receiver.core) (site_in p).max_pdu k.receiver.core in subst A (sym site) (shows.receiver_agrees o));
+    caller = off;
+    receiver = shows.receiver;
+    to_receiver = λ o. subst (λ (l : List ℕ). Carries k.receiver (k.to_receiver ++ l) (ToReceiver link.stage link.receiver x.core k.receiver.core) false) (sym bytes)
+        (carries_map k.receiver (k.to_receiver ++ spellings pdus) (ToReceiver link.stage link.receiver k.caller.core k.receiver.core) (ToReceiver link.stage link.receiver x.core k.receiver.core) false
+        (λ l h. still_coming link.stage link.receiver k.caller.core x.core k.receiver.core l proposed site off.0 h)
+        (carries_more k.receiver k.to_receiver (ToReceiver link.stage link.receiver k.caller.core k.receiver.core) link.caller_connected (shows.to_receiver o) pdus control fits));
+    to_caller = λ o. absurd (false≢true o);
+  }
+
   pub caller_gone : (answer : Option Answer) (pdus : List Pdu) → Does plan link.caller k.caller.core w.time (pending_of link.stage) answer s t → x.core.site ≡ k.caller.core.site → x.core.peer ≡ k.caller.core.peer → x.core.proposed ≡ k.caller.core.proposed
       → IsOff x.core true → bytes_of x.acts ≡ spellings pdus → AllByRecursion IsControl pdus → AreFit k.receiver.ear.limit pdus
       → Happens plan certificate w number (BreakCaller number answer) link.caller t (caller_as k wire ear x)
@@ -207,21 +227,7 @@ module _ (plan : Network) (certificate : Certificate) (w : World) (number : ℕ)
           armed = m.armed;
           rest = m.rest;
         };
-        shows = record {
-          hop = shows.hop;
-          from = subst (λ (p : Option Part). IsPartOf plan certificate (site_in p) × ((site_in p).name ≡ link.caller) × (ear.limit ≡ (site_in p).max_pdu) × (p ≡ Some (site_in p))) (sym site) (shows.from.0, shows.from.1, limit ∙ shows.from.2, shows.from.3);
-          to = shows.to;
-          peer = peer ∙ shows.peer;
-          caller_agrees = λ o. absurd (false≢true o);
-          receiver_agrees = λ o. (let A : Option Part → Type 0 = λ p. AgreesOn (site_in p) (site_of k.receiver.core) (site_in p).max_pdu k.receiver.core in subst A (sym site) (shows.receiver_agrees o));
-          caller = off;
-          receiver = shows.receiver;
-          to_receiver = λ o. subst (λ (l : List ℕ). Carries k.receiver (k.to_receiver ++ l) (ToReceiver link.stage link.receiver x.core k.receiver.core) false) (sym bytes)
-              (carries_map k.receiver (k.to_receiver ++ spellings pdus) (ToReceiver link.stage link.receiver k.caller.core k.receiver.core) (ToReceiver link.stage link.receiver x.core k.receiver.core) false
-              (λ l h. still_coming link.stage link.receiver k.caller.core x.core k.receiver.core l proposed site off.0 h)
-              (carries_more k.receiver k.to_receiver (ToReceiver link.stage link.receiver k.caller.core k.receiver.core) link.caller_connected (shows.to_receiver o) pdus control fits));
-          to_caller = λ o. absurd (false≢true o);
-        };
+        shows = off_shown pdus site peer proposed off bytes control fits;
       })
 
   abbrev cstep : Desk → DeskCall → DeskAnswer → Desk → Type 0

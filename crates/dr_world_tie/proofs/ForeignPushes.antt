@@ -25,9 +25,10 @@ use Rattle.dr_dimse.specs.declared.message.Awaited.{Awaited}
 use Rattle.dr_dimse.specs.declared.message.Awaited.TheVariants.{AnswerTo, Nothing as NothingAwaited}
 use Rattle.dr_dimse.specs.Taking.{MessageStage as Taken, Idle, InCommand, InData, data_of, let_go}
 use Rattle.dr_ledger.specs.declared.content.Job.{Job}
+use Rattle.dr_ledger.specs.declared.content.NextRow.TheVariants as nextrow
 use Rattle.dr_ledger.specs.declared.fault.LedgerFault.TheVariants as fault
 use Rattle.dr_ledger.specs.declared.item.Instance.{Instance}
-use Rattle.dr_ledger.specs.declared.item.Outcome.TheVariants.{NoContext}
+use Rattle.dr_ledger.specs.declared.item.Outcome.TheVariants.{NoContext, Unreadable}
 use Rattle.dr_ledger.specs.Books.{Book}
 use Rattle.dr_ledger.specs.Items.{instance_of}
 use Rattle.dr_ledger.specs.Replies.{IsNext}
@@ -45,7 +46,8 @@ use Rattle.dr_session.specs.Desks.{DeskCall, DeskAnswer, Next, Settle, Arrival, 
 use Rattle.dr_session.specs.Desks.{Settling}
 use Rattle.dr_session.specs.Ledgers.{Hands}
 use Rattle.dr_session.specs.Plays.{Reacts, at_moment, without_data}
-use Rattle.dr_session.specs.Reactions.{can_be_named, aborted, aborts_desk, abort_pdu, awaiting}
+use Rattle.dr_session.specs.Reactions.{can_be_named, aborted, aborts_desk, aborts_idle}
+use Rattle.dr_session.specs.Reactions.{abort_pdu, awaiting, passes_over}
 use Rattle.dr_session.specs.Reactions.{desk_failed, dried, due, gives, gives_in, id_after, is_free}
 use Rattle.dr_session.specs.Reactions.{is_idle, is_requestor, job, left, quiet, settling}
 use Rattle.dr_session.specs.Reactions.{stepped_by, store_pdus, storing, effect, write}
@@ -64,7 +66,8 @@ use Rattle.dr_world_tie.specs.Channels.{LiveTerminal, IsAt, IsOff, IsSideOf, byt
 use Rattle.dr_world_tie.specs.Ties.{IsDeskOf}
 use Rattle.dr_world_tie.specs.Foreign.{StandsAt, ShowsForeign, WritesControls}
 use Rattle.dr_world_tie.specs.ForeignCalls.{GoesOnAwaited, CallsAt, IsCallOf, CallsIn, LeadsTo}
-use Rattle.dr_world_tie.specs.ForeignCalls.{Pushed, Kept, Gave, Broke, acts_of_push, Sends}
+use Rattle.dr_world_tie.specs.ForeignCalls.{Pushed, Kept, Gave, Passed, Broke, acts_of_push}
+use Rattle.dr_world_tie.specs.ForeignCalls.{Sends}
 use Rattle.dr_world_tie.specs.ForeignCalls.{OnePushComes, RequestorsBegin, LettingGoIsNothing}
 use Rattle.dr_world_tie.proofs.Acceptors.{side_is, no_event, acts_as, as_plain}
 use Rattle.dr_world_tie.proofs.ContextSets.{has_context, from_context}
@@ -184,6 +187,13 @@ module _ (ours : Ours) (plan : Network) (certificate : Certificate) (w : World) 
 
       abbrev failed_core : Core
       failed_core = desk_failed (aborted (left (stepped_by AbortRequest moment.now core)))
+
+      abbrev idle_core : Core
+      idle_core = aborted (left (stepped_by AbortRequest moment.now core))
+
+      off_idle : IsOff idle_core true
+      off_idle =
+          (refl, inr (inr (moved (moved at.0 Sta6 moment.now) Sta13 moment.now, refl, at.2, refl)))
 
       off_failed : IsOff failed_core true
       off_failed =
@@ -390,6 +400,127 @@ module _ (ours : Ours) (plan : Network) (certificate : Certificate) (w : World) 
         | inr is_not ↦ is_not
       ]
 
+      -- ---- a data set that can't be read
+
+      abbrev Passes : Answer → Effect → Type 0
+      Passes (Ok r) y = y ≡ effect (write (abort_pdu 0 0 ∷ []) ∷ []) idle_core
+      Passes (Err fault.NotWaiting) y = y ≡ effect (write (abort_pdu 0 0 ∷ []) ∷ []) idle_core
+      Passes (Err fault.Store) y = y ≡ effect (write (abort_pdu 0 0 ∷ []) ∷ []) failed_core
+      Passes (Err why) y = ⊥
+
+      by_passing : (uid : Text) (m : Desk) (a : DeskAnswer)
+          → pstep s (Settle uid core.peer Unreadable moment.now) a m
+          → Turns pstep (settling (aborts_idle moment core) (aborts_desk moment core) a) m x t
+          → (answer : Answer)
+          × pstep s (Settle uid core.peer Unreadable moment.now) (Settling answer) t
+          × Passes answer x
+      by_passing uid m (Settling (Ok r)) one (e, same) = (
+        Ok r,
+        subst
+            (λ (d : Desk). pstep s (Settle uid core.peer Unreadable moment.now) (Settling (Ok r)) d)
+            (sym same) one,
+        e,
+      )
+      by_passing uid m (Settling (Err fault.NotWaiting)) one (e, same) = (
+        Err fault.NotWaiting,
+        subst
+            (λ (d : Desk).
+            pstep s (Settle uid core.peer Unreadable moment.now) (Settling (Err fault.NotWaiting)) d)
+            (sym same) one,
+        e,
+      )
+      by_passing uid m (Settling (Err fault.Store)) one (e, same) = (
+        Err fault.Store,
+        subst
+            (λ (d : Desk).
+            pstep s (Settle uid core.peer Unreadable moment.now) (Settling (Err fault.Store)) d)
+            (sym same) one,
+        e,
+      )
+      by_passing uid m (Settling (Err fault.Memory)) one q = absurd q
+      by_passing uid m (Settling (Err fault.NoLine)) one q = absurd one.0
+      by_passing uid m (Settling (Err fault.Conflict)) one q = absurd one.0
+      by_passing uid m (Settling (Err fault.NotHeld)) one q = absurd one.0
+      by_passing uid m (Settling (Err fault.NotOver)) one q = absurd one.0
+      by_passing uid m (Arrival r) one q = absurd one
+      by_passing uid m (Upcoming d) one q = absurd one
+      by_passing uid m (First d) one q = absurd one
+
+      -- it was settled so, and the end left
+      passed_by : (item : Instance)
+          → IsNext (w.books node) link.receiver w.time item
+          → (answer : Answer)
+          → pstep s (Settle item.uid k.core.peer Unreadable moment.now) (Settling answer) t
+          → (c : Core)
+          → x ≡ effect (write (abort_pdu 0 0 ∷ []) ∷ []) c
+          → c.site ≡ k.core.site
+          → c.peer ≡ k.core.peer
+          → IsOff c true → PushedSome
+      passed_by item first answer call c e site peers off =
+          let st : Settled w link item.uid Unreadable answer t = settled plan w link k.core.peer
+          item.uid Unreadable moment.now answer s t desk peer time call in
+          let after : Link = without_caller link in
+          let v : World = with_link st.mid number after in (
+            Passed answer,
+            v,
+            record {
+              runs = (
+                tt,
+                (
+                  v,
+                  record {
+                    link = link;
+                    accepted = accepted;
+                    item = item;
+                    at = here;
+                    on = on;
+                    stage = is_open;
+                    first = first;
+                    mid = st.mid;
+                    call = st.settles;
+                    is = refl;
+                  },
+                  (refl, refl),
+                ),
+              );
+              only = record {
+                books = st.books;
+                links = λ other apart. (only_link st.mid number after node).links other (λ q.
+                    apart (ap (λ (n : ℕ). Some n) (sym q)))
+                    ∙ ap (λ (l : _). map_of.get l other) st.links;
+                armed = st.armed;
+                rest = (st.rest.0, st.rest.1);
+                opened = (let e : v.opened ≡ w.opened = st.rest.2 in omega (arith, e));
+              };
+            },
+            (
+              abort_pdu 0 0 ∷ [],
+              ap (λ (y : Effect). bytes_of y.acts) e ∙ append-nil (spellings (abort_pdu 0 0 ∷ [])),
+              (tt, tt),
+            ),
+            calls_in v after (get_new numbers st.mid.links number after) st.desk_is refl refl
+                (λ q. absurd (false≢true q)) (ap (λ (y : Effect). y.core.site) e ∙ site)
+                (ap (λ (y : Effect). y.core.peer) e ∙ peers)
+                (subst (λ (y : Effect). IsOff y.core true) (sym e) off),
+          )
+
+      passed_as : (item : Instance)
+          → IsNext (w.books node) link.receiver w.time item
+          → (answer : Answer)
+          → pstep s (Settle item.uid k.core.peer Unreadable moment.now) (Settling answer) t
+          → Passes answer x → PushedSome
+      passed_as item first (Ok r) call e =
+          passed_by item first (Ok r) call idle_core e refl refl off_idle
+      passed_as item first (Err fault.NotWaiting) call e =
+          passed_by item first (Err fault.NotWaiting) call idle_core e refl refl off_idle
+      passed_as item first (Err fault.Store) call e =
+          passed_by item first (Err fault.Store) call failed_core e refl refl off_failed
+      passed_as item first (Err fault.Memory) call e = absurd e
+      passed_as item first (Err fault.NoLine) call e = absurd e
+      passed_as item first (Err fault.Conflict) call e = absurd e
+      passed_as item first (Err fault.NotHeld) call e = absurd e
+      passed_as item first (Err fault.NotOver) call e = absurd e
+
       -- ---- a store
 
       has_it : (class : Text) (syntax : Syntax) (context : ℕ)
@@ -469,7 +600,7 @@ module _ (ours : Ours) (plan : Network) (certificate : Certificate) (w : World) 
           )
 
       by_context : (one : Job)
-          → Hands s.book k.core.peer moment.now (Some one)
+          → Hands s.book k.core.peer moment.now (Some (nextrow.Whole one))
           → (o : Option ℕ)
           → context_for agreed one.key.class (syntax_uid one.key.syntax) ≡ o
           → Turns pstep (gives_in o agreed moment one core) s x t
@@ -494,7 +625,14 @@ module _ (ours : Ours) (plan : Network) (certificate : Certificate) (w : World) 
           (subst
           (λ (y : Effect). CallsAt link.caller_connected link.stage link.receiver y.core) (sym q.0)
           (stands_by (dried core) (still_open true)))
-      by_next (Upcoming (Ok (Some it))) m one q =
+      by_next (Upcoming (Ok (Some (nextrow.Unreadable uid)))) m one q =
+          let g : Turns pstep (passes_over moment uid core) s x t = subst
+          (λ (d : Desk). Turns pstep (passes_over moment uid core) d x t) one.1 q in
+          let own : Turns pstep (passes_over moment one.0.0.uid core) s x t = subst
+          (λ (u : Text). Turns pstep (passes_over moment u core) s x t) one.0.2 g in
+          let a = by_passing one.0.0.uid own.1 own.0 own.2 own.3 in
+          passed_as one.0.0 (next_is one.0.0 one.0.1) a.0 a.1 a.2
+      by_next (Upcoming (Ok (Some (nextrow.Whole it)))) m one q =
           let named : can_be_named it ≡ true = elim (cases_Bool (can_be_named it)) [
             | inl it_can ↦ it_can
             | inr it_cannot ↦ absurd

@@ -25,6 +25,7 @@ use Rattle.dr_ulstate.specs.Standing.{moved}
 use Rattle.dr_ulstate.specs.Phases.{in_its_phase}
 use Rattle.dr_pdu.specs.declared.pdu.Pdu.{Pdu}
 use Rattle.dr_ledger.specs.declared.content.Job.{Job}
+use Rattle.dr_ledger.specs.declared.content.NextRow.TheVariants.{Whole}
 use Rattle.dr_ledger.specs.Books.{Book}
 use Rattle.dr_ledger.specs.Items.{IsItem, instance_of}
 use Rattle.dr_ledger.specs.Replies.{IsNext}
@@ -75,7 +76,7 @@ now_storing true accepted item caller c h = h.0
 now_storing false accepted item caller c h = h
 
 module _ (plan : Network) (certificate : Certificate) (w : World) (number : ℕ) (link : Link) (k : Channel) (s : Desk) (here : IsLink w number link) (desk : IsDeskOf w link.caller s) (shows : ShowsLink plan certificate k link)
-    (on : link.caller_connected ≡ true) (accepted : Contexts) (is_open : link.stage ≡ Open accepted) (moment : Moment) (time : moment.now ≡ w.time) (job : Job) (hands : Hands s.book link.receiver moment.now (Some job))
+    (on : link.caller_connected ≡ true) (accepted : Contexts) (is_open : link.stage ≡ Open accepted) (moment : Moment) (time : moment.now ≡ w.time) (job : Job) (hands : Hands s.book link.receiver moment.now (Some (Whole job)))
     (agreed : Agreed) (has : k.caller.core.agreed ≡ Some agreed) (context : ℕ) (found : context_for agreed job.key.class (syntax_uid job.key.syntax) ≡ Some context) (certified : IsCertified plan certificate)
     (at : IsAt k.caller.core true Sta6) where
   at_open : IsCaller true (Open accepted) link.receiver k.caller.core

@@ -27,7 +27,7 @@ use Rattle.dr_session.specs.Plays.{Reacts, PlaysBytes, at_moment}
 use Rattle.dr_session.specs.Reactions.{is_idle, is_free, is_requestor}
 use Rattle.dr_world_model.specs.Worlds.{World, Link, Stage, Asking, Answering, Rejecting, Open, Storing, Replying, Gone}
 use Rattle.dr_world_model.specs.Steps.{IsLink, others}
-use Rattle.dr_world_model.specs.Events.{Event, Take, Ask, AgreeReceiver, AgreeCaller, Give, Receive, Answered, BreakCaller, BreakReceiver, Close, Restart, Requeue, Drop, StayAway, Forget, Refuse, Tick}
+use Rattle.dr_world_model.specs.Events.{Event, Take, Ask, AgreeReceiver, AgreeCaller, Give, PassOver, Receive, Answered, BreakCaller, BreakReceiver, Close, Restart, Requeue, Drop, StayAway, Forget, Refuse, Tick}
 use Rattle.dr_world_model.specs.Among.{Ours, Act, Own, RunsAmong, ArrivesAtOurs}
 use Rattle.dr_world_tie.specs.Desks.{Desk, LedgerStep}
 use Rattle.dr_world_tie.specs.Channels.{Channel, ShowsLink, IsCaller, IsReceiver, IsAt, IsOff, IsAsking}
@@ -129,6 +129,7 @@ module _ (ours : Ours) (plan : Network) (certificate : Certificate) where
   of_caller w number (Take node item reply) h = absurd h
   of_caller w number (Ask caller receiver) h = absurd h
   of_caller w number (AgreeReceiver link answer) h = absurd h
+  of_caller w number (PassOver link answer) h = absurd h
   of_caller w number (Give link answer) h = absurd h
   of_caller w number (Receive link reply) h = absurd h
   of_caller w number (BreakReceiver link) h = absurd h
@@ -149,6 +150,7 @@ module _ (ours : Ours) (plan : Network) (certificate : Certificate) where
   of_receiver w number (Take node item reply) h its = absurd h
   of_receiver w number (Ask caller receiver) h its = absurd h
   of_receiver w number (AgreeCaller link answer) h its = absurd h
+  of_receiver w number (PassOver link answer) h its = absurd h
   of_receiver w number (Give link answer) h its = absurd h
   of_receiver w number (Answered link answer) h its = absurd h
   of_receiver w number (BreakCaller link answer) h its = absurd h
@@ -231,7 +233,10 @@ module _ (ours : Ours) (plan : Network) (certificate : Certificate) where
             | inl given ↦ ∥∥₁_map given (λ g. happened w number (Give number g.0) link.caller t (caller_did k x) tt g.1)
             | inr more ↦ elim more [
               | inl broke ↦ ∣ happened w number (BreakCaller number None) link.caller t (caller_did k x) tt broke ∣₁
-              | inr none ↦ ∣ unmoved w number link link.caller s t (caller_did k x) here at_desk none.0 none.1 ∣₁
+              | inr rest ↦ elim rest [
+                | inl passed ↦ ∣ happened w number (PassOver number passed.0) link.caller t (caller_did k x) tt passed.1 ∣₁
+                | inr none ↦ ∣ unmoved w number link link.caller s t (caller_did k x) here at_desk none.0 none.1 ∣₁
+              ]
             ]
           ]
           by_stage on Asking e c = absurd (asking_sends_none k.caller.core link.receiver c ready)

@@ -14,14 +14,15 @@ use Rattle.dr_ulstate.specs.declared.table.State.TheVariants.{Sta6}
 use Rattle.dr_ulstate.specs.Standing.{moved}
 use Rattle.dr_ulstate.specs.Phases.{in_its_phase}
 use Rattle.dr_ledger.specs.declared.content.Job.{Job}
+use Rattle.dr_ledger.specs.declared.content.NextRow.TheVariants as nextrow
 use Rattle.dr_ledger.specs.Books.{Book}
 use Rattle.dr_ledger.specs.Items.{instance_of}
 use Rattle.dr_ledger.specs.Replies.{IsNext}
 use Rattle.dr_ledger.proofs.Maps.{get_new}
 use Rattle.dr_world_model.proofs.Lookups.{numbers}
-use Rattle.dr_world_model.specs.Worlds.{World, Link, Stage, Contexts, Open, with_link}
+use Rattle.dr_world_model.specs.Worlds.{World, Link, Stage, Contexts, Open, with_link, without_caller}
 use Rattle.dr_world_model.specs.Steps.{IsLink, after_settling, stays_connected, pending as pending_of}
-use Rattle.dr_world_model.specs.Events.{Give, BreakCaller}
+use Rattle.dr_world_model.specs.Events.{Give, PassOver, BreakCaller}
 use Rattle.dr_nego.specs.declared.agreed.Agreed.{Agreed}
 use Rattle.dr_nego.specs.declared.agreed.Pair.{Pair}
 use Rattle.dr_session.specs.declared.ends.Core.{Core}
@@ -30,7 +31,7 @@ use Rattle.dr_session.specs.Ledgers.{Hands}
 use Rattle.dr_nego.specs.Fragments.{spellings}
 use Rattle.dr_session.specs.declared.ends.Moment.{Moment}
 use Rattle.dr_nego.specs.Agreeing.{context_for, is_for}
-use Rattle.dr_session.specs.Reactions.{can_be_named, aborted, aborts_desk, abort_pdu, desk_failed, due, event_of, gives, is_idle, is_free, is_requestor, job, left, quiet, settling, stepped_by, effect, gives_in, write}
+use Rattle.dr_session.specs.Reactions.{can_be_named, aborted, aborts_desk, aborts_idle, passes_over, abort_pdu, desk_failed, due, event_of, gives, is_idle, is_free, is_requestor, job, left, quiet, settling, stepped_by, effect, gives_in, write}
 use Rattle.dr_session.specs.Turns.{Turns}
 use Rattle.dr_world_tie.specs.Desks.{Desk, LedgerStep}
 use Rattle.dr_world_tie.specs.Channels.{IsOff, bytes_of, Channel, Carries, ShowsLink, ToCaller, ToReceiver, IsAt, IsCaller, IsReceiver, site_of}
@@ -49,7 +50,7 @@ use Rattle.dr_ulstate.specs.declared.table.State.TheVariants.{Sta13}
 use Rattle.dr_ulstate.specs.Standing.{Standing}
 use Rattle.dr_ulstate.specs.Phases.{may_send}
 use Rattle.dr_ledger.specs.declared.item.Instance.{Instance}
-use Rattle.dr_ledger.specs.declared.item.Outcome.TheVariants.{NoContext}
+use Rattle.dr_ledger.specs.declared.item.Outcome.TheVariants.{NoContext, Unreadable}
 use Rattle.dr_ledger.specs.declared.fault.LedgerFault.TheVariants as fault
 use Rattle.dr_world_model.specs.Calls.{Answer}
 use Rattle.dr_session.specs.declared.ends.Input.TheVariants.{PushAsked}
@@ -59,7 +60,7 @@ use Rattle.dr_session.specs.Desks.{DeskCall, DeskAnswer, Next, Settle, Arrival, 
 use Rattle.dr_session.specs.Plays.{Reacts, at_moment}
 use Rattle.dr_session.proofs.Named.{items_are_named}
 use Rattle.std.proofs.Math.Logic.{∥∥₁_elim}
-use Rattle.dr_world_tie.proofs.CallerLeaving.{Does, caller_gone}
+use Rattle.dr_world_tie.proofs.CallerLeaving.{Does, caller_gone, off_shown}
 use Rattle.dr_world_tie.proofs.Giving.{happens}
 use Rattle.dr_world_tie.proofs.Responses.{Settled, settled}
 
@@ -95,10 +96,14 @@ module _ (plan : Network) (certificate : Certificate) (w : World) (number : ℕ)
   abbrev failed_core : Core
   failed_core = desk_failed (aborted (left (stepped_by AbortRequest moment.now core)))
 
+  abbrev idle_core : Core
+  idle_core = aborted (left (stepped_by AbortRequest moment.now core))
+
   abbrev Result_is : Type 0
   Result_is = ∥ ((answer : Option Answer) × Happens plan certificate w number (Give number answer) link.caller t (caller_did k x)) ∥₁
       ⊎ (Happens plan certificate w number (BreakCaller number None) link.caller t (caller_did k x)
-      ⊎ ((t ≡ s) × ShowsLink plan certificate (caller_did k x) link × ((item : Instance) → IsNext (w.books link.caller) link.receiver w.time item → ⊥)))
+      ⊎ (((answer : Answer) × Happens plan certificate w number (PassOver number answer) link.caller t (caller_did k x))
+      ⊎ ((t ≡ s) × ShowsLink plan certificate (caller_did k x) link × ((item : Instance) → IsNext (w.books link.caller) link.receiver w.time item → ⊥))))
 
   -- nothing is under way to the receiver
   to_receiver_at : (o : link.receiver_connected ≡ true) → Carries k.receiver k.to_receiver (λ pdus. pdus ≡ []) link.caller_connected
@@ -223,6 +228,62 @@ module _ (plan : Network) (certificate : Certificate) (w : World) (number : ℕ)
   settles item first lacks (Err fault.NotHeld) h g = absurd g
   settles item first lacks (Err fault.NotOver) h g = absurd g
 
+  -- ---- a data set that can't be read
+
+  abbrev Passes : Answer → Effect → Type 0
+  Passes (Ok r) y = y ≡ effect (write (abort_pdu 0 0 ∷ []) ∷ []) idle_core
+  Passes (Err fault.NotWaiting) y = y ≡ effect (write (abort_pdu 0 0 ∷ []) ∷ []) idle_core
+  Passes (Err fault.Store) y = y ≡ effect (write (abort_pdu 0 0 ∷ []) ∷ []) failed_core
+  Passes (Err why) y = ⊥
+
+  by_passing : (uid : Text) (m : Desk) (a : DeskAnswer) → cstep s (Settle uid core.peer Unreadable moment.now) a m → Turns cstep (settling (aborts_idle moment core) (aborts_desk moment core) a) m x t
+      → (answer : Answer) × cstep s (Settle uid core.peer Unreadable moment.now) (Settling answer) t × Passes answer x
+  by_passing uid m (Settling (Ok r)) h (e, same) = (Ok r, subst (λ (d : Desk). cstep s (Settle uid core.peer Unreadable moment.now) (Settling (Ok r)) d) (sym same) h, e)
+  by_passing uid m (Settling (Err fault.NotWaiting)) h (e, same) = (Err fault.NotWaiting, subst (λ (d : Desk). cstep s (Settle uid core.peer Unreadable moment.now) (Settling (Err fault.NotWaiting)) d) (sym same) h, e)
+  by_passing uid m (Settling (Err fault.Store)) h (e, same) = (Err fault.Store, subst (λ (d : Desk). cstep s (Settle uid core.peer Unreadable moment.now) (Settling (Err fault.Store)) d) (sym same) h, e)
+  by_passing uid m (Settling (Err fault.Memory)) h q = absurd q
+  by_passing uid m (Settling (Err fault.NoLine)) h q = absurd h.0
+  by_passing uid m (Settling (Err fault.Conflict)) h q = absurd h.0
+  by_passing uid m (Settling (Err fault.NotHeld)) h q = absurd h.0
+  by_passing uid m (Settling (Err fault.NotOver)) h q = absurd h.0
+  by_passing uid m (Arrival r) h q = absurd h
+  by_passing uid m (Upcoming d) h q = absurd h
+  by_passing uid m (First d) h q = absurd h
+
+  -- it was settled so, and the end left
+  passed_by : (item : Instance) → IsNext (w.books link.caller) link.receiver w.time item → (answer : Answer) → cstep s (Settle item.uid k.caller.core.peer Unreadable moment.now) (Settling answer) t
+      → (c : Core) → x ≡ effect (write (abort_pdu 0 0 ∷ []) ∷ []) c → c.site ≡ k.caller.core.site → c.peer ≡ k.caller.core.peer → c.proposed ≡ k.caller.core.proposed → IsOff c true
+      → Happens plan certificate w number (PassOver number answer) link.caller t (caller_did k x)
+  passed_by item first answer h c e site peer proposed off =
+      let st = settled plan w link k.caller.core.peer item.uid Unreadable moment.now answer s t desk shows.peer time h in
+      record {
+        after = with_link st.mid number (without_caller link);
+        link = without_caller link;
+        step = record { link = link; accepted = accepted; item = item; at = here; on = on; stage = is_open; first = first; mid = st.mid; call = st.settles; is = refl };
+        here = get_new numbers st.mid.links number (without_caller link);
+        desk = st.desk_is;
+        only = record {
+          books = st.books;
+          links = λ other apart. (only_link st.mid number (without_caller link) link.caller).links other apart ∙ ap (λ (l : _). map_of.get l other) st.links;
+          armed = st.armed;
+          rest = st.rest;
+        };
+        shows = off_shown plan certificate w number link k s here desk shows on k.caller.ear k.to_caller refl x t (abort_pdu 0 0 ∷ [])
+            (ap (λ (y : Effect). y.core.site) e ∙ site) (ap (λ (y : Effect). y.core.peer) e ∙ peer) (ap (λ (y : Effect). y.core.proposed) e ∙ proposed)
+            (subst (λ (y : Effect). IsOff y.core true) (sym e) off) (ap (λ (y : Effect). bytes_of y.acts) e ∙ append-nil (spellings (abort_pdu 0 0 ∷ []))) (tt, tt) (abort_fits k.receiver.ear.limit 0 0);
+      }
+
+  passed_as : (item : Instance) → IsNext (w.books link.caller) link.receiver w.time item → (answer : Answer) → cstep s (Settle item.uid k.caller.core.peer Unreadable moment.now) (Settling answer) t
+      → Passes answer x → Happens plan certificate w number (PassOver number answer) link.caller t (caller_did k x)
+  passed_as item first (Ok r) h g = passed_by item first (Ok r) h idle_core g refl refl refl (refl, inr (inr (moved (moved at.0 Sta6 moment.now) Sta13 moment.now, refl, at.2, refl)))
+  passed_as item first (Err fault.NotWaiting) h g = passed_by item first (Err fault.NotWaiting) h idle_core g refl refl refl (refl, inr (inr (moved (moved at.0 Sta6 moment.now) Sta13 moment.now, refl, at.2, refl)))
+  passed_as item first (Err fault.Store) h g = passed_by item first (Err fault.Store) h failed_core g refl refl refl (refl, inr (inr (moved (moved at.0 Sta6 moment.now) Sta13 moment.now, refl, at.2, refl)))
+  passed_as item first (Err fault.Memory) h g = absurd g
+  passed_as item first (Err fault.NoLine) h g = absurd g
+  passed_as item first (Err fault.Conflict) h g = absurd g
+  passed_as item first (Err fault.NotHeld) h g = absurd g
+  passed_as item first (Err fault.NotOver) h g = absurd g
+
   -- ---- what the desk answers
 
   abbrev agreed : Agreed
@@ -242,9 +303,9 @@ module _ (plan : Network) (certificate : Certificate) (w : World) (number : ℕ)
   next_was : (i : Instance) → IsNext (w.books link.caller) link.receiver w.time i → IsNext s.book k.caller.core.peer moment.now i
   next_was i n = subst (λ (b : Book). IsNext b k.caller.core.peer moment.now i) (sym desk.0) (subst (λ (m : ℕ). IsNext (w.books link.caller) k.caller.core.peer m i) (sym time) (subst (λ (p : Text). IsNext (w.books link.caller) p w.time i) (sym shows.peer) n))
 
-  by_context : (job : Job) → Hands s.book k.caller.core.peer moment.now (Some job) → (o : Option ℕ) → context_for agreed job.key.class (syntax_uid job.key.syntax) ≡ o → Turns cstep (gives_in o agreed moment job core) s x t → Result_is
+  by_context : (job : Job) → Hands s.book k.caller.core.peer moment.now (Some (nextrow.Whole job)) → (o : Option ℕ) → context_for agreed job.key.class (syntax_uid job.key.syntax) ≡ o → Turns cstep (gives_in o agreed moment job core) s x t → Result_is
   by_context job hands (Some context) found h =
-      let it = happens plan certificate w number link k s here desk shows on accepted is_open moment time job (subst (λ (p : Text). Hands s.book p moment.now (Some job)) shows.peer hands) agreed at_open.0.1.1 context found certified at x t h in
+      let it = happens plan certificate w number link k s here desk shows on accepted is_open moment time job (subst (λ (p : Text). Hands s.book p moment.now (Some (nextrow.Whole job))) shows.peer hands) agreed at_open.0.1.1 context found certified at x t h in
       inl (∥∥₁_map it (λ one. (None, one)))
   by_context job hands None found h =
       let a = by_answer job.uid h.1 h.0 h.2 h.3 in
@@ -254,8 +315,13 @@ module _ (plan : Network) (certificate : Certificate) (w : World) (number : ℕ)
   by_next (Arrival r) m one h = absurd one
   by_next (First d) m one h = absurd one
   by_next (Settling r) m one h = absurd one
-  by_next (Upcoming (Ok None)) m one h = inr (inr (h.1 ∙ one.1, subst (λ (y : Effect). ShowsLink plan certificate (caller_did k y) link) (sym h.0) (goes_on_as true link is_link), λ item next. (let n = next_was item next in one.0 item.uid n.due n.row)))
-  by_next (Upcoming (Ok (Some one_job))) m one h =
+  by_next (Upcoming (Ok None)) m one h = inr (inr (inr (h.1 ∙ one.1, subst (λ (y : Effect). ShowsLink plan certificate (caller_did k y) link) (sym h.0) (goes_on_as true link is_link), λ item next. (let n = next_was item next in one.0 item.uid n.due n.row))))
+  by_next (Upcoming (Ok (Some (nextrow.Unreadable uid)))) m one h =
+      let g : Turns cstep (passes_over moment uid core) s x t = subst (λ (d : Desk). Turns cstep (passes_over moment uid core) d x t) one.1 h in
+      let own : Turns cstep (passes_over moment one.0.0.uid core) s x t = subst (λ (u : Text). Turns cstep (passes_over moment u core) s x t) one.0.2 g in
+      let a = by_passing one.0.0.uid own.1 own.0 own.2 own.3 in
+      inr (inr (inl (a.0, passed_as one.0.0 (next_is one.0.0 one.0.1) a.0 a.1 a.2)))
+  by_next (Upcoming (Ok (Some (nextrow.Whole one_job)))) m one h =
       let named : can_be_named one_job ≡ true = elim (cases_Bool (can_be_named one_job)) [
         | inl yes_it_can ↦ yes_it_can
         | inr it_cannot ↦ absurd (∥∥₁_elim one.0.1 (λ a b. absurd a) (λ is. false≢true (sym it_cannot ∙ items_are_named one_job is)))

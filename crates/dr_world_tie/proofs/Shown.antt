@@ -22,7 +22,7 @@ use Rattle.dr_ledger.proofs.Maps.{get_new, get_other, same_or_not, ties_itself}
 use Rattle.dr_world_model.proofs.Lookups.{numbers}
 use Rattle.dr_world_model.specs.Worlds.{World, Link, Stage, Asking, Answering, Rejecting, Open as OpenStage, Storing, Replying, Gone}
 use Rattle.dr_world_model.specs.Steps.{IsLink, others}
-use Rattle.dr_world_model.specs.Events.{Event, Give, BreakCaller, BreakReceiver}
+use Rattle.dr_world_model.specs.Events.{Event, Give, PassOver, BreakCaller, BreakReceiver}
 use Rattle.dr_session.specs.declared.ends.Core.{Core}
 use Rattle.dr_session.specs.declared.ends.Effect.{Effect}
 use Rattle.dr_session.specs.declared.ends.Input.{Input}
@@ -288,7 +288,10 @@ module _ (plan : Network) (certificate : Certificate) where
           | inl given ↦ ∥∥₁_map given (λ g. inl (Give number g.0, refl, g.1))
           | inr more ↦ elim more [
             | inl broke ↦ ∣ inl (BreakCaller number None, refl, broke) ∣₁
-            | inr none ↦ ∣ inr (none.0, none.1, inr (link, here, none.2)) ∣₁
+            | inr rest ↦ elim rest [
+              | inl passed ↦ ∣ inl (PassOver number passed.0, refl, passed.1) ∣₁
+              | inr none ↦ ∣ inr (none.0, none.1, inr (link, here, none.2)) ∣₁
+            ]
           ]
         ]
         by_stage on Asking e c = absurd (asking_sends_none link.receiver c ready)

@@ -13,6 +13,8 @@ use Rattle.dr_pdu.specs.Feeding.{Feeding}
 use Rattle.dr_dimse.specs.declared.command.Command.{Command}
 use Rattle.dr_dimse.specs.declared.command.Command.TheVariants as command
 use Rattle.dr_ledger.specs.declared.content.Job.{Job}
+use Rattle.dr_ledger.specs.declared.content.NextRow.{NextRow}
+use Rattle.dr_ledger.specs.declared.content.NextRow.TheVariants as nextrow
 use Rattle.dr_ledger.specs.declared.fault.LedgerFault.{LedgerFault}
 use Rattle.dr_ledger.specs.declared.fault.LedgerFault.TheVariants as fault
 use Rattle.dr_ledger.specs.declared.item.Arrived.{Arrived}
@@ -93,7 +95,7 @@ arrival_keeps site follow h (Upcoming due) = tt
 arrival_keeps site follow h (First found) = tt
 arrival_keeps site follow h (Settling answer) = tt
 
-job_keeps : (site : Option Part) (follow : Result (Option Job) LedgerFault → Reaction) → ((due : Result (Option Job) LedgerFault) → KeepsSite site (follow due)) → (a : DeskAnswer) → KeepsSite site (r.job follow a)
+job_keeps : (site : Option Part) (follow : Result (Option NextRow) LedgerFault → Reaction) → ((due : Result (Option NextRow) LedgerFault) → KeepsSite site (follow due)) → (a : DeskAnswer) → KeepsSite site (r.job follow a)
 job_keeps site follow h (Upcoming due) = h due
 job_keeps site follow h (Arrival reply) = tt
 job_keeps site follow h (First found) = tt
@@ -151,8 +153,9 @@ gives_keep : (o : Option Agreed) (at : Moment) (item : Job) (c : Core) → Keeps
 gives_keep (Some agreed) at item c = gives_in_keep (context_for agreed item.key.class (syntax_uid item.key.syntax)) agreed at item c
 gives_keep None at item c = refl
 
-due_keep : (at : Moment) (c : Core) (d : Result (Option Job) LedgerFault) → KeepsSite c.site (r.due at c d)
-due_keep at c (Ok (Some item)) = either c.site (r.can_be_named item) _ _ (gives_keep c.agreed at item c) refl
+due_keep : (at : Moment) (c : Core) (d : Result (Option NextRow) LedgerFault) → KeepsSite c.site (r.due at c d)
+due_keep at c (Ok (Some (nextrow.Unreadable uid))) = settling_keeps c.site (r.aborts_idle at c) (r.aborts_desk at c) refl refl
+due_keep at c (Ok (Some (nextrow.Whole item))) = either c.site (r.can_be_named item) _ _ (gives_keep c.agreed at item c) refl
 due_keep at c (Ok None) = refl
 due_keep at c (Err fault.Memory) = tt
 due_keep at c (Err fault.NoLine) = refl

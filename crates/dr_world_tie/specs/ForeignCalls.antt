@@ -37,7 +37,7 @@ use Rattle.dr_world_model.specs.Worlds.{World, Link, Contexts, Stage, Asking, An
 use Rattle.dr_world_model.specs.Worlds.{Open, Storing, Replying, Gone, start}
 use Rattle.dr_world_model.specs.Calls.{Answer}
 use Rattle.dr_world_model.specs.Steps.{IsHop, IsLink, asked}
-use Rattle.dr_world_model.specs.Events.{AgreeCaller, Answered, Ask, BreakCaller, Give}
+use Rattle.dr_world_model.specs.Events.{AgreeCaller, Answered, Ask, BreakCaller, Give, PassOver}
 use Rattle.dr_world_model.specs.Among.{Ours, Act, Own, Other, Agrees, Replies, RunsAmong}
 use Rattle.dr_world_model.specs.Among.{HeadlineAmong}
 use Rattle.dr_world_tie.specs.Desks.{Desk, LedgerStep}
@@ -184,11 +184,14 @@ pub data Pushed : Type 0 where
   Kept : Pushed  -- none was due, or it may not send
   -- the first that was due is under way, or was settled as one that no context was accepted for
   Gave : (answer : Option Answer) → Pushed
+  -- the first that was due can't be read: it was settled so, and the end left
+  Passed : (answer : Answer) → Pushed
   Broke : Pushed  -- its store failed, and the end left
 
 abbrev pub acts_of_push : ℕ → Pushed → List Act
 acts_of_push number Kept = []
 acts_of_push number (Gave answer) = Own (Give number answer) ∷ []
+acts_of_push number (Passed answer) = Own (PassOver number answer) ∷ []
 acts_of_push number Broke = Own (BreakCaller number None) ∷ []
 
 -- what is written: the store that is under way in the message world, or what one writes that leaves
@@ -200,9 +203,10 @@ Sends v number (Gave None) acts =
     × (link.stage ≡ Storing accepted (instance_of item))
     × (acts ≡ write (store_pdus agreed context id item) ∷ [])
 Sends v number (Gave (Some answer)) acts = WritesControls acts
+Sends v number (Passed answer) acts = WritesControls acts
 Sends v number Broke acts = WritesControls acts
 
--- A push is one of these three things, and the end stands in the world that it leads to.
+-- A push is one of these four things, and the end stands in the world that it leads to.
 abbrev pub OnePushComes : Type 0
 OnePushComes =
     (ours : Ours) (plan : Network) (certificate : Certificate) (name : Text) (w : World)

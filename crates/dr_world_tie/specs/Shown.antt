@@ -14,7 +14,8 @@ use Rattle.dr_ledger.specs.Replies.{IsNext}
 use Rattle.dr_world_model.specs.Worlds.{World, Link, start}
 use Rattle.dr_world_model.specs.Runs.{Occurs, Runs}
 use Rattle.dr_world_model.specs.Steps.{IsLink, pending}
-use Rattle.dr_world_model.specs.Events.{Event, Step, Take, Ask, Give, BreakCaller, BreakReceiver}
+use Rattle.dr_world_model.specs.Events.{Event, Step, Take, Ask, Give, PassOver, BreakCaller}
+use Rattle.dr_world_model.specs.Events.{BreakReceiver}
 use Rattle.dr_world_model.specs.Events as event
 use Rattle.dr_world_model.specs.Claims.{Headline}
 use Rattle.dr_world_model.specs.Theorem.{Lasts}
@@ -49,6 +50,7 @@ IsNamed (Submit node item) (Take name instance reply) =
 IsNamed (Open from to) (Ask caller receiver) = (caller ≡ from) × (receiver ≡ to)
 IsNamed (Away from to) (event.StayAway node uid dest answer) = (node ≡ from) × (dest ≡ to)
 IsNamed (Push link) (Give number answer) = number ≡ link
+IsNamed (Push link) (PassOver number answer) = number ≡ link
 IsNamed (Push link) (BreakCaller number answer) = number ≡ link
 IsNamed (Move link Acceptor n) event = IsOfReceiver link event
 IsNamed (Move link Requestor n) event = IsOfCaller link event

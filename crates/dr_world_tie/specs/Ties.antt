@@ -39,6 +39,7 @@ use Rattle.dr_world_model.specs.Worlds.{Replying, same_text}
 use Rattle.dr_world_model.specs.Steps.{IsLink, IsHop, new_link, others, callers_of}
 use Rattle.dr_ledger.specs.declared.item.Instance.{Instance}
 use Rattle.dr_ledger.specs.declared.content.Job.{Job}
+use Rattle.dr_ledger.specs.declared.content.NextRow.TheVariants.{Whole}
 use Rattle.dr_base.specs.Syntaxes.{syntax_uid}
 use Rattle.dr_nego.specs.declared.agreed.Agreed.{Agreed}
 use Rattle.dr_session.specs.Ledgers.{Hands}
@@ -49,7 +50,7 @@ use Rattle.dr_ulstate.specs.Phases.{in_its_phase, next_expired}
 use Rattle.dr_world_model.specs.Worlds.{Contexts}
 use Rattle.dr_world_model.specs.Calls.{Answer}
 use Rattle.dr_world_model.specs.Events.{Event, Step, Ask, AgreeReceiver, AgreeCaller, Give, Receive}
-use Rattle.dr_world_model.specs.Events.{Answered, BreakCaller, BreakReceiver, Restart}
+use Rattle.dr_world_model.specs.Events.{Answered, BreakCaller, BreakReceiver, PassOver, Restart}
 use Rattle.dr_world_tie.specs.Desks.{Desk, LedgerStep}
 use Rattle.dr_world_tie.specs.Channels.{IsAt, alone, message, Gets, LiveTerminal, Channel}
 use Rattle.dr_world_tie.specs.Channels.{ShowsLink}
@@ -343,7 +344,7 @@ GivesStore =
     → (accepted : Contexts)
     → link.stage ≡ Open accepted
     → (moment : Moment) → moment.now ≡ w.time → (job : Job)
-    → Hands s.book link.receiver moment.now (Some job)
+    → Hands s.book link.receiver moment.now (Some (Whole job))
     → (agreed : Agreed)
     → k.caller.core.agreed ≡ Some agreed
     → (context : ℕ)
@@ -355,7 +356,8 @@ GivesStore =
     → ∥ Happens plan certificate w number (Give number None) link.caller t (caller_did k x) ∥₁
 
 -- A push: the caller, open and with nothing pending, gives the first row that is due, settles that
--- it has no context, leaves as its store failed, or finds none.
+-- it has no context, leaves as its store failed, passes it over as one that can't be read, or finds
+-- none.
 abbrev pub PushGives : Type 0
 PushGives =
     (plan : Network) (certificate : Certificate)
@@ -371,9 +373,11 @@ PushGives =
     → ∥ ((answer : Option Answer)
     × Happens plan certificate w number (Give number answer) link.caller t (caller_did k x)) ∥₁
     ⊎ (Happens plan certificate w number (BreakCaller number None) link.caller t (caller_did k x)
+    ⊎ (((answer : Answer)
+    × Happens plan certificate w number (PassOver number answer) link.caller t (caller_did k x))
     ⊎ ((t ≡ s)
     × ShowsLink plan certificate (caller_did k x) link
-    × ((item : Instance) → IsNext (w.books link.caller) link.receiver w.time item → ⊥)))
+    × ((item : Instance) → IsNext (w.books link.caller) link.receiver w.time item → ⊥))))
 
 -- a late mark acts: the timer has expired, or a requestor has awaited an answer for too long
 abbrev pub is_late : Core → ℕ → Bool

@@ -1,8 +1,8 @@
 //! The calls on a node's ledger, where it comes to no link.
-ghost use Rattle.std.specs.Prelude.{◌≡◌, ◌≤◌, ◌^◌, map as mapped};
+ghost use Rattle.std.specs.Prelude.{◌≡◌, ◌≤◌, ◌^◌, ◌↔◌, IsTrue, map as mapped};
 ghost use Rattle.std.specs.FinMap as map;
 ghost use Rattle.dr_ledger.specs.Adopting.{Adopting, IsFit, Unfits};
-ghost use Rattle.dr_ledger.specs.Bodies.{OnlyLetsGo, OnlyTakes};
+ghost use Rattle.dr_ledger.specs.Bodies.{IsNeeded, OnlyLetsGo, OnlyTakes};
 ghost use Rattle.dr_ledger.specs.Items.{instance_of};
 ghost use Rattle.dr_ledger.specs.Pairs.{pair_cmp};
 ghost use Rattle.dr_ledger.specs.Refusals.{Arms};
@@ -131,14 +131,14 @@ impl<L: Ledger> Node<L> {
         Ok(())
     }
 
-    /// Whether the data set of that uid is there: it is while the uid is kept or a row of it isn't
-    /// done.
+    /// Whether the data set of that uid is needed: it is while the uid is kept or a row of it is
+    /// still queued.
     ///
     /// Errors: Store, Memory.
     pub fn has_body(&mut self, uid: &Text) -> Result<bool, LedgerFault>
         ensures reply { L.stands self.new.desk.ledger
-            → Reads result (λ there.
-            there ≡ map.contains_key (L.bodies self.old.desk.ledger) uid.now) }
+            → Reads result (λ needed.
+            IsTrue needed ↔ IsNeeded (L.book self.old.desk.ledger) uid.now) }
         ensures reads { OnlyReads result self.old self.new }
         ensures rest { KeepsRest self.old self.new }
     {

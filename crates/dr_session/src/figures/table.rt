@@ -12,7 +12,7 @@ ghost use Rattle.dr_session.specs.declared.ends.Moment.{Moment};
 ghost use Rattle.dr_session.specs.declared.ends.Pending.{Pending};
 ghost use Rattle.dr_session.specs.Figures.{Acceptances, Rejections, Requests, Values, Pushes};
 ghost use Rattle.dr_session.specs.Figures.{Responses, Releases, ReleaseAnswers, Aborts, Endings};
-ghost use Rattle.dr_session.specs.Figures.{LateMarks, NoPdus, Silences};
+ghost use Rattle.dr_session.specs.Figures.{LateMarks, NoPdus, Passings, Silences};
 
 /// An A-ASSOCIATE-AC and an A-ASSOCIATE-RJ (events 3 and 4).
 pub fn answers()
@@ -30,6 +30,7 @@ pub fn requests()
 pub fn data()
     ensures values { (c : Core) (at : Moment) (p : Pdv) → Values c at p }
     ensures pushes { (c : Core) (at : Moment) → Pushes c at }
+    ensures passings { (c : Core) (at : Moment) (uid : Text) → Passings c at uid }
 {}
 
 /// Responses that a requestor hears (event 10).

@@ -1,6 +1,6 @@
 //! What an end does as it leaves the association, and the small parts of every reaction.
 ghost use Rattle.std.specs.Prelude.{◌≡◌, ◌∷◌, [], ◌≤◌, ◌^◌, IfOk, OnErr};
-ghost use Rattle.dr_session.specs.Reactions.{effect, leaves, aborts, aborts_desk};
+ghost use Rattle.dr_session.specs.Reactions.{effect, leaves, aborts, aborts_desk, aborts_idle};
 ghost use Rattle.dr_session.specs.Turns.{Turns, Broke, Ends};
 
 use crate::boxed::BoxedCore;
@@ -105,6 +105,15 @@ pub fn abort<P: DeskPort>(
 {
     let action = write_abort(alloc, 0, 0)?;
     leave_with(alloc, action, core.abort(at.now).mark_aborted(), port, at)
+}
+
+/// The end aborts by itself, with nothing pending.
+pub fn abort_idle(alloc: Global, core: BoxedCore, at: Moment) -> Result<Effect, AllocError>
+    ensures { IfOk result (λ e. aborts_idle at core ≡ Ends e) }
+{
+    let action = write_abort(alloc, 0, 0)?;
+    let core = core.abort(at.now).leave_pending();
+    act_once(alloc, action, core.mark_aborted())
 }
 
 /// A store failed: the association is aborted, and what was pending is left as it is.

@@ -12,18 +12,19 @@ ghost use Rattle.dr_session.specs.Reactions.{agrees, refuses, settles_refused, a
 ghost use Rattle.dr_session.specs.Reactions.{status_for, effect, gives, gives_in, hands};
 ghost use Rattle.dr_session.specs.Reactions.{can_be_named, is_uid, is_graphic, id_after, due};
 ghost use Rattle.dr_session.specs.Reactions.{pushes, gives_nothing, write, store_pdus, awaiting};
-ghost use Rattle.dr_session.specs.Reactions.{settled_with, desk_failed, dried};
+ghost use Rattle.dr_session.specs.Reactions.{settled_with, desk_failed, dried, hands_row};
+ghost use Rattle.dr_session.specs.Reactions.{passes_over};
 ghost use Rattle.dr_session.specs.Turns.{Turns, Broke, Ends};
 
 use crate::boxed::BoxedCore;
 use crate::ends::{Core, Effect, LinkAction, Moment, Pending, Requested};
 use crate::negotiated::Negotiated;
 use crate::port::DeskPort;
-use crate::react::leaving::{abort, abort_desk, act_once, quiet};
+use crate::react::leaving::{abort, abort_desk, abort_idle, act_once, quiet};
 use crate::writing::write_store;
 use dr_base::Text;
 use dr_dimse::Command;
-use dr_ledger::{Job, LedgerFault, Outcome};
+use dr_ledger::{Job, LedgerFault, NextRow, Outcome};
 use dr_nego::NegoFault;
 use std::alloc::{AllocError, Global};
 
@@ -170,8 +171,8 @@ pub fn push<P: DeskPort>(
     ensures broke { OnErr result (Broke P.step (pushes at core) port.old port.new) }
 {
     match port.next(core.peer(), at.now) {
-        Ok(Some(job)) => {
-            let done = hand(alloc, job, core, port, at)?;
+        Ok(Some(row)) => {
+            let done = hand_row(alloc, row, core, port, at)?;
             Ok(done)
         }
         Ok(None) => Ok(quiet(alloc, core.run_dry())),
@@ -207,6 +208,43 @@ fn can_be_named(job: &Job) -> bool
     ensures { result ≡ can_be_named job.now }
 {
     is_uid(&job.key.class) && is_uid(&job.uid)
+}
+
+/// What the desk handed out goes over, if it can be read.
+fn hand_row<P: DeskPort>(
+    alloc: Global,
+    row: NextRow,
+    core: BoxedCore,
+    port: &mut P,
+    at: Moment,
+) -> Result<Effect, AllocError>
+    requires { at.now ≤ 2 ^ 62 }
+    ensures done { IfOk result (λ e. Turns P.step (hands_row at core row) port.old e port.new) }
+    ensures broke { OnErr result (Broke P.step (hands_row at core row) port.old port.new) }
+{
+    match row {
+        NextRow::Whole(job) => hand(alloc, job, core, port, at),
+        NextRow::Unreadable(uid) => pass_over(alloc, uid, core, port, at),
+    }
+}
+
+/// A row whose data set can't be read is settled so, and the end aborts: nothing was sent.
+fn pass_over<P: DeskPort>(
+    alloc: Global,
+    uid: Text,
+    core: BoxedCore,
+    port: &mut P,
+    at: Moment,
+) -> Result<Effect, AllocError>
+    requires { at.now ≤ 2 ^ 62 }
+    ensures done { IfOk result (λ e. Turns P.step (passes_over at uid core) port.old e port.new) }
+    ensures broke { OnErr result (Broke P.step (passes_over at uid core) port.old port.new) }
+{
+    match port.settle(&uid, core.peer(), Outcome::Unreadable, at.now) {
+        Ok(()) | Err(LedgerFault::NotWaiting) => abort_idle(alloc, core, at),
+        Err(LedgerFault::Memory) => Err(AllocError),
+        Err(_) => abort_desk(alloc, core, at),
+    }
 }
 
 /// What the desk handed out goes over; a desk that hands out what can't be named has failed.

@@ -22,7 +22,8 @@ returns-in-Ok-clause-answers g c =
     g.L.Ledger.failed c.args.next.now p c.args.ledger.now c.adopt.new.self) (sym c.requires.copy)
     (went_over g.L.Ledger.site g.L.Ledger.book g.L.Ledger.bodies g.L.Ledger.stands g.L.Ledger.failed
     c.args.next.now c.args.own c.args.ledger.now c.adopt.new.self g.L.Ledger.bodied c.requires.part
-    c.requires.name c.requires.fit e.site e.stood e.reply e.bodies e.counts.never_falls)
+    c.requires.name c.requires.fit e.site e.stood e.reply e.bodies e.loses_none
+    e.counts.never_falls)
 
 pub returns-in-Err-clause-answers : goal.returns-in-Err-clause-answers
 returns-in-Err-clause-answers g c =
@@ -36,7 +37,7 @@ returns-in-Err-clause-answers g c =
           refl c.requires.node e.counts),
       stayed g.L.Ledger.site g.L.Ledger.book g.L.Ledger.bodies g.L.Ledger.stands g.L.Ledger.failed
           c.in-Err.why c.args.own c.args.ledger.now c.adopt.new.self g.L.Ledger.bodied e.site
-          e.stood e.reply e.bodies e.counts.never_falls,
+          e.stood e.reply e.bodies e.loses_none e.counts.never_falls,
     )
 
 pub returns-in-Err-clause-lasts : goal.returns-in-Err-clause-lasts

@@ -6,7 +6,7 @@ pub returns-then-bytes-extent : goal.returns-then-bytes-extent
 returns-then-bytes-extent c =
     let same : length c.args.bytes.now ≡ c.in-Some.extent.size = search rules in (
       λ yes. record {
-        long = c.in-Some.ensures.0;
+        ends = c.in-Some.ensures.0;
         whole = same ∙ ap (λ (e : Extent). e.size) c.in-Some.ensures.1;
         each = c.have_digests.ensures.0 yes;
       },

@@ -1,4 +1,5 @@
 use Rattle.dr_ledger_memory.proofs.Always.{arms, counts, lasts}
+use Rattle.dr_ledger_memory.proofs.Kept.{all_there}
 use Rattle.dr_ledger_memory.proofs.ledger.MemoryLedgerLetsGo.give_up.Goals as goal
 
 -- by hand: the search loses itself in what the trait asks
@@ -6,9 +7,11 @@ pub returns : goal.returns
 returns c =
     let e = c.drop_at.ensures in
     let r = c.drop_at.result in
+    let l = c.drop_at.new.self in
     record {
       reply = λ holds. e.reply;
       bodies = λ holds. e.bodies;
+      loses_none = λ holds uid needed had. all_there l.site l.parts l.ordered l.sound uid needed;
       counts = counts r e.never;
       armed = λ holds. arms _ r e.never;
       stood = λ holds. holds;

@@ -6,3 +6,6 @@ returns-clause-values c = λ core at p. record { before = refl; early = refl; in
 
 pub returns-clause-pushes : goal.returns-clause-pushes
 returns-clause-pushes c = λ core at. record { due = refl; accepting = refl; leaving = refl; late = refl }
+
+pub returns-clause-passings : goal.returns-clause-passings
+returns-clause-passings c = λ core at uid. record { settles = refl; leaves = refl; settled_before = refl; store_fails = refl }

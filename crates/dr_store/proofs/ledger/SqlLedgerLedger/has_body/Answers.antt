@@ -1,13 +1,12 @@
-use Rattle.std.proofs.Common.{◌≡◌, Bool, refl, subst, sym}
+use Rattle.std.proofs.Common.{◌≡◌, ◌↔◌, Bool, IsTrue, refl}
 use Rattle.sqlite.specs.Held.{state}
 use Rattle.sqlite.specs.Tree.{Trees}
-use mathlib.Core.Bool.{Bool-set}
 use Rattle.std.specs.FinMap as map
-use Rattle.dr_store_schema.specs.Books.{bodies_of}
-use Rattle.dr_ledger.specs.Replies.{Reads}
-use Rattle.dr_store.specs.Standing.{there_at}
-use Rattle.dr_store.proofs.Stable.{of_prop}
-use Rattle.dr_store.proofs.Writes.{looked_books, looked_kept, looked_lasting, looked_reads, looked_safe}
+use Rattle.dr_store_schema.specs.Books.{bodies_of, book_of}
+use Rattle.dr_ledger.specs.Bodies.{IsNeeded}
+use Rattle.dr_store.proofs.Nexts.{needed_told}
+use Rattle.dr_store.proofs.Shown.{needs}
+use Rattle.dr_store.proofs.Writes.{looked_books, looked_kept, looked_lasting, looked_safe, looked_says}
 use Rattle.dr_store.proofs.ledger.SqlLedgerLedger.has_body.Goals as goal
 
 pub invariant_of-self : goal.invariant_of-self
@@ -37,9 +36,8 @@ returns g c =
     let kept = c.args.self.now.kept in
     let looked = (c.has_data_set-answer.ensures.looked n part) in
     record {
-      reply = λ safe.
-          let P : Bool → Type 0 = λ has. Reads r (λ (there : Bool). there ≡ has) in
-          subst P (sym (there_at (g.B.Shelf.body_of c.args.self.now.shelf) old.committed.trees uid)) (looked_reads n part r old new Shows (kept safe.1) looked (λ there. of_prop (Bool-set _ _)) safe.0);
+      reply = λ safe. looked_says n part r old new Shows (kept safe.1) looked (λ needed. IsTrue needed ↔ IsNeeded (book_of old.committed.trees) uid)
+          (λ k there shown. needed_told old.committed.trees uid there k.kept.ledger.bodied shown) (needs (book_of old.committed.trees) uid) safe.0;
       same = λ safe. looked_books n part r old new Shows (kept safe.1) looked (g.B.Shelf.body_of c.args.self.now.shelf) safe.0;
       counts = c.counted-self.ensures.counts;
       armed = refl;

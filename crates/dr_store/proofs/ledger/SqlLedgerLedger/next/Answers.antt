@@ -2,7 +2,7 @@ use Rattle.std.proofs.Common.{Option, refl, ◌∙◌, subst, sym}
 use Rattle.std.proofs.Math.Logic.{∥∥₁_map}
 use Rattle.sqlite.specs.Held.{state}
 use Rattle.sqlite.specs.Tree.{Trees}
-use Rattle.dr_ledger.specs.declared.content.Job.{Job}
+use Rattle.dr_ledger.specs.declared.content.NextRow.{NextRow}
 use Rattle.dr_ledger.specs.Bodies.{NextsWith}
 use Rattle.dr_store_schema.specs.Books.{book_of}
 use Rattle.dr_store_calls.specs.Calling.{IsSafe}
@@ -27,7 +27,7 @@ invariant_of-self g c =
     let new = state g.S.Store c.next_job-answer.new.conn in
     let was = c.args.self.now.shelf in
     let shelf = c.next_job-answer.new.shelf in
-    let Shows : Trees → Option Job → Type 0 = λ base job. g.B.Shelf.is_clean shelf → NextsRead (g.B.Shelf.stands was) base dest now job in
+    let Shows : Trees → Option NextRow → Type 0 = λ base row. g.B.Shelf.is_clean shelf → NextsRead (g.B.Shelf.stands was) base dest now row in
     record {
       idle = c.next_job-answer.ensures.idle c.args.self.now.idle;
       kept = λ clean. subst (λ places. IsSafe new → ∥ KeepsOwn (g.B.Shelf.uses shelf) (g.B.Shelf.stands shelf) (g.B.Shelf.apart places) n part new ∥₁) (sym c.next_job-answer.ensures.named) (looked_kept_by n part r old new Shows (c.args.self.now.kept (c.next_job-answer.ensures.clean clean)) (c.next_job-answer.ensures.looked n part) (g.B.Shelf.uses shelf) (g.B.Shelf.stands shelf) (still_own c.next_job-answer.ensures.keeps old.committed.trees));
@@ -48,14 +48,14 @@ returns g c =
     let was_of = g.B.Shelf.body_of was in
     let body_of = g.B.Shelf.body_of shelf in
     let Stands = g.B.Shelf.stands was in
-    let Shows : Trees → Option Job → Type 0 = λ base job. g.B.Shelf.is_clean shelf → NextsRead Stands base dest now job in
+    let Shows : Trees → Option NextRow → Type 0 = λ base row. g.B.Shelf.is_clean shelf → NextsRead Stands base dest now row in
     let kept = c.args.self.now.kept in
     let keeps = c.next_job-answer.ensures.keeps in
     let looked = c.next_job-answer.ensures.looked n part in
     let clean = c.next_job-answer.ensures.clean in
     record {
       reply = λ safe. looked_says n part r old new Shows (kept (clean safe.1)) looked (NextsWith (book_of old.committed.trees) (bodies_with was_of old.committed.trees) dest now)
-          (λ k job read. next_of Stands was_of (g.B.Shelf.only was) old.committed.trees dest now job k.kept.ledger.bodied k.own.own (read safe.1)) (nexts (book_of old.committed.trees) (bodies_with was_of old.committed.trees) dest now) safe.0;
+          (λ k row read. next_of Stands was_of (g.B.Shelf.only was) old.committed.trees dest now row k.kept.ledger.bodied k.own.own (read safe.1)) (nexts (book_of old.committed.trees) (bodies_with was_of old.committed.trees) dest now) safe.0;
       same = λ safe.
           let books = looked_books n part r old new Shows (kept (clean safe.1)) looked body_of safe.0 in (
             books.0,

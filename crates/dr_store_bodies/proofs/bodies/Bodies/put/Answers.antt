@@ -1,7 +1,8 @@
-use Rattle.std.proofs.Common.{◌≡◌, ℕ, ◌^◌, ◌<◌, length, insert, slice_index_or, All, IsTrue, is_ok}
-use Rattle.std.proofs.Common.{sym, subst, inl, inr, rules, arith}
+use Rattle.std.proofs.Common.{◌≡◌, ℕ, ◌^◌, ◌<◌, ◌≤◌, [], ◌∷◌, length, insert, slice_index_or, All, IsTrue, is_ok}
+use Rattle.std.proofs.Common.{ap, sym, subst, inl, inr, rules, arith}
 use Rattle.std.proofs.lemmas.Bool.{cases_Bool, cases_lt}
-use Rattle.std.proofs.lemmas.List.Sorted.{IsPermutation-insert}
+use Rattle.std.proofs.lemmas.List.Elements.{All-contains, Contains-append_left, Contains-push}
+use Rattle.std.proofs.lemmas.List.Sorted.{Contains-permutation, IsPermutation-insert}
 use Rattle.sqlite_disk.specs.Disk.{Only}
 use Rattle.dr_store_bodies.specs.declared.extent.Extent.{Extent}
 use Rattle.dr_store_bodies.specs.Extents.{LiesBefore, IsSafe, end_of}
@@ -38,6 +39,20 @@ returns-clause-other g c =
       | inl under ↦ λ e. absurd (omega (arith, e, some, place.gap.behind k d under))
       | inr over ↦ λ e. absurd (omega (arith, e, c.requires, place.gap.before k d over low))
     ]
+
+-- what is written ends where its extent does
+pub returns-clause-ends : goal.returns-clause-ends
+returns-clause-ends g c size short all =
+    let old = c.args.self.now.extents.items in
+    let e : Extent = record { at = c.in-Some.at; size = length c.args.body.now } in
+    let end : end_of e ≤ size =
+    All-contains (λ (f : Extent). end_of f ≤ size) c.insert.new.self.items e all
+    (Contains-permutation (e ∷ old) c.insert.new.self.items e
+    (rw (c.in_ok-insert.ensures.items) (IsPermutation-insert _ _ _))
+    (Contains-append_left (e ∷ []) old e (Contains-push [] e))) in
+    let synced : length (g.D.Disk.seen c.sync.new.self) ≡ length (g.D.Disk.seen c.write_at.new.self) =
+    ap length c.sync.ensures.seen in
+    omega (arith, synced, c.write_at.ensures.others.no_longer, short, end)
 
 pub invariant_of-self-2 : goal.invariant_of-self-2
 invariant_of-self-2 g c =

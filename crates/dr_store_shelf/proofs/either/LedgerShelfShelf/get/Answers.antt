@@ -11,3 +11,9 @@ returns-in-InFile-clause-keeps g c = rw c.in-InFile.is c.get-in-InFile.ensures.k
 
 pub returns-in-InFile-clause-why : goal.returns-in-InFile-clause-why
 returns-in-InFile-clause-why g c = rw c.in-InFile.is c.get-in-InFile.ensures.why
+
+pub returns-in-InFile-clause-since : goal.returns-in-InFile-clause-since
+returns-in-InFile-clause-since g c = rw c.in-InFile.is c.get-in-InFile.ensures.since
+
+pub returns-in-InFile-clause-shows : goal.returns-in-InFile-clause-shows
+returns-in-InFile-clause-shows g c = rw c.in-InFile.is c.get-in-InFile.ensures.shows

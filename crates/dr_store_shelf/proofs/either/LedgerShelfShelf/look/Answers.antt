@@ -8,3 +8,9 @@ returns-in-InFile-clause-keeps g c = rw c.in-InFile.is c.look-in-InFile.ensures.
 
 pub returns-in-InFile-clause-uses : goal.returns-in-InFile-clause-uses
 returns-in-InFile-clause-uses g c = rw c.in-InFile.is c.look-in-InFile.ensures.uses
+
+pub returns-in-InFile-clause-since : goal.returns-in-InFile-clause-since
+returns-in-InFile-clause-since g c = rw c.in-InFile.is c.look-in-InFile.ensures.since
+
+pub returns-in-InFile-clause-shows : goal.returns-in-InFile-clause-shows
+returns-in-InFile-clause-shows g c = rw c.in-InFile.is c.look-in-InFile.ensures.shows

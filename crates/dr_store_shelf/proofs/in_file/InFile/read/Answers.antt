@@ -1,8 +1,10 @@
 use Rattle.std.proofs.Common.{◌≡◌, length, drop, take_at, ap, ◌∙◌, subst, sym, Contains, rules}
-use Rattle.std.proofs.Common.{IsTrue}
+use Rattle.std.proofs.Common.{All, IsTrue, List, ℕ}
 use Rattle.dr_store_bodies.specs.declared.extent.Extent.{Extent}
-use Rattle.dr_store_bodies.specs.Extents.{Stand}
+use Rattle.dr_store_bodies.specs.Bodies.{extents}
+use Rattle.dr_store_bodies.specs.Extents.{IsSafe, Stand}
 use Rattle.dr_store_shelf.specs.Cells.{Passes, extent_in}
+use Rattle.dr_store_shelf.proofs.Looked.{shown_as_before}
 use Rattle.dr_store_shelf.proofs.in_file.InFile.read.Goals as goal
 
 pub returns-in_err-get-clause-keeps : goal.returns-in_err-get-clause-keeps
@@ -70,3 +72,42 @@ returns-clause-uses g c = λ other used. (
   used.0,
   subst (λ xs. Contains xs (extent_in other)) (sym c.get.ensures.listed) used.1,
 )
+
+pub returns-in_err-get-clause-shows : goal.returns-in_err-get-clause-shows
+returns-in_err-get-clause-shows g c = λ clean other used.
+    let was = c.args.self.now.bodies.disk in
+    let new = c.get.new.self.disk in
+    let seen : List ℕ = g.D.Disk.seen was in
+    let may : List ℕ → Type 0 = g.D.Disk.may_leave was in
+    let uses = extents c.args.self.now.bodies in
+    let all : All (IsSafe seen may) uses =
+    subst (All (IsSafe seen may)) c.extents-extents.ensures.all
+    (c.extents-extents.ensures.safe (c.get.ensures.clean clean)) in
+    shown_as_before seen (g.D.Disk.seen new) may (g.D.Disk.may_leave new) uses (extent_in other) all used.1
+    (λ held is. c.get.ensures.keeps (extent_in other) held is)
+
+pub returns-then-not-passes-clause-shows : goal.returns-then-not-passes-clause-shows
+returns-then-not-passes-clause-shows g c = λ clean other used.
+    let was = c.args.self.now.bodies.disk in
+    let new = c.get.new.self.disk in
+    let seen : List ℕ = g.D.Disk.seen was in
+    let may : List ℕ → Type 0 = g.D.Disk.may_leave was in
+    let uses = extents c.args.self.now.bodies in
+    let all : All (IsSafe seen may) uses =
+    subst (All (IsSafe seen may)) c.extents-extents.ensures.all
+    (c.extents-extents.ensures.safe (c.get.ensures.clean clean)) in
+    shown_as_before seen (g.D.Disk.seen new) may (g.D.Disk.may_leave new) uses (extent_in other) all used.1
+    (λ held is. c.get.ensures.keeps (extent_in other) held is)
+
+pub returns-clause-shows : goal.returns-clause-shows
+returns-clause-shows g c = λ clean other used.
+    let was = c.args.self.now.bodies.disk in
+    let new = c.get.new.self.disk in
+    let seen : List ℕ = g.D.Disk.seen was in
+    let may : List ℕ → Type 0 = g.D.Disk.may_leave was in
+    let uses = extents c.args.self.now.bodies in
+    let all : All (IsSafe seen may) uses =
+    subst (All (IsSafe seen may)) c.extents-extents.ensures.all
+    (c.extents-extents.ensures.safe (c.get.ensures.clean clean)) in
+    shown_as_before seen (g.D.Disk.seen new) may (g.D.Disk.may_leave new) uses (extent_in other) all used.1
+    (λ held is. c.get.ensures.keeps (extent_in other) held is)

@@ -5,7 +5,7 @@ use Rattle.std.proofs.lemmas.List.Elements.{All-contains, filter_passes}
 use Rattle.dr_store_bodies.specs.declared.extent.Extent.{Extent}
 use Rattle.dr_store_bodies.specs.Bodies.{extents}
 use Rattle.dr_store_bodies.specs.Extents.{Stand}
-use Rattle.dr_store_shelf.specs.Cells.{extent_in}
+use Rattle.dr_store_shelf.specs.Cells.{extent_in, shown}
 use Rattle.dr_store_shelf.proofs.Kept.{kept_in}
 use Rattle.dr_store_shelf.proofs.in_file.InFileShelf.let_go.Goals as goal
 
@@ -42,3 +42,7 @@ returns-in-Some-clause-gone g c = λ one used.
     All-contains (λ e. test e ≡ true) (filter test (extents c.args.self.now.bodies))
     (extent_in cell) (filter_passes test (extents c.args.self.now.bodies)) left in
     false≢true (sym (ap not (eq-eqb (extent_in cell).at gone.at (sym is))) ∙ stays)
+
+pub returns-in-Some-clause-shows : goal.returns-in-Some-clause-shows
+returns-in-Some-clause-shows g c = λ clean other used.
+    ap (λ disk. shown (g.D.Disk.seen disk) (extent_in other)) c.free.ensures.untouched
