@@ -56,7 +56,7 @@ class World:
 
     # calls of books
     def wants_memory(self):
-        return self.dice.random() < 0.01  # a refusal that the store was told stands
+        return self.dice.random() < 0.04  # so often that runs meet it at each call
 
     def store_fails(self, name):
         if self.dice.random() < 0.01:
