@@ -1,0 +1,3 @@
+pub mod Contents
+pub mod Laws
+pub mod Rows
