@@ -2,7 +2,7 @@
 -- are in use on the ledger's shelf, `Apart` which two can be let go one without the other, `read_of`
 -- what can be read by a cell, and `Stands` for which bytes it stands, also through a crash.
 use Rattle.std.specs.Prelude.{◌≡◌, ◌⊎◌, ℕ, List, Option, None, Some, map as mapped}
-use Rattle.std.specs.Prelude.{is_some, option_bind, unwrap_or}
+use Rattle.std.specs.Prelude.{◌↔◌, is_some, option_and_then, unwrap_or}
 use Rattle.std.specs.FinMap as map
 use Rattle.sqlite.specs.State.{State}
 use Rattle.sqlite.specs.Tree.{Trees}
@@ -61,7 +61,7 @@ read_where (Some i) (Some bytes) = read_as i bytes
 -- of the book's instance
 abbrev pub data_set_at : (List ℕ → Option (List ℕ)) → Trees → Text → Option (List ℕ)
 data_set_at read_of db uid =
-    read_where (map.get (items_of db) uid) (option_bind (map.get (bodies_of db) uid) read_of)
+    read_where (map.get (items_of db) uid) (option_and_then read_of (map.get (bodies_of db) uid))
 
 -- a cell's uid with the bytes that can be read by the cell
 abbrev pub body_under : (List ℕ → Option (List ℕ)) → Text × List ℕ → Text × List ℕ

@@ -94,7 +94,7 @@ those_so : {P : Type 0} (bytes read : List ℕ) (d : Dec P) → those_if bytes d
 those_so bytes read (yes p) is = (let e : bytes ≡ read = cc is in e, p)
 those_so bytes read (no n) is = absurd (let f : ⊥ = cc is in f)
 
-all_if : {P : Type 0} (bytes : List ℕ) (d : Dec P) → P → those_if bytes d ≡ Some bytes
+pub all_if : {P : Type 0} (bytes : List ℕ) (d : Dec P) → P → those_if bytes d ≡ Some bytes
 all_if bytes (yes p) so = refl
 all_if bytes (no n) so = absurd (n so)
 

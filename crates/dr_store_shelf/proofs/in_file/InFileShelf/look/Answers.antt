@@ -1,4 +1,4 @@
-use Rattle.std.proofs.Common.{◌≡◌, ◌∙◌, ap, subst, sym, All, List, [], ℕ, Some, None}
+use Rattle.std.proofs.Common.{◌≡◌, subst, sym, All, List, [], ℕ, Some}
 use Rattle.std.proofs.lemmas.List.Elements.{All-contains}
 use Rattle.dr_store_bodies.specs.declared.extent.Extent.{Extent}
 use Rattle.dr_store_bodies.specs.Bodies.{IsUsable, extents}
