@@ -1,5 +1,6 @@
 pub mod Admits
 pub mod Adopts
+pub mod Again
 pub mod Among
 pub mod Crashes
 pub mod Looks

@@ -172,12 +172,12 @@ fn read_due<B: Shelf>(
     ensures named { B.Shelf.named shelf.new ≡ B.Shelf.named shelf.old }
     ensures clean { B.Shelf.is_clean shelf.new → B.Shelf.is_clean shelf.old }
 {
-    let Some(stored) = due else {
-        return Ok(None);
-    };
-    match read_by(shelf, alloc, stored) {
-        Ok(row) => Ok(Some(row)),
-        Err(fault) => Err(fault),
+    match due {
+        Some(stored) => match read_by(shelf, alloc, stored) {
+            Ok(row) => Ok(Some(row)),
+            Err(fault) => Err(fault),
+        },
+        None => Ok(None),
     }
 }
 
