@@ -6,6 +6,7 @@ pub mod Crashes
 pub mod Looks
 pub mod Nexts
 pub mod Owns
+pub mod Readable
 pub mod Replies
 pub mod Sets
 pub mod Shown

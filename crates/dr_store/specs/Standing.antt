@@ -25,7 +25,7 @@ pub its_own : (item : Job) → IsItem item → IsDataSetOf (instance_of item) it
 its_own item is = record { item = is; size = refl; digest = refl }
 
 module _ (read_of : List ℕ → Option (List ℕ)) where
-  bytes_of : List ℕ → List ℕ
+  abbrev bytes_of : List ℕ → List ℕ
   bytes_of cell = unwrap_or (read_of cell) []
 
   -- the first of two, or what is found behind it
