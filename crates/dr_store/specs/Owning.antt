@@ -1,20 +1,22 @@
 -- Which cells the tables of a ledger have, and which data sets these give. `Uses` says which cells
 -- are in use on the ledger's shelf, `Apart` which two can be let go one without the other, `read_of`
 -- what can be read by a cell, and `Stands` for which bytes it stands, also through a crash.
-use Rattle.std.specs.Prelude.{◌≡◌, ◌⊎◌, ℕ, List, Option, None, Some, map as mapped}
+use Rattle.std.specs.Prelude.{◌≡◌, ◌≢◌, ◌⊎◌, ℕ, List, length, Option, None, Some, map as mapped}
 use Rattle.std.specs.Prelude.{◌↔◌, is_some, option_and_then, unwrap_or}
 use Rattle.std.specs.FinMap as map
+use Rattle.sha2.specs.Sha256.{sha256}
 use Rattle.sqlite.specs.State.{State}
 use Rattle.sqlite.specs.Tree.{Trees}
 use Rattle.dr_base.specs.Texts.{Text}
 use Rattle.dr_site.specs.Parts.{Part}
 use Rattle.dr_ledger.specs.declared.content.Job.{Job}
 use Rattle.dr_ledger.specs.declared.item.Instance.{Instance}
-use Rattle.dr_ledger.specs.Bodies.{Bodies, IsThere, LosesNone, OnlyLetsGo}
+use Rattle.dr_ledger.specs.Bodies.{Bodies, HasAll, IsThere, LosesNone, OnlyLetsGo}
 use Rattle.dr_ledger.specs.Books.{Book}
 use Rattle.dr_ledger.specs.Items.{IsItem, instance_of}
 use Rattle.dr_store_shelf.specs.Tested.{those_if}
 use Rattle.dr_store_schema.specs.Books.{bodies_of, book_of, items_of}
+use Rattle.dr_store_changes.specs.Bringing.{HasCells}
 use Rattle.dr_store_calls.specs.Calling.{IsKept}
 use Rattle.dr_store_calls.specs.LettingGo.{AreEachApart}
 use Rattle.dr_store.specs.DataSets.{data_set_told}
@@ -76,11 +78,15 @@ bodies_with read_of db =
 
 -- The data set of that uid can be read, and is this: the bytes can be read by its cell, and are the
 -- data set of an item, which is the book's.
-abbrev pub IsReadAt : (List ℕ → Option (List ℕ)) → Trees → Text → List ℕ → Type 0
-IsReadAt read_of db uid body =
-    ((cell : List ℕ) × (map.get (bodies_of db) uid ≡ Some cell) × (read_of cell ≡ Some body))
-    × ((item : Job) × IsItem item × (item.body ≡ body)
-    × (map.get (items_of db) uid ≡ Some (instance_of item)))
+pub record IsReadAt (read_of : List ℕ → Option (List ℕ)) (db : Trees) (uid : Text)
+    (body : List ℕ) : Type 0 where
+  pub cell : List ℕ
+  pub there : map.get (bodies_of db) uid ≡ Some cell
+  pub reads : read_of cell ≡ Some body
+  pub item : Job
+  pub is_item : IsItem item
+  pub same : item.body ≡ body
+  pub known : map.get (items_of db) uid ≡ Some (instance_of item)
 
 -- ---- what a call leaves of them
 
@@ -90,10 +96,9 @@ LosesNoneOf was_of read_of base db =
     LosesNone (book_of base) (bodies_with was_of base) (book_of db) (bodies_with read_of db)
 
 -- each data set that is there was there before, and none is lost
-abbrev pub LetsGoOf : (was_of read_of : List ℕ → Option (List ℕ)) → Trees → Trees → Type 0
-LetsGoOf was_of read_of base db =
-    OnlyLetsGo (bodies_with was_of base) (bodies_with read_of db)
-    × LosesNoneOf was_of read_of base db
+pub record LetsGoOf (was_of read_of : List ℕ → Option (List ℕ)) (base db : Trees) : Type 0 where
+  pub lets : OnlyLetsGo (bodies_with was_of base) (bodies_with read_of db)
+  pub none_lost : LosesNoneOf was_of read_of base db
 
 -- The data set of each cell can be read, but for one whose cell was there before and that couldn't
 -- be read then.
@@ -128,4 +133,48 @@ IsCovered Uses Stands Apart was_of read_of base may_leave =
 abbrev pub BodiesAreWhatIsRead : Type 0
 BodiesAreWhatIsRead =
     (read_of : List ℕ → Option (List ℕ)) (db : Trees) (uid : Text) (body : List ℕ)
-    → map.get (bodies_with read_of db) uid ≡ Some body ↔ IsReadAt read_of db uid body
+    → (map.get (bodies_with read_of db) uid ≡ Some body) ↔ IsReadAt read_of db uid body
+
+-- Where each cell stands for its item's data set, none is unreadable.
+abbrev pub AllThatStandAreThere : Type 0
+AllThatStandAreThere =
+    (read_of : List ℕ → Option (List ℕ)) (Stands : List ℕ → List ℕ → Type 0) (db : Trees)
+    → ((cell bytes : List ℕ) → Stands cell bytes → read_of cell ≡ Some bytes)
+    → AreOwn Stands (book_of db) (bodies_of db)
+    → HasCells (book_of db) (bodies_of db)
+    → HasAll (book_of db) (bodies_with read_of db)
+
+-- Bytes with another length or another SHA-256 are no data set of an instance: its data set isn't
+-- there where they are what can be read by its cell.
+abbrev pub OtherBytesAreNotThere : Type 0
+OtherBytesAreNotThere =
+    (read_of : List ℕ → Option (List ℕ)) (db : Trees) (uid : Text) (cell bytes : List ℕ)
+    (i : Instance)
+    → map.get (bodies_of db) uid ≡ Some cell
+    → read_of cell ≡ Some bytes
+    → map.get (items_of db) uid ≡ Some i
+    → (length bytes ≢ i.size) ⊎ (sha256 bytes ≢ i.digest)
+    → map.get (bodies_with read_of db) uid ≡ None
+
+-- So it is with the data set of an item that has another uid or another key in that syntax.
+abbrev pub OtherItemsAreNotThere : Type 0
+OtherItemsAreNotThere =
+    (read_of : List ℕ → Option (List ℕ)) (db : Trees) (uid : Text) (cell : List ℕ)
+    (i : Instance) (item : Job)
+    → IsItem item
+    → map.get (bodies_of db) uid ≡ Some cell
+    → read_of cell ≡ Some item.body
+    → map.get (items_of db) uid ≡ Some i
+    → item.key.syntax ≡ i.key.syntax
+    → (item.uid ≢ i.uid) ⊎ (item.key ≢ i.key)
+    → map.get (bodies_with read_of db) uid ≡ None
+
+-- The data set of an item that the book has is there where it is what can be read by its cell.
+abbrev pub ItsOwnIsThere : Type 0
+ItsOwnIsThere =
+    (read_of : List ℕ → Option (List ℕ)) (db : Trees) (uid : Text) (cell : List ℕ) (item : Job)
+    → IsItem item
+    → map.get (bodies_of db) uid ≡ Some cell
+    → read_of cell ≡ Some item.body
+    → map.get (items_of db) uid ≡ Some (instance_of item)
+    → map.get (bodies_with read_of db) uid ≡ Some item.body

@@ -25,7 +25,7 @@ pub its_own : (item : Job) → IsItem item → IsDataSetOf (instance_of item) it
 its_own item is = record { item = is; size = refl; digest = refl }
 
 module _ (read_of : List ℕ → Option (List ℕ)) where
-  bytes_of : List ℕ → List ℕ
+  abbrev bytes_of : List ℕ → List ℕ
   bytes_of cell = unwrap_or (read_of cell) []
 
   -- the first of two, or what is found behind it
@@ -99,10 +99,16 @@ module _ (read_of : List ℕ → Option (List ℕ)) where
             let same : bytes ≡ body = cc in
             let item : Job = job_with i bytes in
             let known : instance_of item ≡ i =
-            λ j. record { uid = i.uid; key = i.key; size = own.size j; digest = own.digest j } in (
-              (cell, there, reads ∙ ap Some same),
-              (item, own.item, same, is ∙ ap Some (sym known)),
-            )
+            λ j. record { uid = i.uid; key = i.key; size = own.size j; digest = own.digest j } in
+            record {
+              cell = cell;
+              there = there;
+              reads = reads ∙ ap Some same;
+              item = item;
+              is_item = own.item;
+              same = same;
+              known = is ∙ ap Some (sym known);
+            }
         by_told i cell bytes (no n) is there reads e = absurd (let f : ⊥ = cc in f)
 
         by_read : (i : Instance) (cell : List ℕ) (found : Option (List ℕ))
@@ -132,13 +138,12 @@ module _ (read_of : List ℕ → Option (List ℕ)) where
     pub read_is : (body : List ℕ) → IsReadAt read_of db uid body
         → map.get (bodies_with read_of db) uid ≡ Some body
     read_is body it =
-        let item = it.1.0 in
-        let own : IsDataSetOf (instance_of item) body =
-        subst (IsDataSetOf (instance_of item)) it.1.2 (its_own item it.1.1) in
+        let own : IsDataSetOf (instance_of it.item) body =
+        subst (IsDataSetOf (instance_of it.item)) it.same (its_own it.item it.is_item) in
         data_at
-        ∙ (λ j. read_where (it.1.3 j) (option_and_then read_of (it.0.1 j)))
-        ∙ ap (read_where (Some (instance_of item))) it.0.2
-        ∙ all_if body (data_set_told (instance_of item) body) own
+        ∙ (λ j. read_where (it.known j) (option_and_then read_of (it.there j)))
+        ∙ ap (read_where (Some (instance_of it.item))) it.reads
+        ∙ all_if body (data_set_told (instance_of it.item) body) own
 
 -- the data sets are such as the book needs
 pub has_bodies : (read_of : List ℕ → Option (List ℕ)) (db : Trees)
@@ -146,6 +151,8 @@ pub has_bodies : (read_of : List ℕ → Option (List ℕ)) (db : Trees)
 has_bodies read_of db has = record {
   there = λ uid body is.
       let it = is_read read_of db uid body is in
-      (has.there uid).0 (it.0.0, it.0.1);
-  own = λ uid body is. (is_read read_of db uid body is).1;
+      (has.there uid).0 (it.cell, it.there);
+  own = λ uid body is.
+      let it = is_read read_of db uid body is in
+      (it.item, it.is_item, it.same, it.known);
 }

@@ -71,8 +71,9 @@ fn unread(instance: Instance) -> NextRow
 }
 
 /// The row of an instance with this item, if it is the instance's.
-fn row_of(item: Item, instance: Instance) -> NextRow
-    requires { IsItem item }
+fn row_with(item: Item, instance: Instance) -> NextRow
+    requires item { IsItem item }
+    requires syntax { item.key.syntax ≡ instance.key.syntax }
     ensures { IsReadAgain instance item.body result }
 {
     if is_of(&item, &instance) {
@@ -104,7 +105,7 @@ fn read_again(
     ensures { Reads result (IsReadAgain instance bytes) }
 {
     match Item::read(alloc, instance.key.syntax, bytes) {
-        Ok(item) => Ok(row_of(item, instance)),
+        Ok(item) => Ok(row_with(item, instance)),
         Err(fault) => not_read(fault, instance),
     }
 }

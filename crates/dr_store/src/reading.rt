@@ -155,7 +155,30 @@ fn next_stored<S: Alter>(
     }
 }
 
-/// The row as it is handed out, where one is due.
+/// A row that is due, as it is handed out.
+fn read_some<B: Shelf>(
+    shelf: &mut B,
+    alloc: Global,
+    due: DueRow,
+) -> Result<Option<NextRow>, LedgerFault>
+    ensures read { (db : Trees) (dest : List ℕ) (now : ℕ) → NextsStored db dest now (Some due)
+        → Reads result (λ row. B.Shelf.is_clean shelf.new
+        → NextsRead (B.Shelf.uses shelf.old) (B.Shelf.read_of shelf.old) db dest now row) }
+    ensures keeps { KeepsCells (B.Shelf.uses shelf.old) (B.Shelf.stands shelf.old)
+        (B.Shelf.uses shelf.new) (B.Shelf.stands shelf.new) }
+    ensures reads { B.Shelf.is_clean shelf.new
+        → ReadsAsBefore (B.Shelf.uses shelf.old) (B.Shelf.read_of shelf.old)
+        (B.Shelf.read_of shelf.new) }
+    ensures named { B.Shelf.named shelf.new ≡ B.Shelf.named shelf.old }
+    ensures clean { B.Shelf.is_clean shelf.new → B.Shelf.is_clean shelf.old }
+{
+    match read_by(shelf, alloc, due) {
+        Ok(row) => Ok(Some(row)),
+        Err(fault) => Err(fault),
+    }
+}
+
+/// The same, where one is due.
 fn read_due<B: Shelf>(
     shelf: &mut B,
     alloc: Global,
@@ -172,12 +195,9 @@ fn read_due<B: Shelf>(
     ensures named { B.Shelf.named shelf.new ≡ B.Shelf.named shelf.old }
     ensures clean { B.Shelf.is_clean shelf.new → B.Shelf.is_clean shelf.old }
 {
-    let Some(stored) = due else {
-        return Ok(None);
-    };
-    match read_by(shelf, alloc, stored) {
-        Ok(row) => Ok(Some(row)),
-        Err(fault) => Err(fault),
+    match due {
+        Some(stored) => read_some(shelf, alloc, stored),
+        None => Ok(None),
     }
 }
 
