@@ -55,15 +55,6 @@ pub if_err_as : {A E : Type 0} (P Q : E → Type 0) (r : Result A E) → ((e : E
 if_err_as P Q (Ok x) f h = tt
 if_err_as P Q (Err e) f h = f e h
 
-pub if_ok_both : {A E : Type 0} (P Q R : A → Type 0) (r : Result A E) → ((x : A) → P x → Q x → R x) → IfOk r P → IfOk r Q → IfOk r R
-if_ok_both P Q R (Ok x) f h k = f x h k
-if_ok_both P Q R (Err e) f h k = tt
-
--- what is never refused where a premise holds
-pub if_err_none : {A E : Type 0} {Given : Type 0} (P Q : E → Type 0) (r : Result A E) → ((e : E) → P e → (Given → ⊥) → Q e) → IfErr r P → (Given → IfErr r (λ e. ⊥)) → IfErr r Q
-if_err_none P Q (Ok x) f h never = tt
-if_err_none P Q (Err e) f h never = f e h never
-
 -- what holds wherever something is answered
 pub ok_given : {A E : Type 0} (P : Type 0) (Q : A → Type 0) (r : Result A E) → (P → (x : A) → Q x) → OnOk r P → IfOk r Q
 ok_given P Q (Ok x) f h = f h x
@@ -94,15 +85,20 @@ their_sites = record {
   own = λ n part db has own why. (why.0 refl n has).1 own;
 }
 
+-- what a test of the data sets in rows tells
+abbrev pub TestedIn : {A : Type 0} → Result A OpeningFault → List (Text × Print) → Trees → Type 0
+TestedIn r prints db = MatchResult r (λ it. All (AreOwnUnder db) prints) (λ fault. fault ≡ opening.OtherSite → All (AreOwnUnder db) prints → ⊥)
+
 -- a ledger isn't taken for another's where each data set in its rows is its item's
-pub not_others : (part : Part) (db : Trees) (prints : List (Text × Print)) (place : DataPlace) (fault : OpeningFault) → prints ≡ map.entries (whole_prints_of db)
+pub not_others : {A : Type 0} (part : Part) (db : Trees) (prints : List (Text × Print)) (place : DataPlace) (r : Result A OpeningFault) → prints ≡ map.entries (whole_prints_of db)
     → ((uid : Text) → is_some (map.get (keys_of db) uid) ≡ is_some (map.get (whole_prints_of db) uid))
     → IsPlaceOf part db place
-    → (place ≡ put.InRows) → (fault ≡ opening.OtherSite → All (AreOwnUnder db) prints → ⊥)
-    → (IsOfData fault → ⊥)
-    → IsWhyNot part db fault
-not_others part db prints place fault are together says rows other beside = (
-  λ is. (subst (IsPlaceOf part db) rows says, λ own. other is (all_read db prints are together own)),
+    → IfErr r (λ fault. place ≡ put.InRows) → IfErr r (λ fault. IsOfData fault → ⊥)
+    → (place ≡ put.InRows → TestedIn r prints db)
+    → IfErr r (IsWhyNot part db)
+not_others part db prints place (Ok it) are together says rows beside tested = tt
+not_others part db prints place (Err fault) are together says rows beside tested = (
+  λ is. (subst (IsPlaceOf part db) rows says, λ own. tested rows is (all_read db prints are together own)),
   λ it mine. beside it,
 )
 
@@ -142,15 +138,18 @@ module _ {D : Type 0} {g : Ghosts D} where
   }
 
   -- a shelf that was opened, of a ledger whose data sets were read again where they are in rows
-  pub has_own : (place : DataPlace) (shelf : LedgerShelf D g) (db : Trees) (prints : List (Text × Print)) → prints ≡ map.entries (whole_prints_of db)
+  pub opened_own : (place : DataPlace) (shelf : LedgerShelf D g) (db : Trees) (prints : List (Text × Print)) (r : Result (OpenedLedger D g) OpeningFault)
+      → prints ≡ map.entries (whole_prints_of db)
       → IsAt place shelf
-      → (place ≡ put.InRows → All (AreOwnUnder db) prints)
       → HaveOwn (UsesOn shelf) (AreApartIf (named_on shelf)) db
-      → HasOwnOn db shelf
-  has_own place shelf db prints are is read cells = record {
+      → IfOk r (λ it. it.shelf ≡ shelf)
+      → (place ≡ put.InRows → TestedIn r prints db)
+      → IfOk r (λ it. HasOwnOn db it.shelf)
+  opened_own place shelf db prints (Ok it) are is cells same tested = subst (HasOwnOn db) (sym same) (record {
     cells = cells;
-    rows = λ none. all_own db prints are (read (in_rows place shelf is none));
-  }
+    rows = λ none. all_own db prints are (tested (in_rows place shelf is none));
+  })
+  opened_own place shelf db prints (Err fault) are is cells same tested = tt
 
   -- ---- a ledger that was found with its shelf
 

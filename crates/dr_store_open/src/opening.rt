@@ -1,6 +1,6 @@
 //! A file's ledger, opened.
 ghost use Rattle.std.specs.Prelude.{◌≡◌, ◌≤◌, ◌↔◌, IfErr, IfOk, MatchResult, OnOk, false};
-ghost use Rattle.std.specs.Prelude.{◌≢◌, IsTrue, true};
+ghost use Rattle.std.specs.Prelude.{◌≢◌, All, IsTrue, true};
 ghost use Rattle.sqlite.specs.Held.{state};
 ghost use Rattle.sqlite.specs.State.{HasCleanDisk, IsLive};
 ghost use Rattle.dr_store_schema.specs.Tables.{tables};
@@ -9,19 +9,19 @@ ghost use Rattle.dr_store_calls.specs.Adoptions.{IsOwnedBy};
 ghost use Rattle.dr_store_calls.specs.Calling.{IsKept};
 ghost use Rattle.dr_store_audit.specs.Older.{IsOlder};
 ghost use Rattle.dr_store_open.specs.Renewing.{IsMadeBy, IsMadeWith, KeepsRows};
-ghost use Rattle.dr_store_shelf.specs.Either.{AreApartIf, UsesOn, named_on};
+ghost use Rattle.dr_store_shelf.specs.Either.{named_on};
 ghost use Rattle.dr_store_changes.specs.Writing.{IsReady};
-ghost use Rattle.dr_store.specs.Owning.{HaveOwn};
 ghost use Rattle.dr_store_open.specs.declared.data.DataPlace.TheVariants as place;
 ghost use Rattle.dr_store_open.specs.declared.data.Keeping.TheVariants as wanted;
 ghost use Rattle.dr_store_open.specs.declared.fault.OpeningFault.TheVariants as opening;
+ghost use Rattle.dr_store_open.specs.DataSets.{AreOwnUnder};
 ghost use Rattle.dr_store_open.specs.Opening.{AreOf, HasLedgerOf, HasNewLedger, IsBlank};
 ghost use Rattle.dr_store_open.specs.Opening.{IsBroughtOver, IsLedgerOpened, IsNext, IsWhy};
 ghost use Rattle.dr_store_open.specs.Opening.{IsWhyNot, IsWholeOpened, LeavesFile};
 ghost use Rattle.dr_store_open.specs.Opening.{LeavesOldOr, LeavesOldOrCommitted};
 ghost use Rattle.dr_store_open.specs.Opening.{StaysAsFound, StaysReady};
-ghost use Rattle.dr_store_open.specs.Faults.{IsOfData, IsOfOpening};
-ghost use Rattle.dr_store_open.specs.Places.{HasOwnOn, IsAt, IsPlacedBy, names_in};
+ghost use Rattle.dr_store_open.specs.Faults.{IsOfData};
+ghost use Rattle.dr_store_open.specs.Places.{HasOwnOn, IsPlacedBy, names_in};
 
 use crate::beside::new_data;
 use crate::bodies::test_rows;
@@ -35,7 +35,7 @@ use crate::testing::test_tables;
 use dr_ledger::LedgerFault;
 use dr_site::Site;
 use dr_store_audit::is_ours;
-use dr_store_data::DataFile;
+use dr_store_data::{DataFile, LedgerShelf};
 use sqlite::{Alter, Connection};
 use sqlite_disk::Disk;
 use sqlite_schema::schema::Schema;
@@ -94,40 +94,42 @@ pub fn find<S: Alter>(
     find_tested(conn, alloc, site)
 }
 
-/// The shelf of a ledger whose tables were found, opened where they say, and the number of its next
-/// line. The file that was made for it, if one was, is its own.
-fn open_there<S: Alter, F: DataFile>(
+/// A ledger whose tables were found, with the shelf that was opened for it. Where data sets are in
+/// rows, each that is there is that of its instance. The shelf is handed on as it was opened.
+fn open_on<S: Alter, D: Disk + Drop>(
     conn: &mut Connection<S>,
     alloc: Global,
-    data: &F,
-    made: Option<F::Disk>,
-    site: &Site,
+    shelf: LedgerShelf<D>,
     found: FoundTables,
-) -> Result<OpenedLedger<F::Disk>, OpeningFault>
-    requires ready { HasCleanDisk (state S.Store conn.old)
+) -> Result<OpenedLedger<D>, OpeningFault>
+    requires { HasCleanDisk (state S.Store conn.old)
         → IsReady found.next (state S.Store conn.old) }
-    requires are { HasCleanDisk (state S.Store conn.old)
-        → AreOf site.now (state S.Store conn.old).now.trees found }
     ensures ready { StaysReady found.next result (state S.Store conn.old) (state S.Store conn.new) }
     ensures next { IfOk result (λ it. it.next ≡ found.next) }
-    ensures at { IfOk result (λ it. IsAt found.place it.shelf) }
-    ensures cells { HasCleanDisk (state S.Store conn.new)
-        → IfOk result (λ it. HaveOwn (UsesOn it.shelf) (AreApartIf (named_on it.shelf))
-        (state S.Store conn.old).now.trees) }
-    ensures why { IfErr result IsOfOpening }
-    ensures rows { found.place ≡ place.InRows → IfErr result (λ fault. ⊥) }
+    ensures same { IfOk result (λ it. it.shelf ≡ shelf) }
+    ensures own { HasCleanDisk (state S.Store conn.new)
+        → found.place ≡ place.InRows
+        → MatchResult result (λ it.
+        All (AreOwnUnder (state S.Store conn.old).now.trees) found.prints.items) (λ fault.
+        fault ≡ opening.OtherSite
+        → All (AreOwnUnder (state S.Store conn.old).now.trees) found.prints.items → ⊥) }
+    ensures rows { IfErr result (λ fault. found.place ≡ place.InRows) }
+    ensures of_data { IfErr result (λ fault. IsOfData fault → ⊥) }
 {
-    match shelf_of(conn, alloc, data, made, &found) {
-        Ok(shelf) => Ok(OpenedLedger {
+    match test_rows(conn, alloc, &found) {
+        Ok(()) => Ok(OpenedLedger {
             shelf,
             next: found.next,
         }),
-        Err(fault) => Err(fault),
+        Err(fault) => {
+            drop(shelf);
+            Err(fault)
+        }
     }
 }
 
-/// A ledger whose tables were found, with its shelf, which is opened where they say. Where they say
-/// that data sets are in rows, each that is there is that of its instance.
+/// A ledger whose tables were found, with its shelf, which is opened where they say. The file that
+/// was made for it, if one was, is its own.
 fn open_found<S: Alter, F: DataFile>(
     conn: &mut Connection<S>,
     alloc: Global,
@@ -150,8 +152,8 @@ fn open_found<S: Alter, F: DataFile>(
         → IfErr result (IsWhyNot site.now (state S.Store conn.old).now.trees) }
     ensures there { IfErr result (λ fault. fault ≢ opening.DataIsThere) }
 {
-    match test_rows(conn, alloc, &found) {
-        Ok(()) => open_there(conn, alloc, data, made, site, found),
+    match shelf_of(conn, alloc, data, made, &found) {
+        Ok(shelf) => open_on(conn, alloc, shelf, found),
         Err(fault) => Err(fault),
     }
 }
