@@ -2,8 +2,8 @@
 """Ledgers with their data sets in a file of their own (`new --data-file`), by the built program: nodes of both kinds
 side by side hand on the same bytes, a kill loses nothing that was acknowledged, every word opens either kind, and the
 place of what went is taken again. Where the file is missing, was cut short, is another ledger's or is locked, each word
-is refused by name and changes nothing; so it is where a byte of a data set was changed. No opening, and no node that
-runs, hands out bytes that weren't taken.
+is refused by name and changes nothing. No opening reads a data set: where a byte of one was changed, each word opens
+the ledger, and the row is held by name when it is to be sent. No node hands out bytes that weren't taken.
 
     tests/datafile.py
 """
@@ -550,26 +550,59 @@ def flip(path, at):
 
 
 def changed():
-    """Where a byte of the head is another one, the file isn't the ledger's; where one of a data set is, that isn't the one that was taken. Nothing is changed,
-    and when the byte is as it was, all is as before. A byte between data sets says nothing."""
+    """Where a byte of the head is another one, the file isn't the ledger's, and nothing is changed. Where one of a data set is, an opening sees nothing of
+    it, and nothing is changed either. When the byte is as it was, all is as before. A byte between data sets says nothing."""
     with Room() as room:
         make(room, 'GATE')
         for number, size in enumerate((1_001, 600_001)):
             wait_at_gate(room, f'1.2.3.{number}', size, number)
         before, path, found = book(room, 'GATE'), f'{room.folder}/GATE.db.data', places(room, 'GATE')
-        for at in 0, 15, 16, 31, 32, HEAD - 1, *(at + off for at, size in found for off in (0, 1, size // 2, size - 1)):
+        for at in 0, 15, 16, 31, 32, HEAD - 1:
             flip(path, at)
-            fault = WRONG if at < HEAD else 'G6 OtherSite'
-            told(room.at('list', 'GATE'), 1, '', f'dr_router: {fault}\n')
+            told(room.at('list', 'GATE'), 1, '', f'dr_router: {WRONG}\n')
             stood = files(room, '.db', '.data')
-            told(room.at('serve', 'GATE', '--links', '1'), 1, '', f'dr_router: {fault}\n')
+            told(room.at('serve', 'GATE', '--links', '1'), 1, '', f'dr_router: {WRONG}\n')
             same(files(room, '.db', '.data'), stood)
+            flip(path, at)
+        for at in (at + off for at, size in found for off in (0, 1, size // 2, size - 1)):
+            flip(path, at)
+            stood = digest(path)
+            same(book(room, 'GATE'), before)
+            audited = room.run('audit', *PLAN, '.', '--other', 'CT1', '--other', 'ARCH')
+            same((audited.returncode, lines(audited.stdout)[:1], audited.stderr), (0, ['holds\t1'], b''))
+            same(digest(path), stood)
             flip(path, at)
         at = found[0][0] + found[0][1]
         assert at % 4096, at
         flip(path, at)
         same(book(room, 'GATE'), before)
         same(stored(room, 'GATE'), {f'1.2.3.{number}': data_set(f'1.2.3.{number}'.encode(), pixels(size, number)) for number, size in enumerate((1_001, 600_001))})
+
+
+def changed_at_rest():
+    """A start reads no data set. Where a byte of one was changed while the node was stopped, the node starts: what waits there is held by name, and what
+    waits beside it goes over. When the byte is as it was and a person asks for the row again, it goes over."""
+    sets = {f'1.2.3.{number}': data_set(f'1.2.3.{number}'.encode(), pixels(size, number)) for number, size in ((4, 300_000), (5, 20_000))}
+    with Room() as room:
+        make(room, 'GATE', 'ARCH')
+        for number, size in (4, 300_000), (5, 20_000):
+            wait_at_gate(room, f'1.2.3.{number}', size, number)
+        path, (at, size) = f'{room.folder}/GATE.db.data', struct.unpack_from('<QQ', cells(room, 'GATE')['1.2.3.4'])
+        flip(path, at + size // 2)
+        arch, gate = room.serve('ARCH', 0), Asked(room, 'GATE', 0)
+        gate.wait('/rows?dest=ARCH', lambda rows: [(row['state'], row.get('cause')) for row in rows] == [('held', 'unreadable'), ('done', None)])
+        stop(gate.process)
+        same(set(stored(room, 'GATE')), {'1.2.3.4'})
+        # a stopped node queues it again; as long as the byte is another one, it is held again
+        for event in 'spoilt', 'mended':
+            told(room.at('requeue', 'GATE', '1.2.3.4', 'ARCH'), 0, 'requeued\n', '')
+            if event == 'mended':
+                flip(path, at + size // 2)
+            gate = Asked(room, 'GATE', 0)
+            gate.wait('/rows?dest=ARCH', (lambda rows: [row['state'] for row in rows] == ['held', 'done']) if event == 'spoilt' else all_done(2))
+            stop(gate.process)
+        stop(arch)
+        same(stored(room, 'ARCH'), sets)
 
 
 def changed_while_it_runs():
@@ -603,16 +636,15 @@ def changed_while_it_runs():
 
 
 def brought_again():
-    """Without a copy a spoilt data set is brought again: as long as the node knows the instance it takes none in its place, not even the same. Once its row
-    is dropped by name and it is forgotten, it is new, and goes over."""
+    """Without a copy a spoilt data set is brought again, also after a start with it: as long as the node knows the instance it takes none in its place, not
+    even the same. Once its row is dropped by name and it is forgotten, it is new, and goes over."""
     with Room() as room:
         make(room, 'GATE', 'ARCH')
         wait_at_gate(room, '1.2.3.4', 300_000)
         path, ((at, size),) = f'{room.folder}/GATE.db.data', places(room, 'GATE')
-        gate = Asked(room, 'GATE', 0)
         flip(path, at + size // 2)
         arch = room.serve('ARCH', 0)
-        same(gate.act('/visit', dest='ARCH'), DONE)
+        gate = Asked(room, 'GATE', 0)
         gate.wait('/rows?dest=ARCH', lambda rows: [row.get('cause') for row in rows] == ['unreadable'])
 
         def bring():
@@ -653,7 +685,8 @@ def by_hand():
 
 
 def rows_by_hand():
-    """Without its mark or its key a ledger with a file isn't opened, nor where a row was changed, its cells among them."""
+    """Without its mark a ledger with a file isn't opened, nor where a row was changed, its cells among them. By another key, and with other digests in a cell,
+    it is, and nothing can be read: the row is held by name, and goes over once both are as they were."""
     with Room() as room:
         make(room, 'GATE')
         arch = room.serve('ARCH', 1)
@@ -666,7 +699,7 @@ def rows_by_hand():
         there = [f'GATE{end}' for end in ENDS if os.path.exists(f'{room.folder}/GATE{end}')]
         for name in there:
             shutil.copyfile(f'{room.folder}/{name}', f'{room.folder}/kept/{name}')
-        owners = cell[:DIGEST], cell[:DIGEST] + bytes(KEY) + cell[DIGEST + KEY:], cell[:DIGEST + KEY] + bytes(MARK)
+        owners = cell[:DIGEST], cell[:DIGEST] + cell[DIGEST + KEY:], cell[:DIGEST + KEY] + bytes(MARK)
         changes = [('UPDATE site SET plan = ?', other) for other in owners] + [(statement,) for statement in CHANGES + CELLS_CHANGED]
         tried = 0
         for change in changes:
@@ -681,6 +714,22 @@ def rows_by_hand():
                 shutil.copyfile(f'{room.folder}/kept/{name}', f'{room.folder}/{name}')
         assert tried > len(changes) - 5, (tried, len(changes))
         same(book(room, 'GATE'), before)
+        arch, named = room.serve('ARCH', 0), cells(room, 'GATE')['1.2.3.5']
+        for statement, own, other in (
+            ('UPDATE site SET plan = ?', cell, cell[:DIGEST] + bytes(KEY) + cell[DIGEST + KEY:]),
+            ('UPDATE item SET body = ? WHERE length(body) > 0', named, named[:16] + bytes(len(named) - 16)),
+        ):
+            same(tables(room, 'GATE', statement, other)[1], 1)
+            gate = Asked(room, 'GATE', 0)
+            gate.wait('/rows?dest=ARCH', lambda rows: [(row['state'], row.get('cause')) for row in rows] == [('done', None), ('held', 'unreadable')])
+            stop(gate.process)
+            same(tables(room, 'GATE', statement, own)[1], 1)
+            told(room.at('requeue', 'GATE', '1.2.3.5', 'ARCH'), 0, 'requeued\n', '')
+        gate = Asked(room, 'GATE', 0)
+        gate.wait('/rows?dest=ARCH', all_done(2))
+        stop(gate.process)
+        stop(arch)
+        same(stored(room, 'ARCH')['1.2.3.5'], data_set(b'1.2.3.5', pixels(60_000)))
 
 
 def full():
@@ -778,5 +827,5 @@ def names():
 
 
 if __name__ == '__main__':
-    run_cases('datafile', made, both_kinds, let_go, taken_again, killed, brought_over, another_form, together, cut, refused, changed, changed_while_it_runs, brought_again, by_hand, rows_by_hand,
+    run_cases('datafile', made, both_kinds, let_go, taken_again, killed, brought_over, another_form, together, cut, refused, changed, changed_at_rest, changed_while_it_runs, brought_again, by_hand, rows_by_hand,
               full, not_copied, names)

@@ -52,7 +52,8 @@ keeping_of making.Wanted = keeping.InRows
 keeping_of making.WantedWithData = keeping.InFile
 
 -- While the disk has returned what was written, the file has a ledger of that site. Its data sets
--- are where its tables say, and each cell stands for that of its instance.
+-- are where its tables say, and its cells are in use there. Each that is in a row is that of its
+-- instance.
 abbrev pub HasLedgerIn : {D : Type 0} {g : Ghosts D} → Part → State → LedgerShelf D g → Type 0
 HasLedgerIn part s shelf =
     HasCleanDisk s

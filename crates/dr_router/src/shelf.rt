@@ -13,7 +13,8 @@ impl Shelf for FileShelf {
     ghost use Rattle.dr_store_shelf.specs.Either.{AreApartIf, EndsOn, IsCleanOn, IsNewOn};
     ghost use Rattle.dr_store_shelf.specs.Either.{IsUsableOn, PassesOn};
     ghost use Rattle.dr_store_shelf.specs.Either.{StandsOn, UsesOn, apart_swaps, body_on};
-    ghost use Rattle.dr_store_shelf.specs.Either.{faults_on, named_on, only_on, passed_on};
+    ghost use Rattle.dr_store_shelf.specs.Either.{faults_on, held_on, named_on, only_on, passed_on};
+    ghost use Rattle.dr_store_shelf.specs.Either.{read_on, reads_on};
 
     ghost stands = { λ it. StandsOn it.0 };
 
@@ -29,6 +30,8 @@ impl Shelf for FileShelf {
 
     ghost passes = { λ it. PassesOn it.0 };
 
+    ghost read_of = { λ it. read_on it.0 };
+
     ghost is_new = { λ it. IsNewOn it.0 };
 
     ghost ends = { λ it. EndsOn it.0 };
@@ -42,6 +45,10 @@ impl Shelf for FileShelf {
     ghost only = { λ it. only_on it.0 };
 
     ghost passed = { λ it. passed_on it.0 };
+
+    ghost reads = { λ it. reads_on it.0 };
+
+    ghost held = { λ it. held_on it.0 };
 
     fn names_places(&self) -> bool {
         self.0.names_places()

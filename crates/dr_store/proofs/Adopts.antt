@@ -28,8 +28,8 @@ pub takes_over : (next : Part) (r : Result (Unit {0}) LedgerFault) (base db : Tr
 takes_over next (Ok done) base db = of_prop ∥∥₁_prop
 takes_over next (Err why) base db = of_set Trees-set db base
 
-pub adopted : (Uses : List ℕ → Type 0) (Stands Apart : List ℕ → List ℕ → Type 0) (n : ℕ) (part next : Part) (r : Result (Unit {0}) LedgerFault) (old new : State) → Adopted n part next r old new Nothing → Done Uses Stands Apart n (advanced r n) part (site_after r next part) r old new (Adoption next r) (IsAdopted next)
-adopted Uses Stands Apart n part next r old new a = record {
+pub adopted : (Uses : List ℕ → Type 0) (Apart : List ℕ → List ℕ → Type 0) (n : ℕ) (part next : Part) (r : Result (Unit {0}) LedgerFault) (old new : State) → Adopted n part next r old new Nothing → Done Uses Apart n (advanced r n) part (site_after r next part) r old new (Adoption next r) (IsAdopted next)
+adopted Uses Apart n part next r old new a = record {
   clean = a.clean;
   was_open = a.was_open;
   lasts = λ clean k. a.lasts clean k tt;

@@ -1,10 +1,12 @@
 pub mod Admits
 pub mod Adopts
+pub mod Again
 pub mod Among
 pub mod Crashes
 pub mod Looks
 pub mod Nexts
 pub mod Owns
+pub mod Readable
 pub mod Replies
 pub mod Sets
 pub mod Shown

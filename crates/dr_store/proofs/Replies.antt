@@ -28,8 +28,11 @@ use Rattle.dr_ledger.specs.declared.item.Outcome.{Outcome}
 use Rattle.dr_ledger.specs.declared.item.Progress.{Progress}
 use Rattle.dr_ledger.specs.declared.item.Progress.TheVariants.{Waiting, Held, Done, Dropped}
 use Rattle.dr_ledger.specs.Adopting.{Adopting}
-use Rattle.dr_ledger.specs.Bodies.{Bodies, OnlyLetsGo, OnlyTakes}
+use Rattle.dr_ledger.specs.Bodies.{IsThere, LosesNone, Bodies, OnlyLetsGo, OnlyTakes}
 use Rattle.dr_ledger.specs.Books.{Book}
+use Rattle.sqlite.specs.Tree.{Trees}
+use Rattle.dr_store_schema.specs.Books.{book_of}
+use Rattle.dr_store.specs.Owning.{LetsGoOf, bodies_with}
 use Rattle.dr_ledger.specs.Replies.{Admits, Arrives, Drops, Forgets, HasConflict, IsAdmitted, IsHeld, IsOver, IsWaiting, Requeues, Settles}
 use Rattle.dr_ledger.specs.SiteRoutes.{site_routing}
 use Rattle.dr_ledger.proofs.Growing.{inside}
@@ -287,3 +290,20 @@ lets_go old new = each (λ uid. each (λ body. each (λ there. of_dec (body_test
 
 pub takes : (item : Job) (old new : Bodies) → Stable (OnlyTakes item old new)
 takes item old new = each (λ uid. each (λ body. each (λ there. either (body_tested _ _) (both (by_code coded_text uid item.uid) (by_code (coded_list coded_ℕ) body item.body)))))
+
+-- a data set is there, or it isn't
+is_there : (bodies : Bodies) (uid : Text) → Stable (IsThere bodies uid)
+is_there bodies uid h = go (map.get bodies uid) refl
+  where
+    go : (o : Option (List ℕ)) → map.get bodies uid ≡ o → IsThere bodies uid
+    go (Some body) is = (body, is)
+    go None is = absurd (∥∥₁_elim h (λ x y. absurd x) (λ it. let e : None ≡ Some it.0 = sym is ∙ it.1 in (let f : ⊥ = cc in f)))
+
+pub loses : (before : Book) (old : Bodies) (b : Book) (new : Bodies) → Stable (LosesNone before old b new)
+loses before old b new = each (λ uid. each (λ needed. each (λ had. is_there new uid)))
+
+pub lets_go_of : (was_of read_of : List ℕ → Option (List ℕ)) (base db : Trees) → Stable (LetsGoOf was_of read_of base db)
+lets_go_of was_of read_of base db h = record {
+  lets = lets_go (bodies_with was_of base) (bodies_with read_of db) (∥∥₁_map h (λ it. it.lets));
+  none_lost = loses (book_of base) (bodies_with was_of base) (book_of db) (bodies_with read_of db) (∥∥₁_map h (λ it. it.none_lost));
+}

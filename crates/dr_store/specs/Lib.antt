@@ -1,4 +1,5 @@
 pub mod Counting
+pub mod DataSets
 pub mod Listing
 pub mod Owning
 pub mod Reading

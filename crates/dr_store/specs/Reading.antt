@@ -1,5 +1,7 @@
--- What single queries show together, and what of it is read from the shelf.
+-- What single queries show together, and what of it is read from the shelf. `Uses` says which cells
+-- are in use there, and `read_of` what can be read by a cell.
 use Rattle.std.specs.Prelude.{◌≡◌, ◌≢◌, ℕ, List, Option, Some, None, Result, Ok, Err}
+use Rattle.std.specs.FinMap as map
 use Rattle.sqlite.specs.Tree.{Trees}
 use Rattle.dr_base.specs.Texts.{Text}
 use Rattle.dr_ledger.specs.declared.content.Job.{Job}
@@ -7,45 +9,71 @@ use Rattle.dr_ledger.specs.declared.content.NextRow.{NextRow}
 use Rattle.dr_ledger.specs.declared.content.NextRow.TheVariants.{Whole, Unreadable}
 use Rattle.dr_ledger.specs.declared.fault.LedgerFault.{LedgerFault}
 use Rattle.dr_ledger.specs.declared.fault.LedgerFault.TheVariants as fault
+use Rattle.dr_ledger.specs.declared.item.Instance.{Instance}
+use Rattle.dr_store_schema.specs.Books.{contents_in, items_of}
 use Rattle.dr_store_calls.specs.declared.knowing.Known.{Known}
 use Rattle.dr_store_calls.specs.declared.knowing.Known.TheVariants as known
-use Rattle.dr_store_reads.specs.Queries.{IsFirstDue, IsJobOf}
+use Rattle.dr_store_reads.specs.Queries.{IsFirstDue}
+use Rattle.dr_store.specs.declared.due.DueRow.{DueRow}
+use Rattle.dr_store.specs.DataSets.{IsDataSetOf, job_with}
 
--- the instance of that uid with what stands in its row for its data set
-abbrev pub IsWholeJob : Text → Trees → Option Job → Type 0
-IsWholeJob uid db None = ⊥
-IsWholeJob uid db (Some job) = IsJobOf uid db (Some job)
+-- the instance of that uid, with what stands in its row for its data set
+abbrev pub IsRowOf : Text → Trees → DueRow → Type 0
+IsRowOf uid db due =
+    (due.instance.uid ≡ uid)
+    × (map.get (items_of db) uid ≡ Some due.instance)
+    × (map.get (contents_in (db 1)) uid ≡ Some due.cell)
+
+-- there is such an instance
+abbrev pub IsSomeRowOf : Text → Trees → Option DueRow → Type 0
+IsSomeRowOf uid db None = ⊥
+IsSomeRowOf uid db (Some due) = IsRowOf uid db due
 
 -- the instance of the first row that is due, with what stands in its row for its data set, or none
 -- where no row is due
-abbrev pub NextsStored : Trees → Text → ℕ → Option Job → Type 0
+abbrev pub NextsStored : Trees → Text → ℕ → Option DueRow → Type 0
 NextsStored db dest now None = IsFirstDue db dest now None
-NextsStored db dest now (Some job) =
-    IsFirstDue db dest now (Some job.uid) × IsJobOf job.uid db (Some job)
+NextsStored db dest now (Some due) =
+    IsFirstDue db dest now (Some due.instance.uid) × IsRowOf due.instance.uid db due
 
--- the same instance, with these bytes for its data set
-abbrev pub with_body : Job → List ℕ → Job
-with_body job body = record { uid = job.uid; key = job.key; body = body }
+-- A row of the instance is handed out with these bytes, which are its data set; or only with the
+-- uid, where they aren't.
+abbrev pub IsReadAgain : Instance → List ℕ → NextRow → Type 0
+IsReadAgain i bytes (Whole job) = (job ≡ job_with i bytes) × IsDataSetOf i bytes
+IsReadAgain i bytes (Unreadable uid) = (uid ≡ i.uid) × (IsDataSetOf i bytes → ⊥)
 
--- The job was read by a cell: it is that of the cell, with the bytes for which the cell stands.
-pub record IsReadBy (Stands : List ℕ → List ℕ → Type 0) (stored job : Job) : Type 0 where
-  pub same : job ≡ with_body stored job.body
-  pub read : (bytes : List ℕ) → Stands stored.body bytes → job.body ≡ bytes
+-- The row is handed out with the data set of its instance, which can be read by its cell; or only
+-- with the uid, where none can.
+abbrev pub IsHandedOut : (List ℕ → Option (List ℕ)) → DueRow → NextRow → Type 0
+IsHandedOut read_of due (Whole job) =
+    (job ≡ job_with due.instance job.body)
+    × (read_of due.cell ≡ Some job.body)
+    × IsDataSetOf due.instance job.body
+IsHandedOut read_of due (Unreadable uid) =
+    (uid ≡ due.instance.uid)
+    × ((bytes : List ℕ)
+    → read_of due.cell ≡ Some bytes
+    → IsDataSetOf due.instance bytes
+    → ⊥)
 
--- the instance of the first row that is due, with its data set, which was read by the cell in its
--- row, or its uid, where the cell stands for no data set, or none where no row is due
-abbrev pub NextsRead : (List ℕ → List ℕ → Type 0) → Trees → Text → ℕ → Option NextRow → Type 0
-NextsRead Stands db dest now None = IsFirstDue db dest now None
-NextsRead Stands db dest now (Some (Whole job)) =
-    (stored : Job) × NextsStored db dest now (Some stored) × IsReadBy Stands stored job
-NextsRead Stands db dest now (Some (Unreadable uid)) =
-    (stored : Job)
-    × NextsStored db dest now (Some stored)
-    × (uid ≡ stored.uid)
-    × ((bytes : List ℕ) → Stands stored.body bytes → ⊥)
+-- the first row that is due, as it is handed out where its cell is in use, or none where no row is
+-- due
+abbrev pub NextsRead : (List ℕ → Type 0)
+    → (List ℕ → Option (List ℕ)) → Trees → Text → ℕ → Option NextRow → Type 0
+NextsRead Uses read_of db dest now None = IsFirstDue db dest now None
+NextsRead Uses read_of db dest now (Some row) =
+    (due : DueRow)
+    × NextsStored db dest now (Some due)
+    × (Uses due.cell → IsHandedOut read_of due row)
 
 -- an arrival is refused just where another instance has its uid
 abbrev pub AdmitsKnown : Known → Result (Unit {0}) LedgerFault → Type 0
 AdmitsKnown known.No result = result ≡ Ok tt
 AdmitsKnown known.Other result = result ≡ Err fault.Conflict
 AdmitsKnown (known.Same whole) result = result ≡ Ok tt
+
+-- ---- for those above
+
+-- the same instance, with these bytes for its data set
+abbrev pub with_body : Job → List ℕ → Job
+with_body job body = record { uid = job.uid; key = job.key; body = body }

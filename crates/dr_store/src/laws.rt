@@ -1,10 +1,12 @@
-//! Laws of what a crash leaves of a call that writes.
+//! Laws of what a crash leaves of a call that writes, and of the data sets that can be read.
 ghost use Rattle.std.specs.Prelude.{◌≡◌, Err, Ok};
 ghost use Rattle.sqlite.specs.Held.{state};
 ghost use Rattle.sqlite.specs.State.{HasCleanDisk};
 ghost use Rattle.sqlite.specs.Tree.{Trees};
 ghost use Rattle.dr_ledger.specs.declared.fault.LedgerFault.{LedgerFault};
 ghost use Rattle.dr_store_calls.specs.Calling.{IsSafe};
+ghost use Rattle.dr_store.specs.Owning.{AllThatStandAreThere, BodiesAreWhatIsRead, ItsOwnIsThere};
+ghost use Rattle.dr_store.specs.Owning.{OtherBytesAreNotThere, OtherItemsAreNotThere};
 ghost use Rattle.dr_store.specs.Surviving.{CrashesAreTold, MakesNone, Whatever, Wrote};
 
 use sqlite::{Alter, Connection};
@@ -37,4 +39,19 @@ pub fn what_makes_nothing_leaves_all<S: Alter>(before: &Connection<S>, after: &C
 /// that the accepted call makes.
 pub fn a_crash_is_told_by_books()
     ensures { CrashesAreTold }
+{}
+
+/// A data set is there just where it can be read: its bytes can be read by its cell, and are those
+/// of an item, which is the book's. So where each cell stands for its item's, none is unreadable.
+pub fn the_data_sets_are_those_that_can_be_read()
+    ensures just { BodiesAreWhatIsRead }
+    ensures all { AllThatStandAreThere }
+{}
+
+/// The data set of the book's item is there, and bytes with another length, another SHA-256, another
+/// uid or another key aren't.
+pub fn other_bytes_are_no_data_set()
+    ensures own { ItsOwnIsThere }
+    ensures bytes { OtherBytesAreNotThere }
+    ensures items { OtherItemsAreNotThere }
 {}

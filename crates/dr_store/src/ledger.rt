@@ -3,7 +3,7 @@ ghost use Rattle.std.specs.Prelude.{◌≡◌, ◌≤◌, ◌^◌, Ok, false};
 ghost use Rattle.sqlite.specs.Held.{state};
 ghost use Rattle.sqlite.specs.State.{HasCleanDisk};
 ghost use Rattle.dr_ledger.specs.Adopting.{Adopting, site_after};
-ghost use Rattle.dr_ledger.specs.Bodies.{OnlyLetsGo, OnlyTakes};
+ghost use Rattle.dr_ledger.specs.Bodies.{OnlyTakes};
 ghost use Rattle.dr_ledger.specs.Items.{instance_of};
 ghost use Rattle.dr_ledger.specs.Replies.{Arrives, Counts, Drops, Forgets, Requeues, Settles};
 ghost use Rattle.dr_ledger.specs.SiteRoutes.{site_routing};
@@ -12,7 +12,7 @@ ghost use Rattle.dr_store_calls.specs.Adoptions.{IsAdopted};
 ghost use Rattle.dr_store_calls.specs.Calling.{IsSafe};
 ghost use Rattle.dr_store_calls.specs.Knowing.{IsAccepted};
 ghost use Rattle.dr_store.specs.Counting.{failures_after};
-ghost use Rattle.dr_store.specs.Owning.{IsCovered, KeepsOwn, bodies_with};
+ghost use Rattle.dr_store.specs.Owning.{IsCovered, KeepsOwn, LetsGoOf, LosesNoneOf, bodies_with};
 ghost use Rattle.dr_store.specs.Surviving.{TakesOver, Wrote};
 
 use crate::counting::{counted, next_after};
@@ -36,7 +36,8 @@ use sqlite::{Alter, Connection};
 use std::alloc::Global;
 
 /// The ledger of one node, in the tables of a database. Its data sets are on a shelf, and the
-/// tables have the cells that stand for them. It counts the failures of its store, and has the
+/// tables have the cells that stand for them. It has those data sets that can be read: what is read
+/// by a cell is tested each time, and nothing else need be known of it. It counts the failures of its store, and has the
 /// moment that it was told last, if it was told one.
 #[derive(Drop)]
 pub struct SqlLedger<S: Alter, B: Shelf> {
@@ -50,8 +51,7 @@ pub struct SqlLedger<S: Alter, B: Shelf> {
     ghost idle: { conn.in_transaction ≡ false },
     ghost kept: { B.Shelf.is_clean shelf
         → IsSafe (state S.Store conn)
-        → ∥ KeepsOwn (B.Shelf.uses shelf) (B.Shelf.stands shelf)
-        (B.Shelf.apart (B.Shelf.named shelf)) next site
+        → ∥ KeepsOwn (B.Shelf.uses shelf) (B.Shelf.apart (B.Shelf.named shelf)) next site
         (state S.Store conn) ∥₁ },
 }
 
@@ -70,8 +70,7 @@ impl<S: Alter, B: Shelf> SqlLedger<S, B> {
         requires idle { conn.in_transaction ≡ false }
         requires kept { B.Shelf.is_clean shelf
             → IsSafe (state S.Store conn)
-            → ∥ KeepsOwn (B.Shelf.uses shelf) (B.Shelf.stands shelf)
-            (B.Shelf.apart (B.Shelf.named shelf)) next site
+            → ∥ KeepsOwn (B.Shelf.uses shelf) (B.Shelf.apart (B.Shelf.named shelf)) next site
             (state S.Store conn) ∥₁ }
         ensures site { result.site ≡ site }
         ensures conn { result.conn ≡ conn }
@@ -115,15 +114,17 @@ impl<S: Alter, B: Shelf> SqlLedger<S, B> {
             → Wrote result (state S.Store self.old.conn) (state S.Store self.new.conn)
             (λ base db. Arrives (site_routing self.old.site) caller.now (instance_of item)
             (book_of base) result (book_of db)
-            × OnlyTakes item (bodies_with (B.Shelf.body_of self.old.shelf) base)
-            (bodies_with (B.Shelf.body_of self.new.shelf) db))
+            × OnlyTakes item (bodies_with (B.Shelf.read_of self.old.shelf) base)
+            (bodies_with (B.Shelf.read_of self.new.shelf) db)
+            × LosesNoneOf (B.Shelf.read_of self.old.shelf) (B.Shelf.read_of self.new.shelf) base db)
             (λ base db. IsAccepted self.old.site caller.now (instance_of item) (book_of base)
             (book_of db)) }
         ensures covered { B.Shelf.is_clean self.new.shelf
             → HasCleanDisk (state S.Store self.new.conn)
             → IsSafe (state S.Store self.old.conn)
             → IsCovered (B.Shelf.uses self.new.shelf) (B.Shelf.stands self.new.shelf)
-            (B.Shelf.apart (B.Shelf.named self.new.shelf))
+            (B.Shelf.apart (B.Shelf.named self.new.shelf)) (B.Shelf.read_of self.old.shelf)
+            (B.Shelf.read_of self.new.shelf) (state S.Store self.old.conn).committed.trees
             (state S.Store self.new.conn).may_leave }
         ensures clean { B.Shelf.is_clean self.new.shelf → B.Shelf.is_clean self.old.shelf }
         ensures counted { self.new.failures ≡ failures_after result self.old.failures }
@@ -161,14 +162,14 @@ impl<S: Alter, B: Shelf> SqlLedger<S, B> {
         ensures wrote { B.Shelf.is_clean self.new.shelf
             → Wrote result (state S.Store self.old.conn) (state S.Store self.new.conn)
             (λ base db. Settles uid.now dest.now outcome now (book_of base) result (book_of db)
-            × OnlyLetsGo (bodies_with (B.Shelf.body_of self.old.shelf) base)
-            (bodies_with (B.Shelf.body_of self.new.shelf) db))
+            × LetsGoOf (B.Shelf.read_of self.old.shelf) (B.Shelf.read_of self.new.shelf) base db)
             (λ base db. Settles uid.now dest.now outcome now (book_of base) (Ok tt) (book_of db)) }
         ensures covered { B.Shelf.is_clean self.new.shelf
             → HasCleanDisk (state S.Store self.new.conn)
             → IsSafe (state S.Store self.old.conn)
             → IsCovered (B.Shelf.uses self.new.shelf) (B.Shelf.stands self.new.shelf)
-            (B.Shelf.apart (B.Shelf.named self.new.shelf))
+            (B.Shelf.apart (B.Shelf.named self.new.shelf)) (B.Shelf.read_of self.old.shelf)
+            (B.Shelf.read_of self.new.shelf) (state S.Store self.old.conn).committed.trees
             (state S.Store self.new.conn).may_leave }
         ensures clean { B.Shelf.is_clean self.new.shelf → B.Shelf.is_clean self.old.shelf }
         ensures counted { self.new.failures ≡ failures_after result self.old.failures }
@@ -194,14 +195,14 @@ impl<S: Alter, B: Shelf> SqlLedger<S, B> {
         ensures wrote { B.Shelf.is_clean self.new.shelf
             → Wrote result (state S.Store self.old.conn) (state S.Store self.new.conn)
             (λ base db. Requeues uid.now dest.now (book_of base) result (book_of db)
-            × OnlyLetsGo (bodies_with (B.Shelf.body_of self.old.shelf) base)
-            (bodies_with (B.Shelf.body_of self.new.shelf) db))
+            × LetsGoOf (B.Shelf.read_of self.old.shelf) (B.Shelf.read_of self.new.shelf) base db)
             (λ base db. Requeues uid.now dest.now (book_of base) (Ok tt) (book_of db)) }
         ensures covered { B.Shelf.is_clean self.new.shelf
             → HasCleanDisk (state S.Store self.new.conn)
             → IsSafe (state S.Store self.old.conn)
             → IsCovered (B.Shelf.uses self.new.shelf) (B.Shelf.stands self.new.shelf)
-            (B.Shelf.apart (B.Shelf.named self.new.shelf))
+            (B.Shelf.apart (B.Shelf.named self.new.shelf)) (B.Shelf.read_of self.old.shelf)
+            (B.Shelf.read_of self.new.shelf) (state S.Store self.old.conn).committed.trees
             (state S.Store self.new.conn).may_leave }
         ensures clean { B.Shelf.is_clean self.new.shelf → B.Shelf.is_clean self.old.shelf }
         ensures counted { self.new.failures ≡ failures_after result self.old.failures }
@@ -221,14 +222,14 @@ impl<S: Alter, B: Shelf> SqlLedger<S, B> {
         ensures wrote { B.Shelf.is_clean self.new.shelf
             → Wrote result (state S.Store self.old.conn) (state S.Store self.new.conn)
             (λ base db. Drops uid.now dest.now now (book_of base) result (book_of db)
-            × OnlyLetsGo (bodies_with (B.Shelf.body_of self.old.shelf) base)
-            (bodies_with (B.Shelf.body_of self.new.shelf) db))
+            × LetsGoOf (B.Shelf.read_of self.old.shelf) (B.Shelf.read_of self.new.shelf) base db)
             (λ base db. Drops uid.now dest.now now (book_of base) (Ok tt) (book_of db)) }
         ensures covered { B.Shelf.is_clean self.new.shelf
             → HasCleanDisk (state S.Store self.new.conn)
             → IsSafe (state S.Store self.old.conn)
             → IsCovered (B.Shelf.uses self.new.shelf) (B.Shelf.stands self.new.shelf)
-            (B.Shelf.apart (B.Shelf.named self.new.shelf))
+            (B.Shelf.apart (B.Shelf.named self.new.shelf)) (B.Shelf.read_of self.old.shelf)
+            (B.Shelf.read_of self.new.shelf) (state S.Store self.old.conn).committed.trees
             (state S.Store self.new.conn).may_leave }
         ensures clean { B.Shelf.is_clean self.new.shelf → B.Shelf.is_clean self.old.shelf }
         ensures counted { self.new.failures ≡ failures_after result self.old.failures }
@@ -254,14 +255,14 @@ impl<S: Alter, B: Shelf> SqlLedger<S, B> {
         ensures wrote { B.Shelf.is_clean self.new.shelf
             → Wrote result (state S.Store self.old.conn) (state S.Store self.new.conn)
             (λ base db. Forgets uid.now (book_of base) result (book_of db)
-            × OnlyLetsGo (bodies_with (B.Shelf.body_of self.old.shelf) base)
-            (bodies_with (B.Shelf.body_of self.new.shelf) db))
+            × LetsGoOf (B.Shelf.read_of self.old.shelf) (B.Shelf.read_of self.new.shelf) base db)
             (λ base db. Forgets uid.now (book_of base) (Ok tt) (book_of db)) }
         ensures covered { B.Shelf.is_clean self.new.shelf
             → HasCleanDisk (state S.Store self.new.conn)
             → IsSafe (state S.Store self.old.conn)
             → IsCovered (B.Shelf.uses self.new.shelf) (B.Shelf.stands self.new.shelf)
-            (B.Shelf.apart (B.Shelf.named self.new.shelf))
+            (B.Shelf.apart (B.Shelf.named self.new.shelf)) (B.Shelf.read_of self.old.shelf)
+            (B.Shelf.read_of self.new.shelf) (state S.Store self.old.conn).committed.trees
             (state S.Store self.new.conn).may_leave }
         ensures clean { B.Shelf.is_clean self.new.shelf → B.Shelf.is_clean self.old.shelf }
         ensures counted { self.new.failures ≡ failures_after result self.old.failures }
@@ -280,15 +281,15 @@ impl<S: Alter, B: Shelf> SqlLedger<S, B> {
         ensures wrote { B.Shelf.is_clean self.new.shelf
             → Wrote result (state S.Store self.old.conn) (state S.Store self.new.conn)
             (λ base db. Adopting (book_of base) result (book_of db)
-            × OnlyLetsGo (bodies_with (B.Shelf.body_of self.old.shelf) base)
-            (bodies_with (B.Shelf.body_of self.new.shelf) db)
+            × LetsGoOf (B.Shelf.read_of self.old.shelf) (B.Shelf.read_of self.new.shelf) base db
             × TakesOver own result base db)
             (IsAdopted own) }
         ensures covered { B.Shelf.is_clean self.new.shelf
             → HasCleanDisk (state S.Store self.new.conn)
             → IsSafe (state S.Store self.old.conn)
             → IsCovered (B.Shelf.uses self.new.shelf) (B.Shelf.stands self.new.shelf)
-            (B.Shelf.apart (B.Shelf.named self.new.shelf))
+            (B.Shelf.apart (B.Shelf.named self.new.shelf)) (B.Shelf.read_of self.old.shelf)
+            (B.Shelf.read_of self.new.shelf) (state S.Store self.old.conn).committed.trees
             (state S.Store self.new.conn).may_leave }
         ensures clean { B.Shelf.is_clean self.new.shelf → B.Shelf.is_clean self.old.shelf }
         ensures counted { self.new.failures ≡ failures_after result self.old.failures }
@@ -328,7 +329,7 @@ impl<S: Alter, B: Shelf> Ledger for SqlLedger<S, B> {
     ghost book = { λ l. book_of (state S.Store l.conn).committed.trees };
 
     ghost bodies = { λ l.
-        bodies_with (B.Shelf.body_of l.shelf) (state S.Store l.conn).committed.trees };
+        bodies_with (B.Shelf.read_of l.shelf) (state S.Store l.conn).committed.trees };
 
     ghost trusts = { λ l. HasCleanDisk (state S.Store l.conn) × B.Shelf.is_clean l.shelf };
 
@@ -341,8 +342,8 @@ impl<S: Alter, B: Shelf> Ledger for SqlLedger<S, B> {
     ghost journalled = { λ l safe. ∥∥₁_map (l.kept safe.1 safe.0) (λ k. k.kept.ledger.journalled) };
 
     ghost bodied = { λ l safe. ∥∥₁_map (l.kept safe.1 safe.0) (λ k.
-        has_bodies (B.Shelf.stands l.shelf) (B.Shelf.body_of l.shelf) (B.Shelf.only l.shelf)
-        (state S.Store l.conn).committed.trees k.kept.ledger.bodied k.own.own) };
+        has_bodies (B.Shelf.read_of l.shelf) (state S.Store l.conn).committed.trees
+        k.kept.ledger.bodied) };
 
     fn arrive(&mut self, caller: &Text, item: Item) -> Result<Arrived, LedgerFault> {
         self.arrive_in(caller, item)

@@ -8,6 +8,7 @@
 #![tactic(auto)]
 
 mod counting;
+mod due;
 pub mod laws;
 mod ledger;
 mod listing;

@@ -11,15 +11,17 @@ ghost use Rattle.dr_ledger.specs.SiteRoutes.{site_routing};
 ghost use Rattle.dr_site.specs.Routing.{HasLineFor};
 ghost use Rattle.dr_store_schema.specs.Books.{bodies_of, book_of, items_of};
 ghost use Rattle.dr_store_calls.specs.Calling.{Called, Looked, Nothing};
-ghost use Rattle.dr_store_shelf.specs.Shelves.{KeepsCells};
-ghost use Rattle.dr_store.specs.Reading.{AdmitsKnown, IsWholeJob, NextsRead, NextsStored};
+ghost use Rattle.dr_store_reads.specs.Queries.{IsJobOf};
+ghost use Rattle.dr_store_shelf.specs.Shelves.{KeepsCells, ReadsAsBefore};
+ghost use Rattle.dr_store.specs.Reading.{AdmitsKnown, IsRowOf, IsSomeRowOf, NextsRead, NextsStored};
 
-use dr_base::{Octets, Text};
+use crate::due::{DueRow, due_of, read_by};
+use dr_base::Text;
 use dr_ledger::{Instance, Item, Job, LedgerFault, NextRow};
 use dr_site::Site;
-use dr_store_calls::{Known, know, shelf_fault};
-use dr_store_reads::{find_item, find_job, find_key, find_next};
-use dr_store_shelf::{Shelf, ShelfFault};
+use dr_store_calls::{Known, know};
+use dr_store_reads::{find_item, find_job, find_key, find_next, find_print};
+use dr_store_shelf::Shelf;
 use sqlite::{Alter, Connection};
 use std::alloc::Global;
 
@@ -80,20 +82,55 @@ pub fn has_data_set<S: Alter>(
     }
 }
 
-/// The instance of this uid with its data set. One that was found due is there.
-fn job_of<S: Alter>(
+/// What stands in the tables for the job of this uid.
+fn with_print<S: Alter>(
+    conn: &mut Connection<S>,
+    uid: &Text,
+    job: Job,
+) -> Result<DueRow, LedgerFault>
+    ensures looked { (n : ℕ) (part : Part)
+        → Looked n part result (state S.Store conn.old) (state S.Store conn.new)
+        (λ base due. IsJobOf uid.now base (Some job) → IsRowOf uid.now base due) }
+    ensures idle { conn.old.in_transaction ≡ false → conn.new.in_transaction ≡ false }
+{
+    match find_print(conn, uid) {
+        Ok(Some(print)) => Ok(due_of(job, print)),
+        Ok(None) => Err(LedgerFault::Store),
+        Err(fault) => Err(fault),
+    }
+}
+
+/// What stands in the tables for the instance of this uid. One that was found due is there.
+fn row_of<S: Alter>(
     conn: &mut Connection<S>,
     alloc: Global,
     uid: &Text,
-) -> Result<Option<Job>, LedgerFault>
+) -> Result<DueRow, LedgerFault>
     ensures looked { (n : ℕ) (part : Part)
         → Looked n part result (state S.Store conn.old) (state S.Store conn.new)
-        (λ base job. IsWholeJob uid.now base job) }
+        (λ base due. IsRowOf uid.now base due) }
     ensures idle { conn.old.in_transaction ≡ false → conn.new.in_transaction ≡ false }
 {
     match find_job(conn, alloc, uid) {
-        Ok(Some(job)) => Ok(Some(job)),
+        Ok(Some(job)) => with_print(conn, uid, job),
         Ok(None) => Err(LedgerFault::Store),
+        Err(fault) => Err(fault),
+    }
+}
+
+/// The same, as what was found due.
+fn due_by<S: Alter>(
+    conn: &mut Connection<S>,
+    alloc: Global,
+    uid: &Text,
+) -> Result<Option<DueRow>, LedgerFault>
+    ensures looked { (n : ℕ) (part : Part)
+        → Looked n part result (state S.Store conn.old) (state S.Store conn.new)
+        (λ base due. IsSomeRowOf uid.now base due) }
+    ensures idle { conn.old.in_transaction ≡ false → conn.new.in_transaction ≡ false }
+{
+    match row_of(conn, alloc, uid) {
+        Ok(due) => Ok(Some(due)),
         Err(fault) => Err(fault),
     }
 }
@@ -105,60 +142,67 @@ fn next_stored<S: Alter>(
     alloc: Global,
     dest: &Text,
     now: u64,
-) -> Result<Option<Job>, LedgerFault>
+) -> Result<Option<DueRow>, LedgerFault>
     ensures looked { (n : ℕ) (part : Part)
         → Looked n part result (state S.Store conn.old) (state S.Store conn.new)
-        (λ base job. NextsStored base dest.now now job) }
+        (λ base due. NextsStored base dest.now now due) }
     ensures idle { conn.old.in_transaction ≡ false → conn.new.in_transaction ≡ false }
 {
     match find_next(conn, alloc, dest, now) {
-        Ok(Some(uid)) => job_of(conn, alloc, &uid),
+        Ok(Some(uid)) => due_by(conn, alloc, &uid),
         Ok(None) => Ok(None),
         Err(fault) => Err(fault),
     }
 }
 
-/// What is due, with its data set in the place of the cell that stood for it; or only its uid,
-/// where the bytes don't pass the cell's test.
-fn read_by<B: Shelf>(shelf: &mut B, stored: Job) -> Result<Option<NextRow>, LedgerFault>
-    ensures read { (db : Trees) (dest : List ℕ) (now : ℕ) → NextsStored db dest now (Some stored)
+/// A row that is due, as it is handed out.
+fn read_some<B: Shelf>(
+    shelf: &mut B,
+    alloc: Global,
+    due: DueRow,
+) -> Result<Option<NextRow>, LedgerFault>
+    ensures read { (db : Trees) (dest : List ℕ) (now : ℕ) → NextsStored db dest now (Some due)
         → Reads result (λ row. B.Shelf.is_clean shelf.new
-        → NextsRead (B.Shelf.stands shelf.old) db dest now row) }
+        → NextsRead (B.Shelf.uses shelf.old) (B.Shelf.read_of shelf.old) db dest now row) }
     ensures keeps { KeepsCells (B.Shelf.uses shelf.old) (B.Shelf.stands shelf.old)
         (B.Shelf.uses shelf.new) (B.Shelf.stands shelf.new) }
+    ensures reads { B.Shelf.is_clean shelf.new
+        → ReadsAsBefore (B.Shelf.uses shelf.old) (B.Shelf.read_of shelf.old)
+        (B.Shelf.read_of shelf.new) }
     ensures named { B.Shelf.named shelf.new ≡ B.Shelf.named shelf.old }
     ensures clean { B.Shelf.is_clean shelf.new → B.Shelf.is_clean shelf.old }
 {
-    let Job { uid, key, body } = stored;
-    match shelf.get(body.into_vec()) {
-        Ok(bytes) => Ok(Some(NextRow::Whole(Job {
-            uid,
-            key,
-            body: Octets::from_vec(bytes),
-        }))),
-        Err(ShelfFault::Unreadable) => Ok(Some(NextRow::Unreadable(uid))),
-        Err(fault) => Err(shelf_fault(fault)),
+    match read_by(shelf, alloc, due) {
+        Ok(row) => Ok(Some(row)),
+        Err(fault) => Err(fault),
     }
 }
 
-/// The same, where a row is due.
-fn read_due<B: Shelf>(shelf: &mut B, due: Option<Job>) -> Result<Option<NextRow>, LedgerFault>
+/// The same, where one is due.
+fn read_due<B: Shelf>(
+    shelf: &mut B,
+    alloc: Global,
+    due: Option<DueRow>,
+) -> Result<Option<NextRow>, LedgerFault>
     ensures read { (db : Trees) (dest : List ℕ) (now : ℕ) → NextsStored db dest now due
         → Reads result (λ row. B.Shelf.is_clean shelf.new
-        → NextsRead (B.Shelf.stands shelf.old) db dest now row) }
+        → NextsRead (B.Shelf.uses shelf.old) (B.Shelf.read_of shelf.old) db dest now row) }
     ensures keeps { KeepsCells (B.Shelf.uses shelf.old) (B.Shelf.stands shelf.old)
         (B.Shelf.uses shelf.new) (B.Shelf.stands shelf.new) }
+    ensures reads { B.Shelf.is_clean shelf.new
+        → ReadsAsBefore (B.Shelf.uses shelf.old) (B.Shelf.read_of shelf.old)
+        (B.Shelf.read_of shelf.new) }
     ensures named { B.Shelf.named shelf.new ≡ B.Shelf.named shelf.old }
     ensures clean { B.Shelf.is_clean shelf.new → B.Shelf.is_clean shelf.old }
 {
     match due {
-        Some(stored) => read_by(shelf, stored),
+        Some(stored) => read_some(shelf, alloc, stored),
         None => Ok(None),
     }
 }
 
 /// What the first row for the destination, by (due, uid), that waits and is due at the moment `now`
-/// (milliseconds) is about, with its data set.
+/// (milliseconds) is about, with its data set; or only its uid, where that can't be read.
 pub fn next_job<S: Alter, B>(
     conn: &mut Connection<S>,
     shelf: &mut B,
@@ -171,15 +215,18 @@ where
     ensures looked { (n : ℕ) (part : Part)
         → Looked n part result (state S.Store conn.old) (state S.Store conn.new)
         (λ base row. B.Shelf.is_clean shelf.new
-        → NextsRead (B.Shelf.stands shelf.old) base dest.now now row) }
+        → NextsRead (B.Shelf.uses shelf.old) (B.Shelf.read_of shelf.old) base dest.now now row) }
     ensures keeps { KeepsCells (B.Shelf.uses shelf.old) (B.Shelf.stands shelf.old)
         (B.Shelf.uses shelf.new) (B.Shelf.stands shelf.new) }
+    ensures reads { B.Shelf.is_clean shelf.new
+        → ReadsAsBefore (B.Shelf.uses shelf.old) (B.Shelf.read_of shelf.old)
+        (B.Shelf.read_of shelf.new) }
     ensures named { B.Shelf.named shelf.new ≡ B.Shelf.named shelf.old }
     ensures clean { B.Shelf.is_clean shelf.new → B.Shelf.is_clean shelf.old }
     ensures idle { conn.old.in_transaction ≡ false → conn.new.in_transaction ≡ false }
 {
     match next_stored(conn, alloc, dest, now) {
-        Ok(due) => read_due(shelf, due),
+        Ok(due) => read_due(shelf, alloc, due),
         Err(fault) => Err(fault),
     }
 }

@@ -92,7 +92,7 @@ module _ (Apart : List ℕ → List ℕ → Type 0) (Used : List ℕ → Type 0)
   all_stay : KeepsCells Used Stood Uses Stands → bodies_of db ≡ bodies_of base → LetsCellsGo Apart Used Stood Uses Stands base db
   all_stay keeps same = record {
     lets = λ q cell h. sym (at q) ∙ h;
-    keeps = λ apart q cell bytes h used stood. keeps cell bytes used stood;
+    keeps = λ apart q cell h used. keeps cell used;
     gone = λ q cell was none. absurd (let e : Some cell ≡ None = sym was ∙ sym (at q) ∙ none in cc);
   }
     where
@@ -123,11 +123,11 @@ module _ (Apart : List ℕ → List ℕ → Type 0) (Used : List ℕ → Type 0)
     ]
 
     kept : (found : Option Job) → IsCellOf Apart uid base found → KeepsApart Apart Used Stood Uses Stands found → AreEachApart Apart (bodies_of base)
-        → (q : Text) (other bytes : List ℕ) → map.get (bodies_of db) q ≡ Some other → Used other → Stood other bytes → Uses other × Stands other bytes
-    kept None is keeps apart q other bytes h used stood = keeps other bytes used stood
-    kept (Some job) is keeps apart q other bytes h used stood =
+        → (q : Text) (other : List ℕ) → map.get (bodies_of db) q ≡ Some other → Used other → Uses other × ((bytes : List ℕ) → Stood other bytes → Stands other bytes)
+    kept None is keeps apart q other h used = keeps other used
+    kept (Some job) is keeps apart q other h used =
         let there = left_at q other h in
-        keeps other bytes (subst (λ x. Apart x other) (is cell was) (apart uid q cell other there.0 was there.1)) used stood
+        keeps other (subst (λ x. Apart x other) (is cell was) (apart uid q cell other there.0 was there.1)) used
 
     let_go : (found : Option Job) → IsCellOf Apart uid base found → IsGone Apart Uses found → (other : List ℕ) → map.get (bodies_of base) uid ≡ Some other → (Apart other other → ⊥) → Uses other → ⊥
     let_go None is gone other h own uses = own (is other h)
@@ -149,4 +149,4 @@ module _ (Apart : List ℕ → List ℕ → Type 0) (Used : List ℕ → Type 0)
 
 -- where nothing is done
 pub no_cell_goes : (Apart : List ℕ → List ℕ → Type 0) (Uses : List ℕ → Type 0) (Stands : List ℕ → List ℕ → Type 0) (uid : Text) (base : Trees) → LetsCellsGo Apart Uses Stands Uses Stands base base
-no_cell_goes Apart Uses Stands uid base = all_stay Apart Uses Stands Uses Stands uid base base (λ cell bytes used stood. (used, stood)) refl
+no_cell_goes Apart Uses Stands uid base = all_stay Apart Uses Stands Uses Stands uid base base (λ cell used. (used, λ bytes stood. stood)) refl

@@ -66,11 +66,10 @@ abbrev pub KeepsApart : (List ℕ → List ℕ → Type 0)
     → Option Job → Type 0
 KeepsApart Apart Used Stood Uses Stands None = KeepsCells Used Stood Uses Stands
 KeepsApart Apart Used Stood Uses Stands (Some job) =
-    (other bytes : List ℕ)
+    (other : List ℕ)
     → Apart job.body other
     → Used other
-    → Stood other bytes
-    → Uses other × Stands other bytes
+    → Uses other × ((bytes : List ℕ) → Stood other bytes → Stands other bytes)
 
 -- what is on the shelf after a call with this answer
 abbrev pub LeavesCells : (List ℕ → List ℕ → Type 0)
@@ -93,11 +92,10 @@ pub record LetsCellsGo (Apart : List ℕ → List ℕ → Type 0) (Used : List �
     (Stood : List ℕ → List ℕ → Type 0) (Uses : List ℕ → Type 0)
     (Stands : List ℕ → List ℕ → Type 0) (base db : Trees) : Type 0 where
   pub lets : OnlyLetsGo (bodies_of base) (bodies_of db)
-  pub keeps : AreEachApart Apart (bodies_of base) → (uid : Text) (cell bytes : List ℕ)
+  pub keeps : AreEachApart Apart (bodies_of base) → (uid : Text) (cell : List ℕ)
       → map.get (bodies_of db) uid ≡ Some cell
       → Used cell
-      → Stood cell bytes
-      → Uses cell × Stands cell bytes
+      → Uses cell × ((bytes : List ℕ) → Stood cell bytes → Stands cell bytes)
   pub gone : (uid : Text) (cell : List ℕ)
       → map.get (bodies_of base) uid ≡ Some cell
       → map.get (bodies_of db) uid ≡ None

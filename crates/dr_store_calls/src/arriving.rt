@@ -6,7 +6,7 @@ ghost use Rattle.dr_store_calls.specs.Knowing.{FitsTables};
 ghost use Rattle.dr_store_calls.specs.Receiving.{AreTargetsOf, IsCellTaken, IsDelivered};
 ghost use Rattle.dr_store_calls.specs.Receiving.{ComesNone, IsThereFor, ReceivesAs, comes};
 ghost use Rattle.dr_store_calls.specs.Shelving.{IsPut};
-ghost use Rattle.dr_store_shelf.specs.Shelves.{KeepsCells};
+ghost use Rattle.dr_store_shelf.specs.Shelves.{KeepsCells, ReadsAsBefore};
 
 use crate::bringing::{Delivery, Reception};
 use crate::shelving::shelf_fault;
@@ -140,6 +140,9 @@ fn put_and_bring<'x, S: Alter, B: Shelf>(
         targets.now.keep reception.now.again.now reception.now.dests.now reception.now.keeps) }
     ensures keeps { KeepsCells (B.Shelf.uses shelf.old) (B.Shelf.stands shelf.old)
         (B.Shelf.uses shelf.new) (B.Shelf.stands shelf.new) }
+    ensures reads { B.Shelf.is_clean shelf.new
+        → ReadsAsBefore (B.Shelf.uses shelf.old) (B.Shelf.read_of shelf.old)
+        (B.Shelf.read_of shelf.new) }
     ensures named { B.Shelf.named shelf.new ≡ B.Shelf.named shelf.old }
     ensures clean { B.Shelf.is_clean shelf.new → B.Shelf.is_clean shelf.old }
     ensures number { OnOk result (came.now.n ≤ 2 ^ 62) }
@@ -174,6 +177,9 @@ pub fn bring_item<'x, S: Alter, B: Shelf>(
         targets.now.keep reception.now.again.now reception.now.dests.now reception.now.keeps) }
     ensures keeps { KeepsCells (B.Shelf.uses shelf.old) (B.Shelf.stands shelf.old)
         (B.Shelf.uses shelf.new) (B.Shelf.stands shelf.new) }
+    ensures reads { B.Shelf.is_clean shelf.new
+        → ReadsAsBefore (B.Shelf.uses shelf.old) (B.Shelf.read_of shelf.old)
+        (B.Shelf.read_of shelf.new) }
     ensures named { B.Shelf.named shelf.new ≡ B.Shelf.named shelf.old }
     ensures clean { B.Shelf.is_clean shelf.new → B.Shelf.is_clean shelf.old }
     ensures number { OnOk result (came.now.n ≤ 2 ^ 62) }

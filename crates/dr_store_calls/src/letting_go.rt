@@ -5,6 +5,7 @@ ghost use Rattle.dr_site.specs.Parts.{Part};
 ghost use Rattle.dr_ledger.specs.Bodies.{OnlyLetsGo};
 ghost use Rattle.dr_ledger.specs.Replies.{Drops, Settles};
 ghost use Rattle.dr_store_schema.specs.Books.{bodies_of, book_of};
+ghost use Rattle.dr_store_shelf.specs.Shelves.{ReadsAsBefore};
 ghost use Rattle.dr_store_calls.specs.Calling.{Called, Looked, Nothing, advanced};
 ghost use Rattle.dr_store_calls.specs.LettingGo.{IsCellOf, IsGone, KeepsApart, LeavesCells};
 ghost use Rattle.dr_store_calls.specs.LettingGo.{LetsCellsGo, plain};
@@ -49,6 +50,9 @@ fn let_go_of<B: Shelf>(shelf: &mut B, found: Option<Job>)
     ensures gone { IsGone (B.Shelf.apart (B.Shelf.named shelf.old)) (B.Shelf.uses shelf.new) found }
     ensures keeps { KeepsApart (B.Shelf.apart (B.Shelf.named shelf.old)) (B.Shelf.uses shelf.old)
         (B.Shelf.stands shelf.old) (B.Shelf.uses shelf.new) (B.Shelf.stands shelf.new) found }
+    ensures reads { B.Shelf.is_clean shelf.new
+        → ReadsAsBefore (B.Shelf.uses shelf.old) (B.Shelf.read_of shelf.old)
+        (B.Shelf.read_of shelf.new) }
     ensures named { B.Shelf.named shelf.new ≡ B.Shelf.named shelf.old }
     ensures clean { B.Shelf.is_clean shelf.new → B.Shelf.is_clean shelf.old }
 {
@@ -70,6 +74,9 @@ fn let_go_gone<B: Shelf>(
         (B.Shelf.stands shelf.old) (B.Shelf.uses shelf.new) (B.Shelf.stands shelf.new) found
         answer }
     ensures same { OnErr result (shelf.new ≡ shelf.old) }
+    ensures reads { B.Shelf.is_clean shelf.new
+        → ReadsAsBefore (B.Shelf.uses shelf.old) (B.Shelf.read_of shelf.old)
+        (B.Shelf.read_of shelf.new) }
     ensures named { B.Shelf.named shelf.new ≡ B.Shelf.named shelf.old }
     ensures clean { B.Shelf.is_clean shelf.new → B.Shelf.is_clean shelf.old }
 {
@@ -109,6 +116,9 @@ pub fn settle<S: Alter, B: Shelf>(
         Settles at.now.uid.now at.now.dest.now outcome now (book_of base) (Ok tt) (book_of db)
         × OnlyLetsGo (bodies_of base) (bodies_of db)) }
     ensures same { OnErr result (shelf.new ≡ shelf.old) }
+    ensures reads { B.Shelf.is_clean shelf.new
+        → ReadsAsBefore (B.Shelf.uses shelf.old) (B.Shelf.read_of shelf.old)
+        (B.Shelf.read_of shelf.new) }
     ensures named { B.Shelf.named shelf.new ≡ B.Shelf.named shelf.old }
     ensures clean { B.Shelf.is_clean shelf.new → B.Shelf.is_clean shelf.old }
     ensures number { OnOk result (n ≤ 2 ^ 62) }
@@ -147,6 +157,9 @@ pub fn give_up<S: Alter, B: Shelf>(
         (λ base db. Drops at.now.uid.now at.now.dest.now now (book_of base) (Ok tt) (book_of db)
         × OnlyLetsGo (bodies_of base) (bodies_of db)) }
     ensures same { OnErr result (shelf.new ≡ shelf.old) }
+    ensures reads { B.Shelf.is_clean shelf.new
+        → ReadsAsBefore (B.Shelf.uses shelf.old) (B.Shelf.read_of shelf.old)
+        (B.Shelf.read_of shelf.new) }
     ensures named { B.Shelf.named shelf.new ≡ B.Shelf.named shelf.old }
     ensures clean { B.Shelf.is_clean shelf.new → B.Shelf.is_clean shelf.old }
     ensures number { OnOk result (n ≤ 2 ^ 62) }

@@ -12,7 +12,7 @@ ghost use Rattle.dr_store_calls.specs.Knowing.{taking_absent, taking_there};
 ghost use Rattle.dr_store_calls.specs.Receiving.{AreTargetsOf, IsDelivered};
 ghost use Rattle.dr_store_calls.specs.Receiving.{IsFoundFor, IsThereFor, Receives};
 ghost use Rattle.dr_store_calls.specs.Shelving.{IsPut};
-ghost use Rattle.dr_store_shelf.specs.Shelves.{KeepsCells};
+ghost use Rattle.dr_store_shelf.specs.Shelves.{KeepsCells, ReadsAsBefore};
 
 use crate::arriving::{bring_item, repeat};
 use crate::bringing::{Delivery, FirstArrival, Reception};
@@ -182,6 +182,9 @@ fn bring_there<'x, S: Alter, B: Shelf>(
         × IsFoundFor came.now.instance.now.uid base first.now) }
     ensures keeps { KeepsCells (B.Shelf.uses shelf.old) (B.Shelf.stands shelf.old)
         (B.Shelf.uses shelf.new) (B.Shelf.stands shelf.new) }
+    ensures reads { B.Shelf.is_clean shelf.new
+        → ReadsAsBefore (B.Shelf.uses shelf.old) (B.Shelf.read_of shelf.old)
+        (B.Shelf.read_of shelf.new) }
     ensures named { B.Shelf.named shelf.new ≡ B.Shelf.named shelf.old }
     ensures clean { B.Shelf.is_clean shelf.new → B.Shelf.is_clean shelf.old }
     ensures number { OnOk result (came.now.n ≤ 2 ^ 62) }
@@ -217,6 +220,9 @@ fn arrive_first<'x, S: Alter, B: Shelf>(
         (IsThereFor came.now whole false) }
     ensures keeps { KeepsCells (B.Shelf.uses shelf.old) (B.Shelf.stands shelf.old)
         (B.Shelf.uses shelf.new) (B.Shelf.stands shelf.new) }
+    ensures reads { B.Shelf.is_clean shelf.new
+        → ReadsAsBefore (B.Shelf.uses shelf.old) (B.Shelf.read_of shelf.old)
+        (B.Shelf.read_of shelf.new) }
     ensures named { B.Shelf.named shelf.new ≡ B.Shelf.named shelf.old }
     ensures clean { B.Shelf.is_clean shelf.new → B.Shelf.is_clean shelf.old }
     ensures number { OnOk result (came.now.n ≤ 2 ^ 62) }
@@ -245,6 +251,9 @@ fn arrive_there<'x, S: Alter, B: Shelf>(
         IsThere base came.now.instance.now whole) }
     ensures keeps { KeepsCells (B.Shelf.uses shelf.old) (B.Shelf.stands shelf.old)
         (B.Shelf.uses shelf.new) (B.Shelf.stands shelf.new) }
+    ensures reads { B.Shelf.is_clean shelf.new
+        → ReadsAsBefore (B.Shelf.uses shelf.old) (B.Shelf.read_of shelf.old)
+        (B.Shelf.read_of shelf.new) }
     ensures named { B.Shelf.named shelf.new ≡ B.Shelf.named shelf.old }
     ensures clean { B.Shelf.is_clean shelf.new → B.Shelf.is_clean shelf.old }
     ensures number { OnOk result (came.now.n ≤ 2 ^ 62) }
@@ -288,6 +297,9 @@ fn arrive_new<'x, S: Alter, B: Shelf>(
         (HasNeither came.now.instance.now.uid) }
     ensures keeps { KeepsCells (B.Shelf.uses shelf.old) (B.Shelf.stands shelf.old)
         (B.Shelf.uses shelf.new) (B.Shelf.stands shelf.new) }
+    ensures reads { B.Shelf.is_clean shelf.new
+        → ReadsAsBefore (B.Shelf.uses shelf.old) (B.Shelf.read_of shelf.old)
+        (B.Shelf.read_of shelf.new) }
     ensures named { B.Shelf.named shelf.new ≡ B.Shelf.named shelf.old }
     ensures clean { B.Shelf.is_clean shelf.new → B.Shelf.is_clean shelf.old }
     ensures number { OnOk result (came.now.n ≤ 2 ^ 62) }
@@ -326,6 +338,9 @@ fn arrive_by<S: Alter, B: Shelf>(
         IsWhatIsKnown base came.now.instance.now known) }
     ensures keeps { KeepsCells (B.Shelf.uses shelf.old) (B.Shelf.stands shelf.old)
         (B.Shelf.uses shelf.new) (B.Shelf.stands shelf.new) }
+    ensures reads { B.Shelf.is_clean shelf.new
+        → ReadsAsBefore (B.Shelf.uses shelf.old) (B.Shelf.read_of shelf.old)
+        (B.Shelf.read_of shelf.new) }
     ensures named { B.Shelf.named shelf.new ≡ B.Shelf.named shelf.old }
     ensures clean { B.Shelf.is_clean shelf.new → B.Shelf.is_clean shelf.old }
     ensures number { OnOk result (came.now.n ≤ 2 ^ 62) }
@@ -356,6 +371,9 @@ pub fn receive<S: Alter, B: Shelf>(
         came.now result (state S.Store conn.old) (state S.Store conn.new) Nothing }
     ensures keeps { KeepsCells (B.Shelf.uses shelf.old) (B.Shelf.stands shelf.old)
         (B.Shelf.uses shelf.new) (B.Shelf.stands shelf.new) }
+    ensures reads { B.Shelf.is_clean shelf.new
+        → ReadsAsBefore (B.Shelf.uses shelf.old) (B.Shelf.read_of shelf.old)
+        (B.Shelf.read_of shelf.new) }
     ensures named { B.Shelf.named shelf.new ≡ B.Shelf.named shelf.old }
     ensures clean { B.Shelf.is_clean shelf.new → B.Shelf.is_clean shelf.old }
     ensures number { OnOk result (came.now.n ≤ 2 ^ 62) }

@@ -1,7 +1,7 @@
 //! Arrivals of items, whose data sets are put on a shelf.
 ghost use Rattle.std.specs.Prelude.{◌≡◌, ◌≤◌, ◌^◌, OnOk, false};
 ghost use Rattle.sqlite.specs.Held.{state};
-ghost use Rattle.dr_store_shelf.specs.Shelves.{KeepsCells};
+ghost use Rattle.dr_store_shelf.specs.Shelves.{KeepsCells, ReadsAsBefore};
 ghost use Rattle.dr_store_calls.specs.Calling.{Called, Nothing, advanced};
 ghost use Rattle.dr_store_calls.specs.Shelving.{AcceptsItem, AnswersTo, IsPut, fault_of_shelf};
 
@@ -55,6 +55,9 @@ pub fn arrive<S: Alter, B: Shelf>(
         item) }
     ensures keeps { KeepsCells (B.Shelf.uses shelf.old) (B.Shelf.stands shelf.old)
         (B.Shelf.uses shelf.new) (B.Shelf.stands shelf.new) }
+    ensures reads { B.Shelf.is_clean shelf.new
+        → ReadsAsBefore (B.Shelf.uses shelf.old) (B.Shelf.read_of shelf.old)
+        (B.Shelf.read_of shelf.new) }
     ensures named { B.Shelf.named shelf.new ≡ B.Shelf.named shelf.old }
     ensures clean { B.Shelf.is_clean shelf.new → B.Shelf.is_clean shelf.old }
     ensures number { OnOk result (line.n ≤ 2 ^ 62) }

@@ -16,7 +16,7 @@ use Rattle.dr_store_shelf.specs.declared.either.LedgerShelf.{LedgerShelf}
 use Rattle.dr_store_shelf.specs.declared.either.LedgerShelf.TheVariants.{InRow as Rows}
 use Rattle.dr_store_shelf.specs.declared.either.LedgerShelf.TheVariants.{InFile as File}
 use Rattle.dr_store_shelf.specs.Cells.{extent_in}
-use Rattle.dr_store_shelf.specs.Either.{AreApartIf, IsCleanOn, StandsOn, UsesOn, named_on}
+use Rattle.dr_store_shelf.specs.Either.{AreApartIf, IsCleanOn, UsesOn, named_on}
 use Rattle.dr_store_schema.specs.Books.{bodies_of}
 use Rattle.dr_store_schema.specs.Tables.{tables}
 use Rattle.dr_store_changes.specs.Writing.{IsReady}
@@ -26,8 +26,7 @@ use Rattle.dr_store_data.specs.declared.mark.DataMark.{DataMark}
 use Rattle.dr_store_data.specs.Heads.{HasHead, IsMarkOf}
 use Rattle.dr_store_calls.specs.Adoptions.{IsOwnedBy, IsOwnedWith}
 use Rattle.dr_store_calls.specs.Calling.{IsKept, IsLedgerOf}
-use Rattle.dr_store_calls.specs.LettingGo.{AreEachApart}
-use Rattle.dr_store.specs.Owning.{AreUsed}
+use Rattle.dr_store.specs.Owning.{HaveOwn}
 use Rattle.dr_store_audit.specs.Older.{IsOlder}
 use Rattle.dr_store_open.specs.declared.data.Keeping.{Keeping}
 use Rattle.dr_store_open.specs.declared.data.OpenedLedger.{OpenedLedger}
@@ -36,14 +35,14 @@ use Rattle.dr_store_open.specs.declared.data.DataPlace.TheVariants as put
 use Rattle.dr_store_open.specs.declared.fault.OpeningFault.{OpeningFault}
 use Rattle.dr_store_open.specs.declared.fault.OpeningFault.TheVariants as opening
 use Rattle.dr_store_open.specs.declared.finding.FoundTables.{FoundTables}
-use Rattle.dr_store_open.specs.DataSets.{AreListed, AreOwnUnder, AreUsedUnder, IsHeldBy, IsOwn}
+use Rattle.dr_store_open.specs.DataSets.{AreListed, AreOwnUnder, IsOwn}
 use Rattle.dr_store_open.specs.Faults.{IsOfData}
-use Rattle.dr_store_open.specs.Places.{ComesOf, HasOwnOn, IsAt, IsFileWith, IsOtherOn, IsPlaceOf, IsPlacedBy, names_at, names_in, seen_on}
+use Rattle.dr_store_open.specs.Places.{HasOwnOn, IsAt, IsFileWith, IsPlaceOf, IsPlacedBy, names_in, seen_on}
 use Rattle.dr_store_open.specs.Renewing.{KeepsRows}
-use Rattle.dr_store_open.specs.Opening.{AreOf, HasLedgerOf, HasNewLedger, IsBlank, IsBroughtOver, IsLedgerFound, IsLedgerOpened, IsNext, IsWhy, IsWhyNot, IsWholeOpened, LeavesOldOrCommitted, StaysAsFound, StaysReady}
+use Rattle.dr_store_open.specs.Opening.{AreOf, HasLedgerOf, HasNewLedger, IsBlank, LedgersAreTheirSites, IsBroughtOver, IsLedgerFound, IsLedgerOpened, IsNext, IsWhy, IsWhyNot, IsWholeOpened, LeavesOldOrCommitted, StaysAsFound, StaysReady}
 use Rattle.dr_store_open.proofs.Blank.{blank_no_older}
 use Rattle.dr_store_open.proofs.Chains.{looks_then}
-use Rattle.dr_store_open.proofs.Shelved.{all_own, all_read, names, names_apart, used_under}
+use Rattle.dr_store_open.proofs.Shelved.{all_own, all_read, names, names_apart}
 use Rattle.dr_store_open.proofs.Wholly.{as_found, brought_over, new_ledger, places_are_one}
 
 -- ---- whatever was answered
@@ -55,10 +54,6 @@ if_ok_as P Q (Err e) f h = tt
 pub if_err_as : {A E : Type 0} (P Q : E → Type 0) (r : Result A E) → ((e : E) → P e → Q e) → IfErr r P → IfErr r Q
 if_err_as P Q (Ok x) f h = tt
 if_err_as P Q (Err e) f h = f e h
-
-pub if_err_both : {A E : Type 0} (P Q R : E → Type 0) (r : Result A E) → ((e : E) → P e → Q e → R e) → IfErr r P → IfErr r Q → IfErr r R
-if_err_both P Q R (Ok x) f h k = tt
-if_err_both P Q R (Err e) f h k = f e h k
 
 -- what holds wherever something is answered
 pub ok_given : {A E : Type 0} (P : Type 0) (Q : A → Type 0) (r : Result A E) → (P → (x : A) → Q x) → OnOk r P → IfOk r Q
@@ -77,68 +72,84 @@ still_now n old new was is same = is.settled ∙ same ∙ sym was.settled
 pub not_in_rows : (part : Part) (db : Trees) (place : DataPlace) → IsPlaceOf part db place → IsOwnedWith [] part db → place ≡ put.InRows
 not_in_rows part db place is mine = places_are_one part part db place put.InRows is mine
 
+-- where it has one, its data sets aren't in rows
+in_file : (part : Part) (db : Trees) (mark : List ℕ) (said : DataMark) → IsOwnedWith mark part db → IsMarkOf mark said → IsOwnedWith [] part db → ⊥
+in_file part db mark said owned is mine = apart (places_are_one part part db (put.InFile said) put.InRows (mark, owned, is) mine)
+  where
+    apart : put.InFile said ≡ put.InRows → ⊥
+    apart e = cc
+
+pub their_sites : LedgersAreTheirSites
+their_sites = record {
+  marked = λ n part db mark said has owned is why. in_file part db.trees mark said owned is (why.0 refl n has).0;
+  own = λ n part db has own why. (why.0 refl n has).1 own;
+}
+
+-- what a test of the data sets in rows tells
+abbrev pub TestedIn : {A : Type 0} → Result A OpeningFault → List (Text × Print) → Trees → Type 0
+TestedIn r prints db = MatchResult r (λ it. All (AreOwnUnder db) prints) (λ fault. fault ≡ opening.OtherSite → All (AreOwnUnder db) prints → ⊥)
+
+-- a ledger isn't taken for another's where each data set in its rows is its item's
+pub not_others : {A : Type 0} (part : Part) (db : Trees) (prints : List (Text × Print)) (place : DataPlace) (r : Result A OpeningFault) → prints ≡ map.entries (whole_prints_of db)
+    → ((uid : Text) → is_some (map.get (keys_of db) uid) ≡ is_some (map.get (whole_prints_of db) uid))
+    → IsPlaceOf part db place
+    → IfErr r (λ fault. place ≡ put.InRows) → IfErr r (λ fault. IsOfData fault → ⊥)
+    → (place ≡ put.InRows → TestedIn r prints db)
+    → IfErr r (IsWhyNot part db)
+not_others part db prints place (Ok it) are together says rows beside tested = tt
+not_others part db prints place (Err fault) are together says rows beside tested = (
+  λ is. (subst (IsPlaceOf part db) rows says, λ own. tested rows is (all_read db prints are together own)),
+  λ it mine. beside it,
+)
+
 -- ---- a shelf
 
 module _ {D : Type 0} {g : Ghosts D} where
-  pub at_named : (place : DataPlace) (shelf : LedgerShelf D g) → IsAt place shelf → named_on shelf ≡ names_at place
-  at_named put.InRows (Rows it) is = refl
-  at_named put.InRows (File it) is = absurd is
-  at_named (put.InFile said) (Rows it) is = absurd is
-  at_named (put.InFile said) (File it) is = refl
-
   pub file_at : (said : DataMark) (list : List Extent) (shelf : LedgerShelf D g) → IsFileWith said list shelf → IsAt (put.InFile said) shelf
   file_at said list (Rows it) is = absurd is
   file_at said list (File it) is = is.0
 
-  head_at : (said : DataMark) (shelf : LedgerShelf D g) → IsAt (put.InFile said) shelf → IsCleanOn shelf → HasHead said.mark (seen_on shelf)
+  head_at : (said : DataMark) (shelf : LedgerShelf D g) → IsAt (put.InFile said) shelf → (named_on shelf ≡ true) × (IsCleanOn shelf → HasHead said.mark (seen_on shelf))
   head_at said (Rows it) is = absurd is
-  head_at said (File it) is = is.1
+  head_at said (File it) is = (refl, is.1)
 
   -- the file that the tables name
   pub their_file : (part other : Part) (db : Trees) (mark : List ℕ) (said : DataMark) (shelf : LedgerShelf D g)
       → IsOwnedWith mark part db → IsMarkOf mark said → IsPlacedBy other db shelf
-      → (first : LedgerShelf D g) × (IsCleanOn first → HasHead said.mark (seen_on first)) × ComesOf first shelf
+      → (named_on shelf ≡ true) × (IsCleanOn shelf → HasHead said.mark (seen_on shelf))
   their_file part other db mark said shelf owned is placed =
       let same : placed.place ≡ put.InFile said = places_are_one other part db placed.place (put.InFile said) placed.says (mark, owned, is) in
-      (placed.first, head_at said placed.first (subst (λ place. IsAt place placed.first) same placed.opened), placed.since)
+      head_at said shelf (subst (λ place. IsAt place shelf) same placed.at)
+
+  -- a shelf whose cells name no places is in rows
+  in_rows : (place : DataPlace) (shelf : LedgerShelf D g) → IsAt place shelf → named_on shelf ≡ false → place ≡ put.InRows
+  in_rows put.InRows shelf is none = refl
+  in_rows (put.InFile said) shelf is none = absurd (true≢false (sym (head_at said shelf is).0 ∙ none))
 
   -- the cells that were listed are in use, and each two are apart
   pub file_used : (said : DataMark) (db : Trees) (prints : List (Text × Print)) → prints ≡ map.entries (whole_prints_of db)
       → (list : List Extent) → AreListed db prints list
       → (shelf : LedgerShelf D g) → IsFileWith said list shelf
-      → AreUsed (UsesOn shelf) (bodies_of db) × AreEachApart (AreApartIf (named_on shelf)) (bodies_of db)
+      → HaveOwn (UsesOn shelf) (AreApartIf (named_on shelf)) db
   file_used said db prints are list listed (Rows it) is = absurd is
-  file_used said db prints are list listed (File it) is = (
-    λ uid cell there. let named = names db prints are list listed uid cell there in (named.0, is.1.each (extent_in cell) named.1),
-    names_apart db prints are list listed is.1.apart,
-  )
+  file_used said db prints are list listed (File it) is = record {
+    used = λ uid cell there. let named = names db prints are list listed uid cell there in (named.0, is.1.each (extent_in cell) named.1);
+    apart = names_apart db prints are list listed is.1.apart;
+  }
 
-  -- where all were looked at, the cells stand for the data sets
-  pub has_own : (shelf after : LedgerShelf D g) (db : Trees) (prints : List (Text × Print)) → prints ≡ map.entries (whole_prints_of db)
-      → AreUsed (UsesOn shelf) (bodies_of db)
-      → AreEachApart (AreApartIf (named_on shelf)) (bodies_of db)
-      → ((cell : List ℕ) → UsesOn shelf cell → UsesOn after cell)
-      → named_on after ≡ named_on shelf
-      → (IsCleanOn after → All (AreUsedUnder (UsesOn shelf) db) prints → All (AreOwnUnder (IsHeldBy (UsesOn after) (StandsOn after)) db) prints)
-      → HasOwnOn db after
-  has_own shelf after db prints are used apart uses same looked clean =
-      let own = all_own (IsHeldBy (UsesOn after) (StandsOn after)) db prints are (looked clean (used_under (UsesOn shelf) db prints are used)) in
-      record {
-        used = λ uid cell there. uses cell (used uid cell there);
-        own = λ uid cell there. let it = own uid cell there in (it.0, it.1, it.2.1, it.3);
-        apart = subst (λ places. AreEachApart (AreApartIf places) (bodies_of db)) (sym same) apart;
-      }
-
-  -- where one wasn't an item's, not all are
-  pub is_other : (shelf after : LedgerShelf D g) (db : Trees) (prints : List (Text × Print)) → prints ≡ map.entries (whole_prints_of db)
-      → ((uid : Text) → is_some (map.get (keys_of db) uid) ≡ is_some (map.get (whole_prints_of db) uid))
-      → AreUsed (UsesOn shelf) (bodies_of db)
-      → (IsCleanOn after → All (AreUsedUnder (UsesOn shelf) db) prints → All (AreOwnUnder (StandsOn shelf) db) prints → ⊥)
-      → IsOtherOn db shelf
-  is_other shelf after db prints are together used apart = (
-    after,
-    λ clean own. apart clean (used_under (UsesOn shelf) db prints are used) (all_read (StandsOn shelf) db prints are together own),
-  )
+  -- a shelf that was opened, of a ledger whose data sets were read again where they are in rows
+  pub opened_own : (place : DataPlace) (shelf : LedgerShelf D g) (db : Trees) (prints : List (Text × Print)) (r : Result (OpenedLedger D g) OpeningFault)
+      → prints ≡ map.entries (whole_prints_of db)
+      → IsAt place shelf
+      → HaveOwn (UsesOn shelf) (AreApartIf (named_on shelf)) db
+      → IfOk r (λ it. it.shelf ≡ shelf)
+      → (place ≡ put.InRows → TestedIn r prints db)
+      → IfOk r (λ it. HasOwnOn db it.shelf)
+  opened_own place shelf db prints (Ok it) are is cells same tested = subst (HasOwnOn db) (sym same) (record {
+    cells = cells;
+    rows = λ none. all_own db prints are (tested (in_rows place shelf is none));
+  })
+  opened_own place shelf db prints (Err fault) are is cells same tested = tt
 
   -- ---- a ledger that was found with its shelf
 
@@ -148,7 +159,7 @@ module _ {D : Type 0} {g : Ghosts D} where
       → IfOk r (λ it. it.next ≡ found.next)
       → (HasCleanDisk new → IfOk r (λ it. IsPlacedBy part mid.now.trees it.shelf))
       → (HasCleanDisk new → IfOk r (λ it. HasOwnOn mid.now.trees it.shelf))
-      → (HasCleanDisk new → IfErr r (IsWhyNot r part mid.now.trees))
+      → (HasCleanDisk new → IfErr r (IsWhyNot part mid.now.trees))
       → IsWholeOpened (Unit {0}) part r old new
   whole_found part old mid new found (Ok it) f s next placed own why = record {
     has = f.has;
@@ -186,7 +197,7 @@ module _ {D : Type 0} {g : Ghosts D} where
     own = λ clean. tt;
     why = λ stood clean.
         let back : mid.now ≡ old.now = (f.kept (early clean)).kept.ready.settled ∙ sym (f.was (early clean)) in
-        let w : IsWhyNot (Err fault) part old.now.trees fault = subst (λ (d : Database). IsWhyNot {D = D} {g = g} {E = OpeningFault} (Err fault) part d.trees fault) back (why clean) in
+        let w : IsWhyNot part old.now.trees fault = subst (λ (d : Database). IsWhyNot part d.trees fault) back (why clean) in
         (λ other n has. w.0 other, λ it named mine. w.1 it mine);
     looks = looks_then old mid new f.looks s.looks;
   }
@@ -350,14 +361,14 @@ module _ {D : Type 0} {g : Ghosts D} where
 
     pub refused_of : (old.now.schema ≡ tables → (made ≡ false) × (mid ≡ old))
         → (r : Result (OpenedLedger D g) OpeningFault) → IsWholeOpened (made ≡ false) part r mid new
-        → IfErr r (λ fault. HasCleanDisk new → IsWhy r part old.now fault)
+        → IfErr r (λ fault. HasCleanDisk new → IsWhy part old.now fault)
     refused_of ours (Ok it) w = tt
     refused_of ours (Err fault) w = λ clean. (
       λ other n has. (why clean has.schema).0 other n has,
       λ it named mine. (why clean named).1 it named mine,
     )
       where
-        why : HasCleanDisk new → old.now.schema ≡ tables → IsWhy {D = D} {g = g} {E = OpeningFault} (Err fault) part old.now fault
+        why : HasCleanDisk new → old.now.schema ≡ tables → IsWhy part old.now fault
         why clean named =
             let o = ours named in
-            subst (λ (s : State). IsWhy {D = D} {g = g} {E = OpeningFault} (Err fault) part s.now fault) o.1 (w.why o.0 clean)
+            subst (λ (s : State). IsWhy part s.now fault) o.1 (w.why o.0 clean)

@@ -1,8 +1,7 @@
 -- Data sets that are read again, and what is read of them.
-use Rattle.std.proofs.Common.{◌≡◌, ◌≢◌, ◌∙◌, ℕ, List, Bool, false, true≢false, Some, None, Result, Ok, Err}
+use Rattle.std.proofs.Common.{◌≡◌, ◌≢◌, ◌∙◌, Bool, false, true≢false, Some, None, Result, Ok, Err}
 use Rattle.std.proofs.Common.{IsTrue, refl, sym, ap, subst}
 use Rattle.std.specs.Prelude.{◌↔◌}
-use Rattle.std.specs.FinMap as map
 use Rattle.sqlite.specs.Tree.{Trees}
 use Rattle.dr_base.specs.Texts.{Text}
 use Rattle.dr_ledger.specs.declared.content.ItemFault.{ItemFault}
@@ -11,11 +10,10 @@ use Rattle.dr_ledger.specs.declared.content.Job.{Job}
 use Rattle.dr_ledger.specs.declared.item.Instance.{Instance}
 use Rattle.dr_ledger.specs.Items.{IsItem, ReadsItem}
 use Rattle.dr_ledger.proofs.Reading.{items_are_one}
-use Rattle.dr_store_schema.specs.Books.{contents_in, instance_by, prints_of}
+use Rattle.dr_store_schema.specs.Books.{instance_by, prints_of}
 use Rattle.dr_store_reads.specs.Queries.{IsJobOf}
 use Rattle.dr_store_reads.specs.declared.finding.Print.{Print}
-use Rattle.dr_store.specs.Reading.{with_body}
-use Rattle.dr_store_open.specs.DataSets.{AreOwnUnder, IsOwnBy, IsReadAs, IsSpelled, Tells}
+use Rattle.dr_store_open.specs.DataSets.{IsReadAs, IsSpelled}
 
 inner : {X : Type 0} (x y : X) → Some x ≡ Some y → x ≡ y
 inner x y e = cc
@@ -82,62 +80,25 @@ one_job db uid a b one two =
     let uids : a.uid ≡ b.uid = one.0 ∙ sym two.0 in
     λ i. record { uid = uids i; key = key i; body = body i }
 
--- ---- what looking tells
-
--- the cell stands for what was read by it, and for nothing else
-pub tells_own : (Stood Held : List ℕ → List ℕ → Type 0) (stored : Job) (print : Print) (got : List ℕ) (own : Bool)
-    → Held stored.body got
-    → ((bytes : List ℕ) → Stood stored.body bytes → bytes ≡ got)
-    → (IsTrue own ↔ (IsItem (with_body stored got) × IsSpelled (with_body stored got) print))
-    → Tells (IsOwnBy Stood stored print) (IsOwnBy Held stored print) own
-tells_own Stood Held stored print got own held one says = (λ yes. let it = says.0 yes in (got, held, it.0, it.1), back)
-  where
-    back : IsOwnBy Stood stored print → IsTrue own
-    back (body, stood, item, spelled) =
-        let same : body ≡ got = one body stood in
-        says.1 (subst (λ b. IsItem (with_body stored b)) same item, subst (λ b. IsSpelled (with_body stored b) print) same spelled)
-
--- the cell stands for nothing
-pub tells_none : (Stood : List ℕ → List ℕ → Type 0) (Is : Type 0) (stored : Job) (print : Print)
-    → ((bytes : List ℕ) → Stood stored.body bytes → ⊥)
-    → Tells (IsOwnBy Stood stored print) Is false
-tells_none Stood Is stored print none = (λ yes. absurd (true≢false (sym yes)), back)
-  where
-    back : IsOwnBy Stood stored print → IsTrue false
-    back (body, stood, item, spelled) = absurd (none body stood)
-
 -- what stands in the row, and whether it is read so
-pub tells_read : (Stood Held : List ℕ → List ℕ → Type 0) (db : Trees) (uid : Text) (job : Job) (print : Print) (own : Bool)
-    → IsJobOf uid db (Some job)
-    → Tells (IsOwnBy Stood job print) (IsOwnBy Held job print) own
-    → Tells (IsReadAs Stood uid print db) (IsReadAs Held uid print db) own
-tells_read Stood Held db uid job print own stored told = (λ yes. (job, stored, told.0 yes), back)
-  where
-    back : IsReadAs Stood uid print db → IsTrue own
-    back (row, is, by) = told.1 (subst (λ j. IsOwnBy Stood j print) (one_job db uid row job is stored) by)
-
-nothing : (x : Instance) → None ≡ Some x → ⊥
-nothing x e = cc
+pub read_if_own : (db : Trees) (uid : Text) (job : Job) (print : Print) (own : Bool)
+    → IsJobOf uid db (Some job) → (IsTrue own ↔ (IsItem job × IsSpelled job print))
+    → IsTrue own ↔ IsReadAs uid print db
+read_if_own db uid job print own stored says = (
+  λ yes. let it = says.0 yes in (job, stored, it.0, it.1),
+  λ read.
+      let same : read.0 ≡ job = one_job db uid read.0 job read.1 stored in
+      says.1 (subst IsItem same read.2, subst (λ j. IsSpelled j print) same read.3),
+)
 
 -- where there is no such row, nothing is read
-pub tells_no_row : (Stood : List ℕ → List ℕ → Type 0) (Is : Type 0) (db : Trees) (uid : Text) (print : Print)
-    → IsJobOf uid db None
-    → Tells (IsReadAs Stood uid print db) Is false
-tells_no_row Stood Is db uid print none = (λ yes. absurd (true≢false (sym yes)), back)
+pub none_read : (db : Trees) (uid : Text) (print : Print) → IsJobOf uid db None
+    → IsTrue false ↔ IsReadAs uid print db
+none_read db uid print none = (
+  λ yes. absurd (true≢false (sym yes)),
+  λ read.
+      absurd (nothing (instance_by (prints_of db) uid read.0.key) (sym none ∙ read.1.1)),
+)
   where
-    back : IsReadAs Stood uid print db → IsTrue false
-    back (row, is, by) = absurd (nothing (instance_by (prints_of db) uid row.key) (sym none ∙ is.1))
-
--- ---- what was looked at, on a shelf that changes
-
--- what was held is held, where the cells are kept
-pub read_on : (Was Is : List ℕ → List ℕ → Type 0) (db : Trees) (p : Text × Print)
-    → ((cell bytes : List ℕ) → map.get (contents_in (db 1)) p.0 ≡ Some cell → Was cell bytes → Is cell bytes)
-    → AreOwnUnder Was db p → AreOwnUnder Is db p
-read_on Was Is db p keeps under whole = go (under whole)
-  where
-    go : IsReadAs Was p.0 p.1 db → IsReadAs Is p.0 p.1 db
-    go (row, is, by) = (row, is, on by)
-      where
-        on : IsOwnBy Was row p.1 → IsOwnBy Is row p.1
-        on (body, was, item, spelled) = (body, keeps row.body body is.2 was, item, spelled)
+    nothing : (x : Instance) → None ≡ Some x → ⊥
+    nothing x e = cc

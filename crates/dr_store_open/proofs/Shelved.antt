@@ -1,7 +1,7 @@
--- The extents that cells name, and what is told of data sets that were looked at.
+-- The extents that cells name, and what is told of data sets that were read again.
 use Rattle.std.proofs.Common.{◌≡◌, ◌≢◌, ◌∙◌, ◌+◌, ◌<◌, ◌≤◌, ℕ, zero, suc, Bool, true, false, true≢false, cond, IsTrue, List, [], ◌∷◌, ◌++◌, length, take, get_or, Contains, AllPairs, Some, None, Result, Ok, Err, inl, inr, refl, sym, ap, subst, arith}
 use Rattle.std.proofs.Common.{Option, option_map, unwrap_or, is_some, length-append, append-nil}
-use Rattle.std.specs.Prelude.{All, IfErr, MatchOption, MatchResult}
+use Rattle.std.specs.Prelude.{◌↔◌, All, IfErr, MatchOption, MatchResult}
 use Rattle.std.specs.FinMap as map
 use Rattle.std.specs.List.{flat_map}
 use Rattle.std.proofs.lemmas.Bool.{cases_order}
@@ -27,21 +27,19 @@ use Rattle.dr_store_lists.proofs.Alike.{keys_and_prints}
 use Rattle.dr_store_audit.proofs.Needed.{both_parts, content_there, found_listed, listed_found, value_of, whole_is, whole_print}
 use Rattle.dr_store_calls.specs.LettingGo.{AreEachApart}
 use Rattle.dr_store_data.specs.Opened.{BeginApart}
-use Rattle.dr_store.specs.Owning.{AreUsed}
 use Rattle.dr_store_open.specs.declared.fault.OpeningFault.{OpeningFault}
 use Rattle.dr_store_open.specs.declared.fault.OpeningFault.TheVariants as opening
-use Rattle.dr_store.specs.Reading.{with_body}
-use Rattle.dr_store_open.specs.DataSets.{AddsExtent, AreListed, AreOwnUnder, AreUsedUnder, IsExtentAt, IsOwn, NamesExtent, IsOwnBy, IsReadAs, IsSpelled, Tells, extents_under}
+use Rattle.dr_store_open.specs.DataSets.{AddsExtent, AreListed, AreOwnUnder, IsExtentAt, IsOwn, NamesExtent, IsReadAs, IsSpelled, extents_under}
 use Rattle.dr_store_open.specs.Faults.{IsOfData}
 
 -- ---- what a test told
 
-pub as_told : (Was Is : Type 0) (own : Bool) (r : Result (Unit {0}) OpeningFault)
+pub as_told : (Own : Type 0) (own : Bool) (r : Result (Unit {0}) OpeningFault)
     → MatchResult r (λ done. IsTrue own) (λ fault. (own ≡ false) × (fault ≡ opening.OtherSite))
-    → Tells Was Is own
-    → MatchResult r (λ done. Is) (λ fault. fault ≡ opening.OtherSite → Was → ⊥)
-as_told Was Is own (Ok done) true_is told = told.0 true_is
-as_told Was Is own (Err fault) false_is told = λ other was. true≢false (sym (told.1 was) ∙ false_is.0)
+    → (IsTrue own ↔ Own)
+    → MatchResult r (λ done. Own) (λ fault. fault ≡ opening.OtherSite → Own → ⊥)
+as_told Own own (Ok done) true_is says = says.0 true_is
+as_told Own own (Err fault) false_is says = λ other every. true≢false (sym (says.1 every) ∙ false_is.0)
 
 pub not_other : (own : Bool) (r : Result (Unit {0}) OpeningFault)
     → MatchResult r (λ done. IsTrue own) (λ fault. (own ≡ false) × (fault ≡ opening.OtherSite))
@@ -108,33 +106,6 @@ has_print db prints are p there =
     map.get-entries (whole_prints_of db) p.0
     ∙ listed_found texts (map.entries (whole_prints_of db))
     (map.entries_sorted (whole_prints_of db)) p.0 p.1 (subst (λ es. Contains es p) are there)
-
--- where it says that the data set is there, what stands in the row is its cell
-pub body_in : (db : Trees) (prints : List (Text × Print)) → prints ≡ map.entries (whole_prints_of db)
-    → (p : Text × Print) → Contains prints p → p.1.whole ≡ true
-    → (cell : List ℕ) → map.get (contents_in (db 1)) p.0 ≡ Some cell
-    → map.get (bodies_of db) p.0 ≡ Some cell
-body_in db prints are p there whole cell content =
-    let is : is_whole (map.get (wholes_in (db 3)) p.0) ≡ true =
-    whole_is db p.0
-    ∙ ap (λ o. unwrap_or (option_map (λ (x : Print). x.whole) o) false) (has_print db prints are p there) ∙ whole in
-    body_at (contents_in (db 1)) (wholes_in (db 3)) p.0
-    ∙ ap (λ b. cond b (map.get (contents_in (db 1)) p.0) None) is ∙ content
-
--- where the cells are in use, those of the prints are
-pub used_under : (Uses : List ℕ → Type 0) (db : Trees) (prints : List (Text × Print))
-    → prints ≡ map.entries (whole_prints_of db) → AreUsed Uses (bodies_of db)
-    → All (AreUsedUnder Uses db) prints
-used_under Uses db prints are used k d low whole cell content =
-    used (get_or prints k d).0 cell (body_in db prints are (get_or prints k d) (k, low, same k d low) whole cell content)
-  where
-    same : (k : ℕ) (d : Text × Print) → k < length prints → get_or prints k (get_or prints k d) ≡ get_or prints k d
-    same k d low = other prints k d (get_or prints k d) low
-      where
-        other : (xs : List (Text × Print)) (k : ℕ) (d e : Text × Print) → k < length xs → get_or xs k e ≡ get_or xs k d
-        other [] k d e low = absurd (omega (arith, low))
-        other (x ∷ xs) zero d e low = refl
-        other (x ∷ xs) (suc k) d e low = other xs k d e (omega (arith, low))
 
 -- ---- the extents of a list
 
@@ -237,42 +208,42 @@ listed_more db prints p was is all names more = record {
   each = All-push (NamesExtent db) prints p all.each names;
 }
 
--- ---- data sets that were looked at are the items'
+-- ---- data sets that were read again are the items'
 
 within : {X : Type 0} (x y : X) → Some x ≡ Some y → x ≡ y
 within x y e = cc
 
-module _ (Stands : List ℕ → List ℕ → Type 0) (db : Trees) where
-  -- a cell that stands for what is read so stands for the instance's
+module _ (db : Trees) where
+  -- what is read so is the data set of the instance
   own_read : (uid : Text) (print : Print) → map.get (prints_of db) uid ≡ Some (print.size, print.digest)
-      → (cell : List ℕ) → map.get (contents_in (db 1)) uid ≡ Some cell
-      → IsReadAs Stands uid print db
-      → (item : Job) × IsItem item × Stands cell item.body
+      → (body : List ℕ) → map.get (contents_in (db 1)) uid ≡ Some body
+      → IsReadAs uid print db
+      → (item : Job) × IsItem item × (item.body ≡ body)
       × (map.get (items_of db) uid ≡ Some (instance_of item))
-  own_read uid print has cell content (row, is, (body, stands, item, spelled)) =
-      let same : row.body ≡ cell = within row.body cell (sym is.2 ∙ content) in
-      let known : instance_by (prints_of db) uid row.key ≡ instance_of (with_body row body) =
+  own_read uid print has body content (job, is, item, spelled) =
+      let same : job.body ≡ body = within job.body body (sym is.2 ∙ content) in
+      let known : instance_by (prints_of db) uid job.key ≡ instance_of job =
       λ i. record {
         uid = sym is.0 i;
-        key = row.key;
+        key = job.key;
         size = (ap (λ o. (print_or_none o).0) has ∙ sym spelled.0) i;
         digest = (ap (λ o. (print_or_none o).1) has ∙ sym spelled.1) i;
       } in
-      (with_body row body, item, subst (λ c. Stands c body) same stands, is.1 ∙ ap Some known)
+      (job, item, same, is.1 ∙ ap Some known)
 
-  -- where all were looked at, each is
+  -- where all were read again, each is
   pub all_own : (prints : List (Text × Print)) → prints ≡ map.entries (whole_prints_of db)
-      → All (AreOwnUnder Stands db) prints → (uid : Text) → IsOwn Stands uid db
-  all_own prints are all uid cell there =
-      let it = printed db prints are uid cell there in
-      let read = All-contains (AreOwnUnder Stands db) prints (uid, it.0) all it.1 it.2 in
-      own_read uid it.0 it.4 cell it.3 read
+      → All (AreOwnUnder db) prints → (uid : Text) → IsOwn uid db
+  all_own prints are all uid body there =
+      let it = printed db prints are uid body there in
+      let read = All-contains (AreOwnUnder db) prints (uid, it.0) all it.1 it.2 in
+      own_read uid it.0 it.4 body it.3 read
 
   -- and an instance's is read so
   read_own : (uid : Text) (print : Print)
       → map.get (whole_prints_of db) uid ≡ Some print → print.whole ≡ true
       → is_some (map.get (keys_of db) uid) ≡ is_some (map.get (whole_prints_of db) uid)
-      → IsOwn Stands uid db → IsReadAs Stands uid print db
+      → IsOwn uid db → IsReadAs uid print db
   read_own uid print stands whole together own =
       let key : is_some (map.get (keys_of db) uid) ≡ true = together ∙ ap is_some stands in
       let k = value_of (map.get (keys_of db) uid) key in
@@ -280,10 +251,10 @@ module _ (Stands : List ℕ → List ℕ → Type 0) (db : Trees) where
       let is : is_whole (map.get (wholes_in (db 3)) uid) ≡ true =
       whole_is db uid
       ∙ ap (λ o. unwrap_or (option_map (λ (x : Print). x.whole) o) false) stands ∙ whole in
-      let cell : map.get (bodies_of db) uid ≡ Some content.0 =
+      let there : map.get (bodies_of db) uid ≡ Some content.0 =
       body_at (contents_in (db 1)) (wholes_in (db 3)) uid
       ∙ ap (λ b. cond b (map.get (contents_in (db 1)) uid) None) is ∙ content.1 in
-      let it = own content.0 cell in
+      let it = own content.0 there in
       let has : map.get (prints_of db) uid ≡ Some (print.size, print.digest) =
       (keys_and_prints db).prints uid
       ∙ ap (option_map (λ (x : Print). (x.size, x.digest))) stands in
@@ -294,17 +265,17 @@ module _ (Stands : List ℕ → List ℕ → Type 0) (db : Trees) where
       let its_key : k.0 ≡ it.0.key = sym (ap (λ (i : Instance). i.key) same) in
       let in_row : instance_of it.0 ≡ instance_by (prints_of db) uid it.0.key =
       same ∙ ap (instance_by (prints_of db) uid) its_key in
-      let stored : IsJobOf uid db (Some (with_body it.0 content.0)) =
-      (ap (λ (i : Instance). i.uid) same, it.3 ∙ ap Some in_row, content.1) in
+      let stored : IsJobOf uid db (Some it.0) =
+      (ap (λ (i : Instance). i.uid) same, it.3 ∙ ap Some in_row, content.1 ∙ ap Some (sym it.2)) in
       let spelled : IsSpelled it.0 print = (
         ap (λ (i : Instance). i.size) same ∙ ap (λ o. (print_or_none o).0) has,
         ap (λ (i : Instance). i.digest) same ∙ ap (λ o. (print_or_none o).1) has,
       ) in
-      (with_body it.0 content.0, stored, (it.0.body, it.2, it.1, spelled))
+      (it.0, stored, it.1, spelled)
 
   pub all_read : (prints : List (Text × Print)) → prints ≡ map.entries (whole_prints_of db)
       → ((uid : Text) → is_some (map.get (keys_of db) uid) ≡ is_some (map.get (whole_prints_of db) uid))
-      → ((uid : Text) → IsOwn Stands uid db) → All (AreOwnUnder Stands db) prints
+      → ((uid : Text) → IsOwn uid db) → All (AreOwnUnder db) prints
   all_read prints are together own k d low whole =
       let p = get_or prints k d in
       read_own p.0 p.1 (has_print db prints are p (k, low, same prints k d p low)) whole (together p.0) (own p.0)

@@ -1,5 +1,6 @@
 -- What is found in a file, and what an opening answers.
-use Rattle.std.specs.Prelude.{◌≡◌, ◌≤◌, ◌+◌, ◌++◌, ◌⊎◌, ℕ, zero, suc, false, IsTrue, List, [], ◌∷◌}
+use Rattle.std.specs.Prelude.{◌≡◌, ◌≤◌, ◌+◌, ◌++◌, ◌⊎◌, ℕ, zero, suc, List, [], ◌∷◌}
+use Rattle.std.specs.Prelude.{true, false, IsTrue}
 use Rattle.std.specs.Prelude.{IfErr, IfOk, Option, None, Some, Result, Ok, Err, OnOk, length}
 use Rattle.std.specs.FinMap as map
 use Rattle.sqlite.specs.Effect.{Database}
@@ -16,7 +17,7 @@ use Rattle.dr_ledger.specs.Books.{empty_book}
 use Rattle.dr_ledger.specs.Items.{IsItem, instance_of}
 use Rattle.dr_ledger.specs.Replies.{Reads}
 use Rattle.dr_store_shelf.specs.declared.either.LedgerShelf.{LedgerShelf}
-use Rattle.dr_store_shelf.specs.Either.{IsCleanOn}
+use Rattle.dr_store_shelf.specs.Either.{IsCleanOn, named_on}
 use Rattle.dr_store_schema.specs.Books.{AreBelow, bodies_of, book_of, items_of, lines_of}
 use Rattle.dr_store_schema.specs.Ledgers.{AreRows, IsCounted}
 use Rattle.dr_store_schema.specs.Tables.{tables}
@@ -30,7 +31,6 @@ use Rattle.dr_store_data.specs.declared.mark.DataMark.{DataMark}
 use Rattle.dr_store_data.specs.Heads.{HasHead, IsMarkOf}
 use Rattle.dr_store_calls.specs.Adoptions.{IsMark, IsOwnedBy, IsOwnedWith}
 use Rattle.dr_store_calls.specs.Calling.{IsKept}
-use Rattle.dr_store.specs.Owning.{HaveOwn}
 use Rattle.dr_store_audit.specs.Found.{HoldTogether}
 use Rattle.dr_store_audit.specs.Older.{IsOlder}
 use Rattle.dr_store_open.specs.declared.data.OpenedLedger.{OpenedLedger}
@@ -38,9 +38,9 @@ use Rattle.dr_store_open.specs.declared.data.DataPlace.{DataPlace}
 use Rattle.dr_store_open.specs.declared.fault.OpeningFault.{OpeningFault}
 use Rattle.dr_store_open.specs.declared.fault.OpeningFault.TheVariants as opening
 use Rattle.dr_store_open.specs.declared.finding.FoundTables.{FoundTables}
+use Rattle.dr_store_open.specs.DataSets.{IsOwn}
 use Rattle.dr_store_open.specs.Faults.{IsOfData}
-use Rattle.dr_store_open.specs.Places.{ComesOf, HasOwnOn, IsOpenedBy, IsOtherOn, IsPlaceOf}
-use Rattle.dr_store_open.specs.Places.{IsPlacedBy, seen_on}
+use Rattle.dr_store_open.specs.Places.{HasOwnOn, IsPlaceOf, IsPlacedBy, seen_on}
 use Rattle.dr_store_open.specs.Renewing.{IsMadeBy, KeepsRows}
 
 -- ---- what is tested of rows
@@ -166,31 +166,25 @@ pub record StaysReady {A E : Type 0} (n : ℕ) (result : Result A E) (old new : 
 
 -- ---- a ledger with its shelf
 
+-- the data sets are in rows, and not each is that of its item
+abbrev pub HasOther : Part → Trees → Type 0
+HasOther part db = IsOwnedWith [] part db × (((uid : Text) → IsOwn uid db) → ⊥)
+
+-- Why a ledger isn't opened whose tables were found: its data sets are in rows, and not each is
+-- that of its item; or it is a fault of the file of its data sets, which no ledger has that has
+-- them in its rows. What a data set in a file is, is no reason.
+abbrev pub IsWhyNot : Part → Trees → OpeningFault → Type 0
+IsWhyNot part db fault =
+    (fault ≡ opening.OtherSite → HasOther part db)
+    × (IsOfData fault → IsOwnedWith [] part db → ⊥)
+
+-- Why none is opened: the file has no ledger of this site, or it is as above.
+abbrev pub IsWhy : Part → Database → OpeningFault → Type 0
+IsWhy part was fault =
+    (fault ≡ opening.OtherSite → (n : ℕ) → HasLedgerOf n part was → HasOther part was.trees)
+    × (IsOfData fault → was.schema ≡ tables → IsOwnedWith [] part was.trees → ⊥)
+
 module _ {D : Type 0} {g : Ghosts D} where
-  -- A shelf was opened where the tables say, and looked at, and not each cell stood for the data
-  -- set of its item.
-  abbrev pub HasOther : {E : Type 0} → Result (OpenedLedger D g) E → Part → Trees → Type 0
-  HasOther result part db =
-      (shelf : LedgerShelf D g) × IsOpenedBy part db shelf × IsOtherOn db shelf
-
-  -- Why a ledger isn't opened whose tables were found: its data sets aren't the items'; or it is a
-  -- fault of the file of its data sets, which no ledger has that has them in its rows.
-  abbrev pub IsWhyNot : {E : Type 0}
-      → Result (OpenedLedger D g) E
-      → Part → Trees → OpeningFault → Type 0
-  IsWhyNot result part db fault =
-      (fault ≡ opening.OtherSite → HasOther result part db)
-      × (IsOfData fault → IsOwnedWith [] part db → ⊥)
-
-  -- Why none is opened: the file has no ledger of this site, or it is as above.
-  abbrev pub IsWhy : {E : Type 0}
-      → Result (OpenedLedger D g) E
-      → Part → Database → OpeningFault → Type 0
-  IsWhy result part was fault =
-      (fault ≡ opening.OtherSite
-      → (n : ℕ) → HasLedgerOf n part was → HasOther result part was.trees)
-      × (IsOfData fault → was.schema ≡ tables → IsOwnedWith [] part was.trees → ⊥)
-
   -- What opens a ledger whose tables are there does. Where it answers, the ledger is found with its
   -- shelf. Whatever it answers, it only looks at the tables. `Stood` says that they weren't made
   -- just now.
@@ -201,7 +195,7 @@ module _ {D : Type 0} {g : Ghosts D} where
     pub placed : HasCleanDisk new
         → IfOk result (λ it. IsPlacedBy part new.committed.trees it.shelf)
     pub own : HasCleanDisk new → IfOk result (λ it. HasOwnOn new.committed.trees it.shelf)
-    pub why : Stood → HasCleanDisk new → IfErr result (IsWhy result part old.now)
+    pub why : Stood → HasCleanDisk new → IfErr result (IsWhy part old.now)
     pub looks : OnlyLooks old new
 
 -- there is no table, no index and no view
@@ -281,26 +275,38 @@ PlacesAreOne =
     → place ≡ beside
 
 module _ {D : Type 0} (g : Ghosts D) where
-  -- where the tables have a mark, a ledger's shelf comes of a file that has it, and of no other
+  -- where the tables have a mark, a ledger's shelf is over a file that has it, and over no other
   abbrev pub MarkedTablesHaveTheirFile : Type 0
   MarkedTablesHaveTheirFile =
       (part other : Part) (db : Trees) (mark : List ℕ) (said : DataMark) (shelf : LedgerShelf D g)
       → IsOwnedWith mark part db
       → IsMarkOf mark said
       → IsPlacedBy other db shelf
-      → (first : LedgerShelf D g)
-      × (IsCleanOn first → HasHead said.mark (seen_on first))
-      × ComesOf first shelf
+      → (named_on shelf ≡ true) × (IsCleanOn shelf → HasHead said.mark (seen_on shelf))
 
--- where cells are the data sets themselves, each that is there is that of its item
-abbrev pub RowsHaveDataSets : Type 0
-RowsHaveDataSets =
-    (db : Trees)
-    → HaveOwn (λ cell. Unit {0}) (λ cell bytes. cell ≡ bytes) (λ cell other. Unit {0}) db
-    → (uid : Text) (body : List ℕ)
-    → map.get (bodies_of db) uid ≡ Some body
-    → (item : Job) × IsItem item × (item.body ≡ body)
-    × (map.get (items_of db) uid ≡ Some (instance_of item))
+  -- where cells are the data sets themselves, each that is there is that of its item
+  abbrev pub RowsHaveDataSets : Type 0
+  RowsHaveDataSets =
+      (db : Trees) (shelf : LedgerShelf D g)
+      → HasOwnOn db shelf
+      → named_on shelf ≡ false
+      → (uid : Text) (body : List ℕ)
+      → map.get (bodies_of db) uid ≡ Some body
+      → (item : Job) × IsItem item × (item.body ≡ body)
+      × (map.get (items_of db) uid ≡ Some (instance_of item))
+
+-- A site's ledger isn't taken for another's: where its data sets are in a file, whatever they are;
+-- where they are in rows, if each is that of its item.
+pub record LedgersAreTheirSites : Type 0 where
+  pub marked : (n : ℕ) (part : Part) (db : Database) (mark : List ℕ) (said : DataMark)
+      → HasLedgerOf n part db
+      → IsOwnedWith mark part db.trees
+      → IsMarkOf mark said
+      → IsWhy part db opening.OtherSite → ⊥
+  pub own : (n : ℕ) (part : Part) (db : Database)
+      → HasLedgerOf n part db
+      → ((uid : Text) → IsOwn uid db.trees)
+      → IsWhy part db opening.OtherSite → ⊥
 
 -- what a database has is one node's ledger, under one plan, and its next line has one number
 abbrev pub LedgersAreOne : Type 0

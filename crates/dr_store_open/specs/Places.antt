@@ -11,8 +11,7 @@ use Rattle.dr_store_bodies.specs.Bodies.{IsClean, extents, seen}
 use Rattle.dr_store_shelf.specs.declared.either.LedgerShelf.{LedgerShelf}
 use Rattle.dr_store_shelf.specs.declared.either.LedgerShelf.TheVariants.{InRow as Rows}
 use Rattle.dr_store_shelf.specs.declared.either.LedgerShelf.TheVariants.{InFile as File}
-use Rattle.dr_store_shelf.specs.Either.{AreApartIf, IsCleanOn, StandsOn, UsesOn, named_on}
-use Rattle.dr_store_shelf.specs.Shelves.{KeepsCells}
+use Rattle.dr_store_shelf.specs.Either.{AreApartIf, UsesOn, named_on}
 use Rattle.dr_store_data.specs.declared.mark.DataMark.{DataMark}
 use Rattle.dr_store_data.specs.Heads.{HasHead, IsMarkOf}
 use Rattle.dr_store_data.specs.Opened.{HasExtents}
@@ -73,36 +72,15 @@ module _ {D : Type 0} {g : Ghosts D} where
   IsFileWith said list (File it) =
       IsUnder said it.key it.bodies × HasExtents list (extents it.bodies)
 
-  -- the shelf was opened where the tables say, in a file under their key and with their mark
-  abbrev pub IsOpenedBy : Part → Trees → LedgerShelf D g → Type 0
-  IsOpenedBy part db shelf = (place : DataPlace) × IsPlaceOf part db place × IsAt place shelf
-
-  -- The shelf comes of that one, at whose cells one looked: each that was in use and stood for some
-  -- bytes does so still.
-  abbrev pub ComesOf : (first shelf : LedgerShelf D g) → Type 0
-  ComesOf first shelf =
-      (named_on shelf ≡ named_on first)
-      × (IsCleanOn shelf → IsCleanOn first)
-      × KeepsCells (UsesOn first) (StandsOn first) (UsesOn shelf) (StandsOn shelf)
-
-  -- The shelf is where the tables say: its cells name places just where they have a mark, and it
-  -- comes of one that was opened under their key, over a file with their mark.
+  -- The shelf is where the tables say: its cells name places just where they have a mark, and then
+  -- it is over a file with that mark, and under their key.
   pub record IsPlacedBy (part : Part) (db : Trees) (shelf : LedgerShelf D g) : Type 0 where
     pub place : DataPlace
     pub says : IsPlaceOf part db place
-    pub named : named_on shelf ≡ names_at place
-    pub first : LedgerShelf D g
-    pub opened : IsAt place first
-    pub since : ComesOf first shelf
+    pub at : IsAt place shelf
 
-  -- its cells are those of the tables, and stand for the data sets of their book, unless a wrong
-  -- answer of the file was taken as true
-  abbrev pub HasOwnOn : Trees → LedgerShelf D g → Type 0
-  HasOwnOn db shelf =
-      IsCleanOn shelf → HaveOwn (UsesOn shelf) (StandsOn shelf) (AreApartIf (named_on shelf)) db
-
-  -- the shelf was looked at, and not each cell stood for the data set of its item
-  abbrev pub IsOtherOn : Trees → LedgerShelf D g → Type 0
-  IsOtherOn db shelf =
-      (after : LedgerShelf D g)
-      × (IsCleanOn after → ((uid : Text) → IsOwn (StandsOn shelf) uid db) → ⊥)
+  -- The cells of the tables are in use on the shelf, and each two can be let go one without the
+  -- other. Where they name no places, each is the data set of its item.
+  pub record HasOwnOn (db : Trees) (shelf : LedgerShelf D g) : Type 0 where
+    pub cells : HaveOwn (UsesOn shelf) (AreApartIf (named_on shelf)) db
+    pub rows : named_on shelf ≡ false → (uid : Text) → IsOwn uid db

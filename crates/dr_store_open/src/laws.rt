@@ -7,7 +7,7 @@ ghost use Rattle.dr_site.specs.Parts.{Part};
 ghost use Rattle.dr_store_audit.specs.Older.{IsOlder};
 ghost use Rattle.dr_store_open.specs.Opening.{BadTablesAreNone, IsBlank, LeavesFile, LeavesOldOr};
 ghost use Rattle.dr_store_open.specs.Opening.{LeavesOldOrCommitted, LedgersAreOne};
-ghost use Rattle.dr_store_open.specs.Opening.{MarkedTablesHaveTheirFile};
+ghost use Rattle.dr_store_open.specs.Opening.{LedgersAreTheirSites, MarkedTablesHaveTheirFile};
 ghost use Rattle.dr_store_open.specs.Opening.{NewLedgersAreLedgers, PlacesAreOne};
 ghost use Rattle.dr_store_open.specs.Opening.{RowsHaveDataSets, StaysAsFound};
 ghost use Rattle.dr_store_open.specs.Renewing.{IsMadeBy, KeepsRows};
@@ -38,15 +38,21 @@ pub fn data_sets_are_in_one_place()
     ensures { PlacesAreOne }
 {}
 
-/// Where a ledger's tables have a mark, its shelf comes of a file with that mark, and of no other.
+/// Where a ledger's tables have a mark, its shelf is over a file with that mark, and over no other.
 pub fn marked_tables_have_their_file<D: Disk>()
     ensures { MarkedTablesHaveTheirFile D.Disk }
 {}
 
 /// Where the cells of a ledger's tables are its data sets themselves, each that is there is that of
 /// its item.
-pub fn rows_have_data_sets()
-    ensures { RowsHaveDataSets }
+pub fn rows_have_data_sets<D: Disk>()
+    ensures { RowsHaveDataSets D.Disk }
+{}
+
+/// A site's ledger isn't refused as another's for what a data set in a file is, whatever it is, nor
+/// for one in a row that is its item's.
+pub fn ledgers_are_their_sites()
+    ensures { LedgersAreTheirSites }
 {}
 
 /// Of a file that has a ledger's tables of today an opening makes nothing, also where it refuses

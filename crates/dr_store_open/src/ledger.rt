@@ -44,7 +44,7 @@ pub fn ledger_of<S: Alter, D: Disk>(
 /// The ledger of a site over a connection to a file: its tables are made where the file has none, a
 /// file from before is brought over, and then they are compared with what the journal's lines make.
 /// A new ledger has its data sets where they are wanted; of any other the tables say where they
-/// are, and there each is looked at. The ledger is told that moment (milliseconds since 1970).
+/// are. Those in rows are read again. The ledger is told that moment (milliseconds since 1970).
 ///
 /// Errors: OtherSite, NoData, DataIsThere, InUse, Store, Memory.
 pub fn ledger_on<S: Alter + Drop, F: DataFile>(

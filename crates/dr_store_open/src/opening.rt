@@ -1,6 +1,6 @@
 //! A file's ledger, opened.
 ghost use Rattle.std.specs.Prelude.{◌≡◌, ◌≤◌, ◌↔◌, IfErr, IfOk, MatchResult, OnOk, false};
-ghost use Rattle.std.specs.Prelude.{◌≢◌, IsTrue, true};
+ghost use Rattle.std.specs.Prelude.{◌≢◌, All, IsTrue, true};
 ghost use Rattle.sqlite.specs.Held.{state};
 ghost use Rattle.sqlite.specs.State.{HasCleanDisk, IsLive};
 ghost use Rattle.dr_store_schema.specs.Tables.{tables};
@@ -9,23 +9,22 @@ ghost use Rattle.dr_store_calls.specs.Adoptions.{IsOwnedBy};
 ghost use Rattle.dr_store_calls.specs.Calling.{IsKept};
 ghost use Rattle.dr_store_audit.specs.Older.{IsOlder};
 ghost use Rattle.dr_store_open.specs.Renewing.{IsMadeBy, IsMadeWith, KeepsRows};
-ghost use Rattle.dr_store_shelf.specs.Either.{AreApartIf, UsesOn, named_on};
-ghost use Rattle.dr_store_schema.specs.Books.{bodies_of};
+ghost use Rattle.dr_store_shelf.specs.Either.{named_on};
 ghost use Rattle.dr_store_changes.specs.Writing.{IsReady};
-ghost use Rattle.dr_store_calls.specs.LettingGo.{AreEachApart};
-ghost use Rattle.dr_store.specs.Owning.{AreUsed};
+ghost use Rattle.dr_store_open.specs.declared.data.DataPlace.TheVariants as place;
 ghost use Rattle.dr_store_open.specs.declared.data.Keeping.TheVariants as wanted;
 ghost use Rattle.dr_store_open.specs.declared.fault.OpeningFault.TheVariants as opening;
+ghost use Rattle.dr_store_open.specs.DataSets.{AreOwnUnder};
 ghost use Rattle.dr_store_open.specs.Opening.{AreOf, HasLedgerOf, HasNewLedger, IsBlank};
 ghost use Rattle.dr_store_open.specs.Opening.{IsBroughtOver, IsLedgerOpened, IsNext, IsWhy};
 ghost use Rattle.dr_store_open.specs.Opening.{IsWhyNot, IsWholeOpened, LeavesFile};
 ghost use Rattle.dr_store_open.specs.Opening.{LeavesOldOr, LeavesOldOrCommitted};
 ghost use Rattle.dr_store_open.specs.Opening.{StaysAsFound, StaysReady};
 ghost use Rattle.dr_store_open.specs.Faults.{IsOfData};
-ghost use Rattle.dr_store_open.specs.Places.{ComesOf, HasOwnOn, IsOtherOn, IsPlacedBy, names_in};
+ghost use Rattle.dr_store_open.specs.Places.{HasOwnOn, IsPlacedBy, names_in};
 
 use crate::beside::new_data;
-use crate::bodies::test_all;
+use crate::bodies::test_rows;
 use crate::data::{Keeping, OpenedLedger, is_wanted};
 use crate::fault::{OpeningFault, of_tables, opening_fault};
 use crate::finding::{FoundTables, find_owned};
@@ -95,35 +94,29 @@ pub fn find<S: Alter>(
     find_tested(conn, alloc, site)
 }
 
-/// A ledger whose tables were found, with its shelf, where each data set that is there is that of
-/// its instance.
+/// A ledger whose tables were found, with the shelf that was opened for it. Where data sets are in
+/// rows, each that is there is that of its instance. The shelf is handed on as it was opened.
 fn open_on<S: Alter, D: Disk + Drop>(
     conn: &mut Connection<S>,
     alloc: Global,
     shelf: LedgerShelf<D>,
-    site: &Site,
     found: FoundTables,
 ) -> Result<OpenedLedger<D>, OpeningFault>
-    requires ready { HasCleanDisk (state S.Store conn.old)
+    requires { HasCleanDisk (state S.Store conn.old)
         → IsReady found.next (state S.Store conn.old) }
-    requires are { HasCleanDisk (state S.Store conn.old)
-        → AreOf site.now (state S.Store conn.old).now.trees found }
-    requires used { HasCleanDisk (state S.Store conn.old)
-        → AreUsed (UsesOn shelf) (bodies_of (state S.Store conn.old).now.trees) }
     ensures ready { StaysReady found.next result (state S.Store conn.old) (state S.Store conn.new) }
     ensures next { IfOk result (λ it. it.next ≡ found.next) }
-    ensures since { IfOk result (λ it. ComesOf shelf it.shelf) }
+    ensures same { IfOk result (λ it. it.shelf ≡ shelf) }
     ensures own { HasCleanDisk (state S.Store conn.new)
-        → AreEachApart (AreApartIf (named_on shelf))
-        (bodies_of (state S.Store conn.old).now.trees)
-        → IfOk result (λ it. HasOwnOn (state S.Store conn.old).now.trees it.shelf) }
-    ensures other { HasCleanDisk (state S.Store conn.new)
-        → IfErr result (λ fault. fault ≡ opening.OtherSite
-        → IsOtherOn (state S.Store conn.old).now.trees shelf) }
+        → found.place ≡ place.InRows
+        → MatchResult result (λ it.
+        All (AreOwnUnder (state S.Store conn.old).now.trees) found.prints.items) (λ fault.
+        fault ≡ opening.OtherSite
+        → All (AreOwnUnder (state S.Store conn.old).now.trees) found.prints.items → ⊥) }
+    ensures rows { IfErr result (λ fault. found.place ≡ place.InRows) }
     ensures of_data { IfErr result (λ fault. IsOfData fault → ⊥) }
 {
-    let mut shelf = shelf;
-    match test_all(conn, &mut shelf, alloc, &found) {
+    match test_rows(conn, alloc, &found) {
         Ok(()) => Ok(OpenedLedger {
             shelf,
             next: found.next,
@@ -156,21 +149,23 @@ fn open_found<S: Alter, F: DataFile>(
     ensures own { HasCleanDisk (state S.Store conn.new)
         → IfOk result (λ it. HasOwnOn (state S.Store conn.old).now.trees it.shelf) }
     ensures why { HasCleanDisk (state S.Store conn.new)
-        → IfErr result (IsWhyNot result site.now (state S.Store conn.old).now.trees) }
+        → IfErr result (IsWhyNot site.now (state S.Store conn.old).now.trees) }
     ensures there { IfErr result (λ fault. fault ≢ opening.DataIsThere) }
 {
     match shelf_of(conn, alloc, data, made, &found) {
-        Ok(shelf) => open_on(conn, alloc, shelf, site, found),
+        Ok(shelf) => open_on(conn, alloc, shelf, found),
         Err(fault) => Err(fault),
     }
 }
 
 /// The shelf of this site's ledger in a file whose tables are made, and the number of its next
-/// line. Its tables are found and compared with what the journal's lines make. Then its shelf is
-/// opened where they say, and each data set that is there is looked at once. It only reads.
+/// line. Its tables are found and compared with what the journal's lines make. Where data sets are
+/// in rows, each that is there is read again; where they are in a file, none is. Then the shelf is
+/// opened where the tables say. It only reads.
 ///
-/// Errors: OtherSite, never where the file has a ledger of this site whose cells stand for its data
-/// sets; NoData and InUse, never where its data sets are in its rows; Store; Memory.
+/// Errors: OtherSite, never where the file has a ledger of this site with its data sets in a file,
+/// whatever they are, nor where they are in rows and each is its item's; NoData and InUse, never
+/// where its data sets are in its rows; Store; Memory.
 pub fn find_ledger<S: Alter, F: DataFile>(
     conn: &mut Connection<S>,
     alloc: Global,
@@ -384,15 +379,16 @@ fn open_made<S: Alter, F: DataFile>(
 /// This site's ledger in a file: its shelf, and the number of its next line. Its tables are made
 /// where the file has none, and else they are found, and compared with what the journal's lines
 /// make; a file from before, which lacks some of them, is brought over first, as one transaction.
-/// Then its shelf is opened where its tables say, and each data set is looked at.
+/// Where its data sets are in rows, each is read again; where they are in a file, none is. Then its
+/// shelf is opened where its tables say.
 ///
 /// Whatever it answers, a crash leaves what it could leave before, or what an opening makes of the
 /// file, whole. A file that has other tables than none or those of before stays as it was.
 ///
-/// Errors: OtherSite, never where the file has a ledger of this site in the tables of today whose
-/// cells stand for its data sets; NoData and InUse, never where such a ledger's data sets are in
-/// its rows; DataIsThere, only where a new ledger is wanted with its data sets in a file; Store;
-/// Memory.
+/// Errors: OtherSite, never where the file has a ledger of this site in the tables of today, if its
+/// data sets are in a file, whatever they are, or in rows, and each is its item's; NoData and
+/// InUse, never where such a ledger's data sets are in its rows; DataIsThere, only where a new
+/// ledger is wanted with its data sets in a file; Store; Memory.
 pub fn open<S: Alter, F: DataFile>(
     conn: &mut Connection<S>,
     alloc: Global,
@@ -425,7 +421,7 @@ pub fn open<S: Alter, F: DataFile>(
     ensures file { HasCleanDisk (state S.Store conn.new)
         → LeavesFile site.now (state S.Store conn.old) (state S.Store conn.new) }
     ensures refused { IfErr result (λ fault. HasCleanDisk (state S.Store conn.new)
-        → IsWhy result site.now (state S.Store conn.old).now fault) }
+        → IsWhy site.now (state S.Store conn.old).now fault) }
     ensures there { IfErr result (λ fault. fault ≡ opening.DataIsThere
         → (keeping ≡ wanted.InFile) × IsBlank (state S.Store conn.old).now.schema) }
     ensures is { IfOk result (λ it. HasCleanDisk (state S.Store conn.new)

@@ -7,13 +7,11 @@ ghost use Rattle.sqlite.specs.State.{HasCleanDisk};
 ghost use Rattle.dr_ledger.specs.Replies.{Reads};
 ghost use Rattle.dr_store_bodies.specs.declared.extent.Extent.{Extent as AnExtent};
 ghost use Rattle.dr_store_shelf.specs.Either.{AreApartIf, UsesOn, named_on};
-ghost use Rattle.dr_store_schema.specs.Books.{bodies_of};
 ghost use Rattle.dr_store_schema.specs.Ledgers.{IsLedger};
 ghost use Rattle.dr_store_changes.specs.Writing.{IsReady};
 ghost use Rattle.dr_store_reads.specs.Queries.{Asked};
 ghost use Rattle.dr_store_lists.specs.Lists.{whole_prints_of};
-ghost use Rattle.dr_store_calls.specs.LettingGo.{AreEachApart};
-ghost use Rattle.dr_store.specs.Owning.{AreUsed};
+ghost use Rattle.dr_store.specs.Owning.{HaveOwn};
 ghost use Rattle.dr_store_open.specs.declared.data.DataPlace.TheVariants as place;
 ghost use Rattle.dr_store_open.specs.declared.fault.OpeningFault.TheVariants as opening;
 ghost use Rattle.dr_store_open.specs.DataSets.{AddsExtent, AreListed, AreListedIf, IsExtentAt};
@@ -222,10 +220,8 @@ pub fn shelf_of<'x, S: Alter, F: DataFile>(
     ensures used { HasCleanDisk (state S.Store conn.new)
         → found.now.prints.items
         ≡ map.entries (whole_prints_of (state S.Store conn.old).now.trees)
-        → IfOk result (λ shelf.
-        AreUsed (UsesOn shelf) (bodies_of (state S.Store conn.old).now.trees)
-        × AreEachApart (AreApartIf (named_on shelf))
-        (bodies_of (state S.Store conn.old).now.trees)) }
+        → IfOk result (λ shelf. HaveOwn (UsesOn shelf) (AreApartIf (named_on shelf))
+        (state S.Store conn.old).now.trees) }
     ensures why { IfErr result IsOfOpening }
     ensures rows { found.now.place ≡ place.InRows → IfErr result (λ fault. ⊥) }
 {

@@ -3,3 +3,4 @@ pub mod Either
 pub mod Held
 pub mod Laws
 pub mod Shelves
+pub mod Tested

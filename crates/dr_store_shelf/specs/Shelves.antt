@@ -1,5 +1,7 @@
 -- What a shelf gives out for a data set, and why it refuses one.
-use Rattle.std.specs.Prelude.{◌≡◌, ◌≢◌, ◌≤◌, ℕ, List, All, Contains, length}
+use Rattle.std.specs.Prelude.{◌≡◌, ◌≢◌, ◌≤◌, ℕ, List, Option, Some, None, All, Contains, length}
+use Rattle.std.specs.Global.{Global}
+use Rattle.std.specs.Prelude.{Vec}
 use Rattle.sqlite_disk.specs.declared.Disk.{Ghosts}
 use Rattle.sqlite_disk.specs.Disk.{MoreFaults}
 use Rattle.dr_store_bodies.specs.declared.bodies.Bodies.{Bodies}
@@ -46,18 +48,29 @@ IsWhyNotRead usable stands fault.Full = ⊥
 IsWhyNotRead usable stands fault.NoCell = stands → ⊥
 IsWhyNotRead usable stands fault.Unreadable = stands → ⊥
 
--- Each cell that was in use and stood for some bytes is in use still, and stands for them.
+-- Each cell that was in use is in use still, and stands for what it stood for.
 abbrev pub KeepsCells : (Used : List ℕ → Type 0)
     → (Stood : List ℕ → List ℕ → Type 0)
     → (Uses : List ℕ → Type 0)
     → (Stands : List ℕ → List ℕ → Type 0) → Type 0
 KeepsCells Used Stood Uses Stands =
-    (cell bytes : List ℕ) → Used cell → Stood cell bytes → Uses cell × Stands cell bytes
+    (cell : List ℕ)
+    → Used cell
+    → Uses cell × ((bytes : List ℕ) → Stood cell bytes → Stands cell bytes)
 
 -- By each cell that was in use the same bytes are shown as before, whether or not it stands for
 -- them.
 abbrev pub ShowsAsBefore : (Used : List ℕ → Type 0) → (was is : List ℕ → List ℕ) → Type 0
 ShowsAsBefore Used was is = (cell : List ℕ) → Used cell → is cell ≡ was cell
+
+-- By each cell that was in use the same bytes can be read as before, or none can as before.
+abbrev pub ReadsAsBefore : (Used : List ℕ → Type 0) → (was is : List ℕ → Option (List ℕ)) → Type 0
+ReadsAsBefore Used was is = (cell : List ℕ) → Used cell → is cell ≡ was cell
+
+-- the bytes that were found, if any
+abbrev pub items_of : Option (Vec ℕ Global) → Option (List ℕ)
+items_of None = None
+items_of (Some found) = Some found.items
 
 -- two cells name different places
 abbrev pub AreApart : List ℕ → List ℕ → Type 0

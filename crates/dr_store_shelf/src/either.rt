@@ -16,7 +16,8 @@ impl<D: Disk> Shelf for LedgerShelf<D> {
     ghost use Rattle.dr_store_shelf.specs.Either.{AreApartIf, EndsOn, IsCleanOn, IsNewOn};
     ghost use Rattle.dr_store_shelf.specs.Either.{IsUsableOn, PassesOn};
     ghost use Rattle.dr_store_shelf.specs.Either.{StandsOn, UsesOn, apart_swaps, body_on};
-    ghost use Rattle.dr_store_shelf.specs.Either.{faults_on, named_on, only_on, passed_on};
+    ghost use Rattle.dr_store_shelf.specs.Either.{faults_on, held_on, named_on, only_on, passed_on};
+    ghost use Rattle.dr_store_shelf.specs.Either.{read_on, reads_on};
 
     ghost stands = { λ it. StandsOn it };
 
@@ -32,6 +33,8 @@ impl<D: Disk> Shelf for LedgerShelf<D> {
 
     ghost passes = { λ it. PassesOn it };
 
+    ghost read_of = { λ it. read_on it };
+
     ghost is_new = { λ it. IsNewOn it };
 
     ghost ends = { λ it. EndsOn it };
@@ -45,6 +48,10 @@ impl<D: Disk> Shelf for LedgerShelf<D> {
     ghost only = { λ it. only_on it };
 
     ghost passed = { λ it. passed_on it };
+
+    ghost reads = { λ it. reads_on it };
+
+    ghost held = { λ it. held_on it };
 
     fn names_places(&self) -> bool {
         match self {

@@ -73,6 +73,7 @@ impl<D: Disk> InFile<D> {
             → IsHeld self.old.bodies (extent_in cell.now) bytes → got.items ≡ bytes) }
         ensures tested { IfOk result (λ got. Passes self.old.key cell.now got.items) }
         ensures cut { self.new.is_cut ≡ self.old.is_cut }
+        ensures key { self.new.key ≡ self.old.key }
         ensures keeps { (other bytes : List ℕ) → IsUsed self.old.bodies other
             → Stands self.old.key self.old.bodies other bytes
             → IsUsed self.new.bodies other × Stands self.new.key self.new.bodies other bytes }
@@ -100,6 +101,7 @@ impl<D: Disk> InFile<D> {
             → IsHeld self.old.bodies (extent_in cell.now) bytes → got.items ≡ bytes) }
         ensures tested { IfOk result (λ got. Passes self.old.key cell.now got.items) }
         ensures cut { self.new.is_cut ≡ self.old.is_cut }
+        ensures key { self.new.key ≡ self.old.key }
         ensures keeps { (other bytes : List ℕ) → IsUsed self.old.bodies other
             → Stands self.old.key self.old.bodies other bytes
             → IsUsed self.new.bodies other × Stands self.new.key self.new.bodies other bytes }
@@ -126,6 +128,8 @@ impl<D: Disk> Shelf for InFile<D> {
     ghost use Rattle.dr_store_shelf.specs.Shelves.{AreApart, EndsWithLast, IsUsed, Stands};
     ghost use Rattle.dr_store_shelf.specs.Shelves.{shown_by};
     ghost use Rattle.dr_store_shelf.specs.Held.{apart_from_each_other, held_is_shown};
+    ghost use Rattle.dr_store_shelf.specs.Held.{read_stands};
+    ghost use Rattle.dr_store_shelf.specs.Tested.{read_in, read_is};
 
     ghost stands = { λ it. Stands it.key it.bodies };
 
@@ -141,6 +145,8 @@ impl<D: Disk> Shelf for InFile<D> {
 
     ghost passes = { λ it. Passes it.key };
 
+    ghost read_of = { λ it cell. read_in it.key cell (shown_by it.bodies cell) };
+
     ghost is_new = { λ it. it.is_cut ≡ false };
 
     ghost ends = { λ it. EndsWithLast it.bodies };
@@ -154,6 +160,11 @@ impl<D: Disk> Shelf for InFile<D> {
     ghost only = { λ it cell bytes is. held_is_shown _ _ (extent_in cell) bytes is.0 };
 
     ghost passed = { λ it cell bytes is. is.1 };
+
+    ghost reads = { λ it cell. read_is it.key cell (shown_by it.bodies cell) };
+
+    ghost held = { λ it cell bytes clean used is.
+        read_stands it.key _ _ _ cell bytes (it.bodies.safe clean) used.1 is };
 
     fn names_places(&self) -> bool {
         true

@@ -7,7 +7,8 @@ use crate::shelf::{BodyCell, Shelf};
 pub struct InRow;
 
 impl Shelf for InRow {
-    ghost use Rattle.std.specs.Prelude.{◌≡◌, false};
+    ghost use Rattle.std.specs.Prelude.{◌≡◌, Some, false};
+    ghost use Rattle.dr_store_shelf.specs.Tested.{row_held, row_reads};
 
     ghost stands = { λ _ cell bytes. cell ≡ bytes };
 
@@ -23,6 +24,8 @@ impl Shelf for InRow {
 
     ghost passes = { λ _ cell bytes. cell ≡ bytes };
 
+    ghost read_of = { λ _ cell. Some cell };
+
     ghost is_new = { λ _. Unit {0} };
 
     ghost ends = { λ _. Unit {0} };
@@ -36,6 +39,10 @@ impl Shelf for InRow {
     ghost only = { λ _ _ _ is. is };
 
     ghost passed = { λ _ _ _ is. is };
+
+    ghost reads = { λ _ cell. row_reads cell };
+
+    ghost held = { λ _ cell bytes _ _ is. row_held cell bytes is };
 
     fn names_places(&self) -> bool {
         false

@@ -1,7 +1,8 @@
 //! A place for data sets.
 ghost use Rattle.std.specs.Prelude.{◌≡◌, ◌<◌, ℕ, List, length, IfErr, IfOk, OnErr, Bool};
-ghost use Rattle.std.specs.Prelude.{◌↔◌, IsTrue, MatchOption, OnOk, false};
-ghost use Rattle.dr_store_shelf.specs.Shelves.{IsWhyNotPut, IsWhyNotRead, ShowsAsBefore, bytes_of};
+ghost use Rattle.std.specs.Prelude.{◌↔◌, IsTrue, MatchOption, OnOk, Option, Some, false};
+ghost use Rattle.dr_store_shelf.specs.Shelves.{IsWhyNotPut, IsWhyNotRead, ReadsAsBefore};
+ghost use Rattle.dr_store_shelf.specs.Shelves.{ShowsAsBefore, bytes_of, items_of};
 
 use crate::fault::ShelfFault;
 
@@ -30,7 +31,8 @@ impl BodyCell {
 ///
 /// A cell that is in use stands for the same bytes until it is let go, whatever else is put, read
 /// or let go, and whether or not a call is refused. By one that is in use each call leaves the same
-/// bytes, also where it stands for none, as far as the medium answered rightly.
+/// bytes, also where it stands for none, as far as the medium answered rightly. So the same can be
+/// read by it, or nothing as before.
 pub trait Shelf {
     // The cell stands for these bytes: they are what is read by it, now and after a crash at this
     // moment.
@@ -56,6 +58,9 @@ pub trait Shelf {
     // These bytes pass the test that the cell has for them.
     ghost passes: { Self → List ℕ → List ℕ → Type 0 };
 
+    // What can be read by the cell: the bytes that are shown by it, if they pass its test.
+    ghost read_of: { Self → List ℕ → Option (List ℕ) };
+
     // No data set was put since the shelf was opened.
     ghost is_new: { Self → Type 0 };
 
@@ -77,6 +82,15 @@ pub trait Shelf {
 
     ghost passed: { (it : Self) (cell bytes : List ℕ) → stands it cell bytes
         → passes it cell bytes };
+
+    // That is what can be read.
+    ghost reads: { (it : Self) (cell : List ℕ)
+        → MatchOption (read_of it cell) (passes it cell (body_of it cell) → ⊥)
+        (λ bytes. (bytes ≡ body_of it cell) × passes it cell bytes) };
+
+    // A cell in use stands for what can be read by it, where no wrong answer was taken as true.
+    ghost held: { (it : Self) (cell bytes : List ℕ) → is_clean it → uses it cell
+        → read_of it cell ≡ Some bytes → stands it cell bytes };
 
     /// Whether a cell names a place. Where none does, each can be let go without any, and nothing
     /// has to be let go.
@@ -107,6 +121,9 @@ pub trait Shelf {
             → uses self.new cell × stands self.new cell bytes }
         ensures shows { is_clean self.new
             → ShowsAsBefore (uses self.old) (body_of self.old) (body_of self.new) }
+        ensures reads { is_clean self.new
+            → ReadsAsBefore (uses self.old) (read_of self.old) (read_of self.new) }
+        ensures uses { (other : List ℕ) → uses self.old other → uses self.new other }
         ensures unused { OnErr result
             ((cell : List ℕ) → uses self.new cell → uses self.old cell) }
         ensures ends { OnOk result (is_new self.old → ends self.new) }
@@ -128,6 +145,9 @@ pub trait Shelf {
             → uses self.new other × stands self.new other bytes }
         ensures shows { is_clean self.new
             → ShowsAsBefore (uses self.old) (body_of self.old) (body_of self.new) }
+        ensures reads { is_clean self.new
+            → ReadsAsBefore (uses self.old) (read_of self.old) (read_of self.new) }
+        ensures uses { (other : List ℕ) → uses self.old other → uses self.new other }
         ensures named { named self.new ≡ named self.old }
         ensures since { is_new self.old → is_new self.new }
         ensures clean { is_clean self.new → is_clean self.old }
@@ -135,17 +155,21 @@ pub trait Shelf {
             → IsWhyNotRead (is_usable self.old) (stands self.old cell.items bytes) fault) };
 
     /// Looks what a cell stands for that is in use, where that isn't known yet: None where it
-    /// stands for no data set.
+    /// stands for no data set. That is what can be read by it.
     ///
     /// Errors: Io, Memory, Unusable.
     fn look(&mut self, cell: Vec<u8>) -> Result<Option<Vec<u8>>, ShelfFault>
         ensures found { IfOk result (λ found. is_clean self.new → uses self.old cell.items
             → MatchOption found ((bytes : List ℕ) → stands self.old cell.items bytes → ⊥)
             (λ got. stands self.old cell.items got.items)) }
+        ensures read { IfOk result (λ found. is_clean self.new → uses self.old cell.items
+            → items_of found ≡ read_of self.old cell.items) }
         ensures keeps { (other bytes : List ℕ) → uses self.old other → stands self.old other bytes
             → uses self.new other × stands self.new other bytes }
         ensures shows { is_clean self.new
             → ShowsAsBefore (uses self.old) (body_of self.old) (body_of self.new) }
+        ensures reads { is_clean self.new
+            → ReadsAsBefore (uses self.old) (read_of self.old) (read_of self.new) }
         ensures uses { (other : List ℕ) → uses self.old other → uses self.new other }
         ensures named { named self.new ≡ named self.old }
         ensures since { is_new self.old → is_new self.new }
@@ -164,6 +188,10 @@ pub trait Shelf {
             → uses self.new other × stands self.new other bytes }
         ensures shows { is_clean self.new
             → ShowsAsBefore (uses self.old) (body_of self.old) (body_of self.new) }
+        ensures reads { is_clean self.new
+            → ReadsAsBefore (uses self.old) (read_of self.old) (read_of self.new) }
+        ensures uses { (other : List ℕ) → apart (named self.old) cell.now other
+            → uses self.old other → uses self.new other }
         ensures named { named self.new ≡ named self.old }
         ensures since { is_new self.old → is_new self.new }
         ensures clean { is_clean self.new → is_clean self.old };

@@ -69,3 +69,16 @@ returns-in-Err-clause-called g c =
     subst P (sym c.shelf_fault.ensures)
     (not_brought Comes came s Asks New (fault_of_shelf c.in-Err.fault) c.requires.delivered
     (own_fault c.in-Err.fault))
+
+pub returns-in-Ok-clause-keeps : goal.returns-in-Ok-clause-keeps
+returns-in-Ok-clause-keeps g c = λ cell used. (
+  c.put.ensures.uses cell used,
+  λ bytes stood. (c.put.ensures.keeps cell bytes used stood).1,
+)
+
+
+pub returns-in-Err-clause-keeps : goal.returns-in-Err-clause-keeps
+returns-in-Err-clause-keeps g c = λ cell used. (
+  c.put.ensures.uses cell used,
+  λ bytes stood. (c.put.ensures.keeps cell bytes used stood).1,
+)

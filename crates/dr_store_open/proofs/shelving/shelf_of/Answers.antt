@@ -8,7 +8,7 @@ pub returns-in-InRows-clause-ready : goal.returns-in-InRows-clause-ready
 returns-in-InRows-clause-ready g c = ready_still c.args.found.now.next (state g.S.Store c.args.conn.now) _ c.requires
 
 pub returns-in-InRows-clause-used : goal.returns-in-InRows-clause-used
-returns-in-InRows-clause-used g c clean are = (λ uid cell there. tt, λ uid other cell beside differ there is. tt)
+returns-in-InRows-clause-used g c clean are = record { used = λ uid cell there. tt; apart = λ uid other cell beside differ there is. tt }
 
 pub returns-in-InFile-clause-used : goal.returns-in-InFile-clause-used
 returns-in-InFile-clause-used g c clean are =

@@ -1,78 +1,96 @@
-use Rattle.std.proofs.Common.{sym, subst}
+use Rattle.std.proofs.Common.{Option, sym, subst}
 use Rattle.sqlite.specs.Held.{state}
 use Rattle.sqlite.specs.Tree.{Trees}
 use Rattle.dr_site.specs.Parts.{Part}
 use Rattle.dr_ledger.specs.Adopting.{Adopting, site_after}
-use Rattle.dr_ledger.specs.Bodies.{OnlyLetsGo}
 use Rattle.dr_store_schema.specs.Books.{book_of}
 use Rattle.dr_store_calls.specs.Adoptions.{IsAdopted}
 use Rattle.dr_store_calls.specs.Calling.{IsSafe, advanced}
-use Rattle.dr_store.specs.Owning.{KeepsOwn, bodies_with}
+use Rattle.dr_store.specs.Owning.{KeepsOwn, LetsGoOf, Survives}
 use Rattle.dr_store.specs.Surviving.{TakesOver}
-use Rattle.dr_store.proofs.Adopts.{Adoption, adopted, takes_over}
-use Rattle.dr_store.proofs.Owns.{adopted_so, if_failed, keeps_at_adoption, left_of, lets_go_with}
-use Rattle.dr_store.proofs.Replies.{adopting, lets_go}
+use Rattle.dr_store.proofs.Adopts.{Adoption, adopted as as_done, takes_over}
+use Rattle.dr_store.proofs.Owns.{adopted, adopted_so, fewer, fewer_of, if_failed, left_of, survives}
+use Rattle.dr_store.proofs.Replies.{adopting, lets_go_of}
 use Rattle.dr_store.proofs.Stable.{three}
 use Rattle.dr_store.proofs.Writes.{answering, covered, still_kept, wrote}
 use Rattle.dr_store.proofs.ledger.SqlLedger.adopt_in.Goals as goal
 
 pub invariant_of-self : goal.invariant_of-self
-invariant_of-self g c =
-    let n = c.args.self.now.next in
-    let Uses = g.B.Shelf.uses c.args.self.now.shelf in
-    let Stands = g.B.Shelf.stands c.args.self.now.shelf in
-    let Apart = g.B.Shelf.apart (g.B.Shelf.named c.args.self.now.shelf) in
-    let part = c.args.self.now.site in
-    let next = c.args.own in
-    let r = c.adopt-answer.result in
-    let old = state g.S.Store c.args.self.now.conn in
-    let new = state g.S.Store c.adopt-answer.new.conn in
-    let done = adopted Uses Stands Apart n part next r old new (c.adopt-answer.ensures.adopted part) in
-    let P : Part → Type 0 = λ site. IsSafe new → ∥ KeepsOwn Uses Stands Apart (advanced r n) site new ∥₁ in
-    record {
-      idle = c.adopt-answer.ensures.idle;
-      kept = λ clean. subst (λ m. IsSafe new → ∥ KeepsOwn Uses Stands Apart m c.take_over.new.site new ∥₁) (sym c.next_after-self.ensures)
-          (subst P (sym c.take_over.ensures) (still_kept n (advanced r n) part (site_after r next part) r old new (Adoption next r) (IsAdopted next) (c.args.self.now.kept clean) done Uses Stands
-          (λ k it own. keeps_at_adoption r old.committed.trees new.committed.trees (it.0, it.1) own)));
-    }
+invariant_of-self g c = record {
+  idle = c.adopt-answer.ensures.idle;
+  kept = λ clean. still clean;
+}
+  where
+    still : g.B.Shelf.is_clean c.args.self.now.shelf → IsSafe (state g.S.Store c.adopt-answer.new.conn)
+        → ∥ KeepsOwn (g.B.Shelf.uses c.args.self.now.shelf) (g.B.Shelf.apart (g.B.Shelf.named c.args.self.now.shelf)) c.next_after-self.result c.take_over.new.site (state g.S.Store c.adopt-answer.new.conn) ∥₁
+    still clean =
+        let n = c.args.self.now.next in
+        let part = c.args.self.now.site in
+        let next = c.args.own in
+        let shelf = c.args.self.now.shelf in
+        let Apart = g.B.Shelf.apart (g.B.Shelf.named shelf) in
+        let Uses = g.B.Shelf.uses shelf in
+        let Stands = g.B.Shelf.stands shelf in
+        let read_of = g.B.Shelf.read_of shelf in
+        let r = c.adopt-answer.result in
+        let old = state g.S.Store c.args.self.now.conn in
+        let new = state g.S.Store c.adopt-answer.new.conn in
+        let base = old.committed.trees in
+        let later = new.committed.trees in
+        let kept = c.args.self.now.kept clean in
+        let done = as_done Uses Apart n part next r old new (c.adopt-answer.ensures.adopted part) in
+        let P : Part → Type 0 = λ site. IsSafe new → ∥ KeepsOwn Uses Apart (advanced r n) site new ∥₁ in
+        subst (λ m. IsSafe new → ∥ KeepsOwn Uses Apart m c.take_over.new.site new ∥₁) (sym c.next_after-self.ensures)
+        (subst P (sym c.take_over.ensures)
+        (still_kept n (advanced r n) part (site_after r next part) r old new (Adoption next r) (IsAdopted next) kept done Uses (λ k it own. (fewer read_of base later it.1 (adopted r base later it.0) own).own)))
 
 pub returns-clause-wrote : goal.returns-clause-wrote
 returns-clause-wrote g c clean =
     let n = c.args.self.now.next in
-    let Uses = g.B.Shelf.uses c.args.self.now.shelf in
-    let Stands = g.B.Shelf.stands c.args.self.now.shelf in
-    let Apart = g.B.Shelf.apart (g.B.Shelf.named c.args.self.now.shelf) in
-    let body_of = g.B.Shelf.body_of c.args.self.now.shelf in
     let part = c.args.self.now.site in
     let next = c.args.own in
-    let r = c.adopt-answer.result in
-    let old = state g.S.Store c.args.self.now.conn in
-    let new = state g.S.Store c.adopt-answer.new.conn in
-    let Answers : Trees → Trees → Type 0 = λ base db. Adopting (book_of base) r (book_of db) × OnlyLetsGo (bodies_with body_of base) (bodies_with body_of db) × TakesOver next r base db in
-    let done = answering Uses Stands Apart n (advanced r n) part (site_after r next part) r old new (Adoption next r) Answers (IsAdopted next) (λ own it. (it.0, lets_go_with body_of old.committed.trees new.committed.trees it.1, it.2))
-    (adopted Uses Stands Apart n part next r old new (c.adopt-answer.ensures.adopted part)) in
-    wrote n (advanced r n) part (site_after r next part) r old new Answers (IsAdopted next) (c.args.self.now.kept clean) done (λ db is_open left. g.met.S.Store.settled c.args.self.now.conn.store db is_open left)
-    (λ db is_open left. g.met.S.Store.settled c.adopt-answer.new.conn.store db is_open left)
-    (three (adopting (book_of old.committed.trees) r (book_of new.committed.trees)) (lets_go (bodies_with body_of old.committed.trees) (bodies_with body_of new.committed.trees)) (takes_over next r old.committed.trees new.committed.trees))
-
-pub returns-clause-covered : goal.returns-clause-covered
-returns-clause-covered g c clean =
-    let n = c.args.self.now.next in
-    let Uses = g.B.Shelf.uses c.args.self.now.shelf in
-    let Stands = g.B.Shelf.stands c.args.self.now.shelf in
-    let Apart = g.B.Shelf.apart (g.B.Shelf.named c.args.self.now.shelf) in
-    let part = c.args.self.now.site in
-    let next = c.args.own in
+    let shelf = c.args.self.now.shelf in
+    let Apart = g.B.Shelf.apart (g.B.Shelf.named shelf) in
+    let Uses = g.B.Shelf.uses shelf in
+    let Stands = g.B.Shelf.stands shelf in
+    let read_of = g.B.Shelf.read_of shelf in
     let r = c.adopt-answer.result in
     let old = state g.S.Store c.args.self.now.conn in
     let new = state g.S.Store c.adopt-answer.new.conn in
     let base = old.committed.trees in
-    let done = adopted Uses Stands Apart n part next r old new (c.adopt-answer.ensures.adopted part) in
-    covered n (advanced r n) part (site_after r next part) r old new (Adoption next r) (IsAdopted next)
-    (c.args.self.now.kept clean) done
+    let later = new.committed.trees in
+    let kept = c.args.self.now.kept clean in
+    let done = as_done Uses Apart n part next r old new (c.adopt-answer.ensures.adopted part) in
+    let Answers : Trees → Trees → Type 0 = λ base db. Adopting (book_of base) r (book_of db) × LetsGoOf read_of read_of base db × TakesOver next r base db in
+    let told =
+    answering Uses Apart n (advanced r n) part (site_after r next part) r old new (Adoption next r) Answers (IsAdopted next)
+    (λ had has own it. (it.0, fewer_of read_of base later had.bodied has.bodied it.1 (adopted r base later it.0) own, it.2)) done in
+    wrote n (advanced r n) part (site_after r next part) r old new Answers (IsAdopted next) kept told
     (λ db is_open left. g.met.S.Store.settled c.args.self.now.conn.store db is_open left)
     (λ db is_open left. g.met.S.Store.settled c.adopt-answer.new.conn.store db is_open left)
-    Uses Stands
-    (λ k it own. keeps_at_adoption r base new.committed.trees (it.0, it.1) own)
-    (if_failed r (λ k own db may. left_of base db (IsAdopted next)
-    (λ made had. adopted_so next base db made had) may own))
+    (three (adopting (book_of base) r (book_of later)) (lets_go_of read_of read_of base later) (takes_over next r base later))
+
+pub returns-clause-covered : goal.returns-clause-covered
+returns-clause-covered g c clean =
+    let n = c.args.self.now.next in
+    let part = c.args.self.now.site in
+    let next = c.args.own in
+    let shelf = c.args.self.now.shelf in
+    let Apart = g.B.Shelf.apart (g.B.Shelf.named shelf) in
+    let Uses = g.B.Shelf.uses shelf in
+    let Stands = g.B.Shelf.stands shelf in
+    let read_of = g.B.Shelf.read_of shelf in
+    let r = c.adopt-answer.result in
+    let old = state g.S.Store c.args.self.now.conn in
+    let new = state g.S.Store c.adopt-answer.new.conn in
+    let base = old.committed.trees in
+    let later = new.committed.trees in
+    let kept = c.args.self.now.kept clean in
+    let done = as_done Uses Apart n part next r old new (c.adopt-answer.ensures.adopted part) in
+    covered n (advanced r n) part (site_after r next part) r old new (Adoption next r) (IsAdopted next) kept done
+    (λ db is_open left. g.met.S.Store.settled c.args.self.now.conn.store db is_open left)
+    (λ db is_open left. g.met.S.Store.settled c.adopt-answer.new.conn.store db is_open left)
+    (Survives Uses Stands Apart read_of read_of base)
+    (λ k it own. survives read_of read_of base later (λ cell bytes used is. g.B.Shelf.held shelf cell bytes clean used is) (fewer read_of base later it.1 (adopted r base later it.0) own))
+    (if_failed r (λ k own db may. survives read_of read_of base db (λ cell bytes used is. g.B.Shelf.held shelf cell bytes clean used is)
+    (left_of read_of base db (IsAdopted next) (λ made. adopted_so next base db made) may own)))

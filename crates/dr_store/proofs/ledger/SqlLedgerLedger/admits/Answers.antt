@@ -24,9 +24,9 @@ invariant_of-self g c =
     let new = state g.S.Store c.admit-answer.new.conn in
     let Answers : Trees → Trees → Type 0 = λ base db. (db ≡ base) × Admits (site_routing part) caller item (book_of base) r in
     let None : Trees → Trees → Type 0 = λ base db. ⊥ in
-    let done = called (g.B.Shelf.uses c.args.self.now.shelf) (g.B.Shelf.stands c.args.self.now.shelf) (g.B.Shelf.apart (g.B.Shelf.named c.args.self.now.shelf)) n n part r old new Answers None (c.admit-answer.ensures.called n) in
+    let done = called (g.B.Shelf.uses c.args.self.now.shelf) (g.B.Shelf.apart (g.B.Shelf.named c.args.self.now.shelf)) n n part r old new Answers None (c.admit-answer.ensures.called n) in
     let kept = c.args.self.now.kept in
-    record { idle = c.admit-answer.ensures.idle c.args.self.now.idle; kept = λ clean. still_kept n n part part r old new Answers None (kept clean) done (g.B.Shelf.uses c.args.self.now.shelf) (g.B.Shelf.stands c.args.self.now.shelf) (λ k it own. subst (HaveOwn (g.B.Shelf.uses c.args.self.now.shelf) (g.B.Shelf.stands c.args.self.now.shelf) (g.B.Shelf.apart (g.B.Shelf.named c.args.self.now.shelf))) (sym it.0) own) }
+    record { idle = c.admit-answer.ensures.idle c.args.self.now.idle; kept = λ clean. still_kept n n part part r old new Answers None (kept clean) done (g.B.Shelf.uses c.args.self.now.shelf) (λ k it own. subst (HaveOwn (g.B.Shelf.uses c.args.self.now.shelf) (g.B.Shelf.apart (g.B.Shelf.named c.args.self.now.shelf))) (sym it.0) own) }
 
 -- by hand: the search loses itself in what the trait asks
 pub returns : goal.returns
@@ -40,13 +40,13 @@ returns g c =
     let new = state g.S.Store c.admit-answer.new.conn in
     let Answers : Trees → Trees → Type 0 = λ base db. (db ≡ base) × Admits (site_routing part) caller item (book_of base) r in
     let None : Trees → Trees → Type 0 = λ base db. ⊥ in
-    let done = called (g.B.Shelf.uses c.args.self.now.shelf) (g.B.Shelf.stands c.args.self.now.shelf) (g.B.Shelf.apart (g.B.Shelf.named c.args.self.now.shelf)) n n part r old new Answers None (c.admit-answer.ensures.called n) in
+    let done = called (g.B.Shelf.uses c.args.self.now.shelf) (g.B.Shelf.apart (g.B.Shelf.named c.args.self.now.shelf)) n n part r old new Answers None (c.admit-answer.ensures.called n) in
     let kept = c.args.self.now.kept in
     let Clean : Type 0 = g.B.Shelf.is_clean c.args.self.now.shelf in
     let told : Clean → IsSafe new → Answers old.committed.trees new.committed.trees = λ clean. answered n n part part r old new Answers None (kept clean) done (both (of_prop (Trees-set _ _)) (admits part caller item (book_of old.committed.trees) r)) in
     record {
       reply = λ safe. (told safe.1 safe.0).1;
-      same = λ safe. (ap book_of (told safe.1 safe.0).0, ap (bodies_with (g.B.Shelf.body_of c.args.self.now.shelf)) (told safe.1 safe.0).0);
+      same = λ safe. (ap book_of (told safe.1 safe.0).0, ap (bodies_with (g.B.Shelf.read_of c.args.self.now.shelf)) (told safe.1 safe.0).0);
       counts = c.counted-self.ensures.counts;
       armed = refl;
       stood = λ safe. (was_safe n n part part r old new Answers None (kept safe.1) done safe.0, safe.1);

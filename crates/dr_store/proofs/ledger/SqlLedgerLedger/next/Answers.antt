@@ -9,7 +9,7 @@ use Rattle.dr_store_calls.specs.Calling.{IsSafe}
 use Rattle.dr_store.specs.Owning.{KeepsOwn, bodies_with}
 use Rattle.dr_store.specs.Reading.{NextsRead}
 use Rattle.dr_store.proofs.Nexts.{next_of}
-use Rattle.dr_store.proofs.Owns.{same_bodies, still_own}
+use Rattle.dr_store.proofs.Owns.{same_bodies}
 use Rattle.dr_store.proofs.Sets.{coded_bodies}
 use Rattle.dr_store.proofs.Shown.{nexts}
 use Rattle.dr_store.proofs.Stable.{by_code}
@@ -27,10 +27,10 @@ invariant_of-self g c =
     let new = state g.S.Store c.next_job-answer.new.conn in
     let was = c.args.self.now.shelf in
     let shelf = c.next_job-answer.new.shelf in
-    let Shows : Trees → Option NextRow → Type 0 = λ base row. g.B.Shelf.is_clean shelf → NextsRead (g.B.Shelf.stands was) base dest now row in
+    let Shows : Trees → Option NextRow → Type 0 = λ base row. g.B.Shelf.is_clean shelf → NextsRead (g.B.Shelf.uses was) (g.B.Shelf.read_of was) base dest now row in
     record {
       idle = c.next_job-answer.ensures.idle c.args.self.now.idle;
-      kept = λ clean. subst (λ places. IsSafe new → ∥ KeepsOwn (g.B.Shelf.uses shelf) (g.B.Shelf.stands shelf) (g.B.Shelf.apart places) n part new ∥₁) (sym c.next_job-answer.ensures.named) (looked_kept_by n part r old new Shows (c.args.self.now.kept (c.next_job-answer.ensures.clean clean)) (c.next_job-answer.ensures.looked n part) (g.B.Shelf.uses shelf) (g.B.Shelf.stands shelf) (still_own c.next_job-answer.ensures.keeps old.committed.trees));
+      kept = λ clean. subst (λ places. IsSafe new → ∥ KeepsOwn (g.B.Shelf.uses shelf) (g.B.Shelf.apart places) n part new ∥₁) (sym c.next_job-answer.ensures.named) (looked_kept_by n part r old new Shows (c.args.self.now.kept (c.next_job-answer.ensures.clean clean)) (c.next_job-answer.ensures.looked n part) (g.B.Shelf.uses shelf) (λ own. record { used = λ uid cell h. (c.next_job-answer.ensures.keeps cell (own.used uid cell h)).0; apart = own.apart }));
     }
 
 -- by hand: the search loses itself in what the trait asks
@@ -45,22 +45,20 @@ returns g c =
     let new = state g.S.Store c.next_job-answer.new.conn in
     let was = c.args.self.now.shelf in
     let shelf = c.next_job-answer.new.shelf in
-    let was_of = g.B.Shelf.body_of was in
-    let body_of = g.B.Shelf.body_of shelf in
-    let Stands = g.B.Shelf.stands was in
-    let Shows : Trees → Option NextRow → Type 0 = λ base row. g.B.Shelf.is_clean shelf → NextsRead Stands base dest now row in
+    let was_of = g.B.Shelf.read_of was in
+    let read_of = g.B.Shelf.read_of shelf in
+    let Shows : Trees → Option NextRow → Type 0 = λ base row. g.B.Shelf.is_clean shelf → NextsRead (g.B.Shelf.uses was) was_of base dest now row in
     let kept = c.args.self.now.kept in
-    let keeps = c.next_job-answer.ensures.keeps in
     let looked = c.next_job-answer.ensures.looked n part in
     let clean = c.next_job-answer.ensures.clean in
     record {
       reply = λ safe. looked_says n part r old new Shows (kept (clean safe.1)) looked (NextsWith (book_of old.committed.trees) (bodies_with was_of old.committed.trees) dest now)
-          (λ k row read. next_of Stands was_of (g.B.Shelf.only was) old.committed.trees dest now row k.kept.ledger.bodied k.own.own (read safe.1)) (nexts (book_of old.committed.trees) (bodies_with was_of old.committed.trees) dest now) safe.0;
+          (λ k row read. next_of (g.B.Shelf.uses was) was_of old.committed.trees dest now k.kept.ledger.bodied k.own.used row (read safe.1)) (nexts (book_of old.committed.trees) (bodies_with was_of old.committed.trees) dest now) safe.0;
       same = λ safe.
-          let books = looked_books n part r old new Shows (kept (clean safe.1)) looked body_of safe.0 in (
+          let books = looked_books n part r old new Shows (kept (clean safe.1)) looked read_of safe.0 in (
             books.0,
-            books.1 ∙ by_code coded_bodies (bodies_with body_of old.committed.trees) (bodies_with was_of old.committed.trees)
-                (∥∥₁_map (kept (clean safe.1) (looked_safe n part r old new Shows (kept (clean safe.1)) looked safe.0)) (λ k. same_bodies keeps was_of body_of (g.B.Shelf.only was) (g.B.Shelf.only shelf) old.committed.trees k.own)),
+            books.1 ∙ by_code coded_bodies (bodies_with read_of old.committed.trees) (bodies_with was_of old.committed.trees)
+                (∥∥₁_map (kept (clean safe.1) (looked_safe n part r old new Shows (kept (clean safe.1)) looked safe.0)) (λ k. same_bodies {Used = g.B.Shelf.uses was} {was_of = was_of} {read_of = read_of} (c.next_job-answer.ensures.reads safe.1) old.committed.trees k.own.used)),
           );
       counts = c.counted-self.ensures.counts;
       armed = refl;

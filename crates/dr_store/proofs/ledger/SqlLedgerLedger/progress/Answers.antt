@@ -41,7 +41,7 @@ returns g c =
     let looked = (asked_looked n part r old new Shows c.find_row-answer.ensures.asked) in
     record {
       reply = λ safe. looked_reads n part r old new Shows (kept safe.1) looked (λ row. by_code (coded_option coded_progress) _ _) safe.0;
-      same = λ safe. looked_books n part r old new Shows (kept safe.1) looked (g.B.Shelf.body_of c.args.self.now.shelf) safe.0;
+      same = λ safe. looked_books n part r old new Shows (kept safe.1) looked (g.B.Shelf.read_of c.args.self.now.shelf) safe.0;
       counts = c.counted-self.ensures.counts;
       armed = refl;
       stood = λ safe. (looked_safe n part r old new Shows (kept safe.1) looked safe.0, safe.1);

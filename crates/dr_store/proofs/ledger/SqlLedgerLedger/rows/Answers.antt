@@ -37,7 +37,7 @@ returns g c =
     let looked = (c.list_rows-answer.ensures.looked n part) in
     record {
       reply = λ safe. looked_reads n part r old new Shows (kept safe.1) looked (λ all. by_code (coded_list (coded× coded_pair coded_progress)) _ _) safe.0;
-      same = λ safe. looked_books n part r old new Shows (kept safe.1) looked (g.B.Shelf.body_of c.args.self.now.shelf) safe.0;
+      same = λ safe. looked_books n part r old new Shows (kept safe.1) looked (g.B.Shelf.read_of c.args.self.now.shelf) safe.0;
       counts = c.counted-self.ensures.counts;
       armed = refl;
       stood = λ safe. (looked_safe n part r old new Shows (kept safe.1) looked safe.0, safe.1);

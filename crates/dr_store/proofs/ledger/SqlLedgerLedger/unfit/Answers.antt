@@ -49,7 +49,7 @@ returns g c =
     let lasts = looked_lasting n part r old new Shows (g.B.Shelf.is_clean c.args.self.now.shelf) kept looked in
     record {
       reply = λ safe. answers Rows Keys plan part.name old.committed.trees r answer told (looked_reads n part r old new Shows (kept safe.1) looked (λ l. both (by_code (coded_list (coded× coded_pair coded_progress)) _ _) (by_code (coded_list (coded× coded_text coded_key)) _ _)) safe.0);
-      same = λ safe. looked_books n part r old new Shows (kept safe.1) looked (g.B.Shelf.body_of c.args.self.now.shelf) safe.0;
+      same = λ safe. looked_books n part r old new Shows (kept safe.1) looked (g.B.Shelf.read_of c.args.self.now.shelf) safe.0;
       counts = c.counted-self.ensures.counts;
       armed = refl;
       stood = λ safe. (looked_safe n part r old new Shows (kept safe.1) looked safe.0, safe.1);

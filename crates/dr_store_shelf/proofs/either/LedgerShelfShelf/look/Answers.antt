@@ -14,3 +14,6 @@ returns-in-InFile-clause-since g c = rw c.in-InFile.is c.look-in-InFile.ensures.
 
 pub returns-in-InFile-clause-shows : goal.returns-in-InFile-clause-shows
 returns-in-InFile-clause-shows g c = rw c.in-InFile.is c.look-in-InFile.ensures.shows
+
+pub returns-in-InFile-clause-read : goal.returns-in-InFile-clause-read
+returns-in-InFile-clause-read g c = rw c.in-InFile.is c.look-in-InFile.ensures.read

@@ -6,6 +6,7 @@ use Rattle.dr_store_bodies.specs.declared.extent.Extent.{Extent}
 use Rattle.dr_store_bodies.specs.Bodies.{extents}
 use Rattle.dr_store_bodies.specs.Extents.{Stand}
 use Rattle.dr_store_shelf.specs.Cells.{extent_in, shown}
+use Rattle.dr_store_shelf.specs.Tested.{read_in}
 use Rattle.dr_store_shelf.proofs.Kept.{kept_in}
 use Rattle.dr_store_shelf.proofs.in_file.InFileShelf.let_go.Goals as goal
 
@@ -46,3 +47,22 @@ returns-in-Some-clause-gone g c = λ one used.
 pub returns-in-Some-clause-shows : goal.returns-in-Some-clause-shows
 returns-in-Some-clause-shows g c = λ clean other used.
     ap (λ disk. shown (g.D.Disk.seen disk) (extent_in other)) c.free.ensures.untouched
+
+pub returns-in-Some-clause-reads : goal.returns-in-Some-clause-reads
+returns-in-Some-clause-reads g c = λ clean other used.
+    ap (λ disk. read_in c.args.self.now.key other (shown (g.D.Disk.seen disk) (extent_in other)))
+    c.free.ensures.untouched
+
+pub returns-in-Some-clause-uses : goal.returns-in-Some-clause-uses
+returns-in-Some-clause-uses g c = λ other apart used.
+    let gone : Extent = c.in-Some.extent in
+    let file = c.args.self.now.bodies in
+    let is : gone.at ≡ (extent_in c.args.cell.now).at =
+    ap (λ (e : Extent). e.at) c.in-Some.ensures.1 in
+    let stays : not ((extent_in other).at == gone.at) ≡ true =
+    ap not (ne_eqb (extent_in other).at gone.at (λ same. apart (sym (same ∙ is)))) in (
+      used.0,
+      subst (λ xs. Contains xs (extent_in other)) (sym c.free.ensures.listed)
+          (kept_in (λ (e : Extent). not (e.at == gone.at)) (extents file) (extent_in other) used.1
+          stays),
+    )

@@ -9,7 +9,7 @@ use Rattle.dr_store_bodies.specs.Extents.{IsSafe, Stand, end_of}
 use Rattle.dr_store_shelf.specs.Cells.{Passes, extent_in}
 use Rattle.dr_store_shelf.proofs.CellLemmas.{extent_named}
 use Rattle.dr_store_shelf.proofs.Kept.{all_fewer, on_err}
-use Rattle.dr_store_shelf.proofs.Looked.{shown_as_before}
+use Rattle.dr_store_shelf.proofs.Looked.{read_alike, shown_as_before}
 use Rattle.dr_store_shelf.proofs.in_file.InFileShelf.put.Goals as goal
 
 -- what was there before the file was cut is there behind that
@@ -175,3 +175,41 @@ returns-clause-shows g c = λ clean cell used.
     (c.extents-extents.ensures.safe (c.cut_once.ensures.clean (c.put.ensures.clean clean))) in
     shown_as_before seen (g.D.Disk.seen new) may (g.D.Disk.may_leave new) uses e all used.1
     (λ held is. c.put.ensures.keeps e held within (c.cut_once.ensures.keeps e held used.1 is))
+
+pub returns-in_err-cut_once-clause-reads : goal.returns-in_err-cut_once-clause-reads
+returns-in_err-cut_once-clause-reads g c = λ clean cell used.
+    read_alike _ _ cell _ _ c.cut_once.ensures.key
+    (returns-in_err-cut_once-clause-shows g c clean cell used)
+
+pub returns-in_err-extent-clause-reads : goal.returns-in_err-extent-clause-reads
+returns-in_err-extent-clause-reads g c = λ clean cell used.
+    read_alike _ _ cell _ _ c.cut_once.ensures.key
+    (returns-in_err-extent-clause-shows g c clean cell used)
+
+pub returns-clause-reads : goal.returns-clause-reads
+returns-clause-reads g c = λ clean cell used.
+    read_alike _ _ cell _ _ c.cut_once.ensures.key (returns-clause-shows g c clean cell used)
+
+pub returns-in_err-cut_once-clause-uses : goal.returns-in_err-cut_once-clause-uses
+returns-in_err-cut_once-clause-uses g c = λ cell used. (
+  used.0,
+  subst (λ xs. Contains xs (extent_in cell)) (sym c.cut_once.ensures.listed) used.1,
+)
+
+pub returns-in_err-extent-clause-uses : goal.returns-in_err-extent-clause-uses
+returns-in_err-extent-clause-uses g c = λ cell used. (
+  used.0,
+  subst (λ xs. Contains xs (extent_in cell)) (sym c.in_err-extent.ensures.unlisted)
+      (subst (λ xs. Contains xs (extent_in cell)) (sym c.cut_once.ensures.listed) used.1),
+)
+
+pub returns-clause-uses : goal.returns-clause-uses
+returns-clause-uses g c = λ cell used.
+    let e : Extent = c.in_ok-extent.extent in
+    let old = extents c.cut_once.new.self.bodies in
+    let new = extents c.put.new.self in (
+      used.0,
+      Contains-permutation (e ∷ old) new (extent_in cell) c.in_ok-extent.ensures.listed
+          (Contains-append_right (e ∷ []) old (extent_in cell)
+          (subst (λ xs. Contains xs (extent_in cell)) (sym c.cut_once.ensures.listed) used.1)),
+    )

@@ -5,19 +5,22 @@ use Rattle.dr_ledger.specs.declared.content.Job.{Job}
 use Rattle.dr_ledger.specs.declared.fault.LedgerFault.TheVariants as fault
 use Rattle.dr_store_reads.specs.Queries.{IsJobOf}
 use Rattle.dr_store_calls.proofs.Calls.{asked_looked, looked_read}
-use Rattle.dr_store.specs.Reading.{IsWholeJob}
-use Rattle.dr_store.proofs.Looks.{failed_as}
-use Rattle.dr_store.proofs.reading.job_of.Goals as goal
+use Rattle.dr_store.specs.declared.due.DueRow.{DueRow}
+use Rattle.dr_store.specs.Reading.{IsRowOf}
+use Rattle.dr_store.proofs.Looks.{failed_as, looked_both}
+use Rattle.dr_store.proofs.reading.row_of.Goals as goal
 
 pub returns-in-Ok-Some-clause-looked : goal.returns-in-Ok-Some-clause-looked
 returns-in-Ok-Some-clause-looked g c n part =
     let uid = c.args.uid.now in
     let old = state g.S.Store c.args.conn.now in
-    let new = state g.S.Store c.find_job.new.conn in
+    let mid = state g.S.Store c.find_job.new.conn in
+    let new = state g.S.Store c.with_print.new.conn in
     let Shows : Trees → Option Job → Type 0 = λ base. IsJobOf uid base in
-    let Says : Trees → Option Job → Type 0 = λ base. IsWholeJob uid base in
-    looked_read n part old new Shows c.in-Ok-Some.field-0 (Ok (Some c.in-Ok-Some.job)) Says (asked_looked n part _ old new Shows c.in-Ok-Some.ensures.asked)
-    (λ base shown. let P : Option Job → Type 0 = λ job. IsJobOf uid base job in subst P c.in-Ok-Some.field-0-is shown)
+    let Then : Trees → DueRow → Type 0 = λ base due. IsJobOf uid base (Some c.in-Ok-Some.job) → IsRowOf uid base due in
+    let Says : Trees → DueRow → Type 0 = λ base. IsRowOf uid base in
+    looked_both n part old mid new Shows c.in-Ok-Some.field-0 c.with_print.result Then Says (asked_looked n part _ old mid Shows c.in-Ok-Some.ensures.asked) (c.with_print.ensures.looked n part)
+    (λ base l shown due then. then (let P : Option Job → Type 0 = λ found. IsJobOf uid base found in subst P c.in-Ok-Some.field-0-is shown))
 
 pub returns-in-Ok-None-clause-looked : goal.returns-in-Ok-None-clause-looked
 returns-in-Ok-None-clause-looked g c n part =
@@ -25,7 +28,7 @@ returns-in-Ok-None-clause-looked g c n part =
     let old = state g.S.Store c.args.conn.now in
     let new = state g.S.Store c.find_job.new.conn in
     let Shows : Trees → Option Job → Type 0 = λ base. IsJobOf uid base in
-    let Says : Trees → Option Job → Type 0 = λ base. IsWholeJob uid base in
+    let Says : Trees → DueRow → Type 0 = λ base. IsRowOf uid base in
     looked_read n part old new Shows c.in-Ok-None.field-0 (Err fault.Store) Says (asked_looked n part _ old new Shows c.in-Ok-None.ensures.asked) (λ base shown. tt)
 
 pub returns-in-Err-clause-looked : goal.returns-in-Err-clause-looked
@@ -34,5 +37,5 @@ returns-in-Err-clause-looked g c n part =
     let old = state g.S.Store c.args.conn.now in
     let new = state g.S.Store c.find_job.new.conn in
     let Shows : Trees → Option Job → Type 0 = λ base. IsJobOf uid base in
-    let Says : Trees → Option Job → Type 0 = λ base. IsWholeJob uid base in
+    let Says : Trees → DueRow → Type 0 = λ base. IsRowOf uid base in
     failed_as n part c.in-Err.fault old new Shows Says (asked_looked n part _ old new Shows c.in-Err.ensures.asked)
