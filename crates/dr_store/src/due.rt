@@ -32,12 +32,13 @@ pub fn due_of(job: Job, print: Print) -> DueRow
     ensures cell { result.cell ≡ job.body }
 {
     let Job { uid, key, body } = job;
+    let digest = print.digest;
     DueRow {
         instance: Instance {
             uid,
             key,
             size: print.size,
-            digest: print.digest,
+            digest,
         },
         cell: body,
     }
