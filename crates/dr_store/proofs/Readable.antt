@@ -44,6 +44,8 @@ pub other_bytes : OtherBytesAreNotThere
 other_bytes read_of db uid cell bytes i there reads known differ = none_there read_of db uid cell bytes i there reads known (λ own. elim differ [ inl size ↦ size own.size | inr digest ↦ digest own.digest ])
 
 pub other_items : OtherItemsAreNotThere
-other_items read_of db uid cell i item is there reads known syntax differ = none_there read_of db uid cell item.body i there reads known (λ own.
-let it = its_own_item item i is syntax own in
-elim differ [ inl uid ↦ uid it.0 | inr key ↦ key it.1 ])
+other_items read_of db uid cell i item is there reads known syntax differ =
+    let never : IsDataSetOf i item.body → ⊥ = λ own.
+    let it = its_own_item item i is syntax own in
+    elim differ [ inl uid ↦ uid it.0 | inr key ↦ key it.1 ] in
+    none_there read_of db uid cell item.body i there reads known never

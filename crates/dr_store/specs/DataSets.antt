@@ -107,7 +107,9 @@ scan_told s text values = go (some_answer s text)
         → Dec (Scans s text (Ok values))
     by_values a is (yes same) = yes (subst (λ v. Scans s text (Ok v)) same is)
     by_values a is (no n) =
-        no (λ h. n (inner a values (one_answer s text (Ok a) (Ok values) (ok_is a) (ok_is values) is h)))
+        no (λ h.
+        let same = one_answer s text (Ok a) (Ok values) (ok_is a) (ok_is values) is h in
+        n (inner a values same))
 
     go : ((r : Result Attributes DataFault) × (r ≢ Err Memory) × Scans s text r)
         → Dec (Scans s text (Ok values))

@@ -1,7 +1,9 @@
 -- Which cells the tables of a ledger have, and which data sets these give. `Uses` says which cells
--- are in use on the ledger's shelf, `Apart` which two can be let go one without the other, `read_of`
--- what can be read by a cell, and `Stands` for which bytes it stands, also through a crash.
-use Rattle.std.specs.Prelude.{◌≡◌, ◌≢◌, ◌⊎◌, ℕ, List, [], length, Option, None, Some, map as mapped}
+-- are in use on the ledger's shelf, `Apart` which two can be let go one without the other,
+-- `read_of` what can be read by a cell, and `Stands` for which bytes it stands, also through a
+-- crash.
+use Rattle.std.specs.Prelude.{◌≡◌, ◌≢◌, ◌⊎◌, ℕ, List, [], length, Option, None, Some}
+use Rattle.std.specs.Prelude.{map as mapped}
 use Rattle.std.specs.Prelude.{◌↔◌, is_some, option_and_then, unwrap_or}
 use Rattle.std.specs.FinMap as map
 use Rattle.sha2.specs.Sha256.{sha256}

@@ -122,9 +122,10 @@ module _ (read_of : List ℕ → Option (List ℕ)) where
         by_known : (known : Option Instance) (cell : Option (List ℕ))
             → map.get (items_of db) uid ≡ known → map.get (bodies_of db) uid ≡ cell
             → data_set_at read_of db uid ≡ Some body → IsReadAt read_of db uid body
-        by_known None cell is there e =
+        by_known None found is there e =
+            let cell = map.get (bodies_of db) uid in
             let none : None ≡ Some body =
-            sym (λ j. read_where (is j) (option_and_then read_of (map.get (bodies_of db) uid))) ∙ e in
+            sym (λ j. read_where (is j) (option_and_then read_of cell)) ∙ e in
             absurd (let f : ⊥ = cc in f)
         by_known (Some i) None is there e =
             let none : None ≡ Some body =

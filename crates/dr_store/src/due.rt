@@ -32,12 +32,13 @@ pub fn due_of(job: Job, print: Print) -> DueRow
     ensures cell { result.cell ≡ job.body }
 {
     let Job { uid, key, body } = job;
+    let digest = print.digest;
     DueRow {
         instance: Instance {
             uid,
             key,
             size: print.size,
-            digest: print.digest,
+            digest,
         },
         cell: body,
     }
@@ -97,11 +98,7 @@ fn not_read(fault: ItemFault, instance: Instance) -> Result<NextRow, LedgerFault
 
 /// The row of an instance with these bytes, if they are its data set. They are read again: an item
 /// is known by nothing but its data set.
-fn read_again(
-    alloc: Global,
-    instance: Instance,
-    bytes: Octets,
-) -> Result<NextRow, LedgerFault>
+fn read_again(alloc: Global, instance: Instance, bytes: Octets) -> Result<NextRow, LedgerFault>
     ensures { Reads result (IsReadAgain instance bytes) }
 {
     match Item::read(alloc, instance.key.syntax, bytes) {
@@ -112,11 +109,7 @@ fn read_again(
 
 /// What is due, with its data set, as it is read by the cell that stands for it; or only its uid,
 /// where what can be read by the cell isn't the instance's data set.
-pub fn read_by<B: Shelf>(
-    shelf: &mut B,
-    alloc: Global,
-    due: DueRow,
-) -> Result<NextRow, LedgerFault>
+pub fn read_by<B: Shelf>(shelf: &mut B, alloc: Global, due: DueRow) -> Result<NextRow, LedgerFault>
     ensures read { Reads result (λ found. B.Shelf.is_clean shelf.new
         → B.Shelf.uses shelf.old due.cell
         → IsHandedOut (B.Shelf.read_of shelf.old) due found) }

@@ -48,8 +48,8 @@ pub fn the_data_sets_are_those_that_can_be_read()
     ensures all { AllThatStandAreThere }
 {}
 
-/// The data set of the book's item is there, and bytes with another length, another SHA-256, another
-/// uid or another key aren't.
+/// The data set of the book's item is there, and bytes with another length, another SHA-256,
+/// another uid or another key aren't.
 pub fn other_bytes_are_no_data_set()
     ensures own { ItsOwnIsThere }
     ensures bytes { OtherBytesAreNotThere }

@@ -37,8 +37,8 @@ use std::alloc::Global;
 
 /// The ledger of one node, in the tables of a database. Its data sets are on a shelf, and the
 /// tables have the cells that stand for them. It has those data sets that can be read: what is read
-/// by a cell is tested each time, and nothing else need be known of it. It counts the failures of its store, and has the
-/// moment that it was told last, if it was told one.
+/// by a cell is tested each time, and nothing else need be known of it. It counts the failures of
+/// its store, and has the moment that it was told last, if it was told one.
 #[derive(Drop)]
 pub struct SqlLedger<S: Alter, B: Shelf> {
     alloc: Global,

@@ -28,10 +28,14 @@ module _ (seen : List ℕ) (e : Extent) (within : end_of e ≤ length seen) wher
   len : length (shown seen e) ≡ e.size
   len = omega (arith, within, length-take e.size (drop e.at seen), length-drop e.at seen)
 
-  each : (i : ℕ) → i < length (shown seen e) → slice_index seen (e.at + i) ≡ slice_index (shown seen e) i
-  each i low = sym (get_or-take e.size (drop e.at seen) i 0 (omega (arith, low, len)) ∙ get_or-drop e.at seen i 0)
+  each : (i : ℕ) → i < length (shown seen e)
+      → slice_index seen (e.at + i) ≡ slice_index (shown seen e) i
+  each i low =
+      sym (get_or-take e.size (drop e.at seen) i 0 (omega (arith, low, len))
+      ∙ get_or-drop e.at seen i 0)
 
-  pub seen_stands : (may_leave : List ℕ → Type 0) → IsSafe seen may_leave e → Stand seen may_leave e (shown seen e)
+  pub seen_stands : (may_leave : List ℕ → Type 0) → IsSafe seen may_leave e
+      → Stand seen may_leave e (shown seen e)
   seen_stands may_leave safe = record {
     whole = len;
     now = record { within = omega (arith, within, len); each = each };

@@ -76,7 +76,6 @@ returns-in-Ok-clause-keeps g c = λ cell used. (
   λ bytes stood. (c.put.ensures.keeps cell bytes used stood).1,
 )
 
-
 pub returns-in-Err-clause-keeps : goal.returns-in-Err-clause-keeps
 returns-in-Err-clause-keeps g c = λ cell used. (
   c.put.ensures.uses cell used,
