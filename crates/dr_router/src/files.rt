@@ -11,6 +11,7 @@ ghost use Rattle.dr_store_open.specs.Places.{HasOwnOn, names_in};
 ghost use Rattle.dr_store_shelf.specs.Either.{named_on};
 
 use crate::beside::{DataBeside, data_length, data_name, data_path, draw, file_of};
+use crate::looking::{Looking, read_all};
 use crate::shelf::FileShelf;
 use dr_base::Text;
 use dr_run_backup::{BackupFault, Backups, LedgerCopy, SystemBackups};
@@ -311,9 +312,57 @@ fn ledger_over<S: Alter + Drop, D: Databases>(
     }
 }
 
-/// Ledgers, each in a database of its own, and with its data sets in that or in a file beside it.
+/// Reads the data sets of a ledger of that site over a connection to its database, beside which is
+/// the file of them. The ledger ends then.
+///
+/// Errors: those of an opening; NoData where one can't be read.
+fn test_over<S: Alter + Drop, D: Databases>(
+    alloc: Global,
+    conn: Connection<S>,
+    data: &DataBeside<'_, D>,
+    site: Site,
+    now: Option<u64>,
+) -> Result<(), OpenFault>
+    requires { conn.in_transaction ≡ false }
+{
+    match ledger_over(alloc, conn, data, Keeping::InRows, site, now) {
+        Ok(ledger) => {
+            let mut ledger = ledger;
+            read_all(&mut ledger)
+        }
+        Err(fault) => Err(fault),
+    }
+}
+
+/// Reads the data sets of a ledger of that site that are in a file, if there is one. Those in its
+/// tables are read as it is opened.
+///
+/// Errors: those of an opening; NoData where one can't be read.
+fn test_data<D: Databases>(
+    alloc: Global,
+    databases: &D,
+    path: &str,
+    site: &Site,
+) -> Result<(), OpenFault> {
+    match databases.has_data(alloc, path) {
+        Ok(true) => {}
+        Ok(false) => return Ok(()),
+        Err(fault) => return Err(data_fault(fault)),
+    }
+    let Ok(site) = site.copy() else {
+        return Err(OpenFault::Memory);
+    };
+    let data = DataBeside { databases, path };
+    match databases.open_database(path) {
+        Ok(conn) => test_over(alloc, conn, &data, site, databases.now()),
+        Err(error) => Err(file_fault(&error)),
+    }
+}
+
+/// Ledgers, each in a database of its own, and with its data sets in that or in a file beside it;
+/// and what of these is read as one is opened.
 #[derive(Drop)]
-pub struct StoredLedgers<D: Databases + Drop>(pub D);
+pub struct StoredLedgers<D: Databases + Drop>(pub D, pub Looking);
 
 /// What opens is a ledger of its site, as far as its disk has returned what was written. What a
 /// path leads to is claimed by no contract.
@@ -338,6 +387,9 @@ impl<D: Databases + Drop> Ledgers for StoredLedgers<D> {
         }
         if let Some(fault) = data_refusal(alloc, &self.0, path, making) {
             return Err(fault);
+        }
+        if self.1 == Looking::AtAll {
+            test_data(alloc, &self.0, path, &site)?;
         }
         let data = DataBeside {
             databases: &self.0,

@@ -10,12 +10,14 @@ mod beside;
 mod events;
 mod files;
 mod input;
+mod looking;
 mod over;
 mod shelf;
 
 use crate::events::EventLog;
 use crate::files::{Databases, StoredLedgers, SystemDisk, SystemFiles};
 use crate::input::InputEnd;
+use crate::looking::Looking;
 use crate::over::{ClockAt, Machine, run_on};
 use dr_run_backup::Backups;
 use dr_run_files::Files;
@@ -50,7 +52,7 @@ where
 {
     let machine = Machine {
         files,
-        ledgers: StoredLedgers(databases),
+        ledgers: StoredLedgers(databases, Looking::of(words)),
         network: Sockets::new(rt, clock, cut),
         clock: ClockAt(clock),
         log: EventLog { rt, clock },

@@ -10,7 +10,7 @@ use Rattle.dr_ledger.specs.declared.content.NextRow.{NextRow}
 use Rattle.dr_ledger.specs.declared.content.NextRow.TheVariants.{Whole, Unreadable}
 use Rattle.dr_ledger.specs.declared.item.Instance.{Instance}
 use Rattle.dr_ledger.specs.declared.item.Progress.TheVariants.{Waiting}
-use Rattle.dr_ledger.specs.Bodies.{IsNeeded, NextsWith}
+use Rattle.dr_ledger.specs.Bodies.{IsNeeded, IsThere, NextsWith}
 use Rattle.dr_ledger.specs.Items.{IsItem, instance_of}
 use Rattle.dr_ledger.specs.Replies.{IsNext}
 use Rattle.dr_ledger.proofs.Growing.{inside}
@@ -22,7 +22,7 @@ use Rattle.dr_store_reads.specs.Queries.{IsFirstDue, IsJobOf, IsPrintOf}
 use Rattle.dr_store.specs.declared.due.DueRow.{DueRow}
 use Rattle.dr_store.specs.DataSets.{IsDataSetOf, job_with}
 use Rattle.dr_store.specs.Owning.{AreUsed, bodies_with}
-use Rattle.dr_store.specs.Reading.{IsHandedOut, IsRowOf, NextsRead}
+use Rattle.dr_store.specs.Reading.{IsHandedOut, IsRowOf, IsTold, IsToldOf, IsWholeRow, NextsRead, TellsWhereNeeded}
 use Rattle.dr_store.specs.Standing.{is_read, its_own, read_is}
 
 the_body : (w : Bool) (o : Option (List ℕ)) (body content : List ℕ) → o ≡ Some content → cond w o None ≡ Some body → body ≡ content
@@ -91,6 +91,47 @@ module _ (Uses : List ℕ → Type 0) (read_of : List ℕ → Option (List ℕ))
   next_of None none = none
   next_of (Some (Whole job)) (due, found, by) = whole due found.0 found.1 job (by (used due.instance.uid due.cell (cell_is due found.0 found.1)))
   next_of (Some (Unreadable uid)) (due, found, by) = unreadable due found.0 found.1 uid (by (used due.instance.uid due.cell (cell_is due found.0 found.1)))
+
+-- a row is handed out with its data set just where that can be read
+pub told_by : (read_of : List ℕ → Option (List ℕ)) (due : DueRow) (row : NextRow) (told : Bool) → IsWholeRow row told → IsHandedOut read_of due row → IsTold read_of due told
+told_by read_of due (Whole job) told is (same, reads, own) = subst (IsTold read_of due) (sym is) (job.body, reads, own)
+told_by read_of due (Unreadable uid) told is (same, never) = subst (IsTold read_of due) (sym is) never
+
+module _ (Uses : List ℕ → Type 0) (read_of : List ℕ → Option (List ℕ)) (db : Trees) (uid : Text) (cells : HasCells (book_of db) (bodies_of db)) (used : AreUsed Uses (bodies_of db)) where
+  -- what was told of the instance is told of its data set, where that is needed
+  pub told_where_needed : (told : Bool) → IsToldOf Uses read_of db uid told → TellsWhereNeeded read_of db uid told
+  told_where_needed told (due, row, by) needed = by_told told (by (used uid due.cell there))
+    where
+      has : (cell : List ℕ) × (map.get (bodies_of db) uid ≡ Some cell)
+      has = (cells.there uid).1 needed
+
+      there : map.get (bodies_of db) uid ≡ Some due.cell
+      there = has.1 ∙ ap Some (the_body (is_whole (map.get (wholes_in (db 3)) uid)) (map.get (contents_in (db 1)) uid) has.0 due.cell row.2 (sym (body_at (contents_in (db 1)) (wholes_in (db 3)) uid) ∙ has.1))
+
+      yes_there : (bytes : List ℕ) → read_of due.cell ≡ Some bytes → IsDataSetOf due.instance bytes → map.get (bodies_with read_of db) uid ≡ Some bytes
+      yes_there bytes reads own =
+          let item : Job = job_with due.instance bytes in
+          let known : instance_of item ≡ due.instance = λ i. record { uid = due.instance.uid; key = due.instance.key; size = own.size i; digest = own.digest i } in
+          read_is read_of db uid bytes (record {
+            cell = due.cell;
+            there = there;
+            reads = reads;
+            item = item;
+            is_item = own.item;
+            same = refl;
+            known = row.1 ∙ ap Some (sym known);
+          })
+
+      not_there : ((bytes : List ℕ) → read_of due.cell ≡ Some bytes → IsDataSetOf due.instance bytes → ⊥) → IsThere (bodies_with read_of db) uid → ⊥
+      not_there never (body, is) =
+          let it = is_read read_of db uid body is in
+          let cell : it.cell ≡ due.cell = inside it.cell due.cell (sym it.there ∙ there) in
+          let known : instance_of it.item ≡ due.instance = inside (instance_of it.item) due.instance (sym it.known ∙ row.1) in
+          never body (ap read_of (sym cell) ∙ it.reads) (subst (λ i. IsDataSetOf i body) known (subst (IsDataSetOf (instance_of it.item)) it.same (its_own it.item it.is_item)))
+
+      by_told : (told : Bool) → IsTold read_of due told → IsTrue told ↔ IsThere (bodies_with read_of db) uid
+      by_told true (bytes, reads, own) = (λ t. (bytes, yes_there bytes reads own), λ h. refl)
+      by_told false never = (λ t. absurd (let f : ⊥ = cc in f), λ h. absurd (not_there never h))
 
 -- a cell is there just where its data set is needed
 pub needed_told : (db : Trees) (uid : Text) (b : Bool) → HasCells (book_of db) (bodies_of db) → b ≡ map.contains_key (bodies_of db) uid → IsTrue b ↔ IsNeeded (book_of db) uid

@@ -24,6 +24,9 @@ use Rattle.dr_ledger.proofs.Growing.{inside}
 use Rattle.dr_ledger.proofs.Needs.{needed_or_not}
 use Rattle.dr_ledger.specs.Pairs.{pair_cmp}
 use Rattle.dr_ledger_views.specs.Views.{AreCallers, IsLeast}
+use Rattle.sqlite.specs.Tree.{Trees}
+use Rattle.dr_store.specs.Owning.{bodies_with}
+use Rattle.dr_store.specs.Reading.{TellsWhereNeeded}
 use Rattle.dr_store.proofs.Sets.{coded_instance, coded_text}
 use Rattle.dr_store.proofs.Stable.{Stable, both, by_code, each, is_in, never, of_dec, of_prop, tested}
 
@@ -72,6 +75,13 @@ unreadable b bodies dest now uid = go (map.get b.items uid) refl
 -- whether a data set is needed can be told
 pub needs : (b : Book) (uid : Text) (said : Bool) → Stable (IsTrue said ↔ IsNeeded b uid)
 needs b uid said = both (each (λ t. of_dec (elim (needed_or_not b uid) [ inl n ↦ yes n | inr none ↦ no none ]))) (each (λ n. of_prop (Bool-set _ _)))
+
+there_or_not : (found : Option (List ℕ)) → Dec ((body : List ℕ) × (found ≡ Some body))
+there_or_not None = no (λ h. let f : ⊥ = cc in f)
+there_or_not (Some body) = yes (body, refl)
+
+pub tells_where_needed : (read_of : List ℕ → Option (List ℕ)) (db : Trees) (uid : Text) (told : Bool) → Stable (TellsWhereNeeded read_of db uid told)
+tells_where_needed read_of db uid told = each (λ needed. both (each (λ t. of_dec (there_or_not (map.get (bodies_with read_of db) uid)))) (each (λ n. of_prop (Bool-set _ _))))
 
 pub nexts : (b : Book) (bodies : Bodies) (dest : Text) (now : ℕ) (row : Option NextRow) → Stable (NextsWith b bodies dest now row)
 nexts b bodies dest now None = each (λ uid. each (λ due. never))

@@ -1,6 +1,7 @@
 -- What single queries show together, and what of it is read from the shelf. `Uses` says which cells
 -- are in use there, and `read_of` what can be read by a cell.
-use Rattle.std.specs.Prelude.{◌≡◌, ◌≢◌, ℕ, List, Option, Some, None, Result, Ok, Err}
+use Rattle.std.specs.Prelude.{◌≡◌, ◌≢◌, ◌↔◌, ℕ, Bool, true, false, IsTrue, List, Option, Some, None}
+use Rattle.std.specs.Prelude.{Result, Ok, Err}
 use Rattle.std.specs.FinMap as map
 use Rattle.sqlite.specs.Tree.{Trees}
 use Rattle.dr_base.specs.Texts.{Text}
@@ -10,12 +11,14 @@ use Rattle.dr_ledger.specs.declared.content.NextRow.TheVariants.{Whole, Unreadab
 use Rattle.dr_ledger.specs.declared.fault.LedgerFault.{LedgerFault}
 use Rattle.dr_ledger.specs.declared.fault.LedgerFault.TheVariants as fault
 use Rattle.dr_ledger.specs.declared.item.Instance.{Instance}
-use Rattle.dr_store_schema.specs.Books.{contents_in, items_of}
+use Rattle.dr_ledger.specs.Bodies.{IsNeeded, IsThere}
+use Rattle.dr_store_schema.specs.Books.{book_of, contents_in, items_of}
 use Rattle.dr_store_calls.specs.declared.knowing.Known.{Known}
 use Rattle.dr_store_calls.specs.declared.knowing.Known.TheVariants as known
 use Rattle.dr_store_reads.specs.Queries.{IsFirstDue}
 use Rattle.dr_store.specs.declared.due.DueRow.{DueRow}
 use Rattle.dr_store.specs.DataSets.{IsDataSetOf, job_with}
+use Rattle.dr_store.specs.Owning.{bodies_with}
 
 -- the instance of that uid, with what stands in its row for its data set
 abbrev pub IsRowOf : Text → Trees → DueRow → Type 0
@@ -65,6 +68,29 @@ NextsRead Uses read_of db dest now (Some row) =
     (due : DueRow)
     × NextsStored db dest now (Some due)
     × (Uses due.cell → IsHandedOut read_of due row)
+
+-- the row has its data set
+abbrev pub IsWholeRow : NextRow → Bool → Type 0
+IsWholeRow (Whole job) told = told ≡ true
+IsWholeRow (Unreadable uid) told = told ≡ false
+
+-- it is told whether the data set of the instance can be read by its cell
+abbrev pub IsTold : (List ℕ → Option (List ℕ)) → DueRow → Bool → Type 0
+IsTold read_of due true =
+    (bytes : List ℕ) × (read_of due.cell ≡ Some bytes) × IsDataSetOf due.instance bytes
+IsTold read_of due false =
+    (bytes : List ℕ) → read_of due.cell ≡ Some bytes → IsDataSetOf due.instance bytes → ⊥
+
+-- it is told so of the instance of that uid, where its cell is in use
+abbrev pub IsToldOf : (List ℕ → Type 0)
+    → (List ℕ → Option (List ℕ)) → Trees → Text → Bool → Type 0
+IsToldOf Uses read_of db uid told =
+    (due : DueRow) × IsRowOf uid db due × (Uses due.cell → IsTold read_of due told)
+
+-- of a data set that the book needs it is told whether it is there
+abbrev pub TellsWhereNeeded : (List ℕ → Option (List ℕ)) → Trees → Text → Bool → Type 0
+TellsWhereNeeded read_of db uid told =
+    IsNeeded (book_of db) uid → IsTrue told ↔ IsThere (bodies_with read_of db) uid
 
 -- an arrival is refused just where another instance has its uid
 abbrev pub AdmitsKnown : Known → Result (Unit {0}) LedgerFault → Type 0

@@ -5,7 +5,7 @@ ghost use Rattle.sqlite.specs.State.{HasCleanDisk};
 ghost use Rattle.dr_ledger.specs.Adopting.{Adopting, site_after};
 ghost use Rattle.dr_ledger.specs.Bodies.{OnlyTakes};
 ghost use Rattle.dr_ledger.specs.Items.{instance_of};
-ghost use Rattle.dr_ledger.specs.Replies.{Arrives, Counts, Drops, Forgets, Requeues, Settles};
+ghost use Rattle.dr_ledger.specs.Replies.{Arrives, Counts, Drops, Forgets, Reads, Requeues, Settles};
 ghost use Rattle.dr_ledger.specs.SiteRoutes.{site_routing};
 ghost use Rattle.dr_store_schema.specs.Books.{book_of};
 ghost use Rattle.dr_store_calls.specs.Adoptions.{IsAdopted};
@@ -13,11 +13,12 @@ ghost use Rattle.dr_store_calls.specs.Calling.{IsSafe};
 ghost use Rattle.dr_store_calls.specs.Knowing.{IsAccepted};
 ghost use Rattle.dr_store.specs.Counting.{failures_after};
 ghost use Rattle.dr_store.specs.Owning.{IsCovered, KeepsOwn, LetsGoOf, LosesNoneOf, bodies_with};
+ghost use Rattle.dr_store.specs.Reading.{TellsWhereNeeded};
 ghost use Rattle.dr_store.specs.Surviving.{TakesOver, Wrote};
 
 use crate::counting::{counted, next_after};
 use crate::listing::{first_unfit, list_arrivals, list_kept, list_rows, list_rows_and_keys};
-use crate::reading::{admit, due_row, has_data_set, has_in, next_job};
+use crate::reading::{admit, due_row, has_data_set, has_in, next_job, read_row};
 use crate::telling::{list_lines, tell_behind, tell_journal};
 use dr_base::{Seq, Text};
 use dr_cert::Sealed;
@@ -105,6 +106,24 @@ impl<S: Alter, B: Shelf> SqlLedger<S, B> {
             failures: _,
         } = self;
         conn
+    }
+
+    /// Whether the data set of this uid can be read, which the ledger needs. It is read for it, and
+    /// is then that of its instance.
+    ///
+    /// Errors: Store, also where no instance has this uid; Memory.
+    pub fn can_read(&mut self, uid: &Text) -> Result<bool, LedgerFault>
+        ensures reply { B.Shelf.is_clean self.new.shelf
+            → IsSafe (state S.Store self.new.conn)
+            → Reads result (λ told.
+            TellsWhereNeeded (B.Shelf.read_of self.old.shelf)
+            (state S.Store self.old.conn).committed.trees uid.now told) }
+        ensures counts { Counts result self.old.failures self.new.failures }
+        ensures site { self.new.site ≡ self.old.site }
+    {
+        let answer = read_row(&mut self.conn, &mut self.shelf, self.alloc, uid);
+        self.failures = counted(&answer, self.failures);
+        answer
     }
 
     /// Takes an item from a caller, as `Ledger::arrive` says, and survives a crash at any moment.

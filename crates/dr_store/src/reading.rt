@@ -13,7 +13,8 @@ ghost use Rattle.dr_store_schema.specs.Books.{bodies_of, book_of, items_of};
 ghost use Rattle.dr_store_calls.specs.Calling.{Called, Looked, Nothing};
 ghost use Rattle.dr_store_reads.specs.Queries.{IsJobOf};
 ghost use Rattle.dr_store_shelf.specs.Shelves.{KeepsCells, ReadsAsBefore};
-ghost use Rattle.dr_store.specs.Reading.{AdmitsKnown, IsRowOf, IsSomeRowOf, NextsRead, NextsStored};
+ghost use Rattle.dr_store.specs.Reading.{AdmitsKnown, IsRowOf, IsSomeRowOf, IsTold, IsToldOf};
+ghost use Rattle.dr_store.specs.Reading.{IsWholeRow, NextsRead, NextsStored};
 
 use crate::due::{DueRow, due_of, read_by};
 use dr_base::Text;
@@ -227,6 +228,67 @@ where
 {
     match next_stored(conn, alloc, dest, now) {
         Ok(due) => read_due(shelf, alloc, due),
+        Err(fault) => Err(fault),
+    }
+}
+
+/// Whether a row is handed out with its data set.
+fn is_whole(row: NextRow) -> bool
+    ensures { IsWholeRow row result }
+{
+    match row {
+        NextRow::Whole(_) => true,
+        NextRow::Unreadable(_) => false,
+    }
+}
+
+/// Whether what is read by the cell of an instance's row is the instance's data set.
+fn is_read_by<B: Shelf>(
+    shelf: &mut B,
+    alloc: Global,
+    due: DueRow,
+) -> Result<bool, LedgerFault>
+    ensures read { Reads result (λ told. B.Shelf.is_clean shelf.new
+        → B.Shelf.uses shelf.old due.cell
+        → IsTold (B.Shelf.read_of shelf.old) due told) }
+    ensures keeps { KeepsCells (B.Shelf.uses shelf.old) (B.Shelf.stands shelf.old)
+        (B.Shelf.uses shelf.new) (B.Shelf.stands shelf.new) }
+    ensures reads { B.Shelf.is_clean shelf.new
+        → ReadsAsBefore (B.Shelf.uses shelf.old) (B.Shelf.read_of shelf.old)
+        (B.Shelf.read_of shelf.new) }
+    ensures named { B.Shelf.named shelf.new ≡ B.Shelf.named shelf.old }
+    ensures clean { B.Shelf.is_clean shelf.new → B.Shelf.is_clean shelf.old }
+{
+    match read_by(shelf, alloc, due) {
+        Ok(row) => Ok(is_whole(row)),
+        Err(fault) => Err(fault),
+    }
+}
+
+/// Whether the data set of the instance of this uid can be read. It is read for it.
+pub fn read_row<S: Alter, B>(
+    conn: &mut Connection<S>,
+    shelf: &mut B,
+    alloc: Global,
+    uid: &Text,
+) -> Result<bool, LedgerFault>
+where
+    B: Shelf,
+    ensures looked { (n : ℕ) (part : Part)
+        → Looked n part result (state S.Store conn.old) (state S.Store conn.new)
+        (λ base told. B.Shelf.is_clean shelf.new
+        → IsToldOf (B.Shelf.uses shelf.old) (B.Shelf.read_of shelf.old) base uid.now told) }
+    ensures keeps { KeepsCells (B.Shelf.uses shelf.old) (B.Shelf.stands shelf.old)
+        (B.Shelf.uses shelf.new) (B.Shelf.stands shelf.new) }
+    ensures reads { B.Shelf.is_clean shelf.new
+        → ReadsAsBefore (B.Shelf.uses shelf.old) (B.Shelf.read_of shelf.old)
+        (B.Shelf.read_of shelf.new) }
+    ensures named { B.Shelf.named shelf.new ≡ B.Shelf.named shelf.old }
+    ensures clean { B.Shelf.is_clean shelf.new → B.Shelf.is_clean shelf.old }
+    ensures idle { conn.old.in_transaction ≡ false → conn.new.in_transaction ≡ false }
+{
+    match row_of(conn, alloc, uid) {
+        Ok(due) => is_read_by(shelf, alloc, due),
         Err(fault) => Err(fault),
     }
 }

@@ -1,0 +1,42 @@
+use Rattle.std.proofs.Common.{Bool, subst, sym}
+use Rattle.std.proofs.Math.Logic.{∥∥₁_map}
+use Rattle.sqlite.specs.Held.{state}
+use Rattle.sqlite.specs.Tree.{Trees}
+use Rattle.dr_store_calls.specs.Calling.{IsSafe}
+use Rattle.dr_store.specs.Owning.{KeepsOwn}
+use Rattle.dr_store.specs.Reading.{IsToldOf, TellsWhereNeeded}
+use Rattle.dr_store.proofs.Nexts.{told_where_needed}
+use Rattle.dr_store.proofs.Shown.{tells_where_needed}
+use Rattle.dr_store.proofs.Writes.{looked_kept_by, looked_says}
+use Rattle.dr_store.proofs.ledger.SqlLedger.can_read.Goals as goal
+
+pub invariant_of-self : goal.invariant_of-self
+invariant_of-self g c =
+    let n = c.args.self.now.next in
+    let part = c.args.self.now.site in
+    let uid = c.args.uid.now in
+    let r = c.read_row-answer.result in
+    let old = state g.S.Store c.args.self.now.conn in
+    let new = state g.S.Store c.read_row-answer.new.conn in
+    let was = c.args.self.now.shelf in
+    let shelf = c.read_row-answer.new.shelf in
+    let Shows : Trees → Bool → Type 0 = λ base told. g.B.Shelf.is_clean shelf → IsToldOf (g.B.Shelf.uses was) (g.B.Shelf.read_of was) base uid told in
+    record {
+      idle = c.read_row-answer.ensures.idle c.args.self.now.idle;
+      kept = λ clean. subst (λ places. IsSafe new → ∥ KeepsOwn (g.B.Shelf.uses shelf) (g.B.Shelf.apart places) n part new ∥₁) (sym c.read_row-answer.ensures.named) (looked_kept_by n part r old new Shows (c.args.self.now.kept (c.read_row-answer.ensures.clean clean)) (c.read_row-answer.ensures.looked n part) (g.B.Shelf.uses shelf) (λ own. record { used = λ uid cell h. (c.read_row-answer.ensures.keeps cell (own.used uid cell h)).0; apart = own.apart }));
+    }
+
+pub returns-clause-reply : goal.returns-clause-reply
+returns-clause-reply g c clean safe =
+    let n = c.args.self.now.next in
+    let part = c.args.self.now.site in
+    let uid = c.args.uid.now in
+    let r = c.read_row-answer.result in
+    let old = state g.S.Store c.args.self.now.conn in
+    let new = state g.S.Store c.read_row-answer.new.conn in
+    let was = c.args.self.now.shelf in
+    let shelf = c.read_row-answer.new.shelf in
+    let was_of = g.B.Shelf.read_of was in
+    let Shows : Trees → Bool → Type 0 = λ base told. g.B.Shelf.is_clean shelf → IsToldOf (g.B.Shelf.uses was) was_of base uid told in
+    looked_says n part r old new Shows (c.args.self.now.kept (c.read_row-answer.ensures.clean clean)) (c.read_row-answer.ensures.looked n part) (TellsWhereNeeded was_of old.committed.trees uid)
+        (λ k told shown. told_where_needed (g.B.Shelf.uses was) was_of old.committed.trees uid k.kept.ledger.bodied k.own.used told (shown clean)) (tells_where_needed was_of old.committed.trees uid) safe
