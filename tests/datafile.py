@@ -2,8 +2,8 @@
 """Ledgers with their data sets in a file of their own (`new --data-file`), by the built program: nodes of both kinds
 side by side hand on the same bytes, a kill loses nothing that was acknowledged, every word opens either kind, and the
 place of what went is taken again. Where the file is missing, was cut short, is another ledger's or is locked, each word
-is refused by name and changes nothing. No opening reads a data set: where a byte of one was changed, each word opens
-the ledger, and the row is held by name when it is to be sent. No node hands out bytes that weren't taken.
+is refused by name and changes nothing. No opening reads a data set: where a byte of one was changed, each word but
+`audit` opens the ledger, and the row is held by name when it is to be sent. No node hands out bytes that weren't taken.
 
     tests/datafile.py
 """
@@ -551,7 +551,8 @@ def flip(path, at):
 
 def changed():
     """Where a byte of the head is another one, the file isn't the ledger's, and nothing is changed. Where one of a data set is, an opening sees nothing of
-    it, and nothing is changed either. When the byte is as it was, all is as before. A byte between data sets says nothing."""
+    it, and nothing is changed either; `audit` alone reads it, and is refused. When the byte is as it was, all is as before. A byte between data sets says
+    nothing."""
     with Room() as room:
         make(room, 'GATE')
         for number, size in enumerate((1_001, 600_001)):
@@ -569,9 +570,11 @@ def changed():
             stood = digest(path)
             same(book(room, 'GATE'), before)
             audited = room.run('audit', *PLAN, '.', '--other', 'CT1', '--other', 'ARCH')
-            same((audited.returncode, lines(audited.stdout)[:1], audited.stderr), (0, ['holds\t1'], b''))
+            told(audited, 1, '', f'dr_router: {WRONG}\nGATE\n')
             same(digest(path), stood)
             flip(path, at)
+            audited = room.run('audit', *PLAN, '.', '--other', 'CT1', '--other', 'ARCH')
+            same((audited.returncode, lines(audited.stdout)[:1], audited.stderr), (0, ['holds\t1'], b''))
         at = found[0][0] + found[0][1]
         assert at % 4096, at
         flip(path, at)
