@@ -570,7 +570,7 @@ def changed():
             stood = digest(path)
             same(book(room, 'GATE'), before)
             audited = room.run('audit', *PLAN, '.', '--other', 'CT1', '--other', 'ARCH')
-            told(audited, 1, '', f'dr_router: {WRONG}\nGATE\n')
+            told(audited, 1, '', f'dr_router: {WRONG}\n  node GATE\n')
             same(digest(path), stood)
             flip(path, at)
             audited = room.run('audit', *PLAN, '.', '--other', 'CT1', '--other', 'ARCH')
