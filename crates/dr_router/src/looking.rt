@@ -41,9 +41,7 @@ fn kept_can_be_read<S: Alter>(ledger: &mut SqlLedger<S, FileShelf>) -> Result<bo
 /// Whether that of each instance can that is in the queue.
 ///
 /// Errors: Store, Memory.
-fn queued_can_be_read<S: Alter>(
-    ledger: &mut SqlLedger<S, FileShelf>,
-) -> Result<bool, LedgerFault> {
+fn queued_can_be_read<S: Alter>(ledger: &mut SqlLedger<S, FileShelf>) -> Result<bool, LedgerFault> {
     let rows = ledger.rows()?;
     for ((uid, _), progress) in rows.as_slice() {
         if progress.is_queued() && !ledger.can_read(uid)? {

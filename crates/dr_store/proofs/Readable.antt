@@ -20,8 +20,8 @@ just read_of db uid body = (is_read read_of db uid body, read_is read_of db uid 
 pub own_is_there : ItsOwnIsThere
 own_is_there read_of db uid cell item is there reads known = read_is read_of db uid item.body (record { cell = cell; there = there; reads = reads; item = item; is_item = is; same = refl; known = known })
 
-pub all_there : AllThatStandAreThere
-all_there read_of Stands db reads own has uid needed =
+pub all_there : (Stands : List ℕ → List ℕ → Type 0) (read_of : List ℕ → Option (List ℕ)) → ((cell bytes : List ℕ) → Stands cell bytes → read_of cell ≡ Some bytes) → AllThatStandAreThere Stands read_of
+all_there Stands read_of reads db own has uid needed =
     let there = (has.there uid).1 needed in
     let it = own uid there.0 there.1 in
     (it.0.body, own_is_there read_of db uid there.0 it.0 it.1 there.1 (reads there.0 it.0.body it.2) it.3)

@@ -138,10 +138,10 @@ BodiesAreWhatIsRead =
     → (map.get (bodies_with read_of db) uid ≡ Some body) ↔ IsReadAt read_of db uid body
 
 -- Where each cell stands for its item's data set, none is unreadable.
-abbrev pub AllThatStandAreThere : Type 0
-AllThatStandAreThere =
-    (read_of : List ℕ → Option (List ℕ)) (Stands : List ℕ → List ℕ → Type 0) (db : Trees)
-    → ((cell bytes : List ℕ) → Stands cell bytes → read_of cell ≡ Some bytes)
+abbrev pub AllThatStandAreThere : (List ℕ → List ℕ → Type 0)
+    → (List ℕ → Option (List ℕ)) → Type 0
+AllThatStandAreThere Stands read_of =
+    (db : Trees)
     → AreOwn Stands (book_of db) (bodies_of db)
     → HasCells (book_of db) (bodies_of db)
     → HasAll (book_of db) (bodies_with read_of db)

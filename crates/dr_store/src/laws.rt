@@ -9,6 +9,7 @@ ghost use Rattle.dr_store.specs.Owning.{AllThatStandAreThere, BodiesAreWhatIsRea
 ghost use Rattle.dr_store.specs.Owning.{OtherBytesAreNotThere, OtherItemsAreNotThere};
 ghost use Rattle.dr_store.specs.Surviving.{CrashesAreTold, MakesNone, Whatever, Wrote};
 
+use dr_store_shelf::Shelf;
 use sqlite::{Alter, Connection};
 
 /// Where a call was accepted, a crash leaves all tables as they are committed after it: book, data
@@ -42,10 +43,14 @@ pub fn a_crash_is_told_by_books()
 {}
 
 /// A data set is there just where it can be read: its bytes can be read by its cell, and are those
-/// of an item, which is the book's. So where each cell stands for its item's, none is unreadable.
+/// of an item, which is the book's.
 pub fn the_data_sets_are_those_that_can_be_read()
-    ensures just { BodiesAreWhatIsRead }
-    ensures all { AllThatStandAreThere }
+    ensures { BodiesAreWhatIsRead }
+{}
+
+/// Where each cell stands on a shelf for its item's data set, none is unreadable.
+pub fn what_stands_is_there<B: Shelf>(shelf: &B)
+    ensures { AllThatStandAreThere (B.Shelf.stands shelf.now) (B.Shelf.read_of shelf.now) }
 {}
 
 /// The data set of the book's item is there, and bytes with another length, another SHA-256,

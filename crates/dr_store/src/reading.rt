@@ -243,11 +243,7 @@ fn is_whole(row: NextRow) -> bool
 }
 
 /// Whether what is read by the cell of an instance's row is the instance's data set.
-fn is_read_by<B: Shelf>(
-    shelf: &mut B,
-    alloc: Global,
-    due: DueRow,
-) -> Result<bool, LedgerFault>
+fn is_read_by<B: Shelf>(shelf: &mut B, alloc: Global, due: DueRow) -> Result<bool, LedgerFault>
     ensures read { Reads result (λ told. B.Shelf.is_clean shelf.new
         → B.Shelf.uses shelf.old due.cell
         → IsTold (B.Shelf.read_of shelf.old) due told) }

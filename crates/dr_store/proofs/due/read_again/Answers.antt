@@ -8,6 +8,6 @@ use Rattle.dr_store.proofs.due.read_again.Goals as goal
 pub returns-in-Ok : goal.returns-in-Ok
 returns-in-Ok c = subst (λ bytes. IsReadAgain c.args.instance bytes c.row_with.result) c.in-Ok.ensures.2 c.row_with.ensures
 
-pub returns : goal.returns
-returns c =
+pub returns-in-Err : goal.returns-in-Err
+returns-in-Err c =
     reads_map c.not_read.result (λ found says. subst (IsReadAgain c.args.instance c.args.bytes) (sym says.0) (refl, no_item c.args.instance c.args.bytes c.in-Err.fault c.in-Err.ensures says.1)) c.not_read.ensures

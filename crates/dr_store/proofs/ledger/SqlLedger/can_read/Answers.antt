@@ -39,4 +39,4 @@ returns-clause-reply g c clean safe =
     let was_of = g.B.Shelf.read_of was in
     let Shows : Trees → Bool → Type 0 = λ base told. g.B.Shelf.is_clean shelf → IsToldOf (g.B.Shelf.uses was) was_of base uid told in
     looked_says n part r old new Shows (c.args.self.now.kept (c.read_row-answer.ensures.clean clean)) (c.read_row-answer.ensures.looked n part) (TellsWhereNeeded was_of old.committed.trees uid)
-        (λ k told shown. told_where_needed (g.B.Shelf.uses was) was_of old.committed.trees uid k.kept.ledger.bodied k.own.used told (shown clean)) (tells_where_needed was_of old.committed.trees uid) safe
+    (λ k told shown. told_where_needed (g.B.Shelf.uses was) was_of old.committed.trees uid k.kept.ledger.bodied k.own.used told (shown clean)) (tells_where_needed was_of old.committed.trees uid) safe
