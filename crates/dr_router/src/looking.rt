@@ -19,7 +19,7 @@ impl Looking {
     /// for it, and no other word does, since that would take as long as there are images.
     pub fn of(words: &[&str]) -> Looking {
         match words.first() {
-            Some(word) if word.as_bytes() == b"audit" => Looking::AtAll,
+            Some(word) if word.as_bytes() == b"audit".as_slice() => Looking::AtAll,
             _ => Looking::AtTables,
         }
     }
