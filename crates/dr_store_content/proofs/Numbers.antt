@@ -1,17 +1,21 @@
 -- 32 bytes are those of one number.
-use Rattle.std.proofs.Common.{◌≡◌, ◌∙◌, ℕ, ◌+◌, ◌*◌, ◌<◌, ◌≤◌, ◌-◌, ◌^◌, ◌/◌, ◌%◌, ◌⊎◌, inl, inr, List, [], ◌∷◌, ◌++◌, length, take, drop, get_or, refl, sym, ap, subst, arith}
+use Rattle.std.proofs.Common.{◌≡◌, ◌∙◌, ℕ, ◌+◌, ◌*◌, ◌<◌, ◌≤◌, ◌-◌, ◌^◌, ◌⊎◌, inl, inr, List, [], ◌∷◌, length, take, drop, get_or, refl, sym, ap, arith}
 use Rattle.std.proofs.Common.{length-take, length-drop, get_or-take, get_or-drop, ext_get_or}
 use Rattle.std.proofs.lemmas.Bool.{cases_lt}
 use Rattle.std.proofs.lemmas.Nat.{le_bytes_8}
 use Rattle.std.proofs.lemmas.List.{get_or_past}
 use Rattle.std.proofs.lemmas.List.Elements.{All-get_or}
 use Rattle.std.specs.Prelude.{All}
-use Rattle.std.specs.Int.{w64, from_le_bytes, to_le_bytes}
-use Rattle.dr_store_content.specs.Contents.{number_of, part_of}
+use Rattle.std.specs.Int.{w64, from_le_bytes}
+use Rattle.dr_store_content.specs.Contents.{number_of}
 
 -- eight bytes from there on
 abbrev eight : List ℕ → ℕ → List ℕ
 eight bytes at = take 8 (drop at bytes)
+
+-- as a number
+abbrev part_of : List ℕ → ℕ → ℕ
+part_of bytes at = from_le_bytes w64 (eight bytes at)
 
 abbrev AreSmall : List ℕ → Type 0
 AreSmall bytes = (i : ℕ) → get_or bytes i 0 < 256

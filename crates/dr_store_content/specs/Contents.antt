@@ -9,15 +9,13 @@ use Rattle.dr_store_content.specs.declared.content.Content.{Content}
 abbrev pub amount : Content → ℕ
 amount it = it.first + it.second * 2 ^ 64 + it.third * 2 ^ 128 + it.fourth * 2 ^ 192
 
--- eight bytes from there on, as a number, the lowest first
-abbrev pub part_of : List ℕ → ℕ → ℕ
-part_of bytes at = from_le_bytes w64 (take 8 (drop at bytes))
-
--- 32 bytes as a number, the lowest first
+-- 32 bytes as a number, the lowest first: four numbers of eight bytes
 abbrev pub number_of : List ℕ → ℕ
 number_of bytes =
-    part_of bytes 0 + part_of bytes 8 * 2 ^ 64 + part_of bytes 16 * 2 ^ 128
-    + part_of bytes 24 * 2 ^ 192
+    from_le_bytes w64 (take 8 bytes)
+    + from_le_bytes w64 (take 8 (drop 8 bytes)) * 2 ^ 64
+    + from_le_bytes w64 (take 8 (drop 16 bytes)) * 2 ^ 128
+    + from_le_bytes w64 (take 8 (drop 24 bytes)) * 2 ^ 192
 
 -- what a row adds, which is given as bytes
 abbrev pub weight : List ℕ → ℕ

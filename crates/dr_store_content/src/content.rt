@@ -1,6 +1,7 @@
 //! Numbers of 256 bits.
-ghost use Rattle.std.specs.Prelude.{◌≡◌, ◌≤◌, ◌+◌, ◌%◌, ◌^◌};
-ghost use Rattle.dr_store_content.specs.Contents.{amount, number_of, part_of};
+ghost use Rattle.std.specs.Prelude.{◌≡◌, ◌≤◌, ◌+◌, ◌%◌, ◌^◌, take, drop};
+ghost use Rattle.std.specs.Int.{w64, from_le_bytes};
+ghost use Rattle.dr_store_content.specs.Contents.{amount, number_of};
 
 /// What rows come to: the sum of the SHA-256 of each, modulo 2^256.
 #[derive(Clone, Copy, Debug, PartialEq, Eq)]
@@ -16,7 +17,7 @@ pub struct Content {
 /// Eight bytes from there on, as a number, the lowest first.
 fn part(bytes: &[u8; 32], at: usize) -> u64
     requires { at ≤ 24 }
-    ensures { result ≡ part_of bytes.now at }
+    ensures { result ≡ from_le_bytes w64 (take 8 (drop at bytes.now)) }
 {
     let mut eight = [0; 8];
     eight.copy_from_slice(&bytes[at..at + 8]);
