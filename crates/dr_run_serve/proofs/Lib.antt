@@ -2,5 +2,6 @@ mod Chained
 mod InTurn
 mod Leafing
 mod Noting
+mod Recording
 mod Turning
 mod Wholly
