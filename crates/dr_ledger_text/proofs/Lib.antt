@@ -1,4 +1,4 @@
 pub mod Chained
 mod OneLine
-mod Pieces
+pub mod Pieces
 mod Spelled
