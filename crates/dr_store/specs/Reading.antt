@@ -97,9 +97,3 @@ abbrev pub AdmitsKnown : Known → Result (Unit {0}) LedgerFault → Type 0
 AdmitsKnown known.No result = result ≡ Ok tt
 AdmitsKnown known.Other result = result ≡ Err fault.Conflict
 AdmitsKnown (known.Same whole) result = result ≡ Ok tt
-
--- ---- for those above
-
--- the same instance, with these bytes for its data set
-abbrev pub with_body : Job → List ℕ → Job
-with_body job body = record { uid = job.uid; key = job.key; body = body }

@@ -5,8 +5,8 @@ ghost use Rattle.sqlite.specs.State.{HasCleanDisk};
 ghost use Rattle.dr_ledger.specs.Adopting.{Adopting, site_after};
 ghost use Rattle.dr_ledger.specs.Bodies.{OnlyTakes};
 ghost use Rattle.dr_ledger.specs.Items.{instance_of};
-ghost use Rattle.dr_ledger.specs.Replies.{Arrives, Counts, Drops, Forgets, Reads, Requeues};
-ghost use Rattle.dr_ledger.specs.Replies.{Settles};
+ghost use Rattle.dr_ledger.specs.Replies.{Arrives, Counts, Drops, Forgets, PremiseLasts, Reads};
+ghost use Rattle.dr_ledger.specs.Replies.{Requeues, Settles};
 ghost use Rattle.dr_ledger.specs.SiteRoutes.{site_routing};
 ghost use Rattle.dr_store_schema.specs.Books.{book_of};
 ghost use Rattle.dr_store_calls.specs.Adoptions.{IsAdopted};
@@ -110,7 +110,7 @@ impl<S: Alter, B: Shelf> SqlLedger<S, B> {
     }
 
     /// Whether the data set of this uid can be read, which the ledger needs. It is read for it, and
-    /// is then that of its instance.
+    /// is then that of its instance. Nothing is changed by it.
     ///
     /// Errors: Store, also where no instance has this uid; Memory.
     pub fn can_read(&mut self, uid: &Text) -> Result<bool, LedgerFault>
@@ -119,7 +119,23 @@ impl<S: Alter, B: Shelf> SqlLedger<S, B> {
             → Reads result (λ told.
             TellsWhereNeeded (B.Shelf.read_of self.old.shelf)
             (state S.Store self.old.conn).committed.trees uid.now told) }
+        ensures same { B.Shelf.is_clean self.new.shelf
+            → IsSafe (state S.Store self.new.conn)
+            → (book_of (state S.Store self.new.conn).committed.trees
+            ≡ book_of (state S.Store self.old.conn).committed.trees)
+            × (bodies_with (B.Shelf.read_of self.new.shelf)
+            (state S.Store self.new.conn).committed.trees
+            ≡ bodies_with (B.Shelf.read_of self.old.shelf)
+            (state S.Store self.old.conn).committed.trees) }
         ensures counts { Counts result self.old.failures self.new.failures }
+        ensures stood { B.Shelf.is_clean self.new.shelf
+            → IsSafe (state S.Store self.new.conn)
+            → IsSafe (state S.Store self.old.conn) × B.Shelf.is_clean self.old.shelf }
+        ensures lasts { PremiseLasts result
+            (HasCleanDisk (state S.Store self.old.conn) × B.Shelf.is_clean self.old.shelf)
+            (HasCleanDisk (state S.Store self.new.conn) × B.Shelf.is_clean self.new.shelf)
+            (IsSafe (state S.Store self.old.conn) × B.Shelf.is_clean self.old.shelf)
+            (IsSafe (state S.Store self.new.conn) × B.Shelf.is_clean self.new.shelf) }
         ensures site { self.new.site ≡ self.old.site }
     {
         let answer = read_row(&mut self.conn, &mut self.shelf, self.alloc, uid);

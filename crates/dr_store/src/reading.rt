@@ -65,7 +65,8 @@ where
     has_item(conn, alloc, uid)
 }
 
-/// Whether its data set is there. It isn't read.
+/// Whether the tables have a cell for its data set. The cell isn't read, so whether the data set can
+/// be read is another question.
 pub fn has_data_set<S: Alter>(
     conn: &mut Connection<S>,
     alloc: Global,
