@@ -5,8 +5,8 @@ ghost use Rattle.sqlite.specs.State.{HasCleanDisk};
 ghost use Rattle.dr_ledger.specs.Adopting.{Adopting, site_after};
 ghost use Rattle.dr_ledger.specs.Bodies.{OnlyTakes};
 ghost use Rattle.dr_ledger.specs.Items.{instance_of};
-ghost use Rattle.dr_ledger.specs.Replies.{Arrives, Counts, Drops, Forgets, PremiseLasts, Reads};
-ghost use Rattle.dr_ledger.specs.Replies.{Requeues, Settles};
+ghost use Rattle.dr_ledger.specs.Replies.{Arrives, Counts, Drops, Forgets, Reads, Requeues};
+ghost use Rattle.dr_ledger.specs.Replies.{Settles};
 ghost use Rattle.dr_ledger.specs.SiteRoutes.{site_routing};
 ghost use Rattle.dr_store_schema.specs.Books.{book_of};
 ghost use Rattle.dr_store_calls.specs.Adoptions.{IsAdopted};
@@ -14,7 +14,7 @@ ghost use Rattle.dr_store_calls.specs.Calling.{IsSafe};
 ghost use Rattle.dr_store_calls.specs.Knowing.{IsAccepted};
 ghost use Rattle.dr_store.specs.Counting.{failures_after};
 ghost use Rattle.dr_store.specs.Owning.{IsCovered, KeepsOwn, LetsGoOf, LosesNoneOf, bodies_with};
-ghost use Rattle.dr_store.specs.Reading.{TellsWhereNeeded};
+ghost use Rattle.dr_store.specs.Reading.{LeavesAsRead, TellsWhereNeeded};
 ghost use Rattle.dr_store.specs.Surviving.{TakesOver, Wrote};
 
 use crate::counting::{counted, next_after};
@@ -119,23 +119,10 @@ impl<S: Alter, B: Shelf> SqlLedger<S, B> {
             → Reads result (λ told.
             TellsWhereNeeded (B.Shelf.read_of self.old.shelf)
             (state S.Store self.old.conn).committed.trees uid.now told) }
-        ensures same { B.Shelf.is_clean self.new.shelf
-            → IsSafe (state S.Store self.new.conn)
-            → (book_of (state S.Store self.new.conn).committed.trees
-            ≡ book_of (state S.Store self.old.conn).committed.trees)
-            × (bodies_with (B.Shelf.read_of self.new.shelf)
-            (state S.Store self.new.conn).committed.trees
-            ≡ bodies_with (B.Shelf.read_of self.old.shelf)
-            (state S.Store self.old.conn).committed.trees) }
-        ensures counts { Counts result self.old.failures self.new.failures }
-        ensures stood { B.Shelf.is_clean self.new.shelf
-            → IsSafe (state S.Store self.new.conn)
-            → IsSafe (state S.Store self.old.conn) × B.Shelf.is_clean self.old.shelf }
-        ensures lasts { PremiseLasts result
-            (HasCleanDisk (state S.Store self.old.conn) × B.Shelf.is_clean self.old.shelf)
-            (HasCleanDisk (state S.Store self.new.conn) × B.Shelf.is_clean self.new.shelf)
-            (IsSafe (state S.Store self.old.conn) × B.Shelf.is_clean self.old.shelf)
-            (IsSafe (state S.Store self.new.conn) × B.Shelf.is_clean self.new.shelf) }
+        ensures leaves { LeavesAsRead result (B.Shelf.read_of self.old.shelf)
+            (B.Shelf.read_of self.new.shelf) (B.Shelf.is_clean self.old.shelf)
+            (B.Shelf.is_clean self.new.shelf) (state S.Store self.old.conn)
+            (state S.Store self.new.conn) self.old.failures self.new.failures }
         ensures site { self.new.site ≡ self.old.site }
     {
         let answer = read_row(&mut self.conn, &mut self.shelf, self.alloc, uid);

@@ -14,5 +14,6 @@ mod ledger;
 mod listing;
 mod reading;
 mod telling;
+mod unreadable;
 
 pub use ledger::SqlLedger;
