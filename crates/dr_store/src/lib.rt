@@ -14,6 +14,5 @@ mod ledger;
 mod listing;
 mod reading;
 mod telling;
-mod unreadable;
 
 pub use ledger::SqlLedger;
