@@ -115,7 +115,7 @@ impl<S: Alter, B: Shelf> SqlLedger<S, B> {
     /// is then that of its instance. Nothing is changed by it.
     ///
     /// Errors: Store, also where no instance has this uid; Memory.
-    pub fn can_read(&mut self, uid: &Text) -> Result<bool, LedgerFault>
+    fn can_read(&mut self, uid: &Text) -> Result<bool, LedgerFault>
         ensures reply { B.Shelf.is_clean self.new.shelf
             → IsSafe (state S.Store self.new.conn)
             → Reads result (λ told.
@@ -227,9 +227,9 @@ impl<S: Alter, B: Shelf> SqlLedger<S, B> {
         self.first_of_rows(rows.as_slice())
     }
 
-    /// The uid of an instance whose data set is needed and can't be read, if there is one. Each that
-    /// is needed is read for it, until one can't be: first those of kept instances, then those that
-    /// are still queued. Nothing is changed by it.
+    /// The uid of an instance whose data set is needed and can't be read, if there is one. Each
+    /// that is needed is read for it, until one can't be: first those of kept instances, then those
+    /// that are still queued. Nothing is changed by it.
     ///
     /// Errors: Store, Memory.
     pub fn find_unreadable(&mut self) -> Result<Option<Text>, LedgerFault>
