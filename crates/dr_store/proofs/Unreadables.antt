@@ -36,7 +36,7 @@ lasts_as (Err fault.NotWaiting) f h = f h
 lasts_as (Err fault.NotHeld) f h = f h
 lasts_as (Err fault.NotOver) f h = f h
 
-same_count : {A : Type 0} (x : A) (a b : ℕ) → Counts {A} (Ok x) a b → b ≡ a
+same_count : {A : Type 0} (x : A) (a b : ℕ) → Counts {A = A} (Ok x) a b → b ≡ a
 same_count x a b counts = elim counts.no_other [
   | inl stored ↦ absurd (let f : ⊥ = cc in f)
   | inr same ↦ same
@@ -50,7 +50,7 @@ counted_so r a b same none = record {
 }
 
 -- nothing was called
-pub leaves_nothing : {A : Type 0} (x : A) (read_of : List ℕ → Option (List ℕ)) (Is : Type 0) (s : State) (n : ℕ) → LeavesAsRead {A} (Ok x) read_of read_of Is Is s s n n
+pub leaves_nothing : {A : Type 0} (x : A) (read_of : List ℕ → Option (List ℕ)) (Is : Type 0) (s : State) (n : ℕ) → LeavesAsRead {A = A} (Ok x) read_of read_of Is Is s s n n
 leaves_nothing x read_of Is s n = record {
   same = λ is safe. (refl, refl);
   stood = λ is safe. (safe, is);
@@ -58,9 +58,9 @@ leaves_nothing x read_of Is s n = record {
   counts = counted_so (Ok x) n n refl (λ stored. let f : ⊥ = cc in f);
 }
 
-module _ {A : Type 0} (x : A) (was_of read_of : List ℕ → Option (List ℕ)) (Was Is : Type 0) (old new : State) (before now : ℕ) (l : LeavesAsRead {A} (Ok x) was_of read_of Was Is old new before now) where
+module _ {A : Type 0} (x : A) (was_of read_of : List ℕ → Option (List ℕ)) (Was Is : Type 0) (old new : State) (before now : ℕ) (l : LeavesAsRead {A = A} (Ok x) was_of read_of Was Is old new before now) where
   -- another answer is given
-  pub leaves_ok : {B : Type 0} (y : B) → LeavesAsRead {B} (Ok y) was_of read_of Was Is old new before now
+  pub leaves_ok : {B : Type 0} (y : B) → LeavesAsRead {A = B} (Ok y) was_of read_of Was Is old new before now
   leaves_ok y = record {
     same = l.same;
     stood = l.stood;
@@ -69,7 +69,7 @@ module _ {A : Type 0} (x : A) (was_of read_of : List ℕ → Option (List ℕ)) 
   }
 
   -- there is no memory for an answer
-  pub leaves_memory : {B : Type 0} → LeavesAsRead {B} (Err fault.Memory) was_of read_of Was Is old new before now
+  pub leaves_memory : {B : Type 0} → LeavesAsRead {A = B} (Err fault.Memory) was_of read_of Was Is old new before now
   leaves_memory = record {
     same = l.same;
     stood = l.stood;
@@ -79,8 +79,8 @@ module _ {A : Type 0} (x : A) (was_of read_of : List ℕ → Option (List ℕ)) 
 
 -- one call is made behind another that had an answer
 module _ {A B : Type 0} (x : A) (r : Result B LedgerFault) (was_of mid_of read_of : List ℕ → Option (List ℕ)) (Was Mid Is : Type 0) (old mid new : State) (before between now : ℕ)
-    (one : LeavesAsRead {A} (Ok x) was_of mid_of Was Mid old mid before between) (two : LeavesAsRead {B} r mid_of read_of Mid Is mid new between now) where
-  pub leaves_then : LeavesAsRead {B} r was_of read_of Was Is old new before now
+    (one : LeavesAsRead {A = A} (Ok x) was_of mid_of Was Mid old mid before between) (two : LeavesAsRead {A = B} r mid_of read_of Mid Is mid new between now) where
+  pub leaves_then : LeavesAsRead {A = B} r was_of read_of Was Is old new before now
   leaves_then = record {
     same = λ is safe.
         let stood = two.stood is safe in
@@ -95,7 +95,7 @@ module _ {A B : Type 0} (x : A) (r : Result B LedgerFault) (was_of mid_of read_o
     counts = subst (λ n. Counts r n now) (same_count x before between one.counts) two.counts;
   }
     where
-      lasts_then : {T0 T1 T2 S0 S1 S2 : Type 0} (r : Result B LedgerFault) → PremiseLasts {A} (Ok x) T0 T1 S0 S1 → PremiseLasts {B} r T1 T2 S1 S2 → LastsAfter r (T2 → S0 → S2)
+      lasts_then : {T0 T1 T2 S0 S1 S2 : Type 0} (r : Result B LedgerFault) → PremiseLasts {A = A} (Ok x) T0 T1 S0 S1 → PremiseLasts {A = B} r T1 T2 S1 S2 → LastsAfter r (T2 → S0 → S2)
       lasts_then r p q = lasts_as r (λ h trusts stands. h trusts (p.lasts (q.trusted trusts) stands)) q.lasts
 
 -- ---- what is told
@@ -122,11 +122,11 @@ module _ (read_of : List ℕ → Option (List ℕ)) (db : Trees) where
   RowHasIts row = is_queued row.1 ≡ true → HasIts row.0.0
 
   pub has_told : (uid : Text) (told : Bool) → told ≡ true → TellsWhereNeeded read_of db uid told → HasIts uid
-  has_told uid told yes h need = (h need).0 yes
+  has_told uid told is h need = (h need).0 is
 
   pub row_told : (row : Pair × Progress) (told : Bool) → told ≡ true → TellsWhereQueued read_of db row told → RowHasIts row
-  row_told row told yes (inl over) queued = absurd (true≢false (sym queued ∙ over.0))
-  row_told row told yes (inr h) queued = has_told row.0.0 told yes h.1
+  row_told row told is (inl over) queued = absurd (true≢false (sym queued ∙ over.0))
+  row_told row told is (inr h) queued = has_told row.0.0 told is h.1
 
   -- ---- of kept instances
 
@@ -138,7 +138,7 @@ module _ (read_of : List ℕ → Option (List ℕ)) (db : Trees) where
     all_kept all uid has = All-contains HasIts Uids uid (All-map HasIts (λ (e : Text × ℕ). e.0) kept all) ((are.0.each uid).1 has) (inl has)
 
     pub kept_wants : (i : ℕ) (d : Text × ℕ) (uid : Text) (told : Bool) → i < length kept → (get_or kept i d).0 ≡ uid → told ≡ false → TellsWhereNeeded read_of db uid told → FindsUnreadable KeptAreThere read_of db (Some uid)
-    kept_wants i d uid told within is no h = (needed, λ there. true≢false (sym ((h needed).1 there) ∙ no))
+    kept_wants i d uid told within is isnt h = (needed, λ there. true≢false (sym ((h needed).1 there) ∙ isnt))
       where
         at : Contains Uids uid
         at = subst (Contains Uids) (get_or-map (λ (e : Text × ℕ). e.0) kept i d d.0 within ∙ is) (Contains-get_or Uids i d.0 (subst (λ k. i < k) (sym (length-map kept (λ (e : Text × ℕ). e.0))) within))
@@ -162,8 +162,8 @@ module _ (read_of : List ℕ → Option (List ℕ)) (db : Trees) where
       map.get-entries (book_of db).rows row.0 ∙ ((at_place text_pairs.total row.0 Rows i row (map.entries_sorted (book_of db).rows) within (subst P (sym is) (tied_itself text_pairs.total row.0))).0 ∙ ap (λ (e : Pair × Progress). Some e.1) is)
 
   pub rows_want : (i : ℕ) (row : Pair × Progress) (told : Bool) → i < length Rows → get_or Rows i row ≡ row → told ≡ false → TellsWhereQueued read_of db row told → FindsUnreadable QueuedAreThere read_of db (Some row.0.0)
-  rows_want i row told within is no (inl over) = absurd (true≢false (sym over.1 ∙ no))
-  rows_want i row told within is no (inr h) = (needed, λ there. true≢false (sym ((h.1 needed).1 there) ∙ no))
+  rows_want i row told within is isnt (inl over) = absurd (true≢false (sym over.1 ∙ isnt))
+  rows_want i row told within is isnt (inr h) = (needed, λ there. true≢false (sym ((h.1 needed).1 there) ∙ isnt))
     where
       needed : IsNeeded (book_of db) row.0.0
       needed = inr (row.0.1, row.1, row_at i row within is, h.0)
@@ -173,3 +173,15 @@ module _ (read_of : List ℕ → Option (List ℕ)) (db : Trees) where
   pub has_all : KeptAreThere (book_of db) (bodies_with read_of db) → QueuedAreThere (book_of db) (bodies_with read_of db) → HasAll (book_of db) (bodies_with read_of db)
   has_all kept queued uid (inl has) = kept uid has
   has_all kept queued uid (inr (dest, row, there, is)) = queued uid dest row there is
+
+-- ---- what is found
+
+pub finds_before : (HaveTheirs : Book → Bodies → Type 0) (was_of mid_of : List ℕ → Option (List ℕ)) (base mid : Trees) → (book_of mid ≡ book_of base) × (bodies_with mid_of mid ≡ bodies_with was_of base) → (found : Option Text) → FindsUnreadable HaveTheirs mid_of mid found → FindsUnreadable HaveTheirs was_of base found
+finds_before HaveTheirs was_of mid_of base mid same None h =
+    subst (λ (b : Book). HaveTheirs b (bodies_with was_of base)) same.0 (subst (λ (o : Bodies). HaveTheirs (book_of mid) o) same.1 h)
+finds_before HaveTheirs was_of mid_of base mid same (Some uid) h =
+    (subst (λ (b : Book). IsNeeded b uid) same.0 h.0, λ there. h.1 (subst (λ (o : Bodies). IsThere o uid) (sym same.1) there))
+
+pub finds_all : (read_of : List ℕ → Option (List ℕ)) (db : Trees) → KeptAreThere (book_of db) (bodies_with read_of db) → (found : Option Text) → FindsUnreadable QueuedAreThere read_of db found → FindsUnreadable HasAll read_of db found
+finds_all read_of db kept None queued = has_all read_of db kept queued
+finds_all read_of db kept (Some uid) h = h
