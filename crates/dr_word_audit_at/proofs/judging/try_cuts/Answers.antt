@@ -15,7 +15,7 @@ returns-then-is_moved c =
     let cut = c.in_ok-cut.ensures.cut ∙ ap (λ (ns : List ℕ). cuts ns read) c.as_slice.ensures.value in
     let audited = subst (λ (nodes : List NodeJournal). Audits plan nodes verdict) (c.as_slice-2.ensures.value ∙ cut) c.in_ok-verdict.ensures in
     let moves = subst (λ (nodes : List NodeJournal). MovesFor nodes verdict old new c.in_ok-is_moved.is_moved) (c.as_slice-3.ensures.value ∙ back) c.in_ok-is_moved.ensures in
-    (back, verdict, audited, subst (λ (b : Bool). MovesFor read verdict old new b) c.if-is_moved.true moves)
+    (back, (verdict, audited, subst (λ (b : Bool). MovesFor read verdict old new b) c.if-is_moved.true moves))
 
 pub returns : goal.returns
 returns c =
