@@ -1,6 +1,8 @@
+mod Along
 mod Chained
 mod InTurn
 mod Leafing
 mod Noting
+mod Recording
 mod Turning
 mod Wholly
