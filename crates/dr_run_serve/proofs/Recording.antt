@@ -1,5 +1,5 @@
 -- What is done at one desk is done at another one that follows it, call by call.
-use Rattle.std.proofs.Common.{◌≡◌, ◌∙◌, ◌⊎◌, ◌+◌, ◌-◌, ◌||◌, ℕ, Bool, true, false, cond, arith, List, [], ◌∷◌, map as mapped, Option, None, Some, Result, Ok, Err, inl, inr, refl, sym, ap, subst}
+use Rattle.std.proofs.Common.{◌≡◌, ◌∙◌, ◌⊎◌, ◌+◌, ◌-◌, ◌||◌, ℕ, Bool, true, false, cond, arith, List, [], ◌∷◌, Option, None, Some, Result, Ok, Err, inl, inr, refl, sym, ap, subst}
 use Rattle.std.specs.declared.alloc.AllocError.{AllocError}
 use Rattle.std.specs.declared.io.Error.{Error}
 use Rattle.dr_base.specs.Texts.{Text}
@@ -24,7 +24,7 @@ use Rattle.dr_session.specs.declared.wishes.Kind.TheVariants.{Deliver}
 use Rattle.dr_session.specs.Desks.{DeskCall, DeskAnswer, Arrive, Next, Due, Settle, Arrival, Upcoming, First, Settling}
 use Rattle.dr_session.specs.Ends.{Terminal, MeetsBy, MeetsIn, Meets, HearsPiece, HearsBytes, HearsOf, begins, is_gone, idle_in, requesting, state_in}
 use Rattle.dr_session.specs.Links.{EndDoing, Hears, Asks, Echoes, Place, place, Does, Performed, Did, Leaves, Stops as StopsIn, Served, StopsAt, EndsAs, Begins, SessionTo, DeliversAs, IsWished, asked_after, wants}
-use Rattle.dr_session.specs.Plays.{At, Reacts, Stops, Plays, BreaksOff, PlaysBytes, BreaksBytes, at_moment}
+use Rattle.dr_session.specs.Plays.{At, Reacts, Stops, Plays, BreaksOff, BreaksBytes}
 use Rattle.dr_session.specs.Reactions.{Reaction, write}
 use Rattle.dr_session.specs.Turns.{Turns, Broke, Ends, Asks as AsksFor, Fails}
 use Rattle.dr_site.specs.Parts.{Part}

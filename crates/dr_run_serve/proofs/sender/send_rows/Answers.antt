@@ -1,4 +1,4 @@
-use Rattle.std.proofs.Common.{◌≡◌, ◌∙◌, ◌++◌, ◌∷◌, [], refl}
+use Rattle.std.proofs.Common.{◌∙◌, ◌++◌, ◌∷◌, [], refl}
 use Rattle.dr_run_serve.proofs.Along.{looks_along}
 use Rattle.dr_run_serve.proofs.Chained.{chain_more}
 use Rattle.dr_run_serve.specs.Sendings.{IsFailing, LooksOnce, TellsDue, VisitsBy}
