@@ -4,5 +4,6 @@ mod InTurn
 mod Leafing
 mod Noting
 mod Recording
+mod Telling
 mod Turning
 mod Wholly

@@ -6,7 +6,6 @@ use Rattle.dr_base.specs.Texts.{Text}
 use Rattle.dr_pdu.specs.Feeding.{Feeding}
 use Rattle.dr_pdu.specs.declared.pdu.Pdu.TheVariants as pdu
 use Rattle.dr_ledger.specs.declared.fault.LedgerFault.{LedgerFault}
-use Rattle.dr_ledger.specs.declared.fault.LedgerFault.TheVariants as ledger
 use Rattle.dr_session.specs.declared.ends.Core.{Core}
 use Rattle.dr_session.specs.declared.ends.Effect.{Effect}
 use Rattle.dr_session.specs.declared.ends.Ended.{Ended}
@@ -364,15 +363,15 @@ module _ {L K S : Type 0} (site_of : L → Part) (book : L → Book) (bodies : L
       (r.0, r.1, (omega (arith, count, settled), v.passed ∙ r.2.1))
 
   -- a visit that came to no fault comes back with what was noted of it
-  pub comes_well : (Failing : Type 0) → VisitsAt connects hears sends closes step finds tells site count_of receipts_of passed_of dest address came noted → Keeps → Stays → (told : Visit) → came ≡ Ok told →
-      ComesBack (VisitsBy site_of book bodies stands failed own first connects hears sends closes tells site dest address) Failing (Ok (told, noted))
-  comes_well Failing v keeps stays told is =
+  pub comes_well : (Told : LedgerFault → LedgerFault → Type 0) → VisitsAt connects hears sends closes step finds tells site count_of receipts_of passed_of dest address came noted → Keeps → Stays → (told : Visit) → came ≡ Ok told →
+      ComesBack (VisitsBy site_of book bodies stands failed own first connects hears sends closes tells site dest address) Told (Ok (told, noted))
+  comes_well Told v keeps stays told is =
       let r = recorded v keeps stays in
       (r.0, subst (λ (x : Result Visit LedgerFault). VisitsBy site_of book bodies stands failed own first connects hears sends closes tells site dest address x r.0) is r.1, r.2)
 
-  -- one that came to a fault comes back with it, or with that of a store that failed
-  pub comes_badly : (Failing : Type 0) → VisitsAt connects hears sends closes step finds tells site count_of receipts_of passed_of dest address came noted → Keeps → Stays → (told why : LedgerFault) → came ≡ Err told →
-      (why ≡ told) ⊎ ((why ≡ ledger.Store) × Failing) → ComesBack (VisitsBy site_of book bodies stands failed own first connects hears sends closes tells site dest address) Failing (Err why)
-  comes_badly Failing v keeps stays told why is shown =
+  -- one that came to a fault comes back with what that is told as
+  pub comes_badly : (Told : LedgerFault → LedgerFault → Type 0) → VisitsAt connects hears sends closes step finds tells site count_of receipts_of passed_of dest address came noted → Keeps → Stays → (told why : LedgerFault) → came ≡ Err told →
+      Told told why → ComesBack (VisitsBy site_of book bodies stands failed own first connects hears sends closes tells site dest address) Told (Err why)
+  comes_badly Told v keeps stays told why is shown =
       let r = recorded v keeps stays in
       (r.0, told, subst (λ (x : Result Visit LedgerFault). VisitsBy site_of book bodies stands failed own first connects hears sends closes tells site dest address x r.0) is r.1, shown)

@@ -55,6 +55,14 @@ abbrev pub as_told : Result (Option Progress) LedgerFault → Option Progress
 as_told (Ok came) = came
 as_told (Err why) = None
 
+-- ---- a fault of a visit
+
+-- what it is told as, where that was answered to a call that only reads: as a store that failed,
+-- where that answer is so
+abbrev pub told_as : Result Bool LedgerFault → LedgerFault → LedgerFault
+told_as (Err fault.Store) came = fault.Store
+told_as found came = came
+
 -- ---- calls
 
 -- a call of the desk, with its answer
@@ -171,9 +179,12 @@ module _ {L : Type 0} (site_of : L → Part) (book : L → Book) (bodies : L →
       Reading site_of book bodies stands failed own first
       (λ l answer. Reads answer (λ there. there ≡ map.contains_key (book l).items uid)) found
 
-  -- a call that only reads was answered that the store failed
-  abbrev pub IsFailing : Type 0
-  IsFailing = (uid : Text) × TellsWhetherThere uid (Err fault.Store)
+  -- what a fault of a visit is told as, by what the desk answered behind it
+  abbrev pub IsTold : LedgerFault → LedgerFault → Type 0
+  IsTold came why =
+      (uid : Text) × (found : Result Bool LedgerFault)
+      × TellsWhetherThere uid found
+      × (why ≡ told_as found came)
 
   module _ {K : Type 0} (connects : Text → Result K Error → Type 0)
       (hears : K → Heard → K → Type 0)
@@ -200,33 +211,32 @@ abbrev pub IsFirstRest : ℕ → Rest → Type 0
 IsFirstRest now rest = (rest.since ≡ now) × (rest.wait ≡ 1000) × (rest.short ≡ false)
 
 module _ (Visiting : Result Visit LedgerFault → List Asked → Type 0) where
-  -- What came of a visit, with what was noted of the calls that were made at it. A fault of it may
-  -- be told as a store that failed, where that store is shut.
-  abbrev pub ComesBack : (Failing : Type 0) → Result (Visit × Noted) LedgerFault → Type 0
-  ComesBack Failing (Ok x) = (calls : List Asked) × Visiting (Ok x.0) calls × IsNotedOf calls x.1
-  ComesBack Failing (Err why) =
-      (calls : List Asked) × (told : LedgerFault)
-      × Visiting (Err told) calls
-      × ((why ≡ told) ⊎ ((why ≡ fault.Store) × Failing))
+  -- What came of a visit, with what was noted of the calls that were made at it; or what its fault
+  -- is told as.
+  abbrev pub ComesBack : (LedgerFault → LedgerFault → Type 0) → Result (Visit × Noted) LedgerFault
+      → Type 0
+  ComesBack Told (Ok x) = (calls : List Asked) × Visiting (Ok x.0) calls × IsNotedOf calls x.1
+  ComesBack Told (Err why) =
+      (calls : List Asked) × (came : LedgerFault) × Visiting (Err came) calls × Told came why
 
-  module _ (Failing : Type 0) (FirstDue : Result (Option ℕ) LedgerFault → Type 0)
-      (tells : ℕ → Type 0) where
+  module _ (Told : LedgerFault → LedgerFault → Type 0)
+      (FirstDue : Result (Option ℕ) LedgerFault → Type 0) (tells : ℕ → Type 0) where
     -- What follows a visit: the rest behind it, at a moment that the clock told; from when on a row
     -- is due, as the desk told it then; and how it ended. Or the visit came to a fault, or the desk
     -- couldn't tell what is due.
     abbrev pub Sends : Rest → Result (Option VisitEnd) LedgerFault → Rest → ℕ → Type 0
     Sends old (Ok ended) rest due =
         (x : Visit × Noted) × (now : ℕ) × (found : Result (Option ℕ) LedgerFault)
-        × ComesBack Failing (Ok x)
+        × ComesBack Told (Ok x)
         × tells now
         × IsRestAfter old x.0 x.1 now rest
         × FirstDue found
         × (due_of found ≡ Ok due)
         × (ended ≡ end_of x.0)
     Sends old (Err why) rest due =
-        ComesBack Failing (Err why)
+        ComesBack Told (Err why)
         ⊎ ((x : Visit × Noted) × (found : Result (Option ℕ) LedgerFault)
-        × ComesBack Failing (Ok x)
+        × ComesBack Told (Ok x)
         × FirstDue found
         × (due_of found ≡ Err why))
 

@@ -1,11 +1,10 @@
 //! The one who sends to a hop.
-ghost use Rattle.std.specs.Prelude.{◌≡◌, ◌⊎◌, ◌↔◌, ℕ, Bool, IfOk, IsTrue, List, Option, Result};
+ghost use Rattle.std.specs.Prelude.{◌≡◌, ◌↔◌, ℕ, Bool, IfOk, IsTrue, List, Option, Result};
 ghost use Rattle.std.specs.Prelude.{max, true};
 ghost use Rattle.dr_ledger.specs.declared.fault.LedgerFault.{LedgerFault as Fault};
-ghost use Rattle.dr_ledger.specs.declared.fault.LedgerFault.TheVariants as ledger;
 ghost use Rattle.dr_run_serve.specs.Dues.{due_of};
 ghost use Rattle.dr_run_serve.specs.Rests.{IsNoRest, IsVisited, rest_end};
-ghost use Rattle.dr_run_serve.specs.Sendings.{ComesBack, IsFailing, IsHeeded, Looks, LooksOnce};
+ghost use Rattle.dr_run_serve.specs.Sendings.{ComesBack, IsHeeded, IsTold, Looks, LooksOnce};
 ghost use Rattle.dr_run_serve.specs.Sendings.{Sends, SendsOrRests, TellsDue, VisitsAt, VisitsBy};
 ghost use Rattle.dr_run_serve.specs.Sweeps.{Chain};
 
@@ -128,9 +127,7 @@ fn fault_of<R: Wait, L: Ledger, B: Sharing, C: Clock, G: Log>(
     fault: LedgerFault,
     settled: u64,
 ) -> LedgerFault
-    ensures { (result ≡ fault)
-        ⊎ ((result ≡ ledger.Store)
-        × IsFailing L.site L.book L.bodies L.stands L.failed B.site B.first) }
+    ensures { IsTold L.site L.book L.bodies L.stands L.failed B.site B.first fault result }
 {
     if is_shut(node.rt, node.desk) {
         return LedgerFault::Store;
@@ -152,7 +149,7 @@ fn visit<R: Wait, L: Ledger, B: Sharing, N: Network, C: Clock, G: Log>(
         (VisitsBy L.site L.book L.bodies L.stands L.failed B.site B.first
         (N.connects network.now) N.Socket.hears N.Socket.sends N.Socket.closes
         (C.tells node.now.clock.now) node.now.desk.now.site hop.now.dest hop.now.address)
-        (IsFailing L.site L.book L.bodies L.stands L.failed B.site B.first) result }
+        (IsTold L.site L.book L.bodies L.stands L.failed B.site B.first) result }
 {
     let (visited, noted) = visit_on(node, network, pass, hop);
     match visited {
@@ -177,7 +174,7 @@ fn send<R: Wait, L: Views, B: Sharing, N: Network, C: Clock, G: Log>(
         (N.connects network.now) N.Socket.hears N.Socket.sends N.Socket.closes
         (C.tells node.now.clock.now) node.now.desk.now.site
         sender.old.hop.dest sender.old.hop.address)
-        (IsFailing L.site L.book L.bodies L.stands L.failed B.site B.first)
+        (IsTold L.site L.book L.bodies L.stands L.failed B.site B.first)
         (TellsDue L.site L.book L.bodies L.stands L.failed B.site B.first sender.old.hop.dest)
         (C.tells node.now.clock.now) sender.old.rest result sender.new.rest sender.new.hop.due }
     ensures hop { (sender.new.hop.dest ≡ sender.old.hop.dest)
@@ -209,7 +206,7 @@ fn send_or_rest<R: Wait, L: Views, B: Sharing, N: Network, C: Clock, G: Log>(
         (N.connects network.now) N.Socket.hears N.Socket.sends N.Socket.closes
         (C.tells node.now.clock.now) node.now.desk.now.site
         sender.old.hop.dest sender.old.hop.address)
-        (IsFailing L.site L.book L.bodies L.stands L.failed B.site B.first)
+        (IsTold L.site L.book L.bodies L.stands L.failed B.site B.first)
         (TellsDue L.site L.book L.bodies L.stands L.failed B.site B.first sender.old.hop.dest)
         (C.tells node.now.clock.now) sender.old.rest result sender.new.rest sender.new.hop.due }
     ensures hop { (sender.new.hop.dest ≡ sender.old.hop.dest)
@@ -300,7 +297,7 @@ fn look<R: Wait, L: Views, B: Sharing, N: Network, C: Clock, G: Log>(
         (N.connects network.now) N.Socket.hears N.Socket.sends N.Socket.closes
         (C.tells node.now.clock.now) node.now.desk.now.site
         sender.old.hop.dest sender.old.hop.address)
-        (IsFailing L.site L.book L.bodies L.stands L.failed B.site B.first)
+        (IsTold L.site L.book L.bodies L.stands L.failed B.site B.first)
         (TellsDue L.site L.book L.bodies L.stands L.failed B.site B.first sender.old.hop.dest)
         (C.tells node.now.clock.now) call.rows call.visit call.over
         (sender.old.rest, sender.old.hop.due) result (sender.new.rest, sender.new.hop.due) }
@@ -332,7 +329,7 @@ pub fn send_rows<R: Wait + time::Clock, L: Views, B: Sharing, N: Network, C: Clo
         (N.connects network.now) N.Socket.hears N.Socket.sends N.Socket.closes
         (C.tells node.now.clock.now) node.now.desk.now.site
         sender.old.hop.dest sender.old.hop.address)
-        (IsFailing L.site L.book L.bodies L.stands L.failed B.site B.first)
+        (IsTold L.site L.book L.bodies L.stands L.failed B.site B.first)
         (TellsDue L.site L.book L.bodies L.stands L.failed B.site B.first sender.old.hop.dest)
         (C.tells node.now.clock.now)) each
         (sender.old.rest, sender.old.hop.due) (sender.new.rest, sender.new.hop.due) }
