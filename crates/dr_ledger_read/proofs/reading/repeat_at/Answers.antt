@@ -1,0 +1,4 @@
+use Rattle.dr_ledger_read.proofs.reading.repeat_at.Goals as goal
+
+pub returns : goal.returns
+returns c = ?
