@@ -145,6 +145,10 @@ module _ (text digits : List ℕ) (opens : text ≡ opened ++ digits) where
   pub digits_are : (s : ℕ) (rest : List ℕ) → IsStatus text s rest → digits ≡ digits_then s rest
   digits_are s rest is = behind_same opened digits (digits_then s rest) (sym opens ∙ is.1 ∙ status_then_is s rest is.0)
 
+-- a digit that was cut off is one
+pub nibble : (text : List ℕ) (n : ℕ) (more : Bor (List ℕ)) → IsCut ℕ ℕ Same (IsNibble text) (n, more) → n < 16
+nibble text n more cut = (found_is ℕ (IsNibble text) n more cut).0
+
 -- a digit that was cut off, and what stood behind it
 pub next_digit : (text : List ℕ) (n : ℕ) (more : Bor (List ℕ)) → IsCut ℕ ℕ Same (IsNibble text) (n, more) → (m : ℕ) (rest : List ℕ) → m < 16 → text ≡ upper m ∷ rest → (n ≡ m) × (more.now ≡ rest)
 next_digit text n more cut m rest small is = let r = cut.each m rest (small, is) in (r.0, sym r.1)

@@ -27,38 +27,69 @@ use Rattle.dr_ledger_read.proofs.Whole.{sealable, sealed_is}
 abbrev pub IsShown : LinePlaces → JournalLine → Type 0
 IsShown places made = (line : JournalLine) → ShowsLine places line → made ≡ line
 
-pub if_ok_map : {T E : Type 0} (r : Result T E) (P Q : T → Type 0) → ((x : T) → P x → Q x) → IfOk r P → IfOk r Q
-if_ok_map (Ok x) P Q f p = f x p
-if_ok_map (Err e) P Q f p = p
-
-pub of_arrival : (caller : Bor Text) (item : ItemPlaces) (to : Bor Text) (keep : Bool) (made : JournalLine)
+of_arrival : (caller : Bor Text) (item : ItemPlaces) (to : Bor Text) (keep : Bool) (made : JournalLine)
     → ((c : Text) (i : Instance) (t : List Text) → Holds caller.now c → ShowsItem item i → HoldsNames to.now t → made ≡ told.Arrival c i t keep) → IsShown (stands.Arrival caller item to keep) made
 of_arrival caller item to keep made h (told.Arrival c i t k) shows = h c i t shows.0 shows.1 shows.2 ∙ ap (λ (b : Bool). told.Arrival c i t b) shows.3
 of_arrival caller item to keep made h line shows = absurd shows
 
-pub of_repeat : (caller : Bor Text) (item : ItemPlaces) (made : JournalLine) → ((c : Text) (i : Instance) → Holds caller.now c → ShowsItem item i → made ≡ told.Repeat c i) → IsShown (stands.Repeat caller item) made
+of_repeat : (caller : Bor Text) (item : ItemPlaces) (made : JournalLine) → ((c : Text) (i : Instance) → Holds caller.now c → ShowsItem item i → made ≡ told.Repeat c i) → IsShown (stands.Repeat caller item) made
 of_repeat caller item made h (told.Repeat c i) shows = h c i shows.0 shows.1
 of_repeat caller item made h line shows = absurd shows
 
-pub of_settling : (uid dest : Bor Text) (came : Outcome) (now : ℕ) (made : JournalLine) → ((u d : Text) → Holds uid.now u → Holds dest.now d → made ≡ told.Settling u d came now) → IsShown (stands.Settling uid dest came now) made
+of_settling : (uid dest : Bor Text) (came : Outcome) (now : ℕ) (made : JournalLine) → ((u d : Text) → Holds uid.now u → Holds dest.now d → made ≡ told.Settling u d came now) → IsShown (stands.Settling uid dest came now) made
 of_settling uid dest came now made h (told.Settling u d o n) shows = h u d shows.0 shows.1 ∙ ap (λ (x : Outcome). told.Settling u d x now) shows.2 ∙ ap (λ (k : ℕ). told.Settling u d o k) shows.3
 of_settling uid dest came now made h line shows = absurd shows
 
-pub of_requeuing : (uid dest : Bor Text) (made : JournalLine) → ((u d : Text) → Holds uid.now u → Holds dest.now d → made ≡ told.Requeuing u d) → IsShown (stands.Requeuing uid dest) made
+of_requeuing : (uid dest : Bor Text) (made : JournalLine) → ((u d : Text) → Holds uid.now u → Holds dest.now d → made ≡ told.Requeuing u d) → IsShown (stands.Requeuing uid dest) made
 of_requeuing uid dest made h (told.Requeuing u d) shows = h u d shows.0 shows.1
 of_requeuing uid dest made h line shows = absurd shows
 
-pub of_dropping : (uid dest : Bor Text) (now : ℕ) (made : JournalLine) → ((u d : Text) → Holds uid.now u → Holds dest.now d → made ≡ told.Dropping u d now) → IsShown (stands.Dropping uid dest now) made
+of_dropping : (uid dest : Bor Text) (now : ℕ) (made : JournalLine) → ((u d : Text) → Holds uid.now u → Holds dest.now d → made ≡ told.Dropping u d now) → IsShown (stands.Dropping uid dest now) made
 of_dropping uid dest now made h (told.Dropping u d n) shows = h u d shows.0 shows.1 ∙ ap (λ (k : ℕ). told.Dropping u d k) shows.2
 of_dropping uid dest now made h line shows = absurd shows
 
-pub of_forgetting : (uid : Bor Text) (made : JournalLine) → ((u : Text) → Holds uid.now u → made ≡ told.Forgetting u) → IsShown (stands.Forgetting uid) made
+of_forgetting : (uid : Bor Text) (made : JournalLine) → ((u : Text) → Holds uid.now u → made ≡ told.Forgetting u) → IsShown (stands.Forgetting uid) made
 of_forgetting uid made h (told.Forgetting u) shows = h u shows
 of_forgetting uid made h line shows = absurd shows
 
-pub of_adoption : IsShown stands.Adoption told.Adoption
+of_adoption : IsShown stands.Adoption told.Adoption
 of_adoption told.Adoption shows = refl
 of_adoption line shows = absurd shows
+
+-- ---- the same of what may lack memory, where the places are known by their case
+
+pub arrival_shown : {E : Type 0} (r : Result JournalLine E) {caller : Bor Text} {item : ItemPlaces} {to : Bor Text} {keep : Bool} (places : LinePlaces) → places ≡ stands.Arrival caller item to keep
+    → IfOk r (λ made. (c : Text) (i : Instance) (t : List Text) → Holds caller.now c → ShowsItem item i → HoldsNames to.now t → made ≡ told.Arrival c i t keep) → IfOk r (IsShown places)
+arrival_shown (Ok made) {caller} {item} {to} {keep} places is h = subst (λ (p : LinePlaces). IsShown p made) (sym is) (of_arrival caller item to keep made h)
+arrival_shown (Err e) places is h = h
+
+pub repeat_shown : {E : Type 0} (r : Result JournalLine E) {caller : Bor Text} {item : ItemPlaces} (places : LinePlaces) → places ≡ stands.Repeat caller item
+    → IfOk r (λ made. (c : Text) (i : Instance) → Holds caller.now c → ShowsItem item i → made ≡ told.Repeat c i) → IfOk r (IsShown places)
+repeat_shown (Ok made) {caller} {item} places is h = subst (λ (p : LinePlaces). IsShown p made) (sym is) (of_repeat caller item made h)
+repeat_shown (Err e) places is h = h
+
+pub settling_shown : {E : Type 0} (r : Result JournalLine E) {uid dest : Bor Text} {came : Outcome} {now : ℕ} (places : LinePlaces) → places ≡ stands.Settling uid dest came now
+    → IfOk r (λ made. (u d : Text) → Holds uid.now u → Holds dest.now d → made ≡ told.Settling u d came now) → IfOk r (IsShown places)
+settling_shown (Ok made) {uid} {dest} {came} {now} places is h = subst (λ (p : LinePlaces). IsShown p made) (sym is) (of_settling uid dest came now made h)
+settling_shown (Err e) places is h = h
+
+pub requeuing_shown : {E : Type 0} (r : Result JournalLine E) {uid dest : Bor Text} (places : LinePlaces) → places ≡ stands.Requeuing uid dest
+    → IfOk r (λ made. (u d : Text) → Holds uid.now u → Holds dest.now d → made ≡ told.Requeuing u d) → IfOk r (IsShown places)
+requeuing_shown (Ok made) {uid} {dest} places is h = subst (λ (p : LinePlaces). IsShown p made) (sym is) (of_requeuing uid dest made h)
+requeuing_shown (Err e) places is h = h
+
+pub dropping_shown : {E : Type 0} (r : Result JournalLine E) {uid dest : Bor Text} {now : ℕ} (places : LinePlaces) → places ≡ stands.Dropping uid dest now
+    → IfOk r (λ made. (u d : Text) → Holds uid.now u → Holds dest.now d → made ≡ told.Dropping u d now) → IfOk r (IsShown places)
+dropping_shown (Ok made) {uid} {dest} {now} places is h = subst (λ (p : LinePlaces). IsShown p made) (sym is) (of_dropping uid dest now made h)
+dropping_shown (Err e) places is h = h
+
+pub forgetting_shown : {E : Type 0} (r : Result JournalLine E) {uid : Bor Text} (places : LinePlaces) → places ≡ stands.Forgetting uid
+    → IfOk r (λ made. (u : Text) → Holds uid.now u → made ≡ told.Forgetting u) → IfOk r (IsShown places)
+forgetting_shown (Ok made) {uid} places is h = subst (λ (p : LinePlaces). IsShown p made) (sym is) (of_forgetting uid made h)
+forgetting_shown (Err e) places is h = h
+
+pub adoption_shown : (places : LinePlaces) → places ≡ stands.Adoption → IsShown places told.Adoption
+adoption_shown places is = subst (λ (p : LinePlaces). IsShown p told.Adoption) (sym is) of_adoption
 
 -- ---- a line with its number and its moment
 

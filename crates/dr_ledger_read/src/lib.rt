@@ -2,7 +2,7 @@
 //!
 //! `read_sealed` reads each text that is written of a line, and no other. All of the text is looked
 //! at before any memory is taken, so that want of memory is answered only of the text of a line.
-#![tactic(none)]
+#![tactic(auto)]
 
 mod digest;
 mod item;

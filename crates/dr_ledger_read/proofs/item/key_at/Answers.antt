@@ -1,10 +1,14 @@
+use Rattle.std.proofs.Common.{refl}
+use Rattle.dr_ledger_read.proofs.Instances.{same_key}
 use Rattle.dr_ledger_read.proofs.item.key_at.Goals as goal
 
 pub same-class : goal.same-class
-same-class c = ?
+same-class c = refl
 
 pub same-modality : goal.same-modality
-same-modality c = ?
+same-modality c = refl
 
 pub returns : goal.returns
-returns c = ?
+returns c = λ key shows.
+    same_key c.in_ok-class.class c.in_ok-modality.modality c.in_ok-station.station c.args.places.now key
+    (c.in_ok-class.ensures key.class shows.class) (c.in_ok-modality.ensures key.modality shows.modality) (c.in_ok-station.ensures key.station shows.station) shows.syntax

@@ -1,4 +1,4 @@
-use Rattle.std.proofs.Common.{refl, sym, ◌∙◌}
+use Rattle.std.proofs.Common.{arith, refl, sym, ◌∙◌}
 use Rattle.std.proofs.lemmas.Bool.{false≢true}
 use Rattle.dr_ledger_read.proofs.Bytes.{escaped_cut, no_back, no_front, no_high, no_low, not_escaped}
 use Rattle.dr_ledger_read.proofs.quoted.cut_escaped.Goals as goal
@@ -22,6 +22,12 @@ returns-in_err-back c =
     rw c.from_residual-in_err-back.ensures
     (no_back c.args.text.now c.args.digits.now c.requires c.in_ok-high.high.now c.in_ok-low.low.now c.in_ok-high.behind.now c.in_ok-low.rest.now c.in_ok-high.ensures.cases.0 c.in_ok-low.ensures.cases.0
     c.in_err-back.ensures)
+
+pub overflow_mul-byte : goal.overflow_mul-byte
+overflow_mul-byte c = omega (arith, c.in_ok-front.ensures.0)
+
+pub overflow_add-byte : goal.overflow_add-byte
+overflow_add-byte c = omega (arith, c.in_ok-front.ensures.0, c.in_ok-back.ensures.0)
 
 pub returns-then-not-has_digits : goal.returns-then-not-has_digits
 returns-then-not-has_digits c =
