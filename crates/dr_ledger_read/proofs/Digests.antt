@@ -109,7 +109,7 @@ module _ (text behind : List ℕ) (opens : text ≡ opened ++ behind) where
       is = (
         found.0,
         opens ∙ ap (λ (l : List ℕ). opened ++ l) (cut.0 ∙ ap (λ (l : List ℕ). digits ++ l) closes ∙ ap (λ (l : List ℕ). l ++ 34 ∷ rest.now) (sym found.1))
-        ∙ sym (digest_then_is digest rest.now found.0.bytes),
+            ∙ sym (digest_then_is digest rest.now found.0.bytes),
       );
       each = λ other last is. (
         one_digest digest other found.0 is.0 (found.1 ∙ (halves other last is).0),

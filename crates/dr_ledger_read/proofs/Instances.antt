@@ -8,7 +8,7 @@ use Rattle.dr_ledger.specs.declared.item.Instance.{Instance}
 use Rattle.dr_ledger_text.specs.Members.{number, word}
 use Rattle.dr_ledger_read.specs.Behind.{digest_then, item_then, key_then}
 use Rattle.dr_ledger_read.specs.Cutting.{HasNone, IsCut, Same}
-use Rattle.dr_ledger_read.specs.Pieces.{Holds, IsCount, IsWord, Stops}
+use Rattle.dr_ledger_read.specs.Pieces.{Holds, IsCount, IsWord, EndsDigits}
 use Rattle.dr_ledger_read.specs.Places.{IsDigest, IsItem, IsKey, IsSyntax, ShowsItem, ShowsKey}
 use Rattle.dr_ledger_read.specs.declared.places.ItemPlaces.{ItemPlaces}
 use Rattle.dr_ledger_read.specs.declared.places.KeyPlaces.{KeyPlaces}
@@ -59,7 +59,7 @@ module _ (text : Text) (class r1 : Bor Text) (c1 : CutsWord (codes ",\"class\":"
         is = (
           record { class = c1.is.0; modality = c3.is.0; station = c4.is.0 },
           c1.is.1 ∙ ap (λ (l : Text). word (codes "class") c1.value ++ l)
-          (c2.is ∙ ap (λ (l : Text). word (codes "syntax") (syntax_uid c2.value) ++ l) (c3.is.1 ∙ ap (λ (l : Text). word (codes "modality") c3.value ++ l) c4.is.1)),
+              (c2.is ∙ ap (λ (l : Text). word (codes "syntax") (syntax_uid c2.value) ++ l) (c3.is.1 ∙ ap (λ (l : Text). word (codes "modality") c3.value ++ l) c4.is.1)),
         );
         each = λ key rest is.
             let last = c4.each key.station rest (is.0.station, sym (after_modality key rest is).1) in (
@@ -76,7 +76,7 @@ item_2 item x = key_then item.key (number (codes "length") item.size ++ digest_t
 abbrev item_3 : Instance → Text → Text
 item_3 item x = number (codes "length") item.size ++ digest_then item.digest x
 
-pub comma : (x : Text) → get_or x 0 0 ≡ 44 → Stops x
+pub comma : (x : Text) → get_or x 0 0 ≡ 44 → EndsDigits x
 comma x e = record { it = inl (omega (arith, e)) }
 
 pub no_uid : (text : Text) → HasNone (IsWord (codes ",\"uid\":") text) → HasNone (IsItem text)
@@ -113,7 +113,7 @@ module _ (text : Text) (uid r1 : Bor Text) (c1 : CutsWord (codes ",\"uid\":") te
         is = (
           record { uid = c1.is.0; key = c2.is.0; size = c3.is.0; digest = c4.is.0 },
           c1.is.1 ∙ ap (λ (l : Text). word (codes "uid") c1.value ++ l)
-          (c2.is.1 ∙ ap (λ (l : Text). key_then c2.value l) (c3.is.2 ∙ ap (λ (l : Text). number (codes "length") c3.value ++ l) c4.is.1)),
+              (c2.is.1 ∙ ap (λ (l : Text). key_then c2.value l) (c3.is.2 ∙ ap (λ (l : Text). number (codes "length") c3.value ++ l) c4.is.1)),
         );
         each = λ item rest is.
             let last = c4.each item.digest rest (is.0.digest, sym (after_size item rest is).1) in (

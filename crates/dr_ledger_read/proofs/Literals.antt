@@ -7,8 +7,8 @@ use Rattle.dr_ledger_text.proofs.Pieces.{behind_same}
 use Rattle.dr_ledger_read.specs.Behind.{kind_text}
 use Rattle.dr_ledger_read.specs.Cutting.{Cuts, HasNone, IsCut, Same}
 use Rattle.dr_ledger_read.specs.Places.{IsKeep, IsKind, IsSyntax}
-use Rattle.dr_ledger_read.specs.declared.kind.Kind.{Kind}
-use Rattle.dr_ledger_read.specs.declared.kind.Kind.TheVariants as kind
+use Rattle.dr_ledger_read.specs.declared.kind.CallKind.{CallKind}
+use Rattle.dr_ledger_read.specs.declared.kind.CallKind.TheVariants as kind
 
 -- ---- the transfer syntax
 
@@ -46,7 +46,7 @@ no_keep text a b false rest is = b rest is
 abbrev kind_number : List ℕ → ℕ
 kind_number text = get_or text 9 0 * 65536 + get_or text 10 0 * 256 + get_or text 11 0
 
-same_kind : (s t : Kind) (text x y : List ℕ) → IsKind text s x → IsKind text t y → (s ≡ t) × (y ≡ x)
+same_kind : (s t : CallKind) (text x y : List ℕ) → IsKind text s x → IsKind text t y → (s ≡ t) × (y ≡ x)
 same_kind kind.Arrival kind.Arrival text x y e f = (refl, sym (behind_same (kind_text kind.Arrival) x y (sym e ∙ f)))
 same_kind kind.Repeat kind.Repeat text x y e f = (refl, sym (behind_same (kind_text kind.Repeat) x y (sym e ∙ f)))
 same_kind kind.Settling kind.Settling text x y e f = (refl, sym (behind_same (kind_text kind.Settling) x y (sym e ∙ f)))
@@ -56,7 +56,7 @@ same_kind kind.Forgetting kind.Forgetting text x y e f = (refl, sym (behind_same
 same_kind kind.Adoption kind.Adoption text x y e f = (refl, sym (behind_same (kind_text kind.Adoption) x y (sym e ∙ f)))
 same_kind s t text x y e f = absurd (omega (arith, ap kind_number (sym e ∙ f)))
 
-pub kind_cut : (text : List ℕ) (s : Kind) (rest : Bor (List ℕ)) → IsKind text s rest.now → IsCut Kind Kind Same (IsKind text) (s, rest)
+pub kind_cut : (text : List ℕ) (s : CallKind) (rest : Bor (List ℕ)) → IsKind text s rest.now → IsCut CallKind CallKind Same (IsKind text) (s, rest)
 kind_cut text s rest is = record { value = s; is = is; each = λ t y f. same_kind s t text rest.now y is f }
 
 pub no_kind : (text : List ℕ) → ((rest : List ℕ) → IsKind text kind.Arrival rest → ⊥) → ((rest : List ℕ) → IsKind text kind.Repeat rest → ⊥) → ((rest : List ℕ) → IsKind text kind.Settling rest → ⊥)

@@ -1,6 +1,9 @@
 -- A line read at its places.
-use Rattle.std.proofs.Common.{◌≡◌, ◌≢◌, ◌∙◌, ◌<◌, ◌^◌, ◌&&◌, ℕ, Bool, true, List, [], ◌∷◌, ◌++◌, Option, None, Some, Result, Ok, Err, Bor, IfOk, All, refl, sym, ap, subst, arith, length, nat_lt, codes}
+use Rattle.std.proofs.Common.{◌≡◌, ◌≢◌, ◌∙◌, ◌<◌, ◌^◌, ◌&&◌, ℕ, Bool, true, List, [], ◌∷◌, ◌++◌, Option, None, Some, Result, Ok, Err, Bor, IfOk, All, refl, sym, ap, subst, arith, length, nat_lt, codes, decimal}
+use Rattle.std.specs.Fmt.{digits}
+use Rattle.std.specs.Str.Parse.{AllDigits, digits_value}
 use Rattle.std.proofs.lemmas.Bool.{and_parts, ltb-true}
+use Rattle.std.proofs.lemmas.Fmt.{decimal_is_IsNumeral}
 use Rattle.std.proofs.lemmas.List.Elements.{All-cons, All-nil}
 use Rattle.dr_base.specs.Texts.{Text}
 use Rattle.dr_base_quoted.specs.Quoting.{IsByte}
@@ -10,7 +13,8 @@ use Rattle.dr_ledger_history.specs.declared.line.JournalLine.{JournalLine}
 use Rattle.dr_ledger_history.specs.declared.line.JournalLine.TheVariants as told
 use Rattle.dr_ledger_text.specs.Laws.{AreSame, TextsAreOfOneLine, TextsAreOneLine, tried}
 use Rattle.dr_ledger_text.specs.Lines.{sealed_text}
-use Rattle.dr_ledger_read.specs.Behind.{sealed_then}
+use Rattle.dr_ledger_text.proofs.Pieces.{behind_same}
+use Rattle.dr_ledger_read.specs.Behind.{ended, line_then, sealed_then}
 use Rattle.dr_ledger_read.specs.Held.{IsHeldLine}
 use Rattle.dr_ledger_read.specs.Laws.{Gave}
 use Rattle.dr_ledger_read.specs.Pieces.{AreBytes, Holds}
@@ -21,7 +25,9 @@ use Rattle.dr_ledger_read.specs.declared.places.LinePlaces.{LinePlaces}
 use Rattle.dr_ledger_read.specs.declared.places.LinePlaces.TheVariants as stands
 use Rattle.dr_ledger_read.specs.declared.places.SealedPlaces.{SealedPlaces}
 use Rattle.dr_ledger_read.specs.declared.reading.SealedLine.{SealedLine}
-use Rattle.dr_ledger_read.proofs.Whole.{sealable, sealed_is}
+use Rattle.dr_ledger_read.proofs.Counts.{same_digits}
+use Rattle.dr_ledger_read.proofs.Instances.{comma}
+use Rattle.dr_ledger_read.proofs.Whole.{number_there, sealable, sealed_is}
 
 -- what is made at places is each line that they show
 abbrev pub IsShown : LinePlaces → JournalLine → Type 0
@@ -139,3 +145,17 @@ pub never_ended : TextsAreOneLine → IsOfNoLine (codes "{\"line\":9,\"kind\":\"
 never_ended law n line moment is =
     let none : All (λ (byte : ℕ). byte ≢ 10) (codes "{\"line\":9,\"kind\":\"adoption\"}\n") = subst (λ (t : Text). All (λ (byte : ℕ). byte ≢ 10) t) (sym is.is) (law n line moment (sealable _ n line moment is)) in
     none 28 0 (omega arith) refl
+
+-- no number begins with 0
+pub never_padded : IsOfNoLine (codes "{\"line\":09,\"kind\":\"adoption\"}")
+unfolding digits
+never_padded n line moment is =
+    let rest = line_then line (ended moment) in
+    let there = number_there _ n line moment is in
+    let e : codes "09" ++ codes ",\"kind\":\"adoption\"}" ≡ decimal n ++ rest = behind_same (codes "{\"line\":") (codes "09,\"kind\":\"adoption\"}") (decimal n ++ rest) there.2 in
+    let numeral = decimal_is_IsNumeral n is.number in
+    let two : AllDigits 10 (codes "09") = (omega arith, (omega arith, tt)) in
+    let same = (same_digits (codes "09") (decimal n) (codes ",\"kind\":\"adoption\"}") rest two numeral.0.1 (comma (codes ",\"kind\":\"adoption\"}") refl) there.1 e).0 in
+    let nine : n ≡ 9 = sym numeral.1 ∙ ap (digits_value 10) (sym same) in
+    let f : 2 ≡ 1 = ap (λ (t : Text). length t) same ∙ ap (λ (m : ℕ). length (decimal m)) nine in
+    omega (arith, f)

@@ -11,17 +11,17 @@ use Rattle.dr_ledger_text.proofs.Pieces.{behind_same}
 use Rattle.dr_ledger_read.specs.Behind.{goals_then, item_then, kind_of, kind_text, line_then, moment_then, outcome_then, row_then, said_then}
 use Rattle.dr_ledger_read.specs.Cutting.{Cuts, HasNone, IsCut, Same}
 use Rattle.dr_ledger_read.specs.Held.{IsHeldLine}
-use Rattle.dr_ledger_read.specs.Pieces.{AreBytes, Holds, IsCount, IsNames, IsWord, Stops}
-use Rattle.dr_ledger_read.specs.Places.{EndsAt, HoldsNames, IsItem, IsKeep, IsKind, IsLine, IsOutcome, IsRow, IsSaid, ShowsItem, ShowsLine}
-use Rattle.dr_ledger_read.specs.declared.kind.Kind.{Kind}
-use Rattle.dr_ledger_read.specs.declared.kind.Kind.TheVariants as kind
+use Rattle.dr_ledger_read.specs.Pieces.{AreBytes, Holds, IsCount, IsNames, IsWord, EndsDigits}
+use Rattle.dr_ledger_read.specs.Places.{EndsAt, HoldsNames, IsItem, IsKeep, IsKind, IsLineFirst, IsOutcome, IsRow, IsSaid, ShowsItem, ShowsLine}
+use Rattle.dr_ledger_read.specs.declared.kind.CallKind.{CallKind}
+use Rattle.dr_ledger_read.specs.declared.kind.CallKind.TheVariants as kind
 use Rattle.dr_ledger_read.specs.declared.places.ItemPlaces.{ItemPlaces}
 use Rattle.dr_ledger_read.specs.declared.places.LinePlaces.{LinePlaces}
 use Rattle.dr_ledger_read.specs.declared.places.LinePlaces.TheVariants as stands
 use Rattle.dr_ledger_read.proofs.Instances.{CutsWord, comma}
 
 -- a number by which kinds are told apart
-abbrev order_of : Kind → ℕ
+abbrev order_of : CallKind → ℕ
 order_of kind.Arrival = 0
 order_of kind.Repeat = 1
 order_of kind.Settling = 2
@@ -251,14 +251,14 @@ module _ (text : Text) (caller r1 : Bor Text) (c1 : CutsWord (codes ",\"caller\"
 
 -- ---- a line with its kind
 
-pub no_line_kind : (text : Text) → HasNone (IsKind text) → HasNone (IsLine text)
+pub no_line_kind : (text : Text) → HasNone (IsKind text) → HasNone (IsLineFirst text)
 no_line_kind text none line rest is = none (kind_of line) (said_then line rest) is.is
 
-module _ (text : Text) (k : Kind) (behind : Bor Text) (c1 : IsCut Kind Kind Same (IsKind text) (k, behind)) where
-  said_there : (line : JournalLine) (rest : Text) → IsLine text line rest → IsSaid k behind.now line rest
+module _ (text : Text) (k : CallKind) (behind : Bor Text) (c1 : IsCut CallKind CallKind Same (IsKind text) (k, behind)) where
+  said_there : (line : JournalLine) (rest : Text) → IsLineFirst text line rest → IsSaid k behind.now line rest
   said_there line rest is = let r = c1.each (kind_of line) (said_then line rest) is.is in record { of_kind = sym r.0; held = is.held; ends = is.ends; is = sym r.1 }
 
-  pub line_cut : (r : Option (LinePlaces × Bor Text)) → Cuts ShowsLine (IsSaid k behind.now) r → Cuts ShowsLine (IsLine text) r
+  pub line_cut : (r : Option (LinePlaces × Bor Text)) → Cuts ShowsLine (IsSaid k behind.now) r → Cuts ShowsLine (IsLineFirst text) r
   line_cut None none = λ line rest is. none line rest (said_there line rest is)
   line_cut (Some found) cut =
       let same : k ≡ c1.value = (c1.each c1.value behind.now c1.is).0 in record {
@@ -266,7 +266,7 @@ module _ (text : Text) (k : Kind) (behind : Bor Text) (c1 : IsCut Kind Kind Same
         is = record {
           held = cut.is.held;
           ends = cut.is.ends;
-          is = c1.is ∙ ap (λ (j : Kind). kind_text j ++ behind.now) (sym same ∙ sym cut.is.of_kind) ∙ ap (λ (l : Text). kind_text (kind_of cut.value) ++ l) cut.is.is;
+          is = c1.is ∙ ap (λ (j : CallKind). kind_text j ++ behind.now) (sym same ∙ sym cut.is.of_kind) ∙ ap (λ (l : Text). kind_text (kind_of cut.value) ++ l) cut.is.is;
         };
         each = λ line rest is. cut.each line rest (said_there line rest is);
       }

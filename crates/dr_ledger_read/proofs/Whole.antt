@@ -12,11 +12,11 @@ use Rattle.dr_ledger_text.specs.Members.{flag, member, number, word}
 use Rattle.dr_ledger_read.specs.Behind.{brought_then, digest_then, ended, goals_then, item_then, key_then, kind_of, kind_text, line_then, row_then, sealed_then}
 use Rattle.dr_ledger_read.specs.Cutting.{HasNone, IsCut, Same}
 use Rattle.dr_ledger_read.specs.Held.{IsHeldItem, IsHeldLine}
-use Rattle.dr_ledger_read.specs.Pieces.{IsCount, Stops}
-use Rattle.dr_ledger_read.specs.Places.{EndsAt, IsLine, ShowsLine}
+use Rattle.dr_ledger_read.specs.Pieces.{IsCount, EndsDigits}
+use Rattle.dr_ledger_read.specs.Places.{EndsAt, IsLineFirst, ShowsLine}
 use Rattle.dr_ledger_read.specs.Reading.{IsFound, IsOfNoLine, IsTextOf}
-use Rattle.dr_ledger_read.specs.declared.kind.Kind.{Kind}
-use Rattle.dr_ledger_read.specs.declared.kind.Kind.TheVariants as kind
+use Rattle.dr_ledger_read.specs.declared.kind.CallKind.{CallKind}
+use Rattle.dr_ledger_read.specs.declared.kind.CallKind.TheVariants as kind
 use Rattle.dr_ledger_read.specs.declared.places.LinePlaces.{LinePlaces}
 use Rattle.dr_ledger_read.specs.declared.places.SealedPlaces.{SealedPlaces}
 use Rattle.dr_ledger_read.proofs.Between.{found_is}
@@ -84,10 +84,10 @@ sealed_is n line moment =
 
 -- ---- its end
 
-brace_stops : Stops (codes "}")
+brace_stops : EndsDigits (codes "}")
 brace_stops = record { it = inr (omega arith) }
 
-end_stops : (moment : Option ℕ) → Stops (ended moment)
+end_stops : (moment : Option ℕ) → EndsDigits (ended moment)
 end_stops None = brace_stops
 end_stops (Some moment) = comma (ended (Some moment)) refl
 
@@ -115,7 +115,7 @@ module _ (text : Text) (n : ℕ) (rest : Bor Text) (cut : IsCut ℕ ℕ Same (Is
 
 -- ---- all of it
 
-kind_stops : (k : Kind) (x : Text) → Stops (kind_text k ++ x)
+kind_stops : (k : CallKind) (x : Text) → EndsDigits (kind_text k ++ x)
 kind_stops kind.Arrival x = comma (kind_text kind.Arrival ++ x) refl
 kind_stops kind.Repeat x = comma (kind_text kind.Repeat ++ x) refl
 kind_stops kind.Settling x = comma (kind_text kind.Settling ++ x) refl
@@ -124,21 +124,21 @@ kind_stops kind.Dropping x = comma (kind_text kind.Dropping ++ x) refl
 kind_stops kind.Forgetting x = comma (kind_text kind.Forgetting ++ x) refl
 kind_stops kind.Adoption x = comma (kind_text kind.Adoption ++ x) refl
 
-number_there : (text : Text) (n : ℕ) (line : JournalLine) (moment : Option ℕ) → IsTextOf text n line moment → IsCount opened text n (line_then line (ended moment))
+pub number_there : (text : Text) (n : ℕ) (line : JournalLine) (moment : Option ℕ) → IsTextOf text n line moment → IsCount opened text n (line_then line (ended moment))
 number_there text n line moment is = (is.number, kind_stops (kind_of line) _, is.is ∙ sealed_is n line moment)
 
 pub unnumbered : (text : Text) → HasNone (IsCount opened text) → IsOfNoLine text
 unnumbered text none n line moment is = none n (line_then line (ended moment)) (number_there text n line moment is)
 
 module _ (text : Text) (number : ℕ) (r1 : Bor Text) (c1 : IsCut ℕ ℕ Same (IsCount opened text) (number, r1)) where
-  line_there : (n : ℕ) (line : JournalLine) (moment : Option ℕ) → IsTextOf text n line moment → IsLine r1.now line (ended moment)
+  line_there : (n : ℕ) (line : JournalLine) (moment : Option ℕ) → IsTextOf text n line moment → IsLineFirst r1.now line (ended moment)
   line_there n line moment is =
       record { held = is.held; ends = ends_well line moment; is = sym (c1.each n (line_then line (ended moment)) (number_there text n line moment is)).1 }
 
-  pub no_line : HasNone (IsLine r1.now) → IsOfNoLine text
+  pub no_line : HasNone (IsLineFirst r1.now) → IsOfNoLine text
   no_line none n line moment is = none line (ended moment) (line_there n line moment is)
 
-  module _ (places : LinePlaces) (r2 : Bor Text) (c2 : IsCut LinePlaces JournalLine ShowsLine (IsLine r1.now) (places, r2)) where
+  module _ (places : LinePlaces) (r2 : Bor Text) (c2 : IsCut LinePlaces JournalLine ShowsLine (IsLineFirst r1.now) (places, r2)) where
     pub no_moment : NoEnd r2.now → IsOfNoLine text
     no_moment none n line moment is = none moment is.written (sym (c2.each line (ended moment) (line_there n line moment is)).1)
 

@@ -10,8 +10,8 @@ use Rattle.dr_ledger_history.specs.declared.line.JournalLine.{JournalLine}
 use Rattle.dr_ledger_history.specs.declared.line.JournalLine.TheVariants as told
 use Rattle.dr_ledger_text.specs.Lines.{kind_part, moment_part, names_text, outcome_text}
 use Rattle.dr_ledger_text.specs.Members.{flag, number, word}
-use Rattle.dr_ledger_read.specs.declared.kind.Kind.{Kind}
-use Rattle.dr_ledger_read.specs.declared.kind.Kind.TheVariants as kind
+use Rattle.dr_ledger_read.specs.declared.kind.CallKind.{CallKind}
+use Rattle.dr_ledger_read.specs.declared.kind.CallKind.TheVariants as kind
 
 abbrev pub key_then : Key → Text → Text
 key_then key x =
@@ -42,7 +42,7 @@ abbrev pub moment_then : ℕ → Text → Text
 moment_then now x = number (codes "moment") now ++ x
 
 -- which call a line is of
-abbrev pub kind_of : JournalLine → Kind
+abbrev pub kind_of : JournalLine → CallKind
 kind_of (told.Arrival caller item to keep) = kind.Arrival
 kind_of (told.Repeat caller item) = kind.Repeat
 kind_of (told.Settling uid dest outcome now) = kind.Settling
@@ -51,7 +51,7 @@ kind_of (told.Dropping uid dest now) = kind.Dropping
 kind_of (told.Forgetting uid) = kind.Forgetting
 kind_of told.Adoption = kind.Adoption
 
-abbrev pub kind_text : Kind → Text
+abbrev pub kind_text : CallKind → Text
 kind_text kind.Arrival = kind_part (codes "arrival")
 kind_text kind.Repeat = kind_part (codes "repeat")
 kind_text kind.Settling = kind_part (codes "settling")

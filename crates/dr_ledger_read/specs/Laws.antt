@@ -1,5 +1,5 @@
 -- Laws of reading a sealed line.
-use Rattle.std.specs.Prelude.{◌≡◌, ℕ, ◌⊎◌, ◌∷◌, [], ◌++◌, Option, None, Some, Result, Ok, Err, codes}
+use Rattle.std.specs.Prelude.{◌≡◌, ℕ, [], ◌++◌, Option, None, Some, Result, Ok, Err, codes}
 use Rattle.dr_base.specs.Texts.{Text}
 use Rattle.dr_ledger_history.specs.declared.line.JournalLine.{JournalLine}
 use Rattle.dr_ledger_history.specs.declared.line.JournalLine.TheVariants as told
@@ -29,7 +29,8 @@ WhatIsWrittenIsRead E =
     → Reads (sealed_text line.number line.line line.moment) answer
     → Gave line answer
 
--- figures: texts of a line, and texts of none: no byte, and a line with what ends it
+-- figures: texts of a line, and texts of none: no byte, a line with what ends it, and a number that
+-- begins with 0
 abbrev pub some_text : Text
 some_text =
     codes "{\"line\":7,\"kind\":\"settling\",\"uid\":\"1.2\",\"dest\":\"ARCH\","
@@ -41,3 +42,4 @@ ReadingFiguresAreRight =
     × IsTextOf (codes "{\"line\":9,\"kind\":\"adoption\"}") 9 told.Adoption None
     × IsOfNoLine []
     × IsOfNoLine (codes "{\"line\":9,\"kind\":\"adoption\"}\n")
+    × IsOfNoLine (codes "{\"line\":09,\"kind\":\"adoption\"}")

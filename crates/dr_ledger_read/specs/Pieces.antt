@@ -1,5 +1,6 @@
 -- Pieces of a line's text: bytes and texts in quotes, numbers, and names.
-use Rattle.std.specs.Prelude.{◌≡◌, ℕ, ◌<◌, ◌^◌, ◌⊎◌, List, ◌∷◌, ◌++◌, length, All, decimal, flat_map, slice_index}
+use Rattle.std.specs.Prelude.{◌≡◌, ℕ, ◌<◌, ◌^◌, ◌⊎◌, List, ◌∷◌, ◌++◌, All, decimal, flat_map}
+use Rattle.std.specs.Prelude.{slice_index}
 use Rattle.dr_base.specs.Texts.{Text}
 use Rattle.dr_base_quoted.specs.Quoting.{IsByte, hex_escape, quoted, quoted_byte}
 use Rattle.dr_ledger_text.specs.Lines.{further_name, names_text}
@@ -30,17 +31,17 @@ abbrev pub Holds : Text → Text → Type 0
 Holds place value =
     (rest : Text) × AreBytes value × (place ≡ flat_map quoted_byte value ++ 34 ∷ rest)
 
--- no digit stands first
-pub record Stops (text : Text) : Type 0 where
+-- no digit stands first: those of a number before it end there
+pub record EndsDigits (text : Text) : Type 0 where
   pub it : (slice_index text 0 < 48) ⊎ (57 < slice_index text 0)
 
 -- the text is a number of 64 bits, and `rest`, which goes on with no digit, is behind it
 abbrev pub IsNumber : Text → ℕ → Text → Type 0
-IsNumber text n rest = (n < 2 ^ 64) × Stops rest × (text ≡ decimal n ++ rest)
+IsNumber text n rest = (n < 2 ^ 64) × EndsDigits rest × (text ≡ decimal n ++ rest)
 
 -- the text is these bytes, such a number, and `rest`
 abbrev pub IsCount : Text → Text → ℕ → Text → Type 0
-IsCount start text n rest = (n < 2 ^ 64) × Stops rest × (text ≡ start ++ (decimal n ++ rest))
+IsCount start text n rest = (n < 2 ^ 64) × EndsDigits rest × (text ≡ start ++ (decimal n ++ rest))
 
 -- the text is names, each behind a comma, a bracket, and `rest`
 abbrev pub IsFurther : Text → List Text → Text → Type 0

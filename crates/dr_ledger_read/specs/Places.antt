@@ -14,10 +14,10 @@ use Rattle.dr_ledger_text.specs.Members.{flag, word}
 use Rattle.dr_ledger_read.specs.Behind.{digest_then, item_then, key_then, kind_of, kind_text}
 use Rattle.dr_ledger_read.specs.Behind.{line_then, outcome_then, row_then, said_then}
 use Rattle.dr_ledger_read.specs.Held.{IsHeldDigest, IsHeldItem, IsHeldKey, IsHeldLine}
-use Rattle.dr_ledger_read.specs.Pieces.{AreBytes, Holds, IsNames, Stops}
+use Rattle.dr_ledger_read.specs.Pieces.{AreBytes, Holds, IsNames, EndsDigits}
 use Rattle.dr_ledger_read.specs.declared.places.ItemPlaces.{ItemPlaces}
 use Rattle.dr_ledger_read.specs.declared.places.KeyPlaces.{KeyPlaces}
-use Rattle.dr_ledger_read.specs.declared.kind.Kind.{Kind}
+use Rattle.dr_ledger_read.specs.declared.kind.CallKind.{CallKind}
 use Rattle.dr_ledger_read.specs.declared.places.LinePlaces.{LinePlaces}
 use Rattle.dr_ledger_read.specs.declared.places.LinePlaces.TheVariants as stands
 
@@ -39,7 +39,7 @@ IsStatus text status rest =
 abbrev pub IsOutcome : Text → Outcome → Text → Type 0
 IsOutcome text came rest = FitsOutcome came × (text ≡ outcome_then came rest)
 
-abbrev pub IsKind : Text → Kind → Text → Type 0
+abbrev pub IsKind : Text → CallKind → Text → Type 0
 IsKind text kind rest = text ≡ kind_text kind ++ rest
 
 abbrev pub IsKey : Text → Key → Text → Type 0
@@ -53,18 +53,18 @@ IsRow text row rest = AreBytes row.0 × AreBytes row.1 × (text ≡ row_then row
 
 -- where a line ends in a number, no digit follows
 abbrev pub EndsAt : JournalLine → Text → Type 0
-EndsAt (told.Settling uid dest came now) rest = Stops rest
-EndsAt (told.Dropping uid dest now) rest = Stops rest
+EndsAt (told.Settling uid dest came now) rest = EndsDigits rest
+EndsAt (told.Dropping uid dest now) rest = EndsDigits rest
 EndsAt line rest = Unit {0}
 
 -- what a line of that kind says
-pub record IsSaid (kind : Kind) (text : Text) (line : JournalLine) (rest : Text) : Type 0 where
+pub record IsSaid (kind : CallKind) (text : Text) (line : JournalLine) (rest : Text) : Type 0 where
   pub of_kind : kind_of line ≡ kind
   pub held : IsHeldLine line
   pub ends : EndsAt line rest
   pub is : text ≡ said_then line rest
 
-pub record IsLine (text : Text) (line : JournalLine) (rest : Text) : Type 0 where
+pub record IsLineFirst (text : Text) (line : JournalLine) (rest : Text) : Type 0 where
   pub held : IsHeldLine line
   pub ends : EndsAt line rest
   pub is : text ≡ line_then line rest

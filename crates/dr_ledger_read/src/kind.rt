@@ -6,7 +6,7 @@ use crate::pieces::after;
 
 /// Which call a line is of.
 #[derive(Clone, Copy, PartialEq, Eq, Debug)]
-pub enum Kind {
+pub enum CallKind {
     Arrival,
     Repeat,
     Settling,
@@ -17,27 +17,27 @@ pub enum Kind {
 }
 
 /// The kind at the front of a text.
-pub fn cut_kind(text: &[u8]) -> Option<(Kind, &[u8])>
+pub fn cut_kind(text: &[u8]) -> Option<(CallKind, &[u8])>
     ensures { Cuts Same (IsKind text.now) result }
 {
     if let Some(rest) = after(text, b",\"kind\":\"arrival\"") {
-        return Some((Kind::Arrival, rest));
+        return Some((CallKind::Arrival, rest));
     }
     if let Some(rest) = after(text, b",\"kind\":\"repeat\"") {
-        return Some((Kind::Repeat, rest));
+        return Some((CallKind::Repeat, rest));
     }
     if let Some(rest) = after(text, b",\"kind\":\"settling\"") {
-        return Some((Kind::Settling, rest));
+        return Some((CallKind::Settling, rest));
     }
     if let Some(rest) = after(text, b",\"kind\":\"requeuing\"") {
-        return Some((Kind::Requeuing, rest));
+        return Some((CallKind::Requeuing, rest));
     }
     if let Some(rest) = after(text, b",\"kind\":\"dropping\"") {
-        return Some((Kind::Dropping, rest));
+        return Some((CallKind::Dropping, rest));
     }
     if let Some(rest) = after(text, b",\"kind\":\"forgetting\"") {
-        return Some((Kind::Forgetting, rest));
+        return Some((CallKind::Forgetting, rest));
     }
     let rest = after(text, b",\"kind\":\"adoption\"")?;
-    Some((Kind::Adoption, rest))
+    Some((CallKind::Adoption, rest))
 }

@@ -2,7 +2,7 @@
 ghost use Rattle.dr_ledger_read.specs.Cutting.{Cuts};
 ghost use Rattle.dr_ledger_read.specs.Pieces.{Holds};
 ghost use Rattle.dr_ledger_read.specs.Places.{IsRow, IsSaid, ShowsLine};
-ghost use Rattle.dr_ledger_read.specs.declared.kind.Kind.TheVariants as kind;
+ghost use Rattle.dr_ledger_read.specs.declared.kind.CallKind.TheVariants as kind;
 
 use crate::item::cut_item;
 use crate::members::cut_keep;

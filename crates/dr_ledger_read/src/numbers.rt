@@ -2,7 +2,7 @@
 ghost use Rattle.std.specs.Prelude.{◌≤◌, length, take, drop};
 ghost use Rattle.std.specs.Str.Parse.{AllDigits};
 ghost use Rattle.dr_ledger_read.specs.Cutting.{Cuts, Same};
-ghost use Rattle.dr_ledger_read.specs.Pieces.{IsCount, IsNumber, Stops};
+ghost use Rattle.dr_ledger_read.specs.Pieces.{IsCount, IsNumber, EndsDigits};
 
 use crate::pieces::after;
 use dr_base::fields::read_number;
@@ -11,7 +11,7 @@ use dr_base::fields::read_number;
 fn count_digits(text: &[u8]) -> usize
     ensures within { result ≤ length text.now }
     ensures digits { AllDigits 10 (take result text.now) }
-    ensures stops { Stops (drop result text.now) }
+    ensures stops { EndsDigits (drop result text.now) }
 {
     let mut count = 0;
     for byte in text {

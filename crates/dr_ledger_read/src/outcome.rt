@@ -9,7 +9,8 @@ use dr_ledger::Outcome;
 
 /// The number below sixteen of a digit, 0 to 9 or A to F, and what follows the digit.
 fn cut_nibble(text: &[u8]) -> Option<(u16, &[u8])>
-    ensures { Cuts Same (λ n rest. (n < 16) × (text.now ≡ slice_index upper_digits n ∷ rest)) result }
+    ensures { Cuts Same (λ n rest.
+        (n < 16) × (text.now ≡ slice_index upper_digits n ∷ rest)) result }
 {
     let (digit, rest) = text.split_first()?;
     if *digit < b'0' {

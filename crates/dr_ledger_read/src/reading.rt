@@ -48,11 +48,7 @@ fn arrival_at(
     })
 }
 
-fn repeat_at(
-    alloc: Global,
-    caller: &[u8],
-    item: &ItemPlaces<'_>,
-) -> Result<JournalLine, AllocError>
+fn repeat_at(alloc: Global, caller: &[u8], item: &ItemPlaces<'_>) -> Result<JournalLine, AllocError>
     ensures { IfOk result (λ made. (c : TextValue) (i : InstanceValue)
         → Holds caller.now c → ShowsItem item.now i → made ≡ told.Repeat c i) }
 {

@@ -3,28 +3,29 @@ ghost use Rattle.std.specs.Prelude.{◌≡◌, ◌↔◌, ℕ, Option as OptionV
 ghost use Rattle.dr_ledger_text.specs.Laws.{FitsMoment};
 ghost use Rattle.dr_ledger_read.specs.Behind.{ended};
 ghost use Rattle.dr_ledger_read.specs.Cutting.{Cuts};
-ghost use Rattle.dr_ledger_read.specs.Places.{IsLine, ShowsLine};
+ghost use Rattle.dr_ledger_read.specs.Places.{IsLineFirst, ShowsLine};
 ghost use Rattle.dr_ledger_read.specs.Reading.{IsFound, IsOfNoLine};
 
-use crate::kind::{Kind, cut_kind};
-use crate::line::{cut_arrival, cut_dropping, cut_forgetting};
-use crate::line::{cut_repeat, cut_requeuing, cut_settling};
+use crate::kind::{CallKind, cut_kind};
+use crate::line::{
+    cut_arrival, cut_dropping, cut_forgetting, cut_repeat, cut_requeuing, cut_settling,
+};
 use crate::numbers::cut_count;
 use crate::places::{LinePlaces, SealedPlaces};
 
 /// A line at the front of a text.
 fn cut_line(text: &[u8]) -> Option<(LinePlaces<'_>, &[u8])>
-    ensures { Cuts ShowsLine (IsLine text.now) result }
+    ensures { Cuts ShowsLine (IsLineFirst text.now) result }
 {
     let (kind, behind) = cut_kind(text)?;
     match kind {
-        Kind::Arrival => cut_arrival(behind),
-        Kind::Repeat => cut_repeat(behind),
-        Kind::Settling => cut_settling(behind),
-        Kind::Requeuing => cut_requeuing(behind),
-        Kind::Dropping => cut_dropping(behind),
-        Kind::Forgetting => cut_forgetting(behind),
-        Kind::Adoption => Some((LinePlaces::Adoption, behind)),
+        CallKind::Arrival => cut_arrival(behind),
+        CallKind::Repeat => cut_repeat(behind),
+        CallKind::Settling => cut_settling(behind),
+        CallKind::Requeuing => cut_requeuing(behind),
+        CallKind::Dropping => cut_dropping(behind),
+        CallKind::Forgetting => cut_forgetting(behind),
+        CallKind::Adoption => Some((LinePlaces::Adoption, behind)),
     }
 }
 

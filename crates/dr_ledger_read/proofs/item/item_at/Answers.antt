@@ -1,9 +1,5 @@
-use Rattle.std.proofs.Common.{refl}
 use Rattle.dr_ledger_read.proofs.Instances.{same_item}
 use Rattle.dr_ledger_read.proofs.item.item_at.Goals as goal
-
-pub same-uid : goal.same-uid
-same-uid c = refl
 
 pub returns : goal.returns
 returns c = λ item shows.

@@ -1,12 +1,5 @@
-use Rattle.std.proofs.Common.{refl}
 use Rattle.dr_ledger_read.proofs.Instances.{same_key}
 use Rattle.dr_ledger_read.proofs.item.key_at.Goals as goal
-
-pub same-class : goal.same-class
-same-class c = refl
-
-pub same-modality : goal.same-modality
-same-modality c = refl
 
 pub returns : goal.returns
 returns c = λ key shows.

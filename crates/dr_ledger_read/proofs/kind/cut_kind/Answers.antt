@@ -1,4 +1,4 @@
-use Rattle.dr_ledger_read.specs.declared.kind.Kind.TheVariants as kind
+use Rattle.dr_ledger_read.specs.declared.kind.CallKind.TheVariants as kind
 use Rattle.dr_ledger_read.proofs.Literals.{kind_cut, no_kind}
 use Rattle.dr_ledger_read.proofs.kind.cut_kind.Goals as goal
 

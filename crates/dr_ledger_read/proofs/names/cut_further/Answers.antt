@@ -1,4 +1,4 @@
-use Rattle.std.proofs.Common.{◌<◌, ◌++◌, ◌∷◌, [], ℕ, List, ap, arith, length, refl}
+use Rattle.std.proofs.Common.{◌++◌, ◌∷◌, [], ℕ, List, ap, arith, length, refl}
 use Rattle.std.proofs.lemmas.List.Elements.{All-nil, All-push}
 use Rattle.dr_ledger_read.specs.Pieces.{AreBytes}
 use Rattle.dr_ledger_read.proofs.Listed.{behind_name, further_cut, no_further, one_name_more, unbracketed}

@@ -1,4 +1,4 @@
-use Rattle.std.proofs.Common.{◌∙◌, ◌<◌, arith}
+use Rattle.std.proofs.Common.{◌∙◌, arith}
 use Rattle.dr_ledger_read.proofs.Outcomes.{digits_are, digits_then, nibble, no_b, no_c, no_d, status_cut, status_then_is, unended}
 use Rattle.dr_ledger_read.proofs.outcome.cut_status.Goals as goal
 

@@ -1,15 +1,15 @@
 use Rattle.std.proofs.Common.{Bor, List, Some, subst, ℕ}
 use Rattle.dr_ledger_read.specs.Cutting.{IsCut, Same}
 use Rattle.dr_ledger_read.specs.Places.{IsKind}
-use Rattle.dr_ledger_read.specs.declared.kind.Kind.{Kind}
-use Rattle.dr_ledger_read.specs.declared.kind.Kind.TheVariants as kind
+use Rattle.dr_ledger_read.specs.declared.kind.CallKind.{CallKind}
+use Rattle.dr_ledger_read.specs.declared.kind.CallKind.TheVariants as kind
 use Rattle.dr_ledger_read.specs.declared.places.LinePlaces.TheVariants as stands
 use Rattle.dr_ledger_read.proofs.Said.{adoption_cut, line_cut, no_line_kind}
 use Rattle.dr_ledger_read.proofs.sealed.cut_line.Goals as goal
 
 -- that kind was cut off
-abbrev IsFound : List ℕ → Bor (List ℕ) → Kind → Type 0
-IsFound text behind k = IsCut Kind Kind Same (IsKind text) (k, behind)
+abbrev IsFound : List ℕ → Bor (List ℕ) → CallKind → Type 0
+IsFound text behind k = IsCut CallKind CallKind Same (IsKind text) (k, behind)
 
 pub returns-in_err-kind : goal.returns-in_err-kind
 returns-in_err-kind c = rw c.from_residual.ensures (no_line_kind c.args.text.now c.in_err-kind.ensures)
