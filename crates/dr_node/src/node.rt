@@ -159,4 +159,11 @@ impl<L: Ledger> Node<Refusing<L>> {
     {
         self.desk.ledger.refuse_next();
     }
+
+    /// Whether the ledger's store is to refuse the next line.
+    pub fn is_to_refuse(&self) -> bool
+        ensures { result ≡ self.now.desk.ledger.refusals.is_due }
+    {
+        self.desk.ledger.refusals().is_due
+    }
 }

@@ -1,5 +1,5 @@
 -- Why a ledger in a database isn't opened, and what one that is has in its file.
-use Rattle.std.specs.Prelude.{ℕ}
+use Rattle.std.specs.Prelude.{◌≡◌, ◌<◌, ◌↔◌, ℕ, Bool, IsTrue, Option, None, Some, Result, Ok, Err}
 use Rattle.sqlite.specs.State.{State, HasCleanDisk}
 use Rattle.sqlite.specs.declared.error.Error.{Error}
 use Rattle.sqlite.specs.declared.error.Error.TheVariants.{SqliteFailure}
@@ -42,6 +42,26 @@ fault_of_data beside.IsThere = unopened.DataIsThere
 fault_of_data beside.InUse = unopened.InUse
 fault_of_data beside.Store = unopened.Store
 fault_of_data beside.Memory = unopened.Memory
+
+-- a file is there that has more than the head of one for data sets
+abbrev pub HasMore : Option ℕ → Type 0
+HasMore None = ⊥
+HasMore (Some size) = 4096 < size
+
+-- Why a new ledger with a file of data sets isn't made, by what was found where that would be: the
+-- size of a file, if one is there, or why that can't be told.
+abbrev pub IsRefusedBy : Result (Option ℕ) DataFileFault → Option OpenFault → Type 0
+IsRefusedBy (Ok size) None = HasMore size → ⊥
+IsRefusedBy (Ok size) (Some fault) = HasMore size × (fault ≡ unopened.DataIsThere)
+IsRefusedBy (Err why) None = ⊥
+IsRefusedBy (Err why) (Some fault) = fault ≡ fault_of_data why
+
+-- it is told by what was found whether such a file is there, or why that can't be told
+abbrev pub IsToldBy : Result (Option ℕ) DataFileFault → Result Bool OpenFault → Type 0
+IsToldBy (Ok size) (Ok told) = IsTrue told ↔ HasMore size
+IsToldBy (Ok size) (Err fault) = ⊥
+IsToldBy (Err why) (Ok told) = ⊥
+IsToldBy (Err why) (Err fault) = fault ≡ fault_of_data why
 
 -- where a new ledger has its data sets: in its tables, but where it is asked for with a file of
 -- them

@@ -1,9 +1,13 @@
 //! The system's files as databases, and ledgers in databases.
-ghost use Rattle.std.specs.Prelude.{◌≡◌, ◌<◌, ◌↔◌, IfOk, IsTrue, false};
+ghost use Rattle.std.specs.Prelude.{◌≡◌, ◌≢◌, ◌<◌, ◌↔◌, ℕ, IfOk, IsTrue, None, Ok, Option};
+ghost use Rattle.std.specs.Prelude.{Result, false};
 ghost use Rattle.sqlite.specs.Held.{state};
 ghost use Rattle.dr_word_rehearse.specs.Looks.{IsFoundBy};
 ghost use Rattle.dr_router.specs.Opening.{HasLedgerIn, fault_of_database, fault_of_opening};
+ghost use Rattle.dr_router.specs.Opening.{HasMore, IsRefusedBy, IsToldBy};
 ghost use Rattle.dr_router.specs.Opening.{fault_of_data, keeping_of};
+ghost use Rattle.dr_run_open.specs.declared.ledgers.Making.TheVariants as wanted;
+ghost use Rattle.dr_store_data.specs.declared.fault.DataFileFault.{DataFileFault as DataFault};
 ghost use Rattle.sqlite.specs.State.{HasCleanDisk};
 ghost use Rattle.dr_store_calls.specs.Calling.{IsKept};
 ghost use Rattle.dr_store_open.specs.Opening.{IsBlank};
@@ -35,16 +39,22 @@ use std::{fs, io};
 
 /// Where databases are opened by a path, and beside each the file of its data sets.
 pub trait Databases {
+    ghost use Rattle.std.specs.Prelude.{ℕ, List, Option};
+
     type Store: Alter + Drop;
+
+    // A file of so many bytes may lie where that of a database's data sets would be, or none.
+    ghost shows_size: { Self → List ℕ → Option ℕ → Type 0 };
 
     fn open_database(&self, path: &str) -> Result<Connection<Self::Store>, Error>
         ensures { IfOk result (λ conn. conn.in_transaction ≡ false) };
 
-    /// Whether one that may hold data sets lies where one would be made for a database of that
-    /// path, which isn't there yet.
+    /// How many bytes the file has that lies where the one for data sets would be made for a
+    /// database of that path, which isn't there yet; None where none lies there.
     ///
     /// Errors: Store, Memory.
-    fn has_data(&self, alloc: Global, path: &str) -> Result<bool, DataFileFault>;
+    fn data_size(&self, alloc: Global, path: &str) -> Result<Option<u64>, DataFileFault>
+        ensures { IfOk result (shows_size self.now path.now) };
 
     /// The file of the data sets of the database with that path, which is open. None is made.
     ///
@@ -75,6 +85,16 @@ fn is_beyond_head(length: u64) -> bool
     length > HEAD_SIZE as u64
 }
 
+/// Whether a file is there that has some.
+fn has_more(size: Option<u64>) -> bool
+    ensures { IsTrue result ↔ HasMore size }
+{
+    match size {
+        Some(length) => is_beyond_head(length),
+        None => false,
+    }
+}
+
 /// The system's files.
 #[derive(Drop)]
 pub struct SystemFiles<'a>(pub &'a HostRuntime);
@@ -82,17 +102,16 @@ pub struct SystemFiles<'a>(pub &'a HostRuntime);
 impl<'a> Databases for SystemFiles<'a> {
     type Store = FileStore<File>;
 
+    ghost shows_size = { λ files path size. Unit {0} };
+
     /// A file that isn't there is made.
     fn open_database(&self, path: &str) -> Result<Connection<FileStore<File>>, Error> {
         Connection::open(self.0, path)
     }
 
-    fn has_data(&self, alloc: Global, path: &str) -> Result<bool, DataFileFault> {
+    fn data_size(&self, alloc: Global, path: &str) -> Result<Option<u64>, DataFileFault> {
         let path = data_name(alloc, path)?;
-        match data_length(self.0, path.as_str())? {
-            Some(length) => Ok(is_beyond_head(length)),
-            None => Ok(false),
-        }
+        data_length(self.0, path.as_str())
     }
 
     fn open_data(&self, alloc: Global, path: &str) -> Result<File, DataFileFault> {
@@ -105,10 +124,10 @@ impl<'a> Databases for SystemFiles<'a> {
 
     fn make_data(&self, alloc: Global, path: &str) -> Result<File, DataFileFault> {
         let path = data_path(self.0, alloc, path)?;
-        match data_length(self.0, path.as_str())? {
-            Some(length) if is_beyond_head(length) => Err(DataFileFault::IsThere),
-            _ => file_of(self.0, path.as_str()),
+        if has_more(data_length(self.0, path.as_str())?) {
+            return Err(DataFileFault::IsThere);
         }
+        file_of(self.0, path.as_str())
     }
 
     fn draw_mark(&self) -> Result<DataMark, DataFileFault> {
@@ -238,21 +257,56 @@ fn data_fault(fault: DataFileFault) -> OpenFault
     }
 }
 
-/// Why a ledger isn't made as it is wanted, before its database is: a file of data sets is where
-/// its own is to be.
+/// Why a ledger with a data file isn't made where a file of that size is already, or none.
+fn refusal_by_size(size: Option<u64>) -> Option<OpenFault>
+    ensures { IsRefusedBy (Ok size) result }
+{
+    if has_more(size) {
+        return Some(OpenFault::DataIsThere);
+    }
+    None
+}
+
+/// The same, where that was looked for.
+fn refusal_by(found: Result<Option<u64>, DataFileFault>) -> Option<OpenFault>
+    ensures { IsRefusedBy found result }
+{
+    match found {
+        Ok(size) => refusal_by_size(size),
+        Err(fault) => Some(data_fault(fault)),
+    }
+}
+
+/// Why a ledger isn't made as it is wanted, before its database is: a file that holds data sets, or
+/// may, is where its own is to be. It is looked for only where the ledger is to have one.
 fn data_refusal<D: Databases>(
     alloc: Global,
     databases: &D,
     path: &str,
     making: Making,
-) -> Option<OpenFault> {
-    if making != Making::WantedWithData {
-        return None;
+) -> Option<OpenFault>
+    ensures other { making ≢ wanted.WantedWithData → result ≡ None }
+    ensures with_data { making ≡ wanted.WantedWithData → (found : Result (Option ℕ) DataFault)
+        × IfOk found (D.Databases.shows_size databases.now path.now)
+        × IsRefusedBy found result }
+{
+    match making {
+        Making::WantedWithData => refusal_by(databases.data_size(alloc, path)),
+        Making::Allowed => None,
+        Making::Never => None,
+        Making::Wanted => None,
     }
-    match databases.has_data(alloc, path) {
-        Ok(false) => None,
-        Ok(true) => Some(OpenFault::DataIsThere),
-        Err(fault) => Some(data_fault(fault)),
+}
+
+/// Whether a file that holds data sets lies beside the database with that path.
+fn has_file<D: Databases>(alloc: Global, databases: &D, path: &str) -> Result<bool, OpenFault>
+    ensures { (found : Result (Option ℕ) DataFault)
+        × IfOk found (D.Databases.shows_size databases.now path.now)
+        × IsToldBy found result }
+{
+    match databases.data_size(alloc, path) {
+        Ok(size) => Ok(has_more(size)),
+        Err(fault) => Err(data_fault(fault)),
     }
 }
 
@@ -344,10 +398,8 @@ fn test_data<D: Databases>(
     path: &str,
     site: &Site,
 ) -> Result<(), OpenFault> {
-    match databases.has_data(alloc, path) {
-        Ok(true) => {}
-        Ok(false) => return Ok(()),
-        Err(fault) => return Err(data_fault(fault)),
+    if !has_file(alloc, databases, path)? {
+        return Ok(());
     }
     let Ok(site) = site.copy() else {
         return Err(OpenFault::Memory);

@@ -1,6 +1,13 @@
 //! What of a ledger's data sets is read as it is opened.
+ghost use Rattle.std.specs.Prelude.{◌≡◌, ◌↔◌, IsTrue, codes};
+ghost use Rattle.sqlite.specs.Held.{state};
+ghost use Rattle.dr_store_calls.specs.Calling.{IsSafe};
+ghost use Rattle.dr_store_shelf.specs.Either.{IsCleanOn, read_on};
+ghost use Rattle.dr_router.specs.Looking.{IsAudit, IsReadAs, fault_of_reading};
+ghost use Rattle.dr_router.specs.declared.looking.Looking.TheVariants.{AtAll};
+
 use crate::shelf::FileShelf;
-use dr_ledger::{Ledger, LedgerFault};
+use dr_ledger::LedgerFault;
 use dr_run_open::OpenFault;
 use dr_store::SqlLedger;
 use sqlite::Alter;
@@ -14,68 +21,51 @@ pub enum Looking {
     AtAll,
 }
 
+/// Whether a word of the command line asks for an audit.
+fn is_audit(word: &str) -> bool
+    ensures { IsTrue result ↔ (word.now ≡ codes "audit") }
+{
+    word.as_bytes() == b"audit".as_slice()
+}
+
 impl Looking {
     /// What these words of the command line read: an audit reads all, so that someone does who asks
     /// for it, and no other word does, since that would take as long as there are images.
-    pub fn of(words: &[&str]) -> Looking {
-        match words.first() {
-            Some(word) if word.as_bytes() == b"audit".as_slice() => Looking::AtAll,
-            _ => Looking::AtTables,
+    pub fn of(words: &[&str]) -> Looking
+        ensures { (result ≡ AtAll) ↔ IsAudit words.now }
+    {
+        let [word, ..] = words else {
+            return Looking::AtTables;
+        };
+        if is_audit(word) {
+            return Looking::AtAll;
         }
+        Looking::AtTables
     }
-}
-
-/// Whether the data set of each kept instance can be read.
-///
-/// Errors: Store, Memory.
-fn kept_can_be_read<S: Alter>(ledger: &mut SqlLedger<S, FileShelf>) -> Result<bool, LedgerFault> {
-    let kept = ledger.kept()?;
-    for (uid, _) in kept.as_slice() {
-        if !ledger.can_read(uid)? {
-            return Ok(false);
-        }
-    }
-    Ok(true)
-}
-
-/// Whether that of each instance can that is in the queue.
-///
-/// Errors: Store, Memory.
-fn queued_can_be_read<S: Alter>(ledger: &mut SqlLedger<S, FileShelf>) -> Result<bool, LedgerFault> {
-    let rows = ledger.rows()?;
-    for ((uid, _), progress) in rows.as_slice() {
-        if progress.is_queued() && !ledger.can_read(uid)? {
-            return Ok(false);
-        }
-    }
-    Ok(true)
-}
-
-/// Whether each data set that a ledger needs can be read, and is that of its instance.
-///
-/// Errors: Store, Memory.
-fn all_can_be_read<S: Alter>(ledger: &mut SqlLedger<S, FileShelf>) -> Result<bool, LedgerFault> {
-    if !kept_can_be_read(ledger)? {
-        return Ok(false);
-    }
-    queued_can_be_read(ledger)
 }
 
 /// Why a ledger whose data sets are read isn't opened.
-fn read_fault(fault: LedgerFault) -> OpenFault {
+fn read_fault(fault: LedgerFault) -> OpenFault
+    ensures { result ≡ fault_of_reading fault }
+{
     match fault {
         LedgerFault::Memory => OpenFault::Memory,
         _ => OpenFault::Store,
     }
 }
 
-/// Reads each data set that a ledger needs, from its file of them.
+/// Reads each data set that a ledger needs, from its file of them, until one can't be read.
 ///
 /// Errors: NoData where one can't be read, or isn't that of its instance; Store; Memory.
-pub fn read_all<S: Alter>(ledger: &mut SqlLedger<S, FileShelf>) -> Result<(), OpenFault> {
-    match all_can_be_read(ledger) {
-        Ok(true) => Ok(()),
-        Ok(false) => Err(OpenFault::NoData),
+pub fn read_all<S: Alter>(ledger: &mut SqlLedger<S, FileShelf>) -> Result<(), OpenFault>
+    ensures { IsCleanOn ledger.new.shelf.0
+        → IsSafe (state S.Store ledger.new.conn)
+        → IsReadAs (state S.Store ledger.old.conn).committed.trees (read_on ledger.old.shelf.0)
+        result }
+{
+    match ledger.find_unreadable() {
+        Ok(None) => Ok(()),
+        Ok(Some(_)) => Err(OpenFault::NoData),
         Err(fault) => Err(read_fault(fault)),
     }
 }

@@ -1,6 +1,9 @@
+mod Along
 mod Chained
 mod InTurn
 mod Leafing
 mod Noting
+mod Recording
+mod Telling
 mod Turning
 mod Wholly

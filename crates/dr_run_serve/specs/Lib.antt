@@ -1,7 +1,9 @@
 pub mod Dues
+pub mod Ends
 pub mod Laws
 pub mod Pasts
 pub mod Rests
 pub mod Rounds
+pub mod Sendings
 pub mod Sweeps
 pub mod Visits

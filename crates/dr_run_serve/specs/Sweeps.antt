@@ -3,6 +3,7 @@ use Rattle.std.specs.Prelude.{◌≡◌, ◌≤◌, ◌<◌, ◌+◌, ◌-◌, �
 use Rattle.std.specs.Prelude.{false, List, length, min, Option, None, Some, Result, Ok, Err}
 use Rattle.dr_base.specs.Texts.{Text}
 use Rattle.dr_desk.specs.declared.receipt.Call.TheVariants.{Forgetting}
+use Rattle.dr_desk.specs.declared.receipt.Receipt.{Receipt}
 use Rattle.dr_ledger.specs.Books.{Book, Line}
 use Rattle.dr_ledger.specs.Replies.{Forgets}
 use Rattle.dr_ledger.specs.declared.fault.LedgerFault.{LedgerFault}
@@ -30,7 +31,7 @@ IsNotDue queue since =
     × (queue ≡ first ∷ rest) × (since < first.at))
 
 -- one after the other, and what came of each
-abbrev pub Chain : {X : Type 0} → (X → Bool → X → Type 0) → List Bool → X → X → Type 0
+abbrev pub Chain : {X Y : Type 0} → (X → Y → X → Type 0) → List Y → X → X → Type 0
 Chain One [] x z = z ≡ x
 Chain {X = X} One (came ∷ more) x z = (y : X) × One x came y × Chain One more y z
 
@@ -43,6 +44,23 @@ counted count false = count
 abbrev pub counted_all : ℕ → List Bool → ℕ
 counted_all count [] = count
 counted_all count (forgotten ∷ more) = counted_all (counted count forgotten) more
+
+-- where the store refused it the next turn comes a minute later
+abbrev pub next_turn : ℕ → ℕ → Result ℕ LedgerFault → ℕ
+next_turn next now (Ok count) = next
+next_turn next now (Err why) = min (now + 60000) (2 ^ 64 - 1)
+
+-- The one who sweeps between two turns: the moment of the next one, what is known to be over, what
+-- is noted of the journal, and its pass.
+pub record Sweeping : Type 0 where
+  pub next : ℕ
+  pub known : Option Sweep
+  pub past : Past
+  pub pass : State
+
+abbrev pub sweeping : ℕ → Option Sweep → Past → ℕ → List Receipt → Sweeping
+sweeping next known past count receipts =
+    record { next = next; known = known; past = past; pass = (count, receipts) }
 
 module _ {L : Type 0} (site_of : L → Part) (book : L → Book) (stands : L → Type 0)
     (failed : L → ℕ) (own : Part) (first : List Line) where
@@ -137,7 +155,13 @@ module _ {L : Type 0} (site_of : L → Part) (book : L → Book) (stands : L →
         ((now < next) × DoesNothing had s came left past t)
         ⊎ ((next ≤ now) × SweepsOnce (now - after) had s came left past t)
 
--- where the store refused it the next turn comes a minute later
-abbrev pub next_turn : ℕ → ℕ → Result ℕ LedgerFault → ℕ
-next_turn next now (Ok count) = next
-next_turn next now (Err why) = min (now + 60000) (2 ^ 64 - 1)
+  -- One turn, by these terms and at a moment that the clock told. It goes on from the lines that
+  -- were noted before, whichever they are, and with what was known then.
+  abbrev pub TurnsOnce : (tells : ℕ → Result (List JournalLine) LedgerFault → Type 0)
+      → (told : ℕ → Type 0) → Option ℕ → Sweeping → Result ℕ LedgerFault → Sweeping → Type 0
+  TurnsOnce tells told after old came new =
+      (now : ℕ) × told now
+      × ((lines : List JournalLine)
+      → HasNoted lines old.past
+      → Turns tells lines after old.next now old.known old.pass came new.known new.past new.pass)
+      × (new.next ≡ next_turn old.next now came)

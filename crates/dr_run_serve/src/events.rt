@@ -309,53 +309,40 @@ pub fn tell_row<G: Log>(
     }
 }
 
-/// What came of a visit, in a word; None where nothing was due.
-pub fn word_of_visit(visit: &Visit) -> Option<&'static str> {
-    match visit {
-        Visit::Idle => None,
-        Visit::Unreached(_) => Some("unreached"),
-        Visit::Ended(ended) => Some(word_of(*ended)),
-        Visit::Failed(_) => Some("failed"),
-    }
-}
-
 /// Tells what came of a visit to a node at which rows were due, and how many outcomes were noted.
-pub fn tell_visit<G: Log>(
-    log: &G,
-    dest: &Text,
-    visited: &Result<Visit, LedgerFault>,
-    settled: u64,
-) {
+pub fn tell_visit<G: Log>(log: &G, dest: &Text, visit: &Visit, settled: u64) {
     let dest = Escaped(dest.as_bytes());
-    match visited {
-        Ok(Visit::Idle) => {}
-        Ok(Visit::Unreached(error)) => {
+    match visit {
+        Visit::Idle => {}
+        Visit::Unreached(error) => {
             warn!(
                 log; target: "visit",
                 "unreached dest=\"{dest}\" settled={settled} error=\"{error}\""
             );
         }
-        Ok(Visit::Ended(Ended::Released)) => {
+        Visit::Ended(Ended::Released) => {
             info!(log; target: "visit", "released dest=\"{dest}\" settled={settled}");
         }
-        Ok(Visit::Ended(ended)) => {
+        Visit::Ended(ended) => {
             let (word, why) = (word_of(*ended), Why(*ended));
             warn!(log; target: "visit", "{word} dest=\"{dest}\"{why} settled={settled}");
         }
-        Ok(Visit::Failed(fault)) => {
+        Visit::Failed(fault) => {
             warn!(
                 log; target: "visit",
                 "failed dest=\"{dest}\" settled={settled} fault=\"{fault}\""
             );
         }
-        Err(fault) => {
-            let fault = code_of(*fault);
-            error!(
-                log; target: "visit",
-                "ledger dest=\"{dest}\" settled={settled} fault=\"{fault}\""
-            );
-        }
     }
+}
+
+/// Tells that a visit came to a fault of the ledger, and how many outcomes were noted before.
+pub fn tell_visit_fault<G: Log>(log: &G, dest: &Text, fault: LedgerFault, settled: u64) {
+    let (dest, fault) = (Escaped(dest.as_bytes()), code_of(fault));
+    error!(
+        log; target: "visit",
+        "ledger dest=\"{dest}\" settled={settled} fault=\"{fault}\""
+    );
 }
 
 /// A moment as an event shows it, in milliseconds; a hyphen where there is none.

@@ -1,4 +1,10 @@
 //! The one who tells of a node, has it forget what is over, and ends it where its store is shut.
+ghost use Rattle.std.specs.Prelude.{◌≡◌, ℕ, [], List, None, Result};
+ghost use Rattle.dr_ledger.specs.declared.fault.LedgerFault.{LedgerFault as Fault};
+ghost use Rattle.dr_run_serve.specs.Pasts.{HasNoted, TellsPage};
+ghost use Rattle.dr_run_serve.specs.Sweeps.{Chain, Sweeping, TurnsOnce, sweeping};
+ghost use Rattle.dr_run_serve.specs.declared.past.Past.{Past as PastValue};
+
 use crate::events::tell_threads;
 use crate::live::LiveNode;
 use crate::monitor::Monitor;
@@ -27,6 +33,29 @@ fn tell_lacking<G: Log>(log: &G, senders: usize, news: News) {
     }
 }
 
+/// A turn of the one who sweeps, where the node serves; what came of it is told.
+fn sweep_if<R: Wait, L: Views, B: Sharing, C: Clock, G: Log>(
+    node: &LiveNode<'_, R, L, B, C, G>,
+    sweeper: &mut Sweeper<B>,
+    serves: bool,
+)
+    ensures turns { (each : List (Result ℕ Fault))
+        × Chain (TurnsOnce L.site L.book L.stands L.failed B.site B.first
+        (TellsPage L.site L.book L.bodies L.stands L.failed B.site B.first L.numbered)
+        (C.tells node.now.clock.now) sweeper.old.after) each
+        (sweeping sweeper.old.next sweeper.old.sweep sweeper.old.past
+        sweeper.old.pass.made.count sweeper.old.pass.receipts.items)
+        (sweeping sweeper.new.next sweeper.new.sweep sweeper.new.past
+        sweeper.new.pass.made.count sweeper.new.pass.receipts.items) }
+    ensures terms { sweeper.new.after ≡ sweeper.old.after }
+{
+    if !serves {
+        return;
+    }
+    let came = sweeper.turn(node, node.clock.now());
+    tell_turn(node, came);
+}
+
 /// Tells what has changed, now and then, until nobody serves or sends any more; then once more. It
 /// has the node forget what has been over for long. Where somebody doubts the store and it is shut,
 /// it ends the node. It visits no hop and serves nobody, so that neither holds it up.
@@ -43,19 +72,26 @@ fn keep_on<
     senders: usize,
     sweeper: &mut Sweeper<B>,
     wake: &Wake<'_, D, N>,
-) {
+)
+    ensures { (each : List (Result ℕ Fault))
+        × Chain (TurnsOnce L.site L.book L.stands L.failed B.site B.first
+        (TellsPage L.site L.book L.bodies L.stands L.failed B.site B.first L.numbered)
+        (C.tells node.now.clock.now) sweeper.old.after) each
+        (sweeping sweeper.old.next sweeper.old.sweep sweeper.old.past
+        sweeper.old.pass.made.count sweeper.old.pass.receipts.items)
+        (sweeping sweeper.new.next sweeper.new.sweep sweeper.new.past
+        sweeper.new.pass.made.count sweeper.new.pass.receipts.items) }
+{
     let (rt, clock, log) = (node.rt, node.clock, node.log);
     if !wake.signal.has_begun(rt, BEGIN) {
         return;
     }
     let (mut told, mut stage, mut looks) = (LastTold::new(), EndStage::Serving, 0u32);
-    for _ in rt.forever() {
+    for _look in rt.forever() {
         let now = clock.now();
         stage = wake.stops(rt, stage, now, log);
         told = report_changes(node, told, now, false);
-        if stage == EndStage::Serving {
-            tell_turn(node, sweeper.turn(node, now));
-        }
+        sweep_if(node, sweeper, stage == EndStage::Serving);
         let news = wake.signal.wait(rt, TURN);
         if news.doubts && wake.ends(rt, node.desk, log) {
             return;
@@ -86,7 +122,15 @@ pub fn keep<
     pass: Pass<B>,
     after: Option<u64>,
     wake: &Wake<'_, D, N>,
-) -> Pass<B> {
+) -> Pass<B>
+    ensures { (begins : PastValue) × (each : List (Result ℕ Fault)) × (ends : Sweeping)
+        × HasNoted [] begins
+        × Chain (TurnsOnce L.site L.book L.stands L.failed B.site B.first
+        (TellsPage L.site L.book L.bodies L.stands L.failed B.site B.first L.numbered)
+        (C.tells node.now.clock.now) after) each
+        (sweeping 0 None begins pass.made.count pass.receipts.items) ends
+        × (ends.pass ≡ (result.made.count, result.receipts.items)) }
+{
     let mut sweeper = Sweeper::new(node.alloc, pass, after);
     keep_on(node, senders, &mut sweeper, wake);
     sweeper.into_pass()

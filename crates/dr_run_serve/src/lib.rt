@@ -28,6 +28,7 @@ mod asked;
 mod caller;
 mod control;
 mod copying;
+mod ends;
 mod events;
 mod intake;
 mod keeper;

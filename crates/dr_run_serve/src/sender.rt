@@ -1,19 +1,20 @@
 //! The one who sends to a hop.
-ghost use Rattle.std.specs.Prelude.{◌≡◌, ◌↔◌, ℕ, IfOk, IsTrue, Option, Result, max, true};
-ghost use Rattle.std.specs.FinMap as map;
-ghost use Rattle.dr_desk.specs.Reading.{Reading};
-ghost use Rattle.dr_ledger.specs.Replies.{Reads};
+ghost use Rattle.std.specs.Prelude.{◌≡◌, ◌↔◌, ℕ, Bool, IfOk, IsTrue, List, Option, Result};
+ghost use Rattle.std.specs.Prelude.{max, true};
 ghost use Rattle.dr_ledger.specs.declared.fault.LedgerFault.{LedgerFault as Fault};
-ghost use Rattle.dr_ledger_views.specs.Views.{IsLeast, dues};
 ghost use Rattle.dr_run_serve.specs.Dues.{due_of};
 ghost use Rattle.dr_run_serve.specs.Rests.{IsNoRest, IsVisited, rest_end};
+ghost use Rattle.dr_run_serve.specs.Sendings.{ComesBack, IsHeeded, IsTold, Looks, LooksOnce};
+ghost use Rattle.dr_run_serve.specs.Sendings.{Sends, SendsOrRests, TellsDue, VisitsAt, VisitsBy};
+ghost use Rattle.dr_run_serve.specs.Sweeps.{Chain};
 
-use crate::events::{tell_visit, word_of_visit};
+use crate::ends::VisitEnd;
+use crate::events::{tell_visit, tell_visit_fault};
 use crate::live::LiveNode;
 use crate::rest::Rest;
 use crate::resting::{Noted, rest_after};
 use crate::shutting::is_shut;
-use crate::signal::BEGIN;
+use crate::signal::{BEGIN, Bell, WakeUp};
 use crate::tallied::{SharedPort, Tallied};
 use crate::visit::{Visit, visit_hop};
 use dr_base::Text;
@@ -22,7 +23,7 @@ use dr_ledger::{Ledger, LedgerFault};
 use dr_ledger_views::Views;
 use dr_run_net::Network;
 use dr_run_open::NextHop;
-use dr_session::Clock;
+use dr_session::{Clock, DeskPort};
 use log::Log;
 use std::alloc::AllocError;
 use std::sync::Wait;
@@ -78,8 +79,7 @@ fn next_due<R: Wait, L: Views, B: Sharing>(
     dest: &Text,
 ) -> Result<u64, LedgerFault>
     ensures { (found : Result (Option ℕ) Fault)
-        × Reading L.site L.book L.bodies L.stands L.failed B.site B.first
-        (λ l answer. Reads answer (IsLeast (dues (map.entries (L.book l).rows) dest.now))) found
+        × TellsDue L.site L.book L.bodies L.stands L.failed B.site B.first dest.now found
         × (result ≡ due_of found) }
 {
     match desk.first_due(rt, dest) {
@@ -89,16 +89,20 @@ fn next_due<R: Wait, L: Views, B: Sharing>(
     }
 }
 
-/// A visit of the one who sends: what came of it, and what was noted. Who ends the node tells that
-/// the store is shut.
-///
-/// Errors: those of a visit.
-fn visit<R: Wait, L: Ledger, B: Sharing, N: Network, C: Clock, G: Log>(
-    node: &LiveNode<'_, R, L, B, C, G>,
+/// A visit to the hop on the shared desk: what came of it, and what was noted of its calls.
+fn visit_on<'a, R: Wait, L: Ledger, B: Sharing, N: Network, C: Clock, G: Log>(
+    node: &LiveNode<'a, R, L, B, C, G>,
     network: &N,
     pass: &mut Pass<B>,
     hop: &NextHop,
-) -> Result<(Visit, Noted), LedgerFault> {
+) -> (Result<Visit, LedgerFault>, Noted)
+    ensures { VisitsAt (N.connects network.now) N.Socket.hears N.Socket.sends N.Socket.closes
+        ⟦<SharedPort<'a, R, L, B, G> as DeskPort>⟧.step
+        ⟦<SharedPort<'a, R, L, B, G> as Tallied>⟧.finds
+        (C.tells node.now.clock.now) node.now.desk.now.site
+        (λ port. port.pass.now.made.count) (λ port. port.pass.now.receipts.items)
+        (λ port. port.passed) hop.now.dest hop.now.address result.0 result.1 }
+{
     let (rt, desk, log) = (node.rt, node.desk, node.log);
     let before = pass.count();
     let mut port = SharedPort {
@@ -112,26 +116,82 @@ fn visit<R: Wait, L: Ledger, B: Sharing, N: Network, C: Clock, G: Log>(
     let visited = visit_hop(node.alloc, desk.site(), hop, network, &mut port, node.clock);
     let settled = port.tally().saturating_sub(before);
     let passed = port.passed;
-    if visited.is_err() && is_shut(rt, desk) {
-        return Err(LedgerFault::Store);
-    }
-    tell_visit(log, &hop.dest, &visited, settled);
-    Ok((visited?, Noted { settled, passed }))
+    (visited, Noted { settled, passed })
 }
 
-/// Visits the hop, and notes when it is to be visited again. What came of the visit, in a word.
+/// A visit came to that fault: it is told, or, where the store is shut, answered as one that
+/// failed. Who ends the node tells that the store is shut.
+fn fault_of<R: Wait, L: Ledger, B: Sharing, C: Clock, G: Log>(
+    node: &LiveNode<'_, R, L, B, C, G>,
+    dest: &Text,
+    fault: LedgerFault,
+    settled: u64,
+) -> LedgerFault
+    ensures { IsTold L.site L.book L.bodies L.stands L.failed B.site B.first fault result }
+{
+    if is_shut(node.rt, node.desk) {
+        return LedgerFault::Store;
+    }
+    tell_visit_fault(node.log, dest, fault, settled);
+    fault
+}
+
+/// A visit of the one who sends: what came of it, and what was noted of its calls.
+///
+/// Errors: those of a visit; Store where the store is shut.
+fn visit<R: Wait, L: Ledger, B: Sharing, N: Network, C: Clock, G: Log>(
+    node: &LiveNode<'_, R, L, B, C, G>,
+    network: &N,
+    pass: &mut Pass<B>,
+    hop: &NextHop,
+) -> Result<(Visit, Noted), LedgerFault>
+    ensures { ComesBack
+        (VisitsBy L.site L.book L.bodies L.stands L.failed B.site B.first
+        (N.connects network.now) N.Socket.hears N.Socket.sends N.Socket.closes
+        (C.tells node.now.clock.now) node.now.desk.now.site hop.now.dest hop.now.address)
+        (IsTold L.site L.book L.bodies L.stands L.failed B.site B.first) result }
+{
+    let (visited, noted) = visit_on(node, network, pass, hop);
+    match visited {
+        Ok(visit) => {
+            tell_visit(node.log, &hop.dest, &visit, noted.settled);
+            Ok((visit, noted))
+        }
+        Err(fault) => Err(fault_of(node, &hop.dest, fault, noted.settled)),
+    }
+}
+
+/// Visits the hop, and notes when it is to be visited again. How the visit ended.
 ///
 /// Errors: those of a visit.
 fn send<R: Wait, L: Views, B: Sharing, N: Network, C: Clock, G: Log>(
     node: &LiveNode<'_, R, L, B, C, G>,
     network: &N,
     sender: &mut HopSender<B>,
-) -> Result<Option<&'static str>, LedgerFault> {
+) -> Result<Option<VisitEnd>, LedgerFault>
+    ensures sends { Sends
+        (VisitsBy L.site L.book L.bodies L.stands L.failed B.site B.first
+        (N.connects network.now) N.Socket.hears N.Socket.sends N.Socket.closes
+        (C.tells node.now.clock.now) node.now.desk.now.site
+        sender.old.hop.dest sender.old.hop.address)
+        (IsTold L.site L.book L.bodies L.stands L.failed B.site B.first)
+        (TellsDue L.site L.book L.bodies L.stands L.failed B.site B.first sender.old.hop.dest)
+        (C.tells node.now.clock.now) sender.old.rest result sender.new.rest sender.new.hop.due }
+    ensures hop { (sender.new.hop.dest ≡ sender.old.hop.dest)
+        × (sender.new.hop.address ≡ sender.old.hop.address) }
+{
     let HopSender { pass, hop, rest } = sender;
-    let (visit, noted) = visit(node, network, pass, hop)?;
+    let (visit, noted) = match visit(node, network, pass, hop) {
+        Ok(came) => came,
+        Err(fault) => return Err(fault),
+    };
     *rest = rest_after(*rest, &visit, noted, node.clock.now());
-    hop.due = next_due(node.rt, node.desk, &hop.dest)?;
-    Ok(word_of_visit(&visit))
+    let due = match next_due(node.rt, node.desk, &hop.dest) {
+        Ok(due) => due,
+        Err(why) => return Err(why),
+    };
+    hop.due = due;
+    Ok(VisitEnd::of(&visit))
 }
 
 /// The same, and where that failed the hop is looked at again 1 s later, since it isn't known what
@@ -140,7 +200,18 @@ fn send_or_rest<R: Wait, L: Views, B: Sharing, N: Network, C: Clock, G: Log>(
     node: &LiveNode<'_, R, L, B, C, G>,
     network: &N,
     sender: &mut HopSender<B>,
-) -> Option<&'static str> {
+) -> Option<VisitEnd>
+    ensures sends { SendsOrRests
+        (VisitsBy L.site L.book L.bodies L.stands L.failed B.site B.first
+        (N.connects network.now) N.Socket.hears N.Socket.sends N.Socket.closes
+        (C.tells node.now.clock.now) node.now.desk.now.site
+        sender.old.hop.dest sender.old.hop.address)
+        (IsTold L.site L.book L.bodies L.stands L.failed B.site B.first)
+        (TellsDue L.site L.book L.bodies L.stands L.failed B.site B.first sender.old.hop.dest)
+        (C.tells node.now.clock.now) sender.old.rest result sender.new.rest sender.new.hop.due }
+    ensures hop { (sender.new.hop.dest ≡ sender.old.hop.dest)
+        × (sender.new.hop.address ≡ sender.old.hop.address) }
+{
     match send(node, network, sender) {
         Ok(came) => {
             if came.is_some() {
@@ -148,11 +219,11 @@ fn send_or_rest<R: Wait, L: Views, B: Sharing, N: Network, C: Clock, G: Log>(
             }
             came
         }
-        Err(_) => {
+        Err(_fault) => {
             sender.hop.due = 0;
             sender.rest = Rest::none().lengthened(node.clock.now());
             node.signal.doubt(node.rt);
-            Some("ledger")
+            Some(VisitEnd::Ledger)
         }
     }
 }
@@ -174,6 +245,8 @@ fn is_visited<B: Sharing>(sender: &HopSender<B>, last: bool, now: u64) -> bool
 /// A row may have been made for the hop: that is looked up, and its rest is short.
 fn wake<B: Sharing>(sender: &mut HopSender<B>)
     ensures { (sender.new.hop.due ≡ 0)
+        × (sender.new.hop.dest ≡ sender.old.hop.dest)
+        × (sender.new.hop.address ≡ sender.old.hop.address)
         × (sender.new.rest.since ≡ sender.old.rest.since)
         × (sender.new.rest.wait ≡ sender.old.rest.wait)
         × (sender.new.rest.short ≡ true) }
@@ -185,12 +258,60 @@ fn wake<B: Sharing>(sender: &mut HopSender<B>)
 /// Somebody wants a visit now: what is due is looked up, and its rest is over.
 fn hurry<B: Sharing>(sender: &mut HopSender<B>)
     ensures { (sender.new.hop.due ≡ 0)
+        × (sender.new.hop.dest ≡ sender.old.hop.dest)
+        × (sender.new.hop.address ≡ sender.old.hop.address)
         × (sender.new.rest.since ≡ 0)
         × (sender.new.rest.wait ≡ sender.old.rest.wait)
         × (sender.new.rest.short ≡ sender.old.rest.short) }
 {
     sender.hop.due = 0;
     sender.rest = sender.rest.ended();
+}
+
+/// What it was called for is heeded.
+fn heed<B: Sharing>(sender: &mut HopSender<B>, call: WakeUp)
+    ensures heeds { IsHeeded call.rows call.visit (sender.old.rest, sender.old.hop.due)
+        (sender.new.rest, sender.new.hop.due) }
+    ensures hop { (sender.new.hop.dest ≡ sender.old.hop.dest)
+        × (sender.new.hop.address ≡ sender.old.hop.address) }
+{
+    if call.rows {
+        wake(sender);
+    }
+    if call.visit {
+        hurry(sender);
+    }
+}
+
+/// What it was called for is heeded, and the hop is visited then, where a row is due and its rest
+/// is over, or for the last time. Whether it was.
+fn look<R: Wait, L: Views, B: Sharing, N: Network, C: Clock, G: Log>(
+    node: &LiveNode<'_, R, L, B, C, G>,
+    network: &N,
+    sender: &mut HopSender<B>,
+    bell: &Bell,
+    call: WakeUp,
+) -> bool
+    ensures looks { Looks
+        (VisitsBy L.site L.book L.bodies L.stands L.failed B.site B.first
+        (N.connects network.now) N.Socket.hears N.Socket.sends N.Socket.closes
+        (C.tells node.now.clock.now) node.now.desk.now.site
+        sender.old.hop.dest sender.old.hop.address)
+        (IsTold L.site L.book L.bodies L.stands L.failed B.site B.first)
+        (TellsDue L.site L.book L.bodies L.stands L.failed B.site B.first sender.old.hop.dest)
+        (C.tells node.now.clock.now) call.rows call.visit call.over
+        (sender.old.rest, sender.old.hop.due) result (sender.new.rest, sender.new.hop.due) }
+    ensures hop { (sender.new.hop.dest ≡ sender.old.hop.dest)
+        × (sender.new.hop.address ≡ sender.old.hop.address) }
+{
+    heed(sender, call);
+    if !is_visited(sender, call.over, node.clock.now()) {
+        return false;
+    }
+    bell.begin_visit(node.rt);
+    let came = send_or_rest(node, network, sender);
+    bell.end_visit(node.rt, came, node.clock.now());
+    true
 }
 
 /// Visits the hop as often as there is something to send, until no worker is left; then there is
@@ -201,7 +322,18 @@ pub fn send_rows<R: Wait + time::Clock, L: Views, B: Sharing, N: Network, C: Clo
     network: &N,
     sender: &mut HopSender<B>,
     number: usize,
-) {
+)
+    ensures { (each : List Bool)
+        × Chain (LooksOnce
+        (VisitsBy L.site L.book L.bodies L.stands L.failed B.site B.first
+        (N.connects network.now) N.Socket.hears N.Socket.sends N.Socket.closes
+        (C.tells node.now.clock.now) node.now.desk.now.site
+        sender.old.hop.dest sender.old.hop.address)
+        (IsTold L.site L.book L.bodies L.stands L.failed B.site B.first)
+        (TellsDue L.site L.book L.bodies L.stands L.failed B.site B.first sender.old.hop.dest)
+        (C.tells node.now.clock.now)) each
+        (sender.old.rest, sender.old.hop.due) (sender.new.rest, sender.new.hop.due) }
+{
     let (rt, signal, clock) = (node.rt, node.signal, node.clock);
     signal.count_sender(rt);
     let Some(bell) = signal.bell(number) else {
@@ -211,23 +343,13 @@ pub fn send_rows<R: Wait + time::Clock, L: Views, B: Sharing, N: Network, C: Clo
         return;
     }
     let mut sleep = 0;
-    for _ in rt.forever() {
+    for _look in rt.forever() {
         let call = bell.wait(rt, sleep);
         if signal.is_ending() {
             return;
         }
         bell.look(rt, clock.now());
-        if call.rows {
-            wake(sender);
-        }
-        if call.visit {
-            hurry(sender);
-        }
-        if is_visited(sender, call.over, clock.now()) {
-            bell.begin_visit(rt);
-            let came = send_or_rest(node, network, sender);
-            bell.end_visit(rt, came, clock.now());
-        }
+        let _visited = look(node, network, sender, bell, call);
         if call.over {
             return;
         }

@@ -1,6 +1,9 @@
 //! The end of a node: in order, or since its store is shut.
-ghost use Rattle.std.specs.Prelude.{◌≡◌, ◌↔◌, Err, IsTrue};
+ghost use Rattle.std.specs.Prelude.{◌≡◌, ◌↔◌, Bool, Err, IsTrue, Result};
+ghost use Rattle.dr_base.specs.Texts.{Text};
+ghost use Rattle.dr_ledger.specs.declared.fault.LedgerFault.{LedgerFault as Fault};
 ghost use Rattle.dr_ledger.specs.declared.fault.LedgerFault.TheVariants.{Store};
+ghost use Rattle.dr_run_serve.specs.Sendings.{TellsWhetherThere};
 
 use crate::events::{tell_cut, tell_shut, tell_stopping};
 use crate::signal::Signal;
@@ -51,7 +54,11 @@ fn is_store_fault(answer: Result<bool, LedgerFault>) -> bool
 /// Whether the store of the desk's ledger is shut, as it is after a sync that failed: then it
 /// answers Store to a call that only reads, too. A disk that
 /// is full refuses what would be written alone.
-pub fn is_shut<R: Wait, L: Ledger, B: Sharing>(rt: &R, desk: &SharedDesk<L, B>) -> bool {
+pub fn is_shut<R: Wait, L: Ledger, B: Sharing>(rt: &R, desk: &SharedDesk<L, B>) -> bool
+    ensures { (uid : Text) × (found : Result Bool Fault)
+        × TellsWhetherThere L.site L.book L.bodies L.stands L.failed B.site B.first uid found
+        × (IsTrue result ↔ (found ≡ Err Store)) }
+{
     is_store_fault(desk.has(rt, desk.site().name()))
 }
 

@@ -1,5 +1,8 @@
 //! What wakes those who send, and who tells of the node.
+ghost use Rattle.dr_run_serve.specs.Ends.{IsKnownAfter};
+
 use crate::ages::WaitingRows;
+use crate::ends::VisitEnd;
 use crate::intake::Intake;
 use crate::open::Open;
 use crate::sweep::OverInstance;
@@ -69,18 +72,26 @@ const NONE: Visits = Visits {
     failed: 0,
 };
 
-/// How visits ended, with one more that came to that.
-fn with_one(visits: Visits, came: &str) -> Visits {
-    let mut counted = visits;
+/// What is known of the visits to a hop, behind one that has ended, and come to that, at that
+/// moment; to nothing where nothing was due.
+fn known_after(known: KnownVisits, came: Option<VisitEnd>, at: u64) -> KnownVisits
+    ensures { IsKnownAfter known came at result }
+{
     match came {
-        "released" => counted.released = visits.released.saturating_add(1),
-        "rejected" => counted.rejected = visits.rejected.saturating_add(1),
-        "aborted" => counted.aborted = visits.aborted.saturating_add(1),
-        "closed" => counted.closed = visits.closed.saturating_add(1),
-        "unreached" => counted.unreached = visits.unreached.saturating_add(1),
-        _ => counted.failed = visits.failed.saturating_add(1),
+        None => KnownVisits {
+            is_under_way: false,
+            ..known
+        },
+        Some(ended) => KnownVisits {
+            looked: known.looked,
+            is_under_way: false,
+            last: Some(Visited {
+                at,
+                came: ended.word(),
+            }),
+            visits: ended.counted(known.visits),
+        },
     }
-    counted
 }
 
 /// Wakes the one who sends to a hop, and is told of its visits.
@@ -143,13 +154,9 @@ impl Bell {
     }
 
     /// It has ended, and come to that; to nothing where nothing was due.
-    pub fn end_visit<R: Wait>(&self, rt: &R, came: Option<&'static str>, at: u64) {
+    pub fn end_visit<R: Wait>(&self, rt: &R, came: Option<VisitEnd>, at: u64) {
         let mut held = self.visits.lock(rt);
-        held.is_under_way = false;
-        if let Some(came) = came {
-            held.last = Some(Visited { at, came });
-            held.visits = with_one(held.visits, came);
-        }
+        *held = known_after(*held, came, at);
     }
 
     /// Whether nobody has looked after the hop for long, in a node that serves since then.

@@ -1,5 +1,5 @@
 //! The one who has a node forget what has been over for long.
-ghost use Rattle.std.specs.Prelude.{◌≡◌, ◌++◌, [], List, None, Some};
+ghost use Rattle.std.specs.Prelude.{◌≡◌, ◌≤◌, ◌++◌, [], List, None, Some, length};
 ghost use Rattle.dr_ledger_history.specs.declared.line.JournalLine.{JournalLine as LineValue};
 ghost use Rattle.dr_run_serve.specs.Pasts.{HasNoted, TellsPage};
 ghost use Rattle.dr_run_serve.specs.Sweeps.{ForgetsDue, ForgetsFirst, SweepsOnce, Turns, counted};
@@ -42,7 +42,8 @@ pub struct Sweeper<B: Sharing> {
 /// next start.
 fn take_in<R: Wait>(rt: &R, sweep: &mut Sweep, signal: &Signal)
     ensures { (more : List OverValue)
-        × (sweep.new.queue.items ≡ sweep.old.queue.items ++ more) }
+        × (sweep.new.queue.items ≡ sweep.old.queue.items ++ more)
+        × (length more ≤ 1000) }
 {
     for _turn in 0..MOST {
         let Some(over) = signal.next_over(rt) else {

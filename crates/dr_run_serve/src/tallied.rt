@@ -1,14 +1,18 @@
 //! Desks that count what they took.
-ghost use Rattle.std.specs.Prelude.{◌≡◌};
+ghost use Rattle.std.specs.Prelude.{◌≡◌, ◌||◌};
 ghost use Rattle.dr_desk.specs.Receipts.{LeavesReceipts};
 ghost use Rattle.dr_desk_workers.specs.Passes.{PassStep};
 ghost use Rattle.dr_run_serve.specs.Dues.{FindsIn};
+ghost use Rattle.dr_run_serve.specs.Sendings.{ComesTo, OnDesk, TellsUid, as_told, is_unreadable};
+ghost use Rattle.dr_run_serve.specs.Sendings.{known_of, passes_over};
 
 use crate::events::tell_row;
 use crate::signal::Signal;
 use dr_base::Text;
 use dr_desk::{Pass, SharedDesk, Sharing};
-use dr_ledger::{Arrived, Cause, Item, Ledger, LedgerFault, NextRow, Outcome, Progress};
+use dr_ledger::{
+    Arrived, Cause, Item, Ledger, LedgerFault, NextRow, Outcome, Progress, is_success,
+};
 use dr_session::DeskPort;
 use dr_session::desk::LedgerDesk;
 use log::Log;
@@ -16,36 +20,77 @@ use std::sync::Wait;
 
 /// A desk that tells how many of its calls were accepted, and what is due.
 pub trait Tallied: DeskPort {
-    ghost use Rattle.std.specs.Prelude.{ℕ, List, Result, Option};
+    ghost use Rattle.std.specs.Prelude.{◌≡◌, ℕ, List, Result, Option};
     ghost use Rattle.dr_ledger.specs.declared.fault.LedgerFault.{LedgerFault};
 
     // What the first row that is due was answered to be, for a destination at a moment.
     ghost finds: { Self → List ℕ → ℕ → Result (Option (List ℕ)) LedgerFault → Self → Type 0 };
 
+    // How many of its calls were accepted.
+    ghost taken: { Self → ℕ };
+
     /// How many of its calls were accepted; the count stays at its greatest value.
-    fn tally(&self) -> u64;
+    fn tally(&self) -> u64
+        ensures { result ≡ taken self.now };
 
     /// The uid of the row that `next` is about. No data set is read.
     fn due_row(&mut self, dest: &Text, now: u64) -> Result<Option<Text>, LedgerFault>
         ensures { finds self.old dest.now now result self.new };
 }
 
-/// How far a row is after an outcome; None where that can't be read. That a row is done after a
-/// success is known, and that one whose data set can't be read is held for that.
+/// How far a row is, where its outcome alone says it: done after a success, and held where its data
+/// set can't be read.
+fn known_of(outcome: Outcome) -> Option<Progress>
+    ensures { result ≡ known_of outcome }
+{
+    match outcome {
+        Outcome::Status(status) => {
+            if is_success(status) {
+                Some(Progress::Done)
+            } else {
+                None
+            }
+        }
+        Outcome::Unreadable => Some(Progress::Held(Cause::Unreadable)),
+        Outcome::Broken | Outcome::NoContext => None,
+    }
+}
+
+/// How far a row is after an outcome; None where that can't be read.
 fn came_of<R: Wait, L: Ledger, B: Sharing>(
     rt: &R,
     desk: &SharedDesk<L, B>,
     uid: &Text,
     dest: &Text,
     outcome: Outcome,
-) -> Option<Progress> {
-    if outcome == Outcome::Status(0) {
-        return Some(Progress::Done);
+) -> Option<Progress>
+    ensures { ComesTo L.site L.book L.bodies L.stands L.failed B.site B.first
+        (known_of outcome) uid.now dest.now result }
+{
+    match known_of(outcome) {
+        Some(known) => Some(known),
+        None => told(desk.progress(rt, uid, dest)),
     }
-    if outcome == Outcome::Unreadable {
-        return Some(Progress::Held(Cause::Unreadable));
+}
+
+/// What was told of a row; None where it couldn't be.
+fn told(found: Result<Option<Progress>, LedgerFault>) -> Option<Progress>
+    ensures { result ≡ as_told found }
+{
+    match found {
+        Ok(came) => came,
+        Err(_) => None,
     }
-    desk.progress(rt, uid, dest).unwrap_or(None)
+}
+
+/// Whether a row was passed over, after one more outcome that was noted.
+fn passed_by(outcome: Outcome, passed: bool) -> bool
+    ensures { result ≡ (is_unreadable outcome || passed) }
+{
+    match outcome {
+        Outcome::Unreadable => true,
+        Outcome::Status(_) | Outcome::Broken | Outcome::NoContext => passed,
+    }
 }
 
 /// A ledger with one owner.
@@ -102,6 +147,8 @@ impl<L: Ledger> Tallied for OwnPort<L> {
     ghost finds = { λ old dest now answer new. FindsIn L.site L.book L.bodies L.armed L.trusts
         L.stands old.desk.ledger dest now answer new.desk.ledger };
 
+    ghost taken = { λ port. port.taken };
+
     fn tally(&self) -> u64 {
         self.taken
     }
@@ -127,8 +174,11 @@ pub struct SharedPort<'a, R: Wait, L: Ledger, B: Sharing, G: Log> {
 impl<'a, R: Wait, L: Ledger, B: Sharing, G: Log> DeskPort for SharedPort<'a, R, L, B, G> {
     ghost use Rattle.dr_desk_workers.specs.Passes.{PassStep};
 
+    // What the pass has then, whether a row was passed over, and that the desk answered so.
     ghost step = { λ s call answer t. PassStep call answer s.pass.now.made.count
-        s.pass.now.receipts.items t.pass.now.made.count t.pass.now.receipts.items };
+        s.pass.now.receipts.items t.pass.now.made.count t.pass.now.receipts.items
+        × (t.passed ≡ (passes_over call answer || s.passed))
+        × OnDesk L.site L.book L.bodies L.stands L.failed B.site B.first call answer };
 
     fn arrive(&mut self, caller: &Text, item: Item) -> Result<Arrived, LedgerFault> {
         self.desk.arrive(self.rt, self.pass, caller, item)
@@ -159,7 +209,7 @@ impl<'a, R: Wait, L: Ledger, B: Sharing, G: Log> DeskPort for SharedPort<'a, R, 
             .desk
             .settle(self.rt, self.pass, uid, dest, outcome, now);
         if settled.is_ok() {
-            self.passed = self.passed || outcome == Outcome::Unreadable;
+            self.passed = passed_by(outcome, self.passed);
             let came = came_of(self.rt, self.desk, uid, dest, outcome);
             let is_done = matches!(came, Some(Progress::Done));
             if !matches!(came, Some(Progress::Waiting { .. }) | None) {
@@ -176,7 +226,11 @@ impl<'a, R: Wait, L: Ledger, B: Sharing, G: Log> DeskPort for SharedPort<'a, R, 
 
 impl<'a, R: Wait, L: Ledger, B: Sharing, G: Log> Tallied for SharedPort<'a, R, L, B, G> {
     ghost finds = { λ s dest now answer t. LeavesReceipts s.pass.now.made.count
-        s.pass.now.receipts.items t.pass.now.made.count t.pass.now.receipts.items };
+        s.pass.now.receipts.items t.pass.now.made.count t.pass.now.receipts.items
+        × (t.passed ≡ s.passed)
+        × TellsUid L.site L.book L.bodies L.stands L.failed B.site B.first dest now answer };
+
+    ghost taken = { λ port. port.pass.now.made.count };
 
     fn tally(&self) -> u64 {
         self.pass.count()

@@ -14,6 +14,7 @@ pub mod Sizes
 pub mod Stable
 pub mod Told
 pub mod Unfit
+pub mod Unreadables
 pub mod Within
 pub mod Writes
 pub mod Zips

@@ -1,8 +1,10 @@
 -- What single queries show together, and what of it is read from the shelf. `Uses` says which cells
 -- are in use there, and `read_of` what can be read by a cell.
-use Rattle.std.specs.Prelude.{◌≡◌, ◌≢◌, ◌↔◌, ℕ, Bool, true, false, IsTrue, List, Option, Some, None}
-use Rattle.std.specs.Prelude.{Result, Ok, Err}
+use Rattle.std.specs.Prelude.{◌≡◌, ◌≢◌, ◌⊎◌, ◌↔◌, ℕ, Bool, true, false, IsTrue, List}
+use Rattle.std.specs.Prelude.{Option, Some, None, Result, Ok, Err}
 use Rattle.std.specs.FinMap as map
+use Rattle.std.specs.FinSet as set
+use Rattle.sqlite.specs.State.{State, HasCleanDisk}
 use Rattle.sqlite.specs.Tree.{Trees}
 use Rattle.dr_base.specs.Texts.{Text}
 use Rattle.dr_ledger.specs.declared.content.Job.{Job}
@@ -11,8 +13,13 @@ use Rattle.dr_ledger.specs.declared.content.NextRow.TheVariants.{Whole, Unreadab
 use Rattle.dr_ledger.specs.declared.fault.LedgerFault.{LedgerFault}
 use Rattle.dr_ledger.specs.declared.fault.LedgerFault.TheVariants as fault
 use Rattle.dr_ledger.specs.declared.item.Instance.{Instance}
-use Rattle.dr_ledger.specs.Bodies.{IsNeeded, IsThere}
+use Rattle.dr_ledger.specs.declared.item.Progress.{Progress}
+use Rattle.dr_ledger.specs.Bodies.{Bodies, IsNeeded, IsThere}
+use Rattle.dr_ledger.specs.Books.{Book, is_queued}
+use Rattle.dr_ledger.specs.Pairs.{Pair}
+use Rattle.dr_ledger.specs.Replies.{Counts, PremiseLasts}
 use Rattle.dr_store_schema.specs.Books.{book_of, contents_in, items_of}
+use Rattle.dr_store_calls.specs.Calling.{IsSafe}
 use Rattle.dr_store_calls.specs.declared.knowing.Known.{Known}
 use Rattle.dr_store_calls.specs.declared.knowing.Known.TheVariants as known
 use Rattle.dr_store_reads.specs.Queries.{IsFirstDue}
@@ -98,8 +105,49 @@ AdmitsKnown known.No result = result ≡ Ok tt
 AdmitsKnown known.Other result = result ≡ Err fault.Conflict
 AdmitsKnown (known.Same whole) result = result ≡ Ok tt
 
--- ---- for those above
+-- What a call that reads data sets leaves: the book and what can be read are as they were, and so
+-- is the count of failures, but where the store fails. `Was` and `Is` say that the shelf is clean.
+pub record LeavesAsRead {A : Type 0} (result : Result A LedgerFault)
+    (was_of read_of : List ℕ → Option (List ℕ)) (Was Is : Type 0)
+    (old new : State) (before now : ℕ) : Type 0 where
+  pub same : Is
+      → IsSafe new
+      → (book_of new.committed.trees ≡ book_of old.committed.trees)
+      × (bodies_with read_of new.committed.trees ≡ bodies_with was_of old.committed.trees)
+  pub stood : Is → IsSafe new → IsSafe old × Was
+  pub lasts : PremiseLasts result
+      (HasCleanDisk old × Was) (HasCleanDisk new × Is) (IsSafe old × Was) (IsSafe new × Is)
+  pub counts : Counts result before now
 
--- the same instance, with these bytes for its data set
-abbrev pub with_body : Job → List ℕ → Job
-with_body job body = record { uid = job.uid; key = job.key; body = body }
+-- ---- which can't be read
+
+-- each kept instance has its data set
+abbrev pub KeptAreThere : Book → Bodies → Type 0
+KeptAreThere b bodies =
+    (uid : Text) → set.contains b.kept uid ≡ true → IsThere bodies uid
+
+-- each instance that is still queued has it
+abbrev pub QueuedAreThere : Book → Bodies → Type 0
+QueuedAreThere b bodies =
+    (uid dest : Text) (row : Progress)
+    → map.get b.rows (uid, dest) ≡ Some row
+    → is_queued row ≡ true
+    → IsThere bodies uid
+
+-- A row is no longer queued, or it is told of its instance whether its data set can be read.
+abbrev pub TellsWhereQueued : (List ℕ → Option (List ℕ))
+    → Trees
+    → Pair × Progress
+    → Bool → Type 0
+TellsWhereQueued read_of db row told =
+    ((is_queued row.1 ≡ false) × (told ≡ true))
+    ⊎ ((is_queued row.1 ≡ true) × TellsWhereNeeded read_of db row.0.0 told)
+
+-- those that are looked at have their data sets, or that of this uid is needed and can't be read
+abbrev pub FindsUnreadable : (Book → Bodies → Type 0)
+    → (List ℕ → Option (List ℕ))
+    → Trees
+    → Option Text → Type 0
+FindsUnreadable HaveTheirs read_of db None = HaveTheirs (book_of db) (bodies_with read_of db)
+FindsUnreadable HaveTheirs read_of db (Some uid) =
+    IsNeeded (book_of db) uid × (IsThere (bodies_with read_of db) uid → ⊥)

@@ -1,12 +1,13 @@
 //! The ledger of one node, in the tables of a database, with its data sets on a shelf.
 ghost use Rattle.std.specs.Prelude.{◌≡◌, ◌≤◌, ◌^◌, Ok, false};
+ghost use Rattle.std.specs.FinMap as map;
 ghost use Rattle.sqlite.specs.Held.{state};
 ghost use Rattle.sqlite.specs.State.{HasCleanDisk};
 ghost use Rattle.dr_ledger.specs.Adopting.{Adopting, site_after};
-ghost use Rattle.dr_ledger.specs.Bodies.{OnlyTakes};
+ghost use Rattle.dr_ledger.specs.Bodies.{HasAll, OnlyTakes};
 ghost use Rattle.dr_ledger.specs.Items.{instance_of};
-ghost use Rattle.dr_ledger.specs.Replies.{Arrives, Counts, Drops, Forgets, Reads, Requeues};
-ghost use Rattle.dr_ledger.specs.Replies.{Settles};
+ghost use Rattle.dr_ledger.specs.Replies.{AreKept, Arrives, Counts, Drops, Forgets, Reads};
+ghost use Rattle.dr_ledger.specs.Replies.{Requeues, Settles};
 ghost use Rattle.dr_ledger.specs.SiteRoutes.{site_routing};
 ghost use Rattle.dr_store_schema.specs.Books.{book_of};
 ghost use Rattle.dr_store_calls.specs.Adoptions.{IsAdopted};
@@ -14,7 +15,8 @@ ghost use Rattle.dr_store_calls.specs.Calling.{IsSafe};
 ghost use Rattle.dr_store_calls.specs.Knowing.{IsAccepted};
 ghost use Rattle.dr_store.specs.Counting.{failures_after};
 ghost use Rattle.dr_store.specs.Owning.{IsCovered, KeepsOwn, LetsGoOf, LosesNoneOf, bodies_with};
-ghost use Rattle.dr_store.specs.Reading.{TellsWhereNeeded};
+ghost use Rattle.dr_store.specs.Reading.{FindsUnreadable, KeptAreThere, LeavesAsRead};
+ghost use Rattle.dr_store.specs.Reading.{QueuedAreThere, TellsWhereNeeded, TellsWhereQueued};
 ghost use Rattle.dr_store.specs.Surviving.{TakesOver, Wrote};
 
 use crate::counting::{counted, next_after};
@@ -110,21 +112,141 @@ impl<S: Alter, B: Shelf> SqlLedger<S, B> {
     }
 
     /// Whether the data set of this uid can be read, which the ledger needs. It is read for it, and
-    /// is then that of its instance.
+    /// is then that of its instance. Nothing is changed by it.
     ///
     /// Errors: Store, also where no instance has this uid; Memory.
-    pub fn can_read(&mut self, uid: &Text) -> Result<bool, LedgerFault>
+    fn can_read(&mut self, uid: &Text) -> Result<bool, LedgerFault>
         ensures reply { B.Shelf.is_clean self.new.shelf
             → IsSafe (state S.Store self.new.conn)
             → Reads result (λ told.
             TellsWhereNeeded (B.Shelf.read_of self.old.shelf)
             (state S.Store self.old.conn).committed.trees uid.now told) }
-        ensures counts { Counts result self.old.failures self.new.failures }
+        ensures leaves { LeavesAsRead result (B.Shelf.read_of self.old.shelf)
+            (B.Shelf.read_of self.new.shelf) (B.Shelf.is_clean self.old.shelf)
+            (B.Shelf.is_clean self.new.shelf) (state S.Store self.old.conn)
+            (state S.Store self.new.conn) self.old.failures self.new.failures }
         ensures site { self.new.site ≡ self.old.site }
     {
         let answer = read_row(&mut self.conn, &mut self.shelf, self.alloc, uid);
         self.failures = counted(&answer, self.failures);
         answer
+    }
+
+    /// The uid of the first of these kept instances whose data set can't be read.
+    fn first_of_kept(&mut self, kept: &[(Text, u64)]) -> Result<Option<Text>, LedgerFault>
+        ensures reply { B.Shelf.is_clean self.new.shelf
+            → IsSafe (state S.Store self.new.conn)
+            → AreKept (book_of (state S.Store self.old.conn).committed.trees) kept.now
+            → Reads result (FindsUnreadable KeptAreThere (B.Shelf.read_of self.old.shelf)
+            (state S.Store self.old.conn).committed.trees) }
+        ensures leaves { LeavesAsRead result (B.Shelf.read_of self.old.shelf)
+            (B.Shelf.read_of self.new.shelf) (B.Shelf.is_clean self.old.shelf)
+            (B.Shelf.is_clean self.new.shelf) (state S.Store self.old.conn)
+            (state S.Store self.new.conn) self.old.failures self.new.failures }
+        ensures site { self.new.site ≡ self.old.site }
+    {
+        for one in kept {
+            if !self.can_read(&one.0)? {
+                return Ok(Some(one.0.clone()?));
+            }
+        }
+        Ok(None)
+    }
+
+    /// Whether the data set of a row's instance isn't needed for it, or can be read.
+    fn has_what_it_sends(&mut self, row: &((Text, Text), Progress)) -> Result<bool, LedgerFault>
+        ensures reply { B.Shelf.is_clean self.new.shelf
+            → IsSafe (state S.Store self.new.conn)
+            → Reads result (TellsWhereQueued (B.Shelf.read_of self.old.shelf)
+            (state S.Store self.old.conn).committed.trees row.now) }
+        ensures leaves { LeavesAsRead result (B.Shelf.read_of self.old.shelf)
+            (B.Shelf.read_of self.new.shelf) (B.Shelf.is_clean self.old.shelf)
+            (B.Shelf.is_clean self.new.shelf) (state S.Store self.old.conn)
+            (state S.Store self.new.conn) self.old.failures self.new.failures }
+        ensures site { self.new.site ≡ self.old.site }
+    {
+        if !row.1.is_queued() {
+            return Ok(true);
+        }
+        self.can_read(&row.0.0)
+    }
+
+    /// The uid of the first of these rows that is still queued and whose data set can't be read.
+    fn first_of_rows(
+        &mut self,
+        rows: &[((Text, Text), Progress)],
+    ) -> Result<Option<Text>, LedgerFault>
+        ensures reply { B.Shelf.is_clean self.new.shelf
+            → IsSafe (state S.Store self.new.conn)
+            → rows.now ≡ map.entries (book_of (state S.Store self.old.conn).committed.trees).rows
+            → Reads result (FindsUnreadable QueuedAreThere (B.Shelf.read_of self.old.shelf)
+            (state S.Store self.old.conn).committed.trees) }
+        ensures leaves { LeavesAsRead result (B.Shelf.read_of self.old.shelf)
+            (B.Shelf.read_of self.new.shelf) (B.Shelf.is_clean self.old.shelf)
+            (B.Shelf.is_clean self.new.shelf) (state S.Store self.old.conn)
+            (state S.Store self.new.conn) self.old.failures self.new.failures }
+        ensures site { self.new.site ≡ self.old.site }
+    {
+        for row in rows {
+            if !self.has_what_it_sends(row)? {
+                return Ok(Some(row.0.0.clone()?));
+            }
+        }
+        Ok(None)
+    }
+
+    /// The uid of the first kept instance whose data set can't be read.
+    fn first_kept(&mut self) -> Result<Option<Text>, LedgerFault>
+        ensures reply { B.Shelf.is_clean self.new.shelf
+            → IsSafe (state S.Store self.new.conn)
+            → Reads result (FindsUnreadable KeptAreThere (B.Shelf.read_of self.old.shelf)
+            (state S.Store self.old.conn).committed.trees) }
+        ensures leaves { LeavesAsRead result (B.Shelf.read_of self.old.shelf)
+            (B.Shelf.read_of self.new.shelf) (B.Shelf.is_clean self.old.shelf)
+            (B.Shelf.is_clean self.new.shelf) (state S.Store self.old.conn)
+            (state S.Store self.new.conn) self.old.failures self.new.failures }
+        ensures site { self.new.site ≡ self.old.site }
+    {
+        let kept = self.kept()?;
+        self.first_of_kept(kept.as_slice())
+    }
+
+    /// The uid of the first instance that is still queued and whose data set can't be read.
+    fn first_queued(&mut self) -> Result<Option<Text>, LedgerFault>
+        ensures reply { B.Shelf.is_clean self.new.shelf
+            → IsSafe (state S.Store self.new.conn)
+            → Reads result (FindsUnreadable QueuedAreThere (B.Shelf.read_of self.old.shelf)
+            (state S.Store self.old.conn).committed.trees) }
+        ensures leaves { LeavesAsRead result (B.Shelf.read_of self.old.shelf)
+            (B.Shelf.read_of self.new.shelf) (B.Shelf.is_clean self.old.shelf)
+            (B.Shelf.is_clean self.new.shelf) (state S.Store self.old.conn)
+            (state S.Store self.new.conn) self.old.failures self.new.failures }
+        ensures site { self.new.site ≡ self.old.site }
+    {
+        let rows = self.rows()?;
+        self.first_of_rows(rows.as_slice())
+    }
+
+    /// The uid of an instance whose data set is needed and can't be read, if there is one. Each
+    /// that is needed is read for it, until one can't be: first those of kept instances, then those
+    /// that are still queued. Nothing is changed by it.
+    ///
+    /// Errors: Store, Memory.
+    pub fn find_unreadable(&mut self) -> Result<Option<Text>, LedgerFault>
+        ensures reply { B.Shelf.is_clean self.new.shelf
+            → IsSafe (state S.Store self.new.conn)
+            → Reads result (FindsUnreadable HasAll (B.Shelf.read_of self.old.shelf)
+            (state S.Store self.old.conn).committed.trees) }
+        ensures leaves { LeavesAsRead result (B.Shelf.read_of self.old.shelf)
+            (B.Shelf.read_of self.new.shelf) (B.Shelf.is_clean self.old.shelf)
+            (B.Shelf.is_clean self.new.shelf) (state S.Store self.old.conn)
+            (state S.Store self.new.conn) self.old.failures self.new.failures }
+        ensures site { self.new.site ≡ self.old.site }
+    {
+        match self.first_kept()? {
+            Some(uid) => Ok(Some(uid)),
+            None => self.first_queued(),
+        }
     }
 
     /// Takes an item from a caller, as `Ledger::arrive` says, and survives a crash at any moment.

@@ -65,7 +65,8 @@ where
     has_item(conn, alloc, uid)
 }
 
-/// Whether its data set is there. It isn't read.
+/// Whether the tables have a cell for its data set. Nothing is read by it: that it is there doesn't
+/// say that the data set can be read.
 pub fn has_data_set<S: Alter>(
     conn: &mut Connection<S>,
     alloc: Global,

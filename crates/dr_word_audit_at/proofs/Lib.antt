@@ -1,5 +1,6 @@
 mod CutJournals
 mod CutsBegin
+mod Joining
 mod Noted
 mod Numbering
 mod Reached

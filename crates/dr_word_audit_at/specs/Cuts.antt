@@ -1,6 +1,7 @@
 -- Journals of nodes that run, each cut somewhere, and what stands behind the cut.
 use Rattle.std.specs.Prelude.{◌≡◌, ◌≤◌, ◌+◌, ◌⊎◌, ℕ, Bool, true, false, cond, List, [], ◌∷◌, ◌++◌}
-use Rattle.std.specs.Prelude.{Contains, drop, length, take}
+use Rattle.std.specs.Prelude.{Contains, drop, length, map as mapped, reverse, take}
+use Rattle.std.specs.Global.{Vec}
 use Rattle.std.specs.List.{AllByRecursion, AllZip}
 use Rattle.std.specs.Str.{bytes_eq}
 use Rattle.dr_base.specs.Texts.{Text}
@@ -20,6 +21,8 @@ use Rattle.dr_word_audit.specs.Places.{came_from, goes_on}
 use Rattle.dr_word_audit.specs.declared.audited.Audited.{Audited}
 use Rattle.dr_word_audit_at.specs.declared.cutting.MissingLine.{MissingLine}
 use Rattle.dr_word_audit_at.specs.declared.cutting.MissingLine.TheVariants as missing
+use Rattle.dr_word_audit_at.specs.declared.judging.Round.{Round}
+use Rattle.dr_word_audit_at.specs.declared.judging.Round.TheVariants.{Over, Moved}
 
 -- ---- cuts
 
@@ -32,6 +35,20 @@ abbrev pub cuts : List ℕ → List NodeJournal → List NodeJournal
 cuts [] nodes = []
 cuts (n ∷ ns) [] = []
 cuts (n ∷ ns) (node ∷ nodes) = cut_at n node ∷ cuts ns nodes
+
+-- a journal with the lines behind its cut, of which the last one comes first
+abbrev pub joined_at : NodeJournal → List JournalLine → NodeJournal
+joined_at node rest = record { name = node.name; lines = node.lines ++ reverse rest }
+
+-- the lines behind each cut
+abbrev pub rests_of : List (Vec JournalLine) → List (List JournalLine)
+rests_of = mapped (λ (rest : Vec JournalLine). rest.items)
+
+-- each journal with the lines behind its cut
+abbrev pub joined : List NodeJournal → List (List JournalLine) → List NodeJournal
+joined [] rests = []
+joined (node ∷ nodes) [] = []
+joined (node ∷ nodes) (rest ∷ rests) = joined_at node rest ∷ joined nodes rests
 
 -- no cut has gone back
 abbrev pub AreNoEarlier : List ℕ → List ℕ → Type 0
@@ -173,6 +190,18 @@ MovesFor read came old new true =
     × IsFor mismatch mend at
     × Moves mend at read old new true
 MovesFor read came old new false = (new ≡ old) × IsFinal old read came
+
+-- What comes of an audit of journals that were read and cut at these numbers: it is over, and no
+-- cut is moved; or one is, and they are as they were read.
+abbrev pub IsRound : Network → List NodeJournal → List ℕ → List ℕ → Round → Type 0
+IsRound plan read old new (Over judged) =
+    (judged.journals.items ≡ cuts old read)
+    × Audits plan judged.journals.items judged.verdict
+    × MovesFor read judged.verdict old new false
+IsRound plan read old new (Moved back) =
+    (back.items ≡ read)
+    × ((came : AuditVerdict) × Audits plan (cuts old read) came
+    × MovesFor read came old new true)
 
 -- What is audited of journals of which so many lines were there first, and these in the end. Each
 -- is cut where it was first, or further on, and no further than what is before the cuts wants;

@@ -1,10 +1,12 @@
 //! Where journals of nodes that run are cut, and what stands behind the cut.
-ghost use Rattle.std.specs.Prelude.{◌≡◌, ◌<◌, ◌+◌, ℕ, IfOk, MatchOption, drop, length, set};
+ghost use Rattle.std.specs.Prelude.{◌≡◌, ◌<◌, ◌+◌, ◌++◌, ℕ, IfOk, MatchOption, OnOk, drop};
+ghost use Rattle.std.specs.Prelude.{get_or, length, reverse, set, take};
 ghost use Rattle.dr_word_audit_at.specs.Cuts.{IsUpToNext, MendsNowhere, Moves, cut_at as is_cut};
-ghost use Rattle.dr_word_audit_at.specs.Cuts.{cuts, mends, put_on, rest_named};
+ghost use Rattle.dr_word_audit_at.specs.Cuts.{cuts, joined, joined_at, mends, put_on, rest_named};
+ghost use Rattle.dr_word_audit_at.specs.Cuts.{rests_of};
 
-use dr_base::Text;
-use dr_ledger_history::{JournalLine, copy_page};
+use dr_base::{Seq, Text};
+use dr_ledger_history::JournalLine;
 use dr_word_audit::placing::{came_from, goes_on};
 use dr_world_audit::audit::NodeJournal;
 use std::alloc::{AllocError, Global};
@@ -49,6 +51,16 @@ pub(crate) fn behind(lines: &[JournalLine], count: usize) -> &[JournalLine]
     }
     let (_cut, rest) = lines.split_at(count);
     rest
+}
+
+/// The cut at that place; 0 where there is none.
+pub(crate) fn count_at(counts: &[usize], place: usize) -> usize
+    ensures { result ≡ get_or counts.now place 0 }
+{
+    match counts.get(place) {
+        Some(count) => *count,
+        None => 0,
+    }
 }
 
 /// How many lines of the journal there are up to the first behind the cut that says it.
@@ -126,27 +138,104 @@ pub(crate) fn move_cut(
     }
 }
 
-/// The first lines of a journal, so many.
-fn cut_at(alloc: Global, node: &NodeJournal, count: usize) -> Result<NodeJournal, AllocError>
-    ensures { IfOk result (λ cut. cut ≡ is_cut count node.now) }
-{
-    let name = node.name.clone()?;
-    let lines = copy_page(alloc, node.lines.as_slice(), 0, count)?;
-    Ok(NodeJournal { name, lines })
+/// Journals that are cut, with the lines behind each cut, of which the last one comes first.
+#[derive(Drop)]
+pub(crate) struct CutJournals {
+    pub journals: Vec<NodeJournal>,
+    pub rests: Vec<Vec<JournalLine>>,
 }
 
-/// Each journal cut at its number.
+/// Takes the lines behind so many off, and answers them, the last one first.
+fn cut_off(
+    alloc: Global,
+    lines: &mut Vec<JournalLine>,
+    count: usize,
+) -> Result<Vec<JournalLine>, AllocError>
+    ensures cut { OnOk result (lines.new.items ≡ take count lines.old.items) }
+    ensures rest { IfOk result (λ rest.
+        lines.new.items ++ reverse rest.items ≡ lines.old.items) }
+{
+    let mut rest = Vec::new(alloc);
+    while lines.len() > count {
+        let Some(line) = lines.pop() else {
+            return Ok(rest);
+        };
+        rest.push(line)?;
+    }
+    Ok(rest)
+}
+
+/// A journal cut behind so many lines, and those behind the cut.
+fn cut_at(
+    alloc: Global,
+    node: NodeJournal,
+    count: usize,
+) -> Result<(NodeJournal, Vec<JournalLine>), AllocError>
+    ensures cut { IfOk result (λ both. both.0 ≡ is_cut count node) }
+    ensures whole { IfOk result (λ both. joined_at both.0 both.1.items ≡ node) }
+{
+    let NodeJournal { name, lines } = node;
+    let mut lines = lines.into_vec();
+    let rest = cut_off(alloc, &mut lines, count)?;
+    let lines = Seq::from_vec(lines);
+    Ok((NodeJournal { name, lines }, rest))
+}
+
+/// Cuts each journal at its number. No line is copied.
 pub(crate) fn cut_all(
     alloc: Global,
     counts: &[usize],
-    read: &[NodeJournal],
-) -> Result<Vec<NodeJournal>, AllocError>
-    requires { length counts.now ≡ length read.now }
-    ensures { IfOk result (λ nodes. nodes.items ≡ cuts counts.now read.now) }
+    read: Vec<NodeJournal>,
+) -> Result<CutJournals, AllocError>
+    requires { length counts.now ≡ length read.items }
+    ensures cut { IfOk result (λ cut. cut.journals.items ≡ cuts counts.now read.items) }
+    ensures whole { IfOk result (λ cut.
+        joined cut.journals.items (rests_of cut.rests.items) ≡ read.items) }
 {
-    let mut nodes = Vec::new(alloc);
-    for place in 0..read.len() {
-        nodes.push(cut_at(alloc, &read[place], counts[place])?)?;
+    let (mut journals, mut rests) = (Vec::new(alloc), Vec::new(alloc));
+    for node in read {
+        let count = count_at(counts, journals.len());
+        let (journal, rest) = cut_at(alloc, node, count)?;
+        journals.push(journal)?;
+        rests.push(rest)?;
+    }
+    Ok(CutJournals { journals, rests })
+}
+
+/// Puts lines back behind those that were cut.
+fn put_back(lines: &mut Vec<JournalLine>, rest: Vec<JournalLine>) -> Result<(), AllocError>
+    ensures { OnOk result (lines.new.items ≡ lines.old.items ++ reverse rest.items) }
+{
+    let mut rest = rest;
+    while let Some(line) = rest.pop() {
+        lines.push(line)?;
+    }
+    Ok(())
+}
+
+/// A journal with the lines that stood behind its cut.
+fn join(node: NodeJournal, rest: Vec<JournalLine>) -> Result<NodeJournal, AllocError>
+    ensures { IfOk result (λ whole. whole ≡ joined_at node rest.items) }
+{
+    let NodeJournal { name, lines } = node;
+    let mut lines = lines.into_vec();
+    put_back(&mut lines, rest)?;
+    let lines = Seq::from_vec(lines);
+    Ok(NodeJournal { name, lines })
+}
+
+/// The journals as they were before they were cut. No line is copied.
+pub(crate) fn join_all(alloc: Global, cut: CutJournals) -> Result<Vec<NodeJournal>, AllocError>
+    ensures { IfOk result (λ nodes.
+        nodes.items ≡ joined cut.journals.items (rests_of cut.rests.items)) }
+{
+    let CutJournals { journals, rests } = cut;
+    let (mut nodes, mut rests) = (Vec::new(alloc), rests.into_iter());
+    for node in journals {
+        let Some(rest) = rests.next() else {
+            return Ok(nodes);
+        };
+        nodes.push(join(node, rest)?)?;
     }
     Ok(nodes)
 }

@@ -1,10 +1,9 @@
 //! The audit of journals of nodes that run.
 ghost use Rattle.std.specs.Prelude.{◌≡◌, IfOk, MatchOption, length};
-ghost use Rattle.dr_world_audit.specs.Sites.{Audits};
 ghost use Rattle.dr_world_audit.specs.declared.audit.AuditVerdict.TheVariants as verdict;
-ghost use Rattle.dr_word_audit_at.specs.Cuts.{HasNone, IsFor, IsJudged, MovesFor, cuts};
+ghost use Rattle.dr_word_audit_at.specs.Cuts.{HasNone, IsFor, IsJudged, IsRound, MovesFor};
 
-use crate::cutting::{MissingLine, cut_all, move_cut};
+use crate::cutting::{CutJournals, MissingLine, cut_all, join_all, move_cut};
 use crate::moving::first_cuts;
 use dr_base::Text;
 use dr_cert::Sealed;
@@ -74,46 +73,61 @@ fn further(
     }
 }
 
-/// The journals cut at these numbers, with the verdict on them.
+/// What comes of an audit of journals cut somewhere.
+#[derive(Drop)]
+enum Round {
+    /// Nothing behind the cuts mends what doesn't match.
+    Over(Judged),
+    /// A cut was moved on; these are the journals, uncut.
+    Moved(Vec<NodeJournal>),
+}
+
+/// Audits the journals cut at these numbers, and moves a cut on where that mends a mismatch.
 ///
-/// Errors: those of `audit`.
-fn judge_at(
+/// Errors: those of `audit`; Memory.
+fn try_cuts(
     alloc: Global,
     sealed: &Sealed,
-    counts: &[usize],
-    read: &[NodeJournal],
-) -> Result<Judged, AuditFault>
-    requires { length counts.now ≡ length read.now }
-    ensures { IfOk result (λ judged.
-        (judged.journals.items ≡ cuts counts.now read.now)
-        × Audits sealed.now.plan judged.journals.items judged.verdict) }
+    counts: &mut Vec<usize>,
+    read: Vec<NodeJournal>,
+) -> Result<Round, AuditFault>
+    requires { length counts.old.items ≡ length read.items }
+    ensures { IfOk result
+        (IsRound sealed.now.plan read.items counts.old.items counts.new.items) }
 {
-    let journals = cut_all(alloc, counts, read)?;
-    let verdict = audit(alloc, sealed, journals.as_slice())?;
-    Ok(Judged { journals, verdict })
+    let cut = cut_all(alloc, counts.as_slice(), read)?;
+    let verdict = audit(alloc, sealed, cut.journals.as_slice())?;
+    let read = join_all(alloc, cut)?;
+    let is_moved = further(&verdict, counts, read.as_slice())?;
+    if is_moved {
+        return Ok(Round::Moved(read));
+    }
+    let cut = cut_all(alloc, counts.as_slice(), read)?;
+    let CutJournals { journals, rests: _ } = cut;
+    Ok(Round::Over(Judged { journals, verdict }))
 }
 
 /// Audits journals that were read of nodes that run, of which so many lines were there first. They
 /// are cut there; and as long as a line behind the cuts mends what doesn't match, the cut of its
-/// journal is put behind the next one. No cut is moved for another reason.
+/// journal is put behind the next one. No cut is moved for another reason, and no line is copied.
 ///
 /// Errors: those of `audit`; Memory.
 pub fn judge(
     alloc: Global,
     sealed: &Sealed,
     first: Vec<usize>,
-    read: &[NodeJournal],
+    read: Vec<NodeJournal>,
 ) -> Result<Judged, AuditFault>
-    requires { length first.items ≡ length read.now }
+    requires { length first.items ≡ length read.items }
     ensures { IfOk result (λ judged.
-        IsJudged sealed.now.plan first.items read.now judged.journals.items judged.verdict) }
+        IsJudged sealed.now.plan first.items read.items judged.journals.items judged.verdict) }
 {
-    let mut counts = first_cuts(alloc, read, first.as_slice())?;
+    let mut counts = first_cuts(alloc, read.as_slice(), first.as_slice())?;
+    let mut left = read;
     for _round in 0..u64::MAX {
-        let judged = judge_at(alloc, sealed, counts.as_slice(), read)?;
-        let is_moved = further(&judged.verdict, &mut counts, read)?;
-        if !is_moved {
-            return Ok(judged);
+        match try_cuts(alloc, sealed, &mut counts, left)? {
+            Round::Over(judged) => return Ok(judged),
+            Round::Moved(back) => left = back,
         }
     }
     Err(AuditFault::Memory)

@@ -13,7 +13,7 @@ ghost use Rattle.dr_word_audit_at.specs.Firsts.{AreAllFirst, AreFirst, is_goal, 
 ghost use Rattle.dr_word_audit_at.specs.Firsts.{says_came, says_goes};
 ghost use Rattle.dr_word_audit_at.specs.declared.cutting.MissingLine.TheVariants as wants;
 
-use crate::cutting::{MissingLine, behind, move_cut};
+use crate::cutting::{MissingLine, behind, count_at, move_cut};
 use dr_base::Text;
 use dr_ledger::Instance;
 use dr_ledger_history::JournalLine;
@@ -296,16 +296,6 @@ fn move_for_all(
         move_for(read, all, name, line, counts)?;
     }
     Ok(())
-}
-
-/// The cut at that place; 0 where there is none.
-fn count_at(counts: &[usize], place: usize) -> usize
-    ensures { result ≡ get_or counts.now place 0 }
-{
-    match counts.get(place) {
-        Some(count) => *count,
-        None => 0,
-    }
 }
 
 /// The lines from one cut up to another.

@@ -288,11 +288,11 @@ fn judged_of(
     alloc: Global,
     sealed: &Sealed,
     first: Vec<usize>,
-    read: &[NodeJournal],
+    read: Vec<NodeJournal>,
 ) -> Result<Judged, AskFault>
-    requires { length first.items ≡ length read.now }
+    requires { length first.items ≡ length read.items }
     ensures { IfOk result (λ judged.
-        IsJudged sealed.now.plan first.items read.now judged.journals.items judged.verdict) }
+        IsJudged sealed.now.plan first.items read.items judged.journals.items judged.verdict) }
 {
     match judge(alloc, sealed, first, read) {
         Ok(judged) => Ok(judged),
@@ -309,10 +309,10 @@ fn conclude(
     sealed: &Sealed,
     others: &[Text],
     first: Vec<usize>,
-    read: &[NodeJournal],
+    read: Vec<NodeJournal>,
 ) -> Result<Audited, AskFault>
-    requires { length first.items ≡ length read.now }
-    ensures { IfOk result (IsConcluded sealed.now.plan first.items read.now) }
+    requires { length first.items ≡ length read.items }
+    ensures { IfOk result (IsConcluded sealed.now.plan first.items read.items) }
 {
     let _plan = sealed.plan();
     let judged = judged_of(alloc, sealed, first, read)?;
@@ -342,7 +342,7 @@ fn audit_by<'a, N: Network, C: Clock>(
     if places.len() != read.len() {
         return Err(NodesStopped::Memory);
     }
-    match conclude(asker.alloc, sealed, others, places, read.as_slice()) {
+    match conclude(asker.alloc, sealed, others, places, read) {
         Ok(audited) => Ok(audited),
         Err(AskFault::Memory) => Err(NodesStopped::Memory),
         Err(fault) => Err(NodesStopped::Asking(fault, Text::empty(asker.alloc))),

@@ -54,18 +54,19 @@ module _ {L : Type 0} (HoldsPlan HoldsCertificate : Text → Type 0) (MayOpen : 
     unheard_serves halt h = unopened_serves halt (unheard halt h)
 
     -- what comes of serving at the opened node is what the word comes to
-    pub opened_serves : (result : Result Text Halt) → MatchResult result (λ text. (last : L) × (stands last → Grew site site.name (book old) (book last) text)) IsUnserved
-        → Serves HoldsPlan HoldsCertificate MayOpen site_of book stands name result
-    opened_serves (Ok text) (last, grew) = (sealed, site, old, at, (last, λ s. subst (λ n. Grew site n (book old) (book last) text) at.at.named (grew s)))
-    opened_serves (Err (Refused fault)) h = (sealed, site, old, at, tt)
-    opened_serves (Err Receipt) h = (sealed, site, old, at, tt)
-    opened_serves (Err Memory) h = tt
-    opened_serves (Err (NoPlan told)) h = absurd h
-    opened_serves (Err (NoCertificate fault)) h = absurd h
-    opened_serves (Err NoNode) h = absurd h
-    opened_serves (Err (NotOpened fault)) h = absurd h
-    opened_serves (Err (NoInstance fault)) h = absurd h
-    opened_serves (Err (Failed failure)) h = absurd h
+    pub reported_serves : (text : Text) (last : L) → (stands last → Grew site site.name (book old) (book last) text) → Serves HoldsPlan HoldsCertificate MayOpen site_of book stands name (Ok text)
+    reported_serves text last grew = (sealed, site, old, at, (last, λ s. subst (λ n. Grew site n (book old) (book last) text) at.at.named (grew s)))
+
+    pub opened_serves : (halt : Halt) → IsUnserved halt → Serves HoldsPlan HoldsCertificate MayOpen site_of book stands name (Err halt)
+    opened_serves (Refused fault) h = (sealed, site, old, at, tt)
+    opened_serves Receipt h = (sealed, site, old, at, tt)
+    opened_serves Memory h = tt
+    opened_serves (NoPlan told) h = absurd h
+    opened_serves (NoCertificate fault) h = absurd h
+    opened_serves NoNode h = absurd h
+    opened_serves (NotOpened fault) h = absurd h
+    opened_serves (NoInstance fault) h = absurd h
+    opened_serves (Failed failure) h = absurd h
 
   module _ (HoldsFile : Text → Type 0) (VisitsAll : Part → List NextHop → OwnPort L → OwnPort L → Type 0) (before after : Option Text) where
     -- a word that doesn't come to the node doesn't send

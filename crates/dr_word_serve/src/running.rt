@@ -92,7 +92,7 @@ fn listen_at<'a, L: Views + Drop, N: Network>(
     }
 }
 
-/// Serves on a ledger of the site; the report of what it then has.
+/// Serves on a ledger of the site; the report of what it then has, and the ledger.
 ///
 /// Errors: Receipt, Refused with Store or Memory, Memory.
 fn serve_ledger<
@@ -112,14 +112,13 @@ fn serve_ledger<
     hops: Vec<NextHop>,
     terms: Terms<'_>,
     means: Means<'_, D, N, C, G>,
-) -> Result<Text, Halt<'a>>
+) -> Result<(Text, L), Halt<'a>>
 where
     N::Socket: Send,
     N::Listener: Sync,
     requires { L.site ledger ≡ site }
     ensures { MatchResult result
-        (λ text.
-        (last : L) × (L.stands last → Grew site site.name (L.book ledger) (L.book last) text))
+        (λ told. L.stands told.1 → Grew site site.name (L.book ledger) (L.book told.1) told.0)
         IsUnserved }
 {
     let Ok(name) = site.name().clone() else {
@@ -134,12 +133,16 @@ where
         Err(fault) => return Err(unserved(fault)),
     };
     match report_of(alloc, &name, &mut ledger) {
-        Ok(report) => Ok(report),
-        Err(fault) => Err(Halt::Refused(fault)),
+        Ok(report) => Ok((report, ledger)),
+        Err(fault) => {
+            drop(ledger);
+            Err(Halt::Refused(fault))
+        }
     }
 }
 
-/// Serves by these means on the ledger of a node that was opened; the report of what it then has.
+/// Serves by these means on the ledger of a node that was opened; the report of what it then has,
+/// and the ledger.
 ///
 /// Errors: Receipt, Refused with Store or Memory, Memory.
 fn serve_opened<
@@ -157,15 +160,15 @@ fn serve_opened<
     opened: Opened<L>,
     terms: Terms<'_>,
     means: Means<'_, D, N, C, G>,
-) -> Result<Text, Halt<'a>>
+) -> Result<(Text, L), Halt<'a>>
 where
     N::Socket: Send,
     N::Listener: Sync,
     requires { L.site opened.ledger ≡ opened.site }
     ensures { MatchResult result
-        (λ text. (last : L)
-        × (L.stands last
-        → Grew opened.site opened.site.name (L.book opened.ledger) (L.book last) text)) IsUnserved }
+        (λ told. L.stands told.1
+        → Grew opened.site opened.site.name (L.book opened.ledger) (L.book told.1) told.0)
+        IsUnserved }
 {
     let Ok(hops) = hops_of(alloc, &opened.site, opened.sealed.plan()) else {
         drop(opened);
@@ -322,7 +325,16 @@ where
         clock: system.clock,
         log: monitor,
     };
-    serve_opened::<R, O::Ledger, N::Socket, N::Listener, N, C, M>(rt, alloc, opened, terms, means)
+    let served = serve_opened::<R, O::Ledger, N::Socket, N::Listener, N, C, M>(
+        rt, alloc, opened, terms, means,
+    );
+    match served {
+        Ok((report, ledger)) => {
+            drop(ledger);
+            Ok(report)
+        }
+        Err(halt) => Err(halt),
+    }
 }
 
 /// Tests, before anything is opened, that a report takes no place of the node's own files, nor that

@@ -13,16 +13,18 @@ use Rattle.dr_world.specs.declared.fault.WorldFault.{WorldFault}
 use Rattle.dr_world.specs.declared.fault.WorldFault.TheVariants as fault
 use Rattle.dr_world.specs.declared.order.WorldOrder.{WorldOrder}
 use Rattle.dr_world.specs.declared.order.WorldOrder.TheVariants as order
-use Rattle.dr_world.specs.Orders.{IsChangeOrder, OrdersChange}
+use Rattle.dr_world.specs.Orders.{IsChangeOrder, OrdersChange, OrdersRefusal}
 use Rattle.dr_world.specs.Played.{EndsEarly}
 use Rattle.dr_world_script.specs.declared.act.Act.{Act}
 use Rattle.dr_world_script.specs.declared.act.Act.TheVariants as act
+use Rattle.dr_world_script.specs.declared.step.Step.{Step}
+use Rattle.dr_world_script.specs.declared.step.Step.TheVariants as step
 use Rattle.dr_world_script.specs.Scripts.{IsLineAt, IsScriptOf, Tells, told_lines}
 use Rattle.dr_world_script.proofs.Placing.{lines_in_order}
 use Rattle.dr_word_simulate.specs.declared.orders.ActFault.{ActFault}
 use Rattle.dr_word_simulate.specs.declared.orders.ActFault.TheVariants as stop
 use Rattle.dr_word_simulate.specs.declared.outcome.PlayOutcome.{PlayOutcome}
-use Rattle.dr_word_simulate.specs.declared.outcome.PlayOutcome.TheVariants.{Report, NoScript, Unsealed, Unread, Store, HalfAdopted, Memory}
+use Rattle.dr_word_simulate.specs.declared.outcome.PlayOutcome.TheVariants.{Report, NoScript, Unsealed, Unread, HalfAdopted, Memory}
 use Rattle.dr_word_simulate.specs.Orders.{AddsOrder, IsOrderOf, IsUndone, StopsAt}
 use Rattle.dr_word_simulate.specs.Outcomes.{HasChangeIn, IsOutcomeOf, StopsAs}
 use Rattle.dr_word_simulate.specs.Reported.{IsUnreported}
@@ -81,26 +83,26 @@ module _ (Holds : Text → Text → Type 0) where
   stopped plan certificate text acts place stop.Unsealed (Unsealed line) script (before, act.Foreign what, later, e, at, why, rest) came = absurd why
   stopped plan certificate text acts place stop.Unsealed (Unsealed line) script (before, act.Adopt next own, later, e, at, why, rest) came =
       let P : List Act → Type 0 = λ xs. IsScriptOf text xs in
-      let Q : ℕ → Type 0 = λ n. IsLineAt text n line in
-      (next, own, lines_in_order text before later (act.Adopt next own) line (subst P e script) (subst Q (sym at) came), why)
+      let Q : ℕ → Type 0 = λ n. IsLineAt text n line in (
+        (next, own, lines_in_order text before later (act.Adopt next own) line (subst P e script) (subst Q (sym at) came), why),
+        (place, came, (acts, script, (before, act.Adopt next own, later, e, at, why, rest))),
+      )
   stopped plan certificate text acts place stop.Unsealed (Report report) script at came = absurd came
   stopped plan certificate text acts place stop.Unsealed (NoScript line) script at came = absurd came
-  stopped plan certificate text acts place stop.Unsealed (Unread path error) script at came = tt
-  stopped plan certificate text acts place stop.Unsealed Store script at came = tt
+  stopped plan certificate text acts place stop.Unsealed (Unread path error) script at came = absurd came
   stopped plan certificate text acts place stop.Unsealed HalfAdopted script at came = absurd came
   stopped plan certificate text acts place stop.Unsealed Memory script at came = tt
   stopped plan certificate text acts place (stop.Unread named why) (Report report) script at came = absurd came
   stopped plan certificate text acts place (stop.Unread named why) (NoScript line) script at came = absurd came
   stopped plan certificate text acts place (stop.Unread named why) (Unsealed line) script at came = absurd came
-  stopped plan certificate text acts place (stop.Unread named why) (Unread path error) script at came = tt
-  stopped plan certificate text acts place (stop.Unread named why) Store script at came = tt
+  stopped plan certificate text acts place (stop.Unread named why) (Unread path error) script at came =
+      (place, (acts, script, subst (StopsAt Holds acts place) (λ j. stop.Unread (sym came.0 j) (sym came.1 j)) at))
   stopped plan certificate text acts place (stop.Unread named why) HalfAdopted script at came = absurd came
   stopped plan certificate text acts place (stop.Unread named why) Memory script at came = tt
   stopped plan certificate text acts place stop.Memory (Report report) script at came = absurd came
   stopped plan certificate text acts place stop.Memory (NoScript line) script at came = absurd came
   stopped plan certificate text acts place stop.Memory (Unsealed line) script at came = absurd came
-  stopped plan certificate text acts place stop.Memory (Unread path error) script at came = tt
-  stopped plan certificate text acts place stop.Memory Store script at came = tt
+  stopped plan certificate text acts place stop.Memory (Unread path error) script at came = absurd came
   stopped plan certificate text acts place stop.Memory HalfAdopted script at came = absurd came
   stopped plan certificate text acts place stop.Memory Memory script at came = tt
 
@@ -126,11 +128,29 @@ told_change Holds (a ∷ acts) (one ∷ orders) next h among = elim (Contains-co
     here a (order.Deed (deed.Bytes link side bytes)) same is = absurd (subst IsChangeOrder (sym same) tt)
     here a (order.Foreign what) same is = absurd (subst IsChangeOrder (sym same) tt)
 
-pub has_change : (Holds : Text → Text → Type 0) (text : Text) (acts : List Act) (orders : List WorldOrder) → IsScriptOf text acts → AllZip (IsOrderOf Holds) acts orders → OrdersChange orders → HasChangeIn text
-has_change Holds text acts orders script ordered (next, among) = (acts, script, told_change Holds acts orders next ordered among)
+-- a refusal among the orders is one among the lines
+told_refusal : (Holds : Text → Text → Type 0) (acts : List Act) (orders : List WorldOrder) (node : Text) → AllZip (IsOrderOf Holds) acts orders → Contains orders (order.Deed (deed.Step (step.RefuseStore node)))
+    → Contains acts (act.Step (step.RefuseStore node))
+told_refusal Holds [] [] node h among = absurd (nothing_in_nil (order.Deed (deed.Step (step.RefuseStore node))) among)
+told_refusal Holds [] (one ∷ orders) node h among = absurd h
+told_refusal Holds (a ∷ acts) [] node h among = absurd h
+told_refusal Holds (a ∷ acts) (one ∷ orders) node h among = elim (Contains-cons_cases one orders (order.Deed (deed.Step (step.RefuseStore node))) among) [
+  | inl same ↦ here a (subst (IsOrderOf Holds a) same h.0)
+  | inr later ↦ Contains-there a acts (act.Step (step.RefuseStore node)) (told_refusal Holds acts orders node h.1 later)
+]
+  where
+    here : (b : Act) → IsOrderOf Holds b (order.Deed (deed.Step (step.RefuseStore node))) → Contains (b ∷ acts) (act.Step (step.RefuseStore node))
+    here (act.Step told) is = subst (λ (z : Step). Contains (act.Step told ∷ acts) (act.Step z)) (sym is) (Contains-here (act.Step told) acts)
+    here (act.Adopt plan certificate) is = absurd is
+    here (act.Bytes link side bytes) is = absurd is
+    here (act.Foreign what) is = absurd is
+
+pub has_change : (Holds : Text → Text → Type 0) (text : Text) (acts : List Act) (orders : List WorldOrder) → IsScriptOf text acts → AllZip (IsOrderOf Holds) acts orders → OrdersChange orders × OrdersRefusal orders → HasChangeIn text
+has_change Holds text acts orders script ordered ((next, among), (node, told)) =
+    (acts, script, told_change Holds acts orders next ordered among, (node, told_refusal Holds acts orders node ordered told))
 
 -- why there is no report, where a run comes to an end before its last order
-pub ended_early : (orders : List WorldOrder) (f : WorldFault) → EndsEarly (OrdersChange orders) f → IsUnreported orders f
+pub ended_early : (orders : List WorldOrder) (f : WorldFault) → EndsEarly (OrdersChange orders × OrdersRefusal orders) f → IsUnreported orders f
 ended_early orders fault.Memory h = tt
 ended_early orders fault.HalfAdopted h = h
 ended_early orders fault.WrongLedgers h = absurd h

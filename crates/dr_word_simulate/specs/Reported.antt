@@ -20,7 +20,7 @@ use Rattle.dr_world.specs.declared.order.RefusedForeign.{RefusedForeign}
 use Rattle.dr_world.specs.declared.order.RefusedForeign.TheVariants as refused
 use Rattle.dr_world.specs.declared.fault.WorldFault.{WorldFault}
 use Rattle.dr_world.specs.declared.fault.WorldFault.TheVariants as fault
-use Rattle.dr_world.specs.Orders.{AreMeant, OrdersChange}
+use Rattle.dr_world.specs.Orders.{AreMeant, OrdersChange, OrdersRefusal}
 use Rattle.dr_world.specs.Others.{NoneWrites}
 use Rattle.dr_world.specs.Played.{ComesBy, PlaysThrough, in_force, taken_in}
 use Rattle.dr_world.specs.Reports.{IsReportOfAll}
@@ -125,10 +125,10 @@ pub record IsReportAfter (plan : Network) (certificate : Certificate) (orders : 
       → FitsFrom ours plan certificate beginning deeds
       → ∥ HoldsOfOurs ours plan (in_force plan (taken_in deeds changes)) books ∥₁
 
--- why there is no report: there is no memory, or a store failed; in a change of plan, where the
--- orders have one
+-- why there is no report: there is no memory, or a store failed in a change of plan, where the
+-- orders have one and tell a store to refuse
 abbrev pub IsUnreported : List WorldOrder → WorldFault → Type 0
 IsUnreported orders fault.Memory = Unit {0}
-IsUnreported orders fault.Store = Unit {0}
-IsUnreported orders fault.HalfAdopted = OrdersChange orders
+IsUnreported orders fault.Store = ⊥
+IsUnreported orders fault.HalfAdopted = OrdersChange orders × OrdersRefusal orders
 IsUnreported orders fault.WrongLedgers = ⊥

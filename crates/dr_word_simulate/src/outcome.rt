@@ -27,8 +27,6 @@ pub enum PlayOutcome {
     Unsealed(u64),
     /// A file of this path, which the script names, wasn't read.
     Unread(String, io::Error),
-    /// A ledger's store failed.
-    Store,
     /// A ledger's store failed in a change of plan.
     HalfAdopted,
     /// There was no memory.
@@ -43,9 +41,7 @@ impl PlayOutcome {
         match self {
             PlayOutcome::Report(_) => Status::Success,
             PlayOutcome::NoScript(_) | PlayOutcome::Unsealed(_) => Status::Refused,
-            PlayOutcome::Unread(_, _) | PlayOutcome::Store | PlayOutcome::HalfAdopted => {
-                Status::InputOutput
-            }
+            PlayOutcome::Unread(_, _) | PlayOutcome::HalfAdopted => Status::InputOutput,
             PlayOutcome::Memory => Status::Memory,
         }
     }
@@ -55,7 +51,7 @@ impl PlayOutcome {
 /// didn't do, and the report of all nodes after these orders, from the beginning of the plan's
 /// world.
 ///
-/// Errors: HalfAdopted, Store, Memory.
+/// Errors: HalfAdopted, Memory.
 fn report_after(alloc: Global, sealed: &Sealed, orders: &[WorldOrder]) -> Result<Text, WorldFault>
     ensures reports { IfOk result
         (IsReportAfter sealed.now.plan sealed.now.certificate orders.now) }
@@ -70,9 +66,8 @@ fn report_after(alloc: Global, sealed: &Sealed, orders: &[WorldOrder]) -> Result
     drop(world);
     match told {
         Ok(()) => Ok(Text::from_vec(report)),
-        Err(WorldFault::Memory) => Err(WorldFault::Memory),
-        // what reads has no other fault
-        Err(_) => Err(WorldFault::Store),
+        // a ledger in memory that only reads has no other fault
+        Err(_) => Err(WorldFault::Memory),
     }
 }
 
@@ -109,8 +104,7 @@ pub fn outcome_of<F: Files>(alloc: Global, files: &F, sealed: &Sealed, text: &[u
     };
     match report_after(alloc, sealed, orders.as_slice()) {
         Ok(report) => PlayOutcome::Report(report),
-        Err(WorldFault::Memory) => PlayOutcome::Memory,
         Err(WorldFault::HalfAdopted) => PlayOutcome::HalfAdopted,
-        Err(_) => PlayOutcome::Store,
+        Err(_) => PlayOutcome::Memory,
     }
 }

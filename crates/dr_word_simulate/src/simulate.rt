@@ -32,7 +32,6 @@ fn tell_outcome<W: Write, E: Write>(
             writeln!(faults, "dr_router: {}", ScriptFault::Line(*line))
         }
         PlayOutcome::Unread(path, error) => writeln!(faults, "dr_router: {path}: {error}"),
-        PlayOutcome::Store => writeln!(faults, "dr_router: {}", WorldFault::Store),
         PlayOutcome::HalfAdopted => writeln!(faults, "dr_router: {}", WorldFault::HalfAdopted),
         PlayOutcome::Memory => writeln!(faults, "dr_router: Memory"),
     }

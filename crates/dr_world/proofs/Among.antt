@@ -1742,8 +1742,8 @@ module _ (ours : Ours) (first : Network) (begun : Certificate) (sound : IsCertif
     subst (λ (z : ByteWorld). HasOurs ours z m) (sym h.3) s.has,
   )
   plays (deed.Step step ∷ deeds) changes plan last certificate its b new m certified ran s fits (note, mid, h, rest) =
-      let g = each ours plan certificate certified b m s first begun sound ran.0 ran.1 (step_of step) note mid fits.0 h in
-      plays deeds changes plan last certificate its mid new g.1 certified (goes_on plan certificate m mid ran g) g.3 (fits.1 note mid h) rest
+      let g = each ours plan certificate certified b m s first begun sound ran.0 ran.1 (step_of step) note mid fits.0 h.0 in
+      plays deeds changes plan last certificate its mid new g.1 certified (goes_on plan certificate m mid ran g) g.3 (fits.1 note mid h.0) rest
   plays (deed.Bytes link side piece ∷ deeds) changes plan last certificate its b new m certified ran s fits (mid, h, rest) =
       let g = writes ours plan certificate certified b m s first begun sound ran.0 ran.1 link fits.0 (named side) piece mid h in
       plays deeds changes plan last certificate its mid new g.1 certified (goes_on plan certificate m mid ran g) g.3 (fits.1 mid h) rest

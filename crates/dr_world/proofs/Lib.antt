@@ -1,5 +1,6 @@
 pub mod Adopting
 pub mod Among
+pub mod Answered
 pub mod Beginning
 pub mod Calling
 pub mod Counted

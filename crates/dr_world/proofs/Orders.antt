@@ -20,7 +20,7 @@ use Rattle.dr_world.specs.declared.order.RefusedForeign.{RefusedForeign}
 use Rattle.dr_world.specs.declared.playing.PlayNotes.{PlayNotes}
 use Rattle.dr_world.specs.declared.world.World.{World}
 use Rattle.dr_world.specs.Ends.{name_at, named}
-use Rattle.dr_world.specs.Orders.{AreMeant, AreOrdered, DeedsAloneAreDone, IsChangeOrder, IsOrderDone, IsOrderedRun, IsPassedOver, NotesOrder, OrdersChange}
+use Rattle.dr_world.specs.Orders.{AreMeant, AreOrdered, DeedsAloneAreDone, IsChangeOrder, IsOrderDone, IsOrderedRun, IsPassedOver, IsRefusalOrder, NotesOrder, OrdersChange, OrdersRefusal}
 use Rattle.dr_world.specs.Played.{EndsEarly, IsPlayed, PlaysAll}
 use Rattle.dr_world.specs.Runs.{IsReached}
 use Rattle.dr_world.specs.Shows.{Contents}
@@ -165,6 +165,18 @@ orders_early orders i (order.Foreign what) fault.HalfAdopted less is h = absurd 
 orders_early orders i one fault.Memory less is h = tt
 orders_early orders i one fault.WrongLedgers less is h = absurd h
 orders_early orders i one fault.Store less is h = absurd h
+
+-- the order that tells a store to refuse is one of all
+pub one_refuses : (orders : List WorldOrder) (i : ℕ) (one : WorldOrder) → i < length orders → one ≡ get_or orders i one → IsRefusalOrder one → OrdersRefusal orders
+one_refuses orders i (order.Deed (deed.Step (step_of.RefuseStore node))) less is h = (node, (i, less, sym is))
+one_refuses orders i one less is h = absurd h
+
+-- a store that fails in a change was told to
+pub told_early : (orders : List WorldOrder) (f : WorldFault) → EndsEarly (OrdersChange orders) f → OrdersRefusal orders → EndsEarly (OrdersChange orders × OrdersRefusal orders) f
+told_early orders fault.HalfAdopted h told = (h, told)
+told_early orders fault.Memory h told = tt
+told_early orders fault.WrongLedgers h told = absurd h
+told_early orders fault.Store h told = absurd h
 
 -- ---- where no other product is named
 

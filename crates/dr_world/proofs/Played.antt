@@ -12,7 +12,9 @@ use Rattle.dr_plan_model.proofs.Gathered.{Contains-cons_cases, Contains-here, Co
 use Rattle.std.proofs.Math.Logic.{∥∥₁_map, ∥∥₁_elim, ∥∥₁_prop}
 use Rattle.std.proofs.lemmas.List.{append-nil, take_more, take_all}
 use Rattle.std.specs.Option.{option_map}
+use Rattle.dr_ledger.specs.declared.item.Outcome.TheVariants.{NoContext}
 use Rattle.dr_ledger.specs.declared.ledger.Ledger.{Ghosts}
+use Rattle.dr_ledger.specs.Books.{Book, Settling}
 use Rattle.dr_plan_model.specs.Networks.{Network}
 use Rattle.dr_plan_sound.specs.declared.certificate.Certificate.{Certificate}
 use Rattle.dr_cert.specs.Sealing.{Certified}
@@ -25,7 +27,7 @@ use Rattle.dr_world_model.specs.Claims.{Headline}
 use Rattle.dr_world_model.specs.Events.{Event}
 use Rattle.dr_world_model.specs.Runs.{Action, Adopt as Adopting, Occurs, Runs}
 use Rattle.dr_world_model.proofs.FromSafety.{headline_holds}
-use Rattle.dr_world_tie.specs.ByteWorlds.{ByteWorld, StepNote, Steps, WorldStep, beginning}
+use Rattle.dr_world_tie.specs.ByteWorlds.{ByteWorld, StepNote, WorldStep, beginning}
 use Rattle.dr_world_tie.specs.Changes.{TakesPlan}
 use Rattle.dr_world_tie.specs.Shown.{Comes, ShowsWorld}
 use Rattle.dr_world_tie.proofs.Changes.{plans_are_adopted}
@@ -42,8 +44,9 @@ use Rattle.dr_world.specs.declared.world.World.{World}
 use Rattle.dr_world.specs.Adopted.{AreJoining, Changes, ChangesTo, ComesTo, certificate_after, plan_after}
 use Rattle.dr_world.specs.declared.fault.WorldFault.{WorldFault}
 use Rattle.dr_world.specs.declared.fault.WorldFault.TheVariants as fault
+use Rattle.dr_world.specs.Answered.{IsAnswered, StepsAnswered, armed_at, armed_in}
 use Rattle.dr_world.specs.Nodes.{seat_of}
-use Rattle.dr_world.specs.Played.{ChangesGoOn, DeedsKeepTheHeadline, EndsEarly, EventsAloneLead, HasChange, HoldsThrough, IsChange, IsPlayed, IsRunOf, PlaysAll, PlaysOn, PlaysThrough, StepsAloneRun, StepsGoOn, WritesGoOn}
+use Rattle.dr_world.specs.Played.{ChangesGoOn, ClaimsOfCodeCanFail, DeedsKeepTheHeadline, EndsEarly, EventsAloneLead, HasChange, HoldsThrough, IsChange, IsPlayed, IsRunOf, PlaysAll, PlaysOn, PlaysThrough, StepsAloneRun, StepsGoOn, WritesGoOn}
 use Rattle.dr_world.specs.Played.{adopted_in, in_force, taken_in}
 use Rattle.dr_world.specs.Ends.{named}
 use Rattle.dr_world.specs.Others.{NoneWrites, Writes, WritesAt, WritesAtIn}
@@ -51,16 +54,17 @@ use Rattle.dr_world.specs.Runs.{IsReached, step_of}
 use Rattle.dr_world.specs.Shows.{Contents, IsSeated, ShowsBytes, desk_at}
 use Rattle.dr_world.specs.Whole.{AllStand, StepsTo, contents, noted}
 use Rattle.dr_world.proofs.Among.{fit_scripts_keep_the_claims, last_in_force}
+use Rattle.dr_world.proofs.Answered.{answered_there}
 use Rattle.dr_world.proofs.Rewriting.{stood, written_beside}
 
 -- ---- one deed behind others
 
 -- a step
 step_behind : (deeds : List Deed) (changes : List Change) (first plan : Network) (its certificate : Certificate) (a b c : ByteWorld) (step : Step) (note : StepNote)
-    → PlaysThrough first its a deeds changes plan certificate b → Steps plan certificate b (step_of step) note c
+    → PlaysThrough first its a deeds changes plan certificate b → StepsAnswered plan certificate b (step_of step) note c
     → PlaysThrough first its a (deeds ++ deed.Step step ∷ []) (changes ++ []) plan certificate c
 step_behind [] changes first plan its certificate a b c step note h s =
-    let P : Network × (Certificate × ByteWorld) → Type 0 = λ p. Steps p.0 p.1.0 p.1.1 (step_of step) note c in
+    let P : Network × (Certificate × ByteWorld) → Type 0 = λ p. StepsAnswered p.0 p.1.0 p.1.1 (step_of step) note c in
     (note, c, subst P (λ j. (h.1 j, (h.2 j, h.3 j))) s, (append-nil changes ∙ h.0, h.1, h.2, refl))
 step_behind (deed.Step other ∷ deeds) changes first plan its certificate a b c step note h s =
     (h.0, h.1, h.2, step_behind deeds changes first plan its certificate h.1 b c step note h.3 s)
@@ -118,10 +122,11 @@ certified_played (deed.Adopt next ∷ deeds) (Unfit node uid dest ∷ changes) p
 
 module _ {L : Type 0} {l : Ghosts L} (old new : World L l) where
   pub steps_go_on : StepsGoOn old new
-  steps_go_on step note h first its certified deeds changes played all = ∥∥₁_elim (played (h.0 all)) ∥∥₁_prop (λ r.
+  steps_go_on step note h answer first its certified deeds changes played all = ∥∥₁_elim (played (h.0 all)) ∥∥₁_prop (λ r.
       let proper = certified_played deeds changes first r.0 its r.1 beginning r.3.0 certified r.3.1 in
       let after = h.1 r.0 r.1 proper r.3.0 r.2 r.3.2 all in
-      ∥∥₁_map after.1 (λ z. (r.0, r.1, after.0, (z.0, step_behind deeds changes first r.0 its r.1 beginning r.3.0 z.0 step (noted note) r.3.1 z.1, z.2))))
+      let answered : IsAnswered (armed_at r.3.0) (step_of step) (noted note) = answered_there old r.3.0 r.3.2 (step_of step) (noted note) answer in
+      ∥∥₁_map after.1 (λ z. (r.0, r.1, after.0, (z.0, step_behind deeds changes first r.0 its r.1 beginning r.3.0 z.0 step (noted note) r.3.1 (z.1, answered), z.2))))
 
   pub writes_go_on : WritesGoOn old new
   writes_go_on link side bytes note h first its certified deeds changes played all = ∥∥₁_map (played (stood old new link (named side) bytes note h all)) (λ r.
@@ -201,7 +206,7 @@ held [] changes first before plan last certificate its b new certified none from
 held (deed.Bytes link side bytes ∷ deeds) changes first before plan last certificate its b new certified none from h = absurd none
 held (deed.Step step ∷ deeds) changes first before plan last certificate its b new certified none from (note, mid, h, rest) =
     held deeds changes first before plan last certificate its mid new certified none (∥∥₁_elim from ∥∥₁_prop (λ f.
-    ∥∥₁_map (world_steps plan certificate certified b mid f.0 (step_of step) note f.1 h) (λ r. (r.0, r.2, step_from first before plan b (step_of step) note f.0 r.0 f.2 r.1)))) rest
+    ∥∥₁_map (world_steps plan certificate certified b mid f.0 (step_of step) note f.1 h.0) (λ r. (r.0, r.2, step_from first before plan b (step_of step) note f.0 r.0 f.2 r.1)))) rest
 held (deed.Adopt next ∷ deeds) [] first before plan last certificate its b new certified none from h = absurd h
 held (deed.Adopt next ∷ deeds) (Adopted ∷ changes) first before plan last certificate its b new certified none from (mid, (proper, h), rest) =
     let P : List Network → Type 0 = λ taken. ∥ IsFrom first taken last its new ∥₁ in
@@ -233,8 +238,9 @@ module _ {L : Type 0} {l : Ghosts L} where
   holds_through old new done told plays first its certified deeds changes played none all =
       deeds_keep_the_headline new first its certified (deeds ++ done ∷ []) (changes ++ told) (plays first its certified deeds changes played) none all
 
-  pub stepped_through : (old new : World L l) (step : Step) (note : Note) → StepsTo (step_of step) old note new → HoldsThrough (deed.Step step) [] old new
-  stepped_through old new step note h = holds_through old new (deed.Step step) [] (steps_go_on old new step note h)
+  pub stepped_through : (old new : World L l) (step : Step) (note : Note) → StepsTo (step_of step) old note new → IsAnswered (armed_in old.nodes) (step_of step) (noted note)
+      → HoldsThrough (deed.Step step) [] old new
+  stepped_through old new step note h answer = holds_through old new (deed.Step step) [] (steps_go_on old new step note h answer)
 
   pub changed_through : (old new : World L l) (next : Certified) → IsCertified next.plan next.certificate → (change : Change) → ChangesTo next.plan next.certificate old change new → HoldsThrough (deed.Adopt next) (change ∷ []) old new
   changed_through old new next proper change h = holds_through old new (deed.Adopt next) (change ∷ []) (changes_go_on old new next proper change h)
@@ -338,7 +344,7 @@ pub steps_alone_run : StepsAloneRun
 steps_alone_run plan last certificate its b new [] changes h = (h.0, h.1, h.3, refl, tt)
 steps_alone_run plan last certificate its b new (step ∷ steps) changes h =
     let r = steps_alone_run plan last certificate its h.1 new steps changes h.3 in
-    (r.0, r.1, (h.0, h.1, h.2, r.2), r.3, r.4)
+    (r.0, r.1, (h.0, h.1, h.2.0, r.2), r.3, r.4)
 
 cons_nil : (p : Network) (ps : List Network) → p ∷ ps ≡ [] → ⊥
 cons_nil p ps e = absurd (cc)
@@ -352,3 +358,14 @@ pub events_alone_lead : EventsAloneLead
 events_alone_lead plan v (actions, none, runs) =
     let e = events_of actions none in
     (e.0, subst (λ (xs : List Action). Runs plan start xs plan v) e.1 runs)
+
+-- ---- worlds of which the claims don't hold
+
+module _ {L : Type 0} {l : Ghosts L} where
+  pub claims_of_code_can_fail : (w : World L l) → ClaimsOfCodeCanFail w
+  claims_of_code_can_fail w plan taken name n uid dest now is among =
+      let refused : (p : Network) (v : model.World) → v.books name ≡ l.book n.desk.ledger → Headline p v → ⊥ =
+      λ p v same h. h.none_refused.lines name (Settling uid dest NoContext now) (subst (λ (b : Book). Contains b.lines (Settling uid dest NoContext now)) (sym same) among) in (
+        (λ h. ∥∥₁_elim h (λ x y. absurd x) (λ v. refused plan v.0 (v.2 name n is) v.4)),
+        (λ h. ∥∥₁_elim h (λ x y. absurd x) (λ v. refused (in_force plan taken) v.0 (v.2 name n is) v.4)),
+      )

@@ -1,5 +1,6 @@
 pub mod Adopted
 pub mod Among
+pub mod Answered
 pub mod Shows
 pub mod Forgotten
 pub mod Laws

@@ -281,6 +281,15 @@ IsChangeOrder (order.Foreign what) = ⊥
 abbrev pub OrdersChange : List WorldOrder → Type 0
 OrdersChange orders = (next : Certified) × Contains orders (order.Deed (deed.Adopt next))
 
+-- a store is told to refuse
+abbrev pub IsRefusalOrder : WorldOrder → Type 0
+IsRefusalOrder (order.Deed (deed.Step (RefuseStore node))) = Unit {0}
+IsRefusalOrder one = ⊥
+
+-- by one of the orders it is
+abbrev pub OrdersRefusal : List WorldOrder → Type 0
+OrdersRefusal orders = (node : Text) × Contains orders (order.Deed (deed.Step (RefuseStore node)))
+
 -- ---- laws
 
 -- Where no other maker's product is named, just what is ordered is done, and nothing is refused.

@@ -3,7 +3,14 @@
 use Rattle.std.specs.Prelude.{◌≡◌, ◌⊎◌, ℕ, List, [], ◌∷◌, ◌++◌, Contains, Some, map as mapped}
 use Rattle.std.specs.BTreeMap as tree
 use Rattle.dr_base.specs.Texts.{Text, text_cmp}
+use Rattle.dr_route.specs.Routes.{local}
+use Rattle.dr_ledger.specs.declared.content.Job.{Job}
 use Rattle.dr_ledger.specs.declared.ledger.Ledger.{Ghosts}
+use Rattle.dr_ledger.specs.declared.item.Outcome.TheVariants.{NoContext}
+use Rattle.dr_ledger.specs.Books.{Settling, after, empty_book}
+use Rattle.dr_ledger.specs.Items.{instance_of}
+use Rattle.dr_ledger.specs.PlanRoutes.{plan_routing}
+use Rattle.dr_ledger.specs.Replies.{arrival_line}
 use Rattle.dr_plan_model.specs.Networks.{Network}
 use Rattle.dr_plan_sound.specs.declared.certificate.Certificate.{Certificate}
 use Rattle.dr_cert.specs.Sealing.{Certified}
@@ -12,13 +19,15 @@ use Rattle.dr_node.specs.declared.node.Node.{Node}
 use Rattle.dr_world_model.specs.Among.{Ours}
 use Rattle.dr_world_model.specs.Worlds as model
 use Rattle.dr_world_model.specs.Claims.{Headline}
+use Rattle.dr_world_model.specs.Events.{HasNode}
 use Rattle.dr_world_model.specs.Runs.{Action, Adopt as Adopting, Occurs, Runs}
-use Rattle.dr_world_tie.specs.ByteWorlds.{ByteWorld, StepNote, Steps, beginning}
+use Rattle.dr_world_tie.specs.ByteWorlds.{ByteWorld, StepNote, beginning}
 use Rattle.dr_world_tie.specs.MixedChanges.{MixedDeed, MixedRunsThrough}
 use Rattle.dr_world_tie.specs.MixedWorlds.{MixedWorld, mixed_beginning}
 use Rattle.dr_world_tie.specs.Shown.{ComesAbout, RunsOf}
 use Rattle.dr_world_script.specs.declared.step.Side.{Side}
 use Rattle.dr_world_script.specs.declared.step.Step.{Step}
+use Rattle.dr_world_script.specs.declared.step.Step.TheVariants.{Submit}
 use Rattle.dr_world.specs.declared.changing.Change.{Change}
 use Rattle.dr_world.specs.declared.changing.Change.TheVariants.{Adopted, Skipped, Unfit}
 use Rattle.dr_world.specs.declared.deed.Deed.{Deed}
@@ -29,23 +38,25 @@ use Rattle.dr_world.specs.declared.steps.StepNote.{StepNote as Note}
 use Rattle.dr_world.specs.declared.world.World.{World}
 use Rattle.dr_world.specs.Adopted.{Changes, ChangesTo, certificate_after, plan_after}
 use Rattle.dr_world.specs.Among.{FitsFrom, HasOurs, HoldsAmong}
+use Rattle.dr_world.specs.Answered.{IsAnswered, StepsAnswered, armed_in}
 use Rattle.dr_world.specs.Ends.{named}
 use Rattle.dr_world.specs.Others.{NoneWrites, Writes, WritesAt}
-use Rattle.dr_world.specs.Runs.{IsBeside, step_of}
+use Rattle.dr_world.specs.Runs.{HoldsOf, IsBeside, step_of}
 use Rattle.dr_world.specs.Shows.{IsSeated, ShowsBytes}
-use Rattle.dr_world.specs.Whole.{AllStand, StepsTo, contents}
+use Rattle.dr_world.specs.Whole.{AllStand, StepsTo, contents, noted}
 
 -- ---- in the world of bytes
 
 -- Deeds one after the other, from one plan and world of bytes to another; each change among them
--- comes to what stands for it, in their order.
+-- comes to what stands for it, in their order. No step among them was refused for want of memory,
+-- nor by a store that wasn't told to.
 abbrev pub PlaysThrough : Network → Certificate → ByteWorld → List Deed → List Change → Network
     → Certificate → ByteWorld → Type 0
 PlaysThrough plan certificate b [] changes last its new =
     (changes ≡ []) × (last ≡ plan) × (its ≡ certificate) × (new ≡ b)
 PlaysThrough plan certificate b (deed.Step step ∷ deeds) changes last its new =
     (note : StepNote) × (mid : ByteWorld)
-    × Steps plan certificate b (step_of step) note mid
+    × StepsAnswered plan certificate b (step_of step) note mid
     × PlaysThrough plan certificate mid deeds changes last its new
 PlaysThrough plan certificate b (deed.Bytes link side bytes ∷ deeds) changes last its new =
     (mid : ByteWorld)
@@ -185,12 +196,13 @@ EndsEarly HasOne fault.Store = ⊥
 
 -- ---- laws
 
--- From wherever deeds have led to, a step of a simulator's world goes on, and so does a change of
--- plan.
+-- From wherever deeds have led to, a step of a simulator's world goes on that is answered, and so
+-- does a change of plan.
 abbrev pub StepsGoOn : {L : Type 0} {l : Ghosts L} → World L l → World L l → Type 0
 StepsGoOn old new =
     (step : Step) (note : Note)
     → StepsTo (step_of step) old note new
+    → IsAnswered (armed_in old.nodes) (step_of step) (noted note)
     → PlaysOn (deed.Step step) [] old new
 
 abbrev pub ChangesGoOn : {L : Type 0} {l : Ghosts L} → World L l → World L l → Type 0
@@ -257,3 +269,25 @@ FitScriptsKeepTheClaims w =
     → WasPlayed plan certificate deeds changes w
     → FitsFrom ours plan certificate beginning deeds
     → HoldsAmong ours plan (in_force plan (taken_in deeds changes)) w
+
+-- An instance that enters at a node that has a line for it is there: in the book of a script that
+-- has just this step there is its arrival. So no body may refuse everything and report nothing.
+abbrev pub WhatEntersIsThere : Type 0
+WhatEntersIsThere =
+    (plan last : Network) (certificate its : Certificate) (node : Text) (item : Job)
+    (changes : List Change) (new : ByteWorld)
+    → HasNode plan node
+    → (plan_routing plan node).HasLine local item.key
+    → PlaysThrough plan certificate beginning (deed.Step (Submit node item) ∷ []) changes last its
+    new
+    → (new.desks node).book
+    ≡ after (arrival_line (plan_routing plan node) local (instance_of item)) empty_book
+
+-- The four claims are no empty word: where the journal of a node says that a row was settled for
+-- want of a presentation context, they don't hold of the world, whatever led to it.
+abbrev pub ClaimsOfCodeCanFail : {L : Type 0} {l : Ghosts L} → World L l → Type 0
+ClaimsOfCodeCanFail {L} {l} w =
+    (plan : Network) (taken : List Network) (name : Text) (n : Node L l) (uid dest : Text) (now : ℕ)
+    → tree.get text_cmp w.nodes name ≡ Some n
+    → Contains (l.book n.desk.ledger).lines (Settling uid dest NoContext now)
+    → (HoldsOf plan w → ⊥) × (HoldsBy plan taken w → ⊥)

@@ -1,5 +1,6 @@
 //! Laws: what is done to a world's contents is a step of the world of bytes beside it.
 ghost use Rattle.dr_world.specs.Among.{NamesAreLookedAt, ScriptsFit};
+ghost use Rattle.dr_world.specs.Answered.{EnteringIsAnswered};
 ghost use Rattle.dr_world.specs.Ended.{MoveEndsPdu};
 ghost use Rattle.dr_world.specs.Laws.{AwayIsShown, DropIsShown, EndStaysOfItsSite, ForgetIsShown};
 ghost use Rattle.dr_world.specs.Laws.{MoveIsShown};
@@ -7,9 +8,10 @@ ghost use Rattle.dr_world.specs.Laws.{NewIsBeginning, OtherLinksAreCounted, Refu
 ghost use Rattle.dr_world.specs.Laws.{RequeueIsShown, StrangerIsSkipped, SubmitIsShown};
 ghost use Rattle.dr_world.specs.Laws.{TickIsShown, UnderWayStays};
 ghost use Rattle.dr_world.specs.Orders.{DeedsAloneAreDone};
-ghost use Rattle.dr_world.specs.Played.{ChangesGoOn, DeedsKeepTheHeadline, EventsAloneLead};
+ghost use Rattle.dr_world.specs.Played.{ChangesGoOn, ClaimsOfCodeCanFail, DeedsKeepTheHeadline};
+ghost use Rattle.dr_world.specs.Played.{EventsAloneLead};
 ghost use Rattle.dr_world.specs.Played.{FitScriptsAreOwnRuns, FitScriptsKeepTheClaims};
-ghost use Rattle.dr_world.specs.Played.{StepsAloneRun, StepsGoOn, WritesGoOn};
+ghost use Rattle.dr_world.specs.Played.{StepsAloneRun, StepsGoOn, WhatEntersIsThere, WritesGoOn};
 
 use crate::world::World;
 use dr_ledger::Ledger;
@@ -40,6 +42,13 @@ pub fn acts_at_nodes()
     ensures forget { ForgetIsShown }
     ensures under_way { UnderWayStays }
     ensures refuse { RefuseIsShown }
+{}
+
+/// What an instance is answered that enters follows from the node's book, where its store wasn't
+/// told to refuse. So it is there, if the node has a line for it.
+pub fn what_enters_is_there()
+    ensures answers { EnteringIsAnswered }
+    ensures there { WhatEntersIsThere }
 {}
 
 /// A world in which nothing was done yet stands beside the beginning.
@@ -77,6 +86,12 @@ pub fn changes_keep_the_headline<L: Ledger>(_world: &World<L>)
 pub fn steps_alone_are_events()
     ensures steps { StepsAloneRun }
     ensures events { EventsAloneLead }
+{}
+
+/// The four claims don't hold of each world of code: not of one in which a node's journal says that
+/// a row was settled for want of a presentation context.
+pub fn claims_of_code_can_fail<L: Ledger>(_world: &World<L>)
+    ensures { ClaimsOfCodeCanFail _world.now }
 {}
 
 /// Where no other maker's product is named, just what is ordered is done, and nothing is refused.

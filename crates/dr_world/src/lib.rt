@@ -12,6 +12,7 @@
 //! `World::answer_of`. `run` plays all of these from the beginning, over ledgers in memory.
 #![tactic(auto)]
 
+mod answering;
 mod calls;
 mod changing;
 mod deed;

@@ -5,7 +5,7 @@ ghost use Rattle.std.specs.Prelude.{List, None, OnOk};
 ghost use Rattle.dr_base.specs.Texts.{Text as Words};
 ghost use Rattle.dr_plan_model.specs.Plans.{NamesNoNode};
 ghost use Rattle.dr_world.specs.Orders.{AreOrdered, IsChangeOrder, IsOrderedRun, IsPassedOver};
-ghost use Rattle.dr_world.specs.Orders.{NotesOrder, OrdersChange};
+ghost use Rattle.dr_world.specs.Orders.{IsRefusalOrder, NotesOrder, OrdersChange, OrdersRefusal};
 ghost use Rattle.dr_world.specs.Played.{EndsEarly, IsChange, PlaysAll, PlaysOn};
 ghost use Rattle.dr_world.specs.Whole.{contents};
 ghost use Rattle.dr_world.specs.declared.changing.Change.{Change as ChangeValue};
@@ -20,6 +20,7 @@ use crate::changing::Change;
 use crate::deed::Deed;
 use crate::fault::WorldFault;
 use crate::order::{RefusedForeign, Spoken, WorldOrder};
+use crate::steps::StepNote;
 use crate::world::World;
 use dr_base::{Octets, Seq, Text};
 use dr_cert::Sealed;
@@ -27,7 +28,7 @@ use dr_ledger::{Item, Refusing};
 use dr_ledger_memory::MemoryLedger;
 use dr_plan_model::names_of;
 use dr_site::{Site, SiteFault};
-use dr_world_script::{Foreign, Side};
+use dr_world_script::{Foreign, Side, Step};
 use std::alloc::Global;
 
 /// A world after what was done to it, and what was noted of that.
@@ -93,6 +94,21 @@ fn change_to(
     }
 }
 
+/// One step.
+fn take_step(world: &mut World<Refusing<MemoryLedger>>, step: &Step) -> Result<StepNote, WorldFault>
+    requires { world.old.lost ≡ None }
+    ensures plays { IfOk result (λ note.
+        PlaysOn (deeds_of.Step step.now) [] world.old world.new) }
+    ensures whole { IfOk result (λ note. world.new.lost ≡ None) }
+    ensures memory { IfErr result (λ fault. fault ≡ MemoryFault) }
+{
+    match world.step(step) {
+        Ok(note) => Ok(note),
+        // a store in memory fails only where it is told to, so that memory is all that can lack
+        Err(_) => Err(WorldFault::Memory),
+    }
+}
+
 /// One deed; what a change of plan comes to is added.
 fn do_deed(
     alloc: Global,
@@ -110,7 +126,7 @@ fn do_deed(
 {
     match deed {
         Deed::Step(step) => {
-            let _note = world.step(step)?;
+            let _note = take_step(world, step)?;
             Ok(())
         }
         Deed::Adopt(next) => {
@@ -318,15 +334,69 @@ fn do_all(
     Ok(notes)
 }
 
+/// Whether an order tells a store to refuse.
+fn is_refusal(order: &WorldOrder) -> bool
+    ensures { IsTrue result → IsRefusalOrder order.now }
+{
+    match order {
+        WorldOrder::Deed(Deed::Step(Step::RefuseStore { .. })) => true,
+        _ => false,
+    }
+}
+
+/// Whether one of the orders does.
+fn has_refusal(orders: &[WorldOrder]) -> bool
+    ensures { IsTrue result → OrdersRefusal orders.now }
+{
+    for order in orders {
+        if is_refusal(order) {
+            return true;
+        }
+    }
+    false
+}
+
+/// Why not all of these orders are played. Where no store is told to refuse, none fails, and memory
+/// is all that can lack.
+fn cause_of(fault: WorldFault, orders: &[WorldOrder]) -> WorldFault
+    requires { EndsEarly (OrdersChange orders.now) fault }
+    ensures { EndsEarly (OrdersChange orders.now × OrdersRefusal orders.now) result }
+{
+    if has_refusal(orders) {
+        return fault;
+    }
+    WorldFault::Memory
+}
+
+/// These orders, one after the other, and what is noted of them.
+fn play_all(
+    alloc: Global,
+    world: &mut World<Refusing<MemoryLedger>>,
+    orders: &[WorldOrder],
+) -> Result<PlayNotes, WorldFault>
+    requires { world.old.lost ≡ None }
+    ensures plays { IfOk result (λ notes. (deeds : List DeedValue)
+        × AreOrdered [] world.old orders.now deeds notes.changes notes.refusals notes.others
+        world.new) }
+    ensures early { IfErr result
+        (EndsEarly (OrdersChange orders.now × OrdersRefusal orders.now)) }
+{
+    match do_all(alloc, world, orders) {
+        Ok(notes) => Ok(notes),
+        Err(fault) => Err(cause_of(fault, orders)),
+    }
+}
+
 /// The world of a sealed plan after these orders, from the beginning: each node over a ledger in
 /// memory, which can be told to refuse.
 ///
 /// Errors: HalfAdopted, where a node that was told to refuse is to take another plan, so only where
-/// an order is a change of plan; Memory.
+/// one order tells a store to refuse and one is a change of plan; Memory.
 pub fn run(alloc: Global, sealed: &Sealed, orders: &[WorldOrder]) -> Result<PlayedWorld, WorldFault>
     ensures runs { IfOk result (λ run. IsOrderedRun sealed.now.plan sealed.now.certificate
         orders.now run.notes.changes run.notes.refusals run.notes.others run.world) }
-    ensures early { IfErr result (EndsEarly (OrdersChange orders.now)) }
+    ensures early { IfErr result
+        (EndsEarly (OrdersChange orders.now × OrdersRefusal orders.now)) }
 {
     let plan = sealed.plan();
     let _certificate = sealed.certificate();
@@ -338,6 +408,6 @@ pub fn run(alloc: Global, sealed: &Sealed, orders: &[WorldOrder]) -> Result<Play
         return Err(WorldFault::Memory);
     };
     let mut world = world;
-    let notes = do_all(alloc, &mut world, orders)?;
+    let notes = play_all(alloc, &mut world, orders)?;
     Ok(PlayedWorld { world, notes })
 }

@@ -10,12 +10,12 @@ ghost use Rattle.dr_world_tie.specs.ByteWorlds.{Forget, Late, Open};
 ghost use Rattle.dr_world_tie.specs.ByteWorlds.{Push, Refuse, Release, Requestor, Requeue, Restart};
 ghost use Rattle.dr_world_tie.specs.ByteWorlds.{Submit, Tick};
 ghost use Rattle.dr_world.specs.declared.steps.StepNote.TheVariants.{Done as WasDone};
+ghost use Rattle.dr_world.specs.Answered.{IsAnswered, IsUnanswered, armed_in};
 ghost use Rattle.dr_world.specs.Ends.{named, note_by};
 ghost use Rattle.dr_world.specs.Laws.{away_note};
 ghost use Rattle.dr_world.specs.Nodes.{event_at, over_at, push_at as pushed_at};
 ghost use Rattle.dr_world.specs.declared.deed.Deed.TheVariants as deeds;
 ghost use Rattle.dr_world.specs.declared.fault.WorldFault.{WorldFault as FaultValue};
-ghost use Rattle.dr_world.specs.declared.fault.WorldFault.TheVariants.{Memory as MemoryFault};
 ghost use Rattle.dr_world.specs.Played.{HoldsThrough, PlaysOn};
 ghost use Rattle.dr_world.specs.Runs.{StepsOn, HoldsAfter, HoldsAfterAll, Leads, step_of};
 ghost use Rattle.dr_world.specs.Reports.{IsNeededIn, IsReported, ListsBook, books_of};
@@ -30,6 +30,7 @@ mod reading;
 mod speaking;
 mod writing;
 
+use crate::answering::{answered, is_armed_for};
 use crate::calls::{accept_at, input_at, is_over_at, open_at, push_at};
 use crate::fault::WorldFault;
 use crate::forgetting::is_under_way;
@@ -414,7 +415,8 @@ impl<L: LetsGo> World<L> {
 impl<L: LetsGo> World<Refusing<L>> {
     /// One step. After a fault, also of a change of plan, each further step answers that fault.
     ///
-    /// Errors: Memory.
+    /// Errors: Store, where the store of the node that it asks fails and wasn't told to refuse;
+    /// Memory, also where that node's ledger had none.
     pub fn step(&mut self, step: &Step) -> Result<StepNote, WorldFault>
         ensures steps { IfOk result (λ note. StepsTo (step_of step.now) self.old note self.new) }
         ensures goes_on { IfOk result (λ note. StepsOn (step_of step.now) self.old self.new) }
@@ -425,23 +427,43 @@ impl<L: LetsGo> World<Refusing<L>> {
         ensures lost { (fault : FaultValue) → self.old.lost ≡ Some fault
             → (result ≡ Err fault) × (self.new ≡ self.old) }
         ensures after { (fault : FaultValue) → result ≡ Err fault → self.new.lost ≡ Some fault }
-        ensures memory { self.old.lost ≡ None → IfErr result (λ fault. fault ≡ MemoryFault) }
+        ensures answered { IfOk result (λ note.
+            IsAnswered (armed_in self.old.nodes) (step_of step.now) (noted note)) }
+        ensures early { self.old.lost ≡ None → IfErr result IsUnanswered }
         ensures whole { IfOk result (λ note. self.new.lost ≡ None) }
     {
         if let Some(fault) = self.lost {
             return Err(fault);
         }
-        let Ok(note) = self.perform(step) else {
-            self.lost = Some(WorldFault::Memory);
-            return Err(WorldFault::Memory);
-        };
-        self.lost = None;
-        Ok(note)
+        match self.ask(step) {
+            Ok(note) => {
+                self.lost = None;
+                Ok(note)
+            }
+            Err(fault) => {
+                self.lost = Some(fault);
+                Err(fault)
+            }
+        }
     }
 
-    /// These steps, one after the other, up to one for which memory ends.
+    /// The same, where no fault ended an earlier step.
+    fn ask(&mut self, step: &Step) -> Result<StepNote, WorldFault>
+        ensures steps { IfOk result (λ note. StepsTo (step_of step.now) self.old note self.new) }
+        ensures answered { IfOk result (λ note.
+            IsAnswered (armed_in self.old.nodes) (step_of step.now) (noted note)) }
+        ensures early { IfErr result IsUnanswered }
+    {
+        let is_armed = is_armed_for(&self.nodes, step);
+        match self.perform(step) {
+            Ok(note) => answered(note, is_armed),
+            Err(_) => Err(WorldFault::Memory),
+        }
+    }
+
+    /// These steps, one after the other, up to one with which the world doesn't go on.
     ///
-    /// Errors: Memory.
+    /// Errors: Store, Memory.
     pub fn play(&mut self, steps: &[Step]) -> Result<(), WorldFault>
         ensures leads { OnOk result (Leads (mapped step_of steps.now) self.old self.new) }
         ensures headline { OnOk result (HoldsAfterAll self.old self.new) }

@@ -1,19 +1,14 @@
-use Rattle.std.proofs.Common.{◌∙◌, ◌<◌, ◌≤◌, ◌++◌, ◌∷◌, [], get_or, length, refl, ap, arith}
-use Rattle.dr_world_audit.specs.declared.audit.NodeJournal.{NodeJournal}
-use Rattle.dr_word_audit_at.specs.Cuts.{cuts}
-use Rattle.dr_word_audit_at.proofs.CutJournals.{all_cut, one_cut}
+use Rattle.std.proofs.Common.{◌∙◌, ap, get_or}
+use Rattle.std.specs.Vec.Iter.{into_iter_items}
+use Rattle.dr_word_audit_at.proofs.Joining.{cut_one_more, goes_on}
 use Rattle.dr_word_audit_at.proofs.cutting.cut_all.Goals as goal
 
-pub loop-place-preserved : goal.loop-place-preserved
-loop-place-preserved c =
-    let counts = c.args.counts.now in
-    let read = c.args.read.now in
-    let i = c.loop-place.place in
-    let few : i < length counts = omega (arith, c.requires, c.loop-place-test.true) in
-    one_cut counts read i 0 (get_or counts i 0) _ c.index-read-place.result few c.loop-place-test.true refl c.index-read-place.is c.loop-place.nodes.items c.push.new.self.items (cuts counts read)
-    (c.in_ok-push.ensures.items ∙ ap (λ (x : NodeJournal). c.loop-place.nodes.items ++ x ∷ []) c.in_ok-cut_at.ensures) c.loop-place.invariant
-
-pub returns : goal.returns
-returns c =
-    let over : length c.args.read.now ≤ c.loop-place.place = omega (arith, c.loop-place-test.false) in
-    all_cut c.args.counts.now c.args.read.now c.loop-place.place c.loop-place.nodes.items (cuts c.args.counts.now c.args.read.now) over c.loop-place.invariant
+pub loop-node-preserved : goal.loop-node-preserved
+loop-node-preserved c =
+    let left = into_iter_items c.next.new.self in
+    let parts = goes_on c.args.read.items c.loop-node.yielded c.in-Some.node (into_iter_items c.loop-node.node-iterator) left c.loop-node.invariant.0 c.in-Some.ensures.steps.0 in
+    let at = c.count_at-count.ensures ∙ ap (λ k. get_or c.args.counts.now k 0) (c.len.ensures ∙ c.loop-node.journals.ok.0) in (
+      parts,
+      cut_one_more c.args.counts.now c.args.read.items c.loop-node.yielded c.loop-node.journals.items c.push.new.self.items left c.loop-node.rests.items c.push-in-loop-node.new.self.items c.in-Some.node c.in_ok-journal.journal c.in_ok-journal.rest c.count_at-count.result
+          c.requires parts c.loop-node.invariant.1 at c.in_ok-journal.ensures.cut c.in_ok-journal.ensures.whole c.in_ok-push.ensures.items c.in_ok-push-2.ensures.items,
+    )

@@ -1,6 +1,7 @@
-use Rattle.std.proofs.Common.{◌≡◌, ◌++◌, drop}
-use Rattle.dr_word_audit_at.specs.Cuts.{cuts}
+use Rattle.std.proofs.Common.{◌≡◌, ◌++◌, length}
+use Rattle.std.specs.Vec.Iter.{into_iter_items}
+use Rattle.dr_word_audit_at.proofs.Joining.{AreCut}
 use Rattle.dr_word_audit_at.proofs.cutting.cut_all.Given as goal
 
-abbrev pub invariant-loop-place : goal.invariant-loop-place
-invariant-loop-place l = l.nodes.items ++ cuts (drop l.place l.counts) (drop l.place l.read) ≡ cuts l.counts l.read
+abbrev pub invariant-loop-node : goal.invariant-loop-node
+invariant-loop-node l = (l.fn.read.items ≡ l.yielded ++ into_iter_items l.node-iterator) × AreCut l.counts l.yielded l.journals.items l.rests.items

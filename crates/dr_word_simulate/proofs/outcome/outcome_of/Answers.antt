@@ -1,6 +1,6 @@
 use Rattle.std.proofs.Common.{List, subst}
 use Rattle.std.specs.List.{AllZip}
-use Rattle.dr_world.specs.Orders.{OrdersChange}
+use Rattle.dr_world.specs.Orders.{OrdersChange, OrdersRefusal}
 use Rattle.dr_world.specs.declared.order.WorldOrder.{WorldOrder}
 use Rattle.dr_world.specs.declared.fault.WorldFault.{WorldFault}
 use Rattle.dr_world_script.specs.declared.act.Act.{Act}
@@ -37,7 +37,7 @@ returns-in-Ok-report_after g c =
 pub returns-in-Err-HalfAdopted : goal.returns-in-Err-HalfAdopted
 returns-in-Err-HalfAdopted g c =
     let P : List Act → Type 0 = λ acts. AllZip (IsOrderOf (g.F.Files.holds c.args.files.now)) acts c.in-Ok-orders_of.orders.items in
-    let Q : List WorldOrder → Type 0 = λ orders. OrdersChange orders in
+    let Q : List WorldOrder → Type 0 = λ orders. OrdersChange orders × OrdersRefusal orders in
     let F : WorldFault → Type 0 = λ why. IsUnreported c.as_slice.result.now why in
     has_change (g.F.Files.holds c.args.files.now) c.args.text.now c.in-Ok.acts c.in-Ok-orders_of.orders.items c.in-Ok.ensures (subst P c.into_vec.ensures c.in-Ok-orders_of.ensures)
     (subst Q c.as_slice.ensures.value (subst F c.in-Err-HalfAdopted.field-0-is c.in-Err-HalfAdopted.ensures.unreported))

@@ -6,7 +6,7 @@ use Rattle.dr_world.proofs.playing.do_deed.Goals as goal
 
 pub returns-in_ok-_note-in-Step-clause-plays : goal.returns-in_ok-_note-in-Step-clause-plays
 returns-in_ok-_note-in-Step-clause-plays c =
-    let P : Deed → Type 0 = λ d. PlaysOn d [] c.args.world.now c.step.new.self in
+    let P : Deed → Type 0 = λ d. PlaysOn d [] c.args.world.now c.take_step.new.world in
     ([], sym (append-nil c.args.changes.now), subst P (sym c.in-Step.is) c.in_ok-_note-in-Step.ensures.plays)
 
 pub returns-in_ok-_note-in-Bytes-clause-plays : goal.returns-in_ok-_note-in-Bytes-clause-plays

@@ -1,0 +1,11 @@
+mod Between
+mod Bytes
+mod Counts
+mod Digests
+mod Instances
+mod Listed
+mod Literals
+mod Outcomes
+mod Reread
+mod Said
+mod Whole

@@ -1,0 +1,7 @@
+use Rattle.std.proofs.Common.{ap, ◌∙◌}
+use Rattle.dr_base.specs.Texts.{Text}
+use Rattle.dr_ledger_history.specs.declared.line.JournalLine.TheVariants as told
+use Rattle.dr_ledger_read.proofs.reading.requeuing_at.Goals as goal
+
+pub returns : goal.returns
+returns c = λ u d a b. ap (λ (x : Text). told.Requeuing x c.in_ok-dest.dest) (c.in_ok-uid.ensures u a) ∙ ap (λ (x : Text). told.Requeuing u x) (c.in_ok-dest.ensures d b)

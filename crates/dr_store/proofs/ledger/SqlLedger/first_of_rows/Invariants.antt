@@ -1,0 +1,15 @@
+use Rattle.std.proofs.Common.{◌≡◌, All, Ok, take}
+use Rattle.sqlite.specs.Held.{state}
+use Rattle.dr_store_calls.specs.Calling.{IsSafe}
+use Rattle.dr_store.specs.Reading.{LeavesAsRead}
+use Rattle.dr_store.proofs.Unreadables.{RowHasIts}
+use Rattle.dr_store.proofs.ledger.SqlLedger.first_of_rows.Given as goal
+
+abbrev pub invariant-loop-row : goal.invariant-loop-row
+invariant-loop-row g l =
+    let old = state g.S.Store l.fn.self.conn in
+    let now = state g.S.Store l.self.conn in
+    let was_of = g.B.Shelf.read_of l.fn.self.shelf in
+    LeavesAsRead (Ok (tt {0})) was_of (g.B.Shelf.read_of l.self.shelf) (g.B.Shelf.is_clean l.fn.self.shelf) (g.B.Shelf.is_clean l.self.shelf) old now l.fn.self.failures l.self.failures
+    × (l.self.site ≡ l.fn.self.site)
+    × (g.B.Shelf.is_clean l.self.shelf → IsSafe now → All (RowHasIts was_of old.committed.trees) (take l.row-index l.rows))
