@@ -4,3 +4,4 @@ pub mod ContextsAsPlanned
 pub mod FormedSites
 pub mod Looking
 pub mod Shown
+pub mod Strangers
