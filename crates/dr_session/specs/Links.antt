@@ -304,14 +304,15 @@ module _ {L S : Type 0} (hears : L → Heard → L → Type 0) (sends : L → Li
       × Begins Deliver sent result k (spellings (pdu.AssociateRq rq ∷ [])) s
       (begins site.max_pdu (requesting (Some site) dest rq now)) l t
 
-  -- There is no hop (and nothing was called), memory ended before the request went out, or it is a
-  -- session.
+  -- There is no hop (and nothing was called), memory ended before the request went out over one, or
+  -- it is a session.
   abbrev pub DeliversAs : Part → Text → Result Ended SessionFault → L → S → L → S → Type 0
   DeliversAs site dest (Ok ended) k s l t = SessionTo site dest (Ok ended) k s l t
   DeliversAs site dest (Err fault.NoHop) k s l t =
       ((hop : Hop) → IsHopTo site dest hop → ⊥) × (l ≡ k) × (t ≡ s)
   DeliversAs site dest (Err fault.Memory) k s l t =
-      ((l ≡ k) × (t ≡ s)) ⊎ SessionTo site dest (Err fault.Memory) k s l t
+      (((hop : Hop) × IsHopTo site dest hop) × (l ≡ k) × (t ≡ s))
+      ⊎ SessionTo site dest (Err fault.Memory) k s l t
   DeliversAs site dest (Err why) k s l t = SessionTo site dest (Err why) k s l t
 
 -- why a requestor has no session

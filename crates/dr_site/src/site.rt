@@ -1,12 +1,13 @@
 //! The site of a node.
-ghost use Rattle.std.specs.Prelude.{◌≡◌, ◌↔◌, IfOk, IsTrue, Contains};
+ghost use Rattle.std.specs.Prelude.{◌≡◌, ◌↔◌, IfOk, IsTrue, MatchBool, Contains};
 ghost use Rattle.dr_base.specs.Texts.{Text as Words, IsInByteOrder};
 ghost use Rattle.dr_plan_model.specs.Plans.{IsTheNode};
+ghost use Rattle.dr_plan_sound.specs.declared.certificate.Hop.{Hop as HopValue};
 ghost use Rattle.dr_site.specs.Routing.{HasLineFor, SendsFrom, KeepsAt};
-ghost use Rattle.dr_site.specs.Parts.{Part, IsPartOf, hops_to};
+ghost use Rattle.dr_site.specs.Parts.{Part, IsPartOf, IsHopTo, hops_to};
 ghost use Rattle.dr_site.specs.Sites.{IsCertified, IsSite, IsSiteOf};
 
-use crate::rows::{flows_at, hops_ending_at, hops_from, lines_of};
+use crate::rows::{flows_at, has_hop, hops_ending_at, hops_from, lines_of};
 use dr_base::heap::boxed;
 use dr_base::same::{Same, are_same};
 use dr_base::{Seq, Text};
@@ -262,6 +263,14 @@ impl Site {
     {
         let hops = hops_ending_at(alloc, self.parts.as_ref().hops.as_slice(), dest)?;
         Ok(hops)
+    }
+
+    /// Whether its node has a hop to that node. It takes no memory.
+    pub fn has_hop(&self, dest: &Text) -> bool
+        ensures { MatchBool result ((hop : HopValue) × IsHopTo self.now dest.now hop)
+            ((hop : HopValue) → IsHopTo self.now dest.now hop → ⊥) }
+    {
+        has_hop(self.parts.as_ref().hops.as_slice(), dest)
     }
 
     /// Whether the certificate has a line for what the caller brings to this node with that key. It
