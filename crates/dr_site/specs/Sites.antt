@@ -30,7 +30,8 @@ pub record IsSite (part : Part) : Type 0 where
   pub sorted : AreSorted part.lines
   pub some : IsPartOfSome part
 
--- the site of the node of that name, or no node has it; memory is wanted for a node of the plan alone
+-- The site of the node of that name, or no node has it. Memory is wanted for a node of the plan
+-- alone.
 abbrev pub IsSiteOf : Network → Certificate → Text → Result Part SiteFault → Type 0
 IsSiteOf plan certificate name (Ok part) = (part.name ≡ name) × IsPartOf plan certificate part
 IsSiteOf plan certificate name (Err NoNode) = NamesNoNode plan name
