@@ -60,9 +60,13 @@ module _ {S : Type 0} (step : S → DeskCall → DeskAnswer → S → Type 0) wh
   breaks_later w [] js c d s m t xs (a, b, k) h =
       subst (λ (l : List LinkAction). BreaksOff step l c js s t) (ap (λ (l : List LinkAction). w ++ l) a ∙ append-nil w)
       (subst (λ (x : Core). BreaksOff step (w ++ xs) x js s t) b (subst (λ (x : S). BreaksOff step (w ++ xs) d js x t) k h))
-  breaks_later w (i ∷ is) js c d s m t xs (x, u, later, one, more, a) h = inr (inr (x, u, one,
-      breaks_later (w ++ x.acts) is js x.core d u m t later more
-      (subst (λ (l : List LinkAction). BreaksOff step l d js m t) (ap (λ (l : List LinkAction). w ++ l) a ∙ sym (append_assoc w x.acts later)) h)))
+  breaks_later w (i ∷ is) js c d s m t xs (x, u, later, one, more, a) h = inr (inr (
+    x,
+    u,
+    one,
+    breaks_later (w ++ x.acts) is js x.core d u m t later more
+        (subst (λ (l : List LinkAction). BreaksOff step l d js m t) (ap (λ (l : List LinkAction). w ++ l) a ∙ sym (append_assoc w x.acts later)) h),
+  ))
 
   -- the first were left on the way, whatever follows
   pub breaks_first : (w : List LinkAction) (is js : List At) (c : Core) (s t : S) → BreaksOff step w c is s t → BreaksOff step w c (is ++ js) s t
@@ -76,8 +80,12 @@ module _ {S : Type 0} (step : S → DeskCall → DeskAnswer → S → Type 0) wh
   breaks_after w v [] c s t (several, same) = (several_after w v several, same)
   breaks_after w v (i ∷ is) c s t (inl (several, same)) = inl (several_after w v several, same)
   breaks_after w v (i ∷ is) c s t (inr (inl h)) = inr (inl h)
-  breaks_after w v (i ∷ is) c s t (inr (inr (x, m, one, more))) = inr (inr (x, m, one,
-      subst (λ (l : List LinkAction). BreaksOff step l x.core is m t) (sym (append_assoc w v x.acts)) (breaks_after w (v ++ x.acts) is x.core m t more)))
+  breaks_after w v (i ∷ is) c s t (inr (inr (x, m, one, more))) = inr (inr (
+    x,
+    m,
+    one,
+    subst (λ (l : List LinkAction). BreaksOff step l x.core is m t) (sym (append_assoc w v x.acts)) (breaks_after w (v ++ x.acts) is x.core m t more),
+  ))
 
   pub breaks_since : (w : List LinkAction) (is : List At) (c : Core) (s t : S) → BreaksOff step [] c is s t → BreaksOff step w c is s t
   breaks_since w is c s t h = subst (λ (l : List LinkAction). BreaksOff step l c is s t) (append-nil w) (breaks_after w [] is c s t h)

@@ -48,10 +48,7 @@ fn join(first: Seq<LinkAction>, more: Seq<LinkAction>) -> Result<Seq<LinkAction>
 }
 
 /// Some actions, and behind them the others.
-fn append(
-    first: Vec<LinkAction>,
-    more: Vec<LinkAction>,
-) -> Result<Seq<LinkAction>, AllocError>
+fn append(first: Vec<LinkAction>, more: Vec<LinkAction>) -> Result<Seq<LinkAction>, AllocError>
     ensures { IfOk result (λ all. all ≡ first.items ++ more.items) }
 {
     let mut all = first;
