@@ -232,12 +232,12 @@ fn last_fault(ear: &mut Feeder) -> Result<Option<PduFault>, AllocError>
     ensures { IfOk result (FaultShows ear.old ear.new) }
 {
     match ear.feed(&[]) {
-        Ok(_) => Ok(None),
+        Ok(_) => return Ok(None),
         Err(fault) => match fault {
-            PduFault::Memory => Err(AllocError),
+            PduFault::Memory => return Err(AllocError),
             PduFault::Failed => unreachable!(),
             PduFault::More => unreachable!(),
-            _ => Ok(Some(fault)),
+            _ => return Ok(Some(fault)),
         },
     }
 }
