@@ -5,7 +5,8 @@ Each source is in the kit's layout; no line of src/ or specs/ is over 100 column
 each wrong body and wrong definition can be applied to the sources as they are; each that wrong/gate names is there; no
 type's name is in two crates but for one notion; no function has over seven parameters, and over six functions of a
 crate spell out no list of generics with two or more bounds; each file whose first line names what runs it may be run;
-the changes tell the version of the sources; no sentence of a page has over 30 words, and no example of docs/PROVING.md is
+the changes tell the version of the sources; each library that a crate's clauses and proofs name is in its line of
+crates.txt; no sentence of a page has over 30 words, and no example of docs/PROVING.md is
 lost (tools/prose.py). What isn't so is printed, and the exit status is 1.
 """
 import os
@@ -25,6 +26,8 @@ MOST_PARAMETERS = 7
 # A list of generics, of a function or of an impl.
 GENERIC = re.compile(r"\b(?:fn \w+|impl)(?=<)")
 MOST_ALIKE = 6
+# A library whose definitions or proofs are named.
+LIBRARY = re.compile(r"\bRattle\.(\w+)\.")
 # Names of one notion that crates have apart: a node of the plan and of the simulator; and tests of a
 # name that tell the fault or not.
 SAME_NOTION = {"Node", "WellFormed"}
@@ -165,8 +168,22 @@ def not_to_be_run():
     return said
 
 
+def unlisted():
+    """The libraries that a crate's clauses, specs and proofs name, and its line in crates.txt doesn't. A check over sources sees each
+    library that it was passed, so that only the gate would tell, when all below is proved."""
+    said = []
+    for crate, (own, kits) in listed().items():
+        names = set()
+        for path in sources_of(crate):
+            with open(path, encoding="utf-8") as file:
+                names.update(LIBRARY.findall(file.read()))
+        said += [f"{crate} names {it}, which its line of crates.txt lacks" for it in sorted(names - {crate, "std", "core", *own, *kits})]
+    return said
+
+
 def main():
     said = out_of_layout() + over_long() + unapplied() + shared_names() + with_many_parameters() + with_same_generics() + not_to_be_run()
+    said += unlisted()
     said += [*version.faults(), *prose.faults(prose.all_pages())]
     print("\n".join(said), end="\n" * bool(said))
     print(f"formats: {len(said)} faults")
