@@ -2,9 +2,10 @@
 use Rattle.std.proofs.Common.{◌≡◌, List, ℕ, ◌∷◌, ◌++◌, [], drop, refl, subst, arith, inl, inr}
 use Rattle.std.specs.Prelude.{codes}
 use Rattle.dr_dimse.specs.declared.command.Command.{Command}
-use Rattle.dr_dimse.specs.Commands.{CommandElement, IsCommand}
+use Rattle.dr_dimse.specs.Commands.{CommandElement, IsCommand, AreNumbers, StartsCommandElement}
+use Rattle.dr_base.specs.Runs.{Run}
 use Rattle.dr_base.specs.Standard.{image}
-use Rattle.dr_dimse.specs.Vectors.{echo_request, echo_answer, store_request, moved_text, cancel, cancel_text}
+use Rattle.dr_dimse.specs.Vectors.{echo_request, echo_answer, store_request, moved_text, cancel, cancel_text, cancel_with}
 use Rattle.dr_pdu.specs.Vectors.{echo_command}
 use Rattle.dr_dimse.specs.Written.{written, CommandFits}
 use Rattle.dr_dimse.proofs.OneCommand.{numbers_of}
@@ -49,3 +50,59 @@ cancel_read =
       (refl, tt, refl, tt, refl, tt, tt),
       ((omega arith, refl), (0x0101, (omega arith, refl), refl), inl (refl, refl, refl), ((λ e. omega (arith, e)), (λ e. omega (arith, e)), (λ e. omega (arith, e)), (λ e. omega (arith, e)))),
     )
+
+-- a cancel with other values: its elements
+abbrev cancelled : List ℕ → List ℕ → List CommandElement
+cancelled to status =
+    record { number = 0x0100; value = 0xFF ∷ 0x0F ∷ [] } ∷ record { number = 0x0120; value = to } ∷ record { number = 0x0800; value = 1 ∷ 1 ∷ [] } ∷ record { number = 0x0900; value = status } ∷ []
+
+pub cancelled_read : IsCommand (cancel_with (7 ∷ 0 ∷ []) (0 ∷ 0 ∷ [])) cancel
+cancelled_read =
+    let text = cancel_with (7 ∷ 0 ∷ []) (0 ∷ 0 ∷ []) in (
+      cancelled (7 ∷ 0 ∷ []) (0 ∷ 0 ∷ []),
+      (drop 10 text, (omega arith, omega arith, refl), (drop 20 text, (omega arith, omega arith, refl), (drop 30 text, (omega arith, omega arith, refl), (drop 40 text, (omega arith, omega arith, refl), refl)))),
+      (refl, tt, refl, tt, refl, refl, tt),
+      ((omega arith, refl), (0x0101, (omega arith, refl), refl), inl (refl, refl, refl), ((λ e. omega (arith, e)), (λ e. omega (arith, e)), (λ e. omega (arith, e)), (λ e. omega (arith, e)))),
+    )
+
+pub long_id_of_cancel : (c : Command) → IsCommand (cancel_with (7 ∷ 0 ∷ 0 ∷ 0 ∷ []) (0 ∷ 0 ∷ [])) c → ⊥
+long_id_of_cancel c h =
+    let text = cancel_with (7 ∷ 0 ∷ 0 ∷ 0 ∷ []) (0 ∷ 0 ∷ []) in
+    let run : Run StartsCommandElement (cancelled (7 ∷ 0 ∷ 0 ∷ 0 ∷ []) (0 ∷ 0 ∷ [])) text [] = (drop 10 text, (omega arith, omega arith, refl), (drop 22 text, (omega arith, omega arith, refl), (drop 32 text, (omega arith, omega arith, refl), (drop 42 text, (omega arith, omega arith, refl), refl)))) in
+    let are : AreNumbers (cancelled (7 ∷ 0 ∷ 0 ∷ 0 ∷ []) (0 ∷ 0 ∷ [])) = numbers_of (cancelled (7 ∷ 0 ∷ 0 ∷ 0 ∷ []) (0 ∷ 0 ∷ [])) text c run h in
+    omega (arith, are.2)
+
+pub short_id_of_cancel : (c : Command) → IsCommand (cancel_with (7 ∷ []) (0 ∷ 0 ∷ [])) c → ⊥
+short_id_of_cancel c h =
+    let text = cancel_with (7 ∷ []) (0 ∷ 0 ∷ []) in
+    let run : Run StartsCommandElement (cancelled (7 ∷ []) (0 ∷ 0 ∷ [])) text [] = (drop 10 text, (omega arith, omega arith, refl), (drop 19 text, (omega arith, omega arith, refl), (drop 29 text, (omega arith, omega arith, refl), (drop 39 text, (omega arith, omega arith, refl), refl)))) in
+    let are : AreNumbers (cancelled (7 ∷ []) (0 ∷ 0 ∷ [])) = numbers_of (cancelled (7 ∷ []) (0 ∷ 0 ∷ [])) text c run h in
+    omega (arith, are.2)
+
+pub no_id_of_cancel : (c : Command) → IsCommand (cancel_with [] (0 ∷ 0 ∷ [])) c → ⊥
+no_id_of_cancel c h =
+    let text = cancel_with [] (0 ∷ 0 ∷ []) in
+    let run : Run StartsCommandElement (cancelled [] (0 ∷ 0 ∷ [])) text [] = (drop 10 text, (omega arith, omega arith, refl), (drop 18 text, (omega arith, omega arith, refl), (drop 28 text, (omega arith, omega arith, refl), (drop 38 text, (omega arith, omega arith, refl), refl)))) in
+    let are : AreNumbers (cancelled [] (0 ∷ 0 ∷ [])) = numbers_of (cancelled [] (0 ∷ 0 ∷ [])) text c run h in
+    omega (arith, are.2)
+
+pub long_status_of_cancel : (c : Command) → IsCommand (cancel_with (7 ∷ 0 ∷ []) (0 ∷ 0 ∷ 0 ∷ 0 ∷ [])) c → ⊥
+long_status_of_cancel c h =
+    let text = cancel_with (7 ∷ 0 ∷ []) (0 ∷ 0 ∷ 0 ∷ 0 ∷ []) in
+    let run : Run StartsCommandElement (cancelled (7 ∷ 0 ∷ []) (0 ∷ 0 ∷ 0 ∷ 0 ∷ [])) text [] = (drop 10 text, (omega arith, omega arith, refl), (drop 20 text, (omega arith, omega arith, refl), (drop 30 text, (omega arith, omega arith, refl), (drop 42 text, (omega arith, omega arith, refl), refl)))) in
+    let are : AreNumbers (cancelled (7 ∷ 0 ∷ []) (0 ∷ 0 ∷ 0 ∷ 0 ∷ [])) = numbers_of (cancelled (7 ∷ 0 ∷ []) (0 ∷ 0 ∷ 0 ∷ 0 ∷ [])) text c run h in
+    omega (arith, are.5)
+
+pub short_status_of_cancel : (c : Command) → IsCommand (cancel_with (7 ∷ 0 ∷ []) (0 ∷ [])) c → ⊥
+short_status_of_cancel c h =
+    let text = cancel_with (7 ∷ 0 ∷ []) (0 ∷ []) in
+    let run : Run StartsCommandElement (cancelled (7 ∷ 0 ∷ []) (0 ∷ [])) text [] = (drop 10 text, (omega arith, omega arith, refl), (drop 20 text, (omega arith, omega arith, refl), (drop 30 text, (omega arith, omega arith, refl), (drop 39 text, (omega arith, omega arith, refl), refl)))) in
+    let are : AreNumbers (cancelled (7 ∷ 0 ∷ []) (0 ∷ [])) = numbers_of (cancelled (7 ∷ 0 ∷ []) (0 ∷ [])) text c run h in
+    omega (arith, are.5)
+
+pub no_status_of_cancel : (c : Command) → IsCommand (cancel_with (7 ∷ 0 ∷ []) []) c → ⊥
+no_status_of_cancel c h =
+    let text = cancel_with (7 ∷ 0 ∷ []) [] in
+    let run : Run StartsCommandElement (cancelled (7 ∷ 0 ∷ []) []) text [] = (drop 10 text, (omega arith, omega arith, refl), (drop 20 text, (omega arith, omega arith, refl), (drop 30 text, (omega arith, omega arith, refl), (drop 38 text, (omega arith, omega arith, refl), refl)))) in
+    let are : AreNumbers (cancelled (7 ∷ 0 ∷ []) []) = numbers_of (cancelled (7 ∷ 0 ∷ []) []) text c run h in
+    omega (arith, are.5)

@@ -77,3 +77,11 @@ abbrev pub cancel_text : List ℕ
 cancel_text =
     0 ∷ 0 ∷ 0 ∷ 1 ∷ 2 ∷ 0 ∷ 0 ∷ 0 ∷ 0xFF ∷ 0x0F ∷ 0 ∷ 0 ∷ 0x20 ∷ 1 ∷ 2 ∷ 0 ∷ 0 ∷ 0 ∷ 7 ∷ 0 ∷ 0 ∷ 0
     ∷ 0 ∷ 8 ∷ 2 ∷ 0 ∷ 0 ∷ 0 ∷ 1 ∷ 1 ∷ []
+
+-- a C-CANCEL-RQ with these values of the message id that is cancelled (0000,0120) and of a status
+-- (0000,0900), which it doesn't need
+abbrev pub cancel_with : List ℕ → List ℕ → List ℕ
+cancel_with to status =
+    0 ∷ 0 ∷ 0 ∷ 1 ∷ 2 ∷ 0 ∷ 0 ∷ 0 ∷ 0xFF ∷ 0x0F ∷ 0 ∷ 0 ∷ 0x20 ∷ 1 ∷ length to ∷ 0 ∷ 0 ∷ 0
+    ∷ (to
+    ++ (0 ∷ 0 ∷ 0 ∷ 8 ∷ 2 ∷ 0 ∷ 0 ∷ 0 ∷ 1 ∷ 1 ∷ 0 ∷ 0 ∷ 0 ∷ 9 ∷ length status ∷ 0 ∷ 0 ∷ 0 ∷ status))

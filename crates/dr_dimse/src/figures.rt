@@ -6,7 +6,7 @@ ghost use Rattle.dr_dimse.specs.Vectors.{echo_request, echo_answer};
 ghost use Rattle.dr_pdu.specs.Vectors.{echo_command};
 ghost use Rattle.dr_dimse.specs.Vectors.{group_length_of_answer, store_request, store_answer};
 ghost use Rattle.dr_dimse.specs.Vectors.{store_text, store_answer_text, moved_text, cancel};
-ghost use Rattle.dr_dimse.specs.Vectors.{cancel_text};
+ghost use Rattle.dr_dimse.specs.Vectors.{cancel_text, cancel_with};
 ghost use Rattle.dr_dimse.specs.Written.{written};
 ghost use Rattle.dr_dimse.specs.declared.fault.DimseFault.TheVariants.{OutOfPlace, MixedContext};
 ghost use Rattle.dr_dimse.specs.declared.fault.DimseFault.TheVariants.{BadCommand, TooLong};
@@ -81,4 +81,18 @@ pub fn an_echo_is_one_value()
         (record { id = 1; header = 3; fragment = written echo_answer }) (Err OutOfPlace) Idle }
     ensures reverse { TakesValue (AnswerTo 1) Idle
         (record { id = 1; header = 3; fragment = echo_command }) (Err OutOfPlace) Idle }
+{}
+
+/// The message id that is answered (0000,0120) and the status (0000,0900) have two bytes where they
+/// are there at all, also in a command that needs neither.
+pub fn numbers_have_two_bytes()
+    ensures two { IsCommand (cancel_with (7 ∷ 0 ∷ []) (0 ∷ 0 ∷ [])) cancel }
+    ensures long_id { ReadsCommand (cancel_with (7 ∷ 0 ∷ 0 ∷ 0 ∷ []) (0 ∷ 0 ∷ []))
+        (Err BadCommand) }
+    ensures short_id { ReadsCommand (cancel_with (7 ∷ []) (0 ∷ 0 ∷ [])) (Err BadCommand) }
+    ensures no_id { ReadsCommand (cancel_with [] (0 ∷ 0 ∷ [])) (Err BadCommand) }
+    ensures long_status { ReadsCommand (cancel_with (7 ∷ 0 ∷ []) (0 ∷ 0 ∷ 0 ∷ 0 ∷ []))
+        (Err BadCommand) }
+    ensures short_status { ReadsCommand (cancel_with (7 ∷ 0 ∷ []) (0 ∷ [])) (Err BadCommand) }
+    ensures no_status { ReadsCommand (cancel_with (7 ∷ 0 ∷ []) []) (Err BadCommand) }
 {}

@@ -1,9 +1,9 @@
 -- A proposal is made of the hops to its destination.
-use Rattle.std.proofs.Common.{◌≡◌, ℕ, ◌<◌, List, [], ◌∷◌, length, map, Ok, Contains, refl, sym, ap, subst, ◌∙◌, true, false, arith}
-use Rattle.std.specs.Prelude.{◌==◌, AllPairs, replicate}
-use Rattle.std.proofs.lemmas.Bool.{false≢true, eqb-true, lt-ltb}
+use Rattle.std.proofs.Common.{◌≡◌, ℕ, ◌<◌, List, map, Result, Ok, Err, Contains, refl, sym, ap, subst, ◌∙◌}
+use Rattle.std.specs.Prelude.{AllPairs, replicate}
+use Rattle.std.specs.Result.{IsErr, IsErrAnd}
+use Rattle.std.proofs.lemmas.Bool.{false≢true, lt-ltb}
 use Rattle.dr_base.specs.Texts.{Text}
-use Rattle.dr_plan_model.proofs.Gathered.{nothing_in_nil, Contains-here}
 use Rattle.dr_plan_sound.specs.declared.certificate.Hop.{Hop}
 use Rattle.std.specs.declared.cmp.Ordering.{Ordering}
 use Rattle.std.specs.declared.cmp.Ordering.TheVariants.{Less}
@@ -18,27 +18,20 @@ use Rattle.dr_site.proofs.FormedSites.{sites_are_formed}
 use Rattle.dr_pdu.specs.declared.pdu.ContextProposal.{ContextProposal}
 use Rattle.dr_pdu.specs.declared.pdu.Front.{Front}
 use Rattle.dr_base.specs.Standard.{application_context}
+use Rattle.dr_nego.specs.declared.fault.NegoFault.{NegoFault}
+use Rattle.dr_nego.specs.declared.fault.NegoFault.TheVariants.{Memory}
 use Rattle.dr_nego.specs.Agreeing.{AssociateRq}
 use Rattle.dr_nego.specs.Laws.{OneProposal}
 use Rattle.dr_nego.specs.Proposing.{context_of, IsHopTo, IsProposal, Proposes}
 
--- no hop leads to a node to which there are none
-pub no_hop : (site : Part) (dest : Text) (hops : List Hop) → hops ≡ hops_to site dest → (length hops == 0) ≡ true → (hop : Hop) → IsHopTo site dest hop → ⊥
-no_hop site dest [] same none hop is = (let P : List Hop → Type 0 = λ hs. Contains hs hop in nothing_in_nil hop (subst P (sym same) ((hop_to site dest hop).1 is)))
-no_hop site dest (h ∷ hs) same none hop is = (let e : length (h ∷ hs) ≡ 0 = eqb-true (length (h ∷ hs)) 0 none in omega (arith, e))
-
-some_hop : (site : Part) (dest : Text) (hops : List Hop) → hops ≡ hops_to site dest → (length hops == 0) ≡ false → (hop : Hop) × IsHopTo site dest hop
-some_hop site dest [] same some = absurd (false≢true (sym some))
-some_hop site dest (h ∷ hs) same some = (let P : List Hop → Type 0 = λ l. Contains l h in (h, (hop_to site dest h).0 (subst P same (Contains-here h hs))))
-
-pub proposed : (site : Part) (dest : Text) → IsSite site → (hops : List Hop) → hops ≡ hops_to site dest → (length hops == 0) ≡ false →
+pub proposed : (site : Part) (dest : Text) → IsSite site → ((hop : Hop) × IsHopTo site dest hop) → (hops : List Hop) → hops ≡ hops_to site dest →
     (front : Front) (application : Text) (contexts : List ContextProposal) (max_pdu : ℕ) →
     front ≡ record { version = 1; called = dest; calling = site.name; reserved = replicate 32 0 } → application ≡ application_context → contexts ≡ map context_of hops → max_pdu ≡ site.max_pdu →
     Proposes site dest (Ok (record { front = front; application = application; contexts = contexts; max_pdu = max_pdu }))
-proposed site dest is hops same some front application contexts max_pdu front_is application_is contexts_are max_is =
+proposed site dest is some hops same front application contexts max_pdu front_is application_is contexts_are max_is =
     let made : contexts ≡ map context_of (hops_to site dest) = contexts_are ∙ ap (λ (l : List Hop). map context_of l) same in
     let P : List ContextProposal → Type 0 = λ cs. AllPairs (λ (a b : ContextProposal). a.id < b.id) cs in (
-      some_hop site dest hops same some,
+      some,
       record {
         front = front_is;
         application = application_is;
@@ -53,6 +46,11 @@ proposed site dest is hops same some front application contexts max_pdu front_is
         max_pdu = max_is;
       },
     )
+
+-- want of memory is told of a site that has a hop
+pub proposed_not : (site : Part) (dest : Text) (r : Result AssociateRq NegoFault) → IsErr r → IsErrAnd r (λ (e : NegoFault). e ≡ Memory) → ((hop : Hop) × IsHopTo site dest hop) → Proposes site dest r
+proposed_not site dest (Ok rq) is_err gives hop = absurd (false≢true is_err)
+proposed_not site dest (Err e) is_err gives hop = subst (λ (w : NegoFault). Proposes site dest (Err w)) (sym gives) hop
 
 -- ---- one proposal
 

@@ -6,6 +6,7 @@ use Rattle.dr_base.specs.Syntaxes.{syntax_uid}
 use Rattle.dr_base.specs.declared.syntax.Syntax.TheVariants.{Implicit}
 use Rattle.dr_plan_sound.specs.declared.certificate.Hop.{Hop}
 use Rattle.dr_site.specs.Parts.{Part}
+pub use Rattle.dr_site.specs.Parts.{IsHopTo}
 use Rattle.dr_pdu.specs.declared.pdu.ContextProposal.{ContextProposal}
 use Rattle.dr_nego.specs.declared.fault.NegoFault.{NegoFault}
 use Rattle.dr_nego.specs.declared.fault.NegoFault.TheVariants.{StrangeId, StrangeSyntax}
@@ -17,10 +18,6 @@ use Rattle.dr_base.specs.Standard.{verification, application_context}
 -- transfer syntax
 abbrev pub context_of : Hop → ContextProposal
 context_of hop = record { id = hop.id; class = hop.class; syntaxes = syntax_uid hop.syntax ∷ [] }
-
--- the hop is one of the site's, to that node
-abbrev pub IsHopTo : Part → Text → Hop → Type 0
-IsHopTo site dest hop = Contains site.hops hop × (hop.to ≡ dest)
 
 -- a context for each pair of the hop, by rising ids (which is byte order of class, then of the
 -- transfer syntax)
@@ -34,14 +31,14 @@ pub record IsProposal (site : Part) (dest : Text) (rq : AssociateRq) : Type 0 wh
   pub max_pdu : rq.max_pdu ≡ site.max_pdu
 
 -- what a site answers when its proposal for a node is asked for: the request, or that it has no hop
--- to there
+-- to there; memory is wanted for a hop alone
 abbrev pub Proposes : Part → Text → Result AssociateRq NegoFault → Type 0
 Proposes site dest (Ok rq) = ((hop : Hop) × IsHopTo site dest hop) × IsProposal site dest rq
 Proposes site dest (Err NoHop) = (hop : Hop) → IsHopTo site dest hop → ⊥
 Proposes site dest (Err StrangeId) = ⊥
 Proposes site dest (Err StrangeSyntax) = ⊥
 Proposes site dest (Err LimitTooSmall) = ⊥
-Proposes site dest (Err Memory) = Unit {0}
+Proposes site dest (Err Memory) = (hop : Hop) × IsHopTo site dest hop
 
 -- a request of Verification alone, in context 1 and the implicit syntax, by a caller that takes
 -- 16,384 bytes

@@ -1,9 +1,10 @@
 //! What a caller proposes.
-ghost use Rattle.std.specs.Prelude.{◌≡◌, IfOk, map, replicate, ◌∷◌, []};
+ghost use Rattle.std.specs.Prelude.{◌≡◌, IfOk, Ok, map, replicate, ◌∷◌, []};
 ghost use Rattle.dr_base.specs.Syntaxes.{syntax_uid};
 ghost use Rattle.dr_pdu.specs.declared.pdu.Pdu.TheVariants.{AssociateRq};
 ghost use Rattle.dr_pdu.specs.Written.{Fits};
-ghost use Rattle.dr_nego.specs.Proposing.{Proposes, context_of, echo_proposal};
+ghost use Rattle.dr_plan_sound.specs.declared.certificate.Hop.{Hop as HopValue};
+ghost use Rattle.dr_nego.specs.Proposing.{IsHopTo, Proposes, context_of, echo_proposal};
 
 use crate::acceptor::APPLICATION_CONTEXT;
 use crate::choosing::VERIFICATION;
@@ -77,15 +78,25 @@ fn contexts_of(alloc: Global, hops: &[Hop]) -> Result<Seq<ContextProposal>, Allo
 /// What the site's node proposes to that node: a context with one transfer syntax for each pair of
 /// the hop, by their ids 1, 3, 5 and so on. Its title is the calling one (PS3.8 9.3.2).
 ///
-/// Errors: NoHop where the site has no hop to that node; Memory.
+/// Errors: NoHop where the site has no hop to that node, whatever memory there is; Memory.
 pub fn propose(alloc: Global, site: &Site, dest: &Text) -> Result<AssociateRq, NegoFault>
     ensures proposes { Proposes site.now dest.now result }
     ensures fits { IfOk result (λ rq. Fits (AssociateRq rq)) }
 {
-    let hops = site.hops_to(alloc, dest)?;
-    if hops.is_empty() {
+    if !site.has_hop(dest) {
         return Err(NegoFault::NoHop);
     }
+    let proposal = propose_hop(alloc, site, dest)?;
+    Ok(proposal)
+}
+
+/// The same, over a hop that the site has.
+fn propose_hop(alloc: Global, site: &Site, dest: &Text) -> Result<AssociateRq, AllocError>
+    requires { (hop : HopValue) × IsHopTo site.now dest.now hop }
+    ensures proposes { IfOk result (λ rq. Proposes site.now dest.now (Ok rq)) }
+    ensures fits { IfOk result (λ rq. Fits (AssociateRq rq)) }
+{
+    let hops = site.hops_to(alloc, dest)?;
     let contexts = contexts_of(alloc, hops.as_slice())?;
     Ok(AssociateRq {
         front: front(alloc, site.name(), dest)?,

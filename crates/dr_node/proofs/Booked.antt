@@ -1,5 +1,5 @@
 -- What is done at one desk is done at what it shows, where that holds as it ends.
-use Rattle.std.proofs.Common.{◌≡◌, ◌⊎◌, ℕ, Bool, true, false, List, [], ◌∷◌, map as mapped, Option, None, Some, Result, Ok, Err, inl, inr, refl, sym, ap, subst, ◌∙◌}
+use Rattle.std.proofs.Common.{◌≡◌, ◌⊎◌, ℕ, Bool, true, false, List, [], ◌∷◌, ◌++◌, map as mapped, Option, None, Some, Result, Ok, Err, inl, inr, refl, sym, ap, subst, ◌∙◌}
 use Rattle.std.specs.FinMap as map
 use Rattle.dr_pdu.specs.Feeding.{Feeding}
 use Rattle.dr_site.specs.Parts.{Part}
@@ -15,12 +15,14 @@ use Rattle.dr_session.specs.declared.ends.Input.{Input}
 use Rattle.dr_session.specs.declared.ends.Input.TheVariants as input
 use Rattle.dr_session.specs.declared.ends.LinkAction.{LinkAction}
 use Rattle.dr_session.specs.declared.ends.Moment.{Moment}
+use Rattle.dr_session.specs.declared.ends.Told.{Told}
 use Rattle.dr_session.specs.Desks.{DeskCall, DeskAnswer}
 use Rattle.dr_session.specs.Ends.{Terminal, MeetsBy, MeetsIn, Meets, HearsPiece, HearsBytes, HearsOf, is_gone, idle_in, state_in}
 use Rattle.dr_session.specs.Ledgers.{Desk, RoutedStep, desk}
-use Rattle.dr_session.specs.Plays.{At, Reacts, Stops, Plays, BreaksOff, PlaysBytes, BreaksBytes, at_moment}
-use Rattle.dr_session.specs.Reactions.{Reaction}
-use Rattle.dr_session.specs.Turns.{Turn, Turns, Broke, Ends, Asks, Fails}
+use Rattle.dr_session.specs.Plays.{At, Reacts, Stops, Plays, BreaksOff, PlaysBytes, BreaksBytes, at_moment, with_stage}
+use Rattle.dr_session.specs.Reactions.{Reaction, turn as reaction}
+use Rattle.dr_session.specs.Breaks.{Broke, BrokeBehind, LeavesOff}
+use Rattle.dr_session.specs.Turns.{Turn, Turns, Ends, Asks, Fails}
 use Rattle.dr_ulstate.specs.Phases.{state_of}
 use Rattle.dr_node.specs.declared.event.LinkEvent.{LinkEvent}
 use Rattle.dr_node.specs.declared.event.LinkEvent.TheVariants as event
@@ -45,21 +47,32 @@ module _ {S T : Type 0} (step : S → DeskCall → DeskAnswer → S → Type 0) 
       (back s call h.0 h.1 h.2 later.0, (h.0, shows h.1, one s call h.0 h.1 h.2 later.0, later.1))
   turns Fails s t x h k = absurd h
 
+  behind : (told : DeskAnswer) (turn : Reaction) (s t : S) → BrokeBehind step told turn s t → Holds t → Holds s × BrokeBehind shown told turn (shows s) (shows t)
+  behind told (Ends value) s t h k = (still s t h.2 k, (h.0, h.1, ap shows h.2))
+  behind told (Asks call follow) s t h k =
+      let later = behind h.0 (follow h.0) h.1 t h.3 k in
+      (back s call h.0 h.1 h.2 later.0, (h.0, shows h.1, one s call h.0 h.1 h.2 later.0, later.1))
+  behind told Fails s t h k = (still s t h k, ap shows h)
+
   broke : (turn : Reaction) (s t : S) → Broke step turn s t → Holds t → Holds s × Broke shown turn (shows s) (shows t)
-  broke (Ends value) s t h k = (still s t h k, ap shows h)
-  broke (Asks call follow) s t (inl h) k = (still s t h k, inl (ap shows h))
+  broke (Ends value) s t h k = (still s t h.1 k, (h.0, ap shows h.1))
+  broke (Asks call follow) s t (inl h) k = (still s t h.1 k, inl (h.0, ap shows h.1))
   broke (Asks call follow) s t (inr h) k =
-      let later = broke (follow h.0) h.1 t h.3 k in
+      let later = behind h.0 (follow h.0) h.1 t h.3 k in
       (back s call h.0 h.1 h.2 later.0, inr (h.0, shows h.1, one s call h.0 h.1 h.2 later.0, later.1))
   broke Fails s t h k = (still s t h k, ap shows h)
+
+  left_off : (at : Moment) (c : Core) (told : Told) (s t : S) → LeavesOff step at c told s t → Holds t → Holds s × LeavesOff shown at c told (shows s) (shows t)
+  left_off at c told s t (inl h) k = (still s t h.1 k, inl (h.0, ap shows h.1))
+  left_off at c told s t (inr h) k = let r = broke (reaction at c told) s t h k in (r.0, inr r.1)
 
   reacts : (c : Core) (i : At) (s t : S) (x : Effect) → Reacts step c i s x t → Holds t → Holds s × Reacts shown c i (shows s) x (shows t)
   reacts c i s t x h k = let r = turns _ s t x h.turns k in (r.0, record { told = h.told; stage = h.stage; tells = h.tells; turns = r.1 })
 
   stops : (c : Core) (i : At) (s t : S) → Stops step c i s t → Holds t → Holds s × Stops shown c i (shows s) (shows t)
   stops c i s t h k = elim h.by [
-    | inl e ↦ (still s t e k, record { by = inl (ap shows e) })
-    | inr x ↦ (let r = broke _ s t x.3 k in (r.0, record { by = inr (x.0, x.1, x.2, r.1) }))
+    | inl e ↦ (still s t e.1 k, record { by = inl (e.0, ap shows e.1) })
+    | inr x ↦ (let r = left_off i.moment (with_stage x.1 c) x.0 s t x.3 k in (r.0, record { by = inr (x.0, x.1, x.2, r.1) }))
   ]
 
   plays : (c : Core) (is : List At) (s t : S) (acts : List LinkAction) (d : Core) → Plays step c is s acts d t → Holds t → Holds s × Plays shown c is (shows s) acts d (shows t)
@@ -69,17 +82,18 @@ module _ {S T : Type 0} (step : S → DeskCall → DeskAnswer → S → Type 0) 
       let first = reacts c i s h.1 h.0 h.3 later.0 in
       (first.0, (h.0, shows h.1, h.2, first.1, later.1, h.5))
 
-  breaks : (c : Core) (is : List At) (s t : S) → BreaksOff step c is s t → Holds t → Holds s × BreaksOff shown c is (shows s) (shows t)
-  breaks c [] s t h k = (still s t h k, ap shows h)
-  breaks c (i ∷ is) s t (inl h) k = let r = stops c i s t h k in (r.0, inl r.1)
-  breaks c (i ∷ is) s t (inr h) k =
-      let later = breaks h.0.core is h.1 t h.3 k in
+  breaks : (written : List LinkAction) (c : Core) (is : List At) (s t : S) → BreaksOff step written c is s t → Holds t → Holds s × BreaksOff shown written c is (shows s) (shows t)
+  breaks written c [] s t h k = (still s t h.1 k, (h.0, ap shows h.1))
+  breaks written c (i ∷ is) s t (inl h) k = (still s t h.1 k, inl (h.0, ap shows h.1))
+  breaks written c (i ∷ is) s t (inr (inl h)) k = let r = stops c i s t h k in (r.0, inr (inl r.1))
+  breaks written c (i ∷ is) s t (inr (inr h)) k =
+      let later = breaks (written ++ h.0.acts) h.0.core is h.1 t h.3 k in
       let first = reacts c i s h.1 h.0 h.2 later.0 in
-      (first.0, inr (h.0, shows h.1, first.1, later.1))
+      (first.0, inr (inr (h.0, shows h.1, first.1, later.1)))
 
   breaks_bytes : (at : Moment) (ear : Feeding) (c : Core) (piece : List ℕ) (s t : S) → BreaksBytes step at ear c piece s t → Holds t → BreaksBytes shown at ear c piece (shows s) (shows t)
   breaks_bytes at ear c piece s t (inl h) k = inl (ap shows h)
-  breaks_bytes at ear c piece s t (inr h) k = inr (h.0, h.1, h.2, h.3, h.4, (breaks c _ s t h.5 k).1)
+  breaks_bytes at ear c piece s t (inr h) k = inr (h.0, h.1, h.2, h.3, h.4, (breaks [] c _ s t h.5 k).1)
 
   meets_by : (b : Bool) (at : Moment) (i : Input) (c : Core) (old : Terminal) (s t : S) (result : Acts) (new : Terminal) → MeetsBy step b at i c old s result new t → Holds t →
       MeetsBy shown b at i c old (shows s) result new (shows t)

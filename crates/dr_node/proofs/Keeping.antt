@@ -1,5 +1,5 @@
 -- Whatever each call of a desk keeps, all that is done at an end keeps.
-use Rattle.std.proofs.Common.{◌≡◌, ◌⊎◌, ℕ, Bool, true, false, List, [], ◌∷◌, map as mapped, Option, None, Some, Result, Ok, Err, inl, inr, refl, sym, ap, subst, ◌∙◌}
+use Rattle.std.proofs.Common.{◌≡◌, ◌⊎◌, ℕ, Bool, true, false, List, [], ◌∷◌, ◌++◌, map as mapped, Option, None, Some, Result, Ok, Err, inl, inr, refl, sym, ap, subst, ◌∙◌}
 use Rattle.std.specs.declared.alloc.AllocError.{AllocError}
 use Rattle.dr_pdu.specs.Feeding.{Feeding}
 use Rattle.dr_session.specs.declared.ends.Core.{Core}
@@ -10,11 +10,13 @@ use Rattle.dr_session.specs.declared.ends.Input.{Input}
 use Rattle.dr_session.specs.declared.ends.Input.TheVariants as input
 use Rattle.dr_session.specs.declared.ends.LinkAction.{LinkAction}
 use Rattle.dr_session.specs.declared.ends.Moment.{Moment}
+use Rattle.dr_session.specs.declared.ends.Told.{Told}
 use Rattle.dr_session.specs.Desks.{DeskCall, DeskAnswer}
 use Rattle.dr_session.specs.Ends.{Terminal, MeetsBy, MeetsIn, Meets, HearsPiece, HearsBytes, HearsOf, is_gone, idle_in, state_in}
-use Rattle.dr_session.specs.Plays.{At, Reacts, Stops, Plays, BreaksOff, PlaysBytes, BreaksBytes, at_moment}
-use Rattle.dr_session.specs.Reactions.{Reaction}
-use Rattle.dr_session.specs.Turns.{Turn, Turns, Broke, Ends, Asks, Fails}
+use Rattle.dr_session.specs.Plays.{At, Reacts, Stops, Plays, BreaksOff, PlaysBytes, BreaksBytes, at_moment, with_stage}
+use Rattle.dr_session.specs.Reactions.{Reaction, turn as reaction}
+use Rattle.dr_session.specs.Breaks.{Broke, BrokeBehind, LeavesOff}
+use Rattle.dr_session.specs.Turns.{Turn, Turns, Ends, Asks, Fails}
 use Rattle.dr_ulstate.specs.Phases.{state_of}
 use Rattle.dr_site.specs.Parts.{Part}
 use Rattle.dr_ledger.specs.Bodies.{Bodies}
@@ -42,33 +44,43 @@ module _ {S : Type 0} (step : S → DeskCall → DeskAnswer → S → Type 0) (R
   turns (Asks call follow) s t x h = more s h.1 t (one s call h.0 h.1 h.2) (turns (follow h.0) h.1 t x h.3)
   turns Fails s t x h = absurd h
 
+  behind : (told : DeskAnswer) (turn : Reaction) (s t : S) → BrokeBehind step told turn s t → R s t
+  behind told (Ends value) s t h = as_it_was s t h.2
+  behind told (Asks call follow) s t h = more s h.1 t (one s call h.0 h.1 h.2) (behind h.0 (follow h.0) h.1 t h.3)
+  behind told Fails s t h = as_it_was s t h
+
   broke : (turn : Reaction) (s t : S) → Broke step turn s t → R s t
-  broke (Ends value) s t h = as_it_was s t h
-  broke (Asks call follow) s t (inl h) = as_it_was s t h
-  broke (Asks call follow) s t (inr h) = more s h.1 t (one s call h.0 h.1 h.2) (broke (follow h.0) h.1 t h.3)
+  broke (Ends value) s t h = as_it_was s t h.1
+  broke (Asks call follow) s t (inl h) = as_it_was s t h.1
+  broke (Asks call follow) s t (inr h) = more s h.1 t (one s call h.0 h.1 h.2) (behind h.0 (follow h.0) h.1 t h.3)
   broke Fails s t h = as_it_was s t h
+
+  left_off : (at : Moment) (c : Core) (told : Told) (s t : S) → LeavesOff step at c told s t → R s t
+  left_off at c told s t (inl h) = as_it_was s t h.1
+  left_off at c told s t (inr h) = broke (reaction at c told) s t h
 
   reacts : (c : Core) (i : At) (s t : S) (x : Effect) → Reacts step c i s x t → R s t
   reacts c i s t x h = turns _ s t x h.turns
 
   stops : (c : Core) (i : At) (s t : S) → Stops step c i s t → R s t
-  stops c i s t h = elim h.by [ inl e ↦ as_it_was s t e | inr x ↦ broke _ s t x.3 ]
+  stops c i s t h = elim h.by [ inl e ↦ as_it_was s t e.1 | inr x ↦ left_off i.moment (with_stage x.1 c) x.0 s t x.3 ]
 
   plays : (c : Core) (is : List At) (s t : S) (acts : List LinkAction) (d : Core) → Plays step c is s acts d t → R s t
   plays c [] s t acts d h = as_it_was s t h.2
   plays c (i ∷ is) s t acts d h = more s h.1 t (reacts c i s h.1 h.0 h.3) (plays h.0.core is h.1 t h.2 d h.4)
 
-  breaks : (c : Core) (is : List At) (s t : S) → BreaksOff step c is s t → R s t
-  breaks c [] s t h = as_it_was s t h
-  breaks c (i ∷ is) s t (inl h) = stops c i s t h
-  breaks c (i ∷ is) s t (inr h) = more s h.1 t (reacts c i s h.1 h.0 h.2) (breaks h.0.core is h.1 t h.3)
+  breaks : (written : List LinkAction) (c : Core) (is : List At) (s t : S) → BreaksOff step written c is s t → R s t
+  breaks written c [] s t h = as_it_was s t h.1
+  breaks written c (i ∷ is) s t (inl h) = as_it_was s t h.1
+  breaks written c (i ∷ is) s t (inr (inl h)) = stops c i s t h
+  breaks written c (i ∷ is) s t (inr (inr h)) = more s h.1 t (reacts c i s h.1 h.0 h.2) (breaks (written ++ h.0.acts) h.0.core is h.1 t h.3)
 
   plays_bytes : (at : Moment) (ear : Feeding) (c : Core) (piece : List ℕ) (s t : S) (new : Feeding) (x : Effect) → PlaysBytes step at ear c piece s new x t → R s t
   plays_bytes at ear c piece s t new x h = plays c _ s t x.acts x.core h.2
 
   breaks_bytes : (at : Moment) (ear : Feeding) (c : Core) (piece : List ℕ) (s t : S) → BreaksBytes step at ear c piece s t → R s t
   breaks_bytes at ear c piece s t (inl h) = as_it_was s t h
-  breaks_bytes at ear c piece s t (inr h) = breaks c _ s t h.5
+  breaks_bytes at ear c piece s t (inr h) = breaks [] c _ s t h.5
 
   meets_by : (b : Bool) (at : Moment) (i : Input) (c : Core) (old : Terminal) (s t : S) (result : Acts) (new : Terminal) → MeetsBy step b at i c old s result new t → R s t
   meets_by true at i c old s t result new h = as_it_was s t h.2

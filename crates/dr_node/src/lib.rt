@@ -11,5 +11,5 @@ mod node;
 
 pub use event::LinkEvent;
 pub use fault::NodeFault;
-pub use links::{LinkSide, has_hop};
+pub use links::LinkSide;
 pub use node::Node;

@@ -1,10 +1,8 @@
 //! The links of a node.
 ghost use Rattle.std.specs.Prelude.{◌≡◌, ◌≤◌, ◌^◌, IfOk, Ok, OnErr, OnOk, is_some, option_copied};
 ghost use Rattle.std.specs.FinMap as map;
-ghost use Rattle.std.specs.List.{list_any};
 ghost use Rattle.dr_nego.specs.Proposing.{IsHopTo};
 ghost use Rattle.dr_session.specs.Ends.{OpensTo, accepting, begins};
-ghost use Rattle.dr_site.specs.Parts.{ends_at};
 ghost use Rattle.dr_plan_sound.specs.declared.certificate.Hop.{Hop as HopValue};
 ghost use Rattle.dr_node.specs.Sides.{AcceptsLink, Does, MeetsAt, MeetsEvent, Opens, Pushes};
 ghost use Rattle.dr_node.specs.Sides.{is_other as other_of, is_taken as taken_of, others};
@@ -13,7 +11,6 @@ ghost use Rattle.dr_node.specs.Sides.{state_of_side};
 use crate::event::LinkEvent;
 use crate::fault::NodeFault;
 use dr_base::{Seq, Text};
-use dr_plan_sound::Hop;
 use dr_session::{DeskPort, End, LinkAction, Moment};
 use dr_site::Site;
 use dr_ulstate::State;
@@ -177,7 +174,7 @@ impl Links {
         if self.is_known(link) {
             return Err(NodeFault::LinkKnown);
         }
-        if !has_hop(site.hops(), dest) {
+        if !site.has_hop(dest) {
             return Err(NodeFault::NoHop);
         }
         let (end, actions) = request(alloc, site.copy()?, dest, now)?;
@@ -286,13 +283,6 @@ impl Links {
         };
         Ok(actions)
     }
-}
-
-/// Whether one of the hops goes to that node.
-pub fn has_hop(hops: &[Hop], dest: &Text) -> bool
-    ensures { result ≡ list_any (ends_at dest.now) hops.now }
-{
-    hops.iter().any(|hop| hop.to == *dest)
 }
 
 /// An acceptor's end of a connection that was opened at that moment.

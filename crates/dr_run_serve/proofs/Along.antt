@@ -2,12 +2,12 @@
 use Rattle.std.proofs.Common.{◌≡◌, ℕ, Bool, List, Option, Result, subst}
 use Rattle.dr_base.specs.Texts.{Text}
 use Rattle.dr_ledger.specs.declared.fault.LedgerFault.{LedgerFault}
-use Rattle.dr_run_serve.specs.Sendings.{Asked, Looks, SendsOrRests}
+use Rattle.dr_run_serve.specs.Sendings.{AnsweredCall, Looks, SendsOrRests}
 use Rattle.dr_run_serve.specs.declared.ends.VisitEnd.{VisitEnd}
 use Rattle.dr_run_serve.specs.declared.rest.Rest.{Rest}
 use Rattle.dr_run_serve.specs.declared.visit.Visit.{Visit}
 
-module _ (Visiting : Text → Text → Result Visit LedgerFault → List Asked → Type 0) (Told : LedgerFault → LedgerFault → Type 0) (FirstDue : Text → Result (Option ℕ) LedgerFault → Type 0) (tells : ℕ → Type 0) (dest to address at : Text) where
+module _ (Visiting : Text → Text → Result Visit LedgerFault → List AnsweredCall → Type 0) (Told : LedgerFault → LedgerFault → Type 0) (FirstDue : Text → Result (Option ℕ) LedgerFault → Type 0) (tells : ℕ → Type 0) (dest to address at : Text) where
   pub sends_along : (old : Rest) (ended : Option VisitEnd) (rest : Rest) (due : ℕ) → dest ≡ to → address ≡ at → SendsOrRests (Visiting dest address) Told (FirstDue dest) tells old ended rest due →
       SendsOrRests (Visiting to at) Told (FirstDue to) tells old ended rest due
   sends_along old ended rest due is there h =

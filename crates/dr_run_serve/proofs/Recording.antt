@@ -1,11 +1,12 @@
 -- What is done at one desk is done at another one that follows it, call by call.
-use Rattle.std.proofs.Common.{◌≡◌, ◌∙◌, ◌⊎◌, ◌+◌, ◌-◌, ◌||◌, ℕ, Bool, true, false, cond, arith, List, [], ◌∷◌, Option, None, Some, Result, Ok, Err, inl, inr, refl, sym, ap, subst}
+use Rattle.std.proofs.Common.{◌≡◌, ◌∙◌, ◌⊎◌, ◌+◌, ◌-◌, ◌||◌, ℕ, Bool, true, false, cond, arith, List, [], ◌∷◌, ◌++◌, Option, None, Some, Result, Ok, Err, inl, inr, refl, sym, ap, subst}
 use Rattle.std.specs.declared.alloc.AllocError.{AllocError}
 use Rattle.std.specs.declared.io.Error.{Error}
 use Rattle.dr_base.specs.Texts.{Text}
 use Rattle.dr_pdu.specs.Feeding.{Feeding}
 use Rattle.dr_pdu.specs.declared.pdu.Pdu.TheVariants as pdu
 use Rattle.dr_ledger.specs.declared.fault.LedgerFault.{LedgerFault}
+use Rattle.dr_session.specs.Breaks.{Broke, BrokeBehind, LeavesOff}
 use Rattle.dr_session.specs.declared.ends.Core.{Core}
 use Rattle.dr_session.specs.declared.ends.Effect.{Effect}
 use Rattle.dr_session.specs.declared.ends.Ended.{Ended}
@@ -16,6 +17,7 @@ use Rattle.dr_session.specs.declared.ends.Input.TheVariants as input
 use Rattle.dr_session.specs.declared.ends.LinkAction.{LinkAction}
 use Rattle.dr_session.specs.declared.ends.LinkAction.TheVariants.{Write, Close}
 use Rattle.dr_session.specs.declared.ends.Moment.{Moment}
+use Rattle.dr_session.specs.declared.ends.Told.{Told}
 use Rattle.dr_session.specs.declared.sessions.SessionFault.{SessionFault}
 use Rattle.dr_session.specs.declared.sessions.SessionFault.TheVariants as fault
 use Rattle.dr_session.specs.declared.wishes.Kind.{Kind}
@@ -23,9 +25,9 @@ use Rattle.dr_session.specs.declared.wishes.Kind.TheVariants.{Deliver}
 use Rattle.dr_session.specs.Desks.{DeskCall, DeskAnswer, Arrive, Next, Due, Settle, Arrival, Upcoming, First, Settling}
 use Rattle.dr_session.specs.Ends.{Terminal, MeetsBy, MeetsIn, Meets, HearsPiece, HearsBytes, HearsOf, begins, is_gone, idle_in, requesting, state_in}
 use Rattle.dr_session.specs.Links.{EndDoing, Hears, Asks, Echoes, Place, place, Does, Performed, Did, Leaves, Stops as StopsIn, Served, StopsAt, EndsAs, Begins, SessionTo, DeliversAs, IsWished, asked_after, wants}
-use Rattle.dr_session.specs.Plays.{At, Reacts, Stops, Plays, BreaksOff, BreaksBytes}
-use Rattle.dr_session.specs.Reactions.{Reaction, write}
-use Rattle.dr_session.specs.Turns.{Turns, Broke, Ends, Asks as AsksFor, Fails}
+use Rattle.dr_session.specs.Plays.{At, Reacts, Stops, Plays, BreaksOff, BreaksBytes, with_stage}
+use Rattle.dr_session.specs.Reactions.{Reaction, turn as reaction, write}
+use Rattle.dr_session.specs.Turns.{Turns, Ends, Asks as AsksFor, Fails}
 use Rattle.dr_site.specs.Parts.{Part}
 use Rattle.dr_ledger.specs.declared.item.Outcome.TheVariants.{Broken}
 use Rattle.dr_desk.specs.Receipts.{LeavesReceipts}
@@ -33,7 +35,7 @@ use Rattle.dr_desk.specs.declared.receipt.Receipt.{Receipt}
 use Rattle.dr_desk_workers.specs.Passes.{PassStep}
 use Rattle.dr_ledger.specs.Bodies.{Bodies}
 use Rattle.dr_ledger.specs.Books.{Book, Line}
-use Rattle.dr_run_serve.specs.Sendings.{Asked, ComesBack, IsNotedOf, LooksUp, OnDesk, Records, TellsUid, VisitsAt, VisitsBy, accepted, is_accepted, passes, passes_over}
+use Rattle.dr_run_serve.specs.Sendings.{AnsweredCall, ComesBack, IsNotedOf, LooksUp, OnDesk, Records, TellsUid, VisitsAt, VisitsBy, accepted, is_accepted, passes, passes_over}
 use Rattle.dr_run_serve.specs.declared.resting.Noted.{Noted}
 use Rattle.dr_run_serve.specs.Visits.{Delivers, Finds, GivesUp, IsToldAs, SendsDue, StaysAway, Visits}
 use Rattle.dr_run_serve.specs.declared.visit.Visit.{Visit}
@@ -57,22 +59,34 @@ module _ {S T : Type 0} (step : S → DeskCall → DeskAnswer → S → Type 0) 
       (later.0, (h.0, first.0, first.1, later.1), later.2)
   turns Fails s t x a h k = absurd h
 
+  broke_behind : (told : DeskAnswer) (turn : Reaction) (s t : S) (a : T) → BrokeBehind step told turn s t → Follows s a → (b : T) × BrokeBehind shown told turn a b × Follows t b
+  broke_behind told (Ends value) s t a h k = (a, (h.0, h.1, refl), still s t a h.2 k)
+  broke_behind told (AsksFor call follow) s t a h k =
+      let first = one s call h.0 h.1 a h.2 k in
+      let later = broke_behind h.0 (follow h.0) h.1 t first.0 h.3 first.2 in
+      (later.0, (h.0, first.0, first.1, later.1), later.2)
+  broke_behind told Fails s t a h k = (a, refl, still s t a h k)
+
   broke : (turn : Reaction) (s t : S) (a : T) → Broke step turn s t → Follows s a → (b : T) × Broke shown turn a b × Follows t b
-  broke (Ends value) s t a h k = (a, refl, still s t a h k)
-  broke (AsksFor call follow) s t a (inl h) k = (a, inl refl, still s t a h k)
+  broke (Ends value) s t a h k = (a, (h.0, refl), still s t a h.1 k)
+  broke (AsksFor call follow) s t a (inl h) k = (a, inl (h.0, refl), still s t a h.1 k)
   broke (AsksFor call follow) s t a (inr h) k =
       let first = one s call h.0 h.1 a h.2 k in
-      let later = broke (follow h.0) h.1 t first.0 h.3 first.2 in
+      let later = broke_behind h.0 (follow h.0) h.1 t first.0 h.3 first.2 in
       (later.0, inr (h.0, first.0, first.1, later.1), later.2)
   broke Fails s t a h k = (a, refl, still s t a h k)
+
+  left_off : (at : Moment) (c : Core) (told : Told) (s t : S) (a : T) → LeavesOff step at c told s t → Follows s a → (b : T) × LeavesOff shown at c told a b × Follows t b
+  left_off at c told s t a (inl h) k = (a, inl (h.0, refl), still s t a h.1 k)
+  left_off at c told s t a (inr h) k = let r = broke (reaction at c told) s t a h k in (r.0, inr r.1, r.2)
 
   reacts : (c : Core) (i : At) (s t : S) (x : Effect) (a : T) → Reacts step c i s x t → Follows s a → (b : T) × Reacts shown c i a x b × Follows t b
   reacts c i s t x a h k = let r = turns _ s t x a h.turns k in (r.0, record { told = h.told; stage = h.stage; tells = h.tells; turns = r.1 }, r.2)
 
   stops : (c : Core) (i : At) (s t : S) (a : T) → Stops step c i s t → Follows s a → (b : T) × Stops shown c i a b × Follows t b
   stops c i s t a h k = elim h.by [
-    | inl e ↦ (a, record { by = inl refl }, still s t a e k)
-    | inr x ↦ (let r = broke _ s t a x.3 k in (r.0, record { by = inr (x.0, x.1, x.2, r.1) }, r.2))
+    | inl e ↦ (a, record { by = inl (e.0, refl) }, still s t a e.1 k)
+    | inr x ↦ (let r = left_off i.moment (with_stage x.1 c) x.0 s t a x.3 k in (r.0, record { by = inr (x.0, x.1, x.2, r.1) }, r.2))
   ]
 
   plays : (c : Core) (is : List At) (s t : S) (acts : List LinkAction) (d : Core) (a : T) → Plays step c is s acts d t → Follows s a → (b : T) × Plays shown c is a acts d b × Follows t b
@@ -82,17 +96,18 @@ module _ {S T : Type 0} (step : S → DeskCall → DeskAnswer → S → Type 0) 
       let later = plays h.0.core is h.1 t h.2 d first.0 h.4 first.2 in
       (later.0, (h.0, first.0, h.2, first.1, later.1, h.5), later.2)
 
-  breaks : (c : Core) (is : List At) (s t : S) (a : T) → BreaksOff step c is s t → Follows s a → (b : T) × BreaksOff shown c is a b × Follows t b
-  breaks c [] s t a h k = (a, refl, still s t a h k)
-  breaks c (i ∷ is) s t a (inl h) k = let r = stops c i s t a h k in (r.0, inl r.1, r.2)
-  breaks c (i ∷ is) s t a (inr h) k =
+  breaks : (written : List LinkAction) (c : Core) (is : List At) (s t : S) (a : T) → BreaksOff step written c is s t → Follows s a → (b : T) × BreaksOff shown written c is a b × Follows t b
+  breaks written c [] s t a h k = (a, (h.0, refl), still s t a h.1 k)
+  breaks written c (i ∷ is) s t a (inl h) k = (a, inl (h.0, refl), still s t a h.1 k)
+  breaks written c (i ∷ is) s t a (inr (inl h)) k = let r = stops c i s t a h k in (r.0, inr (inl r.1), r.2)
+  breaks written c (i ∷ is) s t a (inr (inr h)) k =
       let first = reacts c i s h.1 h.0 a h.2 k in
-      let later = breaks h.0.core is h.1 t first.0 h.3 first.2 in
-      (later.0, inr (h.0, first.0, first.1, later.1), later.2)
+      let later = breaks (written ++ h.0.acts) h.0.core is h.1 t first.0 h.3 first.2 in
+      (later.0, inr (inr (h.0, first.0, first.1, later.1)), later.2)
 
   breaks_bytes : (at : Moment) (ear : Feeding) (c : Core) (piece : List ℕ) (s t : S) (a : T) → BreaksBytes step at ear c piece s t → Follows s a → (b : T) × BreaksBytes shown at ear c piece a b × Follows t b
   breaks_bytes at ear c piece s t a (inl h) k = (a, inl refl, still s t a h k)
-  breaks_bytes at ear c piece s t a (inr h) k = let r = breaks c _ s t a h.5 k in (r.0, inr (h.0, h.1, h.2, h.3, h.4, r.1), r.2)
+  breaks_bytes at ear c piece s t a (inr h) k = let r = breaks [] c _ s t a h.5 k in (r.0, inr (h.0, h.1, h.2, h.3, h.4, r.1), r.2)
 
   meets_by : (b : Bool) (at : Moment) (i : Input) (c : Core) (old : Terminal) (s t : S) (result : Result (List LinkAction) AllocError) (new : Terminal) (a : T) → MeetsBy step b at i c old s result new t → Follows s a →
       (z : T) × MeetsBy shown b at i c old a result new z × Follows t z
@@ -197,7 +212,7 @@ module _ {S T : Type 0} (step : S → DeskCall → DeskAnswer → S → Type 0) 
 
     stops_at : (kind : Kind) (why : SessionFault) (asked : ℕ) (old : Place L S) (l : L) (t : S) (a : T) → StopsAt hears sends closes step tells others kind why asked old l t → Follows old.port a →
         (b : T) × StopsAt hears sends closes shown tells others kind why asked (with_port old a) l b × Follows t b
-    stops_at kind fault.Memory asked old l t a (inl h) k = (a, inl (h.0, refl), still old.port t a h.1 k)
+    stops_at kind fault.Memory asked old l t a (inl h) k = (a, inl (h.0, h.1, refl), still old.port t a h.2 k)
     stops_at kind fault.Memory asked old l t a (inr h) k = let r = stops_in (IsWished (wants kind asked old.terminal)) fault.Memory old l t a h k in (r.0, inr r.1, r.2)
     stops_at kind fault.Read asked old l t a h k = stops_in (IsWished (wants kind asked old.terminal)) fault.Read old l t a h k
     stops_at kind fault.Write asked old l t a h k = stops_in (IsWished (wants kind asked old.terminal)) fault.Write old l t a h k
@@ -210,10 +225,11 @@ module _ {S T : Type 0} (step : S → DeskCall → DeskAnswer → S → Type 0) 
     ends_as kind (Ok ended) old l t a h k = let r = served kind 0 h.1 h.0 old (place l t h.2) a h.3 k in (r.0, (h.0, h.1, h.2, r.1, h.4), r.2)
     ends_as kind (Err fault.Desk) old l t a h k = let r = served kind 0 h.1 h.0 old (place l t h.2) a h.3 k in (r.0, (h.0, h.1, h.2, r.1, h.4), r.2)
     ends_as kind (Err fault.TooManyReads) old l t a h k = let r = served kind 0 h.1 h.0 old (place l t h.2) a h.3 k in (r.0, (h.0, h.1, h.2, r.1, h.4), r.2)
-    ends_as kind (Err fault.Memory) old l t a h k =
+    ends_as kind (Err fault.Memory) old l t a (inl h) k = (a, inl (h.0, refl), still old.port t a h.1 k)
+    ends_as kind (Err fault.Memory) old l t a (inr h) k =
         let first = served kind 0 h.1 h.0 old h.2 a h.3 k in
         let last = stops_at kind fault.Memory h.1 h.2 l t first.0 h.4 first.2 in
-        (last.0, (h.0, h.1, with_port h.2 first.0, first.1, last.1), last.2)
+        (last.0, inr (h.0, h.1, with_port h.2 first.0, first.1, last.1), last.2)
     ends_as kind (Err fault.Read) old l t a h k =
         let first = served kind 0 h.1 h.0 old h.2 a h.3 k in
         let last = stops_at kind fault.Read h.1 h.2 l t first.0 h.4 first.2 in
@@ -249,7 +265,7 @@ module _ {S T : Type 0} (step : S → DeskCall → DeskAnswer → S → Type 0) 
         (b : T) × DeliversAs hears sends closes shown tells others site dest came old a l b × Follows t b
     delivers_as site dest (Ok ended) old l s t a h k = session_to site dest (Ok ended) old l s t a h k
     delivers_as site dest (Err fault.NoHop) old l s t a h k = (a, (h.0, h.1, refl), still s t a h.2 k)
-    delivers_as site dest (Err fault.Memory) old l s t a (inl h) k = (a, inl (h.0, refl), still s t a h.1 k)
+    delivers_as site dest (Err fault.Memory) old l s t a (inl h) k = (a, inl (h.0, h.1, refl), still s t a h.2 k)
     delivers_as site dest (Err fault.Memory) old l s t a (inr h) k = let r = session_to site dest (Err fault.Memory) old l s t a h k in (r.0, inr r.1, r.2)
     delivers_as site dest (Err fault.Read) old l s t a h k = session_to site dest (Err fault.Read) old l s t a h k
     delivers_as site dest (Err fault.Write) old l s t a h k = session_to site dest (Err fault.Write) old l s t a h k
@@ -335,24 +351,24 @@ module _ {L K S : Type 0} (site_of : L → Part) (book : L → Book) (bodies : L
       LeavesReceipts (count_of s) (receipts_of s) (count_of t) (receipts_of t) × (passed_of t ≡ passed_of s) × TellsUid site_of book bodies stands failed own first to now found
 
   -- these calls are what was counted and kept since then
-  abbrev Has : S → S → List Asked → Type 0
+  abbrev Has : S → S → List AnsweredCall → Type 0
   Has port s calls = (count_of s ≡ count_of port + accepted calls) × (passed_of s ≡ passes calls)
 
-  records_one : Keeps → (port s : S) (call : DeskCall) (answer : DeskAnswer) (t : S) (calls : List Asked) → step s call answer t → Has port s calls →
-      (more : List Asked) × Records site_of book bodies stands failed own first calls call answer more × Has port t more
+  records_one : Keeps → (port s : S) (call : DeskCall) (answer : DeskAnswer) (t : S) (calls : List AnsweredCall) → step s call answer t → Has port s calls →
+      (more : List AnsweredCall) × Records site_of book bodies stands failed own first calls call answer more × Has port t more
   records_one keeps port s call answer t calls h k =
       let r = keeps s call answer t h in
       let count : count_of t ≡ count_of port + accepted ((call, answer) ∷ calls) =
       one_more (is_accepted answer) (count_of port) (count_of s) (count_of t) (accepted calls) (counted call answer (count_of s) (count_of t) (receipts_of s) (receipts_of t) r.0) k.0 in
       ((call, answer) ∷ calls, (refl, r.2), (count, r.1 ∙ ap (λ (b : Bool). passes_over call answer || b) k.1))
 
-  looks_up : Stays → (port s : S) (to : Text) (now : ℕ) (found : Result (Option Text) LedgerFault) (t : S) (calls : List Asked) → finds s to now found t → Has port s calls →
-      (more : List Asked) × LooksUp site_of book bodies stands failed own first calls to now found more × Has port t more
+  looks_up : Stays → (port s : S) (to : Text) (now : ℕ) (found : Result (Option Text) LedgerFault) (t : S) (calls : List AnsweredCall) → finds s to now found t → Has port s calls →
+      (more : List AnsweredCall) × LooksUp site_of book bodies stands failed own first calls to now found more × Has port t more
   looks_up stays port s to now found t calls h k = let r = stays s to now found t h in (calls, (refl, r.2), (r.0.0 ∙ k.0, r.1 ∙ k.1))
 
   -- what is noted of a visit is that of the calls that were made at it
   pub recorded : VisitsAt connects hears sends closes step finds tells site count_of receipts_of passed_of dest address came noted → Keeps → Stays →
-      (calls : List Asked) × VisitsBy site_of book bodies stands failed own first connects hears sends closes tells site dest address came calls × IsNotedOf calls noted
+      (calls : List AnsweredCall) × VisitsBy site_of book bodies stands failed own first connects hears sends closes tells site dest address came calls × IsNotedOf calls noted
   recorded v keeps stays =
       let begins : Has v.port v.port [] = (omega arith, v.fresh) in
       let r = visits_follow step (Records site_of book bodies stands failed own first) finds (LooksUp site_of book bodies stands failed own first) (Has v.port)

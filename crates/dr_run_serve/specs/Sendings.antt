@@ -65,9 +65,9 @@ told_as found came = came
 
 -- ---- calls
 
--- a call of the desk, with its answer
-abbrev pub Asked : Type 0
-Asked = DeskCall × DeskAnswer
+-- a call of the desk, with what it was answered
+abbrev pub AnsweredCall : Type 0
+AnsweredCall = DeskCall × DeskAnswer
 
 -- the ledger accepted it
 abbrev pub is_accepted : DeskAnswer → Bool
@@ -84,17 +84,17 @@ passes_over (Settle uid dest outcome now) (Settling (Ok done)) = is_unreadable o
 passes_over asked answer = false
 
 -- how many of these calls the ledger accepted
-abbrev pub accepted : List Asked → ℕ
+abbrev pub accepted : List AnsweredCall → ℕ
 accepted [] = 0
 accepted (one ∷ before) = cond (is_accepted one.1) (accepted before + 1) (accepted before)
 
 -- a row was passed over by one of them
-abbrev pub passes : List Asked → Bool
+abbrev pub passes : List AnsweredCall → Bool
 passes [] = false
 passes (one ∷ before) = passes_over one.0 one.1 || passes before
 
 -- that is noted of a visit at which these calls were made
-abbrev pub IsNotedOf : List Asked → Noted → Type 0
+abbrev pub IsNotedOf : List AnsweredCall → Noted → Type 0
 IsNotedOf calls noted = (noted.settled ≡ accepted calls) × (noted.passed ≡ passes calls)
 
 -- A visit at a port that counts what it took, and keeps whether a row was passed over: it came to
@@ -159,12 +159,13 @@ module _ {L : Type 0} (site_of : L → Part) (book : L → Book) (bodies : L →
   OnDesk asked answer = ⊥
 
   -- one call more of them, the newest first
-  abbrev pub Records : List Asked → DeskCall → DeskAnswer → List Asked → Type 0
+  abbrev pub Records : List AnsweredCall → DeskCall → DeskAnswer → List AnsweredCall → Type 0
   Records before asked answer calls = (calls ≡ (asked, answer) ∷ before) × OnDesk asked answer
 
   -- what is due was asked for before the session
-  abbrev pub LooksUp : List Asked → Text → ℕ → Result (Option Text) LedgerFault → List Asked
-      → Type 0
+  abbrev pub LooksUp : List AnsweredCall → Text → ℕ
+      → Result (Option Text) LedgerFault
+      → List AnsweredCall → Type 0
   LooksUp before dest now found calls = (calls ≡ before) × TellsUid dest now found
 
   -- from when on the first row for it is due, as the desk answered at some moment
@@ -191,7 +192,7 @@ module _ {L : Type 0} (site_of : L → Part) (book : L → Book) (bodies : L →
       (sends : K → List ℕ → Bool → K → Type 0) (closes : K → K → Type 0) (tells : ℕ → Type 0)
       (site : Part) where
     -- a visit to that node at that address, which came to that, and at which these calls were made
-    abbrev pub VisitsBy : Text → Text → Result Visit LedgerFault → List Asked → Type 0
+    abbrev pub VisitsBy : Text → Text → Result Visit LedgerFault → List AnsweredCall → Type 0
     VisitsBy dest address came calls =
         Visits connects hears sends closes Records LooksUp tells site dest address [] came calls
 
@@ -210,14 +211,15 @@ IsHeeded rows visit old new =
 abbrev pub IsFirstRest : ℕ → Rest → Type 0
 IsFirstRest now rest = (rest.since ≡ now) × (rest.wait ≡ 1000) × (rest.short ≡ false)
 
-module _ (Visiting : Result Visit LedgerFault → List Asked → Type 0) where
+module _ (Visiting : Result Visit LedgerFault → List AnsweredCall → Type 0) where
   -- What came of a visit, with what was noted of the calls that were made at it; or what its fault
   -- is told as.
   abbrev pub ComesBack : (LedgerFault → LedgerFault → Type 0) → Result (Visit × Noted) LedgerFault
       → Type 0
-  ComesBack Told (Ok x) = (calls : List Asked) × Visiting (Ok x.0) calls × IsNotedOf calls x.1
+  ComesBack Told (Ok x) =
+      (calls : List AnsweredCall) × Visiting (Ok x.0) calls × IsNotedOf calls x.1
   ComesBack Told (Err why) =
-      (calls : List Asked) × (came : LedgerFault) × Visiting (Err came) calls × Told came why
+      (calls : List AnsweredCall) × (came : LedgerFault) × Visiting (Err came) calls × Told came why
 
   module _ (Told : LedgerFault → LedgerFault → Type 0)
       (FirstDue : Result (Option ℕ) LedgerFault → Type 0) (tells : ℕ → Type 0) where

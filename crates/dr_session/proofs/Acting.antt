@@ -1,5 +1,5 @@
 -- What was done by a reaction was done by one that is equal to it.
-use Rattle.std.proofs.Common.{◌≡◌, ℕ, Bool, true, false, [], ◌∷◌, Result, Ok, Err, refl, sym, ap, subst, ◌∙◌, inl}
+use Rattle.std.proofs.Common.{◌≡◌, ℕ, Bool, true, false, [], ◌∷◌, Result, Ok, Err, refl, sym, ap, subst, ◌∙◌}
 use Rattle.std.specs.Prelude.{◌&&◌, if◌then◌else◌, Option, Some, None, IfOk, OnErr}
 use Rattle.std.specs.declared.alloc.AllocError.{AllocError}
 use Rattle.dr_ulstate.specs.declared.table.Action.{Action}
@@ -26,7 +26,8 @@ use Rattle.dr_session.specs.Desks.{DeskCall, DeskAnswer}
 use Rattle.dr_session.specs.Fits.{IsHeard, heard_as, IsLooked, told_as}
 use Rattle.dr_session.specs.Reactions.{Reaction, turn, occurs, moves, acts, effect, gives, gives_in, leaves, quiet, is_idle, is_free, is_impatient, event_of, is_taken}
 use Rattle.dr_session.specs.Changes.{after_step, phased}
-use Rattle.dr_session.specs.Turns.{Ends, Asks, Fails, Turns, Broke}
+use Rattle.dr_session.specs.Breaks.{Broke}
+use Rattle.dr_session.specs.Turns.{Ends, Turns}
 
 module _ {S : Type 0} (step : S → DeskCall → DeskAnswer → S → Type 0) where
   pub done_by : (x y : Reaction) (r : Result Effect AllocError) (s t : S) → x ≡ y → IfOk r (λ (e : Effect). Turns step y s e t) → IfOk r (λ (e : Effect). Turns step x s e t)
@@ -34,16 +35,6 @@ module _ {S : Type 0} (step : S → DeskCall → DeskAnswer → S → Type 0) wh
 
   pub broke_by : (x y : Reaction) (r : Result Effect AllocError) (s t : S) → x ≡ y → OnErr r (Broke step y s t) → OnErr r (Broke step x s t)
   broke_by x y r s t same h = subst (λ (z : Reaction). OnErr r (Broke step z s t)) (sym same) h
-
-  -- before the first call it is left as nothing was done
-  pub broke_none : (x : Reaction) (s : S) → Broke step x s s
-  broke_none (Ends value) s = refl
-  broke_none (Asks call follow) s = inl refl
-  broke_none Fails s = refl
-
-  pub broke_at : (x : Reaction) (r : Result Effect AllocError) (s : S) → OnErr r (Broke step x s s)
-  broke_at x (Ok e) s = tt
-  broke_at x (Err f) s = broke_none x s
 
   -- one that ends without a call
   pub done_at : (x : Reaction) (value : Effect) (r : Result Effect AllocError) (s : S) → x ≡ Ends value → IfOk r (λ (e : Effect). e ≡ value) → IfOk r (λ (e : Effect). Turns step x s e s)

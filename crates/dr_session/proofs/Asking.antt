@@ -8,7 +8,8 @@ use Rattle.dr_site.specs.Parts.{Part}
 use Rattle.dr_pdu.specs.declared.pdu.Pdu.TheVariants as pdu
 use Rattle.dr_nego.specs.Agreeing.{AssociateRq}
 use Rattle.dr_nego.specs.Fragments.{spellings}
-use Rattle.dr_nego.specs.Proposing.{IsProposal, echo_proposal}
+use Rattle.dr_plan_sound.specs.declared.certificate.Hop.{Hop}
+use Rattle.dr_nego.specs.Proposing.{IsHopTo, IsProposal, echo_proposal}
 use Rattle.dr_nego.specs.declared.fault.NegoFault.{NegoFault}
 use Rattle.dr_nego.specs.declared.fault.NegoFault.TheVariants as negofault
 use Rattle.dr_session.specs.declared.ends.Ended.{Ended}
@@ -27,13 +28,13 @@ use Rattle.dr_session.proofs.Serving.{no_failure}
 
 module _ {L S : Type 0} (hears : L → Heard → L → Type 0) (sends : L → List ℕ → Bool → L → Type 0) (closes : L → L → Type 0) (step : S → DeskCall → DeskAnswer → S → Type 0)
     (tells : ℕ → Type 0) (site : Part) (dest : Text) where
-  pub delivers_unbegun : (r : Result Ended SessionFault) (k : L) (s : S) → IsErr r → IsErrAnd r (λ (e : SessionFault). e ≡ fault.Memory) → DeliversAs hears sends closes step tells 0 site dest r k s k s
-  delivers_unbegun (Ok e) k s no_err gives = absurd (false≢true no_err)
-  delivers_unbegun (Err e) k s err gives = subst (λ (x : SessionFault). DeliversAs hears sends closes step tells 0 site dest (Err x) k s k s) (sym gives) (inl (refl, refl))
+  pub delivers_unbegun : (r : Result Ended SessionFault) (k : L) (s : S) → ((hop : Hop) × IsHopTo site dest hop) → IsErr r → IsErrAnd r (λ (e : SessionFault). e ≡ fault.Memory) → DeliversAs hears sends closes step tells 0 site dest r k s k s
+  delivers_unbegun (Ok e) k s hop no_err gives = absurd (false≢true no_err)
+  delivers_unbegun (Err e) k s hop err gives = subst (λ (x : SessionFault). DeliversAs hears sends closes step tells 0 site dest (Err x) k s k s) (sym gives) (inl (hop, refl, refl))
 
   refused_by : (why : NegoFault) (now : ℕ) (k : L) (s : S) → OpensTo site dest now (Err why) → DeliversAs hears sends closes step tells 0 site dest (Err (refusal_of why)) k s k s
   refused_by negofault.NoHop now k s h = (h, refl, refl)
-  refused_by negofault.Memory now k s h = inl (refl, refl)
+  refused_by negofault.Memory now k s h = inl (h, refl, refl)
   refused_by negofault.StrangeId now k s h = absurd h
   refused_by negofault.StrangeSyntax now k s h = absurd h
   refused_by negofault.LimitTooSmall now k s h = absurd h

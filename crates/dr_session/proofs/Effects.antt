@@ -30,6 +30,10 @@ pub acted_so : (r : Result Effect AllocError) (said act : LinkAction) (x y : Cor
 acted_so (Ok e) said act x y h is core = sym (ap (λ (d : Effect). ended d) (h ∙ same_effect said act x y is core))
 acted_so (Err f) said act x y h is core = tt
 
+-- what was made before is done, by an end that goes on so
+pub acted_ready : (acts want : List LinkAction) (x y : Core) → acts ≡ want → x ≡ y → effect acts x ≡ effect want y
+acted_ready acts want x y is core = ap (λ (l : List LinkAction). effect l x) is ∙ ap (λ (c : Core). effect want c) core
+
 -- ---- an instance that goes over
 
 -- it is what was agreed on by which it is written

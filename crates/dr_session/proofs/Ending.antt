@@ -115,7 +115,7 @@ opens_refused site dest now negofault.NoHop h = h
 opens_refused site dest now negofault.StrangeId h = absurd h
 opens_refused site dest now negofault.StrangeSyntax h = absurd h
 opens_refused site dest now negofault.LimitTooSmall h = absurd h
-opens_refused site dest now negofault.Memory h = tt
+opens_refused site dest now negofault.Memory h = h
 
 pub opens_not : (site : Part) (dest : Text) (now : ℕ) (why : NegoFault) (r : Result (Terminal × List LinkAction) NegoFault) → IsErr r → IsErrAnd r (λ (e : NegoFault). e ≡ why) → Proposes site dest (Err why) → OpensTo site dest now r
 opens_not site dest now why (Ok x) no_err is h = absurd (false≢true no_err)

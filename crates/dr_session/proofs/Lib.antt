@@ -5,6 +5,7 @@ pub mod Asking
 pub mod Ending
 pub mod Fitting
 pub mod Handing
+pub mod Hiding
 pub mod Hopping
 pub mod Idle
 pub mod InTurn
@@ -23,3 +24,4 @@ pub mod Storing
 pub mod Wording
 pub mod Aborting
 pub mod OneWay
+pub mod Wanting

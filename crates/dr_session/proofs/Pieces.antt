@@ -1,6 +1,6 @@
 -- What is heard of a piece of the bytes.
 use Rattle.std.proofs.Common.{◌≡◌, ◌≢◌, ℕ, Bool, true, false, List, [], ◌∷◌, ◌++◌, map, length, Result, Ok, Err, refl, sym, ap, subst, ◌∙◌, inl, inr, append_assoc, arith}
-use Rattle.std.specs.Prelude.{◌⊎◌, ◌==◌, IfOk, OnErr}
+use Rattle.std.specs.Prelude.{◌⊎◌, ◌==◌, IfOk, OnErr, Option, Some, None}
 use Rattle.std.proofs.lemmas.Bool.{false≢true, eqb-true}
 use Rattle.std.specs.List.{flat_map, AllByRecursion}
 use Rattle.std.proofs.lemmas.List.{append-nil, map-append}
@@ -22,8 +22,8 @@ use Rattle.dr_session.specs.declared.ends.Effect.{Effect}
 use Rattle.dr_session.specs.declared.ends.Moment.{Moment}
 use Rattle.dr_session.specs.Desks.{DeskCall, DeskAnswer}
 use Rattle.dr_session.specs.Fits.{PduFits, InputFits}
-use Rattle.dr_session.specs.Plays.{At, Plays, PlaysMore, BreaksOff, inputs_of, input_of, IsFault, HearsLast, HearsOn, HearsBy, Hears, PlaysBytes, EndsThere, PlaysOn, IsLast, BreaksOn, BreaksBytes, at_moment}
-use Rattle.dr_session.proofs.InTurn.{plays_append, breaks_none, breaks_later, breaks_first}
+use Rattle.dr_session.specs.Plays.{At, Plays, PlaysMore, BreaksOff, inputs_of, input_of, IsFault, HearsLast, HearsOn, HearsBy, Hears, PlaysBytes, EndsThere, FaultShows, PlaysOn, IsLast, BreaksOn, BreaksBytes, at_moment}
+use Rattle.dr_session.proofs.InTurn.{plays_append, breaks_later}
 
 -- ---- what was read can be written
 
@@ -98,7 +98,7 @@ module _ {S : Type 0} (step : S → DeskCall → DeskAnswer → S → Type 0) (a
   plays_fault old piece fault c s t new x h plays = (input_of fault ∷ [], h, plays)
 
   pub breaks_fault : (old : Feeding) (piece : List ℕ) (fault : PduFault) (c : Core) (s t : S) → IsFault fault → Shows old.limit (old.kept ++ piece) fault
-      → BreaksOff step c (at_moment at (input_of fault) ∷ []) s t → BreaksBytes step at old c piece s t
+      → BreaksOff step [] c (at_moment at (input_of fault) ∷ []) s t → BreaksBytes step at old c piece s t
   breaks_fault old piece fault c s t is shows broke = inr ([], old.kept ++ piece, input_of fault ∷ [], refl, inr (fault, is, shows, refl), broke)
 
   pub plays_pdus : (old : Feeding) (piece : List ℕ) (pdus : List Pdu) (c : Core) (s t : S) (mid new : Feeding) (x : Effect) → Feeds old piece (Ok pdus) mid
@@ -108,7 +108,8 @@ module _ {S : Type 0} (step : S → DeskCall → DeskAnswer → S → Type 0) (a
 
   pub breaks_pdus : (old : Feeding) (piece : List ℕ) (pdus : List Pdu) (c : Core) (s t : S) (mid : Feeding) → Feeds old piece (Ok pdus) mid
       → BreaksOn step at mid pdus c s t → BreaksBytes step at old c piece s t
-  breaks_pdus old piece pdus c s t mid (works, units, more, still, limit) (last, is, broke) =
+  breaks_pdus old piece pdus c s t mid feeds (inl same) = inl same
+  breaks_pdus old piece pdus c s t mid (works, units, more, still, limit) (inr (last, is, broke)) =
       inr (pdus, mid.kept, last, units.0, subst (λ (k : ℕ). IsLast k mid.kept last) limit is, broke)
 
   -- ---- behind the PDUs
@@ -117,64 +118,49 @@ module _ {S : Type 0} (step : S → DeskCall → DeskAnswer → S → Type 0) (a
   ins is = map (at_moment at) is
 
   -- more is to come
-  pub on_more : (old : Feeding) (pdus more : List Pdu) (c : Core) (s t : S) (new : Feeding) (x : Effect) → EndsThere old → Feeds old [] (Ok more) new
+  pub on_more : (old : Feeding) (pdus : List Pdu) (c : Core) (s t : S) (new : Feeding) (x : Effect) → FaultShows old new None
       → Plays step c (ins (flat_map inputs_of pdus)) s x.acts x.core t → PlaysOn step at old pdus c s new x t
-  on_more old pdus [] c s t new x ends (works, units, shows, still, limit) plays = (
-    [],
-    subst (λ (f : Bool). HearsLast f old.limit old.kept [] new.kept) (sym still)
-        (subst (λ (k : List ℕ). Shows old.limit k More) kept (shows refl), refl, kept),
-    limit,
-    subst (λ (is : List Input). Plays step c (ins is) s x.acts x.core t) (sym (append-nil (flat_map inputs_of pdus))) plays,
-  )
-    where
-      kept : new.kept ≡ old.kept
-      kept = sym (sym (append-nil old.kept) ∙ units.0)
-  on_more old pdus (p ∷ ps) c s t new x ends (works, units, shows, still, limit) plays =
-      absurd (ends.1 p units.0.0 (subst (λ (k : List ℕ). StartsPdu old.limit k p units.0.0) (append-nil old.kept) units.0.1))
+  on_more old pdus c s t new x h plays =
+      ([], h.0, h.1, subst (λ (is : List Input). Plays step c (ins is) s x.acts x.core t) (sym (append-nil (flat_map inputs_of pdus))) plays)
 
-  pub on_fault : (old : Feeding) (pdus : List Pdu) (fault : PduFault) (c d : Core) (s m t : S) (new : Feeding) (acts : List LinkAction) (x : Effect) → IsFault fault → Shows old.limit (old.kept ++ []) fault
+  pub on_fault : (old : Feeding) (pdus : List Pdu) (fault : PduFault) (c d : Core) (s m t : S) (new : Feeding) (acts : List LinkAction) (x : Effect) → IsFault fault → Shows old.limit old.kept fault
       → new ≡ record { limit = old.limit; failed = true; kept = [] } → Plays step c (ins (flat_map inputs_of pdus)) s acts d m
       → Plays step d (at_moment at (input_of fault) ∷ []) m x.acts x.core t → PlaysOn step at old pdus c s new (record { acts = acts ++ x.acts; core = x.core }) t
   on_fault old pdus fault c d s m t new acts x is shows e first last =
       subst (λ (f : Feeding). PlaysOn step at old pdus c s f (record { acts = acts ++ x.acts; core = x.core }) t) (sym e) (
         input_of fault ∷ [],
-        (fault, is, subst (λ (k : List ℕ). Shows old.limit k fault) (append-nil old.kept) shows, refl, refl),
+        (fault, is, shows, refl, refl),
         refl,
         subst (λ (is : List At). Plays step c is s (acts ++ x.acts) x.core t) (sym (map-append (at_moment at) (flat_map inputs_of pdus) (input_of fault ∷ [])))
             (plays_append step (ins (flat_map inputs_of pdus)) (at_moment at (input_of fault) ∷ []) c d x.core s m t acts x.acts first last),
       )
 
   -- the PDUs were left on the way
-  pub on_broke_first : (old : Feeding) (pdus : List Pdu) (c : Core) (s t : S) → BreaksOff step c (ins (flat_map inputs_of pdus)) s t → BreaksOn step at old pdus c s t
-  on_broke_first old pdus c s t broke = ([], inl refl, subst (λ (is : List Input). BreaksOff step c (ins is) s t) (sym (append-nil (flat_map inputs_of pdus))) broke)
-
-  -- all PDUs were done, and memory ended behind them
-  pub on_broke_behind : (old : Feeding) (pdus : List Pdu) (c d : Core) (s m : S) (acts : List LinkAction) → Plays step c (ins (flat_map inputs_of pdus)) s acts d m → BreaksOn step at old pdus c s m
-  on_broke_behind old pdus c d s m acts plays = on_broke_first old pdus c s m
-      (subst (λ (is : List At). BreaksOff step c is s m) (append-nil (ins (flat_map inputs_of pdus))) (breaks_later step (ins (flat_map inputs_of pdus)) [] c d s m m acts plays refl))
+  pub on_broke_first : (old : Feeding) (pdus : List Pdu) (c : Core) (s t : S) → BreaksOff step [] c (ins (flat_map inputs_of pdus)) s t → BreaksOn step at old pdus c s t
+  on_broke_first old pdus c s t broke = inr ([], inl refl, subst (λ (is : List Input). BreaksOff step [] c (ins is) s t) (sym (append-nil (flat_map inputs_of pdus))) broke)
 
   -- the fault behind them was left on the way
-  pub on_broke_fault : (old : Feeding) (pdus : List Pdu) (fault : PduFault) (c d : Core) (s m t : S) (acts : List LinkAction) → IsFault fault → Shows old.limit (old.kept ++ []) fault
-      → Plays step c (ins (flat_map inputs_of pdus)) s acts d m → BreaksOff step d (at_moment at (input_of fault) ∷ []) m t → BreaksOn step at old pdus c s t
-  on_broke_fault old pdus fault c d s m t acts is shows first broke = (
+  pub on_broke_fault : (old : Feeding) (pdus : List Pdu) (fault : PduFault) (c d : Core) (s m t : S) (acts : List LinkAction) → IsFault fault → Shows old.limit old.kept fault
+      → Plays step c (ins (flat_map inputs_of pdus)) s acts d m → BreaksOff step acts d (at_moment at (input_of fault) ∷ []) m t → BreaksOn step at old pdus c s t
+  on_broke_fault old pdus fault c d s m t acts is shows first broke = inr (
     input_of fault ∷ [],
-    inr (fault, is, subst (λ (k : List ℕ). Shows old.limit k fault) (append-nil old.kept) shows, refl),
-    subst (λ (is : List At). BreaksOff step c is s t) (sym (map-append (at_moment at) (flat_map inputs_of pdus) (input_of fault ∷ [])))
-        (breaks_later step (ins (flat_map inputs_of pdus)) (at_moment at (input_of fault) ∷ []) c d s m t acts first broke),
+    inr (fault, is, shows, refl),
+    subst (λ (is : List At). BreaksOff step [] c is s t) (sym (map-append (at_moment at) (flat_map inputs_of pdus) (input_of fault ∷ [])))
+        (breaks_later step [] (ins (flat_map inputs_of pdus)) (at_moment at (input_of fault) ∷ []) c d s m t acts first broke),
   )
 
   -- one more input behind the PDUs, the fault
-  pub on_fault_more : (old : Feeding) (pdus : List Pdu) (fault : PduFault) (input : Input) (c : Core) (s m t : S) (new : Feeding) (first x : Effect) → IsFault fault → Shows old.limit (old.kept ++ []) fault
+  pub on_fault_more : (old : Feeding) (pdus : List Pdu) (fault : PduFault) (input : Input) (c : Core) (s m t : S) (new : Feeding) (first x : Effect) → IsFault fault → Shows old.limit old.kept fault
       → new ≡ record { limit = old.limit; failed = true; kept = [] } → input ≡ input_of fault → Plays step c (ins (flat_map inputs_of pdus)) s first.acts first.core m
       → PlaysMore step first (at_moment at input) m x t → PlaysOn step at old pdus c s new x t
   on_fault_more old pdus fault input c s m t new first x is shows e says plays (more, last, acts) =
       subst (λ (l : List LinkAction). PlaysOn step at old pdus c s new (record { acts = l; core = x.core }) t) (sym acts)
       (on_fault old pdus fault c first.core s m t new first.acts (record { acts = more; core = x.core }) is shows e plays (subst (λ (i : Input). Plays step first.core (at_moment at i ∷ []) m more x.core t) says last))
 
-  pub on_fault_broke : (old : Feeding) (pdus : List Pdu) (fault : PduFault) (input : Input) (c : Core) (s m t : S) (first : Effect) → IsFault fault → Shows old.limit (old.kept ++ []) fault
-      → input ≡ input_of fault → Plays step c (ins (flat_map inputs_of pdus)) s first.acts first.core m → BreaksOff step first.core (at_moment at input ∷ []) m t → BreaksOn step at old pdus c s t
+  pub on_fault_broke : (old : Feeding) (pdus : List Pdu) (fault : PduFault) (input : Input) (c : Core) (s m t : S) (first : Effect) → IsFault fault → Shows old.limit old.kept fault
+      → input ≡ input_of fault → Plays step c (ins (flat_map inputs_of pdus)) s first.acts first.core m → BreaksOff step first.acts first.core (at_moment at input ∷ []) m t → BreaksOn step at old pdus c s t
   on_fault_broke old pdus fault input c s m t first is shows says plays broke =
-      on_broke_fault old pdus fault c first.core s m t first.acts is shows plays (subst (λ (i : Input). BreaksOff step first.core (at_moment at i ∷ []) m t) says broke)
+      on_broke_fault old pdus fault c first.core s m t first.acts is shows plays (subst (λ (i : Input). BreaksOff step first.acts first.core (at_moment at i ∷ []) m t) says broke)
 
 -- ---- a call of the feeder that answers PDUs
 
@@ -225,6 +211,23 @@ fault_fits input fault e = subst InputFits (sym e) (by_fault fault)
     by_fault TooLong = tt
     by_fault BadItem = tt
     by_fault BadContextId = tt
+
+-- ---- what stands behind the PDUs that came out
+
+-- nothing more came out
+pub none_behind : (old : Feeding) (more : List Pdu) (new : Feeding) → EndsThere old → Feeds old [] (Ok more) new → FaultShows old new None
+none_behind old [] new ends (works, units, shows, still, limit) =
+    let kept : new.kept ≡ old.kept = sym (sym (append-nil old.kept) ∙ units.0) in (
+      subst (λ (f : Bool). HearsLast f old.limit old.kept [] new.kept) (sym still)
+          (subst (λ (k : List ℕ). Shows old.limit k More) kept (shows refl), refl, kept),
+      limit,
+    )
+none_behind old (p ∷ ps) new ends (works, units, shows, still, limit) =
+    absurd (ends.1 p units.0.0 (subst (λ (k : List ℕ). StartsPdu old.limit k p units.0.0) (append-nil old.kept) units.0.1))
+
+-- a fault
+pub fault_behind : (old : Feeding) (fault : PduFault) (new : Feeding) → Refused old [] fault new → FaultShows old new (Some fault)
+fault_behind old fault new r = (r.is, subst (λ (k : List ℕ). Shows old.limit k fault) (append-nil old.kept) r.shows, r.after)
 
 -- ---- clauses on results
 

@@ -282,13 +282,13 @@ module _ {L S : Type 0} (hears : L → Heard → L → Type 0) (sends : L → Li
   ends_over over.Desk r old now done reads_made asked h is f =
       subst (λ (x : Result Ended SessionFault). EndsAs hears sends closes step tells others kind x old now.link now.port) (sym f) (h.doings, asked, now.terminal, h.served, is)
   ends_over over.Memory r old now done reads_made asked h is f =
-      subst (λ (x : Result Ended SessionFault). EndsAs hears sends closes step tells others kind x old now.link now.port) (sym f) (h.doings, asked, now, h.served, inl (refl, refl))
+      subst (λ (x : Result Ended SessionFault). EndsAs hears sends closes step tells others kind x old now.link now.port) (sym f) (inr (h.doings, asked, now, h.served, inl (is, refl, refl)))
 
   stops_as : (why : SessionFault) (old now : Place L S) (done reads_made asked : ℕ) (l : L) (t : S) → SoFar old done reads_made asked now
       → Stops hears sends closes step tells others (IsWished (wants kind asked now.terminal)) why now l t → EndsAs hears sends closes step tells others kind (Err why) old l t
   stops_as fault.Read old now done reads_made asked l t h s = (h.doings, asked, now, h.served, s)
   stops_as fault.Write old now done reads_made asked l t h s = (h.doings, asked, now, h.served, s)
-  stops_as fault.Memory old now done reads_made asked l t h s = (h.doings, asked, now, h.served, inr s)
+  stops_as fault.Memory old now done reads_made asked l t h s = inr (h.doings, asked, now, h.served, inr s)
   stops_as fault.NoHop old now done reads_made asked l t h s = absurd s
   stops_as fault.TooManyReads old now done reads_made asked l t h s = absurd s
   stops_as fault.Desk old now done reads_made asked l t h s = absurd s
@@ -304,7 +304,7 @@ module _ {L S : Type 0} (hears : L → Heard → L → Type 0) (sends : L → Li
   pub ends_unbegun : (r : Result Ended SessionFault) (old : Place L S) → IsErr r → IsErrAnd r (λ (e : SessionFault). e ≡ fault.Memory) → EndsAs hears sends closes step tells others kind r old old.link old.port
   ends_unbegun (Ok e) old no_err gives = absurd (false≢true no_err)
   ends_unbegun (Err e) old err gives =
-      subst (λ (x : SessionFault). EndsAs hears sends closes step tells others kind (Err x) old old.link old.port) (sym gives) ([], 0, old, (refl, refl), inl (refl, refl))
+      subst (λ (x : SessionFault). EndsAs hears sends closes step tells others kind (Err x) old old.link old.port) (sym gives) (inl (refl, refl))
 
   -- ---- a requestor's session
 

@@ -278,7 +278,8 @@ TakesFree old (Some c) new =
 
 -- ---- how it begins
 
--- a requestor's end for a hop of the site, which asks for the association at once; or there is none
+-- A requestor's end for a hop of the site, which asks for the association at once; or there is no
+-- hop. Memory is wanted for a hop alone.
 abbrev pub OpensTo : Part → Text → ℕ → Result (Terminal × List LinkAction) NegoFault → Type 0
 OpensTo site dest now (Ok x) =
     ((hop : Hop) × IsHopTo site dest hop)
@@ -286,7 +287,7 @@ OpensTo site dest now (Ok x) =
     × (x.0 ≡ begins site.max_pdu (requesting (Some site) dest rq now))
     × (x.1 ≡ write (pdu.AssociateRq rq ∷ []) ∷ [])
 OpensTo site dest now (Err NoHop) = (hop : Hop) → IsHopTo site dest hop → ⊥
-OpensTo site dest now (Err Memory) = Unit {0}
+OpensTo site dest now (Err Memory) = (hop : Hop) × IsHopTo site dest hop
 OpensTo site dest now (Err why) = ⊥
 
 -- a requestor's end for an echo between nodes of those names, which takes PDUs of at most 16,384

@@ -1,5 +1,5 @@
 -- What is done for a node that the site has no hop to.
-use Rattle.std.specs.Prelude.{◌≡◌, ◌⊎◌, ℕ, Bool, List, Result, Err}
+use Rattle.std.specs.Prelude.{◌≡◌, ℕ, Bool, List, Result, Err}
 use Rattle.dr_base.specs.Texts.{Text}
 use Rattle.dr_plan_sound.specs.declared.certificate.Hop.{Hop}
 use Rattle.dr_site.specs.Parts.{Part}
@@ -18,15 +18,16 @@ use Rattle.dr_session.specs.Links.{DeliversAs}
 abbrev pub HasNoHop : Part → Text → Type 0
 HasNoHop site dest = (hop : Hop) → IsHopTo site dest hop → ⊥
 
--- no end asks for an association there
+-- no end asks for an association there, and it is told so whatever memory there is
 abbrev pub OpensOverHops : Type 0
 OpensOverHops =
     (site : Part) (dest : Text) (now : ℕ) (r : Result (Terminal × List LinkAction) NegoFault)
     → HasNoHop site dest
     → OpensTo site dest now r
-    → (r ≡ Err negofault.NoHop) ⊎ (r ≡ Err negofault.Memory)
+    → r ≡ Err negofault.NoHop
 
--- there is no session, and neither the link nor the desk is called
+-- there is no session, which is told whatever memory there is, and neither the link nor the desk is
+-- called
 abbrev pub CallsOverHops : {L S C : Type 0}
     → (L → Heard → L → Type 0)
     → (L → List ℕ → Bool → L → Type 0)
@@ -37,4 +38,4 @@ CallsOverHops {L} {S} {C} hears sends closes step tells =
     (clock : C) (site : Part) (dest : Text) (r : Result Ended SessionFault) (k l : L) (s t : S)
     → HasNoHop site dest
     → DeliversAs hears sends closes step (tells clock) 0 site dest r k s l t
-    → ((r ≡ Err fault.NoHop) ⊎ (r ≡ Err fault.Memory)) × (l ≡ k) × (t ≡ s)
+    → (r ≡ Err fault.NoHop) × (l ≡ k) × (t ≡ s)

@@ -1,3 +1,4 @@
+pub mod Breaks
 pub mod Changes
 pub mod Desks
 pub mod Differences

@@ -249,14 +249,15 @@ module _ {L S : Type 0} (hears : L → Heard → L → Type 0) (sends : L → Li
       × IsWished (wants kind asked old.terminal) x
       × ((mid : Place L S) × Did old x mid × Served kind (asked_after x asked) mid xs told new)
 
-  -- it stops in the midst of a doing, or, for want of memory, before one
+  -- it stops in the midst of a doing, or its end is gone for want of memory
   abbrev pub StopsAt : Kind → SessionFault → ℕ → Place L S → L → S → Type 0
   StopsAt kind fault.Memory asked old l t =
-      ((l ≡ old.link) × (t ≡ old.port))
+      ((over_of old.terminal.core ≡ Some over.Memory) × (l ≡ old.link) × (t ≡ old.port))
       ⊎ Stops (IsWished (wants kind asked old.terminal)) fault.Memory old l t
   StopsAt kind why asked old l t = Stops (IsWished (wants kind asked old.terminal)) why old l t
 
-  -- a session from there on: how it ended
+  -- A session from there on: how it ended. Memory may end before the first doing, or in the midst
+  -- of one, and not between them.
   abbrev pub EndsAs : Kind → Result Ended SessionFault → Place L S → L → S → Type 0
   EndsAs kind (Ok ended) old l t =
       (xs : List EndDoing) × (asked : ℕ) × (new : Terminal)
@@ -270,6 +271,11 @@ module _ {L S : Type 0} (hears : L → Heard → L → Type 0) (sends : L → Li
       (xs : List EndDoing) × (asked : ℕ) × (new : Terminal)
       × Served kind 0 old xs asked (place l t new)
       × (reads xs ≡ 2 ^ 40)
+  EndsAs kind (Err fault.Memory) old l t =
+      ((l ≡ old.link) × (t ≡ old.port))
+      ⊎ ((xs : List EndDoing) × (asked : ℕ) × (mid : Place L S)
+      × Served kind 0 old xs asked mid
+      × StopsAt kind fault.Memory asked mid l t)
   EndsAs kind (Err why) old l t =
       (xs : List EndDoing) × (asked : ℕ) × (mid : Place L S)
       × Served kind 0 old xs asked mid
@@ -304,14 +310,15 @@ module _ {L S : Type 0} (hears : L → Heard → L → Type 0) (sends : L → Li
       × Begins Deliver sent result k (spellings (pdu.AssociateRq rq ∷ [])) s
       (begins site.max_pdu (requesting (Some site) dest rq now)) l t
 
-  -- There is no hop (and nothing was called), memory ended before the request went out, or it is a
-  -- session.
+  -- There is no hop (and nothing was called), memory ended before the request went out over one, or
+  -- it is a session.
   abbrev pub DeliversAs : Part → Text → Result Ended SessionFault → L → S → L → S → Type 0
   DeliversAs site dest (Ok ended) k s l t = SessionTo site dest (Ok ended) k s l t
   DeliversAs site dest (Err fault.NoHop) k s l t =
       ((hop : Hop) → IsHopTo site dest hop → ⊥) × (l ≡ k) × (t ≡ s)
   DeliversAs site dest (Err fault.Memory) k s l t =
-      ((l ≡ k) × (t ≡ s)) ⊎ SessionTo site dest (Err fault.Memory) k s l t
+      (((hop : Hop) × IsHopTo site dest hop) × (l ≡ k) × (t ≡ s))
+      ⊎ SessionTo site dest (Err fault.Memory) k s l t
   DeliversAs site dest (Err why) k s l t = SessionTo site dest (Err why) k s l t
 
 -- why a requestor has no session

@@ -1,5 +1,6 @@
 -- What an end does over a list of inputs, and over bytes however they are cut.
-use Rattle.std.specs.Prelude.{◌≡◌, ℕ, ◌⊎◌, Bool, true, false, List, [], ◌∷◌, ◌++◌, map}
+use Rattle.std.specs.Prelude.{◌≡◌, ℕ, ◌≤◌, ◌⊎◌, Bool, true, false, List, [], ◌∷◌, ◌++◌, map}
+use Rattle.std.specs.Prelude.{length, Option, Some, None}
 use Rattle.std.specs.List.{flat_map}
 use Rattle.dr_base.specs.Runs.{Run}
 use Rattle.dr_pdu.specs.declared.pdu.Pdu.{Pdu}
@@ -20,10 +21,11 @@ use Rattle.dr_session.specs.declared.ends.LinkAction.{LinkAction}
 use Rattle.dr_session.specs.declared.ends.Core.{Core}
 use Rattle.dr_session.specs.declared.ends.Effect.{Effect}
 use Rattle.dr_session.specs.Desks.{DeskCall, DeskAnswer}
-use Rattle.dr_session.specs.Telling.{Tells, TellsValue}
+use Rattle.dr_session.specs.Telling.{Tells, TellsValue, TakesData, state_at}
 use Rattle.dr_session.specs.declared.ends.Moment.{Moment}
 use Rattle.dr_session.specs.Reactions.{turn, assembling}
-use Rattle.dr_session.specs.Turns.{Turns, Broke}
+use Rattle.dr_session.specs.Breaks.{LeavesOff}
+use Rattle.dr_session.specs.Turns.{Turns}
 
 -- an input with its moment
 pub record At : Type 0 where
@@ -54,13 +56,18 @@ pub record Reacts {S : Type 0} (step : S → DeskCall → DeskAnswer → S → T
   pub tells : Tells c i.input told stage
   pub turns : Turns step (turn i.moment (with_stage stage c) told) s x t
 
+-- it takes memory to tell what the input comes to: a value where data is taken
+abbrev pub IsKept : Core → Input → Type 0
+IsKept c (Value p) = TakesData (state_at c)
+IsKept c i = ⊥
+
 -- one input that was left on the way, as memory ended
 pub record Stops {S : Type 0} (step : S → DeskCall → DeskAnswer → S → Type 0) (c : Core) (i : At)
     (s t : S) : Type 0 where
-  pub by : (t ≡ s)
+  pub by : (IsKept c i.input × (t ≡ s))
       ⊎ ((told : Told) × (stage : MessageStage)
       × Tells c i.input told stage
-      × Broke step (turn i.moment (with_stage stage c) told) s t)
+      × LeavesOff step i.moment (with_stage stage c) told s t)
 
 -- the inputs one after the other, and all that is written
 abbrev pub Plays : {S : Type 0}
@@ -83,15 +90,21 @@ PlaysMore step first i s x t =
     × Plays step first.core (i ∷ []) s more x.core t
     × (x.acts ≡ first.acts ++ more)
 
--- the inputs were left on the way, as memory ended: some first ones were done, and the next one was
--- left on the way
+-- several things were written: one behind the other, they are put together in memory
+abbrev pub AreSeveral : List LinkAction → Type 0
+AreSeveral written = 2 ≤ length written
+
+-- The inputs were left on the way, as memory ended, where that was written before them: some first
+-- ones were done, and the next one was left on the way, or what they wrote was to be put together.
 abbrev pub BreaksOff : {S : Type 0}
     → (S → DeskCall → DeskAnswer → S → Type 0)
-    → Core → List At → S → S → Type 0
-BreaksOff step c [] s t = t ≡ s
-BreaksOff step c (i ∷ is) s t =
-    Stops step c i s t
-    ⊎ ((x : Effect) × (m : _) × Reacts step c i s x m × BreaksOff step x.core is m t)
+    → List LinkAction → Core → List At → S → S → Type 0
+BreaksOff step written c [] s t = AreSeveral written × (t ≡ s)
+BreaksOff step written c (i ∷ is) s t =
+    (AreSeveral written × (t ≡ s))
+    ⊎ (Stops step c i s t
+    ⊎ ((x : Effect) × (m : _) × Reacts step c i s x m
+    × BreaksOff step (written ++ x.acts) x.core is m t))
 
 -- ---- bytes
 
@@ -180,13 +193,24 @@ IsLast limit rest last =
     (last ≡ [])
     ⊎ ((fault : PduFault) × IsFault fault × Shows limit rest fault × (last ≡ input_of fault ∷ []))
 
+-- no more is to come out of what is kept, or that fault shows there
+abbrev pub FaultShows : Feeding → Feeding → Option PduFault → Type 0
+FaultShows ear new None =
+    HearsLast new.failed ear.limit ear.kept [] new.kept × (new.limit ≡ ear.limit)
+FaultShows ear new (Some fault) =
+    IsFault fault × Shows ear.limit ear.kept fault
+    × (new ≡ record { limit = ear.limit; failed = true; kept = [] })
+
+-- they were left on the way, as memory ended, or before: what stands behind them is looked into
+-- first
 abbrev pub BreaksOn : {S : Type 0}
     → (S → DeskCall → DeskAnswer → S → Type 0)
     → Moment → Feeding → List Pdu → Core → S → S → Type 0
 BreaksOn step moment ear pdus core s t =
-    (last : List Input)
+    (t ≡ s)
+    ⊎ ((last : List Input)
     × IsLast ear.limit ear.kept last
-    × BreaksOff step core (map (at_moment moment) (flat_map inputs_of pdus ++ last)) s t
+    × BreaksOff step [] core (map (at_moment moment) (flat_map inputs_of pdus ++ last)) s t)
 
 -- a piece that was left on the way, as memory ended: nothing was done, or some first inputs of the
 -- PDUs that it ends
@@ -198,4 +222,4 @@ BreaksBytes step moment ear core piece s t =
     ⊎ ((pdus : List Pdu) × (rest : List ℕ) × (last : List Input)
     × Run (StartsPdu ear.limit) pdus (ear.kept ++ piece) rest
     × IsLast ear.limit rest last
-    × BreaksOff step core (map (at_moment moment) (flat_map inputs_of pdus ++ last)) s t)
+    × BreaksOff step [] core (map (at_moment moment) (flat_map inputs_of pdus ++ last)) s t)

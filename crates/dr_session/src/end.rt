@@ -81,7 +81,7 @@ impl End {
     /// The requestor of an association for a hop of the site, whose transport connection is open at
     /// this moment, in milliseconds. Its request goes out at once.
     ///
-    /// Errors: NoHop where the site has no hop to that node; Memory.
+    /// Errors: NoHop where the site has no hop to that node, whatever memory there is; Memory.
     pub fn request(
         alloc: Global,
         site: Site,

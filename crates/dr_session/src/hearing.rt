@@ -1,13 +1,13 @@
 //! What an end does with the bytes that it hears, however they are cut.
-ghost use Rattle.std.specs.Prelude.{◌≡◌, ◌∷◌, [], ◌≤◌, ◌^◌, IfOk, OnErr, map};
+ghost use Rattle.std.specs.Prelude.{◌≡◌, ◌∷◌, ◌++◌, [], ◌≤◌, ◌^◌, IfOk, OnErr, map};
 ghost use Rattle.std.specs.List.{AllByRecursion, flat_map};
 ghost use Rattle.dr_session.specs.Fits.{InputFits, PduFits};
 ghost use Rattle.dr_session.specs.Plays.{Reacts, Stops, Plays, PlaysMore, BreaksOff, PlaysBytes};
 ghost use Rattle.dr_session.specs.Plays.{BreaksBytes, PlaysOn, BreaksOn, EndsThere, at_moment};
-ghost use Rattle.dr_session.specs.Plays.{inputs_of, input_of};
+ghost use Rattle.dr_session.specs.Plays.{AreSeveral, FaultShows, inputs_of, input_of};
 
 use crate::boxed::BoxedCore;
-use crate::ends::{Effect, Input, Moment};
+use crate::ends::{Effect, Input, LinkAction, Moment};
 use crate::port::DeskPort;
 use crate::react::{quiet, take_turn};
 use crate::telling::tell;
@@ -32,6 +32,31 @@ pub fn react<P: DeskPort>(
     take_turn(alloc, told, core, port, at)
 }
 
+/// What is written, behind what was written before. It takes memory only where there are both.
+fn join(first: Seq<LinkAction>, more: Seq<LinkAction>) -> Result<Seq<LinkAction>, AllocError>
+    ensures joined { IfOk result (λ all. all ≡ first ++ more) }
+    ensures wants { OnErr result (AreSeveral (first ++ more)) }
+{
+    if first.is_empty() {
+        return Ok(more);
+    }
+    if more.is_empty() {
+        return Ok(first);
+    }
+    let all = append(first.into_vec(), more.into_vec())?;
+    Ok(all)
+}
+
+/// Some actions, and behind them the others.
+fn append(first: Vec<LinkAction>, more: Vec<LinkAction>) -> Result<Seq<LinkAction>, AllocError>
+    ensures { IfOk result (λ all. all ≡ first.items ++ more.items) }
+{
+    let mut all = first;
+    let mut more = more;
+    all.append(&mut more)?;
+    Ok(Seq::from_vec(all))
+}
+
 /// One input, as a list.
 fn hear_one<P: DeskPort>(
     alloc: Global,
@@ -45,7 +70,7 @@ fn hear_one<P: DeskPort>(
     ensures done { IfOk result (λ e.
         Plays P.step core (at_moment at input ∷ []) port.old e.acts e.core port.new) }
     ensures broke { OnErr result
-        (BreaksOff P.step core (at_moment at input ∷ []) port.old port.new) }
+        (BreaksOff P.step [] core (at_moment at input ∷ []) port.old port.new) }
 {
     let done = react(alloc, input, core, port, at)?;
     Ok(done)
@@ -63,20 +88,18 @@ fn hear_values<P: DeskPort>(
     ensures done { IfOk result (λ e. Plays P.step core
         (map (at_moment at) (map Input.Value pdvs.items)) port.old e.acts e.core port.new) }
     ensures broke { OnErr result
-        (BreaksOff P.step core (map (at_moment at) (map Input.Value pdvs.items)) port.old
+        (BreaksOff P.step [] core (map (at_moment at) (map Input.Value pdvs.items)) port.old
         port.new) }
 {
     let mut core = core;
-    let mut acts = Vec::new(alloc);
+    let mut acts = Seq::new(alloc);
     for pdv in pdvs {
         let effect = react(alloc, Input::Value(pdv), core, port, at)?;
         core = effect.core;
-        acts.append(&mut effect.acts.into_vec())?;
+        let joined = join(acts, effect.acts)?;
+        acts = joined;
     }
-    Ok(Effect {
-        acts: Seq::from_vec(acts),
-        core,
-    })
+    Ok(Effect { acts, core })
 }
 
 /// One PDU.
@@ -92,7 +115,7 @@ fn hear_pdu<P: DeskPort>(
     ensures done { IfOk result (λ e.
         Plays P.step core (map (at_moment at) (inputs_of pdu)) port.old e.acts e.core port.new) }
     ensures broke { OnErr result
-        (BreaksOff P.step core (map (at_moment at) (inputs_of pdu)) port.old port.new) }
+        (BreaksOff P.step [] core (map (at_moment at) (inputs_of pdu)) port.old port.new) }
 {
     match pdu {
         Pdu::AssociateRq(rq) => hear_one(alloc, Input::Request(rq), core, port, at),
@@ -123,20 +146,18 @@ fn hear_pdus<P: DeskPort>(
     ensures done { IfOk result (λ e. Plays P.step core
         (map (at_moment at) (flat_map inputs_of pdus.items)) port.old e.acts e.core port.new) }
     ensures broke { OnErr result
-        (BreaksOff P.step core (map (at_moment at) (flat_map inputs_of pdus.items)) port.old
+        (BreaksOff P.step [] core (map (at_moment at) (flat_map inputs_of pdus.items)) port.old
         port.new) }
 {
     let mut core = core;
-    let mut acts = Vec::new(alloc);
+    let mut acts = Seq::new(alloc);
     for pdu in pdus {
         let effect = hear_pdu(alloc, pdu, core, port, at)?;
         core = effect.core;
-        acts.append(&mut effect.acts.into_vec())?;
+        let joined = join(acts, effect.acts)?;
+        acts = joined;
     }
-    Ok(Effect {
-        acts: Seq::from_vec(acts),
-        core,
-    })
+    Ok(Effect { acts, core })
 }
 
 /// Why no more of a stream is read.
@@ -196,14 +217,27 @@ fn hear_on<P: DeskPort>(
         PlaysOn P.step at ear.old pdus core port.old ear.new e port.new) }
     ensures broke { OnErr result (BreaksOn P.step at ear.old pdus core port.old port.new) }
 {
+    let last = last_fault(ear)?;
     let first = hear_pdus(alloc, pdus.into_vec(), core, port, at)?;
+    match last {
+        None => Ok(first),
+        Some(fault) => hear_more(alloc, first, fault_input(fault), port, at),
+    }
+}
+
+/// The fault behind all PDUs, if there is one. It is looked for before any PDU is heard, so that
+/// want of memory here hides nothing that was done.
+fn last_fault(ear: &mut Feeder) -> Result<Option<PduFault>, AllocError>
+    requires { EndsThere ear.old }
+    ensures { IfOk result (FaultShows ear.old ear.new) }
+{
     match ear.feed(&[]) {
-        Ok(_) => Ok(first),
+        Ok(_) => return Ok(None),
         Err(fault) => match fault {
-            PduFault::Memory => Err(AllocError),
+            PduFault::Memory => return Err(AllocError),
             PduFault::Failed => unreachable!(),
             PduFault::More => unreachable!(),
-            _ => hear_more(alloc, first, fault_input(fault), port, at),
+            _ => return Ok(Some(fault)),
         },
     }
 }
@@ -221,15 +255,11 @@ fn hear_more<P: DeskPort>(
     ensures done { IfOk result (λ e.
         PlaysMore P.step first (at_moment at input) port.old e port.new) }
     ensures broke { OnErr result
-        (BreaksOff P.step first.core (at_moment at input ∷ []) port.old port.new) }
+        (BreaksOff P.step first.acts first.core (at_moment at input ∷ []) port.old port.new) }
 {
     let Effect { acts, core } = first;
     let last = hear_one(alloc, input, core, port, at)?;
-    let mut all = acts.into_vec();
     let core = last.core;
-    all.append(&mut last.acts.into_vec())?;
-    Ok(Effect {
-        acts: Seq::from_vec(all),
-        core,
-    })
+    let acts = join(acts, last.acts)?;
+    Ok(Effect { acts, core })
 }

@@ -342,7 +342,7 @@ fn refusal(fault: NegoFault) -> SessionFault
 /// Asks for an association for a hop of the site, sends each row that is due (at most 65,535), and
 /// releases it.
 ///
-/// Errors: `NoHop` before any call; else those of `receive`.
+/// Errors: `NoHop` before any call, whatever memory there is; else those of `receive`.
 pub fn deliver<L: Link, P: DeskPort, C: Clock>(
     alloc: Global,
     link: &mut L,
@@ -355,6 +355,9 @@ pub fn deliver<L: Link, P: DeskPort, C: Clock>(
         dest.now result link.old port.old link.new port.new }
     ensures counts { Counts (IsLinkFailure result) (L.failed link.old) (L.failed link.new) }
 {
+    if !site.has_hop(dest) {
+        return Err(SessionFault::NoHop);
+    }
     let site = site.copy()?;
     let at = moment(clock, 0);
     match End::request(alloc, site, dest, at.now) {

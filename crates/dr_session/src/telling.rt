@@ -1,9 +1,9 @@
 //! What an input comes to, for an end that knows what it agreed on and what is under way.
-ghost use Rattle.std.specs.Prelude.{◌≡◌, IfOk, IsTrue, ◌↔◌};
+ghost use Rattle.std.specs.Prelude.{◌≡◌, IfOk, OnErr, IsTrue, ◌↔◌};
 ghost use Rattle.dr_dimse.specs.Written.{CommandFits};
 ghost use Rattle.dr_dimse_scan.specs.Stores.{HasScan};
 ghost use Rattle.dr_session.specs.Fits.{InputFits, ToldFits};
-ghost use Rattle.dr_session.specs.Plays.{TellsTo, TellsValueTo};
+ghost use Rattle.dr_session.specs.Plays.{IsKept, TellsTo, TellsValueTo};
 ghost use Rattle.dr_session.specs.Telling.{NamesSyntax, SaysOf, TakesData, state_at};
 ghost use Rattle.dr_ulstate.specs.declared.table.State.TheVariants.{Sta5};
 
@@ -24,6 +24,7 @@ pub fn tell(alloc: Global, input: Input, core: BoxedCore) -> Result<(Told, Boxed
     requires { InputFits input }
     ensures tells { IfOk result (λ r. TellsTo core input r.0 r.1) }
     ensures fits { IfOk result (λ r. ToldFits r.0) }
+    ensures kept { OnErr result (IsKept core input) }
 {
     match input {
         Input::Value(pdv) => {

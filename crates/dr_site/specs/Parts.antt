@@ -1,5 +1,5 @@
 -- The part of a plan and of its certificate that one node works by.
-use Rattle.std.specs.Prelude.{◌≡◌, ℕ, Bool, List, filter, IsPermutation}
+use Rattle.std.specs.Prelude.{◌≡◌, ℕ, Bool, List, filter, Contains, IsPermutation}
 use Rattle.std.specs.List.Sorted.{IsNonDecreasingBy}
 use Rattle.std.specs.Str.{bytes_eq}
 use Rattle.dr_base.specs.Texts.{Text}
@@ -65,3 +65,7 @@ pub record IsPartOf (plan : Network) (certificate : Certificate) (part : Part) :
 -- the hops from the site's node to that one, by their ids
 abbrev pub hops_to : Part → Text → List Hop
 hops_to part dest = filter (ends_at dest) part.hops
+
+-- the hop is one of the site's, to that node
+abbrev pub IsHopTo : Part → Text → Hop → Type 0
+IsHopTo part dest hop = Contains part.hops hop × (hop.to ≡ dest)

@@ -1,5 +1,5 @@
 -- Sites, and why there is none.
-use Rattle.std.specs.Prelude.{◌≡◌, Result, Ok, Err}
+use Rattle.std.specs.Prelude.{◌≡◌, ◌↔◌, Result, Ok, Err}
 use Rattle.dr_base.specs.Texts.{Text}
 use Rattle.dr_plan_model.specs.Networks.{Network}
 use Rattle.dr_plan_model.specs.Plans.{IsWellFormed, NamesNoNode}
@@ -30,8 +30,16 @@ pub record IsSite (part : Part) : Type 0 where
   pub sorted : AreSorted part.lines
   pub some : IsPartOfSome part
 
--- the site of the node of that name, or no node has it
+-- The site of the node of that name, or no node has it. Memory is wanted for a node of the plan
+-- alone.
 abbrev pub IsSiteOf : Network → Certificate → Text → Result Part SiteFault → Type 0
 IsSiteOf plan certificate name (Ok part) = (part.name ≡ name) × IsPartOf plan certificate part
 IsSiteOf plan certificate name (Err NoNode) = NamesNoNode plan name
-IsSiteOf plan certificate name (Err Memory) = Unit {0}
+IsSiteOf plan certificate name (Err Memory) = NamesNoNode plan name → ⊥
+
+-- who is no node of the plan is told so, whatever memory there is; and nobody else is
+abbrev pub StrangersAreTold : Type 0
+StrangersAreTold =
+    (plan : Network) (certificate : Certificate) (name : Text) (r : Result Part SiteFault)
+    → IsSiteOf plan certificate name r
+    → NamesNoNode plan name ↔ (r ≡ Err NoNode)

@@ -2,6 +2,7 @@
 ghost use Rattle.dr_site.specs.Contexts.{PairsAreAsPlanned, AcceptsAsPlanned};
 ghost use Rattle.dr_site.specs.Forms.{SitesAreFormed};
 ghost use Rattle.dr_site.specs.Routing.{LinesAreAsPlanned, SendsAsPlanned, KeepsAsPlanned};
+ghost use Rattle.dr_site.specs.Sites.{StrangersAreTold};
 
 /// A site's lines, flows and rules say of each key and caller what the plan says of its node:
 /// whether the key comes there, where it is sent, and whether it is kept.
@@ -22,4 +23,9 @@ pub fn sites_have_the_plans_contexts()
 /// most 128 contexts, whose ids are odd, different and at most 255 (PS3.8 7.1.1.13).
 pub fn sites_are_formed()
     ensures { SitesAreFormed }
+{}
+
+/// Who is no node of a plan has no site, and is told so whatever memory there is.
+pub fn strangers_are_told()
+    ensures { StrangersAreTold }
 {}

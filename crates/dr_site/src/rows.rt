@@ -1,5 +1,6 @@
 //! Those of a plan's and of a certificate's rows that are one node's own.
 ghost use Rattle.std.specs.Prelude.{◌≡◌, IfOk, filter};
+ghost use Rattle.std.specs.List.{list_any};
 ghost use Rattle.dr_site.specs.Parts.{is_at, is_of, begins_at, ends_at, AreHopsFrom};
 
 use dr_base::{Seq, Text};
@@ -68,4 +69,11 @@ pub fn hops_ending_at(alloc: Global, hops: &[Hop], node: &Text) -> Result<Seq<Ho
         }
     }
     Ok(own)
+}
+
+/// Whether one of the hops ends at the node.
+pub fn has_hop(hops: &[Hop], node: &Text) -> bool
+    ensures { result ≡ list_any (ends_at node.now) hops.now }
+{
+    hops.iter().any(|hop| hop.to == *node)
 }

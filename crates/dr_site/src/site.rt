@@ -1,11 +1,13 @@
 //! The site of a node.
-ghost use Rattle.std.specs.Prelude.{◌≡◌, ◌↔◌, IfOk, IsTrue, Contains};
+ghost use Rattle.std.specs.Prelude.{◌≡◌, ◌↔◌, IfOk, IsTrue, MatchBool, Contains};
 ghost use Rattle.dr_base.specs.Texts.{Text as Words, IsInByteOrder};
+ghost use Rattle.dr_plan_model.specs.Plans.{IsTheNode};
+ghost use Rattle.dr_plan_sound.specs.declared.certificate.Hop.{Hop as HopValue};
 ghost use Rattle.dr_site.specs.Routing.{HasLineFor, SendsFrom, KeepsAt};
-ghost use Rattle.dr_site.specs.Parts.{Part, IsPartOf, hops_to};
+ghost use Rattle.dr_site.specs.Parts.{Part, IsPartOf, IsHopTo, hops_to};
 ghost use Rattle.dr_site.specs.Sites.{IsCertified, IsSite, IsSiteOf};
 
-use crate::rows::{flows_at, hops_ending_at, hops_from, lines_of};
+use crate::rows::{flows_at, has_hop, hops_ending_at, hops_from, lines_of};
 use dr_base::heap::boxed;
 use dr_base::same::{Same, are_same};
 use dr_base::{Seq, Text};
@@ -15,7 +17,7 @@ use dr_cert::place::StopPlace;
 use dr_plan_model::copies::{copy_accepts, copy_flows, copy_rules};
 use dr_plan_model::literals::literals;
 use dr_plan_model::sending::flow_targets;
-use dr_plan_model::{Flow, Plan};
+use dr_plan_model::{Flow, Node, Plan};
 use dr_plan_sound::copies::{copy_hops, copy_lines};
 use dr_plan_sound::{Certificate, Hop, Line};
 use dr_route::copies::copy_literals;
@@ -105,7 +107,7 @@ impl Model for Site {
 impl Site {
     /// The site of the node of that name in a sealed plan.
     ///
-    /// Errors: NoNode where the plan has no such node; Memory.
+    /// Errors: NoNode where the plan has no such node, whatever memory there is; Memory.
     pub fn of(alloc: Global, sealed: &Sealed, name: &Text) -> Result<Site, SiteFault>
         ensures { IsSiteOf sealed.now.plan sealed.now.certificate name.now result }
     {
@@ -125,6 +127,23 @@ impl Site {
         let Some(node) = plan.node(name) else {
             return Err(SiteFault::NoNode);
         };
+        let site = Site::of_node(alloc, plan, certificate, name, node)?;
+        Ok(site)
+    }
+
+    /// The site of that node, of a sound plan with its certificate.
+    fn of_node(
+        alloc: Global,
+        plan: &Plan,
+        certificate: &Certificate,
+        name: &Text,
+        node: &Node,
+    ) -> Result<Site, AllocError>
+        requires certified { IsCertified plan.now certificate.now }
+        requires node { IsTheNode plan.now name.now node.now }
+        ensures { IfOk result (λ s.
+            (s.name ≡ name.now) × IsPartOf plan.now certificate.now s) }
+    {
         let rules = copy_rules(&node.rules)?;
         let accepts = copy_accepts(&node.accepts)?;
         let flows = flows_at(alloc, plan.flows(), name)?;
@@ -244,6 +263,14 @@ impl Site {
     {
         let hops = hops_ending_at(alloc, self.parts.as_ref().hops.as_slice(), dest)?;
         Ok(hops)
+    }
+
+    /// Whether its node has a hop to that node. It takes no memory.
+    pub fn has_hop(&self, dest: &Text) -> bool
+        ensures { MatchBool result ((hop : HopValue) × IsHopTo self.now dest.now hop)
+            ((hop : HopValue) → IsHopTo self.now dest.now hop → ⊥) }
+    {
+        has_hop(self.parts.as_ref().hops.as_slice(), dest)
     }
 
     /// Whether the certificate has a line for what the caller brings to this node with that key. It

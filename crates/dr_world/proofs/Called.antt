@@ -1,16 +1,14 @@
 -- A call of one of several nodes, as they are seen.
 use Rattle.std.proofs.Common.{◌≡◌, ℕ, Bool, true, false, cond, List, Option, None, Some, IsSome, Result, Ok, Err, refl, sym, ap, subst, ◌∙◌, inl, inr}
-use Rattle.std.specs.Prelude.{IfOk, Contains}
-use Rattle.std.specs.List.{list_any}
+use Rattle.std.specs.Prelude.{IfOk}
 use Rattle.std.proofs.lemmas.Map.Views.{tells_apart}
 use Rattle.dr_plan_sound.specs.declared.certificate.Hop.{Hop}
-use Rattle.dr_node.proofs.Opening.{hop_found, no_hop_found}
 use Rattle.std.specs.Option.{option_map}
 use Rattle.std.specs.Cmp.{eq_by_cmp_equiv}
 use Rattle.std.specs.BTreeMap as tree
 use Rattle.std.specs.BTreeMap.{BTreeMap, is_at}
 use Rattle.dr_base.specs.Texts.{Text, text_cmp}
-use Rattle.dr_site.specs.Parts.{ends_at}
+use Rattle.dr_site.specs.Parts.{Part, IsHopTo}
 use Rattle.dr_ledger.specs.declared.ledger.Ledger.{Ghosts}
 use Rattle.dr_ledger.proofs.Maps.{texts, same_or_not, ties_itself}
 use Rattle.dr_session.specs.declared.ends.LinkAction.{LinkAction}
@@ -105,23 +103,22 @@ module _ {L : Type 0} {l : Ghosts L} (old new : BTreeMap Text (Node L l)) (name 
   sides_there : after.desk ≡ n.desk → HasSides name n after.links old new
   sides_there desk = record { was = sym has; after = after; links = refl; desk = desk; at = now_at old new name n after has updates }
 
-  pub opened_there : (dest : Text) (link now : ℕ) (acts : List LinkAction) (hops : List Hop) → hops ≡ n.site.hops → true ≡ list_any (ends_at dest) hops → Opens n.site dest link now n.links (Ok acts) after.links → after.desk ≡ n.desk → OpensAt name dest link now old (Some acts) new
-  opened_there dest link now acts hops same found opens desk =
-      let f = hop_found dest hops found in
-      let P : List Hop → Type 0 = λ all. Contains all f.0 in
-      (n, after.links, (f.0, (subst P same f.1, f.2)), opens, sides_there desk)
+  pub opened_there : (dest : Text) (link now : ℕ) (acts : List LinkAction) (site : Part) → site ≡ n.site → ((hop : Hop) × IsHopTo site dest hop) → Opens n.site dest link now n.links (Ok acts) after.links → after.desk ≡ n.desk → OpensAt name dest link now old (Some acts) new
+  opened_there dest link now acts site same found opens desk =
+      let P : Part → Type 0 = λ part. (hop : Hop) × IsHopTo part dest hop in
+      (n, after.links, subst P same found, opens, sides_there desk)
 
   pub accepted_there : (link now : ℕ) → AcceptsLink n.site link now n.links (Ok tt) after.links → after.desk ≡ n.desk → AcceptsAt name link now old new
   accepted_there link now accepts desk = (n, after.links, accepts, sides_there desk)
 
 pub without_hop_there : {L : Type 0} {l : Ghosts L} (old new : BTreeMap Text (Node L l)) (name : Text) (n : Node L l) (has : Some n ≡ tree.get text_cmp old name) → ((q : Text) → tree.get text_cmp new q ≡ cond (is_at (text_cmp name) q) (Some n) (tree.get text_cmp old q))
-    → (dest : Text) (link now : ℕ) (hops : List Hop) → hops ≡ n.site.hops → false ≡ list_any (ends_at dest) hops → OpensAt name dest link now old None new
-without_hop_there {L} {l} old new name n has updates dest link now hops same none = (
+    → (dest : Text) (link now : ℕ) (site : Part) → site ≡ n.site → ((hop : Hop) → IsHopTo site dest hop → ⊥) → OpensAt name dest link now old None new
+without_hop_there {L} {l} old new name n has updates dest link now site same none = (
   λ m is hop goes.
       let e : Some n ≡ Some m = has ∙ is in
       let it : n ≡ m = cc in
-      let P : List Hop → Type 0 = λ all. Contains all hop in
-      no_hop_found dest hops none hop (subst P (ap (λ (z : Node L l). z.site.hops) (sym it) ∙ sym same) goes.0) goes.1,
+      let P : Part → Type 0 = λ part. IsHopTo part dest hop in
+      none hop (subst P (ap (λ (z : Node L l). z.site) (sym it) ∙ sym same) goes),
   λ q. updates q ∙ (ap (λ (b : Bool). cond b (Some n) (tree.get text_cmp old q)) ((eq_by_cmp_equiv texts.total).symm name q) ∙ by_name q (same_text q name) refl),
 )
   where

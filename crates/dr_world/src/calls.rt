@@ -8,7 +8,7 @@ ghost use Rattle.dr_world.specs.Nodes.{AcceptsAt, IsDoneAt, OpensAt, event_at, o
 
 use dr_base::{Seq, Text};
 use dr_ledger::Ledger;
-use dr_node::{LinkEvent, Node, NodeFault, has_hop};
+use dr_node::{LinkEvent, Node, NodeFault};
 use dr_session::LinkAction;
 use dr_ulstate::State;
 use std::collections::BTreeMap;
@@ -91,7 +91,7 @@ pub fn open_at<L: Ledger>(
     let Some(node) = nodes.get_mut(name) else {
         return Ok(None);
     };
-    if !has_hop(node.site().hops(), dest) {
+    if !node.site().has_hop(dest) {
         return Ok(None);
     }
     let actions = node.open(link, dest, now)?;

@@ -12,6 +12,7 @@ ghost use Rattle.dr_nego.specs.Agreeing.{IsTooSmall};
 ghost use Rattle.dr_nego.specs.Answering.{answer as answered};
 ghost use Rattle.dr_pdu.specs.Written.{Fits as PduFits};
 ghost use Rattle.dr_pdu.specs.declared.pdu.Pdu.TheVariants as pdu;
+ghost use Rattle.dr_session.specs.Breaks.{Broke, MayWrite};
 ghost use Rattle.dr_session.specs.Laws.{AnswersStore};
 ghost use Rattle.dr_session.specs.Reactions.{arrives, stores, stored};
 ghost use Rattle.dr_ledger.specs.Replies.{store_status};
@@ -19,7 +20,7 @@ ghost use Rattle.dr_session.specs.Reactions.{echo_status as status_of_echo, effe
 ghost use Rattle.dr_session.specs.Reactions.{brings, says, requested, requested_other, decides};
 ghost use Rattle.dr_session.specs.Reactions.{decides_at, stepped_by, write};
 ghost use Rattle.dr_session.specs.Reactions.{rejected as rejected_with};
-ghost use Rattle.dr_session.specs.Turns.{Turns, Broke, Ends};
+ghost use Rattle.dr_session.specs.Turns.{Turns, Ends};
 ghost use Rattle.dr_ulstate.specs.declared.table.Event.TheVariants.{AcceptResponse, RejectResponse};
 
 use crate::boxed::BoxedCore;
@@ -247,7 +248,8 @@ pub fn answer_request(
     core: BoxedCore,
 ) -> Result<Effect, AllocError>
     requires { CommandFits command }
-    ensures { IfOk result (λ e. requested core context of command ≡ Ends e) }
+    ensures done { IfOk result (λ e. requested core context of command ≡ Ends e) }
+    ensures wants { OnErr result (MayWrite (requested core context of command)) }
 {
     match command {
         Command::EchoRq { id, class, .. } => {
@@ -301,7 +303,8 @@ fn answer_other(
     core: BoxedCore,
 ) -> Result<Effect, AllocError>
     requires { CommandFits (Other field id status false) }
-    ensures { IfOk result (λ e. requested_other core context field id status ≡ Ends e) }
+    ensures done { IfOk result (λ e. requested_other core context field id status ≡ Ends e) }
+    ensures wants { OnErr result (MayWrite (requested_other core context field id status)) }
 {
     let Some(id) = id else {
         return Ok(quiet(alloc, core));

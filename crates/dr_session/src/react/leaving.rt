@@ -1,7 +1,10 @@
 //! What an end does as it leaves the association, and the small parts of every reaction.
 ghost use Rattle.std.specs.Prelude.{◌≡◌, ◌∷◌, [], ◌≤◌, ◌^◌, IfOk, OnErr};
-ghost use Rattle.dr_session.specs.Reactions.{effect, leaves, aborts, aborts_desk, aborts_idle};
-ghost use Rattle.dr_session.specs.Turns.{Turns, Broke, Ends};
+ghost use Rattle.dr_session.specs.Breaks.{Broke};
+ghost use Rattle.dr_session.specs.Reactions.{effect, leaves, aborts, abort_pdu, write, stepped_by};
+ghost use Rattle.dr_session.specs.Reactions.{aborted, desk_failed, left};
+ghost use Rattle.dr_session.specs.Turns.{Turns};
+ghost use Rattle.dr_ulstate.specs.declared.table.Event.TheVariants.{AbortRequest};
 
 use crate::boxed::BoxedCore;
 use crate::ends::{Effect, LinkAction, Moment};
@@ -107,20 +110,41 @@ pub fn abort<P: DeskPort>(
     leave_with(alloc, action, core.abort(at.now).mark_aborted(), port, at)
 }
 
-/// The end aborts by itself, with nothing pending.
-pub fn abort_idle(alloc: Global, core: BoxedCore, at: Moment) -> Result<Effect, AllocError>
-    ensures { IfOk result (λ e. aborts_idle at core ≡ Ends e) }
+/// The A-ABORT of an end that aborts by itself. It is made before the desk is called: so want of
+/// memory hides nothing that the desk answers.
+pub fn ready_abort(alloc: Global) -> Result<Seq<LinkAction>, AllocError>
+    ensures { IfOk result (λ a. a ≡ write (abort_pdu 0 0 ∷ []) ∷ []) }
 {
     let action = write_abort(alloc, 0, 0)?;
-    let core = core.abort(at.now).leave_pending();
-    act_once(alloc, action, core.mark_aborted())
+    let acts = one(alloc, action)?;
+    Ok(acts)
 }
 
-/// A store failed: the association is aborted, and what was pending is left as it is.
-pub fn abort_desk(alloc: Global, core: BoxedCore, at: Moment) -> Result<Effect, AllocError>
-    ensures { IfOk result (λ e. aborts_desk at core ≡ Ends e) }
+/// The end aborts by itself, with nothing pending, by an A-ABORT that was made.
+pub fn abort_idle(acts: Seq<LinkAction>, core: BoxedCore, at: Moment) -> Effect
+    requires { acts ≡ write (abort_pdu 0 0 ∷ []) ∷ [] }
+    ensures { result
+        ≡ effect (write (abort_pdu 0 0 ∷ []) ∷ [])
+        (aborted (left (stepped_by AbortRequest at.now core))) }
 {
-    let action = write_abort(alloc, 0, 0)?;
     let core = core.abort(at.now).leave_pending();
-    act_once(alloc, action, core.mark_aborted().fail_desk())
+    Effect {
+        acts,
+        core: core.mark_aborted(),
+    }
+}
+
+/// A store failed: the association is aborted, by an A-ABORT that was made, and what was pending is
+/// left as it is.
+pub fn abort_desk(acts: Seq<LinkAction>, core: BoxedCore, at: Moment) -> Effect
+    requires { acts ≡ write (abort_pdu 0 0 ∷ []) ∷ [] }
+    ensures { result
+        ≡ effect (write (abort_pdu 0 0 ∷ []) ∷ [])
+        (desk_failed (aborted (left (stepped_by AbortRequest at.now core)))) }
+{
+    let core = core.abort(at.now).leave_pending();
+    Effect {
+        acts,
+        core: core.mark_aborted().fail_desk(),
+    }
 }

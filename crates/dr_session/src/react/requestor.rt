@@ -7,22 +7,25 @@ ghost use Rattle.dr_base.specs.Syntaxes.{syntax_uid};
 ghost use Rattle.dr_nego.specs.Agreeing.{context_for};
 ghost use Rattle.dr_nego.specs.declared.agreed.Agreed.{Agreed as AgreedOn};
 ghost use Rattle.dr_nego.specs.declared.fault.NegoFault.TheVariants as negofault;
+ghost use Rattle.dr_ledger.specs.declared.content.NextRow.TheVariants.{Whole};
 ghost use Rattle.dr_session.specs.declared.ends.LinkAction.TheVariants.{Close};
+ghost use Rattle.dr_session.specs.Breaks.{Broke, BrokeBehind};
+ghost use Rattle.dr_session.specs.Desks.{DeskAnswer, Upcoming};
 ghost use Rattle.dr_session.specs.Reactions.{agrees, refuses, settles_refused, answers, replied};
 ghost use Rattle.dr_session.specs.Reactions.{status_for, effect, gives, gives_in, hands};
 ghost use Rattle.dr_session.specs.Reactions.{can_be_named, is_uid, is_graphic, id_after, due};
 ghost use Rattle.dr_session.specs.Reactions.{pushes, gives_nothing, write, store_pdus, awaiting};
 ghost use Rattle.dr_session.specs.Reactions.{settled_with, desk_failed, dried, hands_row};
-ghost use Rattle.dr_session.specs.Reactions.{passes_over};
-ghost use Rattle.dr_session.specs.Turns.{Turns, Broke, Ends};
+ghost use Rattle.dr_session.specs.Reactions.{passes_over, abort_pdu};
+ghost use Rattle.dr_session.specs.Turns.{Turns, Ends};
 
 use crate::boxed::BoxedCore;
 use crate::ends::{Core, Effect, LinkAction, Moment, Pending, Requested};
 use crate::negotiated::Negotiated;
 use crate::port::DeskPort;
-use crate::react::leaving::{abort, abort_desk, abort_idle, act_once, quiet};
+use crate::react::leaving::{abort, abort_desk, abort_idle, act_once, one, quiet, ready_abort};
 use crate::writing::write_store;
-use dr_base::Text;
+use dr_base::{Seq, Text};
 use dr_dimse::Command;
 use dr_ledger::{Job, LedgerFault, NextRow, Outcome};
 use dr_nego::NegoFault;
@@ -62,11 +65,12 @@ pub fn refuse<P: DeskPort>(
     ensures done { IfOk result (λ e. Turns P.step (refuses at core) port.old e port.new) }
     ensures broke { OnErr result (Broke P.step (refuses at core) port.old port.new) }
 {
+    let acts = one(alloc, LinkAction::Close)?;
     match port.due(core.peer(), at.now) {
-        Ok(Some(uid)) => settle_refused(alloc, uid, core, port, at),
-        Ok(None) => close(alloc, core),
+        Ok(Some(uid)) => settle_refused(acts, uid, core, port, at),
+        Ok(None) => Ok(close_ready(acts, core)),
         Err(LedgerFault::Memory) => Err(AllocError),
-        Err(_) => close(alloc, core.fail_desk()),
+        Err(_) => Ok(close_ready(acts, core.fail_desk())),
     }
 }
 
@@ -77,23 +81,33 @@ pub fn close(alloc: Global, core: BoxedCore) -> Result<Effect, AllocError>
     act_once(alloc, LinkAction::Close, core)
 }
 
+/// The transport connection is closed, by an action that was made before the desk was called.
+fn close_ready(acts: Seq<LinkAction>, core: BoxedCore) -> Effect
+    requires { acts ≡ Close ∷ [] }
+    ensures { result ≡ effect (Close ∷ []) core }
+{
+    Effect { acts, core }
+}
+
 /// A row whose association was rejected.
 fn settle_refused<P: DeskPort>(
-    alloc: Global,
+    acts: Seq<LinkAction>,
     uid: Text,
     core: BoxedCore,
     port: &mut P,
     at: Moment,
 ) -> Result<Effect, AllocError>
-    requires { at.now ≤ 2 ^ 62 }
+    requires now { at.now ≤ 2 ^ 62 }
+    requires acts { acts ≡ Close ∷ [] }
     ensures done { IfOk result (λ e.
         Turns P.step (settles_refused at uid core) port.old e port.new) }
-    ensures broke { OnErr result (Broke P.step (settles_refused at uid core) port.old port.new) }
+    ensures broke { OnErr result ((told : DeskAnswer)
+        → BrokeBehind P.step told (settles_refused at uid core) port.old port.new) }
 {
     match port.settle(&uid, core.peer(), Outcome::Broken, at.now) {
-        Ok(()) | Err(LedgerFault::NotWaiting) => close(alloc, core),
+        Ok(()) | Err(LedgerFault::NotWaiting) => Ok(close_ready(acts, core)),
         Err(LedgerFault::Memory) => Err(AllocError),
-        Err(_) => close(alloc, core.fail_desk()),
+        Err(_) => Ok(close_ready(acts, core.fail_desk())),
     }
 }
 
@@ -145,10 +159,11 @@ pub fn hear_response<P: DeskPort>(
     let Some(status) = status_for(pending, context, command) else {
         return abort(alloc, core, port, at);
     };
+    let acts = ready_abort(alloc)?;
     match port.settle(&pending.uid, core.peer(), Outcome::Status(status), at.now) {
         Ok(()) | Err(LedgerFault::NotWaiting) => Ok(quiet(alloc, core.settle())),
         Err(LedgerFault::Memory) => Err(AllocError),
-        Err(_) => abort_desk(alloc, core, at),
+        Err(_) => Ok(abort_desk(acts, core, at)),
     }
 }
 
@@ -170,14 +185,15 @@ pub fn push<P: DeskPort>(
     ensures done { IfOk result (λ e. Turns P.step (pushes at core) port.old e port.new) }
     ensures broke { OnErr result (Broke P.step (pushes at core) port.old port.new) }
 {
+    let acts = ready_abort(alloc)?;
     match port.next(core.peer(), at.now) {
         Ok(Some(row)) => {
-            let done = hand_row(alloc, row, core, port, at)?;
+            let done = hand_row(alloc, acts, row, core, port, at)?;
             Ok(done)
         }
         Ok(None) => Ok(quiet(alloc, core.run_dry())),
         Err(LedgerFault::Memory) => Err(AllocError),
-        Err(_) => abort_desk(alloc, core, at),
+        Err(_) => Ok(abort_desk(acts, core, at)),
     }
 }
 
@@ -213,79 +229,92 @@ fn can_be_named(job: &Job) -> bool
 /// What the desk handed out goes over, if it can be read.
 fn hand_row<P: DeskPort>(
     alloc: Global,
+    acts: Seq<LinkAction>,
     row: NextRow,
     core: BoxedCore,
     port: &mut P,
     at: Moment,
 ) -> Result<Effect, AllocError>
-    requires { at.now ≤ 2 ^ 62 }
+    requires now { at.now ≤ 2 ^ 62 }
+    requires acts { acts ≡ write (abort_pdu 0 0 ∷ []) ∷ [] }
     ensures done { IfOk result (λ e. Turns P.step (hands_row at core row) port.old e port.new) }
-    ensures broke { OnErr result (Broke P.step (hands_row at core row) port.old port.new) }
+    ensures broke { OnErr result
+        (BrokeBehind P.step (Upcoming (Ok (Some row))) (hands_row at core row) port.old port.new) }
 {
     match row {
-        NextRow::Whole(job) => hand(alloc, job, core, port, at),
-        NextRow::Unreadable(uid) => pass_over(alloc, uid, core, port, at),
+        NextRow::Whole(job) => hand(alloc, acts, job, core, port, at),
+        NextRow::Unreadable(uid) => pass_over(acts, uid, core, port, at),
     }
 }
 
 /// A row whose data set can't be read is settled so, and the end aborts: nothing was sent.
 fn pass_over<P: DeskPort>(
-    alloc: Global,
+    acts: Seq<LinkAction>,
     uid: Text,
     core: BoxedCore,
     port: &mut P,
     at: Moment,
 ) -> Result<Effect, AllocError>
-    requires { at.now ≤ 2 ^ 62 }
+    requires now { at.now ≤ 2 ^ 62 }
+    requires acts { acts ≡ write (abort_pdu 0 0 ∷ []) ∷ [] }
     ensures done { IfOk result (λ e. Turns P.step (passes_over at uid core) port.old e port.new) }
-    ensures broke { OnErr result (Broke P.step (passes_over at uid core) port.old port.new) }
+    ensures broke { OnErr result ((told : DeskAnswer)
+        → BrokeBehind P.step told (passes_over at uid core) port.old port.new) }
 {
     match port.settle(&uid, core.peer(), Outcome::Unreadable, at.now) {
-        Ok(()) | Err(LedgerFault::NotWaiting) => abort_idle(alloc, core, at),
+        Ok(()) | Err(LedgerFault::NotWaiting) => Ok(abort_idle(acts, core, at)),
         Err(LedgerFault::Memory) => Err(AllocError),
-        Err(_) => abort_desk(alloc, core, at),
+        Err(_) => Ok(abort_desk(acts, core, at)),
     }
 }
 
 /// What the desk handed out goes over; a desk that hands out what can't be named has failed.
 fn hand<P: DeskPort>(
     alloc: Global,
-    job: Job,
-    core: BoxedCore,
-    port: &mut P,
-    at: Moment,
-) -> Result<Effect, AllocError>
-    requires { at.now ≤ 2 ^ 62 }
-    ensures done { IfOk result (λ e. Turns P.step (hands at core job) port.old e port.new) }
-    ensures broke { OnErr result (Broke P.step (hands at core job) port.old port.new) }
-{
-    if can_be_named(&job) {
-        let done = give(alloc, job, core, port, at)?;
-        return Ok(done);
-    }
-    abort_desk(alloc, core, at)
-}
-
-/// An instance goes over in a context of its class and transfer syntax; where there is none the row
-/// is settled so.
-fn give<P: DeskPort>(
-    alloc: Global,
+    acts: Seq<LinkAction>,
     job: Job,
     core: BoxedCore,
     port: &mut P,
     at: Moment,
 ) -> Result<Effect, AllocError>
     requires now { at.now ≤ 2 ^ 62 }
+    requires acts { acts ≡ write (abort_pdu 0 0 ∷ []) ∷ [] }
+    ensures done { IfOk result (λ e. Turns P.step (hands at core job) port.old e port.new) }
+    ensures broke { OnErr result
+        (BrokeBehind P.step (Upcoming (Ok (Some (Whole job)))) (hands at core job) port.old
+        port.new) }
+{
+    if can_be_named(&job) {
+        let done = give(alloc, acts, job, core, port, at)?;
+        return Ok(done);
+    }
+    Ok(abort_desk(acts, core, at))
+}
+
+/// An instance goes over in a context of its class and transfer syntax; where there is none the row
+/// is settled so.
+fn give<P: DeskPort>(
+    alloc: Global,
+    acts: Seq<LinkAction>,
+    job: Job,
+    core: BoxedCore,
+    port: &mut P,
+    at: Moment,
+) -> Result<Effect, AllocError>
+    requires now { at.now ≤ 2 ^ 62 }
+    requires acts { acts ≡ write (abort_pdu 0 0 ∷ []) ∷ [] }
     requires named { can_be_named job ≡ true }
     ensures done { IfOk result (λ e.
         Turns P.step (gives core.agreed at job core) port.old e port.new) }
-    ensures broke { OnErr result (Broke P.step (gives core.agreed at job core) port.old port.new) }
+    ensures broke { OnErr result
+        (BrokeBehind P.step (Upcoming (Ok (Some (Whole job)))) (gives core.agreed at job core)
+        port.old port.new) }
 {
     let Some(agreed) = &core.as_core().agreed else {
         return Ok(quiet(alloc, core));
     };
     match context_of(agreed, &job) {
-        None => settle_without(alloc, job.uid, core, port, at),
+        None => settle_without(alloc, acts, job.uid, core, port, at),
         Some(context) => give_in(alloc, context, job, core, at),
     }
 }
@@ -350,18 +379,21 @@ fn context_of(agreed: &Negotiated, job: &Job) -> Option<u8>
 /// A row without a context.
 fn settle_without<P: DeskPort>(
     alloc: Global,
+    acts: Seq<LinkAction>,
     uid: Text,
     core: BoxedCore,
     port: &mut P,
     at: Moment,
 ) -> Result<Effect, AllocError>
-    requires { at.now ≤ 2 ^ 62 }
+    requires now { at.now ≤ 2 ^ 62 }
+    requires acts { acts ≡ write (abort_pdu 0 0 ∷ []) ∷ [] }
     ensures done { IfOk result (λ e. Turns P.step (gives_nothing at uid core) port.old e port.new) }
-    ensures broke { OnErr result (Broke P.step (gives_nothing at uid core) port.old port.new) }
+    ensures broke { OnErr result ((told : DeskAnswer)
+        → BrokeBehind P.step told (gives_nothing at uid core) port.old port.new) }
 {
     match port.settle(&uid, core.peer(), Outcome::NoContext, at.now) {
         Ok(()) | Err(LedgerFault::NotWaiting) => Ok(quiet(alloc, core)),
         Err(LedgerFault::Memory) => Err(AllocError),
-        Err(_) => abort_desk(alloc, core, at),
+        Err(_) => Ok(abort_desk(acts, core, at)),
     }
 }

@@ -7,7 +7,8 @@ ghost use Rattle.dr_session.specs.Reactions.{acts, hears, turn, event_of, is_tak
 ghost use Rattle.dr_session.specs.Reactions.{effect, write, abort_pdu, aborted, leaves, reason_of};
 ghost use Rattle.dr_session.specs.Reactions.{has_waited, is_impatient as is_impatient_since};
 ghost use Rattle.dr_session.specs.Reactions.{is_idle, stepped_by, released, collides, noted};
-ghost use Rattle.dr_session.specs.Turns.{Turns, Broke, Ends};
+ghost use Rattle.dr_session.specs.Breaks.{Broke, LeavesOff, MayWrite};
+ghost use Rattle.dr_session.specs.Turns.{Turns, Ends};
 ghost use Rattle.dr_ulstate.specs.Phases.{event_of as event_of_incoming};
 ghost use Rattle.dr_ulstate.specs.Phases.{is_acceptable as is_acceptable_incoming};
 ghost use Rattle.dr_ulstate.specs.declared.table.Action.TheVariants.{Ae3, Ae4, Ae6};
@@ -94,7 +95,8 @@ fn hear_whole<P: DeskPort>(
     if core.is_requestor() {
         return hear_response(alloc, context, &command, core, port, at);
     }
-    answer_request(alloc, context, of, command, core)
+    let done = answer_request(alloc, context, of, command, core)?;
+    Ok(done)
 }
 
 /// Why the service provider aborts (PS3.8 9.3.8): an unknown type, a PDU out of place, or an
@@ -279,7 +281,8 @@ fn abort_closing(alloc: Global, core: BoxedCore) -> Result<Effect, AllocError>
 
 /// In a collision of releases the requestor answers at once (AR-8).
 fn act_collision(alloc: Global, core: BoxedCore, now: u64) -> Result<Effect, AllocError>
-    ensures { IfOk result (λ e. collides now core ≡ Ends e) }
+    ensures done { IfOk result (λ e. collides now core ≡ Ends e) }
+    ensures wants { OnErr result (MayWrite (collides now core)) }
 {
     if core.is_requestor() {
         let done = answer_release(alloc, core, now)?;
@@ -482,7 +485,7 @@ fn meet_request<P: DeskPort>(
     ensures done { IfOk result (λ e.
         Turns P.step (turn at core (Told.Plain (Input.Request rq))) port.old e port.new) }
     ensures broke { OnErr result
-        (Broke P.step (turn at core (Told.Plain (Input.Request rq))) port.old port.new) }
+        (LeavesOff P.step at core (Told.Plain (Input.Request rq)) port.old port.new) }
 {
     let acceptable = is_acceptable(alloc, &rq, core.as_core(), at)?;
     let incoming = Incoming::AssociateRq { acceptable };
@@ -522,7 +525,7 @@ fn turn_plain<P: DeskPort>(
     ensures done { IfOk result (λ e.
         Turns P.step (turn at core (Told.Plain input)) port.old e port.new) }
     ensures broke { OnErr result
-        (Broke P.step (turn at core (Told.Plain input)) port.old port.new) }
+        (LeavesOff P.step at core (Told.Plain input) port.old port.new) }
 {
     match input {
         Input::Request(rq) => meet_request(alloc, rq, core, port, at),
@@ -599,7 +602,7 @@ pub fn take_turn<P: DeskPort>(
     requires now { at.now ≤ 2 ^ 62 }
     requires fits { ToldFits told }
     ensures done { IfOk result (λ e. Turns P.step (turn at core told) port.old e port.new) }
-    ensures broke { OnErr result (Broke P.step (turn at core told) port.old port.new) }
+    ensures broke { OnErr result (LeavesOff P.step at core told port.old port.new) }
 {
     match told {
         Told::Plain(input) => turn_plain(alloc, input, core, port, at),

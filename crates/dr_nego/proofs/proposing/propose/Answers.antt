@@ -1,25 +1,11 @@
-use Rattle.std.proofs.Common.{List, map, sym, ap, ◌∙◌}
-use Rattle.std.specs.Prelude.{replicate}
-use Rattle.dr_base.specs.Texts.{Text}
-use Rattle.dr_plan_sound.specs.declared.certificate.Hop.{Hop}
-use Rattle.dr_pdu.specs.declared.pdu.Front.{Front}
-use Rattle.dr_nego.specs.Proposing.{context_of}
-use Rattle.dr_nego.proofs.Proposed.{no_hop, proposed}
-use Rattle.dr_nego.proofs.Sized.{proposals_fit}
+use Rattle.dr_nego.proofs.Proposed.{proposed_not}
 use Rattle.dr_nego.proofs.proposing.propose.Goals as goal
 
-pub returns-then-is_empty-clause-proposes : goal.returns-then-is_empty-clause-proposes
-returns-then-is_empty-clause-proposes c = no_hop c.args.site.now c.args.dest.now _ c.in_ok-hops.ensures.hops (sym c.if-is_empty.ensures)
+pub returns-then-not-has_hop-clause-proposes : goal.returns-then-not-has_hop-clause-proposes
+returns-then-not-has_hop-clause-proposes c = c.if-not-has_hop.ensures
+
+pub returns-in_err-proposal-clause-proposes : goal.returns-in_err-proposal-clause-proposes
+returns-in_err-proposal-clause-proposes c = proposed_not c.args.site.now c.args.dest.now c.from_residual.result c.from_residual.ensures.0 c.from_residual.ensures.1 c.if-not-has_hop.ensures
 
 pub returns-clause-proposes : goal.returns-clause-proposes
-returns-clause-proposes c =
-    let fronted : Text → Front = λ name. record { version = 1; called = c.args.dest.now; calling = name; reserved = replicate 32 0 } in
-    proposed c.args.site.now c.args.dest.now c.in_ok-hops.ensures.site _ c.in_ok-hops.ensures.hops (sym c.if-is_empty.ensures) _ _ _ _
-    (c.in_ok-front.ensures ∙ ap fronted c.name.ensures) c.in_ok-copy_of.ensures (c.in_ok-contexts.ensures ∙ ap (λ (l : List Hop). map context_of l) c.as_slice.ensures) c.max_pdu.ensures
-
-pub returns-clause-fits : goal.returns-clause-fits
-returns-clause-fits c =
-    let fronted : Text → Front = λ name. record { version = 1; called = c.args.dest.now; calling = name; reserved = replicate 32 0 } in
-    let p = proposed c.args.site.now c.args.dest.now c.in_ok-hops.ensures.site _ c.in_ok-hops.ensures.hops (sym c.if-is_empty.ensures) _ _ _ _
-    (c.in_ok-front.ensures ∙ ap fronted c.name.ensures) c.in_ok-copy_of.ensures (c.in_ok-contexts.ensures ∙ ap (λ (l : List Hop). map context_of l) c.as_slice.ensures) c.max_pdu.ensures in
-    proposals_fit c.args.site.now c.args.dest.now p.0.0 _ c.in_ok-hops.ensures.site p.0.1 p.1
+returns-clause-proposes c = c.in_ok-proposal.ensures.proposes

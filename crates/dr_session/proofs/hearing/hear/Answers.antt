@@ -78,8 +78,8 @@ pub returns-in_default-clause-broke : goal.returns-in_default-clause-broke
 returns-in_default-clause-broke g c =
     let F : Result (List Pdu) PduFault → Type 0 = λ r. Feeds c.args.ear.now c.args.piece.now r c.feed.new.self in
     let r = refused c.args.ear.now c.args.piece.now c.in-Err.fault c.feed.new.self c.in_default.not-More c.in_default.not-Memory c.in_default.not-Failed (subst F c.in-Err.is c.feed.ensures) in
-    let P : Input → Type 0 = λ i. OnErr c.hear_one.result (BreaksOff g.P.DeskPort.step c.args.core (at_moment c.args.at i ∷ []) c.args.port.now c.hear_one.new.port) in
+    let P : Input → Type 0 = λ i. OnErr c.hear_one.result (BreaksOff g.P.DeskPort.step [] c.args.core (at_moment c.args.at i ∷ []) c.args.port.now c.hear_one.new.port) in
     if_err c.hear_one.result _ _
-    (λ (h : BreaksOff g.P.DeskPort.step c.args.core (at_moment c.args.at (input_of c.in-Err.fault) ∷ []) c.args.port.now c.hear_one.new.port).
+    (λ (h : BreaksOff g.P.DeskPort.step [] c.args.core (at_moment c.args.at (input_of c.in-Err.fault) ∷ []) c.args.port.now c.hear_one.new.port).
     breaks_fault g.P.DeskPort.step c.args.at c.args.ear.now c.args.piece.now c.in-Err.fault c.args.core c.args.port.now c.hear_one.new.port r.is r.shows h)
     (subst P c.fault_input.ensures c.hear_one.ensures.broke)

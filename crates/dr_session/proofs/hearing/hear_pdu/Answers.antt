@@ -18,7 +18,7 @@ returns-then-is_empty-clause-done g c =
 pub returns-then-is_empty-clause-broke : goal.returns-then-is_empty-clause-broke
 returns-then-is_empty-clause-broke g c =
     let inputs : inputs_of c.args.pdu ≡ NoValue ∷ [] = ap (λ (p : Pdu). inputs_of p) c.in-Transfer.is ∙ values_none c.in-Transfer.pdvs (sym c.is_empty.ensures ∙ c.if-is_empty.true) in
-    let P : List Input → Type 0 = λ is. OnErr c.hear_one-then-is_empty.result (BreaksOff g.P.DeskPort.step c.args.core (map (at_moment c.args.at) is) c.args.port.now c.hear_one-then-is_empty.new.port) in
+    let P : List Input → Type 0 = λ is. OnErr c.hear_one-then-is_empty.result (BreaksOff g.P.DeskPort.step [] c.args.core (map (at_moment c.args.at) is) c.args.port.now c.hear_one-then-is_empty.new.port) in
     subst P (sym inputs) c.hear_one-then-is_empty.ensures.broke
 
 pub returns-else-is_empty-clause-done : goal.returns-else-is_empty-clause-done
@@ -32,5 +32,5 @@ pub returns-else-is_empty-clause-broke : goal.returns-else-is_empty-clause-broke
 returns-else-is_empty-clause-broke g c =
     let inputs : inputs_of c.args.pdu ≡ map Value c.into_vec.result.items =
     ap (λ (p : Pdu). inputs_of p) c.in-Transfer.is ∙ (values_some c.in-Transfer.pdvs (sym c.is_empty.ensures ∙ c.if-is_empty.false) ∙ ap (λ (l : List Pdv). map Value l) (sym c.into_vec.ensures)) in
-    let P : List Input → Type 0 = λ is. OnErr c.hear_values.result (BreaksOff g.P.DeskPort.step c.args.core (map (at_moment c.args.at) is) c.args.port.now c.hear_values.new.port) in
+    let P : List Input → Type 0 = λ is. OnErr c.hear_values.result (BreaksOff g.P.DeskPort.step [] c.args.core (map (at_moment c.args.at) is) c.args.port.now c.hear_values.new.port) in
     subst P (sym inputs) c.hear_values.ensures.broke

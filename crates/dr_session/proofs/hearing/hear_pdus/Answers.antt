@@ -12,7 +12,7 @@ use Rattle.dr_session.proofs.hearing.hear_pdus.Goals as goal
 pub loop-pdu-init : goal.loop-pdu-init
 loop-pdu-init g c = (
   subst (λ (l : List Pdu). AllByRecursion PduFits l) (sym c.into_iter-pdu-iterator.ensures.into_iter_gives.0) c.requires.fits,
-  toward_from g.P.DeskPort.step c.args.core _ _ c.args.port.now c.new-acts.result.items c.new-acts.ensures.items
+  toward_from g.P.DeskPort.step c.args.core _ _ c.args.port.now c.new-acts.result c.new-acts.ensures
       (ap (λ (l : List Pdu). map (at_moment c.args.at) (flat_map inputs_of l)) c.into_iter-pdu-iterator.ensures.into_iter_gives.0),
 )
 
@@ -26,26 +26,27 @@ loop-pdu-preserved g c =
     let fits : AllByRecursion PduFits (c.in-Some.pdu ∷ into_iter_items c.next.new.self) = subst (λ (l : List Pdu). AllByRecursion PduFits l) c.in-Some.ensures.steps.0 c.loop-pdu.invariant.0 in (
       fits.1,
       toward_more g.P.DeskPort.step c.args.core c.loop-pdu.core c.in_ok-effect.effect.core _ _ (map (at_moment c.args.at) (inputs_of c.in-Some.pdu)) _ c.args.port.now c.loop-pdu.port c.hear_pdu.new.port
-          c.loop-pdu.acts.items c.in_ok-effect.effect.acts c.append.new.self.items c.loop-pdu.invariant.1
+          c.loop-pdu.acts c.in_ok-effect.effect.acts c.in_ok-joined.joined c.loop-pdu.invariant.1
           (ap (λ (l : List Pdu). map (at_moment c.args.at) (flat_map inputs_of l)) c.in-Some.ensures.steps.0 ∙ map-append (at_moment c.args.at) (inputs_of c.in-Some.pdu) (flat_map inputs_of (into_iter_items c.next.new.self)))
           c.in_ok-effect.ensures.done
-          (c.in_ok-append.ensures.items ∙ ap (λ (l : List LinkAction). c.loop-pdu.acts.items ++ l) c.into_vec.ensures),
+          c.in_ok-joined.ensures.joined,
     )
 
 pub returns-in_err-effect-clause-broke : goal.returns-in_err-effect-clause-broke
 returns-in_err-effect-clause-broke g c = on_err _ _
-    (toward_stop g.P.DeskPort.step c.args.core c.loop-pdu.core _ _ (map (at_moment c.args.at) (inputs_of c.in-Some.pdu)) _ c.args.port.now c.loop-pdu.port c.hear_pdu.new.port c.loop-pdu.acts.items c.loop-pdu.invariant.1
+    (toward_stop g.P.DeskPort.step c.args.core c.loop-pdu.core _ _ (map (at_moment c.args.at) (inputs_of c.in-Some.pdu)) _ c.args.port.now c.loop-pdu.port c.hear_pdu.new.port c.loop-pdu.acts c.loop-pdu.invariant.1
     (ap (λ (l : List Pdu). map (at_moment c.args.at) (flat_map inputs_of l)) c.in-Some.ensures.steps.0 ∙ map-append (at_moment c.args.at) (inputs_of c.in-Some.pdu) (flat_map inputs_of (into_iter_items c.next.new.self)))
     c.in_err-effect.ensures.broke)
 
-pub returns-in_err-append-clause-broke : goal.returns-in_err-append-clause-broke
-returns-in_err-append-clause-broke g c = on_err _ _
+pub returns-in_err-joined-clause-broke : goal.returns-in_err-joined-clause-broke
+returns-in_err-joined-clause-broke g c = on_err _ _
     (toward_stop_behind g.P.DeskPort.step c.args.core c.loop-pdu.core c.in_ok-effect.effect.core _ _ (map (at_moment c.args.at) (inputs_of c.in-Some.pdu)) _ c.args.port.now c.loop-pdu.port c.hear_pdu.new.port
-    c.loop-pdu.acts.items c.in_ok-effect.effect.acts c.loop-pdu.invariant.1
+    c.loop-pdu.acts c.in_ok-effect.effect.acts c.loop-pdu.invariant.1
     (ap (λ (l : List Pdu). map (at_moment c.args.at) (flat_map inputs_of l)) c.in-Some.ensures.steps.0 ∙ map-append (at_moment c.args.at) (inputs_of c.in-Some.pdu) (flat_map inputs_of (into_iter_items c.next.new.self)))
-    c.in_ok-effect.ensures.done)
+    c.in_ok-effect.ensures.done
+    c.in_err-joined.ensures.wants)
 
 pub returns-clause-done : goal.returns-clause-done
 returns-clause-done g c =
-    toward_done g.P.DeskPort.step c.args.core c.loop-pdu.core _ _ c.args.port.now c.loop-pdu.port c.loop-pdu.acts.items _ c.loop-pdu.invariant.1
-    (ap (λ (l : List Pdu). map (at_moment c.args.at) (flat_map inputs_of l)) (no_items _ _ c.loop-pdu.pdu-iterator.rest.ok.0 c.in-None.ensures.steps.0)) c.from_vec.ensures
+    toward_done g.P.DeskPort.step c.args.core c.loop-pdu.core _ _ c.args.port.now c.loop-pdu.port c.loop-pdu.acts _ c.loop-pdu.invariant.1
+    (ap (λ (l : List Pdu). map (at_moment c.args.at) (flat_map inputs_of l)) (no_items _ _ c.loop-pdu.pdu-iterator.rest.ok.0 c.in-None.ensures.steps.0)) refl

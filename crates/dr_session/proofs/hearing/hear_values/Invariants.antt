@@ -6,5 +6,5 @@ use Rattle.dr_session.proofs.InTurn.{Toward}
 use Rattle.dr_session.proofs.hearing.hear_values.Given as goal
 
 abbrev pub invariant-loop-pdv : goal.invariant-loop-pdv
-invariant-loop-pdv g l = Toward g.P.DeskPort.step l.fn.core (map (at_moment l.at) (map Value l.fn.pdvs.items)) l.fn.port l.acts.items l.core
+invariant-loop-pdv g l = Toward g.P.DeskPort.step l.fn.core (map (at_moment l.at) (map Value l.fn.pdvs.items)) l.fn.port l.acts l.core
     (map (at_moment l.at) (map Value (into_iter_items l.pdv-iterator))) l.port

@@ -1,7 +1,9 @@
-use Rattle.std.proofs.Common.{◌≡◌, List, Result, Ok, Err, subst, arith, rules}
+use Rattle.std.proofs.Common.{◌≡◌, List, Result, Ok, Err, refl, subst, arith, rules}
 use Rattle.dr_nego.specs.declared.fault.NegoFault.{NegoFault}
+use Rattle.dr_nego.specs.declared.fault.NegoFault.TheVariants as negofault
 use Rattle.dr_session.specs.declared.ends.Ended.{Ended}
 use Rattle.dr_session.specs.declared.ends.LinkAction.{LinkAction}
+use Rattle.dr_session.specs.declared.sessions.SessionFault.TheVariants.{NoHop}
 use Rattle.dr_session.specs.Ends.{Terminal, OpensTo}
 use Rattle.dr_session.specs.Links.{DeliversAs, IsLinkFailure}
 use Rattle.dr_session.proofs.Keeping.{handed_back, counts_back}
@@ -9,10 +11,16 @@ use Rattle.dr_session.proofs.Serving.{memory_counts}
 use Rattle.dr_session.proofs.Asking.{delivers_unbegun, delivers_refused, delivers_started, refusal_counts}
 use Rattle.dr_session.proofs.sessions.deliver.Goals as goal
 
+pub returns-then-not-has_hop-clause-ends : goal.returns-then-not-has_hop-clause-ends
+returns-then-not-has_hop-clause-ends g c = (c.if-not-has_hop.ensures, refl, refl)
+
+pub returns-then-not-has_hop-clause-counts : goal.returns-then-not-has_hop-clause-counts
+returns-then-not-has_hop-clause-counts g c = refusal_counts Ended NoHop negofault.NoHop _ _ refl (omega arith)
+
 pub returns-in_err-site-clause-ends : goal.returns-in_err-site-clause-ends
 returns-in_err-site-clause-ends g c =
     delivers_unbegun g.L.Link.hears g.L.Link.sends g.L.Link.closes g.P.DeskPort.step (g.C.Clock.tells c.args.clock.now) c.args.site.now c.args.dest.now c.from_residual.result c.args.link.now c.args.port.now
-    c.from_residual.ensures.0 c.from_residual.ensures.1
+    c.if-not-has_hop.ensures c.from_residual.ensures.0 c.from_residual.ensures.1
 
 pub returns-in_err-site-clause-counts : goal.returns-in_err-site-clause-counts
 returns-in_err-site-clause-counts g c = memory_counts c.from_residual.result _ _ c.from_residual.ensures.0 c.from_residual.ensures.1 (omega arith)

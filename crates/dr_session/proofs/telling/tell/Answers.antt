@@ -1,10 +1,13 @@
 use Rattle.std.proofs.Common.{sym, ap, subst, ◌∙◌}
 use Rattle.dr_ulstate.specs.declared.table.State.{State}
+use Rattle.std.specs.Prelude.{OnErr}
+use Rattle.dr_session.specs.declared.ends.Input.{Input}
 use Rattle.dr_session.specs.declared.ends.Input.TheVariants.{Value, Acceptance}
 use Rattle.dr_session.specs.declared.ends.Told.TheVariants.{Plain}
 use Rattle.dr_session.specs.declared.ends.Core.{Core}
-use Rattle.dr_session.specs.Plays.{TellsTo}
+use Rattle.dr_session.specs.Plays.{IsKept, TellsTo}
 use Rattle.dr_session.specs.Telling.{TakesData, state_at}
+use Rattle.dr_session.proofs.InTurn.{on_err}
 use Rattle.dr_session.proofs.Saying.{each_told, each_value, told_by, tells_untaken, tells_unawaited, tells_plain, false_not}
 use Rattle.dr_session.proofs.telling.tell.Goals as goal
 
@@ -36,3 +39,8 @@ returns-else-awaits_answer-clause-tells c =
 
 pub returns-in_default-clause-tells : goal.returns-in_default-clause-tells
 returns-in_default-clause-tells c = tells_plain c.args.core c.args.input (λ p is. c.in_default.not-Value p is) (λ ac is. c.in_default.not-Acceptance ac is)
+
+pub returns-then-takes_data-clause-kept : goal.returns-then-takes_data-clause-kept
+returns-then-takes_data-clause-kept c =
+    let takes : TakesData (state_at c.args.core) = subst (λ (s : State). TakesData s) c.state.ensures (c.takes_data.ensures.0 c.if-takes_data.true) in
+    subst (λ (i : Input). OnErr c.tell_value.result (IsKept c.args.core i)) (sym c.in-Value.is) (on_err _ _ takes)

@@ -1,4 +1,5 @@
 use Rattle.std.proofs.Common.{ℕ, Some, ap, ◌∙◌}
+use Rattle.dr_nego.specs.declared.fault.NegoFault.TheVariants.{Memory}
 use Rattle.dr_session.specs.Ends.{begins, requesting}
 use Rattle.dr_session.proofs.Ending.{opens_not}
 use Rattle.dr_session.proofs.end.End.request.Goals as goal
@@ -15,3 +16,7 @@ returns c = (
 pub returns-in_err-proposal : goal.returns-in_err-proposal
 returns-in_err-proposal c =
     opens_not c.args.site c.args.dest.now c.args.now c.in_err-proposal.field-0.0 c.from_residual.result c.from_residual.ensures.0 c.from_residual.ensures.1 c.in_err-proposal.ensures.proposes
+
+pub returns-in_err-opened : goal.returns-in_err-opened
+returns-in_err-opened c =
+    opens_not c.args.site c.args.dest.now c.args.now Memory c.from_residual-in_err-opened.result c.from_residual-in_err-opened.ensures.0 c.from_residual-in_err-opened.ensures.1 c.in_ok-proposal.ensures.proposes.0

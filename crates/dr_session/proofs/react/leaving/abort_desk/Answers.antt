@@ -2,11 +2,11 @@ use Rattle.std.proofs.Common.{ap, ◌∙◌, [], ◌∷◌}
 use Rattle.dr_ulstate.specs.declared.table.Event.TheVariants.{AbortRequest}
 use Rattle.dr_session.specs.declared.ends.Core.{Core}
 use Rattle.dr_session.specs.Reactions.{abort_pdu, aborted, desk_failed, left, stepped_by, write}
-use Rattle.dr_session.proofs.Effects.{acted_so}
+use Rattle.dr_session.proofs.Effects.{acted_ready}
 use Rattle.dr_session.proofs.react.leaving.abort_desk.Goals as goal
 
 pub returns : goal.returns
 returns c =
-    acted_so c.act_once.result c.in_ok-action.action (write (abort_pdu 0 0 ∷ [])) c.fail_desk.result (desk_failed (aborted (left (stepped_by AbortRequest c.args.at.now c.args.core))))
-    c.act_once.ensures c.in_ok-action.ensures
+    acted_ready c.args.acts (write (abort_pdu 0 0 ∷ []) ∷ []) c.fail_desk.result (desk_failed (aborted (left (stepped_by AbortRequest c.args.at.now c.args.core))))
+    c.requires
     (c.fail_desk.ensures ∙ ap (λ (x : Core). desk_failed x) (c.mark_aborted.ensures ∙ ap (λ (x : Core). aborted x) (c.leave_pending-core.ensures ∙ ap (λ (x : Core). left x) c.abort.ensures)))

@@ -10,7 +10,8 @@ use Rattle.dr_session.specs.declared.ends.Moment.{Moment}
 use Rattle.dr_session.specs.declared.ends.Told.{Told}
 use Rattle.dr_session.specs.Reactions.{acts, quiet, hears, pushes, collides, leaves, effect, write, abort_pdu, aborted, released, stepped_by}
 use Rattle.dr_session.specs.Turns.{Ends}
-use Rattle.dr_session.proofs.Acting.{done_by, broke_by, done_at, done_as, broke_at}
+use Rattle.dr_session.proofs.Acting.{done_by, broke_by, done_at, done_as}
+use Rattle.dr_session.proofs.Wanting.{broke_at, broke_where, writes_by}
 use Rattle.dr_session.proofs.react.turning.act.Goals as goal
 
 -- the action, as its arm has it
@@ -153,7 +154,9 @@ returns-in-Ar1-clause-done g c =
     (is_acted c.args.at c.args.told c.args.core c.args.action Ar1 c.in-Ar1.is) c.ask_release.ensures
 
 pub returns-in-Ar1-clause-broke : goal.returns-in-Ar1-clause-broke
-returns-in-Ar1-clause-broke g c = broke_at g.P.DeskPort.step (acts c.args.action c.args.at c.args.told c.args.core) c.ask_release.result c.args.port.now
+returns-in-Ar1-clause-broke g c =
+    broke_at g.P.DeskPort.step (acts c.args.action c.args.at c.args.told c.args.core) c.ask_release.result c.args.port.now
+    (writes_by (acts c.args.action c.args.at c.args.told c.args.core) (acts Ar1 c.args.at c.args.told c.args.core) (is_acted c.args.at c.args.told c.args.core c.args.action Ar1 c.in-Ar1.is) tt)
 
 pub returns-in-Ar3-clause-done : goal.returns-in-Ar3-clause-done
 returns-in-Ar3-clause-done g c =
@@ -161,7 +164,9 @@ returns-in-Ar3-clause-done g c =
     (is_acted c.args.at c.args.told c.args.core c.args.action Ar3 c.in-Ar3.is ∙ ap (λ (k : Core). Ends (effect (Close ∷ []) k)) (sym c.mark_released.ensures)) c.close.ensures
 
 pub returns-in-Ar3-clause-broke : goal.returns-in-Ar3-clause-broke
-returns-in-Ar3-clause-broke g c = broke_at g.P.DeskPort.step (acts c.args.action c.args.at c.args.told c.args.core) c.close.result c.args.port.now
+returns-in-Ar3-clause-broke g c =
+    broke_at g.P.DeskPort.step (acts c.args.action c.args.at c.args.told c.args.core) c.close.result c.args.port.now
+    (writes_by (acts c.args.action c.args.at c.args.told c.args.core) (acts Ar3 c.args.at c.args.told c.args.core) (is_acted c.args.at c.args.told c.args.core c.args.action Ar3 c.in-Ar3.is) tt)
 
 pub returns-in-Ar10-clause-done : goal.returns-in-Ar10-clause-done
 returns-in-Ar10-clause-done g c =
@@ -169,7 +174,9 @@ returns-in-Ar10-clause-done g c =
     (is_acted c.args.at c.args.told c.args.core c.args.action Ar10 c.in-Ar10.is) c.answer_release.ensures
 
 pub returns-in-Ar10-clause-broke : goal.returns-in-Ar10-clause-broke
-returns-in-Ar10-clause-broke g c = broke_at g.P.DeskPort.step (acts c.args.action c.args.at c.args.told c.args.core) c.answer_release.result c.args.port.now
+returns-in-Ar10-clause-broke g c =
+    broke_at g.P.DeskPort.step (acts c.args.action c.args.at c.args.told c.args.core) c.answer_release.result c.args.port.now
+    (writes_by (acts c.args.action c.args.at c.args.told c.args.core) (acts Ar10 c.args.at c.args.told c.args.core) (is_acted c.args.at c.args.told c.args.core c.args.action Ar10 c.in-Ar10.is) tt)
 
 pub returns-in-Aa7-clause-done : goal.returns-in-Aa7-clause-done
 returns-in-Aa7-clause-done g c =
@@ -177,15 +184,19 @@ returns-in-Aa7-clause-done g c =
     (is_acted c.args.at c.args.told c.args.core c.args.action Aa7 c.in-Aa7.is) c.abort_closing.ensures
 
 pub returns-in-Aa7-clause-broke : goal.returns-in-Aa7-clause-broke
-returns-in-Aa7-clause-broke g c = broke_at g.P.DeskPort.step (acts c.args.action c.args.at c.args.told c.args.core) c.abort_closing.result c.args.port.now
+returns-in-Aa7-clause-broke g c =
+    broke_at g.P.DeskPort.step (acts c.args.action c.args.at c.args.told c.args.core) c.abort_closing.result c.args.port.now
+    (writes_by (acts c.args.action c.args.at c.args.told c.args.core) (acts Aa7 c.args.at c.args.told c.args.core) (is_acted c.args.at c.args.told c.args.core c.args.action Aa7 c.in-Aa7.is) tt)
 
 pub returns-in-Ar8-clause-done : goal.returns-in-Ar8-clause-done
 returns-in-Ar8-clause-done g c =
     done_as g.P.DeskPort.step (acts c.args.action c.args.at c.args.told c.args.core) (collides c.args.at.now c.args.core) c.act_collision.result c.args.port.now
-    (is_acted c.args.at c.args.told c.args.core c.args.action Ar8 c.in-Ar8.is) c.act_collision.ensures
+    (is_acted c.args.at c.args.told c.args.core c.args.action Ar8 c.in-Ar8.is) c.act_collision.ensures.done
 
 pub returns-in-Ar8-clause-broke : goal.returns-in-Ar8-clause-broke
-returns-in-Ar8-clause-broke g c = broke_at g.P.DeskPort.step (acts c.args.action c.args.at c.args.told c.args.core) c.act_collision.result c.args.port.now
+returns-in-Ar8-clause-broke g c =
+    broke_where g.P.DeskPort.step (acts c.args.action c.args.at c.args.told c.args.core) (collides c.args.at.now c.args.core) c.act_collision.result c.args.port.now
+    (is_acted c.args.at c.args.told c.args.core c.args.action Ar8 c.in-Ar8.is) c.act_collision.ensures.wants
 
 -- the actions that do nothing here
 abbrev does : Action → Bool

@@ -1,22 +1,12 @@
-use Rattle.std.proofs.Common.{◌≡◌, refl, subst, sym}
-use Rattle.dr_site.specs.Parts.{Part, IsPartOf}
-use Rattle.dr_site.proofs.Assembled.{is_site, assembled}
+use Rattle.std.proofs.Common.{Result}
+use Rattle.dr_site.specs.Parts.{Part}
+use Rattle.dr_site.specs.Sites.{IsSiteOf}
+use Rattle.dr_site.specs.declared.site.SiteFault.{SiteFault}
+use Rattle.dr_site.proofs.Strangers.{told_as_memory}
 use Rattle.dr_site.proofs.site.Site.of_part.Goals as goal
 
-pub of_parts-requires : goal.of_parts-requires
-of_parts-requires c = is_site c.args.plan.now c.args.certificate.now _ c.requires
-    (assembled c.args.plan.now c.args.certificate.now c.args.name.now c.in-Some.node.now c.in-Some.ensures _ _ _ _ _ _ _ _ _
-    c.in_ok-clone.ensures refl c.digest.ensures c.in_ok-rules.ensures c.in_ok-accepts.ensures
-    c.flows.ensures.same c.in_ok-flows.ensures c.as_slice.ensures c.in_ok-own.ensures c.as_slice-2.ensures.value c.in_ok-lines.ensures
-    c.as_slice-3.ensures c.in_ok-hops.ensures c.in_ok-literals.ensures)
-
-pub returns : goal.returns
-returns c =
-    let P : Part → Type 0 = λ p. (p.name ≡ c.args.name.now) × IsPartOf c.args.plan.now c.args.certificate.now p in
-    subst P (sym c.in_ok-site.ensures) (
-      c.in_ok-clone.ensures,
-      assembled c.args.plan.now c.args.certificate.now c.args.name.now c.in-Some.node.now c.in-Some.ensures _ _ _ _ _ _ _ _ _
-          c.in_ok-clone.ensures refl c.digest.ensures c.in_ok-rules.ensures c.in_ok-accepts.ensures
-          c.flows.ensures.same c.in_ok-flows.ensures c.as_slice.ensures c.in_ok-own.ensures c.as_slice-2.ensures.value c.in_ok-lines.ensures
-          c.as_slice-3.ensures c.in_ok-hops.ensures c.in_ok-literals.ensures,
-    )
+-- the plan has the node
+pub returns-in_err-site : goal.returns-in_err-site
+returns-in_err-site c =
+    let P : Result Part SiteFault → Type 0 = λ r. IsSiteOf c.args.plan.now c.args.certificate.now c.args.name.now r in
+    told_as_memory P _ c.from_residual.ensures.0 c.from_residual.ensures.1 (λ none. none c.in-Some.node.now c.in-Some.ensures.0)
