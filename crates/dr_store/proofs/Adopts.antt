@@ -1,5 +1,5 @@
 -- An adoption by a ledger that keeps its tables.
-use Rattle.std.proofs.Common.{◌≡◌, ℕ, List, Result, Ok, Err, Some, subst}
+use Rattle.std.proofs.Common.{◌≡◌, ◌+◌, inl, inr, ℕ, List, Result, Ok, Err, Some, subst}
 use Rattle.std.proofs.Math.Logic.{∥∥₁_prop}
 use Rattle.std.specs.FinMap as map
 use Rattle.sqlite.specs.State.{State}
@@ -12,7 +12,7 @@ use Rattle.dr_ledger.specs.Bodies.{Bodies, OnlyLetsGo}
 use Rattle.dr_store_schema.specs.Books.{bodies_of, book_of}
 use Rattle.dr_store_calls.specs.Calling.{Nothing, advanced}
 use Rattle.dr_store_calls.specs.Adoptions.{Adopted, AnswersAdoption, IsAdopted}
-use Rattle.dr_store.specs.Surviving.{TakesOver}
+use Rattle.dr_store.specs.Surviving.{MakesLedger, TakesOver}
 use Rattle.dr_store.proofs.Stable.{Stable, of_prop, of_set}
 use Rattle.dr_store.proofs.Writes.{Done}
 
@@ -28,7 +28,7 @@ pub takes_over : (next : Part) (r : Result (Unit {0}) LedgerFault) (base db : Tr
 takes_over next (Ok done) base db = of_prop ∥∥₁_prop
 takes_over next (Err why) base db = of_set Trees-set db base
 
-pub adopted : (Uses : List ℕ → Type 0) (Apart : List ℕ → List ℕ → Type 0) (n : ℕ) (part next : Part) (r : Result (Unit {0}) LedgerFault) (old new : State) → Adopted n part next r old new Nothing → Done Uses Apart n (advanced r n) part (site_after r next part) r old new (Adoption next r) (IsAdopted next)
+pub adopted : (Uses : List ℕ → Type 0) (Apart : List ℕ → List ℕ → Type 0) (n : ℕ) (part next : Part) (r : Result (Unit {0}) LedgerFault) (old new : State) → Adopted n part next r old new Nothing → Done Uses Apart n (advanced r n) part (site_after r next part) r old new (Adoption next r) (MakesLedger next (IsAdopted next))
 adopted Uses Apart n part next r old new a = record {
   clean = a.clean;
   was_open = a.was_open;
@@ -40,5 +40,5 @@ adopted Uses Apart n part next r old new a = record {
         λ uid body there. let P : Bodies → Type 0 = λ bodies. map.get bodies uid ≡ Some body in subst P it.bodies there,
         taken next r old.committed.trees new.committed.trees it,
       );
-  crash = λ clean k db left. a.crash clean k tt db left;
+  crash = λ clean k db left. elim (a.crash clean k tt db left) [ inl before ↦ inl before | inr made ↦ inr ((n + 1, made.0), made.1) ];
 }

@@ -95,7 +95,7 @@ module _ {A B : Type 0} (x : A) (r : Result B LedgerFault) (was_of mid_of read_o
     counts = subst (λ n. Counts r n now) (same_count x before between one.counts) two.counts;
   }
     where
-      lasts_then : {T0 T1 T2 S0 S1 S2 : Type 0} (r : Result B LedgerFault) → PremiseLasts {A = A} (Ok x) T0 T1 S0 S1 → PremiseLasts {A = B} r T1 T2 S1 S2 → LastsAfter r (T2 → S0 → S2)
+      lasts_then : {Trusted Trusting Trusts Stood Standing Stands : Type 0} (r : Result B LedgerFault) → PremiseLasts {A = A} (Ok x) Trusted Trusting Stood Standing → PremiseLasts {A = B} r Trusting Trusts Standing Stands → LastsAfter r (Trusts → Stood → Stands)
       lasts_then r p q = lasts_as r (λ h trusts stands. h trusts (p.lasts (q.trusted trusts) stands)) q.lasts
 
 -- ---- what is told

@@ -17,7 +17,7 @@ use Rattle.dr_store_calls.specs.Calling.{Called, IsKept, IsLedgerOf, IsSafe, Loo
 use Rattle.dr_store_calls.proofs.Reading.{reads_as}
 use Rattle.dr_store.specs.Counting.{failures_after}
 use Rattle.dr_store.specs.Owning.{HaveOwn, KeepsOwn, bodies_with}
-use Rattle.dr_store.specs.Surviving.{Wrote}
+use Rattle.dr_store.specs.Surviving.{MakesLedger, Wrote}
 use Rattle.dr_store.proofs.Stable.{Stable}
 
 -- ---- what holds of any answer
@@ -79,7 +79,19 @@ called Uses Apart n m part r old new Answers Makes c = record {
   lasts = λ clean k. c.lasts clean k tt;
   kept = λ clean is_open k. c.kept clean is_open k tt;
   answers = λ clean is_open k. c.answers clean is_open k.kept tt;
-  crash = λ clean k. c.crash clean k tt;
+  crash = λ clean k db left. elim (c.crash clean k tt db left) [ inl before ↦ inl before | inr made ↦ inr made.1 ];
+}
+
+-- the same, where what it makes is a ledger's tables
+pub called_whole : {A : Type 0} (Uses : List ℕ → Type 0) (Apart : List ℕ → List ℕ → Type 0) (n m : ℕ) (part : Part) (r : Result A LedgerFault) (old new : State) (Answers Makes : Trees → Trees → Type 0) → Called n m part r old new Nothing Answers Makes
+    → Done Uses Apart n m part part r old new Answers (MakesLedger part Makes)
+called_whole Uses Apart n m part r old new Answers Makes c = record {
+  clean = c.clean;
+  was_open = c.was_open;
+  lasts = λ clean k. c.lasts clean k tt;
+  kept = λ clean is_open k. c.kept clean is_open k tt;
+  answers = λ clean is_open k. c.answers clean is_open k.kept tt;
+  crash = λ clean k db left. elim (c.crash clean k tt db left) [ inl before ↦ inl before | inr made ↦ inr ((n + 1, made.0), made.1) ];
 }
 
 -- what it answers says this too, of the tables of ledgers whose cells are in use

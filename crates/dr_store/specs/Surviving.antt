@@ -12,8 +12,16 @@ use Rattle.dr_ledger.specs.Books.{Book}
 use Rattle.dr_ledger.specs.Replies.{Drops, Forgets, PremiseLasts, Requeues, Settles}
 use Rattle.dr_store_schema.specs.Books.{book_of}
 use Rattle.dr_store_calls.specs.Adoptions.{IsAdopted, IsTakenOver}
-use Rattle.dr_store_calls.specs.Calling.{IsSafe}
+use Rattle.dr_store_calls.specs.Calling.{IsLeftLedger, IsSafe}
 use Rattle.dr_store_calls.specs.Knowing.{IsAccepted}
+
+-- the trees have a ledger of that site, in a ledger's tables
+abbrev pub HasLedger : Part → Trees → Type 0
+HasLedger part db = (n : ℕ) × IsLeftLedger n part db
+
+-- what a call makes of tables, which is a ledger of that site
+abbrev pub MakesLedger : Part → (Trees → Trees → Type 0) → Trees → Trees → Type 0
+MakesLedger part Makes base db = HasLedger part db × Makes base db
 
 -- It answers for the tables committed before and after it, while the disk has returned what was
 -- written and the store is open; only a failed store or want of memory ends that. A crash after it
@@ -55,19 +63,25 @@ IsToldByBooks Makes Accepts =
 -- so it is of each call, as its clause says what the call makes
 pub record CrashesAreTold : Type 0 where
   pub arrival : (part : Part) (caller : Text) (item : Instance)
-      → IsToldByBooks (λ base db. IsAccepted part caller item (book_of base) (book_of db))
+      → IsToldByBooks
+      (MakesLedger part (λ base db. IsAccepted part caller item (book_of base) (book_of db)))
       (IsAccepted part caller item)
-  pub settling : (uid dest : Text) (outcome : Outcome) (now : ℕ)
-      → IsToldByBooks (λ base db. Settles uid dest outcome now (book_of base) (Ok tt) (book_of db))
+  pub settling : (part : Part) (uid dest : Text) (outcome : Outcome) (now : ℕ)
+      → IsToldByBooks
+      (MakesLedger part
+      (λ base db. Settles uid dest outcome now (book_of base) (Ok tt) (book_of db)))
       (λ old new. Settles uid dest outcome now old (Ok tt) new)
-  pub requeuing : (uid dest : Text)
-      → IsToldByBooks (λ base db. Requeues uid dest (book_of base) (Ok tt) (book_of db))
+  pub requeuing : (part : Part) (uid dest : Text)
+      → IsToldByBooks
+      (MakesLedger part (λ base db. Requeues uid dest (book_of base) (Ok tt) (book_of db)))
       (λ old new. Requeues uid dest old (Ok tt) new)
-  pub dropping : (uid dest : Text) (now : ℕ)
-      → IsToldByBooks (λ base db. Drops uid dest now (book_of base) (Ok tt) (book_of db))
+  pub dropping : (part : Part) (uid dest : Text) (now : ℕ)
+      → IsToldByBooks
+      (MakesLedger part (λ base db. Drops uid dest now (book_of base) (Ok tt) (book_of db)))
       (λ old new. Drops uid dest now old (Ok tt) new)
-  pub forgetting : (uid : Text)
-      → IsToldByBooks (λ base db. Forgets uid (book_of base) (Ok tt) (book_of db))
+  pub forgetting : (part : Part) (uid : Text)
+      → IsToldByBooks
+      (MakesLedger part (λ base db. Forgets uid (book_of base) (Ok tt) (book_of db)))
       (λ old new. Forgets uid old (Ok tt) new)
   pub adoption : (next : Part)
-      → IsToldByBooks (IsAdopted next) (λ old new. Adopting old (Ok tt) new)
+      → IsToldByBooks (MakesLedger next (IsAdopted next)) (λ old new. Adopting old (Ok tt) new)

@@ -17,7 +17,7 @@ ghost use Rattle.dr_store.specs.Counting.{failures_after};
 ghost use Rattle.dr_store.specs.Owning.{IsCovered, KeepsOwn, LetsGoOf, LosesNoneOf, bodies_with};
 ghost use Rattle.dr_store.specs.Reading.{FindsUnreadable, KeptAreThere, LeavesAsRead};
 ghost use Rattle.dr_store.specs.Reading.{QueuedAreThere, TellsWhereNeeded, TellsWhereQueued};
-ghost use Rattle.dr_store.specs.Surviving.{TakesOver, Wrote};
+ghost use Rattle.dr_store.specs.Surviving.{MakesLedger, TakesOver, Wrote};
 
 use crate::counting::{counted, next_after};
 use crate::listing::{first_unfit, list_arrivals, list_kept, list_rows, list_rows_and_keys};
@@ -259,8 +259,9 @@ impl<S: Alter, B: Shelf> SqlLedger<S, B> {
             × OnlyTakes item (bodies_with (B.Shelf.read_of self.old.shelf) base)
             (bodies_with (B.Shelf.read_of self.new.shelf) db)
             × LosesNoneOf (B.Shelf.read_of self.old.shelf) (B.Shelf.read_of self.new.shelf) base db)
+            (MakesLedger self.old.site
             (λ base db. IsAccepted self.old.site caller.now (instance_of item) (book_of base)
-            (book_of db)) }
+            (book_of db))) }
         ensures covered { B.Shelf.is_clean self.new.shelf
             → HasCleanDisk (state S.Store self.new.conn)
             → IsSafe (state S.Store self.old.conn)
@@ -305,7 +306,8 @@ impl<S: Alter, B: Shelf> SqlLedger<S, B> {
             → Wrote result (state S.Store self.old.conn) (state S.Store self.new.conn)
             (λ base db. Settles uid.now dest.now outcome now (book_of base) result (book_of db)
             × LetsGoOf (B.Shelf.read_of self.old.shelf) (B.Shelf.read_of self.new.shelf) base db)
-            (λ base db. Settles uid.now dest.now outcome now (book_of base) (Ok tt) (book_of db)) }
+            (MakesLedger self.old.site
+            (λ base db. Settles uid.now dest.now outcome now (book_of base) (Ok tt) (book_of db))) }
         ensures covered { B.Shelf.is_clean self.new.shelf
             → HasCleanDisk (state S.Store self.new.conn)
             → IsSafe (state S.Store self.old.conn)
@@ -338,7 +340,8 @@ impl<S: Alter, B: Shelf> SqlLedger<S, B> {
             → Wrote result (state S.Store self.old.conn) (state S.Store self.new.conn)
             (λ base db. Requeues uid.now dest.now (book_of base) result (book_of db)
             × LetsGoOf (B.Shelf.read_of self.old.shelf) (B.Shelf.read_of self.new.shelf) base db)
-            (λ base db. Requeues uid.now dest.now (book_of base) (Ok tt) (book_of db)) }
+            (MakesLedger self.old.site
+            (λ base db. Requeues uid.now dest.now (book_of base) (Ok tt) (book_of db))) }
         ensures covered { B.Shelf.is_clean self.new.shelf
             → HasCleanDisk (state S.Store self.new.conn)
             → IsSafe (state S.Store self.old.conn)
@@ -365,7 +368,8 @@ impl<S: Alter, B: Shelf> SqlLedger<S, B> {
             → Wrote result (state S.Store self.old.conn) (state S.Store self.new.conn)
             (λ base db. Drops uid.now dest.now now (book_of base) result (book_of db)
             × LetsGoOf (B.Shelf.read_of self.old.shelf) (B.Shelf.read_of self.new.shelf) base db)
-            (λ base db. Drops uid.now dest.now now (book_of base) (Ok tt) (book_of db)) }
+            (MakesLedger self.old.site
+            (λ base db. Drops uid.now dest.now now (book_of base) (Ok tt) (book_of db))) }
         ensures covered { B.Shelf.is_clean self.new.shelf
             → HasCleanDisk (state S.Store self.new.conn)
             → IsSafe (state S.Store self.old.conn)
@@ -398,7 +402,8 @@ impl<S: Alter, B: Shelf> SqlLedger<S, B> {
             → Wrote result (state S.Store self.old.conn) (state S.Store self.new.conn)
             (λ base db. Forgets uid.now (book_of base) result (book_of db)
             × LetsGoOf (B.Shelf.read_of self.old.shelf) (B.Shelf.read_of self.new.shelf) base db)
-            (λ base db. Forgets uid.now (book_of base) (Ok tt) (book_of db)) }
+            (MakesLedger self.old.site
+            (λ base db. Forgets uid.now (book_of base) (Ok tt) (book_of db))) }
         ensures covered { B.Shelf.is_clean self.new.shelf
             → HasCleanDisk (state S.Store self.new.conn)
             → IsSafe (state S.Store self.old.conn)
@@ -425,7 +430,7 @@ impl<S: Alter, B: Shelf> SqlLedger<S, B> {
             (λ base db. Adopting (book_of base) result (book_of db)
             × LetsGoOf (B.Shelf.read_of self.old.shelf) (B.Shelf.read_of self.new.shelf) base db
             × TakesOver own result base db)
-            (IsAdopted own) }
+            (MakesLedger own (IsAdopted own)) }
         ensures covered { B.Shelf.is_clean self.new.shelf
             → HasCleanDisk (state S.Store self.new.conn)
             → IsSafe (state S.Store self.old.conn)

@@ -14,6 +14,9 @@ use Rattle.dr_store_changes.specs.Bringing.{HasCells}
 use Rattle.dr_store_changes.proofs.Numbers.{lines_put}
 use Rattle.dr_store_calls.specs.Calling.{IsLedgerOf}
 use Rattle.dr_store_calls.specs.AdoptionLaws.{AdoptedLedgersAreOfTheNext, AdoptionsAdopt}
+use Rattle.dr_store_writes.specs.Effects.{adopted_line}
+use Rattle.dr_store_changes.proofs.Together.{untouched}
+use Rattle.dr_store_calls.proofs.Ledgers.{one_line_more}
 
 pub adoptions_adopt : AdoptionsAdopt
 adoptions_adopt old new plan n moment below w =
@@ -36,10 +39,13 @@ needed_still b bodies has = record {
 }
 
 pub adopted_ledgers_are_of_the_next : AdoptedLedgersAreOfTheNext
-adopted_ledgers_are_of_the_next part next old new plan n moment below l w =
+adopted_ledgers_are_of_the_next part next old new plan n moment below l w owned =
     let it = adoptions_adopt old new plan n moment below w in
     let b = book_of old in
     record {
+      owned = owned;
+      together = untouched old new w.items w.prints l.together;
+      numbered = one_line_more n (adopted_line n moment) old new refl w.journal l.numbered;
       ahead = λ m later. ap (λ rows. names_in rows m) w.targets ∙ l.ahead m (omega (arith, later));
       journalled = subst (IsJournalled (site_routing next)) (sym it.0) (b.lines ++ Adoption ∷ [], adoptions_are_journalled (site_routing part) (site_routing next) l.journalled.0 b l.journalled.1);
       bodied = subst (λ (x : Book). HasCells x (bodies_of new)) (sym it.0) (subst (HasCells (after Adoption b)) (sym it.1) (needed_still b (bodies_of old) l.bodied));

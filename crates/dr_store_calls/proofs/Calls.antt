@@ -94,8 +94,8 @@ module _ {A B : Type 0} (n m : ℕ) (part : Part) (old mid new : State) (Shows :
         let at : (t : Trees) → t ≡ old.committed.trees → Answers t new.committed.trees → Answers old.committed.trees new.committed.trees = λ t is h. subst (λ x. Answers x new.committed.trees) is h in
         answers old.committed.trees new.committed.trees asks (shown clean k).1 (at mid.committed.trees (shown clean k).0 (c.answers clean is_open (middle clean k) (given clean k asks)));
     crash = λ clean k asks db left. elim (c.crash clean (middle clean k) (given clean k asks) db left) [
-      | inl before ↦ elim (l.crash (early clean) k tt db before) [ inl h ↦ inl h | inr none ↦ absurd none ]
-      | inr made ↦ inr (makes old.committed.trees db asks (shown clean k).1 (subst (λ x. Made x db) (shown clean k).0 made))
+      | inl before ↦ elim (l.crash (early clean) k tt db before) [ inl h ↦ inl h | inr none ↦ absurd none.1 ]
+      | inr made ↦ inr (made.0, makes old.committed.trees db asks (shown clean k).1 (subst (λ x. Made x db) (shown clean k).0 made.1))
     ];
   }
     where
@@ -124,7 +124,7 @@ module _ {A B : Type 0} (n : ℕ) (part : Part) (old new : State) (Shows : Trees
     answers = λ clean is_open k asks.
         let it = l.answers clean is_open k tt in
         subst (λ t. Answers old.committed.trees t) (sym it.0) (answers old.committed.trees asks (own e it.1));
-    crash = λ clean k asks db left. elim (l.crash clean k tt db left) [ inl h ↦ inl h | inr none ↦ absurd none ];
+    crash = λ clean k asks db left. elim (l.crash clean k tt db left) [ inl h ↦ inl h | inr none ↦ absurd none.1 ];
   }
     where
       own : (e : LedgerFault) → Reads (Err e) (Shows old.committed.trees) → IsOwnFault e
@@ -161,13 +161,13 @@ module _ {A : Type 0} (n : ℕ) (part : Part) (CA Asks : Trees → Type 0) (CM A
     answers = λ clean is_open k asks. (made k.ready k.ledger asks new.committed.trees (w.ok clean k.ready (asked_before n part CA Asks old given k asks)).1).1;
     crash = λ clean k asks db left. elim ((w.crash k.ready (asked_before n part CA Asks old given k asks)).crash clean db left) [
       | inl before ↦ inl before
-      | inr h ↦ inr (made k.ready k.ledger asks db h).2
+      | inr h ↦ inr (let it = made k.ready k.ledger asks db h.1 in (record { whole = h.0; ledger = it.0 }, it.2))
     ];
   }
 
   -- a change that was refused
   pub unmade_called : (e : LedgerFault) → IsOwnFault e → Written {E = LedgerFault} n CA CM (Err e) old new
-      → (IsReady n old → IsLedgerOf n part old.committed.trees → Asks old.committed.trees → (db : Trees) → CM old.committed.trees db → Makes old.committed.trees db)
+      → (IsReady n old → IsLedgerOf n part old.committed.trees → Asks old.committed.trees → (db : Trees) → CM old.committed.trees db → IsLedgerOf (n + 1) part db × Makes old.committed.trees db)
       → (Asks old.committed.trees → Answers old.committed.trees old.committed.trees) → Called {A = A} n n part (Err e) old new Asks Answers Makes
   unmade_called e own w made answer = record {
     clean = w.clean;
@@ -181,7 +181,7 @@ module _ {A : Type 0} (n : ℕ) (part : Part) (CA Asks : Trees → Type 0) (CM A
     answers = λ clean is_open k asks. subst (λ (d : Database). Answers old.committed.trees d.trees) (sym (w.err clean is_open)) (answer asks);
     crash = λ clean k asks db left. elim ((w.crash k.ready (asked_before n part CA Asks old given k asks)).crash clean db left) [
       | inl before ↦ inl before
-      | inr h ↦ inr (made k.ready k.ledger asks db h)
+      | inr h ↦ inr (let it = made k.ready k.ledger asks db h.1 in (record { whole = h.0; ledger = it.0 }, it.1))
     ];
   }
 
@@ -197,7 +197,7 @@ written_called n part CA Asks CM Answers (Ok done) old new still given own w mad
     made_called n part CA Asks CM (Answers (Ok tt)) Makes old new still given tt w (λ ready ledger asks db h.
     let it = made ready ledger asks db h in (it.0, it.1, weaker old.committed.trees db it.1))
 written_called n part CA Asks CM Answers (Err e) old new still given own w made answer Makes weaker =
-    unmade_called n part CA Asks CM (Answers (Err e)) Makes old new still given e own w (λ ready ledger asks db h. weaker old.committed.trees db (made ready ledger asks db h).1) (λ asks. answer e own)
+    unmade_called n part CA Asks CM (Answers (Err e)) Makes old new still given e own w (λ ready ledger asks db h. let it = made ready ledger asks db h in (it.0, weaker old.committed.trees db it.1)) (λ asks. answer e own)
 
 -- ---- a written change, with the ledger's faults
 
@@ -252,7 +252,7 @@ said_as n m part r old new Asks More Answers Says Makes Less gives says weaker c
   lasts = λ clean k asks. c.lasts clean k (gives old.committed.trees k.ledger asks);
   kept = λ clean is_open k asks. c.kept clean is_open k (gives old.committed.trees k.ledger asks);
   answers = λ clean is_open k asks. says old.committed.trees new.committed.trees (c.answers clean is_open k (gives old.committed.trees k.ledger asks));
-  crash = λ clean k asks db left. elim (c.crash clean k (gives old.committed.trees k.ledger asks) db left) [ inl before ↦ inl before | inr made ↦ inr (weaker old.committed.trees db made) ];
+  crash = λ clean k asks db left. elim (c.crash clean k (gives old.committed.trees k.ledger asks) db left) [ inl before ↦ inl before | inr made ↦ inr (made.0, weaker old.committed.trees db made.1) ];
 }
 
 -- what was read is read further, without the tables

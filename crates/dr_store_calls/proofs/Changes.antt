@@ -14,9 +14,10 @@ use Rattle.dr_store_schema.specs.Books.{bodies_of, book_of, rows_in}
 use Rattle.dr_store_writes.specs.Effects.{AddsRow, DropsArrivals, DropsOver, GoesOn, HasSite, IsSiteOf, SetsPlan, adopted_line}
 use Rattle.dr_store_changes.specs.Writing.{IsMade, IsReady, Written}
 use Rattle.dr_store_changes.proofs.Movements.{goes_over}
-use Rattle.dr_store_calls.specs.Calling.{Called, IsKept, IsLedgerOf, IsOwnFault, Looked, Nothing}
-use Rattle.dr_store_calls.proofs.Calls.{below_of, looked_failed, own_lasts, still_called, unmade_called}
-use Rattle.dr_store_calls.specs.Adoptions.{Adopted, AdoptsPlan, AnswersAdoption, Clears, IsAdopted, IsPlanWith, NotesPlan}
+use Rattle.dr_store_calls.specs.Calling.{Called, IsKept, IsLedgerOf, IsLeftLedger, IsOwnFault, Looked, Nothing}
+use Rattle.dr_store_calls.proofs.Calls.{below_of, looked_failed, own_lasts, still_called}
+use Rattle.dr_store_calls.specs.Adoptions.{Adopted, AdoptsPlan, AnswersAdoption, Clears, IsAdopted, NotesPlan}
+use Rattle.dr_store_calls.specs.Owners.{IsOwnedWith, IsPlanWith}
 use Rattle.dr_store_calls.proofs.Adoptions.{adopted_ledgers_are_of_the_next, adoptions_adopt}
 
 -- ---- the statements
@@ -89,31 +90,34 @@ adopting_own e b (inr is) = subst (λ x. Adopting b (Err x) b) (sym is) refl
 abbrev pub Stood : Trees → Trees → Type 0
 Stood base db = db ≡ base
 
+-- and a crash leaves nothing else
+abbrev pub Never : Trees → Trees → Type 0
+Never base db = ⊥
+
+-- of tables that stayed as they were
+pub stood_so : (next : Part) (e : LedgerFault) (base db : Trees) → IsOwnFault e → Stood base db → AnswersAdoption next (Err e) base db
+stood_so next e base db own same = record {
+  reply = subst (λ t. Adopting (book_of base) (Err e) (book_of t)) (sym same) (adopting_own e (book_of base) own);
+  bodies = ap bodies_of same;
+  owner = tt;
+  same = same;
+}
+
 module _ (n : ℕ) (part next : Part) (old new : State) (Asks : Trees → Type 0) where
-  -- a call that was refused, and left the tables as they were
-  pub refused_adopted : (e : LedgerFault) → (HasCleanDisk new → IsTrue new.is_open → IsKept n part old → IsOwnFault e) → Called {A = Unit {0}} n n part (Err e) old new Asks Stood (IsAdopted next) → Adopted n part next (Err e) old new Asks
+  -- a call that was refused, and made nothing of the tables
+  pub refused_adopted : (e : LedgerFault) → (HasCleanDisk new → IsTrue new.is_open → IsKept n part old → IsOwnFault e) → Called {A = Unit {0}} n n part (Err e) old new Asks Stood Never → Adopted n part next (Err e) old new Asks
   refused_adopted e own c = record {
     clean = c.clean;
     was_open = c.was_open;
     idle = c.idle;
     lasts = c.lasts;
     kept = c.kept;
-    answers = λ clean is_open k asks.
-        let same = c.answers clean is_open k asks in
-        record {
-          reply = subst (λ db. Adopting (book_of old.committed.trees) (Err e) (book_of db)) (sym same) (adopting_own e (book_of old.committed.trees) (own clean is_open k));
-          bodies = ap bodies_of same;
-          owner = tt;
-          same = same;
-        };
-    crash = c.crash;
+    answers = λ clean is_open k asks. stood_so next e old.committed.trees new.committed.trees (own clean is_open k) (c.answers clean is_open k asks);
+    crash = λ clean k asks db left. elim (c.crash clean k asks db left) [ inl h ↦ inl h | inr none ↦ absurd none.1 ];
   }
 
 -- what was written, where the tables had this owner: its cell has the mark that the next one gets
 module _ (n : ℕ) (part next : Part) (old new : State) (still : old.in_transaction ≡ false → new.in_transaction ≡ false) (mark digest was cell : List ℕ) (had : IsPlanWith mark digest was) (has : IsPlanWith mark next.digest cell) (moment : Option ℕ) where
-  owned : IsReady n old → IsLedgerOf n part old.committed.trees → IsSiteOf next.name was old.committed.trees → HasSite old.committed.trees
-  owned ready l asks = (next.name, was, asks)
-
   -- the site whose the tables were
   abbrev last : Part
   last = record {
@@ -128,20 +132,35 @@ module _ (n : ℕ) (part next : Part) (old new : State) (still : old.in_transact
     literals = next.literals;
   }
 
-  adopted_so : IsReady n old → IsLedgerOf n part old.committed.trees → IsSiteOf next.name was old.committed.trees → (db : Trees) → AdoptsPlan cell n moment old.committed.trees db → IsAdopted next old.committed.trees db
+  adopted_so : IsReady n old → IsLedgerOf n part old.committed.trees → IsSiteOf next.name was old.committed.trees → (db : Trees) → AdoptsPlan cell n moment old.committed.trees db → IsLedgerOf (n + 1) next db × IsAdopted next old.committed.trees db
   adopted_so ready l asks db w =
       let it = adoptions_adopt old.committed.trees db cell n moment (below_of n old ready) w in
-      record {
-        book = it.0;
-        bodies = it.1;
-        owner = record {
-          was = last;
-          node = refl;
-          mark = mark;
-          owned = (was, had, asks);
-          owns = (cell, has, w.site next.name was asks);
-        };
-      }
+      let owns : IsOwnedWith mark next db = (cell, has, w.site next.name was asks) in (
+        adopted_ledgers_are_of_the_next part next old.committed.trees db cell n moment (below_of n old ready) l w (mark, owns),
+        record {
+          book = it.0;
+          bodies = it.1;
+          owner = record {
+            was = last;
+            node = refl;
+            mark = mark;
+            owned = (was, had, asks);
+            owns = owns;
+          };
+        },
+      )
+
+  before : IsKept n part old → IsSiteOf next.name was old.committed.trees → HasSite old.now.trees
+  before k asks = subst (λ (d : Database). HasSite d.trees) (sym k.ready.settled) (next.name, was, asks)
+
+  -- what a crash leaves, whatever was answered
+  may_be : (r : Result (Unit {0}) LedgerFault) → Written {E = LedgerFault} n HasSite (AdoptsPlan cell n moment) r old new
+      → HasCleanDisk new → IsKept n part old → IsSiteOf next.name was old.committed.trees → (db : Trees) → new.may_leave db
+      → old.may_leave db ⊎ (IsLeftLedger (n + 1) next db × IsAdopted next old.committed.trees db)
+  may_be r w clean k asks db left = elim ((w.crash k.ready (before k asks)).crash clean db left) [
+    | inl h ↦ inl h
+    | inr made ↦ inr (let it = adopted_so k.ready k.ledger asks db made.1 in (record { whole = made.0; ledger = it.0 }, it.1))
+  ]
 
   pub written_adopted : (r : Result (Unit {0}) LedgerFault) → IfErr r IsOwnFault → Written {E = LedgerFault} n HasSite (AdoptsPlan cell n moment) r old new → Adopted n part next r old new (IsSiteOf next.name was)
   written_adopted (Ok done) own w = record {
@@ -151,25 +170,29 @@ module _ (n : ℕ) (part next : Part) (old new : State) (still : old.in_transact
     lasts = λ clean k asks. (w.ok clean k.ready (before k asks)).0.is_open;
     kept = λ clean is_open k asks.
         let it = w.ok clean k.ready (before k asks) in
-        record { ready = it.0; ledger = adopted_ledgers_are_of_the_next part next old.committed.trees new.committed.trees cell n moment (below_of n old k.ready) k.ledger it.1 };
+        record { ready = it.0; ledger = (adopted_so k.ready k.ledger asks new.committed.trees it.1).0 };
     answers = λ clean is_open k asks.
-        let it = adopted_so k.ready k.ledger asks new.committed.trees (w.ok clean k.ready (before k asks)).1 in
+        let it = (adopted_so k.ready k.ledger asks new.committed.trees (w.ok clean k.ready (before k asks)).1).1 in
         record { reply = it.book; bodies = it.bodies; owner = it.owner; same = tt };
-    crash = λ clean k asks db left. elim ((w.crash k.ready (before k asks)).crash clean db left) [
-      | inl h ↦ inl h
-      | inr made ↦ inr (adopted_so k.ready k.ledger asks db made)
-    ];
+    crash = may_be (Ok done) w;
   }
-    where
-      before : IsKept n part old → IsSiteOf next.name was old.committed.trees → HasSite old.now.trees
-      before k asks = subst (λ (d : Database). HasSite d.trees) (sym k.ready.settled) (next.name, was, asks)
-  written_adopted (Err e) own w = refused_adopted n part next old new (IsSiteOf next.name was) e (λ clean is_open k. own)
-      (unmade_called {A = Unit {0}} n part HasSite (IsSiteOf next.name was) (AdoptsPlan cell n moment) Stood (IsAdopted next) old new still owned e own w adopted_so (λ asks. refl))
+  written_adopted (Err e) own w = record {
+    clean = w.clean;
+    was_open = w.was_open;
+    idle = still;
+    lasts = λ clean k asks. own_lasts e (IsTrue new.is_open) own;
+    kept = λ clean is_open k asks. record {
+      ready = w.ready clean is_open k.ready (before k asks);
+      ledger = subst (λ (d : Database). IsLedgerOf n part d.trees) (sym (w.err clean is_open)) k.ledger;
+    };
+    answers = λ clean is_open k asks. stood_so next e old.committed.trees new.committed.trees own (ap (λ (d : Database). d.trees) (w.err clean is_open));
+    crash = may_be (Err e) w;
+  }
 
 -- where nothing is tried
 pub not_adopted : (n : ℕ) (part next : Part) (s : State) (Asks : Trees → Type 0) (e : LedgerFault) → IsOwnFault e → Adopted n part next (Err e) s s Asks
 not_adopted n part next s Asks e own = refused_adopted n part next s s Asks e (λ clean is_open k. own)
-    (still_called {A = Unit {0}} n part (Err e) s Asks Stood (IsAdopted next) (λ db asks. refl) (λ P h. own_lasts e P own))
+    (still_called {A = Unit {0}} n part (Err e) s Asks Stood Never (λ db asks. refl) (λ P h. own_lasts e P own))
 
 -- where a fault is Store
 pub not_stored : (n : ℕ) (part next : Part) (s : State) (Asks : Trees → Type 0) → Adopted n part next (Err fault.Store) s s Asks
@@ -199,8 +222,8 @@ module _ {A : Type 0} (n : ℕ) (part next : Part) (old mid new : State) (Shows 
     kept = λ clean is_open k any. c.kept clean is_open (middle clean k) (given clean k);
     answers = λ clean is_open k any. subst (λ base. AnswersAdoption next r base new.committed.trees) (shown clean k).0 (c.answers clean is_open (middle clean k) (given clean k));
     crash = λ clean k any db left. elim (c.crash clean (middle clean k) (given clean k) db left) [
-      | inl before ↦ elim (l.crash (early clean) k tt db before) [ inl h ↦ inl h | inr none ↦ absurd none ]
-      | inr made ↦ inr (subst (λ base. IsAdopted next base db) (shown clean k).0 made)
+      | inl before ↦ elim (l.crash (early clean) k tt db before) [ inl h ↦ inl h | inr none ↦ absurd none.1 ]
+      | inr made ↦ inr (made.0, subst (λ base. IsAdopted next base db) (shown clean k).0 made.1)
     ];
   }
     where
@@ -233,4 +256,4 @@ own_of fault.NotOver Shows h = absurd h
 pub looked_none : {A : Type 0} (n : ℕ) (part next : Part) (old new : State) (Shows : Trees → A → Type 0) (e : LedgerFault) → Looked n part (Err e) old new Shows → Adopted n part next (Err e) old new Nothing
 looked_none n part next old new Shows e l =
     refused_adopted n part next old new Nothing e (λ clean is_open k. own_of e (Shows old.committed.trees) (l.answers clean is_open k tt).1)
-    (looked_failed {B = Unit {0}} n part old new Shows e Nothing Stood (IsAdopted next) l (λ base any own. refl))
+    (looked_failed {B = Unit {0}} n part old new Shows e Nothing Stood Never l (λ base any own. refl))

@@ -4,6 +4,7 @@ pub mod Changes
 pub mod Fitting
 pub mod Going
 pub mod Knows
+pub mod Ledgers
 pub mod Moves
 pub mod Overs
 pub mod Owners

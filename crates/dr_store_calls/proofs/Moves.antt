@@ -37,6 +37,7 @@ use Rattle.dr_store_reads.specs.Queries.{IsOpenElsewhere}
 use Rattle.dr_store_calls.specs.Calling.{IsLedgerOf}
 use Rattle.dr_store_calls.specs.LettingGo.{GoesWith}
 use Rattle.dr_store_calls.specs.Needs.{IsKeptIn, IsNeededStill}
+use Rattle.dr_store_calls.proofs.Ledgers.{one_line_more, still_owned}
 
 -- ---- what is needed
 
@@ -106,6 +107,9 @@ settles n part base db uid dest tries due to what now needed early below l waits
     let answer : Settles uid dest what now (book_of base) (Ok tt) (book_of db) = ((tries, due, waits), book) in
     let unfinished : is_queued (Waiting tries due) ≡ true = refl in (
       record {
+        owned = still_owned part base db w.site l.owned;
+        together = w.together l.together;
+        numbered = one_line_more n line base db refl w.journal l.numbered;
         ahead = moved_ahead base db uid dest to line (not needed) w n l.ahead;
         journalled = (l.journalled.0, settlings_are_journalled (site_routing part) l.journalled.0 uid dest what now (book_of base) (book_of db) (Ok tt) early l.journalled.1 answer);
         bodied = what_is_needed_stays base db uid dest (Waiting tries due) to line (not needed) l.bodied (row_needed base uid dest (Waiting tries due) waits unfinished) w (goes base db uid dest to line (not needed) w needed says);
@@ -127,6 +131,9 @@ requeues n moment part base db uid dest why below l held w =
     let unfinished : is_queued (Held why) ≡ true = refl in
     let again : is_queued (Waiting 0 0) ≡ true = refl in (
       record {
+        owned = still_owned part base db w.site l.owned;
+        together = w.together l.together;
+        numbered = one_line_more n line base db refl w.journal l.numbered;
         ahead = moved_ahead base db uid dest (Waiting 0 0) line false w n l.ahead;
         journalled = (l.journalled.0, requeuings_are_journalled (site_routing part) l.journalled.0 uid dest (book_of base) (book_of db) (Ok tt) l.journalled.1 answer);
         bodied = what_is_needed_stays base db uid dest (Held why) (Waiting 0 0) line false l.bodied (row_needed base uid dest (Held why) held unfinished) w (still_needed base db uid dest (Waiting 0 0) line false w (inl again));
@@ -144,6 +151,9 @@ drops n part base db uid dest why now needed early below l held says w =
     let book = droppings_drop base db n uid dest why now (not needed) below held w in
     let answer : Drops uid dest now (book_of base) (Ok tt) (book_of db) = ((why, held), book) in (
       record {
+        owned = still_owned part base db w.site l.owned;
+        together = w.together l.together;
+        numbered = one_line_more n line base db refl w.journal l.numbered;
         ahead = moved_ahead base mid uid dest Dropped line (not needed) m n l.ahead;
         journalled = (l.journalled.0, droppings_are_journalled (site_routing part) l.journalled.0 uid dest now (book_of base) (book_of db) (Ok tt) early l.journalled.1 answer);
         bodied = what_is_needed_stays_at_a_dropping base db n uid dest now (not needed) l.bodied (row_needed base uid dest (Held why) held refl) w

@@ -18,11 +18,13 @@ use Rattle.dr_ledger.proofs.Needs.{forgettings_need_the_same}
 use Rattle.dr_store_schema.specs.Books.{AreBelow, all_kept_in, bodies_of, book_of, instance_by, items_of, names_in, prints_of}
 use Rattle.dr_store_changes.specs.Bringing.{HasCells}
 use Rattle.dr_store_changes.specs.Changes.{TakesOut}
-use Rattle.dr_store_changes.proofs.Forgotten.{forgettings_forget, forgettings_let_no_data_set_go}
+use Rattle.dr_store_changes.proofs.Forgotten.{forgettings_forget, forgettings_let_no_data_set_go, forgettings_take_both}
+use Rattle.dr_store_writes.specs.Effects.{forgotten_line}
 use Rattle.dr_store_reads.specs.Queries.{HasOpen, IsKeyOf}
 use Rattle.dr_store_calls.specs.Calling.{IsLedgerOf, IsOwnFault, Looked}
 use Rattle.dr_store_calls.specs.Needs.{IsKeptIn}
 use Rattle.dr_store_calls.proofs.Reading.{reads_as}
+use Rattle.dr_store_calls.proofs.Ledgers.{one_line_more, still_owned}
 
 -- ---- what is over
 
@@ -103,6 +105,9 @@ forgets n moment part base db uid below l over w =
     let bodies = forgettings_let_no_data_set_go base db n moment uid l.bodied over w in
     let answer : Forgets uid (book_of base) (Ok tt) (book_of db) = (over, book) in (
       record {
+        owned = still_owned part base db w.site l.owned;
+        together = forgettings_take_both base db n moment uid w l.together;
+        numbered = one_line_more n (forgotten_line n moment uid) base db refl w.journal l.numbered;
         ahead = λ m later. ap (λ rows. names_in rows m) w.targets ∙ l.ahead m (omega (arith, later));
         journalled = (l.journalled.0, forgettings_are_journalled (site_routing part) l.journalled.0 uid (book_of base) (book_of db) (Ok tt) l.journalled.1 answer);
         bodied = subst (λ (b : Book). HasCells b (bodies_of db)) (sym book) (subst (HasCells (after (Forgetting uid) (book_of base))) (sym bodies) (still_bodied (book_of base) (bodies_of base) uid over l.bodied));

@@ -7,7 +7,7 @@ use Rattle.std.specs.List.{IsSplitAt}
 use Rattle.sqlite.specs.Order.{Row}
 use Rattle.sqlite.specs.Tree.{Trees}
 use Rattle.dr_store_writes.specs.Effects.{IsSiteOf, site_row}
-use Rattle.dr_store_calls.specs.Adoptions.{IsMark, IsOwnedWith, IsPlanWith}
+use Rattle.dr_store_calls.specs.Owners.{IsMark, IsOwnedWith, IsPlanWith}
 use Rattle.dr_store_calls.specs.AdoptionLaws.{AdoptionsKeepTheMark, EmptyTablesAreOwnedByNone, OwnersAreOne}
 
 -- a test that fails where it can't

@@ -33,12 +33,14 @@ use Rattle.dr_store_changes.specs.Bringing.{AreTargets, Brings, GoNowhere, HasCe
 use Rattle.dr_store_changes.specs.Changes.{AddsOnlyLine, with_names}
 use Rattle.dr_store_changes.proofs.Bookings.{repeats_repeat}
 use Rattle.dr_store_changes.proofs.Joins.{arrivals_arrive, data_sets_come}
+use Rattle.dr_store_changes.proofs.Together.{untouched}
 use Rattle.sqlite.specs.State.{State}
 use Rattle.dr_store_calls.specs.declared.bringing.Delivery.{Delivery}
 use Rattle.dr_store_calls.specs.Calling.{Called, IsLedgerOf, IsOwnFault, Looked, Nothing, advanced}
 use Rattle.dr_store_calls.specs.Knowing.{FitsTables, IsThere}
 use Rattle.dr_store_calls.specs.Receiving.{AcceptsAs, AcceptsOne, AnswersWith, ComesNone, IsAccounted, IsCellTaken, IsDelivered, Receives, ReceivesAs, TakesOn}
 use Rattle.dr_store_calls.proofs.Calls.{asked_as, looked_failed, looked_then, own_lasts, said_as, still_called}
+use Rattle.dr_store_calls.proofs.Ledgers.{one_line_more, still_owned}
 
 -- ---- a first arrival
 
@@ -112,7 +114,7 @@ module _ (n : ℕ) (moment : Option ℕ) (part : Part) (how : Taking) (caller : 
 
   pub arrives : IsLedgerOf (n + 1) part db × (Arrives (site_routing part) caller instance (book_of base) (Ok New) (book_of db) × TakesOn (IsCellTaken how cell) instance base db × IsAccounted (IsCellTaken how cell) (Ok New) instance.uid db)
   arrives = (
-    record { ahead = ahead; journalled = (l.journalled.0, arrivals_are_journalled (site_routing part) l.journalled.0 caller instance (book_of base) (book_of db) (Ok New) l.journalled.1 answer); bodied = bodied },
+    record { owned = still_owned part base db w.site l.owned; together = w.together l.together; numbered = one_line_more n (arrived_line n moment 0 caller instance) base db refl w.journal l.numbered; ahead = ahead; journalled = (l.journalled.0, arrivals_are_journalled (site_routing part) l.journalled.0 caller instance (book_of base) (book_of db) (Ok New) l.journalled.1 answer); bodied = bodied },
     (answer, takes, accounted),
   )
 
@@ -130,6 +132,9 @@ repeats n moment part caller instance whole base db line below l was again w =
     ) in
     let has : HasCells (after (Repeat caller instance) (book_of base)) (bodies_of base) = record { there = l.bodied.there } in (
       record {
+        owned = still_owned part base db w.site l.owned;
+        together = untouched base db w.items w.prints l.together;
+        numbered = one_line_more n (arrived_line n moment 1 caller instance) base db refl w.journal l.numbered;
         ahead = λ m later. ap (λ rows. names_in rows m) w.targets ∙ l.ahead m (omega (arith, later));
         journalled = (l.journalled.0, arrivals_are_journalled (site_routing part) l.journalled.0 caller instance (book_of base) (book_of db) (Ok Again) l.journalled.1 answer);
         bodied = subst (λ b. HasCells b (bodies_of db)) (sym made.0) (subst (λ x. HasCells (after (Repeat caller instance) (book_of base)) x) (sym made.1) has);

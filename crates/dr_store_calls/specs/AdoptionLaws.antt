@@ -5,7 +5,8 @@ use Rattle.dr_site.specs.Parts.{Part}
 use Rattle.dr_ledger.specs.Books.{Adoption, after}
 use Rattle.dr_store_schema.specs.Books.{AreBelow, bodies_of, book_of}
 use Rattle.dr_store_calls.specs.Calling.{IsLedgerOf}
-use Rattle.dr_store_calls.specs.Adoptions.{AdoptsPlan, IsAdopted, IsOwnedBy, IsOwnedWith}
+use Rattle.dr_store_calls.specs.Adoptions.{AdoptsPlan, IsAdopted}
+use Rattle.dr_store_calls.specs.Owners.{IsOwnedBy, IsOwnedWith}
 
 -- What an adoption makes of the tables is what it makes of the book; the data sets are the same.
 abbrev pub AdoptionsAdopt : Type 0
@@ -15,11 +16,12 @@ AdoptionsAdopt =
     → (book_of new ≡ after Adoption (book_of old)) × (bodies_of new ≡ bodies_of old)
 
 -- An adoption makes of the tables of a ledger, of whatever site, those of a ledger of the next
--- site, of whatever plan.
+-- site, of whatever plan, where that one owns them then.
 abbrev pub AdoptedLedgersAreOfTheNext : Type 0
 AdoptedLedgersAreOfTheNext =
     (part next : Part) (old new : Trees) (plan : List ℕ) (n : ℕ) (moment : Option ℕ)
     → AreBelow n (old 11) → IsLedgerOf n part old → AdoptsPlan plan n moment old new
+    → IsOwnedBy next new
     → IsLedgerOf (n + 1) next new
 
 -- Tables have one owner: one node, one plan, and one mark.

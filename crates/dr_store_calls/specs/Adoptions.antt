@@ -1,6 +1,6 @@
 -- What an adoption makes of the tables, and what its call shows.
-use Rattle.std.specs.Prelude.{◌≡◌, ◌≤◌, ◌++◌, ◌⊎◌, ℕ, false, IsTrue, List, [], Option, Result}
-use Rattle.std.specs.Prelude.{OnErr, OnOk, length}
+use Rattle.std.specs.Prelude.{◌≡◌, ◌≤◌, ◌+◌, ◌⊎◌, ℕ, false, IsTrue, List, [], Option, Result}
+use Rattle.std.specs.Prelude.{OnErr, OnOk}
 use Rattle.sqlite.specs.State.{State, HasCleanDisk}
 use Rattle.sqlite.specs.Tree.{Trees, put_row}
 use Rattle.sqlite_trees.specs.View.{doubt}
@@ -12,7 +12,8 @@ use Rattle.dr_ledger.specs.Books.{Adoption, after, not_over}
 use Rattle.dr_ledger.specs.Replies.{LastsAfter}
 use Rattle.dr_store_schema.specs.Books.{bodies_of, book_of, rows_of}
 use Rattle.dr_store_writes.specs.Effects.{IsSiteOf, adopted_line}
-use Rattle.dr_store_calls.specs.Calling.{IsKept, advanced}
+use Rattle.dr_store_calls.specs.Calling.{IsKept, IsLeftLedger, advanced}
+use Rattle.dr_store_calls.specs.Owners.{IsOwnedWith}
 
 -- ---- the tables
 
@@ -54,26 +55,6 @@ pub record AdoptsPlan (plan : List ℕ) (n : ℕ) (moment : Option ℕ) (old new
 
 -- ---- whose the tables are
 
--- nothing, where the data sets are in rows, or the 24 bytes of a key and of the mark of the file
--- that has them
-abbrev pub IsMark : List ℕ → Type 0
-IsMark mark = (mark ≡ []) ⊎ (length mark ≡ 24)
-
--- what site has for a plan: its SHA-256, which has 32 bytes, and right behind it the mark
-pub record IsPlanWith (mark digest cell : List ℕ) : Type 0 where
-  pub long : length digest ≡ 32
-  pub marked : IsMark mark
-  pub is : cell ≡ digest ++ mark
-
--- the tables are owned by the site: by its node, under its plan, with this mark
-abbrev pub IsOwnedWith : List ℕ → Part → Trees → Type 0
-IsOwnedWith mark part db =
-    (cell : List ℕ) × IsPlanWith mark part.digest cell × IsSiteOf part.name cell db
-
--- with some mark
-abbrev pub IsOwnedBy : Part → Trees → Type 0
-IsOwnedBy part db = (mark : List ℕ) × IsOwnedWith mark part db
-
 -- a site of the same node owned the tables, and the next one owns them, with the same mark
 pub record IsTakenOver (next : Part) (base db : Trees) : Type 0 where
   pub was : Part
@@ -102,7 +83,8 @@ pub record AnswersAdoption (next : Part) (result : Result (Unit {0}) LedgerFault
 -- An adoption of the next site's plan by a ledger of this site, whose next line has number n. Where
 -- the tables are as it asks, they are afterwards those of a ledger of the next site where it was
 -- accepted, and else as they were; the store stays open but where the store failed or memory ran
--- out. A crash leaves what it could leave before, or the tables after the adoption.
+-- out. A crash leaves what it could leave before, or the tables after the adoption, which are a
+-- ledger's of the next site.
 pub record Adopted (n : ℕ) (part next : Part) (result : Result (Unit {0}) LedgerFault)
     (old new : State) (Asks : Trees → Type 0) : Type 0 where
   pub clean : doubt old.is_clean ≤ doubt new.is_clean
@@ -116,4 +98,4 @@ pub record Adopted (n : ℕ) (part next : Part) (result : Result (Unit {0}) Ledg
       → AnswersAdoption next result old.committed.trees new.committed.trees
   pub crash : HasCleanDisk new → IsKept n part old → Asks old.committed.trees → (db : Trees)
       → new.may_leave db
-      → old.may_leave db ⊎ IsAdopted next old.committed.trees db
+      → old.may_leave db ⊎ (IsLeftLedger (n + 1) next db × IsAdopted next old.committed.trees db)

@@ -11,19 +11,30 @@ use Rattle.dr_ledger.specs.Replies.{LastsAfter, Reads}
 use Rattle.dr_ledger.specs.SiteRoutes.{site_routing}
 use Rattle.dr_store_schema.specs.Books.{bodies_of, book_of}
 use Rattle.dr_store_changes.specs.Bringing.{GoNowhere, HasCells}
-use Rattle.dr_store_changes.specs.Writing.{IsReady}
+use Rattle.dr_store_changes.specs.Changes.{AreTogether}
+use Rattle.dr_store_changes.specs.Writing.{AreLedgers, AreNumberedTo, IsReady}
+use Rattle.dr_store_calls.specs.Owners.{IsOwnedBy}
 
 -- the disk has returned what was written, and the store is open
 abbrev pub IsSafe : State → Type 0
 IsSafe s = HasCleanDisk s × IsTrue s.is_open
 
--- What the tables of a ledger of that site show, where its next line has number n: no targets of
--- lines that are still to come, a book that its journal makes, and a cell for just the data sets
--- that the book needs.
+-- What the tables of a ledger of that site show, where its next line has number n: the site owns
+-- them, each item is beside its print, and the lines' numbers count up from 1 to the one before n.
+-- No line that is still to come goes anywhere, the journal makes the book, and there is a cell for
+-- just the data sets that the book needs.
 pub record IsLedgerOf (n : ℕ) (part : Part) (db : Trees) : Type 0 where
+  pub owned : IsOwnedBy part db
+  pub together : AreTogether db
+  pub numbered : AreNumberedTo n (db 11)
   pub ahead : GoNowhere n db
   pub journalled : IsJournalled (site_routing part) (book_of db)
   pub bodied : HasCells (book_of db) (bodies_of db)
+
+-- The trees are those of a database with a ledger's tables, and these are of a ledger of that site.
+pub record IsLeftLedger (n : ℕ) (part : Part) (db : Trees) : Type 0 where
+  pub whole : AreLedgers db
+  pub ledger : IsLedgerOf n part db
 
 -- the store is open, with the tables of a ledger of that site
 pub record IsKept (n : ℕ) (part : Part) (s : State) : Type 0 where
@@ -38,7 +49,8 @@ advanced (Err why) n = n
 -- A call of a ledger of that site, whose next line has number n before it and m after it. Where the
 -- tables are as it asks, it answers for the tables committed before and after it, and the ledger's
 -- tables are kept; the store stays open but where the store failed or memory ran out. A crash
--- leaves what it could leave before, or what the call makes of the tables.
+-- leaves what it could leave before, or what the call makes of the tables: those of a ledger of
+-- that site, with one line more.
 pub record Called {A : Type 0} (n m : ℕ) (part : Part) (result : Result A LedgerFault)
     (old new : State) (Asks : Trees → Type 0)
     (Answers Makes : Trees → Trees → Type 0) : Type 0 where
@@ -53,7 +65,7 @@ pub record Called {A : Type 0} (n m : ℕ) (part : Part) (result : Result A Ledg
       → Answers old.committed.trees new.committed.trees
   pub crash : HasCleanDisk new → IsKept n part old → Asks old.committed.trees → (db : Trees)
       → new.may_leave db
-      → old.may_leave db ⊎ Makes old.committed.trees db
+      → old.may_leave db ⊎ (IsLeftLedger (n + 1) part db × Makes old.committed.trees db)
 
 -- nothing is asked of the tables
 abbrev pub Nothing : Trees → Type 0

@@ -4,5 +4,6 @@ pub mod Calling
 pub mod Knowing
 pub mod LettingGo
 pub mod Needs
+pub mod Owners
 pub mod Receiving
 pub mod Shelving

@@ -5,7 +5,8 @@ ghost use Rattle.dr_site.specs.Parts.{Part};
 ghost use Rattle.dr_store_writes.specs.Effects.{HasSite, IsSiteOf};
 ghost use Rattle.dr_store_changes.specs.Writing.{Written};
 ghost use Rattle.dr_store_calls.specs.Calling.{IsOwnFault, Nothing};
-ghost use Rattle.dr_store_calls.specs.Adoptions.{Adopted, AdoptsPlan, IsPlanWith};
+ghost use Rattle.dr_store_calls.specs.Adoptions.{Adopted, AdoptsPlan};
+ghost use Rattle.dr_store_calls.specs.Owners.{IsPlanWith};
 
 use crate::owning::{mark_behind, plan_cell};
 use crate::plan::NewPlan;

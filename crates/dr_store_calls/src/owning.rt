@@ -1,7 +1,7 @@
 //! What site has for a plan: its SHA-256, and right behind it the mark of a file of data sets, or
 //! nothing.
 ghost use Rattle.std.specs.Prelude.{◌≡◌, ◌↔◌, IfOk, IsTrue, List, MatchOption, ℕ};
-ghost use Rattle.dr_store_calls.specs.Adoptions.{IsMark, IsPlanWith};
+ghost use Rattle.dr_store_calls.specs.Owners.{IsMark, IsPlanWith};
 
 use std::alloc::{AllocError, Global};
 

@@ -22,6 +22,7 @@ use Rattle.dr_store_changes.proofs.Bookings.{what_is_needed_stays}
 use Rattle.dr_store_changes.proofs.Forgotten.{set_left}
 use Rattle.dr_store_changes.proofs.Movements.{goes_over}
 use Rattle.dr_store_changes.proofs.Numbers.{lines_put}
+use Rattle.dr_store_changes.proofs.Together.{untouched}
 
 -- ---- the statements
 
@@ -76,6 +77,7 @@ module _ (uid dest : Text) (now n : ℕ) (old mid : State) (m : GivenUp uid dest
       journal = m.journal;
       items = same_items;
       bodies = same_bodies;
+      together = untouched old.now.trees mid.now.trees m.items m.prints;
       site = m.site;
       kept = m.kept;
       targets = m.targets;
@@ -99,6 +101,8 @@ module _ (uid dest : Text) (now n : ℕ) (old mid : State) (m : GivenUp uid dest
           journal = journal;
           items = g.items ∙ same_items;
           bodies = g.bodies ∙ ap (λ b. map.remove b uid) same_bodies;
+          together = λ both.
+              g.together (untouched old.now.trees mid.now.trees m.items m.prints both);
           site = g.site ∙ m.site;
           kept = g.kept ∙ m.kept;
           targets = g.targets ∙ m.targets;
@@ -132,6 +136,7 @@ moves_on uid dest now n lets_go old new w = record {
   journal = w.journal;
   items = w.items;
   bodies = w.bodies;
+  together = w.together;
   site = w.site;
   arrivals = refl;
   kept = w.kept;

@@ -28,6 +28,7 @@ use Rattle.dr_store_changes.proofs.LettingGo.{back_body, body_at, gone_body}
 use Rattle.dr_store_changes.proofs.Movements.{goes_over}
 use Rattle.dr_store_changes.proofs.NewRows.{still}
 use Rattle.dr_store_changes.proofs.Steps.{one_then}
+use Rattle.dr_store_changes.proofs.Together.{both_put, untouched}
 
 -- nothing is done
 pub step_still : (s : State) (Made : Type 0) → (GoesOn s s → Made) → StatementStep {A = Unit {0}} {E = Error} (Ok tt) s s Made
@@ -61,6 +62,7 @@ pub new_taken : (item : Instance) (body : List ℕ) (old new : Trees) → Stores
 new_taken item body old new s = record {
   items = s.items;
   bodies = (λ i. bodies_by (s.contents i) (s.wholes i)) ∙ back_body (contents_in (old 1)) (wholes_in (old 3)) item.uid body;
+  together = both_put old new item.uid body 1 s.contents s.wholes;
   site = s.site;
   arrivals = s.arrivals;
   kept = s.kept;
@@ -73,6 +75,7 @@ pub bare_taken : (item : Instance) (body : List ℕ) (old new : Trees) → HasNe
 bare_taken item body old new neither s = record {
   items = s.items;
   bodies = (λ i. bodies_by (s.contents i) (s.wholes i)) ∙ gone_body (contents_in (old 1)) (wholes_in (old 3)) item.uid ∙ none_left (bodies_of old) item.uid (no_body item.uid old neither);
+  together = both_put old new item.uid [] 0 s.contents s.wholes;
   site = s.site;
   arrivals = s.arrivals;
   kept = s.kept;
@@ -85,6 +88,7 @@ pub again_taken : (item : Instance) (body : List ℕ) (old new : Trees) → Take
 again_taken item body old new t = record {
   items = t.items;
   bodies = t.bodies;
+  together = t.together;
   site = t.site;
   arrivals = t.arrivals;
   kept = t.kept;
@@ -94,7 +98,7 @@ again_taken item body old new t = record {
 }
 
 pub nothing_taken : (item : Instance) (body : List ℕ) (db : Trees) → TakesInItem taking.Nothing item body db db
-nothing_taken item body db = record { items = refl; bodies = refl; site = refl; arrivals = refl; kept = refl; queue = refl; journal = refl; targets = refl }
+nothing_taken item body db = record { items = refl; bodies = refl; together = λ both. both; site = refl; arrivals = refl; kept = refl; queue = refl; journal = refl; targets = refl }
 
 -- ---- kept, if it is to be
 
@@ -144,6 +148,7 @@ brought how caller item body again dests keeps names n moment old new all =
     record {
       items = (λ i. items_in (prints_in (prints i)) (items i)) ∙ t.items;
       bodies = (λ i. bodies_by (contents_in (items i)) (wholes_in (prints i))) ∙ t.bodies;
+      together = λ both. untouched filled.1.0 new items prints (t.together both);
       arrivals = ap arrivals_in (g.arrivals ∙ l.arrivals ∙ k.arrivals ∙ r.arrivals ∙ w.arrivals) ∙ a.arrivals ∙ ap (λ rows. set.insert (arrivals_in rows) at) t.arrivals;
       rows = ap rows_in (g.queue ∙ l.queue ∙ k.queue) ∙ r.rows
           ∙ ap (λ rows. with_rows rows item.uid dests) (w.rows ∙ ap (λ rows. with_waiting (rows_in rows) item.uid again) (a.queue ∙ t.queue));

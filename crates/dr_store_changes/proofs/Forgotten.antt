@@ -24,12 +24,14 @@ use Rattle.dr_store_writes.proofs.Maps.{equal}
 use Rattle.dr_store_changes.specs.Bringing.{Then}
 use Rattle.dr_store_changes.specs.Changes.{DropsMoves, DropsStock, TakesOut}
 use Rattle.dr_store_changes.specs.Laws.{ForgettingsForget, ForgettingsLetNoDataSetGo}
+use Rattle.dr_store_changes.specs.Laws.{ForgettingsTakeBoth}
 use Rattle.dr_store_changes.specs.Writing.{IsMade}
 use Rattle.dr_store_changes.proofs.Arrivals.{item_at, keyed, keys_in}
 use Rattle.dr_store_changes.proofs.FirstOnes.{none_left}
 use Rattle.dr_store_changes.proofs.LettingGo.{body_at}
 use Rattle.dr_store_changes.proofs.Movements.{goes_over}
 use Rattle.dr_store_changes.proofs.Numbers.{lines_put}
+use Rattle.dr_store_changes.proofs.Together.{both_left}
 
 -- ---- rows that leave by their key
 
@@ -148,6 +150,12 @@ module _ (uid : Text) (old new : Trees) (n : ℕ) (moment : Option ℕ) (w : Tak
           (cond b None (cond (is_whole (map.get (wholes_in (old 3)) q)) (map.get (contents_in (old 1)) q) None))
       at q true = refl
       at q false = refl
+
+-- ---- items beside their prints
+
+pub forgettings_take_both : ForgettingsTakeBoth
+forgettings_take_both old new n moment uid w =
+    both_left old new uid (contents_left uid old new n moment w) (wholes_left uid old new n moment w)
 
 -- ---- the book
 

@@ -10,6 +10,7 @@ use Rattle.dr_base.specs.Texts.{Text, text_cmp}
 use Rattle.dr_store_schema.specs.Books.{bodies_by, contents_in, is_whole, items_in, prints_in, wholes_in}
 use Rattle.dr_store_writes.specs.Effects.{GoesOn, HasPrint, SetsBody, SetsWhole}
 use Rattle.dr_store_changes.specs.Changes.{HasBoth, LetsGo, TakesBack}
+use Rattle.dr_store_changes.proofs.Together.{both_put}
 
 -- what stands at a uid
 pub body_at : (contents : FinMap text_cmp (List ℕ)) (wholes : FinMap text_cmp ℕ) (q : Text) → map.get (bodies_by contents wholes) q ≡ cond (is_whole (map.get wholes q)) (map.get contents q) None
@@ -63,6 +64,7 @@ lets_go uid old mid new body whole =
     record {
       items = ap (λ rows. items_in (prints_in (after 3)) rows) (w.items (omega arith)) ∙ body.items (prints_in (after 3)) ∙ ap (λ p. items_in p (before 1)) prints;
       bodies = (λ i. bodies_by (contents i) (wholes i)) ∙ gone_body (contents_in (before 1)) (wholes_in (before 3)) uid;
+      together = both_put before after uid [] 0 contents wholes;
       site = w.site (omega arith) ∙ b.site (omega arith);
       arrivals = w.arrivals (omega arith) ∙ b.arrivals (omega arith);
       kept = w.kept (omega arith) ∙ b.kept (omega arith);
@@ -83,6 +85,7 @@ takes_back uid content old mid new body whole =
     record {
       items = ap (λ rows. items_in (prints_in (after 3)) rows) (w.items (omega arith)) ∙ body.items (prints_in (after 3)) ∙ ap (λ p. items_in p (before 1)) prints;
       bodies = (λ i. bodies_by (contents i) (wholes i)) ∙ back_body (contents_in (before 1)) (wholes_in (before 3)) uid content;
+      together = both_put before after uid content 1 contents wholes;
       site = w.site (omega arith) ∙ b.site (omega arith);
       arrivals = w.arrivals (omega arith) ∙ b.arrivals (omega arith);
       kept = w.kept (omega arith) ∙ b.kept (omega arith);

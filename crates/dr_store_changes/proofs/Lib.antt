@@ -11,4 +11,5 @@ pub mod NewRows
 pub mod Numbers
 pub mod Sets
 pub mod Steps
+pub mod Together
 pub mod Transactions

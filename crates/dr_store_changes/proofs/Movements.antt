@@ -11,6 +11,7 @@ use Rattle.dr_store_schema.specs.Books.{bodies_by, bodies_of, contents_in, items
 use Rattle.dr_store_writes.specs.Effects.{AddsRow, GoesOn, SetsRow}
 use Rattle.dr_store_changes.specs.Changes.{HasBoth, LetsGo, Moved, MovesOn}
 use Rattle.dr_store_changes.specs.Writing.{IsMade}
+use Rattle.dr_store_changes.proofs.Together.{untouched}
 
 pub goes_over : (old mid new : State) → GoesOn old mid → GoesOn mid new → GoesOn old new
 goes_over old mid new one two = record { ledger = two.ledger; mode = two.mode; committed = two.committed ∙ one.committed; is_open = two.is_open }
@@ -57,6 +58,7 @@ made_of n at to line old new numbered m = record {
     journal = m.journal;
     items = same_items at to line old new m;
     bodies = same_bodies at to line old new m;
+    together = untouched old.now.trees new.now.trees m.items m.prints;
     site = m.site;
     arrivals = m.arrivals;
     kept = m.kept;
@@ -78,6 +80,7 @@ made_going n at to line old mid new numbered m gone =
         journal = journal;
         items = g.items ∙ same_items at to line old mid m;
         bodies = g.bodies ∙ ap (λ b. map.remove b at.0) (same_bodies at to line old mid m);
+        together = λ both. g.together (untouched old.now.trees mid.now.trees m.items m.prints both);
         site = g.site ∙ m.site;
         arrivals = g.arrivals ∙ m.arrivals;
         kept = g.kept ∙ m.kept;

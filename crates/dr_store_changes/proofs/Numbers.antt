@@ -1,5 +1,5 @@
 -- Lines by their numbers: a line with a higher number is the last.
-use Rattle.std.proofs.Common.{◌≡◌, ◌<◌, ◌+◌, ℕ, pos, List, [], ◌∷◌, ◌++◌, map as mapped, refl, sym, ap, ◌∙◌, arith, int_cmp, nat_abs, ltb→lt}
+use Rattle.std.proofs.Common.{◌≡◌, ◌<◌, ◌+◌, ℕ, pos, List, [], ◌∷◌, ◌++◌, map as mapped, refl, sym, ap, subst, ◌∙◌, arith, int_cmp, nat_abs, ltb→lt}
 use Rattle.std.specs.Cmp.{IsTotalOrder, nat_cmp_is, nat_cmp_total}
 use Rattle.std.specs.declared.cmp.Ordering.{Ordering}
 use Rattle.std.specs.declared.cmp.Ordering.TheVariants.{Less, Equal, Greater}
@@ -19,6 +19,8 @@ use Rattle.dr_ledger.specs.Books.{Line}
 use Rattle.dr_store_schema.specs.Books.{AreBelow, line_in, lines_in, numbered_line}
 use Rattle.dr_store_schema.specs.Cells.{number_in}
 use Rattle.dr_store_schema.proofs.WhatIsWritten.{no_entries}
+use Rattle.dr_store_changes.specs.Laws.{LinesCountUp}
+use Rattle.dr_store_changes.specs.Writing.{CountTo, number_of, numbers_in}
 
 -- ---- maps
 
@@ -82,3 +84,43 @@ module _ (targets : List Row) where
       ∙ ap (λ es. map.values (map.from_entries {R = nat_cmp} es)) (map-append (numbered_line targets) rows (row ∷ []))
       ∙ ap (mapped (λ (e : ℕ × Line). e.1)) (entries_last nat_cmp_total (mapped (numbered_line targets) rows) n (line_in targets row) (numbers_below n rows below))
       ∙ map-append (λ (e : ℕ × Line). e.1) (map.entries (map.from_entries {R = nat_cmp} (mapped (numbered_line targets) rows))) ((n, line_in targets row) ∷ [])
+
+-- ---- lines that count up
+
+-- a row with a higher number goes behind all others
+row_last : (n : ℕ) (row : Row) (rows : List Row) → rowid row ≡ Int (pos n) → AreBelow n rows
+    → put_row row rows ≡ rows ++ row ∷ []
+row_last n row [] is below = refl
+row_last n row (r ∷ rows) is below =
+    ap (λ o. match_ordering o (r ∷ put_row row rows) (row ∷ rows) (row ∷ r ∷ rows))
+    ((λ i. value_cmp (below.0.1 i) (is i)) ∙ is_below below.0.0 n below.0.2)
+    ∙ ap (λ rs. r ∷ rs) (row_last n row rows is below.1)
+
+all_under : (n : ℕ) (rows : List Row) → AreBelow n rows
+    → AllByRecursion (λ (e : ℕ × Unit {0}). nat_cmp e.0 n ≡ Less) (mapped number_of rows)
+all_under n [] below = tt
+all_under n (r ∷ rows) below =
+    (ap (λ v. nat_cmp (number_in v) n) below.0.1 ∙ sym (nat_cmp_is below.0.0 n Less below.0.2), all_under n rows below.1)
+
+-- its number is the last
+number_last : (n : ℕ) (row : Row) (rows : List Row) → rowid row ≡ Int (pos n) → AreBelow n rows
+    → numbers_in (put_row row rows) ≡ numbers_in rows ++ n ∷ []
+number_last n row rows is below =
+    let own : number_of row ≡ (n, tt) = λ i. (number_in (is i), tt) in
+    let all = mapped number_of rows in
+    ap numbers_in (row_last n row rows is below)
+    ∙ ap (λ es. map.keys (map.from_entries {R = nat_cmp} es)) (map-append number_of rows (row ∷ []))
+    ∙ ap (λ (e : ℕ × Unit {0}). map.keys (map.from_entries {R = nat_cmp} (all ++ e ∷ []))) own
+    ∙ ap (mapped (λ (e : ℕ × Unit {0}). e.0)) (entries_last nat_cmp_total all n tt (all_under n rows below))
+    ∙ map-append (λ (e : ℕ × Unit {0}). e.0) (map.entries (map.from_entries {R = nat_cmp} all)) ((n, tt) ∷ [])
+
+count_more : (n first : ℕ) (numbers : List ℕ) → CountTo n first numbers → CountTo (n + 1) first (numbers ++ n ∷ [])
+count_more n first [] all = (all, ap (λ k. k + 1) all)
+count_more n first (number ∷ numbers) all = (all.0, count_more n (first + 1) numbers all.1)
+
+pub lines_count_up : LinesCountUp
+lines_count_up old new n adds all = record {
+  below = subst (AreBelow (n + 1)) (sym adds.journal) (below_next n adds.row (old 11) adds.numbered all.below);
+  count = subst (λ rows. CountTo (n + 1) 1 (numbers_in rows)) (sym adds.journal)
+      (subst (CountTo (n + 1) 1) (sym (number_last n adds.row (old 11) adds.numbered all.below)) (count_more n 1 (numbers_in (old 11)) all.count));
+}

@@ -11,7 +11,7 @@ use Rattle.dr_store_schema.specs.Books.{AreBelow}
 use Rattle.dr_store_schema.specs.Ledgers.{IsLedger}
 use Rattle.dr_store_writes.specs.Effects.{CommitsNothing, StatementStep}
 use Rattle.dr_store_changes.proofs.Numbers.{below_next}
-use Rattle.dr_store_changes.specs.Writing.{IsMade, IsReady, Written}
+use Rattle.dr_store_changes.specs.Writing.{AreLedgers, IsMade, IsReady, Written}
 
 pub on_ok : {T E A B : Type 0} (r : Result T E) → (A → B) → OnOk r A → OnOk r B
 on_ok (Ok x) f h = f h
@@ -72,6 +72,9 @@ commit_rolled old new e on (inr u) = absurd (true≢false (sym on ∙ u.1))
 begun_survives : (old new : State) (P : Trees → Type 0) → Survives (record old { in_transaction = true }) new P → Survives old new P
 begun_survives old new P s = record { clean = s.clean; shield = s.shield; counts = s.counts; limit = s.limit; closes = s.closes; crash = s.crash }
 
+are_ledgers : (d : Database) → IsLedger d → AreLedgers d.trees
+are_ledgers d l = subst (λ schema. IsLedger (record { schema = schema; trees = d.trees })) l.schema l
+
 -- where all statements were run, and the commit was tried
 pub all_run : {A : Type 0} (old mid new : State) (n : ℕ) (Asks : Trees → Type 0) (Makes : Trees → Trees → Type 0) (x : A) (r : Result (Unit {0}) Error)
     → StatementStep {E = Error} (Ok x) (record old { in_transaction = true }) mid (Asks old.now.trees → IsMade n Makes (record old { in_transaction = true }) mid)
@@ -82,8 +85,10 @@ all_run old mid new n Asks Makes x r step ok err survives = record {
   ok = λ clean ready asks. on_ok r (λ done. ready_after old mid new n Makes ready (made clean ready asks) done.1) (ok clean);
   err = λ clean is_open. on_err r (λ e fails. (keeps_then old mid new (keeps clean) (commit_keeps mid new e fails)).committed is_open) (err clean);
   ready = λ clean is_open ready asks. on_err r (λ e fails. ready_again old mid new n ready (keeps clean) (commit_rolled mid new e (made clean ready asks).goes_on.mode fails) is_open) (err clean);
-  crash = λ ready asks. survives_then old mid new (λ _. ⊥) (λ db. db ≡ mid.now.trees) (Makes old.committed.trees) (λ _ db none. absurd none)
-      (λ clean db is. subst (Makes old.committed.trees) (sym is) (subst (λ (d : Database). Makes d.trees mid.now.trees) ready.settled (made clean ready asks).made))
+  crash = λ ready asks. survives_then old mid new (λ _. ⊥) (λ db. db ≡ mid.now.trees) (λ db. AreLedgers db × Makes old.committed.trees db) (λ _ db none. absurd none)
+      (λ clean db is.
+      let it = made clean ready asks in
+      subst (λ t. AreLedgers t × Makes old.committed.trees t) (sym is) (are_ledgers mid.now it.goes_on.ledger, subst (λ (d : Database). Makes d.trees mid.now.trees) ready.settled it.made))
       (begun_survives old mid (λ _. ⊥) step.survives) survives;
   clean = omega (arith, step.survives.clean, survives.clean);
 }
@@ -110,7 +115,7 @@ one_failed old mid new n Asks Makes x e Made step undone survives = record {
   ok = λ clean ready asks. tt;
   err = λ clean is_open. (keeps_then old mid new (keeps clean) (rolled_keeps mid new (undone clean))).committed is_open;
   ready = λ clean is_open ready asks. ready_again old mid new n ready (keeps clean) (undone clean) is_open;
-  crash = λ ready asks. survives_then old mid new (λ _. ⊥) (λ _. ⊥) (Makes old.committed.trees) (λ _ db none. absurd none) (λ _ db none. absurd none) (begun_survives old mid (λ _. ⊥) step.survives) survives;
+  crash = λ ready asks. survives_then old mid new (λ _. ⊥) (λ _. ⊥) (λ db. AreLedgers db × Makes old.committed.trees db) (λ _ db none. absurd none) (λ _ db none. absurd none) (begun_survives old mid (λ _. ⊥) step.survives) survives;
   clean = omega (arith, step.survives.clean, survives.clean);
 }
   where

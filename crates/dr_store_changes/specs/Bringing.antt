@@ -18,7 +18,8 @@ use Rattle.dr_store_schema.specs.Books.{names_in, rows_of}
 use Rattle.dr_store_writes.specs.Effects.{arrived_line}
 use Rattle.dr_store_changes.specs.declared.first.Taking.{Taking}
 use Rattle.dr_store_changes.specs.declared.first.Taking.TheVariants as taking
-use Rattle.dr_store_changes.specs.Changes.{HasBoth, HasNeither, with_names, with_waiting}
+use Rattle.dr_store_changes.specs.Changes.{AreTogether, HasBoth, HasNeither, with_names}
+use Rattle.dr_store_changes.specs.Changes.{with_waiting}
 
 -- one change of the tables, and then another
 abbrev pub Then : (Trees → Trees → Type 0) → (Trees → Trees → Type 0) → Trees → Trees → Type 0
@@ -47,11 +48,12 @@ bodies_taken taking.Bare bodies uid body = bodies
 bodies_taken taking.Again bodies uid body = map.insert bodies uid body
 bodies_taken taking.Nothing bodies uid body = bodies
 
--- The item is there, and its data set if it comes. All other tables stay.
+-- The item is there, beside its print, and its data set if it comes. All other tables stay.
 pub record TakesInItem (how : Taking) (item : Instance) (body : List ℕ)
     (old new : Trees) : Type 0 where
   pub items : items_of new ≡ items_taken how (items_of old) item
   pub bodies : bodies_of new ≡ bodies_taken how (bodies_of old) item.uid body
+  pub together : AreTogether old → AreTogether new
   pub site : new 0 ≡ old 0
   pub arrivals : new 5 ≡ old 5
   pub kept : new 7 ≡ old 7
@@ -73,15 +75,16 @@ pub record KeepsIf (uid : Text) (keeps : Bool) (old new : Trees) : Type 0 where
 
 -- ---- all of it
 
--- A first arrival with line n, at that moment: the item is there, and its data set if it comes; the
--- caller has brought it; it waits anew for each destination of `again`, and from now on for each of
--- `dests`; it is kept if it is to be; and the line goes on to these names, `-` standing for
--- keeping.
+-- A first arrival with line n, at that moment: the item is there, beside its print, and its data
+-- set if it comes; the caller has brought it; it waits anew for each destination of `again`, and
+-- from now on for each of `dests`; it is kept if it is to be; and the line goes on to these names,
+-- `-` standing for keeping.
 pub record Brings (how : Taking) (caller : Text) (item : Instance) (body : List ℕ)
     (again dests : List Text) (keeps : Bool) (names : List Text) (n : ℕ) (moment : Option ℕ)
     (old new : Trees) : Type 0 where
   pub items : items_of new ≡ items_taken how (items_of old) item
   pub bodies : bodies_of new ≡ bodies_taken how (bodies_of old) item.uid body
+  pub together : AreTogether old → AreTogether new
   pub arrivals : arrivals_in (new 5) ≡ set.insert (arrivals_in (old 5)) (caller, item.uid)
   pub rows : rows_of new
       ≡ with_rows (with_waiting (rows_of old) item.uid again) item.uid dests

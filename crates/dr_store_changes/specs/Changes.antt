@@ -18,16 +18,26 @@ use Rattle.dr_store_schema.specs.Books.{items_of, names_in, rows_of, wholes_in}
 use Rattle.dr_store_writes.specs.Effects.{GoesOn, HasItem, HasPrint, HasRow, dropped_line}
 use Rattle.dr_store_writes.specs.Effects.{forgotten_line, is_of_other}
 
+-- ---- items and prints
+
+-- item has a row for a uid just where print has one
+abbrev pub AreTogether : Trees → Type 0
+AreTogether db =
+    (uid : Text)
+    → map.contains_key (contents_in (db 1)) uid ≡ map.contains_key (wholes_in (db 3)) uid
+
 -- ---- a data set is let go
 
 -- the item and its print are there
 abbrev pub HasBoth : Text → Trees → Type 0
 HasBoth uid db = HasItem uid db × HasPrint uid db
 
--- the data set of that uid is gone; what is known of the items stays, and so do all other tables
+-- The data set of that uid is gone. What is known of the items stays, each beside its print, and so
+-- do all other tables.
 pub record LetsGo (uid : Text) (old new : Trees) : Type 0 where
   pub items : items_of new ≡ items_of old
   pub bodies : bodies_of new ≡ map.remove (bodies_of old) uid
+  pub together : AreTogether old → AreTogether new
   pub site : new 0 ≡ old 0
   pub arrivals : new 5 ≡ old 5
   pub kept : new 7 ≡ old 7
@@ -35,11 +45,12 @@ pub record LetsGo (uid : Text) (old new : Trees) : Type 0 where
   pub journal : new 11 ≡ old 11
   pub targets : new 12 ≡ old 12
 
--- the data set of that uid is there again; what is known of the items stays, and so do all other
--- tables
+-- The data set of that uid is there again. What is known of the items stays, each beside its print,
+-- and so do all other tables.
 pub record TakesBack (uid : Text) (body : List ℕ) (old new : Trees) : Type 0 where
   pub items : items_of new ≡ items_of old
   pub bodies : bodies_of new ≡ map.insert (bodies_of old) uid body
+  pub together : AreTogether old → AreTogether new
   pub site : new 0 ≡ old 0
   pub arrivals : new 5 ≡ old 5
   pub kept : new 7 ≡ old 7
@@ -63,13 +74,14 @@ pub record Moved (at : Pair) (to : Progress) (line : Row) (old new : State) : Ty
   pub targets : new.now.trees 12 ≡ old.now.trees 12
 
 -- The row moves on, the line stands in the journal, and the data set goes if it is to go. All else
--- stays.
+-- stays, and each item beside its print.
 pub record MovesOn (at : Pair) (to : Progress) (line : Row) (lets_go : Bool)
     (old new : Trees) : Type 0 where
   pub rows : rows_of new ≡ map.insert (rows_of old) at to
   pub journal : new 11 ≡ put_row line (old 11)
   pub items : items_of new ≡ items_of old
   pub bodies : bodies_of new ≡ cond lets_go (map.remove (bodies_of old) at.0) (bodies_of old)
+  pub together : AreTogether old → AreTogether new
   pub site : new 0 ≡ old 0
   pub arrivals : new 5 ≡ old 5
   pub kept : new 7 ≡ old 7
@@ -96,13 +108,14 @@ pub record GivenUp (uid dest : Text) (now n : ℕ) (old new : State) : Type 0 wh
 
 -- A dropping with line n, at a moment: the row is dropped, the arrivals of the instance have left,
 -- whoever brought it, the line stands in the journal, and the data set goes if it is to go. All
--- else stays.
+-- else stays, and each item beside its print.
 pub record GivesUp (uid dest : Text) (now n : ℕ) (lets_go : Bool) (old new : Trees) : Type 0 where
   pub rows : rows_of new ≡ map.insert (rows_of old) (uid, dest) Dropped
   pub arrivals : new 5 ≡ filter (is_of_other 2 uid) (old 5)
   pub journal : new 11 ≡ put_row (dropped_line n uid dest now) (old 11)
   pub items : items_of new ≡ items_of old
   pub bodies : bodies_of new ≡ cond lets_go (map.remove (bodies_of old) uid) (bodies_of old)
+  pub together : AreTogether old → AreTogether new
   pub site : new 0 ≡ old 0
   pub kept : new 7 ≡ old 7
   pub targets : new 12 ≡ old 12

@@ -1,6 +1,6 @@
 -- Laws of the calls that write: what they make of the tables is what the ledger's call makes of the
 -- book.
-use Rattle.std.specs.Prelude.{◌≡◌, ◌&&◌, ℕ, Bool, true, false, not, List, Option}
+use Rattle.std.specs.Prelude.{◌≡◌, ◌+◌, ◌&&◌, ℕ, Bool, true, false, not, List, Option}
 use Rattle.std.specs.Prelude.{Some}
 use Rattle.std.specs.FinMap as map
 use Rattle.std.specs.FinSet as set
@@ -23,7 +23,8 @@ use Rattle.dr_store_changes.specs.declared.first.Taking.{Taking}
 use Rattle.dr_store_changes.specs.declared.first.Taking.TheVariants as taking
 use Rattle.dr_store_changes.specs.Bringing.{AreTargets, Brings, GoNowhere, HasCells, IsKnownFor}
 use Rattle.dr_store_changes.specs.Bringing.{bodies_taken, given_up, missing, names_for}
-use Rattle.dr_store_changes.specs.Changes.{AddsOnlyLine, GivesUp, MovesOn, TakesOut}
+use Rattle.dr_store_changes.specs.Changes.{AddsOnlyLine, AreTogether, GivesUp, MovesOn, TakesOut}
+use Rattle.dr_store_changes.specs.Writing.{AddsLine, AreNumberedTo}
 
 -- Where a row waits, to move it on by an outcome with the line of its settling is to settle it.
 abbrev pub SettlingsSettle : Type 0
@@ -131,6 +132,20 @@ ForgettingsForget =
     → AreBelow n (old 11)
     → TakesOut uid n moment old new
     → book_of new ≡ after (Forgetting uid) (book_of old)
+
+-- What leaves item leaves print.
+abbrev pub ForgettingsTakeBoth : Type 0
+ForgettingsTakeBoth =
+    (old new : Trees) (n : ℕ) (moment : Option ℕ) (uid : Text)
+    → TakesOut uid n moment old new
+    → AreTogether old → AreTogether new
+
+-- Where the lines' numbers count up from 1 to the one before n, so they do with line n.
+abbrev pub LinesCountUp : Type 0
+LinesCountUp =
+    (old new : Trees) (n : ℕ)
+    → AddsLine n old new
+    → AreNumberedTo n (old 11) → AreNumberedTo (n + 1) (new 11)
 
 -- An instance that is over has no data set, so the data sets stay as they were.
 abbrev pub ForgettingsLetNoDataSetGo : Type 0

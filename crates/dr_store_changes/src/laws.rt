@@ -1,6 +1,7 @@
 //! What the calls that write make of the book.
 ghost use Rattle.dr_store_changes.specs.Laws.{ArrivalsArrive, DataSetsCome, DroppingsDrop};
 ghost use Rattle.dr_store_changes.specs.Laws.{ForgettingsForget, ForgettingsLetNoDataSetGo};
+ghost use Rattle.dr_store_changes.specs.Laws.{ForgettingsTakeBoth, LinesCountUp};
 ghost use Rattle.dr_store_changes.specs.Laws.{RepeatsRepeat, RequeuingsRequeue, SettlingsSettle};
 ghost use Rattle.dr_store_changes.specs.Laws.{WhatIsNeededStays, WhatIsNeededStaysAtADropping};
 
@@ -49,6 +50,16 @@ pub fn data_sets_come()
 /// What a forgetting takes out of the tables is what it takes out of the book.
 pub fn forgettings_forget()
     ensures { ForgettingsForget }
+{}
+
+/// A forgetting takes the print of what it takes out of the items.
+pub fn forgettings_take_both()
+    ensures { ForgettingsTakeBoth }
+{}
+
+/// With the line of a call the journal counts up from 1, as it did before.
+pub fn lines_count_up()
+    ensures { LinesCountUp }
 {}
 
 /// What is over has no data set that a forgetting could let go.

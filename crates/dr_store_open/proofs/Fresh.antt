@@ -20,7 +20,7 @@ use Rattle.dr_store_schema.proofs.WhatIsWritten.{empty_tables_are_empty, no_entr
 use Rattle.dr_store_writes.specs.Effects.{IsSiteOf}
 use Rattle.dr_store_reads.specs.declared.finding.Print.{Print}
 use Rattle.dr_store_lists.specs.declared.listing.JournalRow.{JournalRow}
-use Rattle.dr_store_calls.specs.Adoptions.{IsMark, IsOwnedBy}
+use Rattle.dr_store_calls.specs.Owners.{IsMark, IsOwnedBy}
 use Rattle.dr_store_calls.proofs.Owners.{mark_of, one_owner, owned_by_none, owners_are_one}
 use Rattle.dr_store_audit.specs.Journal.{CountUp}
 use Rattle.dr_store_open.specs.Opening.{BadTablesAreNone, HasLedgerOf, LedgersAreOne}

@@ -4,10 +4,12 @@ mod Chains
 mod Emptied
 mod Filling
 mod Fresh
+mod Kept
 mod Left
 mod Opens
 mod Queried
 mod Refused
 mod Reread
 mod Shelved
+mod Stops
 mod Wholly

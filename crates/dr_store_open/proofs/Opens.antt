@@ -24,7 +24,7 @@ use Rattle.dr_store_reads.specs.declared.finding.Print.{Print}
 use Rattle.dr_store_lists.specs.Lists.{keys_of, whole_prints_of}
 use Rattle.dr_store_data.specs.declared.mark.DataMark.{DataMark}
 use Rattle.dr_store_data.specs.Heads.{HasHead, IsMarkOf}
-use Rattle.dr_store_calls.specs.Adoptions.{IsOwnedBy, IsOwnedWith}
+use Rattle.dr_store_calls.specs.Owners.{IsOwnedBy, IsOwnedWith}
 use Rattle.dr_store_calls.specs.Calling.{IsKept, IsLedgerOf}
 use Rattle.dr_store.specs.Owning.{HaveOwn}
 use Rattle.dr_store_audit.specs.Older.{IsOlder}

@@ -19,7 +19,7 @@ use Rattle.dr_store_writes.specs.Effects.{IsSiteOf}
 use Rattle.dr_store_reads.specs.Queries.{Asked, HasTables}
 use Rattle.dr_store_data.specs.declared.mark.DataMark.{DataMark}
 use Rattle.dr_store_data.specs.Heads.{IsMarkOf}
-use Rattle.dr_store_calls.specs.Adoptions.{IsMark, IsOwnedBy, IsPlanWith}
+use Rattle.dr_store_calls.specs.Owners.{IsMark, IsOwnedBy, IsPlanWith}
 use Rattle.dr_store_calls.specs.Calling.{IsKept, IsLedgerOf}
 use Rattle.dr_store_calls.proofs.Owners.{owners_are_one}
 use Rattle.dr_store_lists.specs.Lists.{IsJournal, line_of, note_in}
@@ -32,6 +32,7 @@ use Rattle.dr_store_open.specs.declared.data.DataPlace.TheVariants as put
 use Rattle.dr_store_open.specs.declared.finding.FoundTables.{FoundTables}
 use Rattle.dr_store_open.specs.Places.{IsPlaceIn, IsPlaceOf}
 use Rattle.dr_store_open.specs.Renewing.{KeepsRows}
+use Rattle.dr_store_open.proofs.Kept.{found_is_kept}
 use Rattle.dr_store_open.specs.Opening.{AreOf, AreTested, HasLedgerOf, HasNewLedger, HasNoLedgerOf, IfFound, IfNotFound, IsAgreed, IsAgreedIf, IsBroughtOver, IsLedgerFound, IsNext, IsLedgerOpened, IsWholeIf, LeavesFile, LeavesOldOrCommitted, OnlyLooks, PlacesAreOne, StaysAsFound}
 
 -- ---- the lines' numbers
@@ -196,7 +197,7 @@ module _ (part : Part) (old new : State) (has : HasTables old.now) (live : IsLiv
                 below = subst (λ (d : Database). AreBelow n (d.trees 11)) (sym is.1) all.below;
               };
               ledger = subst (λ (d : Database). IsLedgerOf n part d.trees) behind
-                  (record { ahead = all.hold.found.ahead; journalled = all.hold.found.journalled; bodied = record { there = all.hold.found.there } });
+                  (found_is_kept n part old.now.trees all mine);
             };
             owned = subst (λ (d : Database). IsOwnedBy part d.trees) behind mine;
             next = subst (λ (d : Database). IsNext n d.trees) behind all.next;

@@ -4,3 +4,4 @@ pub mod Listed
 pub mod Opening
 pub mod Places
 pub mod Renewing
+pub mod Stopped

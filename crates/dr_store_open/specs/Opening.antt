@@ -29,7 +29,7 @@ use Rattle.dr_store_lists.specs.declared.listing.JournalRow.{JournalRow}
 use Rattle.dr_store_changes.specs.Writing.{IsReady}
 use Rattle.dr_store_data.specs.declared.mark.DataMark.{DataMark}
 use Rattle.dr_store_data.specs.Heads.{HasHead, IsMarkOf}
-use Rattle.dr_store_calls.specs.Adoptions.{IsMark, IsOwnedBy, IsOwnedWith}
+use Rattle.dr_store_calls.specs.Owners.{IsMark, IsOwnedBy, IsOwnedWith}
 use Rattle.dr_store_calls.specs.Calling.{IsKept}
 use Rattle.dr_store_audit.specs.Found.{HoldTogether}
 use Rattle.dr_store_audit.specs.Older.{IsOlder}

@@ -15,7 +15,7 @@ use Rattle.dr_store_shelf.specs.Either.{AreApartIf, UsesOn, named_on}
 use Rattle.dr_store_data.specs.declared.mark.DataMark.{DataMark}
 use Rattle.dr_store_data.specs.Heads.{HasHead, IsMarkOf}
 use Rattle.dr_store_data.specs.Opened.{HasExtents}
-use Rattle.dr_store_calls.specs.Adoptions.{IsOwnedWith}
+use Rattle.dr_store_calls.specs.Owners.{IsOwnedWith}
 use Rattle.dr_store.specs.Owning.{HaveOwn}
 use Rattle.dr_store_open.specs.declared.data.Keeping.{Keeping}
 use Rattle.dr_store_open.specs.declared.data.Keeping.TheVariants as keeping

@@ -10,7 +10,7 @@ use Rattle.dr_base.specs.Texts.{Text}
 use Rattle.dr_site.specs.Parts.{Part}
 use Rattle.dr_store_schema.specs.Statements as text
 use Rattle.dr_store_reads.specs.Queries.{IsOwnerAsShown}
-use Rattle.dr_store_calls.specs.Adoptions.{IsPlanWith}
+use Rattle.dr_store_calls.specs.Owners.{IsPlanWith}
 use Rattle.dr_store_open.specs.declared.sheets.Sheets.{Sheets}
 
 -- the journal by the columns that it had, which say of each line what call it was

@@ -7,7 +7,7 @@ ghost use Rattle.dr_store_schema.specs.Ledgers.{IsLedger};
 ghost use Rattle.dr_store_reads.specs.Queries.{Asked};
 ghost use Rattle.dr_store_audit.specs.Found.{AgreesAs, HoldTogether};
 ghost use Rattle.dr_store_writes.specs.Effects.{IsSiteOf};
-ghost use Rattle.dr_store_calls.specs.Adoptions.{IsMark, IsOwnedBy};
+ghost use Rattle.dr_store_calls.specs.Owners.{IsMark, IsOwnedBy};
 ghost use Rattle.dr_store_open.specs.Listed.{AreWholeListsOf};
 ghost use Rattle.dr_store_open.specs.Opening.{IsAgreedIf, IsWholeIf, Seen};
 ghost use Rattle.dr_store_open.specs.Places.{IsPlaceIn, IsPlaceOf};

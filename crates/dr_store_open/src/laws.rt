@@ -1,18 +1,24 @@
 //! Laws of what an opening finds, and of what it leaves.
-ghost use Rattle.std.specs.Prelude.{◌≡◌, ◌⊎◌, IsTrue};
+ghost use Rattle.std.specs.Prelude.{◌≡◌, ◌⊎◌, ℕ, IsTrue};
 ghost use Rattle.sqlite.specs.Held.{state};
 ghost use Rattle.sqlite.specs.Tree.{Trees};
 ghost use Rattle.dr_store_schema.specs.Tables.{tables};
 ghost use Rattle.dr_site.specs.Parts.{Part};
+ghost use Rattle.dr_store_calls.specs.Calling.{IsSafe};
 ghost use Rattle.dr_store_audit.specs.Older.{IsOlder};
-ghost use Rattle.dr_store_open.specs.Opening.{BadTablesAreNone, IsBlank, LeavesFile, LeavesOldOr};
+ghost use Rattle.dr_store_open.specs.Opening.{BadTablesAreNone, HasLedgerOf, IsBlank, LeavesFile};
+ghost use Rattle.dr_store_open.specs.Opening.{LeavesOldOr};
 ghost use Rattle.dr_store_open.specs.Opening.{LeavesOldOrCommitted, LedgersAreOne};
 ghost use Rattle.dr_store_open.specs.Opening.{LedgersAreTheirSites, MarkedTablesHaveTheirFile};
 ghost use Rattle.dr_store_open.specs.Opening.{NewLedgersAreLedgers, PlacesAreOne};
 ghost use Rattle.dr_store_open.specs.Opening.{RowsHaveDataSets, StaysAsFound};
 ghost use Rattle.dr_store_open.specs.Renewing.{IsMadeBy, KeepsRows};
+ghost use Rattle.dr_store_open.specs.Stopped.{CallsAreStopped, StoppedLedgersAreHeld};
+ghost use Rattle.dr_store_open.specs.Stopped.{StoppedLedgersStand};
 
-use sqlite::{Alter, Connection};
+use dr_store::SqlLedger;
+use dr_store_shelf::Shelf;
+use sqlite::{Alter, Connection, FileStore};
 use sqlite_disk::Disk;
 
 /// A new ledger's database has a ledger of its site, whose next line is the first: such a file is
@@ -117,4 +123,34 @@ pub fn what_was_found_stays<S: Alter>(before: &Connection<S>, after: &Connection
     ensures crash { StaysAsFound (state S.Store before.now) (state S.Store after.now)
         → (db : Trees) → (state S.Store after.now).may_leave db
         → (state S.Store before.now).may_leave db }
+{}
+
+/// While the medium answers rightly and the store is open, the file of a ledger has a ledger of its
+/// site: also after each of its calls, whatever that answered.
+pub fn a_ledger_has_its_file<S: Alter, B: Shelf>(ledger: &SqlLedger<S, B>)
+    ensures { B.Shelf.is_clean ledger.now.shelf
+        → IsSafe (state S.Store ledger.now.conn)
+        → ∥ ((n : ℕ)
+        × HasLedgerOf n ledger.now.site (state S.Store ledger.now.conn).committed) ∥₁ }
+{}
+
+/// Wherever a call of a ledger stops that writes, its clause on crashes says what is left.
+pub fn calls_are_stopped<S: Alter>(before: &Connection<S>, after: &Connection<S>)
+    ensures { CallsAreStopped (state S.Store before.now) (state S.Store after.now) }
+{}
+
+/// Wherever a call of a ledger was stopped that writes, whatever database a crash leaves has a
+/// ledger. It is the one from before the call, with all its tables, or, of the site that the call
+/// says, the one that the call makes.
+pub fn a_stopped_ledger_stands<S: Alter>(before: &Connection<S>, after: &Connection<S>)
+    ensures { StoppedLedgersStand (state S.Store before.now) (state S.Store after.now) }
+{}
+
+/// Whatever a crash leaves of its two files, they hold such a database. It is the one that
+/// `open_files` finds.
+pub fn a_stopped_ledger_is_in_its_files<D: Disk>(
+    before: &Connection<FileStore<D>>,
+    after: &Connection<FileStore<D>>,
+)
+    ensures { StoppedLedgersAreHeld before.now after.now }
 {}

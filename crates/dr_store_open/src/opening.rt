@@ -5,7 +5,7 @@ ghost use Rattle.sqlite.specs.Held.{state};
 ghost use Rattle.sqlite.specs.State.{HasCleanDisk, IsLive};
 ghost use Rattle.dr_store_schema.specs.Tables.{tables};
 ghost use Rattle.sqlite_trees.specs.View.{doubt};
-ghost use Rattle.dr_store_calls.specs.Adoptions.{IsOwnedBy};
+ghost use Rattle.dr_store_calls.specs.Owners.{IsOwnedBy};
 ghost use Rattle.dr_store_calls.specs.Calling.{IsKept};
 ghost use Rattle.dr_store_audit.specs.Older.{IsOlder};
 ghost use Rattle.dr_store_open.specs.Renewing.{IsMadeBy, IsMadeWith, KeepsRows};

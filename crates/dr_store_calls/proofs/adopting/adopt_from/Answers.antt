@@ -1,7 +1,7 @@
 use Rattle.std.proofs.Common.{◌≡◌, ◌∙◌, subst}
 use Rattle.sqlite.specs.Held.{state}
 use Rattle.dr_store_writes.specs.Effects.{IsSiteOf}
-use Rattle.dr_store_calls.specs.Adoptions.{IsPlanWith}
+use Rattle.dr_store_calls.specs.Owners.{IsPlanWith}
 use Rattle.dr_store_calls.proofs.Changes.{adopted_where, not_stored}
 use Rattle.dr_store_calls.proofs.adopting.adopt_from.Goals as goal
 

@@ -2,7 +2,7 @@ use Rattle.std.proofs.Common.{◌≡◌, inr, refl, rules, subst}
 use Rattle.sqlite.specs.Held.{state}
 use Rattle.dr_store_writes.specs.Effects.{IsSiteOf}
 use Rattle.dr_ledger.specs.declared.fault.LedgerFault.TheVariants as fault
-use Rattle.dr_store_calls.specs.Adoptions.{IsPlanWith}
+use Rattle.dr_store_calls.specs.Owners.{IsPlanWith}
 use Rattle.dr_store_calls.proofs.Changes.{not_adopted, written_adopted}
 use Rattle.dr_store_calls.proofs.adopting.adopt_with.Goals as goal
 

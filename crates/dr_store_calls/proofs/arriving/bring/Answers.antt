@@ -77,5 +77,5 @@ returns-in-Err-clause-called g c =
     (subst (λ ds. W again ds c.args.names.now) c.as_slice-dests.ensures
     (subst (λ ys. W ys c.as_slice-dests.result.now c.args.names.now) c.as_slice-again.ensures c.in-Err.ensures.written)))
     (λ ready l fits db w.
-    let it = (arrives n c.args.came.now.moment part how caller item cell to keep again dests keeps old.committed.trees db c.requires.delivered.line c.requires.targets.to c.requires.targets.keep c.requires.targets.formed (below_of n old ready) l fits w).1 in (it.0, it.1))
+    let it = arrives n c.args.came.now.moment part how caller item cell to keep again dests keeps old.committed.trees db c.requires.delivered.line c.requires.targets.to c.requires.targets.keep c.requires.targets.formed (below_of n old ready) l fits w in (it.0, (it.1.0, it.1.1)))
     (λ fits. refused Comes part caller item e c.requires.delivered.line c.in-Err.ensures.fault old.committed.trees)

@@ -47,5 +47,5 @@ returns-in-Err-clause-called g c =
     let Makes : Trees → Trees → Type 0 = AcceptsAs ComesNone part caller item Again in
     unmade_called {A = Arrived} n part (λ db. Unit {0}) Asks Line Answers Makes old new (λ h. c.written.ensures.idle) (λ ready l asks. tt) e c.in-Err.ensures.fault
     c.in-Err.ensures.written
-    (λ ready l asks db w. let it = (repeats n c.args.came.now.moment part caller item c.args.whole old.committed.trees db c.requires.delivered.line (below_of n old ready) l asks.0 asks.1 w).1 in (it.0, it.1))
+    (λ ready l asks db w. let it = repeats n c.args.came.now.moment part caller item c.args.whole old.committed.trees db c.requires.delivered.line (below_of n old ready) l asks.0 asks.1 w in (it.0, (it.1.0, it.1.1)))
     (λ asks. refused ComesNone part caller item e c.requires.delivered.line c.in-Err.ensures.fault old.committed.trees)

@@ -1,5 +1,5 @@
 use Rattle.std.proofs.Common.{subst}
-use Rattle.dr_store_calls.specs.Adoptions.{IsPlanWith}
+use Rattle.dr_store_calls.specs.Owners.{IsPlanWith}
 use Rattle.dr_store_calls.proofs.Owners.{never, no_mark, other_digest, some_mark, too_short}
 use Rattle.dr_store_calls.proofs.owning.mark_for.Goals as goal
 

@@ -1,5 +1,5 @@
 use Rattle.std.proofs.Common.{◌≡◌, ◌∙◌, ℕ, List, [], length, inl, inr, ap, rules, arith}
-use Rattle.dr_store_calls.specs.Adoptions.{IsMark}
+use Rattle.dr_store_calls.specs.Owners.{IsMark}
 use Rattle.dr_store_open.proofs.finding.place_in.Goals as goal
 
 -- bytes that are neither nothing nor 24 are no mark

@@ -1,6 +1,6 @@
 use Rattle.std.proofs.Common.{◌≡◌, ◌∙◌, ℕ, List, rules, sym, subst}
 use Rattle.dr_store_writes.specs.Effects.{IsSiteOf}
-use Rattle.dr_store_calls.specs.Adoptions.{IsPlanWith}
+use Rattle.dr_store_calls.specs.Owners.{IsPlanWith}
 use Rattle.dr_store_calls.proofs.Owners.{never, one_owner}
 use Rattle.dr_store_open.proofs.Wholly.{placed}
 use Rattle.dr_store_open.proofs.finding.place_of.Goals as goal

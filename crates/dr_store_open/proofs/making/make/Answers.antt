@@ -2,7 +2,7 @@ use Rattle.std.proofs.Common.{◌≡◌, rules, subst}
 use Rattle.sqlite.specs.Effect.{Database}
 use Rattle.sqlite.specs.Held.{state}
 use Rattle.dr_store_schema.specs.Tables.{tables}
-use Rattle.dr_store_calls.specs.Adoptions.{IsPlanWith}
+use Rattle.dr_store_calls.specs.Owners.{IsPlanWith}
 use Rattle.dr_store_open.specs.Renewing.{IsMadeFor, IsMadeWith}
 use Rattle.dr_store_open.proofs.Filling.{leaves_more}
 use Rattle.dr_store_open.proofs.making.make.Goals as goal

@@ -7,7 +7,7 @@ use Rattle.dr_store_schema.specs.Books.{book_of}
 use Rattle.dr_store_calls.specs.Adoptions.{IsAdopted}
 use Rattle.dr_store_calls.specs.Calling.{IsSafe, advanced}
 use Rattle.dr_store.specs.Owning.{KeepsOwn, LetsGoOf, Survives}
-use Rattle.dr_store.specs.Surviving.{TakesOver}
+use Rattle.dr_store.specs.Surviving.{MakesLedger, TakesOver}
 use Rattle.dr_store.proofs.Adopts.{Adoption, adopted as as_done, takes_over}
 use Rattle.dr_store.proofs.Owns.{adopted, adopted_so, fewer, fewer_of, if_failed, left_of, survives}
 use Rattle.dr_store.proofs.Replies.{adopting, lets_go_of}
@@ -42,7 +42,7 @@ invariant_of-self g c = record {
         let P : Part → Type 0 = λ site. IsSafe new → ∥ KeepsOwn Uses Apart (advanced r n) site new ∥₁ in
         subst (λ m. IsSafe new → ∥ KeepsOwn Uses Apart m c.take_over.new.site new ∥₁) (sym c.next_after-self.ensures)
         (subst P (sym c.take_over.ensures)
-        (still_kept n (advanced r n) part (site_after r next part) r old new (Adoption next r) (IsAdopted next) kept done Uses (λ k it own. (fewer read_of base later it.1 (adopted r base later it.0) own).own)))
+        (still_kept n (advanced r n) part (site_after r next part) r old new (Adoption next r) (MakesLedger next (IsAdopted next)) kept done Uses (λ k it own. (fewer read_of base later it.1 (adopted r base later it.0) own).own)))
 
 pub returns-clause-wrote : goal.returns-clause-wrote
 returns-clause-wrote g c clean =
@@ -63,9 +63,9 @@ returns-clause-wrote g c clean =
     let done = as_done Uses Apart n part next r old new (c.adopt-answer.ensures.adopted part) in
     let Answers : Trees → Trees → Type 0 = λ base db. Adopting (book_of base) r (book_of db) × LetsGoOf read_of read_of base db × TakesOver next r base db in
     let told =
-    answering Uses Apart n (advanced r n) part (site_after r next part) r old new (Adoption next r) Answers (IsAdopted next)
+    answering Uses Apart n (advanced r n) part (site_after r next part) r old new (Adoption next r) Answers (MakesLedger next (IsAdopted next))
     (λ had has own it. (it.0, fewer_of read_of base later had.bodied has.bodied it.1 (adopted r base later it.0) own, it.2)) done in
-    wrote n (advanced r n) part (site_after r next part) r old new Answers (IsAdopted next) kept told
+    wrote n (advanced r n) part (site_after r next part) r old new Answers (MakesLedger next (IsAdopted next)) kept told
     (λ db is_open left. g.met.S.Store.settled c.args.self.now.conn.store db is_open left)
     (λ db is_open left. g.met.S.Store.settled c.adopt-answer.new.conn.store db is_open left)
     (three (adopting (book_of base) r (book_of later)) (lets_go_of read_of read_of base later) (takes_over next r base later))
@@ -87,10 +87,10 @@ returns-clause-covered g c clean =
     let later = new.committed.trees in
     let kept = c.args.self.now.kept clean in
     let done = as_done Uses Apart n part next r old new (c.adopt-answer.ensures.adopted part) in
-    covered n (advanced r n) part (site_after r next part) r old new (Adoption next r) (IsAdopted next) kept done
+    covered n (advanced r n) part (site_after r next part) r old new (Adoption next r) (MakesLedger next (IsAdopted next)) kept done
     (λ db is_open left. g.met.S.Store.settled c.args.self.now.conn.store db is_open left)
     (λ db is_open left. g.met.S.Store.settled c.adopt-answer.new.conn.store db is_open left)
     (Survives Uses Stands Apart read_of read_of base)
     (λ k it own. survives read_of read_of base later (λ cell bytes used is. g.B.Shelf.held shelf cell bytes clean used is) (fewer read_of base later it.1 (adopted r base later it.0) own))
     (if_failed r (λ k own db may. survives read_of read_of base db (λ cell bytes used is. g.B.Shelf.held shelf cell bytes clean used is)
-    (left_of read_of base db (IsAdopted next) (λ made. adopted_so next base db made) may own)))
+    (left_of read_of base db (MakesLedger next (IsAdopted next)) (λ made. adopted_so next base db made.1) may own)))

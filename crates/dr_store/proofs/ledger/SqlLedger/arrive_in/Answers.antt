@@ -14,7 +14,8 @@ use Rattle.dr_store.specs.Owning.{IsCovered, KeepsOwn, LosesNoneOf, Survives, bo
 use Rattle.dr_store.proofs.Owns.{arrived, arrived_only, if_failed, left_by_arrival, loses_none, stood_read, survives}
 use Rattle.dr_store.proofs.Replies.{arrives, loses, takes}
 use Rattle.dr_store.proofs.Stable.{three}
-use Rattle.dr_store.proofs.Writes.{answering, called, covered, making, still_kept, wrote}
+use Rattle.dr_store.specs.Surviving.{MakesLedger}
+use Rattle.dr_store.proofs.Writes.{answering, called, called_whole, covered, making, still_kept, wrote}
 use Rattle.dr_store.proofs.ledger.SqlLedger.arrive_in.Goals as goal
 
 pub invariant_of-self : goal.invariant_of-self
@@ -84,7 +85,7 @@ returns-clause-wrote g c clean =
     let Comes : List ℕ → Option (List ℕ) → Type 0 = IsPut Same Used Uses Stands Apart in
     let Cells : Trees → Trees → Type 0 = AnswersTo Comes part caller item r in
     let Makes : Trees → Trees → Type 0 = AcceptsItem Comes part caller item in
-    let done = called Used Apart n (advanced r n) part r old new Cells Makes c.arrive-answer.ensures.called in
+    let done = called_whole Used Apart n (advanced r n) part r old new Cells Makes c.arrive-answer.ensures.called in
     let kept = c.args.self.now.kept (c.arrive-answer.ensures.clean clean) in
     let keeps = c.arrive-answer.ensures.keeps in
     let alike = c.arrive-answer.ensures.reads clean in
@@ -94,14 +95,14 @@ returns-clause-wrote g c clean =
     let Answers : Trees → Trees → Type 0 = λ base db. Arrives (site_routing part) caller (instance_of item) (book_of base) r (book_of db) × OnlyTakes item (bodies_with was_of base) (bodies_with read_of db) × LosesNoneOf was_of read_of base db in
     let Less : Trees → Trees → Type 0 = λ base db. IsAccepted part caller (instance_of item) (book_of base) (book_of db) in
     let told =
-    making Used Apart n (advanced r n) part part r old new Answers Makes Less (λ base db it. it.0)
-    (answering Used Apart n (advanced r n) part part r old new Cells Answers Makes
+    making Used Apart n (advanced r n) part part r old new Answers (MakesLedger part Makes) (MakesLedger part Less) (λ base db it. (it.0, it.1.0))
+    (answering Used Apart n (advanced r n) part part r old new Cells Answers (MakesLedger part Makes)
     (λ had has own it. (
       it.0,
       arrived_only {Used = Used} {Stood = Stood} {Uses = Uses} {Stands = Stands} {Apart = Apart} {was_of = was_of} {read_of = read_of} keeps alike stood swaps Same part caller item base later r it own,
       loses_none was_of read_of base later had.bodied has.bodied (arrived {Used = Used} {Stood = Stood} {Uses = Uses} {Stands = Stands} {Apart = Apart} {was_of = was_of} {read_of = read_of} keeps alike stood swaps Same part caller item base later r it own).none_lost,
     )) done) in
-    wrote n (advanced r n) part part r old new Answers Less kept told
+    wrote n (advanced r n) part part r old new Answers (MakesLedger part Less) kept told
     (λ db is_open left. g.met.S.Store.settled c.args.self.now.conn.store db is_open left)
     (λ db is_open left. g.met.S.Store.settled c.arrive-answer.new.conn.store db is_open left)
     (three (arrives part caller (instance_of item) (book_of base) r (book_of later)) (takes item (bodies_with was_of base) (bodies_with read_of later)) (loses (book_of base) (bodies_with was_of base) (book_of later) (bodies_with read_of later)))

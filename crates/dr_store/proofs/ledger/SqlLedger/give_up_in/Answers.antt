@@ -12,7 +12,8 @@ use Rattle.dr_store.specs.Owning.{HaveOwn, IsCovered, KeepsOwn, LetsGoOf, Surviv
 use Rattle.dr_store.proofs.Owns.{gone, gone_of, left_of, not_gone, dropped, dropped_items, survives}
 use Rattle.dr_store.proofs.Replies.{drops, lets_go_of}
 use Rattle.dr_store.proofs.Stable.{both}
-use Rattle.dr_store.proofs.Writes.{answering, called, covered, making, still_kept, wrote}
+use Rattle.dr_store.specs.Surviving.{MakesLedger}
+use Rattle.dr_store.proofs.Writes.{answering, called, called_whole, covered, making, still_kept, wrote}
 use Rattle.dr_store.proofs.ledger.SqlLedger.give_up_in.Goals as goal
 
 pub invariant_of-self : goal.invariant_of-self
@@ -77,14 +78,14 @@ returns-clause-wrote g c clean =
     let alike = c.give_up-answer.ensures.reads clean in
     let Cells : Trees → Trees → Type 0 = λ base db. Drops uid dest now (book_of base) r (book_of db) × LetsCellsGo Apart Used Stood Uses Stands base db in
     let Makes : Trees → Trees → Type 0 = λ base db. Drops uid dest now (book_of base) (Ok tt) (book_of db) × OnlyLetsGo (bodies_of base) (bodies_of db) in
-    let done = called Used Apart n (advanced r n) part r old new Cells Makes (c.give_up-answer.ensures.called part) in
+    let done = called_whole Used Apart n (advanced r n) part r old new Cells Makes (c.give_up-answer.ensures.called part) in
     let Answers : Trees → Trees → Type 0 = λ base db. Drops uid dest now (book_of base) r (book_of db) × LetsGoOf was_of read_of base db in
     let Less : Trees → Trees → Type 0 = λ base db. Drops uid dest now (book_of base) (Ok tt) (book_of db) in
     let told =
-    making Used Apart n (advanced r n) part part r old new Answers Makes Less (λ base db it. it.0)
-    (answering Used Apart n (advanced r n) part part r old new Cells Answers Makes
+    making Used Apart n (advanced r n) part part r old new Answers (MakesLedger part Makes) (MakesLedger part Less) (λ base db it. (it.0, it.1.0))
+    (answering Used Apart n (advanced r n) part part r old new Cells Answers (MakesLedger part Makes)
     (λ had has own it. (it.0, gone_of {was_of = was_of} {read_of = read_of} base later alike it.1 (dropped_items uid dest now (book_of base) r (book_of later) it.0) own had.bodied has.bodied)) done) in
-    wrote n (advanced r n) part part r old new Answers Less kept told
+    wrote n (advanced r n) part part r old new Answers (MakesLedger part Less) kept told
     (λ db is_open left. g.met.S.Store.settled c.args.self.now.conn.store db is_open left)
     (λ db is_open left. g.met.S.Store.settled c.give_up-answer.new.conn.store db is_open left)
     (both (drops uid dest now (book_of base) r (book_of later)) (lets_go_of was_of read_of base later))

@@ -9,7 +9,8 @@ use Rattle.dr_store.specs.Owning.{KeepsOwn, LetsGoOf, Survives}
 use Rattle.dr_store.proofs.Owns.{requeued, fewer, fewer_of, if_failed, left_of, survives}
 use Rattle.dr_store.proofs.Replies.{requeues, lets_go_of}
 use Rattle.dr_store.proofs.Stable.{both}
-use Rattle.dr_store.proofs.Writes.{answering, called, covered, making, still_kept, wrote}
+use Rattle.dr_store.specs.Surviving.{MakesLedger}
+use Rattle.dr_store.proofs.Writes.{answering, called, called_whole, covered, making, still_kept, wrote}
 use Rattle.dr_store.proofs.ledger.SqlLedger.requeue_in.Goals as goal
 
 pub invariant_of-self : goal.invariant_of-self
@@ -61,14 +62,14 @@ returns-clause-wrote g c clean =
     let kept = c.args.self.now.kept clean in
     let Cells : Trees → Trees → Type 0 = λ base db. Requeues uid dest (book_of base) r (book_of db) × OnlyLetsGo (bodies_of base) (bodies_of db) in
     let Makes : Trees → Trees → Type 0 = λ base db. Requeues uid dest (book_of base) (Ok tt) (book_of db) × OnlyLetsGo (bodies_of base) (bodies_of db) in
-    let done = called Uses Apart n (advanced r n) part r old new Cells Makes (c.requeue-answer.ensures.called part) in
+    let done = called_whole Uses Apart n (advanced r n) part r old new Cells Makes (c.requeue-answer.ensures.called part) in
     let Answers : Trees → Trees → Type 0 = λ base db. Requeues uid dest (book_of base) r (book_of db) × LetsGoOf read_of read_of base db in
     let Less : Trees → Trees → Type 0 = λ base db. Requeues uid dest (book_of base) (Ok tt) (book_of db) in
     let told =
-    making Uses Apart n (advanced r n) part part r old new Answers Makes Less (λ base db it. it.0)
-    (answering Uses Apart n (advanced r n) part part r old new Cells Answers Makes
+    making Uses Apart n (advanced r n) part part r old new Answers (MakesLedger part Makes) (MakesLedger part Less) (λ base db it. (it.0, it.1.0))
+    (answering Uses Apart n (advanced r n) part part r old new Cells Answers (MakesLedger part Makes)
     (λ had has own it. (it.0, fewer_of read_of base later had.bodied has.bodied it.1 (requeued uid dest r base later it.0) own)) done) in
-    wrote n (advanced r n) part part r old new Answers Less kept told
+    wrote n (advanced r n) part part r old new Answers (MakesLedger part Less) kept told
     (λ db is_open left. g.met.S.Store.settled c.args.self.now.conn.store db is_open left)
     (λ db is_open left. g.met.S.Store.settled c.requeue-answer.new.conn.store db is_open left)
     (both (requeues uid dest (book_of base) r (book_of later)) (lets_go_of read_of read_of base later))

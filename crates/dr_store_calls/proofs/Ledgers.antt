@@ -1,0 +1,20 @@
+-- What a call leaves of the tables of a ledger.
+use Rattle.std.proofs.Common.{◌≡◌, ◌+◌, ℕ, pos, ◌∙◌}
+use Rattle.sqlite.specs.declared.types.Value.TheVariants.{Int}
+use Rattle.sqlite.specs.Order.{Row}
+use Rattle.sqlite.specs.Tree.{Trees, put_row, rowid}
+use Rattle.dr_site.specs.Parts.{Part}
+use Rattle.dr_store_changes.specs.Writing.{AreNumberedTo}
+use Rattle.dr_store_changes.proofs.Numbers.{lines_count_up}
+use Rattle.dr_store_calls.specs.Owners.{IsOwnedBy}
+
+-- the owner of tables whose owner's row stays
+pub still_owned : (part : Part) (base db : Trees) → db 0 ≡ base 0
+    → IsOwnedBy part base → IsOwnedBy part db
+still_owned part base db site owned = (owned.0, (owned.1.0, owned.1.1, site ∙ owned.1.2))
+
+-- lines count up with the one that is added
+pub one_line_more : (n : ℕ) (line : Row) (base db : Trees) → rowid line ≡ Int (pos n)
+    → db 11 ≡ put_row line (base 11) → AreNumberedTo n (base 11) → AreNumberedTo (n + 1) (db 11)
+one_line_more n line base db numbered journal all =
+    lines_count_up base db n (record { row = line; numbered = numbered; journal = journal }) all
