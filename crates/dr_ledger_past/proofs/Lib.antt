@@ -1,0 +1,5 @@
+pub mod Alike
+pub mod Before
+mod Figured
+pub mod Goings
+pub mod Splits
