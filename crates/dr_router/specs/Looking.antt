@@ -5,6 +5,7 @@ use Rattle.sqlite.specs.Tree.{Trees}
 use Rattle.dr_ledger.specs.declared.fault.LedgerFault.{LedgerFault}
 use Rattle.dr_ledger.specs.declared.fault.LedgerFault.TheVariants as ledger
 use Rattle.dr_ledger.specs.Bodies.{HasAll}
+use Rattle.dr_ledger.specs.Replies.{HasRisen}
 use Rattle.dr_run_open.specs.declared.ledgers.OpenFault.{OpenFault}
 use Rattle.dr_run_open.specs.declared.ledgers.OpenFault.TheVariants as unopened
 use Rattle.dr_store_schema.specs.Books.{book_of}
@@ -33,3 +34,8 @@ IsReadAs db read_of (Err unopened.NoData) =
 IsReadAs db read_of (Err unopened.Store) = Unit {0}
 IsReadAs db read_of (Err unopened.Memory) = Unit {0}
 IsReadAs db read_of (Err fault) = ⊥
+
+-- a store is told as failed only where the ledger has counted that it failed
+abbrev pub IsCounted : Result (Unit {0}) OpenFault → ℕ → ℕ → Type 0
+IsCounted (Err unopened.Store) before now = HasRisen before now
+IsCounted result before now = Unit {0}

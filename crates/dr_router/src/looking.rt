@@ -3,7 +3,7 @@ ghost use Rattle.std.specs.Prelude.{◌≡◌, ◌↔◌, IsTrue, codes};
 ghost use Rattle.sqlite.specs.Held.{state};
 ghost use Rattle.dr_store_calls.specs.Calling.{IsSafe};
 ghost use Rattle.dr_store_shelf.specs.Either.{IsCleanOn, read_on};
-ghost use Rattle.dr_router.specs.Looking.{IsAudit, IsReadAs, fault_of_reading};
+ghost use Rattle.dr_router.specs.Looking.{IsAudit, IsCounted, IsReadAs, fault_of_reading};
 ghost use Rattle.dr_router.specs.declared.looking.Looking.TheVariants.{AtAll};
 
 use crate::shelf::FileShelf;
@@ -58,10 +58,13 @@ fn read_fault(fault: LedgerFault) -> OpenFault
 ///
 /// Errors: NoData where one can't be read, or isn't that of its instance; Store; Memory.
 pub fn read_all<S: Alter>(ledger: &mut SqlLedger<S, FileShelf>) -> Result<(), OpenFault>
-    ensures { IsCleanOn ledger.new.shelf.0
+    ensures reads { IsCleanOn ledger.new.shelf.0
         → IsSafe (state S.Store ledger.new.conn)
         → IsReadAs (state S.Store ledger.old.conn).committed.trees (read_on ledger.old.shelf.0)
         result }
+    ensures counted { IsCleanOn ledger.new.shelf.0
+        → IsSafe (state S.Store ledger.new.conn)
+        → IsCounted result ledger.old.failures ledger.new.failures }
 {
     match ledger.find_unreadable() {
         Ok(None) => Ok(()),
