@@ -179,27 +179,32 @@ class Fake:
         self.thread.start()
 
     def serve(self):
-        while True:
-            try:
-                link, _ = self.listener.accept()
-            except OSError:
-                return
-            with link:
-                request = b''
-                while b'\r\n\r\n' not in request:
-                    piece = link.recv(65536)
-                    if not piece:
-                        break
-                    request += piece
-                self.heard.append(request)
+        # the thread alone closes its listener: another one would get the number of a file that is closed under an accept, and this
+        # thread would answer for it
+        with self.listener:
+            while True:
                 try:
-                    self.answer(link, request)
-                except (BrokenPipeError, ConnectionResetError):
-                    pass
+                    link, _ = self.listener.accept()
+                except OSError:
+                    return
+                with link:
+                    self.hear(link)
+
+    def hear(self, link):
+        request = b''
+        while b'\r\n\r\n' not in request:
+            piece = link.recv(65536)
+            if not piece:
+                break
+            request += piece
+        self.heard.append(request)
+        try:
+            self.answer(link, request)
+        except (BrokenPipeError, ConnectionResetError):
+            pass
 
     def close(self):
         self.listener.shutdown(socket.SHUT_RDWR)
-        self.listener.close()
 
 
 def whole(text, status=200):
