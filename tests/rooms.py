@@ -48,10 +48,6 @@ BY_ACCIDENT = (
     {"ends_row", "is_taken"},  # a row is done after this outcome; the receiver has the instance
     {"next_number", "one_more"},  # the number of a journal's next line; a count of visits, which stays at its greatest
 )
-# A type's name that two crates have for two notions, and that one of them is still to lose.
-TWICE = {
-    "Asked",  # what was asked of tables (dr_store_reads); a call of the desk with its answer (dr_run_serve)
-}
 
 
 def definitions(crate):
@@ -116,7 +112,7 @@ def shared_names():
                 types.setdefault(name, {})[crate] = True
             texts.setdefault(str(meaning(words, name, text, meanings)), []).append((crate, name))
     for name, crates in types.items():
-        if len(crates) > 1 and name not in TWICE:
+        if len(crates) > 1:
             yield f"{name} is defined in the specs of {', '.join(crates)}"
     for places in texts.values():
         if len(places) > 1 and {name for _, name in places} not in BY_ACCIDENT:

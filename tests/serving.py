@@ -923,12 +923,35 @@ def killed():
         same(len(done), len(uids))
 
 
+def moments():
+    """A line has the moment at which its message came, or its answer: none of when the association was asked for, or of the message before."""
+    def late(uid, number, to):
+        time.sleep(1.2)
+        answered.append(time.time() * 1000)
+        return stored(uid, number, to, 0)
+    with Room() as room, Acceptor(room.ports['ARCH'], late):
+        answered, brought = [], []
+        gate = room.serve('GATE', 1)
+        with Requestor(room.ports['GATE'], 'CT1', 'GATE') as caller:
+            for uid in b'1.2.3.1', b'1.2.3.2', b'1.2.3.3':
+                time.sleep(1.2)
+                began = time.time() * 1000
+                same(caller.store(uid, data_set(uid)), 0)
+                brought.append((began, time.time() * 1000))
+            same(caller.release(), RELEASED)
+        ended(gate)
+        with sqlite3.connect(f'{room.folder}/GATE.db') as ledger:
+            came, settled = ([moment for moment, in ledger.execute('SELECT moment FROM journal WHERE kind = ? ORDER BY n', [kind])] for kind in (0, 2))
+        same([began - 5 <= moment <= end + 5 for (began, end), moment in zip(brought, came, strict=True)], 3 * [True])
+        same([-5 <= moment - at < 1000 for moment, at in zip(settled, answered, strict=True)], 3 * [True])
+
+
 def main():
     if not os.path.exists(PROGRAM):
         sys.exit(f'{PROGRAM} is not built')
     if sys.argv[1:] == ['--more']:
         return run_cases('serving --more', rates_alone, many_transfers)
-    run_cases('serving', three_nodes, refusals, listening_elsewhere, dead_hop, held_rows, events, reports, report_paths, forged, refused_contexts, few_workers, unasked, silent_associations,
+    run_cases('serving', three_nodes, refusals, listening_elsewhere, dead_hop, held_rows, moments, events, reports, report_paths, forged, refused_contexts, few_workers, unasked, silent_associations,
               rejected_callers, hops_alone, slow_peers, deaf_peer, slow_reader, crowded, shut, stopped, cut_short, forgotten, killed)
 
 
