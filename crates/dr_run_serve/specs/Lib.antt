@@ -5,5 +5,7 @@ pub mod Pasts
 pub mod Rests
 pub mod Rounds
 pub mod Sendings
+pub mod Stages
 pub mod Sweeps
 pub mod Visits
+pub mod Waitings

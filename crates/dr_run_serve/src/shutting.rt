@@ -4,6 +4,7 @@ ghost use Rattle.dr_base.specs.Texts.{Text};
 ghost use Rattle.dr_ledger.specs.declared.fault.LedgerFault.{LedgerFault as Fault};
 ghost use Rattle.dr_ledger.specs.declared.fault.LedgerFault.TheVariants.{Store};
 ghost use Rattle.dr_run_serve.specs.Sendings.{TellsWhetherThere};
+ghost use Rattle.dr_run_serve.specs.Stages.{BeginsToEnd, IsCutThen, IsNextStage};
 
 use crate::events::{tell_cut, tell_shut, tell_stopping};
 use crate::signal::Signal;
@@ -90,23 +91,40 @@ impl<'a, D: Listening, N: Network> Wake<'a, D, N> {
         true
     }
 
-    /// Ends the node in order, where that was asked for and from then on: nothing is begun any
-    /// more. What is still under way so many milliseconds later is cut. Given is when it began to
-    /// end, and whether it was cut; so is the answer.
-    pub fn stops<R: Wait, G: Log>(&self, rt: &R, ending: EndStage, now: u64, log: &G) -> EndStage {
+    /// Ends the node in order, where that was asked for: nothing is begun any more.
+    fn begins_to_end<R: Wait, G: Log>(&self, rt: &R, now: u64, log: &G) -> EndStage
+        ensures { BeginsToEnd now result }
+    {
+        if !self.stop.is_asked() {
+            return EndStage::Serving;
+        }
+        tell_stopping(log);
+        self.signal.stop(rt);
+        self.listener.close();
+        EndStage::Ending(now)
+    }
+
+    /// Cuts what is still under way so many milliseconds after the node began to end.
+    fn cuts<G: Log>(&self, since: u64, now: u64, log: &G) -> EndStage
+        ensures { IsCutThen since now result }
+    {
+        if now.saturating_sub(since) < LEFT {
+            return EndStage::Ending(since);
+        }
+        tell_cut(log);
+        self.network.cut();
+        EndStage::Cut
+    }
+
+    /// Ends the node in order, where that was asked for, and from then on. Given is how far that
+    /// is; so is the answer.
+    pub fn stops<R: Wait, G: Log>(&self, rt: &R, ending: EndStage, now: u64, log: &G) -> EndStage
+        ensures { IsNextStage ending now result }
+    {
         match ending {
-            EndStage::Serving if self.stop.is_asked() => {
-                tell_stopping(log);
-                self.signal.stop(rt);
-                self.listener.close();
-                EndStage::Ending(now)
-            }
-            EndStage::Ending(since) if now.saturating_sub(since) >= LEFT => {
-                tell_cut(log);
-                self.network.cut();
-                EndStage::Cut
-            }
-            stage => stage,
+            EndStage::Serving => self.begins_to_end(rt, now, log),
+            EndStage::Ending(since) => self.cuts(since, now, log),
+            EndStage::Cut => EndStage::Cut,
         }
     }
 }

@@ -102,9 +102,11 @@ impl<'a> Terms<'a> {
         control: Option<&'a ControlPort>,
     ) -> Terms<'a>
         ensures links { result.links ≡ links }
+        ensures workers { result.workers ≡ min (max 1 workers) 264 }
         ensures memory { result.memory ≡ max 128000000 memory }
         ensures request { result.request ≡ 30000 }
         ensures forget_after { result.forget_after ≡ None }
+        ensures ends { (result.stop ≡ stop.entry) × (result.control ≡ control.entry) }
     {
         Terms {
             links,
@@ -121,9 +123,11 @@ impl<'a> Terms<'a> {
     /// nothing.
     pub fn forgetting(self, after: Option<u64>) -> Terms<'a>
         ensures links { result.links ≡ self.entry.links }
+        ensures workers { result.workers ≡ self.entry.workers }
         ensures memory { result.memory ≡ self.entry.memory }
         ensures forget_after { result.forget_after ≡ after }
         ensures request { result.request ≡ self.entry.request }
+        ensures ends { (result.stop ≡ self.entry.stop) × (result.control ≡ self.entry.control) }
     {
         Terms {
             links: self.links,
@@ -139,8 +143,10 @@ impl<'a> Terms<'a> {
     /// The same, but that a caller has so many milliseconds for its request, at most 600 s.
     pub fn awaiting(self, request: u64) -> Terms<'a>
         ensures links { result.links ≡ self.entry.links }
+        ensures workers { result.workers ≡ self.entry.workers }
         ensures memory { result.memory ≡ self.entry.memory }
         ensures forget_after { result.forget_after ≡ self.entry.forget_after }
+        ensures ends { (result.stop ≡ self.entry.stop) × (result.control ≡ self.entry.control) }
         ensures request { result.request ≡ min request 600000 }
     {
         Terms {
@@ -163,7 +169,8 @@ impl<'a> Terms<'a> {
 
     /// By how many threads.
     pub fn workers(self) -> usize
-        ensures { (1 ≤ result) × (result ≤ 264) }
+        ensures terms { result ≡ self.entry.workers }
+        ensures some { (1 ≤ result) × (result ≤ 264) }
     {
         self.workers
     }
