@@ -1,6 +1,6 @@
 //! The system's files as databases, and ledgers in databases.
 ghost use Rattle.std.specs.Prelude.{◌≡◌, ◌≢◌, ◌<◌, ◌↔◌, ℕ, IfOk, IsTrue, None, Ok, Option};
-ghost use Rattle.std.specs.Prelude.{Result, false};
+ghost use Rattle.std.specs.Prelude.{[], Result, false};
 ghost use Rattle.sqlite.specs.Held.{state};
 ghost use Rattle.dr_word_rehearse.specs.Looks.{IsFoundBy};
 ghost use Rattle.dr_router.specs.Opening.{HasLedgerIn, fault_of_database, fault_of_opening};
@@ -333,7 +333,7 @@ fn stored_ledger<S: Alter>(
 ) -> SqlLedger<S, FileShelf>
     requires idle { conn.in_transaction ≡ false }
     requires kept { HasCleanDisk (state S.Store conn)
-        → IsKept opened.next site (state S.Store conn) }
+        → IsKept [] opened.next site (state S.Store conn) }
     requires own { HasCleanDisk (state S.Store conn)
         → HasOwnOn (state S.Store conn).committed.trees opened.shelf }
     ensures site { result.site ≡ site }

@@ -1,10 +1,11 @@
 -- Queries, one after another.
-use Rattle.std.proofs.Common.{◌≡◌, ◌⊎◌, inl, inr, ℕ, Result, Ok, Err, refl, sym, subst}
+use Rattle.std.proofs.Common.{◌≡◌, ◌⊎◌, inl, inr, ℕ, List, Result, Ok, Err, refl, sym, subst}
 use Rattle.sqlite.specs.State.{State}
 use Rattle.sqlite.specs.Tree.{Trees}
 use Rattle.dr_site.specs.Parts.{Part}
 use Rattle.dr_ledger.specs.declared.fault.LedgerFault.{LedgerFault}
 use Rattle.dr_ledger.specs.declared.fault.LedgerFault.TheVariants as fault
+use Rattle.dr_ledger.specs.Books.{Line}
 use Rattle.dr_ledger.specs.Replies.{LastsAfter, Reads}
 use Rattle.dr_store_shelf.specs.declared.fault.ShelfFault.{ShelfFault}
 use Rattle.dr_store_shelf.specs.declared.fault.ShelfFault.TheVariants as shelf
@@ -66,26 +67,26 @@ looked_shut {A} n part s Shows =
 
 -- one query, and then another
 pub looked_both : {A B : Type 0} (n : ℕ) (part : Part) (old mid new : State) (Shows : Trees → A → Type 0) (a : A) (r : Result B LedgerFault) (Then Says : Trees → B → Type 0) → Looked n part (Ok a) old mid Shows → Looked n part r mid new Then
-    → ((base : Trees) → IsLedgerOf n part base → Shows base a → (b : B) → Then base b → Says base b) → Looked n part r old new Says
+    → ((base : Trees) (past : List Line) → IsLedgerOf past n part base → Shows base a → (b : B) → Then base b → Says base b) → Looked n part r old new Says
 looked_both {A} {B} n part old mid new Shows a r Then Says l c f =
-    let Ledger : Trees → Type 0 = IsLedgerOf n part in
+    let Ledger : Trees → Type 0 = λ db. (past : List Line) × IsLedgerOf past n part db in
     let First : Trees → Trees → Type 0 = λ base db. (db ≡ base) × Reads r (Then base) in
     let Both : Trees → Trees → Type 0 = λ base db. (db ≡ base) × Reads r (Says base) in
     let None : Trees → Trees → Type 0 = λ base db. ⊥ in
-    asked_as n n part r old new Ledger Nothing Both None (λ db is any. is)
-    (looked_then {A = A} {B = B} n n part old mid new Shows a r Ledger Nothing First None Both None l c (λ db is asks shown. tt)
-    (λ base db asks shown it. (it.0, reads_as r (Then base) (Says base) (λ b then. f base asks shown b then) it.1)) (λ base db asks shown none. none))
+    asked_as n n part r old new Ledger Nothing Both None (λ past db is any. (past, is))
+    (looked_then {A = A} {B = B} n n part old mid new Shows a r Ledger Nothing First None Both None l c (λ past db is asks shown. tt)
+    (λ base db asks shown it. (it.0, reads_as r (Then base) (Says base) (λ b then. f base asks.0 asks.1 shown b then) it.1)) (λ base db asks shown none. none))
 
 -- what was read is read further, in a ledger's tables
 pub looked_more : {A B : Type 0} (n : ℕ) (part : Part) (old new : State) (Shows : Trees → A → Type 0) (a : A) (r : Result B LedgerFault) (Says : Trees → B → Type 0) → Looked n part (Ok a) old new Shows
-    → ((base : Trees) → IsLedgerOf n part base → Shows base a → Reads r (Says base)) → Looked n part r old new Says
+    → ((base : Trees) (past : List Line) → IsLedgerOf past n part base → Shows base a → Reads r (Says base)) → Looked n part r old new Says
 looked_more {A} {B} n part old new Shows a r Says l f =
-    let Ledger : Trees → Type 0 = IsLedgerOf n part in
+    let Ledger : Trees → Type 0 = λ db. (past : List Line) × IsLedgerOf past n part db in
     let Given : Trees → Type 0 = λ base. Reads r (Says base) in
     let Both : Trees → Trees → Type 0 = λ base db. (db ≡ base) × Reads r (Says base) in
     let None : Trees → Trees → Type 0 = λ base db. ⊥ in
-    asked_as n n part r old new Ledger Nothing Both None (λ db is any. is)
-    (looked_then {A = A} {B = B} n n part old new new Shows a r Ledger Given Both None Both None l (still_called n part r new Given Both None (λ db given. (refl, given)) (lasts_any r)) (λ db is asks shown. f db asks shown)
+    asked_as n n part r old new Ledger Nothing Both None (λ past db is any. (past, is))
+    (looked_then {A = A} {B = B} n n part old new new Shows a r Ledger Given Both None Both None l (still_called n part r new Given Both None (λ db given. (refl, given)) (lasts_any r)) (λ past db is asks shown. f db asks.0 asks.1 shown)
     (λ base db asks shown it. it) (λ base db asks shown none. none))
 
 -- a query, and an answer by what it showed
@@ -94,5 +95,5 @@ pub looked_answers : {A B : Type 0} (n : ℕ) (part : Part) (old new : State) (S
 looked_answers {A} {B} n part old new Shows a r Answers l f =
     let Both : Trees → Trees → Type 0 = λ base db. (db ≡ base) × Answers base in
     let None : Trees → Trees → Type 0 = λ base db. ⊥ in
-    looked_then {A = A} {B = B} n n part old new new Shows a r Nothing Answers Both None Both None l (still_called n part r new Answers Both None (λ db given. (refl, given)) (lasts_any r)) (λ db is asks shown. f db shown)
+    looked_then {A = A} {B = B} n n part old new new Shows a r Nothing Answers Both None Both None l (still_called n part r new Answers Both None (λ db given. (refl, given)) (lasts_any r)) (λ past db is asks shown. f db shown)
     (λ base db asks shown it. it) (λ base db asks shown none. none)

@@ -9,10 +9,11 @@ use Rattle.dr_base.specs.Texts.{Text, text_cmp}
 use Rattle.dr_route.specs.declared.key.Key.{Key}
 use Rattle.dr_site.specs.Parts.{Part}
 use Rattle.dr_ledger.specs.declared.item.Instance.{Instance}
+use Rattle.dr_ledger.specs.Books.{Line}
 use Rattle.dr_ledger.specs.Replies.{AreKept, Lists}
 use Rattle.dr_ledger.specs.SiteRoutes.{site_routing}
 use Rattle.dr_ledger.proofs.Growing.{inside}
-use Rattle.dr_ledger.proofs.Solid.{journals_are_solid}
+use Rattle.dr_ledger_past.proofs.Goings.{journals_with_pasts_are_solid}
 use Rattle.dr_store_schema.specs.Books.{all_kept_in, book_of, instance_by, items_of, print_or_none, prints_of}
 use Rattle.dr_store_reads.specs.declared.finding.Print.{Print}
 use Rattle.dr_store_lists.specs.Lists.{keys_of, whole_prints_of}
@@ -34,7 +35,7 @@ size_in : (o : Option Key) (item : Instance) (by : Key → Instance) (n : ℕ) �
 size_in None item by n sized h = absurd (let f : ⊥ = cc in f)
 size_in (Some k) item by n sized h = ap (λ (i : Instance). i.size) (sym (inside (by k) item h)) ∙ sized k
 
-module _ (n : ℕ) (part : Part) (base : Trees) (l : IsLedgerOf n part base) where
+module _ {past : List Line} (n : ℕ) (part : Part) (base : Trees) (l : IsLedgerOf past n part base) where
   -- what a print says is the length of the instance
   pub size_by : (uid : Text) (item : Instance) (print : Print) → map.get (items_of base) uid ≡ Some item → find text_cmp uid (map.entries (whole_prints_of base)) ≡ Some print → item.size ≡ print.size
   size_by uid item print there found =
@@ -58,7 +59,7 @@ module _ (n : ℕ) (part : Part) (base : Trees) (l : IsLedgerOf n part base) whe
 
       sized : (e : Text × ℕ) → Contains kept e.0 → (T (is_sorted text_cmp prints) → IsSize prints e) → HasSize base e
       sized e there h =
-          let solid = journals_are_solid (site_routing part) l.journalled.0 (book_of base) l.journalled.1 in
+          let solid = journals_with_pasts_are_solid (site_routing part) past (book_of base) l.journalled in
           let item = solid.kept e.0 ((listed.each e.0).0 there) in
           let size = h (subst (λ ps. T (is_sorted text_cmp ps)) (sym is) (map.entries_sorted (whole_prints_of base))) in
           (item.0, item.1, size_by e.0 item.0 size.0 item.1 (subst (λ ps. find text_cmp e.0 ps ≡ Some size.0) is size.1) ∙ size.2)

@@ -1,5 +1,5 @@
 -- Calls on a ledger that keeps its tables.
-use Rattle.std.proofs.Common.{◌≡◌, ◌≢◌, ◌⊎◌, inl, inr, ℕ, List, Option, ◌+◌, ◌≤◌, ◌<◌, ◌^◌, ◌-◌, min, IsTrue, false, Result, Ok, Err, OnErr, OnOk, eq-or-lt_of_le, refl, sym, ap, subst, ◌∙◌, arith}
+use Rattle.std.proofs.Common.{◌≡◌, ◌≢◌, ◌⊎◌, inl, inr, ℕ, List, [], Option, ◌+◌, ◌≤◌, ◌<◌, ◌^◌, ◌-◌, min, IsTrue, false, Result, Ok, Err, OnErr, OnOk, eq-or-lt_of_le, refl, sym, ap, subst, ◌∙◌, arith}
 use Rattle.std.proofs.Math.Logic.{∥∥₁_elim, ∥∥₁_map}
 use mathlib.Core.Bool.{Bool-set}
 use Rattle.std.proofs.Math.Nat.{min-eq_left, min-eq_right}
@@ -66,10 +66,10 @@ reads_stable (Err fault.NotOver) Shows f h = ∥∥₁_elim h (λ x y. absurd x)
 pub record Done {A : Type 0} (Uses : List ℕ → Type 0) (Apart : List ℕ → List ℕ → Type 0) (n m : ℕ) (part next : Part) (r : Result A LedgerFault) (old new : State) (Answers Makes : Trees → Trees → Type 0) : Type 0 where
   pub clean : doubt old.is_clean ≤ doubt new.is_clean
   pub was_open : HasCleanDisk new → IsTrue new.is_open → IsTrue old.is_open
-  pub lasts : HasCleanDisk new → IsKept n part old → LastsAfter r (IsTrue new.is_open)
-  pub kept : HasCleanDisk new → IsTrue new.is_open → IsKept n part old → IsKept m next new
+  pub lasts : HasCleanDisk new → IsKept [] n part old → LastsAfter r (IsTrue new.is_open)
+  pub kept : HasCleanDisk new → IsTrue new.is_open → IsKept [] n part old → IsKept [] m next new
   pub answers : HasCleanDisk new → IsTrue new.is_open → KeepsOwn Uses Apart n part old → Answers old.committed.trees new.committed.trees
-  pub crash : HasCleanDisk new → IsKept n part old → (db : Trees) → new.may_leave db → old.may_leave db ⊎ Makes old.committed.trees db
+  pub crash : HasCleanDisk new → IsKept [] n part old → (db : Trees) → new.may_leave db → old.may_leave db ⊎ Makes old.committed.trees db
 
 pub called : {A : Type 0} (Uses : List ℕ → Type 0) (Apart : List ℕ → List ℕ → Type 0) (n m : ℕ) (part : Part) (r : Result A LedgerFault) (old new : State) (Answers Makes : Trees → Trees → Type 0) → Called n m part r old new Nothing Answers Makes
     → Done Uses Apart n m part part r old new Answers Makes
@@ -96,7 +96,7 @@ called_whole Uses Apart n m part r old new Answers Makes c = record {
 
 -- what it answers says this too, of the tables of ledgers whose cells are in use
 pub answering : {A : Type 0} (Uses : List ℕ → Type 0) (Apart : List ℕ → List ℕ → Type 0) (n m : ℕ) (part next : Part) (r : Result A LedgerFault) (old new : State) (Answers Says Makes : Trees → Trees → Type 0)
-    → (IsLedgerOf n part old.committed.trees → IsLedgerOf m next new.committed.trees → HaveOwn Uses Apart old.committed.trees → Answers old.committed.trees new.committed.trees → Says old.committed.trees new.committed.trees) → Done Uses Apart n m part next r old new Answers Makes → Done Uses Apart n m part next r old new Says Makes
+    → (IsLedgerOf [] n part old.committed.trees → IsLedgerOf [] m next new.committed.trees → HaveOwn Uses Apart old.committed.trees → Answers old.committed.trees new.committed.trees → Says old.committed.trees new.committed.trees) → Done Uses Apart n m part next r old new Answers Makes → Done Uses Apart n m part next r old new Says Makes
 answering Uses Apart n m part next r old new Answers Says Makes says d = record {
   clean = d.clean;
   was_open = d.was_open;
@@ -114,7 +114,7 @@ module _ {A : Type 0} {Uses : List ℕ → Type 0} {Apart : List ℕ → List �
   pub was_safe : IsSafe new → IsSafe old
   was_safe safe = (omega (arith, c.clean, safe.0), c.was_open safe.0 safe.1)
 
-  pub still_kept : (Uses' : List ℕ → Type 0) → (IsKept n part old → Answers old.committed.trees new.committed.trees → HaveOwn Uses Apart old.committed.trees → HaveOwn Uses' Apart new.committed.trees)
+  pub still_kept : (Uses' : List ℕ → Type 0) → (IsKept [] n part old → Answers old.committed.trees new.committed.trees → HaveOwn Uses Apart old.committed.trees → HaveOwn Uses' Apart new.committed.trees)
       → IsSafe new → ∥ KeepsOwn Uses' Apart m next new ∥₁
   still_kept Uses' owns safe = ∥∥₁_map (kept (was_safe safe)) (λ k. record { kept = c.kept safe.0 safe.1 k.kept; own = owns k.kept (c.answers safe.0 safe.1 k) k.own })
 
@@ -179,13 +179,13 @@ module _ {A : Type 0} {Uses : List ℕ → Type 0} {Apart : List ℕ → List �
     (is_settled : (db : Trees) → IsTrue new.is_open → new.may_leave db → db ≡ new.committed.trees) where
   -- after a call that was accepted it is what was committed, and after another what was there, or what the call makes
   pub covered : (P : Trees → Type 0)
-      → (IsKept n part old → Answers old.committed.trees new.committed.trees → HaveOwn Uses Apart old.committed.trees → P new.committed.trees)
-      → OnErr r (IsKept n part old → HaveOwn Uses Apart old.committed.trees → (db : Trees) → (db ≡ old.committed.trees) ⊎ Makes old.committed.trees db → P db)
+      → (IsKept [] n part old → Answers old.committed.trees new.committed.trees → HaveOwn Uses Apart old.committed.trees → P new.committed.trees)
+      → OnErr r (IsKept [] n part old → HaveOwn Uses Apart old.committed.trees → (db : Trees) → (db ≡ old.committed.trees) ⊎ Makes old.committed.trees db → P db)
       → HasCleanDisk new → IsSafe old → (db : Trees) → new.may_leave db → ∥ P db ∥₁
   covered P owns failed clean safe db may = go r (lasting n m part next r old new Answers Makes kept c).lasts failed
     where
       go : (q : Result A LedgerFault) → LastsAfter q (HasCleanDisk new → IsSafe old → IsSafe new)
-          → OnErr q (IsKept n part old → HaveOwn Uses Apart old.committed.trees → (db : Trees) → (db ≡ old.committed.trees) ⊎ Makes old.committed.trees db → P db)
+          → OnErr q (IsKept [] n part old → HaveOwn Uses Apart old.committed.trees → (db : Trees) → (db ≡ old.committed.trees) ⊎ Makes old.committed.trees db → P db)
           → ∥ P db ∥₁
       go (Ok value) lasts any =
           let now = lasts clean safe in

@@ -38,7 +38,7 @@ pub record HaveOwn (Uses : List ℕ → Type 0) (Apart : List ℕ → List ℕ �
 -- The store is open, with the tables of a ledger of that site, whose cells are in use.
 pub record KeepsOwn (Uses : List ℕ → Type 0) (Apart : List ℕ → List ℕ → Type 0)
     (n : ℕ) (part : Part) (s : State) : Type 0 where
-  pub kept : IsKept n part s
+  pub kept : IsKept [] n part s
   pub own : HaveOwn Uses Apart s.committed.trees
 
 -- each cell stands for the data set of an item, which is the book's

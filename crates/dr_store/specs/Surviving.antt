@@ -1,5 +1,5 @@
 -- A call that writes, by the tables before and after it, and what a crash leaves of it.
-use Rattle.std.specs.Prelude.{◌≡◌, ◌⊎◌, ℕ, Result, Ok, Err, OnOk}
+use Rattle.std.specs.Prelude.{◌≡◌, ◌⊎◌, ℕ, [], Result, Ok, Err, OnOk}
 use Rattle.sqlite.specs.State.{State, HasCleanDisk}
 use Rattle.sqlite.specs.Tree.{Trees}
 use Rattle.dr_base.specs.Texts.{Text}
@@ -17,7 +17,7 @@ use Rattle.dr_store_calls.specs.Knowing.{IsAccepted}
 
 -- the trees have a ledger of that site, in a ledger's tables
 abbrev pub HasLedger : Part → Trees → Type 0
-HasLedger part db = (n : ℕ) × IsLeftLedger n part db
+HasLedger part db = (n : ℕ) × IsLeftLedger [] n part db
 
 -- what a call makes of tables, which is a ledger of that site
 abbrev pub MakesLedger : Part → (Trees → Trees → Type 0) → Trees → Trees → Type 0

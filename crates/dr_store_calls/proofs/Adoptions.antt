@@ -7,8 +7,9 @@ use Rattle.dr_ledger.specs.Bodies.{Bodies}
 use Rattle.dr_ledger.specs.Books.{Adoption, Book, after}
 use Rattle.dr_ledger.specs.Histories.{IsJournalled}
 use Rattle.dr_ledger.specs.SiteRoutes.{site_routing}
-use Rattle.dr_ledger.proofs.Folding.{adoptions_are_journalled}
 use Rattle.dr_ledger.proofs.Needs.{adoptions_need_the_same}
+use Rattle.dr_ledger_past.proofs.Goings.{adoptions_go_on}
+use Rattle.dr_ledger_past.specs.Pasts.{with_past}
 use Rattle.dr_store_schema.specs.Books.{AreBelow, all_kept_in, arrivals_in, bodies_by, bodies_of, book_of, contents_in, items_in, lines_in, lines_of, names_in, prints_in, wholes_in}
 use Rattle.dr_store_changes.specs.Bringing.{HasCells}
 use Rattle.dr_store_changes.proofs.Numbers.{lines_put}
@@ -39,7 +40,7 @@ needed_still b bodies has = record {
 }
 
 pub adopted_ledgers_are_of_the_next : AdoptedLedgersAreOfTheNext
-adopted_ledgers_are_of_the_next part next old new plan n moment below l w owned =
+adopted_ledgers_are_of_the_next past part next old new plan n moment below l w owned =
     let it = adoptions_adopt old new plan n moment below w in
     let b = book_of old in
     record {
@@ -47,6 +48,6 @@ adopted_ledgers_are_of_the_next part next old new plan n moment below l w owned 
       together = untouched old new w.items w.prints l.together;
       numbered = one_line_more n (adopted_line n moment) old new refl w.journal l.numbered;
       ahead = λ m later. ap (λ rows. names_in rows m) w.targets ∙ l.ahead m (omega (arith, later));
-      journalled = subst (IsJournalled (site_routing next)) (sym it.0) (b.lines ++ Adoption ∷ [], adoptions_are_journalled (site_routing part) (site_routing next) l.journalled.0 b l.journalled.1);
+      journalled = subst (λ (x : Book). IsJournalled (site_routing next) (with_past past x)) (sym it.0) (adoptions_go_on (site_routing part) (site_routing next) past b l.journalled);
       bodied = subst (λ (x : Book). HasCells x (bodies_of new)) (sym it.0) (subst (HasCells (after Adoption b)) (sym it.1) (needed_still b (bodies_of old) l.bodied));
     }

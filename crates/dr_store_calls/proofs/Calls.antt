@@ -1,11 +1,12 @@
 -- Calls, one after another.
-use Rattle.std.proofs.Common.{◌≡◌, ◌≤◌, ◌+◌, ◌⊎◌, inl, inr, ℕ, ◌^◌, false, IsTrue, Result, Ok, Err, IfErr, OnOk, refl, sym, ap, subst, ◌∙◌, arith}
+use Rattle.std.proofs.Common.{◌≡◌, ◌≤◌, ◌+◌, ◌⊎◌, inl, inr, ℕ, ◌^◌, false, IsTrue, List, Result, Ok, Err, IfErr, OnOk, refl, sym, ap, subst, ◌∙◌, arith}
 use Rattle.sqlite.specs.Effect.{Database}
 use Rattle.sqlite.specs.State.{State, HasCleanDisk}
 use Rattle.sqlite.specs.Tree.{Trees}
 use Rattle.dr_site.specs.Parts.{Part}
 use Rattle.dr_ledger.specs.declared.fault.LedgerFault.{LedgerFault}
 use Rattle.dr_ledger.specs.declared.fault.LedgerFault.TheVariants as fault
+use Rattle.dr_ledger.specs.Books.{Line}
 use Rattle.dr_ledger.specs.Replies.{IsLastingFault, LastsAfter, Reads}
 use Rattle.dr_store_schema.specs.Books.{AreBelow}
 use Rattle.dr_store_schema.specs.Ledgers.{IsLedger}
@@ -29,10 +30,10 @@ still_ready n old new k s is_open =
       below = subst (λ (d : Database). AreBelow n (d.trees 11)) (sym back) k.below;
     }
 
-still_kept : (n : ℕ) (part : Part) (old new : State) → IsKept n part old → Stays old new → IsTrue new.is_open → IsKept n part new
-still_kept n part old new k s is_open = record {
+still_kept : {past : List Line} (n : ℕ) (part : Part) (old new : State) → IsKept past n part old → Stays old new → IsTrue new.is_open → IsKept past n part new
+still_kept {past} n part old new k s is_open = record {
   ready = still_ready n old new k.ready s is_open;
-  ledger = subst (λ (d : Database). IsLedgerOf n part d.trees) (sym s.committed) k.ledger;
+  ledger = subst (λ (d : Database). IsLedgerOf past n part d.trees) (sym s.committed) k.ledger;
 }
 
 own_fault_lasts : {A : Type 0} (e : LedgerFault) (Shows : A → Type 0) (P : Type 0) → Reads (Err e) Shows → IsLastingFault e P
@@ -50,13 +51,13 @@ asked_looked {A = A} n part r old new Shows a = record {
   clean = a.clean;
   was_open = a.was_open;
   idle = a.idle;
-  lasts = λ clean k any. lasting r (a.shown clean k.ready.ledger) (a.same clean k.ready.ledger);
-  kept = λ clean is_open k any. still_kept n part old new k (a.stays clean is_open k.ready.ledger) is_open;
-  answers = λ clean is_open k any. (
+  lasts = λ {past} clean k any. lasting r (a.shown clean k.ready.ledger) (a.same clean k.ready.ledger);
+  kept = λ {past} clean is_open k any. still_kept n part old new k (a.stays clean is_open k.ready.ledger) is_open;
+  answers = λ {past} clean is_open k any. (
     ap (λ (d : Database). d.trees) (a.stays clean is_open k.ready.ledger).committed,
     subst (λ (d : Database). Reads r (Shows d.trees)) k.ready.settled (a.shown clean k.ready.ledger),
   );
-  crash = λ clean k any db left. inl (a.leaves clean k.ready.ledger db left);
+  crash = λ {past} clean k any db left. inl (a.leaves clean k.ready.ledger db left);
 }
   where
     lasting : (r : Result A LedgerFault) → Reads r (Shows old.now.trees) → OnOk r (IsTrue new.is_open × (new.now ≡ old.now)) → LastsAfter r (IsTrue new.is_open)
@@ -71,10 +72,10 @@ still_called n part r s Asks Answers Makes f lasting = record {
   clean = omega arith;
   was_open = λ clean h. h;
   idle = λ h. h;
-  lasts = λ clean k asks. lasting (IsTrue s.is_open) k.ready.is_open;
-  kept = λ clean is_open k asks. k;
-  answers = λ clean is_open k asks. f s.committed.trees asks;
-  crash = λ clean k asks db left. inl left;
+  lasts = λ {past} clean k asks. lasting (IsTrue s.is_open) k.ready.is_open;
+  kept = λ {past} clean is_open k asks. k;
+  answers = λ {past} clean is_open k asks. f s.committed.trees asks;
+  crash = λ {past} clean k asks db left. inl left;
 }
 
 -- ---- what is known by reading helps what follows
@@ -82,18 +83,18 @@ still_called n part r s Asks Answers Makes f lasting = record {
 module _ {A B : Type 0} (n m : ℕ) (part : Part) (old mid new : State) (Shows : Trees → A → Type 0) where
   -- a query, and then a call
   pub looked_then : (a : A) (r : Result B LedgerFault) (Asks Given : Trees → Type 0) (Answers Made Answers' Made' : Trees → Trees → Type 0) → Looked n part (Ok a) old mid Shows → Called n m part r mid new Given Answers Made
-      → ((db : Trees) → IsLedgerOf n part db → Asks db → Shows db a → Given db) → ((base db : Trees) → Asks base → Shows base a → Answers base db → Answers' base db)
+      → ((past : List Line) (db : Trees) → IsLedgerOf past n part db → Asks db → Shows db a → Given db) → ((base db : Trees) → Asks base → Shows base a → Answers base db → Answers' base db)
       → ((base db : Trees) → Asks base → Shows base a → Made base db → Made' base db) → Called n m part r old new Asks Answers' Made'
   looked_then a r Asks Given Answers Made Answers' Made' l c gives answers makes = record {
     clean = omega (arith, l.clean, c.clean);
     was_open = λ clean is_open. l.was_open (early clean) (c.was_open clean is_open);
     idle = λ h. c.idle (l.idle h);
-    lasts = λ clean k asks. c.lasts clean (middle clean k) (given clean k asks);
-    kept = λ clean is_open k asks. c.kept clean is_open (middle clean k) (given clean k asks);
-    answers = λ clean is_open k asks.
+    lasts = λ {past} clean k asks. c.lasts clean (middle clean k) (given clean k asks);
+    kept = λ {past} clean is_open k asks. c.kept clean is_open (middle clean k) (given clean k asks);
+    answers = λ {past} clean is_open k asks.
         let at : (t : Trees) → t ≡ old.committed.trees → Answers t new.committed.trees → Answers old.committed.trees new.committed.trees = λ t is h. subst (λ x. Answers x new.committed.trees) is h in
         answers old.committed.trees new.committed.trees asks (shown clean k).1 (at mid.committed.trees (shown clean k).0 (c.answers clean is_open (middle clean k) (given clean k asks)));
-    crash = λ clean k asks db left. elim (c.crash clean (middle clean k) (given clean k asks) db left) [
+    crash = λ {past} clean k asks db left. elim (c.crash clean (middle clean k) (given clean k asks) db left) [
       | inl before ↦ elim (l.crash (early clean) k tt db before) [ inl h ↦ inl h | inr none ↦ absurd none.1 ]
       | inr made ↦ inr (made.0, makes old.committed.trees db asks (shown clean k).1 (subst (λ x. Made x db) (shown clean k).0 made.1))
     ];
@@ -102,14 +103,14 @@ module _ {A B : Type 0} (n m : ℕ) (part : Part) (old mid new : State) (Shows :
       early : HasCleanDisk new → HasCleanDisk mid
       early clean = omega (arith, c.clean, clean)
 
-      middle : HasCleanDisk new → IsKept n part old → IsKept n part mid
+      middle : {past : List Line} → HasCleanDisk new → IsKept past n part old → IsKept past n part mid
       middle clean k = l.kept (early clean) (l.lasts (early clean) k tt) k tt
 
-      shown : HasCleanDisk new → IsKept n part old → (mid.committed.trees ≡ old.committed.trees) × Shows old.committed.trees a
+      shown : {past : List Line} → HasCleanDisk new → IsKept past n part old → (mid.committed.trees ≡ old.committed.trees) × Shows old.committed.trees a
       shown clean k = l.answers (early clean) (l.lasts (early clean) k tt) k tt
 
-      given : HasCleanDisk new → IsKept n part old → Asks old.committed.trees → Given mid.committed.trees
-      given clean k asks = subst Given (sym (shown clean k).0) (gives old.committed.trees k.ledger asks (shown clean k).1)
+      given : {past : List Line} → HasCleanDisk new → IsKept past n part old → Asks old.committed.trees → Given mid.committed.trees
+      given {past} clean k asks = subst Given (sym (shown clean k).0) (gives past old.committed.trees k.ledger asks (shown clean k).1)
 
 module _ {A B : Type 0} (n : ℕ) (part : Part) (old new : State) (Shows : Trees → A → Type 0) where
   -- a query that failed
@@ -119,12 +120,12 @@ module _ {A B : Type 0} (n : ℕ) (part : Part) (old new : State) (Shows : Trees
     clean = l.clean;
     was_open = l.was_open;
     idle = l.idle;
-    lasts = λ clean k asks. l.lasts clean k tt;
-    kept = λ clean is_open k asks. l.kept clean is_open k tt;
-    answers = λ clean is_open k asks.
+    lasts = λ {past} clean k asks. l.lasts clean k tt;
+    kept = λ {past} clean is_open k asks. l.kept clean is_open k tt;
+    answers = λ {past} clean is_open k asks.
         let it = l.answers clean is_open k tt in
         subst (λ t. Answers old.committed.trees t) (sym it.0) (answers old.committed.trees asks (own e it.1));
-    crash = λ clean k asks db left. elim (l.crash clean k tt db left) [ inl h ↦ inl h | inr none ↦ absurd none.1 ];
+    crash = λ {past} clean k asks db left. elim (l.crash clean k tt db left) [ inl h ↦ inl h | inr none ↦ absurd none.1 ];
   }
     where
       own : (e : LedgerFault) → Reads (Err e) (Shows old.committed.trees) → IsOwnFault e
@@ -142,62 +143,62 @@ pub own_lasts : (e : LedgerFault) (P : Type 0) → IsOwnFault e → IsLastingFau
 own_lasts e P (inl is) = subst (λ x. IsLastingFault x P) (sym is) tt
 own_lasts e P (inr is) = subst (λ x. IsLastingFault x P) (sym is) tt
 
-asked_before : (n : ℕ) (part : Part) (CA Asks : Trees → Type 0) (old : State) → (IsReady n old → IsLedgerOf n part old.committed.trees → Asks old.committed.trees → CA old.committed.trees)
-    → IsKept n part old → Asks old.committed.trees → CA old.now.trees
-asked_before n part CA Asks old given k asks = subst (λ (d : Database). CA d.trees) (sym k.ready.settled) (given k.ready k.ledger asks)
+asked_before : {past : List Line} (n : ℕ) (part : Part) (CA Asks : Trees → Type 0) (old : State) → ((past : List Line) → IsReady n old → IsLedgerOf past n part old.committed.trees → Asks old.committed.trees → CA old.committed.trees)
+    → IsKept past n part old → Asks old.committed.trees → CA old.now.trees
+asked_before {past} n part CA Asks old given k asks = subst (λ (d : Database). CA d.trees) (sym k.ready.settled) (given past k.ready k.ledger asks)
 
 module _ {A : Type 0} (n : ℕ) (part : Part) (CA Asks : Trees → Type 0) (CM Answers Makes : Trees → Trees → Type 0) (old new : State) (still : old.in_transaction ≡ false → new.in_transaction ≡ false)
-    (given : IsReady n old → IsLedgerOf n part old.committed.trees → Asks old.committed.trees → CA old.committed.trees) where
+    (given : (past : List Line) → IsReady n old → IsLedgerOf past n part old.committed.trees → Asks old.committed.trees → CA old.committed.trees) where
   -- a change that was made
   pub made_called : (value : A) → Written {E = LedgerFault} n CA CM (Ok tt) old new
-      → (IsReady n old → IsLedgerOf n part old.committed.trees → Asks old.committed.trees → (db : Trees) → CM old.committed.trees db → IsLedgerOf (n + 1) part db × Answers old.committed.trees db × Makes old.committed.trees db)
+      → ((past : List Line) → IsReady n old → IsLedgerOf past n part old.committed.trees → Asks old.committed.trees → (db : Trees) → CM old.committed.trees db → IsLedgerOf past (n + 1) part db × Answers old.committed.trees db × Makes old.committed.trees db)
       → Called n (n + 1) part (Ok value) old new Asks Answers Makes
   made_called value w made = record {
     clean = w.clean;
     was_open = w.was_open;
     idle = still;
-    lasts = λ clean k asks. (w.ok clean k.ready (asked_before n part CA Asks old given k asks)).0.is_open;
-    kept = λ clean is_open k asks. let it = w.ok clean k.ready (asked_before n part CA Asks old given k asks) in record { ready = it.0; ledger = (made k.ready k.ledger asks new.committed.trees it.1).0 };
-    answers = λ clean is_open k asks. (made k.ready k.ledger asks new.committed.trees (w.ok clean k.ready (asked_before n part CA Asks old given k asks)).1).1;
-    crash = λ clean k asks db left. elim ((w.crash k.ready (asked_before n part CA Asks old given k asks)).crash clean db left) [
+    lasts = λ {past} clean k asks. (w.ok clean k.ready (asked_before n part CA Asks old given k asks)).0.is_open;
+    kept = λ {past} clean is_open k asks. let it = w.ok clean k.ready (asked_before n part CA Asks old given k asks) in record { ready = it.0; ledger = (made past k.ready k.ledger asks new.committed.trees it.1).0 };
+    answers = λ {past} clean is_open k asks. (made past k.ready k.ledger asks new.committed.trees (w.ok clean k.ready (asked_before n part CA Asks old given k asks)).1).1;
+    crash = λ {past} clean k asks db left. elim ((w.crash k.ready (asked_before n part CA Asks old given k asks)).crash clean db left) [
       | inl before ↦ inl before
-      | inr h ↦ inr (let it = made k.ready k.ledger asks db h.1 in (record { whole = h.0; ledger = it.0 }, it.2))
+      | inr h ↦ inr (let it = made past k.ready k.ledger asks db h.1 in (record { whole = h.0; ledger = it.0 }, it.2))
     ];
   }
 
   -- a change that was refused
   pub unmade_called : (e : LedgerFault) → IsOwnFault e → Written {E = LedgerFault} n CA CM (Err e) old new
-      → (IsReady n old → IsLedgerOf n part old.committed.trees → Asks old.committed.trees → (db : Trees) → CM old.committed.trees db → IsLedgerOf (n + 1) part db × Makes old.committed.trees db)
+      → ((past : List Line) → IsReady n old → IsLedgerOf past n part old.committed.trees → Asks old.committed.trees → (db : Trees) → CM old.committed.trees db → IsLedgerOf past (n + 1) part db × Makes old.committed.trees db)
       → (Asks old.committed.trees → Answers old.committed.trees old.committed.trees) → Called {A = A} n n part (Err e) old new Asks Answers Makes
   unmade_called e own w made answer = record {
     clean = w.clean;
     was_open = w.was_open;
     idle = still;
-    lasts = λ clean k asks. own_lasts e (IsTrue new.is_open) own;
-    kept = λ clean is_open k asks. record {
+    lasts = λ {past} clean k asks. own_lasts e (IsTrue new.is_open) own;
+    kept = λ {past} clean is_open k asks. record {
       ready = w.ready clean is_open k.ready (asked_before n part CA Asks old given k asks);
-      ledger = subst (λ (d : Database). IsLedgerOf n part d.trees) (sym (w.err clean is_open)) k.ledger;
+      ledger = subst (λ (d : Database). IsLedgerOf past n part d.trees) (sym (w.err clean is_open)) k.ledger;
     };
-    answers = λ clean is_open k asks. subst (λ (d : Database). Answers old.committed.trees d.trees) (sym (w.err clean is_open)) (answer asks);
-    crash = λ clean k asks db left. elim ((w.crash k.ready (asked_before n part CA Asks old given k asks)).crash clean db left) [
+    answers = λ {past} clean is_open k asks. subst (λ (d : Database). Answers old.committed.trees d.trees) (sym (w.err clean is_open)) (answer asks);
+    crash = λ {past} clean k asks db left. elim ((w.crash k.ready (asked_before n part CA Asks old given k asks)).crash clean db left) [
       | inl before ↦ inl before
-      | inr h ↦ inr (let it = made k.ready k.ledger asks db h.1 in (record { whole = h.0; ledger = it.0 }, it.1))
+      | inr h ↦ inr (let it = made past k.ready k.ledger asks db h.1 in (record { whole = h.0; ledger = it.0 }, it.1))
     ];
   }
 
 -- a change that was tried, whatever came of it
 pub written_called : (n : ℕ) (part : Part) (CA Asks : Trees → Type 0) (CM : Trees → Trees → Type 0) (Answers : Result (Unit {0}) LedgerFault → Trees → Trees → Type 0) (r : Result (Unit {0}) LedgerFault) (old new : State)
-    → (old.in_transaction ≡ false → new.in_transaction ≡ false) → (IsReady n old → IsLedgerOf n part old.committed.trees → Asks old.committed.trees → CA old.committed.trees)
+    → (old.in_transaction ≡ false → new.in_transaction ≡ false) → ((past : List Line) → IsReady n old → IsLedgerOf past n part old.committed.trees → Asks old.committed.trees → CA old.committed.trees)
     → IfErr r IsOwnFault → Written {E = LedgerFault} n CA CM r old new
-    → (IsReady n old → IsLedgerOf n part old.committed.trees → Asks old.committed.trees → (db : Trees) → CM old.committed.trees db → IsLedgerOf (n + 1) part db × Answers (Ok tt) old.committed.trees db)
+    → ((past : List Line) → IsReady n old → IsLedgerOf past n part old.committed.trees → Asks old.committed.trees → (db : Trees) → CM old.committed.trees db → IsLedgerOf past (n + 1) part db × Answers (Ok tt) old.committed.trees db)
     → ((e : LedgerFault) → IsOwnFault e → Answers (Err e) old.committed.trees old.committed.trees)
     → (Makes : Trees → Trees → Type 0) → ((base db : Trees) → Answers (Ok tt) base db → Makes base db)
     → Called n (advanced r n) part r old new Asks (Answers r) Makes
 written_called n part CA Asks CM Answers (Ok done) old new still given own w made answer Makes weaker =
-    made_called n part CA Asks CM (Answers (Ok tt)) Makes old new still given tt w (λ ready ledger asks db h.
-    let it = made ready ledger asks db h in (it.0, it.1, weaker old.committed.trees db it.1))
+    made_called n part CA Asks CM (Answers (Ok tt)) Makes old new still given tt w (λ past ready ledger asks db h.
+    let it = made past ready ledger asks db h in (it.0, it.1, weaker old.committed.trees db it.1))
 written_called n part CA Asks CM Answers (Err e) old new still given own w made answer Makes weaker =
-    unmade_called n part CA Asks CM (Answers (Err e)) Makes old new still given e own w (λ ready ledger asks db h. let it = made ready ledger asks db h in (it.0, weaker old.committed.trees db it.1)) (λ asks. answer e own)
+    unmade_called n part CA Asks CM (Answers (Err e)) Makes old new still given e own w (λ past ready ledger asks db h. let it = made past ready ledger asks db h in (it.0, weaker old.committed.trees db it.1)) (λ asks. answer e own)
 
 -- ---- a written change, with the ledger's faults
 
@@ -230,29 +231,29 @@ below_of n s ready = subst (λ (d : Database). AreBelow n (d.trees 11)) ready.se
 
 -- a call that asks for less
 pub asked_as : {A : Type 0} (n m : ℕ) (part : Part) (r : Result A LedgerFault) (old new : State) (Asks More : Trees → Type 0) (Answers Makes : Trees → Trees → Type 0)
-    → ((db : Trees) → IsLedgerOf n part db → More db → Asks db) → Called n m part r old new Asks Answers Makes → Called n m part r old new More Answers Makes
+    → ((past : List Line) (db : Trees) → IsLedgerOf past n part db → More db → Asks db) → Called n m part r old new Asks Answers Makes → Called n m part r old new More Answers Makes
 asked_as n m part r old new Asks More Answers Makes gives c = record {
   clean = c.clean;
   was_open = c.was_open;
   idle = c.idle;
-  lasts = λ clean k asks. c.lasts clean k (gives old.committed.trees k.ledger asks);
-  kept = λ clean is_open k asks. c.kept clean is_open k (gives old.committed.trees k.ledger asks);
-  answers = λ clean is_open k asks. c.answers clean is_open k (gives old.committed.trees k.ledger asks);
-  crash = λ clean k asks db left. c.crash clean k (gives old.committed.trees k.ledger asks) db left;
+  lasts = λ {past} clean k asks. c.lasts clean k (gives past old.committed.trees k.ledger asks);
+  kept = λ {past} clean is_open k asks. c.kept clean is_open k (gives past old.committed.trees k.ledger asks);
+  answers = λ {past} clean is_open k asks. c.answers clean is_open k (gives past old.committed.trees k.ledger asks);
+  crash = λ {past} clean k asks db left. c.crash clean k (gives past old.committed.trees k.ledger asks) db left;
 }
 
 -- a call that asks for more, of which less is said
 pub said_as : {A : Type 0} (n m : ℕ) (part : Part) (r : Result A LedgerFault) (old new : State) (Asks More : Trees → Type 0) (Answers Says Makes Less : Trees → Trees → Type 0)
-    → ((db : Trees) → IsLedgerOf n part db → More db → Asks db) → ((base db : Trees) → Answers base db → Says base db) → ((base db : Trees) → Makes base db → Less base db) → Called n m part r old new Asks Answers Makes
+    → ((past : List Line) (db : Trees) → IsLedgerOf past n part db → More db → Asks db) → ((base db : Trees) → Answers base db → Says base db) → ((base db : Trees) → Makes base db → Less base db) → Called n m part r old new Asks Answers Makes
     → Called n m part r old new More Says Less
 said_as n m part r old new Asks More Answers Says Makes Less gives says weaker c = record {
   clean = c.clean;
   was_open = c.was_open;
   idle = c.idle;
-  lasts = λ clean k asks. c.lasts clean k (gives old.committed.trees k.ledger asks);
-  kept = λ clean is_open k asks. c.kept clean is_open k (gives old.committed.trees k.ledger asks);
-  answers = λ clean is_open k asks. says old.committed.trees new.committed.trees (c.answers clean is_open k (gives old.committed.trees k.ledger asks));
-  crash = λ clean k asks db left. elim (c.crash clean k (gives old.committed.trees k.ledger asks) db left) [ inl before ↦ inl before | inr made ↦ inr (made.0, weaker old.committed.trees db made.1) ];
+  lasts = λ {past} clean k asks. c.lasts clean k (gives past old.committed.trees k.ledger asks);
+  kept = λ {past} clean is_open k asks. c.kept clean is_open k (gives past old.committed.trees k.ledger asks);
+  answers = λ {past} clean is_open k asks. says old.committed.trees new.committed.trees (c.answers clean is_open k (gives past old.committed.trees k.ledger asks));
+  crash = λ {past} clean k asks db left. elim (c.crash clean k (gives past old.committed.trees k.ledger asks) db left) [ inl before ↦ inl before | inr made ↦ inr (made.0, weaker old.committed.trees db made.1) ];
 }
 
 -- what was read is read further, without the tables
@@ -262,10 +263,10 @@ looked_read {B = B} n part old new Shows a r Says l says = record {
   clean = l.clean;
   was_open = l.was_open;
   idle = l.idle;
-  lasts = λ clean k any. lasting r (says old.committed.trees (l.answers clean (l.lasts clean k tt) k tt).1) (l.lasts clean k tt);
-  kept = l.kept;
-  answers = λ clean is_open k any. let it = l.answers clean is_open k tt in (it.0, says old.committed.trees it.1);
-  crash = l.crash;
+  lasts = λ {past} clean k any. lasting r (says old.committed.trees (l.answers clean (l.lasts clean k tt) k tt).1) (l.lasts clean k tt);
+  kept = λ {past} clean is_open k asks. l.kept clean is_open k asks;
+  answers = λ {past} clean is_open k any. let it = l.answers clean is_open k tt in (it.0, says old.committed.trees it.1);
+  crash = λ {past} clean k asks db left. l.crash clean k asks db left;
 }
   where
     lasting : (r : Result B LedgerFault) → Reads r (Says old.committed.trees) → IsTrue new.is_open → LastsAfter r (IsTrue new.is_open)

@@ -8,7 +8,7 @@ use Rattle.dr_site.specs.Parts.{Part}
 use Rattle.dr_ledger.specs.declared.fault.LedgerFault.{LedgerFault}
 use Rattle.dr_ledger.specs.declared.fault.LedgerFault.TheVariants as fault
 use Rattle.dr_ledger.specs.Adopting.{Adopting}
-use Rattle.dr_ledger.specs.Books.{Book, not_over}
+use Rattle.dr_ledger.specs.Books.{Book, Line, not_over}
 use Rattle.dr_ledger.specs.Replies.{Reads}
 use Rattle.dr_store_schema.specs.Books.{bodies_of, book_of, rows_in}
 use Rattle.dr_store_writes.specs.Effects.{AddsRow, DropsArrivals, DropsOver, GoesOn, HasSite, IsSiteOf, SetsPlan, adopted_line}
@@ -105,15 +105,15 @@ stood_so next e base db own same = record {
 
 module _ (n : ℕ) (part next : Part) (old new : State) (Asks : Trees → Type 0) where
   -- a call that was refused, and made nothing of the tables
-  pub refused_adopted : (e : LedgerFault) → (HasCleanDisk new → IsTrue new.is_open → IsKept n part old → IsOwnFault e) → Called {A = Unit {0}} n n part (Err e) old new Asks Stood Never → Adopted n part next (Err e) old new Asks
+  pub refused_adopted : (e : LedgerFault) → ((past : List Line) → HasCleanDisk new → IsTrue new.is_open → IsKept past n part old → IsOwnFault e) → Called {A = Unit {0}} n n part (Err e) old new Asks Stood Never → Adopted n part next (Err e) old new Asks
   refused_adopted e own c = record {
     clean = c.clean;
     was_open = c.was_open;
     idle = c.idle;
-    lasts = c.lasts;
-    kept = c.kept;
-    answers = λ clean is_open k asks. stood_so next e old.committed.trees new.committed.trees (own clean is_open k) (c.answers clean is_open k asks);
-    crash = λ clean k asks db left. elim (c.crash clean k asks db left) [ inl h ↦ inl h | inr none ↦ absurd none.1 ];
+    lasts = λ {past} clean k asks. c.lasts clean k asks;
+    kept = λ {past} clean is_open k asks. c.kept clean is_open k asks;
+    answers = λ {past} clean is_open k asks. stood_so next e old.committed.trees new.committed.trees (own past clean is_open k) (c.answers clean is_open k asks);
+    crash = λ {past} clean k asks db left. elim (c.crash clean k asks db left) [ inl h ↦ inl h | inr none ↦ absurd none.1 ];
   }
 
 -- what was written, where the tables had this owner: its cell has the mark that the next one gets
@@ -132,11 +132,11 @@ module _ (n : ℕ) (part next : Part) (old new : State) (still : old.in_transact
     literals = next.literals;
   }
 
-  adopted_so : IsReady n old → IsLedgerOf n part old.committed.trees → IsSiteOf next.name was old.committed.trees → (db : Trees) → AdoptsPlan cell n moment old.committed.trees db → IsLedgerOf (n + 1) next db × IsAdopted next old.committed.trees db
-  adopted_so ready l asks db w =
+  adopted_so : {past : List Line} → IsReady n old → IsLedgerOf past n part old.committed.trees → IsSiteOf next.name was old.committed.trees → (db : Trees) → AdoptsPlan cell n moment old.committed.trees db → IsLedgerOf past (n + 1) next db × IsAdopted next old.committed.trees db
+  adopted_so {past} ready l asks db w =
       let it = adoptions_adopt old.committed.trees db cell n moment (below_of n old ready) w in
       let owns : IsOwnedWith mark next db = (cell, has, w.site next.name was asks) in (
-        adopted_ledgers_are_of_the_next part next old.committed.trees db cell n moment (below_of n old ready) l w (mark, owns),
+        adopted_ledgers_are_of_the_next past part next old.committed.trees db cell n moment (below_of n old ready) l w (mark, owns),
         record {
           book = it.0;
           bodies = it.1;
@@ -150,13 +150,13 @@ module _ (n : ℕ) (part next : Part) (old new : State) (still : old.in_transact
         },
       )
 
-  before : IsKept n part old → IsSiteOf next.name was old.committed.trees → HasSite old.now.trees
+  before : {past : List Line} → IsKept past n part old → IsSiteOf next.name was old.committed.trees → HasSite old.now.trees
   before k asks = subst (λ (d : Database). HasSite d.trees) (sym k.ready.settled) (next.name, was, asks)
 
   -- what a crash leaves, whatever was answered
-  may_be : (r : Result (Unit {0}) LedgerFault) → Written {E = LedgerFault} n HasSite (AdoptsPlan cell n moment) r old new
-      → HasCleanDisk new → IsKept n part old → IsSiteOf next.name was old.committed.trees → (db : Trees) → new.may_leave db
-      → old.may_leave db ⊎ (IsLeftLedger (n + 1) next db × IsAdopted next old.committed.trees db)
+  may_be : {past : List Line} (r : Result (Unit {0}) LedgerFault) → Written {E = LedgerFault} n HasSite (AdoptsPlan cell n moment) r old new
+      → HasCleanDisk new → IsKept past n part old → IsSiteOf next.name was old.committed.trees → (db : Trees) → new.may_leave db
+      → old.may_leave db ⊎ (IsLeftLedger past (n + 1) next db × IsAdopted next old.committed.trees db)
   may_be r w clean k asks db left = elim ((w.crash k.ready (before k asks)).crash clean db left) [
     | inl h ↦ inl h
     | inr made ↦ inr (let it = adopted_so k.ready k.ledger asks db made.1 in (record { whole = made.0; ledger = it.0 }, it.1))
@@ -167,31 +167,31 @@ module _ (n : ℕ) (part next : Part) (old new : State) (still : old.in_transact
     clean = w.clean;
     was_open = w.was_open;
     idle = still;
-    lasts = λ clean k asks. (w.ok clean k.ready (before k asks)).0.is_open;
-    kept = λ clean is_open k asks.
+    lasts = λ {past} clean k asks. (w.ok clean k.ready (before k asks)).0.is_open;
+    kept = λ {past} clean is_open k asks.
         let it = w.ok clean k.ready (before k asks) in
         record { ready = it.0; ledger = (adopted_so k.ready k.ledger asks new.committed.trees it.1).0 };
-    answers = λ clean is_open k asks.
+    answers = λ {past} clean is_open k asks.
         let it = (adopted_so k.ready k.ledger asks new.committed.trees (w.ok clean k.ready (before k asks)).1).1 in
         record { reply = it.book; bodies = it.bodies; owner = it.owner; same = tt };
-    crash = may_be (Ok done) w;
+    crash = λ {past} clean k asks db left. may_be (Ok done) w clean k asks db left;
   }
   written_adopted (Err e) own w = record {
     clean = w.clean;
     was_open = w.was_open;
     idle = still;
-    lasts = λ clean k asks. own_lasts e (IsTrue new.is_open) own;
-    kept = λ clean is_open k asks. record {
+    lasts = λ {past} clean k asks. own_lasts e (IsTrue new.is_open) own;
+    kept = λ {past} clean is_open k asks. record {
       ready = w.ready clean is_open k.ready (before k asks);
-      ledger = subst (λ (d : Database). IsLedgerOf n part d.trees) (sym (w.err clean is_open)) k.ledger;
+      ledger = subst (λ (d : Database). IsLedgerOf past n part d.trees) (sym (w.err clean is_open)) k.ledger;
     };
-    answers = λ clean is_open k asks. stood_so next e old.committed.trees new.committed.trees own (ap (λ (d : Database). d.trees) (w.err clean is_open));
-    crash = may_be (Err e) w;
+    answers = λ {past} clean is_open k asks. stood_so next e old.committed.trees new.committed.trees own (ap (λ (d : Database). d.trees) (w.err clean is_open));
+    crash = λ {past} clean k asks db left. may_be (Err e) w clean k asks db left;
   }
 
 -- where nothing is tried
 pub not_adopted : (n : ℕ) (part next : Part) (s : State) (Asks : Trees → Type 0) (e : LedgerFault) → IsOwnFault e → Adopted n part next (Err e) s s Asks
-not_adopted n part next s Asks e own = refused_adopted n part next s s Asks e (λ clean is_open k. own)
+not_adopted n part next s Asks e own = refused_adopted n part next s s Asks e (λ past clean is_open k. own)
     (still_called {A = Unit {0}} n part (Err e) s Asks Stood Never (λ db asks. refl) (λ P h. own_lasts e P own))
 
 -- where a fault is Store
@@ -204,10 +204,10 @@ adopted_where n part next r old new Asks More gives c = record {
   clean = c.clean;
   was_open = c.was_open;
   idle = c.idle;
-  lasts = λ clean k asks. c.lasts clean k (gives old.committed.trees asks);
-  kept = λ clean is_open k asks. c.kept clean is_open k (gives old.committed.trees asks);
-  answers = λ clean is_open k asks. c.answers clean is_open k (gives old.committed.trees asks);
-  crash = λ clean k asks db left. c.crash clean k (gives old.committed.trees asks) db left;
+  lasts = λ {past} clean k asks. c.lasts clean k (gives old.committed.trees asks);
+  kept = λ {past} clean is_open k asks. c.kept clean is_open k (gives old.committed.trees asks);
+  answers = λ {past} clean is_open k asks. c.answers clean is_open k (gives old.committed.trees asks);
+  crash = λ {past} clean k asks db left. c.crash clean k (gives old.committed.trees asks) db left;
 }
 
 -- the owner was read, and then it was adopted
@@ -218,10 +218,10 @@ module _ {A : Type 0} (n : ℕ) (part next : Part) (old mid new : State) (Shows 
     clean = omega (arith, l.clean, c.clean);
     was_open = λ clean is_open. l.was_open (early clean) (c.was_open clean is_open);
     idle = λ h. c.idle (l.idle h);
-    lasts = λ clean k any. c.lasts clean (middle clean k) (given clean k);
-    kept = λ clean is_open k any. c.kept clean is_open (middle clean k) (given clean k);
-    answers = λ clean is_open k any. subst (λ base. AnswersAdoption next r base new.committed.trees) (shown clean k).0 (c.answers clean is_open (middle clean k) (given clean k));
-    crash = λ clean k any db left. elim (c.crash clean (middle clean k) (given clean k) db left) [
+    lasts = λ {past} clean k any. c.lasts clean (middle clean k) (given clean k);
+    kept = λ {past} clean is_open k any. c.kept clean is_open (middle clean k) (given clean k);
+    answers = λ {past} clean is_open k any. subst (λ base. AnswersAdoption next r base new.committed.trees) (shown clean k).0 (c.answers clean is_open (middle clean k) (given clean k));
+    crash = λ {past} clean k any db left. elim (c.crash clean (middle clean k) (given clean k) db left) [
       | inl before ↦ elim (l.crash (early clean) k tt db before) [ inl h ↦ inl h | inr none ↦ absurd none.1 ]
       | inr made ↦ inr (made.0, subst (λ base. IsAdopted next base db) (shown clean k).0 made.1)
     ];
@@ -230,13 +230,13 @@ module _ {A : Type 0} (n : ℕ) (part next : Part) (old mid new : State) (Shows 
       early : HasCleanDisk new → HasCleanDisk mid
       early clean = omega (arith, c.clean, clean)
 
-      middle : HasCleanDisk new → IsKept n part old → IsKept n part mid
+      middle : {past : List Line} → HasCleanDisk new → IsKept past n part old → IsKept past n part mid
       middle clean k = l.kept (early clean) (l.lasts (early clean) k tt) k tt
 
-      shown : HasCleanDisk new → IsKept n part old → (mid.committed.trees ≡ old.committed.trees) × Shows old.committed.trees a
+      shown : {past : List Line} → HasCleanDisk new → IsKept past n part old → (mid.committed.trees ≡ old.committed.trees) × Shows old.committed.trees a
       shown clean k = l.answers (early clean) (l.lasts (early clean) k tt) k tt
 
-      given : HasCleanDisk new → IsKept n part old → Given mid.committed.trees
+      given : {past : List Line} → HasCleanDisk new → IsKept past n part old → Given mid.committed.trees
       given clean k = subst Given (sym (shown clean k).0) (gives old.committed.trees (shown clean k).1)
 
 -- the owner was read, and it wasn't tried
@@ -255,5 +255,5 @@ own_of fault.NotOver Shows h = absurd h
 -- the owner couldn't be read
 pub looked_none : {A : Type 0} (n : ℕ) (part next : Part) (old new : State) (Shows : Trees → A → Type 0) (e : LedgerFault) → Looked n part (Err e) old new Shows → Adopted n part next (Err e) old new Nothing
 looked_none n part next old new Shows e l =
-    refused_adopted n part next old new Nothing e (λ clean is_open k. own_of e (Shows old.committed.trees) (l.answers clean is_open k tt).1)
+    refused_adopted n part next old new Nothing e (λ past clean is_open k. own_of e (Shows old.committed.trees) (l.answers clean is_open k tt).1)
     (looked_failed {B = Unit {0}} n part old new Shows e Nothing Stood Never l (λ base any own. refl))

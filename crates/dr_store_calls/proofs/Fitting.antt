@@ -16,14 +16,14 @@ use Rattle.dr_ledger.specs.declared.item.Instance.{Instance}
 use Rattle.dr_ledger.specs.declared.item.Progress.{Progress}
 use Rattle.dr_ledger.specs.declared.item.Progress.TheVariants.{Waiting, Held, Done, Dropped}
 use Rattle.dr_ledger.specs.Bodies.{IsNeeded}
-use Rattle.dr_ledger.specs.Books.{Book, Arrival, after, is_queued}
+use Rattle.dr_ledger.specs.Books.{Book, Line, Arrival, after, is_queued}
 use Rattle.dr_ledger.specs.Histories.{IsSolid}
 use Rattle.dr_ledger.specs.Pairs.{pair_cmp}
 use Rattle.dr_ledger.specs.PlanRoutes.{keeps_by, targets_by}
 use Rattle.dr_ledger.specs.SiteRoutes.{site_routing}
 use Rattle.dr_ledger.proofs.Growing.{inside, kept_from, now_kept}
 use Rattle.dr_ledger.proofs.PlanRouting.{keeps_by_where_kept, one_list, targets_by_are_in_order, targets_by_are_sent_to}
-use Rattle.dr_ledger.proofs.Solid.{journals_are_solid}
+use Rattle.dr_ledger_past.proofs.Goings.{journals_with_pasts_are_solid}
 use Rattle.dr_store_schema.specs.Books.{all_kept_in, arrivals_in, bodies_of, book_of, items_of, rows_of}
 use Rattle.dr_store_changes.specs.declared.first.Taking.TheVariants as taking
 use Rattle.dr_store_changes.specs.Bringing.{given_up, is_dropped, missing}
@@ -119,9 +119,9 @@ unset : (b : Bool) → (b ≡ true → ⊥) → b ≡ false
 unset true none = absurd (none refl)
 unset false none = refl
 
-module _ (n : ℕ) (part : Part) (caller : Text) (item : Instance) (to : List Text) (keep : Bool) (base : Trees) (l : IsLedgerOf n part base) (neither : HasNeither item.uid base) where
+module _ {past : List Line} (n : ℕ) (part : Part) (caller : Text) (item : Instance) (to : List Text) (keep : Bool) (base : Trees) (l : IsLedgerOf past n part base) (neither : HasNeither item.uid base) where
   solid : IsSolid (book_of base)
-  solid = journals_are_solid (site_routing part) l.journalled.0 (book_of base) l.journalled.1
+  solid = journals_with_pasts_are_solid (site_routing part) past (book_of base) l.journalled
 
   no_item : map.get (items_of base) item.uid ≡ None
   no_item = no_item_there base item.uid neither.0
@@ -183,7 +183,7 @@ some_of : {A : Type 0} (o : Option A) → is_some o ≡ true → (a : A) × (o �
 some_of None h = absurd (true≢false (sym h))
 some_of (Some a) h = (a, refl)
 
-module _ (n : ℕ) (part : Part) (caller : Text) (item : Instance) (to : List Text) (keep whole kept : Bool) (again dests : List Text) (base : Trees) (l : IsLedgerOf n part base) (there : IsThere base item whole)
+module _ {past : List Line} (n : ℕ) (part : Part) (caller : Text) (item : Instance) (to : List Text) (keep whole kept : Bool) (again dests : List Text) (base : Trees) (l : IsLedgerOf past n part base) (there : IsThere base item whole)
     (first : set.contains (arrivals_in (base 5)) (caller, item.uid) ≡ false) (again_are : again ≡ given_up (rows_of base) item.uid to) (dests_are : dests ≡ missing (rows_of base) item.uid to) (kept_is : kept ≡ set.contains (all_kept_in (base 7)) item.uid) where
   keeps_more : (keep && not kept) ≡ (keep && not (set.contains (all_kept_in (base 7)) item.uid))
   keeps_more = ap (λ b. keep && not b) kept_is

@@ -39,19 +39,19 @@ module _ (n : ℕ) (part : Part) (old new : State) (Asks : Trees → Type 0) whe
     clean = c.clean;
     was_open = c.was_open;
     idle = c.idle;
-    lasts = c.lasts;
-    kept = c.kept;
-    answers = λ clean is_open k asks. ok old.committed.trees new.committed.trees (c.answers clean is_open k asks);
-    crash = c.crash;
+    lasts = λ {past} clean k asks. c.lasts clean k asks;
+    kept = λ {past} clean is_open k asks. c.kept clean is_open k asks;
+    answers = λ {past} clean is_open k asks. ok old.committed.trees new.committed.trees (c.answers clean is_open k asks);
+    crash = λ {past} clean k asks db left. c.crash clean k asks db left;
   }
   told went (Err e) Answers Says Makes ok err c = record {
     clean = c.clean;
     was_open = c.was_open;
     idle = c.idle;
-    lasts = c.lasts;
-    kept = c.kept;
-    answers = λ clean is_open k asks. err e old.committed.trees new.committed.trees (c.answers clean is_open k asks);
-    crash = c.crash;
+    lasts = λ {past} clean k asks. c.lasts clean k asks;
+    kept = λ {past} clean is_open k asks. c.kept clean is_open k asks;
+    answers = λ {past} clean is_open k asks. err e old.committed.trees new.committed.trees (c.answers clean is_open k asks);
+    crash = λ {past} clean k asks db left. c.crash clean k asks db left;
   }
 
   -- the same without telling it
@@ -61,19 +61,19 @@ module _ (n : ℕ) (part : Part) (old new : State) (Asks : Trees → Type 0) whe
     clean = c.clean;
     was_open = c.was_open;
     idle = c.idle;
-    lasts = c.lasts;
-    kept = c.kept;
-    answers = c.answers;
-    crash = c.crash;
+    lasts = λ {past} clean k asks. c.lasts clean k asks;
+    kept = λ {past} clean is_open k asks. c.kept clean is_open k asks;
+    answers = λ {past} clean is_open k asks. c.answers clean is_open k asks;
+    crash = λ {past} clean k asks db left. c.crash clean k asks db left;
   }
   untold (Err e) Answers Makes c = record {
     clean = c.clean;
     was_open = c.was_open;
     idle = c.idle;
-    lasts = c.lasts;
-    kept = c.kept;
-    answers = c.answers;
-    crash = c.crash;
+    lasts = λ {past} clean k asks. c.lasts clean k asks;
+    kept = λ {past} clean is_open k asks. c.kept clean is_open k asks;
+    answers = λ {past} clean is_open k asks. c.answers clean is_open k asks;
+    crash = λ {past} clean k asks db left. c.crash clean k asks db left;
   }
 
 -- ---- which cell it is

@@ -14,7 +14,8 @@ pub still_owned : (part : Part) (base db : Trees) → db 0 ≡ base 0
 still_owned part base db site owned = (owned.0, (owned.1.0, owned.1.1, site ∙ owned.1.2))
 
 -- lines count up with the one that is added
-pub one_line_more : (n : ℕ) (line : Row) (base db : Trees) → rowid line ≡ Int (pos n)
-    → db 11 ≡ put_row line (base 11) → AreNumberedTo n (base 11) → AreNumberedTo (n + 1) (db 11)
-one_line_more n line base db numbered journal all =
-    lines_count_up base db n (record { row = line; numbered = numbered; journal = journal }) all
+pub one_line_more : {first : ℕ} (n : ℕ) (line : Row) (base db : Trees) → rowid line ≡ Int (pos n)
+    → db 11 ≡ put_row line (base 11) → AreNumberedTo first n (base 11)
+    → AreNumberedTo first (n + 1) (db 11)
+one_line_more {first} n line base db numbered journal all =
+    lines_count_up base db first n (record { row = line; numbered = numbered; journal = journal }) all

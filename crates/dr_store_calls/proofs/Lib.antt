@@ -8,6 +8,7 @@ pub mod Ledgers
 pub mod Moves
 pub mod Overs
 pub mod Owners
+pub mod Pasts
 pub mod Reading
 pub mod Shelved
 pub mod Takings

@@ -15,14 +15,14 @@ use Rattle.dr_ledger.specs.declared.item.Outcome.{Outcome}
 use Rattle.dr_ledger.specs.declared.item.Progress.{Progress}
 use Rattle.dr_ledger.specs.declared.item.Progress.TheVariants.{Waiting, Held, Done, Dropped}
 use Rattle.dr_ledger.specs.Bodies.{Bodies, IsNeeded, OnlyLetsGo}
-use Rattle.dr_ledger.specs.Books.{Book, is_queued, row_after}
+use Rattle.dr_ledger.specs.Books.{Book, Line, is_queued, row_after}
 use Rattle.dr_ledger.specs.Histories.{IsJournalled}
 use Rattle.dr_ledger.specs.Pairs.{Pair, pair_cmp}
 use Rattle.dr_ledger.specs.Replies.{Drops, Requeues, Settles}
 use Rattle.dr_ledger.specs.SiteRoutes.{site_routing}
-use Rattle.dr_ledger.proofs.Folding.{droppings_are_journalled, requeuings_are_journalled, settlings_are_journalled}
 use Rattle.dr_ledger.proofs.Maps.{get_new, get_other, got, text_pairs, ties_itself, same_or_not}
 use Rattle.dr_ledger.proofs.Wholes.{settled_fits}
+use Rattle.dr_ledger_past.proofs.Goings.{droppings_go_on, requeuings_go_on, settlings_go_on}
 use Rattle.dr_store_schema.specs.Books.{AreBelow, all_kept_in, bodies_by, bodies_of, book_of, contents_in, is_whole, names_in, rows_in, rows_of, wholes_in}
 use Rattle.dr_store_schema.specs.Cells.{due_of}
 use Rattle.dr_store_writes.specs.Effects.{HasRow, dropped_line, requeued_line, settled_line}
@@ -96,11 +96,11 @@ goes_with : (base db : Trees) (uid : Text) (needed : Bool) → ((cell : List ℕ
 goes_with base db uid true there goes = goes
 goes_with base db uid false there goes = (there, goes)
 
-pub settles : (n : ℕ) (part : Part) (base db : Trees) (uid dest : Text) (tries due : ℕ) (to : Progress) (what : Outcome) (now : ℕ) (needed : Bool) → now ≤ 2 ^ 62 → AreBelow n (base 11) → IsLedgerOf n part base
+pub settles : {past : List Line} (n : ℕ) (part : Part) (base db : Trees) (uid dest : Text) (tries due : ℕ) (to : Progress) (what : Outcome) (now : ℕ) (needed : Bool) → now ≤ 2 ^ 62 → AreBelow n (base 11) → IsLedgerOf past n part base
     → map.get (rows_of base) (uid, dest) ≡ Some (Waiting tries due) → to ≡ row_after tries what now → (IsTrue needed ↔ IsNeededStill base uid dest to)
     → MovesOn (uid, dest) to (settled_line n uid dest what now) (not needed) base db
-    → IsLedgerOf (n + 1) part db × (Settles uid dest what now (book_of base) (Ok tt) (book_of db) × OnlyLetsGo (bodies_of base) (bodies_of db) × GoesWith (Ok (not needed)) uid base db)
-settles n part base db uid dest tries due to what now needed early below l waits is says w =
+    → IsLedgerOf past (n + 1) part db × (Settles uid dest what now (book_of base) (Ok tt) (book_of db) × OnlyLetsGo (bodies_of base) (bodies_of db) × GoesWith (Ok (not needed)) uid base db)
+settles {past} n part base db uid dest tries due to what now needed early below l waits is says w =
     let line : Row = settled_line n uid dest what now in
     let P : Progress → Type 0 = λ p. MovesOn (uid, dest) p line (not needed) base db in
     let book = settlings_settle base db n uid dest tries due what now (not needed) below waits (subst P is w) in
@@ -111,7 +111,7 @@ settles n part base db uid dest tries due to what now needed early below l waits
         together = w.together l.together;
         numbered = one_line_more n line base db refl w.journal l.numbered;
         ahead = moved_ahead base db uid dest to line (not needed) w n l.ahead;
-        journalled = (l.journalled.0, settlings_are_journalled (site_routing part) l.journalled.0 uid dest what now (book_of base) (book_of db) (Ok tt) early l.journalled.1 answer);
+        journalled = settlings_go_on (site_routing part) past uid dest what now (book_of base) (book_of db) (Ok tt) early l.journalled answer;
         bodied = what_is_needed_stays base db uid dest (Waiting tries due) to line (not needed) l.bodied (row_needed base uid dest (Waiting tries due) waits unfinished) w (goes base db uid dest to line (not needed) w needed says);
       },
       (
@@ -121,10 +121,10 @@ settles n part base db uid dest tries due to what now needed early below l waits
       ),
     )
 
-pub requeues : (n : ℕ) (moment : Option ℕ) (part : Part) (base db : Trees) (uid dest : Text) (why : Cause) → AreBelow n (base 11) → IsLedgerOf n part base → map.get (rows_of base) (uid, dest) ≡ Some (Held why)
+pub requeues : {past : List Line} (n : ℕ) (moment : Option ℕ) (part : Part) (base db : Trees) (uid dest : Text) (why : Cause) → AreBelow n (base 11) → IsLedgerOf past n part base → map.get (rows_of base) (uid, dest) ≡ Some (Held why)
     → MovesOn (uid, dest) (Waiting 0 0) (requeued_line n moment uid dest) false base db
-    → IsLedgerOf (n + 1) part db × (Requeues uid dest (book_of base) (Ok tt) (book_of db) × OnlyLetsGo (bodies_of base) (bodies_of db))
-requeues n moment part base db uid dest why below l held w =
+    → IsLedgerOf past (n + 1) part db × (Requeues uid dest (book_of base) (Ok tt) (book_of db) × OnlyLetsGo (bodies_of base) (bodies_of db))
+requeues {past} n moment part base db uid dest why below l held w =
     let line : Row = requeued_line n moment uid dest in
     let book = requeuings_requeue base db n moment uid dest why false below held w in
     let answer : Requeues uid dest (book_of base) (Ok tt) (book_of db) = ((why, held), book) in
@@ -135,16 +135,16 @@ requeues n moment part base db uid dest why below l held w =
         together = w.together l.together;
         numbered = one_line_more n line base db refl w.journal l.numbered;
         ahead = moved_ahead base db uid dest (Waiting 0 0) line false w n l.ahead;
-        journalled = (l.journalled.0, requeuings_are_journalled (site_routing part) l.journalled.0 uid dest (book_of base) (book_of db) (Ok tt) l.journalled.1 answer);
+        journalled = requeuings_go_on (site_routing part) past uid dest (book_of base) (book_of db) (Ok tt) l.journalled answer;
         bodied = what_is_needed_stays base db uid dest (Held why) (Waiting 0 0) line false l.bodied (row_needed base uid dest (Held why) held unfinished) w (still_needed base db uid dest (Waiting 0 0) line false w (inl again));
       },
       (answer, λ q body h. body_was base db (uid, dest) (Waiting 0 0) line false q body w h),
     )
 
-pub drops : (n : ℕ) (part : Part) (base db : Trees) (uid dest : Text) (why : Cause) (now : ℕ) (needed : Bool) → now ≤ 2 ^ 62 → AreBelow n (base 11) → IsLedgerOf n part base
+pub drops : {past : List Line} (n : ℕ) (part : Part) (base db : Trees) (uid dest : Text) (why : Cause) (now : ℕ) (needed : Bool) → now ≤ 2 ^ 62 → AreBelow n (base 11) → IsLedgerOf past n part base
     → map.get (rows_of base) (uid, dest) ≡ Some (Held why) → (IsTrue needed ↔ IsNeededStill base uid dest Dropped) → GivesUp uid dest now n (not needed) base db
-    → IsLedgerOf (n + 1) part db × (Drops uid dest now (book_of base) (Ok tt) (book_of db) × OnlyLetsGo (bodies_of base) (bodies_of db) × GoesWith (Ok (not needed)) uid base db)
-drops n part base db uid dest why now needed early below l held says w =
+    → IsLedgerOf past (n + 1) part db × (Drops uid dest now (book_of base) (Ok tt) (book_of db) × OnlyLetsGo (bodies_of base) (bodies_of db) × GoesWith (Ok (not needed)) uid base db)
+drops {past} n part base db uid dest why now needed early below l held says w =
     let line : Row = dropped_line n uid dest now in
     let mid = but_arrivals base db in
     let m = moves_on uid dest now n (not needed) base db w in
@@ -155,7 +155,7 @@ drops n part base db uid dest why now needed early below l held says w =
         together = w.together l.together;
         numbered = one_line_more n line base db refl w.journal l.numbered;
         ahead = moved_ahead base mid uid dest Dropped line (not needed) m n l.ahead;
-        journalled = (l.journalled.0, droppings_are_journalled (site_routing part) l.journalled.0 uid dest now (book_of base) (book_of db) (Ok tt) early l.journalled.1 answer);
+        journalled = droppings_go_on (site_routing part) past uid dest now (book_of base) (book_of db) (Ok tt) early l.journalled answer;
         bodied = what_is_needed_stays_at_a_dropping base db n uid dest now (not needed) l.bodied (row_needed base uid dest (Held why) held refl) w
             (goes_as_well base db uid (not needed) (goes base mid uid dest Dropped line (not needed) m needed says));
       },

@@ -1,5 +1,5 @@
 -- Instances that are over, and forgettings.
-use Rattle.std.proofs.Common.{◌≡◌, ◌≢◌, ◌⊎◌, ◌↔◌, inl, inr, ℕ, ◌+◌, Bool, true, false, not, IsTrue, is_some, Option, Some, None, option_map, Ok, Err, Result, refl, sym, ap, subst, ◌∙◌, true≢false, arith}
+use Rattle.std.proofs.Common.{◌≡◌, ◌≢◌, ◌⊎◌, ◌↔◌, inl, inr, ℕ, ◌+◌, Bool, true, false, not, IsTrue, is_some, List, Option, Some, None, option_map, Ok, Err, Result, refl, sym, ap, subst, ◌∙◌, true≢false, arith}
 use Rattle.std.specs.FinMap as map
 use Rattle.std.specs.FinSet as set
 use Rattle.sqlite.specs.State.{State}
@@ -10,11 +10,11 @@ use Rattle.dr_site.specs.Parts.{Part}
 use Rattle.dr_ledger.specs.declared.fault.LedgerFault.{LedgerFault}
 use Rattle.dr_ledger.specs.declared.item.Instance.{Instance}
 use Rattle.dr_ledger.specs.Bodies.{Bodies, OnlyLetsGo}
-use Rattle.dr_ledger.specs.Books.{Book, Forgetting, after, is_queued}
+use Rattle.dr_ledger.specs.Books.{Book, Forgetting, Line, after, is_queued}
 use Rattle.dr_ledger.specs.Replies.{Forgets, IsOver}
 use Rattle.dr_ledger.specs.SiteRoutes.{site_routing}
-use Rattle.dr_ledger.proofs.Folding.{forgettings_are_journalled}
 use Rattle.dr_ledger.proofs.Needs.{forgettings_need_the_same}
+use Rattle.dr_ledger_past.proofs.Goings.{forgettings_go_on}
 use Rattle.dr_store_schema.specs.Books.{AreBelow, all_kept_in, bodies_of, book_of, instance_by, items_of, names_in, prints_of}
 use Rattle.dr_store_changes.specs.Bringing.{HasCells}
 use Rattle.dr_store_changes.specs.Changes.{TakesOut}
@@ -82,13 +82,13 @@ looked_as n part r old new Shows Says l f = record {
   clean = l.clean;
   was_open = l.was_open;
   idle = l.idle;
-  lasts = l.lasts;
-  kept = l.kept;
-  answers = λ clean is_open k any.
+  lasts = λ {past} clean k asks. l.lasts clean k asks;
+  kept = λ {past} clean is_open k asks. l.kept clean is_open k asks;
+  answers = λ {past} clean is_open k any.
       let base = old.committed.trees in
       let it = l.answers clean is_open k any in
       (it.0, reads_as r (Shows base) (Says base) (f base) it.1);
-  crash = l.crash;
+  crash = λ {past} clean k asks db left. l.crash clean k asks db left;
 }
 
 -- ---- a forgetting
@@ -98,9 +98,9 @@ still_bodied b bodies uid over has = record {
   there = λ u. let same = forgettings_need_the_same b uid over u in (λ body. same.1 ((has.there u).0 body), λ needed. (has.there u).1 (same.0 needed));
 }
 
-pub forgets : (n : ℕ) (moment : Option ℕ) (part : Part) (base db : Trees) (uid : Text) → AreBelow n (base 11) → IsLedgerOf n part base → IsOver (book_of base) uid → TakesOut uid n moment base db
-    → IsLedgerOf (n + 1) part db × (Forgets uid (book_of base) (Ok tt) (book_of db) × OnlyLetsGo (bodies_of base) (bodies_of db))
-forgets n moment part base db uid below l over w =
+pub forgets : {past : List Line} (n : ℕ) (moment : Option ℕ) (part : Part) (base db : Trees) (uid : Text) → AreBelow n (base 11) → IsLedgerOf past n part base → IsOver (book_of base) uid → TakesOut uid n moment base db
+    → IsLedgerOf past (n + 1) part db × (Forgets uid (book_of base) (Ok tt) (book_of db) × OnlyLetsGo (bodies_of base) (bodies_of db))
+forgets {past} n moment part base db uid below l over w =
     let book = forgettings_forget base db n moment uid below w in
     let bodies = forgettings_let_no_data_set_go base db n moment uid l.bodied over w in
     let answer : Forgets uid (book_of base) (Ok tt) (book_of db) = (over, book) in (
@@ -109,7 +109,7 @@ forgets n moment part base db uid below l over w =
         together = forgettings_take_both base db n moment uid w l.together;
         numbered = one_line_more n (forgotten_line n moment uid) base db refl w.journal l.numbered;
         ahead = λ m later. ap (λ rows. names_in rows m) w.targets ∙ l.ahead m (omega (arith, later));
-        journalled = (l.journalled.0, forgettings_are_journalled (site_routing part) l.journalled.0 uid (book_of base) (book_of db) (Ok tt) l.journalled.1 answer);
+        journalled = forgettings_go_on (site_routing part) past uid (book_of base) (book_of db) (Ok tt) l.journalled answer;
         bodied = subst (λ (b : Book). HasCells b (bodies_of db)) (sym book) (subst (HasCells (after (Forgetting uid) (book_of base))) (sym bodies) (still_bodied (book_of base) (bodies_of base) uid over l.bodied));
       },
       (answer, λ q body h. ap (λ x. map.get x q) (sym bodies) ∙ h),

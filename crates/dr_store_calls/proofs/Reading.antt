@@ -51,7 +51,7 @@ module _ {A B : Type 0} (n : ℕ) (part : Part) (Shows : Trees → A → Type 0)
   pub looked_both : (old mid new : State) (Next : Trees → B → Type 0) (a : A) (r : Result B LedgerFault) → Looked n part (Ok a) old mid Shows → Looked n part r mid new Next
       → ((base : Trees) → Shows base a → (b : B) → Next base b → Says base b) → Looked n part r old new Says
   looked_both old mid new Next a r l c says =
-      looked_then n n part old mid new Shows a r Nothing Nothing (λ base db. (db ≡ base) × Reads r (Next base)) (λ base db. ⊥) (λ base db. (db ≡ base) × Reads r (Says base)) (λ base db. ⊥) l c (λ db l any shown. tt)
+      looked_then n n part old mid new Shows a r Nothing Nothing (λ base db. (db ≡ base) × Reads r (Next base)) (λ base db. ⊥) (λ base db. (db ≡ base) × Reads r (Says base)) (λ base db. ⊥) l c (λ past db l any shown. tt)
       (λ base db any shown it. (it.0, reads_as r (Next base) (Says base) (says base shown) it.1)) (λ base db any shown none. none)
 
   -- a query that failed says nothing, whatever was to be shown

@@ -81,7 +81,7 @@ module _ (Comes : List ℕ → Option (List ℕ) → Type 0) where
       said_as n (advanced r n) part r old new Nothing Nothing
       (AnswersWith (Comes item.body) part caller (instance_of item) r) (AnswersTo Comes part caller item r)
       (AcceptsOne (Comes item.body) part caller (instance_of item)) (AcceptsItem Comes part caller item)
-      (λ db l any. any) (λ base db it. (it.0, takes_item item base db is it.1, it.2)) (λ base db it. (it.0, takes_item item base db is it.1))
+      (λ past db l any. any) (λ base db it. (it.0, takes_item item base db is it.1, it.2)) (λ base db it. (it.0, takes_item item base db is it.1))
       (subst (λ b. P (instance_of item) b) own (subst (λ i. P i body) same received))
 
   -- where nothing is done

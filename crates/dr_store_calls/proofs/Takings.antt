@@ -18,13 +18,13 @@ use Rattle.dr_ledger.specs.declared.item.Arrived.{Arrived}
 use Rattle.dr_ledger.specs.declared.item.Arrived.TheVariants.{New, Again}
 use Rattle.dr_ledger.specs.declared.item.Instance.{Instance}
 use Rattle.dr_ledger.specs.Bodies.{Bodies}
-use Rattle.dr_ledger.specs.Books.{Book, Arrival, Repeat, after}
+use Rattle.dr_ledger.specs.Books.{Book, Line, Arrival, Repeat, after}
 use Rattle.dr_ledger.specs.Items.{IsItem, instance_of}
 use Rattle.dr_ledger.specs.Replies.{Arrives, IsAdmitted, IsLastingFault}
 use Rattle.dr_ledger.specs.SiteRoutes.{site_routing}
-use Rattle.dr_ledger.proofs.Folding.{arrivals_are_journalled}
 use Rattle.dr_ledger.proofs.Growing.{inside}
 use Rattle.dr_ledger.proofs.Maps.{filled_is, get_new, got, texts}
+use Rattle.dr_ledger_past.proofs.Goings.{arrivals_go_on}
 use Rattle.dr_store_schema.specs.Books.{AreBelow, arrivals_in, bodies_of, book_of, items_of, names_in, rows_of}
 use Rattle.dr_store_writes.specs.Effects.{arrived_line}
 use Rattle.dr_store_changes.specs.declared.first.Taking.{Taking}
@@ -72,9 +72,9 @@ known_same taking.Bare item found known held is = absurd (let e : None ≡ Some 
 known_same taking.Again item found known held is = sym (inside item held (sym known ∙ is))
 known_same taking.Nothing item found known held is = sym (inside item held (sym known ∙ is))
 
-module _ (n : ℕ) (moment : Option ℕ) (part : Part) (how : Taking) (caller : Text) (instance : Instance) (cell : List ℕ) (to : List Text) (keep : Bool) (again dests : List Text) (keeps : Bool) (base db : Trees)
+module _ {past : List Line} (n : ℕ) (moment : Option ℕ) (part : Part) (how : Taking) (caller : Text) (instance : Instance) (cell : List ℕ) (to : List Text) (keep : Bool) (again dests : List Text) (keeps : Bool) (base db : Trees)
     (line : HasLineFor part caller instance.key) (to_is : to ≡ (site_routing part).targets caller instance.key) (keep_is : keep ≡ (site_routing part).keeps caller instance.key) (names : AreTargets to)
-    (below : AreBelow n (base 11)) (l : IsLedgerOf n part base) (f : FitsTables how caller instance to keep again dests keeps base)
+    (below : AreBelow n (base 11)) (l : IsLedgerOf past n part base) (f : FitsTables how caller instance to keep again dests keeps base)
     (w : Brings how caller instance cell again dests keeps (names_for keep to) n moment base db) where
   book : book_of db ≡ after (Arrival caller instance to keep) (book_of base)
   book =
@@ -112,18 +112,18 @@ module _ (n : ℕ) (moment : Option ℕ) (part : Part) (how : Taking) (caller : 
       w.targets m ∙ ap (λ b. cond b (with_names (names_in (base 12) m) (names_for keep to)) (names_in (base 12) m)) (ne_eqb n m (λ e. omega (arith, e, later)))
       ∙ l.ahead m (omega (arith, later))
 
-  pub arrives : IsLedgerOf (n + 1) part db × (Arrives (site_routing part) caller instance (book_of base) (Ok New) (book_of db) × TakesOn (IsCellTaken how cell) instance base db × IsAccounted (IsCellTaken how cell) (Ok New) instance.uid db)
+  pub arrives : IsLedgerOf past (n + 1) part db × (Arrives (site_routing part) caller instance (book_of base) (Ok New) (book_of db) × TakesOn (IsCellTaken how cell) instance base db × IsAccounted (IsCellTaken how cell) (Ok New) instance.uid db)
   arrives = (
-    record { owned = still_owned part base db w.site l.owned; together = w.together l.together; numbered = one_line_more n (arrived_line n moment 0 caller instance) base db refl w.journal l.numbered; ahead = ahead; journalled = (l.journalled.0, arrivals_are_journalled (site_routing part) l.journalled.0 caller instance (book_of base) (book_of db) (Ok New) l.journalled.1 answer); bodied = bodied },
+    record { owned = still_owned part base db w.site l.owned; together = w.together l.together; numbered = one_line_more n (arrived_line n moment 0 caller instance) base db refl w.journal l.numbered; ahead = ahead; journalled = arrivals_go_on (site_routing part) past caller instance (book_of base) (book_of db) (Ok New) l.journalled answer; bodied = bodied },
     (answer, takes, accounted),
   )
 
 -- ---- a repeat
 
-pub repeats : (n : ℕ) (moment : Option ℕ) (part : Part) (caller : Text) (instance : Instance) (whole : Bool) (base db : Trees) → HasLineFor part caller instance.key → AreBelow n (base 11) → IsLedgerOf n part base
+pub repeats : {past : List Line} (n : ℕ) (moment : Option ℕ) (part : Part) (caller : Text) (instance : Instance) (whole : Bool) (base db : Trees) → HasLineFor part caller instance.key → AreBelow n (base 11) → IsLedgerOf past n part base
     → IsThere base instance whole → set.contains (arrivals_in (base 5)) (caller, instance.uid) ≡ true → AddsOnlyLine (arrived_line n moment 1 caller instance) base db
-    → IsLedgerOf (n + 1) part db × (Arrives (site_routing part) caller instance (book_of base) (Ok Again) (book_of db) × TakesOn ComesNone instance base db × IsAccounted ComesNone (Ok Again) instance.uid db)
-repeats n moment part caller instance whole base db line below l was again w =
+    → IsLedgerOf past (n + 1) part db × (Arrives (site_routing part) caller instance (book_of base) (Ok Again) (book_of db) × TakesOn ComesNone instance base db × IsAccounted ComesNone (Ok Again) instance.uid db)
+repeats {past} n moment part caller instance whole base db line below l was again w =
     let made = repeats_repeat base db n moment caller instance below w in
     let answer : Arrives (site_routing part) caller instance (book_of base) (Ok Again) (book_of db) = (
       record { line = line; same = λ held is. sym (inside instance held (sym was.same ∙ is)) },
@@ -136,7 +136,7 @@ repeats n moment part caller instance whole base db line below l was again w =
         together = untouched base db w.items w.prints l.together;
         numbered = one_line_more n (arrived_line n moment 1 caller instance) base db refl w.journal l.numbered;
         ahead = λ m later. ap (λ rows. names_in rows m) w.targets ∙ l.ahead m (omega (arith, later));
-        journalled = (l.journalled.0, arrivals_are_journalled (site_routing part) l.journalled.0 caller instance (book_of base) (book_of db) (Ok Again) l.journalled.1 answer);
+        journalled = arrivals_go_on (site_routing part) past caller instance (book_of base) (book_of db) (Ok Again) l.journalled answer;
         bodied = subst (λ b. HasCells b (bodies_of db)) (sym made.0) (subst (λ x. HasCells (after (Repeat caller instance) (book_of base)) x) (sym made.1) has);
       },
       (answer, λ q there h. inl (sym (ap (λ cells. map.get cells q) made.1) ∙ h), tt),
@@ -205,15 +205,15 @@ module _ (Comes : Option (List ℕ) → Type 0) (came : Delivery) (old new : Sta
   pub read_then : {A : Type 0} (mid : State) (Shows : Trees → A → Type 0) (a : A) (r : Result Arrived LedgerFault) (Asks Given : Trees → Type 0) → Looked came.n came.site.now (Ok a) old mid Shows → Receives Comes came r mid new Given
       → ((db : Trees) → Asks db → Shows db a → Given db) → Receives Comes came r old new Asks
   read_then mid Shows a r Asks Given l c gives =
-      looked_then came.n (advanced r came.n) came.site.now old mid new Shows a r Asks Given (Answers r) Makes (Answers r) Makes l c (λ db l asks shown. gives db asks shown) (λ base db asks shown it. it) (λ base db asks shown it. it)
+      looked_then came.n (advanced r came.n) came.site.now old mid new Shows a r Asks Given (Answers r) Makes (Answers r) Makes l c (λ past db l asks shown. gives db asks shown) (λ base db asks shown it. it) (λ base db asks shown it. it)
 
   -- a call that asks for less
   pub received : (r : Result Arrived LedgerFault) (Asks More : Trees → Type 0) → ((db : Trees) → More db → Asks db) → Receives Comes came r old new Asks → Receives Comes came r old new More
   received r Asks More gives c =
-      asked_as came.n (advanced r came.n) came.site.now r old new Asks More (Answers r) Makes (λ db l more. gives db more) c
+      asked_as came.n (advanced r came.n) came.site.now r old new Asks More (Answers r) Makes (λ past db l more. gives db more) c
 
   -- a call with one answer, by which less is new
-  pub received_as : (One : Option (List ℕ) → Type 0) → ((came : Option (List ℕ)) → One came → Comes came) → (which : Arrived) (r : Result Arrived LedgerFault) (Asks More : Trees → Type 0) → ((db : Trees) → IsLedgerOf came.n came.site.now db → More db → Asks db)
+  pub received_as : (One : Option (List ℕ) → Type 0) → ((came : Option (List ℕ)) → One came → Comes came) → (which : Arrived) (r : Result Arrived LedgerFault) (Asks More : Trees → Type 0) → ((past : List Line) (db : Trees) → IsLedgerOf past came.n came.site.now db → More db → Asks db)
       → ReceivesAs One which came r old new Asks → Receives Comes came r old new More
   received_as One more which r Asks More gives c =
       said_as came.n (advanced r came.n) came.site.now r old new Asks More (AnswersWith One came.site.now came.caller.now came.instance.now r) (Answers r)
@@ -226,7 +226,7 @@ module _ (Comes : Option (List ℕ) → Type 0) (came : Delivery) (old new : Sta
       → ReceivesAs Comes which came r old new Asks
   brought_as One more which r Asks c =
       said_as came.n (advanced r came.n) came.site.now r old new Asks Asks (AnswersWith One came.site.now came.caller.now came.instance.now r) (Answers r)
-      (AcceptsAs One came.site.now came.caller.now came.instance.now which) (AcceptsAs Comes came.site.now came.caller.now came.instance.now which) (λ db l asks. asks)
+      (AcceptsAs One came.site.now came.caller.now came.instance.now which) (AcceptsAs Comes came.site.now came.caller.now came.instance.now which) (λ past db l asks. asks)
       (λ base db it. (it.0, takes_more One Comes more came.instance.now base db it.1, accounted_more One Comes more r came.instance.now.uid db it.2))
       (λ base db it. (it.0, takes_more One Comes more came.instance.now base db it.1)) c
 

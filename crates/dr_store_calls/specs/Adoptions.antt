@@ -8,7 +8,7 @@ use Rattle.dr_base.specs.Texts.{Text}
 use Rattle.dr_site.specs.Parts.{Part}
 use Rattle.dr_ledger.specs.declared.fault.LedgerFault.{LedgerFault}
 use Rattle.dr_ledger.specs.Adopting.{Adopting, site_after}
-use Rattle.dr_ledger.specs.Books.{Adoption, after, not_over}
+use Rattle.dr_ledger.specs.Books.{Adoption, Line, after, not_over}
 use Rattle.dr_ledger.specs.Replies.{LastsAfter}
 use Rattle.dr_store_schema.specs.Books.{bodies_of, book_of, rows_of}
 use Rattle.dr_store_writes.specs.Effects.{IsSiteOf, adopted_line}
@@ -82,20 +82,24 @@ pub record AnswersAdoption (next : Part) (result : Result (Unit {0}) LedgerFault
 
 -- An adoption of the next site's plan by a ledger of this site, whose next line has number n. Where
 -- the tables are as it asks, they are afterwards those of a ledger of the next site where it was
--- accepted, and else as they were; the store stays open but where the store failed or memory ran
--- out. A crash leaves what it could leave before, or the tables after the adoption, which are a
--- ledger's of the next site.
+-- accepted, over the same past, and else as they were; the store stays open but where the store
+-- failed or memory ran out. A crash leaves what it could leave before, or the tables after the
+-- adoption, which are a ledger's of the next site.
 pub record Adopted (n : ℕ) (part next : Part) (result : Result (Unit {0}) LedgerFault)
     (old new : State) (Asks : Trees → Type 0) : Type 0 where
   pub clean : doubt old.is_clean ≤ doubt new.is_clean
   pub was_open : HasCleanDisk new → IsTrue new.is_open → IsTrue old.is_open
   pub idle : old.in_transaction ≡ false → new.in_transaction ≡ false
-  pub lasts : HasCleanDisk new → IsKept n part old → Asks old.committed.trees
+  pub lasts : {past : List Line} → HasCleanDisk new → IsKept past n part old
+      → Asks old.committed.trees
       → LastsAfter result (IsTrue new.is_open)
-  pub kept : HasCleanDisk new → IsTrue new.is_open → IsKept n part old → Asks old.committed.trees
-      → IsKept (advanced result n) (site_after result next part) new
-  pub answers : HasCleanDisk new → IsTrue new.is_open → IsKept n part old → Asks old.committed.trees
+  pub kept : {past : List Line} → HasCleanDisk new → IsTrue new.is_open → IsKept past n part old
+      → Asks old.committed.trees
+      → IsKept past (advanced result n) (site_after result next part) new
+  pub answers : {past : List Line} → HasCleanDisk new → IsTrue new.is_open → IsKept past n part old
+      → Asks old.committed.trees
       → AnswersAdoption next result old.committed.trees new.committed.trees
-  pub crash : HasCleanDisk new → IsKept n part old → Asks old.committed.trees → (db : Trees)
-      → new.may_leave db
-      → old.may_leave db ⊎ (IsLeftLedger (n + 1) next db × IsAdopted next old.committed.trees db)
+  pub crash : {past : List Line} → HasCleanDisk new → IsKept past n part old
+      → Asks old.committed.trees → (db : Trees) → new.may_leave db
+      → old.may_leave db
+      ⊎ (IsLeftLedger past (n + 1) next db × IsAdopted next old.committed.trees db)

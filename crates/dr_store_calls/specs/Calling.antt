@@ -1,14 +1,16 @@
 -- A call of a ledger over a connection.
-use Rattle.std.specs.Prelude.{◌≡◌, ◌≤◌, ◌+◌, ◌⊎◌, ℕ, false, IsTrue, Result, Ok, Err}
+use Rattle.std.specs.Prelude.{◌≡◌, ◌≤◌, ◌+◌, ◌⊎◌, ℕ, false, IsTrue, List, length, Result, Ok, Err}
 use Rattle.sqlite.specs.State.{State, HasCleanDisk}
 use Rattle.sqlite.specs.Tree.{Trees}
 use Rattle.sqlite_trees.specs.View.{doubt}
 use Rattle.dr_site.specs.Parts.{Part}
 use Rattle.dr_ledger.specs.declared.fault.LedgerFault.{LedgerFault}
 use Rattle.dr_ledger.specs.declared.fault.LedgerFault.TheVariants as fault
+use Rattle.dr_ledger.specs.Books.{Line}
 use Rattle.dr_ledger.specs.Histories.{IsJournalled}
 use Rattle.dr_ledger.specs.Replies.{LastsAfter, Reads}
 use Rattle.dr_ledger.specs.SiteRoutes.{site_routing}
+use Rattle.dr_ledger_past.specs.Pasts.{with_past}
 use Rattle.dr_store_schema.specs.Books.{bodies_of, book_of}
 use Rattle.dr_store_changes.specs.Bringing.{GoNowhere, HasCells}
 use Rattle.dr_store_changes.specs.Changes.{AreTogether}
@@ -19,27 +21,28 @@ use Rattle.dr_store_calls.specs.Owners.{IsOwnedBy}
 abbrev pub IsSafe : State → Type 0
 IsSafe s = HasCleanDisk s × IsTrue s.is_open
 
--- What the tables of a ledger of that site show, where its next line has number n: the site owns
--- them, each item is beside its print, and the lines' numbers count up from 1 to the one before n.
--- No line that is still to come goes anywhere, the journal makes the book, and there is a cell for
--- just the data sets that the book needs.
-pub record IsLedgerOf (n : ℕ) (part : Part) (db : Trees) : Type 0 where
+-- What the tables of a ledger of that site show, where its next line has number n, and where these
+-- lines of its past stand elsewhere: the site owns the tables, each item is beside its print, and
+-- the lines' numbers count up from the one behind the past to the one before n. No line that is
+-- still to come goes anywhere, the journal makes the book, the past's lines before those of the
+-- tables, and there is a cell for just the data sets that the book needs.
+pub record IsLedgerOf (past : List Line) (n : ℕ) (part : Part) (db : Trees) : Type 0 where
   pub owned : IsOwnedBy part db
   pub together : AreTogether db
-  pub numbered : AreNumberedTo n (db 11)
+  pub numbered : AreNumberedTo (length past + 1) n (db 11)
   pub ahead : GoNowhere n db
-  pub journalled : IsJournalled (site_routing part) (book_of db)
+  pub journalled : IsJournalled (site_routing part) (with_past past (book_of db))
   pub bodied : HasCells (book_of db) (bodies_of db)
 
 -- The trees are those of a database with a ledger's tables, and these are of a ledger of that site.
-pub record IsLeftLedger (n : ℕ) (part : Part) (db : Trees) : Type 0 where
+pub record IsLeftLedger (past : List Line) (n : ℕ) (part : Part) (db : Trees) : Type 0 where
   pub whole : AreLedgers db
-  pub ledger : IsLedgerOf n part db
+  pub ledger : IsLedgerOf past n part db
 
 -- the store is open, with the tables of a ledger of that site
-pub record IsKept (n : ℕ) (part : Part) (s : State) : Type 0 where
+pub record IsKept (past : List Line) (n : ℕ) (part : Part) (s : State) : Type 0 where
   pub ready : IsReady n s
-  pub ledger : IsLedgerOf n part s.committed.trees
+  pub ledger : IsLedgerOf past n part s.committed.trees
 
 -- the number of the next line, after a call that adds one where it is accepted
 abbrev pub advanced : {A : Type 0} → Result A LedgerFault → ℕ → ℕ
@@ -48,24 +51,27 @@ advanced (Err why) n = n
 
 -- A call of a ledger of that site, whose next line has number n before it and m after it. Where the
 -- tables are as it asks, it answers for the tables committed before and after it, and the ledger's
--- tables are kept; the store stays open but where the store failed or memory ran out. A crash
--- leaves what it could leave before, or what the call makes of the tables: those of a ledger of
--- that site, with one line more.
+-- tables are kept, over whatever past; the store stays open but where the store failed or memory
+-- ran out. A crash leaves what it could leave before, or what the call makes of the tables: those
+-- of a ledger of that site, over the same past and with one line more.
 pub record Called {A : Type 0} (n m : ℕ) (part : Part) (result : Result A LedgerFault)
     (old new : State) (Asks : Trees → Type 0)
     (Answers Makes : Trees → Trees → Type 0) : Type 0 where
   pub clean : doubt old.is_clean ≤ doubt new.is_clean
   pub was_open : HasCleanDisk new → IsTrue new.is_open → IsTrue old.is_open
   pub idle : old.in_transaction ≡ false → new.in_transaction ≡ false
-  pub lasts : HasCleanDisk new → IsKept n part old → Asks old.committed.trees
+  pub lasts : {past : List Line} → HasCleanDisk new → IsKept past n part old
+      → Asks old.committed.trees
       → LastsAfter result (IsTrue new.is_open)
-  pub kept : HasCleanDisk new → IsTrue new.is_open → IsKept n part old → Asks old.committed.trees
-      → IsKept m part new
-  pub answers : HasCleanDisk new → IsTrue new.is_open → IsKept n part old → Asks old.committed.trees
+  pub kept : {past : List Line} → HasCleanDisk new → IsTrue new.is_open → IsKept past n part old
+      → Asks old.committed.trees
+      → IsKept past m part new
+  pub answers : {past : List Line} → HasCleanDisk new → IsTrue new.is_open → IsKept past n part old
+      → Asks old.committed.trees
       → Answers old.committed.trees new.committed.trees
-  pub crash : HasCleanDisk new → IsKept n part old → Asks old.committed.trees → (db : Trees)
-      → new.may_leave db
-      → old.may_leave db ⊎ (IsLeftLedger (n + 1) part db × Makes old.committed.trees db)
+  pub crash : {past : List Line} → HasCleanDisk new → IsKept past n part old
+      → Asks old.committed.trees → (db : Trees) → new.may_leave db
+      → old.may_leave db ⊎ (IsLeftLedger past (n + 1) part db × Makes old.committed.trees db)
 
 -- nothing is asked of the tables
 abbrev pub Nothing : Trees → Type 0

@@ -5,5 +5,6 @@ pub mod Knowing
 pub mod LettingGo
 pub mod Needs
 pub mod Owners
+pub mod PastLaws
 pub mod Receiving
 pub mod Shelving

@@ -17,6 +17,7 @@ pub mod laws;
 mod letting_go;
 mod needs;
 mod owning;
+pub mod past_laws;
 mod plan;
 mod receiving;
 mod settling;

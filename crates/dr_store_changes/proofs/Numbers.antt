@@ -119,8 +119,8 @@ count_more n first [] all = (all, ap (λ k. k + 1) all)
 count_more n first (number ∷ numbers) all = (all.0, count_more n (first + 1) numbers all.1)
 
 pub lines_count_up : LinesCountUp
-lines_count_up old new n adds all = record {
+lines_count_up old new first n adds all = record {
   below = subst (AreBelow (n + 1)) (sym adds.journal) (below_next n adds.row (old 11) adds.numbered all.below);
-  count = subst (λ rows. CountTo (n + 1) 1 (numbers_in rows)) (sym adds.journal)
-      (subst (CountTo (n + 1) 1) (sym (number_last n adds.row (old 11) adds.numbered all.below)) (count_more n 1 (numbers_in (old 11)) all.count));
+  count = subst (λ rows. CountTo (n + 1) first (numbers_in rows)) (sym adds.journal)
+      (subst (CountTo (n + 1) first) (sym (number_last n adds.row (old 11) adds.numbered all.below)) (count_more n first (numbers_in (old 11)) all.count));
 }

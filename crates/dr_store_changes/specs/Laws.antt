@@ -140,12 +140,12 @@ ForgettingsTakeBoth =
     → TakesOut uid n moment old new
     → AreTogether old → AreTogether new
 
--- Where the lines' numbers count up from 1 to the one before n, so they do with line n.
+-- Where the lines' numbers count up from the first to the one before n, so they do with line n.
 abbrev pub LinesCountUp : Type 0
 LinesCountUp =
-    (old new : Trees) (n : ℕ)
+    (old new : Trees) (first n : ℕ)
     → AddsLine n old new
-    → AreNumberedTo n (old 11) → AreNumberedTo (n + 1) (new 11)
+    → AreNumberedTo first n (old 11) → AreNumberedTo first (n + 1) (new 11)
 
 -- An instance that is over has no data set, so the data sets stay as they were.
 abbrev pub ForgettingsLetNoDataSetGo : Type 0

@@ -27,10 +27,10 @@ abbrev pub CountTo : ℕ → ℕ → List ℕ → Type 0
 CountTo n first [] = n ≡ first
 CountTo n first (number ∷ numbers) = (number ≡ first) × CountTo n (first + 1) numbers
 
--- each line has a number below n, and their numbers count up from 1 to the one before n
-pub record AreNumberedTo (n : ℕ) (rows : List Row) : Type 0 where
+-- each line has a number below n, and their numbers count up from the first to the one before n
+pub record AreNumberedTo (first n : ℕ) (rows : List Row) : Type 0 where
   pub below : AreBelow n rows
-  pub count : CountTo n 1 (numbers_in rows)
+  pub count : CountTo n first (numbers_in rows)
 
 -- the journal has one line more, with that number
 pub record AddsLine (n : ℕ) (old new : Trees) : Type 0 where

@@ -57,7 +57,7 @@ pub fn forgettings_take_both()
     ensures { ForgettingsTakeBoth }
 {}
 
-/// With the line of a call the journal counts up from 1, as it did before.
+/// With the line of a call the journal counts up from its first number, as it did before.
 pub fn lines_count_up()
     ensures { LinesCountUp }
 {}

@@ -121,7 +121,7 @@ print_there db uid = there whole_print_in (db 3) uid ∙ sym (there (λ r. (whol
 -- ---- both
 
 -- what is found to be a ledger's is kept as one
-pub found_is_kept : (n : ℕ) (part : Part) (db : Trees) → IsAgreed n part db → IsOwnedBy part db → IsLedgerOf n part db
+pub found_is_kept : (n : ℕ) (part : Part) (db : Trees) → IsAgreed n part db → IsOwnedBy part db → IsLedgerOf [] n part db
 found_is_kept n part db all mine =
     let notes = map.entries (notes_of db) in
     let many : n ≡ 1 + length notes =
@@ -143,7 +143,7 @@ found_is_kept n part db all mine =
     }
 
 -- what is kept as one is found to be one
-pub kept_agrees : (n : ℕ) (part : Part) (db : Trees) → IsLedgerOf n part db → IsAgreed n part db
+pub kept_agrees : (n : ℕ) (part : Part) (db : Trees) → IsLedgerOf [] n part db → IsAgreed n part db
 kept_agrees n part db l =
     let notes = map.entries (notes_of db) in
     record {
@@ -159,5 +159,5 @@ kept_agrees n part db l =
       };
     }
 
-pub kept_is_found : (n : ℕ) (part : Part) (d : Database) → d.schema ≡ tables → IsLedgerOf n part d.trees → HasLedgerOf n part d
+pub kept_is_found : (n : ℕ) (part : Part) (d : Database) → d.schema ≡ tables → IsLedgerOf [] n part d.trees → HasLedgerOf n part d
 kept_is_found n part d schema l = record { schema = schema; owned = l.owned; agreed = kept_agrees n part d.trees l }

@@ -183,7 +183,7 @@ module _ {D : Type 0} {g : Ghosts D} where
           record {
             kept = record {
               ready = s.ready clean;
-              ledger = subst (λ (d : Database). IsLedgerOf found.next part d.trees) same was.kept.ledger;
+              ledger = subst (λ (d : Database). IsLedgerOf [] found.next part d.trees) same was.kept.ledger;
             };
             owned = subst (λ (d : Database). IsOwnedBy part d.trees) same was.owned;
             next = subst (λ (d : Database). IsNext found.next d.trees) same was.next;
@@ -229,7 +229,7 @@ module _ {D : Type 0} {g : Ghosts D} where
   }
 
   pub found_kept : (part : Part) (old new : State) (r : Result (OpenedLedger D g) OpeningFault) → IsWholeOpened (Unit {0}) part r old new
-      → IfOk r (λ it. HasCleanDisk new → IsKept it.next part new)
+      → IfOk r (λ it. HasCleanDisk new → IsKept [] it.next part new)
   found_kept part old new (Ok it) w = λ clean. (w.kept clean).kept
   found_kept part old new (Err fault) w = tt
 
@@ -291,7 +291,7 @@ module _ {D : Type 0} {g : Ghosts D} where
 
   module _ (made : Bool) (part : Part) (old mid new : State) where
     pub kept_of : (r : Result (OpenedLedger D g) OpeningFault) → IsWholeOpened (made ≡ false) part r mid new
-        → IfOk r (λ it. HasCleanDisk new → IsKept it.next part new × IsOwnedBy part new.committed.trees)
+        → IfOk r (λ it. HasCleanDisk new → IsKept [] it.next part new × IsOwnedBy part new.committed.trees)
     kept_of (Ok it) w = λ clean. let is = w.kept clean in (is.kept, is.owned)
     kept_of (Err fault) w = tt
 

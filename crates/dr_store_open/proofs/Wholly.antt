@@ -196,7 +196,7 @@ module _ (part : Part) (old new : State) (has : HasTables old.now) (live : IsLiv
                 settled = is.1 ∙ behind;
                 below = subst (λ (d : Database). AreBelow n (d.trees 11)) (sym is.1) all.below;
               };
-              ledger = subst (λ (d : Database). IsLedgerOf n part d.trees) behind
+              ledger = subst (λ (d : Database). IsLedgerOf [] n part d.trees) behind
                   (found_is_kept n part old.now.trees all mine);
             };
             owned = subst (λ (d : Database). IsOwnedBy part d.trees) behind mine;
@@ -207,7 +207,7 @@ module _ (part : Part) (old new : State) (has : HasTables old.now) (live : IsLiv
           }
 
 -- a ledger whose next line is the first has an empty book
-pub no_lines : (n : ℕ) (part : Part) (s : State) → IsKept n part s → IsNext n s.committed.trees → n ≡ 1 → book_of s.committed.trees ≡ empty_book
+pub no_lines : (n : ℕ) (part : Part) (s : State) → IsKept [] n part s → IsNext n s.committed.trees → n ≡ 1 → book_of s.committed.trees ≡ empty_book
 no_lines n part s kept next first =
     kept.ledger.journalled.1.fold ∙ ap Fold (no_element (lines_of s.committed.trees) (omega (arith, next, first)))
   where

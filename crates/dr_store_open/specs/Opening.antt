@@ -132,7 +132,7 @@ IfNotFound (Err why) P = Unit {0}
 -- The store is open with the tables of a ledger of that site, which owns them, and whose next line
 -- has number n. All of it was committed before.
 pub record IsLedgerFound (n : ℕ) (part : Part) (old new : State) : Type 0 where
-  pub kept : IsKept n part new
+  pub kept : IsKept [] n part new
   pub owned : IsOwnedBy part new.committed.trees
   pub next : IsNext n new.committed.trees
   pub ledger : HasLedgerOf n part new.committed

@@ -1,5 +1,5 @@
 //! A file's ledger, opened, as a ledger over its connection and its shelf.
-ghost use Rattle.std.specs.Prelude.{◌≡◌, ℕ, IfErr, IfOk, false};
+ghost use Rattle.std.specs.Prelude.{◌≡◌, ℕ, [], IfErr, IfOk, false};
 ghost use Rattle.sqlite.specs.Held.{state};
 ghost use Rattle.sqlite.specs.State.{HasCleanDisk};
 ghost use Rattle.dr_store_shelf.specs.Either.{named_on};
@@ -30,7 +30,7 @@ pub fn ledger_of<S: Alter, D: Disk>(
 ) -> SqlLedger<S, LedgerShelf<D>>
     requires idle { conn.in_transaction ≡ false }
     requires kept { HasCleanDisk (state S.Store conn)
-        → IsKept opened.next site (state S.Store conn) }
+        → IsKept [] opened.next site (state S.Store conn) }
     requires own { HasCleanDisk (state S.Store conn)
         → HasOwnOn (state S.Store conn).committed.trees opened.shelf }
     ensures site { result.site ≡ site }

@@ -1,6 +1,6 @@
 //! A file's ledger, opened.
 ghost use Rattle.std.specs.Prelude.{◌≡◌, ◌≤◌, ◌↔◌, IfErr, IfOk, MatchResult, OnOk, false};
-ghost use Rattle.std.specs.Prelude.{◌≢◌, All, IsTrue, true};
+ghost use Rattle.std.specs.Prelude.{◌≢◌, [], All, IsTrue, true};
 ghost use Rattle.sqlite.specs.Held.{state};
 ghost use Rattle.sqlite.specs.State.{HasCleanDisk, IsLive};
 ghost use Rattle.dr_store_schema.specs.Tables.{tables};
@@ -177,7 +177,7 @@ pub fn find_ledger<S: Alter, F: DataFile>(
     ensures whole { IsWholeOpened (Unit {0}) site.now result (state S.Store conn.old)
         (state S.Store conn.new) }
     ensures kept { IfOk result (λ it. HasCleanDisk (state S.Store conn.new)
-        → IsKept it.next site.now (state S.Store conn.new)) }
+        → IsKept [] it.next site.now (state S.Store conn.new)) }
     ensures own { IfOk result (λ it. HasCleanDisk (state S.Store conn.new)
         → HasOwnOn (state S.Store conn.new).committed.trees it.shelf) }
     ensures idle { conn.new.in_transaction ≡ false }
@@ -398,7 +398,7 @@ pub fn open<S: Alter, F: DataFile>(
 ) -> Result<OpenedLedger<F::Disk>, OpeningFault>
     requires { conn.old.in_transaction ≡ false }
     ensures kept { IfOk result (λ it. HasCleanDisk (state S.Store conn.new)
-        → IsKept it.next site.now (state S.Store conn.new)
+        → IsKept [] it.next site.now (state S.Store conn.new)
         × IsOwnedBy site.now (state S.Store conn.new).committed.trees) }
     ensures next { IfOk result (λ it. HasCleanDisk (state S.Store conn.new)
         → IsNext it.next (state S.Store conn.new).committed.trees) }
@@ -449,7 +449,7 @@ pub fn on<S: Alter + Drop, F: DataFile>(
 ) -> Result<(Connection<S>, OpenedLedger<F::Disk>), OpeningFault>
     requires { conn.in_transaction ≡ false }
     ensures kept { IfOk result (λ it. HasCleanDisk (state S.Store it.0)
-        → IsKept it.1.next site.now (state S.Store it.0)
+        → IsKept [] it.1.next site.now (state S.Store it.0)
         × IsOwnedBy site.now (state S.Store it.0).committed.trees) }
     ensures next { IfOk result (λ it. HasCleanDisk (state S.Store it.0)
         → IsNext it.1.next (state S.Store it.0).committed.trees) }

@@ -17,7 +17,7 @@ returns-in-Ok-clause-looked g c n part =
     let Then : Trees → List (Text × ℕ) → Type 0 = λ base all. Lists text_cmp (all_kept_in (base 7)) c.as_slice.result.now → AreKept (book_of base) all in
     let Says : Trees → List (Text × ℕ) → Type 0 = λ base. AreKept (book_of base) in
     looked_both n part old mid new Shows c.in-Ok.kept c.list_sizes.result Then Says (asked_looked n part _ old mid Shows (of_ledger _ old mid (Shows old.now.trees) c.in-Ok.ensures.asked)) (c.list_sizes.ensures.looked n part)
-    (λ base l shown all then. then (subst (Lists text_cmp (all_kept_in (base 7))) (sym c.as_slice.ensures.value) shown))
+    (λ base past l shown all then. then (subst (Lists text_cmp (all_kept_in (base 7))) (sym c.as_slice.ensures.value) shown))
 
 pub returns-in-Err-clause-looked : goal.returns-in-Err-clause-looked
 returns-in-Err-clause-looked g c n part =

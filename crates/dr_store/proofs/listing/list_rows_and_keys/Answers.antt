@@ -21,7 +21,7 @@ returns-in-Ok-clause-looked g c n part =
     let Then : Trees → Vec (Pair × Progress) Global × Vec (Text × Key) Global → Type 0 = λ base both. (both.0.items ≡ c.in-Ok.rows.items) × (both.1.items ≡ map.entries (keys_of base)) in
     let Says : Trees → Vec (Pair × Progress) Global × Vec (Text × Key) Global → Type 0 = λ base both. (both.0.items ≡ map.entries (rows_of base)) × (both.1.items ≡ map.entries (keys_of base)) in
     looked_both n part old mid new Shows c.in-Ok.rows c.with_keys.result Then Says (asked_looked n part _ old mid Shows (of_ledger _ old mid (Shows old.now.trees) c.in-Ok.ensures.asked)) (c.with_keys.ensures.looked n part)
-    (λ base l shown both then. (then.0 ∙ shown, then.1))
+    (λ base past l shown both then. (then.0 ∙ shown, then.1))
 
 pub returns-in-Err-clause-looked : goal.returns-in-Err-clause-looked
 returns-in-Err-clause-looked g c n part =

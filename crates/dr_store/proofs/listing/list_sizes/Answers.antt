@@ -24,7 +24,7 @@ returns-in-Ok-clause-looked g c n part =
     let Shows : Trees → Vec (Text × Print) Global → Type 0 = λ base all. all.items ≡ map.entries (whole_prints_of base) in
     let Says : Trees → List (Text × ℕ) → Type 0 = λ base all. Lists text_cmp (all_kept_in (base 7)) kept → AreKept (book_of base) all in
     looked_more n part old new Shows c.in-Ok.prints r Says (asked_looked n part _ old new Shows (of_ledger _ old new (Shows old.now.trees) c.in-Ok.ensures.asked))
-    (λ base l shown. reads_as r (AreSized prints kept) (Says base) (λ all z listed. sizes n part base l kept prints all (c.as_slice.ensures.value ∙ shown) z listed) c.with_sizes.ensures)
+    (λ base past l shown. reads_as r (AreSized prints kept) (Says base) (λ all z listed. sizes n part base l kept prints all (c.as_slice.ensures.value ∙ shown) z listed) c.with_sizes.ensures)
 
 pub returns-in-Err-clause-looked : goal.returns-in-Err-clause-looked
 returns-in-Err-clause-looked g c n part =

@@ -15,7 +15,7 @@ returns-in-Ok-clause-looked g c n part =
     let new = state g.S.Store c.next_stored.new.conn in
     let Shows : Trees → Option DueRow → Type 0 = λ base. NextsStored base dest now in
     let Says : Trees → Option NextRow → Type 0 = λ base row. g.B.Shelf.is_clean c.read_due.new.shelf → NextsRead (g.B.Shelf.uses c.args.shelf.now) (g.B.Shelf.read_of c.args.shelf.now) base dest now row in
-    looked_more n part old new Shows c.in-Ok.due c.read_due.result Says (c.in-Ok.ensures.looked n part) (λ base l shown. c.read_due.ensures.read base dest now shown)
+    looked_more n part old new Shows c.in-Ok.due c.read_due.result Says (c.in-Ok.ensures.looked n part) (λ base past l shown. c.read_due.ensures.read base dest now shown)
 
 pub returns-in-Err-clause-looked : goal.returns-in-Err-clause-looked
 returns-in-Err-clause-looked g c n part =

@@ -21,7 +21,7 @@ returns-in-Ok-Some-clause-looked g c n part =
     let Then : Trees → Option DueRow → Type 0 = λ base. IsSomeRowOf uid base in
     let Says : Trees → Option DueRow → Type 0 = λ base. NextsStored base dest now in
     looked_both n part old mid new Shows c.in-Ok-Some.field-0 c.due_by.result Then Says (asked_looked n part _ old mid Shows c.in-Ok-Some.ensures.asked) (c.due_by.ensures.looked n part)
-    (λ base l shown found then. due base (let P : Option Text → Type 0 = λ found. IsFirstDue base dest now found in subst P c.in-Ok-Some.field-0-is shown) found then)
+    (λ base past l shown found then. due base (let P : Option Text → Type 0 = λ found. IsFirstDue base dest now found in subst P c.in-Ok-Some.field-0-is shown) found then)
   where
     due : (base : Trees) → IsFirstDue base c.args.dest.now c.args.now (Some c.in-Ok-Some.uid) → (found : Option DueRow) → IsSomeRowOf c.in-Ok-Some.uid base found → NextsStored base c.args.dest.now c.args.now found
     due base first None then = absurd then

@@ -19,7 +19,7 @@ returns-in-Ok-clause-looked g c n part =
     let One : Bool → Type 0 = λ told. g.B.Shelf.is_clean shelf → g.B.Shelf.uses was due.cell → IsTold (g.B.Shelf.read_of was) due told in
     let Says : Trees → Bool → Type 0 = λ base told. g.B.Shelf.is_clean shelf → IsToldOf (g.B.Shelf.uses was) (g.B.Shelf.read_of was) base uid told in
     looked_more n part old new Shows due c.is_read_by.result Says (c.in-Ok.ensures.looked n part)
-    (λ base l shown. reads_as c.is_read_by.result One (Says base) (λ told is clean. (due, shown, is clean)) c.is_read_by.ensures.read)
+    (λ base past l shown. reads_as c.is_read_by.result One (Says base) (λ told is clean. (due, shown, is clean)) c.is_read_by.ensures.read)
 
 pub returns-in-Err-clause-looked : goal.returns-in-Err-clause-looked
 returns-in-Err-clause-looked g c n part =

@@ -20,7 +20,7 @@ returns-in-Ok-Some-clause-looked g c n part =
     let Then : Trees → DueRow → Type 0 = λ base due. IsJobOf uid base (Some c.in-Ok-Some.job) → IsRowOf uid base due in
     let Says : Trees → DueRow → Type 0 = λ base. IsRowOf uid base in
     looked_both n part old mid new Shows c.in-Ok-Some.field-0 c.with_print.result Then Says (asked_looked n part _ old mid Shows c.in-Ok-Some.ensures.asked) (c.with_print.ensures.looked n part)
-    (λ base l shown due then. then (let P : Option Job → Type 0 = λ found. IsJobOf uid base found in subst P c.in-Ok-Some.field-0-is shown))
+    (λ base past l shown due then. then (let P : Option Job → Type 0 = λ found. IsJobOf uid base found in subst P c.in-Ok-Some.field-0-is shown))
 
 pub returns-in-Ok-None-clause-looked : goal.returns-in-Ok-None-clause-looked
 returns-in-Ok-None-clause-looked g c n part =

@@ -19,7 +19,7 @@ returns-in-Ok-clause-looked g c n part =
     let Shows : Trees → List JournalLine → Type 0 = λ base all. mapped line_of all ≡ lines_of base in
     let Says : Trees → List Entry → Type 0 = λ base all. all ≡ mapped entry_of (lines_of base) in
     looked_more n part old new Shows c.in-Ok.lines r Says (c.in-Ok.ensures.looked n part)
-    (λ base l told. reads_as r (λ (all : List Entry). all ≡ mapped entry_of (mapped line_of lines)) (Says base)
+    (λ base past l told. reads_as r (λ (all : List Entry). all ≡ mapped entry_of (mapped line_of lines)) (Says base)
     (λ all z. z ∙ (ap (λ (ls : List JournalLine). mapped entry_of (mapped line_of ls)) c.as_slice.ensures ∙ ap (mapped entry_of) told)) c.shown.ensures)
 
 pub returns-in-Err-clause-looked : goal.returns-in-Err-clause-looked

@@ -20,7 +20,7 @@ returns-in-Ok-clause-looked g c n part =
     let Then : Trees → List JournalLine → Type 0 = λ base all. IsJournal base slice → mapped line_of all ≡ lines_of base in
     let Says : Trees → List JournalLine → Type 0 = λ base all. mapped line_of all ≡ lines_of base in
     looked_both n part old mid new Shows c.in-Ok.notes c.tell_notes.result Then Says (asked_looked n part _ old mid Shows (of_ledger _ old mid (Shows old.now.trees) c.in-Ok.ensures.asked)) (c.tell_notes.ensures.looked n part)
-    (λ base l shown all then. then (subst (IsJournal base) (sym c.as_slice.ensures.value) shown))
+    (λ base past l shown all then. then (subst (IsJournal base) (sym c.as_slice.ensures.value) shown))
 
 pub returns-in-Err-clause-looked : goal.returns-in-Err-clause-looked
 returns-in-Err-clause-looked g c n part =

@@ -24,7 +24,7 @@ returns-in-Ok-clause-looked g c n part =
     let Shows : Trees → Vec (ℕ × Text) Global → Type 0 = λ base all. Lists goal_cmp (goals_of base) all.items in
     let Says : Trees → List JournalLine → Type 0 = λ base all. IsJournal base notes → mapped line_of all ≡ lines_of base in
     looked_more n part old new Shows c.in-Ok.goals r Says (asked_looked n part _ old new Shows (of_ledger _ old new (Shows old.now.trees) c.in-Ok.ensures.asked))
-    (λ base l shown. reads_as r (λ (all : List JournalLine). mapped line_of all ≡ lines_told goals notes) (Says base)
+    (λ base past l shown. reads_as r (λ (all : List JournalLine). mapped line_of all ≡ lines_told goals notes) (Says base)
     (λ all z journal. z ∙ sym (lines_are base goals (subst (Lists goal_cmp (goals_of base)) (sym c.as_slice.ensures.value) shown) notes journal)) c.lines_by.ensures)
 
 pub returns-in-Err-clause-looked : goal.returns-in-Err-clause-looked

@@ -25,7 +25,7 @@ returns-in-Ok-clause-looked g c n part =
     let Shows : Trees → Vec (ℕ × Text) Global → Type 0 = λ base all. AreGoalsWithin base after last all.items in
     let Says : Trees → List JournalLine → Type 0 = λ base all. AreNotesWithin base after last notes → counted after (mapped line_of all) ≡ lines_within after last (numbered_of base) in
     looked_more n part old new Shows c.in-Ok.goals r Says (asked_looked n part _ old new Shows c.in-Ok.ensures.asked)
-    (λ base l shown. reads_as r (λ (all : List JournalLine). mapped line_of all ≡ lines_told goals notes) (Says base)
+    (λ base past l shown. reads_as r (λ (all : List JournalLine). mapped line_of all ≡ lines_told goals notes) (Says base)
     (λ all z noted. told_within base after last goals (subst (AreGoalsWithin base after last) (sym c.as_slice.ensures.value) shown) (mapped line_of all) notes noted z) c.lines_by.ensures)
 
 pub returns-in-Err-clause-looked : goal.returns-in-Err-clause-looked

@@ -22,7 +22,7 @@ returns-in-Ok-clause-looked g c n part =
     let Then : Trees → List JournalLine → Type 0 = λ base all. AreNotesWithin base after last notes → counted after (mapped line_of all) ≡ lines_within after last (numbered_of base) in
     let Says : Trees → List JournalLine → Type 0 = λ base all. counted after (mapped line_of all) ≡ lines_within after last (numbered_of base) in
     looked_both n part old mid new Shows c.in-Ok.notes c.tell_notes_behind.result Then Says (asked_looked n part _ old mid Shows c.in-Ok.ensures.asked) (c.tell_notes_behind.ensures.looked n part)
-    (λ base l shown all then. then (subst (AreNotesWithin base after last) (sym c.as_slice.ensures.value) shown))
+    (λ base past l shown all then. then (subst (AreNotesWithin base after last) (sym c.as_slice.ensures.value) shown))
 
 pub returns-in-Err-clause-looked : goal.returns-in-Err-clause-looked
 returns-in-Err-clause-looked g c n part =

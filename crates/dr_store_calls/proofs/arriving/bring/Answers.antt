@@ -40,11 +40,11 @@ returns-in-Ok-clause-called g c =
     let Answers : Trees → Trees → Type 0 = AnswersWith Comes part caller item (Ok New) in
     let Wants : List Text → Trees → Type 0 = λ ys db. AsksToTake how item.uid db × HasRows item.uid ys db in
     let W : List Text → List Text → List Text → Type 0 = λ ys ds names. Written {E = LedgerFault} n (Wants ys) (Made ys ds names) (Ok tt) old new in
-    made_called n part (Wants again) Asks (Made again dests (names_for keep to)) Answers Makes old new (λ h. c.written.ensures.idle) (λ ready l fits. (fits.asks, rows_there old.committed.trees item.uid to again fits.again_are)) New
+    made_called n part (Wants again) Asks (Made again dests (names_for keep to)) Answers Makes old new (λ h. c.written.ensures.idle) (λ past ready l fits. (fits.asks, rows_there old.committed.trees item.uid to again fits.again_are)) New
     (subst (λ names. W again dests names) c.requires.names
     (subst (λ ds. W again ds c.args.names.now) c.as_slice-dests.ensures
     (subst (λ ys. W ys c.as_slice-dests.result.now c.args.names.now) c.as_slice-again.ensures c.in-Ok.ensures.written)))
-    (λ ready l fits db w.
+    (λ past ready l fits db w.
     let it = arrives n c.args.came.now.moment part how caller item cell to keep again dests keeps old.committed.trees db c.requires.delivered.line c.requires.targets.to c.requires.targets.keep c.requires.targets.formed (below_of n old ready) l fits w in
     (it.0, it.1, (it.1.0, it.1.1)))
 
@@ -71,11 +71,11 @@ returns-in-Err-clause-called g c =
     let Answers : Trees → Trees → Type 0 = AnswersWith Comes part caller item (Err e) in
     let Wants : List Text → Trees → Type 0 = λ ys db. AsksToTake how item.uid db × HasRows item.uid ys db in
     let W : List Text → List Text → List Text → Type 0 = λ ys ds names. Written {E = LedgerFault} n (Wants ys) (Made ys ds names) (Err e) old new in
-    unmade_called {A = Arrived} n part (Wants again) Asks (Made again dests (names_for keep to)) Answers Makes old new (λ h. c.written.ensures.idle) (λ ready l fits. (fits.asks, rows_there old.committed.trees item.uid to again fits.again_are)) e
+    unmade_called {A = Arrived} n part (Wants again) Asks (Made again dests (names_for keep to)) Answers Makes old new (λ h. c.written.ensures.idle) (λ past ready l fits. (fits.asks, rows_there old.committed.trees item.uid to again fits.again_are)) e
     c.in-Err.ensures.fault
     (subst (λ names. W again dests names) c.requires.names
     (subst (λ ds. W again ds c.args.names.now) c.as_slice-dests.ensures
     (subst (λ ys. W ys c.as_slice-dests.result.now c.args.names.now) c.as_slice-again.ensures c.in-Err.ensures.written)))
-    (λ ready l fits db w.
+    (λ past ready l fits db w.
     let it = arrives n c.args.came.now.moment part how caller item cell to keep again dests keeps old.committed.trees db c.requires.delivered.line c.requires.targets.to c.requires.targets.keep c.requires.targets.formed (below_of n old ready) l fits w in (it.0, (it.1.0, it.1.1)))
     (λ fits. refused Comes part caller item e c.requires.delivered.line c.in-Err.ensures.fault old.committed.trees)

@@ -28,9 +28,9 @@ returns-in-Ok-clause-called g c =
     let Asks : Trees → Type 0 = λ base. IsThere base item c.args.whole × (set.contains (arrivals_in (base 5)) (caller, item.uid) ≡ true) in
     let Answers : Trees → Trees → Type 0 = AnswersWith ComesNone part caller item (Ok Again) in
     let Makes : Trees → Trees → Type 0 = AcceptsAs ComesNone part caller item Again in
-    made_called n part (λ db. Unit {0}) Asks Line Answers Makes old new (λ h. c.written.ensures.idle) (λ ready l asks. tt) Again
+    made_called n part (λ db. Unit {0}) Asks Line Answers Makes old new (λ h. c.written.ensures.idle) (λ past ready l asks. tt) Again
     c.in-Ok.ensures.written
-    (λ ready l asks db w. let it = repeats n c.args.came.now.moment part caller item c.args.whole old.committed.trees db c.requires.delivered.line (below_of n old ready) l asks.0 asks.1 w in (it.0, it.1, (it.1.0, it.1.1)))
+    (λ past ready l asks db w. let it = repeats n c.args.came.now.moment part caller item c.args.whole old.committed.trees db c.requires.delivered.line (below_of n old ready) l asks.0 asks.1 w in (it.0, it.1, (it.1.0, it.1.1)))
 
 pub returns-in-Err-clause-called : goal.returns-in-Err-clause-called
 returns-in-Err-clause-called g c =
@@ -45,7 +45,7 @@ returns-in-Err-clause-called g c =
     let Asks : Trees → Type 0 = λ base. IsThere base item c.args.whole × (set.contains (arrivals_in (base 5)) (caller, item.uid) ≡ true) in
     let Answers : Trees → Trees → Type 0 = AnswersWith ComesNone part caller item (Err e) in
     let Makes : Trees → Trees → Type 0 = AcceptsAs ComesNone part caller item Again in
-    unmade_called {A = Arrived} n part (λ db. Unit {0}) Asks Line Answers Makes old new (λ h. c.written.ensures.idle) (λ ready l asks. tt) e c.in-Err.ensures.fault
+    unmade_called {A = Arrived} n part (λ db. Unit {0}) Asks Line Answers Makes old new (λ h. c.written.ensures.idle) (λ past ready l asks. tt) e c.in-Err.ensures.fault
     c.in-Err.ensures.written
-    (λ ready l asks db w. let it = repeats n c.args.came.now.moment part caller item c.args.whole old.committed.trees db c.requires.delivered.line (below_of n old ready) l asks.0 asks.1 w in (it.0, (it.1.0, it.1.1)))
+    (λ past ready l asks db w. let it = repeats n c.args.came.now.moment part caller item c.args.whole old.committed.trees db c.requires.delivered.line (below_of n old ready) l asks.0 asks.1 w in (it.0, (it.1.0, it.1.1)))
     (λ asks. refused ComesNone part caller item e c.requires.delivered.line c.in-Err.ensures.fault old.committed.trees)

@@ -10,4 +10,4 @@ returns-in-Some-Held-clause-called g c part =
     let there : c.args.found ≡ Some (Held c.in-Some-Held.why) = search rules in
     asked_as c.args.n (advanced c.drop_row.result c.args.n) part c.drop_row.result
     (state g.S.Store c.args.conn.now) (state g.S.Store c.drop_row.new.conn) _ _ _ _
-    (λ base l found. sym found ∙ there) (c.drop_row.ensures.called part)
+    (λ past base l found. sym found ∙ there) (c.drop_row.ensures.called part)

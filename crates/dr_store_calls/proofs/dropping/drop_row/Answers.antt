@@ -70,9 +70,9 @@ returns-in-Ok-clause-called g c part =
     (written_called n part (AsksForRow (uid, dest)) Given (GivesUp uid dest now n (not needed))
     Answers r mid new
     (λ h. c.written-answer.ensures.idle)
-    (λ ready l given. row_asks mid.committed.trees uid dest (Held why) l.bodied given.0 refl)
+    (λ past ready l given. row_asks mid.committed.trees uid dest (Held why) l.bodied given.0 refl)
     c.written-answer.ensures.fault c.written-answer.ensures.written
-    (λ ready l given db w. drops n part mid.committed.trees db uid dest why now needed
+    (λ past ready l given db w. drops n part mid.committed.trees db uid dest why now needed
     c.requires.early (below_of n mid ready) l given.0 given.1 w)
     (λ e own. (
       drops_own e uid dest now (book_of mid.committed.trees) own,
@@ -80,7 +80,7 @@ returns-in-Ok-clause-called g c part =
       refl,
     )) Makes
     (λ base db it. (it.0, it.1))))
-    (λ db l held shown. (held, shown))
+    (λ past db l held shown. (held, shown))
     (λ base db held shown it. it)
     (λ base db held shown it. it))
 

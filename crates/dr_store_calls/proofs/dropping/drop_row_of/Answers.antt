@@ -31,6 +31,6 @@ returns-in-Ok-clause-called g c part =
     looked_then n (advanced r n) part old mid new Shows c.in-Ok.found r Nothing
     (λ base. Shows base c.in-Ok.found) Answers Makes Answers Makes
     (asked_looked n part _ old mid Shows c.in-Ok.ensures.asked) (c.drop_found.ensures.called part)
-    (λ db l any shown. shown)
+    (λ past db l any shown. shown)
     (λ base db any shown it. it)
     (λ base db any shown it. it)

@@ -23,7 +23,7 @@ returns-in-Ok-clause-called g c part =
     let Answers : Trees → Trees → Type 0 = λ base db. Forgets uid (book_of base) r (book_of db) × OnlyLetsGo (bodies_of base) (bodies_of db) in
     let Makes : Trees → Trees → Type 0 = λ base db. Forgets uid (book_of base) (Ok tt) (book_of db) × OnlyLetsGo (bodies_of base) (bodies_of db) in
     looked_then n (advanced r n) part old mid new Shows over r Nothing (λ base. Shows base over) Answers Makes Answers Makes (c.in-Ok.ensures.looked n part)
-    (c.forget_if.ensures.called part) (λ db l any shown. shown) (λ base db any shown it. it) (λ base db any shown it. it)
+    (c.forget_if.ensures.called part) (λ past db l any shown. shown) (λ base db any shown it. it) (λ base db any shown it. it)
 
 pub returns-in-Err-clause-called : goal.returns-in-Err-clause-called
 returns-in-Err-clause-called g c part =

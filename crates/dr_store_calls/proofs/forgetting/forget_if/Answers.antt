@@ -21,7 +21,7 @@ returns-then-over-clause-called g c part =
     let Asks : Trees → Type 0 = λ base. IsTrue c.args.over ↔ IsOver (book_of base) uid in
     let Answers : Result (Unit {0}) LedgerFault → Trees → Trees → Type 0 = λ result base db. Forgets uid (book_of base) result (book_of db) × OnlyLetsGo (bodies_of base) (bodies_of db) in
     written_called n part (λ db. Unit {0}) Asks (TakesOut uid n c.args.moment) Answers r old new (λ h. c.written.ensures.idle)
-    (λ ready l asks. tt) c.written.ensures.fault c.written.ensures.written
-    (λ ready l asks db w. forgets n c.args.moment part old.committed.trees db uid (below_of n old ready) l (asks.0 c.if-over.true) w)
+    (λ past ready l asks. tt) c.written.ensures.fault c.written.ensures.written
+    (λ past ready l asks db w. forgets n c.args.moment part old.committed.trees db uid (below_of n old ready) l (asks.0 c.if-over.true) w)
     (λ e own. (forgets_own e uid (book_of old.committed.trees) own, all_stay (bodies_of old.committed.trees)))
     (Answers (Ok tt)) (λ base db it. it)

@@ -26,6 +26,6 @@ returns-in-Ok-clause-looked g c n part =
     let Says : Trees → Bool → Type 0 = λ base b. IsTrue b ↔ IsOver (book_of base) uid in
     looked_then n n part old mid new Shows key r Nothing Nothing (λ base db. (db ≡ base) × Reads r (Then base)) (λ base db. ⊥) (λ base db. (db ≡ base) × Reads r (Says base)) (λ base db. ⊥)
     (asked_looked n part _ old mid Shows c.in-Ok.ensures.asked) (c.is_past_if.ensures.looked n part)
-    (λ db l any shown. tt)
+    (λ past db l any shown. tt)
     (λ base db any shown it. (it.0, reads_as r (Then base) (Says base) (λ b says. over_by base uid key b shown (subst (λ there. Past there base b) c.is_some.ensures says)) it.1))
     (λ base db any shown none. none)

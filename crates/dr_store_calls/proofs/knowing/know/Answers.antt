@@ -24,4 +24,4 @@ returns-in-Ok-clause-looked g c n part =
     let Says : Trees → Known → Type 0 = λ base known. IsWhatIsKnown base item known in
     looked_then n n part old mid new Shows key r Nothing Nothing (λ base db. (db ≡ base) × Reads r (Then base)) (λ base db. ⊥) (λ base db. (db ≡ base) × Reads r (Says base)) (λ base db. ⊥)
     (asked_looked n part _ old mid Shows c.in-Ok.ensures.asked) (c.known_by.ensures.looked n part)
-    (λ db l any shown. tt) (λ base db any shown it. (it.0, reads_as r (Then base) (Says base) (λ known says. says shown) it.1)) (λ base db any shown none. none)
+    (λ past db l any shown. tt) (λ base db any shown it. (it.0, reads_as r (Then base) (Says base) (λ known says. says shown) it.1)) (λ base db any shown none. none)

@@ -43,7 +43,7 @@ returns-in-Ok-clause-called g c part =
     (looked_then n (advanced r n) part old mid new Shows found r Nothing Nothing Tables Makes
     (Answers (plain r)) Makes (c.in-Ok.ensures.looked n part)
     (c.settle_row_of-answer.ensures.called part)
-    (λ db l any shown. tt)
+    (λ past db l any shown. tt)
     (λ base db any shown it. (
       it.0,
       lets_cells_go Apart (g.B.Shelf.uses was) (g.B.Shelf.stands was) (g.B.Shelf.uses shelf)

@@ -26,5 +26,5 @@ returns-in-Ok-clause-looked g c n part =
     let Says : Trees → Bool → Type 0 = λ base b. IsTrue b ↔ IsNeededStill base uid dest to in
     looked_then n n part old mid new Shows elsewhere r Nothing Nothing (λ base db. (db ≡ base) × Reads r (Then base)) (λ base db. ⊥) (λ base db. (db ≡ base) × Reads r (Says base)) (λ base db. ⊥)
     (asked_looked n part _ old mid Shows c.in-Ok.ensures.asked) (c.or_kept.ensures.looked n part)
-    (λ db l any shown. tt) (λ base db any shown it. (it.0, reads_as r (Then base) (Says base) (λ b says. still_as elsewhere b (is_queued to ≡ true) (IsOpenElsewhere base uid dest) (IsKeptIn base uid) closed shown says) it.1))
+    (λ past db l any shown. tt) (λ base db any shown it. (it.0, reads_as r (Then base) (Says base) (λ b says. still_as elsewhere b (is_queued to ≡ true) (IsOpenElsewhere base uid dest) (IsKeptIn base uid) closed shown says) it.1))
     (λ base db any shown none. none)

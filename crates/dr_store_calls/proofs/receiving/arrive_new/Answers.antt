@@ -34,7 +34,7 @@ returns-in-Ok-clause-called g c =
     Comes
     (λ there is. is)
     New c.bring_item.result (Wants t anew) (HasNeither item.uid)
-    (λ base l neither. subst
+    (λ past base l neither. subst
     (λ x. Wants x anew base) (sym how)
     (subst (λ again. Wants it_is again base) (sym none)
     (fits_absent came.n came.site.now caller item to keep base l neither)))

@@ -24,7 +24,7 @@ returns-then-brought-clause-called g c =
     let Asks : Trees → Type 0 = λ base. IsThere base came.instance.now c.args.whole in
     let Given = IsThereFor came c.args.whole true in
     read_then Comes came old new mid Shows c.in-Ok.brought c.repeat.result Asks Given (asked_looked came.n came.site.now _ old mid Shows c.in-Ok.ensures.asked)
-    (received_as Comes came mid new ComesNone (from_none Comes refl) Again c.repeat.result Given Given (λ db l is. is) c.repeat.ensures.called)
+    (received_as Comes came mid new ComesNone (from_none Comes refl) Again c.repeat.result Given Given (λ past db l is. is) c.repeat.ensures.called)
     (λ db is shown. (is, sym shown ∙ c.if-brought.true))
 
 pub returns-else-brought-clause-called : goal.returns-else-brought-clause-called

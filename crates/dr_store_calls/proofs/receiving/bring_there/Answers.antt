@@ -32,6 +32,6 @@ returns-clause-called g c =
     let Wants : Taking → Bool → Trees → Type 0 = λ how k base. FitsTables how caller item to keep again dests k base in
     let Asks : Trees → Type 0 = λ base. IsThereFor came whole false base × IsFoundFor item.uid base first in
     received_as Comes came (state g.S.Store c.args.conn.now) (state g.S.Store c.bring_item.new.conn) Comes (λ there is. is) New c.bring_item.result (Wants t ks) Asks
-    (λ base l it. subst (λ x. Wants x ks base) (sym how) (subst (λ k. Wants it_is k base) (sym keeps)
+    (λ past base l it. subst (λ x. Wants x ks base) (sym how) (subst (λ k. Wants it_is k base) (sym keeps)
     (fits_there came.n came.site.now caller item to keep whole first.kept again dests base l it.0.0 it.0.1 it.1.again it.1.dests it.1.kept)))
     c.bring_item.ensures.called

@@ -41,7 +41,7 @@ loop-dest-preserved g c = (
       let All : List Text → Trees → List Text → Type 0 = λ xs base ds. ds ≡ chosen c.args.dropped (rows_of base) uid xs in
       let P : List Text → Type 0 = λ xs. Looked n part (Ok more) old new (All xs) in
       subst P (sym grown) (looked_then n n part old mid new One dests (Ok more) Nothing Nothing (λ base db. (db ≡ base) × Next base more) (λ base db. ⊥) (λ base db. (db ≡ base) × All (take i to ++ dest ∷ []) base more) (λ base db. ⊥)
-      (c.loop-dest.invariant.0 n part) (c.in-Ok.ensures.looked n part) (λ db l any shown. tt)
+      (c.loop-dest.invariant.0 n part) (c.in-Ok.ensures.looked n part) (λ past db l any shown. tt)
       (λ base db any shown it. (it.0, it.1 ∙ ap (λ xs. xs ++ chosen c.args.dropped (rows_of base) uid (dest ∷ [])) shown ∙ sym (chosen_more c.args.dropped (rows_of base) uid (take i to) dest))) (λ base db any shown none. none)),
   λ h. c.in-Ok.ensures.idle (c.loop-dest.invariant.1 h),
 )
@@ -61,7 +61,7 @@ returns-in-Err-clause-looked g c n part =
     let Next : Trees → List Text → Type 0 = λ base ds. ds ≡ dests ++ chosen c.args.dropped (rows_of base) uid (dest ∷ []) in
     let All : Trees → List Text → Type 0 = λ base ds. ds ≡ chosen c.args.dropped (rows_of base) uid to in
     looked_then n n part old mid new One dests r Nothing Nothing (λ base db. (db ≡ base) × Reads r (Next base)) (λ base db. ⊥) (λ base db. (db ≡ base) × Reads r (All base)) (λ base db. ⊥)
-    (c.loop-dest.invariant.0 n part) (c.in-Err.ensures.looked n part) (λ db l any shown. tt)
+    (c.loop-dest.invariant.0 n part) (c.in-Err.ensures.looked n part) (λ past db l any shown. tt)
     (λ base db any shown it. (it.0, same_fault c.in-Err.fault (Next base) (All base) it.1)) (λ base db any shown none. none)
 
 pub returns-in-Err-clause-idle : goal.returns-in-Err-clause-idle

@@ -23,4 +23,4 @@ returns-in-Ok-clause-called g c part =
     let Answers : Trees → Trees → Type 0 = λ base db. Requeues uid dest (book_of base) r (book_of db) × OnlyLetsGo (bodies_of base) (bodies_of db) in
     let Makes : Trees → Trees → Type 0 = λ base db. Requeues uid dest (book_of base) (Ok tt) (book_of db) × OnlyLetsGo (bodies_of base) (bodies_of db) in
     looked_then n (advanced r n) part old mid new Shows c.in-Ok.found r Nothing (λ base. Shows base c.in-Ok.found) Answers Makes Answers Makes (asked_looked n part _ old mid Shows c.in-Ok.ensures.asked)
-    (c.requeue_found.ensures.called part) (λ db l any shown. shown) (λ base db any shown it. it) (λ base db any shown it. it)
+    (c.requeue_found.ensures.called part) (λ past db l any shown. shown) (λ base db any shown it. it) (λ base db any shown it. it)

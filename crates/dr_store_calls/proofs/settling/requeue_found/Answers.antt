@@ -9,4 +9,4 @@ pub returns-in-Some-Held-clause-called : goal.returns-in-Some-Held-clause-called
 returns-in-Some-Held-clause-called g c part =
     let there : c.args.found ≡ Some (Held c.in-Some-Held.why) = search rules in
     asked_as c.args.n (advanced c.requeue_row.result c.args.n) part c.requeue_row.result (state g.S.Store c.args.conn.now) (state g.S.Store c.requeue_row.new.conn) _ _ _ _
-    (λ base l found. sym found ∙ there) (c.requeue_row.ensures.called part)
+    (λ past base l found. sym found ∙ there) (c.requeue_row.ensures.called part)

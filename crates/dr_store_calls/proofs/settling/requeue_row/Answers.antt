@@ -25,7 +25,7 @@ returns-clause-called g c part =
     let Asks : Trees → Type 0 = λ base. map.get (rows_of base) (uid, dest) ≡ Some (Held why) in
     let Answers : Result (Unit {0}) LedgerFault → Trees → Trees → Type 0 = λ result base db. Requeues uid dest (book_of base) result (book_of db) × OnlyLetsGo (bodies_of base) (bodies_of db) in
     written_called n part (AsksForRow (uid, dest)) Asks (MovesOn (uid, dest) (Waiting 0 0) (requeued_line n c.args.moment uid dest) false) Answers r old new (λ h. c.written.ensures.idle)
-    (λ ready l held. row_asks old.committed.trees uid dest (Held why) l.bodied held refl) c.written.ensures.fault c.written.ensures.written
-    (λ ready l held db w. requeues n c.args.moment part old.committed.trees db uid dest why (below_of n old ready) l held w)
+    (λ past ready l held. row_asks old.committed.trees uid dest (Held why) l.bodied held refl) c.written.ensures.fault c.written.ensures.written
+    (λ past ready l held db w. requeues n c.args.moment part old.committed.trees db uid dest why (below_of n old ready) l held w)
     (λ e own. (requeues_own e uid dest (book_of old.committed.trees) own, all_stay (bodies_of old.committed.trees)))
     (Answers (Ok tt)) (λ base db it. it)

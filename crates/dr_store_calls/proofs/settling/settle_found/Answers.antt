@@ -9,4 +9,4 @@ pub returns-in-Some-Waiting-clause-called : goal.returns-in-Some-Waiting-clause-
 returns-in-Some-Waiting-clause-called g c part =
     let there : c.args.found ≡ Some (Waiting c.in-Some-Waiting.tries c.in-Some-Waiting.due) = search rules in
     asked_as c.args.n (advanced c.settle_row.result c.args.n) part c.settle_row.result (state g.S.Store c.args.conn.now) (state g.S.Store c.settle_row.new.conn) _ _ _ _
-    (λ base l found. sym found ∙ there) (c.settle_row.ensures.called part)
+    (λ past base l found. sym found ∙ there) (c.settle_row.ensures.called part)

@@ -64,10 +64,10 @@ returns-in-Ok-clause-called g c part =
     let t = telling went r in
     subst Whole (sym c.tells.ensures) (looked_then n (advanced t n) part old mid new Shows needed t Waits Given (Says t) Makes (Says t) Makes (c.in-Ok.ensures.looked n part)
     (told n part mid new Given went r Answers Says Makes (λ base db it. (it.0, it.2)) (λ e base db it. (it.0, it.2)) (written_called n part (AsksForRow (uid, dest)) Given (MovesOn (uid, dest) to (settled_line n uid dest what now) (not needed)) Answers r mid new (λ h. c.written-answer.ensures.idle)
-    (λ ready l given. row_asks mid.committed.trees uid dest (Waiting tries due) l.bodied given.0 refl) c.written-answer.ensures.fault c.written-answer.ensures.written
-    (λ ready l given db w. settles n part mid.committed.trees db uid dest tries due to what now needed c.requires.early (below_of n mid ready) l given.0 c.moved-to.ensures given.1 w)
+    (λ past ready l given. row_asks mid.committed.trees uid dest (Waiting tries due) l.bodied given.0 refl) c.written-answer.ensures.fault c.written-answer.ensures.written
+    (λ past ready l given db w. settles n part mid.committed.trees db uid dest tries due to what now needed c.requires.early (below_of n mid ready) l given.0 c.moved-to.ensures given.1 w)
     (λ e own. (settles_own e uid dest what now (book_of mid.committed.trees) own, all_stay (bodies_of mid.committed.trees), refl)) Makes (λ base db it. (it.0, it.1))))
-    (λ db l waits shown. (waits, shown)) (λ base db waits shown it. it) (λ base db waits shown it. it))
+    (λ past db l waits shown. (waits, shown)) (λ base db waits shown it. it) (λ base db waits shown it. it))
 
 pub returns-in-Ok-clause-number : goal.returns-in-Ok-clause-number
 returns-in-Ok-clause-number g c =

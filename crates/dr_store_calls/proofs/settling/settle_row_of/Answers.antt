@@ -24,4 +24,4 @@ returns-in-Ok-clause-called g c part =
     let Answers : Trees → Trees → Type 0 = λ base db. Settles uid dest c.args.outcome c.args.now (book_of base) (plain r) (book_of db) × GoesWith r uid base db in
     let Makes : Trees → Trees → Type 0 = λ base db. Settles uid dest c.args.outcome c.args.now (book_of base) (Ok tt) (book_of db) × OnlyLetsGo (bodies_of base) (bodies_of db) in
     looked_then n (advanced r n) part old mid new Shows c.in-Ok.found r Nothing (λ base. Shows base c.in-Ok.found) Answers Makes Answers Makes (asked_looked n part _ old mid Shows c.in-Ok.ensures.asked)
-    (c.settle_found.ensures.called part) (λ db l any shown. shown) (λ base db any shown it. it) (λ base db any shown it. it)
+    (c.settle_found.ensures.called part) (λ past db l any shown. shown) (λ base db any shown it. it) (λ base db any shown it. it)

@@ -1,4 +1,4 @@
-use Rattle.std.proofs.Common.{◌≡◌, ◌⊎◌, List, ℕ, Ok, Err, OnErr, Option, Result, sym, subst}
+use Rattle.std.proofs.Common.{◌≡◌, ◌⊎◌, List, [], ℕ, Ok, Err, OnErr, Option, Result, sym, subst}
 use Rattle.sqlite.specs.Held.{state}
 use Rattle.sqlite.specs.State.{HasCleanDisk}
 use Rattle.sqlite.specs.Tree.{Trees}
@@ -124,6 +124,6 @@ returns-clause-covered g c clean =
     (Survives Uses Stands Apart was_of read_of base)
     (λ k it own. survives was_of read_of base later (λ cell bytes used is. g.B.Shelf.held shelf cell bytes clean used is) (gone {was_of = was_of} {read_of = read_of} base later alike it.1 (dropped_items uid dest now (book_of base) r (book_of later) it.0) own))
     (not_gone (λ s db. Survives (g.B.Shelf.uses s) (g.B.Shelf.stands s) Apart was_of (g.B.Shelf.read_of s) base db) r was shelf c.give_up-answer.ensures.same Left
-    (λ (k : IsKept n part old) (own : HaveOwn Used Apart base) db may.
+    (λ (k : IsKept [] n part old) (own : HaveOwn Used Apart base) db may.
     survives was_of was_of base db (λ cell bytes used is. g.B.Shelf.held was cell bytes (c.give_up-answer.ensures.clean clean) used is)
     (left_of was_of base db Makes (λ made. (made.1, dropped uid dest now (Ok tt) base db made.0)) may own))))

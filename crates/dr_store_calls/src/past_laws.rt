@@ -1,0 +1,12 @@
+//! What a past is good for: lines may leave the tables.
+ghost use Rattle.dr_store_calls.specs.PastLaws.{LinesMayLeave, NumbersCountAllLines};
+
+/// Where all lines leave the tables, and stand behind the past then, nothing else changes.
+pub fn lines_may_leave()
+    ensures { LinesMayLeave }
+{}
+
+/// The next line's number counts all lines, wherever they stand.
+pub fn numbers_count_all_lines()
+    ensures { NumbersCountAllLines }
+{}
