@@ -1,5 +1,5 @@
 -- What a text means over whatever tables: a query only asks, and CREATE INDEX only makes an index.
-use Rattle.std.proofs.Common.{◌≡◌, ◌∙◌, ◌+◌, ℕ, Bool, true, false, true≢false, if◌then◌else◌, List, [], length, is_some, Option, Some, None, Result, Ok, Err, refl, sym, ap, subst}
+use Rattle.std.proofs.Common.{◌≡◌, ◌∙◌, ◌+◌, ℕ, Bool, true, false, true≢false, if◌then◌else◌, List, [], is_some, Option, None, Ok, Err, refl, sym, ap, subst}
 use Rattle.std.specs.Option.{option_or}
 use Rattle.sqlite.specs.Given.{IsPlain}
 use Rattle.sqlite.specs.Listing.{if_select, listing_schema, reads_listing, understood}
@@ -24,7 +24,7 @@ use Rattle.sqlite_resolve.specs.declared.error.CompileError.{CompileError}
 use Rattle.sqlite_resolve.specs.declared.error.CompileError.TheVariants.{Exists, Misuse, NoSuchTable}
 use Rattle.sqlite_tied.specs.Compute.{everything}
 use Rattle.dr_store_schema.specs.Statements as text
-use Rattle.dr_store_open.specs.Renewing.{IsQuery, OnlyAsks, OnlyIndexes, all_calls}
+use Rattle.dr_store_open.specs.Renewing.{OnlyAsks, OnlyIndexes, all_calls}
 
 -- ---- one step after another
 
@@ -72,8 +72,7 @@ meant_as schema p plan h =
     let two = then_ok (Option Returning) Found (returning schema base p.statement) (λ shown. and_then (command schema p.formats base p.statement) (λ c. Ok (c, shown))) one.0 one.1 in
     let three = then_ok Command Found (command schema p.formats base p.statement) (λ c. Ok (c, two.0)) one.0 two.2 in
     let both : Found = (three.0, two.0) in
-    let found : both ≡ plan.1 = same_ok Found (Ok both) both one.0 refl three.2 ∙ ap (λ (x : Plan). x.1) all in
-    (
+    let found : both ≡ plan.1 = same_ok Found (Ok both) both one.0 refl three.2 ∙ ap (λ (x : Plan). x.1) all in (
       ap (λ (x : Plan). x.0) (sym all),
       base,
       subst (λ (x : Found). returning schema base p.statement ≡ Ok x.1) found two.1,

@@ -26,7 +26,8 @@ pub record IsQuery (schema : Schema) (sql : List ℕ) : Type 0 where
 
 -- over whatever tables the text is understood, it is such a query
 abbrev pub OnlyAsks : List ℕ → Type 0
-OnlyAsks sql = (schema : Schema) (it : Compiled) → understood schema sql ≡ Ok it → IsQuery schema sql
+OnlyAsks sql =
+    (schema : Schema) (it : Compiled) → understood schema sql ≡ Ok it → IsQuery schema sql
 
 -- over whatever tables the text is understood, it makes an index of one of them
 abbrev pub OnlyIndexes : List ℕ → Type 0
