@@ -2,7 +2,7 @@
 use Rattle.std.proofs.Common.{◌≡◌, ◌∙◌, [], false, true, inl, inr, refl, sym, ap, IsTrue, Ok, Err, Result, OnOk, arith}
 use Rattle.sqlite.specs.State.{State, HasCleanDisk, KeepsCounts, Shows, Survives}
 use Rattle.sqlite.specs.declared.error.Error.{Error}
-use Rattle.sqlite.specs.Effect.{Database}
+use Rattle.sqlite.specs.Effect.{Database, IsDatabase}
 use Rattle.sqlite.proofs.StateLemmas.{survives_then}
 use Rattle.dr_site.specs.Parts.{Part}
 use Rattle.dr_store_writes.specs.Effects.{CommitsNothing}
@@ -29,13 +29,13 @@ leaves_made old mid new (Ok x) filled done survives clean = λ db left. elim (su
 -- where the commit was tried, whatever came of it
 pub leaves_tried : (old mid new : State) (Makes : Database → Type 0)
     → CommitsNothing (record old { in_transaction = true }) mid
-    → (HasCleanDisk mid → Makes mid.now)
+    → (HasCleanDisk mid → IsDatabase mid.now × Makes mid.now)
     → Survives mid new (λ db. db ≡ mid.now.trees) → HasCleanDisk new → LeavesOldOr Makes old new
 leaves_tried old mid new Makes filled made survives clean =
     let early : HasCleanDisk mid = omega (arith, survives.clean, clean) in
     λ db left. elim (survives.crash clean db left) [
       | inl earlier ↦ elim (filled.crash early db earlier) [ inl before ↦ inl before | inr none ↦ absurd none ]
-      | inr is ↦ inr (mid.now, sym is, made early)
+      | inr is ↦ (let it = made early in inr (mid.now, sym is, it.0, it.1))
     ]
 
 -- where a statement failed, and the transaction was let go
@@ -58,5 +58,5 @@ pub leaves_more : (old new : State) (One Two : Database → Type 0) → ((d : Da
     → LeavesOldOr One old new → LeavesOldOr Two old new
 leaves_more old new One Two says left = λ db h. elim (left db h) [
   | inl before ↦ inl before
-  | inr made ↦ inr (made.0, made.1, says made.0 made.2)
+  | inr made ↦ inr (made.0, made.1, made.2, says made.0 made.3)
 ]

@@ -22,25 +22,25 @@ pub nothing_made : (part : Part) (old new : State) → LeavesOldOr (MayMake part
     → (db : Trees) → new.may_leave db → old.may_leave db
 nothing_made part old new left blank older db h = elim (left db h) [
   | inl before ↦ before
-  | inr made ↦ elim made.2 [ inl new_one ↦ absurd (blank new_one.0) | inr renewed ↦ absurd (older renewed.0) ]
+  | inr made ↦ elim made.3 [ inl new_one ↦ absurd (blank new_one.0) | inr renewed ↦ absurd (older renewed.0) ]
 ]
 
 pub kept_or_before : (part : Part) (old new : State) → LeavesOldOr (MayMake part old.now) old new → IsOlder old.now.schema
-    → LeavesOldOr (λ d. d.schema ≡ tables → KeepsRows old.now d) old new
+    → LeavesOldOr (KeepsRows old.now) old new
 kept_or_before part old new left older db h = elim (left db h) [
   | inl before ↦ inl before
-  | inr made ↦ elim made.2 [
+  | inr made ↦ elim made.3 [
     | inl new_one ↦ absurd (blank_no_older old.now.schema new_one.0.tables older)
-    | inr renewed ↦ inr (made.0, made.1, renewed.1)
+    | inr renewed ↦ inr (made.0, made.1, made.2, renewed.1)
   ]
 ]
 
 pub empty_or_before : (part : Part) (old new : State) → LeavesOldOr (MayMake part old.now) old new → IsBlank old.now.schema
-    → LeavesOldOr (λ d. d.schema ≡ tables → IsMadeBy part d) old new
+    → LeavesOldOr (IsMadeBy part) old new
 empty_or_before part old new left blank db h = elim (left db h) [
   | inl before ↦ inl before
-  | inr made ↦ elim made.2 [
-    | inl new_one ↦ inr (made.0, made.1, new_one.1)
+  | inr made ↦ elim made.3 [
+    | inl new_one ↦ inr (made.0, made.1, made.2, new_one.1)
     | inr renewed ↦ absurd (blank_no_older old.now.schema blank.tables renewed.0)
   ]
 ]

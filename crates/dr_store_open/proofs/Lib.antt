@@ -4,6 +4,7 @@ mod Chains
 mod Emptied
 mod Filling
 mod Fresh
+mod Indexed
 mod Kept
 mod Left
 mod Opens

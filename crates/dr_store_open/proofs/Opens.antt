@@ -327,12 +327,12 @@ module _ {D : Type 0} {g : Ghosts D} where
 
     pub older_of : (made ≡ true → IsBlank old.now.schema)
         → (HasCleanDisk mid → LeavesOldOrCommitted old mid)
-        → (HasCleanDisk mid → IsOlder old.now.schema → mid.now.schema ≡ tables → mid.committed.schema ≡ tables → KeepsRows old.now mid.committed)
+        → (HasCleanDisk mid → IsOlder old.now.schema → mid.now.schema ≡ tables → KeepsRows old.now mid.committed)
         → (r : Result (OpenedLedger D g) OpeningFault) → IsWholeOpened (made ≡ false) part r mid new
         → IfOk r (λ it. HasCleanDisk new → IsOlder old.now.schema → IsBroughtOver old new)
     older_of blank leaves keeps (Ok it) w = λ clean older.
         let early : HasCleanDisk mid = omega (arith, w.looks.clean, clean) in
-        brought_over it.next part old mid new (w.kept clean) (w.looks.leaves clean) (leaves early) (λ committed. keeps early older w.has committed)
+        brought_over it.next part old mid new (w.kept clean) (w.looks.leaves clean) (leaves early) (keeps early older w.has)
     older_of blank leaves keeps (Err fault) w = tt
 
     pub made_of : (made ≡ false → (IsBlank old.now.schema → ⊥) × ((IsOlder old.now.schema → ⊥) → StaysAsFound old mid))

@@ -232,9 +232,9 @@ as_found n part old mid new is leaves stays = record { committed = is.same ∙ s
 
 -- a file from before that was brought over, and found
 pub brought_over : (n : ℕ) (part : Part) (old mid new : State) → IsLedgerFound n part mid new → ((db : Trees) → new.may_leave db → mid.may_leave db) → LeavesOldOrCommitted old mid
-    → (mid.committed.schema ≡ tables → KeepsRows old.now mid.committed) → IsBroughtOver old new
+    → KeepsRows old.now mid.committed → IsBroughtOver old new
 brought_over n part old mid new is leaves left kept = record {
-  keeps = subst (KeepsRows old.now) (sym is.same) (kept (ap (λ (d : Database). d.schema) (sym (is.kept.ready.settled ∙ is.same)) ∙ is.kept.ready.ledger.schema));
+  keeps = subst (KeepsRows old.now) (sym is.same) kept;
   leaves = found_left n part old mid new is leaves left;
 }
 

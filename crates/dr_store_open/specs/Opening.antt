@@ -3,7 +3,7 @@ use Rattle.std.specs.Prelude.{◌≡◌, ◌≤◌, ◌+◌, ◌++◌, ◌⊎◌
 use Rattle.std.specs.Prelude.{true, false, IsTrue}
 use Rattle.std.specs.Prelude.{IfErr, IfOk, Option, None, Some, Result, Ok, Err, OnOk, length}
 use Rattle.std.specs.FinMap as map
-use Rattle.sqlite.specs.Effect.{Database}
+use Rattle.sqlite.specs.Effect.{Database, IsDatabase}
 use Rattle.sqlite.specs.State.{State, HasCleanDisk}
 use Rattle.sqlite.specs.Tree.{Trees}
 use Rattle.sqlite_disk.specs.declared.Disk.{Ghosts}
@@ -228,18 +228,20 @@ pub record IsBroughtOver (old new : State) : Type 0 where
 
 -- ---- a file that is refused
 
--- A crash leaves what it could leave before, or a database of which this holds.
+-- A crash leaves what it could leave before, or a database of which this holds: its trees list the
+-- tables that it has, and obey them.
 abbrev pub LeavesOldOr : (Database → Type 0) → State → State → Type 0
 LeavesOldOr Makes old new =
-    (db : Trees) → new.may_leave db → old.may_leave db ⊎ ((d : Database) × (d.trees ≡ db) × Makes d)
+    (db : Trees)
+    → new.may_leave db
+    → old.may_leave db ⊎ ((d : Database) × (d.trees ≡ db) × IsDatabase d × Makes d)
 
 -- What an opening for a site may make of a file. One without tables gets those of a new ledger of
--- that site, with no row but the owner's; one from before gets the tables of today, and keeps what
--- it had. Of any other file it makes nothing.
+-- that site, with no row but the owner's; one from before keeps what it had. Of any other file it
+-- makes nothing.
 abbrev pub MayMake : Part → Database → Database → Type 0
 MayMake part was d =
-    (IsBlank was.schema × (d.schema ≡ tables → IsMadeBy part d))
-    ⊎ (IsOlder was.schema × (d.schema ≡ tables → KeepsRows was d))
+    (IsBlank was.schema × IsMadeBy part d) ⊎ (IsOlder was.schema × KeepsRows was d)
 
 -- What an opening leaves, whatever it answers, also where the file is refused. A crash leaves what
 -- it could leave before, or what an opening makes of the file, whole. Where that is nothing, what

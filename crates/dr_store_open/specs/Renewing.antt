@@ -6,6 +6,7 @@ use Rattle.sqlite.specs.Listing.{reads_listing, understood}
 use Rattle.sqlite.specs.Order.{Row}
 use Rattle.sqlite.specs.Schema.{Schema}
 use Rattle.sqlite_resolve.specs.declared.compiled.Compiled.{Compiled}
+use Rattle.sqlite_schema.specs.declared.command.Command.TheVariants.{CreateIndex}
 use Rattle.dr_base.specs.Texts.{Text}
 use Rattle.dr_site.specs.Parts.{Part}
 use Rattle.dr_store_schema.specs.Statements as text
@@ -22,6 +23,18 @@ all_calls = codes "SELECT n, kind, caller, uid, dest, outcome, moment FROM journ
 pub record IsQuery (schema : Schema) (sql : List ℕ) : Type 0 where
   pub plain : IsPlain (understood schema sql)
   pub listing : reads_listing schema sql ≡ false
+
+-- over whatever tables the text is understood, it is such a query
+abbrev pub OnlyAsks : List ℕ → Type 0
+OnlyAsks sql =
+    (schema : Schema) (it : Compiled) → understood schema sql ≡ Ok it → IsQuery schema sql
+
+-- over whatever tables the text is understood, it makes an index of one of them
+abbrev pub OnlyIndexes : List ℕ → Type 0
+OnlyIndexes sql =
+    (schema : Schema) (it : Compiled)
+    → understood schema sql ≡ Ok it
+    → (at : ℕ) × (it.command ≡ CreateIndex at)
 
 -- the query answers these rows of that database
 pub record IsAnswer (sql : List ℕ) (db : Database) (rows : List Row) : Type 0 where
@@ -68,15 +81,6 @@ IsMadeWith mark part db =
 -- with some mark
 abbrev pub IsMadeBy : Part → Database → Type 0
 IsMadeBy part db = (mark : List ℕ) × IsMadeWith mark part db
-
--- these are queries over the tables
-pub record AreQueries (schema : Schema) : Type 0 where
-  pub site : IsQuery schema text.the_site
-  pub items : IsQuery schema text.all_items
-  pub arrivals : IsQuery schema text.all_arrivals
-  pub kept : IsQuery schema text.all_kept
-  pub rows : IsQuery schema text.all_rows
-  pub lines : IsQuery schema all_calls
 
 -- the sheets have what it has
 pub record AreSheetsOf (db : Database) (sheets : Sheets) : Type 0 where

@@ -1,10 +1,10 @@
 //! Statements of a transaction, of which only the commit may leave something.
-ghost use Rattle.std.specs.Prelude.{◌≡◌, IfOk, OnOk};
+ghost use Rattle.std.specs.Prelude.{◌≡◌, ℕ, IfOk, Ok, OnOk};
 ghost use Rattle.sqlite.specs.Held.{state};
-ghost use Rattle.sqlite.specs.State.{HasCleanDisk, Shown};
+ghost use Rattle.sqlite.specs.State.{ExecutesInside, HasCleanDisk, Shown};
 ghost use Rattle.sqlite.specs.Values.{bound};
 ghost use Rattle.dr_store_writes.specs.Effects.{CommitsNothing};
-ghost use Rattle.dr_store_open.specs.Renewing.{IsAnswer, IsQuery};
+ghost use Rattle.dr_store_open.specs.Renewing.{IsAnswer, OnlyAsks};
 
 use crate::alike::are_rows;
 use crate::fault::{OpeningFault, opening_fault};
@@ -37,11 +37,8 @@ pub fn ask_rows<S: Alter>(tx: &mut Transaction<'_, S>, sql: &str) -> Result<Vec<
     ensures same_reference { tx.new.conn.ghost_name ≡ tx.old.conn.ghost_name }
     ensures survives { CommitsNothing (state S.Store tx.old.conn.now)
         (state S.Store tx.new.conn.now) }
-    ensures schema { HasCleanDisk (state S.Store tx.new.conn.now)
-        → IfOk result (λ rows.
-        (state S.Store tx.new.conn.now).now.schema ≡ (state S.Store tx.old.conn.now).now.schema) }
     ensures answer { HasCleanDisk (state S.Store tx.new.conn.now)
-        → IsQuery (state S.Store tx.old.conn.now).now.schema sql.now
+        → OnlyAsks sql.now
         → IfOk result (λ rows. IsAnswer sql.now (state S.Store tx.old.conn.now).now rows.items
         × ((state S.Store tx.new.conn.now).now ≡ (state S.Store tx.old.conn.now).now)) }
 {
@@ -57,11 +54,8 @@ pub fn test_rows<S: Alter>(
     ensures same_reference { tx.new.conn.ghost_name ≡ tx.old.conn.ghost_name }
     ensures survives { CommitsNothing (state S.Store tx.old.conn.now)
         (state S.Store tx.new.conn.now) }
-    ensures schema { HasCleanDisk (state S.Store tx.new.conn.now)
-        → OnOk result
-        ((state S.Store tx.new.conn.now).now.schema ≡ (state S.Store tx.old.conn.now).now.schema) }
     ensures answer { HasCleanDisk (state S.Store tx.new.conn.now)
-        → IsQuery (state S.Store tx.old.conn.now).now.schema sql.now
+        → OnlyAsks sql.now
         → OnOk result
         (IsAnswer sql.now (state S.Store tx.old.conn.now).now rows.now
         × ((state S.Store tx.new.conn.now).now ≡ (state S.Store tx.old.conn.now).now)) }
@@ -82,6 +76,9 @@ pub fn run_within<S: Alter>(
     ensures same_reference { tx.new.conn.ghost_name ≡ tx.old.conn.ghost_name }
     ensures survives { CommitsNothing (state S.Store tx.old.conn.now)
         (state S.Store tx.new.conn.now) }
+    ensures runs { HasCleanDisk (state S.Store tx.new.conn.now)
+        → OnOk result ((count : ℕ) × ExecutesInside 0 sql.now (bound params.now)
+        (state S.Store tx.old.conn.now) (state S.Store tx.new.conn.now) (Ok count)) }
 {
     match tx.execute(sql, params) {
         Ok(_) => Ok(()),

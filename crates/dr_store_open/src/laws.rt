@@ -86,24 +86,23 @@ pub fn another_file_stays<S: Alter>(before: &Connection<S>, after: &Connection<S
         → (state S.Store before.now).may_leave db }
 {}
 
-/// Of a file from before it leaves what there was, or, where the tables are those of today, all
-/// that it had.
+/// Of a file from before it leaves what there was, or a database of which the same queries answer
+/// the same: all that it had.
 pub fn an_older_file_keeps_its_rows<S: Alter>(before: &Connection<S>, after: &Connection<S>)
     ensures { (part : Part)
         → LeavesFile part (state S.Store before.now) (state S.Store after.now)
         → IsOlder (state S.Store before.now).now.schema
-        → LeavesOldOr (λ d. d.schema ≡ tables → KeepsRows (state S.Store before.now).now d)
-        (state S.Store before.now) (state S.Store after.now) }
+        → LeavesOldOr (KeepsRows (state S.Store before.now).now) (state S.Store before.now)
+        (state S.Store after.now) }
 {}
 
-/// Of a file without tables it leaves what there was, or, where the tables are those of today, a
-/// ledger of its own site without an instance, an arrival, a row or a line.
+/// Of a file without tables it leaves what there was, or a database that its own site owns, of
+/// which the queries answer no instance, no arrival, no row and no line.
 pub fn a_new_file_has_no_rows<S: Alter>(before: &Connection<S>, after: &Connection<S>)
     ensures { (part : Part)
         → LeavesFile part (state S.Store before.now) (state S.Store after.now)
         → IsBlank (state S.Store before.now).now.schema
-        → LeavesOldOr (λ d. d.schema ≡ tables → IsMadeBy part d) (state S.Store before.now)
-        (state S.Store after.now) }
+        → LeavesOldOr (IsMadeBy part) (state S.Store before.now) (state S.Store after.now) }
 {}
 
 /// Where a crash leaves what it could before or what is committed, and the store was open before,

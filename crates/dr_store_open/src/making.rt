@@ -1,14 +1,14 @@
 //! The tables of a new ledger.
 ghost use Rattle.std.specs.Prelude.{◌≡◌, ◌≤◌, OnOk, [], IsTrue, false};
+ghost use Rattle.sqlite.specs.Effect.{IsDatabase};
 ghost use Rattle.sqlite.specs.Held.{state};
 ghost use Rattle.sqlite.specs.State.{HasCleanDisk};
 ghost use Rattle.sqlite_trees.specs.View.{doubt};
-ghost use Rattle.dr_store_schema.specs.Tables.{tables};
 ghost use Rattle.dr_store_writes.specs.Effects.{CommitsNothing};
 ghost use Rattle.dr_store_open.specs.Opening.{LeavesOldOr, LeavesOldOrCommitted};
 ghost use Rattle.dr_store_open.specs.Renewing.{IsMadeFor, IsMadeWith};
 
-use crate::asking::run_texts;
+use crate::asking::{run_texts, run_within};
 use crate::fault::{OpeningFault, of_error};
 use crate::owner::shows_owner;
 use crate::sheets::{Sheets, ask_sheets};
@@ -25,8 +25,8 @@ const FIRST: [&str; 2] = [
     "CREATE TABLE item (uid TEXT NOT NULL PRIMARY KEY, class TEXT NOT NULL, syntax TEXT NOT NULL, modality BLOB NOT NULL, station BLOB NOT NULL, body BLOB NOT NULL) STRICT",
 ];
 
-/// The other tables, and the indexes of the rows that are due and of an instance's arrivals.
-pub(crate) const LATER: [&str; 8] = [
+/// The other tables, and the index of the rows that are due.
+pub(crate) const LATER: [&str; 7] = [
     "CREATE TABLE print (uid TEXT NOT NULL PRIMARY KEY REFERENCES item (uid), length INTEGER NOT NULL, sha256 BLOB NOT NULL, whole INTEGER NOT NULL) STRICT",
     "CREATE TABLE arrival (caller TEXT NOT NULL, uid TEXT NOT NULL REFERENCES item (uid), PRIMARY KEY (caller, uid)) STRICT",
     "CREATE TABLE kept (uid TEXT NOT NULL PRIMARY KEY REFERENCES item (uid)) STRICT",
@@ -34,8 +34,19 @@ pub(crate) const LATER: [&str; 8] = [
     "CREATE TABLE journal (n INTEGER PRIMARY KEY, kind INTEGER NOT NULL, caller TEXT, uid TEXT, dest TEXT, outcome INTEGER, moment INTEGER, class TEXT, syntax TEXT, modality BLOB, station BLOB, length INTEGER, sha256 BLOB) STRICT",
     "CREATE TABLE target (n INTEGER NOT NULL REFERENCES journal (n), dest TEXT NOT NULL, PRIMARY KEY (n, dest)) STRICT",
     "CREATE INDEX queue_due ON queue (dest, state, due, uid)",
-    "CREATE INDEX arrival_uid ON arrival (uid)",
 ];
+
+/// The index of an instance's arrivals. It is made last of all: that it was made says that the
+/// trees list the tables.
+pub(crate) fn index_arrivals<S: Alter>(tx: &mut Transaction<'_, S>) -> Result<(), OpeningFault>
+    ensures same_reference { tx.new.conn.ghost_name ≡ tx.old.conn.ghost_name }
+    ensures survives { CommitsNothing (state S.Store tx.old.conn.now)
+        (state S.Store tx.new.conn.now) }
+    ensures listed { HasCleanDisk (state S.Store tx.new.conn.now)
+        → OnOk result (IsDatabase (state S.Store tx.new.conn.now).now) }
+{
+    run_within(tx, "CREATE INDEX arrival_uid ON arrival (uid)", &[])
+}
 
 /// Puts in whose ledger it is, with this for its plan.
 fn put_owner<'x, S: Alter>(
@@ -76,9 +87,8 @@ fn test_made<'x, S: Alter>(
     ensures survives { CommitsNothing (state S.Store tx.old.conn.now)
         (state S.Store tx.new.conn.now) }
     ensures made { HasCleanDisk (state S.Store tx.new.conn.now)
-        → (state S.Store tx.new.conn.now).now.schema ≡ tables
-        → OnOk result
-        (IsMadeFor node.now cell.now (state S.Store tx.new.conn.now).now) }
+        → OnOk result (IsMadeFor node.now cell.now (state S.Store tx.old.conn.now).now
+        × ((state S.Store tx.new.conn.now).now ≡ (state S.Store tx.old.conn.now).now)) }
 {
     let sheets = ask_sheets(tx)?;
     if !has_no_rows(&sheets) {
@@ -99,14 +109,16 @@ fn fill<'x, S: Alter>(
     ensures same_reference { tx.new.conn.ghost_name ≡ tx.old.conn.ghost_name }
     ensures survives { CommitsNothing (state S.Store tx.old.conn.now)
         (state S.Store tx.new.conn.now) }
+    ensures listed { HasCleanDisk (state S.Store tx.new.conn.now)
+        → OnOk result (IsDatabase (state S.Store tx.new.conn.now).now) }
     ensures made { HasCleanDisk (state S.Store tx.new.conn.now)
-        → (state S.Store tx.new.conn.now).now.schema ≡ tables
         → OnOk result
         (IsMadeFor node.now cell.now (state S.Store tx.new.conn.now).now) }
 {
     run_texts(tx, FIRST.as_slice())?;
     run_texts(tx, LATER.as_slice())?;
     put_owner(tx, node, cell)?;
+    index_arrivals(tx)?;
     test_made(tx, node, cell)
 }
 
@@ -123,8 +135,8 @@ fn make_for<S: Alter>(
     ensures made { HasCleanDisk (state S.Store conn.new)
         → OnOk result (LeavesOldOrCommitted (state S.Store conn.old) (state S.Store conn.new)) }
     ensures crash { HasCleanDisk (state S.Store conn.new)
-        → LeavesOldOr (λ d. d.schema ≡ tables → IsMadeFor node.now cell.now d)
-        (state S.Store conn.old) (state S.Store conn.new) }
+        → LeavesOldOr (IsMadeFor node.now cell.now) (state S.Store conn.old)
+        (state S.Store conn.new) }
 {
     let mut tx = conn.transaction();
     fill(&mut tx, node, cell)?;
@@ -152,8 +164,8 @@ pub fn make<S: Alter>(
     ensures made { HasCleanDisk (state S.Store conn.new)
         → OnOk result (LeavesOldOrCommitted (state S.Store conn.old) (state S.Store conn.new)) }
     ensures crash { HasCleanDisk (state S.Store conn.new)
-        → LeavesOldOr (λ d. d.schema ≡ tables → IsMadeWith mark.now site.now d)
-        (state S.Store conn.old) (state S.Store conn.new) }
+        → LeavesOldOr (IsMadeWith mark.now site.now) (state S.Store conn.old)
+        (state S.Store conn.new) }
 {
     if !is_mark(mark) {
         return Err(OpeningFault::Store);

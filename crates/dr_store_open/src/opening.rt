@@ -205,8 +205,8 @@ fn make_with<S: Alter, D: Drop>(
     ensures leaves { HasCleanDisk (state S.Store conn.new)
         → OnOk result (LeavesOldOrCommitted (state S.Store conn.old) (state S.Store conn.new)) }
     ensures crash { HasCleanDisk (state S.Store conn.new)
-        → LeavesOldOr (λ d. d.schema ≡ tables → IsMadeWith beside.1.items site.now d)
-        (state S.Store conn.old) (state S.Store conn.new) }
+        → LeavesOldOr (IsMadeWith beside.1.items site.now) (state S.Store conn.old)
+        (state S.Store conn.new) }
     ensures of_data { IfErr result (λ fault. IsOfData fault → ⊥) }
 {
     let (disk, mark) = beside;
@@ -235,8 +235,7 @@ fn make_new<S: Alter, F: DataFile>(
     ensures leaves { HasCleanDisk (state S.Store conn.new)
         → OnOk result (LeavesOldOrCommitted (state S.Store conn.old) (state S.Store conn.new)) }
     ensures crash { HasCleanDisk (state S.Store conn.new)
-        → LeavesOldOr (λ d. d.schema ≡ tables → IsMadeBy site.now d) (state S.Store conn.old)
-        (state S.Store conn.new) }
+        → LeavesOldOr (IsMadeBy site.now) (state S.Store conn.old) (state S.Store conn.new) }
     ensures there { IfErr result (λ fault. fault ≡ opening.DataIsThere → keeping ≡ wanted.InFile) }
 {
     match new_data(alloc, data, keeping) {
@@ -264,7 +263,6 @@ fn renewed<S: Alter, D: Drop>(
     ensures kept { HasCleanDisk (state S.Store conn.new)
         → IsOlder (state S.Store conn.old).now.schema
         → (state S.Store conn.new).now.schema ≡ tables
-        → (state S.Store conn.new).committed.schema ≡ tables
         → OnOk result (KeepsRows (state S.Store conn.old).now (state S.Store conn.new).committed) }
     ensures file { HasCleanDisk (state S.Store conn.new)
         → LeavesFile site.now (state S.Store conn.old) (state S.Store conn.new) }
@@ -302,7 +300,6 @@ fn prepare<S: Alter, F: DataFile>(
     ensures kept { HasCleanDisk (state S.Store conn.new)
         → IsOlder (state S.Store conn.old).now.schema
         → (state S.Store conn.new).now.schema ≡ tables
-        → (state S.Store conn.new).committed.schema ≡ tables
         → OnOk result (KeepsRows (state S.Store conn.old).now (state S.Store conn.new).committed) }
     ensures file { HasCleanDisk (state S.Store conn.new)
         → LeavesFile site.now (state S.Store conn.old) (state S.Store conn.new) }

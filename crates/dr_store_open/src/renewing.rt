@@ -1,5 +1,6 @@
 //! A ledger's file from before, brought over to the tables of today.
 ghost use Rattle.std.specs.Prelude.{◌≡◌, ◌≤◌, IfErr, IfOk, IfSome, OnOk, IsTrue, false, true};
+ghost use Rattle.sqlite.specs.Effect.{IsDatabase};
 ghost use Rattle.sqlite.specs.Held.{state};
 ghost use Rattle.sqlite.specs.State.{HasCleanDisk};
 ghost use Rattle.sqlite_trees.specs.View.{doubt};
@@ -7,13 +8,13 @@ ghost use Rattle.dr_store_writes.specs.Effects.{CommitsNothing};
 ghost use Rattle.dr_store_audit.specs.Older.{IsOlder};
 ghost use Rattle.dr_store_open.specs.Opening.{LeavesFile, LeavesOldOr, LeavesOldOrCommitted};
 ghost use Rattle.dr_store_open.specs.Opening.{StaysAsFound};
-ghost use Rattle.dr_store_open.specs.Renewing.{AreQueries, KeepsRows};
+ghost use Rattle.dr_store_open.specs.Renewing.{KeepsRows};
 ghost use Rattle.dr_store_schema.specs.Tables.{tables};
 
 use crate::asking::{add_rows, run_texts};
 use crate::fault::{OpeningFault, of_error, of_finding};
 use crate::lines::{notes_in, put_lines};
-use crate::making::LATER;
+use crate::making::{LATER, index_arrivals};
 use crate::older::{OlderRows, found_goals, made_goals, prints_for, told_of};
 use crate::sheets::{Sheets, ask_sheets, test_sheets};
 use dr_base::Text;
@@ -314,14 +315,15 @@ fn renew<'x, S: Alter>(
     ensures same_reference { tx.new.conn.ghost_name ≡ tx.old.conn.ghost_name }
     ensures survives { CommitsNothing (state S.Store tx.old.conn.now)
         (state S.Store tx.new.conn.now) }
+    ensures listed { HasCleanDisk (state S.Store tx.new.conn.now)
+        → OnOk result (IsDatabase (state S.Store tx.new.conn.now).now) }
     ensures kept { HasCleanDisk (state S.Store tx.new.conn.now)
-        → AreQueries (state S.Store tx.old.conn.now).now.schema
-        → AreQueries (state S.Store tx.new.conn.now).now.schema
         → OnOk result
         (KeepsRows (state S.Store tx.old.conn.now).now (state S.Store tx.new.conn.now).now) }
 {
     let sheets = ask_sheets(tx)?;
     rewrite(tx, alloc, site, lacks, &sheets)?;
+    index_arrivals(tx)?;
     test_sheets(tx, &sheets)
 }
 
@@ -339,13 +341,10 @@ fn bring_over<S: Alter>(
     ensures made { HasCleanDisk (state S.Store conn.new)
         → OnOk result (LeavesOldOrCommitted (state S.Store conn.old) (state S.Store conn.new)) }
     ensures kept { HasCleanDisk (state S.Store conn.new)
-        → AreQueries (state S.Store conn.old).now.schema
-        → AreQueries (state S.Store conn.new).committed.schema
         → OnOk result (KeepsRows (state S.Store conn.old).now (state S.Store conn.new).committed) }
     ensures crash { HasCleanDisk (state S.Store conn.new)
-        → AreQueries (state S.Store conn.old).now.schema
-        → LeavesOldOr (λ d. AreQueries d.schema → KeepsRows (state S.Store conn.old).now d)
-        (state S.Store conn.old) (state S.Store conn.new) }
+        → LeavesOldOr (KeepsRows (state S.Store conn.old).now) (state S.Store conn.old)
+        (state S.Store conn.new) }
 {
     let mut tx = conn.transaction();
     renew(&mut tx, alloc, site, lacks)?;
@@ -377,7 +376,6 @@ pub fn renew_older<S: Alter>(
     ensures kept { HasCleanDisk (state S.Store conn.new)
         → IsOlder (state S.Store conn.old).now.schema
         → (state S.Store conn.new).now.schema ≡ tables
-        → (state S.Store conn.new).committed.schema ≡ tables
         → OnOk result (KeepsRows (state S.Store conn.old).now (state S.Store conn.new).committed) }
     ensures file { HasCleanDisk (state S.Store conn.new)
         → LeavesFile site.now (state S.Store conn.old) (state S.Store conn.new) }

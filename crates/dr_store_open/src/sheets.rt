@@ -6,7 +6,7 @@ ghost use Rattle.sqlite.specs.State.{HasCleanDisk};
 ghost use Rattle.dr_store_schema.specs.Statements.{all_arrivals, all_items, all_kept, all_rows};
 ghost use Rattle.dr_store_schema.specs.Statements.{the_site};
 ghost use Rattle.dr_store_writes.specs.Effects.{CommitsNothing};
-ghost use Rattle.dr_store_open.specs.Renewing.{AreQueries, IsAnswer, AreSheetsOf, all_calls};
+ghost use Rattle.dr_store_open.specs.Renewing.{IsAnswer, AreSheetsOf, all_calls};
 
 use crate::asking::{ask_rows, test_rows};
 use crate::fault::OpeningFault;
@@ -31,11 +31,7 @@ fn ask_stock<S: Alter>(
     ensures same_reference { tx.new.conn.ghost_name ≡ tx.old.conn.ghost_name }
     ensures survives { CommitsNothing (state S.Store tx.old.conn.now)
         (state S.Store tx.new.conn.now) }
-    ensures schema { HasCleanDisk (state S.Store tx.new.conn.now)
-        → IfOk result (λ r.
-        (state S.Store tx.new.conn.now).now.schema ≡ (state S.Store tx.old.conn.now).now.schema) }
     ensures answers { HasCleanDisk (state S.Store tx.new.conn.now)
-        → AreQueries (state S.Store tx.old.conn.now).now.schema
         → IfOk result (λ r. IsAnswer the_site (state S.Store tx.old.conn.now).now r.0.items
         × IsAnswer all_items (state S.Store tx.old.conn.now).now r.1.items
         × IsAnswer all_arrivals (state S.Store tx.old.conn.now).now r.2.items
@@ -57,11 +53,7 @@ fn ask_moves<S: Alter>(
     ensures same_reference { tx.new.conn.ghost_name ≡ tx.old.conn.ghost_name }
     ensures survives { CommitsNothing (state S.Store tx.old.conn.now)
         (state S.Store tx.new.conn.now) }
-    ensures schema { HasCleanDisk (state S.Store tx.new.conn.now)
-        → IfOk result (λ r.
-        (state S.Store tx.new.conn.now).now.schema ≡ (state S.Store tx.old.conn.now).now.schema) }
     ensures answers { HasCleanDisk (state S.Store tx.new.conn.now)
-        → AreQueries (state S.Store tx.old.conn.now).now.schema
         → IfOk result (λ r. IsAnswer all_kept (state S.Store tx.old.conn.now).now r.0.items
         × IsAnswer all_rows (state S.Store tx.old.conn.now).now r.1.items
         × IsAnswer all_calls (state S.Store tx.old.conn.now).now r.2.items
@@ -84,11 +76,7 @@ pub fn ask_sheets<S: Alter>(tx: &mut Transaction<'_, S>) -> Result<Sheets, Openi
     ensures same_reference { tx.new.conn.ghost_name ≡ tx.old.conn.ghost_name }
     ensures survives { CommitsNothing (state S.Store tx.old.conn.now)
         (state S.Store tx.new.conn.now) }
-    ensures schema { HasCleanDisk (state S.Store tx.new.conn.now)
-        → IfOk result (λ sheets.
-        (state S.Store tx.new.conn.now).now.schema ≡ (state S.Store tx.old.conn.now).now.schema) }
     ensures answers { HasCleanDisk (state S.Store tx.new.conn.now)
-        → AreQueries (state S.Store tx.old.conn.now).now.schema
         → IfOk result (λ sheets. AreSheetsOf (state S.Store tx.old.conn.now).now sheets
         × ((state S.Store tx.new.conn.now).now ≡ (state S.Store tx.old.conn.now).now)) }
 {
@@ -112,11 +100,7 @@ fn test_stock<'x, S: Alter>(
     ensures same_reference { tx.new.conn.ghost_name ≡ tx.old.conn.ghost_name }
     ensures survives { CommitsNothing (state S.Store tx.old.conn.now)
         (state S.Store tx.new.conn.now) }
-    ensures schema { HasCleanDisk (state S.Store tx.new.conn.now)
-        → OnOk result
-        ((state S.Store tx.new.conn.now).now.schema ≡ (state S.Store tx.old.conn.now).now.schema) }
     ensures answers { HasCleanDisk (state S.Store tx.new.conn.now)
-        → AreQueries (state S.Store tx.old.conn.now).now.schema
         → OnOk result
         (IsAnswer the_site (state S.Store tx.old.conn.now).now sheets.now.site.items
         × IsAnswer all_items (state S.Store tx.old.conn.now).now sheets.now.items.items
@@ -148,11 +132,7 @@ fn test_moves<'x, S: Alter>(
     ensures same_reference { tx.new.conn.ghost_name ≡ tx.old.conn.ghost_name }
     ensures survives { CommitsNothing (state S.Store tx.old.conn.now)
         (state S.Store tx.new.conn.now) }
-    ensures schema { HasCleanDisk (state S.Store tx.new.conn.now)
-        → OnOk result
-        ((state S.Store tx.new.conn.now).now.schema ≡ (state S.Store tx.old.conn.now).now.schema) }
     ensures answers { HasCleanDisk (state S.Store tx.new.conn.now)
-        → AreQueries (state S.Store tx.old.conn.now).now.schema
         → OnOk result
         (IsAnswer all_kept (state S.Store tx.old.conn.now).now sheets.now.kept.items
         × IsAnswer all_rows (state S.Store tx.old.conn.now).now sheets.now.rows.items
@@ -184,12 +164,9 @@ pub fn test_sheets<'x, S: Alter>(
     ensures same_reference { tx.new.conn.ghost_name ≡ tx.old.conn.ghost_name }
     ensures survives { CommitsNothing (state S.Store tx.old.conn.now)
         (state S.Store tx.new.conn.now) }
-    ensures schema { HasCleanDisk (state S.Store tx.new.conn.now)
-        → OnOk result
-        ((state S.Store tx.new.conn.now).now.schema ≡ (state S.Store tx.old.conn.now).now.schema) }
     ensures answers { HasCleanDisk (state S.Store tx.new.conn.now)
-        → AreQueries (state S.Store tx.old.conn.now).now.schema
-        → OnOk result (AreSheetsOf (state S.Store tx.new.conn.now).now sheets.now) }
+        → OnOk result (AreSheetsOf (state S.Store tx.old.conn.now).now sheets.now
+        × ((state S.Store tx.new.conn.now).now ≡ (state S.Store tx.old.conn.now).now)) }
 {
     test_stock(tx, sheets)?;
     test_moves(tx, sheets)

@@ -1,7 +1,5 @@
 use Rattle.std.proofs.Common.{◌≡◌, rules, subst}
-use Rattle.sqlite.specs.Effect.{Database}
 use Rattle.sqlite.specs.Held.{state}
-use Rattle.dr_store_schema.specs.Tables.{tables}
 use Rattle.dr_store_calls.specs.Owners.{IsPlanWith}
 use Rattle.dr_store_open.specs.Renewing.{IsMadeFor, IsMadeWith}
 use Rattle.dr_store_open.proofs.Filling.{leaves_more}
@@ -17,6 +15,5 @@ returns-in-Ok-clause-crash g c clean =
     let has : IsPlanWith mark part.digest cell =
     subst (IsPlanWith mark part.digest) same
     (subst (λ d. IsPlanWith mark d made) c.digest.ensures (c.in-Ok.ensures (c.is_mark.ensures.0 c.if-not-is_mark.false))) in
-    let Made : Database → Type 0 = λ d. d.schema ≡ tables → IsMadeFor c.name.result.now cell d in
-    leaves_more (state g.S.Store c.args.conn.now) (state g.S.Store c.make_for.new.conn) Made (λ d. d.schema ≡ tables → IsMadeWith mark part d)
-    (λ d made named. (cell, has, subst (λ node. IsMadeFor node cell d) c.name.ensures (made named))) (c.make_for.ensures.crash clean)
+    leaves_more (state g.S.Store c.args.conn.now) (state g.S.Store c.make_for.new.conn) (IsMadeFor c.name.result.now cell) (IsMadeWith mark part)
+    (λ d made. (cell, has, subst (λ node. IsMadeFor node cell d) c.name.ensures made)) (c.make_for.ensures.crash clean)

@@ -17,7 +17,7 @@ returns-then-is_blank-clause-made g c =
     if_ok_as _ _ c.make_new.result (λ it yes was. blank) c.make_new.ensures.made
 
 pub returns-then-is_blank-clause-kept : goal.returns-then-is_blank-clause-kept
-returns-then-is_blank-clause-kept g c clean older =
+returns-then-is_blank-clause-kept g c clean older named =
     let blank : IsBlank (state g.S.Store c.args.conn.now).now.schema = subst IsBlank c.schema.ensures.value (c.is_blank.ensures.0 c.if-is_blank.true) in
     absurd (blank_no_older (state g.S.Store c.args.conn.now).now.schema blank.tables older)
 
@@ -27,7 +27,7 @@ returns-then-is_blank-clause-file g c clean =
     record {
       crash = λ db h. elim (c.make_new.ensures.crash clean db h) [
         | inl before ↦ inl before
-        | inr made ↦ inr (made.0, made.1, inl (blank, made.2))
+        | inr made ↦ inr (made.0, made.1, made.2, inl (blank, made.3))
       ];
       stays = λ no older is_open. absurd (no blank);
     }

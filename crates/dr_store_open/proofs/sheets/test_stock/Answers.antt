@@ -1,20 +1,13 @@
-use Rattle.std.proofs.Common.{◌≡◌, ◌∙◌, arith}
+use Rattle.std.proofs.Common.{◌≡◌, arith}
 use Rattle.sqlite.specs.Held.{state}
 use Rattle.sqlite.specs.State.{HasCleanDisk}
 use Rattle.dr_store_schema.specs.Statements as text
-use Rattle.dr_store_open.proofs.Answered.{on_ok_map, three_tested}
+use Rattle.dr_store_open.proofs.Answered.{three_tested}
+use Rattle.dr_store_open.proofs.Queried.{arrivals_asked, items_asked, site_asked}
 use Rattle.dr_store_open.proofs.sheets.test_stock.Goals as goal
 
-pub returns-clause-schema : goal.returns-clause-schema
-returns-clause-schema g c clean =
-    let one = state g.S.Store c.test_rows.new.tx.conn.now in
-    let two = state g.S.Store c.test_rows-2.new.tx.conn.now in
-    let clean_two : HasCleanDisk two = omega (arith, c.test_rows-3.ensures.survives.clean, clean) in
-    let clean_one : HasCleanDisk one = omega (arith, c.in_ok-test_rows-2.ensures.survives.clean, clean_two) in
-    on_ok_map c.test_rows-3.result (λ same. same ∙ c.in_ok-test_rows-2.ensures.schema clean_two ∙ c.in_ok-test_rows.ensures.schema clean_one) (c.test_rows-3.ensures.schema clean)
-
 pub returns-clause-answers : goal.returns-clause-answers
-returns-clause-answers g c clean queries =
+returns-clause-answers g c clean =
     let old = state g.S.Store c.args.tx.now.conn.now in
     let one = state g.S.Store c.test_rows.new.tx.conn.now in
     let two = state g.S.Store c.test_rows-2.new.tx.conn.now in
@@ -25,5 +18,5 @@ returns-clause-answers g c clean queries =
     let first : c.as_slice.result.now ≡ sheets.site.items = c.as_slice.ensures.value in
     let second : c.as_slice-2.result.now ≡ sheets.items.items = c.as_slice-2.ensures.value in
     let third : c.as_slice-3.result.now ≡ sheets.arrivals.items = c.as_slice-3.ensures.value in
-    three_tested c.test_rows-3.result text.the_site text.all_items text.all_arrivals old.now one.now two.now new.now sheets.site.items sheets.items.items sheets.arrivals.items queries.items queries.arrivals
-    (rw first at (c.in_ok-test_rows.ensures.answer clean_one queries.site)) (rw second at (c.in_ok-test_rows-2.ensures.answer clean_two)) (rw third at (c.test_rows-3.ensures.answer clean))
+    three_tested c.test_rows-3.result text.the_site text.all_items text.all_arrivals old.now one.now two.now new.now sheets.site.items sheets.items.items sheets.arrivals.items
+    (rw first at (c.in_ok-test_rows.ensures.answer clean_one site_asked)) (rw second at (c.in_ok-test_rows-2.ensures.answer clean_two items_asked)) (rw third at (c.test_rows-3.ensures.answer clean arrivals_asked))
