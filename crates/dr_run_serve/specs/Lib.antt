@@ -1,9 +1,11 @@
 pub mod Dues
 pub mod Ends
+pub mod Keeps
 pub mod Laws
 pub mod Pasts
 pub mod Rests
 pub mod Rounds
 pub mod Sendings
+pub mod Stages
 pub mod Sweeps
 pub mod Visits

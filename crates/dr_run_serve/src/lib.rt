@@ -50,6 +50,7 @@ mod sweep;
 mod sweeper;
 mod tallied;
 mod visit;
+mod waits;
 mod watch;
 
 pub use control::ControlPort;

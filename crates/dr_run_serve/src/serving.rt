@@ -234,7 +234,7 @@ where
                 node.rt,
                 senders.as_mut_slice(),
                 count,
-                &|number, sender| { send_rows(node, network, sender, number) },
+                &|number, sender| { send_rows(node, network, sender, number, node.signal) },
             );
         }
         node.signal.end_sending(node.rt);
@@ -256,7 +256,7 @@ where
                     × IsSend D.Socket.row × IsSync D.row × IsSync N.row × IsSend N.Socket.row
                     × IsSync N.Listener.row × IsSync C.row × IsSync G.row }
             { self.send_all(senders) },
-            || keep(node, count, swept, after, wake),
+            || keep(node, count, swept, after, wake, node.signal),
         )
     }
 
