@@ -3,6 +3,7 @@ mod Chained
 mod InTurn
 mod Leafing
 mod Noting
+mod Oldest
 mod Recording
 mod Telling
 mod Turning

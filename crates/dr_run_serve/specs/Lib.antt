@@ -9,3 +9,4 @@ pub mod Sendings
 pub mod Stages
 pub mod Sweeps
 pub mod Visits
+pub mod Waitings

@@ -1,5 +1,10 @@
 //! The rows to a next node that wait, and since when each of their instances is here.
-ghost use Rattle.std.specs.Prelude.{◌≡◌, ◌+◌, ◌-◌, ◌^◌, ◌==◌, [], Some, cond, false, min};
+ghost use Rattle.std.specs.Prelude.{◌≡◌, ◌+◌, ◌-◌, ◌^◌, ◌==◌, [], IfOk, None, Some, cond, false};
+ghost use Rattle.std.specs.Prelude.{min, true};
+ghost use Rattle.std.specs.BTreeMap as tree;
+ghost use Rattle.std.specs.BTreeMap.{is_at};
+ghost use Rattle.dr_base.specs.Texts.{Text as Words, text_cmp};
+ghost use Rattle.dr_run_serve.specs.Waitings.{begins_anew, longest_of, search_from};
 
 use dr_base::Text;
 use dr_run_control::RowSearch;
@@ -57,16 +62,44 @@ impl WaitingRows {
         self.after = Some(Text::empty(self.alloc));
     }
 
-    /// From where rows are to be looked up that may wait and aren't noted; None where all are. It
-    /// is asked where rows wait: where none is noted, all are looked up again.
-    ///
-    /// Errors: want of memory.
-    pub fn search(&mut self) -> Result<Option<RowSearch>, AllocError> {
+    /// Whether all rows are to be looked up again, where rows wait: none is noted, and there was no
+    /// room for one, or none was left to be looked up.
+    fn begins_anew(&self) -> bool
+        ensures { result ≡ begins_anew self.now.ages.keys self.now.is_full self.now.after }
+    {
+        if !self.ages.is_empty() {
+            return false;
+        }
+        if self.is_full {
+            return true;
+        }
+        self.after.is_none()
+    }
+
+    /// Somebody asks, where rows wait: where none is noted, all are looked up again.
+    fn ask(&mut self)
+        ensures asked { self.new.is_asked ≡ true }
+        ensures rows { (self.new.moments ≡ self.old.moments) × (self.new.ages ≡ self.old.ages) }
+        ensures anew { begins_anew self.old.ages.keys self.old.is_full self.old.after ≡ true
+            → (self.new.round ≡ min (self.old.round + 1) (2 ^ 64 - 1))
+            × (self.new.after ≡ Some []) × (self.new.is_full ≡ false) }
+        ensures on { begins_anew self.old.ages.keys self.old.is_full self.old.after ≡ false
+            → (self.new.round ≡ self.old.round)
+            × (self.new.after ≡ self.old.after) × (self.new.is_full ≡ self.old.is_full) }
+    {
         self.is_asked = true;
-        if self.ages.is_empty() && (self.is_full || self.after.is_none()) {
+        if self.begins_anew() {
             self.is_full = false;
             self.doubt();
         }
+    }
+
+    /// From where rows are to be looked up that may wait and aren't noted; None where all are.
+    ///
+    /// Errors: want of memory.
+    fn place(&self) -> Result<Option<RowSearch>, AllocError>
+        ensures { IfOk result (λ found. found ≡ search_from self.now.round self.now.after) }
+    {
         match &self.after {
             Some(after) => Ok(Some(RowSearch {
                 round: self.round,
@@ -74,6 +107,25 @@ impl WaitingRows {
             })),
             None => Ok(None),
         }
+    }
+
+    /// From where rows are to be looked up that may wait and aren't noted; None where all are. It
+    /// is asked where rows wait: where none is noted, all are looked up again.
+    ///
+    /// Errors: want of memory.
+    pub fn search(&mut self) -> Result<Option<RowSearch>, AllocError>
+        ensures asked { self.new.is_asked ≡ true }
+        ensures rows { (self.new.moments ≡ self.old.moments) × (self.new.ages ≡ self.old.ages) }
+        ensures anew { begins_anew self.old.ages.keys self.old.is_full self.old.after ≡ true
+            → (self.new.round ≡ min (self.old.round + 1) (2 ^ 64 - 1))
+            × (self.new.after ≡ Some []) × (self.new.is_full ≡ false) }
+        ensures on { begins_anew self.old.ages.keys self.old.is_full self.old.after ≡ false
+            → (self.new.round ≡ self.old.round)
+            × (self.new.after ≡ self.old.after) × (self.new.is_full ≡ self.old.is_full) }
+        ensures found { IfOk result (λ found. found ≡ search_from self.new.round self.new.after) }
+    {
+        self.ask();
+        self.place()
     }
 
     /// In that round rows were noted up to a UID, or all of them. Where another round has begun
@@ -128,7 +180,13 @@ impl WaitingRows {
     }
 
     /// Nothing is noted any more, and all will be looked up when somebody asks.
-    fn forget_all(&mut self) {
+    fn forget_all(&mut self)
+        ensures rows { (self.new.moments.entries ≡ []) × (self.new.ages.keys ≡ []) }
+        ensures round { self.new.round ≡ min (self.old.round + 1) (2 ^ 64 - 1) }
+        ensures after { self.new.after ≡ Some [] }
+        ensures flags { (self.new.is_asked ≡ self.old.is_asked)
+            × (self.new.is_full ≡ self.old.is_full) }
+    {
         self.moments.clear();
         self.ages.clear();
         self.doubt();
@@ -150,18 +208,30 @@ impl WaitingRows {
     }
 
     /// A row doesn't wait any more.
-    pub fn note_gone(&mut self, uid: &Text) {
-        if let Some((uid, moment)) = self.moments.remove_entry(uid) {
-            let _gone = self.ages.remove(&(moment, uid));
-        }
+    pub fn note_gone(&mut self, uid: &Text)
+        ensures moments { (q : Words) → tree.get text_cmp self.new.moments q
+            ≡ cond (is_at (text_cmp uid.now) q) None (tree.get text_cmp self.old.moments q) }
+        ensures place { (self.new.round ≡ self.old.round) × (self.new.after ≡ self.old.after) }
+        ensures flags { (self.new.is_asked ≡ self.old.is_asked)
+            × (self.new.is_full ≡ self.old.is_full) }
+    {
+        let Some((uid, moment)) = self.moments.remove_entry(uid) else {
+            return;
+        };
+        let _gone = self.ages.remove(&(moment, uid));
     }
 
     /// The UID of the row that waits longest, and since when.
     ///
     /// Errors: want of memory.
-    pub fn longest(&self) -> Result<Option<(Text, u64)>, AllocError> {
+    pub fn longest(&self) -> Result<Option<(Text, u64)>, AllocError>
+        ensures { IfOk result (λ found. found ≡ longest_of self.now.ages.keys) }
+    {
         match self.ages.first() {
-            Some((moment, uid)) => Ok(Some((uid.clone()?, *moment))),
+            Some(age) => {
+                let uid = age.1.clone()?;
+                Ok(Some((uid, age.0)))
+            }
             None => Ok(None),
         }
     }
