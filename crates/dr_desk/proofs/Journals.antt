@@ -2,7 +2,7 @@
 use Rattle.std.proofs.Common.{◌≡◌, ◌+◌, ◌≤◌, ℕ, List, All, sym, ap, ◌∙◌, subst, take, length, arith}
 use Rattle.std.proofs.Common.{map as mapped}
 use Rattle.std.specs.List.{AllByRecursion, flat_map}
-use Rattle.std.proofs.lemmas.List.{length-map, take-map, take_all}
+use Rattle.std.proofs.lemmas.List.{length-map, length-take, take_all}
 use Rattle.dr_ledger.specs.declared.fault.LedgerFault.{LedgerFault}
 use Rattle.dr_ledger.specs.declared.fault.LedgerFault.TheVariants as ledger
 use Rattle.dr_ledger.specs.declared.item.Entry.{Entry}
@@ -18,8 +18,8 @@ use Rattle.dr_desk.specs.declared.receipt.Receipt.{Receipt}
 use Rattle.dr_desk.specs.Agreeing.{AreApart, Fails, IsOfLine, Rises, numbers, unread_by}
 use Rattle.dr_desk.specs.Growing.{BeginWith, Grows}
 
-pub grows_by : (first : List Line) (kept : List Entry) (old new : Book) (n : ℕ) → new ≡ old → Grows first kept old.lines n → Grows first kept new.lines n
-grows_by first kept old new n e g = let P : Book → Type 0 = λ b. Grows first kept b.lines n in subst P (sym e) g
+pub grows_by : (first : List Line) (before : ℕ) (old new : Book) (n : ℕ) → new ≡ old → Grows first before old.lines n → Grows first before new.lines n
+grows_by first before old new n e g = let P : Book → Type 0 = λ b. Grows first before b.lines n in subst P (sym e) g
 
 pub journalled_by : (site other : Part) (b : Book) → other ≡ site → ∥ IsJournalled (site_routing other) b ∥₁ → ∥ IsJournalled (site_routing site) b ∥₁
 journalled_by site other b e j = let P : Part → Type 0 = λ s. ∥ IsJournalled (site_routing s) b ∥₁ in subst P e j
@@ -66,25 +66,27 @@ fails_by {X} f why A B xs ys a b same read begins h =
     begun O C D fault.Store n = tt
     begun O C D fault.Memory n = tt
 
--- where the journal begins with the first lines, what is shown of it begins with what was kept of them
-pub begins_shown : (first ls : List Line) (kept shown : List Entry) → kept ≡ mapped entry_of first → shown ≡ mapped entry_of ls → BeginWith first ls → take (length kept) shown ≡ kept
-begins_shown first ls kept shown k s h =
-    ap (λ es. take (length es) shown) k ∙ (ap (λ n. take n shown) (length-map first entry_of) ∙ (ap (take (length first)) s ∙ (take-map entry_of (length first) ls ∙ (ap (mapped entry_of) h ∙ sym k))))
+-- where the journal begins with the first lines, no fewer are shown of it
+pub no_fewer : (first ls : List Line) (before : ℕ) (shown : List Entry) → before ≡ length first → shown ≡ mapped entry_of ls → BeginWith first ls → before ≤ length shown
+no_fewer first ls before shown k s h =
+    let all : length shown ≡ length ls = ap length s ∙ length-map ls entry_of in
+    let some : length (take (length first) ls) ≡ length first = ap length h in
+    let least = length-take (length first) ls in omega (arith, k, all, some, least)
 
-pub at_most : (first : List Line) (kept : List Entry) (ls : List Line) (n total sum : ℕ) → Grows first kept ls n → length kept + total ≡ n → sum ≤ total → length first + sum ≤ length ls
-at_most first kept ls n total sum g t less =
-    let k : length kept ≡ length first = ap length g.1 ∙ length-map first entry_of in
+pub at_most : (first : List Line) (before : ℕ) (ls : List Line) (n total sum : ℕ) → Grows first before ls n → before + total ≡ n → sum ≤ total → length first + sum ≤ length ls
+at_most first before ls n total sum g t less =
+    let k : before ≡ length first = g.1 in
     let l : length ls ≡ n = g.2 in omega arith
 
-pub just : (first : List Line) (kept : List Entry) (ls : List Line) (n total sum : ℕ) → Grows first kept ls n → length kept + total ≡ n → sum ≡ total → length first + sum ≡ length ls
-just first kept ls n total sum g t same =
-    let k : length kept ≡ length first = ap length g.1 ∙ length-map first entry_of in
+pub just : (first : List Line) (before : ℕ) (ls : List Line) (n total sum : ℕ) → Grows first before ls n → before + total ≡ n → sum ≡ total → length first + sum ≡ length ls
+just first before ls n total sum g t same =
+    let k : before ≡ length first = g.1 in
     let l : length ls ≡ n = g.2 in omega arith
 
 -- the journal of a desk that is being shared
-pub starts : (first : List Line) (shown : List Entry) (old new : Book) (n : ℕ) → first ≡ old.lines → new ≡ old → shown ≡ mapped entry_of old.lines → n ≡ length shown → Grows first shown new.lines n
+pub starts : (first : List Line) (shown : List Entry) (old new : Book) (n : ℕ) → first ≡ old.lines → new ≡ old → shown ≡ mapped entry_of old.lines → n ≡ length shown → Grows first n new.lines n
 starts first shown old new n f e s l =
     let here : new.lines ≡ first = ap (λ (b : Book). b.lines) e ∙ sym f in
     let copied : shown ≡ mapped entry_of first = s ∙ ap (mapped entry_of) (sym f) in
     let long : length shown ≡ length first = ap length copied ∙ length-map first entry_of in
-    (ap (take (length first)) here ∙ take_all (length first) first (omega arith), copied, ap length here ∙ sym (l ∙ long))
+    (ap (take (length first)) here ∙ take_all (length first) first (omega arith), l ∙ long, ap length here ∙ sym (l ∙ long))

@@ -100,7 +100,7 @@ impl<L: Ledger, B: Sharing> HeldDesk<L, B> {
             Ok(lines) => lines,
             Err(why) => return Err(ChangeFault::Plan(untaken(why))),
         };
-        match agree(alloc, self.kept.as_slice(), lines.as_slice(), passes) {
+        match agree(alloc, self.before, lines.as_slice(), passes) {
             Ok(()) => Ok(()),
             Err(why) => Err(disagreed(why)),
         }
@@ -140,7 +140,7 @@ impl<L: Ledger, B: Sharing> HeldDesk<L, B> {
     {
         let HeldDesk {
             desk,
-            kept,
+            before,
             number,
             passes: made,
             full,
@@ -159,7 +159,7 @@ impl<L: Ledger, B: Sharing> HeldDesk<L, B> {
                 fault: ChangeFault::Plan(why),
                 held: HeldDesk {
                     desk,
-                    kept,
+                    before,
                     number,
                     passes: made,
                     full,

@@ -1,6 +1,6 @@
 //! The end of a sharing: whether the passes agree with the journal, and what they count.
 ghost use Rattle.std.specs.Prelude.{◌≡◌, ◌<◌, ◌≤◌, ◌+◌, ◌^◌, ◌↔◌, ◌++◌, All, IfErr, IfOk, IsTrue};
-ghost use Rattle.std.specs.Prelude.{OnOk, length, sum_by, take};
+ghost use Rattle.std.specs.Prelude.{OnOk, length, sum_by};
 ghost use Rattle.std.specs.List.{AllByRecursion, flat_map};
 ghost use Rattle.dr_desk.specs.Agreeing.{AreApart, Fails, IsOfLine, Rises, numbers, unread_by};
 
@@ -8,7 +8,6 @@ use crate::desk::Desk;
 use crate::pass::{Made, Pass};
 use crate::receipt::{Receipt, records};
 use crate::sharing::Sharing;
-use dr_base::same::are_same;
 use dr_ledger::{Entry, LedgerFault};
 use std::alloc::{AllocError, Global};
 use std::collections::{BTreeSet, VecDeque};
@@ -18,7 +17,7 @@ use thiserror::Error;
 /// Where receipts and journal don't agree.
 #[derive(Clone, Copy, PartialEq, Eq, Debug)]
 pub enum ReceiptMismatch {
-    /// The journal doesn't begin with the lines that it had when the desk was shared.
+    /// The journal has fewer lines than when the desk was shared.
     Beginning,
     /// A receipt isn't of the line at its number.
     OtherLine,
@@ -82,24 +81,24 @@ pub(crate) fn unread(why: LedgerFault) -> CloseFault
     }
 }
 
-/// Whether the journal begins with the lines that were kept, and the receipts agree with it.
+/// Whether the journal still has as many lines as before, and the receipts agree with it.
 pub(crate) fn agree<B: Sharing>(
     alloc: Global,
-    kept: &[Entry],
+    before: u64,
     lines: &[Entry],
     passes: &[Pass<B>],
 ) -> Result<(), CloseFault>
-    ensures begins { OnOk result (take (length kept.now) lines.now ≡ kept.now) }
+    ensures begins { OnOk result (before ≤ length lines.now) }
     ensures of_lines { OnOk result
         (AllByRecursion (λ p. All (IsOfLine lines.now) p.receipts.items) passes.now) }
     ensures rise { OnOk result (AllByRecursion (λ p. Rises p.receipts.items) passes.now) }
     ensures apart { OnOk result (AreApart (flat_map (λ p. numbers p.receipts.items) passes.now)) }
-    ensures fault { IfErr result (λ why. Fails why (take (length kept.now) lines.now ≡ kept.now)
+    ensures fault { IfErr result (λ why. Fails why (before ≤ length lines.now)
         (AllByRecursion (λ p. All (IsOfLine lines.now) p.receipts.items) passes.now)
         (AllByRecursion (λ p. Rises p.receipts.items) passes.now)
         (AreApart (flat_map (λ p. numbers p.receipts.items) passes.now))) }
 {
-    if !begin_with(lines, kept) {
+    if (lines.len() as u64) < before {
         return Err(CloseFault::Receipt(ReceiptMismatch::Beginning));
     }
     if !are_of_lines(lines, passes) {
@@ -113,16 +112,6 @@ pub(crate) fn agree<B: Sharing>(
         return Err(CloseFault::Receipt(ReceiptMismatch::Twice));
     }
     Ok(())
-}
-
-fn begin_with(lines: &[Entry], kept: &[Entry]) -> bool
-    ensures { IsTrue result ↔ (take (length kept.now) lines.now ≡ kept.now) }
-{
-    if lines.len() < kept.len() {
-        return false;
-    }
-    let (first, _) = lines.split_at(kept.len());
-    are_same(first, kept)
 }
 
 /// Whether the receipt is of the line at its number.

@@ -33,14 +33,14 @@ use std::sync::ledger::{Book, Share};
 /// How many passes can be made.
 const MOST_PASSES: u64 = 65_535;
 
-/// The desk, with a copy of the lines that it had when it was shared, the number of its last line,
-/// how many passes were made, and the sum of the lines that they count. What is done under the lock
-/// is one call of the ledger, and the counting of its line; no item is read or hashed there, no
-/// receipt is made or dropped.
+/// The desk, with how many lines it had before it was shared, the number of its last line, how many
+/// passes were made, and the sum of the lines that they count. What is done under the lock is one
+/// call of the ledger, and the counting of its line; no item is read or hashed there, no receipt is
+/// made or dropped.
 #[derive(Drop)]
 pub(crate) struct HeldDesk<L: Ledger, B: Sharing> {
     pub(crate) desk: Desk<L>,
-    pub(crate) kept: Seq<Entry>,
+    pub(crate) before: u64,
     pub(crate) number: u64,
     pub(crate) passes: u64,
     pub(crate) full: u64,
@@ -50,14 +50,14 @@ pub(crate) struct HeldDesk<L: Ledger, B: Sharing> {
     pub ghost idle: { rest.amount ≡ 0 },
     pub ghost all_is: { B.all ≡ 65536 },
     pub ghost none_left: { 1 ≤ full → most_lines ≤ number },
-    pub ghost total: { length kept + tally.total ≡ number },
+    pub ghost total: { before + tally.total ≡ number },
     pub ghost of: { L.site desk.ledger ≡ B.site } by { Prim.hlevel props },
     pub ghost history: { L.stands desk.ledger
         → ∥ IsJournalled (site_routing (L.site desk.ledger))
         (L.book desk.ledger) ∥₁ } by { Prim.hlevel
             props },
     pub ghost grows: { L.stands desk.ledger
-        → Grows B.first kept (L.book desk.ledger).lines number } by { Prim.hlevel
+        → Grows B.first before (L.book desk.ledger).lines number } by { Prim.hlevel
             props },
 }
 
@@ -342,7 +342,7 @@ impl<L: Ledger, B: Sharing> HeldDesk<L, B> {
     {
         let HeldDesk {
             desk,
-            kept,
+            before,
             number: _,
             passes: made,
             full: _,
@@ -360,7 +360,7 @@ impl<L: Ledger, B: Sharing> HeldDesk<L, B> {
                 });
             }
         };
-        if let Err(fault) = agree(alloc, kept.as_slice(), lines.as_slice(), passes.as_slice()) {
+        if let Err(fault) = agree(alloc, before, lines.as_slice(), passes.as_slice()) {
             return Err(NotClosed {
                 fault,
                 desk,

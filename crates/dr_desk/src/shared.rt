@@ -40,8 +40,8 @@ pub struct SharedDesk<L: Ledger, B: Sharing> {
 }
 
 impl<L: Ledger, B: Sharing> SharedDesk<L, B> {
-    /// Shares a desk, whose ledger is of that site. A copy is kept of the lines that it has. Where
-    /// they can't be read, the desk is handed back.
+    /// Shares a desk, whose ledger is of that site. Its lines are counted, and no copy of them is
+    /// kept. Where they can't be read, the desk is handed back.
     ///
     /// Errors: Store, Memory.
     pub fn new(
@@ -65,18 +65,19 @@ impl<L: Ledger, B: Sharing> SharedDesk<L, B> {
             → (e.0 ≡ Store) ⊎ (e.0 ≡ Memory)) }
     {
         let mut desk = desk;
-        let kept = match desk.lines() {
-            Ok(kept) => kept,
+        let lines = match desk.lines() {
+            Ok(lines) => lines,
             Err(fault) => {
                 drop(site);
                 return Err((fault, desk));
             }
         };
         let (tally, rest) = blank.open::<B>();
-        let number = kept.len() as u64;
+        let number = lines.len() as u64;
+        drop(lines);
         let held = HeldDesk {
             desk,
-            kept,
+            before: number,
             number,
             passes: 0,
             full: 0,

@@ -4,8 +4,10 @@ use Rattle.std.specs.FinMap as map
 use Rattle.dr_base.specs.Texts.{Text}
 use Rattle.dr_plan_model.proofs.Gathered.{nothing_in_nil, Contains-cons_cases, Contains-here, Contains-there}
 use Rattle.dr_ledger.specs.declared.item.Instance.{Instance}
-use Rattle.dr_ledger.specs.Showing.{FailuresAreCounted, FiguresRise, KeptAreMeasured, LinesAreShown}
+use Rattle.dr_ledger.specs.declared.fault.LedgerFault.TheVariants as fault
+use Rattle.dr_ledger.specs.Showing.{AddedIsUnarmed, FailuresAreCounted, FiguresRise, KeptAreMeasured, LinesAreShown, ListsAreOne, OthersLeaveArmed}
 use Rattle.dr_ledger.proofs.Growing.{inside}
+use Rattle.dr_ledger.proofs.PlanRouting.{one_list}
 
 pub lines_are_shown : LinesAreShown
 lines_are_shown = record { arrival = refl; repeat = refl; settling = refl; requeuing = refl; dropping = refl; forgetting = refl; adoption = refl }
@@ -57,3 +59,21 @@ figures_rise = record { same = no_more; more = inl (omega arith); greatest = inr
     no_more : (3 < 3) ⊎ (3 ≡ 2 ^ 64 - 1) → ⊥
     no_more (inl less) = omega (arith, less)
     no_more (inr same) = omega (arith, same)
+
+pub lists_are_one : ListsAreOne
+lists_are_one elements first other f o = one_list first other f.ordered o.ordered (λ t. (
+  λ h. (o.each t).1 ((f.each t).0 h),
+  λ h. (f.each t).1 ((o.each t).0 h),
+))
+
+pub added_is_unarmed : AddedIsUnarmed
+added_is_unarmed value old new h = h
+
+pub others_leave_armed : OthersLeaveArmed
+others_leave_armed fault.Store old new not_store h = absurd (not_store refl)
+others_leave_armed fault.NoLine old new not_store h = h
+others_leave_armed fault.Conflict old new not_store h = h
+others_leave_armed fault.NotWaiting old new not_store h = h
+others_leave_armed fault.NotHeld old new not_store h = h
+others_leave_armed fault.NotOver old new not_store h = h
+others_leave_armed fault.Memory old new not_store h = h

@@ -1,19 +1,22 @@
 -- What the calls that read show, and when a failure counts: figures and laws that pin those
 -- definitions.
 use Rattle.std.specs.Prelude.{◌≡◌, ◌↔◌, ℕ, ◌<◌, ◌-◌, ◌^◌, true, List, [], ◌∷◌, Contains, codes}
-use Rattle.std.specs.Prelude.{Some, Err}
+use Rattle.std.specs.Prelude.{Bool, false, Some, Ok, Err}
 use Rattle.std.specs.FinMap as map
 use Rattle.std.specs.FinSet as set
-use Rattle.dr_base.specs.Texts.{Text}
+use Rattle.std.specs.FinSet.{FinSet}
+use Rattle.dr_base.specs.Texts.{Text, text_cmp}
 use Rattle.dr_base.specs.declared.syntax.Syntax.TheVariants.{Explicit}
 use Rattle.dr_route.specs.declared.key.Key.{Key}
+use Rattle.dr_ledger.specs.declared.fault.LedgerFault.{LedgerFault}
 use Rattle.dr_ledger.specs.declared.fault.LedgerFault.TheVariants as fault
 use Rattle.dr_ledger.specs.declared.item.Entry.TheVariants as entry
 use Rattle.dr_ledger.specs.declared.item.Instance.{Instance}
 use Rattle.dr_ledger.specs.declared.item.Outcome.TheVariants.{Status}
 use Rattle.dr_ledger.specs.Books.{Book, Arrival, Repeat, Settling, Requeuing, Dropping, Forgetting}
 use Rattle.dr_ledger.specs.Books.{Adoption}
-use Rattle.dr_ledger.specs.Replies.{AreKept, Counts, HasRisen, entry_of}
+use Rattle.dr_ledger.specs.Refusals.{Arms}
+use Rattle.dr_ledger.specs.Replies.{AreKept, Counts, HasRisen, Lists, entry_of}
 
 -- the key of a CT image in the explicit syntax, of station S1
 abbrev pub a_key : Key
@@ -52,6 +55,24 @@ KeptAreMeasured =
     → Contains all (uid, size)
     ↔ ((set.contains b.kept uid ≡ true)
     × ((item : Instance) × (map.get b.items uid ≡ Some item) × (item.size ≡ size)))
+
+-- the elements of a set are listed in one way
+abbrev pub ListsAreOne : Type 0
+ListsAreOne =
+    (elements : FinSet text_cmp) (first other : List Text)
+    → Lists text_cmp elements first → Lists text_cmp elements other → first ≡ other
+
+-- where a ledger is to refuse its next line, none is added, and behind a line none is to be refused
+abbrev pub AddedIsUnarmed : Type 0
+AddedIsUnarmed =
+    (value : ℕ) (old new : Bool)
+    → Arms (Unit {0}) old (Ok value) new → (old ≡ false) × (new ≡ false)
+
+-- what is refused for another reason than the store leaves what is told
+abbrev pub OthersLeaveArmed : Type 0
+OthersLeaveArmed =
+    (why : LedgerFault) (old new : Bool)
+    → (why ≡ fault.Store → ⊥) → Arms {A = ℕ} (Unit {0}) old (Err why) new → new ≡ old
 
 -- Where the store is the fault, the count of failures has risen, if it wasn't at its greatest
 -- value.

@@ -2,8 +2,8 @@ use Rattle.std.proofs.Common.{sym, ap, ◌∙◌, arith}
 use Rattle.std.proofs.Common.{map as mapped}
 use Rattle.dr_ledger.specs.Books.{Book}
 use Rattle.dr_ledger.specs.Replies.{entry_of}
-use Rattle.dr_desk.proofs.Journals.{apart_by, at_most, begins_shown, fails_by, grows_by}
-use Rattle.dr_desk.proofs.Journals.{journalled_by, just, of_lines_by, rise_by, unread_fails}
+use Rattle.dr_desk.proofs.Journals.{apart_by, at_most, fails_by, grows_by}
+use Rattle.dr_desk.proofs.Journals.{journalled_by, just, no_fewer, of_lines_by, rise_by, unread_fails}
 use Rattle.dr_desk.proofs.held.HeldDesk.close.Goals as goal
 
 pub returns-in-Err-clause-fails : goal.returns-in-Err-clause-fails
@@ -17,9 +17,9 @@ returns-in-Err-agree-clause-fails g c = (
       let same = (c.lines.ensures.same s).0 in
       let grows = grows_by _ _ _ _ _ same (c.args.self.grows (c.lines.ensures.stood s)) in
       let read = c.in-Ok.ensures.reply s ∙ ap (λ (b : Book). mapped entry_of b.lines) (sym same) in
-      let shown = c.as_slice-2.ensures ∙ read in
-      fails_by _ _ _ _ _ _ _ _ c.as_slice-3.ensures.value shown
-      (begins_shown _ _ _ _ (c.as_slice.ensures ∙ grows.1) shown) c.in-Err-agree.ensures.fault,
+      let shown = c.as_slice.ensures ∙ read in
+      fails_by _ _ _ _ _ _ _ _ c.as_slice-2.ensures.value shown
+      (no_fewer _ _ _ _ grows.1 shown) c.in-Err-agree.ensures.fault,
 )
 
 pub returns-clause-ends : goal.returns-clause-ends
@@ -36,12 +36,12 @@ returns-clause-ends g c = record {
         let same = (c.lines.ensures.same s).0 in
         let read =
         c.in-Ok.ensures.reply s ∙ ap (λ (b : Book). mapped entry_of b.lines) (sym same) in
-        of_lines_by (λ p. p.receipts.items) _ _ _ _ c.as_slice-3.ensures.value
-        (c.as_slice-2.ensures ∙ read) c.in_default.ensures.of_lines;
-    rise = rise_by (λ p. p.receipts.items) c.as_slice-3.result.now c.args.passes.items
-        c.as_slice-3.ensures.value c.in_default.ensures.rise;
-    apart = apart_by (λ p. p.receipts.items) c.as_slice-3.result.now c.args.passes.items
-        c.as_slice-3.ensures.value c.in_default.ensures.apart;
+        of_lines_by (λ p. p.receipts.items) _ _ _ _ c.as_slice-2.ensures.value
+        (c.as_slice.ensures ∙ read) c.in_default.ensures.of_lines;
+    rise = rise_by (λ p. p.receipts.items) c.as_slice-2.result.now c.args.passes.items
+        c.as_slice-2.ensures.value c.in_default.ensures.rise;
+    apart = apart_by (λ p. p.receipts.items) c.as_slice-2.result.now c.args.passes.items
+        c.as_slice-2.ensures.value c.in_default.ensures.apart;
     sum = c.joined-sum.ensures.sum;
     some = λ s.
         let grows = grows_by _ _ _ _ _ (c.lines.ensures.same s).0
