@@ -111,7 +111,8 @@ pub record VisitsAt {K S : Type 0} (connects : Text → Result K Error → Type 
   pub port : S
   pub last : S
   pub fresh : passed_of port ≡ false
-  pub visits : Visits connects hears sends closes step finds tells site dest address port came last
+  pub visits : Visits connects hears sends closes step finds count_of tells site dest address port came
+      last
   pub settled : noted.settled ≡ count_of last - count_of port
   pub passed : noted.passed ≡ passed_of last
 
@@ -202,7 +203,8 @@ module _ {L : Type 0} (site_of : L → Part) (book : L → Book) (bodies : L →
     -- a visit to that node at that address, which came to that, and at which these calls were made
     abbrev pub VisitsBy : Text → Text → Result Visit LedgerFault → List AnsweredCall → Type 0
     VisitsBy dest address came calls =
-        Visits connects hears sends closes Records LooksUp tells site dest address [] came calls
+        Visits connects hears sends closes Records LooksUp accepted tells site dest address [] came
+        calls
 
 -- ---- what follows
 
