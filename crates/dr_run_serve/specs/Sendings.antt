@@ -1,6 +1,6 @@
 -- What one who sends asks of the desk at a visit, what is noted of it, and what follows.
-use Rattle.std.specs.Prelude.{◌≡◌, ◌⊎◌, ◌↔◌, ◌+◌, ◌-◌, ◌||◌, ◌∷◌, ◌++◌, [], ℕ, Bool, true, false, cond}
-use Rattle.std.specs.Prelude.{IsTrue, List, Option, None, Some, Result, Ok, Err}
+use Rattle.std.specs.Prelude.{◌≡◌, ◌⊎◌, ◌↔◌, ◌+◌, ◌-◌, ◌||◌, ◌∷◌, ◌++◌, [], ℕ, Bool, true, false}
+use Rattle.std.specs.Prelude.{IsTrue, List, Option, None, Some, Result, Ok, Err, cond}
 use Rattle.std.specs.FinMap as map
 use Rattle.std.specs.declared.io.Error.{Error}
 use Rattle.dr_base.specs.Texts.{Text}
@@ -111,8 +111,8 @@ pub record VisitsAt {K S : Type 0} (connects : Text → Result K Error → Type 
   pub port : S
   pub last : S
   pub fresh : passed_of port ≡ false
-  pub visits : Visits connects hears sends closes step finds count_of tells site dest address port came
-      last
+  pub visits : Visits connects hears sends closes step finds count_of tells site dest address port
+      came last
   pub settled : noted.settled ≡ count_of last - count_of port
   pub passed : noted.passed ≡ passed_of last
 

@@ -8,6 +8,7 @@ ghost use Rattle.dr_run_serve.specs.declared.past.Past.{Past as PastValue};
 ghost use Rattle.dr_run_serve.specs.declared.shutting.EndStage.{EndStage as StageValue};
 ghost use Rattle.dr_run_serve.specs.declared.shutting.EndStage.TheVariants as stages;
 
+use crate::calling::Calling;
 use crate::events::tell_threads;
 use crate::live::LiveNode;
 use crate::monitor::Monitor;
@@ -15,7 +16,6 @@ use crate::reporting::{LastTold, report_changes};
 use crate::shutting::{EndStage, Wake};
 use crate::signal::{BEGIN, News};
 use crate::sweeper::{Sweeper, tell_turn};
-use crate::waits::Waits;
 use dr_desk::{Pass, Sharing};
 use dr_ledger_views::Views;
 use dr_run_net::{Listening, Network};
@@ -70,28 +70,32 @@ fn keep_on<
     N: Network,
     C: Clock,
     G: Monitor,
-    W: Waits,
+    W: Calling,
 >(
     node: &LiveNode<'_, R, L, B, C, G>,
     senders: usize,
     sweeper: &mut Sweeper<B>,
     wake: &Wake<'_, D, N>,
-    waits: &W,
+    calling: &W,
 )
     ensures { (each : List ℕ) × (stage : StageValue)
         × Chain (KeepsOnce L.site L.book L.stands L.failed B.site B.first
         (TellsPage L.site L.book L.bodies L.stands L.failed B.site B.first L.numbered)
-        (C.tells node.now.clock.now) sweeper.old.after) each
-        (stages.Serving, sweeping sweeper.old.next sweeper.old.sweep sweeper.old.past
-        sweeper.old.pass.made.count sweeper.old.pass.receipts.items)
-        (stage, sweeping sweeper.new.next sweeper.new.sweep sweeper.new.past
-        sweeper.new.pass.made.count sweeper.new.pass.receipts.items)
-        × EndsKeeping (W.begins waits.now false)
+        (C.tells node.now.clock.now) sweeper.old.after) each (
+          stages.Serving,
+          sweeping sweeper.old.next sweeper.old.sweep sweeper.old.past
+              sweeper.old.pass.made.count sweeper.old.pass.receipts.items,
+        ) (
+          stage,
+          sweeping sweeper.new.next sweeper.new.sweep sweeper.new.past
+              sweeper.new.pass.made.count sweeper.new.pass.receipts.items,
+        )
+        × EndsKeeping (W.begins calling.now false)
         (TellsShut L.site L.book L.bodies L.stands L.failed B.site B.first)
-        (W.brings waits.now) each }
+        (W.brings calling.now) each }
 {
     let (rt, clock, log) = (node.rt, node.clock, node.log);
-    if !waits.begun(rt, BEGIN) {
+    if !calling.begun(BEGIN) {
         return;
     }
     let (mut told, mut stage, mut looks) = (LastTold::new(), EndStage::Serving, 0u32);
@@ -100,7 +104,7 @@ fn keep_on<
         stage = wake.stops(rt, stage, now, log);
         told = report_changes(node, told, now, false);
         sweep_if(node, sweeper, stage.serves());
-        let news = waits.news(rt, TURN);
+        let news = calling.news(TURN);
         if news.doubts && wake.ends(rt, node.desk, log) {
             return;
         }
@@ -124,14 +128,14 @@ pub fn keep<
     N: Network,
     C: Clock,
     G: Monitor,
-    W: Waits,
+    W: Calling,
 >(
     node: &LiveNode<'_, R, L, B, C, G>,
     senders: usize,
     pass: Pass<B>,
     after: Option<u64>,
     wake: &Wake<'_, D, N>,
-    waits: &W,
+    calling: &W,
 ) -> Pass<B>
     ensures { (begins : PastValue) × (each : List ℕ) × (stage : StageValue) × (ends : Sweeping)
         × HasNoted [] begins
@@ -140,11 +144,11 @@ pub fn keep<
         (C.tells node.now.clock.now) after) each
         (stages.Serving, sweeping 0 None begins pass.made.count pass.receipts.items) (stage, ends)
         × (ends.pass ≡ (result.made.count, result.receipts.items))
-        × EndsKeeping (W.begins waits.now false)
+        × EndsKeeping (W.begins calling.now false)
         (TellsShut L.site L.book L.bodies L.stands L.failed B.site B.first)
-        (W.brings waits.now) each }
+        (W.brings calling.now) each }
 {
     let mut sweeper = Sweeper::new(node.alloc, pass, after);
-    keep_on(node, senders, &mut sweeper, wake, waits);
+    keep_on(node, senders, &mut sweeper, wake, calling);
     sweeper.into_pass()
 }

@@ -26,6 +26,7 @@
 mod ages;
 mod asked;
 mod caller;
+mod calling;
 mod control;
 mod copying;
 mod ends;
@@ -50,7 +51,6 @@ mod sweep;
 mod sweeper;
 mod tallied;
 mod visit;
-mod waits;
 mod watch;
 
 pub use control::ControlPort;

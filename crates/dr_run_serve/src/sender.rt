@@ -10,6 +10,7 @@ ghost use Rattle.dr_run_serve.specs.Sendings.{VisitsBy};
 ghost use Rattle.dr_run_serve.specs.Sweeps.{Chain};
 ghost use Rattle.dr_run_serve.specs.declared.signal.WakeUp.{WakeUp as CallValue};
 
+use crate::calling::Calling;
 use crate::ends::VisitEnd;
 use crate::events::{tell_visit, tell_visit_fault};
 use crate::live::LiveNode;
@@ -19,7 +20,6 @@ use crate::shutting::is_shut;
 use crate::signal::{BEGIN, Bell, WakeUp};
 use crate::tallied::{SharedPort, Tallied};
 use crate::visit::{Visit, visit_hop};
-use crate::waits::Waits;
 use dr_base::Text;
 use dr_desk::{Pass, SharedDesk, Sharing};
 use dr_ledger::{Ledger, LedgerFault};
@@ -327,13 +327,13 @@ pub fn send_rows<
     N: Network,
     C: Clock,
     G: Log,
-    W: Waits,
+    W: Calling,
 >(
     node: &LiveNode<'_, R, L, B, C, G>,
     network: &N,
     sender: &mut HopSender<B>,
     number: usize,
-    waits: &W,
+    calling: &W,
 )
     ensures { (each : List (CallValue × Bool))
         × Chain (LooksOnce
@@ -343,23 +343,23 @@ pub fn send_rows<
         sender.old.hop.dest sender.old.hop.address)
         (IsTold L.site L.book L.bodies L.stands L.failed B.site B.first)
         (TellsDue L.site L.book L.bodies L.stands L.failed B.site B.first sender.old.hop.dest)
-        (C.tells node.now.clock.now) (W.calls waits.now number)) each
+        (C.tells node.now.clock.now) (W.calls calling.now number)) each
         (sender.old.rest, sender.old.hop.due) (sender.new.rest, sender.new.hop.due)
         × EndsLooking (length node.now.signal.now.bells.items ≤ number)
-        (W.begins waits.now false) (W.ends waits.now true) each }
+        (W.begins calling.now false) (W.ends calling.now true) each }
 {
     let (rt, signal, clock) = (node.rt, node.signal, node.clock);
     signal.count_sender(rt);
     let Some(bell) = signal.bell(number) else {
         return;
     };
-    if !waits.begun(rt, BEGIN) {
+    if !calling.begun(BEGIN) {
         return;
     }
     let mut sleep = 0;
     for _look in rt.forever() {
-        let call = waits.call(rt, number, sleep);
-        if waits.ending() {
+        let call = calling.call(number, sleep);
+        if calling.ending() {
             return;
         }
         bell.look(rt, clock.now());

@@ -10,7 +10,7 @@ use Rattle.dr_run_serve.specs.declared.shutting.EndStage.TheVariants.{Serving}
 use Rattle.dr_run_serve.proofs.keeper.keep_on.Goals as goal
 
 pub returns-then-not-begun : goal.returns-then-not-begun
-returns-then-not-begun g c = ([], Serving, refl, inl (refl, subst (g.W.Waits.begins c.args.waits.now) c.if-not-begun.true c.begun.ensures))
+returns-then-not-begun g c = ([], Serving, refl, inl (refl, subst (g.W.Calling.begins c.args.calling.now) c.if-not-begun.true c.begun.ensures))
 
 pub loop-look-init : goal.loop-look-init
 loop-look-init g c = (([], refl), refl)

@@ -9,12 +9,12 @@ pub returns-in_default : goal.returns-in_default
 returns-in_default g c = ([], refl, inl (refl, inl c.in_default.ensures))
 
 pub returns-then-not-begun : goal.returns-then-not-begun
-returns-then-not-begun g c = ([], refl, inl (refl, inr (subst (g.W.Waits.begins c.args.waits.now) c.if-not-begun.true c.begun.ensures)))
+returns-then-not-begun g c = ([], refl, inl (refl, inr (subst (g.W.Calling.begins c.args.calling.now) c.if-not-begun.true c.begun.ensures)))
 
 pub returns-then-ending : goal.returns-then-ending
 returns-then-ending g c =
     let h = c.loop-look.invariant in
-    (h.0.0, h.0.1, inr (inl (subst (g.W.Waits.ends c.args.waits.now) c.if-ending.true c.ending.ensures)))
+    (h.0.0, h.0.1, inr (inl (subst (g.W.Calling.ends c.args.calling.now) c.if-ending.true c.ending.ensures)))
 
 pub loop-look-init : goal.loop-look-init
 loop-look-init g c = (([], refl), refl, refl)
@@ -30,7 +30,7 @@ loop-look-preserved g c =
     let new = c.look-visited.new.sender in
     let call = c.call-call.result in
     let h = c.loop-look.invariant in
-    let One = LooksOnce (Visiting old.hop.dest old.hop.address) Told (FirstDue old.hop.dest) tells (g.W.Waits.calls c.args.waits.now c.args.number) in
+    let One = LooksOnce (Visiting old.hop.dest old.hop.address) Told (FirstDue old.hop.dest) tells (g.W.Calling.calls c.args.calling.now c.args.number) in
     let looked : WakeUp × Bool = (call, c.look-visited.result) in
     let one : One (mid.rest, mid.hop.due) looked (new.rest, new.hop.due) = (
       c.call-call.ensures,
@@ -51,7 +51,7 @@ returns-then-call g c =
     let new = c.look-visited.new.sender in
     let call = c.call-call.result in
     let h = c.loop-look.invariant in
-    let One = LooksOnce (Visiting old.hop.dest old.hop.address) Told (FirstDue old.hop.dest) tells (g.W.Waits.calls c.args.waits.now c.args.number) in
+    let One = LooksOnce (Visiting old.hop.dest old.hop.address) Told (FirstDue old.hop.dest) tells (g.W.Calling.calls c.args.calling.now c.args.number) in
     let looked : WakeUp × Bool = (call, c.look-visited.result) in
     let one : One (mid.rest, mid.hop.due) looked (new.rest, new.hop.due) = (
       c.call-call.ensures,

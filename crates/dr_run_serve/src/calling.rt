@@ -5,7 +5,7 @@ use std::time::Clock;
 
 /// What a thread of a node waits for. What it is told is another thread's doing, so that its
 /// contract can say no more than what it was told.
-pub trait Waits {
+pub trait Calling {
     ghost use Rattle.std.specs.Prelude.{ℕ, Bool};
     ghost use Rattle.dr_run_serve.specs.declared.signal.News.{News as NewsValue};
     ghost use Rattle.dr_run_serve.specs.declared.signal.WakeUp.{WakeUp as CallValue};
@@ -23,12 +23,12 @@ pub trait Waits {
     ghost brings: { Self → NewsValue → Type 0 };
 
     /// Whether the workers' thread runs; where it doesn't, it waits for so many milliseconds.
-    fn begun<R: Wait + Clock>(&self, rt: &R, milliseconds: u64) -> bool
+    fn begun(&self, milliseconds: u64) -> bool
         ensures { begins self.now result };
 
     /// What the one who sends to the hop of that number is called for; where it isn't called, it
     /// waits for so many milliseconds.
-    fn call<R: Wait + Clock>(&self, rt: &R, number: usize, milliseconds: u64) -> WakeUp
+    fn call(&self, number: usize, milliseconds: u64) -> WakeUp
         ensures { calls self.now number result };
 
     /// Whether the node ends.
@@ -36,27 +36,34 @@ pub trait Waits {
         ensures { ends self.now result };
 
     /// How far the node is; where nothing has happened, it waits for so many milliseconds.
-    fn news<R: Wait + Clock>(&self, rt: &R, milliseconds: u64) -> News
+    fn news(&self, milliseconds: u64) -> News
         ensures { brings self.now result };
 }
 
-impl Waits for Signal {
-    ghost begins = { λ signal begun. Unit {0} };
+/// The signal of a node that runs, and by what its threads wait for it.
+#[derive(Drop)]
+pub struct SignalCalling<'a, R: Wait + Clock> {
+    pub rt: &'a R,
+    pub signal: &'a Signal,
+}
 
-    ghost calls = { λ signal number call. Unit {0} };
+impl<'a, R: Wait + Clock> Calling for SignalCalling<'a, R> {
+    ghost begins = { λ calling begun. Unit {0} };
 
-    ghost ends = { λ signal ending. Unit {0} };
+    ghost calls = { λ calling number call. Unit {0} };
 
-    ghost brings = { λ signal news. Unit {0} };
+    ghost ends = { λ calling ending. Unit {0} };
 
-    fn begun<R: Wait + Clock>(&self, rt: &R, milliseconds: u64) -> bool {
-        self.has_begun(rt, milliseconds)
+    ghost brings = { λ calling news. Unit {0} };
+
+    fn begun(&self, milliseconds: u64) -> bool {
+        self.signal.has_begun(self.rt, milliseconds)
     }
 
-    /// Where there is no such hop, it looks once more, and that is all.
-    fn call<R: Wait + Clock>(&self, rt: &R, number: usize, milliseconds: u64) -> WakeUp {
-        match self.bell(number) {
-            Some(bell) => bell.wait(rt, milliseconds),
+    /// Where there is no such hop, it is called for the last time.
+    fn call(&self, number: usize, milliseconds: u64) -> WakeUp {
+        match self.signal.bell(number) {
+            Some(bell) => bell.wait(self.rt, milliseconds),
             None => WakeUp {
                 rows: false,
                 visit: false,
@@ -66,10 +73,10 @@ impl Waits for Signal {
     }
 
     fn ending(&self) -> bool {
-        self.is_ending()
+        self.signal.is_ending()
     }
 
-    fn news<R: Wait + Clock>(&self, rt: &R, milliseconds: u64) -> News {
-        self.wait(rt, milliseconds)
+    fn news(&self, milliseconds: u64) -> News {
+        self.signal.wait(self.rt, milliseconds)
     }
 }
