@@ -1,5 +1,6 @@
 -- One after the other, and one more.
-use Rattle.std.proofs.Common.{◌≡◌, subst, refl, ℕ, ◌+◌, ◌++◌, List, [], ◌∷◌, Bool}
+use Rattle.std.proofs.Common.{◌≡◌, subst, refl, ap, arith, ℕ, ◌+◌, ◌++◌, List, [], ◌∷◌, Bool, length}
+use Rattle.std.proofs.lemmas.List.{length_push}
 use Rattle.dr_run_serve.specs.Sweeps.{Chain, counted, counted_all}
 
 pub chain_more : {X Y : Type 0} (One : X → Y → X → Type 0) (each : List Y) (x y z : X) (came : Y) → Chain One each x y → One y came z → Chain One (each ++ came ∷ []) x z
@@ -14,3 +15,7 @@ chain_joined One (b ∷ each) more x y z h also = (h.0, h.1, chain_joined One ea
 pub counted_more : (count : ℕ) (each : List Bool) (came : Bool) → counted_all count (each ++ came ∷ []) ≡ counted (counted_all count each) came
 counted_more count [] came = refl
 counted_more count (b ∷ each) came = counted_more (counted count b) each came
+
+-- one more is some
+pub some_more : {Y : Type 0} (each : List Y) (came : Y) → each ++ came ∷ [] ≡ [] → ⊥
+some_more each came e = absurd (let none : length (each ++ came ∷ []) ≡ 0 = ap length e in let one = length_push each came in omega (arith, none, one))

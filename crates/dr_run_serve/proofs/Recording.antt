@@ -1,5 +1,5 @@
 -- What is done at one desk is done at another one that follows it, call by call.
-use Rattle.std.proofs.Common.{◌≡◌, ◌∙◌, ◌⊎◌, ◌+◌, ◌-◌, ◌||◌, ℕ, Bool, true, false, cond, arith, List, [], ◌∷◌, ◌++◌, Option, None, Some, Result, Ok, Err, inl, inr, refl, sym, ap, subst}
+use Rattle.std.proofs.Common.{◌≡◌, ◌∙◌, ◌⊎◌, ◌↔◌, ◌≢◌, ◌+◌, ◌-◌, ◌||◌, ℕ, Bool, true, false, cond, arith, List, [], ◌∷◌, ◌++◌, Option, None, Some, Result, Ok, Err, inl, inr, refl, sym, ap, subst}
 use Rattle.std.specs.declared.alloc.AllocError.{AllocError}
 use Rattle.std.specs.declared.io.Error.{Error}
 use Rattle.dr_base.specs.Texts.{Text}
@@ -37,7 +37,7 @@ use Rattle.dr_ledger.specs.Bodies.{Bodies}
 use Rattle.dr_ledger.specs.Books.{Book, Line}
 use Rattle.dr_run_serve.specs.Sendings.{AnsweredCall, ComesBack, IsNotedOf, LooksUp, OnDesk, Records, TellsUid, VisitsAt, VisitsBy, accepted, is_accepted, passes, passes_over}
 use Rattle.dr_run_serve.specs.declared.resting.Noted.{Noted}
-use Rattle.dr_run_serve.specs.Visits.{Delivers, Finds, GivesUp, IsToldAs, SendsDue, StaysAway, Visits}
+use Rattle.dr_run_serve.specs.Visits.{Delivers, Finds, Follows as Behind, GivesUp, SendsDue, StaysAway, Visits}
 use Rattle.dr_run_serve.specs.declared.visit.Visit.{Visit}
 use Rattle.dr_run_serve.specs.declared.visit.Visit.TheVariants as visit
 
@@ -275,38 +275,38 @@ module _ {S T : Type 0} (step : S → DeskCall → DeskAnswer → S → Type 0) 
 -- ---- visits
 
 module _ {S T L : Type 0} (step : S → DeskCall → DeskAnswer → S → Type 0) (shown : T → DeskCall → DeskAnswer → T → Type 0)
-    (finds : S → Text → ℕ → Result (Option Text) LedgerFault → S → Type 0) (looks : T → Text → ℕ → Result (Option Text) LedgerFault → T → Type 0) (Follows : S → T → Type 0)
+    (finds : S → Text → ℕ → Result (Option Text) LedgerFault → S → Type 0) (looks : T → Text → ℕ → Result (Option Text) LedgerFault → T → Type 0) (Follows : S → T → Type 0) (taken : S → ℕ) (took : T → ℕ)
     (one : (s : S) (call : DeskCall) (answer : DeskAnswer) (t : S) (a : T) → step s call answer t → Follows s a → (b : T) × shown a call answer b × Follows t b)
     (look : (s : S) (dest : Text) (now : ℕ) (found : Result (Option Text) LedgerFault) (t : S) (a : T) → finds s dest now found t → Follows s a → (b : T) × looks a dest now found b × Follows t b)
+    (alike : (s t : S) (a b : T) → Follows s a → Follows t b → (taken t ≡ taken s) ↔ (took b ≡ took a))
     (connects : Text → Result L Error → Type 0) (hears : L → Heard → L → Type 0) (sends : L → List ℕ → Bool → L → Type 0) (closes : L → L → Type 0) (tells : ℕ → Type 0) (site : Part) (dest address : Text) where
   gives_up : (uid : Text) (s t : S) (result : Result (Unit {0}) LedgerFault) (a : T) → GivesUp step tells uid dest s result t → Follows s a → (b : T) × GivesUp shown tells uid dest a result b × Follows t b
   gives_up uid s t (Ok done) a h k = let r = one s (Settle uid dest Broken h.0) (Settling h.1) t a h.3 k in (r.0, (h.0, h.1, h.2, r.1, h.4), r.2)
   gives_up uid s t (Err why) a h k = let r = one s (Settle uid dest Broken h.0) (Settling (Err why)) t a h.2 k in (r.0, (h.0, h.1, r.1), r.2)
 
-  stays_away : (uid : Text) (s t : S) (result : Result Visit LedgerFault) (a : T) → StaysAway connects hears sends closes step finds tells site dest address uid s result t → Follows s a →
-      (b : T) × StaysAway connects hears sends closes shown looks tells site dest address uid a result b × Follows t b
+  stays_away : (uid : Text) (s t : S) (result : Result Visit LedgerFault) (a : T) → StaysAway connects hears sends closes step finds taken tells site dest address uid s result t → Follows s a →
+      (b : T) × StaysAway connects hears sends closes shown looks took tells site dest address uid a result b × Follows t b
   stays_away uid s t (Ok (visit.Unreached error)) a h k = let r = gives_up uid s t (Ok tt) a h.1 k in (r.0, (h.0, r.1), r.2)
   stays_away uid s t (Ok visit.Idle) a h k = absurd h
   stays_away uid s t (Ok (visit.Ended ended)) a h k = absurd h
   stays_away uid s t (Ok (visit.Failed why)) a h k = absurd h
   stays_away uid s t (Err why) a h k = let r = gives_up uid s t (Err why) a h.2 k in (r.0, (h.0, h.1, r.1), r.2)
 
-  behind : (uid : Text) (mid t : S) (came : Result Ended SessionFault) (result : Result Visit LedgerFault) (a : T) →
-      ((mid ≡ t) × IsToldAs came result) ⊎ (GivesUp step tells uid dest mid (Ok tt) t × IsToldAs came result) ⊎ ((why : LedgerFault) × (result ≡ Err why) × GivesUp step tells uid dest mid (Err why) t) → Follows mid a →
-      (b : T) × (((a ≡ b) × IsToldAs came result) ⊎ (GivesUp shown tells uid dest a (Ok tt) b × IsToldAs came result) ⊎ ((why : LedgerFault) × (result ≡ Err why) × GivesUp shown tells uid dest a (Err why) b)) × Follows t b
-  behind uid mid t came result a (inl h) k = (a, inl (refl, h.1), subst (λ (x : S). Follows x a) h.0 k)
-  behind uid mid t came result a (inr (inl h)) k = let r = gives_up uid mid t (Ok tt) a h.0 k in (r.0, inr (inl (r.1, h.1)), r.2)
-  behind uid mid t came result a (inr (inr h)) k = let r = gives_up uid mid t (Err h.0) a h.2 k in (r.0, inr (inr (h.0, h.1, r.1)), r.2)
+  behind : (uid : Text) (came : Result Ended SessionFault) (s mid t : S) (result : Result Visit LedgerFault) (a b : T) → Behind connects hears sends closes step finds taken tells site dest address uid came s mid result t → Follows s a → Follows mid b →
+      (d : T) × Behind connects hears sends closes shown looks took tells site dest address uid came a b result d × Follows t d
+  behind uid came s mid t result a b (inl h) k m = (b, inl (λ same. h.0 ((alike s mid a b k m).1 same), refl, h.2), subst (λ (x : S). Follows x b) h.1 m)
+  behind uid came s mid t result a b (inr (inl h)) k m = let r = gives_up uid mid t (Ok tt) b h.1 m in (r.0, inr (inl ((alike s mid a b k m).0 h.0, r.1, h.2)), r.2)
+  behind uid came s mid t result a b (inr (inr h)) k m = let r = gives_up uid mid t (Err h.0) b h.2 m in (r.0, inr (inr (h.0, (alike s mid a b k m).0 h.1, r.1, h.3)), r.2)
 
-  delivers : (uid : Text) (s t : S) (result : Result Visit LedgerFault) (a : T) → Delivers connects hears sends closes step finds tells site dest address uid s result t → Follows s a →
-      (b : T) × Delivers connects hears sends closes shown looks tells site dest address uid a result b × Follows t b
+  delivers : (uid : Text) (s t : S) (result : Result Visit LedgerFault) (a : T) → Delivers connects hears sends closes step finds taken tells site dest address uid s result t → Follows s a →
+      (b : T) × Delivers connects hears sends closes shown looks took tells site dest address uid a result b × Follows t b
   delivers uid s t result a h k =
       let first = delivers_as step shown Follows one hears sends closes tells 0 site dest h.3 h.0 h.1 s h.2 a h.5 k in
-      let last = behind uid h.2 t h.3 result first.0 h.6 first.2 in
+      let last = behind uid h.3 s h.2 t result a first.0 h.6 k first.2 in
       (last.0, (h.0, h.1, first.0, h.3, h.4, first.1, last.1), last.2)
 
-  sends_due : (uid : Text) (s t : S) (result : Result Visit LedgerFault) (a : T) → SendsDue connects hears sends closes step finds tells site dest address uid s result t → Follows s a →
-      (b : T) × SendsDue connects hears sends closes shown looks tells site dest address uid a result b × Follows t b
+  sends_due : (uid : Text) (s t : S) (result : Result Visit LedgerFault) (a : T) → SendsDue connects hears sends closes step finds taken tells site dest address uid s result t → Follows s a →
+      (b : T) × SendsDue connects hears sends closes shown looks took tells site dest address uid a result b × Follows t b
   sends_due uid s t result a (inl h) k = let r = stays_away uid s t result a h k in (r.0, inl r.1, r.2)
   sends_due uid s t result a (inr h) k = let r = delivers uid s t result a h k in (r.0, inr r.1, r.2)
 
@@ -314,8 +314,8 @@ module _ {S T L : Type 0} (step : S → DeskCall → DeskAnswer → S → Type 0
   finds_first s t found a h k = let r = look s dest h.0 found t a h.2 k in (r.0, (h.0, h.1, r.1), r.2)
 
   -- a visit at the one desk is a visit at the other
-  pub visits_follow : (s t : S) (result : Result Visit LedgerFault) (a : T) → Visits connects hears sends closes step finds tells site dest address s result t → Follows s a →
-      (b : T) × Visits connects hears sends closes shown looks tells site dest address a result b × Follows t b
+  pub visits_follow : (s t : S) (result : Result Visit LedgerFault) (a : T) → Visits connects hears sends closes step finds taken tells site dest address s result t → Follows s a →
+      (b : T) × Visits connects hears sends closes shown looks took tells site dest address a result b × Follows t b
   visits_follow s t result a (inl h) k = let r = finds_first s t (Ok None) a h.0 k in (r.0, inl (r.1, h.1), r.2)
   visits_follow s t result a (inr (inl h)) k = let r = finds_first s t (Err h.0) a h.1 k in (r.0, inr (inl (h.0, r.1, h.2)), r.2)
   visits_follow s t result a (inr (inr h)) k =
@@ -371,8 +371,9 @@ module _ {L K S : Type 0} (site_of : L → Part) (book : L → Book) (bodies : L
       (calls : List AnsweredCall) × VisitsBy site_of book bodies stands failed own first connects hears sends closes tells site dest address came calls × IsNotedOf calls noted
   recorded v keeps stays =
       let begins : Has v.port v.port [] = (omega arith, v.fresh) in
-      let r = visits_follow step (Records site_of book bodies stands failed own first) finds (LooksUp site_of book bodies stands failed own first) (Has v.port)
+      let r = visits_follow step (Records site_of book bodies stands failed own first) finds (LooksUp site_of book bodies stands failed own first) (Has v.port) count_of accepted
       (λ s call answer t a h k. records_one keeps v.port s call answer t a h k) (λ s to now found t a h k. looks_up stays v.port s to now found t a h k)
+      (λ s t a b k m. let first = k.0 in let last = m.0 in (λ same. omega (arith, first, last, same), λ same. omega (arith, first, last, same)))
       connects hears sends closes tells site dest address v.port v.last came [] v.visits begins in
       let count = r.2.0 in
       let settled = v.settled in

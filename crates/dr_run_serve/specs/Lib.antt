@@ -1,5 +1,6 @@
 pub mod Dues
 pub mod Ends
+pub mod Keeps
 pub mod Laws
 pub mod Pasts
 pub mod Rests

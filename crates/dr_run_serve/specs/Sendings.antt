@@ -1,6 +1,6 @@
 -- What one who sends asks of the desk at a visit, what is noted of it, and what follows.
-use Rattle.std.specs.Prelude.{◌≡◌, ◌⊎◌, ◌+◌, ◌-◌, ◌||◌, ◌∷◌, [], ℕ, Bool, true, false, cond, List}
-use Rattle.std.specs.Prelude.{Option, None, Some, Result, Ok, Err}
+use Rattle.std.specs.Prelude.{◌≡◌, ◌⊎◌, ◌↔◌, ◌+◌, ◌-◌, ◌||◌, ◌∷◌, ◌++◌, [], ℕ, Bool, true, false}
+use Rattle.std.specs.Prelude.{IsTrue, List, Option, None, Some, Result, Ok, Err, cond}
 use Rattle.std.specs.FinMap as map
 use Rattle.std.specs.declared.io.Error.{Error}
 use Rattle.dr_base.specs.Texts.{Text}
@@ -33,6 +33,7 @@ use Rattle.dr_run_serve.specs.declared.ends.VisitEnd.{VisitEnd}
 use Rattle.dr_run_serve.specs.declared.ends.VisitEnd.TheVariants.{Ledger}
 use Rattle.dr_run_serve.specs.declared.rest.Rest.{Rest}
 use Rattle.dr_run_serve.specs.declared.resting.Noted.{Noted}
+use Rattle.dr_run_serve.specs.declared.signal.WakeUp.{WakeUp}
 use Rattle.dr_run_serve.specs.declared.visit.Visit.{Visit}
 
 -- ---- a row behind an outcome
@@ -110,7 +111,8 @@ pub record VisitsAt {K S : Type 0} (connects : Text → Result K Error → Type 
   pub port : S
   pub last : S
   pub fresh : passed_of port ≡ false
-  pub visits : Visits connects hears sends closes step finds tells site dest address port came last
+  pub visits : Visits connects hears sends closes step finds count_of tells site dest address port
+      came last
   pub settled : noted.settled ≡ count_of last - count_of port
   pub passed : noted.passed ≡ passed_of last
 
@@ -187,6 +189,13 @@ module _ {L : Type 0} (site_of : L → Part) (book : L → Book) (bodies : L →
       × TellsWhetherThere uid found
       × (why ≡ told_as found came)
 
+  -- whether the store is shut, as the desk answered to such a call: that its store failed
+  abbrev pub TellsShut : Bool → Type 0
+  TellsShut shut =
+      (uid : Text) × (found : Result Bool LedgerFault)
+      × TellsWhetherThere uid found
+      × (IsTrue shut ↔ (found ≡ Err fault.Store))
+
   module _ {K : Type 0} (connects : Text → Result K Error → Type 0)
       (hears : K → Heard → K → Type 0)
       (sends : K → List ℕ → Bool → K → Type 0) (closes : K → K → Type 0) (tells : ℕ → Type 0)
@@ -194,7 +203,8 @@ module _ {L : Type 0} (site_of : L → Part) (book : L → Book) (bodies : L →
     -- a visit to that node at that address, which came to that, and at which these calls were made
     abbrev pub VisitsBy : Text → Text → Result Visit LedgerFault → List AnsweredCall → Type 0
     VisitsBy dest address came calls =
-        Visits connects hears sends closes Records LooksUp tells site dest address [] came calls
+        Visits connects hears sends closes Records LooksUp accepted tells site dest address [] came
+        calls
 
 -- ---- what follows
 
@@ -269,6 +279,17 @@ module _ (Visiting : Result Visit LedgerFault → List AnsweredCall → Type 0) 
         × tells now
         × (IsVisited new.1 new.0 last now → ⊥)
 
-    -- the same, whatever it was called for
-    abbrev pub LooksOnce : Rest × ℕ → Bool → Rest × ℕ → Type 0
-    LooksOnce old visited new = (rows visit last : Bool) × Looks rows visit last old visited new
+    -- the same, for what it was called for, as it was told; and whether the hop was visited
+    abbrev pub LooksOnce : (WakeUp → Type 0) → Rest × ℕ → WakeUp × Bool → Rest × ℕ → Type 0
+    LooksOnce Called old looked new =
+        Called looked.0 × Looks looked.0.rows looked.0.visit looked.0.over old looked.1 new
+
+-- When one who sends looks no more: it was told that the node ends; or it was called since no
+-- worker is left, and looked then. It never looks where it has no bell, or where it was told that
+-- no worker began.
+abbrev pub EndsLooking : (NoBell NoWorkers Ending : Type 0) → List (WakeUp × Bool) → Type 0
+EndsLooking NoBell NoWorkers Ending each =
+    ((each ≡ []) × (NoBell ⊎ NoWorkers))
+    ⊎ Ending
+    ⊎ ((before : List (WakeUp × Bool)) × (call : WakeUp) × (visited : Bool)
+    × (each ≡ before ++ (call, visited) ∷ []) × (call.over ≡ true))

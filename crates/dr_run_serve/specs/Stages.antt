@@ -1,7 +1,13 @@
 -- How far the orderly end of a node is.
-use Rattle.std.specs.Prelude.{◌≡◌, ◌⊎◌, ◌≤◌, ◌<◌, ◌+◌, ℕ}
+use Rattle.std.specs.Prelude.{◌≡◌, ◌⊎◌, ◌≤◌, ◌<◌, ◌+◌, ℕ, Bool, true, false}
 use Rattle.dr_run_serve.specs.declared.shutting.EndStage.{EndStage}
 use Rattle.dr_run_serve.specs.declared.shutting.EndStage.TheVariants.{Serving, Ending, Cut}
+
+-- the node serves
+abbrev pub serves : EndStage → Bool
+serves Serving = true
+serves (Ending since) = false
+serves Cut = false
 
 -- a node that serves goes on, or begins to end at that moment
 abbrev pub BeginsToEnd : ℕ → EndStage → Type 0

@@ -165,3 +165,10 @@ module _ {L : Type 0} (site_of : L → Part) (book : L → Book) (stands : L →
       → HasNoted lines old.past
       → Turns tells lines after old.next now old.known old.pass came new.known new.past new.pass)
       × (new.next ≡ next_turn old.next now came)
+
+  -- One such turn where the node serves, and else nothing.
+  abbrev pub TurnsIf : (tells : ℕ → Result (List JournalLine) LedgerFault → Type 0)
+      → (told : ℕ → Type 0) → Option ℕ → Bool → Sweeping → Sweeping → Type 0
+  TurnsIf tells told after true old new =
+      (came : Result ℕ LedgerFault) × TurnsOnce tells told after old came new
+  TurnsIf tells told after false old new = new ≡ old

@@ -52,7 +52,7 @@ module _ {L S : Type 0} (connects : Text → Result L Error → Type 0)
     (hears : L → Heard → L → Type 0)
     (sends : L → List ℕ → Bool → L → Type 0) (closes : L → L → Type 0)
     (step : S → DeskCall → DeskAnswer → S → Type 0)
-    (finds : S → Text → ℕ → Result (Option Text) LedgerFault → S → Type 0)
+    (finds : S → Text → ℕ → Result (Option Text) LedgerFault → S → Type 0) (taken : S → ℕ)
     (tells : ℕ → Type 0) (site : Part) (dest address : Text) where
   -- A connect to the address came to an error, which is told: the row is given up.
   abbrev pub StaysAway : Text → S → Result Visit LedgerFault → S → Type 0
@@ -62,17 +62,24 @@ module _ {L S : Type 0} (connects : Text → Result L Error → Type 0)
       (error : Error) × connects address (Err error) × GivesUp step tells uid dest s (Err why) t
   StaysAway uid s result t = ⊥
 
-  -- A session over a link to the address, after which nothing is done, or the row is given up.
+  -- What follows a session, at which the desk took that many calls more: nothing, where it took
+  -- some; and where it took none, the row is given up.
+  abbrev pub Follows : Text → Result Ended SessionFault → S → S → Result Visit LedgerFault → S
+      → Type 0
+  Follows uid came s mid result t =
+      ((taken mid ≢ taken s) × (mid ≡ t) × IsToldAs came result)
+      ⊎ ((taken mid ≡ taken s) × GivesUp step tells uid dest mid (Ok tt) t × IsToldAs came result)
+      ⊎ ((why : LedgerFault)
+      × (taken mid ≡ taken s) × GivesUp step tells uid dest mid (Err why) t × (result ≡ Err why))
+
+  -- A session over a link to the address, and what follows it.
   abbrev pub Delivers : Text → S → Result Visit LedgerFault → S → Type 0
   Delivers uid s result t =
       (link after : L) × (mid : S)
       × (came : Result Ended SessionFault)
       × connects address (Ok link)
       × DeliversAs hears sends closes step tells 0 site dest came link s after mid
-      × (((mid ≡ t) × IsToldAs came result)
-      ⊎ (GivesUp step tells uid dest mid (Ok tt) t × IsToldAs came result)
-      ⊎ ((why : LedgerFault) × (result ≡ Err why)
-      × GivesUp step tells uid dest mid (Err why) t))
+      × Follows uid came s mid result t
 
   -- the row, which is due, is sent with all others that are
   abbrev pub SendsDue : Text → S → Result Visit LedgerFault → S → Type 0

@@ -1,4 +1,9 @@
 //! A copy of the ledger, made while the node serves.
+ghost use Rattle.std.specs.Prelude.{◌≡◌, ◌<◌, ℕ, Err, IfOk, IfSome, OnOk};
+ghost use Rattle.std.specs.Str.{IsUtf8};
+ghost use Rattle.dr_desk.specs.Reading.{HasLines};
+ghost use Rattle.dr_run_backup.specs.declared.fault.BackupFault.TheVariants.{NoPath};
+
 use crate::monitor::Monitor;
 use crate::signal::Signal;
 use dr_base::Text;
@@ -41,8 +46,14 @@ impl<'a, R: Wait, L: Ledger, B: Sharing, C: Clock, G: Monitor> Copier<'a, R, L, 
     /// Tests whether a copy may go on until that moment.
     ///
     /// Errors: GivenUp, also where the node comes to its end.
-    fn test_time(&self, until: u64) -> Result<(), BackupFault> {
-        if self.signal.is_ending() || self.clock.now() >= until {
+    fn test_time(&self, until: u64) -> Result<(), BackupFault>
+        ensures { OnOk result ((now : ℕ) × C.tells self.now.clock.now now × (now < until)) }
+    {
+        if self.signal.is_ending() {
+            return Err(BackupFault::GivenUp);
+        }
+        let now = self.clock.now();
+        if now >= until {
             return Err(BackupFault::GivenUp);
         }
         Ok(())
@@ -90,7 +101,10 @@ impl<'a, R: Wait, L: Ledger, B: Sharing, C: Clock, G: Monitor> Copier<'a, R, L, 
     /// written.
     ///
     /// Errors: GivenUp, NoCopy, Memory.
-    fn add_log(&self, copy: &mut LedgerCopy<'_>) -> Result<Option<u64>, BackupFault> {
+    fn add_log(&self, copy: &mut LedgerCopy<'_>) -> Result<Option<u64>, BackupFault>
+        ensures { IfOk result (λ added. IfSome added
+            (HasLines L.site L.book L.bodies L.stands L.failed B.site B.first)) }
+    {
         let still = self.desk.still(self.rt);
         if !copy.has_same_log()? {
             return Ok(None);
@@ -107,7 +121,10 @@ impl<'a, R: Wait, L: Ledger, B: Sharing, C: Clock, G: Monitor> Copier<'a, R, L, 
     /// the log is read.
     ///
     /// Errors: GivenUp, NoCopy, Memory.
-    fn copy_both(&self, copy: &mut LedgerCopy<'_>) -> Result<u64, BackupFault> {
+    fn copy_both(&self, copy: &mut LedgerCopy<'_>) -> Result<u64, BackupFault>
+        ensures { IfOk result
+            (HasLines L.site L.book L.bodies L.stands L.failed B.site B.first) }
+    {
         copy.begin_database()?;
         let still = self.desk.still(self.rt);
         let until = self.clock.now().saturating_add(STILL);
@@ -123,7 +140,10 @@ impl<'a, R: Wait, L: Ledger, B: Sharing, C: Clock, G: Monitor> Copier<'a, R, L, 
     /// one before and after the database was copied; else for the database, too.
     ///
     /// Errors: GivenUp, also where calls would wait in vain; NoCopy, Memory.
-    fn fill(&self, copy: &mut LedgerCopy<'_>) -> Result<u64, BackupFault> {
+    fn fill(&self, copy: &mut LedgerCopy<'_>) -> Result<u64, BackupFault>
+        ensures { IfOk result
+            (HasLines L.site L.book L.bodies L.stands L.failed B.site B.first) }
+    {
         let until = self.clock.now().saturating_add(TRIED);
         for _ in 0..TRIES {
             self.note_log(copy)?;
@@ -134,13 +154,17 @@ impl<'a, R: Wait, L: Ledger, B: Sharing, C: Clock, G: Monitor> Copier<'a, R, L, 
             }
         }
         self.test_time(until)?;
-        self.copy_both(copy)
+        let lines = self.copy_both(copy)?;
+        Ok(lines)
     }
 
     /// Fills a copy, and measures it.
     ///
     /// Errors: GivenUp, NoCopy, Memory.
-    fn complete(&self, copy: &mut LedgerCopy<'_>) -> Result<Copied, BackupFault> {
+    fn complete(&self, copy: &mut LedgerCopy<'_>) -> Result<Copied, BackupFault>
+        ensures { IfOk result (λ copied.
+            HasLines L.site L.book L.bodies L.stands L.failed B.site B.first copied.lines) }
+    {
         let lines = self.fill(copy)?;
         let bytes = copy.length()?;
         Ok(Copied { lines, bytes })
@@ -149,7 +173,11 @@ impl<'a, R: Wait, L: Ledger, B: Sharing, C: Clock, G: Monitor> Copier<'a, R, L, 
     /// Copies the ledger to that path. Where that fails, what was made of it is taken away.
     ///
     /// Errors: NoPath, DataFile, OwnFile, IsThere, GivenUp, NoCopy, Memory.
-    pub fn copy_to(&self, path: &Text) -> Result<Copied, BackupFault> {
+    pub fn copy_to(&self, path: &Text) -> Result<Copied, BackupFault>
+        ensures path { (IsUtf8 path.now → ⊥) → result ≡ Err NoPath }
+        ensures lines { IfOk result (λ copied.
+            HasLines L.site L.book L.bodies L.stands L.failed B.site B.first copied.lines) }
+    {
         let Ok(path) = str::from_utf8(path.as_bytes()) else {
             return Err(BackupFault::NoPath);
         };

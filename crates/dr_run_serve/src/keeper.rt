@@ -1,10 +1,14 @@
 //! The one who tells of a node, has it forget what is over, and ends it where its store is shut.
-ghost use Rattle.std.specs.Prelude.{◌≡◌, ℕ, [], List, None, Result};
-ghost use Rattle.dr_ledger.specs.declared.fault.LedgerFault.{LedgerFault as Fault};
+ghost use Rattle.std.specs.Prelude.{◌≡◌, ℕ, [], List, None, false};
+ghost use Rattle.dr_run_serve.specs.Keeps.{EndsKeeping, KeepsOnce};
 ghost use Rattle.dr_run_serve.specs.Pasts.{HasNoted, TellsPage};
-ghost use Rattle.dr_run_serve.specs.Sweeps.{Chain, Sweeping, TurnsOnce, sweeping};
+ghost use Rattle.dr_run_serve.specs.Sendings.{TellsShut};
+ghost use Rattle.dr_run_serve.specs.Sweeps.{Chain, Sweeping, TurnsIf, sweeping};
 ghost use Rattle.dr_run_serve.specs.declared.past.Past.{Past as PastValue};
+ghost use Rattle.dr_run_serve.specs.declared.shutting.EndStage.{EndStage as StageValue};
+ghost use Rattle.dr_run_serve.specs.declared.shutting.EndStage.TheVariants as stages;
 
+use crate::calling::Calling;
 use crate::events::tell_threads;
 use crate::live::LiveNode;
 use crate::monitor::Monitor;
@@ -39,10 +43,9 @@ fn sweep_if<R: Wait, L: Views, B: Sharing, C: Clock, G: Log>(
     sweeper: &mut Sweeper<B>,
     serves: bool,
 )
-    ensures turns { (each : List (Result ℕ Fault))
-        × Chain (TurnsOnce L.site L.book L.stands L.failed B.site B.first
+    ensures turns { TurnsIf L.site L.book L.stands L.failed B.site B.first
         (TellsPage L.site L.book L.bodies L.stands L.failed B.site B.first L.numbered)
-        (C.tells node.now.clock.now) sweeper.old.after) each
+        (C.tells node.now.clock.now) sweeper.old.after serves
         (sweeping sweeper.old.next sweeper.old.sweep sweeper.old.past
         sweeper.old.pass.made.count sweeper.old.pass.receipts.items)
         (sweeping sweeper.new.next sweeper.new.sweep sweeper.new.past
@@ -67,23 +70,32 @@ fn keep_on<
     N: Network,
     C: Clock,
     G: Monitor,
+    W: Calling,
 >(
     node: &LiveNode<'_, R, L, B, C, G>,
     senders: usize,
     sweeper: &mut Sweeper<B>,
     wake: &Wake<'_, D, N>,
+    calling: &W,
 )
-    ensures { (each : List (Result ℕ Fault))
-        × Chain (TurnsOnce L.site L.book L.stands L.failed B.site B.first
+    ensures { (each : List ℕ) × (stage : StageValue)
+        × Chain (KeepsOnce L.site L.book L.stands L.failed B.site B.first
         (TellsPage L.site L.book L.bodies L.stands L.failed B.site B.first L.numbered)
-        (C.tells node.now.clock.now) sweeper.old.after) each
-        (sweeping sweeper.old.next sweeper.old.sweep sweeper.old.past
-        sweeper.old.pass.made.count sweeper.old.pass.receipts.items)
-        (sweeping sweeper.new.next sweeper.new.sweep sweeper.new.past
-        sweeper.new.pass.made.count sweeper.new.pass.receipts.items) }
+        (C.tells node.now.clock.now) sweeper.old.after) each (
+          stages.Serving,
+          sweeping sweeper.old.next sweeper.old.sweep sweeper.old.past
+              sweeper.old.pass.made.count sweeper.old.pass.receipts.items,
+        ) (
+          stage,
+          sweeping sweeper.new.next sweeper.new.sweep sweeper.new.past
+              sweeper.new.pass.made.count sweeper.new.pass.receipts.items,
+        )
+        × EndsKeeping (W.begins calling.now false)
+        (TellsShut L.site L.book L.bodies L.stands L.failed B.site B.first)
+        (W.brings calling.now) each }
 {
     let (rt, clock, log) = (node.rt, node.clock, node.log);
-    if !wake.signal.has_begun(rt, BEGIN) {
+    if !calling.begun(BEGIN) {
         return;
     }
     let (mut told, mut stage, mut looks) = (LastTold::new(), EndStage::Serving, 0u32);
@@ -91,8 +103,8 @@ fn keep_on<
         let now = clock.now();
         stage = wake.stops(rt, stage, now, log);
         told = report_changes(node, told, now, false);
-        sweep_if(node, sweeper, stage == EndStage::Serving);
-        let news = wake.signal.wait(rt, TURN);
+        sweep_if(node, sweeper, stage.serves());
+        let news = calling.news(TURN);
         if news.doubts && wake.ends(rt, node.desk, log) {
             return;
         }
@@ -116,22 +128,27 @@ pub fn keep<
     N: Network,
     C: Clock,
     G: Monitor,
+    W: Calling,
 >(
     node: &LiveNode<'_, R, L, B, C, G>,
     senders: usize,
     pass: Pass<B>,
     after: Option<u64>,
     wake: &Wake<'_, D, N>,
+    calling: &W,
 ) -> Pass<B>
-    ensures { (begins : PastValue) × (each : List (Result ℕ Fault)) × (ends : Sweeping)
+    ensures { (begins : PastValue) × (each : List ℕ) × (stage : StageValue) × (ends : Sweeping)
         × HasNoted [] begins
-        × Chain (TurnsOnce L.site L.book L.stands L.failed B.site B.first
+        × Chain (KeepsOnce L.site L.book L.stands L.failed B.site B.first
         (TellsPage L.site L.book L.bodies L.stands L.failed B.site B.first L.numbered)
         (C.tells node.now.clock.now) after) each
-        (sweeping 0 None begins pass.made.count pass.receipts.items) ends
-        × (ends.pass ≡ (result.made.count, result.receipts.items)) }
+        (stages.Serving, sweeping 0 None begins pass.made.count pass.receipts.items) (stage, ends)
+        × (ends.pass ≡ (result.made.count, result.receipts.items))
+        × EndsKeeping (W.begins calling.now false)
+        (TellsShut L.site L.book L.bodies L.stands L.failed B.site B.first)
+        (W.brings calling.now) each }
 {
     let mut sweeper = Sweeper::new(node.alloc, pass, after);
-    keep_on(node, senders, &mut sweeper, wake);
+    keep_on(node, senders, &mut sweeper, wake, calling);
     sweeper.into_pass()
 }

@@ -26,6 +26,7 @@
 mod ages;
 mod asked;
 mod caller;
+mod calling;
 mod control;
 mod copying;
 mod ends;

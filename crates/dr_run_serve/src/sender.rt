@@ -1,13 +1,16 @@
 //! The one who sends to a hop.
-ghost use Rattle.std.specs.Prelude.{◌≡◌, ◌↔◌, ℕ, Bool, IfOk, IsTrue, List, Option, Result};
-ghost use Rattle.std.specs.Prelude.{max, true};
+ghost use Rattle.std.specs.Prelude.{◌≡◌, ◌↔◌, ◌≤◌, ℕ, Bool, IfOk, IsTrue, List, Option, Result};
+ghost use Rattle.std.specs.Prelude.{false, length, max, true};
 ghost use Rattle.dr_ledger.specs.declared.fault.LedgerFault.{LedgerFault as Fault};
 ghost use Rattle.dr_run_serve.specs.Dues.{due_of};
 ghost use Rattle.dr_run_serve.specs.Rests.{IsNoRest, IsVisited, rest_end};
-ghost use Rattle.dr_run_serve.specs.Sendings.{ComesBack, IsHeeded, IsTold, Looks, LooksOnce};
-ghost use Rattle.dr_run_serve.specs.Sendings.{Sends, SendsOrRests, TellsDue, VisitsAt, VisitsBy};
+ghost use Rattle.dr_run_serve.specs.Sendings.{ComesBack, EndsLooking, IsHeeded, IsTold, Looks};
+ghost use Rattle.dr_run_serve.specs.Sendings.{LooksOnce, Sends, SendsOrRests, TellsDue, VisitsAt};
+ghost use Rattle.dr_run_serve.specs.Sendings.{VisitsBy};
 ghost use Rattle.dr_run_serve.specs.Sweeps.{Chain};
+ghost use Rattle.dr_run_serve.specs.declared.signal.WakeUp.{WakeUp as CallValue};
 
+use crate::calling::Calling;
 use crate::ends::VisitEnd;
 use crate::events::{tell_visit, tell_visit_fault};
 use crate::live::LiveNode;
@@ -317,13 +320,22 @@ fn look<R: Wait, L: Views, B: Sharing, N: Network, C: Clock, G: Log>(
 /// Visits the hop as often as there is something to send, until no worker is left; then there is
 /// one last visit. Where no worker ever begins, nothing is sent; where the node ends in order, or
 /// its store is shut, nothing more.
-pub fn send_rows<R: Wait + time::Clock, L: Views, B: Sharing, N: Network, C: Clock, G: Log>(
+pub fn send_rows<
+    R: Wait + time::Clock,
+    L: Views,
+    B: Sharing,
+    N: Network,
+    C: Clock,
+    G: Log,
+    W: Calling,
+>(
     node: &LiveNode<'_, R, L, B, C, G>,
     network: &N,
     sender: &mut HopSender<B>,
     number: usize,
+    calling: &W,
 )
-    ensures { (each : List Bool)
+    ensures { (each : List (CallValue × Bool))
         × Chain (LooksOnce
         (VisitsBy L.site L.book L.bodies L.stands L.failed B.site B.first
         (N.connects network.now) N.Socket.hears N.Socket.sends N.Socket.closes
@@ -331,21 +343,23 @@ pub fn send_rows<R: Wait + time::Clock, L: Views, B: Sharing, N: Network, C: Clo
         sender.old.hop.dest sender.old.hop.address)
         (IsTold L.site L.book L.bodies L.stands L.failed B.site B.first)
         (TellsDue L.site L.book L.bodies L.stands L.failed B.site B.first sender.old.hop.dest)
-        (C.tells node.now.clock.now)) each
-        (sender.old.rest, sender.old.hop.due) (sender.new.rest, sender.new.hop.due) }
+        (C.tells node.now.clock.now) (W.calls calling.now number)) each
+        (sender.old.rest, sender.old.hop.due) (sender.new.rest, sender.new.hop.due)
+        × EndsLooking (length node.now.signal.now.bells.items ≤ number)
+        (W.begins calling.now false) (W.ends calling.now true) each }
 {
     let (rt, signal, clock) = (node.rt, node.signal, node.clock);
     signal.count_sender(rt);
     let Some(bell) = signal.bell(number) else {
         return;
     };
-    if !signal.has_begun(rt, BEGIN) {
+    if !calling.begun(BEGIN) {
         return;
     }
     let mut sleep = 0;
     for _look in rt.forever() {
-        let call = bell.wait(rt, sleep);
-        if signal.is_ending() {
+        let call = calling.call(number, sleep);
+        if calling.ending() {
             return;
         }
         bell.look(rt, clock.now());

@@ -24,7 +24,8 @@ pub fn visit_each<N: Network, P: Tallied, C: Clock>(
 ) -> Result<(), LedgerFault>
     ensures { VisitsEach
         (λ hop s came t. Visits (N.connects network.now) N.Socket.hears N.Socket.sends
-        N.Socket.closes P.step P.finds (C.tells clock.now) site.now hop.dest hop.address s came t)
+        N.Socket.closes P.step P.finds P.taken (C.tells clock.now) site.now hop.dest hop.address
+        s came t)
         hops.now port.old result port.new }
 {
     for hop in hops {

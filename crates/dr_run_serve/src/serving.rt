@@ -5,6 +5,7 @@ ghost use Rattle.dr_desk.specs.Growing.{BeginWith};
 ghost use Rattle.dr_ledger.specs.Histories.{IsJournalled};
 ghost use Rattle.dr_ledger.specs.SiteRoutes.{site_routing};
 
+use crate::calling::SignalCalling;
 use crate::control::{AGAIN, answer_all, passes_of};
 use crate::events::{tell_came, tell_threads, tell_unaccepted};
 use crate::keeper::keep;
@@ -234,7 +235,11 @@ where
                 node.rt,
                 senders.as_mut_slice(),
                 count,
-                &|number, sender| { send_rows(node, network, sender, number) },
+                &|number, sender| {
+                    let (rt, signal) = (node.rt, node.signal);
+                    let calling = SignalCalling { rt, signal };
+                    send_rows(node, network, sender, number, &calling)
+                },
             );
         }
         node.signal.end_sending(node.rt);
@@ -256,7 +261,11 @@ where
                     × IsSend D.Socket.row × IsSync D.row × IsSync N.row × IsSend N.Socket.row
                     × IsSync N.Listener.row × IsSync C.row × IsSync G.row }
             { self.send_all(senders) },
-            || keep(node, count, swept, after, wake),
+            || {
+                let (rt, signal) = (node.rt, node.signal);
+                let calling = SignalCalling { rt, signal };
+                keep(node, count, swept, after, wake, &calling)
+            },
         )
     }
 

@@ -1,10 +1,8 @@
 //! The end of a node: in order, or since its store is shut.
-ghost use Rattle.std.specs.Prelude.{◌≡◌, ◌↔◌, Bool, Err, IsTrue, Result};
-ghost use Rattle.dr_base.specs.Texts.{Text};
-ghost use Rattle.dr_ledger.specs.declared.fault.LedgerFault.{LedgerFault as Fault};
+ghost use Rattle.std.specs.Prelude.{◌≡◌, ◌↔◌, Err, IsTrue};
 ghost use Rattle.dr_ledger.specs.declared.fault.LedgerFault.TheVariants.{Store};
-ghost use Rattle.dr_run_serve.specs.Sendings.{TellsWhetherThere};
-ghost use Rattle.dr_run_serve.specs.Stages.{BeginsToEnd, IsCutThen, IsNextStage};
+ghost use Rattle.dr_run_serve.specs.Sendings.{TellsShut};
+ghost use Rattle.dr_run_serve.specs.Stages.{BeginsToEnd, IsCutThen, IsNextStage, serves};
 
 use crate::events::{tell_cut, tell_shut, tell_stopping};
 use crate::signal::Signal;
@@ -19,13 +17,25 @@ use std::sync::Wait;
 const LEFT: u64 = 10_000;
 
 /// How far the orderly end of a node is.
-#[derive(Clone, Copy, PartialEq, Eq)]
+#[derive(Clone, Copy)]
 pub enum EndStage {
     Serving,
     /// Nothing is begun since that moment.
     Ending(u64),
     /// What was under way then was cut.
     Cut,
+}
+
+impl EndStage {
+    /// Whether the node serves.
+    pub fn serves(self) -> bool
+        ensures { result ≡ serves self }
+    {
+        match self {
+            EndStage::Serving => true,
+            EndStage::Ending(_) | EndStage::Cut => false,
+        }
+    }
 }
 
 fn is_store(fault: LedgerFault) -> bool
@@ -56,9 +66,7 @@ fn is_store_fault(answer: Result<bool, LedgerFault>) -> bool
 /// answers Store to a call that only reads, too. A disk that
 /// is full refuses what would be written alone.
 pub fn is_shut<R: Wait, L: Ledger, B: Sharing>(rt: &R, desk: &SharedDesk<L, B>) -> bool
-    ensures { (uid : Text) × (found : Result Bool Fault)
-        × TellsWhetherThere L.site L.book L.bodies L.stands L.failed B.site B.first uid found
-        × (IsTrue result ↔ (found ≡ Err Store)) }
+    ensures { TellsShut L.site L.book L.bodies L.stands L.failed B.site B.first result }
 {
     is_store_fault(desk.has(rt, desk.site().name()))
 }
@@ -81,7 +89,9 @@ impl<'a, D: Listening, N: Network> Wake<'a, D, N> {
         rt: &R,
         desk: &SharedDesk<L, B>,
         log: &G,
-    ) -> bool {
+    ) -> bool
+        ensures { TellsShut L.site L.book L.bodies L.stands L.failed B.site B.first result }
+    {
         if !is_shut(rt, desk) {
             return false;
         }

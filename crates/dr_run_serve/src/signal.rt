@@ -1,4 +1,5 @@
 //! What wakes those who send, and who tells of the node.
+ghost use Rattle.std.specs.Prelude.{◌≤◌, IfNone, length};
 ghost use Rattle.dr_run_serve.specs.Ends.{IsKnownAfter};
 
 use crate::ages::WaitingRows;
@@ -251,7 +252,9 @@ impl Signal {
     }
 
     /// The bell of the hop of that number.
-    pub fn bell(&self, number: usize) -> Option<&Bell> {
+    pub fn bell(&self, number: usize) -> Option<&Bell>
+        ensures { IfNone result (length self.now.bells.items ≤ number) }
+    {
         self.bells.as_slice().get(number)
     }
 

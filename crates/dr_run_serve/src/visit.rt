@@ -77,7 +77,7 @@ fn send_due<N: Network, P: Tallied, C: Clock>(
     clock: &C,
 ) -> Result<Visit, LedgerFault>
     ensures { SendsDue (N.connects network.now) N.Socket.hears N.Socket.sends N.Socket.closes P.step
-        P.finds (C.tells clock.now) site.now hop.now.dest hop.now.address uid.now
+        P.finds P.taken (C.tells clock.now) site.now hop.now.dest hop.now.address uid.now
         port.old result port.new }
 {
     let mut link = match network.connect(alloc, &hop.address) {
@@ -107,7 +107,8 @@ pub fn visit_hop<N: Network, P: Tallied, C: Clock>(
     clock: &C,
 ) -> Result<Visit, LedgerFault>
     ensures { Visits (N.connects network.now) N.Socket.hears N.Socket.sends N.Socket.closes P.step
-        P.finds (C.tells clock.now) site.now hop.now.dest hop.now.address port.old result port.new }
+        P.finds P.taken (C.tells clock.now) site.now hop.now.dest hop.now.address
+        port.old result port.new }
 {
     let Some(uid) = first_due(&hop.dest, port, clock)? else {
         return Ok(Visit::Idle);

@@ -49,16 +49,18 @@ IsUnsent Memory = Unit {0}
 IsUnsent halt = ⊥
 
 -- each hop of the site is visited once, in order, up to the last, over what a connect to its
--- address comes to
-abbrev pub VisitsBy : {K S : Type 0} (connects : Text → Result K Error → Type 0)
+-- address comes to; by its port's count it is known whether a session settled a row
+abbrev pub VisitsBy : {K L : Type 0} (connects : Text → Result K Error → Type 0)
     (hears : K → Heard → K → Type 0)
     (sends : K → List ℕ → Bool → K → Type 0) (closes : K → K → Type 0)
-    (step : S → DeskCall → DeskAnswer → S → Type 0)
-    (finds : S → Text → ℕ → Result (Option Text) LedgerFault → S → Type 0) (tells : ℕ → Type 0)
-    → Part → List NextHop → S → S → Type 0
+    (step : OwnPort L → DeskCall → DeskAnswer → OwnPort L → Type 0)
+    (finds : OwnPort L → Text → ℕ → Result (Option Text) LedgerFault → OwnPort L → Type 0)
+    (tells : ℕ → Type 0)
+    → Part → List NextHop → OwnPort L → OwnPort L → Type 0
 VisitsBy connects hears sends closes step finds tells site hops s t = VisitsEach
     (λ hop a came b.
-    Visits connects hears sends closes step finds tells site hop.dest hop.address a came b) hops s
+    Visits connects hears sends closes step finds (λ port. port.taken) tells site hop.dest
+    hop.address a came b) hops s
     (Ok tt) t
 
 module _ {L : Type 0} (book : L → Book) (stands : L → Type 0)
