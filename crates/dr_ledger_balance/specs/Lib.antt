@@ -1,0 +1,9 @@
+pub mod Adding
+pub mod Balances
+pub mod Fields
+pub mod Orders
+pub mod Pieces
+pub mod Places
+pub mod Reading
+pub mod Sealing
+pub mod Spelling
