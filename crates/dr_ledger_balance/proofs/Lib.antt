@@ -1,0 +1,10 @@
+mod Added
+mod Apart
+mod Bodies
+mod Cutting
+mod Ending
+mod Lines
+mod Longer
+mod Rising
+mod Facts
+mod Figures

@@ -35,7 +35,7 @@ balance_of count items arrivals kept rows = record {
 -- trees are in the order of their keys
 pub record AreOrdered (items : tree.BTreeMap Text Instance) (arrivals : sorted.BTreeSet Pair)
     (kept : sorted.BTreeSet Text) (rows : tree.BTreeMap Pair Progress) : Type 0 where
-  pub items : tree.IsOrdered text_cmp items
-  pub arrivals : sorted.IsOrdered pair_cmp arrivals
-  pub kept : sorted.IsOrdered text_cmp kept
-  pub rows : tree.IsOrdered pair_cmp rows
+  pub items_rise : tree.IsOrdered text_cmp items
+  pub arrivals_rise : sorted.IsOrdered pair_cmp arrivals
+  pub kept_rise : sorted.IsOrdered text_cmp kept
+  pub rows_rise : tree.IsOrdered pair_cmp rows

@@ -1,14 +1,6 @@
 -- What the first lines of a journal made, and how many they were, as a text.
-use Rattle.std.specs.Prelude.{List, [], ◌++◌, All, map as mapped}
-use Rattle.std.specs.BTreeMap as tree
-use Rattle.std.specs.BTreeSet as sorted
-use Rattle.std.specs.FinMap as map
+use Rattle.std.specs.Prelude.{[], All}
 use Rattle.dr_base.specs.Texts.{Text}
-use Rattle.dr_ledger.specs.Books.{Line}
-use Rattle.dr_ledger.specs.Pairs.{Pair}
-use Rattle.dr_ledger.specs.declared.item.Instance.{Instance}
-use Rattle.dr_ledger.specs.declared.item.Progress.{Progress}
-use Rattle.dr_ledger_history.specs.Contents.{Content, all_of}
 use Rattle.dr_ledger_balance.specs.Fields.{FitsField, FitsNumber}
 use Rattle.dr_ledger_balance.specs.Orders.{AreItemsInOrder, ArePairsInOrder, AreRowsInOrder}
 use Rattle.dr_ledger_balance.specs.Orders.{AreTextsInOrder}
@@ -23,7 +15,7 @@ abbrev pub body_of : Balance → Text
 body_of b =
     all_spelled item_then b.items
     (all_spelled arrival_then b.arrivals
-        (all_spelled kept_then b.kept (all_spelled row_then b.rows (end_then b.count []))))
+    (all_spelled kept_then b.kept (all_spelled row_then b.rows (end_then b.count []))))
 
 -- all of it, with the SHA-256 of its lines behind them
 abbrev pub balance_text : Balance → Text

@@ -1,6 +1,8 @@
 pub mod Adding
 pub mod Balances
+pub mod Contents
 pub mod Fields
+pub mod Laws
 pub mod Orders
 pub mod Pieces
 pub mod Places

@@ -12,7 +12,7 @@ use std::alloc::{AllocError, Global};
 
 /// What rules read of an instance, each text where it stands.
 #[derive(Drop)]
-pub struct KeyPlaces<'a> {
+pub struct KeyFields<'a> {
     pub class: &'a [u8],
     pub syntax: Syntax,
     pub modality: &'a [u8],
@@ -21,15 +21,15 @@ pub struct KeyPlaces<'a> {
 
 /// An instance, each text where it stands.
 #[derive(Drop)]
-pub struct ItemPlaces<'a> {
+pub struct ItemFields<'a> {
     pub uid: &'a [u8],
-    pub key: KeyPlaces<'a>,
+    pub key: KeyFields<'a>,
     pub size: u64,
     pub digest: [u8; 32],
 }
 
 /// What rules read of an instance, at the front of a text.
-fn cut_key(text: &[u8]) -> Option<(KeyPlaces<'_>, &[u8])>
+fn cut_key(text: &[u8]) -> Option<(KeyFields<'_>, &[u8])>
     ensures { MatchOption result (HasNone FitsKey key_then text.now)
         (λ f. IsPiece FitsKey key_then text.now (key_of f.0) f.1.now) }
 {
@@ -37,7 +37,7 @@ fn cut_key(text: &[u8]) -> Option<(KeyPlaces<'_>, &[u8])>
     let (syntax, after_syntax) = cut_syntax(after_class)?;
     let (modality, after_modality) = cut_field(after_syntax)?;
     let (station, rest) = cut_field(after_modality)?;
-    let key = KeyPlaces {
+    let key = KeyFields {
         class,
         syntax,
         modality,
@@ -47,7 +47,7 @@ fn cut_key(text: &[u8]) -> Option<(KeyPlaces<'_>, &[u8])>
 }
 
 /// The line of an instance at the front of a text.
-pub fn cut_item(text: &[u8]) -> Option<(ItemPlaces<'_>, &[u8])>
+pub fn cut_item(text: &[u8]) -> Option<(ItemFields<'_>, &[u8])>
     ensures { MatchOption result (HasNone FitsItem item_then text.now)
         (λ f. IsPiece FitsItem item_then text.now (item_of f.0) f.1.now) }
 {
@@ -57,7 +57,7 @@ pub fn cut_item(text: &[u8]) -> Option<(ItemPlaces<'_>, &[u8])>
     let (size, after_size) = cut_number(after_key)?;
     let (digest, later) = cut_digest(after_size)?;
     let rest = after(later, b"\n")?;
-    let item = ItemPlaces {
+    let item = ItemFields {
         uid,
         key,
         size,
@@ -66,7 +66,7 @@ pub fn cut_item(text: &[u8]) -> Option<(ItemPlaces<'_>, &[u8])>
     Some((item, rest))
 }
 
-fn key_at(alloc: Global, places: &KeyPlaces<'_>) -> Result<Key, AllocError>
+fn key_at(alloc: Global, places: &KeyFields<'_>) -> Result<Key, AllocError>
     ensures { IfOk result (λ key. key ≡ key_of places.now) }
 {
     let class = Text::copy_of(alloc, places.class)?;
@@ -81,7 +81,7 @@ fn key_at(alloc: Global, places: &KeyPlaces<'_>) -> Result<Key, AllocError>
 }
 
 /// The instance that stands there.
-pub fn item_at(alloc: Global, places: &ItemPlaces<'_>) -> Result<Instance, AllocError>
+pub fn item_at(alloc: Global, places: &ItemFields<'_>) -> Result<Instance, AllocError>
     ensures { IfOk result (λ item. item ≡ item_of places.now) }
 {
     let uid = Text::copy_of(alloc, places.uid)?;

@@ -7,12 +7,12 @@ ghost use Rattle.dr_ledger_balance.specs.Reading.{AnswersOrders};
 
 use crate::balance::Balance;
 use crate::fault::BalanceFault;
-use crate::piece::Piece;
+use crate::listed::Listed;
 use std::cmp::Ordering;
 
 /// Whether the one comes before the next.
-fn test_pair<P: Piece>(one: &P, next: &P) -> Result<(), BalanceFault>
-    ensures { AnswersPair (P.order one.now next.now) result }
+fn test_pair<L: Listed>(one: &L, next: &L) -> Result<(), BalanceFault>
+    ensures { AnswersPair (L.order one.now next.now) result }
 {
     match one.compare(next) {
         Ordering::Less => Ok(()),
@@ -22,9 +22,9 @@ fn test_pair<P: Piece>(one: &P, next: &P) -> Result<(), BalanceFault>
 }
 
 /// Whether each comes before the next.
-fn test_order<P: Piece>(pieces: &[P]) -> Result<(), BalanceFault>
-    requires { IsTotalOrder P.order }
-    ensures { AnswersOrder P.order pieces.now result }
+fn test_order<L: Listed>(pieces: &[L]) -> Result<(), BalanceFault>
+    requires { IsTotalOrder L.order }
+    ensures { AnswersOrder L.order pieces.now result }
 {
     for i in 1..pieces.len() {
         test_pair(&pieces[i - 1], &pieces[i])?;

@@ -1,5 +1,5 @@
 //! The line of a SHA-256 at the end of a text.
-ghost use Rattle.std.specs.Prelude.{◌≡◌, ◌++◌, ℕ, List, IfOk, IfErr, MatchOption};
+ghost use Rattle.std.specs.Prelude.{◌≡◌, ◌++◌, ℕ, List, IfOk, MatchOption, string_bytes};
 ghost use Rattle.hex.specs.Hex.{encode_lower};
 ghost use Rattle.sha2.specs.Sha256.{sha256};
 ghost use Rattle.dr_ledger_balance.specs.Sealing.{AnswersBody, EndsWithDigits, IsCut, sealed};
@@ -14,7 +14,7 @@ const SEAL: usize = 72;
 
 /// The lower-case digits of the SHA-256 of a text.
 fn digits_of(alloc: Global, text: &[u8]) -> Result<String, AllocError>
-    ensures { IfOk result (λ digits. digits.now ≡ encode_lower (sha256 text.now)) }
+    ensures { IfOk result (λ digits. string_bytes digits ≡ encode_lower (sha256 text.now)) }
 {
     let digest = Sha256::digest(text);
     let digits = hex::encode(alloc, digest.as_slice())?;

@@ -13,8 +13,8 @@ ghost use Rattle.dr_ledger_balance.specs.Spelling.{arrival_then, end_then, item_
 ghost use Rattle.dr_ledger_balance.specs.Spelling.{key_then, row_then};
 
 use crate::sealing::put_seal;
-use dr_base::fields::add_decimal;
 use dr_base::Text;
+use dr_base::fields::add_decimal;
 use dr_ledger::{Cause, Instance, Progress};
 use dr_route::Key;
 use std::alloc::{AllocError, Global};
@@ -200,10 +200,7 @@ fn put_all_kept(out: &mut Vec<u8>, kept: &BTreeSet<Text>) -> Result<(), AllocErr
 }
 
 /// Adds the lines of rows.
-fn put_rows(
-    out: &mut Vec<u8>,
-    rows: &BTreeMap<(Text, Text), Progress>,
-) -> Result<(), AllocError>
+fn put_rows(out: &mut Vec<u8>, rows: &BTreeMap<(Text, Text), Progress>) -> Result<(), AllocError>
     ensures adds { OnOk result (AddsAll out.old.items out.new.items row_then rows.now.entries) }
     ensures ordered { tree.IsOrdered pair_cmp rows.now }
 {

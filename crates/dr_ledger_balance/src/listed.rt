@@ -17,7 +17,7 @@ use std::alloc::{AllocError, Global};
 use std::cmp::Ordering;
 
 /// What a balance has a list of: each has a line of its own.
-pub trait Piece: Sized + Drop {
+pub trait Listed: Sized + Drop {
     // which of them a program can have
     ghost fits: { Self → Type 0 };
 
@@ -37,7 +37,7 @@ pub trait Piece: Sized + Drop {
         ensures { result ≡ order self.now other.now };
 }
 
-impl Piece for Instance {
+impl Listed for Instance {
     ghost fits = { FitsItem };
 
     ghost spelled = { item_then };
@@ -57,7 +57,7 @@ impl Piece for Instance {
     }
 }
 
-impl Piece for (Text, Text) {
+impl Listed for (Text, Text) {
     ghost fits = { FitsArrival };
 
     ghost spelled = { arrival_then };
@@ -78,7 +78,7 @@ impl Piece for (Text, Text) {
     }
 }
 
-impl Piece for Text {
+impl Listed for Text {
     ghost fits = { FitsField };
 
     ghost spelled = { kept_then };
@@ -98,7 +98,7 @@ impl Piece for Text {
     }
 }
 
-impl Piece for ((Text, Text), Progress) {
+impl Listed for ((Text, Text), Progress) {
     ghost fits = { FitsRow };
 
     ghost spelled = { row_then };

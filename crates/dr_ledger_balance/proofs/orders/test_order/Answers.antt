@@ -1,0 +1,10 @@
+use Rattle.std.proofs.Common.{arith}
+use Rattle.std.proofs.lemmas.Result.{err_from_is_err_and}
+use Rattle.dr_ledger_balance.proofs.Rising.{all_rise, misplaced, rises_more}
+use Rattle.dr_ledger_balance.proofs.orders.test_order.Goals as goal
+
+pub loop-i-init : goal.loop-i-init
+loop-i-init g c = λ k d below. absurd (omega (arith, below))
+
+pub returns : goal.returns
+returns g c = all_rise g.L.Listed.order c.requires c.args.pieces.now c.loop-i.i (omega (arith, c.loop-i-test.false)) c.loop-i.invariant
