@@ -1,10 +1,11 @@
 mod Added
+mod Answered
 mod Apart
 mod Bodies
 mod Cutting
 mod Ending
+mod Facts
+mod Figures
 mod Lines
 mod Longer
 mod Rising
-mod Facts
-mod Figures

@@ -12,13 +12,13 @@ mod fault;
 mod fields;
 mod item;
 pub mod laws;
-mod listed;
 mod lists;
 mod orders;
 mod pieces;
 mod progress;
 mod reading;
 mod sealing;
+mod spelled;
 mod writing;
 
 pub use balance::Balance;

@@ -7,12 +7,12 @@ ghost use Rattle.dr_ledger_balance.specs.Reading.{AnswersOrders};
 
 use crate::balance::Balance;
 use crate::fault::BalanceFault;
-use crate::listed::Listed;
+use crate::spelled::Spelled;
 use std::cmp::Ordering;
 
 /// Whether the one comes before the next.
-fn test_pair<L: Listed>(one: &L, next: &L) -> Result<(), BalanceFault>
-    ensures { AnswersPair (L.order one.now next.now) result }
+fn test_pair<S: Spelled>(one: &S, next: &S) -> Result<(), BalanceFault>
+    ensures { AnswersPair (S.order one.now next.now) result }
 {
     match one.compare(next) {
         Ordering::Less => Ok(()),
@@ -22,9 +22,9 @@ fn test_pair<L: Listed>(one: &L, next: &L) -> Result<(), BalanceFault>
 }
 
 /// Whether each comes before the next.
-fn test_order<L: Listed>(pieces: &[L]) -> Result<(), BalanceFault>
-    requires { IsTotalOrder L.order }
-    ensures { AnswersOrder L.order pieces.now result }
+fn test_order<S: Spelled>(pieces: &[S]) -> Result<(), BalanceFault>
+    requires { IsTotalOrder S.order }
+    ensures { AnswersOrder S.order pieces.now result }
 {
     for i in 1..pieces.len() {
         test_pair(&pieces[i - 1], &pieces[i])?;

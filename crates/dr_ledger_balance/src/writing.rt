@@ -179,7 +179,8 @@ fn put_items(out: &mut Vec<u8>, items: &BTreeMap<Text, Instance>) -> Result<(), 
 
 /// Adds the lines of arrivals.
 fn put_arrivals(out: &mut Vec<u8>, arrivals: &BTreeSet<(Text, Text)>) -> Result<(), AllocError>
-    ensures adds { OnOk result (AddsAll out.old.items out.new.items arrival_then arrivals.now.keys) }
+    ensures adds { OnOk result
+        (AddsAll out.old.items out.new.items arrival_then arrivals.now.keys) }
     ensures ordered { sorted.IsOrdered pair_cmp arrivals.now }
 {
     for at in arrivals {

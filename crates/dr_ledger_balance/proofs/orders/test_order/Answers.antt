@@ -7,4 +7,4 @@ pub loop-i-init : goal.loop-i-init
 loop-i-init g c = λ k d below. absurd (omega (arith, below))
 
 pub returns : goal.returns
-returns g c = all_rise g.L.Listed.order c.requires c.args.pieces.now c.loop-i.i (omega (arith, c.loop-i-test.false)) c.loop-i.invariant
+returns g c = all_rise g.S.Spelled.order c.requires c.args.pieces.now c.loop-i.i (omega (arith, c.loop-i-test.false)) c.loop-i.invariant

@@ -17,7 +17,7 @@ use std::alloc::{AllocError, Global};
 use std::cmp::Ordering;
 
 /// What a balance has a list of: each has a line of its own.
-pub trait Listed: Sized + Drop {
+pub trait Spelled: Sized + Drop {
     // which of them a program can have
     ghost fits: { Self → Type 0 };
 
@@ -37,7 +37,7 @@ pub trait Listed: Sized + Drop {
         ensures { result ≡ order self.now other.now };
 }
 
-impl Listed for Instance {
+impl Spelled for Instance {
     ghost fits = { FitsItem };
 
     ghost spelled = { item_then };
@@ -57,7 +57,7 @@ impl Listed for Instance {
     }
 }
 
-impl Listed for (Text, Text) {
+impl Spelled for (Text, Text) {
     ghost fits = { FitsArrival };
 
     ghost spelled = { arrival_then };
@@ -78,7 +78,7 @@ impl Listed for (Text, Text) {
     }
 }
 
-impl Listed for Text {
+impl Spelled for Text {
     ghost fits = { FitsField };
 
     ghost spelled = { kept_then };
@@ -98,7 +98,7 @@ impl Listed for Text {
     }
 }
 
-impl Listed for ((Text, Text), Progress) {
+impl Spelled for ((Text, Text), Progress) {
     ghost fits = { FitsRow };
 
     ghost spelled = { row_then };
