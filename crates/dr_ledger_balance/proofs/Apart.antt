@@ -86,19 +86,32 @@ syntax_apart s t a b p q e =
 -- ---- how far a row is
 
 -- a number by which words are told apart
-abbrev word_number : Text → ℕ
+abbrev pub word_number : Text → ℕ
 word_number text = get_or text 1 0 * 256 + get_or text 2 0
+
+-- those of a row that is held lie between those of others
+pub held_between : (c : Cause) (rest : Text) → (28000 < word_number (progress_then (progress.Held c) rest)) × (word_number (progress_then (progress.Held c) rest) < 30100)
+held_between (cause.Status s) rest = (omega arith, omega arith)
+held_between cause.NoContext rest = (omega arith, omega arith)
+held_between cause.Unreadable rest = (omega arith, omega arith)
+
+cause_apart : (c d : Cause) (a b : Text) → FitsProgress (progress.Held c) → FitsProgress (progress.Held d) → progress_then (progress.Held c) a ≡ progress_then (progress.Held d) b
+    → (progress.Held c ≡ progress.Held d) × (a ≡ b)
+cause_apart (cause.Status s) (cause.Status t) a b p q e =
+    let r = number_apart s t a b (omega (arith, p)) (omega (arith, q)) (ap (λ (l : List ℕ). drop 7 l) e) in
+    (ap (λ (n : ℕ). progress.Held (cause.Status n)) r.0, r.1)
+cause_apart cause.NoContext cause.NoContext a b p q e = (refl, ap (λ (l : List ℕ). drop 11 l) e)
+cause_apart cause.Unreadable cause.Unreadable a b p q e = (refl, ap (λ (l : List ℕ). drop 11 l) e)
+cause_apart c d a b p q e = absurd (omega (arith, ap word_number e))
 
 pub progress_apart : AreToldApart FitsProgress progress_then
 progress_apart (progress.Waiting t d) (progress.Waiting u f) a b p q e =
     let r = number_apart t u (number_then d a) (number_then f b) (omega (arith, p.0)) (omega (arith, q.0)) (ap (λ (l : List ℕ). drop 8 l) e) in
     let s = number_apart d f a b p.1 q.1 r.1 in
     (ap (λ (n : ℕ). progress.Waiting n d) r.0 ∙ ap (λ (n : ℕ). progress.Waiting u n) s.0, s.1)
-progress_apart (progress.Held (cause.Status s)) (progress.Held (cause.Status t)) a b p q e =
-    let r = number_apart s t a b (omega (arith, p)) (omega (arith, q)) (ap (λ (l : List ℕ). drop 7 l) e) in
-    (ap (λ (n : ℕ). progress.Held (cause.Status n)) r.0, r.1)
-progress_apart (progress.Held cause.NoContext) (progress.Held cause.NoContext) a b p q e = (refl, ap (λ (l : List ℕ). drop 11 l) e)
-progress_apart (progress.Held cause.Unreadable) (progress.Held cause.Unreadable) a b p q e = (refl, ap (λ (l : List ℕ). drop 11 l) e)
+progress_apart (progress.Held c) (progress.Held d) a b p q e = cause_apart c d a b p q e
+progress_apart (progress.Held c) y a b p q e = let l = held_between c a in absurd (omega (arith, l.0, l.1, ap word_number e))
+progress_apart x (progress.Held d) a b p q e = let l = held_between d b in absurd (omega (arith, l.0, l.1, ap word_number e))
 progress_apart progress.Done progress.Done a b p q e = (refl, ap (λ (l : List ℕ). drop 5 l) e)
 progress_apart progress.Dropped progress.Dropped a b p q e = (refl, ap (λ (l : List ℕ). drop 8 l) e)
 progress_apart x y a b p q e = absurd (omega (arith, ap word_number e))

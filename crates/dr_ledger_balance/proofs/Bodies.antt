@@ -67,7 +67,7 @@ no_row_on b row rest is = omega (arith, ap first is.1)
 
 -- ---- all kinds
 
-abbrev made : ℕ → List Instance → List Pair → List Text → List (Pair × Progress) → Balance
+abbrev pub made : ℕ → List Instance → List Pair → List Text → List (Pair × Progress) → Balance
 made count items arrivals kept rows = record { count = count; items = items; arrivals = arrivals; kept = kept; rows = rows }
 
 module _ (body t1 t2 t3 t4 : Text) (items : List Instance) (arrivals : List Pair) (kept : List Text) (rows : List (Pair × Progress))

@@ -15,7 +15,7 @@ use Rattle.dr_ledger.specs.declared.item.Progress.{Progress}
 use Rattle.dr_ledger.specs.declared.item.Progress.TheVariants as progress
 use Rattle.dr_ledger_balance.specs.Fields.{FitsField, FitsNumber, FitsProgress, digest_then, field_then, number_then, progress_then, syntax_then}
 use Rattle.dr_ledger_balance.specs.Pieces.{AreToldApart, HasNone, IsPiece}
-use Rattle.dr_ledger_balance.proofs.Apart.{digest_apart, field_apart, fits_digits, fits_uid, no_colon, number_apart, syntax_apart}
+use Rattle.dr_ledger_balance.proofs.Apart.{digest_apart, field_apart, fits_digits, fits_uid, held_between, no_colon, number_apart, syntax_apart, word_number}
 
 -- what is behind a piece that was cut off, where the text is told as another one
 pub behind : {X : Type 0} (Fits : X → Type 0) (spelled : X → Text → Text) → AreToldApart Fits spelled → (text : Text) (x y : X) (a b : Text)
@@ -97,10 +97,6 @@ module _ (text v more : Text) (cut : IsPiece FitsField field_then text v more) w
 abbrev No : Text → Text → Type 0
 No word text = (rest : Text) → text ≡ word ++ rest → ⊥
 
--- a number by which words are told apart
-abbrev word_number : Text → ℕ
-word_number text = get_or text 1 0 * 256 + get_or text 2 0
-
 pub no_progress : (text : Text) → No (codes " done") text → No (codes " dropped") text → No (codes " no-context") text → No (codes " unreadable") text
     → No (codes " status") text → No (codes " waiting") text → HasNone FitsProgress progress_then text
 no_progress text d r n u s w (progress.Waiting tries due) later is = w (number_then tries (number_then due later)) is.1
@@ -117,12 +113,14 @@ no_status text rest opens none p later is = absurd (omega (arith, ap word_number
 module _ (text rest : Text) (opens : text ≡ codes " waiting" ++ rest) where
   pub no_tries : HasNone (λ n. n < 2 ^ 32) number_then rest → HasNone FitsProgress progress_then text
   no_tries none (progress.Waiting tries due) later is = none tries (number_then due later) (is.0.0, ap (λ (l : List ℕ). drop 8 l) (sym opens ∙ is.1))
+  no_tries none (progress.Held c) later is = let l = held_between c later in absurd (omega (arith, l.0, l.1, ap word_number (sym opens ∙ is.1)))
   no_tries none p later is = absurd (omega (arith, ap word_number (sym opens ∙ is.1)))
 
   module _ (t : ℕ) (more : Text) (cut : IsPiece (λ n. n < 2 ^ 32) number_then rest t more) where
     pub no_due : HasNone FitsNumber number_then more → HasNone FitsProgress progress_then text
     no_due none (progress.Waiting tries due) later is =
         none due later (is.0.1, (number_apart t tries more (number_then due later) (omega (arith, cut.0)) (omega (arith, is.0.0)) (sym cut.1 ∙ ap (λ (l : List ℕ). drop 8 l) (sym opens ∙ is.1))).1)
+    no_due none (progress.Held c) later is = let l = held_between c later in absurd (omega (arith, l.0, l.1, ap word_number (sym opens ∙ is.1)))
     no_due none p later is = absurd (omega (arith, ap word_number (sym opens ∙ is.1)))
 
     pub waiting_there : (due : ℕ) (later : Text) → IsPiece FitsNumber number_then more due later → IsPiece FitsProgress progress_then text (progress.Waiting t due) later

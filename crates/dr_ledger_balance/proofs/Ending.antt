@@ -41,6 +41,12 @@ too_few bytes short body digits is =
     let l = length-append body (line_of digits) in
     omega (arith, all, l, short, line_long digits is.0)
 
+pub as_long : (bytes body line : Text) → bytes ≡ body ++ line → length body ≡ length bytes - 72 → 72 ≤ length bytes → length line ≡ 72
+as_long bytes body line whole front long =
+    let all : length bytes ≡ length (body ++ line) = ap (λ (l : List ℕ). length l) whole in
+    let l = length-append body line in
+    omega (arith, all, l, front, long)
+
 module _ (bytes body line : Text) (whole : bytes ≡ body ++ line) (long : length line ≡ 72) where
   line_is : (b d : Text) → EndsWithDigits bytes b d → line ≡ line_of d
   line_is b d is =

@@ -5,7 +5,7 @@
 //! their keys, how many lines of the journal made them, and the SHA-256 of all that. `read_balance`
 //! reads it again, and refuses each other text by name (`BalanceFault`). A text is of one balance
 //! (`laws`).
-#![tactic(none)]
+#![tactic(auto)]
 
 mod balance;
 mod fault;

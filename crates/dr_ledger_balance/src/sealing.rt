@@ -46,8 +46,10 @@ fn split_seal(bytes: &[u8]) -> Option<(&[u8], &[u8])>
     ensures { MatchOption result (IsCut bytes.now)
         (λ parts. EndsWithDigits bytes.now parts.0.now parts.1.now) }
 {
-    let at = bytes.len().checked_sub(SEAL)?;
-    let (body, line) = bytes.split_at(at);
+    if bytes.len() < SEAL {
+        return None;
+    }
+    let (body, line) = bytes.split_at(bytes.len() - SEAL);
     let behind = after(line, b"sha256 ")?;
     let digits = before(behind, b"\n")?;
     Some((body, digits))

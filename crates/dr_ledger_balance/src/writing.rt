@@ -1,14 +1,13 @@
 //! A balance, written as a text.
-ghost use Rattle.std.specs.Prelude.{◌≡◌, ◌++◌, ℕ, List, IfOk, OnOk};
+ghost use Rattle.std.specs.Prelude.{◌≡◌, ◌++◌, IfOk, OnOk};
 ghost use Rattle.std.specs.BTreeMap as tree;
 ghost use Rattle.std.specs.BTreeSet as sorted;
-ghost use Rattle.hex.specs.Hex.{encode_lower};
 ghost use Rattle.dr_base.specs.Texts.{text_cmp};
 ghost use Rattle.dr_ledger.specs.Pairs.{pair_cmp};
 ghost use Rattle.dr_ledger_balance.specs.Adding.{Adds, AddsAll, AreOrdered, balance_of, values_of};
 ghost use Rattle.dr_ledger_balance.specs.Balances.{balance_text};
 ghost use Rattle.dr_ledger_balance.specs.Fields.{digest_then, field_then, number_then};
-ghost use Rattle.dr_ledger_balance.specs.Fields.{progress_then, syntax_then};
+ghost use Rattle.dr_ledger_balance.specs.Fields.{progress_then};
 ghost use Rattle.dr_ledger_balance.specs.Spelling.{arrival_then, end_then, item_then, kept_then};
 ghost use Rattle.dr_ledger_balance.specs.Spelling.{key_then, row_then};
 
@@ -102,25 +101,33 @@ fn put_kept(out: &mut Vec<u8>, uid: &Text) -> Result<(), AllocError>
     Ok(())
 }
 
+/// Adds bytes as they are.
+fn put_literal(out: &mut Vec<u8>, bytes: &[u8]) -> Result<(), AllocError>
+    ensures { OnOk result (Adds out.old.items out.new.items (λ rest. bytes.now ++ rest)) }
+{
+    out.extend_from_slice(bytes)?;
+    Ok(())
+}
+
+/// Adds the status for which a row is held.
+fn put_status(out: &mut Vec<u8>, status: u16) -> Result<(), AllocError>
+    ensures { OnOk result (Adds out.old.items out.new.items
+        (progress_then (Progress.Held (Cause.Status status)))) }
+{
+    out.extend_from_slice(b" status")?;
+    put_number(out, u64::from(status))?;
+    Ok(())
+}
+
 /// Adds why a row is held.
 fn put_cause(out: &mut Vec<u8>, cause: Cause) -> Result<(), AllocError>
     ensures { OnOk result
         (Adds out.old.items out.new.items (progress_then (Progress.Held cause))) }
 {
     match cause {
-        Cause::Status(status) => {
-            out.extend_from_slice(b" status")?;
-            put_number(out, u64::from(status))?;
-            Ok(())
-        }
-        Cause::NoContext => {
-            out.extend_from_slice(b" no-context")?;
-            Ok(())
-        }
-        Cause::Unreadable => {
-            out.extend_from_slice(b" unreadable")?;
-            Ok(())
-        }
+        Cause::Status(status) => put_status(out, status),
+        Cause::NoContext => put_literal(out, b" no-context"),
+        Cause::Unreadable => put_literal(out, b" unreadable"),
     }
 }
 
@@ -142,14 +149,8 @@ fn put_progress(out: &mut Vec<u8>, progress: Progress) -> Result<(), AllocError>
     match progress {
         Progress::Waiting { tries, due } => put_waiting(out, tries, due),
         Progress::Held(cause) => put_cause(out, cause),
-        Progress::Done => {
-            out.extend_from_slice(b" done")?;
-            Ok(())
-        }
-        Progress::Dropped => {
-            out.extend_from_slice(b" dropped")?;
-            Ok(())
-        }
+        Progress::Done => put_literal(out, b" done"),
+        Progress::Dropped => put_literal(out, b" dropped"),
     }
 }
 

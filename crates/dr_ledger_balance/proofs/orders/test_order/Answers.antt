@@ -6,5 +6,11 @@ use Rattle.dr_ledger_balance.proofs.orders.test_order.Goals as goal
 pub loop-i-init : goal.loop-i-init
 loop-i-init g c = λ k d below. absurd (omega (arith, below))
 
+pub returns-in_err-test_pair : goal.returns-in_err-test_pair
+returns-in_err-test_pair g c = ?
+
+pub loop-i-preserved : goal.loop-i-preserved
+loop-i-preserved g c = ?
+
 pub returns : goal.returns
 returns g c = all_rise g.S.Spelled.order c.requires c.args.pieces.now c.loop-i.i (omega (arith, c.loop-i-test.false)) c.loop-i.invariant
