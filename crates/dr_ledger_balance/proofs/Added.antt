@@ -1,5 +1,6 @@
 -- What is added to a text, one behind the other.
 use Rattle.std.proofs.Common.{◌≡◌, ◌∙◌, ℕ, List, [], ◌∷◌, ◌++◌, refl, sym, ap, append_assoc}
+use Rattle.std.proofs.lemmas.List.{append-nil}
 use Rattle.dr_base.specs.Texts.{Text}
 use Rattle.dr_ledger_balance.specs.Adding.{Adds}
 use Rattle.dr_ledger_balance.specs.Pieces.{all_spelled}
@@ -27,3 +28,8 @@ module _ {X : Type 0} (spelled : X → Text → Text) (old : Text) (all : List X
 
   pub all_added : (out : Text) (left : List X) → Makes out left → left ≡ [] → (rest : Text) → out ++ rest ≡ old ++ all_spelled spelled all rest
   all_added out left so e rest = ap (λ (l : List X). out ++ all_spelled spelled l rest) (sym e) ∙ so rest
+
+-- five, one behind the other, from nothing on
+pub five_added : (a b c d e f : Text) (one two three four five : Text → Text) → a ≡ [] → Adds a b one → Adds b c two → Adds c d three → Adds d e four → Adds e f five → f ≡ one (two (three (four (five []))))
+five_added a b c d e f one two three four five none p q r s t =
+    sym (append-nil f) ∙ t [] ∙ s (five []) ∙ r (four (five [])) ∙ q (three (four (five []))) ∙ p (two (three (four (five [])))) ∙ ap (λ (l : Text). l ++ one (two (three (four (five []))))) none

@@ -1,5 +1,6 @@
 -- The lines of a balance, read.
-use Rattle.std.proofs.Common.{◌≡◌, ◌≢◌, ◌∙◌, ◌<◌, ◌≤◌, ◌^◌, ◌==◌, ℕ, List, [], ◌∷◌, ◌++◌, All, Result, Ok, Err, refl, sym, ap, subst, arith, get_or, length, codes}
+use Rattle.std.proofs.Common.{◌≡◌, ◌≢◌, ◌∙◌, ◌<◌, ◌≤◌, ◌^◌, ◌==◌, ℕ, List, [], ◌∷◌, ◌++◌, All, Bor, Option, None, Some, Result, Ok, Err, refl, sym, ap, subst, arith, get_or, length, codes}
+use Rattle.std.specs.Prelude.{MatchOption}
 use Rattle.std.proofs.lemmas.List.Elements.{All-nil, All-push}
 use Rattle.dr_base.specs.Texts.{Text}
 use Rattle.dr_ledger.specs.Pairs.{Pair}
@@ -7,7 +8,7 @@ use Rattle.dr_ledger.specs.declared.item.Instance.{Instance}
 use Rattle.dr_ledger.specs.declared.item.Progress.{Progress}
 use Rattle.dr_ledger_balance.specs.Balances.{FitsBalance, balance_text, body_of}
 use Rattle.dr_ledger_balance.specs.Fields.{FitsField, FitsNumber}
-use Rattle.dr_ledger_balance.specs.Pieces.{AreAll, HasNone, all_spelled}
+use Rattle.dr_ledger_balance.specs.Pieces.{AreAll, HasNone, IsPiece, all_spelled}
 use Rattle.dr_ledger_balance.specs.Reading.{HasNoBody}
 use Rattle.dr_ledger_balance.specs.Spelling.{FitsArrival, FitsItem, FitsRow, arrival_then, end_then, item_then, kept_then, row_then}
 use Rattle.dr_ledger_balance.specs.declared.balance.Balance.{Balance}
@@ -27,6 +28,17 @@ module _ {X : Type 0} (Fits : X → Type 0) (spelled : X → Text → Text) (tex
   pub one_more : (xs ys : List X) (x : X) (rest later : Text) → SoFar xs rest → Fits x × (rest ≡ spelled x later) → ys ≡ xs ++ x ∷ [] → SoFar ys later
   one_more xs ys x rest later so is e =
       subst (λ (l : List X). SoFar l later) (sym e) (All-push Fits xs x so.0 is.0, so.1 ∙ ap (λ (t : Text). all_spelled spelled xs t) is.1 ∙ sym (all_push spelled xs x later))
+
+-- what was cut off, by whether there was one
+module _ {X : Type 0} (Fits : X → Type 0) (spelled : X → Text → Text) (text : Text) where
+  abbrev Answers : Option (X × Bor (List ℕ)) → Type 0
+  Answers cut = MatchOption cut (HasNone Fits spelled text) (λ f. IsPiece Fits spelled text f.0 f.1.now)
+
+  pub piece_of : (cut : Option (X × Bor (List ℕ))) (x : X) (later : Bor (List ℕ)) → Answers cut → cut ≡ Some (x, later) → IsPiece Fits spelled text x later.now
+  piece_of cut x later h e = subst Answers e h
+
+  pub none_of : (cut : Option (X × Bor (List ℕ))) → Answers cut → cut ≡ None → HasNone Fits spelled text
+  none_of cut h e = subst Answers e h
 
 -- ---- which line is first
 
