@@ -1,8 +1,8 @@
 -- What reading answers, by what its steps do.
-use Rattle.std.proofs.Common.{◌≡◌, ◌∙◌, ◌≤◌, ℕ, Option, None, Some, Err, ap, subst}
+use Rattle.std.proofs.Common.{◌≡◌, ◌∙◌, ◌≤◌, ℕ, Option, Some, Err, ap, subst}
 use Rattle.std.specs.Prelude.{MatchOption}
 use Rattle.dr_base.specs.Texts.{Text}
-use Rattle.dr_ledger_balance.specs.Balances.{FitsBalance, balance_text, body_of}
+use Rattle.dr_ledger_balance.specs.Balances.{FitsBalance, body_of}
 use Rattle.dr_ledger_balance.specs.Reading.{AnswersOrders, HasNoBody, IsTextOf, Reads}
 use Rattle.dr_ledger_balance.specs.Sealing.{AnswersBody, sealed}
 use Rattle.dr_ledger_balance.specs.declared.balance.Balance.{Balance}

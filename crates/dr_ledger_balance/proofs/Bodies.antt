@@ -1,5 +1,5 @@
 -- The lines of a balance, read.
-use Rattle.std.proofs.Common.{◌≡◌, ◌≢◌, ◌∙◌, ◌<◌, ◌≤◌, ◌^◌, ◌==◌, ℕ, List, [], ◌∷◌, ◌++◌, All, Bor, Option, None, Some, Result, Ok, Err, refl, sym, ap, subst, arith, get_or, length, codes}
+use Rattle.std.proofs.Common.{◌≡◌, ◌≢◌, ◌∙◌, ℕ, List, [], ◌∷◌, ◌++◌, All, Bor, Option, None, Some, refl, sym, ap, subst, arith, get_or}
 use Rattle.std.specs.Prelude.{MatchOption}
 use Rattle.std.proofs.lemmas.List.Elements.{All-nil, All-push}
 use Rattle.dr_base.specs.Texts.{Text}

@@ -1,5 +1,5 @@
 -- Fields, cut off the front of a text.
-use Rattle.std.proofs.Common.{◌≡◌, ◌≢◌, ◌∙◌, ◌<◌, ◌≤◌, ◌+◌, ◌*◌, ◌^◌, ℕ, List, [], ◌∷◌, ◌++◌, All, refl, sym, ap, subst, arith, drop, get_or, length, codes, decimal}
+use Rattle.std.proofs.Common.{◌≡◌, ◌≢◌, ◌∙◌, ◌<◌, ◌≤◌, ◌^◌, ℕ, List, ◌∷◌, ◌++◌, refl, sym, ap, subst, arith, drop, length, codes, decimal}
 use Rattle.std.proofs.lemmas.List.{length-append}
 use Rattle.std.proofs.lemmas.List.Elements.{All-head}
 use Rattle.hex.specs.Hex.{encode_lower}
@@ -11,11 +11,10 @@ use Rattle.dr_cert_text.specs.Cuts.{Lacks, SplitsAt}
 use Rattle.dr_cert_text.specs.Printable.{IsDigest}
 use Rattle.dr_cert_text.proofs.Splits.{All-back, unsplit}
 use Rattle.dr_ledger.specs.declared.item.Cause.TheVariants as cause
-use Rattle.dr_ledger.specs.declared.item.Progress.{Progress}
 use Rattle.dr_ledger.specs.declared.item.Progress.TheVariants as progress
 use Rattle.dr_ledger_balance.specs.Fields.{FitsField, FitsNumber, FitsProgress, digest_then, field_then, number_then, progress_then, syntax_then}
 use Rattle.dr_ledger_balance.specs.Pieces.{AreToldApart, HasNone, IsPiece}
-use Rattle.dr_ledger_balance.proofs.Apart.{digest_apart, field_apart, fits_digits, fits_uid, held_between, no_colon, number_apart, syntax_apart, word_number}
+use Rattle.dr_ledger_balance.proofs.Apart.{field_apart, fits_digits, fits_uid, held_between, no_colon, number_apart, word_number}
 
 -- what is behind a piece that was cut off, where the text is told as another one
 pub behind : {X : Type 0} (Fits : X → Type 0) (spelled : X → Text → Text) → AreToldApart Fits spelled → (text : Text) (x y : X) (a b : Text)

@@ -1,12 +1,12 @@
 -- The line of a SHA-256 at the end of a text.
-use Rattle.std.proofs.Common.{◌≡◌, ◌∙◌, ◌+◌, ◌-◌, ◌*◌, ◌<◌, ◌≤◌, ℕ, List, [], ◌∷◌, ◌++◌, Result, Ok, Err, refl, sym, ap, subst, arith, append_assoc, drop, length, codes}
+use Rattle.std.proofs.Common.{◌≡◌, ◌∙◌, ◌-◌, ◌<◌, ◌≤◌, ℕ, List, [], ◌∷◌, ◌++◌, sym, ap, arith, append_assoc, drop, length, codes}
 use Rattle.std.proofs.lemmas.List.{length-append}
 use Rattle.hex.specs.Hex.{encode_lower, lower_digits}
 use Rattle.hex.proofs.HexLemmas.{length-encode_with}
 use Rattle.sha2.specs.Sha256.{sha256}
 use Rattle.sha2.proofs.Facts256.{length-sha256}
 use Rattle.dr_base.specs.Texts.{Text}
-use Rattle.dr_ledger_balance.specs.Sealing.{EndsWithDigits, IsChanged, IsCut, sealed, with_digits}
+use Rattle.dr_ledger_balance.specs.Sealing.{EndsWithDigits, IsCut, sealed, with_digits}
 use Rattle.dr_ledger_balance.proofs.Apart.{same_front}
 use Rattle.dr_ledger_balance.proofs.Lines.{said}
 

@@ -1,7 +1,5 @@
 -- Facts of balances: what is written is read, and lines have one balance.
-use Rattle.std.proofs.Common.{◌≡◌, ◌∙◌, ◌+◌, ◌<◌, ◌≤◌, ◌⊎◌, ℕ, List, [], ◌∷◌, ◌++◌, All, Result, Ok, Err, inl, inr, refl, sym, ap, subst, arith, get_or, length, map as mapped}
-use Rattle.std.specs.BTreeMap as tree
-use Rattle.std.specs.BTreeSet as sorted
+use Rattle.std.proofs.Common.{◌≡◌, ◌∙◌, ◌+◌, ◌≤◌, ℕ, List, [], ◌∷◌, All, Result, Ok, Err, inl, inr, refl, sym, ap, subst, arith, get_or, map as mapped}
 use Rattle.std.specs.FinMap as map
 use Rattle.std.specs.FinSet as set
 use Rattle.std.specs.List.{AllByRecursion}
@@ -15,17 +13,16 @@ use Rattle.std.proofs.lemmas.Map.Keys.{Less-from_sorted}
 use Rattle.hex.specs.Hex.{encode_lower}
 use Rattle.sha2.specs.Sha256.{sha256}
 use Rattle.dr_base.specs.Texts.{Text, text_cmp}
-use Rattle.dr_ledger.specs.Books.{Fold, Line}
 use Rattle.dr_ledger.specs.Pairs.{Pair, pair_cmp}
 use Rattle.dr_ledger.specs.declared.item.Instance.{Instance}
 use Rattle.dr_ledger.specs.declared.item.Progress.{Progress}
 use Rattle.dr_ledger.proofs.Maps.{text_pairs, texts}
-use Rattle.dr_ledger_history.specs.Contents.{Content, content_of}
+use Rattle.dr_ledger_history.specs.Contents.{Content}
 use Rattle.dr_ledger_history.proofs.Ordered.{one_map, one_set}
-use Rattle.dr_ledger_balance.specs.Adding.{AreOrdered, balance_of, values_of}
+use Rattle.dr_ledger_balance.specs.Adding.{values_of}
 use Rattle.dr_ledger_balance.specs.Balances.{FitsBalance, IsInOrder, balance_text, body_of}
-use Rattle.dr_ledger_balance.specs.Contents.{AreUnderTheirUids, IsBalanceOf, by_uid, content_in, held_in}
-use Rattle.dr_ledger_balance.specs.Laws.{Gave, LinesHaveOneBalance, TreesAreSaid, BalancesAreReadAgain}
+use Rattle.dr_ledger_balance.specs.Contents.{by_uid, content_in}
+use Rattle.dr_ledger_balance.specs.Laws.{Gave, LinesHaveOneBalance, TreesAreSaid}
 use Rattle.dr_ledger_balance.specs.Orders.{HasNeighbors, item_cmp, row_cmp}
 use Rattle.dr_ledger_balance.specs.Reading.{HasSomewhere, IsMisplaced, Reads}
 use Rattle.dr_ledger_balance.specs.declared.balance.Balance.{Balance}

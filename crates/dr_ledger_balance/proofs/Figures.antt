@@ -1,29 +1,22 @@
 -- Figures of balances as text.
-use Rattle.std.proofs.Common.{◌≡◌, ◌≢◌, ◌∙◌, ◌+◌, ◌<◌, ◌≤◌, ◌^◌, ◌⊎◌, ◌&&◌, Bool, true, nat_lt, ℕ, List, [], ◌∷◌, ◌++◌, All, inl, inr, refl, sym, ap, subst, arith, get_or, length, codes, decimal, slice_index, Err}
+use Rattle.std.proofs.Common.{◌≡◌, ◌≢◌, ◌∙◌, ◌<◌, ◌^◌, ◌&&◌, Bool, true, nat_lt, ℕ, List, [], ◌∷◌, All, inl, inr, refl, sym, ap, subst, arith, get_or, length, codes, decimal, slice_index}
 use Rattle.std.specs.Prelude.{IsAscii, replicate}
 use Rattle.std.specs.Fmt.{digits}
 use Rattle.std.specs.Str.Parse.{digits_value}
-use Rattle.std.specs.declared.cmp.Ordering.TheVariants.{Equal, Greater}
 use Rattle.std.proofs.lemmas.Bool.{and_parts, ltb-true}
 use Rattle.std.proofs.lemmas.Fmt.{decimal_is_IsNumeral}
-use Rattle.std.proofs.lemmas.List.Elements.{All-cons, All-head, All-nil}
+use Rattle.std.proofs.lemmas.List.Elements.{All-cons, All-nil}
 use Rattle.std.proofs.lemmas.Str.Ascii.{IsAscii-cons, IsAscii-nil}
 use Rattle.hex.specs.Hex.{encode_lower, lower_digits}
 use Rattle.hex.proofs.HexLemmas.{IsAscii-encode_with}
-use Rattle.hex.proofs.OnLiterals.{hex_on_literals}
 use Rattle.sha2.specs.Sha256.{sha256}
 use Rattle.dr_base.specs.Numbers.{IsNumeral}
-use Rattle.dr_base.specs.Texts.{Text, text_cmp}
-use Rattle.dr_cert_text.specs.Cuts.{Lacks}
-use Rattle.dr_ledger.specs.Pairs.{Pair}
-use Rattle.dr_ledger.specs.declared.item.Instance.{Instance}
-use Rattle.dr_ledger.specs.declared.item.Progress.{Progress}
-use Rattle.dr_ledger_balance.specs.Balances.{FitsBalance, body_of}
+use Rattle.dr_base.specs.Texts.{Text}
+use Rattle.dr_ledger_balance.specs.Balances.{FitsBalance}
 use Rattle.dr_ledger_balance.specs.Fields.{FitsField, FitsNumber}
-use Rattle.dr_ledger_balance.specs.Laws.{RefusalsCanCome, BalanceFiguresAreRight, of_kept}
-use Rattle.dr_ledger_balance.specs.Orders.{HasNeighbors}
+use Rattle.dr_ledger_balance.specs.Laws.{RefusalsCanCome, of_kept}
 use Rattle.dr_ledger_balance.specs.Pieces.{AreAll, HasNone}
-use Rattle.dr_ledger_balance.specs.Reading.{HasNoBody, Reads}
+use Rattle.dr_ledger_balance.specs.Reading.{HasNoBody}
 use Rattle.dr_ledger_balance.specs.Spelling.{FitsArrival, FitsItem, FitsRow, arrival_then, end_then, item_then, kept_then, row_then}
 use Rattle.dr_ledger_balance.proofs.Bodies.{goes_on, no_end}
 use Rattle.dr_ledger_balance.proofs.Cutting.{no_numeral}

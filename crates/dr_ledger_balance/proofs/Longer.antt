@@ -1,5 +1,5 @@
 -- A line is longer than what is behind it.
-use Rattle.std.proofs.Common.{◌≡◌, ◌<◌, ◌≤◌, ◌+◌, ℕ, List, ◌∷◌, ◌++◌, arith, length, codes, decimal}
+use Rattle.std.proofs.Common.{◌<◌, ℕ, ◌∷◌, ◌++◌, arith, length, decimal}
 use Rattle.std.proofs.lemmas.List.{length-append}
 use Rattle.dr_base.specs.Texts.{Text}
 use Rattle.dr_base.specs.Syntaxes.{syntax_uid}
@@ -10,7 +10,7 @@ use Rattle.dr_ledger.specs.declared.item.Instance.{Instance}
 use Rattle.dr_ledger.specs.declared.item.Progress.{Progress}
 use Rattle.dr_ledger.specs.declared.item.Progress.TheVariants as progress
 use Rattle.dr_ledger_balance.specs.Fields.{digest_then, field_then, number_then, progress_then, syntax_then}
-use Rattle.dr_ledger_balance.specs.Spelling.{arrival_then, item_then, kept_then, key_then, row_then}
+use Rattle.dr_ledger_balance.specs.Spelling.{arrival_then, item_then, kept_then, row_then}
 
 number_longer : (n : ℕ) (rest : Text) → length rest < length (number_then n rest)
 number_longer n rest = let l = length-append (decimal n) (58 ∷ rest) in omega (arith, l)

@@ -1,5 +1,5 @@
 -- Lists each of whose values comes before the next.
-use Rattle.std.proofs.Common.{◌≡◌, ◌∙◌, ◌+◌, ◌-◌, ◌<◌, ◌≤◌, ℕ, List, [], ◌∷◌, Result, Ok, Err, inl, inr, refl, sym, ap, subst, arith, get_or, length}
+use Rattle.std.proofs.Common.{◌≡◌, ◌∙◌, ◌+◌, ◌-◌, ◌<◌, ◌≤◌, ℕ, List, [], ◌∷◌, Err, inl, inr, sym, ap, subst, arith, get_or, length}
 use Rattle.std.specs.Cmp.{IsTotalOrder}
 use Rattle.std.specs.List.Sorted.{IsStrictlySortedBy}
 use Rattle.std.specs.declared.cmp.Ordering.{Ordering}
@@ -13,7 +13,6 @@ use Rattle.dr_ledger.specs.Pairs.{Pair, pair_cmp}
 use Rattle.dr_ledger.specs.declared.item.Instance.{Instance}
 use Rattle.dr_ledger.specs.declared.item.Progress.{Progress}
 use Rattle.dr_ledger.proofs.Maps.{text_pairs}
-use Rattle.dr_ledger_balance.specs.Balances.{IsInOrder}
 use Rattle.dr_ledger_balance.specs.Orders.{AnswersOrder, AnswersPair, HasNeighbors, item_cmp, row_cmp}
 use Rattle.dr_ledger_balance.specs.Reading.{AnswersOrders}
 use Rattle.dr_ledger_balance.specs.declared.balance.Balance.{Balance}

@@ -1,5 +1,5 @@
 -- What a balance says that the first lines of a journal made.
-use Rattle.std.specs.Prelude.{◌≡◌, ℕ, List, All, length, map as mapped}
+use Rattle.std.specs.Prelude.{◌≡◌, List, All, length, map as mapped}
 use Rattle.std.specs.BTreeMap as tree
 use Rattle.std.specs.BTreeSet as sorted
 use Rattle.std.specs.FinMap as map

@@ -1,5 +1,5 @@
 -- Lines of a balance, each with what is behind it.
-use Rattle.std.specs.Prelude.{ℕ, ◌<◌, ◌^◌, ◌∷◌, ◌++◌, codes}
+use Rattle.std.specs.Prelude.{ℕ, ◌∷◌, ◌++◌, codes}
 use Rattle.dr_base.specs.Texts.{Text}
 use Rattle.dr_route.specs.declared.key.Key.{Key}
 use Rattle.dr_cert_text.specs.Printable.{IsDigest}

@@ -1,4 +1,3 @@
-use Rattle.std.proofs.Common.{arith}
 use Rattle.dr_ledger_balance.proofs.Cutting.{field_there, no_field, too_short}
 use Rattle.dr_ledger_balance.proofs.fields.cut_field.Goals as goal
 

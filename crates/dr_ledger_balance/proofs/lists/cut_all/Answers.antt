@@ -1,4 +1,4 @@
-use Rattle.std.proofs.Common.{◌≡◌, List, ℕ, ap, arith, length}
+use Rattle.std.proofs.Common.{List, ℕ, ap, arith, length}
 use Rattle.dr_ledger_balance.proofs.Bodies.{none_of, none_so_far, one_more, piece_of}
 use Rattle.dr_ledger_balance.proofs.lists.cut_all.Goals as goal
 

@@ -1,4 +1,4 @@
-use Rattle.std.proofs.Common.{eqb, length, ◌∙◌, sym, ap, false, true, ◌≡◌}
+use Rattle.std.proofs.Common.{eqb, length, ◌∙◌, sym, ap}
 use Rattle.std.proofs.lemmas.Bool.{eqb-true, true≢false}
 use Rattle.std.proofs.lemmas.List.{nil_from_length}
 use Rattle.dr_ledger_balance.proofs.Bodies.{body_there, goes_on, no_end}

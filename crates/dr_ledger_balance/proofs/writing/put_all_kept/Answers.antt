@@ -1,4 +1,3 @@
-use Rattle.std.proofs.Common.{◌≡◌, ◌++◌, List, ap, rules}
 use Rattle.dr_ledger_balance.specs.Spelling.{kept_then}
 use Rattle.dr_ledger_balance.proofs.Added.{all_added, one_added}
 use Rattle.dr_ledger_balance.proofs.writing.put_all_kept.Goals as goal

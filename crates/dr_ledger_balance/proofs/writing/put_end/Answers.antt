@@ -1,4 +1,4 @@
-use Rattle.std.proofs.Common.{◌∙◌, ◌∷◌, ◌++◌, codes}
+use Rattle.std.proofs.Common.{◌∙◌, ◌∷◌, codes}
 use Rattle.dr_ledger_balance.specs.Fields.{number_then}
 use Rattle.dr_ledger_balance.proofs.Added.{extended, pushed}
 use Rattle.dr_ledger_balance.proofs.writing.put_end.Goals as goal

@@ -1,4 +1,4 @@
-use Rattle.std.proofs.Common.{◌∙◌, ◌∷◌, ◌++◌, codes}
+use Rattle.std.proofs.Common.{◌∙◌, ◌∷◌, codes}
 use Rattle.dr_ledger_balance.specs.Fields.{digest_then, field_then, number_then}
 use Rattle.dr_ledger_balance.specs.Spelling.{key_then}
 use Rattle.dr_ledger_balance.proofs.Added.{extended, pushed}

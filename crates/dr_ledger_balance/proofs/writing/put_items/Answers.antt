@@ -1,4 +1,4 @@
-use Rattle.std.proofs.Common.{◌≡◌, ◌++◌, List, ap, rules}
+use Rattle.std.proofs.Common.{ap}
 use Rattle.dr_ledger_balance.specs.Spelling.{item_then}
 use Rattle.dr_ledger_balance.proofs.Added.{all_added, one_added}
 use Rattle.dr_ledger_balance.specs.Adding.{values_of}
