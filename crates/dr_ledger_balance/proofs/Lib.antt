@@ -8,4 +8,5 @@ mod Facts
 mod Figures
 mod Lines
 mod Longer
+mod Onto
 mod Rising

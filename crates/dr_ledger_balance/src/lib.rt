@@ -19,9 +19,11 @@ mod progress;
 mod reading;
 mod sealing;
 mod spelled;
+mod trees;
 mod writing;
 
 pub use balance::Balance;
 pub use fault::BalanceFault;
 pub use reading::read_balance;
+pub use trees::{BalanceTrees, trees_of};
 pub use writing::put_balance;
