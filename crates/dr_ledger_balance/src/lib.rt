@@ -4,7 +4,7 @@
 //! `put_balance` writes one: a line for each instance, arrival, kept uid and row, in the order of
 //! their keys, how many lines of the journal made them, and the SHA-256 of all that. `read_balance`
 //! reads it again, and refuses each other text by name (`BalanceFault`). A text is of one balance
-//! (`laws`).
+//! (`laws`). `trees_of` makes trees of what was read, for a history that goes on from it.
 #![tactic(auto)]
 
 mod balance;
