@@ -1,5 +1,5 @@
 -- Maps and sets of lists whose last elements are put in first.
-use Rattle.std.proofs.Common.{◌≡◌, ◌∙◌, ◌-◌, ℕ, take, List, [], ◌∷◌, ◌++◌, Option, Some, map as mapped, refl, sym, ap, subst}
+use Rattle.std.proofs.Common.{◌≡◌, ◌∙◌, ◌-◌, ℕ, take, List, [], ◌∷◌, ◌++◌, Option, Some, map as mapped, refl, sym, ap}
 use Rattle.std.proofs.lemmas.List.{append-nil}
 use Rattle.std.specs.declared.cmp.Ordering.{Ordering}
 use Rattle.std.specs.Prelude.{option_to_list}

@@ -1,6 +1,5 @@
 use Rattle.std.proofs.Common.{ap, ◌∙◌, vec_len}
 use Rattle.std.specs.FinMap as map
-use Rattle.dr_ledger.specs.Pairs.{pair_cmp}
 use Rattle.dr_ledger_balance.proofs.Onto.{all_put, begun, emptied, one_put, popped}
 use Rattle.dr_ledger_balance.proofs.trees.rows_tree.Goals as goal
 
