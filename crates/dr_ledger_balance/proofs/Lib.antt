@@ -1,0 +1,12 @@
+mod Added
+mod Answered
+mod Apart
+mod Bodies
+mod Cutting
+mod Ending
+mod Facts
+mod Figures
+mod Lines
+mod Longer
+mod Onto
+mod Rising

@@ -1,0 +1,14 @@
+use Rattle.std.proofs.Common.{◌∙◌, ◌∷◌, codes}
+use Rattle.dr_ledger_balance.specs.Fields.{field_then}
+use Rattle.dr_ledger_balance.proofs.Added.{extended, pushed}
+use Rattle.dr_ledger_balance.proofs.writing.put_arrival.Goals as goal
+
+pub returns : goal.returns
+returns c = λ rest.
+    let at = c.args.at.now in
+    let two = 10 ∷ rest in
+    let one = field_then at.1 two in
+    pushed c.put_field-2.new.out.items c.push.new.self.items 10 c.in_ok-push.ensures.items rest
+    ∙ c.in_ok-put_field-2.ensures two
+    ∙ c.in_ok-put_field.ensures one
+    ∙ extended c.args.out.now.items c.extend_from_slice.new.self.items (codes "arrival") c.in_ok-extend_from_slice.ensures.items (field_then at.0 one)

@@ -1,0 +1,11 @@
+pub mod Adding
+pub mod Balances
+pub mod Contents
+pub mod Fields
+pub mod Laws
+pub mod Orders
+pub mod Pieces
+pub mod Places
+pub mod Reading
+pub mod Sealing
+pub mod Spelling
