@@ -1,5 +1,5 @@
 //! Whether lists are in the order of their keys.
-ghost use Rattle.std.specs.Prelude.{◌≡◌, ◌⊎◌, Result as ResultValue, Ok as IsOk, Err as IsErr};
+ghost use Rattle.std.specs.Prelude.{◌≡◌, ◌⊎◌};
 ghost use Rattle.std.specs.Cmp.{IsTotalOrder};
 ghost use Rattle.std.specs.declared.cmp.Ordering.TheVariants as order;
 ghost use Rattle.dr_ledger_balance.specs.Orders.{AnswersOrder, AnswersPair};
