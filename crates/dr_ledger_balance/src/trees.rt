@@ -31,7 +31,7 @@ pub struct BalanceTrees {
 fn let_go<T: Drop>(_value: T) {}
 
 /// Puts an instance under its uid.
-fn put_item(tree: &mut BTreeMap<Text, Instance>, item: Instance) -> Result<(), AllocError>
+fn insert_item(tree: &mut BTreeMap<Text, Instance>, item: Instance) -> Result<(), AllocError>
     ensures { OnOk result (as_map text_cmp tree.new
         ≡ map.insert (as_map text_cmp tree.old) item.uid item) }
 {
@@ -49,13 +49,13 @@ fn items_tree(alloc: Global, items: Seq<Instance>) -> Result<BTreeMap<Text, Inst
     let mut left = items.into_vec();
     let mut tree = BTreeMap::new(alloc);
     while let Some(item) = left.pop() {
-        put_item(&mut tree, item)?;
+        insert_item(&mut tree, item)?;
     }
     Ok(tree)
 }
 
 /// Puts a row in.
-fn put_row(
+fn insert_row(
     tree: &mut BTreeMap<(Text, Text), Progress>,
     row: ((Text, Text), Progress),
 ) -> Result<(), AllocError>
@@ -77,7 +77,7 @@ fn rows_tree(
     let mut left = rows.into_vec();
     let mut tree = BTreeMap::new(alloc);
     while let Some(row) = left.pop() {
-        put_row(&mut tree, row)?;
+        insert_row(&mut tree, row)?;
     }
     Ok(tree)
 }

@@ -9,9 +9,9 @@ loop-item-init c = begun c.new-tree.result (mapped by_uid c.into_vec-left.result
 
 pub loop-item-preserved : goal.loop-item-preserved
 loop-item-preserved c =
-    one_put c.loop-item.tree c.put_item.new.tree (mapped by_uid c.loop-item.left.items) (mapped by_uid c.pop.new.self.items) (by_uid c.in-Some.item) (map.from_entries (mapped by_uid c.args.items)) c.loop-item.invariant
+    one_put c.loop-item.tree c.insert_item.new.tree (mapped by_uid c.loop-item.left.items) (mapped by_uid c.pop.new.self.items) (by_uid c.in-Some.item) (map.from_entries (mapped by_uid c.args.items)) c.loop-item.invariant
     (ap (λ l. mapped by_uid l) (popped c.loop-item.left.items c.pop.new.self.items c.pop.result c.in-Some.item c.pop.ensures.items c.in-Some.is) ∙ mapped_push by_uid c.pop.new.self.items c.in-Some.item)
-    c.in_ok-put_item.ensures
+    c.in_ok-insert_item.ensures
 
 pub returns : goal.returns
 returns c =

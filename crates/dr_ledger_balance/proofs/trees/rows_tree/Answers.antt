@@ -8,8 +8,8 @@ loop-row-init c = begun c.new-tree.result c.into_vec-left.result.items c.new-tre
 
 pub loop-row-preserved : goal.loop-row-preserved
 loop-row-preserved c =
-    one_put c.loop-row.tree c.put_row.new.tree c.loop-row.left.items c.pop.new.self.items c.in-Some.row (map.from_entries c.args.rows) c.loop-row.invariant
-    (popped c.loop-row.left.items c.pop.new.self.items c.pop.result c.in-Some.row c.pop.ensures.items c.in-Some.is) c.in_ok-put_row.ensures
+    one_put c.loop-row.tree c.insert_row.new.tree c.loop-row.left.items c.pop.new.self.items c.in-Some.row (map.from_entries c.args.rows) c.loop-row.invariant
+    (popped c.loop-row.left.items c.pop.new.self.items c.pop.result c.in-Some.row c.pop.ensures.items c.in-Some.is) c.in_ok-insert_row.ensures
 
 pub returns : goal.returns
 returns c = all_put c.loop-row.tree c.loop-row.left.items (map.from_entries c.args.rows) c.loop-row.invariant

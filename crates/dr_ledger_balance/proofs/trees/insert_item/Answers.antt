@@ -4,7 +4,7 @@ use Rattle.dr_base.specs.Texts.{text_cmp}
 use Rattle.dr_ledger.proofs.Maps.{texts}
 use Rattle.dr_ledger_history.specs.Trees.{as_map}
 use Rattle.dr_ledger_history.proofs.Mapped.{put_at}
-use Rattle.dr_ledger_balance.proofs.trees.put_item.Goals as goal
+use Rattle.dr_ledger_balance.proofs.trees.insert_item.Goals as goal
 
 pub returns : goal.returns
 returns c =
