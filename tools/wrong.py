@@ -31,6 +31,8 @@ from libraries import made_for
 LIMITS = re.compile(r"antt ran out of (stack|the (steps|memory))|(outgrew the memory limit|stopped at the step limit) \(")
 # A proof that names what an edit took away: such a refusal says little of the contract.
 BY_NAME = re.compile(r"(note: )?(\./)?proofs/.*(has no field|is not in scope|has no `|was not admitted)")
+# The reason that is told of a function which is fine by itself.
+CALLEE = "no proof: it calls "
 FUNCTION = re.compile(r"^(\s*)(?:pub(?:\([^)]*\))? )?(?:final )?(?:const )?(?:unsafe )?(?:extern \"C\" )?fn (\w+)")
 
 
@@ -310,7 +312,11 @@ def reason(lines):
 def judge(edit, status, lines, crate):
     """What a check came to for an edit of functions."""
     refused = refused_among(lines, crate)
-    own = {name: why for name, why in refused.items() if any(is_own(name, it) for it in edit.functions)}
+    # What isn't proved for what it calls alone says nothing of the edit: another one may have changed that.
+    own = {
+        name: why for name, why in refused.items()
+        if any(is_own(name, it) for it in edit.functions) and not why.startswith(CALLEE)
+    }
     if own:
         name, why = next(iter(own.items()))
         by_limit = "by a limit of the prover, " if status == 3 and any(LIMITS.search(it) for it in lines) else ""
@@ -422,11 +428,13 @@ def try_all(edits, tell=lambda crate, results: None):
 
 def try_itself():
     """Whether the tester sees what it must: an edit that means the same, one that breaks another function than its own, one that doesn't
-    compile, one that can't be applied, two that can't be read (a text on two lines, a text that stays), and one that is refused. Of a
-    definition one that the law refuses that it names, and one that another law refuses; one that names no law that is there; and a
-    body's edit that names one."""
+    compile, one that can't be applied, two that can't be read (a text on two lines, a text that stays), and one that is refused; and one
+    that calls what that one changes, tried together with it. Of a definition one that the law refuses that it names, and one that
+    another law refuses; one that names no law that is there; and a body's edit that names one."""
     paths = sorted(f"{TOP}/tests/tester/dr_base/{it}" for it in os.listdir(f"{TOP}/tests/tester/dr_base"))
     results = try_all({"dr_base": paths})
+    together = [it for it in paths if it.endswith(("/proved_for_it_calls_a_refused_one.edit", "/refused_tab_is_padding.edit"))]
+    results |= try_all({"dr_base": together})
     wanted = {path: os.path.basename(path).startswith("refused_") for path in paths}
     wrong = [it for it in paths if results[it].refused != wanted[it]]
     for path in wrong:
