@@ -1,0 +1,4 @@
+pub mod Pages
+pub mod Shows
+pub mod Told
+pub mod Written
