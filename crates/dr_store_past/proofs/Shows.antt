@@ -4,6 +4,7 @@ use Rattle.std.proofs.Common.{refl, sym, ◌∙◌, ap, subst, arith, length-tak
 use Rattle.std.proofs.lemmas.List.{append_assoc, append-nil, drop_at, drop-take, length-append, length-map, map-append, take-take, take_all, take_at}
 use Rattle.std.proofs.lemmas.List.Elements.{All-append, All-contains, All-drop, All-nil, All-take}
 use Rattle.dr_ledger.specs.Books.{Line}
+use Rattle.sqlite_disk.specs.declared.Disk.{Ghosts}
 use Rattle.sqlite_disk.specs.Disk.{Holds}
 use Rattle.dr_store_sealed.specs.declared.seal.Seal.{Seal}
 use Rattle.dr_store_sealed.specs.Files.{Endures, HasLines, HasRightLines, Spans}
@@ -319,15 +320,17 @@ one_past all other seen seal it its =
     (parts.0 ∙ ap (texts_behind 0) (take_all seal.count it.lines (omega (arith, own)))) in
     sym it.said ∙ sym same ∙ its.said
 
-pub goes_on : WrittenGoesOn
-goes_on seen may seal last before lines it more = holds_more seen may seal before lines last it more
+pub goes_on : {D : Type 0} (g : Ghosts D) → WrittenGoesOn g
+goes_on g file seal last before lines it more = holds_more (g.seen file) (g.may_leave file) seal before lines last it more
 
 left_has : (seen left : List ℕ) (may : List ℕ → Type 0) (seal : Seal) (lines : List PastLine) → HasWrittenIn seen may first_seal lines seal → may left
     → HasLines left first_seal (texts_behind 0 lines) seal
 left_has seen left may seal lines it there = record { spans = it.spans; bytes = it.endures.after_crash left there }
 
-pub either : CrashLeavesEither
-either seen left may seal last before lines it more there =
+pub either : {D : Type 0} (g : Ghosts D) → CrashLeavesEither g
+either g file left seal last before lines it more there =
+    let seen = g.seen file in
+    let may = g.may_leave file in
     record {
       old = left_has seen left may seal before it there;
       new = left_has seen left may last (before ++ lines) (holds_more seen may seal before lines last it more) there;

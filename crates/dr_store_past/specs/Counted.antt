@@ -1,5 +1,5 @@
 -- A past that is shown has no more lines than there are.
-use Rattle.std.proofs.Common.{◌≡◌, ◌+◌, ◌≤◌, ℕ, List, [], ◌∷◌, length, take, map as mapped, refl, sym, ◌∙◌, ap, arith}
+use Rattle.std.proofs.Common.{◌≡◌, ◌+◌, ◌≤◌, ℕ, suc, List, [], ◌∷◌, length, take, map as mapped, refl, sym, ◌∙◌, ap, arith}
 use Rattle.std.proofs.Common.{length-take}
 use Rattle.std.proofs.lemmas.List.{length-map}
 use Rattle.dr_ledger.specs.Books.{Line}
@@ -12,7 +12,7 @@ use Rattle.dr_store_past.specs.Shown.{ShowsPast}
 
 pub texts_size : (n : ℕ) (xs : List PastLine) → length (texts_behind n xs) ≡ length xs
 texts_size n [] = refl
-texts_size n (x ∷ xs) = ap (λ k. k + 1) (texts_size (n + 1) xs)
+texts_size n (x ∷ xs) = ap suc (texts_size (n + 1) xs)
 
 -- the seal counts the lines
 pub shown_count : (all : List Line) (seen : List ℕ) (seal : Seal) (it : ShowsPast all seen seal)

@@ -14,7 +14,7 @@ pub trait PastFiles {
     // All lines that are sealed into these files, before this run and in it, as `Start` has a
     // file's first content. No code can read it. What is proved holds whatever it is, as far as the
     // files show just these lines.
-    ghost lines: { List Line };
+    ghost all_lines: { List Line };
 
     /// Opens the file of that number, which is there. It makes none.
     ///

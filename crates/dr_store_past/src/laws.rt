@@ -2,6 +2,8 @@
 ghost use Rattle.dr_store_past.specs.Laws.{CrashLeavesEither, PastFiguresStand, ShowsOnePast};
 ghost use Rattle.dr_store_past.specs.Laws.{WrittenGoesOn};
 
+use sqlite_disk::Disk;
+
 /// A file shows one past up to a seal, whatever lines are said to be all.
 pub fn a_file_shows_one_past()
     ensures { ShowsOnePast }
@@ -10,9 +12,9 @@ pub fn a_file_shows_one_past()
 /// Lines that are written behind a past go on it, up to the seal behind them. A crash leaves the
 /// past as it was and those lines behind it: whichever of the two seals the tables have then, the
 /// file has the lines of it.
-pub fn what_is_written_goes_on()
-    ensures written { WrittenGoesOn }
-    ensures crash { CrashLeavesEither }
+pub fn what_is_written_goes_on<D: Disk>()
+    ensures written { WrittenGoesOn D.Disk }
+    ensures crash { CrashLeavesEither D.Disk }
 {}
 
 /// Figures of an example.

@@ -24,11 +24,11 @@ impl NoPast {
 }
 
 impl LedgerPast for NoPast {
-    ghost use Rattle.std.specs.Prelude.{◌≡◌, [], ◌×◌, ⊥};
+    ghost use Rattle.std.specs.Prelude.{◌≡◌, []};
     ghost use Rattle.dr_store_sealed.specs.Seals.{first_seal};
     ghost use Rattle.dr_store_past.specs.Counted.{none_reached};
 
-    ghost lines = { [] };
+    ghost all_lines = { [] };
 
     ghost reach = { λ _. first_seal };
 

@@ -25,7 +25,7 @@ use dr_store_sealed::Seal;
 /// and the past has the lines of either.
 pub trait LedgerPast {
     // All lines that are sealed, before this run and in it. No code can read them.
-    ghost lines: { List Line };
+    ghost all_lines: { List Line };
 
     // How far the past goes.
     ghost reach: { Self → SealValue };
@@ -40,7 +40,7 @@ pub trait LedgerPast {
     // No wrong answer of a medium has been taken as true.
     ghost is_honest: { Self → Type 0 };
 
-    // So it is, and what is shown is the past: the first of `lines`, as many as the seal counts.
+    // So it is, and what is shown is the past: the first of `all_lines`, as many as the seal counts.
     ghost is_clean: { Self → Type 0 };
 
     // Lines can be sealed into it.
@@ -53,7 +53,7 @@ pub trait LedgerPast {
     ghost faults: { Self → ℕ };
 
     // Where what is shown is the past, no more lines were sealed than there are.
-    ghost reached: { (it : Self) → is_clean it → (reach it).count ≤ length lines };
+    ghost reached: { (it : Self) → is_clean it → (reach it).count ≤ length all_lines };
 
     /// How far the past goes.
     fn seal(&self) -> Seal
@@ -89,13 +89,13 @@ pub trait LedgerPast {
             → holds self.new (before ++ lines) }
         ensures next { (lines : List LineValue)
             → has_written self.old lines last.now
-            → is_clean self.new → AreNextIn Self.lines (reach self.old) lines }
+            → is_clean self.new → AreNextIn Self.all_lines (reach self.old) lines }
         ensures clean { (lines : List LineValue)
             → has_written self.old lines last.now → is_clean self.new → is_clean self.old }
         ensures lasts { (lines : List LineValue)
             → has_written self.old lines last.now
             → is_clean self.old → is_honest self.new
-            → All IsHeldPast lines → AreNextIn Self.lines (reach self.old) lines
+            → All IsHeldPast lines → AreNextIn Self.all_lines (reach self.old) lines
             → is_clean self.new };
 
     /// The lines of the past whose numbers lie behind that one, in their order: so many at most.
@@ -104,7 +104,7 @@ pub trait LedgerPast {
     /// past.
     fn lines_behind(&mut self, after: u64, limit: u32) -> Result<Seq<JournalLine>, PastFault>
         ensures answer { IfOk result (λ found. is_clean self.new
-            → lines_of found ≡ take limit (drop after (past_in Self.lines (reach self.old)))) }
+            → lines_of found ≡ take limit (drop after (past_in Self.all_lines (reach self.old)))) }
         ensures reach { reach self.new ≡ reach self.old }
         ensures holds { (before : List LineValue) → holds self.old before → holds self.new before }
         ensures written { (lines : List LineValue) (last : SealValue)

@@ -1,5 +1,5 @@
 //! Lines of a past, read from its file.
-ghost use Rattle.std.specs.Prelude.{◌≡◌, ◌+◌, ◌×◌, ◌^◌, ◌<◌, ◌≤◌, ◌++◌, ℕ, List, drop, length, take};
+ghost use Rattle.std.specs.Prelude.{◌≡◌, ◌+◌, ◌^◌, ◌<◌, ◌≤◌, ◌++◌, ℕ, List, drop, length, take};
 ghost use Rattle.std.specs.Prelude.{All, IfErr, IfOk, IsTrue, OnOk};
 ghost use Rattle.dr_ledger.specs.Books.{Line};
 ghost use Rattle.dr_ledger_history.specs.Lines.{lines_of};

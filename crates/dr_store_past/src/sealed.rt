@@ -90,7 +90,7 @@ impl<F: PastFiles> LedgerPast for SealedFiles<F> {
     ghost use Rattle.dr_store_past.specs.Counted.{reaches_no_more};
     ghost use Rattle.dr_store_past.specs.Shown.{HasWrittenIn, HasWrittenLines, IsCleanPast};
 
-    ghost lines = { F.lines };
+    ghost all_lines = { F.all_lines };
 
     ghost reach = { λ it. it.seal };
 
@@ -102,7 +102,7 @@ impl<F: PastFiles> LedgerPast for SealedFiles<F> {
 
     ghost is_honest = { λ it. IsTrue (F.Disk.is_clean it.disk) };
 
-    ghost is_clean = { λ it. IsCleanPast F.lines
+    ghost is_clean = { λ it. IsCleanPast F.all_lines
         (IsTrue (F.Disk.is_clean it.disk)) (F.Disk.seen it.disk) it.seal it.places.items };
 
     ghost takes_lines = { Unit {0} };
@@ -111,7 +111,7 @@ impl<F: PastFiles> LedgerPast for SealedFiles<F> {
 
     ghost faults = { λ it. F.Disk.faults it.disk };
 
-    ghost reached = { λ it clean. reaches_no_more F.lines _ it.seal clean.shows };
+    ghost reached = { λ it clean. reaches_no_more F.all_lines _ it.seal clean.shows };
 
     fn seal(&self) -> Seal {
         self.seal
