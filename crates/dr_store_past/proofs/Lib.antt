@@ -1,4 +1,5 @@
 pub mod Pages
+pub mod Reading
 pub mod Shows
 pub mod Told
 pub mod Written

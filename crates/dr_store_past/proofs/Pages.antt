@@ -18,11 +18,11 @@ use Rattle.dr_store_past.specs.Paging.{IsPage, IsWhyNoPage}
 use Rattle.dr_store_past.proofs.Told.{said_drop, said_take, texts_drop, texts_take}
 
 module _ {X : Type 0} where
-  take_none : (n : ℕ) → take n (let e : List X = [] in e) ≡ []
+  pub take_none : (n : ℕ) → take n (let e : List X = [] in e) ≡ []
   take_none zero = refl
   take_none (suc n) = refl
 
-  drop_none : (n : ℕ) → drop n (let e : List X = [] in e) ≡ []
+  pub drop_none : (n : ℕ) → drop n (let e : List X = [] in e) ≡ []
   drop_none zero = refl
   drop_none (suc n) = refl
 

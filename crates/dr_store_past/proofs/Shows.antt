@@ -1,8 +1,8 @@
 -- What a file shows of a past before a call and after it.
 use Rattle.std.proofs.Common.{◌≡◌, ◌+◌, ◌^◌, ◌<◌, ◌≤◌, ℕ, List, [], ◌∷◌, ◌++◌, length, take, drop, All, slice_index, slice_index_or, zero, suc}
 use Rattle.std.proofs.Common.{refl, sym, ◌∙◌, ap, subst, arith, length-take, get_or-take, map as mapped}
-use Rattle.std.proofs.lemmas.List.{append_assoc, append-nil, drop_at, drop-take, length-append, length-map, map-append, take-take, take_all, take_at}
-use Rattle.std.proofs.lemmas.List.Elements.{All-append, All-contains, All-drop, All-nil, All-take}
+use Rattle.std.proofs.lemmas.List.{append_assoc, drop_at, drop-take, get_or_append_left, length-append, length-map, map-append, take-take, take_all, take_at}
+use Rattle.std.proofs.lemmas.List.Elements.{All-append, All-contains, All-drop, All-nil, All-push, All-take}
 use Rattle.dr_ledger.specs.Books.{Line}
 use Rattle.sqlite_disk.specs.declared.Disk.{Ghosts}
 use Rattle.sqlite_disk.specs.Disk.{Holds}
@@ -250,6 +250,57 @@ written_kept seen other may is at from lines last low keeps it =
       spans = it.spans;
       endures = keeps from.offset (bytes_of from.chain (texts_behind from.count lines)) (omega (arith, place, low)) it.endures;
     }
+
+-- ---- places that are noted
+
+pub clean_noted : (all : List Line) (H : Type 0) (seen : List ℕ) (seal : Seal) (places : List Seal)
+    → IsCleanPast all H seen seal places → IsCleanPast all H seen seal (places ++ seal ∷ [])
+clean_noted all H seen seal places it =
+    record {
+      honest = it.honest;
+      shows = it.shows;
+      places = All-push (IsPlaceOf seen) places seal it.places
+          (record { before = texts_behind 0 it.shows.lines; one = it.shows.one; has = it.shows.has });
+    }
+
+pub clean_unnoted : (all : List Line) (H : Type 0) (seen : List ℕ) (seal : Seal) (places : List Seal)
+    → IsCleanPast all H seen seal (places ++ seal ∷ []) → IsCleanPast all H seen seal places
+clean_unnoted all H seen seal places it =
+    let size = length-append places (seal ∷ []) in
+    record {
+      honest = it.honest;
+      shows = it.shows;
+      places =
+          λ k d less.
+          subst (IsPlaceOf seen) (get_or_append_left places (seal ∷ []) d k less)
+          (it.places k d (omega (arith, less, size)));
+    }
+
+pub within_noted : (seal : Seal) (places : List Seal) → All (λ (p : Seal). p.offset ≤ seal.offset) places
+    → All (λ (p : Seal). p.offset ≤ seal.offset) (places ++ seal ∷ [])
+within_noted seal places low = All-push (λ (p : Seal). p.offset ≤ seal.offset) places seal low (omega arith)
+
+pub within_onward : (seal last : Seal) (places : List Seal) → seal.offset ≤ last.offset → All (λ (p : Seal). p.offset ≤ seal.offset) places
+    → All (λ (p : Seal). p.offset ≤ last.offset) places
+within_onward seal last places up low = λ k d less. (let own = low k d less in omega (arith, own, up))
+
+-- a write leaves what is shown up to the seal
+pub clean_written : (all : List Line) (K : Type 0) (seen other : List ℕ) (seal : Seal) (places : List Seal) (H : Type 0)
+    → (H → K) → (H → take seal.offset other ≡ take seal.offset seen) → All (λ (p : Seal). p.offset ≤ seal.offset) places
+    → IsCleanPast all H other seal (places ++ seal ∷ []) → IsCleanPast all K seen seal places
+clean_written all K seen other seal places H was same low it =
+    clean_moved all H K other seen seal places (was it.honest) (sym (same it.honest)) low (clean_unnoted all H other seal places it)
+
+pub clean_lasting : (all : List Line) (K : Type 0) (seen other : List ℕ) (seal : Seal) (places : List Seal) (H : Type 0)
+    → H → (H → take seal.offset other ≡ take seal.offset seen) → All (λ (p : Seal). p.offset ≤ seal.offset) places
+    → IsCleanPast all K seen seal places → IsCleanPast all H other seal (places ++ seal ∷ [])
+clean_lasting all K seen other seal places H h same low it =
+    clean_noted all H other seal places (clean_moved all K H seen other seal places h (same h) low it)
+
+pub written_onward : (seen : List ℕ) (may : List ℕ → Type 0) (places : List Seal) (from : Seal) (lines : List PastLine) (last : Seal)
+    → HasWrittenLines seen may places from lines last → from.offset ≤ last.offset
+written_onward seen may places from lines last it =
+    let place = reaches from last (texts_behind from.count lines) it.written.spans in omega (arith, place)
 
 -- ---- reading
 

@@ -1,17 +1,25 @@
 -- Texts of lines in a row, and what they say.
 use Rattle.std.proofs.Common.{◌≡◌, ◌+◌, ◌^◌, ◌<◌, ◌≤◌, ℕ, zero, suc, List, [], ◌∷◌, ◌++◌, length, take, drop}
-use Rattle.std.proofs.Common.{All, slice_index_or, refl, sym, ◌∙◌, ap, arith}
-use Rattle.std.proofs.lemmas.List.{take-map}
-use Rattle.std.proofs.lemmas.List.Elements.{All-head, All-tail, All-cons, All-nil}
+use Rattle.std.proofs.Common.{All, None, Option, slice_index_or, refl, sym, ◌∙◌, ap, subst, arith, length-take, map as mapped}
+use Rattle.std.proofs.lemmas.List.{append_assoc, get_or_default, map-append, take-map, take_all, take_more}
+use Rattle.std.proofs.lemmas.List.Elements.{All-head, All-tail, All-cons, All-nil, All-push}
 use Rattle.dr_ledger.specs.Books.{Line}
-use Rattle.dr_ledger_history.specs.Lines.{line_of}
+use Rattle.dr_ledger_history.specs.declared.line.JournalLine.{JournalLine}
+use Rattle.dr_ledger_history.specs.declared.line.JournalLine.TheVariants as told
+use Rattle.dr_ledger_history.specs.Lines.{line_of, lines_of}
 use Rattle.dr_ledger_text.specs.Laws.{AreSame, IsSealable}
 use Rattle.dr_ledger_text.specs.Lines.{sealed_text}
 use Rattle.dr_ledger_text.proofs.Spelled.{of_one_line}
 use Rattle.dr_ledger_read.specs.Reading.{IsTextOf}
+use Rattle.dr_ledger_read.proofs.Reread.{in_one_way}
 use Rattle.dr_ledger_read.proofs.Whole.{sealable}
+use Rattle.dr_store_sealed.specs.declared.fault.SealFault.TheVariants as fault
+use Rattle.dr_store_past.specs.declared.fault.PastFault.{PastFault}
+use Rattle.dr_store_past.specs.declared.fault.PastFault.TheVariants as reason
 use Rattle.dr_store_past.specs.declared.lines.PastLine.{PastLine}
+use Rattle.dr_store_past.specs.Counted.{texts_size}
 use Rattle.dr_store_past.specs.Lines.{FitsPast, IsHeldPast, all_said, said_by, texts_behind}
+use Rattle.dr_store_past.specs.Paging.{IsWhyNoLine, IsWhyNoPage}
 
 pub texts_more : (n : ℕ) (xs ys : List PastLine) → texts_behind n (xs ++ ys) ≡ texts_behind n xs ++ texts_behind (n + length xs) ys
 texts_more n [] ys = ap (λ k. texts_behind k ys) (let e : n ≡ n + 0 = omega arith in e)
@@ -83,3 +91,106 @@ pub said_drop : (k : ℕ) (xs : List PastLine) → all_said (drop k xs) ≡ drop
 said_drop zero xs = refl
 said_drop (suc k) [] = refl
 said_drop (suc k) (x ∷ xs) = said_drop k xs
+
+-- one text more
+pub texts_pushed : (after i last : ℕ) (lines : List PastLine) (line : PastLine) (texts new : List (List ℕ)) (text : List ℕ)
+    → last ≡ after + i → texts ≡ texts_behind after (take i lines) → All FitsPast (take i lines)
+    → i < length lines → line ≡ slice_index_or lines i line
+    → text ≡ sealed_text (last + 1) line.line line.moment → FitsPast line → new ≡ texts ++ text ∷ []
+    → (last + 1 ≡ after + (i + 1)) × (new ≡ texts_behind after (take (i + 1) lines)) × All FitsPast (take (i + 1) lines)
+texts_pushed after i last lines line texts new text at were fit low item is fits pushed =
+    let more : take i lines ++ line ∷ [] ≡ take (i + 1) lines =
+    ap (λ x. take i lines ++ x ∷ []) item ∙ sym (take_more lines i line low) in
+    let size = length-take i lines in
+    let place : last ≡ after + length (take i lines) = omega (arith, at, size, low) in
+    let added : texts_behind (after + length (take i lines)) (line ∷ []) ≡ text ∷ [] =
+    ap (λ k. sealed_text (k + 1) line.line line.moment ∷ []) (sym place) ∙ ap (λ t. t ∷ []) (sym is) in (
+      (let e : last + 1 ≡ after + (i + 1) = omega (arith, at) in e),
+      pushed ∙ ap (λ ts. ts ++ text ∷ []) were ∙ ap (λ ts. texts_behind after (take i lines) ++ ts) (sym added)
+          ∙ sym (texts_more after (take i lines) (line ∷ [])) ∙ ap (texts_behind after) more,
+      subst (All FitsPast) more (All-push FitsPast (take i lines) line fit fits),
+    )
+
+pub all_texts : (after i : ℕ) (lines : List PastLine) (texts : List (List ℕ)) → length lines ≤ i → texts ≡ texts_behind after (take i lines)
+    → texts ≡ texts_behind after lines
+all_texts after i lines texts over were = were ∙ ap (texts_behind after) (take_all i lines over)
+
+pub all_fitting : (i : ℕ) (lines : List PastLine) → length lines ≤ i → All FitsPast (take i lines) → All FitsPast lines
+all_fitting i lines over fit = subst (All FitsPast) (take_all i lines over) fit
+
+-- the text of one of the lines
+text_at : (n i : ℕ) (lines : List PastLine) (line : PastLine) (d : List ℕ) → i < length lines → line ≡ slice_index_or lines i line
+    → slice_index_or (texts_behind n lines) i d ≡ sealed_text (n + i + 1) line.line line.moment
+text_at n i [] line d low item = absurd (omega (arith, low))
+text_at n zero (x ∷ xs) line d low item =
+    ap (λ k. sealed_text (k + 1) x.line x.moment) (let e : n ≡ n + 0 = omega arith in e)
+    ∙ ap (λ (l : PastLine). sealed_text (n + 0 + 1) l.line l.moment) (sym item)
+text_at n (suc i) (x ∷ xs) line d low item =
+    text_at (n + 1) i xs line d (omega (arith, low)) item
+    ∙ ap (λ k. sealed_text (k + 1) line.line line.moment) (let e : n + 1 + i ≡ n + suc i = omega arith in e)
+
+-- one line more is told
+pub said_pushed : (n i : ℕ) (lines : List PastLine) (texts : List (List ℕ)) (text d : List ℕ) (found : List Line) (old new : List JournalLine) (line : JournalLine)
+    → All IsHeldPast lines → n + length lines < 2 ^ 64 → texts ≡ texts_behind n lines
+    → i < length texts → text ≡ slice_index_or texts i d
+    → lines_of old ≡ found ++ all_said (take i lines)
+    → new ≡ old ++ line ∷ []
+    → ((m : ℕ) (it : PastLine) → IsTextOf text m it.line it.moment → line ≡ it.line)
+    → lines_of new ≡ found ++ all_said (take (i + 1) lines)
+said_pushed n i lines texts text d found old new line held low are within item was pushed read =
+    let size = ap (λ (ts : List (List ℕ)). length ts) are ∙ texts_size n lines in
+    let less : i < length lines = omega (arith, within, size) in
+    let blank : PastLine = record { line = told.Adoption; moment = None } in
+    let it = slice_index_or lines i blank in
+    let same : it ≡ slice_index_or lines i it = get_or_default lines i blank it less in
+    let is : text ≡ sealed_text (n + i + 1) it.line it.moment =
+    item ∙ ap (λ ts. slice_index_or ts i d) are ∙ text_at n i lines it d less same in
+    let there : IsTextOf text (n + i + 1) it.line it.moment =
+    (let h = held i blank less in record { number = omega (arith, low, less); held = h.0; written = h.1; is = is }) in
+    let said : line ≡ it.line = read (n + i + 1) it there in
+    let more : take i lines ++ it ∷ [] ≡ take (i + 1) lines = sym (take_more lines i blank less) in
+    ap (mapped line_of) pushed ∙ map-append line_of old (line ∷ [])
+    ∙ ap (λ ls. ls ++ line_of line ∷ []) was
+    ∙ append_assoc found (all_said (take i lines)) (line_of line ∷ [])
+    ∙ ap (λ ls. found ++ ls)
+    (ap (λ l. all_said (take i lines) ++ line_of l ∷ []) said
+    ∙ sym (map-append said_by (take i lines) (it ∷ []))
+    ∙ ap all_said more)
+
+-- the text of no line stands among the texts of lines
+pub never_told : (n i : ℕ) (lines : List PastLine) (texts : List (List ℕ)) (text d : List ℕ)
+    → All IsHeldPast lines → n + length lines < 2 ^ 64 → texts ≡ texts_behind n lines
+    → i < length texts → text ≡ slice_index_or texts i d
+    → ((m : ℕ) (it : PastLine) → IsTextOf text m it.line it.moment → ⊥) → ⊥
+never_told n i lines texts text d held low are within item none =
+    let size = ap (λ (ts : List (List ℕ)). length ts) are ∙ texts_size n lines in
+    let less : i < length lines = omega (arith, within, size) in
+    let blank : PastLine = record { line = told.Adoption; moment = None } in
+    let it = slice_index_or lines i blank in
+    let same : it ≡ slice_index_or lines i it = get_or_default lines i blank it less in
+    let is : text ≡ sealed_text (n + i + 1) it.line it.moment =
+    item ∙ ap (λ ts. slice_index_or ts i d) are ∙ text_at n i lines it d less same in
+    let h = held i blank less in
+    none (n + i + 1) it (record { number = omega (arith, low, less); held = h.0; written = h.1; is = is })
+
+pub line_refused : (i : ℕ) (texts : List (List ℕ)) (text d : List ℕ) → i < length texts → text ≡ slice_index_or texts i d
+    → (why : PastFault) → IsWhyNoLine text why → IsWhyNoPage texts why
+line_refused i texts text d within item (reason.File fault) h = absurd h
+line_refused i texts text d within item (reason.Sealed (fault.Io error)) h = absurd h
+line_refused i texts text d within item (reason.Sealed fault.Memory) h = tt
+line_refused i texts text d within item (reason.Sealed fault.Unusable) h = absurd h
+line_refused i texts text d within item (reason.Sealed fault.Short) h = absurd h
+line_refused i texts text d within item (reason.Sealed fault.OtherChain) h = absurd h
+line_refused i texts text d within item (reason.Sealed fault.Broken) h = absurd h
+line_refused i texts text d within item (reason.Sealed fault.Unfit) h = absurd h
+line_refused i texts text d within item (reason.Sealed fault.Full) h = absurd h
+line_refused i texts text d within item (reason.Sealed fault.Uncounted) h = absurd h
+line_refused i texts text d within item reason.Later h = absurd h
+line_refused i texts text d within item reason.Nowhere h = absurd h
+line_refused i texts text d within item reason.NoLine h =
+    λ m lines held low are. never_told m i lines texts text d held low are within item h
+
+-- a text is of one line
+pub one_line : (text : List ℕ) (n : ℕ) (line : JournalLine) (moment : Option ℕ) → IsTextOf text n line moment
+    → (m : ℕ) (it : PastLine) → IsTextOf text m it.line it.moment → line ≡ it.line
+one_line text n line moment is m it other = (in_one_way of_one_line text n m line it.line moment it.moment is other).lines

@@ -50,7 +50,7 @@ pub record HasWrittenLines (seen : List ℕ) (may_leave : List ℕ → Type 0) (
 -- no wrong answer was taken as true, the file shows the past up to its seal, and lines begin at the
 -- places
 pub record IsCleanPast (all : List Line) (Honest : Type 0) (seen : List ℕ) (seal : Seal)
-    (places : List Seal) : Type 0 where
+    (noted : List Seal) : Type 0 where
   pub honest : Honest
   pub shows : ShowsPast all seen seal
-  pub places : All (IsPlaceOf seen) places
+  pub places : All (IsPlaceOf seen) noted

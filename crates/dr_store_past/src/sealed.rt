@@ -124,9 +124,10 @@ impl<F: PastFiles> LedgerPast for SealedFiles<F> {
     }
 
     fn turn_to(&mut self, last: &Seal) {
-        if last.offset >= self.seal.offset {
-            self.seal = *last;
+        if last.offset < self.seal.offset {
+            return;
         }
+        self.seal = *last;
     }
 
     fn lines_behind(&mut self, after: u64, limit: u32) -> Result<Seq<JournalLine>, PastFault> {

@@ -1,7 +1,8 @@
-use Rattle.std.proofs.Common.{◌≡◌, ◌-◌, ◌≤◌, ℕ, List, take, drop, IsTrue}
+use Rattle.std.proofs.Common.{◌≡◌, ◌-◌, ◌≤◌, ℕ, List, IsTrue}
 use Rattle.dr_ledger.specs.Books.{Line}
 use Rattle.dr_ledger_history.specs.Lines.{lines_of}
-use Rattle.dr_store_past.specs.Shown.{IsPlaceOf, ShowsPast}
+use Rattle.dr_store_past.specs.Shown.{ShowsPast}
+use Rattle.dr_store_past.proofs.Reading.{IsToldTo}
 use Rattle.dr_store_past.proofs.reading.read_behind.Given as goal
 
 -- what is found so far, and that a line begins at the place
@@ -15,9 +16,7 @@ invariant-loop-at g l =
     × (l.at.offset ≤ l.seal.offset)
     × ((all : List Line)
     → IsTrue (g.D.Disk.is_clean l.file) → ShowsPast all (g.D.Disk.seen l.initial.file) l.seal
-    → IsPlaceOf (g.D.Disk.seen l.initial.file) l.at
-    × (l.at.count ≤ l.seal.count)
-    × (lines_of l.found ≡ take l.limit (drop l.after (take l.at.count all))))
+    → IsToldTo all (g.D.Disk.seen l.initial.file) l.seal l.at l.after l.limit (lines_of l.found))
 
 abbrev pub decreases-loop-at : goal.decreases-loop-at
 decreases-loop-at g l = l.seal.offset - l.at.offset
