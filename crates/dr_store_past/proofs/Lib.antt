@@ -1,5 +1,5 @@
 pub mod Pages
-pub mod Reading
+pub mod Onward
 pub mod Shows
 pub mod Told
 pub mod Written

@@ -4,6 +4,7 @@ use Rattle.std.proofs.Common.{refl, sym, ◌∙◌, ap, subst, arith, length-tak
 use Rattle.std.proofs.lemmas.List.{append_assoc, drop_at, drop-take, get_or_append_left, length-append, length-map, map-append, take-take, take_all, take_at}
 use Rattle.std.proofs.lemmas.List.Elements.{All-append, All-contains, All-drop, All-nil, All-push, All-take}
 use Rattle.dr_ledger.specs.Books.{Line}
+use Rattle.dr_ledger_text.specs.Laws.{TextsAreOfOneLine}
 use Rattle.sqlite_disk.specs.declared.Disk.{Ghosts}
 use Rattle.sqlite_disk.specs.Disk.{Holds}
 use Rattle.dr_store_sealed.specs.declared.seal.Seal.{Seal}
@@ -57,6 +58,24 @@ shows_moved all at seen other seal same low it =
       held = it.held;
       one = it.one;
       has = lines_moved at seen other first_seal seal (texts_behind 0 it.lines) same low it.has;
+      said = it.said;
+      counted = it.counted;
+    }
+
+-- where all before the seal's place stays
+pub shows_kept : (all : List Line) (seen other : List ℕ) (seal : Seal)
+    → ((from : ℕ) (kept : List ℕ) → from + length kept ≤ seal.offset → Holds seen from kept → Holds other from kept)
+    → ShowsPast all seen seal → ShowsPast all other seal
+shows_kept all seen other seal keeps it =
+    let place = reaches first_seal seal (texts_behind 0 it.lines) it.has.spans in
+    record {
+      lines = it.lines;
+      held = it.held;
+      one = it.one;
+      has = record {
+        spans = it.has.spans;
+        bytes = keeps first_seal.offset (bytes_of first_seal.chain (texts_behind 0 it.lines)) (omega (arith, place)) it.has.bytes;
+      };
       said = it.said;
       counted = it.counted;
     }
@@ -140,8 +159,8 @@ last_count seen may from lines last it =
 
 module _ (all : List Line) (seen : List ℕ) (may : List ℕ → Type 0) (places : List Seal) (from : Seal) (lines : List PastLine) (last : Seal)
     (written : HasWrittenLines seen may places from lines last) where
-  module _ (it : ShowsPast all seen last) (place : IsPlaceOf seen from) where
-    texts : List (List ℕ)
+  module _ (law : TextsAreOfOneLine) (it : ShowsPast all seen last) (place : IsPlaceOf seen from) where
+    abbrev texts : List (List ℕ)
     texts = texts_behind from.count lines
 
     count : last.count ≡ from.count + length lines
@@ -157,12 +176,12 @@ module _ (all : List Line) (seen : List ℕ) (may : List ℕ → Type 0) (places
         segment seen it.lines last from last place.before texts it.one it.has place.one place.has written.one
         (written_has seen may from lines last written.written) (omega arith)
 
-    page : List PastLine
+    abbrev page : List PastLine
     page = take (length lines) (drop from.count it.lines)
 
     are_said : all_said lines ≡ all_said page
     are_said =
-        same_texts from.count lines page written.fit
+        same_texts law from.count lines page written.fit
         (All-take FitsPast (length lines) (drop from.count it.lines) (All-drop FitsPast from.count it.lines (all_fit it.lines it.held)))
         (let low = written.counted in omega (arith, count, low))
         (parts.1 ∙ ap (λ k. texts_behind from.count (take k (drop from.count it.lines))) size)
@@ -208,16 +227,16 @@ module _ (all : List Line) (seen : List ℕ) (may : List ℕ → Type 0) (places
         counted = written.counted;
       }
 
-  pub clean_before : (H K : Type 0) → K → IsCleanPast all H seen last places → IsCleanPast all K seen from places
-  clean_before H K k it =
+  pub clean_before : TextsAreOfOneLine → (H K : Type 0) → K → IsCleanPast all H seen last places → IsCleanPast all K seen from places
+  clean_before law H K k it =
       record {
         honest = k;
-        shows = shows_before it.shows (All-contains (IsPlaceOf seen) places from it.places written.known);
+        shows = shows_before law it.shows (All-contains (IsPlaceOf seen) places from it.places written.known);
         places = it.places;
       }
 
-  pub clean_next : (H : Type 0) → IsCleanPast all H seen last places → AreNextIn all from lines
-  clean_next H it = next_said it.shows (All-contains (IsPlaceOf seen) places from it.places written.known)
+  pub clean_next : TextsAreOfOneLine → (H : Type 0) → IsCleanPast all H seen last places → AreNextIn all from lines
+  clean_next law H it = next_said law it.shows (All-contains (IsPlaceOf seen) places from it.places written.known)
 
   pub clean_after : (H K : Type 0) → K → IsCleanPast all H seen from places → All IsHeldPast lines → AreNextIn all from lines → IsCleanPast all K seen last places
   clean_after H K k it held next = record { honest = k; shows = shows_after it.shows held next; places = it.places }
@@ -302,6 +321,17 @@ pub written_onward : (seen : List ℕ) (may : List ℕ → Type 0) (places : Lis
 written_onward seen may places from lines last it =
     let place = reaches from last (texts_behind from.count lines) it.written.spans in omega (arith, place)
 
+-- a file that shows the past after a write reached as far before it
+pub clean_within : (all : List Line) (H : Type 0) (seen other : List ℕ) (seal : Seal) (places : List Seal)
+    → (H → take seal.offset other ≡ take seal.offset seen) → IsCleanPast all H other seal places → H × (seal.offset ≤ length seen)
+clean_within all H seen other seal places same it =
+    let place = reaches first_seal seal (texts_behind 0 it.shows.lines) it.shows.has.spans in
+    let within = it.shows.has.bytes.within in
+    let sizes : length (take seal.offset other) ≡ length (take seal.offset seen) = ap (λ (l : List ℕ). length l) (same it.honest) in
+    let is = length-take seal.offset other in
+    let was = length-take seal.offset seen in
+    (it.honest, omega (arith, place, within, sizes, is, was))
+
 -- ---- reading
 
 module _ (all : List Line) (seen : List ℕ) (seal : Seal) (it : ShowsPast all seen seal) where
@@ -359,15 +389,15 @@ nothing_at seen seal lines has =
       bytes = holds_none seen seal.offset (let low = has.bytes.within in omega (arith, place, low));
     }
 
-pub one_past : ShowsOnePast
-one_past all other seen seal it its =
+pub one_past : TextsAreOfOneLine → ShowsOnePast
+one_past law all other seen seal it its =
     let own = shown_count all seen seal it in
     let count = shown_count other seen seal its in
     let low = its.counted in
     let parts = segment seen it.lines seal seal seal (texts_behind 0 its.lines) [] it.one it.has its.one its.has
     (All-nil IsOneLine) (nothing_at seen seal (texts_behind 0 its.lines) its.has) (omega arith) in
     let same : all_said its.lines ≡ all_said it.lines =
-    same_texts 0 its.lines it.lines (all_fit its.lines its.held) (all_fit it.lines it.held) (omega (arith, count, low))
+    same_texts law 0 its.lines it.lines (all_fit its.lines its.held) (all_fit it.lines it.held) (omega (arith, count, low))
     (parts.0 ∙ ap (texts_behind 0) (take_all seal.count it.lines (omega (arith, own)))) in
     sym it.said ∙ sym same ∙ its.said
 

@@ -3,16 +3,16 @@ use Rattle.std.proofs.Common.{◌≡◌, ◌+◌, ◌^◌, ◌<◌, ◌≤◌, �
 use Rattle.std.proofs.Common.{All, None, Option, slice_index_or, refl, sym, ◌∙◌, ap, subst, arith, length-take, map as mapped}
 use Rattle.std.proofs.lemmas.List.{append_assoc, get_or_default, map-append, take-map, take_all, take_more}
 use Rattle.std.proofs.lemmas.List.Elements.{All-head, All-tail, All-cons, All-nil, All-push}
+use Rattle.dr_ledger.specs.declared.item.Instance.{Instance}
 use Rattle.dr_ledger.specs.Books.{Line}
 use Rattle.dr_ledger_history.specs.declared.line.JournalLine.{JournalLine}
 use Rattle.dr_ledger_history.specs.declared.line.JournalLine.TheVariants as told
 use Rattle.dr_ledger_history.specs.Lines.{line_of, lines_of}
-use Rattle.dr_ledger_text.specs.Laws.{AreSame, IsSealable}
+use Rattle.dr_ledger_text.specs.Laws.{AreSame, FitsInstance, FitsLine, IsSealable, TextsAreOfOneLine}
 use Rattle.dr_ledger_text.specs.Lines.{sealed_text}
-use Rattle.dr_ledger_text.proofs.Spelled.{of_one_line}
 use Rattle.dr_ledger_read.specs.Reading.{IsTextOf}
-use Rattle.dr_ledger_read.proofs.Reread.{in_one_way}
-use Rattle.dr_ledger_read.proofs.Whole.{sealable}
+use Rattle.dr_ledger_read.specs.Held.{IsHeldItem, IsHeldLine}
+use Rattle.dr_ledger_read.specs.Laws.{ATextIsReadInOneWay}
 use Rattle.dr_store_sealed.specs.declared.fault.SealFault.TheVariants as fault
 use Rattle.dr_store_past.specs.declared.fault.PastFault.{PastFault}
 use Rattle.dr_store_past.specs.declared.fault.PastFault.TheVariants as reason
@@ -24,7 +24,7 @@ use Rattle.dr_store_past.specs.Paging.{IsWhyNoLine, IsWhyNoPage}
 pub texts_more : (n : ℕ) (xs ys : List PastLine) → texts_behind n (xs ++ ys) ≡ texts_behind n xs ++ texts_behind (n + length xs) ys
 texts_more n [] ys = ap (λ k. texts_behind k ys) (let e : n ≡ n + 0 = omega arith in e)
 texts_more n (x ∷ xs) ys =
-    let place : n + 1 + length xs ≡ n + (length xs + 1) = omega arith in
+    let place : n + 1 + length xs ≡ n + suc (length xs) = omega arith in
     ap (λ t. sealed_text (n + 1) x.line x.moment ∷ t)
     (texts_more (n + 1) xs ys ∙ ap (λ k. texts_behind (n + 1) xs ++ texts_behind k ys) place)
 
@@ -47,36 +47,44 @@ other_texts : (t u : List ℕ) (ts us : List (List ℕ)) → t ∷ ts ≡ u ∷ 
 other_texts t u ts us same = ap (λ (l : List (List ℕ)). drop 1 l) same
 
 none_is_some : {P : Type 0} (t : List ℕ) (ts : List (List ℕ)) → [] ≡ t ∷ ts → P
-none_is_some t ts same = absurd (let e : 0 ≡ length ts + 1 = ap (λ (l : List (List ℕ)). length l) same in omega (arith, e))
+none_is_some t ts same = absurd (let e : 0 ≡ suc (length ts) = ap (λ (l : List (List ℕ)). length l) same in omega (arith, e))
 
 -- texts are of one list of lines
-pub same_texts : (n : ℕ) (xs ys : List PastLine) → All FitsPast xs → All FitsPast ys → n + length xs < 2 ^ 64
+pub same_texts : TextsAreOfOneLine → (n : ℕ) (xs ys : List PastLine) → All FitsPast xs → All FitsPast ys → n + length xs < 2 ^ 64
     → texts_behind n xs ≡ texts_behind n ys → all_said xs ≡ all_said ys
-same_texts n [] [] fit fit' low same = refl
-same_texts n [] (y ∷ ys) fit fit' low same =
+same_texts law n [] [] fit fit' low same = refl
+same_texts law n [] (y ∷ ys) fit fit' low same =
     none_is_some (sealed_text (n + 1) y.line y.moment) (texts_behind (n + 1) ys) same
-same_texts n (x ∷ xs) [] fit fit' low same =
+same_texts law n (x ∷ xs) [] fit fit' low same =
     none_is_some (sealed_text (n + 1) x.line x.moment) (texts_behind (n + 1) xs) (sym same)
-same_texts n (x ∷ xs) (y ∷ ys) fit fit' low same =
+same_texts law n (x ∷ xs) (y ∷ ys) fit fit' low same =
     let tx = sealed_text (n + 1) x.line x.moment in
     let ty = sealed_text (n + 1) y.line y.moment in
     let f = All-head FitsPast x xs fit in
     let g = All-head FitsPast y ys fit' in
     let a : IsSealable (n + 1) x.line x.moment = record { number = omega (arith, low); said = f.0; written = f.1 } in
     let b : IsSealable (n + 1) y.line y.moment = record { number = omega (arith, low); said = g.0; written = g.1 } in
-    let one = of_one_line (n + 1) (n + 1) x.line y.line x.moment y.moment a b
+    let one = law (n + 1) (n + 1) x.line y.line x.moment y.moment a b
     (first_text tx ty (texts_behind (n + 1) xs) (texts_behind (n + 1) ys) same) in
-    let rest = same_texts (n + 1) xs ys (All-tail FitsPast x xs fit) (All-tail FitsPast y ys fit') (omega (arith, low))
+    let rest = same_texts law (n + 1) xs ys (All-tail FitsPast x xs fit) (All-tail FitsPast y ys fit') (omega (arith, low))
     (other_texts tx ty (texts_behind (n + 1) xs) (texts_behind (n + 1) ys) same) in
     ap (λ l. line_of l ∷ all_said xs) one.lines ∙ ap (λ ls. line_of y.line ∷ ls) rest
 
 -- a line as the program holds it fits
-text_is : (n : ℕ) (x : PastLine) → n < 2 ^ 64 → IsHeldPast x → IsTextOf (sealed_text n x.line x.moment) n x.line x.moment
-text_is n x low held = record { number = low; held = held.0; written = held.1; is = refl }
+item_fits : (item : Instance) → IsHeldItem item → FitsInstance item
+item_fits item held = (held.size, held.digest.bytes)
+
+line_fits : (line : JournalLine) → IsHeldLine line → FitsLine line
+line_fits (told.Arrival caller item to keep) held = item_fits item held.1
+line_fits (told.Repeat caller item) held = item_fits item held.1
+line_fits (told.Settling uid dest outcome now) held = (held.2, held.3)
+line_fits (told.Requeuing uid dest) held = tt
+line_fits (told.Dropping uid dest now) held = held.2
+line_fits (told.Forgetting uid) held = tt
+line_fits told.Adoption held = tt
 
 held_fits : (x : PastLine) → IsHeldPast x → FitsPast x
-held_fits x held =
-    ((sealable (sealed_text 0 x.line x.moment) 0 x.line x.moment (text_is 0 x (omega arith) held)).said, held.1)
+held_fits x held = (line_fits x.line held.0, held.1)
 
 pub all_fit : (xs : List PastLine) → All IsHeldPast xs → All FitsPast xs
 all_fit [] held = All-nil FitsPast
@@ -191,6 +199,12 @@ line_refused i texts text d within item reason.NoLine h =
     λ m lines held low are. never_told m i lines texts text d held low are within item h
 
 -- a text is of one line
-pub one_line : (text : List ℕ) (n : ℕ) (line : JournalLine) (moment : Option ℕ) → IsTextOf text n line moment
+pub one_line : ATextIsReadInOneWay → (text : List ℕ) (n : ℕ) (line : JournalLine) (moment : Option ℕ) → IsTextOf text n line moment
     → (m : ℕ) (it : PastLine) → IsTextOf text m it.line it.moment → line ≡ it.line
-one_line text n line moment is m it other = (in_one_way of_one_line text n m line it.line moment it.moment is other).lines
+one_line law text n line moment is m it other = (law text n m line it.line moment it.moment is other).lines
+
+pub said_all : (n i : ℕ) (lines : List PastLine) (texts : List (List ℕ)) → length texts ≤ i → texts ≡ texts_behind n lines
+    → (found new : List Line) → new ≡ found ++ all_said (take i lines) → new ≡ found ++ all_said lines
+said_all n i lines texts over are found new was =
+    let size = ap (λ (ts : List (List ℕ)). length ts) are ∙ texts_size n lines in
+    was ∙ ap (λ ls. found ++ all_said ls) (take_all i lines (omega (arith, over, size)))

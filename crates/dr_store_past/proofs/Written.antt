@@ -1,5 +1,5 @@
 -- What appending leaves of a past's lines, and why it came to nothing.
-use Rattle.std.proofs.Common.{◌≡◌, ◌+◌, ◌-◌, ◌^◌, ◌<◌, ◌≤◌, ℕ, List, length, take, All, IsTrue, refl, sym, ◌∙◌, ap, subst, arith}
+use Rattle.std.proofs.Common.{◌≡◌, ◌+◌, ◌-◌, ◌^◌, ◌<◌, ◌≤◌, ℕ, List, length, take, All, IsTrue, refl, sym, ◌∙◌, ap, subst, arith, Result, Ok, Err, IsErr, IsErrAnd, IfErr, OnOk}
 use Rattle.std.proofs.lemmas.List.{take_all}
 use Rattle.sqlite_disk.specs.declared.Disk.{Ghosts}
 use Rattle.sqlite_disk.specs.Disk.{MoreFaults}
@@ -14,7 +14,9 @@ use Rattle.dr_store_sealed.proofs.SealLemmas.{count_after}
 use Rattle.dr_store_past.specs.declared.lines.PastLine.{PastLine}
 use Rattle.dr_store_past.specs.Counted.{texts_size}
 use Rattle.dr_store_past.specs.Lines.{texts_behind}
-use Rattle.dr_store_past.specs.Refusals.{FillsFile, IsWhyNoTexts, IsWhyNotSealed}
+use Rattle.dr_store_past.specs.declared.fault.PastFault.{PastFault}
+use Rattle.dr_store_past.specs.declared.fault.PastFault.TheVariants as reason
+use Rattle.dr_store_past.specs.Refusals.{FillsFile, IsWhyNoTexts, IsWhyNotSealed, IsWhyNotTold}
 use Rattle.dr_store_past.specs.Shown.{HasWrittenIn}
 
 module _ (from last : Seal) (lines : List PastLine) (texts : List (List ℕ)) (are : texts ≡ texts_behind from.count lines)
@@ -87,3 +89,44 @@ add_refused g within old from lines texts mid new are same can usable fault.Unco
     let size = ap (λ (ls : List (List ℕ)). length ls) are ∙ texts_size from.count lines in
     let over = told.0 in
     omega (arith, size, over)
+
+-- what an error is of which it is known why
+pub err_told : {A E : Type 0} (P : E → Type 0) (r : Result A E) (why : E) → IsErr r × IsErrAnd r (λ e. e ≡ why) → P why → IfErr r P
+err_told P (Ok value) why is h = tt
+err_told P (Err e) why is h = subst P (sym is.1) h
+
+pub err_map : {A E : Type 0} (P Q : E → Type 0) (r : Result A E) → ((e : E) → P e → Q e) → IfErr r P → IfErr r Q
+err_map P Q (Ok value) f h = tt
+err_map P Q (Err e) f h = f e h
+
+-- the same under less
+pub sealed_under : (A B usable : Type 0) (old new : ℕ) (from : Seal) (lines : List PastLine) → (A → B) → (why : SealFault)
+    → IsWhyNotSealed B usable old new from lines why → IsWhyNotSealed A usable old new from lines why
+sealed_under A B usable old new from lines f (fault.Io error) h = h
+sealed_under A B usable old new from lines f fault.Memory h = tt
+sealed_under A B usable old new from lines f fault.Unusable h = h
+sealed_under A B usable old new from lines f fault.Short h = λ a. h (f a)
+sealed_under A B usable old new from lines f fault.OtherChain h = h
+sealed_under A B usable old new from lines f fault.Broken h = h
+sealed_under A B usable old new from lines f fault.Unfit h = h
+sealed_under A B usable old new from lines f fault.Full h = h
+sealed_under A B usable old new from lines f fault.Uncounted h = h
+
+pub told_under : (A B usable : Type 0) (old new : ℕ) → (A → B) → (why : PastFault) → IsWhyNotTold B usable old new why → IsWhyNotTold A usable old new why
+told_under A B usable old new f (reason.File fault) h = h
+told_under A B usable old new f (reason.Sealed (fault.Io error)) h = λ a. h (f a)
+told_under A B usable old new f (reason.Sealed fault.Memory) h = tt
+told_under A B usable old new f (reason.Sealed fault.Unusable) h = h
+told_under A B usable old new f (reason.Sealed fault.Short) h = h
+told_under A B usable old new f (reason.Sealed fault.OtherChain) h = h
+told_under A B usable old new f (reason.Sealed fault.Broken) h = λ a. h (f a)
+told_under A B usable old new f (reason.Sealed fault.Unfit) h = λ a. h (f a)
+told_under A B usable old new f (reason.Sealed fault.Full) h = h
+told_under A B usable old new f (reason.Sealed fault.Uncounted) h = λ a. h (f a)
+told_under A B usable old new f reason.NoLine h = λ a. h (f a)
+told_under A B usable old new f reason.Later h = h
+told_under A B usable old new f reason.Nowhere h = h
+
+pub ok_map : {A E : Type 0} (P Q : Type 0) (r : Result A E) → (P → Q) → OnOk r P → OnOk r Q
+ok_map P Q (Ok value) f h = f h
+ok_map P Q (Err e) f h = tt

@@ -13,6 +13,7 @@ ghost use Rattle.dr_ledger_read.specs.Reading.{IsTextOf};
 use crate::fault::PastFault;
 use dr_base::{Seq, Text};
 use dr_ledger_history::JournalLine;
+use dr_ledger_read::laws::a_text_is_read_in_one_way;
 use dr_ledger_read::read_sealed;
 use dr_store_sealed::{Seal, read_lines};
 use sqlite_disk::Disk;
@@ -24,6 +25,7 @@ fn line_in(alloc: Global, text: &[u8]) -> Result<JournalLine, PastFault>
         → IsTextOf text.now n it.line it.moment → line ≡ it.line) }
     ensures why { IfErr result (IsWhyNoLine text.now) }
 {
+    a_text_is_read_in_one_way();
     match read_sealed(alloc, text)? {
         Some(sealed) => Ok(sealed.line),
         None => Err(PastFault::NoLine),

@@ -14,6 +14,7 @@ use crate::reading::read_behind;
 use crate::writing::write_behind;
 use dr_base::Seq;
 use dr_ledger_history::JournalLine;
+use dr_ledger_text::laws::texts_are_of_one_line;
 use dr_store_sealed::{Seal, fit};
 use std::alloc::Global;
 
@@ -124,10 +125,10 @@ impl<F: PastFiles> LedgerPast for SealedFiles<F> {
     }
 
     fn turn_to(&mut self, last: &Seal) {
-        if last.offset < self.seal.offset {
-            return;
+        texts_are_of_one_line();
+        if last.offset >= self.seal.offset {
+            self.seal = *last;
         }
-        self.seal = *last;
     }
 
     fn lines_behind(&mut self, after: u64, limit: u32) -> Result<Seq<JournalLine>, PastFault> {

@@ -2,7 +2,7 @@ use Rattle.std.proofs.Common.{◌≡◌, ◌-◌, ◌≤◌, ℕ, List, IsTrue}
 use Rattle.dr_ledger.specs.Books.{Line}
 use Rattle.dr_ledger_history.specs.Lines.{lines_of}
 use Rattle.dr_store_past.specs.Shown.{ShowsPast}
-use Rattle.dr_store_past.proofs.Reading.{IsToldTo}
+use Rattle.dr_store_past.proofs.Onward.{IsToldTo}
 use Rattle.dr_store_past.proofs.reading.read_behind.Given as goal
 
 -- what is found so far, and that a line begins at the place

@@ -39,11 +39,13 @@ module _ (all : List Line) (seen : List ℕ) (seal : Seal) (after limit : ℕ) (
   begun_first = record {
     place = first_place all seen seal it;
     low = omega arith;
-    told = sym (ap (take limit) (drop_none {Line} after) ∙ take_none {Line} limit);
+    told = sym (ap (take limit) (drop_none {X = Line} after) ∙ take_none {X = Line} limit);
   }
 
-  pub begun : (at : Seal) → at ≡ first_seal → IsToldTo all seen seal at after limit []
-  begun at is = subst (λ s. IsToldTo all seen seal s after limit []) (sym is) begun_first
+  pub begun : (at : Seal) → at ≡ first_seal → (found : List JournalLine) → found ≡ [] → IsToldTo all seen seal at after limit (lines_of found)
+  begun at is found none =
+      subst (λ s. IsToldTo all seen seal s after limit (lines_of found)) (sym is)
+      (subst (λ (l : List JournalLine). IsToldTo all seen seal first_seal after limit (lines_of l)) (sym none) begun_first)
 
   pub told_next : (at next : Seal) (texts : List (List ℕ)) (old new : List Line)
       → at.offset ≤ seal.offset → All IsOneLine texts → HasLines seen at texts next → next.offset ≤ seal.offset
@@ -78,7 +80,7 @@ module _ {D : Type 0} (g : Ghosts D) (all : List Line) (seal at : Seal) (first m
     (seen : g.seen mid ≡ g.seen first) (faults : g.faults mid ≡ g.faults first)
     (usable : IsTrue (g.is_usable first) → IsTrue (g.is_usable mid)) (low : at.offset ≤ seal.offset)
     (there : IsTrue (g.is_clean new) → ShowsPast all (g.seen first) seal → IsPlaceOf (g.seen first) at) where
-  Holds : Type 0
+  abbrev pub Holds : Type 0
   Holds = IsTrue (g.is_clean new) × ShowsPast all (g.seen first) seal
 
   is_right : Holds → HasRightLinesTo (g.seen mid) at seal.offset
