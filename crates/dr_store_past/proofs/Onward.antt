@@ -60,7 +60,7 @@ module _ (all : List Line) (seen : List ℕ) (seal : Seal) (after limit : ℕ) (
         low = up;
         told =
             picked it.lines (page_there all seen seal it at was.place low next texts one has within)
-                (was.told ∙ ap (λ l. take limit (drop after l)) (sym (firsts all seen seal it at.count was.low)))
+            (was.told ∙ ap (λ l. take limit (drop after l)) (sym (firsts all seen seal it at.count was.low)))
             ∙ ap (λ l. take limit (drop after l)) (ap (λ k. take k (all_said it.lines)) (sym on) ∙ firsts all seen seal it next.count up);
       }
 

@@ -1,5 +1,6 @@
 -- A past that is shown has no more lines than there are.
-use Rattle.std.proofs.Common.{◌≡◌, ◌+◌, ◌≤◌, ℕ, suc, List, [], ◌∷◌, length, take, map as mapped, refl, sym, ◌∙◌, ap, arith}
+use Rattle.std.proofs.Common.{◌≡◌, ◌+◌, ◌≤◌, ℕ, suc, List, [], ◌∷◌, length, take, map as mapped}
+use Rattle.std.proofs.Common.{refl, sym, ◌∙◌, ap, arith}
 use Rattle.std.proofs.Common.{length-take}
 use Rattle.std.proofs.lemmas.List.{length-map}
 use Rattle.dr_ledger.specs.Books.{Line}
@@ -26,10 +27,10 @@ pub reaches_no_more : (all : List Line) (seen : List ℕ) (seal : Seal) → Show
     → seal.count ≤ length all
 reaches_no_more all seen seal it =
     let count = shown_count all seen seal it in
-    let said : length (all_said it.lines) ≡ length (take seal.count all) = ap (λ (l : List Line). length l) it.said in
+    let said : length (all_said it.lines) ≡ length (take seal.count all) =
+    ap (λ (l : List Line). length l) it.said in
     let size = length-map it.lines said_by in
-    let cut = length-take seal.count all in
-    omega (arith, count, said, size, cut)
+    let cut = length-take seal.count all in omega (arith, count, said, size, cut)
 
 pub none_reached : 0 ≤ 0
 none_reached = omega arith

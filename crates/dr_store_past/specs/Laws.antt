@@ -19,9 +19,9 @@ ShowsOnePast =
 
 -- the file has the lines up to the one seal, and up to the other
 pub record HasEither (left : List ℕ) (seal last : Seal) (before lines : List PastLine) : Type 0
-    where
-  pub old : HasLines left first_seal (texts_behind 0 before) seal
-  pub new : HasLines left first_seal (texts_behind 0 (before ++ lines)) last
+  where
+    pub old : HasLines left first_seal (texts_behind 0 before) seal
+    pub new : HasLines left first_seal (texts_behind 0 (before ++ lines)) last
 
 module _ {D : Type 0} (g : Ghosts D) where
   -- these lines are written in the file from the one seal to the other, now and after a crash

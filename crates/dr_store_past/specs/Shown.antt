@@ -1,5 +1,6 @@
 -- What a file shows of a past, and what it has of it whatever a crash does.
-use Rattle.std.specs.Prelude.{◌≡◌, ◌+◌, ◌^◌, ◌<◌, ℕ, List, length, drop, take, All, Contains, IsTrue}
+use Rattle.std.specs.Prelude.{◌≡◌, ◌+◌, ◌^◌, ◌<◌, ℕ, List, length, drop, take, All, Contains}
+use Rattle.std.specs.Prelude.{IsTrue}
 use Rattle.dr_ledger.specs.Books.{Line}
 use Rattle.sqlite_disk.specs.declared.Disk.{Ghosts}
 use Rattle.dr_store_sealed.specs.declared.seal.Seal.{Seal}

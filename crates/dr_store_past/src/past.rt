@@ -1,5 +1,6 @@
 //! The past of a ledger: lines that have left its tables.
-ghost use Rattle.std.specs.Prelude.{◌≡◌, ◌+◌, ◌≤◌, ◌++◌, ℕ, List, drop, length, take, map as mapped};
+ghost use Rattle.std.specs.Prelude.{◌≡◌, ◌+◌, ◌≤◌, ◌++◌, ℕ, List, drop, length, take};
+ghost use Rattle.std.specs.Prelude.{map as mapped};
 ghost use Rattle.std.specs.Prelude.{All, IfErr, IfOk};
 ghost use Rattle.dr_ledger.specs.Books.{Line};
 ghost use Rattle.dr_ledger_history.specs.Lines.{lines_of};
@@ -40,7 +41,8 @@ pub trait LedgerPast {
     // No wrong answer of a medium has been taken as true.
     ghost is_honest: { Self → Type 0 };
 
-    // So it is, and what is shown is the past: the first of `all_lines`, as many as the seal counts.
+    // So it is, and what is shown is the past: the first of `all_lines`, as many as the seal
+    // counts.
     ghost is_clean: { Self → Type 0 };
 
     // Lines can be sealed into it.
@@ -100,8 +102,8 @@ pub trait LedgerPast {
 
     /// The lines of the past whose numbers lie behind that one, in their order: so many at most.
     ///
-    /// Errors: Sealed; NoLine. That of a broken file, and NoLine, only where what is shown isn't the
-    /// past.
+    /// Errors: Sealed; NoLine. That of a broken file, and NoLine, only where what is shown isn't
+    /// the past.
     fn lines_behind(&mut self, after: u64, limit: u32) -> Result<Seq<JournalLine>, PastFault>
         ensures answer { IfOk result (λ found. is_clean self.new
             → lines_of found ≡ take limit (drop after (past_in Self.all_lines (reach self.old)))) }

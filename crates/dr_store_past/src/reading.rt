@@ -33,11 +33,7 @@ fn line_in(alloc: Global, text: &[u8]) -> Result<JournalLine, PastFault>
 }
 
 /// Adds the lines that have these texts.
-fn push_lines(
-    alloc: Global,
-    found: &mut Seq<JournalLine>,
-    texts: &[Text],
-) -> Result<(), PastFault>
+fn push_lines(alloc: Global, found: &mut Seq<JournalLine>, texts: &[Text]) -> Result<(), PastFault>
     ensures pushed { OnOk result ((n : ℕ) (lines : List LineValue)
         → All IsHeldPast lines → n + length lines < 2 ^ 64
         → texts.now ≡ texts_behind n lines

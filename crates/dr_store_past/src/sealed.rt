@@ -35,11 +35,7 @@ impl<F: PastFiles> SealedFiles<F> {
     /// The past in this file, as far as the seal says. What lies behind is cut off.
     ///
     /// Errors: Sealed, as of `fit`.
-    pub fn over(
-        alloc: Global,
-        file: F::Disk,
-        seal: Seal,
-    ) -> Result<SealedFiles<F>, PastFault>
+    pub fn over(alloc: Global, file: F::Disk, seal: Seal) -> Result<SealedFiles<F>, PastFault>
         ensures reach { IfOk result (λ it. it.seal ≡ seal) }
         ensures shows { IfOk result (λ it. (all : List Line)
             → ShowsPast all (F.Disk.seen file) seal → ShowsPast all (F.Disk.seen it.disk) seal) }
@@ -132,6 +128,12 @@ impl<F: PastFiles> LedgerPast for SealedFiles<F> {
     }
 
     fn lines_behind(&mut self, after: u64, limit: u32) -> Result<Seq<JournalLine>, PastFault> {
-        read_behind(self.alloc, &mut self.disk, &self.seal, after, limit as usize)
+        read_behind(
+            self.alloc,
+            &mut self.disk,
+            &self.seal,
+            after,
+            limit as usize,
+        )
     }
 }

@@ -62,8 +62,9 @@ returns-in_err-pick_lines-in-Ok-clause-why g c =
     let texts = c.in-Ok.texts.items in
     err_told _ _ _ c.from_residual.ensures (λ all.
     unpicked texts c.loop-at.at.count _ _ _ _ _
-    (λ holds.
-        (holds.1.lines,
-        page_there all _ c.args.seal.now holds.1 c.loop-at.at (was.6 all (made.clean holds.0) holds.1).place was.5 c.in-Ok.next texts read.lines
-        (subst (λ file. HasLines file c.loop-at.at texts c.in-Ok.next) (made.shows ∙ was.0) (read.reads holds.0)) read.within))
+    (λ holds. (
+      holds.1.lines,
+      page_there all _ c.args.seal.now holds.1 c.loop-at.at (was.6 all (made.clean holds.0) holds.1).place was.5 c.in-Ok.next texts read.lines
+          (subst (λ file. HasLines file c.loop-at.at texts c.in-Ok.next) (made.shows ∙ was.0) (read.reads holds.0)) read.within,
+    ))
     (rw c.deref.ensures.value at c.in_err-pick_lines-in-Ok.ensures.why))
