@@ -1,5 +1,5 @@
 -- What a write, a cut and a sync leave of the bytes before them.
-use Rattle.std.proofs.Common.{◌≡◌, ℕ, ◌+◌, ◌-◌, ◌<◌, ◌≤◌, List, [], ◌++◌, length, slice_index, Result, Ok, Err, OnOk, refl, sym, ◌∙◌, ap, subst, inl, inr, arith}
+use Rattle.std.proofs.Common.{◌≡◌, ℕ, ◌+◌, ◌-◌, ◌<◌, ◌≤◌, List, [], ◌++◌, length, take, slice_index, Result, Ok, Err, OnOk, refl, sym, ◌∙◌, ap, subst, inl, inr, arith, length-take, get_or-take}
 use Rattle.std.proofs.lemmas.Bool.{cases_lt}
 use Rattle.std.proofs.lemmas.List.{ext_get_or, get_or_append_left, get_or-append-add, get_or-append_right, length-append}
 use Rattle.sqlite_disk.specs.Disk.{Cut, Follows, Holds, Only, Torn}
@@ -51,6 +51,32 @@ endures_fewer from old new bytes was is same fewer old_part =
 pub endures_synced : (from : ℕ) (seen bytes : List ℕ) (is : List ℕ → Type 0) → Only seen is → Holds seen from bytes → Endures seen is from bytes
 endures_synced from seen bytes is only holds =
     record { now = holds; after_crash = λ left may. subst (λ file. Holds file from bytes) (sym (only left may)) holds }
+
+-- All before the place of a write, and before both ends of a cut, stays.
+pub same_torn : (at n : ℕ) (old new : List ℕ) → Torn at n old new → at ≤ length old → take at new ≡ take at old
+same_torn at n old new torn low =
+    let was = length-take at old in
+    let is = length-take at new in
+    let more = torn.no_shorter in
+    ext_get_or 0 (take at new) (take at old) (omega (arith, was, is, more, low)) (λ i less.
+    get_or-take at new i 0 (omega (arith, less, is))
+    ∙ torn.below i (omega (arith, less, is, low)) (omega (arith, less, is))
+    ∙ sym (get_or-take at old i 0 (omega (arith, less, is))))
+
+pub same_cut : (n at : ℕ) (old new : List ℕ) → at ≤ n → Cut n old new → at ≤ length old → take at new ≡ take at old
+same_cut n at old new before cut low =
+    let was = length-take at old in
+    let is = length-take at new in
+    let more = cut.no_shorter in
+    ext_get_or 0 (take at new) (take at old) (omega (arith, was, is, more, before, low)) (λ i less.
+    get_or-take at new i 0 (omega (arith, less, is))
+    ∙ cut.below i (omega (arith, less, is, low)) (omega (arith, less, is, before))
+    ∙ sym (get_or-take at old i 0 (omega (arith, less, is))))
+
+pub same_put : (at n end : ℕ) (old mid new : List ℕ) → Torn at n old mid → Cut end mid new → end ≡ at + n → at ≤ length old → take at new ≡ take at old
+same_put at n end old mid new torn cut is low =
+    let more = torn.no_shorter in
+    same_cut end at mid new (omega (arith, is)) cut (omega (arith, more, low)) ∙ same_torn at n old mid torn low
 
 -- what stands behind other bytes is there with them
 pub holds_both : (file : List ℕ) (from : ℕ) (xs ys : List ℕ) → Holds file from xs → Holds file (from + length xs) ys → Holds file from (xs ++ ys)

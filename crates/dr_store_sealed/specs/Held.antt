@@ -42,17 +42,20 @@ module _ {D : Type 0} (g : Ghosts D) where
   IsUsable it = IsTrue (g.is_usable it.disk)
 
   -- a sync failed before, and nothing was asked of the disk
-  abbrev pub WasUnusable : LineFile D → LineFile D → Type 0
-  WasUnusable old new = (IsUsable old → ⊥) × (new.disk ≡ old.disk)
+  abbrev pub WasUnusable : D → D → Type 0
+  WasUnusable old new = (IsTrue (g.is_usable old) → ⊥) × (new ≡ old)
 
-  -- why lines were not written
+  -- why lines were not written behind a seal into its file
+  abbrev pub IsWhyNotAdded : Seal → List (List ℕ) → D → D → SealFault → Type 0
+  IsWhyNotAdded seal lines old new (fault.Io error) = MoreFaults (g.faults old) (g.faults new)
+  IsWhyNotAdded seal lines old new fault.Memory = new ≡ old
+  IsWhyNotAdded seal lines old new fault.Unusable = WasUnusable old new
+  IsWhyNotAdded seal lines old new fault.Unfit = (All IsOneLine lines → ⊥) × (new ≡ old)
+  IsWhyNotAdded seal lines old new fault.Full = (full ≤ seal.offset) × (new ≡ old)
+  IsWhyNotAdded seal lines old new fault.Uncounted =
+      (2 ^ 64 ≤ seal.count + length lines) × (new ≡ old)
+  IsWhyNotAdded seal lines old new other = ⊥
+
+  -- the same of a file with its seal
   abbrev pub IsWhyNotAppended : List (List ℕ) → LineFile D → LineFile D → SealFault → Type 0
-  IsWhyNotAppended lines old new (fault.Io error) =
-      MoreFaults (g.faults old.disk) (g.faults new.disk)
-  IsWhyNotAppended lines old new fault.Memory = new.disk ≡ old.disk
-  IsWhyNotAppended lines old new fault.Unusable = WasUnusable old new
-  IsWhyNotAppended lines old new fault.Unfit = (All IsOneLine lines → ⊥) × (new.disk ≡ old.disk)
-  IsWhyNotAppended lines old new fault.Full = (full ≤ old.seal.offset) × (new.disk ≡ old.disk)
-  IsWhyNotAppended lines old new fault.Uncounted =
-      (2 ^ 64 ≤ old.seal.count + length lines) × (new.disk ≡ old.disk)
-  IsWhyNotAppended lines old new other = ⊥
+  IsWhyNotAppended lines old new why = IsWhyNotAdded old.seal lines old.disk new.disk why

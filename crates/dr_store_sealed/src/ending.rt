@@ -1,5 +1,5 @@
 //! The end of a file: bytes that are put there, and the last line's chain.
-ghost use Rattle.std.specs.Prelude.{◌≡◌, ◌+◌, ◌<◌, ◌≤◌, ℕ, List, length, IsTrue, IfErr, OnOk};
+ghost use Rattle.std.specs.Prelude.{◌≡◌, ◌+◌, ◌<◌, ◌≤◌, ℕ, List, length, take, IsTrue, IfErr, OnOk};
 ghost use Rattle.sqlite_disk.specs.Disk.{Holds, Only};
 ghost use Rattle.dr_store_sealed.specs.Files.{EndsAs, Endures};
 ghost use Rattle.dr_store_sealed.specs.Refusals.{IsWhyNotPut, IsWhyNoEnd};
@@ -14,6 +14,7 @@ use std::alloc::Global;
 /// Writes the bytes, ends the file behind them, and syncs.
 ///
 /// Whatever comes of it, all before them stays what it was, also after a crash.
+#[tactic(auto, using(crate::proofs::FileLemmas::same_torn, crate::proofs::FileLemmas::same_put))]
 pub fn put_end<D: Disk>(file: &mut D, at: usize, bytes: &[u8], end: usize) -> Result<(), SealFault>
     requires usable { IsTrue (D.Disk.is_usable file.old) }
     requires end { end ≡ at + length bytes.now }
@@ -28,6 +29,8 @@ pub fn put_end<D: Disk>(file: &mut D, at: usize, bytes: &[u8], end: usize) -> Re
         → from + length kept ≤ at
         → Endures (D.Disk.seen file.old) (D.Disk.may_leave file.old) from kept
         → Endures (D.Disk.seen file.new) (D.Disk.may_leave file.new) from kept }
+    ensures same { at ≤ length (D.Disk.seen file.old)
+        → take at (D.Disk.seen file.new) ≡ take at (D.Disk.seen file.old) }
     ensures clean { IsTrue (D.Disk.is_clean file.new) → IsTrue (D.Disk.is_clean file.old) }
     ensures usable { OnOk result (IsTrue (D.Disk.is_usable file.new)) }
     ensures faults { OnOk result (D.Disk.faults file.new ≡ D.Disk.faults file.old) }

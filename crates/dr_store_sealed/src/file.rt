@@ -11,8 +11,7 @@ ghost use Rattle.dr_store_sealed.specs.Held.{seal_of, shown};
 ghost use Rattle.dr_store_sealed.specs.Held.{IsWhyNotAppended};
 ghost use Rattle.dr_store_sealed.specs.Refusals.{IsWhyNotFit, IsWhyNotRead, IsWhyNotWhole};
 
-use crate::ending::put_end;
-use crate::entries::entries_of;
+use crate::appending::append_to;
 use crate::fault::SealFault;
 use crate::fitting::fit;
 use crate::scanning::read_lines;
@@ -63,14 +62,7 @@ impl<D: Disk> LineFile<D> {
         ensures usable { OnOk result (IsUsable D.Disk self.new) }
         ensures why { IfErr result (IsWhyNotAppended D.Disk lines.now self.old self.new) }
     {
-        if !self.disk.may_be_used() {
-            return Err(SealFault::Unusable);
-        }
-        if self.seal.is_full() {
-            return Err(SealFault::Full);
-        }
-        let (bytes, last) = entries_of(alloc, &self.seal, lines)?;
-        put_end(&mut self.disk, self.seal.offset, &bytes, last.offset)?;
+        let last = append_to(alloc, &mut self.disk, &self.seal, lines)?;
         self.seal = last;
         Ok(last)
     }

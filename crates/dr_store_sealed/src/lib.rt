@@ -5,6 +5,7 @@
 //! the number of its file, and where it ends there. What lies behind that place counts for nothing.
 #![tactic(auto)]
 
+mod appending;
 mod ending;
 mod entries;
 mod fault;
@@ -17,6 +18,7 @@ mod reading;
 mod scanning;
 mod seal;
 
+pub use appending::append_to;
 pub use fault::SealFault;
 pub use file::{LineFile, UnfitFile};
 pub use fitting::fit;

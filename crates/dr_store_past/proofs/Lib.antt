@@ -1,0 +1,5 @@
+pub mod Pages
+pub mod Onward
+pub mod Shows
+pub mod Told
+pub mod Written

@@ -1,0 +1,6 @@
+pub mod Counted
+pub mod Laws
+pub mod Lines
+pub mod Paging
+pub mod Refusals
+pub mod Shown

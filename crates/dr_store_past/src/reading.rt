@@ -1,0 +1,108 @@
+//! Lines of a past, read from its file.
+ghost use Rattle.std.specs.Prelude.{◌≡◌, ◌+◌, ◌^◌, ◌<◌, ◌≤◌, ◌++◌, ℕ, List, drop, length, take};
+ghost use Rattle.std.specs.Prelude.{All, IfErr, IfOk, IsTrue, OnOk};
+ghost use Rattle.dr_ledger.specs.Books.{Line};
+ghost use Rattle.dr_ledger_history.specs.Lines.{lines_of};
+ghost use Rattle.dr_store_past.specs.declared.lines.PastLine.{PastLine as LineValue};
+ghost use Rattle.dr_store_past.specs.Lines.{IsHeldPast, all_said, past_in, texts_behind};
+ghost use Rattle.dr_store_past.specs.Paging.{IsPage, IsWhyNoLine, IsWhyNoPage};
+ghost use Rattle.dr_store_past.specs.Refusals.{IsWhyNotTold};
+ghost use Rattle.dr_store_past.specs.Shown.{ShowsPast};
+ghost use Rattle.dr_ledger_read.specs.Reading.{IsTextOf};
+
+use crate::fault::PastFault;
+use dr_base::{Seq, Text};
+use dr_ledger_history::JournalLine;
+use dr_ledger_read::laws::a_text_is_read_in_one_way;
+use dr_ledger_read::read_sealed;
+use dr_store_sealed::{Seal, read_lines};
+use sqlite_disk::Disk;
+use std::alloc::Global;
+
+/// The line that has this text.
+fn line_in(alloc: Global, text: &[u8]) -> Result<JournalLine, PastFault>
+    ensures read { IfOk result (λ line. (n : ℕ) (it : LineValue)
+        → IsTextOf text.now n it.line it.moment → line ≡ it.line) }
+    ensures why { IfErr result (IsWhyNoLine text.now) }
+{
+    a_text_is_read_in_one_way();
+    match read_sealed(alloc, text)? {
+        Some(sealed) => Ok(sealed.line),
+        None => Err(PastFault::NoLine),
+    }
+}
+
+/// Adds the lines that have these texts.
+fn push_lines(alloc: Global, found: &mut Seq<JournalLine>, texts: &[Text]) -> Result<(), PastFault>
+    ensures pushed { OnOk result ((n : ℕ) (lines : List LineValue)
+        → All IsHeldPast lines → n + length lines < 2 ^ 64
+        → texts.now ≡ texts_behind n lines
+        → lines_of found.new ≡ lines_of found.old ++ all_said lines) }
+    ensures why { IfErr result (IsWhyNoPage texts.now) }
+{
+    for text in texts {
+        let line = line_in(alloc, text.as_bytes())?;
+        found.push(line)?;
+    }
+    Ok(())
+}
+
+/// Of the texts of lines behind that count, adds those whose numbers lie behind `after`, while
+/// fewer than `limit` are found.
+fn pick_lines(
+    alloc: Global,
+    found: &mut Seq<JournalLine>,
+    texts: &[Text],
+    count: u64,
+    after: u64,
+    limit: usize,
+) -> Result<(), PastFault>
+    ensures picked { OnOk result ((all : List LineValue)
+        → IsPage texts.now count all
+        → lines_of found.old ≡ take limit (drop after (take count (all_said all)))
+        → lines_of found.new
+        ≡ take limit (drop after (take (count + length texts.now) (all_said all)))) }
+    ensures why { IfErr result (IsWhyNoPage texts.now) }
+{
+    let skip = (after.saturating_sub(count)).min(texts.len() as u64) as usize;
+    let rest = &texts[skip..];
+    let more = rest.len().min(limit.saturating_sub(found.len()));
+    push_lines(alloc, found, &rest[..more])
+}
+
+/// The lines whose numbers lie behind that one, up to the seal, in their order: so many at most.
+/// They are read from the beginning of the file on.
+pub fn read_behind<D: Disk>(
+    alloc: Global,
+    file: &mut D,
+    seal: &Seal,
+    after: u64,
+    limit: usize,
+) -> Result<Seq<JournalLine>, PastFault>
+    ensures answer { IfOk result (λ found. (all : List Line)
+        → IsTrue (D.Disk.is_clean file.new) → ShowsPast all (D.Disk.seen file.old) seal.now
+        → lines_of found ≡ take limit (drop after (past_in all seal.now))) }
+    ensures shows { D.Disk.seen file.new ≡ D.Disk.seen file.old }
+    ensures leaves { (c : List ℕ) → D.Disk.may_leave file.new c → D.Disk.may_leave file.old c }
+    ensures clean { IsTrue (D.Disk.is_clean file.new) → IsTrue (D.Disk.is_clean file.old) }
+    ensures why { IfErr result (λ fault. (all : List Line) → IsWhyNotTold
+        (IsTrue (D.Disk.is_clean file.new) × ShowsPast all (D.Disk.seen file.old) seal.now)
+        (IsTrue (D.Disk.is_usable file.old))
+        (D.Disk.faults file.old) (D.Disk.faults file.new) fault) }
+{
+    let mut found = Seq::new(alloc);
+    let mut at = Seal::first();
+    while at.offset < seal.offset {
+        if found.len() >= limit {
+            return Ok(found);
+        }
+        match read_lines(alloc, file, &at, seal.offset) {
+            Ok((texts, next)) => {
+                pick_lines(alloc, &mut found, &texts, at.count, after, limit)?;
+                at = next;
+            }
+            Err(fault) => return Err(PastFault::Sealed(fault)),
+        }
+    }
+    Ok(found)
+}
