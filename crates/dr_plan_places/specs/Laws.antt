@@ -166,12 +166,15 @@ abbrev pub AddressOfACallerIsIllFormed : Type 0
 AddressOfACallerIsIllFormed =
     HasFlaw (IsNodeOf Three) calling (record { key = codes "address"; wrong = IllFormed })
 
--- a text of two nodes that say nothing
+-- a text of two nodes, of which the second says nothing
+abbrev pub named : Members
+named = member (codes "name") (string (codes "A")) no_members
+
 abbrev pub two_nodes : Members
 two_nodes = member (codes "node")
-    (array (item (table no_members) (item (table no_members) no_items))) no_members
+    (array (item (table named) (item (table no_members) no_items))) no_members
 
--- the second has no name
+-- it has no name
 abbrev pub SecondNodeHasNoName : Type 0
 SecondNodeHasNoName =
     IsIn two_nodes (OfNode 1 Own) (record { key = codes "name"; wrong = Missing })
