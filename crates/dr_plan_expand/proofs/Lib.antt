@@ -15,3 +15,4 @@ pub mod Summed
 pub mod Bounded
 pub mod SmallPlan
 pub mod SmallSaid
+pub mod AllStorage

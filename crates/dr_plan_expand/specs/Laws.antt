@@ -1,9 +1,11 @@
 -- Laws of expansions, and small words.
 use Rattle.std.specs.Prelude.{◌≡◌, ◌≢◌, ℕ, ◌+◌, ◌<◌, ◌≤◌, List, [], ◌∷◌, codes, length, replicate}
-use Rattle.std.specs.Prelude.{sum_by}
+use Rattle.std.specs.Prelude.{sum_by, map, flat_map}
 use Rattle.toml.specs.Data.{Members}
 use Rattle.dr_base.specs.Texts.{Text}
-use Rattle.dr_plan_expand.specs.Words.{YieldsNodes}
+use Rattle.dr_plan_expand.specs.Lists.{Yields}
+use Rattle.dr_plan_expand.specs.Standard.{class_tables, usual_tables}
+use Rattle.dr_plan_expand.specs.Words.{Known, YieldsNodes, YieldsOfSet}
 use Rattle.dr_route.specs.declared.accept.Callers.{Callers}
 use Rattle.dr_route.specs.declared.accept.Callers.TheVariants as callers
 use Rattle.dr_route.specs.declared.rule.Rule.{Rule}
@@ -100,6 +102,10 @@ GroupCountsItsNodes =
 abbrev pub StrangerCountsForOne : Type 0
 StrangerCountsForOne = word_nodes [] (codes "@scanners") ≡ 1
 
+-- and so does the word without a byte
+abbrev pub EmptyWordCountsForOne : Type 0
+EmptyWordCountsForOne = word_nodes [] [] ≡ 1
+
 -- a word of 129 bytes is more than a plan may stand for
 abbrev pub LongWordIsTooMuch : Type 0
 LongWordIsTooMuch = most < word_nodes [] (replicate 129 65)
@@ -113,3 +119,11 @@ abbrev pub ListOfManyWordsIsTooMuch : Type 0
 ListOfManyWordsIsTooMuch =
     (size : Text → ℕ) (words : List Text)
     → 1024 < sum_by size words → most < words_size size words
+
+-- the product's set of all storage classes is every class of the tables, in their order
+abbrev pub every_class : List Text
+every_class = flat_map (map (λ (known : Known). known.2)) class_tables
+
+abbrev pub AllStorageIsEveryClass : Type 0
+AllStorageIsEveryClass =
+    Yields (Yields (YieldsOfSet (codes "all-storage"))) usual_tables every_class

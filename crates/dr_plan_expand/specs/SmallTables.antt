@@ -35,8 +35,11 @@ abbrev pub ClassIsCalledByItsName : Type 0
 ClassIsCalledByItsName = Calls ct_alone (codes "1.2") (codes "CT Image")
 
 -- a UID stands for itself, also where a table has it for a keyword
+abbrev pub odd_table : List (List Known)
+odd_table = ((codes "1", codes "One", codes "2") ∷ []) ∷ []
+
 abbrev pub UidStandsForItself : Type 0
-UidStandsForItself = IsClassOf (((codes "1", codes "One", codes "2") ∷ []) ∷ []) (codes "1") (codes "1")
+UidStandsForItself = IsClassOf odd_table (codes "1") (codes "1")
 
 -- sets that come with the product: one in two parts, and another one
 abbrev pub products : List (List OfSet)

@@ -3,9 +3,9 @@ ghost use Rattle.dr_plan_expand.specs.Laws.{EachTextExpandsToOne, ExpansionsAreT
 ghost use Rattle.dr_plan_expand.specs.Laws.{NoneExpandsAndFails, OneExpandFaultIsTold};
 ghost use Rattle.dr_plan_expand.specs.Laws.{NodeStandsForItself, StrangeGroupStandsForNone};
 ghost use Rattle.dr_plan_expand.specs.Laws.{MeaningsAreBounded, EachTextHasAnAnswer};
-ghost use Rattle.dr_plan_expand.specs.Laws.{GroupCountsItsNodes, StrangerCountsForOne};
+ghost use Rattle.dr_plan_expand.specs.Laws.{GroupCountsItsNodes, StrangerCountsForOne, EmptyWordCountsForOne};
 ghost use Rattle.dr_plan_expand.specs.Laws.{LongWordIsTooMuch, LongListIsTooMuch};
-ghost use Rattle.dr_plan_expand.specs.Laws.{ListOfManyWordsIsTooMuch};
+ghost use Rattle.dr_plan_expand.specs.Laws.{ListOfManyWordsIsTooMuch, AllStorageIsEveryClass};
 ghost use Rattle.dr_plan_expand.specs.Small.{SmallPlanIsCounted, SmallPlanMeans};
 ghost use Rattle.dr_plan_expand.specs.Small.{SmallPartIsSpelled, OneNodeIsItsOwn};
 ghost use Rattle.dr_plan_expand.specs.SmallTables.{KeywordNamesItsClass, NameNamesItsClass};
@@ -24,8 +24,8 @@ pub fn an_expansion_is_one_and_its_own()
     ensures own { ExpansionsAreTheirOwn }
 {}
 
-/// Want of memory aside, a text that fails to expand has one fault, and expands to nothing; and each
-/// text expands or fails.
+/// Want of memory aside, a text that fails to expand has one fault, and expands to nothing; and
+/// each text expands or fails.
 pub fn a_text_expands_or_has_one_fault()
     ensures either { NoneExpandsAndFails }
     ensures one { OneExpandFaultIsTold }
@@ -49,6 +49,7 @@ pub fn a_bounded_plan_means_a_bounded_one()
 pub fn small_lists_are_counted()
     ensures group { GroupCountsItsNodes }
     ensures stranger { StrangerCountsForOne }
+    ensures empty { EmptyWordCountsForOne }
     ensures word { LongWordIsTooMuch }
     ensures list { LongListIsTooMuch }
     ensures words { ListOfManyWordsIsTooMuch }
@@ -96,4 +97,9 @@ pub fn small_tables_say_plans()
     ensures flow { FlowIsSaid }
     ensures definitions { DefinitionsAreSaid }
     ensures format { SecondFormatIsNone }
+{}
+
+/// The product's set of all storage classes is every class of the tables.
+pub fn the_set_of_all_has_every_class()
+    ensures { AllStorageIsEveryClass }
 {}

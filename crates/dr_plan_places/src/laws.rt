@@ -11,6 +11,7 @@ ghost use Rattle.dr_plan_places.specs.Laws.{SecondIsOver, ThirdIsNotFirstOver};
 ghost use Rattle.dr_plan_places.specs.Laws.{FourthFormatIsNotMissing, FourthFormatIsAFlaw};
 ghost use Rattle.dr_plan_places.specs.Laws.{AtIsMissing, AtIsNotIllFormed, NoColourIsUnknown};
 ghost use Rattle.dr_plan_places.specs.Laws.{AddressOfACallerIsIllFormed, SecondNodeHasNoName};
+ghost use Rattle.dr_plan_places.specs.Shown.{FiguresAreShown};
 
 /// Tables with a flaw at any place write no plan, and in format 3 say none.
 pub fn places_refute()
@@ -68,4 +69,9 @@ pub fn flaws_are_told_apart()
     ensures none { NoColourIsUnknown }
     ensures calls { AddressOfACallerIsIllFormed }
     ensures second { SecondNodeHasNoName }
+{}
+
+/// How small texts are shown between quotes.
+pub fn figures_are_shown()
+    ensures { FiguresAreShown }
 {}

@@ -16,3 +16,6 @@ returns-clause-list c = (refl, omega arith)
 
 pub returns-clause-words : goal.returns-clause-words
 returns-clause-words c = many_words
+
+pub returns-clause-empty : goal.returns-clause-empty
+returns-clause-empty c = refl
