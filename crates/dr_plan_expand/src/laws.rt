@@ -3,7 +3,8 @@ ghost use Rattle.dr_plan_expand.specs.Laws.{EachTextExpandsToOne, ExpansionsAreT
 ghost use Rattle.dr_plan_expand.specs.Laws.{NoneExpandsAndFails, OneExpandFaultIsTold};
 ghost use Rattle.dr_plan_expand.specs.Laws.{NodeStandsForItself, StrangeGroupStandsForNone};
 ghost use Rattle.dr_plan_expand.specs.Laws.{MeaningsAreBounded, EachTextHasAnAnswer};
-ghost use Rattle.dr_plan_expand.specs.Laws.{GroupCountsItsNodes, StrangerCountsForOne, EmptyWordCountsForOne};
+ghost use Rattle.dr_plan_expand.specs.Laws.{GroupCountsItsNodes, StrangerCountsForOne};
+ghost use Rattle.dr_plan_expand.specs.Laws.{EmptyWordCountsForOne};
 ghost use Rattle.dr_plan_expand.specs.Laws.{LongWordIsTooMuch, LongListIsTooMuch};
 ghost use Rattle.dr_plan_expand.specs.Laws.{ListOfManyWordsIsTooMuch, AllStorageIsEveryClass};
 ghost use Rattle.dr_plan_expand.specs.Small.{SmallPlanIsCounted, SmallPlanMeans};

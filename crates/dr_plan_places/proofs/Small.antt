@@ -1,5 +1,5 @@
 -- Flaws of small tables.
-use Rattle.std.proofs.Common.{◌≡◌, refl, sym, ap, ◌∙◌, subst, ℕ, pos, Option, Some, [], ◌∷◌, codes, get_or, Contains, arith, inl, inr, lit<}
+use Rattle.std.proofs.Common.{◌≡◌, false, refl, sym, ap, ◌∙◌, subst, ℕ, pos, Option, Some, [], ◌∷◌, codes, get_or, Contains, arith, inl, inr, lit<}
 use Rattle.std.specs.Prelude.{All}
 use Rattle.std.proofs.lemmas.List.Elements.{All-nil}
 use Rattle.dr_route.specs.declared.rule.FieldPattern.{FieldPattern}

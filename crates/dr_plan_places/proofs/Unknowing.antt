@@ -1,8 +1,12 @@
 -- Where no list has a word that stands for nothing, no table has one.
-use Rattle.std.proofs.Common.{◌≡◌, ℕ, refl, subst, List, length, Some, arith}
-use Rattle.std.specs.Prelude.{All, slice_get}
+use Rattle.std.proofs.Common.{◌≡◌, ℕ, refl, sym, subst, List, length, Option, Some, None, Result, Ok, Err, arith}
+use Rattle.std.specs.Prelude.{All, IfOk, MatchOption, slice_get}
 use Rattle.std.proofs.lemmas.Option.{slice_get_within, get_or_from_slice_get}
 use Rattle.dr_base.specs.Texts.{Text}
+use Rattle.dr_route.specs.declared.accept.Callers.{Callers}
+use Rattle.dr_route.specs.declared.accept.Callers.TheVariants as callers
+use Rattle.dr_plan_expand.specs.declared.short.AnyWords.{AnyWords}
+use Rattle.dr_plan_expand.specs.declared.short.AnyWords.TheVariants as any
 use Rattle.dr_plan_expand.specs.declared.short.ShortRow.{ShortRow}
 use Rattle.dr_plan_expand.specs.declared.short.ShortRule.{ShortRule}
 use Rattle.dr_plan_expand.specs.declared.short.ShortNode.{ShortNode}
@@ -23,9 +27,22 @@ use Rattle.dr_plan_places.specs.declared.strangers.WordKey.TheVariants.{From, Cl
 pub of_each : {X : Type 0} (P : X → Type 0) (xs : List X) (i : ℕ) (x : X) → All P xs → slice_get xs i ≡ Some x → P x
 of_each P xs i x all at = subst P (get_or_from_slice_get xs i x x at) (all i x (slice_get_within xs i x at))
 
--- no word of a list stands for nothing
-pub none_among : (P : Text → Type 0) (words : List Text) → All (λ word. HasNone (λ (found : Text). (found ≡ word) × P found)) words → HasNone (λ (word : Text). IsAmong words word × P word)
-none_among P words none word h = of_each (λ w. HasNone (λ (found : Text). (found ≡ w) × P found)) words h.0.0 word none h.0.1 word (refl, h.1)
+-- the list of a field that isn't `*`
+pub in_callers : {E : Type 0} (l : Lookups) (from : Callers) (words list : List Text) → from ≡ callers.Listed words → list ≡ words → (result : Result (Option Stranger) E) →
+    IfOk result (λ found. MatchOption found (HasNone (λ (w : Text). IsAmong list w × IsNoNode l w)) (λ s. (s.key ≡ From) × IsAmong list s.word × IsNoNode l s.word)) →
+    IfOk result (λ found. MatchOption found (HasNone (λ (w : Text). IsAmongCallers from w × IsNoNode l w)) (λ s. (s.key ≡ From) × IsAmongCallers from s.word × IsNoNode l s.word))
+in_callers l from words list is same result h =
+    let P : Callers → Type 0 = λ c. IfOk result (λ found. MatchOption found (HasNone (λ (w : Text). IsAmongCallers c w × IsNoNode l w)) (λ s. (s.key ≡ From) × IsAmongCallers c s.word × IsNoNode l s.word)) in
+    let Q : List Text → Type 0 = λ ws. IfOk result (λ found. MatchOption found (HasNone (λ (w : Text). IsAmong ws w × IsNoNode l w)) (λ s. (s.key ≡ From) × IsAmong ws s.word × IsNoNode l s.word)) in
+    subst P (sym is) (subst Q same h)
+
+pub in_words : {E : Type 0} (Free : Text → Type 0) (key : WordKey) (field : AnyWords) (words list : List Text) → field ≡ any.Listed words → list ≡ words → (result : Result (Option Stranger) E) →
+    IfOk result (λ found. MatchOption found (HasNone (λ (w : Text). IsAmong list w × Free w)) (λ s. (s.key ≡ key) × IsAmong list s.word × Free s.word)) →
+    IfOk result (λ found. MatchOption found (HasNone (λ (w : Text). IsAmongWords field w × Free w)) (λ s. (s.key ≡ key) × IsAmongWords field s.word × Free s.word))
+in_words Free key field words list is same result h =
+    let P : AnyWords → Type 0 = λ f. IfOk result (λ found. MatchOption found (HasNone (λ (w : Text). IsAmongWords f w × Free w)) (λ s. (s.key ≡ key) × IsAmongWords f s.word × Free s.word)) in
+    let Q : List Text → Type 0 = λ ws. IfOk result (λ found. MatchOption found (HasNone (λ (w : Text). IsAmong ws w × Free w)) (λ s. (s.key ≡ key) × IsAmong ws s.word × Free s.word)) in
+    subst P (sym is) (subst Q same h)
 
 module _ (l : Lookups) where
   abbrev pub RowFree : ShortRow → Type 0
@@ -84,3 +101,35 @@ module _ (l : Lookups) where
   plan_free short nodes flows Root key word h = h
   plan_free short nodes flows (OfNode index part) key word h = of_each NodeFree short.nodes index h.0 nodes h.1 (part, record { key = key; word = word }) h.2
   plan_free short nodes flows (OfFlow index) key word h = of_each FlowFree short.flows index h.0 flows h.1 (record { key = key; word = word }) h.2
+
+  -- the searches in a row, a rule, a flow and a plan
+  pub row_found : {E : Type 0} (row : ShortRow) (list : List Text) → list ≡ row.classes → HasNone (λ (w : Text). IsAmongCallers row.from w × IsNoNode l w) → (result : Result (Option Stranger) E) →
+      IfOk result (λ found. MatchOption found (HasNone (λ (w : Text). IsAmong list w × IsNoClass l w)) (λ s. (s.key ≡ Class) × IsAmong list s.word × IsNoClass l s.word)) →
+      IfOk result (λ found. MatchOption found (RowFree row) (λ s. IsInRow l row s.key s.word))
+  row_found row list same from (Ok None) h = row_free row from (subst (λ (ws : List Text). HasNone (λ (w : Text). IsAmong ws w × IsNoClass l w)) same h)
+  row_found row list same from (Ok (Some s)) h =
+      subst (λ (k : WordKey). IsInRow l row k s.word) (sym h.0) (subst (λ (ws : List Text). IsAmong ws s.word) same h.1, h.2)
+  row_found row list same from (Err e) h = tt
+
+  pub rule_found : {E : Type 0} (rule : ShortRule) (list : List Text) → list ≡ rule.to → HasNone (λ (w : Text). IsAmongWords rule.from w × IsNoNode l w) → HasNone (λ (w : Text). IsAmongWords rule.classes w × IsNoClass l w) →
+      (result : Result (Option Stranger) E) →
+      IfOk result (λ found. MatchOption found (HasNone (λ (w : Text). IsAmong list w × IsNoNode l w)) (λ s. (s.key ≡ To) × IsAmong list s.word × IsNoNode l s.word)) →
+      IfOk result (λ found. MatchOption found (RuleFree rule) (λ s. IsInRule l rule s.key s.word))
+  rule_found rule list same from classes (Ok None) h = rule_free rule from classes (subst (λ (ws : List Text). HasNone (λ (w : Text). IsAmong ws w × IsNoNode l w)) same h)
+  rule_found rule list same from classes (Ok (Some s)) h =
+      subst (λ (k : WordKey). IsInRule l rule k s.word) (sym h.0) (subst (λ (ws : List Text). IsAmong ws s.word) same h.1, h.2)
+  rule_found rule list same from classes (Err e) h = tt
+
+  pub flow_found : {E : Type 0} (flow : ShortFlow) (ats tos list : List Text) → ats ≡ flow.at → tos ≡ flow.to → list ≡ flow.classes →
+      HasNone (λ (w : Text). IsAmong ats w × IsNoNode l w) → HasNone (λ (w : Text). IsAmong tos w × IsNoNode l w) → (result : Result (Option Stranger) E) →
+      IfOk result (λ found. MatchOption found (HasNone (λ (w : Text). IsAmong list w × IsNoClass l w)) (λ s. (s.key ≡ Class) × IsAmong list s.word × IsNoClass l s.word)) →
+      IfOk result (λ found. MatchOption found (FlowFree flow) (λ s. IsInFlow l flow s.key s.word))
+  flow_found flow ats tos list same_at same_to same at to (Ok None) h =
+      let P : List Text → Type 0 = λ ws. HasNone (λ (w : Text). IsAmong ws w × IsNoNode l w) in
+      flow_free flow (subst P same_at at) (subst P same_to to) (subst (λ (ws : List Text). HasNone (λ (w : Text). IsAmong ws w × IsNoClass l w)) same h)
+  flow_found flow ats tos list same_at same_to same at to (Ok (Some s)) h =
+      subst (λ (k : WordKey). IsInFlow l flow k s.word) (sym h.0) (subst (λ (ws : List Text). IsAmong ws s.word) same h.1, h.2)
+  flow_found flow ats tos list same_at same_to same at to (Err e) h = tt
+
+  pub none_found : (short : ShortPlan) (nodes : List ShortNode) (flows : List ShortFlow) → nodes ≡ short.nodes → flows ≡ short.flows → All NodeFree nodes → All FlowFree flows → HasNoStranger l short
+  none_found short nodes flows same_nodes same_flows all_nodes all_flows = plan_free short (subst (All NodeFree) same_nodes all_nodes) (subst (All FlowFree) same_flows all_flows)
