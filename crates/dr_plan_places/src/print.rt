@@ -90,7 +90,7 @@ pub fn add_quoted(out: &mut Vec<u8>, text: &[u8]) -> Result<(), AllocError>
 
 /// Adds a name in quotes, and a question mark for none.
 pub fn add_name(out: &mut Vec<u8>, name: Option<&Text>) -> Result<(), AllocError>
-    ensures { OnOk result (out.new.items ≡ out.old.items ++ shown_name name) }
+    ensures { OnOk result (out.new.items ≡ out.old.items ++ shown_name name.entry) }
 {
     match name {
         Some(name) => add_quoted(out, name.as_bytes()),
