@@ -199,12 +199,19 @@ def read_edit(path):
     return Edit(path, texts, functions, beyond, law)
 
 
+def fits(edit, group):
+    """Whether an edit can be tried together with those of a group: it changes other functions, and the text of each is there once when
+    the ones before have made theirs."""
+    if edit.beyond or any(it.beyond or not it.functions.isdisjoint(edit.functions) for it in group):
+        return False
+    return merged([*group, edit]) is not None
+
+
 def grouped(edits):
     """Puts edits that change different functions into as few groups as can be; each that changes more than functions is alone."""
     groups = []
     for edit in edits:
-        place = next((it for it in groups if not edit.beyond and all(
-            not other.beyond and other.functions.isdisjoint(edit.functions) for other in it)), None)
+        place = next((it for it in groups if fits(edit, it)), None)
         if place is None:
             groups.append([edit])
         else:
