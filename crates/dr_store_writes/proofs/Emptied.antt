@@ -1,5 +1,5 @@
 -- All rows leave a table: the lines of the journal, and where first arrivals go on to.
-use Rattle.std.proofs.Common.{◌≡◌, ◌≢◌, inl, ℕ, ℤ, List, [], ◌∷◌, filter, flat_map, cond, Bool, true, false, not, ◌&&◌, ◌||◌, slice_get, Some, Ok, Err, Result, OnOk, refl, sym, ap, subst, ◌∙◌, true≢false, arith}
+use Rattle.std.proofs.Common.{◌≡◌, ◌≢◌, inl, ℕ, ℤ, List, [], ◌∷◌, flat_map, cond, Bool, true, false, not, ◌&&◌, ◌||◌, slice_get, Some, Ok, Err, Result, OnOk, refl, sym, subst, ◌∙◌, true≢false, arith}
 use Rattle.std.specs.List.{AllByRecursion}
 use Rattle.sqlite.specs.declared.error.Error.{Error}
 use Rattle.sqlite.specs.Command.TheVariants.{Delete}
@@ -21,6 +21,7 @@ use Rattle.sqlite_schema.specs.declared.schema.Constraint.TheVariants.{ForeignKe
 use Rattle.sqlite_schema.specs.declared.schema.Keys.TheVariants.{Enforced}
 use Rattle.sqlite_schema.specs.Rules.{passes}
 use Rattle.sqlite_sql.specs.Ops.{is_null}
+use Rattle.sqlite_tied.specs.Compute.{everything}
 use Rattle.dr_store_schema.specs.Ledgers.{AreRows, IsLedger}
 use Rattle.dr_store_schema.specs.Statements as text
 use Rattle.dr_store_schema.specs.Tables as table
@@ -73,6 +74,7 @@ lines_left old new r has = on_answer 11 old new text.drop_lines r (λ count.
 -- ---- where no line is, none goes anywhere, since each row of target refers to one
 
 no_row : (db : Trees) (row : Row) → db 11 ≡ [] → passes ForeignKey tables db target_table row ≡ true → passes NotNull tables db target_table row ≡ true → ⊥
+unfolding everything
 no_row db row none refers there =
     let some = both (not (is_null (column row 1))) _ there in
     let it : (((is_null (column row 1) || false) || false) && true) ≡ true = rw none at refers in
