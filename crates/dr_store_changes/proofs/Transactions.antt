@@ -1,5 +1,5 @@
 -- A call as one transaction.
-use Rattle.std.proofs.Common.{◌≡◌, ℕ, pos, List, [], true, false, Ok, Err, Result, IfErr, OnOk, OnErr, IsTrue, inl, inr, refl, sym, ap, subst, ◌∙◌, ◌+◌, true≢false, arith}
+use Rattle.std.proofs.Common.{◌≡◌, ℕ, [], true, false, Ok, Err, Result, IfErr, OnOk, OnErr, IsTrue, inl, inr, refl, sym, ap, subst, ◌∙◌, ◌+◌, true≢false, arith}
 use Rattle.sqlite.specs.declared.error.Error.{Error}
 use Rattle.sqlite.specs.Effect.{Database}
 use Rattle.sqlite.specs.State.{State, HasCleanDisk, KeepsCommit, IsRolledBack, KeepsCounts, Shows, Survives}
