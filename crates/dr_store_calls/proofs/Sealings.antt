@@ -14,7 +14,7 @@ use Rattle.dr_store_changes.specs.Writing.{Transacted}
 use Rattle.dr_store_changes.proofs.Sealings.{sealings_take_just_lines}
 use Rattle.dr_store_calls.specs.Calling.{IsKept, IsLedgerOf, IsLeftLedger, IsOwnFault, Looked, Nothing}
 use Rattle.dr_store_calls.specs.Owners.{IsOwnedSo, IsPlanWith}
-use Rattle.dr_store_calls.specs.Sealing.{IsSealed, Sealed, past_after}
+use Rattle.dr_store_calls.specs.Sealing.{HasSealed, Sealed, past_after}
 use Rattle.dr_store_calls.proofs.Calls.{own_lasts}
 use Rattle.dr_store_calls.proofs.Owners.{owners_are_one}
 use Rattle.dr_store_calls.proofs.Pasts.{lines_may_leave}
@@ -32,7 +32,7 @@ as_refused e f n m CA CM old new w = record { was_open = w.was_open; ok = λ cle
 -- what was written, where the tables had this owner: its cell has the mark that it had
 module _ (n : ℕ) (part : Part) (old new : State) (mark before seal was cell : List ℕ) (had : IsPlanWith mark before part.digest was) (has : IsPlanWith mark seal part.digest cell) where
   sealed_so : {past : List Line} → IsLedgerOf past n part old.committed.trees → IsSiteOf part.name was old.committed.trees → (db : Trees) → SealsLines cell old.committed.trees db
-      → IsLedgerOf (past ++ lines_of old.committed.trees) n part db × IsSealed seal part old.committed.trees db
+      → IsLedgerOf (past ++ lines_of old.committed.trees) n part db × HasSealed seal part old.committed.trees db
   sealed_so {past} l asks db w =
       let base = old.committed.trees in
       let owns : IsOwnedSo mark seal part db = (cell, has, w.site part.name was asks) in
@@ -51,7 +51,7 @@ module _ (n : ℕ) (part : Part) (old new : State) (mark before seal was cell : 
   -- what a crash leaves, whatever was answered
   may_be : {past : List Line} (r : Result (Unit {0}) LedgerFault) → Transacted {E = LedgerFault} n n HasSite (SealsLines cell) r old new
       → HasCleanDisk new → IsKept past n part old → IsSiteOf part.name was old.committed.trees → (db : Trees) → new.may_leave db
-      → old.may_leave db ⊎ (IsLeftLedger (past ++ lines_of old.committed.trees) n part db × IsSealed seal part old.committed.trees db)
+      → old.may_leave db ⊎ (IsLeftLedger (past ++ lines_of old.committed.trees) n part db × HasSealed seal part old.committed.trees db)
   may_be r w clean k asks db left = elim ((w.crash k.ready (begun k asks)).crash clean db left) [
     | inl h ↦ inl h
     | inr made ↦ inr (let it = sealed_so k.ledger asks db made.1 in (record { whole = made.0; ledger = it.0 }, it.1))
@@ -113,11 +113,11 @@ module _ {A : Type 0} (n : ℕ) (part : Part) (seal : List ℕ) (old mid new : S
     was_open = λ clean is_open. l.was_open (early clean) (c.was_open clean is_open);
     lasts = λ {past} clean k any. c.lasts clean (middle clean k) (given clean k);
     kept = λ {past} clean is_open k any. subst (λ base. IsKept (past_after r past base) n part new) (shown clean k).0 (c.kept clean is_open (middle clean k) (given clean k));
-    sealed = λ {past} clean is_open k any. subst (λ base. OnOk r (IsSealed seal part base new.committed.trees)) (shown clean k).0 (c.sealed clean is_open (middle clean k) (given clean k));
+    sealed = λ {past} clean is_open k any. subst (λ base. OnOk r (HasSealed seal part base new.committed.trees)) (shown clean k).0 (c.sealed clean is_open (middle clean k) (given clean k));
     same = λ {past} clean is_open k any. subst (λ base. OnErr r (new.committed.trees ≡ base)) (shown clean k).0 (c.same clean is_open (middle clean k) (given clean k));
     crash = λ {past} clean k any db left. elim (c.crash clean (middle clean k) (given clean k) db left) [
       | inl before ↦ elim (l.crash (early clean) k tt db before) [ inl h ↦ inl h | inr none ↦ absurd none.1 ]
-      | inr made ↦ inr (subst (λ base. IsLeftLedger (past ++ lines_of base) n part db × IsSealed seal part base db) (shown clean k).0 made)
+      | inr made ↦ inr (subst (λ base. IsLeftLedger (past ++ lines_of base) n part db × HasSealed seal part base db) (shown clean k).0 made)
     ];
   }
     where

@@ -8,7 +8,7 @@ use Rattle.dr_store_schema.specs.Books.{book_of, lines_of}
 use Rattle.dr_store_changes.specs.Sealing.{SealsLines}
 use Rattle.dr_store_calls.specs.Calling.{IsLedgerOf}
 use Rattle.dr_store_calls.specs.Owners.{IsOwnedBy}
-use Rattle.dr_store_calls.specs.Sealing.{IsSealed}
+use Rattle.dr_store_calls.specs.Sealing.{HasSealed}
 
 -- Lines leave a ledger's tables and stand behind its past then. Where the site owns the tables
 -- still, they are those of the same ledger, over that past; the book with its past is the same, and
@@ -24,7 +24,7 @@ LinesMayLeave =
 abbrev pub SealingsKeepTheBook : Type 0
 SealingsKeepTheBook =
     (past : List Line) (seal : List ℕ) (part : Part) (base db : Trees)
-    → IsSealed seal part base db
+    → HasSealed seal part base db
     → with_past (past ++ lines_of base) (book_of db) ≡ with_past past (book_of base)
 
 -- The next line's number is one above the count of all lines, those of the past too.

@@ -14,7 +14,7 @@ use Rattle.dr_store_calls.specs.Owners.{IsOwnedSo}
 
 -- The book is the same but for its lines, which have left, and so are the data sets. The site owns
 -- the tables as before, with the same mark, and with this seal.
-pub record IsSealed (seal : List ℕ) (part : Part) (base db : Trees) : Type 0 where
+pub record HasSealed (seal : List ℕ) (part : Part) (base db : Trees) : Type 0 where
   pub book : book_of db ≡ without_lines (book_of base)
   pub bodies : bodies_of db ≡ bodies_of base
   pub owned : (mark was : List ℕ) → IsOwnedSo mark was part base → IsOwnedSo mark seal part db
@@ -42,7 +42,7 @@ pub record Sealed (n : ℕ) (part : Part) (seal : List ℕ) (result : Result (Un
       → IsKept (past_after result past old.committed.trees) n part new
   pub sealed : {past : List Line} → HasCleanDisk new → IsTrue new.is_open → IsKept past n part old
       → Asks old.committed.trees
-      → OnOk result (IsSealed seal part old.committed.trees new.committed.trees)
+      → OnOk result (HasSealed seal part old.committed.trees new.committed.trees)
   pub same : {past : List Line} → HasCleanDisk new → IsTrue new.is_open → IsKept past n part old
       → Asks old.committed.trees
       → OnErr result (new.committed.trees ≡ old.committed.trees)
@@ -50,4 +50,4 @@ pub record Sealed (n : ℕ) (part : Part) (seal : List ℕ) (result : Result (Un
       → Asks old.committed.trees → (db : Trees) → new.may_leave db
       → old.may_leave db
       ⊎ (IsLeftLedger (past ++ lines_of old.committed.trees) n part db
-      × IsSealed seal part old.committed.trees db)
+      × HasSealed seal part old.committed.trees db)

@@ -1,5 +1,5 @@
-//! What site has for a plan: its SHA-256, right behind it the mark of a file of data sets, or nothing,
-//! and behind that how far lines go that have left the tables, or nothing.
+//! What site has for a plan: its SHA-256, right behind it the mark of a file of data sets, or
+//! nothing, and behind that how far lines go that have left the tables, or nothing.
 ghost use Rattle.std.specs.Prelude.{◌≡◌, ◌↔◌, IfOk, IsTrue, List, MatchOption, ℕ};
 ghost use Rattle.dr_store_calls.specs.Owners.{IsMark, IsMarkAndSeal, IsPlanWith, IsSealText};
 
@@ -60,8 +60,8 @@ fn split_rest(rest: &[u8]) -> Option<(&[u8], &[u8])>
     Some((mark, seal))
 }
 
-/// The mark and the seal that stand in an owner's cell, if it is one's: what comes behind the plan's
-/// SHA-256.
+/// The mark and the seal that stand in an owner's cell, if it is one's: what comes behind the
+/// plan's SHA-256.
 pub fn mark_behind(cell: &[u8]) -> Option<(&[u8], &[u8])>
     ensures { MatchOption result
         ((mark seal digest : List ℕ) → IsPlanWith mark seal digest cell.now → ⊥)
