@@ -61,7 +61,8 @@ AreLedgers db = IsLedger (record { schema = tables; trees = db })
 -- before. Where it is refused, and the store is open still, the tables committed are those from
 -- before. And a crash leaves, whatever the call answered, what it could leave before, or what the
 -- call makes, a database with a ledger's tables: never a part of it.
-pub record Transacted {E : Type 0} (n m : ℕ) (Asks : Trees → Type 0) (Makes : Trees → Trees → Type 0)
+pub record Transacted {E : Type 0} (n m : ℕ) (Asks : Trees → Type 0)
+    (Makes : Trees → Trees → Type 0)
     (result : Result (Unit {0}) E) (old new : State) : Type 0 where
   pub was_open : HasCleanDisk new → IsTrue new.is_open → IsTrue old.is_open
   pub ok : HasCleanDisk new → IsReady n old → Asks old.now.trees

@@ -9,10 +9,7 @@ use dr_store_writes::{drop_lines, drop_targets, set_plan};
 use sqlite::{Alter, Connection, Error, Transaction};
 
 /// Takes all lines out, what refers to them first, and sets what site has for the plan in force.
-fn take_lines_out<'x, S: Alter>(
-    tx: &mut Transaction<'_, S>,
-    plan: &'x [u8],
-) -> Result<(), Error>
+fn take_lines_out<'x, S: Alter>(tx: &mut Transaction<'_, S>, plan: &'x [u8]) -> Result<(), Error>
     ensures same_reference { tx.new.conn.ghost_name ≡ tx.old.conn.ghost_name }
     ensures step { StatementStep result (state S.Store tx.old.conn.now)
         (state S.Store tx.new.conn.now)

@@ -91,7 +91,8 @@ pub fn drop_item<'x, S: Alter>(tx: &mut Transaction<'_, S>, uid: &'x Text) -> Re
     )
 }
 
-/// Where first arrivals go on to leaves, of all lines. It goes before them, since it refers to them.
+/// Where first arrivals go on to leaves, of all lines. It goes before them, since it refers to
+/// them.
 pub fn drop_targets<S: Alter>(tx: &mut Transaction<'_, S>) -> Result<usize, Error>
     ensures same_reference { tx.new.conn.ghost_name ≡ tx.old.conn.ghost_name }
     ensures step { StatementStep result (state S.Store tx.old.conn.now)
